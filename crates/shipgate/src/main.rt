@@ -51,3 +51,6 @@ fn main(rt: HostRuntime) -> ExitCode {
         Err(AllocError) => ExitCode::from(NO_MEMORY),
     }
 }
+
+#[cfg(test)]
+mod tests;
