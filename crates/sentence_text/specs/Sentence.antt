@@ -1,8 +1,8 @@
 -- What a sentence of IEC 61162-1 is, as a relation between its parts and all of its bytes.
-use Rattle.std.specs.Prelude.{◌≡◌, ℕ, ◌+◌, ◌*◌, ◌/◌, ◌%◌, ◌<◌, ◌≤◌, ◌⊎◌, List, [], ◌∷◌, ◌++◌, length, All, bit_xor, nat_lt, if◌then◌else◌}
-use Rattle.std.specs.List.{flat_map, fold}
+use Rattle.std.specs.Prelude.{◌≡◌, ℕ, ◌+◌, ◌*◌, ◌/◌, ◌%◌, ◌<◌, ◌≤◌, ◌⊎◌, List, [], ◌∷◌, ◌++◌, length, All, IsTrue, bit_xor, nat_lt, if◌then◌else◌}
+use Rattle.std.specs.List.{flat_map, fold, list_all}
 use Rattle.std.specs.Char.{digit_value}
-use Rattle.sentence_text.specs.Text.{IsAddressByte, IsFieldByte}
+use Rattle.sentence_text.specs.Text.{is_address_byte, is_field_byte}
 
 -- what a sentence says
 pub record Parts : Type 0 where
@@ -18,7 +18,7 @@ pub record Parts : Type 0 where
 pub record IsAddress (address : List ℕ) : Type 0 where
   pub least : 3 ≤ length address
   pub most : length address ≤ 12
-  pub bytes : All IsAddressByte address
+  pub bytes : IsTrue (list_all is_address_byte address)
 
 abbrev pub body_of : List (List ℕ) → List ℕ
 body_of fields = flat_map (λ field. 44 ∷ field) fields
@@ -26,7 +26,7 @@ body_of fields = flat_map (λ field. 44 ∷ field) fields
 -- any number of fields, each behind a comma
 pub record IsBody (body : List ℕ) : Type 0 where
   pub fields : List (List ℕ)
-  pub bytes : All (All IsFieldByte) fields
+  pub bytes : All (λ field. IsTrue (list_all is_field_byte field)) fields
   pub spelled : body ≡ body_of fields
 
 -- the bytes between the start and `*`, over which the sum goes

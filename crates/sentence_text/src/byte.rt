@@ -1,38 +1,45 @@
-ghost use Rattle.std.specs.Prelude.{◌↔◌, IsTrue, All};
-ghost use Rattle.sentence_text.specs.Text.{IsCapital, IsDigit, IsAddressByte};
+ghost use Rattle.std.specs.Prelude.{◌≡◌};
+ghost use Rattle.std.specs.List.{list_all};
+ghost use Rattle.sentence_text.specs.Text as text;
 
 pub(crate) fn is_capital(byte: u8) -> bool
-    ensures { IsTrue result ↔ IsCapital byte }
+    ensures { result ≡ text.is_capital byte }
 {
     byte.is_ascii_uppercase()
 }
 
 pub(crate) fn is_digit(byte: u8) -> bool
-    ensures { IsTrue result ↔ IsDigit byte }
+    ensures { result ≡ text.is_digit byte }
 {
     byte.is_ascii_digit()
 }
 
 pub(crate) fn is_address_byte(byte: u8) -> bool
-    ensures { IsTrue result ↔ IsAddressByte byte }
+    ensures { result ≡ text.is_address_byte byte }
 {
     is_capital(byte) || is_digit(byte)
 }
 
+pub(crate) fn is_body_byte(byte: u8) -> bool
+    ensures { result ≡ text.is_body_byte byte }
+{
+    matches!(byte, b' '..=b'~') && !matches!(byte, b'$' | b'!' | b'\\' | b'*')
+}
+
 pub(crate) fn all_capital(bytes: &[u8]) -> bool
-    ensures { IsTrue result ↔ All IsCapital bytes.now }
+    ensures { result ≡ list_all text.is_capital bytes.now }
 {
     bytes.iter().all(|byte| is_capital(*byte))
 }
 
 pub(crate) fn all_digits(bytes: &[u8]) -> bool
-    ensures { IsTrue result ↔ All IsDigit bytes.now }
+    ensures { result ≡ list_all text.is_digit bytes.now }
 {
     bytes.iter().all(|byte| is_digit(*byte))
 }
 
 pub(crate) fn all_address(bytes: &[u8]) -> bool
-    ensures { IsTrue result ↔ All IsAddressByte bytes.now }
+    ensures { result ≡ list_all text.is_address_byte bytes.now }
 {
     bytes.iter().all(|byte| is_address_byte(*byte))
 }

@@ -1,6 +1,8 @@
 ghost use Rattle.std.specs.Prelude.{◌≡◌, ◌+◌, ◌<◌, ◌≤◌, [], ◌∷◌, ◌++◌, length, IsTrue, ◌↔◌, false, ◌/◌, ◌%◌};
+ghost use Rattle.std.specs.List.{list_all};
 ghost use Rattle.arrayvec.specs.ArrayVec.{array_vec_len};
-ghost use Rattle.sentence_text.specs.Sentence.{IsAddress, IsBody, IsSentence, capital_digit, content, parts_of, sentence, xor_of};
+ghost use Rattle.sentence_text.specs.Text.{is_address_byte, is_body_byte};
+ghost use Rattle.sentence_text.specs.Sentence.{IsSentence, capital_digit, content, parts_of, sentence, xor_of};
 
 use arrayvec::ArrayVec;
 
@@ -51,17 +53,31 @@ fn put_content(talker: &[u8; 2], formatter: &[u8; 3], body: &[u8], out: &mut Arr
 /// `*`, the two digits of the sum, CR and LF.
 fn put_end(sum: u8, out: &mut ArrayVec<u8, 82>)
     requires { array_vec_len out.old + 5 ≤ 82 }
-    ensures { out.new.items ≡ out.old.items ++ 42 ∷ capital_digit (sum / 16) ∷ capital_digit (sum % 16) ∷ 13 ∷ 10 ∷ [] }
+    ensures text { out.new.items ≡ out.old.items ++ 42 ∷ capital_digit (sum / 16) ∷ capital_digit (sum % 16) ∷ 13 ∷ 10 ∷ [] }
+    ensures len { array_vec_len out.new ≡ array_vec_len out.old + 5 }
 {
     put(&[b'*', digit(sum / 16), digit(sum % 16), b'\r', b'\n'], out);
+}
+
+fn put_sentence(talker: &[u8; 2], formatter: &[u8; 3], body: &[u8], out: &mut ArrayVec<u8, 82>)
+    requires empty { out.old.items ≡ [] }
+    requires fits { length body.now + FRAME ≤ 82 }
+    ensures text { out.new.items ≡ sentence (parts_of talker.now formatter.now body.now) }
+    ensures len { array_vec_len out.new ≡ length body.now + FRAME }
+    ensures sum { xor_of (content (parts_of talker.now formatter.now body.now)) < 256 }
+{
+    put_content(talker, formatter, body, out);
+    let sum = xor(&out[1..]);
+    put_end(sum, out);
 }
 
 /// Writes `$`, the address, a comma and the body, and behind `*` their sum. The body is the fields, divided by
 /// commas. Says whether the sentence has at most 82 bytes; if not, nothing is written.
 pub fn write(talker: [u8; 2], formatter: [u8; 3], body: &[u8], out: &mut ArrayVec<u8, 82>) -> bool
     requires empty { out.old.items ≡ [] }
-    requires address { IsAddress (talker ++ formatter) }
-    requires body { IsBody (44 ∷ body.now) }
+    requires talker { IsTrue (list_all is_address_byte talker) }
+    requires formatter { IsTrue (list_all is_address_byte formatter) }
+    requires body { IsTrue (list_all is_body_byte body.now) }
     ensures fits { IsTrue result ↔ (length (sentence (parts_of talker formatter body.now)) ≤ 82) }
     ensures written { IsTrue result → out.new.items ≡ sentence (parts_of talker formatter body.now) }
     ensures grammar { IsTrue result → IsSentence (parts_of talker formatter body.now) out.new.items }
@@ -70,8 +86,6 @@ pub fn write(talker: [u8; 2], formatter: [u8; 3], body: &[u8], out: &mut ArrayVe
     if body.len() > MOST - FRAME {
         return false;
     }
-    put_content(&talker, &formatter, body, out);
-    let sum = xor(&out[1..]);
-    put_end(sum, out);
+    put_sentence(&talker, &formatter, body, out);
     true
 }

@@ -1,3 +1,5 @@
 pub mod Nearest
 pub mod Round
 pub mod Text
+pub mod Number
+pub mod DecimalLaws

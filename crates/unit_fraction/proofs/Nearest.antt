@@ -2,6 +2,7 @@
 use Rattle.std.proofs.Common.{◌≡◌, ℕ, ◌+◌, ◌-◌, ◌*◌, ◌/◌, ◌%◌, ◌<◌, ◌≤◌, ◌^◌, ap, ◌∙◌, arith, inl, inr}
 use Rattle.std.proofs.lemmas.Nat.{div-mul-add, div-add-mod', mod_below, mul-le}
 use Rattle.std.proofs.lemmas.Bool.{cases_lt}
+use Rattle.std.proofs.Math.Nat.{pow-le-pow_right, one-le-pow}
 use Rattle.unit_fraction.specs.Round.{nearest}
 
 nearest-up : (n d : ℕ) → 0 < d → d - n % d ≤ n % d → nearest n d ≡ n / d + 1
@@ -44,3 +45,15 @@ nearest_le n d positive =
 
 pub product_fits : (raw num : ℕ) → raw ≤ 2 ^ 63 → num < 2 ^ 64 → raw * num < 2 ^ 127
 product_fits raw num small fits = omega (arith, mul-le raw num (2 ^ 63) (2 ^ 64 - 1) small (omega arith))
+
+pub decimal_fits : (digits num : ℕ) → digits < 10 ^ 14 → num < 2 ^ 64 → digits * num < 2 ^ 127
+decimal_fits digits num small fits = omega (arith, mul-le digits num (10 ^ 14) (2 ^ 64 - 1) (omega arith) (omega arith))
+
+-- a power of ten, and its product with a divisor
+pub power_fits : (places den : ℕ) → places ≤ 12 → den ≤ 10 ^ 18 → (0 < 10 ^ places) × (10 ^ places ≤ 10 ^ 12) × (10 ^ places * den ≤ 10 ^ 30)
+power_fits places den few small =
+    let most : 10 ^ places ≤ 10 ^ 12 = pow-le-pow_right (omega arith) few in
+    (one-le-pow places 10 (omega arith), most, mul-le (10 ^ places) den (10 ^ 12) (10 ^ 18) most small)
+
+pub product_positive : (places den : ℕ) → 0 < den → 0 < 10 ^ places * den
+product_positive places den positive = mul-le 1 1 (10 ^ places) den (one-le-pow places 10 (omega arith)) positive

@@ -1,7 +1,7 @@
 -- Rounding by a sign and one division gives the one nearest whole number.
 use Rattle.std.proofs.Common.{◌≡◌, ℕ, zero, suc, ◌+◌, ◌*◌, ◌<◌, ◌≤◌, refl, sym, ap, subst, ◌∙◌, arith}
 use lib.Signed.{lt_z}
-use Rattle.std.specs.Prelude.{ℤ, pos, negsuc, neg_ℤ, false, ◌-ℤ◌, ◌*ℤ◌, unsigned_abs}
+use Rattle.std.specs.Prelude.{ℤ, pos, negsuc, neg_ℤ, Bool, true, false, ◌-ℤ◌, ◌*ℤ◌, unsigned_abs}
 use Rattle.std.proofs.lemmas.Int.{ints, unsigned_abs-mul}
 use Rattle.std.proofs.lemmas.Nat.{mul-le}
 use Rattle.unit_fraction.specs.Round.{distance, IsRound, nearest, round, signed}
@@ -85,3 +85,7 @@ is_round n q d positive e = rw e (round_is n d positive)
 
 pub is_only_round : (n q : ℤ) (d : ℕ) → 0 < d → q ≡ round n d → (p : ℤ) → IsRound n d p → p ≡ q
 is_only_round n q d positive e p h = only_round n d p (round n d) positive h (round_is n d positive) ∙ sym e
+
+pub round_signed : (negative : Bool) (size d : ℕ) → 0 < d → round (signed negative size) d ≡ signed negative (nearest size d)
+round_signed true size d positive = round-neg size d positive
+round_signed false size d positive = refl

@@ -2,11 +2,14 @@
 use Rattle.std.proofs.Common.{◌≡◌, ℕ, zero, suc, ◌+◌, ◌-◌, ◌*◌, ◌/◌, ◌%◌, ◌<◌, ◌≤◌, ◌^◌, List, [], ◌∷◌, ◌++◌, length, refl, sym, ap, subst, ◌∙◌, append_assoc, add-one, length-append, arith, rules}
 use Rattle.std.specs.Fmt.{decimal}
 use Rattle.std.proofs.Math.Nat.{div-div-eq-div-mul, div-le_self, pow-suc, pow-succ'}
-use Rattle.std.specs.Prelude.{Bool, slice_index}
+use Rattle.std.specs.Prelude.{Bool, true, slice_index}
+use Rattle.std.specs.Char.{is_ascii_digit}
+use Rattle.std.specs.Str.{all_ascii_digits}
+use Rattle.std.proofs.lemmas.Bool.{and_parts, and_from}
 use Rattle.std.proofs.lemmas.List.{append-nil}
-use Rattle.std.proofs.lemmas.Str.Parse.{IsNumeralModel, numerals_by_fold}
+use Rattle.std.proofs.lemmas.Str.Parse.{IsNumeralModel, numerals_by_fold, tells_all_ascii_digits}
 use Rattle.std.proofs.lemmas.Fmt.{decimal_digit, decimal_step, decimal_nonempty, length-decimal-le_wide, first_decimal, digits_decimal, digits_value-decimal}
-use Rattle.unit_fraction.specs.Digits.{AllDigits, number_after, number}
+use Rattle.unit_fraction.specs.Digits.{number_after, number}
 use Rattle.unit_fraction.specs.Text.{decimals, IsDecimalText, decimal_text}
 
 -- so many decimals of n are written in front of `before`, and `rest` is left
@@ -48,12 +51,14 @@ whole_last n rest text before last e = ap (λ (x : List ℕ). x ++ text) (sym (d
 
 -- ---- what is written has the form of a decimal
 
-own : IsNumeralModel AllDigits number
-own = numerals_by_fold AllDigits (search rules) number_after (search rules)
+pub own : IsNumeralModel (λ ds. all_ascii_digits ds ≡ true) number
+own = numerals_by_fold (λ ds. all_ascii_digits ds ≡ true) tells_all_ascii_digits number_after (search rules)
 
-AllDigits-push : (ds : List ℕ) (d : ℕ) → d < 10 → AllDigits ds → AllDigits (ds ++ (48 + d) ∷ [])
-AllDigits-push [] d small h = ((omega arith, omega arith), tt)
-AllDigits-push (c ∷ cs) d small h = (h.0, AllDigits-push cs d small h.1)
+all_digits-push : (ds : List ℕ) (d : ℕ) → d < 10 → all_ascii_digits ds ≡ true → all_ascii_digits (ds ++ (48 + d) ∷ []) ≡ true
+all_digits-push [] d small h = grind arith
+all_digits-push (c ∷ cs) d small h =
+    let p = and_parts (is_ascii_digit c) (all_ascii_digits cs) h in
+    and_from (is_ascii_digit c) (all_ascii_digits (cs ++ (48 + d) ∷ [])) p.0 (all_digits-push cs d small p.1)
 
 number_after-push : (n : ℕ) (ds : List ℕ) (d : ℕ) → number_after n (ds ++ (48 + d) ∷ []) ≡ number_after n ds * 10 + d
 number_after-push n [] d = omega arith
@@ -61,7 +66,7 @@ number_after-push n (c ∷ cs) d = number_after-push (n * 10 + (c - 48)) cs d
 
 -- the digits before the point and behind it
 pub record Writes (n : ℕ) (ds : List ℕ) : Type 0 where
-  pub are_digits : AllDigits ds
+  pub are_digits : all_ascii_digits ds ≡ true
   pub value : number ds ≡ n
 
 writes_all : (k n : ℕ) → n < 2 ^ 64 → Writes n (decimal (n / 10 ^ k) ++ decimals k n)
@@ -74,7 +79,7 @@ writes_all (suc k) n fits =
     let same : n / 10 ^ suc k ≡ n / 10 / 10 ^ k = rw power (sym (div-div-eq-div-mul n 10 (10 ^ k))) in
     let ds = decimal (n / 10 / 10 ^ k) ++ decimals k (n / 10) in
     let last : Writes n (ds ++ (48 + n % 10) ∷ []) = record {
-      are_digits = AllDigits-push ds (n % 10) (omega arith) front.are_digits;
+      are_digits = all_digits-push ds (n % 10) (omega arith) front.are_digits;
       value = number_after-push 0 ds (n % 10) ∙ omega (arith, front.value);
     } in
     let shape : decimal (n / 10 ^ suc k) ++ (decimals k (n / 10) ++ (48 + n % 10) ∷ []) ≡ ds ++ (48 + n % 10) ∷ [] =

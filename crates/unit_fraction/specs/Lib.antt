@@ -1,3 +1,4 @@
 pub mod Round
 pub mod Digits
 pub mod Text
+pub mod Reading

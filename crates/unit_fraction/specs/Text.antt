@@ -1,7 +1,8 @@
 -- The one text of a decimal that is written with a fixed number of decimals.
-use Rattle.std.specs.Prelude.{◌≡◌, ℕ, zero, suc, ◌+◌, ◌/◌, ◌%◌, ◌^◌, ◌<◌, Bool, ◌&&◌, ◌==◌, not, List, [], ◌∷◌, ◌++◌, length, slice_index, Option, Some, None}
+use Rattle.std.specs.Prelude.{◌≡◌, ℕ, zero, suc, ◌+◌, ◌/◌, ◌%◌, ◌^◌, ◌<◌, Bool, ◌&&◌, ◌==◌, not, List, [], ◌∷◌, ◌++◌, length, slice_index, Option, Some, None, IsTrue}
 use Rattle.std.specs.Fmt.{decimal}
-use Rattle.unit_fraction.specs.Digits.{AllDigits, number, spelling}
+use Rattle.std.specs.Str.{all_ascii_digits}
+use Rattle.unit_fraction.specs.Digits.{number, spelling}
 
 -- what stands behind a point: nothing, and no point, where there are no decimals
 abbrev pub behind_point : ℕ → List ℕ → Option (List ℕ)
@@ -17,7 +18,7 @@ pub record IsDecimalText (negative : Bool) (digits places : ℕ) (text : List �
   pub whole : List ℕ
   pub part : List ℕ
   pub spelled : text ≡ spelling (shows_minus negative digits) whole (behind_point places part)
-  pub are_digits : AllDigits (whole ++ part)
+  pub are_digits : IsTrue (all_ascii_digits (whole ++ part))
   pub value : number (whole ++ part) ≡ digits
   -- a digit stands before the point, and no zero that isn't needed
   pub some : 0 < length whole

@@ -1,5 +1,7 @@
-ghost use Rattle.std.specs.Prelude.{◌≡◌, ◌+◌, ◌*◌, ◌/◌, ◌%◌, ◌<◌, ◌^◌, ℤ, pos, ◌*ℤ◌};
+ghost use Rattle.std.specs.Prelude.{◌≡◌, ◌+◌, ◌*◌, ◌/◌, ◌%◌, ◌<◌, ◌≤◌, ◌^◌, ℤ, pos, ◌*ℤ◌};
 ghost use Rattle.unit_fraction.specs.Round.{IsRound, nearest, round, signed};
+
+use crate::decimal::Decimal;
 
 /// A ratio of whole numbers, such as 900 / 463 from hundredths of a metre a second to hundredths of a knot.
 #[derive(Clone, Copy, Debug, PartialEq, Eq)]
@@ -52,6 +54,18 @@ fn scaled(f: Fraction, raw: i64) -> i128
     nearest_signed(raw < 0, size, f.den as u128)
 }
 
+#[tactic(auto, using(crate::proofs::Round::round_signed, crate::proofs::Nearest::decimal_fits, crate::proofs::Nearest::power_fits))]
+fn scaled_decimal(f: Fraction, d: &Decimal) -> i128
+    requires den { f.den ≤ 10 ^ 18 }
+    requires digits { d.now.digits < 10 ^ 14 }
+    requires places { d.now.places ≤ 12 }
+    ensures { result ≡ round (signed d.now.negative (d.now.digits * f.num)) (10 ^ d.now.places * f.den) }
+{
+    let size = d.digits as u128 * f.num as u128;
+    let by = 10u128.pow(d.places as u32) * f.den as u128;
+    nearest_signed(d.negative, size, by)
+}
+
 /// `raw` times the fraction, as the nearest whole number; of two equally near, the one further from zero.
 pub fn scale(f: Fraction, raw: i64) -> i128
     ensures rounds { IsRound (raw *ℤ pos f.num) f.den result }
@@ -59,4 +73,17 @@ pub fn scale(f: Fraction, raw: i64) -> i128
     ensures value { result ≡ round (raw *ℤ pos f.num) f.den }
 {
     scaled(f, raw)
+}
+
+/// The decimal's value times the fraction, as the nearest whole number; of two equally near, the one further from
+/// zero.
+pub fn scale_decimal(f: Fraction, d: &Decimal) -> i128
+    requires den { f.den ≤ 10 ^ 18 }
+    requires digits { d.now.digits < 10 ^ 14 }
+    requires places { d.now.places ≤ 12 }
+    ensures rounds { IsRound (signed d.now.negative (d.now.digits * f.num)) (10 ^ d.now.places * f.den) result }
+    ensures only { (q : ℤ) → IsRound (signed d.now.negative (d.now.digits * f.num)) (10 ^ d.now.places * f.den) q → q ≡ result }
+    ensures value { result ≡ round (signed d.now.negative (d.now.digits * f.num)) (10 ^ d.now.places * f.den) }
+{
+    scaled_decimal(f, d)
 }

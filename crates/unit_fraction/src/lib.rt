@@ -5,10 +5,14 @@
 #![tactic(auto)]
 
 mod backward;
+mod decimal;
 mod fraction;
+mod reading;
 mod writing;
 
-pub use fraction::{Fraction, scale};
+pub use decimal::{Decimal, DecimalFault};
+pub use fraction::{Fraction, scale, scale_decimal};
+pub use reading::read_decimal;
 pub use writing::write_decimal;
 
 #[cfg(test)]

@@ -66,6 +66,67 @@ fn a_number_is_written_with_its_decimals(rt: HostRuntime) -> Result<(), Fail> {
 }
 
 #[test]
+fn a_decimal_is_read_or_its_first_fault_is_named(rt: HostRuntime) {
+    let of = |negative: bool, digits: u64, places: u8| Ok(Decimal {
+        negative,
+        digits,
+        places,
+    });
+    let rows: [(&[u8], Result<Decimal, DecimalFault>); 18] = [
+        (b"0", of(false, 0, 0)),
+        (b"-0", of(true, 0, 0)),
+        (b"90.0", of(false, 900, 1)),
+        (b"-12.34", of(true, 1234, 2)),
+        (b".5", of(false, 5, 1)),
+        (b"5.", of(false, 5, 0)),
+        (b"007", of(false, 7, 0)),
+        (b"999999999999", of(false, 999_999_999_999, 0)),
+        (b"0.00000000001", of(false, 1, 11)),
+        (b"", Err(DecimalFault::Empty)),
+        (b"-", Err(DecimalFault::Byte(1))),
+        (b".", Err(DecimalFault::Byte(1))),
+        (b"+1", Err(DecimalFault::Byte(0))),
+        (b"1-", Err(DecimalFault::Byte(1))),
+        (b"1.2.3", Err(DecimalFault::Byte(3))),
+        (b"0000000000001", Err(DecimalFault::Long)),
+        (b"0.000000000001", Err(DecimalFault::Long)),
+        (b"0000000000001x", Err(DecimalFault::Byte(13))),
+    ];
+    for (text, decimal) in rows {
+        assert_eq!(rt; read_decimal(text), decimal);
+    }
+}
+
+#[test]
+fn a_decimal_is_scaled_by_its_value(rt: HostRuntime) {
+    let raw_degrees = Fraction {
+        num: 3_141_592_653_589_793,
+        den: 18_000_000_000_000,
+    };
+    let raw_knots = Fraction { num: 463, den: 9 };
+    let rows = [
+        (raw_degrees, false, 900, 1, 15708),
+        (raw_degrees, false, 3600, 1, 62832),
+        (raw_knots, false, 1944, 2, 1000),
+        (raw_knots, true, 1944, 2, -1000),
+        (raw_knots, true, 0, 2, 0),
+    ];
+    for (fraction, negative, digits, places, raw) in rows {
+        assert_eq!(rt;
+            scale_decimal(
+                fraction,
+                &Decimal {
+                    negative,
+                    digits,
+                    places
+                }
+            ),
+            raw
+        );
+    }
+}
+
+#[test]
 fn what_does_not_fit_changes_nothing(rt: HostRuntime) -> Result<(), Fail> {
     let mut out = ArrayVec::new();
     for _ in 0..79 {

@@ -1,0 +1,8 @@
+use Rattle.std.proofs.Common.{arith, rules}
+use Rattle.sentence_text.proofs.Spelling.{is_sentence}
+use Rattle.sentence_text.proofs.writing.write.Goals as goal
+
+pub returns-clause-grammar : goal.returns-clause-grammar
+returns-clause-grammar c = λ yes. is_sentence c.args.talker c.args.formatter c.args.body.now c.put_sentence.new.out.items
+    (record { two = search rules; three = search rules; talker_bytes = c.requires.talker; formatter_bytes = c.requires.formatter; body_bytes = c.requires.body })
+    c.put_sentence.ensures.sum c.put_sentence.ensures.text (omega (arith, c.put_sentence.ensures.len))
