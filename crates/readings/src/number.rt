@@ -5,6 +5,7 @@ use byteorder::{ByteOrder, LittleEndian};
 
 /// Reads the unsigned number of `width` bytes at byte `at`, the lowest byte first. `None` exactly
 /// where a byte of it lies past the end.
+#[inline]
 pub fn read_unsigned(bytes: &[u8], at: usize, width: usize) -> Option<u64>
     requires low { 1 ≤ width }
     requires high { width ≤ 8 }
@@ -18,6 +19,7 @@ pub fn read_unsigned(bytes: &[u8], at: usize, width: usize) -> Option<u64>
 
 /// Reads the number of `width` bytes at byte `at`, the lowest byte first, as two's complement. `None`
 /// exactly where a byte of it lies past the end.
+#[inline]
 pub fn read_signed(bytes: &[u8], at: usize, width: usize) -> Option<i64>
     requires low { 1 ≤ width }
     requires high { width ≤ 8 }
@@ -30,6 +32,7 @@ pub fn read_signed(bytes: &[u8], at: usize, width: usize) -> Option<i64>
 }
 
 /// Whether no byte of the field lies past the end.
+#[inline]
 fn has_field(bytes: &[u8], at: usize, width: usize) -> bool
     ensures { IsTrue result ↔ (at + width ≤ length bytes.now) }
 {
@@ -37,6 +40,7 @@ fn has_field(bytes: &[u8], at: usize, width: usize) -> bool
 }
 
 /// The `count` bits of the byte from bit `low` on, where bit 0 is the lowest.
+#[inline]
 pub fn bits(byte: u8, low: u8, count: u8) -> u8
     requires { low + count ≤ 8 }
     ensures { result ≡ bits_of byte low count }

@@ -13,6 +13,7 @@ impl Range {
     ghost use Rattle.readings.specs.Ranges.{Holds, Admits};
 
     /// Whether the value is in the range.
+    #[inline]
     pub fn holds(&self, value: i64) -> bool
         ensures { IsTrue result ↔ Holds self.now value }
     {
@@ -20,6 +21,7 @@ impl Range {
     }
 
     /// Whether the value is in the range, if there is one.
+    #[inline]
     pub fn admits(&self, value: Option<i64>) -> bool
         ensures { IsTrue result ↔ Admits self.now value }
     {

@@ -1,0 +1,4 @@
+pub mod Available
+pub mod Law
+pub mod Pieces
+pub mod ReadBack

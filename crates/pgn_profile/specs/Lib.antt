@@ -1,0 +1,4 @@
+pub mod Field
+pub mod Payload
+pub mod Piece
+pub mod Profiled

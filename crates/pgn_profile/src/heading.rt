@@ -1,0 +1,104 @@
+//! Heading and rate of turn.
+//!
+//! PGN 127250, vessel heading: SID, heading (u16 at byte 1), deviation (i16 at 3), variation (i16 at
+//! 5), and in bits 0-1 of byte 7 the reference, 0 true and 1 magnetic north.
+//!
+//! PGN 127251, rate of turn: SID, rate (i32 at byte 1).
+
+ghost use Rattle.std.specs.Prelude.{◌≡◌, []};
+ghost use Rattle.pgn_profile.specs.Payload.{payload_of};
+ghost use Rattle.pgn_profile.specs.Profiled.{GivesValid, profiled};
+
+use crate::field::{signed, unsigned};
+use crate::piece::Piece::{Byte, Signed, Unsigned};
+use crate::piece::{Payload, append_all};
+use crate::profiled::Profiled;
+use readings::range::{ANGLE, DEVIATION, RATE_OF_TURN};
+use readings::{Reading, bits};
+
+#[tactic(auto, unfolding(crate::specs::Profiled::messages))]
+pub fn read_heading(payload: &[u8]) -> Profiled
+    ensures value { result ≡ profiled 127250 payload.now }
+    ensures valid { GivesValid result }
+{
+    if payload.len() < 8 {
+        return Profiled::Short;
+    }
+    match bits(payload[7], 0, 2) {
+        0 => Profiled::Reading(Reading::HeadingTrue {
+            heading: unsigned(payload, 1, 2, ANGLE),
+        }),
+        1 => Profiled::Reading(Reading::HeadingMagnetic {
+            heading: unsigned(payload, 1, 2, ANGLE),
+            deviation: signed(payload, 3, 2, DEVIATION),
+            variation: signed(payload, 5, 2, DEVIATION),
+        }),
+        _ => Profiled::Outside,
+    }
+}
+
+#[tactic(auto, unfolding(crate::specs::Profiled::messages))]
+pub fn read_rate_of_turn(payload: &[u8]) -> Profiled
+    ensures value { result ≡ profiled 127251 payload.now }
+    ensures valid { GivesValid result }
+{
+    if payload.len() < 5 {
+        return Profiled::Short;
+    }
+    Profiled::Reading(Reading::RateOfTurn {
+        rate: signed(payload, 1, 4, RATE_OF_TURN),
+    })
+}
+
+pub fn write_heading_true(heading: Option<i64>, out: &mut Payload)
+    requires { out.old.items ≡ [] }
+    ensures { out.new.items ≡ payload_of (Reading.HeadingTrue heading) }
+{
+    append_all(
+        &[
+            Byte(0xFF),
+            Unsigned(2, heading),
+            Signed(2, None),
+            Signed(2, None),
+            Byte(0xFC),
+        ],
+        out,
+    );
+}
+
+pub fn write_heading_magnetic(
+    heading: Option<i64>,
+    deviation: Option<i64>,
+    variation: Option<i64>,
+    out: &mut Payload,
+)
+    requires { out.old.items ≡ [] }
+    ensures { out.new.items ≡ payload_of (Reading.HeadingMagnetic heading deviation variation) }
+{
+    append_all(
+        &[
+            Byte(0xFF),
+            Unsigned(2, heading),
+            Signed(2, deviation),
+            Signed(2, variation),
+            Byte(0xFD),
+        ],
+        out,
+    );
+}
+
+pub fn write_rate_of_turn(rate: Option<i64>, out: &mut Payload)
+    requires { out.old.items ≡ [] }
+    ensures { out.new.items ≡ payload_of (Reading.RateOfTurn rate) }
+{
+    append_all(
+        &[
+            Byte(0xFF),
+            Signed(4, rate),
+            Byte(0xFF),
+            Byte(0xFF),
+            Byte(0xFF),
+        ],
+        out,
+    );
+}

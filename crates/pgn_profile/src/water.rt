@@ -1,0 +1,168 @@
+//! The water: speed through it, its depth, the distance sailed through it, and its temperature.
+//!
+//! PGN 128259, speed: SID, speed through the water (u16 at byte 1).
+//!
+//! PGN 128267, water depth: SID, depth (u32 at byte 1), offset (i16 at 5), range (u8 at 7).
+//!
+//! PGN 128275, distance log: date, time, log (u32 at byte 6), trip log (u32 at 10).
+//!
+//! PGN 130312, temperature: SID, instance, source (byte 2, 0 for the sea), temperature (u16 at byte 3,
+//! in 0.01 K). It is read and never written.
+//!
+//! PGN 130316, temperature, extended range: the same with a temperature of three bytes in 0.001 K.
+
+ghost use Rattle.std.specs.Prelude.{◌≡◌, []};
+ghost use Rattle.pgn_profile.specs.Payload.{payload_of};
+ghost use Rattle.pgn_profile.specs.Profiled.{GivesValid, profiled};
+
+use crate::field::{signed, unsigned};
+use crate::piece::Piece::{Byte, Signed, Unsigned};
+use crate::piece::{Payload, append_all};
+use crate::profiled::Profiled;
+use readings::range::{DEPTH, DEPTH_SCALE, KELVIN, OFFSET, SPEED, WATER_DISTANCE};
+use readings::{Range, Reading};
+
+/// The temperatures of PGN 130312, in hundredths of a kelvin.
+const CENTIKELVIN: Range = Range {
+    low: 17_315,
+    high: 37_315,
+};
+
+#[tactic(auto, unfolding(crate::specs::Profiled::messages))]
+pub fn read_water_speed(payload: &[u8]) -> Profiled
+    ensures value { result ≡ profiled 128259 payload.now }
+    ensures valid { GivesValid result }
+{
+    if payload.len() < 3 {
+        return Profiled::Short;
+    }
+    Profiled::Reading(Reading::WaterSpeed {
+        speed: unsigned(payload, 1, 2, SPEED),
+    })
+}
+
+#[tactic(auto, unfolding(crate::specs::Profiled::messages))]
+pub fn read_depth(payload: &[u8]) -> Profiled
+    ensures value { result ≡ profiled 128267 payload.now }
+    ensures valid { GivesValid result }
+{
+    if payload.len() < 5 {
+        return Profiled::Short;
+    }
+    Profiled::Reading(Reading::Depth {
+        depth: unsigned(payload, 1, 4, DEPTH),
+        offset: signed(payload, 5, 2, OFFSET),
+        range: unsigned(payload, 7, 1, DEPTH_SCALE),
+    })
+}
+
+#[tactic(auto, unfolding(crate::specs::Profiled::messages))]
+pub fn read_distance_log(payload: &[u8]) -> Profiled
+    ensures value { result ≡ profiled 128275 payload.now }
+    ensures valid { GivesValid result }
+{
+    if payload.len() < 10 {
+        return Profiled::Short;
+    }
+    Profiled::Reading(Reading::DistanceLog {
+        log: unsigned(payload, 6, 4, WATER_DISTANCE),
+        trip: unsigned(payload, 10, 4, WATER_DISTANCE),
+    })
+}
+
+#[tactic(auto, unfolding(crate::specs::Profiled::messages))]
+pub fn read_temperature(payload: &[u8]) -> Profiled
+    ensures value { result ≡ profiled 130312 payload.now }
+    ensures valid { GivesValid result }
+{
+    if payload.len() < 5 {
+        return Profiled::Short;
+    }
+    if payload[2] != 0 {
+        return Profiled::Outside;
+    }
+    let kelvin = match unsigned(payload, 3, 2, CENTIKELVIN) {
+        Some(hundredths) => Some(hundredths * 10),
+        None => None,
+    };
+    Profiled::Reading(Reading::WaterTemperature { kelvin })
+}
+
+#[tactic(auto, unfolding(crate::specs::Profiled::messages))]
+pub fn read_extended_temperature(payload: &[u8]) -> Profiled
+    ensures value { result ≡ profiled 130316 payload.now }
+    ensures valid { GivesValid result }
+{
+    if payload.len() < 6 {
+        return Profiled::Short;
+    }
+    if payload[2] != 0 {
+        return Profiled::Outside;
+    }
+    Profiled::Reading(Reading::WaterTemperature {
+        kelvin: unsigned(payload, 3, 3, KELVIN),
+    })
+}
+
+pub fn write_water_speed(speed: Option<i64>, out: &mut Payload)
+    requires { out.old.items ≡ [] }
+    ensures { out.new.items ≡ payload_of (Reading.WaterSpeed speed) }
+{
+    append_all(
+        &[
+            Byte(0xFF),
+            Unsigned(2, speed),
+            Unsigned(2, None),
+            Byte(0xFF),
+            Byte(0xFF),
+            Byte(0xFF),
+        ],
+        out,
+    );
+}
+
+pub fn write_depth(depth: Option<i64>, offset: Option<i64>, range: Option<i64>, out: &mut Payload)
+    requires { out.old.items ≡ [] }
+    ensures { out.new.items ≡ payload_of (Reading.Depth depth offset range) }
+{
+    append_all(
+        &[
+            Byte(0xFF),
+            Unsigned(4, depth),
+            Signed(2, offset),
+            Unsigned(1, range),
+        ],
+        out,
+    );
+}
+
+pub fn write_distance_log(log: Option<i64>, trip: Option<i64>, out: &mut Payload)
+    requires { out.old.items ≡ [] }
+    ensures { out.new.items ≡ payload_of (Reading.DistanceLog log trip) }
+{
+    append_all(
+        &[
+            Unsigned(2, None),
+            Unsigned(4, None),
+            Unsigned(4, log),
+            Unsigned(4, trip),
+        ],
+        out,
+    );
+}
+
+pub fn write_temperature(kelvin: Option<i64>, out: &mut Payload)
+    requires { out.old.items ≡ [] }
+    ensures { out.new.items ≡ payload_of (Reading.WaterTemperature kelvin) }
+{
+    append_all(
+        &[
+            Byte(0xFF),
+            Byte(0),
+            Byte(0),
+            Unsigned(3, kelvin),
+            Unsigned(2, None),
+        ],
+        out,
+    );
+}
