@@ -1,0 +1,34 @@
+-- Counts of faults, and which numbered calls fail.
+use Rattle.std.specs.Prelude.{◌≡◌, ℕ, ◌+◌, ◌-◌, ◌^◌, ◌<◌, ◌≤◌, ◌⊎◌, Bool, ◌==◌, if◌then◌else◌, min, List, Result, OnErr}
+use Rattle.std.specs.List.{list_any}
+
+-- A count one higher. It stops at its last value.
+abbrev pub raised : ℕ → ℕ
+raised count = min (count + 1) (2 ^ 64 - 1)
+
+-- The count rose in a call. At its last value it counts as one that rose.
+abbrev pub Rose : ℕ → ℕ → Type 0
+Rose before after = (before < after) ⊎ (after ≡ 2 ^ 64 - 1)
+
+-- A failure has its cause in the count, which never falls.
+pub record HasCause {T E : Type 0} (before after : ℕ) (result : Result T E) : Type 0 where
+  pub never_falls : before ≤ after
+  pub rose : OnErr result (Rose before after)
+
+-- Which calls of a kind fail, by their numbers from 1, and how many calls and faults there were.
+pub record Script : Type 0 where
+  pub failing : List ℕ
+  pub calls : ℕ
+  pub faults : ℕ
+
+-- whether the next call is one of those that fail
+abbrev pub fails_next : Script → Bool
+fails_next s = list_any (λ number. number == s.calls + 1) s.failing
+
+-- the script after a call that failed or didn't
+abbrev pub after_call : Script → Bool → Script
+after_call s failed = record {
+  failing = s.failing;
+  calls = min (s.calls + 1) (2 ^ 64 - 1);
+  faults = if failed then raised s.faults else s.faults;
+}

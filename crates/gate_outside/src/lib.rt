@@ -1,0 +1,36 @@
+//! What lies outside the program: the bytes that it reads and the bytes that it writes.
+//!
+//! Each kind of outside is a trait. It says what a call does to the content, wherever the object
+//! tells its content, and it counts its faults: a call may fail only where that count rises. So a
+//! program over these traits can be held to its definition by what it read and wrote, and a failure
+//! by its count.
+//!
+//! The memory forms tell everything and fail at the calls that they are told to; the quiet forms
+//! never fail; the adapters over a reader and a writer of std tell nothing.
+#![tactic(auto)]
+
+mod failures;
+mod mem_sink;
+mod mem_source;
+mod quiet_sink;
+mod quiet_source;
+mod record;
+mod sink;
+mod source;
+mod streams;
+mod supply;
+
+pub use mem_sink::MemSink;
+pub use mem_source::MemSource;
+pub use quiet_sink::QuietSink;
+pub use quiet_source::QuietSource;
+pub use sink::Sink;
+pub use source::Source;
+pub use streams::{ReaderSource, WriterSink};
+
+/// A call failed. It is answered only where the object's count of faults rose in that call.
+#[derive(Clone, Copy, Debug, Default, PartialEq, Eq)]
+pub struct Failed;
+
+#[cfg(test)]
+mod tests;

@@ -1,0 +1,81 @@
+//! What no clause says: that the makers find memory, and that the adapters pass their bytes on.
+use super::*;
+use std::test::Fail;
+
+/// A reader or a writer that fails at once.
+#[derive(Drop)]
+struct Broken;
+
+impl std::io::Read for Broken {
+    fn read(&mut self, _buf: &mut [u8]) -> std::io::Result<usize> {
+        Err(std::io::Error::from(std::io::ErrorKind::TimedOut))
+    }
+}
+
+impl std::io::Write for Broken {
+    fn write(&mut self, _buf: &[u8]) -> std::io::Result<usize> {
+        Err(std::io::Error::from(std::io::ErrorKind::TimedOut))
+    }
+
+    fn flush(&mut self) -> std::io::Result<()> {
+        Ok(())
+    }
+}
+
+#[test]
+fn memory_moves_at_most_and_fails_by_number(rt: HostRuntime) -> Result<(), Fail> {
+    let alloc = rt.alloc();
+    let mut source = MemSource::of(b"abcde".to_vec(alloc)?, 2, [2].to_vec(alloc)?);
+    let mut sink = MemSink::of(alloc, 4, 3, [1].to_vec(alloc)?)?;
+    let mut buf = [0; 8];
+    assert_eq!(rt; source.read(&mut buf), Ok(2));
+    assert_eq!(rt; source.read(&mut buf), Err(Failed));
+    assert_eq!(rt; source.faults(), 1);
+    assert_eq!(rt; source.read(&mut buf), Ok(2));
+    assert_eq!(rt; source.read(&mut buf), Ok(1));
+    assert_eq!(rt; source.read(&mut buf), Ok(0));
+    assert_eq!(rt; sink.write(b"wxyz"), Err(Failed));
+    assert_eq!(rt; sink.write(b"wxyz"), Ok(3));
+    assert_eq!(rt; sink.write(b"z"), Ok(1));
+    assert_eq!(rt; sink.taken(), b"wxyz".as_slice());
+    assert_eq!(rt; sink.write(b"!"), Ok(1));
+    assert!(rt; !sink.tells());
+    assert_eq!(rt; sink.faults(), 1);
+    Ok(())
+}
+
+#[test]
+fn quiet_forms_move_and_never_fail(rt: HostRuntime) -> Result<(), Fail> {
+    let alloc = rt.alloc();
+    let mut source = QuietSource::of(b"abc".to_vec(alloc)?, 2);
+    let mut sink = QuietSink::of(alloc, 3, 2)?;
+    let mut buf = [0; 8];
+    assert_eq!(rt; source.read(&mut buf), Ok(2));
+    assert_eq!(rt; source.read(&mut buf), Ok(1));
+    assert_eq!(rt; sink.write(b"xyz"), Ok(2));
+    assert_eq!(rt; sink.write(b"z"), Ok(1));
+    assert_eq!(rt; sink.taken(), b"xyz".as_slice());
+    assert_eq!(rt; source.faults() + sink.faults(), 0);
+    Ok(())
+}
+
+#[test]
+fn adapters_pass_bytes_on_and_count_faults(rt: HostRuntime) -> Result<(), Fail> {
+    let mut source = ReaderSource::new(b"abc".as_slice());
+    let mut buf = [0; 8];
+    assert_eq!(rt; source.read(&mut buf), Ok(3));
+    assert_eq!(rt; &buf[..3], b"abc".as_slice());
+    assert_eq!(rt; source.read(&mut buf), Ok(0));
+    let mut kept = Vec::new(rt.alloc());
+    let mut sink = WriterSink::new(&mut kept);
+    assert_eq!(rt; sink.write(b"xyz"), Ok(3));
+    assert_eq!(rt; sink.faults(), 0);
+    assert_eq!(rt; kept.as_slice(), b"xyz".as_slice());
+    let mut source = ReaderSource::new(Broken);
+    assert_eq!(rt; source.read(&mut buf), Err(Failed));
+    assert_eq!(rt; source.faults(), 1);
+    let mut sink = WriterSink::new(Broken);
+    assert_eq!(rt; sink.write(b"x"), Err(Failed));
+    assert_eq!(rt; sink.faults(), 1);
+    Ok(())
+}

@@ -1,0 +1,13 @@
+//! What an NMEA 2000 bus names: CAN frames, the parts of their 29-bit identifiers (ISO 11783-3), and
+//! the NAMEs of devices (ISO 11783-5).
+#![tactic(auto)]
+
+mod frame;
+mod header;
+mod identifier;
+#[cfg(test)]
+mod tests;
+
+pub use frame::Frame;
+pub use header::Parts;
+pub use identifier::{join, parts};

@@ -1,0 +1,20 @@
+//! What one message says, as raw values: the seventeen rows of the profile, the reading of each row,
+//! and the numbers in a payload's bytes.
+//!
+//! A raw value is the whole number that stands in an NMEA 2000 field, in the field's own unit. It
+//! passes through the gateway unrounded: only the text of a sentence rounds it.
+#![tactic(auto)]
+
+mod number;
+pub mod range;
+mod reading;
+mod rows;
+#[cfg(test)]
+mod tests;
+mod validity;
+
+pub use number::{bits, read_signed, read_unsigned};
+pub use range::Range;
+pub use reading::{Reading, row, usable};
+pub use rows::Row;
+pub use validity::valid;

@@ -1,0 +1,77 @@
+ghost use Rattle.std.specs.Prelude.{◌≡◌, ◌+◌, ◌<◌, ◌≤◌, [], ◌∷◌, ◌++◌, length, IsTrue, ◌↔◌, false, ◌/◌, ◌%◌};
+ghost use Rattle.arrayvec.specs.ArrayVec.{array_vec_len};
+ghost use Rattle.sentence_text.specs.Sentence.{IsAddress, IsBody, IsSentence, capital_digit, content, parts_of, sentence, xor_of};
+
+use arrayvec::ArrayVec;
+
+/// The most bytes that a sentence is written with, CR and LF included (IEC 61162-1).
+const MOST: usize = 82;
+
+/// `$`, five characters, a comma, `*`, two digits, CR and LF.
+const FRAME: usize = 12;
+
+fn put(piece: &[u8], out: &mut ArrayVec<u8, 82>)
+    requires { array_vec_len out.old + length piece.now ≤ 82 }
+    ensures { out.new.items ≡ out.old.items ++ piece.now }
+{
+    let _fits = out.try_extend_from_slice(piece);
+}
+
+fn xor(bytes: &[u8]) -> u8
+    ensures { result ≡ xor_of bytes.now }
+{
+    bytes.iter().fold(0, |sum, byte| sum ^ byte)
+}
+
+fn digit(value: u8) -> u8
+    requires { value < 16 }
+    ensures { result ≡ capital_digit value }
+{
+    if value < 10 {
+        b'0' + value
+    } else {
+        b'A' + (value - 10)
+    }
+}
+
+/// `$`, and the content behind it.
+fn put_content(talker: &[u8; 2], formatter: &[u8; 3], body: &[u8], out: &mut ArrayVec<u8, 82>)
+    requires empty { out.old.items ≡ [] }
+    requires fits { length body.now + FRAME ≤ 82 }
+    ensures content { out.new.items ≡ 36 ∷ content (parts_of talker.now formatter.now body.now) }
+    ensures len { array_vec_len out.new + 5 ≡ length body.now + FRAME }
+{
+    put(b"$", out);
+    put(talker, out);
+    put(formatter, out);
+    put(b",", out);
+    put(body, out);
+}
+
+/// `*`, the two digits of the sum, CR and LF.
+fn put_end(sum: u8, out: &mut ArrayVec<u8, 82>)
+    requires { array_vec_len out.old + 5 ≤ 82 }
+    ensures { out.new.items ≡ out.old.items ++ 42 ∷ capital_digit (sum / 16) ∷ capital_digit (sum % 16) ∷ 13 ∷ 10 ∷ [] }
+{
+    put(&[b'*', digit(sum / 16), digit(sum % 16), b'\r', b'\n'], out);
+}
+
+/// Writes `$`, the address, a comma and the body, and behind `*` their sum. The body is the fields, divided by
+/// commas. Says whether the sentence has at most 82 bytes; if not, nothing is written.
+pub fn write(talker: [u8; 2], formatter: [u8; 3], body: &[u8], out: &mut ArrayVec<u8, 82>) -> bool
+    requires empty { out.old.items ≡ [] }
+    requires address { IsAddress (talker ++ formatter) }
+    requires body { IsBody (44 ∷ body.now) }
+    ensures fits { IsTrue result ↔ (length (sentence (parts_of talker formatter body.now)) ≤ 82) }
+    ensures written { IsTrue result → out.new.items ≡ sentence (parts_of talker formatter body.now) }
+    ensures grammar { IsTrue result → IsSentence (parts_of talker formatter body.now) out.new.items }
+    ensures unchanged { result ≡ false → out.new ≡ out.old }
+{
+    if body.len() > MOST - FRAME {
+        return false;
+    }
+    put_content(&talker, &formatter, body, out);
+    let sum = xor(&out[1..]);
+    put_end(sum, out);
+    true
+}

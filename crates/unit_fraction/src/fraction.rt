@@ -1,0 +1,62 @@
+ghost use Rattle.std.specs.Prelude.{◌≡◌, ◌+◌, ◌*◌, ◌/◌, ◌%◌, ◌<◌, ◌^◌, ℤ, pos, ◌*ℤ◌};
+ghost use Rattle.unit_fraction.specs.Round.{IsRound, nearest, round, signed};
+
+/// A ratio of whole numbers, such as 900 / 463 from hundredths of a metre a second to hundredths of a knot.
+#[derive(Clone, Copy, Debug, PartialEq, Eq)]
+pub struct Fraction {
+    pub num: u64,
+    pub den: u64,
+    pub ghost positive: { 0 < den },
+}
+
+/// Quotient and rest, in as many bits as the numbers need: a division of 128 bits takes several times as long
+/// as one of 64.
+fn divide(value: u128, by: u128) -> (u128, u128)
+    requires { 0 < by }
+    ensures { (result.0 ≡ value / by) × (result.1 ≡ value % by) }
+{
+    if value <= u64::MAX as u128 && by <= u64::MAX as u128 {
+        let (value, by) = (value as u64, by as u64);
+        ((value / by) as u128, (value % by) as u128)
+    } else {
+        (value / by, value % by)
+    }
+}
+
+/// The nearest whole number to `value / by`; halves go up.
+#[tactic(auto, using(crate::proofs::Nearest::nearest_by_rest))]
+fn nearest_of(value: u128, by: u128) -> u128
+    requires { 0 < by }
+    ensures { result ≡ nearest value by }
+{
+    let (whole, rest) = divide(value, by);
+    if rest >= by - rest { whole + 1 } else { whole }
+}
+
+/// The same with a sign, so that halves go away from zero.
+#[tactic(auto, using(crate::proofs::Nearest::nearest_le))]
+fn nearest_signed(negative: bool, size: u128, by: u128) -> i128
+    requires positive { 0 < by }
+    requires fits { size < 2 ^ 127 }
+    ensures { result ≡ signed negative (nearest size by) }
+{
+    let size = nearest_of(size, by) as i128;
+    if negative { -size } else { size }
+}
+
+#[tactic(auto, using(crate::proofs::Round::round_product, crate::proofs::Nearest::product_fits))]
+fn scaled(f: Fraction, raw: i64) -> i128
+    ensures { result ≡ round (raw *ℤ pos f.num) f.den }
+{
+    let size = raw.unsigned_abs() as u128 * f.num as u128;
+    nearest_signed(raw < 0, size, f.den as u128)
+}
+
+/// `raw` times the fraction, as the nearest whole number; of two equally near, the one further from zero.
+pub fn scale(f: Fraction, raw: i64) -> i128
+    ensures rounds { IsRound (raw *ℤ pos f.num) f.den result }
+    ensures only { (q : ℤ) → IsRound (raw *ℤ pos f.num) f.den q → q ≡ result }
+    ensures value { result ≡ round (raw *ℤ pos f.num) f.den }
+{
+    scaled(f, raw)
+}

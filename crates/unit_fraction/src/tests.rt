@@ -1,0 +1,79 @@
+use super::*;
+use arrayvec::ArrayVec;
+use std::test::Fail;
+
+#[test]
+fn a_conversion_rounds_once_and_halves_go_away_from_zero(rt: HostRuntime) {
+    let degrees = Fraction {
+        num: 180_000_000_000_000,
+        den: 3_141_592_653_589_793,
+    };
+    let knots = Fraction { num: 900, den: 463 };
+    let half = Fraction { num: 1, den: 2 };
+    let rows = [
+        (degrees, 31416, 1800),
+        (degrees, 62832, 3600),
+        (degrees, 15708, 900),
+        (knots, 463, 900),
+        (knots, 1000, 1944),
+        (half, 1, 1),
+        (half, -1, -1),
+        (half, 3, 2),
+        (half, -3, -2),
+        (half, 0, 0),
+    ];
+    for (fraction, raw, value) in rows {
+        assert_eq!(rt; scale(fraction, raw), value);
+    }
+}
+
+#[test]
+fn a_conversion_holds_at_the_ends_of_its_range(rt: HostRuntime) {
+    let most = Fraction {
+        num: u64::MAX,
+        den: 1,
+    };
+    let least = Fraction {
+        num: 1,
+        den: u64::MAX,
+    };
+    assert_eq!(rt;
+        scale(most, i64::MIN),
+        -170_141_183_460_469_231_722_463_931_679_029_329_920
+    );
+    assert_eq!(rt; scale(least, i64::MIN), -1);
+    assert_eq!(rt; scale(least, i64::MAX), 0);
+}
+
+#[test]
+fn a_number_is_written_with_its_decimals(rt: HostRuntime) -> Result<(), Fail> {
+    let rows: [(bool, u64, u8, &[u8]); 8] = [
+        (false, 0, 0, b"0"),
+        (true, 0, 1, b"0.0"),
+        (false, 900, 1, b"90.0"),
+        (true, 5, 2, b"-0.05"),
+        (false, 1234, 0, b"1234"),
+        (true, 1, 0, b"-1"),
+        (false, 7, 12, b"0.000000000007"),
+        (true, u64::MAX, 3, b"-18446744073709551.615"),
+    ];
+    for (negative, digits, places, text) in rows {
+        let mut out = ArrayVec::new();
+        assert!(rt; write_decimal(negative, digits, places, &mut out));
+        assert_eq!(rt; out.as_slice(), text);
+    }
+    Ok(())
+}
+
+#[test]
+fn what_does_not_fit_changes_nothing(rt: HostRuntime) -> Result<(), Fail> {
+    let mut out = ArrayVec::new();
+    for _ in 0..79 {
+        assert!(rt; out.try_push(b' ').is_ok());
+    }
+    assert!(rt; !write_decimal(false, 900, 1, &mut out));
+    assert_eq!(rt; out.len(), 79);
+    assert!(rt; write_decimal(false, 100, 0, &mut out));
+    assert_eq!(rt; out.len(), 82);
+    Ok(())
+}
