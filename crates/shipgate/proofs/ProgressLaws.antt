@@ -1,12 +1,12 @@
 -- The steps of a command over lines.
-use Rattle.std.proofs.Common.{◌≡◌, ℕ, ◌+◌, ◌<◌, List, [], ◌∷◌, ◌++◌, length, map, refl, sym, ap, ◌∙◌, append_assoc, arith}
+use Rattle.std.proofs.Common.{◌≡◌, ℕ, ◌+◌, ◌<◌, List, [], ◌∷◌, ◌++◌, length, map, take, refl, sym, ap, subst, ◌∙◌, append_assoc, arith}
 use Rattle.std.specs.List.{flat_map, AllByRecursion, slice_split}
-use Rattle.std.proofs.lemmas.List.{append-nil, length-map, map-append}
+use Rattle.std.proofs.lemmas.List.{append-nil, length-map, map-append, take_at}
 use Rattle.std.proofs.lemmas.List.Splits.{slice_split_at, slice_split_none, length-slice_split}
 use Rattle.std.proofs.lemmas.Grind.{flat_map-append}
-use Rattle.shipgate.specs.Lines.{is_lf, without_cr, front, texts_from}
+use Rattle.shipgate.specs.Lines.{is_lf, without_cr, front, lines_of, complete_lines, AreTexts}
 use Rattle.shipgate.specs.LineReader.{HasNoLf}
-use Rattle.shipgate.specs.Progress.{ended, Cut, complete_text, whole_text}
+use Rattle.shipgate.specs.Progress.{ended, Cut}
 
 -- ---- lines
 
@@ -30,16 +30,13 @@ front-append (x ∷ []) [] some = absurd (omega arith)
 front-append (x ∷ []) (y ∷ ys) some = refl
 front-append (x ∷ z ∷ xs) ys some = ap (λ (zs : List (List ℕ)). x ∷ zs) (front-append (z ∷ xs) ys some)
 
-texts_from-append : (text : ℕ → List ℕ → List ℕ) (n : ℕ) (xs ys : List (List ℕ)) → texts_from text n (xs ++ ys) ≡ texts_from text n xs ++ texts_from text (n + length xs) ys
-texts_from-append text n [] ys = ap (λ (k : ℕ). texts_from text k ys) (omega arith)
-texts_from-append text n (x ∷ xs) ys =
-    let k : n + 1 + length xs ≡ n + length (x ∷ xs) = omega arith in
-    ap (λ (t : List ℕ). text n x ++ t) (texts_from-append text (n + 1) xs ys ∙ ap (λ (j : ℕ). texts_from text (n + 1) xs ++ texts_from text j ys) k)
-    ∙ sym (append_assoc (text n x) (texts_from text (n + 1) xs) (texts_from text (n + length (x ∷ xs)) ys))
-
-pub texts_from-push : (text : ℕ → List ℕ → List ℕ) (xs : List (List ℕ)) (x : List ℕ) → texts_from text 1 (xs ++ x ∷ []) ≡ texts_from text 1 xs ++ text (length xs + 1) x
-texts_from-push text xs x =
-    texts_from-append text 1 xs (x ∷ []) ∙ ap (λ (t : List ℕ). texts_from text 1 xs ++ t) (append-nil (text (1 + length xs) x) ∙ ap (λ (k : ℕ). text k x) (omega arith))
+pub AreTexts-push : (Gives : ℕ → List ℕ → List ℕ → Type 0) (n : ℕ) (lines : List (List ℕ)) (line bytes text : List ℕ) → AreTexts Gives n lines bytes → Gives (n + length lines) line text → AreTexts Gives n (lines ++ line ∷ []) (bytes ++ text)
+AreTexts-push Gives n [] line bytes text h k =
+    (text, [], subst (λ (j : ℕ). Gives j line text) (omega arith) k, refl, ap (λ (xs : List ℕ). xs ++ text) h ∙ sym (append-nil text))
+AreTexts-push Gives n (first ∷ lines) line bytes text h k =
+    let j : n + length (first ∷ lines) ≡ n + 1 + length lines = omega arith in
+    let more = AreTexts-push Gives (n + 1) lines line h.1 text h.3 (subst (λ (i : ℕ). Gives i line text) j k) in
+    (h.0, h.1 ++ text, h.2, more, ap (λ (xs : List ℕ). xs ++ text) h.4 ∙ append_assoc h.0 h.1 text)
 
 -- ---- cuts
 
@@ -67,28 +64,24 @@ cut_line bytes lines rest raw behind c split no_lf =
       no_lf = no_lf-push lines raw c.no_lf no_lf;
     }
 
--- ---- the text of what was read
+-- ---- the lines of what was read
 
-pub complete_of_cut : (text : ℕ → List ℕ → List ℕ) (read : List ℕ) (lines : List (List ℕ)) (rest : List ℕ) → Cut read lines rest → HasNoLf rest → complete_text text read ≡ texts_from text 1 (map without_cr lines)
-complete_of_cut text read lines rest c no_lf =
+pub complete_of_cut : (read : List ℕ) (lines : List (List ℕ)) (rest : List ℕ) → Cut read lines rest → HasNoLf rest → complete_lines read ≡ map without_cr lines
+complete_of_cut read lines rest c no_lf =
     let parts : slice_split is_lf read ≡ lines ++ rest ∷ [] = parts_of_cut read lines rest c ∙ ap (λ (ps : List (List ℕ)). lines ++ ps) (slice_split_none is_lf rest no_lf) in
-    ap (λ (ps : List (List ℕ)). texts_from text 1 (map without_cr (front ps))) parts ∙ ap (λ (ps : List (List ℕ)). texts_from text 1 (map without_cr ps)) (front-push lines rest)
+    ap (λ (ps : List (List ℕ)). map without_cr (front ps)) parts ∙ ap (λ (ps : List (List ℕ)). map without_cr ps) (front-push lines rest)
 
-pub whole_of_cut : (text : ℕ → List ℕ → List ℕ) (read : List ℕ) (lines : List (List ℕ)) (rest : List ℕ) → Cut read lines rest → HasNoLf rest
-    → whole_text text read ≡ texts_from text 1 (map without_cr lines) ++ text (length lines + 1) (without_cr rest)
-whole_of_cut text read lines rest c no_lf =
+pub whole_of_cut : (read : List ℕ) (lines : List (List ℕ)) (rest : List ℕ) → Cut read lines rest → HasNoLf rest → lines_of read ≡ map without_cr lines ++ without_cr rest ∷ []
+whole_of_cut read lines rest c no_lf =
     let parts : slice_split is_lf read ≡ lines ++ rest ∷ [] = parts_of_cut read lines rest c ∙ ap (λ (ps : List (List ℕ)). lines ++ ps) (slice_split_none is_lf rest no_lf) in
-    ap (λ (ps : List (List ℕ)). texts_from text 1 (map without_cr ps)) parts
-    ∙ (ap (λ (ps : List (List ℕ)). texts_from text 1 ps) (map-append without_cr lines (rest ∷ []))
-    ∙ (texts_from-push text (map without_cr lines) (without_cr rest) ∙ ap (λ (k : ℕ). texts_from text 1 (map without_cr lines) ++ text (k + 1) (without_cr rest)) (length-map lines without_cr)))
+    ap (λ (ps : List (List ℕ)). map without_cr ps) parts ∙ map-append without_cr lines (rest ∷ [])
 
--- the text of the lines that were taken is a front of that of all complete lines
-pub front_of_cut : (text : ℕ → List ℕ → List ℕ) (read : List ℕ) (lines : List (List ℕ)) (rest : List ℕ) → Cut read lines rest
-    → (more : List ℕ) × (texts_from text 1 (map without_cr lines) ++ more ≡ complete_text text read)
-front_of_cut text read lines rest c =
+-- the lines that were taken are the first of the complete ones
+pub front_of_cut : (read : List ℕ) (lines : List (List ℕ)) (rest : List ℕ) → Cut read lines rest → take (length lines) (complete_lines read) ≡ map without_cr lines
+front_of_cut read lines rest c =
     let parts = parts_of_cut read lines rest c in
     let some : 0 < length (slice_split is_lf rest) = omega (arith, length-slice_split is_lf rest) in
     let fronts : front (slice_split is_lf read) ≡ lines ++ front (slice_split is_lf rest) = ap front parts ∙ front-append lines (slice_split is_lf rest) some in
     let others = map without_cr (front (slice_split is_lf rest)) in
-    let e : complete_text text read ≡ texts_from text 1 (map without_cr lines ++ others) = ap (λ (ps : List (List ℕ)). texts_from text 1 (map without_cr ps)) fronts ∙ ap (λ (ps : List (List ℕ)). texts_from text 1 ps) (map-append without_cr lines (front (slice_split is_lf rest))) in
-    (texts_from text (1 + length (map without_cr lines)) others, sym (e ∙ texts_from-append text 1 (map without_cr lines) others))
+    let e : complete_lines read ≡ map without_cr lines ++ others = ap (λ (ps : List (List ℕ)). map without_cr ps) fronts ∙ map-append without_cr lines (front (slice_split is_lf rest)) in
+    ap (λ (ps : List (List ℕ)). take (length lines) ps) e ∙ take_at (map without_cr lines) others (length lines) (length-map lines without_cr)

@@ -1,16 +1,16 @@
 -- What one more step does to where a command over lines stands.
 use Rattle.std.proofs.Common.{◌≡◌, ℕ, ◌+◌, ◌<◌, ◌≤◌, ◌⊎◌, true, false, List, [], ◌∷◌, ◌++◌, length, map, refl, sym, ap, ◌∙◌, subst, inl, inr, append_assoc, arith}
 use Rattle.std.specs.Prelude.{Option, Some, None}
-use Rattle.std.proofs.lemmas.List.{append-nil, length-append, length-map, map-append}
+use Rattle.std.proofs.lemmas.List.{append-nil, length-append, length-map, map-append, take_all}
 use Rattle.std.proofs.lemmas.List.Elements.{All-append}
 use Rattle.gate_outside.specs.Told.{Leaves, Joins}
-use Rattle.shipgate.specs.Lines.{is_lf, without_cr, texts_from}
+use Rattle.shipgate.specs.Lines.{is_lf, without_cr, lines_of, complete_lines, AreTexts}
 use Rattle.shipgate.specs.LineReader.{Held, HasNoLf, Takes, EndsLongLine, Waits}
 use Rattle.shipgate.specs.Writing.{Sends}
 use Rattle.std.specs.List.{flat_map}
-use Rattle.shipgate.specs.Progress.{ended, StandsFor, Stand, Rested, WritesSome, complete_text, whole_text}
+use Rattle.shipgate.specs.Progress.{ended, StandsFor, Stand, Rested, WritesSome, WritesAll}
 use Rattle.shipgate.proofs.Writing.{Joins-then}
-use Rattle.shipgate.proofs.ProgressLaws.{cut_more, cut_line, whole_of_cut, front_of_cut, texts_from-push}
+use Rattle.shipgate.proofs.ProgressLaws.{cut_more, cut_line, whole_of_cut, front_of_cut, AreTexts-push}
 
 -- ---- what the reader holds
 
@@ -92,29 +92,15 @@ Sends-then a b c done text waiting left s t = record {
   whole = append_assoc s.sent t.sent left ∙ (ap (λ (xs : List ℕ). s.sent ++ xs) t.whole ∙ (sym (append_assoc s.sent waiting text) ∙ ap (λ (xs : List ℕ). xs ++ text) s.whole));
 }
 
-pub writes_some : (a b : Option (List ℕ)) (done left more text : List ℕ) → Sends a b done left → done ++ more ≡ text → WritesSome a b text
-writes_some a b done left more text s e = record {
-  written = s.sent;
-  joins = s.joins;
-  unwritten = left ++ more;
-  front = sym (append_assoc s.sent left more) ∙ (ap (λ (xs : List ℕ). xs ++ more) s.whole ∙ e);
-}
-
 -- ---- where the command stands
 
-texts_behind : (text : ℕ → List ℕ → List ℕ) (lines : List (List ℕ)) (raw : List ℕ) → texts_from text 1 (map without_cr (lines ++ raw ∷ [])) ≡ texts_from text 1 (map without_cr lines) ++ text (length lines + 1) (without_cr raw)
-texts_behind text lines raw =
-    ap (λ (ps : List (List ℕ)). texts_from text 1 ps) (map-append without_cr lines (raw ∷ []))
-    ∙ (texts_from-push text (map without_cr lines) (without_cr raw) ∙ ap (λ (k : ℕ). texts_from text 1 (map without_cr lines) ++ text (k + 1) (without_cr raw)) (length-map lines without_cr))
-
 -- a line has had its text
-pub stand_line : (text : ℕ → List ℕ → List ℕ) (left left' told told' told'' : Option (List ℕ)) (old new : Held) (waiting waiting' : List ℕ) (number size : ℕ) (raw : List ℕ)
-    → (s : Stand text left left' told told' old waiting number size) → Begins s.rest new raw → Sends told' told'' (waiting ++ text (number + 1) (without_cr raw)) waiting'
-    → (t : Stand text left left' told told'' new waiting' (number + 1) size) × (t.read ≡ s.read)
-stand_line text left left' told told' told'' old new waiting waiting' number size raw s b sends =
-    let numbered : text (length s.lines + 1) (without_cr raw) ≡ text (number + 1) (without_cr raw) = ap (λ (k : ℕ). text (k + 1) (without_cr raw)) (sym s.counted) in
-    let done : texts_from text 1 (map without_cr (s.lines ++ raw ∷ [])) ≡ texts_from text 1 (map without_cr s.lines) ++ text (number + 1) (without_cr raw) =
-    texts_behind text s.lines raw ∙ ap (λ (t : List ℕ). texts_from text 1 (map without_cr s.lines) ++ t) numbered in (
+pub stand_line : (Gives : ℕ → List ℕ → List ℕ → Type 0) (left left' told told' told'' : Option (List ℕ)) (old new : Held) (waiting waiting' : List ℕ) (number size : ℕ) (raw text : List ℕ)
+    → (s : Stand Gives left left' told told' old waiting number size) → Begins s.rest new raw → Gives (number + 1) (without_cr raw) text → Sends told' told'' (waiting ++ text) waiting'
+    → (t : Stand Gives left left' told told'' new waiting' (number + 1) size) × (t.read ≡ s.read)
+stand_line Gives left left' told told' told'' old new waiting waiting' number size raw text s b gives sends =
+    let k : number + 1 ≡ 1 + length (map without_cr s.lines) = omega (arith, s.counted, length-map s.lines without_cr) in
+    let pushed : AreTexts Gives 1 (map without_cr s.lines ++ without_cr raw ∷ []) (s.done ++ text) = AreTexts-push Gives 1 (map without_cr s.lines) (without_cr raw) s.done text s.texts (subst (λ (j : ℕ). Gives j (without_cr raw) text) k gives) in (
       record {
         read = s.read;
         lines = s.lines ++ raw ∷ [];
@@ -124,23 +110,30 @@ stand_line text left left' told told' told'' old new waiting waiting' number siz
         cut = cut_line s.read s.lines s.rest raw new.unread s.cut b.split b.no_lf;
         holds = b.holds;
         counted = omega (arith, s.counted, length-append s.lines (raw ∷ []));
-        sends = subst (λ (t : List ℕ). Sends told told'' t waiting') (sym done) (Sends-then told told' told'' (texts_from text 1 (map without_cr s.lines)) (text (number + 1) (without_cr raw)) waiting waiting' s.sends sends);
+        done = s.done ++ text;
+        texts = subst (λ (ps : List (List ℕ)). AreTexts Gives 1 ps (s.done ++ text)) (sym (map-append without_cr s.lines (raw ∷ []))) pushed;
+        sends = Sends-then told told' told'' s.done text waiting waiting' s.sends sends;
       },
       refl,
     )
 
 -- some of what is due was written, and no more
-pub stopped : (text : ℕ → List ℕ → List ℕ) (left left' told told' : Option (List ℕ)) (held : Held) (waiting : List ℕ) (number size : ℕ) (s : Stand text left left' told told' held waiting number size)
-    → WritesSome told told' (complete_text text s.read)
-stopped text left left' told told' held waiting number size s =
-    let f = front_of_cut text s.read s.lines s.rest s.cut in
-    writes_some told told' (texts_from text 1 (map without_cr s.lines)) waiting f.0 (complete_text text s.read) s.sends f.1
+pub stopped : (Gives : ℕ → List ℕ → List ℕ → Type 0) (left left' told told' : Option (List ℕ)) (held : Held) (waiting : List ℕ) (number size : ℕ) (s : Stand Gives left left' told told' held waiting number size)
+    → WritesSome Gives told told' (complete_lines s.read)
+stopped Gives left left' told told' held waiting number size s = record {
+  written = s.sends.sent;
+  joins = s.sends.joins;
+  count = length s.lines;
+  text = s.done;
+  texts = subst (λ (ps : List (List ℕ)). AreTexts Gives 1 ps s.done) (sym (front_of_cut s.read s.lines s.rest s.cut)) s.texts;
+  unwritten = waiting;
+  front = s.sends.whole;
+}
 
 -- more of what waits was written
-abbrev pub stand_sent : (text : ℕ → List ℕ → List ℕ) (left left' told told' told'' : Option (List ℕ)) (held : Held) (waiting waiting' : List ℕ) (number size : ℕ)
-    → Stand text left left' told told' held waiting number size → Sends told' told'' waiting waiting' → Stand text left left' told told'' held waiting' number size
-stand_sent text left left' told told' told'' held waiting waiting' number size s sends =
-    let due = texts_from text 1 (map without_cr s.lines) in
+abbrev pub stand_sent : (Gives : ℕ → List ℕ → List ℕ → Type 0) (left left' told told' told'' : Option (List ℕ)) (held : Held) (waiting waiting' : List ℕ) (number size : ℕ)
+    → Stand Gives left left' told told' held waiting number size → Sends told' told'' waiting waiting' → Stand Gives left left' told told'' held waiting' number size
+stand_sent Gives left left' told told' told'' held waiting waiting' number size s sends =
     let more : Sends told' told'' (waiting ++ []) waiting' = subst (λ (t : List ℕ). Sends told' told'' t waiting') (sym (append-nil waiting)) sends in
     record {
       read = s.read;
@@ -151,13 +144,15 @@ stand_sent text left left' told told' told'' held waiting waiting' number size s
       cut = s.cut;
       holds = s.holds;
       counted = s.counted;
-      sends = subst (λ (t : List ℕ). Sends told told'' t waiting') (append-nil due) (Sends-then told told' told'' due [] waiting waiting' s.sends more);
+      done = s.done;
+      texts = s.texts;
+      sends = subst (λ (t : List ℕ). Sends told told'' t waiting') (append-nil s.done) (Sends-then told told' told'' s.done [] waiting waiting' s.sends more);
     }
 
 -- no whole line is left
-pub stand_waiting : (text : ℕ → List ℕ → List ℕ) (left left' told told' : Option (List ℕ)) (old new : Held) (waiting : List ℕ) (number size : ℕ)
-    → Stand text left left' told told' old waiting number size → Waits old new → Rested text left left' told told' new waiting number size
-stand_waiting text left left' told told' old new waiting number size s waits = record {
+pub stand_waiting : (Gives : ℕ → List ℕ → List ℕ → Type 0) (left left' told told' : Option (List ℕ)) (old new : Held) (waiting : List ℕ) (number size : ℕ)
+    → Stand Gives left left' told told' old waiting number size → Waits old new → Rested Gives left left' told told' new waiting number size
+stand_waiting Gives left left' told told' old new waiting number size s waits = record {
   stand = record {
     read = s.read;
     lines = s.lines;
@@ -167,6 +162,8 @@ stand_waiting text left left' told told' old new waiting number size s waits = r
     cut = s.cut;
     holds = stands_waiting old new s.rest s.holds waits;
     counted = s.counted;
+    done = s.done;
+    texts = s.texts;
     sends = s.sends;
   };
   no_lf = no_lf_waiting old new s.rest s.holds waits;
@@ -174,10 +171,10 @@ stand_waiting text left left' told told' old new waiting number size s waits = r
 }
 
 -- more of the input came
-abbrev pub stand_filled : (text : ℕ → List ℕ → List ℕ) (left left' left'' told told' : Option (List ℕ)) (old new : Held) (waiting piece : List ℕ) (number size count : ℕ)
-    → Stand text left left' told told' old waiting number size → Leaves left' left'' piece → count ≡ length piece → new.unread ≡ old.unread ++ piece → new.skipping ≡ old.skipping
-    → Stand text left left'' told told' new waiting number (size + count)
-stand_filled text left left' left'' told told' old new waiting piece number size count s leaves counted unread same = record {
+abbrev pub stand_filled : (Gives : ℕ → List ℕ → List ℕ → Type 0) (left left' left'' told told' : Option (List ℕ)) (old new : Held) (waiting piece : List ℕ) (number size count : ℕ)
+    → Stand Gives left left' told told' old waiting number size → Leaves left' left'' piece → count ≡ length piece → new.unread ≡ old.unread ++ piece → new.skipping ≡ old.skipping
+    → Stand Gives left left'' told told' new waiting number (size + count)
+stand_filled Gives left left' left'' told told' old new waiting piece number size count s leaves counted unread same = record {
   read = s.read ++ piece;
   lines = s.lines;
   rest = s.rest ++ piece;
@@ -186,6 +183,8 @@ stand_filled text left left' left'' told told' old new waiting piece number size
   cut = cut_more s.read s.lines s.rest piece s.cut;
   holds = stands_filled old new s.rest piece s.holds unread same;
   counted = s.counted;
+  done = s.done;
+  texts = s.texts;
   sends = s.sends;
 }
 
@@ -198,9 +197,9 @@ unread_len : (held : Held) (rest : List ℕ) → StandsFor held rest → length 
 unread_len held rest (inl s) = omega (arith, ap length s.1)
 unread_len held rest (inr s) = omega (arith, ap length s.2, length-append s.1 held.unread)
 
-pub number_fits : (text : ℕ → List ℕ → List ℕ) (left left' told told' : Option (List ℕ)) (held : Held) (waiting : List ℕ) (number size : ℕ)
-    → Stand text left left' told told' held waiting number size → number + length held.unread ≤ size
-number_fits text left left' told told' held waiting number size s =
+pub number_fits : (Gives : ℕ → List ℕ → List ℕ → Type 0) (left left' told told' : Option (List ℕ)) (held : Held) (waiting : List ℕ) (number size : ℕ)
+    → Stand Gives left left' told told' held waiting number size → number + length held.unread ≤ size
+number_fits Gives left left' told told' held waiting number size s =
     omega (arith, s.sized, s.counted, ap length s.cut.whole, length-append (flat_map ended s.lines) s.rest, lines_len s.lines, unread_len held s.rest s.holds)
 
 -- ---- the end
@@ -215,18 +214,42 @@ Sends-on a b c done waiting left s t = record {
 pub all_sent : (a b : Option (List ℕ)) (text : List ℕ) → Sends a b text [] → Joins a b text
 all_sent a b text s = subst (λ (t : List ℕ). Joins a b t) (sym (append-nil s.sent) ∙ s.whole) s.joins
 
-pub some_sent : (a b : Option (List ℕ)) (text left : List ℕ) → Sends a b text left → WritesSome a b text
-some_sent a b text left s = record { written = s.sent; joins = s.joins; unwritten = left; front = s.whole }
+-- the text of all lines, of which some bytes are left
+pub record Whole (Gives : ℕ → List ℕ → List ℕ → Type 0) (told told' : Option (List ℕ)) (lines : List (List ℕ)) (left : List ℕ) : Type 0 where
+  pub text : List ℕ
+  pub texts : AreTexts Gives 1 lines text
+  pub sends : Sends told told' text left
+
+pub whole_sent : (Gives : ℕ → List ℕ → List ℕ → Type 0) (told told' : Option (List ℕ)) (lines : List (List ℕ)) → Whole Gives told told' lines [] → WritesAll Gives told told' lines
+whole_sent Gives told told' lines w = record { text = w.text; texts = w.texts; joins = all_sent told told' w.text w.sends }
+
+pub whole_stopped : (Gives : ℕ → List ℕ → List ℕ → Type 0) (told told' : Option (List ℕ)) (lines : List (List ℕ)) (left : List ℕ) → Whole Gives told told' lines left → WritesSome Gives told told' lines
+whole_stopped Gives told told' lines left w = record {
+  written = w.sends.sent;
+  joins = w.sends.joins;
+  count = length lines;
+  text = w.text;
+  texts = subst (λ (ps : List (List ℕ)). AreTexts Gives 1 ps w.text) (sym (take_all (length lines) lines (omega arith))) w.texts;
+  unwritten = left;
+  front = w.sends.whole;
+}
+
+-- more of it was sent
+pub whole_on : (Gives : ℕ → List ℕ → List ℕ → Type 0) (told told' told'' : Option (List ℕ)) (lines : List (List ℕ)) (waiting left : List ℕ) → Whole Gives told told' lines waiting → Sends told' told'' waiting left → Whole Gives told told'' lines left
+whole_on Gives told told' told'' lines waiting left w sends = record { text = w.text; texts = w.texts; sends = Sends-on told told' told'' w.text waiting left w.sends sends }
 
 -- the last line has had its text
-pub last_put : (text : ℕ → List ℕ → List ℕ) (left left' told told' told'' : Option (List ℕ)) (held : Held) (waiting some : List ℕ) (number size : ℕ)
-    → (r : Rested text left left' told told' held waiting number size) → Sends told' told'' (waiting ++ text (number + 1) (without_cr r.stand.rest)) some → Sends told told'' (whole_text text r.stand.read) some
-last_put text left left' told told' told'' held waiting some number size r sends =
+pub last_put : (Gives : ℕ → List ℕ → List ℕ → Type 0) (left left' told told' told'' : Option (List ℕ)) (held : Held) (waiting some text : List ℕ) (number size : ℕ)
+    → (r : Rested Gives left left' told told' held waiting number size) → Gives (number + 1) (without_cr r.stand.rest) text → Sends told' told'' (waiting ++ text) some → Whole Gives told told'' (lines_of r.stand.read) some
+last_put Gives left left' told told' told'' held waiting some text number size r gives sends =
     let s = r.stand in
-    let due = texts_from text 1 (map without_cr s.lines) in
-    let numbered : text (length s.lines + 1) (without_cr s.rest) ≡ text (number + 1) (without_cr s.rest) = ap (λ (k : ℕ). text (k + 1) (without_cr s.rest)) (sym s.counted) in
-    let e : whole_text text s.read ≡ due ++ text (number + 1) (without_cr s.rest) = whole_of_cut text s.read s.lines s.rest s.cut r.no_lf ∙ ap (λ (t : List ℕ). due ++ t) numbered in
-    subst (λ (t : List ℕ). Sends told told'' t some) (sym e) (Sends-then told told' told'' due (text (number + 1) (without_cr s.rest)) waiting some s.sends sends)
+    let k : number + 1 ≡ 1 + length (map without_cr s.lines) = omega (arith, s.counted, length-map s.lines without_cr) in
+    let pushed : AreTexts Gives 1 (map without_cr s.lines ++ without_cr s.rest ∷ []) (s.done ++ text) = AreTexts-push Gives 1 (map without_cr s.lines) (without_cr s.rest) s.done text s.texts (subst (λ (j : ℕ). Gives j (without_cr s.rest) text) k gives) in
+    record {
+      text = s.done ++ text;
+      texts = subst (λ (ps : List (List ℕ)). AreTexts Gives 1 ps (s.done ++ text)) (sym (whole_of_cut s.read s.lines s.rest s.cut r.no_lf)) pushed;
+      sends = Sends-then told told' told'' s.done text waiting some s.sends sends;
+    }
 
 -- a line that is too long, at the end of the input
 pub ends_long : (held : Held) (rest : List ℕ) → StandsFor held rest → EndsLongLine held held.unread → 4096 < length (without_cr rest)

@@ -1,5 +1,5 @@
 -- The lines of an input, and the text that a command makes of them.
-use Rattle.std.specs.Prelude.{ℕ, ◌+◌, Bool, ◌==◌, if◌then◌else◌, List, [], ◌∷◌, ◌++◌, map}
+use Rattle.std.specs.Prelude.{◌≡◌, ℕ, ◌+◌, Bool, ◌==◌, if◌then◌else◌, List, [], ◌∷◌, ◌++◌, map}
 use Rattle.std.specs.List.{slice_split}
 
 abbrev pub is_lf : ℕ → Bool
@@ -26,7 +26,7 @@ lines_of bytes = map without_cr (slice_split is_lf bytes)
 abbrev pub complete_lines : List ℕ → List (List ℕ)
 complete_lines bytes = map without_cr (front (slice_split is_lf bytes))
 
--- the text of lines that are numbered from n, each giving its own
-abbrev pub texts_from : (ℕ → List ℕ → List ℕ) → ℕ → List (List ℕ) → List ℕ
-texts_from text n [] = []
-texts_from text n (line ∷ lines) = text n line ++ texts_from text (n + 1) lines
+-- Each line, numbered from n, gives its text, and the bytes are these texts behind one another.
+abbrev pub AreTexts : (ℕ → List ℕ → List ℕ → Type 0) → ℕ → List (List ℕ) → List ℕ → Type 0
+AreTexts Gives n [] bytes = bytes ≡ []
+AreTexts Gives n (line ∷ lines) bytes = (text rest : List ℕ) × Gives n line text × AreTexts Gives (n + 1) lines rest × (bytes ≡ text ++ rest)

@@ -4,7 +4,7 @@ ghost use Rattle.std.specs.Option.{option_and_then};
 ghost use Rattle.std.specs.Fmt.{decimal};
 ghost use Rattle.arrayvec.specs.ArrayVec.{array_vec_len};
 ghost use Rattle.gate_outside.specs.Faults.{HasCause, Rose};
-ghost use Rattle.shipgate.specs.Convert.{refusal, line_text, reading_text, next_text};
+ghost use Rattle.shipgate.specs.Convert.{refusal, IsLineText, IsReadingText, IsNextText, PutsNext};
 ghost use Rattle.shipgate.specs.Progress.{TakesLines, TakesLast, Ends};
 ghost use Rattle.shipgate.specs.Capture.{frame_of_line};
 ghost use Rattle.shipgate.specs.Heading.{reading_of as reading_of_frame};
@@ -47,7 +47,7 @@ fn write_refusal(number: u64, text: &mut Text)
 
 fn write_reading(number: u64, reading: Option<Option<u16>>, text: &mut Text)
     requires { text.old.items ≡ [] }
-    ensures { text.new.items ≡ reading_text number reading }
+    ensures { IsReadingText number reading text.new.items }
 {
     match reading {
         None => write_refusal(number, text),
@@ -65,11 +65,11 @@ fn reading_of_line(line: &[u8]) -> Option<Option<u16>>
 }
 
 // The text of a line of no more bytes than a line may have.
-#[tactic(auto, unfolding(crate::specs::Convert::line_text))]
+#[tactic(auto, unfolding(crate::specs::Convert::IsLineText))]
 fn write_line(number: u64, line: &[u8], text: &mut Text)
     requires empty { text.old.items ≡ [] }
     requires held { length line.now ≤ 4096 }
-    ensures { text.new.items ≡ line_text number line.now }
+    ensures { IsLineText number line.now text.new.items }
 {
     if !line.is_empty() {
         write_reading(number, reading_of_line(line), text);
@@ -84,7 +84,7 @@ fn put_line<K: Sink>(
     out: &mut K,
 ) -> Result<(), Failed>
     requires { length line.now ≤ 4096 }
-    ensures sent { Writes (K.taken out.old) (K.taken out.new) (writer.old ++ line_text number line.now) writer.new result }
+    ensures sent { PutsNext (K.taken out.old) (K.taken out.new) Next.Line number line.now writer.old writer.new result }
     ensures cause { HasCause (K.fault_count out.old) (K.fault_count out.new) result }
 {
     let mut text = ArrayVec::new();
@@ -111,7 +111,7 @@ fn put_next<K: Sink>(
     out: &mut K,
 ) -> Result<(), Failed>
     requires { next ≡ Next.Line → length reader.now.line ≤ 4096 }
-    ensures sent { Writes (K.taken out.old) (K.taken out.new) (writer.old ++ next_text next number reader.now.line) writer.new result }
+    ensures sent { PutsNext (K.taken out.old) (K.taken out.new) next number reader.now.line writer.old writer.new result }
     ensures cause { HasCause (K.fault_count out.old) (K.fault_count out.new) result }
 {
     match next {
@@ -129,7 +129,7 @@ fn convert_lines<K: Sink>(
     out: &mut K,
 ) -> Result<u64, Failed>
     requires { number + length reader.old.unread < 2 ^ 63 }
-    ensures sent { TakesLines line_text (K.taken out.old) (K.taken out.new) reader.old reader.new writer.old writer.new number result }
+    ensures sent { TakesLines IsLineText (K.taken out.old) (K.taken out.new) reader.old reader.new writer.old writer.new number result }
     ensures cause { HasCause (K.fault_count out.old) (K.fault_count out.new) result }
 {
     let mut count = number;
@@ -154,7 +154,7 @@ fn convert_last<K: Sink>(
     out: &mut K,
 ) -> Result<(), Failed>
     requires { number < 2 ^ 63 }
-    ensures sent { TakesLast line_text (K.taken out.old) (K.taken out.new) reader.old writer.old number result }
+    ensures sent { TakesLast IsLineText (K.taken out.old) (K.taken out.new) reader.old writer.old number result }
     ensures cause { HasCause (K.fault_count out.old) (K.fault_count out.new) result }
 {
     let next = reader.finish();
@@ -170,7 +170,7 @@ fn convert_last<K: Sink>(
 /// isn't empty gives a report with its number, counted from 1. What waits is written before each read,
 /// so that a reader at the other end of a pipe sees at once what there is to see.
 pub(crate) fn convert<S: Source, K: Sink>(input: &mut S, out: &mut K) -> Ending
-    ensures ends { Ends line_text (S.left input.old) (S.left input.new) (K.taken out.old) (K.taken out.new) result }
+    ensures ends { Ends IsLineText (S.left input.old) (S.left input.new) (K.taken out.old) (K.taken out.new) result }
     ensures source { result ≡ Ending.SourceFailed → Rose (S.fault_count input.old) (S.fault_count input.new) }
     ensures sink { result ≡ Ending.SinkFailed → Rose (K.fault_count out.old) (K.fault_count out.new) }
 {

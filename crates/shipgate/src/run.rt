@@ -1,7 +1,7 @@
 //! The top call: words in, a status out.
 ghost use Rattle.std.specs.Prelude.{◌≡◌, ◌≤◌, ◌↔◌, ◌^◌, List, ℕ, Some, length, map, string_bytes};
 ghost use Rattle.gate_outside.specs.Faults.{Rose};
-ghost use Rattle.shipgate.specs.Convert.{line_text};
+ghost use Rattle.shipgate.specs.Convert.{IsLineText};
 ghost use Rattle.shipgate.specs.Progress.{Finishes, StopsReading, StopsWriting, PassesLimit, Ends};
 ghost use Rattle.shipgate.specs.Words.{IsForm, IsNoForm, usage_line};
 ghost use Rattle.shipgate.specs.Run.{Offers, IsStatus, status_of};
@@ -39,10 +39,10 @@ pub fn run<S: Source, K: Sink>(words: &[String], input: &mut S, out: &mut K) -> 
     // What each status says of the bytes that were read and written.
     ensures usage { (result ≡ 2) ↔ IsNoForm (map string_bytes words.now) }
     ensures offers { result ≡ 2 → Offers (K.taken out.old) (K.taken out.new) (K.fault_count out.old) (K.fault_count out.new) usage_line }
-    ensures done { result ≡ 0 → Finishes line_text (S.left input.old) (S.left input.new) (K.taken out.old) (K.taken out.new) }
-    ensures sink_failed { result ≡ 4 → StopsWriting line_text (S.left input.old) (S.left input.new) (K.taken out.old) (K.taken out.new) }
-    ensures source_failed { result ≡ 5 → StopsReading line_text (S.left input.old) (S.left input.new) (K.taken out.old) (K.taken out.new) }
-    ensures too_long { result ≡ 8 → PassesLimit line_text (S.left input.old) (S.left input.new) (K.taken out.old) (K.taken out.new) }
+    ensures done { result ≡ 0 → Finishes IsLineText (S.left input.old) (S.left input.new) (K.taken out.old) (K.taken out.new) }
+    ensures sink_failed { result ≡ 4 → StopsWriting IsLineText (S.left input.old) (S.left input.new) (K.taken out.old) (K.taken out.new) }
+    ensures source_failed { result ≡ 5 → StopsReading IsLineText (S.left input.old) (S.left input.new) (K.taken out.old) (K.taken out.new) }
+    ensures too_long { result ≡ 8 → PassesLimit IsLineText (S.left input.old) (S.left input.new) (K.taken out.old) (K.taken out.new) }
 
     // A failure has its cause in a count of faults.
     ensures sink_cause { result ≡ 4 → Rose (K.fault_count out.old) (K.fault_count out.new) }
