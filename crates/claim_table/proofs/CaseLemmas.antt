@@ -1,9 +1,9 @@
-use Rattle.std.proofs.Common.{◌≡◌, ◌≢◌, ℕ, ◌<◌, ◌≤◌, ◌==◌, nat_lt, Bool, true, false, Option, None, Some, refl, arith}
+use Rattle.std.proofs.Common.{◌≡◌, ◌≢◌, ℕ, ◌<◌, ◌≤◌, ◌==◌, nat_lt, ◌&&◌, ◌↔◌, not, is_none, IsTrue, Bool, true, false, Option, None, Some, refl, arith}
 use Rattle.std.proofs.lemmas.Bool.{eqb-true, eq-eqb}
 use Rattle.std.proofs.lemmas.Bool.Decides.{nat_tests}
 use Rattle.claim_table.specs.declared.answer.Holder.{Holder}
-use Rattle.claim_table.specs.Cases.{IsCase, IsOthers, duplicate, cannot_claim, defended, given_up, free, kept, won}
-use Rattle.claim_table.specs.Claims.{Claims, Claim, at_address, at_held, at_other, at_own, claim, holder_at, is_at, left_by, settled, told, with_released, without_left}
+use Rattle.claim_table.specs.Cases.{CanGoTo, IsCase, IsOthers, duplicate, cannot_claim, defended, given_up, free, kept, won}
+use Rattle.claim_table.specs.Claims.{Claims, Claim, at_address, at_held, at_other, at_own, claim, holder_at, is_at, is_obeyed, left_by, settled, told, with_released, without_left}
 
 pub not_eqb : (a b : ℕ) → (a == b) ≡ false → a ≢ b
 not_eqb a b e same = let equal : (a == b) ≡ true = eq-eqb a b same in cc
@@ -53,3 +53,28 @@ told_case c k false e = settled_case c k (k.address == 254) (not_eqb k.name c.na
 pub claim_case : (c : Claims) (k : Claim) → IsCase c k (claim c k)
 unfolding claim
 claim_case c k = told_case c k (k.name == c.name) refl
+
+-- three tests tell three facts
+all_three : {P Q R : Type 0} (p q r : Bool) → IsTrue p ↔ P → IsTrue q ↔ Q → IsTrue r ↔ R → IsTrue (p && q && r) ↔ (P × Q × R)
+all_three true true true a b d = (λ h. (a.0 refl, b.0 refl, d.0 refl), λ h. refl)
+all_three true true false a b d = (λ h. cc, λ h. d.1 h.2)
+all_three true false r a b d = (λ h. cc, λ h. b.1 h.1)
+all_three false q r a b d = (λ h. cc, λ h. a.1 h.0)
+
+below_tells : (a b : ℕ) → IsTrue (nat_lt a b) ↔ (a < b)
+below_tells a b = (λ h. lt_true a b h, λ h. grind (arith, nat_tests))
+
+elsewhere_tells : (a : ℕ) (own : Option ℕ) (t : Bool) → is_at a own ≡ t → IsTrue (not t) ↔ (own ≢ Some a)
+elsewhere_tells a own true e = (λ h. cc, λ h. absurd (h (is_at-true a own e)))
+elsewhere_tells a own false e = (λ h. is_at-false a own e, λ h. refl)
+
+nobody_tells : (x : Option Holder) → IsTrue (is_none x) ↔ (x ≡ None)
+nobody_tells None = (λ h. refl, λ h. refl)
+nobody_tells (Some h) = (λ e. cc, λ e. cc)
+
+-- a command is obeyed exactly where the gateway can go to the address
+pub obeyed_tells : (c : Claims) (a : ℕ) → IsTrue (is_obeyed c a) ↔ CanGoTo c a
+unfolding is_obeyed
+obeyed_tells c a =
+    let tells = all_three (nat_lt a 252) (not (is_at a c.own)) (is_none (holder_at c.holders a)) (below_tells a 252) (elsewhere_tells a c.own (is_at a c.own) refl) (nobody_tells (holder_at c.holders a)) in
+    (λ h. let facts = tells.0 h in record { within = facts.0; elsewhere = facts.1; free = facts.2 }, λ can. tells.1 (can.within, can.elsewhere, can.free))

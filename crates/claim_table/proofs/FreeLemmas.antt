@@ -1,6 +1,6 @@
 use Rattle.std.proofs.Common.{◌≡◌, ℕ, zero, suc, ◌-◌, ◌<◌, Option, None, Some, List, refl, is_none, true, false, arith}
 use Rattle.claim_table.specs.declared.answer.Holder.{Holder}
-use Rattle.claim_table.specs.Claims.{free_from, following, holder_at, next_free}
+use Rattle.claim_table.specs.Claims.{free_from, following, holder_at}
 
 -- one step of the search
 pub free_here : (k : ℕ) (holders : List (Option Holder)) (b : ℕ) (x : Option Holder) → 0 < k → is_none x ≡ true → free_from k holders b x ≡ Some b

@@ -1,9 +1,9 @@
-use Rattle.std.proofs.Common.{◌≡◌, ◌≢◌, ℕ, zero, suc, ◌+◌, ◌-◌, ◌%◌, ◌<◌, ◌≤◌, ◌⊎◌, inl, inr, Bool, true, false, Option, None, Some, MatchOption, List, [], ◌∷◌, All, length, refl, sym, ap, ◌∙◌, subst, arith}
+use Rattle.std.proofs.Common.{◌≡◌, ℕ, ◌≤◌, Bool, true, false, Option, None, Some, List, [], ◌∷◌, All, get_or, refl, arith}
 use Rattle.std.proofs.lemmas.List.Elements.{All-set}
 use Rattle.claim_table.specs.declared.answer.Holder.{Holder}
-use Rattle.claim_table.specs.Cases.{IsCase, IsOthers, duplicate, cannot_claim, defended, given_up, free, kept, won}
-use Rattle.claim_table.specs.Claims.{Claims, Claim, IsSinceBy, Outcome, claim, command, free_from, following, holder_at, holder_by, is_obeyed, left_by, moved, moved_if, next_free, next_own, outcome, vacated, with_released, with_taken, without_left}
-use Rattle.claim_table.specs.Laws.{AreBy, DefenceKeeps, FindsFirstFree, HoldersAreDated, IsSound, SmallerNamesKeep, StaysSound, Step, claimed, commanded, state_after, stepped, TakesFromGreater}
+use Rattle.claim_table.specs.Cases.{IsCase, duplicate, cannot_claim, defended, given_up, free, kept, won}
+use Rattle.claim_table.specs.Claims.{Claims, Claim, IsSinceBy, Outcome, claim, command, holder_by, is_obeyed, left_by, moved, moved_if, next_own, vacated, with_taken, without_left}
+use Rattle.claim_table.specs.Laws.{HoldersAreDated, claimed, commanded, state_after}
 use Rattle.claim_table.proofs.CaseLemmas.{claim_case}
 
 moved_holders : (c : Claims) (m : ℕ) (x : Option ℕ) → (moved c m x).after.holders ≡ c.holders
@@ -45,3 +45,11 @@ holders_are_dated i c (claimed k ∷ older) all by =
     latest_after_claim i (state_after c older) k by.0 (holders_are_dated i c older all by.1)
 holders_are_dated i c (commanded a m ∷ older) all by =
     rw (command_keeps_holders (state_after c older) a m) (holders_are_dated i c older all by)
+
+-- an index that was reached stays reached
+since_grows_at : (i j : ℕ) (x : Option Holder) → i ≤ j → IsSinceBy i x → IsSinceBy j x
+since_grows_at i j None l by = tt
+since_grows_at i j (Some h) l by = omega arith
+
+pub since_grows : (i j : ℕ) (holders : List (Option Holder)) → i ≤ j → All (IsSinceBy i) holders → All (IsSinceBy j) holders
+since_grows i j holders l all = λ k d within. since_grows_at i j (get_or holders k d) l (all k d within)

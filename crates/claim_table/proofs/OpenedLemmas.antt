@@ -1,9 +1,10 @@
-use Rattle.std.proofs.Common.{◌≡◌, ◌≢◌, ◌⊎◌, inl, inr, ℕ, zero, suc, ◌<◌, ◌==◌, ◌||◌, Bool, true, false, Option, None, Some, List, [], ◌∷◌, replicate, set, refl, sym, ap, ◌∙◌, arith}
+use Rattle.std.proofs.Common.{◌≡◌, ◌≢◌, ◌⊎◌, inl, inr, ℕ, zero, suc, ◌<◌, ◌==◌, ◌||◌, Bool, true, false, Option, None, Some, List, [], ◌∷◌, replicate, set, All, refl, sym, ◌∙◌, arith}
 use Rattle.std.specs.List.{list_any}
 use Rattle.std.proofs.lemmas.List.{get_or-set_other, length-replicate}
 use Rattle.claim_table.specs.declared.answer.Holder.{Holder}
 use Rattle.claim_table.specs.declared.preset.Preset.{Preset}
-use Rattle.claim_table.specs.Claims.{Claims, Claim, holder_at, holder_by}
+use Rattle.std.proofs.lemmas.List.Elements.{All-set, All-replicate}
+use Rattle.claim_table.specs.Claims.{Claims, Claim, IsSinceBy, holder_at}
 use Rattle.claim_table.specs.Laws.{IsSound}
 use Rattle.claim_table.specs.Presets.{opened, placed, preset_holder, repeats, shares, takes}
 use Rattle.claim_table.proofs.CaseLemmas.{not_eqb}
@@ -89,3 +90,13 @@ pub opened_sound : (name own : ℕ) (ps : List Preset) → own < 252 → repeats
 unfolding opened
 opened_sound name own ps within r t =
     placed_sound (record { name = name; holders = replicate 254 None; own = Some own; counted = 0 }) ps own (empty_sound name own 254 refl within) refl (nobody_fresh 254 ps) r t
+
+placed_dated : (holders : List (Option Holder)) (ps : List Preset) → All (IsSinceBy 0) holders → All (IsSinceBy 0) (placed holders ps)
+placed_dated holders [] all = all
+placed_dated holders (p ∷ ps) all =
+    placed_dated (with_preset holders p) ps (All-set (IsSinceBy 0) holders p.address (Some (preset_holder p)) (omega arith) all)
+
+-- every preset's device holds its address since index 0
+pub opened_dated : (name own : ℕ) (ps : List Preset) → All (IsSinceBy 0) (opened name own ps).holders
+unfolding opened
+opened_dated name own ps = placed_dated (replicate 254 None) ps (All-replicate (IsSinceBy 0) 254 None tt)

@@ -1,10 +1,10 @@
-use Rattle.std.proofs.Common.{◌≡◌, ◌≢◌, ℕ, ◌<◌, ◌⊎◌, inl, inr, ◌&&◌, not, nat_lt, is_none, Bool, true, false, Option, None, Some, List, [], ◌∷◌, refl, sym, ap, ◌∙◌, subst, arith}
+use Rattle.std.proofs.Common.{◌≡◌, ◌≢◌, ℕ, ◌<◌, ◌⊎◌, inl, inr, ◌&&◌, not, nat_lt, is_none, Bool, true, false, Option, None, Some, [], ◌∷◌, refl, sym, ◌∙◌, arith}
 use Rattle.std.proofs.lemmas.List.{get_or-set_other}
 use Rattle.claim_table.specs.declared.answer.Holder.{Holder}
 use Rattle.claim_table.specs.declared.answer.OwnAnswer.TheVariants.{Defend}
-use Rattle.claim_table.specs.Cases.{IsCase, IsOthers, duplicate, cannot_claim, defended, given_up, free, kept, won}
-use Rattle.claim_table.specs.Claims.{Claims, Claim, Outcome, claim, command, holder_at, holder_by, is_at, is_obeyed, left_by, moved, moved_if, next_own, outcome, vacated, with_released, with_taken, without_left}
-use Rattle.claim_table.specs.Laws.{DefenceKeeps, IsSound, SmallerNamesKeep, StaysSound, Step, TakesFromGreater, claimed, commanded, state_after, stepped}
+use Rattle.claim_table.specs.Cases.{IsCase, duplicate, cannot_claim, defended, given_up, free, kept, won}
+use Rattle.claim_table.specs.Claims.{Claims, Claim, Outcome, claim, command, holder_at, holder_by, is_at, is_obeyed, left_by, moved, moved_if, next_own, outcome, with_released, with_taken, without_left}
+use Rattle.claim_table.specs.Laws.{DefenceKeeps, IsSound, SmallerNamesKeep, StaysSound, claimed, commanded, state_after}
 use Rattle.claim_table.proofs.CaseLemmas.{claim_case, lt_true}
 use Rattle.claim_table.proofs.FirstFreeLemmas.{next_open}
 use Rattle.claim_table.proofs.SoundLemmas.{alone, left_elsewhere, taken_holder, taken_sound, vacated_holder, vacated_other, without_left_sound}

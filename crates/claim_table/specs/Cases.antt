@@ -1,4 +1,4 @@
-use Rattle.std.specs.Prelude.{◌≡◌, ◌≢◌, ℕ, ◌<◌, ◌≤◌, Option, None, Some}
+use Rattle.std.specs.Prelude.{◌≡◌, ◌≢◌, ℕ, ◌+◌, ◌<◌, ◌≤◌, None, Some, IsSome}
 use Rattle.claim_table.specs.declared.answer.Holder.{Holder}
 use Rattle.claim_table.specs.declared.answer.OwnAnswer.TheVariants.{Silent, Defend, Duplicate}
 use Rattle.claim_table.specs.Claims.{Claims, Claim, Outcome, holder_at, left_by, moved, next_own, outcome, with_released, with_taken, without_left}
@@ -24,3 +24,14 @@ pub data IsCase (c : Claims) (k : Claim) (o : Outcome) : Type 0 where
   kept : IsOthers c k → c.own ≢ Some k.address → (h : Holder) → holder_at (without_left c k).holders k.address ≡ Some h → h.name.0 ≤ k.name → o ≡ with_released (left_by c k) (outcome (without_left c k) None Silent) → IsCase c k o
   -- 7: the address of a greater holder
   won : IsOthers c k → c.own ≢ Some k.address → (h : Holder) → holder_at (without_left c k).holders k.address ≡ Some h → k.name < h.name.0 → o ≡ with_released (left_by c k) (outcome (with_taken (without_left c k) k) (Some (k.address, h.name)) Silent) → IsCase c k o
+
+-- where a command to go to an address is obeyed
+pub record CanGoTo (c : Claims) (a : ℕ) : Type 0 where
+  pub within : a < 252
+  pub elsewhere : c.own ≢ Some a
+  pub free : holder_at c.holders a ≡ None
+
+-- when a device may send: it has had its address for 250 milliseconds
+pub record IsReady (c : Claims) (m : ℕ) : Type 0 where
+  pub own : IsSome c.own
+  pub waited : c.counted + 250000 ≤ m

@@ -1,4 +1,4 @@
-use Rattle.std.specs.Prelude.{◌≡◌, ℕ, ◌==◌, ◌||◌, Bool, false, Option, None, Some, List, [], ◌∷◌, slice_set, replicate}
+use Rattle.std.specs.Prelude.{ℕ, ◌==◌, ◌||◌, Bool, false, Option, None, Some, List, [], ◌∷◌, slice_set, replicate}
 use Rattle.std.specs.List.{list_any}
 use Rattle.claim_table.specs.declared.answer.Holder.{Holder}
 use Rattle.claim_table.specs.declared.preset.Preset.{Preset}

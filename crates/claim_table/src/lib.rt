@@ -2,10 +2,13 @@
 #![tactic(auto)]
 
 mod answer;
+mod claiming;
 mod fault;
 pub mod laws;
 mod preset;
 mod table;
+#[cfg(test)]
+mod tests;
 
 pub use answer::{ClaimStep, Holder, OwnAnswer};
 pub use fault::ClaimFault;

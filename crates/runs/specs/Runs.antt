@@ -17,12 +17,12 @@ pub record Rules (X : Type 0) : Type 0 where
   -- how long a piece may take after the last one of these
   pub gap : List X → ℕ
 
-module _ {X : Type 0} (r : Rules X) where
-  -- the oldest piece
-  abbrev pub opener_of : X → List X → X
-  opener_of x [] = x
-  opener_of x (y ∷ ys) = opener_of y ys
+-- the oldest of some pieces
+abbrev pub opener_of : {X : Type 0} → X → List X → X
+opener_of x [] = x
+opener_of x (y ∷ ys) = opener_of y ys
 
+module _ {X : Type 0} (r : Rules X) where
   -- all pieces of the run are there
   abbrev pub is_whole : List X → Bool
   is_whole [] = false

@@ -1,4 +1,4 @@
-use Rattle.std.proofs.Common.{rules, ◌≡◌, None, Some, Option, replicate, length, ap, ◌∙◌}
+use Rattle.std.proofs.Common.{rules, ◌≡◌, None, Option, replicate, length, ap, ◌∙◌}
 use Rattle.std.proofs.lemmas.List.{length-replicate}
 use Rattle.claim_table.specs.declared.answer.Holder.{Holder}
 use Rattle.claim_table.specs.Presets.{placed}

@@ -1,6 +1,5 @@
 use Rattle.std.proofs.Common.{arith}
-use Rattle.claim_table.specs.Cases.{IsCase}
-use Rattle.claim_table.specs.Claims.{Claims, claim, claim_of}
+use Rattle.claim_table.specs.Claims.{claim_of}
 use Rattle.claim_table.proofs.CaseLemmas.{claim_case}
 use Rattle.claim_table.proofs.LawLemmas.{latest_after_claim}
 use Rattle.claim_table.proofs.table.ClaimTable.claim.Goals as goal
