@@ -6,3 +6,7 @@ pub mod MemInput
 pub mod QuietInput
 pub mod MemOutput
 pub mod QuietOutput
+pub mod Files
+pub mod MemTime
+pub mod Link
+pub mod LinkMemory

@@ -9,9 +9,19 @@
 //! never fail; the adapters over a reader and a writer of std tell nothing.
 #![tactic(auto)]
 
+mod address;
+mod attached;
+mod clock;
 mod failures;
+mod files;
+mod handover;
+mod link;
+mod load_fault;
+mod mem_clock;
 mod mem_sink;
 mod mem_source;
+mod quiet_files;
+mod quiet_link;
 mod quiet_sink;
 mod quiet_source;
 mod record;
@@ -20,8 +30,16 @@ mod source;
 mod streams;
 mod supply;
 
+pub use address::{Address, Route, Routes};
+pub use clock::Clock;
+pub use files::Files;
+pub use link::{Arrival, Link};
+pub use load_fault::LoadFault;
+pub use mem_clock::MemClock;
 pub use mem_sink::MemSink;
 pub use mem_source::MemSource;
+pub use quiet_files::QuietFiles;
+pub use quiet_link::QuietLink;
 pub use quiet_sink::QuietSink;
 pub use quiet_source::QuietSource;
 pub use sink::Sink;

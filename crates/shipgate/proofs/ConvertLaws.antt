@@ -18,7 +18,7 @@ IsTaken Line = Unit {0}
 IsTaken Long = Unit {0}
 IsTaken Unfinished = ⊥
 
-long_text : (number : ℕ) (line text : List ℕ) → 4096 < length line → text ≡ refusal number → IsLineText number line text
+long_text : (number : ℕ) (line text : List ℕ) → 4096 < length line → text ≡ refusal 5 number → IsLineText number line text
 unfolding IsLineText
 long_text number [] text long is = absurd (omega arith)
 long_text number (b ∷ bytes) text long is = rw (lt-ltb 4096 (length (b ∷ bytes)) long) is

@@ -2,7 +2,6 @@ pub mod Lines
 pub mod Moves
 pub mod LineReaderLaws
 pub mod Writing
-pub mod HeadingLaws
 pub mod Numbers
 pub mod ProgressLaws
 pub mod StandLaws

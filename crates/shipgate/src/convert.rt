@@ -1,29 +1,46 @@
 //! `convert`: a capture in, the sentences of its frames out.
-ghost use Rattle.std.specs.Prelude.{◌≡◌, ◌+◌, ◌<◌, ◌≤◌, ◌^◌, ◌++◌, [], length, MatchResult, OnOk, Option, List, ℕ};
-ghost use Rattle.std.specs.Option.{option_and_then};
+ghost use Rattle.std.specs.Prelude.{◌≡◌, ◌+◌, ◌<◌, ◌≤◌, ◌^◌, ◌++◌, [], false, length, MatchResult, OnOk, Option, List, ℕ};
+ghost use Rattle.std.specs.List.{flat_map};
 ghost use Rattle.std.specs.Fmt.{decimal};
 ghost use Rattle.arrayvec.specs.ArrayVec.{array_vec_len};
+ghost use Rattle.n2k_id.specs.Frame.{IsFrame};
+ghost use Rattle.n2k_id.specs.Identifier.{parts_of};
+ghost use Rattle.readings.specs.Ranges.{IsValid};
+ghost use Rattle.readings.specs.Rows.{row_of};
+ghost use Rattle.pgn_profile.specs.Profiled.{kind_of, GivesValid};
+ghost use Rattle.sentence_rows.specs.Lines.{lines_of};
+ghost use Rattle.sentence_rows.specs.Text.{IsText};
+ghost use Rattle.shipgate.specs.Talker.{talker_of};
 ghost use Rattle.gate_outside.specs.Faults.{HasCause, Rose};
-ghost use Rattle.shipgate.specs.Convert.{refusal, IsLineText, IsReadingText, IsNextText, PutsNext};
+ghost use Rattle.shipgate.specs.Convert.{refusal, IsLineText, IsFrameText, IsMessageText, IsPayloadText, IsNextText, PutsNext};
 ghost use Rattle.shipgate.specs.Progress.{TakesLines, TakesLast, Ends};
 ghost use Rattle.shipgate.specs.Capture.{frame_of_line};
-ghost use Rattle.shipgate.specs.Heading.{reading_of as reading_of_frame};
 ghost use Rattle.shipgate.specs.Writing.{Writes};
 
 use crate::capture::frame_of_line;
 use crate::ending::Ending;
-use crate::heading::{reading_of, write_heading};
 use crate::line_reader::{LineReader, Next};
+use crate::talker::talker_of;
 use crate::writer::Writer;
 use arrayvec::ArrayVec;
 use gate_outside::{Failed, Sink, Source};
+use n2k_id::{Frame, parts};
+use pgn_profile::{Kind, Profiled, kind, read};
+use readings::{Reading, row};
+use sentence_rows::{Lines, sentences};
 use unit_fraction::write_decimal;
 
 /// How many bytes an input may have.
 const LIMIT: u64 = 1 << 40;
 
-/// The text of one line.
-type Text = ArrayVec<u8, 82>;
+/// The rule of a line that isn't converted.
+const NOT_CONVERTED: u8 = 5;
+
+/// The rule of a payload that is too short for its message.
+const SHORT_MESSAGE: u8 = 22;
+
+/// The text of one line: at most two sentences.
+type Text = ArrayVec<u8, 164>;
 
 #[tactic(auto, using(crate::proofs::Numbers::plain_decimal, crate::proofs::Numbers::plain_decimal_len))]
 fn put_number(number: u64, text: &mut Text)
@@ -31,36 +48,87 @@ fn put_number(number: u64, text: &mut Text)
     ensures number { text.new.items ≡ text.old.items ++ decimal number }
     ensures len { array_vec_len text.new ≤ array_vec_len text.old + 20 }
 {
-    write_decimal(false, number, 0, text);
+    let mut digits = ArrayVec::new();
+    write_decimal(false, number, 0, &mut digits);
+    let _ = text.try_extend_from_slice(digits.as_slice());
 }
 
-// The report of a line that isn't converted.
+// The report of a rule about a line.
 #[tactic(auto, unfolding(crate::specs::Convert::refusal))]
-fn write_refusal(number: u64, text: &mut Text)
+fn write_refusal(rule: u8, number: u64, text: &mut Text)
     requires { text.old.items ≡ [] }
-    ensures { text.new.items ≡ refusal number }
+    ensures { text.new.items ≡ refusal rule number }
 {
-    let _ = text.try_extend_from_slice(b"rule 5 line=");
+    let _ = text.try_extend_from_slice(b"rule ");
+    put_number(u64::from(rule), text);
+    let _ = text.try_extend_from_slice(b" line=");
     put_number(number, text);
     let _ = text.try_push(b'\n');
 }
 
-fn write_reading(number: u64, reading: Option<Option<u16>>, text: &mut Text)
+// The sentences behind one another.
+fn put_lines(lines: &Lines, text: &mut Text)
     requires { text.old.items ≡ [] }
-    ensures { IsReadingText number reading text.new.items }
+    ensures { text.new.items ≡ flat_map (λ line. line) (lines_of lines.now) }
 {
-    match reading {
-        None => write_refusal(number, text),
-        Some(heading) => write_heading(heading, text),
+    for line in lines.as_slice() {
+        let _ = text.try_extend_from_slice(line.bytes.as_slice());
     }
 }
 
-fn reading_of_line(line: &[u8]) -> Option<Option<u16>>
-    ensures { result ≡ option_and_then reading_of_frame (frame_of_line line.now) }
+// The sentences of a reading.
+fn write_reading(reading: &Reading, text: &mut Text)
+    requires empty { text.old.items ≡ [] }
+    requires valid { IsValid reading.now }
+    ensures { (lines : List (List ℕ)) × IsText reading.now (talker_of (row_of reading.now)) false lines × (text.new.items ≡ flat_map (λ line. line) lines) }
+{
+    let mut lines = ArrayVec::new();
+    sentences(reading, talker_of(row(reading)), false, &mut lines);
+    put_lines(&lines, text);
+}
+
+fn write_payload(number: u64, profiled: &Profiled, text: &mut Text)
+    requires empty { text.old.items ≡ [] }
+    requires valid { GivesValid profiled.now }
+    ensures { IsPayloadText number profiled.now text.new.items }
+{
+    match profiled {
+        Profiled::Reading(reading) => write_reading(reading, text),
+        Profiled::Outside => write_refusal(NOT_CONVERTED, number, text),
+        Profiled::Short => write_refusal(SHORT_MESSAGE, number, text),
+    }
+}
+
+// What a message gives that came in one frame.
+fn write_message(number: u64, pgn: u32, payload: &[u8], text: &mut Text)
+    requires { text.old.items ≡ [] }
+    ensures { IsMessageText number (kind_of pgn) pgn payload.now text.new.items }
+{
+    match kind(pgn) {
+        Kind::Single => write_payload(number, &read(pgn, payload), text),
+        Kind::Fast => write_refusal(NOT_CONVERTED, number, text),
+        Kind::Outside => write_refusal(NOT_CONVERTED, number, text),
+    }
+}
+
+fn pgn_of(frame: &Frame) -> u32
+    requires { IsFrame frame.now }
+    ensures { result ≡ (parts_of frame.now.id).pgn }
+{
+    match parts(frame.id) {
+        Some(parts) => parts.pgn,
+        None => 0,
+    }
+}
+
+// What a line gives that isn't empty.
+fn write_held_line(number: u64, line: &[u8], text: &mut Text)
+    requires { text.old.items ≡ [] }
+    ensures { IsFrameText number (frame_of_line line.now) text.new.items }
 {
     match frame_of_line(line) {
-        None => None,
-        Some(frame) => reading_of(&frame),
+        Some(frame) => write_message(number, pgn_of(&frame), frame.held(), text),
+        None => write_refusal(NOT_CONVERTED, number, text),
     }
 }
 
@@ -72,7 +140,7 @@ fn write_line(number: u64, line: &[u8], text: &mut Text)
     ensures { IsLineText number line.now text.new.items }
 {
     if !line.is_empty() {
-        write_reading(number, reading_of_line(line), text);
+        write_held_line(number, line, text);
     }
 }
 
@@ -94,11 +162,11 @@ fn put_line<K: Sink>(
 
 // Writes the report of a line that is too long.
 fn put_refusal<K: Sink>(number: u64, writer: &mut Writer, out: &mut K) -> Result<(), Failed>
-    ensures sent { Writes (K.taken out.old) (K.taken out.new) (writer.old ++ refusal number) writer.new result }
+    ensures sent { Writes (K.taken out.old) (K.taken out.new) (writer.old ++ refusal 5 number) writer.new result }
     ensures cause { HasCause (K.fault_count out.old) (K.fault_count out.new) result }
 {
     let mut text = ArrayVec::new();
-    write_refusal(number, &mut text);
+    write_refusal(NOT_CONVERTED, number, &mut text);
     writer.put(text.as_slice(), out)
 }
 
@@ -166,8 +234,8 @@ fn convert_last<K: Sink>(
 
 /// Converts the input, line by line, until it ends or a call fails.
 ///
-/// Each line of a frame with a true heading gives the sentence of that heading. Every other line that
-/// isn't empty gives a report with its number, counted from 1. What waits is written before each read,
+/// Each line of a frame whose message comes in one frame gives the sentences of its reading, without
+/// claims or choice. Every other line that isn't empty gives a report with its number, counted from 1. What waits is written before each read,
 /// so that a reader at the other end of a pipe sees at once what there is to see.
 pub(crate) fn convert<S: Source, K: Sink>(input: &mut S, out: &mut K) -> Ending
     ensures ends { Ends IsLineText (S.left input.old) (S.left input.new) (K.taken out.old) (K.taken out.new) result }

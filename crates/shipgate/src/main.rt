@@ -8,13 +8,13 @@
 mod capture;
 mod convert;
 mod ending;
-mod heading;
 mod line_reader;
 mod run;
+mod talker;
 mod words;
 mod writer;
 
-use gate_outside::{ReaderSource, WriterSink};
+use gate_outside::{MemClock, QuietFiles, QuietLink, ReaderSource, WriterSink};
 pub use run::run;
 use std::alloc::AllocError;
 use std::io::ErrorKind;
@@ -43,11 +43,32 @@ fn words_behind_name<R: rt::Env + AllocGlobal>(rt: &R) -> Result<Vec<String>, Al
     Ok(words)
 }
 
-fn main(rt: HostRuntime) -> ExitCode {
+// The program over the standard streams. Its commands use no files, links or clock, so these are
+// empty ones.
+fn served(rt: &HostRuntime) -> Result<u8, AllocError> {
+    let words = words_behind_name(rt)?;
+    let alloc = rt.alloc();
+    let mut files = QuietFiles::of(Vec::new(alloc));
+    let mut bus = QuietLink::of(alloc, 0, 0, Vec::new(alloc))?;
+    let mut net = QuietLink::of(alloc, 0, 0, Vec::new(alloc))?;
+    let mut clock = MemClock::of(Vec::new(alloc));
     let mut input = ReaderSource::new(rt.stdin());
     let mut out = WriterSink::new(rt.stdout());
-    match words_behind_name(&rt) {
-        Ok(words) => ExitCode::from(run(words.as_slice(), &mut input, &mut out)),
+    Ok(run(
+        alloc,
+        words.as_slice(),
+        &mut files,
+        &mut input,
+        &mut out,
+        &mut bus,
+        &mut net,
+        &mut clock,
+    ))
+}
+
+fn main(rt: HostRuntime) -> ExitCode {
+    match served(&rt) {
+        Ok(status) => ExitCode::from(status),
         Err(AllocError) => ExitCode::from(NO_MEMORY),
     }
 }

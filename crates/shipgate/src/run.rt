@@ -10,7 +10,8 @@ use crate::convert::convert;
 use crate::ending::Ending;
 use crate::words::{Command, USAGE, command_of};
 use crate::writer::send;
-use gate_outside::{Sink, Source};
+use gate_outside::{Clock, Files, Link, Sink, Source};
+use std::alloc::Global;
 
 // The status of a command that ended so.
 fn status_of(ending: Ending) -> u8
@@ -33,7 +34,16 @@ fn status_of(ending: Ending) -> u8
 /// | 4 | only where the sink's faults rose in this run; what was written is some front of the text |
 /// | 5 | only where the source's faults rose in this run; the text of the complete lines was written |
 /// | 8 | exactly where more than 2^40 bytes were read, and no call failed before |
-pub fn run<S: Source, K: Sink>(words: &[String], input: &mut S, out: &mut K) -> u8
+pub fn run<F: Files, S: Source, K: Sink, B: Link, E: Link, C: Clock>(
+    _alloc: Global,
+    words: &[String],
+    _files: &mut F,
+    input: &mut S,
+    out: &mut K,
+    _bus: &mut B,
+    _net: &mut E,
+    _clock: &mut C,
+) -> u8
     ensures status { IsStatus result }
 
     // What each status says of the bytes that were read and written.
@@ -48,8 +58,13 @@ pub fn run<S: Source, K: Sink>(words: &[String], input: &mut S, out: &mut K) -> 
     ensures sink_cause { result ≡ 4 → Rose (K.fault_count out.old) (K.fault_count out.new) }
     ensures source_cause { result ≡ 5 → Rose (S.fault_count input.old) (S.fault_count input.new) }
 
-    // Where the words are no command, the source isn't used.
+    // What the command doesn't use stands as before: the source where the words are no command, and
+    // files, links and clock always.
     ensures unused { result ≡ 2 → input.new ≡ input.old }
+    ensures files_unused { _files.new ≡ _files.old }
+    ensures bus_unused { _bus.new ≡ _bus.old }
+    ensures net_unused { _net.new ≡ _net.old }
+    ensures clock_unused { _clock.new ≡ _clock.old }
 
     // Where nothing fails and the input isn't too long, the work is done.
     ensures complete { (bytes : List ℕ) → IsForm (map string_bytes words.now) Command.Convert → S.left input.old ≡ Some bytes → length bytes ≤ 2 ^ 40

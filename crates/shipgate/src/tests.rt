@@ -2,7 +2,7 @@
 ghost use Rattle.std.specs.Prelude.{◌<◌};
 
 use crate::run;
-use gate_outside::{MemSink, MemSource, Sink};
+use gate_outside::{MemClock, MemSink, MemSource, QuietFiles, QuietLink, Sink};
 use std::alloc::Global;
 use std::test::Fail;
 
@@ -37,7 +37,20 @@ fn outcome(alloc: Global, word: &str, given: &Given, room: &Room) -> Result<(u8,
         given.failing.to_vec(alloc)?,
     );
     let mut out = MemSink::of(alloc, 20_000, room.most, room.failing.to_vec(alloc)?)?;
-    let status = run(words.as_slice(), &mut input, &mut out);
+    let mut files = QuietFiles::of(Vec::new(alloc));
+    let mut bus = QuietLink::of(alloc, 0, 0, Vec::new(alloc))?;
+    let mut net = QuietLink::of(alloc, 0, 0, Vec::new(alloc))?;
+    let mut clock = MemClock::of(Vec::new(alloc));
+    let status = run(
+        alloc,
+        words.as_slice(),
+        &mut files,
+        &mut input,
+        &mut out,
+        &mut bus,
+        &mut net,
+        &mut clock,
+    );
     Ok((status, out.taken().to_vec(alloc)?))
 }
 
@@ -71,13 +84,67 @@ fn headings_become_their_sentences(rt: HostRuntime) -> Result<(), Fail> {
 }
 
 #[test]
+fn messages_of_one_frame_become_their_sentences(rt: HostRuntime) -> Result<(), Fail> {
+    let rows: [(&[u8], &[u8]); 9] = [
+        (
+            b"09F11217#005C3D51FF5D01FD",
+            b"$HCHDG,90.0,1.0,W,2.0,E*6A\r\n",
+        ),
+        (b"09F11317#006494FEFFFFFFFF", b"$TIROT,-10.0,A*27\r\n"),
+        (
+            b"0DF50B17#00D20400000CFEFF",
+            b"$SDDPT,12.34,-0.50,*67\r\n$SDDBT,40.5,f,12.34,M,6.7,F*32\r\n",
+        ),
+        (
+            b"09F80117#FFFFFFFF00000000",
+            b"$GPGLL,0000.0000,N,00000.0000,E,,A,A*47\r\n",
+        ),
+        (
+            b"09F80117#79A4BF07002EB694",
+            b"$GPGLL,1300.0000,N,18000.0000,W,,A,A*5E\r\n",
+        ),
+        (
+            b"09F80217#00FC5C3D0202FFFF",
+            b"$GPVTG,90.0,T,,M,9.99,N,18.50,K,A*01\r\n",
+        ),
+        (
+            b"0DF01017#00F0DB4C0008AF2F",
+            b"$GPZDA,221320.00,14,11,2023,00,00*60\r\n",
+        ),
+        (
+            b"09FD0217#0002025C3DFAFFFF",
+            b"$WIMWV,90.0,R,9.99,N,A*23\r\n",
+        ),
+        (b"15FD0C17#000000CC2A04FFFF", b"$YXMTW,-0.1,C*0E\r\n"),
+    ];
+    for (frame, sentences) in rows {
+        let mut line = b"(1700000000.000000) can0 ".to_vec(rt.alloc())?;
+        line.extend_from_slice(frame)?;
+        let given = Given {
+            bytes: line.as_slice(),
+            most: 4096,
+            failing: &[],
+        };
+        let room = Room {
+            most: 4096,
+            failing: &[],
+        };
+        let (status, taken) = outcome(rt.alloc(), "convert", &given, &room)?;
+        assert_eq!(rt; status, 0);
+        assert_eq!(rt; taken.as_slice(), sentences);
+    }
+    Ok(())
+}
+
+#[test]
 fn other_lines_are_reported_by_number(rt: HostRuntime) -> Result<(), Fail> {
     let alloc = rt.alloc();
     let mut bytes = b"\r\n\nhello\n".to_vec(alloc)?;
     bytes.extend_from_slice(HEADING)?;
-    // The reference is magnetic north; the identifier is that of another message.
-    bytes.extend_from_slice(b"(1.000000) can0 09F11217#005C3DFF7FFF7FFD\n")?;
-    bytes.extend_from_slice(b"(1.000000) can0 09F11317#005C3DFF7FFF7FFC\n")?;
+    // A message too short for its fields, one of more than one frame, and one of no row.
+    bytes.extend_from_slice(b"(1.000000) can0 09F11217#04\n")?;
+    bytes.extend_from_slice(b"(1.000000) can0 0DF80517#005C3DFF7FFF7FFC\n")?;
+    bytes.extend_from_slice(b"(1.000000) can0 18EEFF17#005C3DFF7FFF7FFC\n")?;
     for _ in 0..4097 {
         bytes.push(b'x')?;
     }
@@ -85,7 +152,7 @@ fn other_lines_are_reported_by_number(rt: HostRuntime) -> Result<(), Fail> {
     bytes.extend_from_slice(&HEADING[..HEADING.len() - 1])?;
     bytes.push(b'\r')?;
     let expected =
-        b"rule 5 line=3\n$HEHDT,90.0,T*16\r\nrule 5 line=5\nrule 5 line=6\nrule 5 line=7\nrule 5 line=8\n$HEHDT,90.0,T*16\r\n";
+        b"rule 5 line=3\n$HEHDT,90.0,T*16\r\nrule 22 line=5\nrule 5 line=6\nrule 5 line=7\nrule 5 line=8\nrule 5 line=9\n$HEHDT,90.0,T*16\r\n";
     for most in [1, 7, 70_000] {
         let given = Given {
             bytes: bytes.as_slice(),

@@ -1,0 +1,59 @@
+//! Files in memory that never fail.
+use crate::files::LARGEST;
+use crate::{Files, LoadFault};
+use std::alloc::Global;
+use std::marker::Model;
+
+/// A file in memory, which is that of every name. Loading it never fails but for want of memory.
+#[derive(Drop)]
+pub struct QuietFiles {
+    content: Vec<u8>,
+}
+
+impl Model for QuietFiles {
+    ghost use Rattle.std.specs.Prelude.{ℕ, List};
+
+    ghost Value = { List ℕ };
+
+    ghost view = { λ f. f.content.items };
+}
+
+impl QuietFiles {
+    ghost use Rattle.std.specs.Prelude.{◌≡◌, IsTrue};
+
+    /// Files whose every name has this content.
+    pub fn of(content: Vec<u8>) -> Self
+        ensures { result ≡ content.items }
+    {
+        QuietFiles { content }
+    }
+
+    /// Whether the content is told: always.
+    pub fn tells(&self) -> bool
+        ensures { IsTrue result }
+    {
+        true
+    }
+}
+
+impl Files for QuietFiles {
+    ghost use Rattle.std.specs.Prelude.{Some};
+
+    ghost content = { λ f _. Some f };
+
+    ghost fault_count = { λ _. 0 };
+
+    fn faults(&self) -> u64 {
+        0
+    }
+
+    fn load(&mut self, alloc: Global, _name: &str) -> Result<Vec<u8>, LoadFault> {
+        if self.content.len() > LARGEST {
+            return Err(LoadFault::TooLong);
+        }
+        match Vec::from_slice(alloc, &self.content) {
+            Ok(bytes) => Ok(bytes),
+            Err(_) => Err(LoadFault::Memory),
+        }
+    }
+}

@@ -1,0 +1,4 @@
+pub mod Bodies
+pub mod Counts
+pub mod Said
+pub mod Texts

@@ -1,0 +1,4 @@
+pub mod Conversions
+pub mod Field
+pub mod Lines
+pub mod Text

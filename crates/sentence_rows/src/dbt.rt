@@ -1,0 +1,37 @@
+//! DBT, depth below the transducer: `$SDDBT,40.5,f,12.34,M,6.7,F*32`.
+//!
+//! 1 and 2 in feet, 3 and 4 in metres, 5 and 6 in fathoms.
+
+ghost use Rattle.std.specs.Prelude.{◌≡◌, ◌<◌, [], ◌∷◌, ◌++◌, codes, length, IsTrue};
+ghost use Rattle.std.specs.List.{list_all};
+ghost use Rattle.sentence_text.specs.Text.{is_capital};
+ghost use Rattle.sentence_rows.specs.Field.{IsCounted};
+ghost use Rattle.sentence_rows.specs.Lines.{lines_of, sentence_by};
+ghost use Rattle.sentence_rows.specs.Text as text;
+
+use crate::conversion::{FATHOMS, FEET, METRES};
+use crate::field::Field::{Decimal, Letter};
+use crate::lines::{Lines, put};
+
+pub(crate) fn dbt(talker: [u8; 2], depth: Option<i64>, out: &mut Lines)
+    requires room { length out.old.items < 2 }
+    requires talker { IsTrue (list_all is_capital talker) }
+    requires feet { IsCounted FEET depth }
+    requires metres { IsCounted METRES depth }
+    requires fathoms { IsCounted FATHOMS depth }
+    ensures { lines_of out.new ≡ lines_of out.old ++ sentence_by talker (codes "DBT") (text.dbt depth) ∷ [] }
+{
+    put(
+        talker,
+        *b"DBT",
+        &[
+            Decimal(depth, FEET),
+            Letter(b'f'),
+            Decimal(depth, METRES),
+            Letter(b'M'),
+            Decimal(depth, FATHOMS),
+            Letter(b'F'),
+        ],
+        out,
+    );
+}

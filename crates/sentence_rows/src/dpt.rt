@@ -1,0 +1,41 @@
+//! DPT, depth: `$SDDPT,12.34,-0.50,*67`.
+//!
+//! 1 depth below the transducer in metres, 2 the offset of the transducer in metres, 3 the range of the scale in
+//! metres.
+
+ghost use Rattle.std.specs.Prelude.{◌≡◌, ◌<◌, [], ◌∷◌, ◌++◌, codes, length, IsTrue};
+ghost use Rattle.std.specs.List.{list_all};
+ghost use Rattle.sentence_text.specs.Text.{is_capital};
+ghost use Rattle.sentence_rows.specs.Field.{IsCounted};
+ghost use Rattle.sentence_rows.specs.Lines.{lines_of, sentence_by};
+ghost use Rattle.sentence_rows.specs.Text as text;
+
+use crate::conversion::{METRES, OFFSET_METRES, RANGE_METRES};
+use crate::field::Field::Decimal;
+use crate::lines::{Lines, put};
+
+pub(crate) fn dpt(
+    talker: [u8; 2],
+    depth: Option<i64>,
+    offset: Option<i64>,
+    range: Option<i64>,
+    out: &mut Lines,
+)
+    requires room { length out.old.items < 2 }
+    requires talker { IsTrue (list_all is_capital talker) }
+    requires depth { IsCounted METRES depth }
+    requires offset { IsCounted OFFSET_METRES offset }
+    requires range { IsCounted RANGE_METRES range }
+    ensures { lines_of out.new ≡ lines_of out.old ++ sentence_by talker (codes "DPT") (text.dpt depth offset range) ∷ [] }
+{
+    put(
+        talker,
+        *b"DPT",
+        &[
+            Decimal(depth, METRES),
+            Decimal(offset, OFFSET_METRES),
+            Decimal(range, RANGE_METRES),
+        ],
+        out,
+    );
+}

@@ -1,0 +1,207 @@
+ghost use Rattle.std.specs.Prelude.{◌≡◌, ◌+◌, ◌≤◌, ◌<◌, ◌^◌, ◌++◌, length, IsTrue, nat_lt, unsigned_abs};
+ghost use Rattle.unit_fraction.specs.Text.{decimal_text, decimals};
+ghost use Rattle.sentence_rows.specs.Field.{IsCounted, IsPrintable, count, is_sound, text_of, width_of};
+
+use crate::conversion::{Conversion, DEGREES};
+use arrayvec::ArrayVec;
+use unit_fraction::{Fraction, scale, write_decimal};
+
+/// One field of a sentence. A raw value that isn't there is an empty field.
+#[derive(Clone, Copy)]
+pub enum Field {
+    Empty,
+    /// A letter of a unit, a status or a mode.
+    Letter(u8),
+    /// A raw value in a unit, with its sign.
+    Decimal(Option<i64>, Conversion),
+    /// The same without its sign.
+    Magnitude(Option<i64>, Conversion),
+    /// The letter that stands for a raw value's sign: the first from zero on, the second below. It goes by
+    /// the value as it is printed.
+    Side(Option<i64>, Conversion, u8, u8),
+    /// A heading, a course or the angle of the wind in degrees, below 360.
+    Angle(Option<i64>),
+    /// Latitude or longitude in degrees of so many digits and minutes with four decimals.
+    Degrees(Option<i64>, Conversion, u8),
+    /// A time of day as hhmmss.ss.
+    Time(Option<i64>),
+    /// The last digits of a number, so many.
+    Digits(Option<u64>, u8),
+    /// A number of satellites, of two digits at least.
+    Satellites(Option<i64>),
+}
+
+impl Field {
+    /// Appends the field's text.
+    pub(crate) fn append(self, out: &mut ArrayVec<u8, 82>)
+        requires printable { IsPrintable self }
+        requires room { length out.old.items + width_of self ≤ 82 }
+        ensures { out.new.items ≡ out.old.items ++ text_of self }
+    {
+        match self {
+            Field::Empty => {}
+            Field::Letter(letter) => out.push(letter),
+            Field::Decimal(raw, unit) => put_decimal(raw, unit, out),
+            Field::Magnitude(raw, unit) => put_magnitude(raw, unit, out),
+            Field::Side(raw, unit, positive, negative) => put_side(
+                raw, unit, positive, negative, out,
+            ),
+            Field::Angle(raw) => put_angle(raw, out),
+            Field::Degrees(raw, unit, width) => put_degrees(raw, unit, width, out),
+            Field::Time(raw) => put_time(raw, out),
+            Field::Digits(number, width) => {
+                if let Some(number) = number {
+                    put_digits(number, width, out);
+                }
+            }
+            Field::Satellites(raw) => put_satellites(raw, out),
+        }
+    }
+}
+
+/// The raw value in the unit, as a count of its last decimals.
+fn counted(raw: i64, unit: Conversion) -> i128
+    requires { IsTrue (nat_lt 0 unit.den) }
+    ensures { result ≡ count unit raw }
+{
+    let fraction = Fraction {
+        num: unit.num,
+        den: unit.den,
+    };
+    scale(fraction, raw)
+}
+
+/// The same without its sign.
+fn size(raw: i64, unit: Conversion) -> u64
+    requires sound { IsTrue (is_sound unit) }
+    requires counted { unsigned_abs raw ≤ unit.largest }
+    ensures value { result ≡ unsigned_abs (count unit raw) }
+    ensures small { result < 10 ^ unit.digits }
+{
+    counted(raw, unit).unsigned_abs() as u64
+}
+
+/// Appends the decimal, for which there is room.
+fn put_number(negative: bool, digits: u64, places: u8, out: &mut ArrayVec<u8, 82>)
+    requires places { places ≤ 12 }
+    requires room { length out.old.items + length (decimal_text negative digits places) ≤ 82 }
+    ensures { out.new.items ≡ out.old.items ++ decimal_text negative digits places }
+{
+    let _ = write_decimal(negative, digits, places, out);
+}
+
+/// Appends the raw value, with its sign where that is asked for.
+fn put_decimal(raw: Option<i64>, unit: Conversion, out: &mut ArrayVec<u8, 82>)
+    requires sound { IsTrue (is_sound unit) }
+    requires counted { IsCounted unit raw }
+    requires room { length out.old.items + (unit.digits + 2) ≤ 82 }
+    ensures { out.new.items ≡ out.old.items ++ text_of (Field.Decimal raw unit) }
+{
+    if let Some(raw) = raw {
+        let negative = counted(raw, unit) < 0;
+        put_number(negative, size(raw, unit), unit.places, out);
+    }
+}
+
+/// Appends the raw value without its sign.
+fn put_magnitude(raw: Option<i64>, unit: Conversion, out: &mut ArrayVec<u8, 82>)
+    requires sound { IsTrue (is_sound unit) }
+    requires counted { IsCounted unit raw }
+    requires room { length out.old.items + (unit.digits + 1) ≤ 82 }
+    ensures { out.new.items ≡ out.old.items ++ text_of (Field.Magnitude raw unit) }
+{
+    if let Some(raw) = raw {
+        put_number(false, size(raw, unit), unit.places, out);
+    }
+}
+
+/// Appends the letter of the raw value's sign.
+fn put_side(
+    raw: Option<i64>,
+    unit: Conversion,
+    positive: u8,
+    negative: u8,
+    out: &mut ArrayVec<u8, 82>,
+)
+    requires den { IsTrue (nat_lt 0 unit.den) }
+    requires room { length out.old.items + 1 ≤ 82 }
+    ensures { out.new.items ≡ out.old.items ++ text_of (Field.Side raw unit positive negative) }
+{
+    if let Some(raw) = raw {
+        out.push(if counted(raw, unit) < 0 {
+            negative
+        } else {
+            positive
+        });
+    }
+}
+
+/// Appends the angle, all round being zero.
+fn put_angle(raw: Option<i64>, out: &mut ArrayVec<u8, 82>)
+    requires { length out.old.items + 5 ≤ 82 }
+    ensures { out.new.items ≡ out.old.items ++ text_of (Field.Angle raw) }
+{
+    if let Some(raw) = raw {
+        let tenths = counted(raw, DEGREES).unsigned_abs() % 3600;
+        put_number(false, tenths as u64, 1, out);
+    }
+}
+
+/// Appends degrees, and minutes with four decimals.
+fn put_degrees(raw: Option<i64>, unit: Conversion, width: u8, out: &mut ArrayVec<u8, 82>)
+    requires sound { IsTrue (is_sound unit) }
+    requires counted { IsCounted unit raw }
+    requires room { length out.old.items + (width + 7) ≤ 82 }
+    ensures { out.new.items ≡ out.old.items ++ text_of (Field.Degrees raw unit width) }
+{
+    if let Some(raw) = raw {
+        let minutes = size(raw, unit);
+        put_digits(minutes / 600_000, width, out);
+        put_digits(minutes % 600_000 / 10_000, 2, out);
+        out.push(b'.');
+        put_digits(minutes % 10_000, 4, out);
+    }
+}
+
+/// Appends the time of day, cut off to hundredths of a second.
+fn put_time(raw: Option<i64>, out: &mut ArrayVec<u8, 82>)
+    requires { length out.old.items + 9 ≤ 82 }
+    ensures { out.new.items ≡ out.old.items ++ text_of (Field.Time raw) }
+{
+    if let Some(raw) = raw {
+        let hundredths = raw.unsigned_abs() / 100;
+        put_digits(hundredths / 360_000, 2, out);
+        put_digits(hundredths / 6_000 % 60, 2, out);
+        put_digits(hundredths / 100 % 60, 2, out);
+        out.push(b'.');
+        put_digits(hundredths % 100, 2, out);
+    }
+}
+
+/// Appends the number of satellites.
+fn put_satellites(raw: Option<i64>, out: &mut ArrayVec<u8, 82>)
+    requires few { IsPrintable (Field.Satellites raw) }
+    requires room { length out.old.items + 3 ≤ 82 }
+    ensures { out.new.items ≡ out.old.items ++ text_of (Field.Satellites raw) }
+{
+    if let Some(raw) = raw {
+        let number = raw.unsigned_abs();
+        if number < 10 {
+            put_digits(number, 2, out);
+        } else {
+            put_number(false, number, 0, out);
+        }
+    }
+}
+
+/// Appends the last `width` digits of the number.
+fn put_digits(number: u64, width: u8, out: &mut ArrayVec<u8, 82>)
+    requires { length out.old.items + width ≤ 82 }
+    ensures text { out.new.items ≡ out.old.items ++ decimals width number }
+    ensures len { length out.new.items ≡ length out.old.items + width }
+{
+    if width > 0 {
+        put_digits(number / 10, width - 1, out);
+        out.push(b'0' + (number % 10) as u8);
+    }
+}

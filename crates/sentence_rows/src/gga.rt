@@ -1,0 +1,64 @@
+//! GGA, satellite fix: `$GPGGA,221320.00,5738.7645,N,01424.6911,E,1,09,1.05,12.3,M,17.8,M,,*6A`.
+//!
+//! 1 time as hhmmss.ss, 2 to 5 the position as in GLL, 6 the quality, which is the method of the fix, 7 the number of
+//! satellites, 8 the horizontal dilution of precision, 9 and 10 the altitude in metres, 11 and 12 the height of the
+//! geoid in metres, 13 and 14 of a differential station, which is not written.
+
+ghost use Rattle.std.specs.Prelude.{◌≡◌, ◌<◌, ◌≤◌, [], ◌∷◌, ◌++◌, codes, length, IsTrue};
+ghost use Rattle.std.specs.List.{list_all};
+ghost use Rattle.sentence_text.specs.Text.{is_capital};
+ghost use Rattle.sentence_rows.specs.Field.{IsCounted, IsPrintable};
+ghost use Rattle.sentence_rows.specs.Lines.{lines_of, sentence_by};
+ghost use Rattle.sentence_rows.specs.Text as text;
+
+use crate::conversion::{ALTITUDE_METRES, DILUTION, FIX_MINUTES, SEPARATION_METRES};
+use crate::field::Field::{self, Decimal, Degrees, Empty, Letter, Satellites, Side, Time};
+use crate::letter::letter_where;
+use crate::lines::{Lines, put};
+
+pub(crate) fn gga(
+    talker: [u8; 2],
+    time: Option<i64>,
+    latitude: Option<i64>,
+    longitude: Option<i64>,
+    altitude: Option<i64>,
+    method: u8,
+    satellites: Option<i64>,
+    hdop: Option<i64>,
+    separation: Option<i64>,
+    out: &mut Lines,
+)
+    requires room { length out.old.items < 2 }
+    requires talker { IsTrue (list_all is_capital talker) }
+    requires latitude { IsCounted FIX_MINUTES latitude }
+    requires longitude { IsCounted FIX_MINUTES longitude }
+    requires altitude { IsCounted ALTITUDE_METRES altitude }
+    requires method { method ≤ 8 }
+    requires satellites { IsPrintable (Field.Satellites satellites) }
+    requires hdop { IsCounted DILUTION hdop }
+    requires separation { IsCounted SEPARATION_METRES separation }
+    ensures { lines_of out.new ≡ lines_of out.old ++ sentence_by talker (codes "GGA") (text.gga time latitude longitude altitude method satellites hdop separation) ∷ [] }
+{
+    let quality = letter_where(latitude.is_some(), b'0' + method, b'0');
+    put(
+        talker,
+        *b"GGA",
+        &[
+            Time(time),
+            Degrees(latitude, FIX_MINUTES, 2),
+            Side(latitude, FIX_MINUTES, b'N', b'S'),
+            Degrees(longitude, FIX_MINUTES, 3),
+            Side(longitude, FIX_MINUTES, b'E', b'W'),
+            Letter(quality),
+            Satellites(satellites),
+            Decimal(hdop, DILUTION),
+            Decimal(altitude, ALTITUDE_METRES),
+            Letter(b'M'),
+            Decimal(separation, SEPARATION_METRES),
+            Letter(b'M'),
+            Empty,
+            Empty,
+        ],
+        out,
+    );
+}

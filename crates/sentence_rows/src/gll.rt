@@ -1,0 +1,41 @@
+//! GLL, geographic position: `$GPGLL,1300.0000,N,18000.0000,W,,A,A*5E`.
+//!
+//! 1 and 2 latitude as ddmm.mmmm and `N` or `S`, 3 and 4 longitude as dddmm.mmmm and `E` or `W`, 5 time, which is
+//! not written, 6 the status: `A` valid, `V` not, 7 the mode: `A` autonomous, `N` not valid.
+
+ghost use Rattle.std.specs.Prelude.{◌≡◌, ◌<◌, [], ◌∷◌, ◌++◌, codes, length, IsTrue};
+ghost use Rattle.std.specs.List.{list_all};
+ghost use Rattle.sentence_text.specs.Text.{is_capital};
+ghost use Rattle.sentence_rows.specs.Field.{IsCounted};
+ghost use Rattle.sentence_rows.specs.Lines.{lines_of, sentence_by};
+ghost use Rattle.sentence_rows.specs.Text as text;
+
+use crate::conversion::MINUTES;
+use crate::field::Field::{Degrees, Empty, Letter, Side};
+use crate::letter::letter_where;
+use crate::lines::{Lines, put};
+
+pub(crate) fn gll(talker: [u8; 2], latitude: Option<i64>, longitude: Option<i64>, out: &mut Lines)
+    requires room { length out.old.items < 2 }
+    requires talker { IsTrue (list_all is_capital talker) }
+    requires latitude { IsCounted MINUTES latitude }
+    requires longitude { IsCounted MINUTES longitude }
+    ensures { lines_of out.new ≡ lines_of out.old ++ sentence_by talker (codes "GLL") (text.gll latitude longitude) ∷ [] }
+{
+    let status = letter_where(latitude.is_some(), b'A', b'V');
+    let mode = letter_where(latitude.is_some(), b'A', b'N');
+    put(
+        talker,
+        *b"GLL",
+        &[
+            Degrees(latitude, MINUTES, 2),
+            Side(latitude, MINUTES, b'N', b'S'),
+            Degrees(longitude, MINUTES, 3),
+            Side(longitude, MINUTES, b'E', b'W'),
+            Empty,
+            Letter(status),
+            Letter(mode),
+        ],
+        out,
+    );
+}

@@ -1,0 +1,41 @@
+//! HDG, heading magnetic: `$HCHDG,90.0,1.0,W,2.0,E*6A`.
+//!
+//! 1 heading in degrees magnetic, 2 and 3 deviation and `E` or `W`, 4 and 5 variation and `E` or `W`.
+
+ghost use Rattle.std.specs.Prelude.{◌≡◌, ◌<◌, [], ◌∷◌, ◌++◌, codes, length, IsTrue};
+ghost use Rattle.std.specs.List.{list_all};
+ghost use Rattle.sentence_text.specs.Text.{is_capital};
+ghost use Rattle.sentence_rows.specs.Field.{IsCounted};
+ghost use Rattle.sentence_rows.specs.Lines.{lines_of, sentence_by};
+ghost use Rattle.sentence_rows.specs.Text as text;
+
+use crate::conversion::DEGREES;
+use crate::field::Field::{Angle, Magnitude, Side};
+use crate::lines::{Lines, put};
+
+pub(crate) fn hdg(
+    talker: [u8; 2],
+    heading: Option<i64>,
+    deviation: Option<i64>,
+    variation: Option<i64>,
+    out: &mut Lines,
+)
+    requires room { length out.old.items < 2 }
+    requires talker { IsTrue (list_all is_capital talker) }
+    requires deviation { IsCounted DEGREES deviation }
+    requires variation { IsCounted DEGREES variation }
+    ensures { lines_of out.new ≡ lines_of out.old ++ sentence_by talker (codes "HDG") (text.hdg heading deviation variation) ∷ [] }
+{
+    put(
+        talker,
+        *b"HDG",
+        &[
+            Angle(heading),
+            Magnitude(deviation, DEGREES),
+            Side(deviation, DEGREES, b'E', b'W'),
+            Magnitude(variation, DEGREES),
+            Side(variation, DEGREES, b'E', b'W'),
+        ],
+        out,
+    );
+}

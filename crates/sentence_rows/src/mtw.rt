@@ -1,0 +1,34 @@
+//! MTW, water temperature: `$YXMTW,-0.1,C*0E`.
+//!
+//! 1 and 2 the temperature in degrees Celsius.
+
+ghost use Rattle.std.specs.Prelude.{◌≡◌, ◌<◌, [], ◌∷◌, ◌++◌, codes, length, IsTrue};
+ghost use Rattle.std.specs.List.{list_all};
+ghost use Rattle.readings.specs.Ranges.{Admits, kelvin as kelvin_range};
+ghost use Rattle.sentence_text.specs.Text.{is_capital};
+ghost use Rattle.sentence_rows.specs.Field.{IsCounted};
+ghost use Rattle.sentence_rows.specs.Lines.{lines_of, sentence_by};
+ghost use Rattle.sentence_rows.specs.Text as text;
+
+use crate::conversion::CELSIUS;
+use crate::field::Field::{Decimal, Letter};
+use crate::lines::{Lines, put};
+
+pub(crate) fn mtw(talker: [u8; 2], kelvin: Option<i64>, out: &mut Lines)
+    requires room { length out.old.items < 2 }
+    requires talker { IsTrue (list_all is_capital talker) }
+    requires kelvin { IsCounted CELSIUS (text.above_freezing kelvin) }
+    requires range { Admits kelvin_range kelvin }
+    ensures { lines_of out.new ≡ lines_of out.old ++ sentence_by talker (codes "MTW") (text.mtw kelvin) ∷ [] }
+{
+    let celsius = match kelvin {
+        Some(kelvin) => Some(kelvin - 273_150),
+        None => None,
+    };
+    put(
+        talker,
+        *b"MTW",
+        &[Decimal(celsius, CELSIUS), Letter(b'C')],
+        out,
+    );
+}

@@ -1,0 +1,47 @@
+//! MWD, wind direction and speed: `$WIMWD,90.0,T,,M,9.99,N,5.14,M*44`.
+//!
+//! 1 and 2 direction in degrees true, 3 and 4 magnetic, 5 and 6 speed in knots, 7 and 8 in m/s.
+
+ghost use Rattle.std.specs.Prelude.{◌≡◌, ◌<◌, [], ◌∷◌, ◌++◌, codes, length, IsTrue};
+ghost use Rattle.std.specs.List.{list_all};
+ghost use Rattle.sentence_text.specs.Text.{is_capital};
+ghost use Rattle.sentence_rows.specs.Field.{IsCounted};
+ghost use Rattle.sentence_rows.specs.Lines.{lines_of, sentence_by};
+ghost use Rattle.sentence_rows.specs.Text as text;
+
+use crate::conversion::{KNOTS, METRES_PER_SECOND};
+use crate::field::Field::{Angle, Decimal, Letter};
+use crate::letter::only_if;
+use crate::lines::{Lines, put};
+
+pub(crate) fn mwd(
+    talker: [u8; 2],
+    magnetic: bool,
+    speed: Option<i64>,
+    angle: Option<i64>,
+    out: &mut Lines,
+)
+    requires room { length out.old.items < 2 }
+    requires talker { IsTrue (list_all is_capital talker) }
+    requires knots { IsCounted KNOTS speed }
+    requires metres { IsCounted METRES_PER_SECOND speed }
+    ensures { lines_of out.new ≡ lines_of out.old ++ sentence_by talker (codes "MWD") (text.mwd magnetic speed angle) ∷ [] }
+{
+    let from_true = only_if(!magnetic, angle);
+    let from_magnetic = only_if(magnetic, angle);
+    put(
+        talker,
+        *b"MWD",
+        &[
+            Angle(from_true),
+            Letter(b'T'),
+            Angle(from_magnetic),
+            Letter(b'M'),
+            Decimal(speed, KNOTS),
+            Letter(b'N'),
+            Decimal(speed, METRES_PER_SECOND),
+            Letter(b'M'),
+        ],
+        out,
+    );
+}

@@ -1,0 +1,44 @@
+//! MWV, wind speed and angle: `$WIMWV,90.0,R,9.99,N,A*23`.
+//!
+//! 1 angle in degrees from the bow, 2 the reference: `R` relative, `T` theoretical, 3 and 4 speed in knots, 5 the
+//! status: `A` valid, `V` not.
+
+ghost use Rattle.std.specs.Prelude.{◌≡◌, ◌<◌, [], ◌∷◌, ◌++◌, codes, length, IsTrue};
+ghost use Rattle.std.specs.List.{list_all};
+ghost use Rattle.sentence_text.specs.Text.{is_capital, is_body_byte};
+ghost use Rattle.sentence_rows.specs.Field.{IsCounted};
+ghost use Rattle.sentence_rows.specs.Lines.{lines_of, sentence_by};
+ghost use Rattle.sentence_rows.specs.Text as text;
+
+use crate::conversion::KNOTS;
+use crate::field::Field::{Angle, Decimal, Letter};
+use crate::letter::letter_where;
+use crate::lines::{Lines, put};
+
+pub(crate) fn mwv(
+    talker: [u8; 2],
+    reference: u8,
+    speed: Option<i64>,
+    angle: Option<i64>,
+    out: &mut Lines,
+)
+    requires room { length out.old.items < 2 }
+    requires talker { IsTrue (list_all is_capital talker) }
+    requires reference { IsTrue (is_body_byte reference) }
+    requires speed { IsCounted KNOTS speed }
+    ensures { lines_of out.new ≡ lines_of out.old ++ sentence_by talker (codes "MWV") (text.mwv reference speed angle) ∷ [] }
+{
+    let status = letter_where(angle.is_some() || speed.is_some(), b'A', b'V');
+    put(
+        talker,
+        *b"MWV",
+        &[
+            Angle(angle),
+            Letter(reference),
+            Decimal(speed, KNOTS),
+            Letter(b'N'),
+            Letter(status),
+        ],
+        out,
+    );
+}

@@ -1,0 +1,30 @@
+//! ROT, rate of turn: `$TIROT,-10.0,A*27`.
+//!
+//! 1 rate in degrees per minute, to port negative, 2 the status: `A` valid, `V` not.
+
+ghost use Rattle.std.specs.Prelude.{◌≡◌, ◌<◌, [], ◌∷◌, ◌++◌, codes, length, IsTrue};
+ghost use Rattle.std.specs.List.{list_all};
+ghost use Rattle.sentence_text.specs.Text.{is_capital};
+ghost use Rattle.sentence_rows.specs.Field.{IsCounted};
+ghost use Rattle.sentence_rows.specs.Lines.{lines_of, sentence_by};
+ghost use Rattle.sentence_rows.specs.Text as text;
+
+use crate::conversion::DEGREES_PER_MINUTE;
+use crate::field::Field::{Decimal, Letter};
+use crate::letter::letter_where;
+use crate::lines::{Lines, put};
+
+pub(crate) fn rot(talker: [u8; 2], rate: Option<i64>, out: &mut Lines)
+    requires room { length out.old.items < 2 }
+    requires talker { IsTrue (list_all is_capital talker) }
+    requires rate { IsCounted DEGREES_PER_MINUTE rate }
+    ensures { lines_of out.new ≡ lines_of out.old ++ sentence_by talker (codes "ROT") (text.rot rate) ∷ [] }
+{
+    let status = letter_where(rate.is_some(), b'A', b'V');
+    put(
+        talker,
+        *b"ROT",
+        &[Decimal(rate, DEGREES_PER_MINUTE), Letter(status)],
+        out,
+    );
+}

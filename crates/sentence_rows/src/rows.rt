@@ -1,0 +1,89 @@
+ghost use Rattle.std.specs.Prelude.{◌≡◌, [], IsTrue};
+ghost use Rattle.std.specs.List.{list_all};
+ghost use Rattle.readings.specs.Ranges.{IsValid};
+ghost use Rattle.sentence_text.specs.Text.{is_capital};
+ghost use Rattle.sentence_rows.specs.Lines.{lines_of};
+ghost use Rattle.sentence_rows.specs.Text.{IsText};
+
+use crate::letter::beside;
+use crate::lines::Lines;
+use crate::{dbt, dpt, gga, gll, hdg, hdt, mtw, mwd, mwv, rot, rsa, ths, vhw, vlw, vtg, xte, zda};
+use readings::Reading;
+
+/// Says the reading in one or two sentences of the talker, which `out`, empty before, then holds. A true heading
+/// is said in THS besides HDT where `ths`.
+pub fn sentences(reading: &Reading, talker: [u8; 2], ths: bool, out: &mut Lines)
+    requires empty { out.old.items ≡ [] }
+    requires valid { IsValid reading.now }
+    requires talker { IsTrue (list_all is_capital talker) }
+    ensures { IsText reading.now talker ths (lines_of out.new) }
+{
+    match *reading {
+        Reading::HeadingTrue { heading } => {
+            hdt::hdt(talker, heading, out);
+            if ths {
+                ths::ths(talker, heading, out);
+            }
+        }
+        Reading::HeadingMagnetic {
+            heading,
+            deviation,
+            variation,
+        } => hdg::hdg(talker, heading, deviation, variation, out),
+        Reading::RateOfTurn { rate } => rot::rot(talker, rate, out),
+        Reading::RudderFirst { position } => rsa::rsa_first(talker, position, out),
+        Reading::RudderSecond { position } => rsa::rsa_second(talker, position, out),
+        Reading::WaterSpeed { speed } => vhw::vhw(talker, speed, out),
+        Reading::Depth {
+            depth,
+            offset,
+            range,
+        } => {
+            dpt::dpt(talker, depth, offset, range, out);
+            dbt::dbt(talker, depth, out);
+        }
+        Reading::DistanceLog { log, trip } => vlw::vlw(talker, log, trip, out),
+        Reading::Position {
+            latitude,
+            longitude,
+        } => {
+            gll::gll(
+                talker,
+                beside(latitude, longitude),
+                beside(longitude, latitude),
+                out,
+            );
+        }
+        Reading::CourseSpeed {
+            magnetic,
+            course,
+            speed,
+        } => vtg::vtg(talker, magnetic, course, speed, out),
+        Reading::Gnss {
+            time,
+            latitude,
+            longitude,
+            altitude,
+            method,
+            satellites,
+            hdop,
+            separation,
+            ..
+        } => {
+            let (north, east) = (beside(latitude, longitude), beside(longitude, latitude));
+            gga::gga(
+                talker, time, north, east, altitude, method, satellites, hdop, separation, out,
+            );
+        }
+        Reading::Time { date, time } => zda::zda(talker, date, time, out),
+        Reading::WindApparent { speed, angle } => mwv::mwv(talker, b'R', speed, angle, out),
+        Reading::WindTrue { speed, angle } => mwv::mwv(talker, b'T', speed, angle, out),
+        Reading::WindNorth {
+            magnetic,
+            speed,
+            angle,
+        } => mwd::mwd(talker, magnetic, speed, angle, out),
+        Reading::WaterTemperature { kelvin } => mtw::mtw(talker, kelvin, out),
+        Reading::CrossTrack { distance } => xte::xte(talker, distance, out),
+    }
+}

@@ -1,0 +1,22 @@
+//! THS, heading true with its status: `$HETHS,90.0,A*14`.
+//!
+//! 1 heading in degrees true, 2 the mode: `A` autonomous, `V` not valid.
+
+ghost use Rattle.std.specs.Prelude.{◌≡◌, ◌<◌, [], ◌∷◌, ◌++◌, codes, length, IsTrue};
+ghost use Rattle.std.specs.List.{list_all};
+ghost use Rattle.sentence_text.specs.Text.{is_capital};
+ghost use Rattle.sentence_rows.specs.Lines.{lines_of, sentence_by};
+ghost use Rattle.sentence_rows.specs.Text as text;
+
+use crate::field::Field::{Angle, Letter};
+use crate::letter::letter_where;
+use crate::lines::{Lines, put};
+
+pub(crate) fn ths(talker: [u8; 2], heading: Option<i64>, out: &mut Lines)
+    requires room { length out.old.items < 2 }
+    requires talker { IsTrue (list_all is_capital talker) }
+    ensures { lines_of out.new ≡ lines_of out.old ++ sentence_by talker (codes "THS") (text.ths heading) ∷ [] }
+{
+    let mode = letter_where(heading.is_some(), b'A', b'V');
+    put(talker, *b"THS", &[Angle(heading), Letter(mode)], out);
+}

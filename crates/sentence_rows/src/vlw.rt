@@ -1,0 +1,34 @@
+//! VLW, distance through the water: `$VWVLW,1.00,N,0.50,N*48`.
+//!
+//! 1 and 2 the total distance in nautical miles, 3 and 4 the distance since reset.
+
+ghost use Rattle.std.specs.Prelude.{◌≡◌, ◌<◌, [], ◌∷◌, ◌++◌, codes, length, IsTrue};
+ghost use Rattle.std.specs.List.{list_all};
+ghost use Rattle.sentence_text.specs.Text.{is_capital};
+ghost use Rattle.sentence_rows.specs.Field.{IsCounted};
+ghost use Rattle.sentence_rows.specs.Lines.{lines_of, sentence_by};
+ghost use Rattle.sentence_rows.specs.Text as text;
+
+use crate::conversion::NAUTICAL_MILES;
+use crate::field::Field::{Decimal, Letter};
+use crate::lines::{Lines, put};
+
+pub(crate) fn vlw(talker: [u8; 2], log: Option<i64>, trip: Option<i64>, out: &mut Lines)
+    requires room { length out.old.items < 2 }
+    requires talker { IsTrue (list_all is_capital talker) }
+    requires log { IsCounted NAUTICAL_MILES log }
+    requires trip { IsCounted NAUTICAL_MILES trip }
+    ensures { lines_of out.new ≡ lines_of out.old ++ sentence_by talker (codes "VLW") (text.vlw log trip) ∷ [] }
+{
+    put(
+        talker,
+        *b"VLW",
+        &[
+            Decimal(log, NAUTICAL_MILES),
+            Letter(b'N'),
+            Decimal(trip, NAUTICAL_MILES),
+            Letter(b'N'),
+        ],
+        out,
+    );
+}

@@ -1,0 +1,50 @@
+//! VTG, course over ground and ground speed: `$GPVTG,90.0,T,,M,9.99,N,18.50,K,A*01`.
+//!
+//! 1 and 2 course in degrees true, 3 and 4 magnetic, 5 and 6 speed in knots, 7 and 8 in km/h, 9 the mode: `A`
+//! autonomous, `N` not valid.
+
+ghost use Rattle.std.specs.Prelude.{◌≡◌, ◌<◌, [], ◌∷◌, ◌++◌, codes, length, IsTrue};
+ghost use Rattle.std.specs.List.{list_all};
+ghost use Rattle.sentence_text.specs.Text.{is_capital};
+ghost use Rattle.sentence_rows.specs.Field.{IsCounted};
+ghost use Rattle.sentence_rows.specs.Lines.{lines_of, sentence_by};
+ghost use Rattle.sentence_rows.specs.Text as text;
+
+use crate::conversion::{KILOMETRES_PER_HOUR, KNOTS};
+use crate::field::Field::{Angle, Decimal, Letter};
+use crate::letter::{letter_where, only_if};
+use crate::lines::{Lines, put};
+
+pub(crate) fn vtg(
+    talker: [u8; 2],
+    magnetic: bool,
+    course: Option<i64>,
+    speed: Option<i64>,
+    out: &mut Lines,
+)
+    requires room { length out.old.items < 2 }
+    requires talker { IsTrue (list_all is_capital talker) }
+    requires knots { IsCounted KNOTS speed }
+    requires kilometres { IsCounted KILOMETRES_PER_HOUR speed }
+    ensures { lines_of out.new ≡ lines_of out.old ++ sentence_by talker (codes "VTG") (text.vtg magnetic course speed) ∷ [] }
+{
+    let from_true = only_if(!magnetic, course);
+    let from_magnetic = only_if(magnetic, course);
+    let mode = letter_where(course.is_some() || speed.is_some(), b'A', b'N');
+    put(
+        talker,
+        *b"VTG",
+        &[
+            Angle(from_true),
+            Letter(b'T'),
+            Angle(from_magnetic),
+            Letter(b'M'),
+            Decimal(speed, KNOTS),
+            Letter(b'N'),
+            Decimal(speed, KILOMETRES_PER_HOUR),
+            Letter(b'K'),
+            Letter(mode),
+        ],
+        out,
+    );
+}

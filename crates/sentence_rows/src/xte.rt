@@ -1,0 +1,39 @@
+//! XTE, cross track error: `$IIXTE,A,A,0.100,L,N,A*25`.
+//!
+//! 1 and 2 the statuses: `A` valid, `V` not, 3 the distance in nautical miles, 4 the side to steer to, `L` or `R`, 5
+//! `N`, 6 the mode: `A` autonomous, `N` not valid.
+
+ghost use Rattle.std.specs.Prelude.{◌≡◌, ◌<◌, [], ◌∷◌, ◌++◌, codes, length, IsTrue};
+ghost use Rattle.std.specs.List.{list_all};
+ghost use Rattle.sentence_text.specs.Text.{is_capital};
+ghost use Rattle.sentence_rows.specs.Field.{IsCounted};
+ghost use Rattle.sentence_rows.specs.Lines.{lines_of, sentence_by};
+ghost use Rattle.sentence_rows.specs.Text as text;
+
+use crate::conversion::TRACK_MILES;
+use crate::field::Field::{Letter, Magnitude, Side};
+use crate::letter::letter_where;
+use crate::lines::{Lines, put};
+
+pub(crate) fn xte(talker: [u8; 2], distance: Option<i64>, out: &mut Lines)
+    requires room { length out.old.items < 2 }
+    requires talker { IsTrue (list_all is_capital talker) }
+    requires distance { IsCounted TRACK_MILES distance }
+    ensures { lines_of out.new ≡ lines_of out.old ++ sentence_by talker (codes "XTE") (text.xte distance) ∷ [] }
+{
+    let status = letter_where(distance.is_some(), b'A', b'V');
+    let mode = letter_where(distance.is_some(), b'A', b'N');
+    put(
+        talker,
+        *b"XTE",
+        &[
+            Letter(status),
+            Letter(status),
+            Magnitude(distance, TRACK_MILES),
+            Side(distance, TRACK_MILES, b'L', b'R'),
+            Letter(b'N'),
+            Letter(mode),
+        ],
+        out,
+    );
+}

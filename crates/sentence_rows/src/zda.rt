@@ -1,0 +1,98 @@
+//! ZDA, time and date: `$GPZDA,221320.00,14,11,2023,00,00*60`.
+//!
+//! 1 time as hhmmss.ss, 2 day, 3 month, 4 year, 5 and 6 the local zone, which is always UTC.
+
+ghost use Rattle.std.specs.Prelude.{◌≡◌, ◌<◌, ◌≤◌, ◌+ℤ◌, [], ◌∷◌, ◌++◌, codes, length, unsigned_abs, IsTrue};
+ghost use Rattle.std.specs.List.{list_all};
+ghost use Rattle.jiff.specs.Words.{IsEpochDay, epoch_day};
+ghost use Rattle.readings.specs.Ranges.{Admits, Holds, date as date_range};
+ghost use Rattle.sentence_text.specs.Text.{is_capital};
+ghost use Rattle.sentence_rows.specs.Lines.{lines_of, sentence_by};
+ghost use Rattle.sentence_rows.specs.Text as text;
+
+use crate::field::Field::{Digits, Time};
+use crate::lines::{Lines, put};
+use jiff::ToSpan;
+use jiff::civil::Date;
+
+/// The days from the first date of the calendar, -9999-01-01, to 1970-01-01.
+const DAYS_BEFORE_1970: i64 = 4_371_587;
+
+/// The date of a day, counted from 1970-01-01.
+fn civil_date(day: i64) -> Date
+    requires { Holds date_range day }
+    ensures { epoch_day result ≡ day }
+{
+    days_after(Date::MIN, DAYS_BEFORE_1970 + day)
+}
+
+/// The date so many days after the first.
+fn days_after(first: Date, days: i64) -> Date
+    requires few { unsigned_abs days ≤ 5_000_000 }
+    requires inside { IsEpochDay (epoch_day first +ℤ days) }
+    ensures { epoch_day result ≡ epoch_day first +ℤ days }
+{
+    first + days.days()
+}
+
+fn day_of(date: Date) -> u64
+    ensures { result ≡ date.day }
+{
+    date.day() as u64
+}
+
+fn month_of(date: Date) -> u64
+    ensures { result ≡ date.month }
+{
+    date.month() as u64
+}
+
+fn year_of(date: Date) -> u64
+    ensures { result ≡ unsigned_abs date.year }
+{
+    u64::from(date.year().unsigned_abs())
+}
+
+fn put_date(talker: [u8; 2], time: Option<i64>, date: Date, out: &mut Lines)
+    requires room { length out.old.items < 2 }
+    requires talker { IsTrue (list_all is_capital talker) }
+    ensures { lines_of out.new ≡ lines_of out.old ++ sentence_by talker (codes "ZDA") (text.zda time (Some date)) ∷ [] }
+{
+    let fields = [
+        Time(time),
+        Digits(Some(day_of(date)), 2),
+        Digits(Some(month_of(date)), 2),
+        Digits(Some(year_of(date)), 4),
+        Digits(Some(0), 2),
+        Digits(Some(0), 2),
+    ];
+    put(talker, *b"ZDA", &fields, out);
+}
+
+fn put_no_date(talker: [u8; 2], time: Option<i64>, out: &mut Lines)
+    requires room { length out.old.items < 2 }
+    requires talker { IsTrue (list_all is_capital talker) }
+    ensures { lines_of out.new ≡ lines_of out.old ++ sentence_by talker (codes "ZDA") (text.zda time None) ∷ [] }
+{
+    let fields = [
+        Time(time),
+        Digits(None, 2),
+        Digits(None, 2),
+        Digits(None, 4),
+        Digits(Some(0), 2),
+        Digits(Some(0), 2),
+    ];
+    put(talker, *b"ZDA", &fields, out);
+}
+
+pub(crate) fn zda(talker: [u8; 2], day: Option<i64>, time: Option<i64>, out: &mut Lines)
+    requires room { length out.old.items < 2 }
+    requires talker { IsTrue (list_all is_capital talker) }
+    requires day { Admits date_range day }
+    ensures { text.Dated day (λ d. lines_of out.new ≡ lines_of out.old ++ sentence_by talker (codes "ZDA") (text.zda time d) ∷ []) }
+{
+    match day {
+        Some(day) => put_date(talker, time, civil_date(day), out),
+        None => put_no_date(talker, time, out),
+    }
+}
