@@ -38,6 +38,7 @@ step_of lost own = record { lost = lost; released = None; own = own }
 abbrev pub outcome : Claims → Option (ℕ × Name) → OwnAnswer → Outcome
 outcome c lost own = record { after = c; step = step_of lost own }
 
+-- who holds an address: nobody beyond the table
 abbrev pub holder_at : List (Option Holder) → ℕ → Option Holder
 holder_at holders a = slice_index_or holders a None
 
@@ -46,6 +47,7 @@ abbrev pub IsSinceBy : ℕ → Option Holder → Type 0
 IsSinceBy i None = Unit {0}
 IsSinceBy i (Some h) = h.since ≤ i
 
+-- the place has this NAME
 abbrev pub is_held_by : ℕ → Option Holder → Bool
 is_held_by n None = false
 is_held_by n (Some h) = h.name.0 == n
@@ -58,6 +60,7 @@ abbrev pub unless_at : Bool → ℕ → Option ℕ
 unless_at true b = None
 unless_at false b = Some b
 
+-- an address where it isn't this one
 abbrev pub other_than : ℕ → Option ℕ → Option ℕ
 other_than a None = None
 other_than a (Some b) = unless_at (b == a) b
@@ -66,6 +69,7 @@ other_than a (Some b) = unless_at (b == a) b
 unfoldable pub left_by : Claims → Claim → Option ℕ
 left_by c k = other_than k.address (position (is_held_by k.name) c.holders)
 
+-- nobody holds this address any more
 abbrev pub vacated : List (Option Holder) → Option ℕ → List (Option Holder)
 vacated holders None = holders
 vacated holders (Some b) = slice_set holders b None
@@ -146,6 +150,7 @@ told c k false = with_released (left_by c k) (settled (without_left c k) k (k.ad
 unfoldable pub claim : Claims → Claim → Outcome
 claim c k = told c k (k.name == c.name)
 
+-- the gateway goes to this address, if it obeys
 abbrev pub moved_if : Bool → Claims → ℕ → ℕ → Claims
 moved_if true c a m = record c { own = Some a; counted = m }
 moved_if false c a m = c

@@ -29,6 +29,7 @@ impl ClaimTable {
         self.handle(address, name, index, moment)
     }
 
+    /// The claim itself, for any index.
     #[tactic(auto, unfolding(crate::specs::Claims::claim, crate::specs::Claims::left_by))]
     fn handle(&mut self, address: u8, name: Name, index: u64, moment: u64) -> ClaimStep
         requires { address < 255 }
@@ -60,6 +61,7 @@ impl ClaimTable {
         }
     }
 
+    /// What comes of the claim once the NAME holds no other address.
     fn settle(&mut self, address: u8, name: Name, index: u64, moment: u64) -> ClaimStep
         requires { address < 255 }
         ensures after { self.new ≡ (settled self.old (claim_of address name.0 index moment) (address == 254)).after }
@@ -75,6 +77,7 @@ impl ClaimTable {
         }
     }
 
+    /// The NAME holds the address from this index on.
     fn take(&mut self, address: u8, name: Name, index: u64)
         requires { address < 254 }
         ensures { self.new ≡ with_taken self.old (claim_of address name.0 index 0) }
@@ -82,6 +85,7 @@ impl ClaimTable {
         self.holders[usize::from(address)] = Some(Holder { name, since: index });
     }
 
+    /// The gateway's own address is claimed: it defends it, or gives it up and moves.
     fn answer(&mut self, address: u8, name: Name, index: u64, moment: u64) -> ClaimStep
         requires { address < 254 }
         ensures after { self.new ≡ (at_own self.old (claim_of address name.0 index moment) (nat_lt self.old.name name.0)).after }
@@ -101,6 +105,7 @@ impl ClaimTable {
         }
     }
 
+    /// An address that isn't the gateway's is claimed: the smaller NAME has it.
     fn contest(&mut self, address: u8, name: Name, index: u64) -> ClaimStep
         requires { address < 254 }
         ensures after { self.new ≡ (at_other self.old (claim_of address name.0 index 0) (holder_at self.old.holders address)).after }
@@ -122,6 +127,8 @@ impl ClaimTable {
         }
     }
 
+    /// Where the gateway goes that has lost this address; nowhere, if its NAME isn't arbitrary address
+    /// capable.
     #[tactic(auto, unfolding(crate::specs::Claims::next_own, n2k_id::specs::Name::fields_of))]
     fn next_own(&self, lost: u8) -> Option<u8>
         requires { lost < 254 }
@@ -133,6 +140,7 @@ impl ClaimTable {
         self.next_free(lost)
     }
 
+    /// The first address without a holder after this one.
     #[tactic(auto, using(crate::proofs::FreeLemmas::free_here, crate::proofs::FreeLemmas::free_further, crate::proofs::FreeLemmas::free_none), unfolding(crate::specs::Claims::next_free))]
     fn next_free(&self, lost: u8) -> Option<u8>
         requires { lost < 254 }
@@ -173,7 +181,7 @@ impl ClaimTable {
     }
 }
 
-/// The address that the NAME holds.
+/// The address that the NAME holds. A table has 254 places, so its place is a byte.
 fn place_of(holders: &[Option<Holder>], name: Name) -> Option<u8>
     requires { length holders.now ≡ 254 }
     ensures place { result ≡ position (is_held_by name.0) holders.now }
@@ -201,6 +209,7 @@ fn is_held_by(holder: &Option<Holder>, name: Name) -> bool
     }
 }
 
+/// What is told of a claim by which no address was left.
 fn told(lost: Option<(u8, Name)>, own: OwnAnswer) -> ClaimStep
     ensures { result ≡ step_of lost own }
 {
