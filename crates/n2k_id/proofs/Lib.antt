@@ -1,2 +1,4 @@
 pub mod FrameLemmas
+pub mod NameLemmas
 pub mod PartsLemmas
+pub mod PatternLemmas

@@ -1,2 +1,5 @@
 pub mod Frame
 pub mod Identifier
+pub mod Name
+pub mod Pattern
+pub mod Widths

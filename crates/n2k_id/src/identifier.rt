@@ -75,16 +75,16 @@ fn number(p: &Parts) -> u32
     (u32::from(p.priority) << 26) + (group(p) << 8) + u32::from(p.source)
 }
 
-#[tactic(auto, unfolding(crate::specs::Identifier::has_destination))]
 /// Whether PS is a destination.
+#[tactic(auto, unfolding(crate::specs::Identifier::has_destination))]
 fn has_destination(group: u32) -> bool
     ensures { result ≡ has_destination group }
 {
     (group >> 8) & 0xFF < 240
 }
 
-#[tactic(auto, using(crate::proofs::PartsLemmas::group_of_fits), unfolding(crate::specs::Identifier::group_of))]
 /// The group of these parts: the parameter group number, with the destination as PS where it has one.
+#[tactic(auto, using(crate::proofs::PartsLemmas::group_of_fits), unfolding(crate::specs::Identifier::group_of))]
 fn group(p: &Parts) -> u32
     requires { CanJoin p.now }
     ensures group { result ≡ group_of p.now }

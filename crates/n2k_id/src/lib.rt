@@ -5,9 +5,13 @@
 mod frame;
 mod header;
 mod identifier;
+mod name;
+mod pattern;
 #[cfg(test)]
 mod tests;
 
 pub use frame::Frame;
 pub use header::Parts;
 pub use identifier::{join, parts};
+pub use name::{Name, NameFields, read_name, write_name};
+pub use pattern::Pattern;

@@ -20,10 +20,10 @@ before_comma c cs e =
     let len : position_or_len (λ x. x == 44) (c ∷ cs) ≡ 1 + position_or_len (λ x. x == 44) cs = rw e refl in
     ap (λ (n : ℕ). take n (c ∷ cs)) len ∙ take_one_more (position_or_len (λ x. x == 44) cs) c cs
 
-fields_at_comma : (c : ℕ) (cs : List ℕ) → (c == 44) ≡ true → fields_of (c ∷ cs) ≡ field_at_front cs ∷ fields_of cs
+pub fields_at_comma : (c : ℕ) (cs : List ℕ) → (c == 44) ≡ true → fields_of (c ∷ cs) ≡ field_at_front cs ∷ fields_of cs
 fields_at_comma c cs e = rw e refl
 
-fields_before_comma : (c : ℕ) (cs : List ℕ) → (c == 44) ≡ false → fields_of (c ∷ cs) ≡ fields_of cs
+pub fields_before_comma : (c : ℕ) (cs : List ℕ) → (c == 44) ≡ false → fields_of (c ∷ cs) ≡ fields_of cs
 fields_before_comma c cs e = rw e refl
 
 pub body_of-fields_of : (cs : List ℕ) → field_at_front cs ++ body_of (fields_of cs) ≡ cs

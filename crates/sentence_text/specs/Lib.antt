@@ -2,3 +2,4 @@ pub mod Text
 pub mod Names
 pub mod Sentence
 pub mod Fields
+pub mod Reading

@@ -5,11 +5,17 @@
 #![tactic(auto)]
 
 mod byte;
+mod fault;
 mod group;
+mod reading;
+mod sentence;
 mod sfi;
 mod writing;
 
+pub use fault::{SentenceFault, SentenceRule};
 pub use group::Group;
+pub use reading::read;
+pub use sentence::Sentence;
 pub use sfi::Sfi;
 pub use writing::write;
 

@@ -46,3 +46,72 @@ fn a_sentence_has_at_most_82_bytes(rt: HostRuntime) {
     assert!(rt; write(*b"GP", *b"GLL", &[b'0'; 70], &mut out));
     assert_eq!(rt; out.len(), 82);
 }
+
+#[test]
+fn a_sentence_is_read_in_its_parts(rt: HostRuntime) -> Result<(), Fail> {
+    let sentence = read(b"$GPGLL,0000.0000,N,,E,,A,A*59\r\n")
+        .ok()
+        .ok_or("a sentence")?;
+    assert_eq!(rt; sentence.start, b'$');
+    assert_eq!(rt; sentence.talker.as_slice(), b"GP".as_slice());
+    assert_eq!(rt; sentence.formatter, b"GLL".as_slice());
+    assert_eq!(rt; sentence.body, b",0000.0000,N,,E,,A,A".as_slice());
+    assert_eq!(rt; sentence.count(), 7);
+    let fields: [(usize, Option<&[u8]>); 6] = [
+        (0, None),
+        (1, Some(b"0000.0000")),
+        (2, Some(b"N")),
+        (3, Some(b"")),
+        (7, Some(b"A")),
+        (8, None),
+    ];
+    for (number, field) in fields {
+        assert_eq!(rt; sentence.field(number), field);
+    }
+    Ok(())
+}
+
+#[test]
+fn published_sentences_are_read(rt: HostRuntime) {
+    let rows: [&[u8]; 6] = [
+        b"$HEHDT,90.0,T*16\r\n",
+        b"$GPGGA,123519,4807.038,N,01131.000,E,1,08,0.9,545.4,M,46.9,M,,*47\r\n",
+        b"$GPRMC,123519,A,4807.038,N,01131.000,E,022.4,084.4,230394,003.1,W*6a\r\n",
+        b"!AIVDM,1,1,,B,177KQJ5000G?tO`K>RA1wUbN0TKH,0*5C\r\n",
+        b"$PGRME,15.0,M,45.0,M,25.0,M*1C\r\n",
+        b"$GPHDT*4F\r\n",
+    ];
+    for line in rows {
+        assert!(rt; read(line).is_ok());
+    }
+}
+
+#[test]
+fn the_first_broken_rule_is_named_at_its_place(rt: HostRuntime) {
+    let long = [b'$'; 121];
+    let rows: [(&[u8], SentenceRule, usize); 20] = [
+        (&long, SentenceRule::Long, 120),
+        (b"", SentenceRule::Start, 0),
+        (b"HEHDT,90.0,T*16\r\n", SentenceRule::Start, 0),
+        (b"$HEHDT\r\n", SentenceRule::Address, 6),
+        (b"$HE,90.0,T*16\r\n", SentenceRule::Address, 3),
+        (b"$", SentenceRule::Address, 1),
+        (b"$HEhDT,90.0,T*16\r\n", SentenceRule::Address, 3),
+        (b"$ABCDEFGHIJKLM,*00\r\n", SentenceRule::Address, 13),
+        (b"$HEHDT,90.0,T\r\n", SentenceRule::NoSum, 13),
+        (b"$HEHDT,90.0,T", SentenceRule::NoSum, 13),
+        (b"$HEHDT,90\\0,T*16\r\n", SentenceRule::Byte, 9),
+        (b"$HEHDT,90.0,$*16\r\n", SentenceRule::Byte, 12),
+        (b"$HEHDT,90.0,T*", SentenceRule::Sum, 14),
+        (b"$HEHDT,90.0,T*1\r\n", SentenceRule::Sum, 15),
+        (b"$HEHDT,90.0,T*1G\r\n", SentenceRule::Sum, 15),
+        (b"$HEHDT,90.0,T*17\r\n", SentenceRule::Sum, 14),
+        (b"$HEHDT,90.0,T*16", SentenceRule::End, 16),
+        (b"$HEHDT,90.0,T*16\n", SentenceRule::End, 16),
+        (b"$HEHDT,90.0,T*16\r\r\n", SentenceRule::End, 17),
+        (b"$HEHDT,90.0,T*16\r\n\n", SentenceRule::End, 18),
+    ];
+    for (line, rule, place) in rows {
+        assert_eq!(rt; read(line).err(), Some(SentenceFault { rule, place }));
+    }
+}

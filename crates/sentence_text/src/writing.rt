@@ -1,8 +1,9 @@
-ghost use Rattle.std.specs.Prelude.{◌≡◌, ◌+◌, ◌<◌, ◌≤◌, [], ◌∷◌, ◌++◌, length, IsTrue, ◌↔◌, false, ◌/◌, ◌%◌};
+ghost use Rattle.std.specs.Prelude.{◌≡◌, ◌+◌, ◌<◌, ◌≤◌, [], ◌∷◌, ◌++◌, length, IsTrue, ◌↔◌, false, ◌/◌, ◌%◌, Ok};
 ghost use Rattle.std.specs.List.{list_all};
 ghost use Rattle.arrayvec.specs.ArrayVec.{array_vec_len};
 ghost use Rattle.sentence_text.specs.Text.{is_address_byte, is_body_byte};
 ghost use Rattle.sentence_text.specs.Sentence.{IsSentence, capital_digit, content, parts_of, sentence, xor_of};
+ghost use Rattle.sentence_text.specs.Reading.{read};
 
 use arrayvec::ArrayVec;
 
@@ -81,6 +82,7 @@ pub fn write(talker: [u8; 2], formatter: [u8; 3], body: &[u8], out: &mut ArrayVe
     ensures fits { IsTrue result ↔ (length (sentence (parts_of talker formatter body.now)) ≤ 82) }
     ensures written { IsTrue result → out.new.items ≡ sentence (parts_of talker formatter body.now) }
     ensures grammar { IsTrue result → IsSentence (parts_of talker formatter body.now) out.new.items }
+    ensures again { IsTrue result → read out.new.items ≡ Ok (parts_of talker formatter body.now) }
     ensures unchanged { result ≡ false → out.new ≡ out.old }
 {
     if body.len() > MOST - FRAME {

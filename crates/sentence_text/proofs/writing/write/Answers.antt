@@ -1,4 +1,6 @@
 use Rattle.std.proofs.Common.{arith, rules}
+use Rattle.sentence_text.specs.Sentence.{parts_of}
+use Rattle.sentence_text.proofs.Only.{only}
 use Rattle.sentence_text.proofs.Spelling.{is_sentence}
 use Rattle.sentence_text.proofs.writing.write.Goals as goal
 
@@ -6,3 +8,6 @@ pub returns-clause-grammar : goal.returns-clause-grammar
 returns-clause-grammar c = λ yes. is_sentence c.args.talker c.args.formatter c.args.body.now c.put_sentence.new.out.items
     (record { two = search rules; three = search rules; talker_bytes = c.requires.talker; formatter_bytes = c.requires.formatter; body_bytes = c.requires.body })
     c.put_sentence.ensures.sum c.put_sentence.ensures.text (omega (arith, c.put_sentence.ensures.len))
+
+pub returns-clause-again : goal.returns-clause-again
+returns-clause-again c = λ yes. only c.put_sentence.new.out.items (parts_of c.args.talker c.args.formatter c.args.body.now) (returns-clause-grammar c yes)

@@ -1,0 +1,80 @@
+use Rattle.std.proofs.Common.{◌≡◌, ◌≢◌, ℕ, ◌<◌, ◌≤◌, ◌==◌, nat_lt, ◌&&◌, ◌↔◌, not, is_none, IsTrue, Bool, true, false, Option, None, Some, refl, arith}
+use Rattle.std.proofs.lemmas.Bool.{eqb-true, eq-eqb}
+use Rattle.std.proofs.lemmas.Bool.Decides.{nat_tests}
+use Rattle.claim_table.specs.declared.answer.Holder.{Holder}
+use Rattle.claim_table.specs.Cases.{CanGoTo, IsCase, IsOthers, duplicate, cannot_claim, defended, given_up, free, kept, won}
+use Rattle.claim_table.specs.Claims.{Claims, Claim, at_address, at_held, at_other, at_own, claim, holder_at, is_at, is_obeyed, left_by, settled, told, with_released, without_left}
+
+pub not_eqb : (a b : ℕ) → (a == b) ≡ false → a ≢ b
+not_eqb a b e same = let equal : (a == b) ≡ true = eq-eqb a b same in cc
+
+pub lt_true : (a b : ℕ) → nat_lt a b ≡ true → a < b
+lt_true a b e = grind (arith, nat_tests)
+
+pub lt_false : (a b : ℕ) → nat_lt a b ≡ false → b ≤ a
+lt_false a b e = grind (arith, nat_tests)
+
+pub is_at-true : (a : ℕ) (own : Option ℕ) → is_at a own ≡ true → own ≡ Some a
+is_at-true a None e = cc
+is_at-true a (Some b) e = let same : b ≡ a = eqb-true b a e in cc
+
+pub is_at-false : (a : ℕ) (own : Option ℕ) → is_at a own ≡ false → own ≢ Some a
+is_at-false a None e h = cc
+is_at-false a (Some b) e h = let same : b ≡ a = cc in not_eqb b a e same
+
+held_case : (c : Claims) (k : Claim) (h : Holder) (b : Bool) → IsOthers c k → c.own ≢ Some k.address → holder_at (without_left c k).holders k.address ≡ Some h → nat_lt k.name h.name.0 ≡ b → IsCase c k (with_released (left_by c k) (at_held (without_left c k) k h b))
+held_case c k h true o n e l = won o n h e (lt_true k.name h.name.0 l) refl
+held_case c k h false o n e l = kept o n h e (lt_false k.name h.name.0 l) refl
+
+other_case : (c : Claims) (k : Claim) (x : Option Holder) → IsOthers c k → c.own ≢ Some k.address → holder_at (without_left c k).holders k.address ≡ x → IsCase c k (with_released (left_by c k) (at_other (without_left c k) k x))
+other_case c k None o n e = free o n e refl
+other_case c k (Some h) o n e = held_case c k h (nat_lt k.name h.name.0) o n e refl
+
+own_case : (c : Claims) (k : Claim) (b : Bool) → IsOthers c k → c.own ≡ Some k.address → nat_lt c.name k.name ≡ b → IsCase c k (with_released (left_by c k) (at_own (without_left c k) k b))
+own_case c k true o own l = defended o own (lt_true c.name k.name l) refl
+own_case c k false o own l = given_up o own (below k.name c.name o.name (lt_false c.name k.name l)) refl
+  where
+    below : (a b : ℕ) → a ≢ b → a ≤ b → a < b
+    below a b n l = omega arith
+
+address_case : (c : Claims) (k : Claim) (b : Bool) → IsOthers c k → is_at k.address c.own ≡ b → IsCase c k (with_released (left_by c k) (at_address (without_left c k) k b))
+address_case c k true o e = own_case c k (nat_lt c.name k.name) o (is_at-true k.address c.own e) refl
+address_case c k false o e = other_case c k (holder_at (without_left c k).holders k.address) o (is_at-false k.address c.own e) refl
+
+settled_case : (c : Claims) (k : Claim) (b : Bool) → k.name ≢ c.name → (k.address == 254) ≡ b → IsCase c k (with_released (left_by c k) (settled (without_left c k) k b))
+settled_case c k true n e = cannot_claim n (eqb-true k.address 254 e) refl
+settled_case c k false n e = address_case c k (is_at k.address c.own) (record { name = n; address = not_eqb k.address 254 e }) refl
+
+told_case : (c : Claims) (k : Claim) (b : Bool) → (k.name == c.name) ≡ b → IsCase c k (told c k b)
+told_case c k true e = duplicate (eqb-true k.name c.name e) refl
+told_case c k false e = settled_case c k (k.address == 254) (not_eqb k.name c.name e) refl
+
+-- each claim is one of the seven cases
+pub claim_case : (c : Claims) (k : Claim) → IsCase c k (claim c k)
+unfolding claim
+claim_case c k = told_case c k (k.name == c.name) refl
+
+-- three tests tell three facts
+all_three : {P Q R : Type 0} (p q r : Bool) → IsTrue p ↔ P → IsTrue q ↔ Q → IsTrue r ↔ R → IsTrue (p && q && r) ↔ (P × Q × R)
+all_three true true true a b d = (λ h. (a.0 refl, b.0 refl, d.0 refl), λ h. refl)
+all_three true true false a b d = (λ h. cc, λ h. d.1 h.2)
+all_three true false r a b d = (λ h. cc, λ h. b.1 h.1)
+all_three false q r a b d = (λ h. cc, λ h. a.1 h.0)
+
+below_tells : (a b : ℕ) → IsTrue (nat_lt a b) ↔ (a < b)
+below_tells a b = (λ h. lt_true a b h, λ h. grind (arith, nat_tests))
+
+elsewhere_tells : (a : ℕ) (own : Option ℕ) (t : Bool) → is_at a own ≡ t → IsTrue (not t) ↔ (own ≢ Some a)
+elsewhere_tells a own true e = (λ h. cc, λ h. absurd (h (is_at-true a own e)))
+elsewhere_tells a own false e = (λ h. is_at-false a own e, λ h. refl)
+
+nobody_tells : (x : Option Holder) → IsTrue (is_none x) ↔ (x ≡ None)
+nobody_tells None = (λ h. refl, λ h. refl)
+nobody_tells (Some h) = (λ e. cc, λ e. cc)
+
+-- a command is obeyed exactly where the gateway can go to the address
+pub obeyed_tells : (c : Claims) (a : ℕ) → IsTrue (is_obeyed c a) ↔ CanGoTo c a
+unfolding is_obeyed
+obeyed_tells c a =
+    let tells = all_three (nat_lt a 252) (not (is_at a c.own)) (is_none (holder_at c.holders a)) (below_tells a 252) (elsewhere_tells a c.own (is_at a c.own) refl) (nobody_tells (holder_at c.holders a)) in
+    (λ h. let facts = tells.0 h in record { within = facts.0; elsewhere = facts.1; free = facts.2 }, λ can. tells.1 (can.within, can.elsewhere, can.free))

@@ -1,0 +1,55 @@
+use Rattle.std.proofs.Common.{◌≡◌, ℕ, ◌≤◌, Bool, true, false, Option, None, Some, List, [], ◌∷◌, All, get_or, refl, arith}
+use Rattle.std.proofs.lemmas.List.Elements.{All-set}
+use Rattle.claim_table.specs.declared.answer.Holder.{Holder}
+use Rattle.claim_table.specs.Cases.{IsCase, duplicate, cannot_claim, defended, given_up, free, kept, won}
+use Rattle.claim_table.specs.Claims.{Claims, Claim, IsSinceBy, Outcome, claim, command, holder_by, is_obeyed, left_by, moved, moved_if, next_own, vacated, with_taken, without_left}
+use Rattle.claim_table.specs.Laws.{HoldersAreDated, claimed, commanded, state_after}
+use Rattle.claim_table.proofs.CaseLemmas.{claim_case}
+
+moved_holders : (c : Claims) (m : ℕ) (x : Option ℕ) → (moved c m x).after.holders ≡ c.holders
+moved_holders c m None = refl
+moved_holders c m (Some b) = refl
+
+-- a claim leaves the holders as they were, or without the address left, or with the address taken
+pub holders_after : (P : List (Option Holder) → Type 0) (c : Claims) (k : Claim) (o : Outcome) → IsCase c k o → P c.holders → P (without_left c k).holders → P (with_taken (without_left c k) k).holders → P o.after.holders
+holders_after P c k o (duplicate n e) p q r = rw e p
+holders_after P c k o (cannot_claim n a e) p q r = rw e q
+holders_after P c k o (defended n own l e) p q r = rw e q
+holders_after P c k o (given_up n own l e) p q r =
+    rw (e, moved_holders (with_taken (without_left c k) k) k.moment (next_own (with_taken (without_left c k) k) k.address)) r
+holders_after P c k o (free n own f e) p q r = rw e r
+holders_after P c k o (kept n own h at l e) p q r = rw e q
+holders_after P c k o (won n own h at l e) p q r = rw e r
+
+-- what holds of each holder and of nobody holds when an address is vacated
+vacated_keeps : (P : Option Holder → Type 0) (holders : List (Option Holder)) (left : Option ℕ) → P None → All P holders → All P (vacated holders left)
+vacated_keeps P holders None n all = all
+vacated_keeps P holders (Some b) n all = All-set P holders b None n all
+
+pub latest_after_claim : (i : ℕ) (c : Claims) (k : Claim) → k.index ≤ i → All (IsSinceBy i) c.holders → All (IsSinceBy i) (claim c k).after.holders
+latest_after_claim i c k l all =
+    let left = vacated_keeps (IsSinceBy i) c.holders (left_by c k) tt all in
+    holders_after (λ holders. All (IsSinceBy i) holders) c k (claim c k) (claim_case c k) all left (All-set (IsSinceBy i) (without_left c k).holders k.address (Some (holder_by k)) l left)
+
+command_holders : (c : Claims) (a m : ℕ) (b : Bool) → (moved_if b c a m).holders ≡ c.holders
+command_holders c a m true = refl
+command_holders c a m false = refl
+
+pub command_keeps_holders : (c : Claims) (a m : ℕ) → (command c a m).holders ≡ c.holders
+unfolding command
+command_keeps_holders c a m = command_holders c a m (is_obeyed c a)
+
+pub holders_are_dated : HoldersAreDated
+holders_are_dated i c [] all by = all
+holders_are_dated i c (claimed k ∷ older) all by =
+    latest_after_claim i (state_after c older) k by.0 (holders_are_dated i c older all by.1)
+holders_are_dated i c (commanded a m ∷ older) all by =
+    rw (command_keeps_holders (state_after c older) a m) (holders_are_dated i c older all by)
+
+-- an index that was reached stays reached
+since_grows_at : (i j : ℕ) (x : Option Holder) → i ≤ j → IsSinceBy i x → IsSinceBy j x
+since_grows_at i j None l by = tt
+since_grows_at i j (Some h) l by = omega arith
+
+pub since_grows : (i j : ℕ) (holders : List (Option Holder)) → i ≤ j → All (IsSinceBy i) holders → All (IsSinceBy j) holders
+since_grows i j holders l all = λ k d within. since_grows_at i j (get_or holders k d) l (all k d within)

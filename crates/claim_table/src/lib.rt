@@ -1,0 +1,16 @@
+//! Who holds which address of the bus, and which is the gateway's own: address claim of ISO 11783-5.
+#![tactic(auto)]
+
+mod answer;
+mod claiming;
+mod fault;
+pub mod laws;
+mod preset;
+mod table;
+#[cfg(test)]
+mod tests;
+
+pub use answer::{ClaimStep, Holder, OwnAnswer};
+pub use fault::ClaimFault;
+pub use preset::Preset;
+pub use table::ClaimTable;

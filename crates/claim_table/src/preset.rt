@@ -1,0 +1,50 @@
+ghost use Rattle.std.specs.Prelude.{◌≡◌};
+ghost use Rattle.std.specs.List.{list_any};
+
+use n2k_id::Name;
+
+/// A device whose address is known before it claims.
+#[derive(Clone, Copy, Debug, Default, PartialEq, Eq)]
+pub struct Preset {
+    /// 0 to 253.
+    pub address: u8,
+    pub name: Name,
+}
+
+impl Preset {
+    ghost use Rattle.claim_table.specs.Presets.{repeats, shares, takes};
+
+    /// Whether two of them share an address or a NAME.
+    #[tactic(auto, using(crate::proofs::PresetLemmas::repeats_shared, crate::proofs::PresetLemmas::repeats_further, crate::proofs::PresetLemmas::repeats_end))]
+    pub(crate) fn repeat(presets: &[Preset]) -> bool
+        ensures { result ≡ repeats presets.now }
+    {
+        for (place, preset) in presets.iter().enumerate() {
+            if preset.shares_any(&presets[place + 1..]) {
+                return true;
+            }
+        }
+        false
+    }
+
+    /// Whether one of them has this NAME or this address.
+    pub(crate) fn take(presets: &[Preset], name: Name, address: u8) -> bool
+        ensures { result ≡ takes name.0 address presets.now }
+    {
+        presets
+            .iter()
+            .any(|preset| preset.address == address || preset.name == name)
+    }
+
+    fn shares_any(&self, others: &[Preset]) -> bool
+        ensures { result ≡ list_any (shares self.now) others.now }
+    {
+        others.iter().any(|other| self.shares(other))
+    }
+
+    fn shares(&self, other: &Preset) -> bool
+        ensures { result ≡ shares self.now other.now }
+    {
+        self.address == other.address || self.name == other.name
+    }
+}

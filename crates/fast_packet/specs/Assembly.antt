@@ -1,0 +1,71 @@
+-- What a frame does to the assemblies: a limit, and the open ones by key. An assembly's mark is its opener's sequence and length.
+use Rattle.std.specs.Cmp.Lexicographic.{pointwise}
+use Rattle.std.specs.Prelude.{ℕ, ◌+◌, ◌-◌, ◌*◌, ◌/◌, ◌%◌, Bool, ◌&&◌, ◌==◌, nat_eq, nat_le, nat_lt, min, if◌then◌else◌, List, ◌∷◌, length, take, drop, Option, Some, None}
+use Rattle.std.specs.declared.cmp.Ordering.{Ordering}
+use Rattle.slot_views.specs.declared.answers.Kept.{Kept}
+use Rattle.slot_views.specs.Slots.{Entry, SlotMap, is_between, opened, entry_at, released, begun_after, grown_after}
+use Rattle.fast_packet.specs.declared.key.FastKey.{FastKey}
+use Rattle.fast_packet.specs.declared.verdict.Verdict.{Verdict}
+use Rattle.fast_packet.specs.declared.verdict.Verdict.TheVariants.{Short, Opens, Orphan, Again, OutOfOrder, Next}
+use Rattle.fast_packet.specs.FastFrames.{counter_of, sequence_of, length_of, need_of, is_opener, is_no_later, first_piece}
+
+abbrev pub mark_of : ℕ → ℕ → ℕ
+mark_of sequence len = 256 * sequence + len
+
+abbrev pub opener_sequence : Entry → ℕ
+opener_sequence e = e.mark / 256
+
+abbrev pub opener_length : Entry → ℕ
+opener_length e = e.mark % 256
+
+-- how many bytes the assembly still waits for
+abbrev pub left_of : Entry → ℕ
+left_of e = opener_length e - length e.bytes
+
+-- an assembly by what is told of it; when its last frame came plays no part in what the next one is
+abbrev pub as_entry : Kept → List ℕ → Entry
+as_entry kept held = record { bytes = held; next = kept.next; need = kept.need; last = 0; gap = 0; mark = kept.mark }
+
+-- the assembly is of that source: its key lies from the source's least one to its greatest
+abbrev pub is_from : (FastKey → FastKey → Ordering) → ℕ → FastKey × Entry → Bool
+is_from cmp source e = is_between cmp (record { source = source; pgn = 0 }) (record { source = source; pgn = 4294967295 }) e
+
+-- the last frame that was added, where it was no frame 0
+abbrev pub last_frame : Entry → List ℕ
+last_frame e = (32 * opener_sequence e + (e.next - 1)) ∷ drop (length e.bytes - 7) e.bytes
+
+-- the frame is a repeat, has the next counter and the sequence, and holds what it owes
+abbrev pub is_again : Entry → List ℕ → Bool
+is_again e bytes = (length bytes == 8) && (nat_le 2 e.next && (nat_lt e.next e.need && pointwise nat_eq bytes (last_frame e)))
+
+abbrev pub follows : Entry → List ℕ → Bool
+follows e bytes = (counter_of bytes == e.next) && (sequence_of bytes == opener_sequence e)
+
+abbrev pub is_enough : Entry → List ℕ → Bool
+is_enough e bytes = nat_le (1 + min 7 (left_of e)) (length bytes)
+
+-- what a frame is to the assembly of its key, in the order in which it is tried
+abbrev pub later_verdict : Option Entry → List ℕ → Verdict
+later_verdict None bytes = Orphan
+later_verdict (Some e) bytes =
+    if is_again e bytes then Again else if follows e bytes then (if is_enough e bytes then Next (1 + min 7 (left_of e)) else Short) else OutOfOrder
+
+abbrev pub verdict : Option Entry → List ℕ → Verdict
+verdict o bytes = if is_opener bytes then Opens else if is_no_later bytes then Short else later_verdict o bytes
+
+-- the assembly that an opener opens
+abbrev pub opening : List ℕ → ℕ → Entry
+opening bytes moment = opened (first_piece bytes) (need_of (length_of bytes)) moment 750000 (mark_of (sequence_of bytes) (length_of bytes))
+
+module _ (cmp : FastKey → FastKey → Ordering) (s : SlotMap FastKey) (k : FastKey) (bytes : List ℕ) (moment : ℕ) where
+  -- the assemblies after a frame, by what it is
+  abbrev pub fed_by : Verdict → SlotMap FastKey
+  fed_by Short = released cmp s k
+  fed_by Opens = begun_after cmp s k (opening bytes moment)
+  fed_by Orphan = s
+  fed_by Again = s
+  fed_by OutOfOrder = released cmp s k
+  fed_by (Next end) = grown_after cmp s k (counter_of bytes) (take (end - 1) (drop 1 bytes)) moment 750000
+
+  abbrev pub fed_after : SlotMap FastKey
+  fed_after = fed_by (verdict (entry_at cmp s k) bytes)

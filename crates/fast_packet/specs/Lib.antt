@@ -1,0 +1,7 @@
+pub mod FastFrames
+pub mod FastRuns
+pub mod Assembly
+pub mod Answers
+pub mod Rows
+pub mod Verdicts
+pub mod Split

@@ -1,0 +1,37 @@
+//! What the assembler answers.
+
+use slot_views::View;
+
+/// Why a frame was refused.
+#[derive(Clone, Copy, Debug, PartialEq, Eq)]
+pub enum FastRefusal {
+    /// A later frame of another sequence, or not the next one. The assembly ended.
+    Order,
+    /// A later frame whose message isn't open.
+    Orphan,
+    /// No byte, a length of 0 or above 223, or fewer bytes than the frame owes. An open assembly ended.
+    Length,
+    /// A frame 0 while as many assemblies are open as the limit.
+    Full,
+}
+
+/// What became of a frame.
+#[derive(Clone, Copy, Debug, PartialEq, Eq)]
+pub enum FastOutcome<'a> {
+    /// It was added, and more are to come.
+    Held,
+    /// It completed this message, whose assembly is closed.
+    Complete(View<'a>),
+    /// It is the last frame again, as some adapters send it. Nothing changed.
+    Repeat,
+    /// It was refused.
+    Refused(FastRefusal),
+}
+
+/// The answer to a frame.
+#[derive(Clone, Copy, Debug, PartialEq, Eq)]
+pub struct FastFed<'a> {
+    /// A frame 0 came while the message before it was open, which is given up.
+    pub restarted: bool,
+    pub outcome: FastOutcome<'a>,
+}

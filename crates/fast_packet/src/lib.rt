@@ -1,0 +1,17 @@
+//! Fast packet: messages of up to 223 bytes in frames of 8.
+#![tactic(auto)]
+
+mod answers;
+mod assembler;
+mod frames;
+mod key;
+mod splitting;
+#[cfg(test)]
+mod tests;
+mod verdict;
+
+pub use answers::{FastFed, FastOutcome, FastRefusal};
+pub use assembler::FastAssembler;
+pub use key::FastKey;
+pub use slot_views::View;
+pub use splitting::{FrameList, split};

@@ -1,0 +1,18 @@
+//! What a run of pieces is, once for every protocol that sends a message in pieces.
+//!
+//! A protocol gives `Rules`: which piece opens a run and how many pieces it has, which piece is the next one, which one is a
+//! repeat, and how long each may take. From these come the prefixes and the runs among the pieces of one sender, and the laws below.
+#![tactic(auto)]
+
+ghost use Rattle.runs.specs.Runs.{Rules, IsLawful};
+ghost use Rattle.runs.specs.Laws.{OneStep, OneSuffix};
+
+/// One more piece, or a later moment, does to the open prefix what the rules say of the pieces accepted so far alone.
+pub fn one_step<P>(_pieces: &[P])
+    ensures { (rules : Rules P) → IsLawful rules → OneStep rules }
+{}
+
+/// Among the pieces of one sender at most one prefix is open, and at most one run ends with the newest piece.
+pub fn one_suffix<P>(_pieces: &[P])
+    ensures { (rules : Rules P) → IsLawful rules → OneSuffix rules }
+{}

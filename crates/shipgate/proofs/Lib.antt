@@ -1,0 +1,12 @@
+pub mod Lines
+pub mod Moves
+pub mod LineReaderLaws
+pub mod Writing
+pub mod HeadingLaws
+pub mod Numbers
+pub mod ProgressLaws
+pub mod StandLaws
+pub mod ConvertLaws
+pub mod Causes
+pub mod EndLaws
+pub mod WordLaws

@@ -1,0 +1,7 @@
+use Rattle.std.proofs.Common.{sym, ◌∙◌, arith}
+use Rattle.std.specs.Prelude.{string_bytes, codes}
+use Rattle.shipgate.proofs.WordLaws.{map_one, same_bytes}
+use Rattle.shipgate.proofs.words.command_of.Goals as goal
+
+pub returns-then-eq : goal.returns-then-eq
+returns-then-eq c = map_one string_bytes c.args.words.now c.word-item.result (codes "convert") (omega arith) c.word-item.is (sym c.as_str.ensures.value ∙ same_bytes c.as_str.result.now (codes "convert") c.if-eq.ensures)

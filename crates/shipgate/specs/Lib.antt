@@ -1,0 +1,9 @@
+pub mod Lines
+pub mod LineReader
+pub mod Writing
+pub mod Capture
+pub mod Heading
+pub mod Convert
+pub mod Progress
+pub mod Words
+pub mod Run

@@ -1,0 +1,66 @@
+//! The top call: words in, a status out.
+ghost use Rattle.std.specs.Prelude.{◌≡◌, ◌≤◌, ◌↔◌, ◌^◌, List, ℕ, Some, length, map, string_bytes};
+ghost use Rattle.gate_outside.specs.Faults.{Rose};
+ghost use Rattle.shipgate.specs.Convert.{IsLineText};
+ghost use Rattle.shipgate.specs.Progress.{Finishes, StopsReading, StopsWriting, PassesLimit, Ends};
+ghost use Rattle.shipgate.specs.Words.{IsForm, IsNoForm, usage_line};
+ghost use Rattle.shipgate.specs.Run.{Offers, IsStatus, status_of};
+
+use crate::convert::convert;
+use crate::ending::Ending;
+use crate::words::{Command, USAGE, command_of};
+use crate::writer::send;
+use gate_outside::{Sink, Source};
+
+// The status of a command that ended so.
+fn status_of(ending: Ending) -> u8
+    ensures { result ≡ status_of ending }
+{
+    match ending {
+        Ending::Done => 0,
+        Ending::SinkFailed => 4,
+        Ending::SourceFailed => 5,
+        Ending::TooLong => 8,
+    }
+}
+
+/// Runs the command that the words name, without the program's own name, and answers its status.
+///
+/// | Status | Where |
+/// |---|---|
+/// | 0 | the input was read to its end, and all of its text was written |
+/// | 2 | exactly where the words are no command; the usage line was offered to the sink |
+/// | 4 | only where the sink's faults rose in this run; what was written is some front of the text |
+/// | 5 | only where the source's faults rose in this run; the text of the complete lines was written |
+/// | 8 | exactly where more than 2^40 bytes were read, and no call failed before |
+pub fn run<S: Source, K: Sink>(words: &[String], input: &mut S, out: &mut K) -> u8
+    ensures status { IsStatus result }
+
+    // What each status says of the bytes that were read and written.
+    ensures usage { (result ≡ 2) ↔ IsNoForm (map string_bytes words.now) }
+    ensures offers { result ≡ 2 → Offers (K.taken out.old) (K.taken out.new) (K.fault_count out.old) (K.fault_count out.new) usage_line }
+    ensures done { result ≡ 0 → Finishes IsLineText (S.left input.old) (S.left input.new) (K.taken out.old) (K.taken out.new) }
+    ensures sink_failed { result ≡ 4 → StopsWriting IsLineText (S.left input.old) (S.left input.new) (K.taken out.old) (K.taken out.new) }
+    ensures source_failed { result ≡ 5 → StopsReading IsLineText (S.left input.old) (S.left input.new) (K.taken out.old) (K.taken out.new) }
+    ensures too_long { result ≡ 8 → PassesLimit IsLineText (S.left input.old) (S.left input.new) (K.taken out.old) (K.taken out.new) }
+
+    // A failure has its cause in a count of faults.
+    ensures sink_cause { result ≡ 4 → Rose (K.fault_count out.old) (K.fault_count out.new) }
+    ensures source_cause { result ≡ 5 → Rose (S.fault_count input.old) (S.fault_count input.new) }
+
+    // Where the words are no command, the source isn't used.
+    ensures unused { result ≡ 2 → input.new ≡ input.old }
+
+    // Where nothing fails and the input isn't too long, the work is done.
+    ensures complete { (bytes : List ℕ) → IsForm (map string_bytes words.now) Command.Convert → S.left input.old ≡ Some bytes → length bytes ≤ 2 ^ 40
+        → (Rose (S.fault_count input.old) (S.fault_count input.new) → ⊥) → (Rose (K.fault_count out.old) (K.fault_count out.new) → ⊥) → result ≡ 0 }
+{
+    match command_of(words) {
+        None => {
+            // The words decide the status, whatever becomes of the line.
+            let _ = send(USAGE, out);
+            2
+        }
+        Some(Command::Convert) => status_of(convert(input, out)),
+    }
+}

@@ -1,0 +1,30 @@
+//! The words of the command line.
+ghost use Rattle.std.specs.Prelude.{map, MatchOption, string_bytes};
+ghost use Rattle.shipgate.specs.Words.{IsForm, IsNoForm};
+
+/// A command of the program.
+#[derive(Clone, Copy, Debug, PartialEq, Eq)]
+pub enum Command {
+    /// Turns a capture into sentences.
+    Convert,
+}
+
+/// What is written where the words are no command.
+pub(crate) const USAGE: &[u8] =
+    b"usage: shipgate convert | show | check CONFIG | replay CONFIG | serve CONFIG TURNS | demo SEED COUNT\n";
+
+/// The command that the words name.
+pub(crate) fn command_of(words: &[String]) -> Option<Command>
+    ensures { MatchOption result (IsNoForm (map string_bytes words.now)) (IsForm (map string_bytes words.now)) }
+{
+    match words {
+        [word] => {
+            if word.as_str() == "convert" {
+                Some(Command::Convert)
+            } else {
+                None
+            }
+        }
+        _ => None,
+    }
+}

@@ -1,0 +1,85 @@
+//! Gathers what is written, so that many short texts cost one call.
+ghost use Rattle.std.specs.Prelude.{[]};
+ghost use Rattle.gate_outside.specs.Faults.{HasCause};
+ghost use Rattle.shipgate.specs.Writing.{Writes};
+
+use arrayvec::ArrayVec;
+use gate_outside::{Failed, Sink};
+use std::marker::Model;
+
+/// How many bytes may wait.
+pub(crate) const ROOM: usize = 32768;
+
+/// Bytes that wait to be written.
+#[derive(Drop)]
+pub(crate) struct Writer {
+    waiting: ArrayVec<u8, ROOM>,
+}
+
+impl Model for Writer {
+    ghost use Rattle.std.specs.Prelude.{ℕ, List};
+
+    ghost Value = { List ℕ };
+
+    ghost view = { λ w. w.waiting.items };
+}
+
+/// Writes the whole piece.
+pub(crate) fn send<K: Sink>(piece: &[u8], out: &mut K) -> Result<(), Failed>
+    ensures sent { Writes (K.taken out.old) (K.taken out.new) piece.now [] result }
+    ensures cause { HasCause (K.fault_count out.old) (K.fault_count out.new) result }
+{
+    let mut rest = piece;
+    while !rest.is_empty() {
+        match out.write(rest) {
+            Ok(count) => rest = &rest[count..],
+            Err(Failed) => return Err(Failed),
+        }
+    }
+    Ok(())
+}
+
+impl Writer {
+    ghost use Rattle.std.specs.Prelude.{◌≡◌, ◌≤◌, [], ◌++◌, length, OnOk};
+    ghost use Rattle.gate_outside.specs.Faults.{HasCause};
+    ghost use Rattle.shipgate.specs.Writing.{Writes};
+
+    pub(crate) fn new() -> Self
+        ensures { result ≡ [] }
+    {
+        Writer {
+            waiting: ArrayVec::new(),
+        }
+    }
+
+    /// Writes all that waits.
+    pub(crate) fn flush<K: Sink>(&mut self, out: &mut K) -> Result<(), Failed>
+        ensures sent { Writes (K.taken out.old) (K.taken out.new) self.old [] result }
+        ensures none { OnOk result (self.new ≡ []) }
+        ensures cause { HasCause (K.fault_count out.old) (K.fault_count out.new) result }
+    {
+        match send(self.waiting.as_slice(), out) {
+            Ok(()) => {
+                self.waiting.clear();
+                Ok(())
+            }
+            Err(Failed) => Err(Failed),
+        }
+    }
+
+    /// Lets a text wait behind what waits, which is written first where there is no room for both.
+    pub(crate) fn put<K: Sink>(&mut self, text: &[u8], out: &mut K) -> Result<(), Failed>
+        requires { length text.now ≤ ROOM }
+        ensures sent { Writes (K.taken out.old) (K.taken out.new) (self.old ++ text.now) self.new result }
+        ensures cause { HasCause (K.fault_count out.old) (K.fault_count out.new) result }
+    {
+        if text.len() > self.waiting.remaining_capacity() {
+            match self.flush(out) {
+                Ok(()) => {}
+                Err(Failed) => return Err(Failed),
+            }
+        }
+        let _ = self.waiting.try_extend_from_slice(text);
+        Ok(())
+    }
+}

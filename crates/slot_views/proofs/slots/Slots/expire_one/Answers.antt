@@ -1,0 +1,26 @@
+use Rattle.std.proofs.Common.{◌≡◌, refl, sym, ◌∙◌, ap, option_map}
+use Rattle.std.specs.List.{remove}
+use Rattle.slot_views.specs.Answers.{ended_of}
+use Rattle.slot_views.specs.Slots.{SlotMap, has_expired}
+use Rattle.slot_views.specs.Shelf.{entries_of}
+use Rattle.slot_views.proofs.Sound.{seen_is}
+use Rattle.slot_views.proofs.Steps.{without_first_at, without_none, find_none, ended_first}
+use Rattle.slot_views.proofs.slots.Slots.expire_one.Goals as goal
+
+pub returns-in-Some-clause-after : goal.returns-in-Some-clause-after
+returns-in-Some-clause-after g c =
+    let limit : c.end.new.self.limit ≡ c.self.inside.shelf.limit = c.end.ensures.limit ∙ ap (λ (m : SlotMap g.row.K.Denot). m.limit) c.in-Some.ensures.same in
+    rw (← c.self.view_is)
+    (seen_is c.self.inside.shelf c.end.new.self _ limit
+    (ap entries_of (c.end.ensures.slots ∙ ap (λ xs. remove xs c.in-Some.at) c.in-Some.ensures.slots) ∙ sym (without_first_at (has_expired c.args.moment) c.self.inside.shelf.slots.items c.in-Some.at c.in-Some.ensures.found)))
+
+pub returns-in-Some-clause-answer : goal.returns-in-Some-clause-answer
+returns-in-Some-clause-answer g c =
+    rw (← c.self.view_is) (ended_first (has_expired c.args.moment) c.self.inside.shelf.slots.items c.in-Some.at c.end.result c.in-Some.ensures.found (λ d. rw (← c.in-Some.ensures.slots) (c.end.ensures.ended d)))
+
+pub returns-in-None-clause-after : goal.returns-in-None-clause-after
+returns-in-None-clause-after g c =
+    rw (← c.self.view_is) (c.in-None.ensures.same ∙ seen_is c.self.inside.shelf c.self.inside.shelf _ refl (sym (without_none (has_expired c.args.moment) c.self.inside.shelf.slots.items c.in-None.ensures.absent)))
+
+pub returns-in-None-clause-answer : goal.returns-in-None-clause-answer
+returns-in-None-clause-answer g c = rw (← c.self.view_is) (sym (ap (option_map ended_of) (find_none (has_expired c.args.moment) c.self.inside.shelf.slots.items c.in-None.ensures.absent)))

@@ -1,0 +1,4 @@
+pub mod Slots
+pub mod Shelf
+pub mod Answers
+pub mod Rows

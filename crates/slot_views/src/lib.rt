@@ -1,0 +1,18 @@
+//! Keyed slots, each holding one message in the making, which lend the finished bytes where they lie.
+//!
+//! `Slots` is a map from key to entry with a limit. All its memory is reserved when it is made: each entry has a buffer for the
+//! longest message, and a finished message is lent from that buffer without a copy.
+#![tactic(auto)]
+
+mod answers;
+mod buffers;
+mod growth;
+mod opening;
+mod shelf;
+mod slot;
+mod slots;
+#[cfg(test)]
+mod tests;
+
+pub use answers::{Begun, Ended, Grown, Kept, View};
+pub use slots::Slots;

@@ -1,0 +1,108 @@
+use crate::{Begun, Ended, Grown, Kept, Slots, View};
+use std::test::Fail;
+
+type Small = Slots<u8, 8, 4>;
+
+#[test]
+fn entries_of_two_keys_grow_apart_and_lend_their_bytes(rt: HostRuntime) -> Result<(), Fail> {
+    let mut slots = Small::new(rt.alloc(), 2)?;
+    assert!(rt;
+        matches!(
+            slots.begin(7, b"ab", 2, 100, 50, 1),
+            Begun::Held { replaced: false }
+        )
+    );
+    assert!(rt;
+        matches!(
+            slots.begin(4, b"xy", 2, 100, 50, 2),
+            Begun::Held { replaced: false }
+        )
+    );
+    assert_eq!(rt; slots.held_bytes(4).unwrap_or(b""), b"xy".as_slice());
+    assert_eq!(rt;
+        slots.kept(7),
+        Some(Kept {
+            next: 1,
+            need: 2,
+            length: 2,
+            mark: 1
+        })
+    );
+    match slots.grow(7, 1, b"cde", 120, 50) {
+        Grown::Complete(View { bytes, mark }) => {
+            assert_eq!(rt; bytes, b"abcde".as_slice());
+            assert_eq!(rt; mark, 1);
+        }
+        _ => assert!(rt; false, "not complete"),
+    }
+    assert_eq!(rt; slots.count(), 1);
+    assert_eq!(rt;
+        slots.kept(4),
+        Some(Kept {
+            next: 1,
+            need: 2,
+            length: 2,
+            mark: 2
+        })
+    );
+    Ok(())
+}
+
+#[test]
+fn a_full_map_refuses_new_keys_alone(rt: HostRuntime) -> Result<(), Fail> {
+    let mut slots = Small::new(rt.alloc(), 1)?;
+    assert!(rt;
+        matches!(
+            slots.begin(7, b"ab", 2, 100, 50, 1),
+            Begun::Held { replaced: false }
+        )
+    );
+    assert!(rt; matches!(slots.begin(8, b"ab", 2, 100, 50, 1), Begun::Full));
+    assert!(rt;
+        matches!(
+            slots.begin(7, b"cd", 2, 110, 50, 1),
+            Begun::Held { replaced: true }
+        )
+    );
+    match slots.begin(7, b"ef", 1, 120, 50, 3) {
+        Begun::Complete { replaced, view } => {
+            assert!(rt; replaced);
+            assert_eq!(rt; view.bytes, b"ef".as_slice());
+        }
+        _ => assert!(rt; false, "not complete"),
+    }
+    assert!(rt;
+        matches!(
+            slots.begin(8, b"ab", 2, 100, 50, 1),
+            Begun::Held { replaced: false }
+        )
+    );
+    assert_eq!(rt; slots.limit(), 1);
+    assert!(rt; slots.give_up(8));
+    assert!(rt; !slots.give_up(8));
+    Ok(())
+}
+
+#[test]
+fn another_number_ends_the_entry(rt: HostRuntime) -> Result<(), Fail> {
+    let mut slots = Small::new(rt.alloc(), 1)?;
+    assert!(rt; matches!(slots.begin(7, b"ab", 2, 100, 50, 1), Begun::Held { .. }));
+    assert!(rt; matches!(slots.grow(7, 2, b"c", 110, 50), Grown::NotNext(1)));
+    assert!(rt; matches!(slots.grow(7, 1, b"c", 110, 50), Grown::Absent));
+    Ok(())
+}
+
+#[test]
+fn an_entry_expires_after_its_gap_and_the_least_key_first(rt: HostRuntime) -> Result<(), Fail> {
+    let mut slots = Small::new(rt.alloc(), 3)?;
+    for key in [9, 3, 6] {
+        assert!(rt; matches!(slots.begin(key, b"ab", 2, 100, 50, 5), Begun::Held { .. }));
+    }
+    assert_eq!(rt; slots.expire_one(150), None);
+    assert_eq!(rt; slots.expire_one(151), Some(Ended { key: 3, mark: 5 }));
+    assert_eq!(rt; slots.drop_between(7, 9), Some(Ended { key: 9, mark: 5 }));
+    assert_eq!(rt; slots.drop_between(7, 9), None);
+    assert_eq!(rt; slots.expire_one(151), Some(Ended { key: 6, mark: 5 }));
+    assert_eq!(rt; slots.expire_one(151), None);
+    Ok(())
+}
