@@ -1,2 +1,4 @@
 pub mod Counts
 pub mod Verdicts
+pub mod Lawful
+pub mod SplitRuns
