@@ -2,3 +2,4 @@ pub mod Counts
 pub mod Verdicts
 pub mod Lawful
 pub mod SplitRuns
+pub mod Assemblies
