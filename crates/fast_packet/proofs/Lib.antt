@@ -1,2 +1,5 @@
 pub mod Counts
 pub mod Verdicts
+pub mod Lawful
+pub mod SplitRuns
+pub mod Assemblies

@@ -1,6 +1,6 @@
 -- What a fast packet is: a run of frames of one sender and PGN.
 use Rattle.std.specs.Cmp.Lexicographic.{pointwise}
-use Rattle.std.specs.Prelude.{ℕ, ◌+◌, Bool, false, ◌&&◌, ◌==◌, nat_eq, nat_le, nat_lt, min, List, [], ◌∷◌, ◌++◌, length}
+use Rattle.std.specs.Prelude.{ℕ, ◌+◌, ◌-◌, Bool, false, ◌&&◌, ◌==◌, nat_eq, nat_le, nat_lt, min, List, [], ◌∷◌, ◌++◌, length}
 use Rattle.runs.specs.Runs.{Rules, opener_of}
 use Rattle.fast_packet.specs.FastFrames.{counter_of, sequence_of, length_of, need_of, left_after, is_opener, first_piece, later_piece}
 
@@ -22,7 +22,8 @@ is_next (y ∷ ys) x =
 abbrev pub is_repeat : List FastPiece → FastPiece → Bool
 is_repeat [] x = false
 is_repeat (y ∷ ys) x =
-    (length x.bytes == 8) && (nat_le 2 (length (y ∷ ys)) && (nat_lt (length (y ∷ ys)) (need_of (length_of (opener_of y ys).bytes)) && pointwise nat_eq x.bytes y.bytes))
+    let k = length (y ∷ ys) in
+    (counter_of x.bytes == (k - 1)) && ((length x.bytes == 8) && (nat_le 2 k && (nat_lt k (need_of (length_of (opener_of y ys).bytes)) && pointwise nat_eq x.bytes y.bytes)))
 
 -- each frame may take 750 ms
 abbrev pub fast_rules : Rules FastPiece

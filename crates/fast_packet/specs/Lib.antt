@@ -5,3 +5,4 @@ pub mod Answers
 pub mod Rows
 pub mod Verdicts
 pub mod Split
+pub mod Laws

@@ -5,6 +5,7 @@ mod answers;
 mod assembler;
 mod frames;
 mod key;
+mod laws;
 mod splitting;
 #[cfg(test)]
 mod tests;
@@ -13,5 +14,6 @@ mod verdict;
 pub use answers::{FastFed, FastOutcome, FastRefusal};
 pub use assembler::FastAssembler;
 pub use key::FastKey;
+pub use laws::{assembly_is_open_prefix, fast_runs, split_is_a_run};
 pub use slot_views::View;
 pub use splitting::{FrameList, split};

@@ -1,0 +1,64 @@
+-- What is promised of fast packets.
+use Rattle.std.specs.Prelude.{◌≡◌, ℕ, ◌-◌, true, if◌then◌else◌, List, [], ◌∷◌, length, take, drop, map, reverse, Option, Some, None}
+use Rattle.std.specs.List.{AllByRecursion}
+use Rattle.runs.specs.Runs.{is_whole, accepted, opener_of}
+use Rattle.slot_views.specs.Slots.{Entry, grown, is_complete, is_expired}
+use Rattle.fast_packet.specs.declared.verdict.Verdict.{Verdict}
+use Rattle.fast_packet.specs.declared.verdict.Verdict.TheVariants.{Short, Opens, Orphan, Again, OutOfOrder, Next}
+use Rattle.fast_packet.specs.FastFrames.{sequence_of, length_of, need_of}
+use Rattle.fast_packet.specs.FastRuns.{FastPiece, fast_rules, joined, payload}
+use Rattle.fast_packet.specs.Assembly.{mark_of, verdict, opening}
+
+-- the frames as they come one after another within a moment, the newest first
+abbrev pub pieces_of : List (List ℕ) → List FastPiece
+pieces_of frames = reverse (map (λ f. record { moment = 0; bytes = f; admitted = true }) frames)
+
+-- the frames are a run of the payload, none of them a repeat, each of 8 bytes, with that sequence
+pub record IsRunOf (sequence : ℕ) (p : List ℕ) (frames : List (List ℕ)) : Type 0 where
+  pub run : accepted fast_rules (pieces_of frames) ≡ Some (pieces_of frames)
+  pub whole : is_whole fast_rules (pieces_of frames) ≡ true
+  pub carries : payload (pieces_of frames) ≡ p
+  pub sequence_is : AllByRecursion (λ f. (sequence_of f ≡ sequence) × (length f ≡ 8)) frames
+
+-- the assembly that the frames accepted so far make
+abbrev pub assembly_of : List FastPiece → Option Entry
+assembly_of [] = None
+assembly_of (x ∷ xs) =
+    let first = (opener_of x xs).bytes in
+    Some (record {
+      bytes = joined (length_of first) (x ∷ xs);
+      next = length (x ∷ xs);
+      need = need_of (length_of first);
+      last = x.moment;
+      gap = 750000;
+      mark = mark_of (sequence_of first) (length_of first);
+    })
+
+abbrev pub assembly_at : Option (List FastPiece) → Option Entry
+assembly_at None = None
+assembly_at (Some acc) = assembly_of acc
+
+-- what a frame leaves of the assembly of its key, and what a later moment does
+abbrev pub if_incomplete : Entry → Option Entry
+if_incomplete e = if is_complete e then None else Some e
+
+abbrev pub grown_by : ℕ → FastPiece → Option Entry → Option Entry
+grown_by end x None = None
+grown_by end x (Some e) = if_incomplete (grown e (take (end - 1) (drop 1 x.bytes)) x.moment 750000)
+
+abbrev pub left_by : Verdict → FastPiece → Option Entry → Option Entry
+left_by Short x o = None
+left_by Opens x o = if x.admitted then if_incomplete (opening x.bytes x.moment) else None
+left_by Orphan x o = o
+left_by Again x o = o
+left_by OutOfOrder x o = None
+left_by (Next end) x o = grown_by end x o
+
+abbrev pub left_at : Option Entry → ℕ → Option Entry
+left_at None m = None
+left_at (Some e) m = if is_expired m e then None else Some e
+
+-- the assembly of one key after its frames
+unfoldable pub assembly_after : List FastPiece → Option Entry
+assembly_after [] = None
+assembly_after (x ∷ h) = let o = left_at (assembly_after h) x.moment in left_by (verdict o x.bytes) x o

@@ -1,0 +1,26 @@
+//! What is promised of fast packets, whoever assembles them.
+ghost use Rattle.runs.specs.Laws.{OneStep, OneSuffix};
+ghost use Rattle.fast_packet.specs.FastRuns.{FastPiece, fast_rules};
+ghost use Rattle.std.specs.Prelude.{◌≡◌, ℕ, List, ◌≤◌, length};
+ghost use Rattle.fast_packet.specs.Split.{frames_of};
+ghost use Rattle.fast_packet.specs.Laws.{IsRunOf, assembly_after, assembly_at};
+ghost use Rattle.std.specs.List.{AllByRecursion};
+ghost use Rattle.runs.specs.Runs.{open_of};
+
+/// The frames of one sender and PGN have one open prefix at most, and one more frame, or a later moment, does to it what the
+/// rules of fast packets say of the frames accepted so far alone.
+pub fn fast_runs()
+    ensures step { OneStep fast_rules }
+    ensures suffix { OneSuffix fast_rules }
+{}
+
+/// The frames that `split` appends are a run of its payload, with its sequence, and of no other payload.
+pub fn split_is_a_run()
+    ensures { (sequence : ℕ) (p : List ℕ) → sequence ≤ 7 → 1 ≤ length p → length p ≤ 223 → IsRunOf sequence p (frames_of sequence p) }
+{}
+
+/// Whatever frames of one key come, its assembly is that of the open prefix among them: its fields are those of the frames
+/// accepted so far.
+pub fn assembly_is_open_prefix()
+    ensures { (h : List FastPiece) → AllByRecursion (λ x. length x.bytes ≤ 8) h → assembly_after h ≡ assembly_at (open_of fast_rules h) }
+{}
