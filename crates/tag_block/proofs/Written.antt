@@ -1,0 +1,122 @@
+-- A block that is written is in the grammar.
+use Rattle.std.proofs.Common.{◌≡◌, ℕ, ◌+◌, ◌-◌, ◌*◌, ◌/◌, ◌%◌, ◌<◌, ◌≤◌, true, List, [], ◌∷◌, take, drop, All, Option, Some, None, refl, sym, ap, subst, ◌∙◌, arith, rules}
+use Rattle.std.specs.Prelude.{IfSome, option_map}
+use Rattle.std.specs.Char.{digit_value}
+use Rattle.std.specs.Fmt.{decimal}
+use Rattle.std.specs.List.{list_all, fold, flat_map}
+use Rattle.std.proofs.lemmas.Bool.{and_from}
+use Rattle.std.proofs.lemmas.Fmt.{decimal_nonempty, length-decimal-le, digits_decimal, digits_value-decimal}
+use Rattle.std.proofs.lemmas.List.{append-nil, take-append-drop}
+use Rattle.std.proofs.lemmas.List.Concat.{flat_map-cons}
+use Rattle.std.proofs.lemmas.List.Elements.{All-nil, All-cons}
+use Rattle.std.proofs.lemmas.Str.Parse.{IsNumeralModel, numerals_by_fold}
+use Rattle.sentence_text.specs.Names.{IsSfi}
+use Rattle.sentence_text.specs.Text.{is_capital, is_digit}
+use Rattle.sentence_text.proofs.Bytes.{all_weaker, all_append}
+use Rattle.tag_block.specs.declared.group_part.GroupPart.{GroupPart}
+use Rattle.tag_block.specs.declared.writing.TagParts.{TagParts}
+use Rattle.tag_block.specs.Bytes.{is_value_byte}
+use Rattle.tag_block.specs.Numbers.{number, IsNumber}
+use Rattle.tag_block.specs.Tag.{Parameter, IsParameter, content, xor_of, IsBlock, block_text, parameters, Standing, stands, nothing, standing, IsTag, IsGroupOf, IsCountOf}
+use Rattle.tag_block.specs.Writing.{IsWritable, IsWritableGroup, group_parameter, source_parameter, count_parameter, capital_digit, summed, block_with, block_of, said_by}
+
+own : IsNumeralModel (λ ds. list_all is_digit ds ≡ true) number
+own = numerals_by_fold (λ ds. list_all is_digit ds ≡ true) (search rules) (λ n ds. fold (λ m c. m * 10 + (c - 48)) n ds) (search rules)
+
+number_is : (n most : ℕ) → n ≤ 999 → 3 ≤ most → IsNumber most n (decimal n)
+number_is n most small more = record {
+  some = decimal_nonempty n (omega arith);
+  few = omega (arith, length-decimal-le 3 n (omega arith) (omega arith) (omega arith));
+  digits = digits_decimal own n (omega arith);
+  value = sym (digits_value-decimal own n (omega arith));
+}
+
+digit_is_value : (c : ℕ) → is_digit c ≡ true → is_value_byte c ≡ true
+digit_is_value c h = grind arith
+
+capital_is_value : (c : ℕ) → is_capital c ≡ true → is_value_byte c ≡ true
+capital_is_value c h = grind arith
+
+decimal_is_value : (n : ℕ) → n ≤ 999 → list_all is_value_byte (decimal n) ≡ true
+decimal_is_value n small = all_weaker is_digit is_value_byte digit_is_value (decimal n) (digits_decimal own n (omega arith))
+
+one_digit_value : (n : ℕ) → n ≤ 9 → is_value_byte (48 + n) ≡ true
+one_digit_value n small = grind arith
+
+digit_value-capital_digit : (n : ℕ) → n < 16 → digit_value (capital_digit n) ≡ n
+digit_value-capital_digit n small = grind arith
+
+sfi_is_value : (text : List ℕ) → IsSfi text → list_all is_value_byte text ≡ true
+sfi_is_value text h =
+    let letters = all_weaker is_capital is_value_byte capital_is_value (take 2 text) h.letters in
+    let digits = all_weaker is_digit is_value_byte digit_is_value (drop 2 text) h.digits in
+    subst (λ (x : List ℕ). list_all is_value_byte x ≡ true) (take-append-drop 2 text) (all_append is_value_byte (take 2 text) (drop 2 text) letters digits)
+
+group_is : (part : GroupPart) → IsWritableGroup part → IsParameter (group_parameter part)
+group_is part h = record {
+  some = omega arith;
+  code = refl;
+  value = and_from (is_value_byte (48 + part.number)) _ (one_digit_value part.number (omega (arith, h.within, h.most)))
+      (and_from (is_value_byte (48 + part.total)) _ (one_digit_value part.total h.most) (decimal_is_value part.code (omega (arith, h.small))));
+}
+
+source_is : (source : List ℕ) → IsSfi source → IsParameter (source_parameter source)
+source_is source h = record { some = omega arith; code = refl; value = sfi_is_value source h }
+
+count_is : (count : ℕ) → count ≤ 999 → IsParameter (count_parameter count)
+count_is count small = record { some = omega arith; code = refl; value = decimal_is_value count small }
+
+summed_is : (first : Parameter) (others : List Parameter) → IsParameter first → All IsParameter others → xor_of (content first others) < 256 → IsBlock (summed first others)
+summed_is first others h hs byte =
+    let sum = xor_of (content first others) in
+    let high = digit_value-capital_digit (sum / 16) (omega arith) in
+    let low = digit_value-capital_digit (sum % 16) (omega arith) in
+    record { first = h; others = hs; high_digit = omega (arith, high); low_digit = omega (arith, low); sum = omega (arith, high, low) }
+
+block_is : (group : Option GroupPart) (source : List ℕ) (count : ℕ) → IfSome group IsWritableGroup → count ≤ 999 → IsSfi source
+    → xor_of (content (block_with group source count).first (block_with group source count).others) < 256 → IsBlock (block_with group source count)
+block_is None source count h small sfi byte =
+    summed_is (source_parameter source) (count_parameter count ∷ []) (source_is source sfi) (All-cons IsParameter (count_parameter count) [] (count_is count small) (All-nil IsParameter)) byte
+block_is (Some part) source count h small sfi byte =
+    summed_is (group_parameter part) (source_parameter source ∷ count_parameter count ∷ []) (group_is part h)
+    (All-cons IsParameter (source_parameter source) (count_parameter count ∷ []) (source_is source sfi) (All-cons IsParameter (count_parameter count) [] (count_is count small) (All-nil IsParameter))) byte
+
+abbrev standing_with : Option GroupPart → List ℕ → ℕ → Standing
+standing_with group source count = record { source = Some source; destination = None; group = option_map (λ part. (group_parameter part).value) group; count = Some (decimal count) }
+
+stands_with : (group : Option GroupPart) (source : List ℕ) (count : ℕ) → fold stands nothing (parameters (block_with group source count)) ≡ standing_with group source count
+stands_with None source count = refl
+stands_with (Some part) source count = refl
+
+group_said : (group : Option GroupPart) → IfSome group IsWritableGroup → IsGroupOf (option_map (λ part. (group_parameter part).value) group) group
+group_said None h = refl
+group_said (Some part) h = (
+  part,
+  refl,
+  record {
+    digits = decimal part.code;
+    spelled = refl;
+    first = h.first;
+    within = h.within;
+    most = h.most;
+    code = number_is part.code 4 (omega (arith, h.small)) (omega arith);
+    positive = h.code;
+  },
+)
+
+pub is_tag : (parts : TagParts) → IsWritable parts → IsSfi parts.source → xor_of (content (block_of parts).first (block_of parts).others) < 256 → IsTag (said_by parts) (block_text (block_of parts))
+is_tag parts h sfi byte =
+    let b = block_of parts in
+    let all : flat_map parameters (b ∷ []) ≡ parameters b = flat_map-cons parameters b [] ∙ append-nil (parameters b) in
+    let stood : standing (b ∷ []) ≡ standing_with parts.group parts.source parts.count = ap (fold stands nothing) all ∙ stands_with parts.group parts.source parts.count in
+    record {
+      blocks = b ∷ [];
+      some = omega arith;
+      each = All-cons IsBlock b [] (block_is parts.group parts.source parts.count h.group h.small sfi byte) (All-nil IsBlock);
+      spelled = sym (flat_map-cons block_text b [] ∙ append-nil (block_text b));
+      source = ap (λ (v : Standing). v.source) stood;
+      is_sfi = sfi;
+      destination = ap (λ (v : Standing). v.destination) (sym stood);
+      group = subst (λ (v : Standing). IsGroupOf v.group parts.group) (sym stood) (group_said parts.group h.group);
+      count = subst (λ (v : Standing). IsCountOf v.count (Some parts.count)) (sym stood) (parts.count, refl, number_is parts.count 3 h.small (omega arith));
+    }

@@ -1,0 +1,229 @@
+ghost use Rattle.std.specs.Prelude.{◌≡◌, ℕ, List, Ok, ◌++◌, ◌+◌, ◌-◌, ◌<◌, ◌≤◌, length, option_map, IfOk};
+ghost use Rattle.tag_block.specs.Tag.{Said, IsTag, BeginsNoBlock, Fronts};
+ghost use Rattle.tag_block.specs.Reading as spec;
+
+use crate::byte::{byte_at, code_run, value_of, value_run, xor};
+use crate::fault::{TagFault, TagRule};
+use crate::group_part::GroupPart;
+use crate::number::{group, number};
+use crate::tag::Tag;
+use crate::values::{Scan, Value, Values, keep};
+use sentence_text::Sfi;
+
+/// One parameter.
+#[tactic(auto, unfolding(crate::specs::Reading::parameter_at))]
+fn parameter<'a>(total: usize, scan: Scan<'a>) -> Result<Scan<'a>, TagFault>
+    requires { length scan.rest.now ≤ total }
+    ensures reads { spec.seen_scan result ≡ spec.parameter_at total (spec.scan scan.entry) }
+    ensures shorter { IfOk result (λ s. length s.rest.now < length scan.entry.rest.now) }
+{
+    let rest = scan.rest;
+    let code = code_run(rest);
+    if code == 0 {
+        return Err(TagRule::Form.at(total - rest.len()));
+    }
+    if byte_at(rest, code) != b':' {
+        return Err(TagRule::Form.at(total - rest.len() + code));
+    }
+    let (code, text) = (rest.split_at(code).0, rest.split_at(code + 1).1);
+    let (value, rest) = text.split_at(value_run(text));
+    let value = Value {
+        place: total - text.len(),
+        text: value,
+    };
+    Ok(Scan {
+        values: keep(scan.values, code, value),
+        rest,
+    })
+}
+
+/// Parameters with commas between them.
+fn parameters<'a>(total: usize, scan: Scan<'a>) -> Result<Scan<'a>, TagFault>
+    requires { length scan.rest.now ≤ total }
+    ensures reads { spec.seen_scan result ≡ spec.parameters_at (length scan.entry.rest.now + 1) total (spec.scan scan.entry) }
+    ensures shorter { IfOk result (λ s. length s.rest.now ≤ length scan.entry.rest.now) }
+{
+    let mut scan = scan;
+    loop {
+        let next = match parameter(total, scan) {
+            Ok(next) => next,
+            Err(fault) => return Err(fault),
+        };
+        if byte_at(next.rest, 0) != b',' {
+            return Ok(next);
+        }
+        scan = Scan {
+            values: next.values,
+            rest: next.rest.split_at(1).1,
+        };
+    }
+}
+
+/// `*`, the two digits of this sum, and `\`.
+#[tactic(auto, unfolding(crate::specs::Reading::block_end_at))]
+fn block_end<'a>(total: usize, sum: u8, scan: Scan<'a>) -> Result<Scan<'a>, TagFault>
+    requires { length scan.rest.now ≤ total }
+    ensures reads { spec.seen_scan result ≡ spec.block_end_at total sum (spec.scan scan.entry) }
+    ensures shorter { IfOk result (λ s. length s.rest.now < length scan.entry.rest.now) }
+{
+    let rest = scan.rest;
+    let place = total - rest.len();
+    if byte_at(rest, 0) != b'*' {
+        return Err(TagRule::Form.at(place));
+    }
+    let high = value_of(byte_at(rest, 1));
+    if high >= 16 {
+        return Err(TagRule::Form.at(place + 1));
+    }
+    let low = value_of(byte_at(rest, 2));
+    if low >= 16 {
+        return Err(TagRule::Form.at(place + 2));
+    }
+    if high * 16 + low != sum {
+        return Err(TagRule::Sum.at(place + 1));
+    }
+    if byte_at(rest, 3) != b'\\' {
+        return Err(TagRule::Form.at(place + 3));
+    }
+    Ok(Scan {
+        values: scan.values,
+        rest: rest.split_at(4).1,
+    })
+}
+
+/// One block, behind its first `\`.
+#[tactic(auto, unfolding(crate::specs::Reading::block_at))]
+fn block<'a>(total: usize, scan: Scan<'a>) -> Result<Scan<'a>, TagFault>
+    requires { length scan.rest.now ≤ total }
+    ensures reads { spec.seen_scan result ≡ spec.block_at total (spec.scan scan.entry) }
+    ensures shorter { IfOk result (λ s. length s.rest.now < length scan.entry.rest.now) }
+{
+    let behind = match parameters(total, scan) {
+        Ok(behind) => behind,
+        Err(fault) => return Err(fault),
+    };
+    let content = scan.rest.split_at(scan.rest.len() - behind.rest.len()).0;
+    block_end(total, xor(content), behind)
+}
+
+/// Blocks while the next byte is `\`.
+fn blocks<'a>(total: usize, scan: Scan<'a>) -> Result<Scan<'a>, TagFault>
+    requires { length scan.rest.now ≤ total }
+    ensures reads { spec.seen_scan result ≡ spec.blocks_at (length scan.entry.rest.now + 1) total (spec.scan scan.entry) }
+    ensures shorter { IfOk result (λ s. length s.rest.now ≤ length scan.entry.rest.now) }
+{
+    let mut scan = scan;
+    while byte_at(scan.rest, 0) == b'\\' {
+        let behind = Scan {
+            values: scan.values,
+            rest: scan.rest.split_at(1).1,
+        };
+        scan = match block(total, behind) {
+            Ok(next) => next,
+            Err(fault) => return Err(fault),
+        };
+    }
+    Ok(scan)
+}
+
+/// The group, or Form at its value.
+fn group_of(value: Option<Value<'_>>) -> Result<Option<GroupPart>, TagFault>
+    ensures { result ≡ spec.group_said (option_map spec.placed value.entry) }
+{
+    match value {
+        None => Ok(None),
+        Some(value) => match group(value.text) {
+            Some(part) => Ok(Some(part)),
+            None => Err(TagRule::Form.at(value.place)),
+        },
+    }
+}
+
+/// The count of the line, or Form at its value.
+fn count_of(value: Option<Value<'_>>) -> Result<Option<u16>, TagFault>
+    ensures { result ≡ spec.count_said (option_map spec.placed value.entry) }
+{
+    match value {
+        None => Ok(None),
+        Some(value) => match number(3, value.text) {
+            Some(count) => Ok(Some(count)),
+            None => Err(TagRule::Form.at(value.place)),
+        },
+    }
+}
+
+/// The source, or NoSource at its value or at the end of the blocks.
+fn source_of(end: usize, value: Option<Value<'_>>) -> Result<Sfi, TagFault>
+    ensures { result ≡ spec.source_said end (option_map spec.placed value.entry) }
+{
+    match value {
+        None => Err(TagRule::NoSource.at(end)),
+        Some(value) => match Sfi::of(value.text) {
+            Some(source) => Ok(source),
+            None => Err(TagRule::NoSource.at(value.place)),
+        },
+    }
+}
+
+/// What the values say, and where the blocks end.
+#[tactic(auto, unfolding(crate::specs::Reading::settle))]
+fn settle<'a>(total: usize, scan: Scan<'a>) -> Result<(Tag<'a>, usize), TagFault>
+    requires { length scan.rest.now ≤ total }
+    ensures { spec.seen result ≡ spec.settle total (spec.scan scan.entry) }
+{
+    let end = total - scan.rest.len();
+    let group = match group_of(scan.values.group) {
+        Ok(group) => group,
+        Err(fault) => return Err(fault),
+    };
+    let count = match count_of(scan.values.count) {
+        Ok(count) => count,
+        Err(fault) => return Err(fault),
+    };
+    let source = match source_of(end, scan.values.source) {
+        Ok(source) => source,
+        Err(fault) => return Err(fault),
+    };
+    let destination = scan.values.destination.map(|value| value.text);
+    Ok((
+        Tag {
+            source,
+            destination,
+            group,
+            count,
+        },
+        end,
+    ))
+}
+
+#[tactic(auto, unfolding(crate::specs::Reading::read))]
+fn parse<'a>(line: &'a [u8]) -> Result<(Tag<'a>, usize), TagFault>
+    ensures { spec.seen result ≡ spec.read line.now }
+{
+    if byte_at(line, 0) != b'\\' {
+        return Err(TagRule::NoSource.at(0));
+    }
+    let values = Values {
+        source: None,
+        destination: None,
+        group: None,
+        count: None,
+    };
+    match blocks(line.len(), Scan { values, rest: line }) {
+        Ok(scan) => settle(line.len(), scan),
+        Err(fault) => Err(fault),
+    }
+}
+
+/// What the TAG blocks at the front of the line say, and how many bytes they have. Blocks are read while the next
+/// byte is `\\`.
+pub fn read<'a>(line: &'a [u8]) -> Result<(Tag<'a>, usize), TagFault>
+    // What is read is spelled so, and no block follows.
+    ensures found { IfOk result (λ t. Fronts line.now (spec.said t.0) t.1) }
+    // What is spelled so is read, where no block follows.
+    ensures only { (said : Said) (bytes rest : List ℕ) → IsTag said bytes → BeginsNoBlock rest → line.now ≡ bytes ++ rest → spec.seen result ≡ Ok (said, length bytes) }
+    // Which fault it is.
+    ensures exact { spec.seen result ≡ spec.read line.now }
+{
+    parse(line)
+}

@@ -1,0 +1,50 @@
+ghost use Rattle.std.specs.Prelude.{◌≡◌};
+ghost use Rattle.tag_block.specs.Reading as spec;
+
+/// The value of a parameter, and its place in the line.
+#[derive(Clone, Copy)]
+pub(crate) struct Value<'a> {
+    pub(crate) place: usize,
+    pub(crate) text: &'a [u8],
+}
+
+/// The last value of each code that says something here.
+#[derive(Clone, Copy)]
+pub(crate) struct Values<'a> {
+    pub(crate) source: Option<Value<'a>>,
+    pub(crate) destination: Option<Value<'a>>,
+    pub(crate) group: Option<Value<'a>>,
+    pub(crate) count: Option<Value<'a>>,
+}
+
+/// The values so far, and the rest of the line.
+#[derive(Clone, Copy)]
+pub(crate) struct Scan<'a> {
+    pub(crate) values: Values<'a>,
+    pub(crate) rest: &'a [u8],
+}
+
+/// The values once a parameter more has come.
+pub(crate) fn keep<'a>(values: Values<'a>, code: &[u8], value: Value<'a>) -> Values<'a>
+    ensures { spec.placed_values result ≡ spec.keep (spec.placed_values values.entry) code.now (spec.placed value.entry) }
+{
+    match code {
+        [b's'] => Values {
+            source: Some(value),
+            ..values
+        },
+        [b'd'] => Values {
+            destination: Some(value),
+            ..values
+        },
+        [b'g'] => Values {
+            group: Some(value),
+            ..values
+        },
+        [b'n'] => Values {
+            count: Some(value),
+            ..values
+        },
+        _ => values,
+    }
+}
