@@ -1,7 +1,8 @@
-/* Baseline for `shipgate convert` on captures of true heading frames: the same work on the same bytes, in C.
+/* Baseline for `shipgate convert` on captures of the messages of sentences.c: the same work on the same bytes, in C.
    It reads pieces of 64 KiB, holds one line of at most 4096 bytes, and writes 32 KiB at a time. */
+#include "sentences.h"
+
 #include <stdint.h>
-#include <stdio.h>
 #include <string.h>
 #include <unistd.h>
 
@@ -65,47 +66,27 @@ static int frame(const char *line, size_t len, uint32_t *id, uint8_t *data) {
     return (int)(digits / 2);
 }
 
-static size_t decimal(uint64_t n, char *out) {
-    char digits[20];
-    size_t len = 0;
-    do digits[len++] = (char)('0' + n % 10); while (n /= 10);
-    for (size_t i = 0; i < len; i++) out[i] = digits[len - 1 - i];
-    return len;
-}
+/* The number of a message's parameter group. Only groups whose PS is no destination have sentences here. */
+static uint32_t group(uint32_t id) { return id >> 8 & 0x3FFFF; }
 
-static size_t sentence(uint16_t raw, char *out) {
-    size_t len = 0;
-    memcpy(out, "$HEHDT,", 7), len = 7;
-    if (raw <= 62832) {
-        const unsigned __int128 den = 3141592653589793u;
-        unsigned __int128 twice = (unsigned __int128)raw * 180000000000000u * 2 + den;
-        uint64_t tenths = (uint64_t)(twice / (2 * den)) % 3600;
-        len += decimal(tenths / 10, out + len);
-        out[len++] = '.';
-        out[len++] = (char)('0' + tenths % 10);
-    }
-    out[len++] = ',', out[len++] = 'T';
-    uint8_t sum = 0;
-    for (size_t i = 1; i < len; i++) sum ^= (uint8_t)out[i];
-    out[len++] = '*';
-    out[len++] = "0123456789ABCDEF"[sum / 16];
-    out[len++] = "0123456789ABCDEF"[sum % 16];
-    out[len++] = '\r', out[len++] = '\n';
-    return len;
+static char *report(char *at, int rule, uint64_t number) {
+    memcpy(at, "rule ", 5);
+    at = put_number(at + 5, (uint64_t)rule);
+    memcpy(at, " line=", 6);
+    at = put_number(at + 6, number);
+    *at++ = '\n';
+    return at;
 }
 
 static int line(uint64_t number, const char *text, size_t len) {
-    char out[82];
+    char out[SENTENCES * SENTENCE], *end = out;
     uint32_t id;
     uint8_t data[8];
     if (len == 0) return 0;
-    if (len <= LONGEST && frame(text, len, &id, data) == 8 && id >> 8 == 0x09F112 && data[7] % 4 == 0)
-        return put(out, sentence((uint16_t)(data[1] | data[2] << 8), out));
-    size_t at = 12;
-    memcpy(out, "rule 5 line=", 12);
-    at += decimal(number, out + at);
-    out[at++] = '\n';
-    return put(out, at);
+    int held = len <= LONGEST ? frame(text, len, &id, data) : -1;
+    int rule = held < 0 ? NOT_CONVERTED : put_sentences(group(id), data, (size_t)held, &end);
+    if (rule) end = report(end, rule, number);
+    return put(out, (size_t)(end - out));
 }
 
 static size_t without_cr(const char *text, size_t len) {
