@@ -1,7 +1,7 @@
 -- Pairs whose bytes stand behind one another.
-use Rattle.std.proofs.Common.{◌≡◌, ℕ, ◌+◌, ◌≤◌, Bool, true, false, cond, leb, ◌&&◌, List, [], ◌∷◌, ◌++◌, length, take, drop, refl, sym, ap, subst, ◌∙◌, arith}
-use Rattle.std.specs.Prelude.{Option, Some, None}
-use Rattle.std.proofs.lemmas.List.{length-take, length-drop, take-append-le, drop-append-le, take_all}
+use Rattle.std.proofs.Common.{◌≡◌, ℕ, zero, suc, ◌+◌, ◌<◌, ◌≤◌, get_or, Bool, true, false, cond, leb, ◌&&◌, List, [], ◌∷◌, ◌++◌, length, take, drop, refl, sym, ap, subst, ◌∙◌, arith}
+use Rattle.std.specs.Prelude.{Option, Some, None, slice_get}
+use Rattle.std.proofs.lemmas.List.{length-take, length-drop, take-append-le, drop-append-le, take_all, drop-drop}
 use Rattle.std.proofs.lemmas.Bool.{leb-true}
 use Rattle.gate_outside.specs.declared.handover.Parcel.{Parcel}
 use Rattle.gate_outside.specs.Link.{Handed}
@@ -87,3 +87,41 @@ within_room parcels kept piece room most h =
 -- the test of the code, by the counts that it takes
 pub test_of : (parcels : List Parcel) (kept piece : List ℕ) (room most m n : ℕ) (b : Bool) → m ≡ length parcels → n ≡ length kept → b ≡ (leb (m + 1) most && leb (n + length piece) room) → fits_test parcels kept piece room most ≡ b
 test_of parcels kept piece room most m n b pairs bytes is = rw (← pairs, ← bytes) (sym is)
+
+-- ---- the pair at a place
+
+pub total_len_take : (parcels : List Parcel) (place : ℕ) → total_len (take place parcels) ≤ total_len parcels
+total_len_take [] zero = omega arith
+total_len_take [] (suc place) = omega arith
+total_len_take (p ∷ parcels) zero = omega arith
+total_len_take (p ∷ parcels) (suc place) = omega (arith, total_len_take parcels place)
+
+total_len_suc : (parcels : List Parcel) (place : ℕ) (d : Parcel) → place < length parcels → total_len (take (suc place) parcels) ≡ total_len (take place parcels) + (get_or parcels place d).len
+total_len_suc [] place d lt = absurd (omega arith)
+total_len_suc (p ∷ parcels) zero d lt = omega arith
+total_len_suc (p ∷ parcels) (suc place) d lt = omega (arith, total_len_suc parcels place d (omega arith))
+
+pub total_len_next : (parcels : List Parcel) (place : ℕ) (d : Parcel) → place < length parcels → total_len (take (place + 1) parcels) ≡ total_len (take place parcels) + (get_or parcels place d).len
+total_len_next parcels place d lt =
+    let one : suc place ≡ place + 1 = omega arith in
+    subst (λ (n : ℕ). total_len (take n parcels) ≡ total_len (take place parcels) + (get_or parcels place d).len) one (total_len_suc parcels place d lt)
+
+drop-split : (m n : ℕ) (bytes : List ℕ) → drop (m + n) bytes ≡ drop n (drop m bytes)
+drop-split m n bytes = sym (drop-drop n m bytes)
+
+pub pair_past : (parcels : List Parcel) (bytes : List ℕ) (place : ℕ) → length parcels ≤ place → slice_get (pairs_of parcels bytes) place ≡ None
+pair_past [] bytes place le = refl
+pair_past (p ∷ parcels) bytes zero le = absurd (omega arith)
+pair_past (p ∷ parcels) bytes (suc place) le = pair_past parcels (drop p.len bytes) place (omega arith)
+
+pub pair_here : (parcels : List Parcel) (bytes : List ℕ) (place start len : ℕ) (p : Parcel) → place < length parcels → p ≡ get_or parcels place p
+    → start ≡ total_len (take place parcels) → len ≡ p.len → slice_get (pairs_of parcels bytes) place ≡ Some (p.group, take len (drop start bytes))
+pair_here [] bytes place start len p lt is from to = absurd (omega arith)
+pair_here (q ∷ parcels) bytes zero start len p lt is from to = rw (from, to, ← is) refl
+pair_here (q ∷ parcels) bytes (suc place) start len p lt is from to =
+    rw (from, drop-split q.len (total_len (take place parcels)) bytes) (pair_here parcels (drop q.len bytes) place (total_len (take place parcels)) len p (omega arith) is refl to)
+
+pub ends_within : (parcels : List Parcel) (place : ℕ) (p : Parcel) → place < length parcels → p ≡ get_or parcels place p → total_len (take place parcels) + p.len ≤ total_len parcels
+ends_within [] place p lt is = absurd (omega arith)
+ends_within (q ∷ parcels) zero p lt is = omega (arith, ap (λ (r : Parcel). r.len) is)
+ends_within (q ∷ parcels) (suc place) p lt is = omega (arith, ends_within parcels place p (omega arith) is)

@@ -1,5 +1,5 @@
 -- A link in memory, as its calls see it.
-use Rattle.std.specs.Prelude.{◌≡◌, ◌+◌, ◌≤◌, ℕ, zero, suc, false, ◌&&◌, nat_le, if◌then◌else◌, List, [], ◌∷◌, ◌++◌, length, take, drop, replicate, Option, Some, None, Ok}
+use Rattle.std.specs.Prelude.{◌≡◌, ◌+◌, ◌≤◌, ℕ, zero, suc, false, ◌&&◌, nat_le, if◌then◌else◌, List, [], ◌∷◌, ◌++◌, length, take, drop, replicate, slice_get, Option, Some, None, Ok}
 use Rattle.std.specs.Global.{Vec}
 use Rattle.gate_outside.specs.declared.handover.Parcel.{Parcel}
 use Rattle.gate_outside.specs.declared.link.Arrival.{Arrival}
@@ -30,6 +30,11 @@ bytes_in (pair ∷ pairs) = length pair.1 + bytes_in pairs
 abbrev pub told_after : Option (List Handed) → ℕ → ℕ → Handed → Option (List Handed)
 told_after None room most pair = None
 told_after (Some pairs) room most pair = if nat_le (length pairs + 1) most && nat_le (bytes_in pairs + length pair.1) room then Some (pairs ++ pair ∷ []) else None
+
+-- the pair at a place, where it is told
+abbrev pub pair_at : Option (List Handed) → ℕ → Option Handed
+pair_at None place = None
+pair_at (Some pairs) place = slice_get pairs place
 
 -- what the receive at a place gives: that of the script, and nothing once it has ended
 abbrev pub arrival_at : List (Option (List ℕ)) → ℕ → Option (List ℕ)

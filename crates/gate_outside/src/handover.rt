@@ -1,5 +1,6 @@
 //! What a link in memory was handed, for as long as it tells it.
-ghost use Rattle.std.specs.Prelude.{◌≡◌, ◌+◌, ◌<◌, ◌≤◌, ◌&&◌, ◌++◌, ◌∷◌, [], length, nat_le, vec_len, vec_capacity};
+ghost use Rattle.std.specs.Prelude.{◌≡◌, ◌+◌, ◌^◌, ◌<◌, ◌≤◌, ◌&&◌, ◌++◌, ◌∷◌, [], length, take, slice_get, option_map, nat_le, vec_len, vec_capacity};
+ghost use Rattle.gate_outside.specs.LinkMemory.{pairs_of, total_len};
 
 use sentence_text::Group;
 use std::alloc::{AllocError, Global};
@@ -67,9 +68,37 @@ fn store(bytes: &mut Vec<u8>, parcels: &mut Vec<Parcel>, group: Group, piece: &[
     });
 }
 
+// How many bytes stand before the pair at a place.
+#[tactic(auto, using(crate::proofs::Pairs::total_len_next, crate::proofs::Pairs::total_len_take))]
+fn start_of(parcels: &[Parcel], place: usize) -> usize
+    requires place { place ≤ length parcels.now }
+    requires room { total_len parcels.now < 2 ^ 64 }
+    ensures { result ≡ total_len (take place parcels.now) }
+{
+    let mut start = 0;
+    for parcel in &parcels[..place] {
+        start += parcel.len;
+    }
+    start
+}
+
+// The pair at a place of those whose bytes stand behind one another.
+#[tactic(auto, using(crate::proofs::Pairs::pair_past, crate::proofs::Pairs::ends_within))]
+fn pair_in<'a>(parcels: &[Parcel], bytes: &'a [u8], place: usize) -> Option<(Group, &'a [u8])>
+    requires bytes { total_len parcels.now ≡ length bytes.now }
+    ensures { option_map (λ p. (p.0, p.1.now)) result ≡ slice_get (pairs_of parcels.now bytes.now) place }
+{
+    if place >= parcels.len() {
+        return None;
+    }
+    let parcel = parcels[place];
+    let start = start_of(parcels, place);
+    Some((parcel.group, &bytes[start..start + parcel.len]))
+}
+
 impl Handover {
-    ghost use Rattle.std.specs.Prelude.{◌≡◌, [], Some, None, IfOk, is_some};
-    ghost use Rattle.gate_outside.specs.LinkMemory.{told_after};
+    ghost use Rattle.std.specs.Prelude.{◌≡◌, [], Some, None, IfOk, is_some, option_map};
+    ghost use Rattle.gate_outside.specs.LinkMemory.{told_after, pair_at};
 
     /// Nothing yet, with room for so many bytes in so many pairs. With none of either it takes no
     /// memory.
@@ -117,5 +146,15 @@ impl Handover {
             return;
         }
         store(&mut self.bytes, &mut self.parcels, group, piece);
+    }
+
+    /// The pair at a place, counted from 0.
+    pub(crate) fn pair(&self, place: usize) -> Option<(Group, &[u8])>
+        ensures { option_map (λ p. (p.0, p.1.now)) result ≡ pair_at self.now.handed place }
+    {
+        if !self.told {
+            return None;
+        }
+        pair_in(&self.parcels, &self.bytes, place)
     }
 }

@@ -36,8 +36,8 @@ impl Model for QuietLink {
 }
 
 impl QuietLink {
-    ghost use Rattle.std.specs.Prelude.{◌≡◌, [], Some, None, IfOk, IsSome, IsTrue, ◌↔◌, map, All};
-    ghost use Rattle.gate_outside.specs.LinkMemory.{arrival_of, IsArrival, traffic_of};
+    ghost use Rattle.std.specs.Prelude.{◌≡◌, [], Some, None, IfOk, IsSome, IsTrue, ◌↔◌, map, All, option_map};
+    ghost use Rattle.gate_outside.specs.LinkMemory.{arrival_of, IsArrival, pair_at, traffic_of};
 
     /// A link that was handed nothing yet. It tells up to `sends` pairs with `room` bytes in all, which
     /// are reserved here: with none of either it takes no memory, and no other call takes any. Each
@@ -63,6 +63,14 @@ impl QuietLink {
             over: Handover::with_room(alloc, room, sends)?,
             attached: None,
         })
+    }
+
+    /// A pair that was handed over and is told, by its place, counted from 0. None exactly beyond what
+    /// is told.
+    pub fn handed(&self, place: usize) -> Option<(Group, &[u8])>
+        ensures { option_map (λ p. (p.0, p.1.now)) result ≡ pair_at self.now.over.handed place }
+    {
+        self.over.pair(place)
     }
 
     /// Whether its traffic is told.

@@ -1,5 +1,6 @@
 //! What no clause says: that the makers find memory, and that the adapters pass their bytes on.
 use super::*;
+use sentence_text::Group;
 use std::test::Fail;
 
 /// A reader or a writer that fails at once.
@@ -77,5 +78,32 @@ fn adapters_pass_bytes_on_and_count_faults(rt: HostRuntime) -> Result<(), Fail> 
     let mut sink = WriterSink::new(Broken);
     assert_eq!(rt; sink.write(b"x"), Err(Failed));
     assert_eq!(rt; sink.faults(), 1);
+    Ok(())
+}
+
+#[test]
+fn links_and_files_give_what_they_hold(rt: HostRuntime) -> Result<(), Fail> {
+    let alloc = rt.alloc();
+    let mut files = QuietFiles::of(b"turns".to_vec(alloc)?);
+    assert_eq!(rt;
+        files.load(alloc, "any").expect(&rt, "a load").as_slice(),
+        b"turns".as_slice()
+    );
+    let mut link = QuietLink::of(alloc, 3, 2, Vec::new(alloc))?;
+    let group = Group::default();
+    let mut buf = [0; 1500];
+    assert_eq!(rt; link.receive(&mut buf), Ok(Arrival::Nothing));
+    assert_eq!(rt; link.send(group, b"ab"), Ok(()));
+    assert_eq!(rt; link.send(group, b"c"), Ok(()));
+    for (place, bytes) in [(0, b"ab".as_slice()), (1, b"c".as_slice())] {
+        match link.handed(place) {
+            Some((_, told)) => assert_eq!(rt; told, bytes),
+            None => panic!(rt; "no pair"),
+        }
+    }
+    assert!(rt; link.handed(2).is_none());
+    assert_eq!(rt; link.send(group, b"d"), Ok(()));
+    assert!(rt; !link.tells());
+    assert!(rt; link.handed(0).is_none());
     Ok(())
 }

@@ -5,6 +5,7 @@ ghost use Rattle.gate_outside.specs.Faults.{HasCause};
 ghost use Rattle.shipgate.specs.LineReader.{HasNoLf, ReadsBehind};
 
 use gate_outside::{Failed, Source};
+use memchr::memchr;
 use std::marker::Model;
 
 /// The length of the longest line. A longer one is refused unread.
@@ -29,7 +30,7 @@ fn first_lf(bytes: &[u8]) -> Option<usize>
     ensures { MatchOption result (HasNoLf bytes.now) (λ at.
         (at < length bytes.now) × (slice_index bytes.now at ≡ 10) × HasNoLf (take at bytes.now)) }
 {
-    bytes.iter().position(|b| *b == b'\n')
+    memchr(b'\n', bytes)
 }
 
 // The length of a line whose bytes up to its LF are these: a CR at the end is no part of it.
@@ -56,7 +57,6 @@ fn move_to_front(buffer: &mut [u8], from: usize, count: usize)
 }
 
 // Reads into the buffer, behind its first bytes.
-
 fn read_behind<S: Source>(buffer: &mut [u8], count: usize, input: &mut S) -> Result<usize, Failed>
     requires { count < length buffer.old }
     ensures bytes { ReadsBehind (S.left input.old) (S.left input.new) (take count buffer.old) buffer.new count result }

@@ -1,0 +1,8 @@
+use Rattle.std.proofs.Common.{◌≡◌, ◌+◌, ◌-◌, ℕ, sym, arith}
+use Rattle.gate_outside.proofs.Pairs.{pair_past, pair_here, ends_within}
+use Rattle.gate_outside.proofs.handover.pair_in.Goals as goal
+
+pub returns : goal.returns
+returns c =
+    let p = c.index-parcels-place.result in
+    sym (pair_here c.args.parcels.now c.args.bytes.now c.args.place c.start_of-start.result (c.start_of-start.result + p.len - c.start_of-start.result) p (omega arith) c.index-parcels-place.is c.start_of-start.ensures (omega arith))
