@@ -5,6 +5,9 @@
 //! the real outside.
 #![tactic(auto)]
 
+ghost use Rattle.std.specs.Prelude.{IfOk};
+ghost use Rattle.shipgate.specs.Run.{IsStatus};
+
 mod capture;
 mod convert;
 mod ending;
@@ -45,7 +48,9 @@ fn words_behind_name<R: rt::Env + AllocGlobal>(rt: &R) -> Result<Vec<String>, Al
 
 // The program over the standard streams. Its commands use no files, links or clock, so these are
 // empty ones.
-fn served(rt: &HostRuntime) -> Result<u8, AllocError> {
+fn served(rt: &HostRuntime) -> Result<u8, AllocError>
+    ensures { IfOk result IsStatus }
+{
     let words = words_behind_name(rt)?;
     let alloc = rt.alloc();
     let mut files = QuietFiles::of(Vec::new(alloc));

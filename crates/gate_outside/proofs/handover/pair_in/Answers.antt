@@ -1,5 +1,5 @@
-use Rattle.std.proofs.Common.{◌≡◌, ◌+◌, ◌-◌, ℕ, sym, arith}
-use Rattle.gate_outside.proofs.Pairs.{pair_past, pair_here, ends_within}
+use Rattle.std.proofs.Common.{◌+◌, ◌-◌, sym, arith}
+use Rattle.gate_outside.proofs.Pairs.{pair_here}
 use Rattle.gate_outside.proofs.handover.pair_in.Goals as goal
 
 pub returns : goal.returns
