@@ -1,7 +1,7 @@
 pub mod CaseLemmas
 pub mod FirstFreeLemmas
-pub mod FreeLemmas
 pub mod LawLemmas
+pub mod SearchLemmas
 pub mod SoundLemmas
 pub mod StepLemmas
 pub mod PresetLemmas

@@ -24,7 +24,7 @@ same_or_not a b = by (a == b) refl
     by false e = inr (not_eqb a b e)
 
 -- an address that was vacated has no holder
-none_at_set : (holders : List (Option Holder)) (b : ℕ) → holder_at (set holders b None) b ≡ None
+pub none_at_set : (holders : List (Option Holder)) (b : ℕ) → holder_at (set holders b None) b ≡ None
 none_at_set [] b = refl
 none_at_set (x ∷ holders) zero = refl
 none_at_set (x ∷ holders) (suc b) = none_at_set holders b
@@ -69,7 +69,7 @@ found_by_name : (n : ℕ) (x : Option Holder) → is_held_by n x ≡ true → (h
 found_by_name n None e = cc
 found_by_name n (Some h) e = (h, refl, eqb-true h.name.0 n e)
 
-position_none : (p : Option Holder → Bool) (holders : List (Option Holder)) (b : ℕ) → position p holders ≡ None → b < length holders → p (holder_at holders b) ≡ false
+pub position_none : (p : Option Holder → Bool) (holders : List (Option Holder)) (b : ℕ) → position p holders ≡ None → b < length holders → p (holder_at holders b) ≡ false
 position_none p holders b e l = by (nat_lt (position_or_len p holders) (length holders)) refl e
   where
     told : (t : Bool) → not t ≡ true → t ≡ false

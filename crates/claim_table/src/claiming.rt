@@ -1,6 +1,6 @@
-ghost use Rattle.std.specs.Prelude.{◌≡◌, ◌<◌, ◌↔◌, ◌==◌, nat_lt, length, All, IfSome, IsTrue, position};
+ghost use Rattle.std.specs.Prelude.{◌≡◌, ◌<◌, ◌+◌, ◌%◌, ◌↔◌, ◌==◌, ◌&&◌, ◌||◌, ℕ, false, not, nat_lt, is_none, length, All, IfSome, IsTrue, None, Some, position, slice_set};
 ghost use Rattle.claim_table.specs.Cases.{CanGoTo, IsCase};
-ghost use Rattle.claim_table.specs.Claims.{IsSinceBy, at_other, at_own, claim, claim_of, command, following, holder_at, is_held_by, is_obeyed, next_free, next_own, other_than, settled, step_of, vacated, with_taken};
+ghost use Rattle.claim_table.specs.Claims.{IsSinceBy, at_other, at_own, claim, claim_of, command, holder_at, is_held_by, is_obeyed, left_by, moved, next_free, next_own, other_than, settled, step_of, vacated, with_released, with_taken, without_left};
 
 use crate::answer::{ClaimStep, Holder, OwnAnswer};
 use crate::table::ClaimTable;
@@ -11,6 +11,13 @@ const NULL_ADDRESS: u8 = 254;
 
 /// How many addresses the gateway may move to: 0 to 251.
 const MOVE_PLACES: u8 = 252;
+
+/// Where a NAME that takes the gateway's address comes from, and where the gateway goes.
+#[derive(Clone, Copy)]
+struct Ways {
+    left: Option<u8>,
+    next: Option<u8>,
+}
 
 impl ClaimTable {
     /// Handles the claim of an address by a NAME, at the index and moment of its event.
@@ -39,39 +46,126 @@ impl ClaimTable {
         if name == self.name {
             return told(None, OwnAnswer::Duplicate);
         }
-        let released = self.leave(address, name);
-        let step = self.settle(address, name, index, moment);
+        if address < NULL_ADDRESS && self.own == Some(address) && name < self.name {
+            return self.give_way(address, name, index, moment);
+        }
+        let released = self.left_by(address, name);
+        self.vacate(released);
+        let step = self.settle(address, name, index);
         ClaimStep { released, ..step }
     }
 
-    /// Takes away what the NAME holds at another address.
-    fn leave(&mut self, address: u8, name: Name) -> Option<u8>
-        ensures left { result ≡ other_than address (position (is_held_by name.0) self.old.holders) }
-        ensures after { self.new ≡ record self.old { holders = vacated self.old.holders result } }
+    /// The own address is claimed by a smaller NAME: it has the address from now on, and the gateway
+    /// moves. One pass over the places tells both which address the NAME leaves and where the gateway
+    /// goes, which may be the address left.
+    fn give_way(&mut self, address: u8, name: Name, index: u64, moment: u64) -> ClaimStep
+        requires { address < 254 }
+        ensures after { self.new ≡ (at_own (without_left self.old (claim_of address name.0 index moment)) (claim_of address name.0 index moment) false).after }
+        ensures step { result ≡ (with_released (left_by self.old (claim_of address name.0 index moment)) (at_own (without_left self.old (claim_of address name.0 index moment)) (claim_of address name.0 index moment) false)).step }
     {
-        match place_of(&self.holders, name) {
-            None => None,
-            Some(place) => {
-                if place == address {
-                    return None;
-                }
-                self.holders[usize::from(place)] = None;
-                Some(place)
+        let ways = self.ways(address, name);
+        self.vacate(ways.left);
+        self.take(address, name, index);
+        let own = self.go(ways.next, moment);
+        ClaimStep {
+            lost: None,
+            released: ways.left,
+            own,
+        }
+    }
+
+    /// The gateway goes to this address, or has none.
+    fn go(&mut self, next: Option<u8>, moment: u64) -> OwnAnswer
+        ensures after { self.new ≡ (moved self.old moment next).after }
+        ensures told { result ≡ (moved self.old moment next).step.own }
+    {
+        self.own = next;
+        match next {
+            None => OwnAnswer::CannotClaim,
+            Some(address) => {
+                self.counted = moment;
+                OwnAnswer::Move(address)
             }
         }
     }
 
-    /// What comes of the claim once the NAME holds no other address.
-    fn settle(&mut self, address: u8, name: Name, index: u64, moment: u64) -> ClaimStep
-        requires { address < 255 }
-        ensures after { self.new ≡ (settled self.old (claim_of address name.0 index moment) (address == 254)).after }
-        ensures step { result ≡ (settled self.old (claim_of address name.0 index moment) (address == 254)).step }
+    /// What the NAME leaves by claiming the lost address, and where the gateway goes. One whose NAME isn't
+    /// arbitrary address capable goes nowhere, so that no free address is sought for it.
+    #[tactic(auto, unfolding(crate::specs::Claims::next_own, n2k_id::specs::Name::fields_of))]
+    fn ways(&self, lost: u8, name: Name) -> Ways
+        requires { lost < 254 }
+        ensures left { result.left ≡ other_than lost (position (is_held_by name.0) self.now.holders) }
+        ensures within { IfSome result.left (λ place. place < 254) }
+        ensures next { (index moment : ℕ) → result.next ≡ next_own (with_taken (record self.now { holders = vacated self.now.holders result.left }) (claim_of lost name.0 index moment)) lost }
+    {
+        if self.name.fields().arbitrary {
+            self.search(lost, name)
+        } else {
+            Ways {
+                left: self.left_by(lost, name),
+                next: None,
+            }
+        }
+    }
+
+    /// One pass over the places finds both: the one that the NAME leaves by claiming the lost address,
+    /// and the first after the lost one that has no holder then. That is the one with the fewest steps,
+    /// so that the pass may begin at any place.
+    fn search(&self, lost: u8, name: Name) -> Ways
+        requires lost { lost < 254 }
+        requires room { length self.now.holders ≡ 254 }
+        ensures left { result.left ≡ other_than lost (position (is_held_by name.0) self.now.holders) }
+        ensures within { IfSome result.left (λ place. place < 254) }
+        ensures next { (h : Holder) → result.next ≡ next_free (slice_set (vacated self.now.holders result.left) lost (Some h)) lost }
+    {
+        let mut held = None;
+        let mut fewest = MOVE_PLACES;
+        for place in 0..NULL_ADDRESS {
+            let holder = self.holder(place);
+            let leaves = is_first_held(held, &holder, name);
+            if leaves {
+                held = Some(place);
+            }
+            if is_open(lost, place, &holder, leaves) {
+                fewest = fewest.min(steps_to(lost, place));
+            }
+        }
+        Ways {
+            left: other_than(lost, held),
+            next: reached(lost, fewest),
+        }
+    }
+
+    /// The address that the NAME leaves by claiming this one.
+    fn left_by(&self, address: u8, name: Name) -> Option<u8>
+        ensures left { result ≡ other_than address (position (is_held_by name.0) self.now.holders) }
+        ensures within { IfSome result (λ place. place < 254) }
+    {
+        other_than(address, place_of(&self.holders, name))
+    }
+
+    /// Nobody holds the address any more.
+    fn vacate(&mut self, left: Option<u8>)
+        requires { IfSome left (λ place. place < 254) }
+        ensures { self.new ≡ record self.old { holders = vacated self.old.holders left } }
+    {
+        if let Some(place) = left {
+            self.holders[usize::from(place)] = None;
+        }
+    }
+
+    /// What comes of a claim that the gateway doesn't give way to, once the NAME holds no other address.
+    fn settle(&mut self, address: u8, name: Name, index: u64) -> ClaimStep
+        requires within { address < 255 }
+        requires stays { address < 254 → self.old.own ≡ Some address → self.old.name < name.0 }
+        ensures after { self.new ≡ (settled self.old (claim_of address name.0 index 0) (address == 254)).after }
+        ensures step { result ≡ (settled self.old (claim_of address name.0 index 0) (address == 254)).step }
     {
         if address == NULL_ADDRESS {
             return told(None, OwnAnswer::Silent);
         }
         if self.own == Some(address) {
-            self.answer(address, name, index, moment)
+            told(None, OwnAnswer::Defend)
         } else {
             self.contest(address, name, index)
         }
@@ -83,26 +177,6 @@ impl ClaimTable {
         ensures { self.new ≡ with_taken self.old (claim_of address name.0 index 0) }
     {
         self.holders[usize::from(address)] = Some(Holder { name, since: index });
-    }
-
-    /// The gateway's own address is claimed: it defends it, or gives it up and moves.
-    fn answer(&mut self, address: u8, name: Name, index: u64, moment: u64) -> ClaimStep
-        requires { address < 254 }
-        ensures after { self.new ≡ (at_own self.old (claim_of address name.0 index moment) (nat_lt self.old.name name.0)).after }
-        ensures step { result ≡ (at_own self.old (claim_of address name.0 index moment) (nat_lt self.old.name name.0)).step }
-    {
-        if self.name < name {
-            return told(None, OwnAnswer::Defend);
-        }
-        self.take(address, name, index);
-        self.own = self.next_own(address);
-        match self.own {
-            None => told(None, OwnAnswer::CannotClaim),
-            Some(next) => {
-                self.counted = moment;
-                told(None, OwnAnswer::Move(next))
-            }
-        }
     }
 
     /// An address that isn't the gateway's is claimed: the smaller NAME has it.
@@ -125,35 +199,6 @@ impl ClaimTable {
                 }
             }
         }
-    }
-
-    /// Where the gateway goes that has lost this address; nowhere, if its NAME isn't arbitrary address
-    /// capable.
-    #[tactic(auto, unfolding(crate::specs::Claims::next_own, n2k_id::specs::Name::fields_of))]
-    fn next_own(&self, lost: u8) -> Option<u8>
-        requires { lost < 254 }
-        ensures { result ≡ next_own self.now lost }
-    {
-        if !self.name.fields().arbitrary {
-            return None;
-        }
-        self.next_free(lost)
-    }
-
-    /// The first address without a holder after this one.
-    #[tactic(auto, using(crate::proofs::FreeLemmas::free_here, crate::proofs::FreeLemmas::free_further, crate::proofs::FreeLemmas::free_none), unfolding(crate::specs::Claims::next_free))]
-    fn next_free(&self, lost: u8) -> Option<u8>
-        requires { lost < 254 }
-        ensures { result ≡ next_free self.now.holders lost }
-    {
-        let mut candidate = following(lost);
-        for tried in 0..MOVE_PLACES {
-            if self.holder(candidate).is_none() {
-                return Some(candidate);
-            }
-            candidate = following(candidate);
-        }
-        None
     }
 
     /// Handles a command to go to an address. It is obeyed, and readiness is counted from the moment,
@@ -220,11 +265,59 @@ fn told(lost: Option<(u8, Name)>, own: OwnAnswer) -> ClaimStep
     }
 }
 
-/// The address after this one, in cyclic order over those that the gateway may move to.
-fn following(address: u8) -> u8
-    requires { address < 254 }
-    ensures following { result ≡ following address }
+/// Whether the NAME holds this place and none of those before it.
+fn is_first_held(before: Option<u8>, holder: &Option<Holder>, name: Name) -> bool
+    ensures { result ≡ (is_none before && is_held_by name.0 holder.now) }
+{
+    before.is_none() && is_held_by(holder, name)
+}
+
+/// Whether the gateway may move to a place from the lost one: nobody is there, or the NAME that takes the
+/// lost one leaves it.
+fn is_open(lost: u8, place: u8, holder: &Option<Holder>, leaves: bool) -> bool
+    ensures open { result ≡ (nat_lt place 252 && not (place == lost) && (leaves || is_none holder.now)) }
+    ensures within { IsTrue result → place < 252 }
+{
+    place < MOVE_PLACES && place != lost && (leaves || holder.is_none())
+}
+
+/// The address that a NAME holds, unless it is this one.
+fn other_than(address: u8, held: Option<u8>) -> Option<u8>
+    requires { IfSome held (λ place. place < 254) }
+    ensures other { result ≡ other_than address held }
+    ensures within { IfSome result (λ place. place < 254) }
+{
+    match held {
+        None => None,
+        Some(place) => { if place == address { None } else { Some(place) } }
+    }
+}
+
+/// How many steps on from the first address after the lost one this one is, in cyclic order over those
+/// that the gateway may move to.
+fn steps_to(lost: u8, address: u8) -> u8
+    requires lost { lost < 254 }
+    requires address { address < 252 }
+    ensures there { (lost + 1 + result) % 252 ≡ address }
     ensures within { result < 252 }
 {
-    (address + 1) % MOVE_PLACES
+    let first = (lost + 1) % MOVE_PLACES;
+    if address < first {
+        address + (MOVE_PLACES - first)
+    } else {
+        address - first
+    }
+}
+
+/// The address so many steps on from the first one after the lost one; none, where that is a whole round.
+fn reached(lost: u8, steps: u8) -> Option<u8>
+    requires lost { lost < 254 }
+    ensures none { steps ≡ 252 → result ≡ None }
+    ensures some { steps < 252 → result ≡ Some ((lost + 1 + steps) % 252) }
+{
+    if steps < MOVE_PLACES {
+        Some(((u16::from(lost) + 1 + u16::from(steps)) % u16::from(MOVE_PLACES)) as u8)
+    } else {
+        None
+    }
 }

@@ -117,6 +117,16 @@ fn the_gateway_moves_past_251_to_0(rt: HostRuntime) -> Result<(), Fail> {
 }
 
 #[test]
+fn the_gateway_may_move_to_the_address_left(rt: HostRuntime) -> Result<(), Fail> {
+    let presets = [preset(11, 0x50), preset(12, 0x60), preset(253, 0x70)];
+    let mut bus = Bus::of(rt.alloc(), OWN, 10, &presets)?;
+    assert_eq!(rt; bus.hear(10, 0x50), left(11, OwnAnswer::Move(11)));
+    assert_eq!(rt; bus.hear(11, 0x70), left(253, OwnAnswer::Move(13)));
+    assert_eq!(rt; bus.hear(13, 0x50), left(10, OwnAnswer::Move(14)));
+    Ok(())
+}
+
+#[test]
 fn the_gateway_cannot_claim_where_every_address_is_taken(rt: HostRuntime) -> Result<(), Fail> {
     let mut bus = Bus::of(rt.alloc(), OWN, 100, &[])?;
     for address in 0..252 {
