@@ -1,18 +1,15 @@
 -- The cut of bytes into lines and a rest is the only one.
 use Rattle.std.proofs.Common.{◌≡◌, ℕ, Bool, true, false, List, [], ◌∷◌, ◌++◌, All, refl, sym, ap, ◌∙◌, inl, inr}
 use Rattle.std.specs.Prelude.{◌==◌, not}
-use Rattle.std.specs.List.{list_all, flat_map}
+use Rattle.std.specs.List.{list_all}
 use Rattle.std.proofs.lemmas.Bool.{cases_Bool, and_parts, and_from, eqb-true}
 use Rattle.std.proofs.lemmas.List.{append_assoc}
 use Rattle.std.proofs.lemmas.List.Concat.{flat_map-cons}
 use Rattle.std.proofs.lemmas.List.Elements.{All-nil, All-cons, All-head, All-tail}
-use Rattle.datagram450.specs.Datagram.{Cut, HasNoEnd, IsLine, IsCut, before, cut}
+use Rattle.datagram450.specs.Datagram.{Cut, HasNoEnd, IsLine, IsCut, before, cut, all_of}
 
 abbrev of : List (List ℕ) → List ℕ → Cut
 of lines rest = record { lines = lines; rest = rest }
-
-abbrev all_of : List (List ℕ) → List ℕ
-all_of lines = flat_map (λ l. l) lines
 
 at_end : (c : ℕ) (cs : List ℕ) → (c == 10) ≡ true → cut (c ∷ cs) ≡ of ((c ∷ []) ∷ (cut cs).lines) (cut cs).rest
 at_end c cs e = rw e refl
@@ -82,7 +79,7 @@ line_only (c ∷ cs) tail h =
     let p = and_parts (not (c == 10)) (list_all (λ x. not (x == 10)) cs) h in
     before_end c ((cs ++ 10 ∷ []) ++ tail) (is_end c p.0) ∙ ap (λ (k : Cut). before c k.lines k.rest) (line_only cs tail p.1)
 
-line_is : (l tail : List ℕ) → IsLine l → cut (l ++ tail) ≡ of (l ∷ (cut tail).lines) (cut tail).rest
+pub line_is : (l tail : List ℕ) → IsLine l → cut (l ++ tail) ≡ of (l ∷ (cut tail).lines) (cut tail).rest
 line_is l tail h =
     ap (λ (x : List ℕ). cut (x ++ tail)) h.spelled ∙ line_only h.text tail h.inner ∙ ap (λ (x : List ℕ). of (x ∷ (cut tail).lines) (cut tail).rest) (sym h.spelled)
 

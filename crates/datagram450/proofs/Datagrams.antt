@@ -18,7 +18,7 @@ agreed_all (w ∷ ws) (c ∷ cs) h = go (w == c) refl h (agreed_all ws cs)
     go true e h others = ap (λ (x : ℕ). x ∷ cs) (sym (eqb-true w c e)) ∙ ap (λ (x : List ℕ). w ∷ x) (others (omega (arith, h)))
     go false e h others = absurd (omega (arith, h))
 
-all_agreed : (wanted body : List ℕ) → agreed wanted (wanted ++ body) ≡ length wanted
+pub all_agreed : (wanted body : List ℕ) → agreed wanted (wanted ++ body) ≡ length wanted
 all_agreed [] body = refl
 all_agreed (w ∷ ws) body =
     let same : (w == w) ≡ true = eq-eqb w w refl in
@@ -66,7 +66,7 @@ gives_items : (items : List Item) (bytes : List ℕ) (h : DatagramOf items bytes
 unfolding items_from
 gives_items items bytes h = ap (λ (k : Cut). items_at 64 6 k.lines k.rest) (only_cut h.cut h.body h.is_cut) ∙ sym h.gives
 
-read_by : (bytes : List ℕ) → 6 ≤ agreed header bytes → length bytes ≤ 1472 → read bytes ≡ answer (items_from 64 6 (drop 6 bytes))
+pub read_by : (bytes : List ℕ) → 6 ≤ agreed header bytes → length bytes ≤ 1472 → read bytes ≡ answer (items_from 64 6 (drop 6 bytes))
 read_by bytes begins most = rw (not_below (agreed header bytes) 6 begins, not_below 1472 (length bytes) most) refl
 
 pub is_read : (items : List Item) (bytes : List ℕ) → DatagramOf items bytes → read bytes ≡ answer items

@@ -23,8 +23,12 @@ pub record Cut : Type 0 where
   pub lines : List (List ℕ)
   pub rest : List ℕ
 
+-- the bytes of all lines
+abbrev pub all_of : List (List ℕ) → List ℕ
+all_of lines = flat_map (λ l. l) lines
+
 abbrev pub joined : Cut → List ℕ
-joined c = flat_map (λ l. l) c.lines ++ c.rest
+joined c = all_of c.lines ++ c.rest
 
 -- bytes are these lines and a rest without LF
 pub record IsCut (c : Cut) (bytes : List ℕ) : Type 0 where
@@ -40,7 +44,8 @@ items_at left at [] (c ∷ cs) = bad 31 at ∷ []
 items_at zero at (l ∷ ls) rest = bad 46 at ∷ []
 items_at (suc left) at (l ∷ ls) rest = item at l ∷ items_at left (at + length l) ls rest
 
--- bytes is a datagram of at most 1472 bytes, whose at most 64 lines give these items
+-- bytes is a datagram of at most 1472 bytes, and these are the items of its first 64 lines, and of a line too many or a
+-- rest behind them
 pub record DatagramOf (items : List Item) (bytes : List ℕ) : Type 0 where
   pub body : List ℕ
   pub cut : Cut

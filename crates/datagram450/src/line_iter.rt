@@ -6,10 +6,9 @@ ghost use Rattle.datagram450.specs.Item.{Item, LineOf, item, line};
 ghost use Rattle.datagram450.specs.Datagram.{read, DatagramOf};
 
 use crate::fault::DatagramFault;
+use crate::header::HEADER;
 use crate::item::{LineItem, read_line};
 use std::marker::Model;
-
-const HEADER: [u8; 6] = *b"UdPbC\0";
 
 /// The longest datagram that is read.
 const LONGEST: usize = 1472;

@@ -1,4 +1,7 @@
 use super::*;
+use sentence_text::Sfi;
+use std::test::Fail;
+use tag_block::{GroupPart, Packet, TagParts};
 
 fn fault_of(bytes: &[u8]) -> Option<DatagramFault> {
     match lines(bytes) {
@@ -135,4 +138,54 @@ fn a_65th_line_ends_the_items(rt: HostRuntime) {
     assert_eq!(rt; count_of(&bytes), 65);
     assert_eq!(rt; bad_item(bytes.split_at(135).0, 64), Some((31, 134)));
     assert_eq!(rt; count_of(bytes.split_at(134).0), 64);
+}
+
+#[test]
+fn lines_are_written_behind_the_header(rt: HostRuntime) -> Result<(), Fail> {
+    let source = Sfi::of(b"II0001").ok_or("an SFI")?;
+    let rows: [(u8, u16, &[u8]); 2] = [
+        (1, 1, b"$SDDPT,12.34,-0.50,*67\r\n"),
+        (2, 2, b"$SDDBT,40.5,f,12.34,M,6.7,F*32\r\n"),
+    ];
+    let mut out = Packet::new();
+    begin(&mut out);
+    for (number, count, sentence) in rows {
+        let group = Some(GroupPart {
+            number,
+            total: 2,
+            code: 1,
+        });
+        let tag = TagParts {
+            group,
+            source,
+            count,
+        };
+        assert!(rt; push_line(&tag, sentence, &mut out));
+    }
+    assert_eq!(rt;
+        out.as_slice(),
+        b"UdPbC\0\\g:1-2-1,s:II0001,n:1*42\\$SDDPT,12.34,-0.50,*67\r\n\\g:2-2-1,s:II0001,n:2*42\\$SDDBT,40.5,f,12.34,M,6.7,F*32\r\n".as_slice()
+    );
+    Ok(())
+}
+
+#[test]
+fn a_line_that_does_not_fit_changes_nothing(rt: HostRuntime) -> Result<(), Fail> {
+    let source = Sfi::of(b"II0001").ok_or("an SFI")?;
+    let tag = TagParts {
+        group: None,
+        source,
+        count: 1,
+    };
+    let mut out = Packet::new();
+    begin(&mut out);
+    assert!(rt; push_line(&tag, &[b'x'; 455], &mut out));
+    assert_eq!(rt; out.len(), 478);
+    assert!(rt; !push_line(&tag, &[b'x'; 18], &mut out));
+    assert_eq!(rt; out.len(), 478);
+    assert!(rt; push_line(&tag, &[b'x'; 17], &mut out));
+    assert_eq!(rt; out.len(), 512);
+    assert!(rt; !push_line(&tag, b"", &mut out));
+    assert_eq!(rt; out.len(), 512);
+    Ok(())
 }
