@@ -1,0 +1,9 @@
+pub mod Agreed
+pub mod Cutting
+pub mod Cuts
+pub mod Datagrams
+pub mod LineBytes
+pub mod Reached
+pub mod Spelled
+pub mod TagPlaces
+pub mod SentencePlaces

@@ -1,0 +1,3 @@
+pub mod Item
+pub mod Datagram
+pub mod Writing

@@ -1,0 +1,94 @@
+ghost use Rattle.std.specs.Prelude.{◌≡◌, ◌+◌, ◌≤◌, length, IfOk, IfErr};
+ghost use Rattle.tag_block.specs.Reading as tags;
+ghost use Rattle.sentence_text.specs.Reading as sentences;
+ghost use Rattle.datagram450.specs.Item.{item, item_view, tag_rule as rule_of_tag, sentence_rule as rule_of_sentence};
+
+use sentence_text::{Sentence, SentenceFault, SentenceRule};
+use tag_block::{Tag, TagFault, TagRule};
+
+/// What a line of a datagram gives.
+#[derive(Clone, Copy, Debug)]
+pub enum LineItem<'a> {
+    /// TAG blocks and a sentence.
+    Line {
+        /// Where the line begins in the datagram.
+        at: u16,
+        tag: Tag<'a>,
+        /// The bytes of the sentence, CR and LF included.
+        text: &'a [u8],
+        sentence: Sentence<'a>,
+    },
+    /// The first rule that is broken: 31 a rest without LF, 32 the form of a TAG block, 33 its sum, 34 no source, 35
+    /// the form of the sentence, 36 its sum, 46 more than 64 lines.
+    Bad {
+        rule: u8,
+        /// Where the rule is broken in the datagram.
+        at: u16,
+    },
+}
+
+fn tag_rule(rule: TagRule) -> u8
+    ensures { result ≡ rule_of_tag rule }
+{
+    match rule {
+        TagRule::Form => 32,
+        TagRule::Sum => 33,
+        TagRule::NoSource => 34,
+    }
+}
+
+fn sentence_rule(rule: SentenceRule) -> u8
+    ensures { result ≡ rule_of_sentence rule }
+{
+    match rule {
+        SentenceRule::Sum => 36,
+        _ => 35,
+    }
+}
+
+/// What the TAG blocks of the line say, and how many bytes they have.
+fn read_tag<'a>(line: &'a [u8]) -> Result<(Tag<'a>, usize), TagFault>
+    ensures exact { tags.seen result ≡ tags.read line.now }
+    ensures length { IfOk result (λ t. t.1 ≤ length line.now) }
+    ensures place { IfErr result (λ f. f.place ≤ length line.now + 3) }
+{
+    tag_block::read(line)
+}
+
+#[tactic(auto, using(crate::proofs::SentencePlaces::sentence_place))]
+fn read_sentence<'a>(text: &'a [u8]) -> Result<Sentence<'a>, SentenceFault>
+    ensures exact { sentences.seen result ≡ sentences.read text.now }
+    ensures place { IfErr result (λ f. f.place ≤ length text.now + 120) }
+{
+    sentence_text::read(text)
+}
+
+/// What the line gives that begins at this place.
+#[tactic(auto, unfolding(crate::specs::Item::item))]
+pub(crate) fn read_line<'a>(at: u16, line: &'a [u8]) -> LineItem<'a>
+    requires { at + length line.now ≤ 1472 }
+    ensures { item_view result ≡ item at line.now }
+{
+    let (tag, length) = match read_tag(line) {
+        Ok((tag, length)) => (tag, length),
+        Err(fault) => {
+            return LineItem::Bad {
+                rule: tag_rule(fault.rule),
+                at: at + fault.place as u16,
+            };
+        }
+    };
+    let text = line.split_at(length).1;
+    match read_sentence(text) {
+        Ok(sentence) => LineItem::Line {
+            at,
+            tag,
+            text,
+            sentence,
+        },
+        Err(fault) => LineItem::Bad {
+            rule: sentence_rule(fault.rule),
+            at: at + length as u16 + fault.place as u16,
+        },
+    }
+}

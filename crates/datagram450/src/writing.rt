@@ -1,0 +1,49 @@
+ghost use Rattle.std.specs.Prelude.{◌≡◌, ◌+◌, ◌<◌, ◌≤◌, ◌↔◌, ℕ, List, [], ◌++◌, All, length, false, IsTrue};
+ghost use Rattle.arrayvec.specs.ArrayVec.{array_vec_len};
+ghost use Rattle.sentence_text.specs.Sentence.{Parts, IsSentence};
+ghost use Rattle.tag_block.specs.Tag.{IsTag, block_text};
+ghost use Rattle.tag_block.specs.Writing.{IsWritable, block_of, said_by};
+ghost use Rattle.datagram450.specs.Datagram.{header, all_of, IsLine, read};
+ghost use Rattle.datagram450.specs.Item.{line};
+ghost use Rattle.datagram450.specs.Writing.{line_text, GivesAt};
+
+use crate::header::HEADER;
+use tag_block::{Packet, TagParts};
+
+/// The header of a datagram.
+pub fn begin(out: &mut Packet)
+    requires { out.old.items ≡ [] }
+    ensures { out.new.items ≡ header }
+{
+    let _fits = out.try_extend_from_slice(&HEADER);
+}
+
+fn put_line(tag: &TagParts, sentence: &[u8], out: &mut Packet) -> bool
+    requires { IsWritable tag.now }
+    ensures fits { IsTrue result ↔ (array_vec_len out.old + length (line_text tag.now sentence.now) ≤ 512) }
+    ensures written { IsTrue result → out.new.items ≡ out.old.items ++ line_text tag.now sentence.now }
+    ensures unchanged { result ≡ false → out.new ≡ out.old }
+    ensures grammar { IsTag (said_by tag.now) (block_text (block_of tag.now)) }
+{
+    let before = out.len();
+    if !tag_block::write(tag, out) {
+        return false;
+    }
+    if out.try_extend_from_slice(sentence).is_err() {
+        out.truncate(before);
+        return false;
+    }
+    true
+}
+
+/// Appends a line: a TAG block and a sentence. Says whether it fitted; if not, nothing is appended.
+pub fn push_line(tag: &TagParts, sentence: &[u8], out: &mut Packet) -> bool
+    requires { IsWritable tag.now }
+    ensures fits { IsTrue result ↔ (array_vec_len out.old + length (line_text tag.now sentence.now) ≤ 512) }
+    ensures written { IsTrue result → out.new.items ≡ out.old.items ++ line_text tag.now sentence.now }
+    // Among the first 64 lines behind the header a sentence is read back in its place, whatever follows.
+    ensures again { (lines : List (List ℕ)) (tail : List ℕ) (parts : Parts) → IsTrue result → IsSentence parts sentence.now → out.old.items ≡ header ++ all_of lines → All IsLine lines → length lines < 64 → length (out.new.items ++ tail) ≤ 1472 → GivesAt (read (out.new.items ++ tail)) (length lines) (line (length out.old.items) (said_by tag.now) sentence.now parts) }
+    ensures unchanged { result ≡ false → out.new ≡ out.old }
+{
+    put_line(tag, sentence, out)
+}
