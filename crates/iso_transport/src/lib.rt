@@ -1,0 +1,18 @@
+//! The transport protocol of ISO 11783-3: messages of 9 to 1785 bytes, to all or to one node, and the replies that the sender of
+//! one to this node waits for.
+#![tactic(auto)]
+
+mod answers;
+mod assembler;
+mod connection;
+mod key;
+mod reply;
+mod session;
+mod verdict;
+
+pub use answers::{IsoEnded, IsoFed, IsoOutcome, IsoRefusal};
+pub use assembler::IsoAssembler;
+pub use connection::{Cm, read_cm};
+pub use key::IsoKey;
+pub use reply::{Reply, write_reply};
+pub use slot_views::View;
