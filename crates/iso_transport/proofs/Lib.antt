@@ -1,1 +1,5 @@
 pub mod Verdicts
+pub mod Lawful
+pub mod Sessions
+pub mod Prefixes
+pub mod Following

@@ -8,3 +8,5 @@ pub mod Verdicts
 pub mod Assembly
 pub mod Answers
 pub mod Rows
+pub mod Told
+pub mod Laws
