@@ -1,9 +1,9 @@
 -- A session is what the frames of its open prefix make.
 use Rattle.std.specs.Cmp.Lexicographic.{pointwise}
 use Rattle.std.specs.List.{AllByRecursion}
-use Rattle.std.proofs.lemmas.Bool.{cond-true, cond-false, eqb-false, leb-true, leb-false, ltb-true, ltb-false, eq-eqb, eqb-true, ne_eqb, lt-ltb, le-ltb, le-leb, lt-leb}
-use Rattle.std.proofs.Common.{◌≡◌, ℕ, ◌+◌, ◌-◌, ◌*◌, ◌<◌, ◌≤◌, ◌==◌, ◌&&◌, ◌||◌, not, nat_eq, nat_le, nat_lt, min, if◌then◌else◌, Bool, true, false, List, [], ◌∷◌, ◌++◌, length, take, drop, slice_index, Option, Some, None, option_map, length-append, length-take, length-drop, add-one, refl, sym, ◌∙◌, ap, subst, arith}
-use Rattle.runs.specs.Runs.{accepted, is_whole, is_admitted, in_time, opener_of, since_opener, if_open, if_whole, kept_at, open_of, open_at, run_of, fed, fed_later, finished, finished_later}
+use Rattle.std.proofs.lemmas.Bool.{cond-true, cond-false, eqb-false, leb-true, leb-false, ltb-true, ltb-false, eqb-true, ne_eqb, lt-ltb, le-ltb, le-leb, lt-leb}
+use Rattle.std.proofs.Common.{◌≡◌, ℕ, ◌+◌, ◌-◌, ◌<◌, ◌==◌, ◌&&◌, ◌||◌, not, nat_eq, nat_le, nat_lt, min, if◌then◌else◌, Bool, true, false, List, [], ◌∷◌, ◌++◌, length, drop, Option, Some, None, option_map, length-append, length-take, length-drop, add-one, refl, sym, ◌∙◌, ap, subst, arith}
+use Rattle.runs.specs.Runs.{is_whole, is_admitted, opener_of, since_opener, if_open, if_whole, kept_at, open_of, open_at, run_of, fed, fed_later, finished, finished_later}
 use Rattle.runs.proofs.Steps.{one_step_of}
 use Rattle.runs.proofs.Suffixes.{one_suffix_of}
 use Rattle.slot_views.specs.Slots.{Entry, is_complete}
@@ -12,19 +12,19 @@ use Rattle.iso_transport.specs.declared.connection.Cm.{Cm}
 use Rattle.iso_transport.specs.declared.connection.Cm.TheVariants.{Rts, Cts, EndAck, Bam, Abort}
 use Rattle.iso_transport.specs.declared.session.Session.{Session}
 use Rattle.iso_transport.specs.declared.verdict.Verdict.{Verdict}
-use Rattle.iso_transport.specs.declared.verdict.Verdict.TheVariants.{Ignored, Again, Refused, Ends, Opens, Next}
+use Rattle.iso_transport.specs.declared.verdict.Verdict.TheVariants.{Again, Refused, Ends, Next}
 use Rattle.iso_transport.specs.Connection.{control_at}
 use Rattle.iso_transport.specs.Cm.{cm_by, cm_of}
-use Rattle.iso_transport.specs.Sessions.{packets_of, is_size, opens, announced, gap_after, abort_to, mark_of, session_at}
+use Rattle.iso_transport.specs.Sessions.{is_size, opens, announced, gap_after, abort_to}
 use Rattle.iso_transport.specs.Audience.{bears}
-use Rattle.iso_transport.specs.IsoRuns.{IsoPiece, number_of, end_of, part_of, left_after, session_of, need_of, is_opener, is_next, is_repeat, iso_rules, joined, payload}
-use Rattle.iso_transport.specs.Verdicts.{session_in, pgn_in, left_of, last_packet, is_again, packet_verdict, opener_verdict, sized_verdict, abort_verdict, kind_verdict, management_verdict}
-use Rattle.iso_transport.specs.Assembly.{opening, extended}
-use Rattle.iso_transport.specs.Told.{Message, pgn_of, left_of_run, packet_told, told, message_of, verdict_on, if_incomplete, left_by, left_at, completed_by, completed_entry, assembly_of, assembly_at}
+use Rattle.iso_transport.specs.IsoRuns.{IsoPiece, number_of, end_of, part_of, session_of, need_of, is_opener, is_next, is_repeat, iso_rules, joined, payload}
+use Rattle.iso_transport.specs.Verdicts.{session_in, pgn_in, left_of, is_again, packet_verdict, opener_verdict, sized_verdict, abort_verdict, kind_verdict, management_verdict}
+use Rattle.iso_transport.specs.Assembly.{extended}
+use Rattle.iso_transport.specs.Told.{Message, pgn_of, left_of_run, packet_told, told, message_of, verdict_on, left_by, left_at, completed_by, assembly_of, assembly_at}
 use Rattle.iso_transport.specs.Laws.{IsOfTrace, IsTrace, assembly_after, FollowsRuns, HasItsSize}
 use Rattle.iso_transport.proofs.Lawful.{lawful, both_true, and_false, no_next, no_repeat}
-use Rattle.iso_transport.proofs.Sessions.{Opened, opened_from, session_kept}
-use Rattle.iso_transport.proofs.Prefixes.{size_of, entry, NextFacts, next_facts, IsSoFar, Facts, facts_of, so_far, within}
+use Rattle.iso_transport.proofs.Sessions.{opened_from, session_kept}
+use Rattle.iso_transport.proofs.Prefixes.{size_of, entry, next_facts, IsSoFar, Facts, facts_of, so_far, within}
 
 -- a choice by a test that holds, or doesn't
 if_true : {X : Type 0} (p : Bool) (a b c d : X) → p ≡ true → a ≡ c → (if p then a else b) ≡ (if p then c else d)

@@ -3,3 +3,5 @@ pub mod Lawful
 pub mod Sessions
 pub mod Prefixes
 pub mod Following
+pub mod Maps
+pub mod Joining

@@ -1,14 +1,11 @@
 -- What holds of frames that are a prefix so far, none of them a repeat.
-use Rattle.std.specs.Cmp.Lexicographic.{pointwise}
 use Rattle.std.proofs.lemmas.Bool.{eqb-true, leb-true, ltb-true}
 use Rattle.std.proofs.lemmas.List.{take_all}
-use Rattle.std.proofs.Common.{◌≡◌, ℕ, ◌+◌, ◌-◌, ◌*◌, ◌<◌, ◌≤◌, min, Bool, true, false, List, [], ◌∷◌, ◌++◌, length, take, drop, slice_index, Option, Some, None, length-take, length-drop, length-append, refl, sym, ◌∙◌, ap, subst, arith}
+use Rattle.std.proofs.Common.{◌≡◌, ℕ, ◌+◌, ◌-◌, ◌*◌, ◌<◌, ◌≤◌, min, Bool, true, false, List, [], ◌∷◌, ◌++◌, length, drop, slice_index, Option, Some, None, length-drop, length-append, refl, sym, ◌∙◌, ap, subst, arith}
 use Rattle.runs.specs.Runs.{accepted, accepted_after, accepted_more, in_time, opener_of}
 use Rattle.slot_views.specs.Slots.{Entry}
-use Rattle.iso_transport.specs.declared.session.Session.{Session}
-use Rattle.iso_transport.specs.Cm.{cm_of}
 use Rattle.iso_transport.specs.Sessions.{packets_of, opens, gap_after, mark_of}
-use Rattle.iso_transport.specs.IsoRuns.{IsoPiece, number_of, end_of, part_of, left_after, session_of, need_of, is_opener, is_next, is_repeat, iso_rules, joined}
+use Rattle.iso_transport.specs.IsoRuns.{IsoPiece, number_of, end_of, part_of, session_of, need_of, is_opener, is_next, is_repeat, iso_rules, joined}
 use Rattle.iso_transport.specs.Verdicts.{last_packet}
 use Rattle.iso_transport.specs.Told.{left_of_run}
 use Rattle.iso_transport.specs.Laws.{IsTrace}

@@ -1,5 +1,5 @@
 -- What an opener announces, and that it is read back from a session's mark.
-use Rattle.std.proofs.Common.{◌≡◌, ℕ, ◌+◌, ◌-◌, ◌*◌, ◌/◌, ◌%◌, ◌^◌, ◌<◌, ◌≤◌, ◌==◌, ◌&&◌, not, nat_lt, if◌then◌else◌, Bool, true, false, List, length, slice_index, Option, Some, None, refl, arith}
+use Rattle.std.proofs.Common.{◌≡◌, ℕ, ◌^◌, ◌<◌, ◌≤◌, ◌==◌, nat_lt, if◌then◌else◌, Bool, true, false, List, length, slice_index, Option, Some, None, refl, arith}
 use Rattle.std.proofs.lemmas.Bool.{leb-true}
 use Rattle.iso_transport.specs.declared.connection.Cm.{Cm}
 use Rattle.iso_transport.specs.declared.connection.Cm.TheVariants.{Rts, Cts, EndAck, Bam, Abort}
@@ -34,8 +34,8 @@ opened_by addressed (Some (Abort reason p)) opens pgn = cc
 -- a PGN has 24 bits
 pgn_by : (t a b c d e : Bool) (bytes : List ℕ)
     → (announced (if t then None else if a then Some (Rts (size_at bytes) (packets_at bytes) (limit_at bytes) (pgn_at bytes)) else if b then Some (Cts (slice_index bytes 1) (slice_index bytes 2) (pgn_at bytes))
-        else if c then Some (EndAck (size_at bytes) (packets_at bytes) (pgn_at bytes)) else if d then Some (Bam (size_at bytes) (packets_at bytes) (pgn_at bytes))
-        else if e then Some (Abort (slice_index bytes 1) (pgn_at bytes)) else None)).pgn < 2 ^ 24
+    else if c then Some (EndAck (size_at bytes) (packets_at bytes) (pgn_at bytes)) else if d then Some (Bam (size_at bytes) (packets_at bytes) (pgn_at bytes))
+    else if e then Some (Abort (slice_index bytes 1) (pgn_at bytes)) else None)).pgn < 2 ^ 24
 pgn_by true a b c d e bytes = omega arith
 pgn_by false true b c d e bytes = omega arith
 pgn_by false false true c d e bytes = omega arith

@@ -1,5 +1,5 @@
 -- What follows from what a frame is.
-use Rattle.std.proofs.Common.{◌≡◌, ℕ, ◌+◌, ◌≤◌, ◌&&◌, not, nat_le, nat_lt, Bool, true, false, if◌then◌else◌, List, length, Option, Some, None, option_map, is_some, refl, sym, ◌∙◌, ap, arith}
+use Rattle.std.proofs.Common.{◌≡◌, ℕ, ◌≤◌, ◌&&◌, not, nat_lt, Bool, true, false, if◌then◌else◌, List, length, Option, Some, None, option_map, is_some, refl, arith}
 use Rattle.std.proofs.lemmas.Bool.{leb-true}
 use Rattle.std.specs.declared.cmp.Ordering.{Ordering}
 use Rattle.slot_views.specs.Slots.{Entry, SlotMap, entry_at}
@@ -17,14 +17,14 @@ use Rattle.iso_transport.specs.declared.verdict.Verdict.{Verdict}
 use Rattle.iso_transport.specs.declared.verdict.Verdict.TheVariants.{Ignored, Again, Refused, Ends, Opens, Next}
 use Rattle.iso_transport.specs.Cm.{cm_of}
 use Rattle.iso_transport.specs.Sessions.{is_size, announced}
-use Rattle.iso_transport.specs.Verdicts.{IsSmall, IsOpening, VerdictFits, TellsSmall, opener_verdict, sized_verdict, abort_verdict, kind_verdict, management_verdict, pgn_in}
+use Rattle.iso_transport.specs.Verdicts.{IsSmall, VerdictFits, TellsSmall, opener_verdict, sized_verdict, abort_verdict, kind_verdict, management_verdict, pgn_in}
 
 both_true : (a b : Bool) → (a && b) ≡ true → (a ≡ true) × (b ≡ true)
 both_true true b h = (refl, h)
 both_true false b h = cc
 
 -- there is no room exactly where none of the key is open, and as many are as the limit
-abbrev full_where : Bool → Option Entry → Bool
+abbrev pub full_where : Bool → Option Entry → Bool
 full_where crowded o = not (is_some o) && crowded
 
 module _ (crowded : Bool) (o : Option Entry) (bytes : List ℕ) where

@@ -1,17 +1,10 @@
 -- What is promised of messages of the transport protocol.
-use Rattle.std.specs.Prelude.{◌≡◌, ℕ, ◌≤◌, ◌≢◌, Bool, true, false, not, ◌||◌, List, [], ◌∷◌, length, Option, Some, None}
-use Rattle.std.specs.List.{AllByRecursion, find}
-use Rattle.std.specs.declared.cmp.Ordering.{Ordering}
-use Rattle.slot_views.specs.Slots.{Entry, SlotMap, IsOrdered, entry_at, is_full, released, without}
-use Rattle.runs.specs.Runs.{open_of, open_at, run_of, kept_at}
-use Rattle.n2k_id.specs.declared.header.Parts.{Parts}
-use Rattle.iso_transport.specs.declared.key.IsoKey.{IsoKey}
-use Rattle.iso_transport.specs.declared.verdict.Verdict.{Verdict}
-use Rattle.iso_transport.specs.declared.verdict.Verdict.TheVariants.{Ignored}
-use Rattle.iso_transport.specs.Audience.{is_to, is_management, is_data, key_of, bears}
+use Rattle.std.specs.Prelude.{◌≡◌, ℕ, ◌≤◌, Bool, true, List, [], ◌∷◌, length, Option, Some, None}
+use Rattle.std.specs.List.{AllByRecursion}
+use Rattle.slot_views.specs.Slots.{Entry}
+use Rattle.runs.specs.Runs.{open_of, open_at, run_of}
+use Rattle.iso_transport.specs.Audience.{bears}
 use Rattle.iso_transport.specs.IsoRuns.{IsoPiece, iso_rules, session_of, payload}
-use Rattle.iso_transport.specs.Verdicts.{verdict}
-use Rattle.iso_transport.specs.Assembly.{verdict_of, fed_after}
 use Rattle.iso_transport.specs.Told.{told, message_of, verdict_on, left_by, left_at, completed_by, assembly_at}
 
 -- a frame of a trace: one of at most 8 bytes that can open, extend or end a session

@@ -10,3 +10,4 @@ pub mod Answers
 pub mod Rows
 pub mod Told
 pub mod Laws
+pub mod Joining

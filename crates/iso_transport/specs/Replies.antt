@@ -1,5 +1,5 @@
 -- The bytes of the replies. What stands in no field is 255.
-use Rattle.std.specs.Prelude.{ℕ, ◌/◌, ◌%◌, List, [], ◌∷◌, ◌++◌}
+use Rattle.std.specs.Prelude.{ℕ, ◌/◌, ◌%◌, List, [], ◌∷◌}
 use Rattle.iso_transport.specs.declared.connection.Cm.{Cm}
 use Rattle.iso_transport.specs.declared.connection.Cm.TheVariants as cm
 use Rattle.iso_transport.specs.declared.reply.Reply.{Reply}

@@ -1,5 +1,5 @@
 -- What an opener announces, and what follows from it after each packet.
-use Rattle.std.specs.Prelude.{ℕ, ◌+◌, ◌-◌, ◌*◌, ◌/◌, ◌%◌, ◌^◌, Bool, true, false, ◌&&◌, not, ◌==◌, nat_le, nat_lt, min, max, if◌then◌else◌, Option, Some, None}
+use Rattle.std.specs.Prelude.{ℕ, ◌+◌, ◌-◌, ◌*◌, ◌/◌, ◌%◌, ◌^◌, Bool, false, ◌&&◌, not, ◌==◌, nat_le, nat_lt, min, max, if◌then◌else◌, Option, Some, None}
 use Rattle.iso_transport.specs.declared.connection.Cm.{Cm}
 use Rattle.iso_transport.specs.declared.connection.Cm.TheVariants.{Rts, Cts, EndAck, Bam, Abort}
 use Rattle.iso_transport.specs.declared.reply.Reply.{Reply}

@@ -2,7 +2,10 @@
 ghost use Rattle.std.specs.Prelude.{true, false};
 ghost use Rattle.runs.specs.Laws.{OneStep, OneSuffix};
 ghost use Rattle.iso_transport.specs.IsoRuns.{iso_rules};
+ghost use Rattle.iso_transport.specs.Joining.{FeedsItsKey, EndsTheFirst};
 ghost use Rattle.iso_transport.specs.Laws.{FollowsRuns, HasItsSize};
+
+use crate::key::IsoKey;
 
 /// The frames of one sender to this node, and those to all, have one open prefix at most, and one more frame, or a later moment,
 /// does to it what the rules of the transport protocol say of the frames accepted so far alone.
@@ -24,4 +27,10 @@ pub fn sessions_follow_runs()
 pub fn messages_have_their_size()
     ensures addressed { HasItsSize true }
     ensures broadcast { HasItsSize false }
+{}
+
+/// A frame changes the session of its key alone, and is to all sessions what it is to that one.
+pub fn frames_change_their_key_alone()
+    ensures feed { FeedsItsKey ⟦<IsoKey as Ord>⟧.cmp }
+    ensures ends { EndsTheFirst ⟦<IsoKey as Ord>⟧.cmp }
 {}
