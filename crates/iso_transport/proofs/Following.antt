@@ -1,8 +1,8 @@
 -- A session is what the frames of its open prefix make.
 use Rattle.std.specs.Cmp.Lexicographic.{pointwise}
 use Rattle.std.specs.List.{AllByRecursion}
-use Rattle.std.proofs.lemmas.Bool.{cond-true, cond-false, eqb-false, leb-true, leb-false, ltb-true, ltb-false, eqb-true, ne_eqb, lt-ltb, le-ltb, le-leb, lt-leb}
-use Rattle.std.proofs.Common.{◌≡◌, ℕ, ◌+◌, ◌-◌, ◌<◌, ◌==◌, ◌&&◌, ◌||◌, not, nat_eq, nat_le, nat_lt, min, if◌then◌else◌, Bool, true, false, List, [], ◌∷◌, ◌++◌, length, drop, Option, Some, None, option_map, length-append, length-take, length-drop, add-one, refl, sym, ◌∙◌, ap, subst, arith}
+use Rattle.std.proofs.lemmas.Bool.{cond-true, cond-false, eqb-false, leb-true, leb-false, ltb-true, ltb-false, eqb-true, eq-eqb, ne_eqb, lt-ltb, le-ltb, le-leb, lt-leb}
+use Rattle.std.proofs.Common.{◌≡◌, ℕ, ◌+◌, ◌-◌, ◌%◌, ◌<◌, ◌≤◌, ◌==◌, ◌&&◌, ◌||◌, not, nat_eq, nat_le, nat_lt, min, if◌then◌else◌, Bool, true, false, List, [], ◌∷◌, ◌++◌, length, drop, Option, Some, None, option_map, length-append, length-take, length-drop, add-one, refl, sym, ◌∙◌, ap, subst, arith}
 use Rattle.runs.specs.Runs.{is_whole, is_admitted, opener_of, since_opener, if_open, if_whole, kept_at, open_of, open_at, run_of, fed, fed_later, finished, finished_later}
 use Rattle.runs.proofs.Steps.{one_step_of}
 use Rattle.runs.proofs.Suffixes.{one_suffix_of}
@@ -13,17 +13,20 @@ use Rattle.iso_transport.specs.declared.connection.Cm.TheVariants.{Rts, Cts, End
 use Rattle.iso_transport.specs.declared.session.Session.{Session}
 use Rattle.iso_transport.specs.declared.verdict.Verdict.{Verdict}
 use Rattle.iso_transport.specs.declared.verdict.Verdict.TheVariants.{Again, Refused, Ends, Next}
+use Rattle.iso_transport.specs.declared.reply.Reply.{Reply}
+use Rattle.iso_transport.specs.declared.reply.Reply.TheVariants as reply
 use Rattle.iso_transport.specs.Connection.{control_at}
 use Rattle.iso_transport.specs.Cm.{cm_by, cm_of}
-use Rattle.iso_transport.specs.Sessions.{is_size, opens, announced, gap_after, abort_to}
+use Rattle.iso_transport.specs.Sessions.{packets_of, is_size, opens, announced, gap_after, reply_after, abort_to}
+use Rattle.iso_transport.specs.Answers.{reply_by}
 use Rattle.iso_transport.specs.Audience.{bears}
 use Rattle.iso_transport.specs.IsoRuns.{IsoPiece, number_of, end_of, part_of, session_of, need_of, is_opener, is_next, is_repeat, iso_rules, joined, payload}
 use Rattle.iso_transport.specs.Verdicts.{session_in, pgn_in, left_of, is_again, packet_verdict, opener_verdict, sized_verdict, abort_verdict, kind_verdict, management_verdict}
 use Rattle.iso_transport.specs.Assembly.{extended}
-use Rattle.iso_transport.specs.Told.{Message, pgn_of, left_of_run, packet_told, told, message_of, verdict_on, left_by, left_at, completed_by, assembly_of, assembly_at}
+use Rattle.iso_transport.specs.Told.{Message, pgn_of, left_of_run, packet_told, told, reply_to_next, reply_to_packet, reply_to_opener, is_request, reply_to, message_of, verdict_on, left_by, left_at, completed_by, assembly_of, assembly_at}
 use Rattle.iso_transport.specs.Laws.{IsOfTrace, IsTrace, assembly_after, FollowsRuns, HasItsSize}
 use Rattle.iso_transport.proofs.Lawful.{lawful, both_true, and_false, no_next, no_repeat}
-use Rattle.iso_transport.proofs.Sessions.{opened_from, session_kept}
+use Rattle.iso_transport.proofs.Sessions.{Opened, opened_from, session_kept}
 use Rattle.iso_transport.proofs.Prefixes.{size_of, entry, next_facts, IsSoFar, Facts, facts_of, so_far, within}
 
 -- a choice by a test that holds, or doesn't
@@ -49,6 +52,21 @@ by_tests addressed s left again number bytes =
 
 tests_same : (addressed number : Bool) (bytes : List ℕ) (s t : Session) (i j : ℕ) (a b : Bool) → s ≡ t → i ≡ j → a ≡ b → by_tests addressed s i a number bytes ≡ by_tests addressed t j b number bytes
 tests_same addressed number bytes s t i j a b e f g = rw (e, f, g) refl
+
+-- what is told after a packet that isn't beyond the last
+after_by : (s : Session) (n : ℕ) (e m l : Bool) → (n == packets_of s.size) ≡ e → (n % s.window == 0) ≡ m → nat_lt n (packets_of s.size) ≡ l → l ≡ not e → reply_after true s n ≡ reply_to_next s n
+after_by s n true m true ee em el apart = cc
+after_by s n true m false ee em el apart = simp (ee, em, el, and_false)
+after_by s n false true true ee em el apart = simp (ee, em, el)
+after_by s n false false true ee em el apart = simp (ee, em, el)
+after_by s n false m false ee em el apart = cc
+
+below : (n p : ℕ) (e : Bool) → n ≤ p → (n == p) ≡ e → nat_lt n p ≡ not e
+below n p true le is = let same = eqb-true n p is in le-ltb n p (omega arith)
+below n p false le is = let other = eqb-false n p is in lt-ltb n p (omega (arith, other))
+
+after_is : (s : Session) (n : ℕ) → n ≤ packets_of s.size → reply_after true s n ≡ reply_to_next s n
+after_is s n few = after_by s n _ _ _ refl refl refl (below n (packets_of s.size) _ few refl)
 
 module _ (addressed : Bool) where
   -- a later moment
@@ -204,6 +222,20 @@ module _ (addressed : Bool) where
         let right : message_of (finished_later (iso_rules addressed) (Some (y ∷ ys)) x) ≡ message_of (if_whole (iso_rules addressed) (Some (x ∷ y ∷ ys))) = ap message_of (rw next refl) in
         ap (λ v. completed_by addressed v x (Some (entry addressed y ys))) is ∙ (next_completed next admitted _ refl ∙ sym right)
     completed_by_tests admitted false false false et er en = let next = next_is et ∙ en in simp (et, er, next)
+
+    -- what its sender is told
+    replied_by_tests : addressed ≡ true → (t r n : Bool) → nat_lt (length x.bytes) (end_of (left_of_run (y ∷ ys))) ≡ t → is_repeat (y ∷ ys) x ≡ r → (number_of x.bytes == length (y ∷ ys)) ≡ n
+        → reply_by true (packet_told true (Some (y ∷ ys)) x) ≡ reply_to_packet (Some (y ∷ ys)) x
+    replied_by_tests ours true r n et er en = simp (et, short_next et, short_repeat et)
+    replied_by_tests ours false true n et er en = simp (et, er, repeat_apart er)
+    replied_by_tests ours false false true et er en =
+        let next = next_is et ∙ en in
+        let is : packet_told true (Some (y ∷ ys)) x ≡ Next (session_of (y ∷ ys)) (number_of x.bytes) (end_of (left_of_run (y ∷ ys))) = simp (et, er, next) in
+        let right : reply_to_packet (Some (y ∷ ys)) x ≡ reply_to_next (session_of (y ∷ ys)) (number_of x.bytes) = rw next refl in
+        let number = eqb-true _ _ en in
+        let few : number_of x.bytes ≤ packets_of (size_of y ys) = omega (arith, number, more) in
+        ap (reply_by true) is ∙ (after_is (session_of (y ∷ ys)) (number_of x.bytes) few ∙ sym right)
+    replied_by_tests ours false false false et er en = let next = next_is et ∙ en in simp (et, er, next)
 
   -- what stands open: a prefix of a message that isn't whole
   abbrev Standing : Option (List IsoPiece) → Type 0
@@ -382,6 +414,112 @@ module _ (x : IsoPiece) (ep : x.packet ≡ false) where
   told_is : (addressed : Bool) (q : Option (List IsoPiece)) → nat_lt (length x.bytes) 8 ≡ false → told addressed q x ≡ kind_verdict addressed (not x.admitted) (option_map pgn_of q) (cm_of x.bytes)
   told_is addressed q long = cond-false x.packet (packet_told addressed q x) (management_verdict addressed (not x.admitted) (option_map pgn_of q) x.bytes) ep ∙ management_is addressed (not x.admitted) (option_map pgn_of q) long
 
+-- ---- what a sender is told
+
+-- nobody is told anything of a message to all
+tests_quiet : (s : Session) (left number : ℕ) (t r n : Bool) → reply_by false (if t then Ends refusal.Size (abort_to false 2 s.pgn) else if r then Again else if n then Next s number (end_of left) else Ends refusal.Order (abort_to false 2 s.pgn)) ≡ None
+tests_quiet s left number true r n = refl
+tests_quiet s left number false true n = refl
+tests_quiet s left number false false true = refl
+tests_quiet s left number false false false = refl
+
+packet_quiet : (q : Option (List IsoPiece)) (x : IsoPiece) → reply_by false (packet_told false q x) ≡ None
+packet_quiet None x = refl
+packet_quiet (Some acc) x = tests_quiet (session_of acc) (left_of_run acc) (number_of x.bytes) (nat_lt (length x.bytes) (end_of (left_of_run acc))) (is_repeat acc x) (is_next acc x)
+
+opener_quiet : (crowded : Bool) (o : Option ℕ) (s : Session) → reply_by false (opener_verdict false crowded o s) ≡ None
+opener_quiet crowded (Some old) s = refl
+opener_quiet true None s = refl
+opener_quiet false None s = refl
+
+sized_quiet : (crowded : Bool) (o : Option ℕ) (s : Session) (b : Bool) → reply_by false (if b then opener_verdict false crowded o s else Ends refusal.Size (abort_to false 2 s.pgn)) ≡ None
+sized_quiet crowded o s true = opener_quiet crowded o s
+sized_quiet crowded o s false = refl
+
+kind_quiet : (crowded : Bool) (o : Option ℕ) (cm : Option Cm) → reply_by false (kind_verdict false crowded o cm) ≡ None
+kind_quiet crowded o None = refl
+kind_quiet crowded o (Some (Rts size packets limit p)) = refl
+kind_quiet crowded o (Some (Cts count next p)) = refl
+kind_quiet crowded o (Some (EndAck size packets p)) = refl
+kind_quiet crowded o (Some (Bam size packets p)) = sized_quiet crowded o (announced (Some (Bam size packets p))) (is_size size packets)
+kind_quiet crowded o (Some (Abort why p)) = refl
+
+management_quiet : (crowded : Bool) (o : Option ℕ) (bytes : List ℕ) (t : Bool) → reply_by false (if t then Refused refusal.Size None else kind_verdict false crowded o (cm_of bytes)) ≡ None
+management_quiet crowded o bytes true = refl
+management_quiet crowded o bytes false = kind_quiet crowded o (cm_of bytes)
+
+told_quiet : (q : Option (List IsoPiece)) (x : IsoPiece) (p : Bool) → reply_by false (if p then packet_told false q x else management_verdict false (not x.admitted) (option_map pgn_of q) x.bytes) ≡ None
+told_quiet q x true = packet_quiet q x
+told_quiet q x false = management_quiet (not x.admitted) (option_map pgn_of q) x.bytes (nat_lt (length x.bytes) 8)
+
+-- an opener of a message to this node
+first_grant : (s : Session) → Opened s → reply_after true s 0 ≡ Some (reply.Cts (min s.window (packets_of s.size)) 1 s.pgn)
+first_grant s opened =
+    let least = opened.least in
+    let some = opened.some in
+    let multiple : (0 % s.window == 0) ≡ true = eq-eqb _ _ (omega arith) in
+    let more : nat_lt 0 (packets_of s.size) ≡ true = lt-ltb _ _ (omega arith) in
+    let all : packets_of s.size - 0 ≡ packets_of s.size = omega arith in
+    simp (multiple, more, all)
+
+opener_replied : (q : Option (List IsoPiece)) (a : Bool) (s : Session) → Opened s → (a ≡ false → q ≡ None) → reply_by true (opener_verdict true (not a) (option_map pgn_of q) s) ≡ Some (reply_to_opener s a)
+opener_replied None true s opened admits = first_grant s opened
+opener_replied None false s opened admits = refl
+opener_replied (Some acc) true s opened admits = first_grant s opened
+opener_replied (Some acc) false s opened admits = let none = admits refl in cc
+
+module _ (x : IsoPiece) (ep : x.packet ≡ false) where
+  sized_replied : (q : Option (List IsoPiece)) (packets : ℕ) (b : Bool) → is_request (cm_of x.bytes) ≡ true → (x.admitted ≡ false → q ≡ None) → is_size (announced (cm_of x.bytes)).size packets ≡ b → is_opener true x ≡ b
+      → reply_by true (sized_verdict true (not x.admitted) (option_map pgn_of q) (announced (cm_of x.bytes)) packets) ≡ reply_to true q x
+  sized_replied q packets false request admits eb eo = let none : opens true (cm_of x.bytes) ≡ false = rw ep at eo in simp (eb, ep, none, request)
+  sized_replied q packets true request admits eb eo =
+      let opened = opened_from true x.bytes (both_true _ _ eo).1 in
+      let left : sized_verdict true (not x.admitted) (option_map pgn_of q) (announced (cm_of x.bytes)) packets ≡ opener_verdict true (not x.admitted) (option_map pgn_of q) (announced (cm_of x.bytes)) = rw eb refl in
+      let rest : Option Reply = if is_request (cm_of x.bytes) then Some (reply.Abort 2 (pgn_of (x ∷ []))) else None in
+      let opener : Option Reply = Some (reply_to_opener (session_of (x ∷ [])) x.admitted) in
+      let right : reply_to true q x ≡ Some (reply_to_opener (announced (cm_of x.bytes)) x.admitted) =
+      cond-false x.packet (reply_to_packet q x) (if is_opener true x then opener else rest) ep ∙ cond-true (is_opener true x) opener rest eo in
+      ap (reply_by true) left ∙ (opener_replied q x.admitted (announced (cm_of x.bytes)) opened admits ∙ sym right)
+
+  kind_replied : (q : Option (List IsoPiece)) (cm : Option Cm) → Bears true cm → (x.admitted ≡ false → q ≡ None) → cm_of x.bytes ≡ cm → reply_by true (kind_verdict true (not x.admitted) (option_map pgn_of q) cm) ≡ reply_to true q x
+  kind_replied q None bearing admits is = absurd bearing
+  kind_replied q (Some (Rts size packets limit p)) bearing admits is =
+      let cm : Option Cm = Some (Rts size packets limit p) in
+      subst (λ t. reply_by true (sized_verdict true (not x.admitted) (option_map pgn_of q) t packets) ≡ reply_to true q x) (ap announced is)
+      (sized_replied q packets (is_opener true x) (ap is_request is) admits (announced_is x ep cm packets is ∙ sym (opener_is x ep true cm is)) refl)
+  kind_replied q (Some (Cts count next p)) bearing admits is = absurd bearing
+  kind_replied q (Some (EndAck size packets p)) bearing admits is = absurd bearing
+  kind_replied q (Some (Bam size packets p)) bearing admits is = absurd bearing
+  kind_replied q (Some (Abort why p)) bearing admits is =
+      let cm : Option Cm = Some (Abort why p) in
+      let other : opens true (cm_of x.bytes) ≡ false = ap (opens true) is in
+      let request : is_request (cm_of x.bytes) ≡ false = ap is_request is in
+      let right : reply_to true q x ≡ None = simp (ep, other, request) in
+      by_open q ∙ sym right
+    where
+      by_open : (q : Option (List IsoPiece)) → reply_by true (abort_verdict (option_map pgn_of q)) ≡ None
+      by_open None = refl
+      by_open (Some acc) = refl
+
+-- any frame
+replied_packet : (q : Option (List IsoPiece)) (x : IsoPiece) → Standing true q → x.packet ≡ true → reply_by true (packet_told true q x) ≡ reply_to_packet q x
+replied_packet None x stands ep = refl
+replied_packet (Some []) x stands ep = absurd stands
+replied_packet (Some (y ∷ ys)) x stands ep = replied_by_tests true y ys x stands.0 stands.1 ep refl _ _ _ refl refl refl
+
+replied_by : (q : Option (List IsoPiece)) (x : IsoPiece) (p : Bool) → Standing true q → IsOfTrace true x → (x.admitted ≡ false → q ≡ None) → x.packet ≡ p → reply_by true (told true q x) ≡ reply_to true q x
+replied_by q x true stands of admits ep =
+    let left : told true q x ≡ packet_told true q x = cond-true x.packet (packet_told true q x) (management_verdict true (not x.admitted) (option_map pgn_of q) x.bytes) ep in
+    let right : reply_to true q x ≡ reply_to_packet q x = cond-true x.packet _ _ ep in
+    ap (reply_by true) left ∙ (replied_packet q x stands ep ∙ sym right)
+replied_by q x false stands of admits ep =
+    let (long, bearing) = bears_by true x.packet x.bytes ep of.bearing in
+    ap (reply_by true) (told_is x ep true q long) ∙ kind_replied x ep q (cm_of x.bytes) bearing admits refl
+
+replied : (addressed : Bool) (q : Option (List IsoPiece)) (x : IsoPiece) → Standing addressed q → IsOfTrace addressed x → (x.admitted ≡ false → q ≡ None) → reply_by addressed (told addressed q x) ≡ reply_to addressed q x
+replied true q x stands of admits = replied_by q x _ stands of admits refl
+replied false q x stands of admits = told_quiet q x x.packet
+
 module _ (addressed : Bool) where
   -- a packet
   fed_packet : (q : Option (List IsoPiece)) (x : IsoPiece) → x.packet ≡ true → fed (iso_rules addressed) q x ≡ fed_later (iso_rules addressed) q x
@@ -433,6 +571,10 @@ module _ (addressed : Bool) where
       ap (λ v. completed_by addressed v x (assembly_at addressed q)) (told_law h x trace.1)
       ∙ (completed_from q x _ (standing_by addressed h x.moment _ trace.1 refl) trace.0 refl ∙ sym (ap message_of ((one_step_of (iso_rules addressed) (lawful addressed)).whole h x)))
 
+  replies_law : (h : List IsoPiece) (x : IsoPiece) → IsTrace addressed (x ∷ h) → (x.admitted ≡ false → open_at (iso_rules addressed) h x.moment ≡ None)
+      → reply_by addressed (verdict_on addressed (assembly_at addressed (open_at (iso_rules addressed) h x.moment)) x) ≡ reply_to addressed (open_at (iso_rules addressed) h x.moment) x
+  replies_law h x trace admits = ap (reply_by addressed) (told_law h x trace.1) ∙ replied addressed (open_at (iso_rules addressed) h x.moment) x (standing_by addressed h x.moment _ trace.1 refl) trace.0 admits
+
   all_law : (h : List IsoPiece) → IsTrace addressed h → assembly_after addressed h ≡ assembly_at addressed (open_of (iso_rules addressed) h)
   unfolding assembly_after
   all_law [] trace = refl
@@ -444,6 +586,7 @@ module _ (addressed : Bool) where
   pub follows_runs : FollowsRuns addressed
   follows_runs = record {
     told = told_law;
+    replies = replies_law;
     left = left_law;
     completed = completed_law;
     later = λ h m. later_is addressed (open_of (iso_rules addressed) h) m;

@@ -4,7 +4,7 @@ use Rattle.std.proofs.lemmas.Bool.{cond-true, cond-false, eqb-true, eqb-false, e
 use Rattle.std.specs.Cmp.{IsTotalOrder, bool_cmp_total}
 use Rattle.std.proofs.lemmas.Cmp.{nat_cmp_total, on_total, then_total}
 use Rattle.std.specs.declared.cmp.Ordering.{Ordering}
-use Rattle.std.specs.Ordering.{bool_cmp, nat_cmp, is_eq, ordering_then}
+use Rattle.std.specs.Ordering.{bool_cmp, nat_cmp, is_eq, is_gt, ordering_then}
 use Rattle.std.specs.Map.{remove_entry}
 use Rattle.std.specs.BTreeMap.{is_at}
 use Rattle.slot_views.specs.Slots.{Entry, SlotMap, grown, entry_at, is_held, is_full, is_complete, with_entries, released, begun_after, grown_after}
@@ -24,7 +24,7 @@ use Rattle.iso_transport.specs.IsoRuns.{number_of, end_of}
 use Rattle.iso_transport.specs.Verdicts.{pgn_in, left_of, is_again, VerdictFits, packet_verdict, kind_verdict, management_verdict, frame_verdict}
 use Rattle.iso_transport.specs.Assembly.{opening, is_crowded, part_to, fed_by, verdict_of, fed_after}
 use Rattle.iso_transport.specs.Told.{if_incomplete, verdict_on, left_by}
-use Rattle.iso_transport.specs.Joining.{concerns, IsMap, Changes, piece_of, FeedsItsKey, EndsTheFirst}
+use Rattle.iso_transport.specs.Joining.{concerns, IsMap, Changes, piece_of, FeedsItsKey, EndsTheFirst, OrdersKeys}
 use Rattle.iso_transport.proofs.Verdicts.{full_where, management_fits}
 use Rattle.iso_transport.proofs.Maps.{IsApart, ordered_removed, removed_here, removed_other, set_here, set_other, ordered_set, inserted_here, inserted_other, ordered_inserted, length_removed, length_removed_held, length_set, length_inserted, found, none_found, none_passes}
 
@@ -258,3 +258,18 @@ feeds = feeds_its_key key.TheImpl.ghosts.cmp keys_total keys_same
 
 pub ends : EndsTheFirst key.TheImpl.ghosts.cmp
 ends = ends_the_first key.TheImpl.ghosts.cmp keys_total keys_same
+
+not_above : (n m : ℕ) (b c : Bool) → n ≤ m → nat_lt n m ≡ b → (n == m) ≡ c → is_gt (nat_cmp n m) ≡ false
+not_above n m true c le less equal = simp less
+not_above n m false true le less equal = simp (less, equal)
+not_above n m false false le less equal = let past = ltb-false n m less in absurd (eqb-false n m equal (omega (arith, past, le)))
+
+to_this_node : (a : Bool) (n : ℕ) → n ≤ 255 → (not (is_gt (ordering_then (bool_cmp true a) (nat_cmp 0 n))) && not (is_gt (ordering_then (bool_cmp a true) (nat_cmp n 255)))) ≡ a
+to_this_node false n small = refl
+to_this_node true n small =
+    let low = not_above 0 n _ _ (omega arith) refl refl in
+    let high = not_above n 255 _ _ small refl refl in
+    rw (low, high) refl
+
+pub orders : OrdersKeys key.TheImpl.ghosts.cmp
+orders = record { broadcast_first = λ a b. refl; addressed = λ k e small. to_this_node k.addressed k.source small }

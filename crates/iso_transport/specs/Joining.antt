@@ -2,12 +2,13 @@
 use Rattle.std.specs.Prelude.{◌≡◌, ℕ, ◌≤◌, ◌≢◌, Bool, true, false, not, ◌&&◌, ◌||◌, List, length, Option, Some, None}
 use Rattle.std.specs.List.{find}
 use Rattle.std.specs.declared.cmp.Ordering.{Ordering}
+use Rattle.std.specs.declared.cmp.Ordering.TheVariants.{Less}
 use Rattle.slot_views.specs.Slots.{Entry, SlotMap, IsOrdered, entry_at, is_full, released, without}
 use Rattle.n2k_id.specs.declared.header.Parts.{Parts}
 use Rattle.iso_transport.specs.declared.key.IsoKey.{IsoKey}
 use Rattle.iso_transport.specs.Audience.{is_to, is_management, is_data, key_of, bears}
 use Rattle.iso_transport.specs.IsoRuns.{IsoPiece}
-use Rattle.iso_transport.specs.Assembly.{verdict_of, fed_after}
+use Rattle.iso_transport.specs.Assembly.{is_addressed, verdict_of, fed_after}
 use Rattle.iso_transport.specs.Told.{verdict_on, left_by}
 
 -- a frame of the transport protocol to this node or to all
@@ -49,3 +50,8 @@ module _ (cmp : IsoKey → IsoKey → Ordering) where
     pub none : (s : SlotMap IsoKey) (p : IsoKey × Entry → Bool) → find p s.entries ≡ None
         → (without s p ≡ s) × ((k : IsoKey) (e : Entry) → entry_at cmp s k ≡ Some e → p (k, e) ≡ false)
     pub released : (s : SlotMap IsoKey) (k : IsoKey) → IsMap s → Changes s (released cmp s k) k None
+
+-- the keys to all come before those to this node, which are those from the least such one to the greatest
+pub record OrdersKeys (cmp : IsoKey → IsoKey → Ordering) : Type 0 where
+  pub broadcast_first : (a b : ℕ) → cmp (record { addressed = false; source = a }) (record { addressed = true; source = b }) ≡ Less
+  pub addressed : (k : IsoKey) (e : Entry) → k.source ≤ 255 → is_addressed cmp (k, e) ≡ k.addressed

@@ -1,11 +1,12 @@
 -- What is promised of messages of the transport protocol.
-use Rattle.std.specs.Prelude.{◌≡◌, ℕ, ◌≤◌, Bool, true, List, [], ◌∷◌, length, Option, Some, None}
+use Rattle.std.specs.Prelude.{false, None, ◌≡◌, ℕ, ◌≤◌, Bool, true, List, [], ◌∷◌, length, Option, Some, None}
 use Rattle.std.specs.List.{AllByRecursion}
 use Rattle.slot_views.specs.Slots.{Entry}
 use Rattle.runs.specs.Runs.{open_of, open_at, run_of}
 use Rattle.iso_transport.specs.Audience.{bears}
 use Rattle.iso_transport.specs.IsoRuns.{IsoPiece, iso_rules, session_of, payload}
-use Rattle.iso_transport.specs.Told.{told, message_of, verdict_on, left_by, left_at, completed_by, assembly_at}
+use Rattle.iso_transport.specs.Answers.{reply_by}
+use Rattle.iso_transport.specs.Told.{told, reply_to, message_of, verdict_on, left_by, left_at, completed_by, assembly_at}
 
 -- a frame of a trace: one of at most 8 bytes that can open, extend or end a session
 pub record IsOfTrace (addressed : Bool) (x : IsoPiece) : Type 0 where
@@ -26,6 +27,9 @@ pub record FollowsRuns (addressed : Bool) : Type 0 where
   -- what a frame is
   pub told : (h : List IsoPiece) (x : IsoPiece) → IsTrace addressed h → let q = open_at (iso_rules addressed) h x.moment in
       verdict_on addressed (assembly_at addressed q) x ≡ told addressed q x
+  -- what its sender is told, where an opener finds room in the place of the session that is open
+  pub replies : (h : List IsoPiece) (x : IsoPiece) → IsTrace addressed (x ∷ h) → let q = open_at (iso_rules addressed) h x.moment in
+      (x.admitted ≡ false → q ≡ None) → reply_by addressed (verdict_on addressed (assembly_at addressed q) x) ≡ reply_to addressed q x
   -- what it leaves
   pub left : (h : List IsoPiece) (x : IsoPiece) → IsTrace addressed (x ∷ h) → let o = assembly_at addressed (open_at (iso_rules addressed) h x.moment) in
       left_by addressed (verdict_on addressed o x) x o ≡ assembly_at addressed (open_of (iso_rules addressed) (x ∷ h))

@@ -1,12 +1,17 @@
 -- What a frame is to its key, said twice: by the frames of the run that is open, and by the session that stands for it.
-use Rattle.std.specs.Prelude.{ℕ, ◌+◌, ◌-◌, Bool, not, nat_lt, if◌then◌else◌, List, [], ◌∷◌, length, Option, Some, None, option_map}
+use Rattle.std.specs.Prelude.{◌%◌, ◌==◌, true, false, min, ℕ, ◌+◌, ◌-◌, Bool, not, nat_lt, if◌then◌else◌, List, [], ◌∷◌, length, Option, Some, None, option_map}
 use Rattle.slot_views.specs.Slots.{Entry, is_complete, is_expired}
 use Rattle.iso_transport.specs.declared.answers.IsoRefusal.TheVariants as refusal
 use Rattle.iso_transport.specs.declared.session.Session.{Session}
 use Rattle.iso_transport.specs.declared.verdict.Verdict.{Verdict}
 use Rattle.iso_transport.specs.declared.verdict.Verdict.TheVariants.{Ignored, Again, Refused, Ends, Opens, Next}
+use Rattle.iso_transport.specs.declared.connection.Cm.{Cm}
+use Rattle.iso_transport.specs.declared.connection.Cm.TheVariants.{Rts, Cts, EndAck, Bam, Abort}
+use Rattle.iso_transport.specs.declared.reply.Reply.{Reply}
+use Rattle.iso_transport.specs.declared.reply.Reply.TheVariants as reply
+use Rattle.iso_transport.specs.Cm.{cm_of}
 use Rattle.iso_transport.specs.Sessions.{packets_of, gap_after, abort_to, mark_of}
-use Rattle.iso_transport.specs.IsoRuns.{IsoPiece, number_of, end_of, left_after, session_of, is_next, is_repeat, joined, payload}
+use Rattle.iso_transport.specs.IsoRuns.{IsoPiece, number_of, end_of, left_after, session_of, is_opener, is_next, is_repeat, joined, payload}
 use Rattle.iso_transport.specs.Verdicts.{management_verdict, frame_verdict}
 use Rattle.iso_transport.specs.Assembly.{opening, extended}
 
@@ -30,6 +35,32 @@ packet_told addressed (Some acc) x =
 
 abbrev pub told : Bool → Option (List IsoPiece) → IsoPiece → Verdict
 told addressed o x = if x.packet then packet_told addressed o x else management_verdict addressed (not x.admitted) (option_map pgn_of o) x.bytes
+
+-- the reply to a frame: only the sender of a message to this node has one
+abbrev pub reply_to_next : Session → ℕ → Option Reply
+reply_to_next s number = if number == packets_of s.size then Some (reply.EndAck s.size (packets_of s.size) s.pgn)
+    else if number % s.window == 0 then Some (reply.Cts (min s.window (packets_of s.size - number)) (number + 1) s.pgn) else None
+
+abbrev pub reply_to_packet : Option (List IsoPiece) → IsoPiece → Option Reply
+reply_to_packet None x = None
+reply_to_packet (Some acc) x = if is_next acc x then reply_to_next (session_of acc) (number_of x.bytes) else if is_repeat acc x then None else Some (reply.Abort 2 (pgn_of acc))
+
+abbrev pub reply_to_opener : Session → Bool → Reply
+reply_to_opener s admitted = if admitted then reply.Cts (min s.window (packets_of s.size)) 1 s.pgn else reply.Abort 1 s.pgn
+
+abbrev pub is_request : Option Cm → Bool
+is_request None = false
+is_request (Some (Rts size packets limit pgn)) = true
+is_request (Some (Cts count next pgn)) = false
+is_request (Some (EndAck size packets pgn)) = false
+is_request (Some (Bam size packets pgn)) = false
+is_request (Some (Abort why pgn)) = false
+
+abbrev pub reply_to : Bool → Option (List IsoPiece) → IsoPiece → Option Reply
+reply_to false o x = None
+reply_to true o x = if x.packet then reply_to_packet o x
+    else if is_opener true x then Some (reply_to_opener (session_of (x ∷ [])) x.admitted)
+    else if is_request (cm_of x.bytes) then Some (reply.Abort 2 (pgn_of (x ∷ []))) else None
 
 -- a message, by its PGN and its bytes
 pub record Message : Type 0 where

@@ -38,7 +38,7 @@ pub enum Cm {
     },
 }
 
-/// The control byte of each kind.
+/// The control byte of each kind (ISO 11783-3, TP.CM).
 pub(crate) const RTS: u8 = 16;
 
 pub(crate) const CTS: u8 = 17;

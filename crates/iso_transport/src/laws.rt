@@ -2,7 +2,7 @@
 ghost use Rattle.std.specs.Prelude.{true, false};
 ghost use Rattle.runs.specs.Laws.{OneStep, OneSuffix};
 ghost use Rattle.iso_transport.specs.IsoRuns.{iso_rules};
-ghost use Rattle.iso_transport.specs.Joining.{FeedsItsKey, EndsTheFirst};
+ghost use Rattle.iso_transport.specs.Joining.{FeedsItsKey, EndsTheFirst, OrdersKeys};
 ghost use Rattle.iso_transport.specs.Laws.{FollowsRuns, HasItsSize};
 
 use crate::key::IsoKey;
@@ -29,8 +29,10 @@ pub fn messages_have_their_size()
     ensures broadcast { HasItsSize false }
 {}
 
-/// A frame changes the session of its key alone, and is to all sessions what it is to that one.
+/// A frame changes the session of its key alone, and is to all sessions what it is to that one. Sessions to all come before those
+/// to this node, and the first one that passes a test is the one that is taken out.
 pub fn frames_change_their_key_alone()
     ensures feed { FeedsItsKey ⟦<IsoKey as Ord>⟧.cmp }
     ensures ends { EndsTheFirst ⟦<IsoKey as Ord>⟧.cmp }
+    ensures order { OrdersKeys ⟦<IsoKey as Ord>⟧.cmp }
 {}

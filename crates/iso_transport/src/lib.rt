@@ -9,6 +9,8 @@ mod key;
 mod laws;
 mod reply;
 mod session;
+#[cfg(test)]
+mod tests;
 mod verdict;
 
 pub use answers::{IsoEnded, IsoFed, IsoOutcome, IsoRefusal};

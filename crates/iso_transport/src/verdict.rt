@@ -27,9 +27,10 @@ pub enum Verdict {
     Next(Session, u8, usize),
 }
 
-/// The reasons of an abort.
+/// The reason of an abort where there is no room for another session.
 const NO_ROOM: u8 = 1;
 
+/// The reason of an abort where a frame doesn't fit its session, or no message has the size.
 const MISFIT: u8 = 2;
 
 impl Verdict {
@@ -81,6 +82,8 @@ pub(crate) fn management_verdict(
         return Verdict::Refused(IsoRefusal::Size, None);
     }
     match read_cm(bytes) {
+        Some(Cm::Rts { .. }) if !addressed => Verdict::Refused(IsoRefusal::Size, None),
+        Some(Cm::Bam { .. }) if addressed => Verdict::Refused(IsoRefusal::Size, None),
         Some(
             Cm::Rts {
                 size,
@@ -89,33 +92,14 @@ pub(crate) fn management_verdict(
                 pgn,
             },
         ) => {
-            if !addressed {
-                return Verdict::Refused(IsoRefusal::Size, None);
-            }
-            let window = limit.min(8).max(1);
-            sized_verdict(
-                addressed,
-                crowded,
-                held,
-                Session { pgn, size, window },
-                packets,
-            )
+            let window = limit.clamp(1, 8);
+            let session = Session { pgn, size, window };
+            sized_verdict(addressed, crowded, held, session, packets)
         }
         Some(Cm::Bam { size, packets, pgn }) => {
-            if addressed {
-                return Verdict::Refused(IsoRefusal::Size, None);
-            }
-            sized_verdict(
-                addressed,
-                crowded,
-                held,
-                Session {
-                    pgn,
-                    size,
-                    window: 1,
-                },
-                packets,
-            )
+            let window = 1;
+            let session = Session { pgn, size, window };
+            sized_verdict(addressed, crowded, held, session, packets)
         }
         Some(Cm::Abort { .. }) if addressed => abort_verdict(held),
         _ => Verdict::Ignored,
