@@ -1,5 +1,5 @@
 -- What is promised of messages of the transport protocol.
-use Rattle.std.specs.Prelude.{false, None, ◌≡◌, ℕ, ◌≤◌, Bool, true, List, [], ◌∷◌, length, Option, Some, None}
+use Rattle.std.specs.Prelude.{◌≡◌, ℕ, ◌≤◌, Bool, true, false, List, [], ◌∷◌, length, Option, Some, None}
 use Rattle.std.specs.List.{AllByRecursion}
 use Rattle.slot_views.specs.Slots.{Entry}
 use Rattle.runs.specs.Runs.{open_of, open_at, run_of}

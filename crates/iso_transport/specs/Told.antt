@@ -1,5 +1,5 @@
 -- What a frame is to its key, said twice: by the frames of the run that is open, and by the session that stands for it.
-use Rattle.std.specs.Prelude.{◌%◌, ◌==◌, true, false, min, ℕ, ◌+◌, ◌-◌, Bool, not, nat_lt, if◌then◌else◌, List, [], ◌∷◌, length, Option, Some, None, option_map}
+use Rattle.std.specs.Prelude.{ℕ, ◌+◌, ◌-◌, ◌%◌, Bool, true, false, not, ◌==◌, nat_lt, min, if◌then◌else◌, List, [], ◌∷◌, length, Option, Some, None, option_map}
 use Rattle.slot_views.specs.Slots.{Entry, is_complete, is_expired}
 use Rattle.iso_transport.specs.declared.answers.IsoRefusal.TheVariants as refusal
 use Rattle.iso_transport.specs.declared.session.Session.{Session}
@@ -25,6 +25,7 @@ pgn_of acc = (session_of acc).pgn
 abbrev pub left_of_run : List IsoPiece → ℕ
 left_of_run acc = left_after (session_of acc).size (length acc - 1)
 
+-- a packet is too short, or else a repeat, or the next one, or out of order
 abbrev pub packet_told : Bool → Option (List IsoPiece) → IsoPiece → Verdict
 packet_told addressed None x = Refused refusal.Orphan None
 packet_told addressed (Some acc) x =
@@ -33,21 +34,25 @@ packet_told addressed (Some acc) x =
     else if is_next acc x then Next (session_of acc) (number_of x.bytes) (end_of (left_of_run acc))
     else Ends refusal.Order (abort_to addressed 2 (pgn_of acc))
 
+-- a frame that is no packet is told by what it says and the message that is open
 abbrev pub told : Bool → Option (List IsoPiece) → IsoPiece → Verdict
 told addressed o x = if x.packet then packet_told addressed o x else management_verdict addressed (not x.admitted) (option_map pgn_of o) x.bytes
 
--- the reply to a frame: only the sender of a message to this node has one
+-- the reply to the next packet: the acknowledgement after the last one, and a grant after each multiple of the window
 abbrev pub reply_to_next : Session → ℕ → Option Reply
 reply_to_next s number = if number == packets_of s.size then Some (reply.EndAck s.size (packets_of s.size) s.pgn)
     else if number % s.window == 0 then Some (reply.Cts (min s.window (packets_of s.size - number)) (number + 1) s.pgn) else None
 
+-- to any packet of an open session: nothing to a repeat, and an abort to one that is short or out of order
 abbrev pub reply_to_packet : Option (List IsoPiece) → IsoPiece → Option Reply
 reply_to_packet None x = None
 reply_to_packet (Some acc) x = if is_next acc x then reply_to_next (session_of acc) (number_of x.bytes) else if is_repeat acc x then None else Some (reply.Abort 2 (pgn_of acc))
 
+-- to an opener: the first grant, or an abort where there is no room
 abbrev pub reply_to_opener : Session → Bool → Reply
 reply_to_opener s admitted = if admitted then reply.Cts (min s.window (packets_of s.size)) 1 s.pgn else reply.Abort 1 s.pgn
 
+-- the frame is an RTS
 abbrev pub is_request : Option Cm → Bool
 is_request None = false
 is_request (Some (Rts size packets limit pgn)) = true
@@ -56,6 +61,7 @@ is_request (Some (EndAck size packets pgn)) = false
 is_request (Some (Bam size packets pgn)) = false
 is_request (Some (Abort why pgn)) = false
 
+-- to any frame of a trace: only the sender of a message to this node has a reply
 abbrev pub reply_to : Bool → Option (List IsoPiece) → IsoPiece → Option Reply
 reply_to false o x = None
 reply_to true o x = if x.packet then reply_to_packet o x

@@ -24,9 +24,10 @@ const ROOM: usize = 1792;
 /// How many bytes of the message a packet carries at most.
 const PIECE: usize = 7;
 
-/// Connection management (TP.CM) and data (TP.DT).
+/// The PGN of connection management (TP.CM).
 const MANAGEMENT: u32 = 60416;
 
+/// The PGN of data (TP.DT).
 const DATA: u32 = 60160;
 
 /// Messages of several senders in the making (ISO 11783-3, transport protocol).
