@@ -97,13 +97,14 @@ fn pair_in<'a>(parcels: &[Parcel], bytes: &'a [u8], place: usize) -> Option<(Gro
 }
 
 impl Handover {
-    ghost use Rattle.std.specs.Prelude.{◌≡◌, [], Some, None, IfOk, is_some, option_map};
+    ghost use Rattle.std.specs.Prelude.{◌≡◌, [], Some, None, IfOk, IsOk, is_some, option_map};
     ghost use Rattle.gate_outside.specs.LinkMemory.{told_after, pair_at};
 
     /// Nothing yet, with room for so many bytes in so many pairs. With none of either it takes no
     /// memory.
     pub(crate) fn with_room(alloc: Global, room: u32, most: u32) -> Result<Self, AllocError>
-        ensures { IfOk result (λ h. h ≡ record { handed = Some []; room = room; most = most }) }
+        ensures empty { IfOk result (λ h. h ≡ record { handed = Some []; room = room; most = most }) }
+        ensures succeeds { room ≡ 0 → most ≡ 0 → IsOk result }
     {
         let bytes = Vec::with_capacity(alloc, room as usize)?;
         let parcels = Vec::with_capacity(alloc, most as usize)?;

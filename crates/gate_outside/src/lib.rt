@@ -5,8 +5,9 @@
 //! program over these traits can be held to its definition by what it read and wrote, and a failure
 //! by its count.
 //!
-//! The memory forms tell everything and fail at the calls that they are told to; the quiet forms
-//! never fail; the adapters over a reader and a writer of std tell nothing.
+//! The memory forms fail at the calls that they are told to, and the quiet forms never do. Both tell
+//! their content, an output or a link for as long as it is within the room that it was made with.
+//! The adapters over a reader and a writer of std tell nothing.
 #![tactic(auto)]
 
 mod address;

@@ -22,19 +22,20 @@ impl Model for MemSink {
 }
 
 impl MemSink {
-    ghost use Rattle.std.specs.Prelude.{◌≡◌, [], Some, IfOk, is_some, unwrap_or};
+    ghost use Rattle.std.specs.Prelude.{◌≡◌, [], Some, IfOk, IsOk, is_some, unwrap_or};
 
     /// An output that took nothing yet, tells up to `room` bytes, and moves at most `most` bytes a
     /// write. The writes whose numbers stand in `failing`, counted from 1, fail; with a `most` of 0
     /// each write of a piece that isn't empty does. Its room is reserved here: a room of 0 takes no
     /// memory, and no other call takes any.
     pub fn of(alloc: Global, room: u32, most: usize, failing: Vec<u32>) -> Result<Self, AllocError>
-        ensures { IfOk result (λ sink. sink ≡ record {
+        ensures empty { IfOk result (λ sink. sink ≡ record {
           taken = Some [];
           room = room;
           most = most;
           script = record { failing = failing.items; calls = 0; faults = 0 };
         }) }
+        ensures succeeds { room ≡ 0 → IsOk result }
     {
         Ok(MemSink {
             record: Record::with_room(alloc, room)?,

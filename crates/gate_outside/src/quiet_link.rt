@@ -36,7 +36,7 @@ impl Model for QuietLink {
 }
 
 impl QuietLink {
-    ghost use Rattle.std.specs.Prelude.{◌≡◌, [], Some, None, IfOk, IsSome, IsTrue, ◌↔◌, map, All, option_map};
+    ghost use Rattle.std.specs.Prelude.{◌≡◌, [], Some, None, IfOk, IsOk, IsSome, IsTrue, ◌↔◌, map, All, option_map};
     ghost use Rattle.gate_outside.specs.LinkMemory.{arrival_of, IsArrival, pair_at, traffic_of};
 
     /// A link that was handed nothing yet. It tells up to `sends` pairs with `room` bytes in all, which
@@ -50,12 +50,13 @@ impl QuietLink {
         script: Vec<Option<Vec<u8>>>,
     ) -> Result<QuietLink, AllocError>
         requires { All IsArrival script.items }
-        ensures { IfOk result (λ link. link ≡ record {
+        ensures empty { IfOk result (λ link. link ≡ record {
           script = map arrival_of script.items;
           receives = 0;
           over = record { handed = Some []; room = room; most = sends };
           attached = None;
         }) }
+        ensures succeeds { room ≡ 0 → sends ≡ 0 → IsOk result }
     {
         Ok(QuietLink {
             script,

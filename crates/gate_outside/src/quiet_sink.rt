@@ -24,13 +24,14 @@ impl Model for QuietSink {
 }
 
 impl QuietSink {
-    ghost use Rattle.std.specs.Prelude.{◌≡◌, ◌<◌, [], Some, IfOk, is_some, unwrap_or};
+    ghost use Rattle.std.specs.Prelude.{◌≡◌, ◌<◌, [], Some, IfOk, IsOk, is_some, unwrap_or};
 
     /// An output that took nothing yet, tells up to `room` bytes, and moves at most `most` bytes a
     /// write. Its room is reserved here: a room of 0 takes no memory, and no other call takes any.
     pub fn of(alloc: Global, room: u32, most: usize) -> Result<Self, AllocError>
         requires { 0 < most }
-        ensures { IfOk result (λ sink. sink ≡ record { taken = Some []; room = room; most = most }) }
+        ensures empty { IfOk result (λ sink. sink ≡ record { taken = Some []; room = room; most = most }) }
+        ensures succeeds { room ≡ 0 → IsOk result }
     {
         Ok(QuietSink {
             record: Record::with_room(alloc, room)?,

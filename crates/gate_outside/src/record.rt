@@ -22,12 +22,13 @@ impl Model for Record {
 }
 
 impl Record {
-    ghost use Rattle.std.specs.Prelude.{◌≡◌, [], Some, IfOk, is_some, unwrap_or};
+    ghost use Rattle.std.specs.Prelude.{◌≡◌, [], Some, IfOk, IsOk, is_some, unwrap_or};
     ghost use Rattle.gate_outside.specs.Told.{told_with};
 
     /// Nothing yet, with room for so many bytes. A room of 0 takes no memory.
     pub(crate) fn with_room(alloc: Global, room: u32) -> Result<Self, AllocError>
-        ensures { IfOk result (λ r. r ≡ record { taken = Some []; room = room }) }
+        ensures empty { IfOk result (λ r. r ≡ record { taken = Some []; room = room }) }
+        ensures succeeds { room ≡ 0 → IsOk result }
     {
         let bytes = Vec::with_capacity(alloc, room as usize)?;
         Ok(Record {

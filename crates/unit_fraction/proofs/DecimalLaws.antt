@@ -1,5 +1,5 @@
 -- The two laws of reading: what is read is spelled so, and what is spelled so is read.
-use Rattle.std.proofs.Common.{◌≡◌, ℕ, ◌+◌, ◌-◌, ◌<◌, ◌≤◌, Bool, true, false, cond, ◌||◌, ltb, List, [], ◌∷◌, ◌++◌, length, take, drop, Option, Some, None, Result, Ok, Err, refl, sym, ap, subst, ◌∙◌, length-append, one-add, arith, inl, inr}
+use Rattle.std.proofs.Common.{◌≡◌, ℕ, zero, suc, ◌+◌, ◌-◌, ◌*◌, ◌/◌, pow-add, ◌^◌, ◌<◌, ◌≤◌, Bool, true, false, cond, ◌||◌, ltb, List, [], ◌∷◌, ◌++◌, length, take, drop, Option, Some, None, Result, Ok, Err, refl, sym, ap, subst, ◌∙◌, length-append, one-add, arith, inl, inr}
 use Rattle.std.specs.Prelude.{◌==◌, slice_index}
 use Rattle.std.specs.Char.{is_ascii_digit}
 use Rattle.std.specs.List.{prefix_len}
@@ -11,7 +11,13 @@ use Rattle.unit_fraction.specs.declared.decimal.DecimalFault.{DecimalFault}
 use Rattle.unit_fraction.specs.declared.decimal.DecimalFault.TheVariants.{Empty, Byte, Long}
 use Rattle.unit_fraction.specs.Digits.{minus, pointed, spelling}
 use Rattle.unit_fraction.specs.Reading.{part_of, IsDecimal, is_negative, unsigned, digits_of, behind_digits, part_at, behind_part, Cut, cut, count_of, decimal_of, read_cut, read}
+use Rattle.std.specs.Fmt.{decimal}
+use Rattle.std.proofs.lemmas.Fmt.{length-decimal-le, decimal_nonempty}
+use Rattle.std.proofs.Math.Nat.{div-lt_iff_lt-mul, one-le-pow, div-le_self}
+use Rattle.unit_fraction.specs.Text.{behind_point, decimals, decimal_text}
+use Rattle.unit_fraction.specs.Laws.{written}
 use Rattle.unit_fraction.proofs.Number.{front_digits, all_digits_append}
+use Rattle.unit_fraction.proofs.Text.{writes_all, length-decimals}
 
 -- ---- what is read is spelled so
 
@@ -195,3 +201,38 @@ is_read text d h =
     ∙ passes_again (length text) (whole_cut d.negative h.whole part []) some refl more few
     ∙ ap (λ (n : ℕ). said_of d.negative n (length part)) (sym h.value)
     ∙ ap (λ (n : ℕ). said_of d.negative d.digits n) (sym h.places)
+
+-- ---- what is written is read
+
+part_is : (places : ℕ) (part : List ℕ) → length part ≡ places → part_of (behind_point places part) ≡ part
+part_is zero part e = sym (nil_from_length part e)
+part_is (suc places) part e = refl
+
+whole_length : (digits places : ℕ) → digits < 10 ^ 12 → places < 12 → length (decimal (digits / 10 ^ places)) + places ≤ 12
+whole_length digits places small few =
+    let power : 10 ^ (12 - places + places) ≡ 10 ^ (12 - places) * 10 ^ places = pow-add 10 (12 - places) places in
+    let all : 12 - places + places ≡ 12 = omega (arith, few) in
+    let fits : digits < 10 ^ (12 - places) * 10 ^ places = rw (← power, all) small in
+    let below : digits / 10 ^ places < 10 ^ (12 - places) = (div-lt_iff_lt-mul (one-le-pow places 10 (omega arith))).1 fits in
+    let short = length-decimal-le (12 - places) (digits / 10 ^ places) (omega arith) below (omega (arith, div-le_self digits (10 ^ places))) in
+    omega (arith, short)
+
+pub written_again : (negative : Bool) (digits places : ℕ) → digits < 10 ^ 12 → places < 12
+    → read (decimal_text negative digits places) ≡ Ok (written negative digits places)
+written_again negative digits places small few =
+    let whole = decimal (digits / 10 ^ places) in
+    let part = decimals places digits in
+    let all = writes_all places digits (omega arith) in
+    let exact = length-decimals places digits in
+    let is = part_is places part exact in
+    let count = length-append whole part in
+    is_read (decimal_text negative digits places) (written negative digits places) (record {
+      whole = whole;
+      part = behind_point places part;
+      spelled = refl;
+      are_digits = rw is all.are_digits;
+      some = rw is (omega (arith, count, decimal_nonempty (digits / 10 ^ places) (omega (arith, div-le_self digits (10 ^ places)))));
+      few = rw is (omega (arith, count, exact, whole_length digits places small few));
+      value = rw is (sym all.value);
+      places = rw is (sym exact);
+    })

@@ -10,7 +10,7 @@ use Rattle.unit_fraction.proofs.Nearest.{nearest_between, nearest_le}
 triangle : (x y : ℤ) → unsigned_abs y ≤ unsigned_abs x + unsigned_abs (x -ℤ y)
 triangle x y = grind (arith, ints)
 
-neg-mul : (q d : ℕ) → neg_ℤ (pos q) *ℤ pos d ≡ neg_ℤ (pos (q * d))
+pub neg-mul : (q d : ℕ) → neg_ℤ (pos q) *ℤ pos d ≡ neg_ℤ (pos (q * d))
 neg-mul zero d = grind arith
 neg-mul (suc q) d = refl
 
@@ -73,7 +73,7 @@ pub round-neg : (m d : ℕ) → 0 < d → round (neg_ℤ (pos m)) d ≡ neg_ℤ 
 round-neg zero d positive = rw (nearest-zero d positive) refl
 round-neg (suc m) d positive = refl
 
-not_below_zero : (a : ℕ) → lt_z (pos a) (pos 0) ≡ false
+pub not_below_zero : (a : ℕ) → lt_z (pos a) (pos 0) ≡ false
 not_below_zero a = grind (arith, ints)
 
 pub round_product : (raw : ℤ) (num d : ℕ) → 0 < d → round (raw *ℤ pos num) d ≡ signed (lt_z raw (pos 0)) (nearest (unsigned_abs raw * num) d)

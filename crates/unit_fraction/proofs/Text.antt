@@ -69,7 +69,7 @@ pub record Writes (n : ℕ) (ds : List ℕ) : Type 0 where
   pub are_digits : all_ascii_digits ds ≡ true
   pub value : number ds ≡ n
 
-writes_all : (k n : ℕ) → n < 2 ^ 64 → Writes n (decimal (n / 10 ^ k) ++ decimals k n)
+pub writes_all : (k n : ℕ) → n < 2 ^ 64 → Writes n (decimal (n / 10 ^ k) ++ decimals k n)
 writes_all zero n fits =
     let one : n / 10 ^ 0 ≡ n = omega arith in
     rw (one, append-nil) (record { are_digits = digits_decimal own n fits; value = digits_value-decimal own n fits })
@@ -86,7 +86,7 @@ writes_all (suc k) n fits =
     ap (λ (q : ℕ). decimal q ++ (decimals k (n / 10) ++ (48 + n % 10) ∷ [])) same ∙ sym (append_assoc (decimal (n / 10 / 10 ^ k)) (decimals k (n / 10)) ((48 + n % 10) ∷ [])) in
     subst (Writes n) (sym shape) last
 
-length-decimals : (k n : ℕ) → length (decimals k n) ≡ k
+pub length-decimals : (k n : ℕ) → length (decimals k n) ≡ k
 length-decimals zero n = refl
 length-decimals (suc k) n = omega (arith, length-append (decimals k (n / 10)) ((48 + n % 10) ∷ []), length-decimals k (n / 10))
 

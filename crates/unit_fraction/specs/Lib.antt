@@ -2,3 +2,4 @@ pub mod Round
 pub mod Digits
 pub mod Text
 pub mod Reading
+pub mod Laws

@@ -7,11 +7,13 @@
 mod backward;
 mod decimal;
 mod fraction;
+mod laws;
 mod reading;
 mod writing;
 
 pub use decimal::{Decimal, DecimalFault};
 pub use fraction::{Fraction, scale, scale_decimal};
+pub use laws::{there_and_back, written_is_read};
 pub use reading::read_decimal;
 pub use writing::write_decimal;
 

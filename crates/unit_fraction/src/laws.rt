@@ -1,0 +1,20 @@
+//! What is promised of a value that is written in another unit and read back.
+ghost use Rattle.std.specs.Prelude.{◌≡◌, ℕ, ℤ, Bool, ◌<◌, ◌^◌, Ok};
+ghost use Rattle.unit_fraction.specs.Laws.{IsStable, IsStableDecimal, written};
+ghost use Rattle.unit_fraction.specs.Text.{decimal_text};
+ghost use Rattle.unit_fraction.specs.Reading.{read};
+
+/// A whole number that is converted by a fraction of at least one, and back by its inverse, is the same again.
+///
+/// So a unit that is finer than the raw value loses nothing of it, and what a coarser unit prints is printed again
+/// after it was read.
+pub fn there_and_back()
+    ensures whole { IsStable }
+    ensures decimal { IsStableDecimal }
+{}
+
+/// What `write_decimal` writes in at most twelve digits, `read_decimal` reads: the same digits and places, and the
+/// sign that was shown.
+pub fn written_is_read()
+    ensures { (negative : Bool) (digits places : ℕ) → digits < 10 ^ 12 → places < 12 → read (decimal_text negative digits places) ≡ Ok (written negative digits places) }
+{}
