@@ -2,3 +2,9 @@ pub mod Conversions
 pub mod Field
 pub mod Lines
 pub mod Text
+pub mod Fault
+pub mod Quantities
+pub mod Civil
+pub mod Columns
+pub mod Formatters
+pub mod ReadRow

@@ -8,10 +8,18 @@ ghost use Rattle.sentence_text.specs.Text.{is_capital};
 ghost use Rattle.sentence_rows.specs.Field.{IsCounted};
 ghost use Rattle.sentence_rows.specs.Lines.{lines_of, sentence_by};
 ghost use Rattle.sentence_rows.specs.Text as text;
+ghost use Rattle.sentence_rows.specs.Columns.{fields_in};
+ghost use Rattle.sentence_rows.specs.ReadRow as spec;
 
 use crate::conversion::{FATHOMS, FEET, METRES};
 use crate::field::Field::{Decimal, Letter};
 use crate::lines::{Lines, put};
+use crate::number::measure;
+use crate::column::counted;
+use crate::fault::FieldFault;
+use crate::quantity;
+use readings::Reading;
+use sentence_text::Sentence;
 
 pub(crate) fn dbt(talker: [u8; 2], depth: Option<i64>, out: &mut Lines)
     requires room { length out.old.items < 2 }
@@ -34,4 +42,21 @@ pub(crate) fn dbt(talker: [u8; 2], depth: Option<i64>, out: &mut Lines)
         ],
         out,
     );
+}
+
+/// The depth that is read from its metres. Feet and fathoms are passed over.
+#[tactic(auto, unfolding(crate::specs::ReadRow::dbt))]
+pub(crate) fn read(sentence: &Sentence<'_>) -> Result<Reading, FieldFault>
+    ensures { result ≡ spec.dbt (fields_in sentence.now) }
+{
+    counted(sentence, 1)?;
+    counted(sentence, 2)?;
+    let depth = measure(sentence, 3, quantity::METRES, b'M')?;
+    counted(sentence, 5)?;
+    counted(sentence, 6)?;
+    Ok(Reading::Depth {
+        depth,
+        offset: None,
+        range: None,
+    })
 }

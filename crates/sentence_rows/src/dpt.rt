@@ -9,10 +9,17 @@ ghost use Rattle.sentence_text.specs.Text.{is_capital};
 ghost use Rattle.sentence_rows.specs.Field.{IsCounted};
 ghost use Rattle.sentence_rows.specs.Lines.{lines_of, sentence_by};
 ghost use Rattle.sentence_rows.specs.Text as text;
+ghost use Rattle.sentence_rows.specs.Columns.{fields_in};
+ghost use Rattle.sentence_rows.specs.ReadRow as spec;
 
 use crate::conversion::{METRES, OFFSET_METRES, RANGE_METRES};
 use crate::field::Field::Decimal;
 use crate::lines::{Lines, put};
+use crate::number::number;
+use crate::fault::FieldFault;
+use crate::quantity;
+use readings::Reading;
+use sentence_text::Sentence;
 
 pub(crate) fn dpt(
     talker: [u8; 2],
@@ -38,4 +45,31 @@ pub(crate) fn dpt(
         ],
         out,
     );
+}
+
+/// The depth that is read. The range of the scale may be missing.
+#[tactic(auto, unfolding(crate::specs::ReadRow::dpt))]
+pub(crate) fn read(sentence: &Sentence<'_>) -> Result<Reading, FieldFault>
+    ensures { result ≡ spec.dpt (fields_in sentence.now) }
+{
+    let depth = number(sentence, 1, quantity::METRES)?;
+    let offset = number(sentence, 2, quantity::OFFSET_METRES)?;
+    let range = scale_range(sentence)?;
+    Ok(Reading::Depth {
+        depth,
+        offset,
+        range,
+    })
+}
+
+/// The range of the depth's scale, which may be missing.
+#[tactic(auto, unfolding(crate::specs::ReadRow::depth_range))]
+fn scale_range(sentence: &Sentence<'_>) -> Result<Option<i64>, FieldFault>
+    ensures { result ≡ spec.depth_range (fields_in sentence.now) }
+{
+    if sentence.count() < 3 {
+        Ok(None)
+    } else {
+        number(sentence, 3, quantity::RANGE_METRES)
+    }
 }

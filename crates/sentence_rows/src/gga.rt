@@ -10,11 +10,22 @@ ghost use Rattle.sentence_text.specs.Text.{is_capital};
 ghost use Rattle.sentence_rows.specs.Field.{IsCounted, IsPrintable};
 ghost use Rattle.sentence_rows.specs.Lines.{lines_of, sentence_by};
 ghost use Rattle.sentence_rows.specs.Text as text;
+ghost use Rattle.sentence_rows.specs.Columns.{fields_in};
+ghost use Rattle.sentence_rows.specs.ReadRow as spec;
 
 use crate::conversion::{ALTITUDE_METRES, DILUTION, FIX_MINUTES, SEPARATION_METRES};
 use crate::field::Field::{self, Decimal, Degrees, Empty, Letter, Satellites, Side, Time};
 use crate::letter::letter_where;
 use crate::lines::{Lines, put};
+use crate::clock::time;
+use crate::position::coordinate;
+use crate::fix::{quality, satellites};
+use crate::number::{measure, number};
+use crate::letter::beside;
+use crate::fault::FieldFault;
+use crate::quantity;
+use readings::Reading;
+use sentence_text::Sentence;
 
 pub(crate) fn gga(
     talker: [u8; 2],
@@ -61,4 +72,30 @@ pub(crate) fn gga(
         ],
         out,
     );
+}
+
+/// The fix that is read.
+#[tactic(auto, unfolding(crate::specs::ReadRow::gga))]
+pub(crate) fn read(sentence: &Sentence<'_>) -> Result<Reading, FieldFault>
+    ensures { result ≡ spec.gga (fields_in sentence.now) }
+{
+    let time = time(sentence, 1)?;
+    let latitude = coordinate(sentence, 2, quantity::FIX_LATITUDE, 4, b'N', b'S')?;
+    let longitude = coordinate(sentence, 4, quantity::FIX_LONGITUDE, 5, b'E', b'W')?;
+    let method = quality(sentence, 6)?;
+    let satellites = satellites(sentence, 7)?;
+    let hdop = number(sentence, 8, quantity::DILUTION)?;
+    let altitude = measure(sentence, 9, quantity::ALTITUDE_METRES, b'M')?;
+    let separation = measure(sentence, 11, quantity::SEPARATION_METRES, b'M')?;
+    Ok(Reading::Gnss {
+        date: None,
+        time,
+        latitude: beside(latitude, longitude),
+        longitude: beside(longitude, latitude),
+        altitude,
+        method,
+        satellites,
+        hdop,
+        separation,
+    })
 }

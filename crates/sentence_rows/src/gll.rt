@@ -9,11 +9,19 @@ ghost use Rattle.sentence_text.specs.Text.{is_capital};
 ghost use Rattle.sentence_rows.specs.Field.{IsCounted};
 ghost use Rattle.sentence_rows.specs.Lines.{lines_of, sentence_by};
 ghost use Rattle.sentence_rows.specs.Text as text;
+ghost use Rattle.sentence_rows.specs.Columns.{fields_in};
+ghost use Rattle.sentence_rows.specs.ReadRow as spec;
 
 use crate::conversion::MINUTES;
 use crate::field::Field::{Degrees, Empty, Letter, Side};
-use crate::letter::letter_where;
+use crate::letter::{beside, letter_where, only_if};
 use crate::lines::{Lines, put};
+use crate::position::coordinate;
+use crate::column::{counted, status};
+use crate::fault::FieldFault;
+use crate::quantity;
+use readings::Reading;
+use sentence_text::Sentence;
 
 pub(crate) fn gll(talker: [u8; 2], latitude: Option<i64>, longitude: Option<i64>, out: &mut Lines)
     requires room { length out.old.items < 2 }
@@ -38,4 +46,20 @@ pub(crate) fn gll(talker: [u8; 2], latitude: Option<i64>, longitude: Option<i64>
         ],
         out,
     );
+}
+
+/// The position that is read; a status of `V` makes it absent.
+#[tactic(auto, unfolding(crate::specs::ReadRow::gll))]
+pub(crate) fn read(sentence: &Sentence<'_>) -> Result<Reading, FieldFault>
+    ensures { result ≡ spec.gll (fields_in sentence.now) }
+{
+    let latitude = coordinate(sentence, 1, quantity::LATITUDE, 4, b'N', b'S')?;
+    let longitude = coordinate(sentence, 3, quantity::LONGITUDE, 5, b'E', b'W')?;
+    counted(sentence, 5)?;
+    let nothing = latitude.is_none() && longitude.is_none();
+    let valid = status(sentence, 6, nothing)?;
+    Ok(Reading::Position {
+        latitude: only_if(valid, beside(latitude, longitude)),
+        longitude: only_if(valid, beside(longitude, latitude)),
+    })
 }

@@ -8,10 +8,18 @@ ghost use Rattle.sentence_text.specs.Text.{is_capital};
 ghost use Rattle.sentence_rows.specs.Field.{IsCounted};
 ghost use Rattle.sentence_rows.specs.Lines.{lines_of, sentence_by};
 ghost use Rattle.sentence_rows.specs.Text as text;
+ghost use Rattle.sentence_rows.specs.Columns.{fields_in};
+ghost use Rattle.sentence_rows.specs.ReadRow as spec;
 
 use crate::conversion::DEGREES;
 use crate::field::Field::{Angle, Magnitude, Side};
 use crate::lines::{Lines, put};
+use crate::number::number;
+use crate::number::sided;
+use crate::fault::FieldFault;
+use crate::quantity;
+use readings::Reading;
+use sentence_text::Sentence;
 
 pub(crate) fn hdg(
     talker: [u8; 2],
@@ -38,4 +46,19 @@ pub(crate) fn hdg(
         ],
         out,
     );
+}
+
+/// The magnetic heading that is read.
+#[tactic(auto, unfolding(crate::specs::ReadRow::hdg))]
+pub(crate) fn read(sentence: &Sentence<'_>) -> Result<Reading, FieldFault>
+    ensures { result ≡ spec.hdg (fields_in sentence.now) }
+{
+    let heading = number(sentence, 1, quantity::ANGLE)?;
+    let deviation = sided(sentence, 2, quantity::DEVIATION, b'E', b'W')?;
+    let variation = sided(sentence, 4, quantity::DEVIATION, b'E', b'W')?;
+    Ok(Reading::HeadingMagnetic {
+        heading,
+        deviation,
+        variation,
+    })
 }

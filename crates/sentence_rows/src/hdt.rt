@@ -7,9 +7,16 @@ ghost use Rattle.std.specs.List.{list_all};
 ghost use Rattle.sentence_text.specs.Text.{is_capital};
 ghost use Rattle.sentence_rows.specs.Lines.{lines_of, sentence_by};
 ghost use Rattle.sentence_rows.specs.Text as text;
+ghost use Rattle.sentence_rows.specs.Columns.{fields_in};
+ghost use Rattle.sentence_rows.specs.ReadRow as spec;
 
 use crate::field::Field::{Angle, Letter};
 use crate::lines::{Lines, put};
+use crate::number::measure;
+use crate::fault::FieldFault;
+use crate::quantity;
+use readings::Reading;
+use sentence_text::Sentence;
 
 pub(crate) fn hdt(talker: [u8; 2], heading: Option<i64>, out: &mut Lines)
     requires room { length out.old.items < 2 }
@@ -17,4 +24,13 @@ pub(crate) fn hdt(talker: [u8; 2], heading: Option<i64>, out: &mut Lines)
     ensures { lines_of out.new ≡ lines_of out.old ++ sentence_by talker (codes "HDT") (text.hdt heading) ∷ [] }
 {
     put(talker, *b"HDT", &[Angle(heading), Letter(b'T')], out);
+}
+
+/// The true heading that is read.
+#[tactic(auto, unfolding(crate::specs::ReadRow::hdt))]
+pub(crate) fn read(sentence: &Sentence<'_>) -> Result<Reading, FieldFault>
+    ensures { result ≡ spec.hdt (fields_in sentence.now) }
+{
+    let heading = measure(sentence, 1, quantity::ANGLE, b'T')?;
+    Ok(Reading::HeadingTrue { heading })
 }

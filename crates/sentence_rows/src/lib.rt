@@ -1,13 +1,19 @@
-//! The sentences of IEC 61162-1 in which each reading is said.
+//! The sentences of IEC 61162-1 in which each reading is said, and the readings of each sentence.
 //!
 //! Each sentence stands in a module of its own, with its layout and an example on top. A raw value is
 //! scaled once, by one fraction, to a whole number of the last decimals that are printed.
 #![tactic(auto)]
 
+mod clock;
+mod column;
 mod conversion;
 mod dbt;
+mod digits;
 mod dpt;
+mod fault;
 mod field;
+mod fix;
+mod formatter;
 mod gga;
 mod gll;
 mod hdg;
@@ -17,6 +23,10 @@ mod lines;
 mod mtw;
 mod mwd;
 mod mwv;
+mod number;
+mod position;
+mod quantity;
+mod reading;
 mod rot;
 mod rows;
 mod rsa;
@@ -29,5 +39,7 @@ mod vtg;
 mod xte;
 mod zda;
 
+pub use fault::FieldFault;
 pub use lines::{Lines, SentenceText};
+pub use reading::{Readings, read_rows};
 pub use rows::sentences;

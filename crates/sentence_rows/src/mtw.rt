@@ -9,10 +9,17 @@ ghost use Rattle.sentence_text.specs.Text.{is_capital};
 ghost use Rattle.sentence_rows.specs.Field.{IsCounted};
 ghost use Rattle.sentence_rows.specs.Lines.{lines_of, sentence_by};
 ghost use Rattle.sentence_rows.specs.Text as text;
+ghost use Rattle.sentence_rows.specs.Columns.{IsSmall, fields_in};
+ghost use Rattle.sentence_rows.specs.ReadRow as spec;
 
 use crate::conversion::CELSIUS;
 use crate::field::Field::{Decimal, Letter};
 use crate::lines::{Lines, put};
+use crate::number::measure;
+use crate::fault::FieldFault;
+use crate::quantity;
+use readings::Reading;
+use sentence_text::Sentence;
 
 pub(crate) fn mtw(talker: [u8; 2], kelvin: Option<i64>, out: &mut Lines)
     requires room { length out.old.items < 2 }
@@ -31,4 +38,23 @@ pub(crate) fn mtw(talker: [u8; 2], kelvin: Option<i64>, out: &mut Lines)
         &[Decimal(celsius, CELSIUS), Letter(b'C')],
         out,
     );
+}
+
+/// The temperature that is read.
+#[tactic(auto, unfolding(crate::specs::ReadRow::mtw))]
+pub(crate) fn read(sentence: &Sentence<'_>) -> Result<Reading, FieldFault>
+    ensures { result ≡ spec.mtw (fields_in sentence.now) }
+{
+    let celsius = measure(sentence, 1, quantity::CELSIUS, b'C')?;
+    Ok(Reading::WaterTemperature {
+        kelvin: from_freezing(celsius),
+    })
+}
+
+/// Thousandths of a kelvin.
+fn from_freezing(celsius: Option<i64>) -> Option<i64>
+    requires { IsSmall celsius }
+    ensures { result ≡ spec.from_freezing celsius }
+{
+    Some(celsius? + 273_150)
 }

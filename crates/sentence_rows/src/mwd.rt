@@ -8,11 +8,19 @@ ghost use Rattle.sentence_text.specs.Text.{is_capital};
 ghost use Rattle.sentence_rows.specs.Field.{IsCounted};
 ghost use Rattle.sentence_rows.specs.Lines.{lines_of, sentence_by};
 ghost use Rattle.sentence_rows.specs.Text as text;
+ghost use Rattle.sentence_rows.specs.Columns.{fields_in};
+ghost use Rattle.sentence_rows.specs.ReadRow as spec;
 
 use crate::conversion::{KNOTS, METRES_PER_SECOND};
 use crate::field::Field::{Angle, Decimal, Letter};
 use crate::letter::only_if;
 use crate::lines::{Lines, put};
+use crate::number::either_unit;
+use crate::column::is_magnetic;
+use crate::fault::FieldFault;
+use crate::quantity;
+use readings::Reading;
+use sentence_text::Sentence;
 
 pub(crate) fn mwd(
     talker: [u8; 2],
@@ -44,4 +52,32 @@ pub(crate) fn mwd(
         ],
         out,
     );
+}
+
+/// The wind that is read: its direction, true or else magnetic, and its speed in knots or else in m/s.
+#[tactic(auto, unfolding(crate::specs::ReadRow::mwd))]
+pub(crate) fn read(sentence: &Sentence<'_>) -> Result<Reading, FieldFault>
+    ensures { result ≡ spec.mwd (fields_in sentence.now) }
+{
+    let angle = either_unit(
+        sentence,
+        1,
+        quantity::ANGLE,
+        b'T',
+        quantity::ANGLE,
+        b'M',
+    )?;
+    let speed = either_unit(
+        sentence,
+        5,
+        quantity::KNOTS,
+        b'N',
+        quantity::METRES_PER_SECOND,
+        b'M',
+    )?;
+    Ok(Reading::WindNorth {
+        magnetic: is_magnetic(sentence),
+        speed,
+        angle,
+    })
 }

@@ -9,11 +9,19 @@ ghost use Rattle.sentence_text.specs.Text.{is_capital, is_body_byte};
 ghost use Rattle.sentence_rows.specs.Field.{IsCounted};
 ghost use Rattle.sentence_rows.specs.Lines.{lines_of, sentence_by};
 ghost use Rattle.sentence_rows.specs.Text as text;
+ghost use Rattle.sentence_rows.specs.Columns.{fields_in};
+ghost use Rattle.sentence_rows.specs.ReadRow as spec;
 
 use crate::conversion::KNOTS;
 use crate::field::Field::{Angle, Decimal, Letter};
-use crate::letter::letter_where;
+use crate::letter::{letter_where, only_if};
 use crate::lines::{Lines, put};
+use crate::number::{number, wind_speed};
+use crate::column::{reference, status};
+use crate::fault::FieldFault;
+use crate::quantity;
+use readings::Reading;
+use sentence_text::Sentence;
 
 pub(crate) fn mwv(
     talker: [u8; 2],
@@ -41,4 +49,27 @@ pub(crate) fn mwv(
         ],
         out,
     );
+}
+
+/// The wind that is read; a status of `V` makes it absent.
+#[tactic(auto, unfolding(crate::specs::ReadRow::mwv))]
+pub(crate) fn read(sentence: &Sentence<'_>) -> Result<Reading, FieldFault>
+    ensures { result ≡ spec.mwv (fields_in sentence.now) }
+{
+    let angle = number(sentence, 1, quantity::ANGLE)?;
+    let is_true = reference(sentence, 2)?;
+    let speed = wind_speed(sentence, 3)?;
+    let nothing = angle.is_none() && speed.is_none();
+    let valid = status(sentence, 5, nothing)?;
+    Ok(wind(is_true, only_if(valid, speed), only_if(valid, angle)))
+}
+
+fn wind(is_true: bool, speed: Option<i64>, angle: Option<i64>) -> Reading
+    ensures { result ≡ spec.wind is_true speed angle }
+{
+    if is_true {
+        Reading::WindTrue { speed, angle }
+    } else {
+        Reading::WindApparent { speed, angle }
+    }
 }

@@ -8,11 +8,19 @@ ghost use Rattle.sentence_text.specs.Text.{is_capital};
 ghost use Rattle.sentence_rows.specs.Field.{IsCounted};
 ghost use Rattle.sentence_rows.specs.Lines.{lines_of, sentence_by};
 ghost use Rattle.sentence_rows.specs.Text as text;
+ghost use Rattle.sentence_rows.specs.Columns.{fields_in};
+ghost use Rattle.sentence_rows.specs.ReadRow as spec;
 
 use crate::conversion::DEGREES_PER_MINUTE;
 use crate::field::Field::{Decimal, Letter};
-use crate::letter::letter_where;
+use crate::letter::{letter_where, only_if};
 use crate::lines::{Lines, put};
+use crate::number::number;
+use crate::column::status;
+use crate::fault::FieldFault;
+use crate::quantity;
+use readings::Reading;
+use sentence_text::Sentence;
 
 pub(crate) fn rot(talker: [u8; 2], rate: Option<i64>, out: &mut Lines)
     requires room { length out.old.items < 2 }
@@ -27,4 +35,16 @@ pub(crate) fn rot(talker: [u8; 2], rate: Option<i64>, out: &mut Lines)
         &[Decimal(rate, DEGREES_PER_MINUTE), Letter(status)],
         out,
     );
+}
+
+/// The rate of turn that is read; a status of `V` makes it absent.
+#[tactic(auto, unfolding(crate::specs::ReadRow::rot))]
+pub(crate) fn read(sentence: &Sentence<'_>) -> Result<Reading, FieldFault>
+    ensures { result ≡ spec.rot (fields_in sentence.now) }
+{
+    let rate = number(sentence, 1, quantity::RATE_OF_TURN)?;
+    let valid = status(sentence, 2, rate.is_none())?;
+    Ok(Reading::RateOfTurn {
+        rate: only_if(valid, rate),
+    })
 }

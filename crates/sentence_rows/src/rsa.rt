@@ -9,11 +9,19 @@ ghost use Rattle.sentence_text.specs.Text.{is_capital};
 ghost use Rattle.sentence_rows.specs.Field.{IsCounted};
 ghost use Rattle.sentence_rows.specs.Lines.{lines_of, sentence_by};
 ghost use Rattle.sentence_rows.specs.Text as text;
+ghost use Rattle.sentence_rows.specs.Columns.{fields_in};
+ghost use Rattle.sentence_rows.specs.ReadRow as spec;
 
 use crate::conversion::DEGREES;
 use crate::field::Field::{Decimal, Empty, Letter};
-use crate::letter::letter_where;
+use crate::letter::{letter_where, only_if};
+use crate::column::status;
+use crate::fault::FieldFault;
 use crate::lines::{Lines, put};
+use crate::number::number;
+use crate::quantity;
+use readings::Reading;
+use sentence_text::Sentence;
 
 pub(crate) fn rsa_first(talker: [u8; 2], position: Option<i64>, out: &mut Lines)
     requires room { length out.old.items < 2 }
@@ -53,4 +61,41 @@ pub(crate) fn rsa_second(talker: [u8; 2], position: Option<i64>, out: &mut Lines
         ],
         out,
     );
+}
+
+/// The rudders that are read: the first where its field isn't empty or both are, and the second where its field
+/// isn't. A status of `V` makes its rudder absent.
+#[tactic(auto, unfolding(crate::specs::ReadRow::rsa))]
+pub(crate) fn read(sentence: &Sentence<'_>) -> Result<(Reading, Option<Reading>), FieldFault>
+    ensures { result ≡ spec.rsa (fields_in sentence.now) }
+{
+    let first = number(sentence, 1, quantity::RUDDER)?;
+    let first_valid = status(sentence, 2, first.is_none())?;
+    let second = number(sentence, 3, quantity::RUDDER)?;
+    let second_valid = status(sentence, 4, second.is_none())?;
+    let one = Reading::RudderFirst {
+        position: only_if(first_valid, first),
+    };
+    let other = Reading::RudderSecond {
+        position: only_if(second_valid, second),
+    };
+    Ok(rudders(first.is_none(), second.is_none(), one, other))
+}
+
+/// Which of the rudders there are.
+fn rudders(
+    no_first: bool,
+    no_second: bool,
+    first: Reading,
+    second: Reading,
+) -> (Reading, Option<Reading>)
+    ensures { result ≡ spec.rudders no_first no_second first second }
+{
+    if no_second {
+        (first, None)
+    } else if no_first {
+        (second, None)
+    } else {
+        (first, Some(second))
+    }
 }

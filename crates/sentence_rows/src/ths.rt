@@ -7,10 +7,18 @@ ghost use Rattle.std.specs.List.{list_all};
 ghost use Rattle.sentence_text.specs.Text.{is_capital};
 ghost use Rattle.sentence_rows.specs.Lines.{lines_of, sentence_by};
 ghost use Rattle.sentence_rows.specs.Text as text;
+ghost use Rattle.sentence_rows.specs.Columns.{fields_in};
+ghost use Rattle.sentence_rows.specs.ReadRow as spec;
 
 use crate::field::Field::{Angle, Letter};
-use crate::letter::letter_where;
+use crate::letter::{letter_where, only_if};
 use crate::lines::{Lines, put};
+use crate::number::number;
+use crate::column::heading_mode;
+use crate::fault::FieldFault;
+use crate::quantity;
+use readings::Reading;
+use sentence_text::Sentence;
 
 pub(crate) fn ths(talker: [u8; 2], heading: Option<i64>, out: &mut Lines)
     requires room { length out.old.items < 2 }
@@ -19,4 +27,16 @@ pub(crate) fn ths(talker: [u8; 2], heading: Option<i64>, out: &mut Lines)
 {
     let mode = letter_where(heading.is_some(), b'A', b'V');
     put(talker, *b"THS", &[Angle(heading), Letter(mode)], out);
+}
+
+/// The true heading that is read; a mode of `V` makes it absent.
+#[tactic(auto, unfolding(crate::specs::ReadRow::ths))]
+pub(crate) fn read(sentence: &Sentence<'_>) -> Result<Reading, FieldFault>
+    ensures { result ≡ spec.ths (fields_in sentence.now) }
+{
+    let heading = number(sentence, 1, quantity::ANGLE)?;
+    let valid = heading_mode(sentence, 2)?;
+    Ok(Reading::HeadingTrue {
+        heading: only_if(valid, heading),
+    })
 }

@@ -8,10 +8,18 @@ ghost use Rattle.sentence_text.specs.Text.{is_capital};
 ghost use Rattle.sentence_rows.specs.Field.{IsCounted};
 ghost use Rattle.sentence_rows.specs.Lines.{lines_of, sentence_by};
 ghost use Rattle.sentence_rows.specs.Text as text;
+ghost use Rattle.sentence_rows.specs.Columns.{fields_in};
+ghost use Rattle.sentence_rows.specs.ReadRow as spec;
 
 use crate::conversion::{KILOMETRES_PER_HOUR, KNOTS};
 use crate::field::Field::{Decimal, Empty, Letter};
 use crate::lines::{Lines, put};
+use crate::number::either_unit;
+use crate::column::counted;
+use crate::fault::FieldFault;
+use crate::quantity;
+use readings::Reading;
+use sentence_text::Sentence;
 
 pub(crate) fn vhw(talker: [u8; 2], speed: Option<i64>, out: &mut Lines)
     requires room { length out.old.items < 2 }
@@ -35,4 +43,24 @@ pub(crate) fn vhw(talker: [u8; 2], speed: Option<i64>, out: &mut Lines)
         ],
         out,
     );
+}
+
+/// The speed through the water that is read, in knots or else in km/h. Headings are passed over.
+#[tactic(auto, unfolding(crate::specs::ReadRow::vhw))]
+pub(crate) fn read(sentence: &Sentence<'_>) -> Result<Reading, FieldFault>
+    ensures { result ≡ spec.vhw (fields_in sentence.now) }
+{
+    counted(sentence, 1)?;
+    counted(sentence, 2)?;
+    counted(sentence, 3)?;
+    counted(sentence, 4)?;
+    let speed = either_unit(
+        sentence,
+        5,
+        quantity::KNOTS,
+        b'N',
+        quantity::KILOMETRES_PER_HOUR,
+        b'K',
+    )?;
+    Ok(Reading::WaterSpeed { speed })
 }

@@ -8,10 +8,17 @@ ghost use Rattle.sentence_text.specs.Text.{is_capital};
 ghost use Rattle.sentence_rows.specs.Field.{IsCounted};
 ghost use Rattle.sentence_rows.specs.Lines.{lines_of, sentence_by};
 ghost use Rattle.sentence_rows.specs.Text as text;
+ghost use Rattle.sentence_rows.specs.Columns.{fields_in};
+ghost use Rattle.sentence_rows.specs.ReadRow as spec;
 
 use crate::conversion::NAUTICAL_MILES;
 use crate::field::Field::{Decimal, Letter};
 use crate::lines::{Lines, put};
+use crate::number::measure;
+use crate::fault::FieldFault;
+use crate::quantity;
+use readings::Reading;
+use sentence_text::Sentence;
 
 pub(crate) fn vlw(talker: [u8; 2], log: Option<i64>, trip: Option<i64>, out: &mut Lines)
     requires room { length out.old.items < 2 }
@@ -31,4 +38,14 @@ pub(crate) fn vlw(talker: [u8; 2], log: Option<i64>, trip: Option<i64>, out: &mu
         ],
         out,
     );
+}
+
+/// The distances through the water that are read.
+#[tactic(auto, unfolding(crate::specs::ReadRow::vlw))]
+pub(crate) fn read(sentence: &Sentence<'_>) -> Result<Reading, FieldFault>
+    ensures { result ≡ spec.vlw (fields_in sentence.now) }
+{
+    let log = measure(sentence, 1, quantity::NAUTICAL_MILES, b'N')?;
+    let trip = measure(sentence, 3, quantity::NAUTICAL_MILES, b'N')?;
+    Ok(Reading::DistanceLog { log, trip })
 }

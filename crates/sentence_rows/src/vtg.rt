@@ -9,11 +9,19 @@ ghost use Rattle.sentence_text.specs.Text.{is_capital};
 ghost use Rattle.sentence_rows.specs.Field.{IsCounted};
 ghost use Rattle.sentence_rows.specs.Lines.{lines_of, sentence_by};
 ghost use Rattle.sentence_rows.specs.Text as text;
+ghost use Rattle.sentence_rows.specs.Columns.{fields_in};
+ghost use Rattle.sentence_rows.specs.ReadRow as spec;
 
 use crate::conversion::{KILOMETRES_PER_HOUR, KNOTS};
 use crate::field::Field::{Angle, Decimal, Letter};
 use crate::letter::{letter_where, only_if};
 use crate::lines::{Lines, put};
+use crate::number::either_unit;
+use crate::column::{field, is_letter, is_magnetic};
+use crate::fault::FieldFault;
+use crate::quantity;
+use readings::Reading;
+use sentence_text::Sentence;
 
 pub(crate) fn vtg(
     talker: [u8; 2],
@@ -47,4 +55,44 @@ pub(crate) fn vtg(
         ],
         out,
     );
+}
+
+/// The course, true or else magnetic, and the speed that are read; a mode of `N` makes them absent.
+#[tactic(auto, unfolding(crate::specs::ReadRow::vtg))]
+pub(crate) fn read(sentence: &Sentence<'_>) -> Result<Reading, FieldFault>
+    ensures { result ≡ spec.vtg (fields_in sentence.now) }
+{
+    let course = either_unit(
+        sentence,
+        1,
+        quantity::ANGLE,
+        b'T',
+        quantity::ANGLE,
+        b'M',
+    )?;
+    let speed = either_unit(
+        sentence,
+        5,
+        quantity::KNOTS,
+        b'N',
+        quantity::KILOMETRES_PER_HOUR,
+        b'K',
+    )?;
+    let valid = !is_invalid_mode(sentence);
+    Ok(Reading::CourseSpeed {
+        magnetic: is_magnetic(sentence),
+        course: only_if(valid, course),
+        speed: only_if(valid, speed),
+    })
+}
+
+/// Whether the mode, which may be missing, is `N`.
+#[tactic(auto, unfolding(crate::specs::ReadRow::is_invalid_mode, crate::specs::Columns::text))]
+fn is_invalid_mode(sentence: &Sentence<'_>) -> bool
+    ensures { result ≡ spec.is_invalid_mode (fields_in sentence.now) }
+{
+    match field(sentence, 9) {
+        Some(mode) => is_letter(mode, b'N', false),
+        None => false,
+    }
 }

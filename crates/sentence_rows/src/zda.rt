@@ -9,14 +9,18 @@ ghost use Rattle.readings.specs.Ranges.{Admits, Holds, date as date_range};
 ghost use Rattle.sentence_text.specs.Text.{is_capital};
 ghost use Rattle.sentence_rows.specs.Lines.{lines_of, sentence_by};
 ghost use Rattle.sentence_rows.specs.Text as text;
+ghost use Rattle.sentence_rows.specs.Columns.{fields_in};
+ghost use Rattle.sentence_rows.specs.ReadRow as spec;
 
 use crate::field::Field::{Digits, Time};
 use crate::lines::{Lines, put};
 use jiff::ToSpan;
 use jiff::civil::Date;
-
-/// The days from the first date of the calendar, -9999-01-01, to 1970-01-01.
-const DAYS_BEFORE_1970: i64 = 4_371_587;
+use crate::clock::{DAYS_BEFORE_1970, date, time};
+use crate::fault::FieldFault;
+use crate::quantity;
+use readings::Reading;
+use sentence_text::Sentence;
 
 /// The date of a day, counted from 1970-01-01.
 fn civil_date(day: i64) -> Date
@@ -95,4 +99,14 @@ pub(crate) fn zda(talker: [u8; 2], day: Option<i64>, time: Option<i64>, out: &mu
         Some(day) => put_date(talker, time, civil_date(day), out),
         None => put_no_date(talker, time, out),
     }
+}
+
+/// The time and the date that are read. The local zone is passed over.
+#[tactic(auto, unfolding(crate::specs::ReadRow::zda))]
+pub(crate) fn read(sentence: &Sentence<'_>) -> Result<Reading, FieldFault>
+    ensures { result ≡ spec.zda (fields_in sentence.now) }
+{
+    let time = time(sentence, 1)?;
+    let date = date(sentence, 2)?;
+    Ok(Reading::Time { date, time })
 }

@@ -1,0 +1,44 @@
+-- The dates of the calendar by their numbers.
+use Rattle.std.specs.Prelude.{◌≡◌, ℕ, pos, Bool, true, false, ◌&&◌, nat_le, Option, Some, None, refl}
+use lib.Dec.{T}
+use lib.Signed.{le_z_yes}
+use Rattle.std.specs.Int.{IsInRange}
+use Rattle.std.proofs.lemmas.Bool.{leb-true, and_parts, false≢true}
+use Rattle.jiff.specs.Types.{Date}
+use Rattle.jiff.specs.Words.{days_in_month, IsYear}
+
+-- the calendar has such a year, month and day
+abbrev pub is_year : ℕ → Bool
+is_year year = nat_le year 9999
+
+abbrev pub is_month : ℕ → Bool
+is_month month = nat_le 1 month && nat_le month 12
+
+abbrev pub is_day : ℕ → ℕ → ℕ → Bool
+is_day year month day = nat_le 1 day && nat_le day (days_in_month (pos year) month)
+
+-- what these tests say
+passes : (b : Bool) → b ≡ true → T b
+passes true e = tt
+passes false e = absurd (false≢true e)
+
+pub year_within : (year : ℕ) → is_year year ≡ true → IsYear (pos year)
+year_within year e = (le_z_yes tt, le_z_yes (passes (nat_le year 9999) e))
+
+pub within : (low high n : ℕ) → (nat_le low n && nat_le n high) ≡ true → IsInRange low high n
+within low high n e = let parts = and_parts (nat_le low n) (nat_le n high) e in (leb-true low n parts.0, leb-true n high parts.1)
+
+abbrev pub date_if : (year month day : ℕ) (y m d : Bool) → is_year year ≡ y → is_month month ≡ m → is_day year month day ≡ d → Option Date
+date_if year month day true true true y m d = Some (record {
+  year = pos year;
+  month = month;
+  day = day;
+  year_in = year_within year y;
+  month_in = within 1 12 month m;
+  day_in = within 1 (days_in_month (pos year) month) day d;
+})
+date_if year month day _ _ _ y m d = None
+
+-- the date of this year, month and day, where the calendar has it
+unfoldable pub date_of : ℕ → ℕ → ℕ → Option Date
+date_of year month day = date_if year month day (is_year year) (is_month month) (is_day year month day) refl refl refl

@@ -1,0 +1,38 @@
+//! What a satellite fix says of itself.
+
+ghost use Rattle.std.specs.Prelude.{◌≡◌};
+ghost use Rattle.sentence_rows.specs.Columns as spec;
+
+use crate::column::is_blank;
+use crate::digits::digits;
+use crate::fault::FieldFault;
+use readings::range::{METHOD, SATELLITES};
+use sentence_text::Sentence;
+
+/// The method of a fix, 0 to 8; an empty field is 0.
+#[tactic(auto, unfolding(crate::specs::Columns::quality))]
+pub(crate) fn quality(sentence: &Sentence<'_>, at: u8) -> Result<u8, FieldFault>
+    ensures { result ≡ spec.quality (spec.fields_in sentence.now) at }
+{
+    let method = digits(sentence, at, true, 1, 1)?;
+    if METHOD.holds(method as i64) {
+        Ok(method as u8)
+    } else {
+        Err(FieldFault::Range(at))
+    }
+}
+
+/// The number of satellites.
+#[tactic(auto, unfolding(crate::specs::Columns::satellites))]
+pub(crate) fn satellites(sentence: &Sentence<'_>, at: u8) -> Result<Option<i64>, FieldFault>
+    ensures { result ≡ spec.satellites (spec.fields_in sentence.now) at }
+{
+    let number = digits(sentence, at, true, 1, 3)? as i64;
+    if is_blank(sentence, at) {
+        Ok(None)
+    } else if SATELLITES.holds(number) {
+        Ok(Some(number))
+    } else {
+        Err(FieldFault::Range(at))
+    }
+}

@@ -1,0 +1,88 @@
+ghost use Rattle.std.specs.Prelude.{◌≡◌, [], All, IfOk};
+ghost use Rattle.readings.specs.Ranges.{IsValid};
+ghost use Rattle.sentence_text.specs.Reading.{parts};
+ghost use Rattle.sentence_rows.specs.Columns.{fields_in};
+ghost use Rattle.sentence_rows.specs.ReadRow as spec;
+
+use crate::fault::FieldFault;
+use crate::formatter::Formatter;
+use crate::{dbt, dpt, gga, gll, hdg, hdt, mtw, mwd, mwv, rot, rsa, ths, vhw, vlw, vtg, xte, zda};
+use arrayvec::ArrayVec;
+use readings::Reading;
+use sentence_text::Sentence;
+
+/// The readings of one sentence.
+pub type Readings = ArrayVec<Reading, 2>;
+
+/// One reading, and no second one.
+fn alone_in(read: Result<Reading, FieldFault>) -> Result<(Reading, Option<Reading>), FieldFault>
+    ensures { result ≡ spec.alone read }
+{
+    match read {
+        Ok(reading) => Ok((reading, None)),
+        Err(fault) => Err(fault),
+    }
+}
+
+/// The readings of a sentence of this formatter.
+fn read_by(
+    formatter: Formatter,
+    sentence: &Sentence<'_>,
+) -> Result<(Reading, Option<Reading>), FieldFault>
+    ensures { result ≡ spec.read_as formatter (fields_in sentence.now) }
+{
+    match formatter {
+        Formatter::Hdt => alone_in(hdt::read(sentence)),
+        Formatter::Hdg => alone_in(hdg::read(sentence)),
+        Formatter::Rot => alone_in(rot::read(sentence)),
+        Formatter::Rsa => rsa::read(sentence),
+        Formatter::Vhw => alone_in(vhw::read(sentence)),
+        Formatter::Dpt => alone_in(dpt::read(sentence)),
+        Formatter::Dbt => alone_in(dbt::read(sentence)),
+        Formatter::Vlw => alone_in(vlw::read(sentence)),
+        Formatter::Gll => alone_in(gll::read(sentence)),
+        Formatter::Vtg => alone_in(vtg::read(sentence)),
+        Formatter::Gga => alone_in(gga::read(sentence)),
+        Formatter::Zda => alone_in(zda::read(sentence)),
+        Formatter::Mwv => alone_in(mwv::read(sentence)),
+        Formatter::Mwd => alone_in(mwd::read(sentence)),
+        Formatter::Mtw => alone_in(mtw::read(sentence)),
+        Formatter::Xte => alone_in(xte::read(sentence)),
+        Formatter::Ths => alone_in(ths::read(sentence)),
+    }
+}
+
+/// The readings of a sentence that begins with `$`.
+#[tactic(auto, unfolding(crate::specs::ReadRow::read_sentence))]
+fn read_sentence(sentence: &Sentence<'_>) -> Result<(Reading, Option<Reading>), FieldFault>
+    ensures exact { result ≡ spec.read_sentence (parts sentence.now) }
+    ensures valid { IfOk result spec.AreValid }
+{
+    if sentence.start != b'$' {
+        return Err(FieldFault::Outside);
+    }
+    match Formatter::of(sentence.formatter) {
+        Some(formatter) => read_by(formatter, sentence),
+        None => Err(FieldFault::Outside),
+    }
+}
+
+/// Reads the sentence: its one or two readings, which `out`, empty before, then holds, or the first fault in the
+/// order of its fields, and then `out` is empty. Fields behind those of the sentence are ignored.
+pub fn read_rows(sentence: &Sentence<'_>, out: &mut Readings) -> Result<(), FieldFault>
+    requires { out.old.items ≡ [] }
+    // The readings are those of the sentence, and the fault is its first.
+    ensures exact { spec.IsReadRow result out.new.items (parts sentence.now) }
+    // Each value is in its range.
+    ensures valid { All IsValid out.new.items }
+{
+    let (first, second) = match read_sentence(sentence) {
+        Ok(readings) => readings,
+        Err(fault) => return Err(fault),
+    };
+    out.push(first);
+    if let Some(second) = second {
+        out.push(second);
+    }
+    Ok(())
+}
