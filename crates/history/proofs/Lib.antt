@@ -1,4 +1,7 @@
 pub mod Addresses
+pub mod Fates
+pub mod Moves
+pub mod TraceMoves
 mod Computed
 mod ClaimCases
 mod FastCases

@@ -14,6 +14,7 @@ pub mod FromNet
 pub mod Gate
 pub mod Replay
 pub mod AddressLaws
+pub mod TraceLaws
 pub mod Cases
 pub mod ClaimCases
 pub mod FastCases

@@ -1,8 +1,16 @@
 //! What is promised of every history. Each law is a function that does nothing, and whose clause is the law.
 ghost use Rattle.history.specs.AddressLaws.{AddressesAreSound};
+ghost use Rattle.history.specs.TraceLaws.{ClaimsMoveTraces, CommandsMoveTraces};
 
 /// After every history no NAME has two addresses and the gateway's own has no other holder, and each is held since an entry of the
 /// history.
 pub fn addresses_are_sound()
     ensures { AddressesAreSound }
+{}
+
+/// A claim takes away what came from the addresses that were lost by it, and a new own address what came to the old one; the frames
+/// of all other sources count as before.
+pub fn addresses_keep_their_frames()
+    ensures claims { ClaimsMoveTraces }
+    ensures commands { CommandsMoveTraces }
 {}

@@ -1,0 +1,78 @@
+-- What counts for a source after a claim or a command.
+use Rattle.std.proofs.Common.{◌≡◌, ◌≢◌, ℕ, suc, ◌<◌, ◌≤◌, Bool, true, false, ◌&&◌, ◌||◌, not, List, [], ◌∷◌, ◌⊎◌, inl, inr, length, map, refl, sym, ap, subst, ◌∙◌, ◌==◌, nat_le, arith}
+use Rattle.std.specs.Prelude.{Option, Some, None, filter, if◌then◌else◌, option_map}
+use Rattle.std.specs.List.{AllByRecursion}
+use Rattle.std.proofs.lemmas.Bool.{lt-leb}
+use Rattle.n2k_id.specs.Frame.{BusFrame}
+use Rattle.history.specs.Entries.{Entry, History, frame, datagram, tick, command}
+use Rattle.history.specs.Settings.{Settings}
+use Rattle.history.specs.Known.{Known, known}
+use Rattle.history.specs.Traces.{Note, is_since}
+use Rattle.history.specs.Opens.{note_of, noted, notes_of}
+
+-- each note has the index of an entry of the history
+abbrev pub AreBelow : ℕ → List Note → Type 0
+AreBelow n notes = AllByRecursion (λ x. x.index < n) notes
+
+later : (n : ℕ) (notes : List Note) → AreBelow n notes → AreBelow (suc n) notes
+later n [] h = tt
+later n (x ∷ notes) h = (omega (arith, h.0), later n notes h.1)
+
+noted_below : (c : Settings) (n : ℕ) (k : Known) (notes : List Note) (e : Entry) → AreBelow n notes → AreBelow (suc n) (noted c n k notes e)
+noted_below c n k notes (frame m f) h = (omega arith, later n notes h)
+noted_below c n k notes (datagram m bytes) h = later n notes h
+noted_below c n k notes (tick m) h = later n notes h
+noted_below c n k notes (command m source address) h = later n notes h
+
+pub notes_below : (c : Settings) (s : ℕ) (h : History) → AreBelow (length h) (notes_of c s h)
+notes_below c s [] = tt
+notes_below c s (e ∷ h) = noted_below c (length h) (known c s h) (notes_of c s h) e (notes_below c s h)
+
+-- ---- the frames of a source since an entry, of which a kind counts
+
+abbrev pub trace : {X : Type 0} → (Note → X) → (Note → Bool) → ℕ → Option ℕ → List Note → List X
+trace g q a None notes = []
+trace g q a (Some since) notes = map g (filter (λ n. is_since a since n && q n) notes)
+
+pub and_no : (b : Bool) → (b && false) ≡ false
+and_no true = refl
+and_no false = refl
+
+-- a note that isn't of the kind
+pub passed_over : {X : Type 0} (g : Note → X) (q : Note → Bool) (a since : ℕ) (n : Note) (notes : List Note) → q n ≡ false
+    → trace g q a (Some since) (n ∷ notes) ≡ trace g q a (Some since) notes
+passed_over g q a since n notes e = rw (e, and_no (is_since a since n)) refl
+
+not_since : (i index : ℕ) → index < i → nat_le i index ≡ false
+not_since i index h = lt-leb i index h
+
+pub none_of : (a i : ℕ) (q : Note → Bool) (n : Note) → n.index < i → (is_since a i n && q n) ≡ false
+none_of a i q n h = rw (not_since i n.index h, and_no (n.parts.source == a)) refl
+
+-- none is since an entry that comes after all
+nothing_since : (a i : ℕ) (q : Note → Bool) (notes : List Note) → AreBelow i notes → filter (λ n. is_since a i n && q n) notes ≡ []
+nothing_since a i q [] h = refl
+nothing_since a i q (n ∷ notes) h = rw (none_of a i q n h.0) (nothing_since a i q notes h.1)
+
+-- since which entry a source holds its address, before and after an entry of this index
+pub data Moved (lost : Bool) (i : ℕ) (before after : Option ℕ) : Type 0 where
+  stays : lost ≡ false → after ≡ before → Moved lost i before after
+  begins : (after ≡ Some i) ⊎ (after ≡ None) → (lost ≡ true) ⊎ (before ≡ None) → Moved lost i before after
+
+module _ {X : Type 0} (g : Note → X) (q : Note → Bool) (a i : ℕ) (n : Note) (notes : List Note) (below : AreBelow i notes) (other : q n ≡ false) where
+  nothing_after : (after : Option ℕ) → (after ≡ Some i) ⊎ (after ≡ None) → trace g q a after (n ∷ notes) ≡ []
+  nothing_after after (inl e) = rw e (passed_over g q a i n notes other ∙ ap (map g) (nothing_since a i q notes below))
+  nothing_after after (inr e) = rw e refl
+
+  same_after : (since : Option ℕ) → trace g q a since (n ∷ notes) ≡ trace g q a since notes
+  same_after None = refl
+  same_after (Some since) = passed_over g q a since n notes other
+
+  nothing_before : (lost : Bool) (before : Option ℕ) → (lost ≡ true) ⊎ (before ≡ None) → (if lost then [] else trace g q a before notes) ≡ []
+  nothing_before lost before (inl e) = rw e refl
+  nothing_before true before (inr e) = refl
+  nothing_before false before (inr e) = rw e refl
+
+  pub moved_trace : (lost : Bool) (before after : Option ℕ) → Moved lost i before after → trace g q a after (n ∷ notes) ≡ (if lost then [] else trace g q a before notes)
+  moved_trace lost before after (stays kept same) = rw (same, kept) (same_after before)
+  moved_trace lost before after (begins new old) = nothing_after after new ∙ sym (nothing_before lost before old)

@@ -1,0 +1,216 @@
+-- The laws of traces: what counts after a claim, and after a command.
+use Rattle.std.proofs.Common.{◌≡◌, ◌≢◌, ℕ, ◌<◌, ◌≤◌, Bool, true, false, ◌&&◌, ◌||◌, not, List, [], ◌∷◌, ◌⊎◌, inl, inr, length, map, refl, sym, ap, subst, ◌∙◌, ◌==◌, nat_le}
+use Rattle.std.specs.Prelude.{Option, Some, None, filter, if◌then◌else◌, option_map}
+use Rattle.std.proofs.lemmas.Bool.{eqb-true, eqb-false, ne_eqb, and_parts, lt-leb}
+use Rattle.n2k_id.specs.declared.header.Parts.{Parts}
+use Rattle.n2k_id.specs.Frame.{BusFrame}
+use Rattle.n2k_id.specs.Identifier.{parts_of}
+use Rattle.claim_table.specs.declared.answer.Holder.{Holder}
+use Rattle.claim_table.specs.Claims.{Claims, Claim, Outcome, claim, command, holder_at, is_obeyed, moved_if}
+use Rattle.fast_packet.specs.FastRuns.{FastPiece}
+use Rattle.iso_transport.specs.IsoRuns.{IsoPiece}
+use Rattle.iso_transport.specs.Audience.{is_data}
+use Rattle.history.specs.Entries.{Entry, History, frame}
+use Rattle.history.specs.Entries as entry
+use Rattle.history.specs.Settings.{Settings}
+use Rattle.history.specs.Known.{Known, known, is_claim, claim_by, followed_by, since_of, since_own}
+use Rattle.history.specs.Traces.{Note, is_since, fast_piece, fast_trace, fast_trace_since, iso_piece, iso_trace, broadcast_since, addressed_since, is_transport, is_bearing}
+use Rattle.history.specs.Opens.{note_of, notes_of}
+use Rattle.history.specs.AddressLaws.{AreSettings}
+use Rattle.history.specs.TraceLaws.{is_lost, same_own, LeavesTraces, ClaimsMoveTraces, CommandsMoveTraces}
+use Rattle.history.proofs.Addresses.{addresses_are_sound}
+use Rattle.history.proofs.Fates.{Fate, stays, begins, fate}
+use Rattle.history.proofs.Moves as moves
+use Rattle.history.proofs.Moves.{AreBelow, notes_below, trace, Moved, moved_trace, none_of, passed_over, and_no}
+
+-- ---- the three kinds of traces as one
+
+fast_as : (since : Option ℕ) (a p : ℕ) (notes : List Note) → fast_trace_since since a p notes ≡ trace fast_piece (λ n. n.parts.pgn == p) a since notes
+fast_as None a p notes = refl
+fast_as (Some since) a p notes = refl
+
+broadcast_as : (since : Option ℕ) (a : ℕ) (notes : List Note) → broadcast_since since a notes ≡ trace iso_piece (λ n. (n.parts.destination == 255) && is_bearing false n) a since notes
+broadcast_as None a notes = refl
+broadcast_as (Some since) a notes = refl
+
+abbrev to_own : ℕ → ℕ → Note → Bool
+to_own own own_since n = (n.parts.destination == own) && (nat_le own_since n.index && is_bearing true n)
+
+addressed_as : (since : Option ℕ) (own own_since a : ℕ) (notes : List Note) → addressed_since since (Some own) own_since a notes ≡ trace iso_piece (to_own own own_since) a since notes
+addressed_as None own own_since a notes = refl
+addressed_as (Some since) own own_since a notes = refl
+
+no_address : (since : Option ℕ) (own_since a : ℕ) (notes : List Note) → addressed_since since None own_since a notes ≡ []
+no_address None own_since a notes = refl
+no_address (Some since) own_since a notes = refl
+
+-- ---- a claim is no frame of any of them
+
+no_transport : (p : Parts) → p.pgn ≡ 60928 → is_transport p ≡ false
+no_transport p e = rw e refl
+
+bears_not : (addressed : Bool) (n : Note) → n.parts.pgn ≡ 60928 → is_bearing addressed n ≡ false
+bears_not addressed n e = rw (no_transport n.parts e) refl
+
+to_own_not : (own own_since : ℕ) (n : Note) → n.parts.pgn ≡ 60928 → to_own own own_since n ≡ false
+to_own_not own own_since n e = rw (bears_not true n e, and_no (nat_le own_since n.index), and_no (n.parts.destination == own)) refl
+
+to_all_not : (n : Note) → n.parts.pgn ≡ 60928 → ((n.parts.destination == 255) && is_bearing false n) ≡ false
+to_all_not n e = rw (bears_not false n e, and_no (n.parts.destination == 255)) refl
+
+-- nothing was sent to the own address since an entry that comes after all
+late_own : (own i : ℕ) (n : Note) → n.index < i → to_own own i n ≡ false
+late_own own i n h = rw (lt-leb i n.index h, and_no (n.parts.destination == own)) refl
+
+nothing_sent : (a since own i : ℕ) (notes : List Note) → AreBelow i notes → filter (λ n. is_since a since n && to_own own i n) notes ≡ []
+nothing_sent a since own i [] h = refl
+nothing_sent a since own i (n ∷ notes) h = rw (late_own own i n h.0, and_no (is_since a since n)) (nothing_sent a since own i notes h.1)
+
+nothing_to_new : (since : Option ℕ) (a own i : ℕ) (n : Note) (notes : List Note) → AreBelow i notes → n.parts.pgn ≡ 60928 → addressed_since since (Some own) i a (n ∷ notes) ≡ []
+nothing_to_new None a own i n notes h e = refl
+nothing_to_new (Some since) a own i n notes h e = passed_over iso_piece (to_own own i) a since n notes (to_own_not own i n e) ∙ ap (map iso_piece) (nothing_sent a since own i notes h)
+
+or_true : (b : Bool) → (b || true) ≡ true
+or_true true = refl
+or_true false = refl
+
+or_false : (b : Bool) → (b || false) ≡ b
+or_false true = refl
+or_false false = refl
+
+module _ (a i own_since : ℕ) (n : Note) (notes : List Note) (below : AreBelow i notes) (claims : n.parts.pgn ≡ 60928) (lost : Bool) (since after : Option ℕ)
+  (moved : Moved lost i since after) where
+  changed : (rest : List IsoPiece) → [] ≡ (if lost || true then [] else rest)
+  changed rest = rw (or_true lost) refl
+
+  to_same : (own : ℕ) (t : Bool) → t ≡ true → addressed_since after (Some own) own_since a (n ∷ notes) ≡ (if lost || not t then [] else addressed_since since (Some own) own_since a notes)
+  to_same own true e =
+      addressed_as after own own_since a (n ∷ notes)
+      ∙ moved_trace iso_piece (to_own own own_since) a i n notes below (to_own_not own own_since n claims) lost since after moved
+      ∙ ap (λ (x : List IsoPiece). if lost then [] else x) (sym (addressed_as since own own_since a notes))
+      ∙ ap (λ (b : Bool). if b then [] else addressed_since since (Some own) own_since a notes) (sym (or_false lost))
+  to_same own false e = cc
+
+  to_other : (before own : ℕ) (t : Bool) → (before == own) ≡ t
+      → addressed_since after (Some own) (if t then own_since else i) a (n ∷ notes) ≡ (if lost || not t then [] else addressed_since since (Some before) own_since a notes)
+  to_other before own true e = let same : before ≡ own = eqb-true before own e in
+      to_same own true refl ∙ ap (λ (x : ℕ). if lost || false then [] else addressed_since since (Some x) own_since a notes) (sym same)
+  to_other before own false e = nothing_to_new after a own i n notes below claims ∙ changed (addressed_since since (Some before) own_since a notes)
+
+  by_own : (before own : Option ℕ)
+      → addressed_since after own (since_own i own_since before own) a (n ∷ notes) ≡ (if lost || not (same_own before own) then [] else addressed_since since before own_since a notes)
+  by_own None None = no_address after i a (n ∷ notes) ∙ sym (unchanged lost (addressed_since since None own_since a notes) (no_address since own_since a notes))
+    where
+      unchanged : (b : Bool) (x : List IsoPiece) → x ≡ [] → (if b || false then [] else x) ≡ []
+      unchanged true x e = refl
+      unchanged false x e = e
+  by_own (Some before) None = no_address after own_since a (n ∷ notes) ∙ changed (addressed_since since (Some before) own_since a notes)
+  by_own None (Some own) = nothing_to_new after a own i n notes below claims ∙ changed (addressed_since since None own_since a notes)
+  by_own (Some before) (Some own) = to_other before own (before == own) refl
+
+-- ---- a claim
+
+since_in : List (Option Holder) → ℕ → Option ℕ
+since_in holders a = option_map (λ h. h.since) (holder_at holders a)
+
+moved_of : (c : Claims) (k : Claim) (o : Outcome) (a : ℕ) → Fate c k o a → Moved (is_lost o.step a) k.index (since_in c.holders a) (since_in o.after.holders a)
+unfolding since_in
+moved_of c k o a (stays kept same) = moves.stays kept (ap (option_map (λ (h : Holder). h.since)) same)
+moved_of c k o a (begins new old) = moves.begins (after new) (before old)
+  where
+    after : (holder_at o.after.holders a ≡ Some (record { name = record { 0 = k.name }; since = k.index })) ⊎ (holder_at o.after.holders a ≡ None)
+        → (option_map (λ (h : Holder). h.since) (holder_at o.after.holders a) ≡ Some k.index) ⊎ (option_map (λ (h : Holder). h.since) (holder_at o.after.holders a) ≡ None)
+    after (inl e) = inl (ap (option_map (λ (h : Holder). h.since)) e)
+    after (inr e) = inr (ap (option_map (λ (h : Holder). h.since)) e)
+
+    before : (is_lost o.step a ≡ true) ⊎ (holder_at c.holders a ≡ None) → (is_lost o.step a ≡ true) ⊎ (option_map (λ (h : Holder). h.since) (holder_at c.holders a) ≡ None)
+    before (inl e) = inl e
+    before (inr e) = inr (ap (option_map (λ (h : Holder). h.since)) e)
+
+module _ (c : Settings) (s : ℕ) (h : History) (m : ℕ) (f : BusFrame) (are : AreSettings c) (claims : is_claim f ≡ true) where
+  k : Known
+  k = known c s h
+
+  o : Outcome
+  o = claim (known c s h).claims (claim_by (length h) m f)
+
+  after : Known
+  after = followed_by (length h) (known c s h) (claim (known c s h).claims (claim_by (length h) m f)).after
+
+  n : Note
+  n = note_of c (length h) (known c s h) (notes_of c s h) m f
+
+  known_is : known c s (frame m f ∷ h) ≡ followed_by (length h) (known c s h) (claim (known c s h).claims (claim_by (length h) m f)).after
+  known_is = rw claims refl
+
+  pgn_is : (parts_of f.id).pgn ≡ 60928
+  pgn_is = eqb-true (parts_of f.id).pgn 60928 (and_parts _ _ claims).0
+
+  moved : (a : ℕ) → Moved (is_lost (claim (known c s h).claims (claim_by (length h) m f)).step a) (length h) (since_of (known c s h) a)
+      (since_of (followed_by (length h) (known c s h) (claim (known c s h).claims (claim_by (length h) m f)).after) a)
+  unfolding since_in
+  moved a =
+      moved_of (known c s h).claims (claim_by (length h) m f) (claim (known c s h).claims (claim_by (length h) m f)) a
+      (fate (known c s h).claims (claim_by (length h) m f) (addresses_are_sound c s h are).sound a)
+
+  pub claim_moves : LeavesTraces c s h (frame m f) (is_lost (claim (known c s h).claims (claim_by (length h) m f)).step)
+  unfolding n
+  claim_moves = record {
+    fast = λ a p other. rw known_is (
+    fast_as (since_of (followed_by (length h) (known c s h) (claim (known c s h).claims (claim_by (length h) m f)).after) a) a p (n ∷ notes_of c s h)
+    ∙ moved_trace fast_piece (λ x. x.parts.pgn == p) a (length h) n (notes_of c s h) (notes_below c s h) (not_it p other) _ _ _ (moved a)
+    ∙ ap (λ (x : List FastPiece). if is_lost (claim (known c s h).claims (claim_by (length h) m f)).step a then [] else x) (sym (fast_as (since_of (known c s h) a) a p (notes_of c s h))));
+    broadcast = λ a. rw known_is (
+    broadcast_as (since_of (followed_by (length h) (known c s h) (claim (known c s h).claims (claim_by (length h) m f)).after) a) a (n ∷ notes_of c s h)
+    ∙ moved_trace iso_piece (λ x. (x.parts.destination == 255) && is_bearing false x) a (length h) n (notes_of c s h) (notes_below c s h) (to_all_not n pgn_is) _ _ _ (moved a)
+    ∙ ap (λ (x : List IsoPiece). if is_lost (claim (known c s h).claims (claim_by (length h) m f)).step a then [] else x) (sym (broadcast_as (since_of (known c s h) a) a (notes_of c s h))));
+    addressed = λ a. rw known_is (
+    by_own a (length h) (known c s h).own_since n (notes_of c s h) (notes_below c s h) pgn_is _ _ _ (moved a) (known c s h).claims.own
+    (claim (known c s h).claims (claim_by (length h) m f)).after.own);
+  }
+    where
+      not_it : (p : ℕ) → p ≢ 60928 → ((parts_of f.id).pgn == p) ≡ false
+      not_it p other = rw pgn_is (ne_eqb 60928 p (λ e. other (sym e)))
+
+pub claims_move_traces : ClaimsMoveTraces
+claims_move_traces c s h m f are claims = claim_moves c s h m f are claims
+
+-- ---- a command
+
+same_holders : (t : Bool) (c : Claims) (a m : ℕ) → (moved_if t c a m).holders ≡ c.holders
+same_holders true c a m = refl
+same_holders false c a m = refl
+
+commanded_holders : (c : Claims) (a m : ℕ) → (command c a m).holders ≡ c.holders
+unfolding command
+commanded_holders c a m = same_holders (is_obeyed c a) c a m
+
+same_since : (index : ℕ) (k : Known) (a m source : ℕ) → since_of (followed_by index k (command k.claims a m)) source ≡ since_of k source
+same_since index k a m source = ap (λ (x : List (Option Holder)). option_map (λ (h : Holder). h.since) (holder_at x source)) (commanded_holders k.claims a m)
+
+module _ (a i own_since : ℕ) (notes : List Note) (below : AreBelow i notes) where
+  none_to : (since : Option ℕ) (own : ℕ) → addressed_since since (Some own) i a notes ≡ []
+  none_to None own = refl
+  none_to (Some since) own = ap (map iso_piece) (nothing_sent a since own i notes below)
+
+  to_either : (since : Option ℕ) (before own : ℕ) (t : Bool) → (before == own) ≡ t
+      → addressed_since since (Some own) (if t then own_since else i) a notes ≡ (if not t then [] else addressed_since since (Some before) own_since a notes)
+  to_either since before own true e = ap (λ (x : ℕ). addressed_since since (Some x) own_since a notes) (sym (eqb-true before own e))
+  to_either since before own false e = none_to since own
+
+  by_command : (since before own : Option ℕ)
+      → addressed_since since own (since_own i own_since before own) a notes ≡ (if not (same_own before own) then [] else addressed_since since before own_since a notes)
+  by_command since None None = no_address since i a notes ∙ sym (no_address since own_since a notes)
+  by_command since (Some before) None = no_address since own_since a notes
+  by_command since None (Some own) = none_to since own
+  by_command since (Some before) (Some own) = to_either since before own (before == own) refl
+
+pub commands_move_traces : CommandsMoveTraces
+commands_move_traces c s h m source address = record {
+  fast = λ a p other. ap (λ (x : Option ℕ). fast_trace_since x a p (notes_of c s h)) (same_since (length h) (known c s h) address m a);
+  broadcast = λ a. ap (λ (x : Option ℕ). broadcast_since x a (notes_of c s h)) (same_since (length h) (known c s h) address m a);
+  addressed = λ a.
+  ap (λ (x : Option ℕ). addressed_since x (command (known c s h).claims address m).own (since_own (length h) (known c s h).own_since (known c s h).claims.own (command (known c s h).claims address m).own) a (notes_of c s h))
+  (same_since (length h) (known c s h) address m a)
+  ∙ by_command a (length h) (known c s h).own_since (notes_of c s h) (notes_below c s h) (since_of (known c s h) a) (known c s h).claims.own (command (known c s h).claims address m).own;
+}
