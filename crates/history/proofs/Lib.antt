@@ -2,6 +2,7 @@ pub mod Addresses
 pub mod Fates
 pub mod Moves
 pub mod TraceMoves
+pub mod KeySteps
 mod Computed
 mod ClaimCases
 mod FastCases

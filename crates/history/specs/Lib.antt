@@ -15,6 +15,7 @@ pub mod Gate
 pub mod Replay
 pub mod AddressLaws
 pub mod TraceLaws
+pub mod KeyLaws
 pub mod Cases
 pub mod ClaimCases
 pub mod FastCases

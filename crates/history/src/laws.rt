@@ -1,5 +1,6 @@
 //! What is promised of every history. Each law is a function that does nothing, and whose clause is the law.
 ghost use Rattle.history.specs.AddressLaws.{AddressesAreSound};
+ghost use Rattle.history.specs.KeyLaws.{FramesStepFast, FramesKeepFast, TimeEndsFast};
 ghost use Rattle.history.specs.TraceLaws.{ClaimsMoveTraces, CommandsMoveTraces};
 
 /// After every history no NAME has two addresses and the gateway's own has no other holder, and each is held since an entry of the
@@ -13,4 +14,12 @@ pub fn addresses_are_sound()
 pub fn addresses_keep_their_frames()
     ensures claims { ClaimsMoveTraces }
     ensures commands { CommandsMoveTraces }
+{}
+
+/// One more fast frame does to what is open of its key what the rules of fast packets say of the frames that were open, completes what
+/// they say, and changes no other key; a later moment ends what is overdue.
+pub fn fast_frames_step_their_key()
+    ensures step { FramesStepFast }
+    ensures others { FramesKeepFast }
+    ensures later { TimeEndsFast }
 {}

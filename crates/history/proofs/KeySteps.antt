@@ -1,0 +1,145 @@
+-- The laws of one key.
+use Rattle.std.proofs.Common.{◌≡◌, ◌≢◌, ℕ, ◌≤◌, Bool, true, false, ◌&&◌, ◌||◌, not, List, [], ◌∷◌, ◌⊎◌, inl, inr, length, map, refl, sym, ap, subst, ◌∙◌, ◌==◌, nat_le}
+use Rattle.std.specs.Prelude.{Option, Some, None, All, filter, if◌then◌else◌, option_map}
+use Rattle.std.proofs.lemmas.Bool.{eqb-true, eqb-false, ne_eqb, eq-eqb, and_parts, le-leb, cases_Bool}
+use Rattle.n2k_id.specs.declared.header.Parts.{Parts}
+use Rattle.n2k_id.specs.Frame.{BusFrame}
+use Rattle.n2k_id.specs.Identifier.{parts_of}
+use Rattle.claim_table.specs.declared.answer.Holder.{Holder}
+use Rattle.claim_table.specs.Claims.{IsSinceBy, holder_at}
+use Rattle.pgn_profile.specs.Profiled.{kind_of, messages}
+use Rattle.pgn_profile.specs.declared.kinds.Kind.{Kind}
+use Rattle.pgn_profile.specs.declared.kinds.Kind.TheVariants.{Single, Fast, Outside}
+use Rattle.runs.specs.Runs.{fed, finished, kept_at, open_at, open_of, run_of}
+use Rattle.runs.specs.Laws.{OneStep}
+use Rattle.runs.proofs.Steps.{one_step_of}
+use Rattle.fast_packet.specs.FastRuns.{FastPiece, fast_rules}
+use Rattle.fast_packet.proofs.Lawful.{lawful}
+use Rattle.history.specs.Entries.{Entry, History, frame}
+use Rattle.history.specs.Settings.{Settings}
+use Rattle.history.specs.Known.{Known, known, is_claim, since_of}
+use Rattle.history.specs.Traces.{Note, is_since, fast_piece, fast_trace, fast_trace_since, is_transport}
+use Rattle.history.specs.Opens.{FastKey, same_fast, fast_open, note_of, notes_of}
+use Rattle.history.specs.Messages.{done, said_by, completed_by, by_kind, fast_carried}
+use Rattle.history.specs.AddressLaws.{AreSettings}
+use Rattle.history.specs.KeyLaws.{StepsFast, KeepsFast, FramesStepFast, FramesKeepFast, TimeEndsFast, fast_key, the_note}
+use Rattle.history.proofs.Addresses.{addresses_are_sound}
+use Rattle.claim_table.proofs.SoundLemmas.{held_within}
+use Rattle.std.proofs.lemmas.List.Elements.{All-get_or}
+
+-- the two laws of runs, of fast packets
+steps : OneStep fast_rules
+steps = one_step_of fast_rules lawful
+
+-- a holder of a table has its address since an entry that came
+dated_at : (i : ℕ) (holders : List (Option Holder)) (a : ℕ) (x : Holder) → All (IsSinceBy i) holders → holder_at holders a ≡ Some x → x.since ≤ i
+dated_at i holders a x all e = subst (IsSinceBy i) e (All-get_or (IsSinceBy i) holders a None (held_within holders a x e) all)
+
+-- a PGN of fast packets is neither that of claims nor one of the transport protocol
+claim_kind : kind_of 60928 ≡ Outside
+unfolding messages
+claim_kind = refl
+
+data_kind : kind_of 60160 ≡ Outside
+unfolding messages
+data_kind = refl
+
+management_kind : kind_of 60416 ≡ Outside
+unfolding messages
+management_kind = refl
+
+not_fast : (p q : ℕ) → kind_of q ≡ Outside → kind_of p ≡ Fast → (p == q) ≡ false
+not_fast p q outside e = elim (cases_Bool (p == q)) [
+  | inl same ↦ let is : kind_of p ≡ Outside = rw (eqb-true p q same) outside in cc
+  | inr other ↦ other
+]
+
+not_claim : (p : ℕ) → kind_of p ≡ Fast → (p == 60928) ≡ false
+not_claim p e = not_fast p 60928 claim_kind e
+
+no_transport : (p : Parts) → kind_of p.pgn ≡ Fast → is_transport p ≡ false
+no_transport p e = rw (not_fast p.pgn 60416 management_kind e, not_fast p.pgn 60160 data_kind e) refl
+
+no_claim : (f : BusFrame) → kind_of (parts_of f.id).pgn ≡ Fast → is_claim f ≡ false
+no_claim f e = rw (not_claim (parts_of f.id).pgn e) refl
+
+known_same : (c : Settings) (s : ℕ) (h : History) (m : ℕ) (f : BusFrame) → is_claim f ≡ false → known c s (frame m f ∷ h) ≡ known c s h
+known_same c s h m f e = rw e refl
+
+-- the frame is one of its own key
+own_piece : (a p since : ℕ) (n : Note) (notes : List Note) → n.parts.source ≡ a → n.parts.pgn ≡ p → since ≤ n.index
+    → fast_trace_since (Some since) a p (n ∷ notes) ≡ fast_piece n ∷ fast_trace_since (Some since) a p notes
+own_piece a p since n notes source pgn le = rw (source, pgn, eq-eqb a a refl, eq-eqb p p refl, le-leb since n.index le) refl
+
+completed_fast : (k : Known) (n : Note) (older : List Note) → kind_of n.parts.pgn ≡ Fast
+    → completed_by k n older ≡ fast_carried n.parts.pgn (run_of fast_rules (fast_trace k n.parts.source n.parts.pgn (n ∷ older)))
+completed_fast k n older e = rw (no_transport n.parts e, e) refl
+
+module _ (c : Settings) (s : ℕ) (h : History) (m : ℕ) (f : BusFrame) (x : Holder) (are : AreSettings c) (fast : kind_of (parts_of f.id).pgn ≡ Fast)
+  (holds : holder_at (known c s h).claims.holders (parts_of f.id).source ≡ Some x) where
+  since_is : since_of (known c s h) (parts_of f.id).source ≡ Some x.since
+  since_is = ap (option_map (λ (y : Holder). y.since)) holds
+
+  trace_is : fast_trace (known c s h) (parts_of f.id).source (parts_of f.id).pgn (the_note c s h m f ∷ notes_of c s h)
+      ≡ fast_piece (the_note c s h m f) ∷ fast_trace (known c s h) (parts_of f.id).source (parts_of f.id).pgn (notes_of c s h)
+  trace_is =
+      rw since_is
+      (own_piece (parts_of f.id).source (parts_of f.id).pgn x.since (the_note c s h m f) (notes_of c s h) refl refl
+      (dated_at (length h) (known c s h).claims.holders (parts_of f.id).source x (addresses_are_sound c s h are).dated holds))
+
+  left : (n : ℕ) → fast_open (known c s (frame m f ∷ h)) (notes_of c s (frame m f ∷ h)) (fast_key c s h m f) n
+      ≡ kept_at fast_rules (fed fast_rules (fast_open (known c s h) (notes_of c s h) (fast_key c s h m f) m) (fast_piece (the_note c s h m f))) n
+  left n =
+      rw (known_same c s h m f (no_claim f fast))
+      (ap (λ (t : List FastPiece). open_at fast_rules t n) trace_is
+      ∙ ap (λ (o : Option (List FastPiece)). kept_at fast_rules o n) (steps.prefix (fast_trace (known c s h) (parts_of f.id).source (parts_of f.id).pgn (notes_of c s h)) (fast_piece (the_note c s h m f))))
+
+  completes : completed_by (known c s h) (the_note c s h m f) (notes_of c s h)
+      ≡ fast_carried (parts_of f.id).pgn (finished fast_rules (fast_open (known c s h) (notes_of c s h) (fast_key c s h m f) m) (fast_piece (the_note c s h m f)))
+  completes =
+      completed_fast (known c s h) (the_note c s h m f) (notes_of c s h) fast
+      ∙ ap (λ (t : List FastPiece). fast_carried (parts_of f.id).pgn (run_of fast_rules t)) trace_is
+      ∙ ap (fast_carried (parts_of f.id).pgn) (steps.whole (fast_trace (known c s h) (parts_of f.id).source (parts_of f.id).pgn (notes_of c s h)) (fast_piece (the_note c s h m f)))
+
+  pub step : StepsFast c s h m f x
+  step = record {
+    left = left;
+    completed =
+    ap (λ (o : Option Holder). said_by (length h) m (parts_of f.id).source o (completed_by (known c s h) (the_note c s h m f) (notes_of c s h))) holds
+    ∙ ap (said_by (length h) m (parts_of f.id).source (Some x)) completes;
+  }
+
+pub fast_steps : FramesStepFast
+fast_steps c s h m f x are fast holds = step c s h m f x are fast holds
+
+-- ---- other keys
+
+other_piece : (since : Option ℕ) (a p : ℕ) (n : Note) (notes : List Note) → ((n.parts.source == a) && (n.parts.pgn == p)) ≡ false
+    → fast_trace_since since a p (n ∷ notes) ≡ fast_trace_since since a p notes
+other_piece None a p n notes e = refl
+other_piece (Some since) a p n notes e = rw (unlike (n.parts.source == a) (nat_le since n.index) (n.parts.pgn == p) e) refl
+  where
+    unlike : (x y z : Bool) → (x && z) ≡ false → ((x && y) && z) ≡ false
+    unlike true true z e = e
+    unlike true false z e = refl
+    unlike false y z e = refl
+
+eqb-sym : (a b : ℕ) → (a == b) ≡ (b == a)
+eqb-sym a b = elim (cases_Bool (a == b)) [
+  | inl same ↦ same ∙ sym (eq-eqb b a (sym (eqb-true a b same)))
+  | inr other ↦ other ∙ sym (ne_eqb b a (λ e. eqb-false a b other (sym e)))
+]
+
+not_same : (key other : FastKey) → same_fast key other ≡ false → ((other.source == key.source) && (other.pgn == key.pgn)) ≡ false
+not_same key other e = rw (eqb-sym other.source key.source, eqb-sym other.pgn key.pgn) e
+
+pub fast_keeps : FramesKeepFast
+fast_keeps c s h m f e = record {
+  others = λ key n apart.
+  rw (known_same c s h m f e)
+  (ap (λ (t : List FastPiece). open_at fast_rules t n)
+  (other_piece (since_of (known c s h) key.source) key.source key.pgn (the_note c s h m f) (notes_of c s h) (not_same key (fast_key c s h m f) apart)));
+}
+
+pub fast_ends : TimeEndsFast
+fast_ends k notes key m n le = steps.later (fast_trace k key.source key.pgn notes) m n le

@@ -1,0 +1,51 @@
+-- What one more frame does to what is open of its key.
+use Rattle.std.specs.Prelude.{◌≡◌, ℕ, ◌≤◌, Bool, true, false, ◌&&◌, ◌||◌, not, ◌==◌, List, [], ◌∷◌, length, Option, Some, None, if◌then◌else◌}
+use Rattle.n2k_id.specs.Frame.{BusFrame}
+use Rattle.n2k_id.specs.Identifier.{parts_of}
+use Rattle.claim_table.specs.Claims.{holder_at}
+use Rattle.claim_table.specs.declared.answer.Holder.{Holder}
+use Rattle.pgn_profile.specs.Profiled.{kind_of}
+use Rattle.pgn_profile.specs.declared.kinds.Kind.TheVariants.{Fast}
+use Rattle.runs.specs.Runs.{fed, finished, kept_at, open_at}
+use Rattle.fast_packet.specs.FastRuns.{fast_rules}
+use Rattle.iso_transport.specs.IsoRuns.{iso_rules}
+use Rattle.history.specs.AddressLaws.{AreSettings}
+use Rattle.history.specs.Entries.{Entry, History, frame, moment_of}
+use Rattle.history.specs.Settings.{Settings}
+use Rattle.history.specs.Known.{Known, known, is_own, is_claim}
+use Rattle.history.specs.Traces.{Note, fast_piece, iso_piece, is_transport, is_bearing}
+use Rattle.history.specs.Opens.{FastKey, IsoKey, same_fast, same_iso, iso_key_of, fast_open, iso_open, note_of, notes_of}
+use Rattle.history.specs.Messages.{done, said_by, fast_carried, iso_carried}
+
+-- a frame that is no claim, from a source that holds its address
+module _ (c : Settings) (s : ℕ) (h : History) (m : ℕ) (f : BusFrame) where
+  abbrev pub the_note : Note
+  the_note = note_of c (length h) (known c s h) (notes_of c s h) m f
+
+  abbrev pub fast_key : FastKey
+  fast_key = record { source = (parts_of f.id).source; pgn = (parts_of f.id).pgn }
+
+  pub record StepsFast (holder : Holder) : Type 0 where
+    -- of its key the frame leaves what the rules of fast packets say of the frames that were open, and completes what they say
+    pub left : (n : ℕ) → fast_open (known c s (frame m f ∷ h)) (notes_of c s (frame m f ∷ h)) fast_key n
+        ≡ kept_at fast_rules (fed fast_rules (fast_open (known c s h) (notes_of c s h) fast_key m) (fast_piece the_note)) n
+    pub completed : done c s h (frame m f)
+        ≡ said_by (length h) m (parts_of f.id).source (Some holder) (fast_carried (parts_of f.id).pgn (finished fast_rules (fast_open (known c s h) (notes_of c s h) fast_key m) (fast_piece the_note)))
+
+  -- what is open of other keys stays open
+  pub record KeepsFast : Type 0 where
+    pub others : (key : FastKey) (n : ℕ) → same_fast key fast_key ≡ false
+        → fast_open (known c s (frame m f ∷ h)) (notes_of c s (frame m f ∷ h)) key n ≡ fast_open (known c s h) (notes_of c s h) key n
+
+abbrev pub FramesStepFast : Type 0
+FramesStepFast =
+    (c : Settings) (s : ℕ) (h : History) (m : ℕ) (f : BusFrame) (holder : Holder) → AreSettings c → kind_of (parts_of f.id).pgn ≡ Fast
+    → holder_at (known c s h).claims.holders (parts_of f.id).source ≡ Some holder → StepsFast c s h m f holder
+
+abbrev pub FramesKeepFast : Type 0
+FramesKeepFast = (c : Settings) (s : ℕ) (h : History) (m : ℕ) (f : BusFrame) → is_claim f ≡ false → KeepsFast c s h m f
+
+-- what is open at a moment is what was open at an earlier one, but for what is overdue
+abbrev pub TimeEndsFast : Type 0
+TimeEndsFast =
+    (k : Known) (notes : List Note) (key : FastKey) (m n : ℕ) → m ≤ n → fast_open k notes key n ≡ kept_at fast_rules (fast_open k notes key m) n
