@@ -12,7 +12,8 @@ use Rattle.slot_views.specs.Slots.{Entry, grown}
 use Rattle.fast_packet.specs.FastFrames.{counter_of, sequence_of, length_of, need_of, left_after, is_opener, is_no_later, later_piece}
 use Rattle.fast_packet.specs.FastRuns.{FastPiece, is_next, is_repeat, fast_rules, joined}
 use Rattle.fast_packet.specs.Assembly.{mark_of, last_frame, is_again, follows, is_enough, verdict, opener_sequence, left_of}
-use Rattle.fast_packet.specs.Laws.{assembly_of, assembly_at, left_by, left_at, assembly_after}
+use Rattle.slot_views.specs.Traces.{left_at, entry_after}
+use Rattle.fast_packet.specs.Laws.{assembly_of, assembly_at, left_by, assembly_after}
 use Rattle.fast_packet.proofs.Counts.{need_is}
 use Rattle.fast_packet.proofs.Lawful.{lawful, both_true, and_false, no_next, no_repeat}
 
@@ -27,7 +28,7 @@ kept_by y ys m false late =
     let gone : nat_lt 750000 (m - y.moment) ≡ true = lt-ltb 750000 (m - y.moment) (omega (arith, past)) in
     simp (late, gone)
 
-kept_is : (o : Option (List FastPiece)) (m : ℕ) → left_at (assembly_at o) m ≡ assembly_at (kept_at fast_rules o m)
+pub kept_is : (o : Option (List FastPiece)) (m : ℕ) → left_at (assembly_at o) m ≡ assembly_at (kept_at fast_rules o m)
 kept_is None m = refl
 kept_is (Some []) m = refl
 kept_is (Some (y ∷ ys)) m = kept_by y ys m _ refl
@@ -44,18 +45,18 @@ none_by x true other eb = simp (other, eb)
 none_by x false other eb = simp (other, eb)
 
 -- frames that are a prefix so far, none a repeat
-abbrev IsSoFar : List FastPiece → Type 0
+abbrev pub IsSoFar : List FastPiece → Type 0
 IsSoFar [] = ⊥
 IsSoFar (x ∷ []) = (is_opener x.bytes ≡ true) × (length x.bytes ≤ 8)
 IsSoFar (x ∷ y ∷ ys) = (is_next (y ∷ ys) x ≡ true) × (length x.bytes ≤ 8) × IsSoFar (y ∷ ys)
 
-record Facts (y : FastPiece) (ys : List FastPiece) (e : Entry) : Type 0 where
-  least : 1 ≤ length_of (opener_of y ys).bytes
-  most : length_of (opener_of y ys).bytes ≤ 223
-  joined_length : length (y ∷ ys) < need_of (length_of (opener_of y ys).bytes) → length e.bytes ≡ 6 + 7 * (length (y ∷ ys) - 1)
-  last_is : 2 ≤ length (y ∷ ys) → length (y ∷ ys) < need_of (length_of (opener_of y ys).bytes) → y.bytes ≡ last_frame e
+pub record Facts (y : FastPiece) (ys : List FastPiece) (e : Entry) : Type 0 where
+  pub least : 1 ≤ length_of (opener_of y ys).bytes
+  pub most : length_of (opener_of y ys).bytes ≤ 223
+  pub joined_length : length (y ∷ ys) < need_of (length_of (opener_of y ys).bytes) → length e.bytes ≡ 6 + 7 * (length (y ∷ ys) - 1)
+  pub last_is : 2 ≤ length (y ∷ ys) → length (y ∷ ys) < need_of (length_of (opener_of y ys).bytes) → y.bytes ≡ last_frame e
 
-abbrev entry : FastPiece → List FastPiece → Entry
+abbrev pub entry : FastPiece → List FastPiece → Entry
 entry y ys =
     record {
       bytes = joined (length_of (opener_of y ys).bytes) (y ∷ ys);
@@ -81,13 +82,13 @@ first_facts y opens valid =
     }
 
 -- what the next frame has
-record NextFacts (z : FastPiece) (zs : List FastPiece) (y : FastPiece) : Type 0 where
-  counter : counter_of y.bytes ≡ length (z ∷ zs)
-  same : sequence_of y.bytes ≡ sequence_of (opener_of z zs).bytes
-  fewer : length (z ∷ zs) < need_of (length_of (opener_of z zs).bytes)
-  enough : 1 + min 7 (left_after (length_of (opener_of z zs).bytes) (length (z ∷ zs))) ≤ length y.bytes
+pub record NextFacts (z : FastPiece) (zs : List FastPiece) (y : FastPiece) : Type 0 where
+  pub counter : counter_of y.bytes ≡ length (z ∷ zs)
+  pub same : sequence_of y.bytes ≡ sequence_of (opener_of z zs).bytes
+  pub fewer : length (z ∷ zs) < need_of (length_of (opener_of z zs).bytes)
+  pub enough : 1 + min 7 (left_after (length_of (opener_of z zs).bytes) (length (z ∷ zs))) ≤ length y.bytes
 
-next_facts : (z : FastPiece) (zs : List FastPiece) (y : FastPiece) → is_next (z ∷ zs) y ≡ true → NextFacts z zs y
+pub next_facts : (z : FastPiece) (zs : List FastPiece) (y : FastPiece) → is_next (z ∷ zs) y ≡ true → NextFacts z zs y
 next_facts z zs y next =
     let one = both_true _ _ next in
     let two = both_true _ _ one.1 in
@@ -150,7 +151,7 @@ more_facts z zs y next valid f =
       last_is = λ many more. last_by z zs y next valid f.most (piece_is (omega (arith, more))) (omega (arith, n.enough, more, need, n.fewer));
     }
 
-facts_of : (y : FastPiece) (ys : List FastPiece) → IsSoFar (y ∷ ys) → Facts y ys (entry y ys)
+pub facts_of : (y : FastPiece) (ys : List FastPiece) → IsSoFar (y ∷ ys) → Facts y ys (entry y ys)
 facts_of y [] so_far = first_facts y so_far.0 so_far.1
 facts_of y (z ∷ zs) so_far = more_facts z zs y so_far.0 so_far.1 (facts_of z zs so_far.2)
 
@@ -173,7 +174,7 @@ counter_by [] b none first = refl
 counter_by (x ∷ bytes) true none first = let zero = eqb-true _ _ none in absurd (omega arith)
 counter_by (x ∷ bytes) false none first = eqb-true _ _ (rw none at first)
 
-counter_zero : (bytes : List ℕ) → is_no_later bytes ≡ true → counter_of bytes ≡ 0
+pub counter_zero : (bytes : List ℕ) → is_no_later bytes ≡ true → counter_of bytes ≡ 0
 counter_zero bytes first = counter_by bytes _ refl first
 
 -- a later frame, where one is open
@@ -185,11 +186,11 @@ module _ (y : FastPiece) (ys : List FastPiece) (x : FastPiece) (f : Facts y ys (
       let long = f.joined_length more in
       omega (arith, kept, long)
 
-  sequence_is : opener_sequence (entry y ys) ≡ sequence_of (opener_of y ys).bytes
+  pub sequence_is : opener_sequence (entry y ys) ≡ sequence_of (opener_of y ys).bytes
   sequence_is = sequence_kept (sequence_of (opener_of y ys).bytes) (length_of (opener_of y ys).bytes) f.most
 
   -- the tests of the entry are those of the frames
-  tests_next : length (y ∷ ys) < need_of (length_of (opener_of y ys).bytes) → (follows (entry y ys) x.bytes && is_enough (entry y ys) x.bytes) ≡ is_next (y ∷ ys) x
+  pub tests_next : length (y ∷ ys) < need_of (length_of (opener_of y ys).bytes) → (follows (entry y ys) x.bytes && is_enough (entry y ys) x.bytes) ≡ is_next (y ∷ ys) x
   tests_next more =
       let fewer : nat_lt (length (y ∷ ys)) (need_of (length_of (opener_of y ys).bytes)) ≡ true = lt-ltb _ _ more in
       rw (sequence_is, left_is more, fewer)
@@ -212,17 +213,17 @@ module _ (y : FastPiece) (ys : List FastPiece) (x : FastPiece) (f : Facts y ys (
       let counter : (counter_of x.bytes == (length (y ∷ ys) - 1)) ≡ true = eq-eqb _ _ (ap counter_of (pointwise_eq x.bytes (last_frame (entry y ys)) last) ∙ turn) in
       simp (two, same, last, counter)
 
-  tests_repeat : length (y ∷ ys) < need_of (length_of (opener_of y ys).bytes) → is_again (entry y ys) x.bytes ≡ is_repeat (y ∷ ys) x
+  pub tests_repeat : length (y ∷ ys) < need_of (length_of (opener_of y ys).bytes) → is_again (entry y ys) x.bytes ≡ is_repeat (y ∷ ys) x
   tests_repeat more = repeat_by more _ _ refl refl
 
   -- a repeat has the counter before the next one's
-  repeat_apart : is_repeat (y ∷ ys) x ≡ true → is_next (y ∷ ys) x ≡ false
+  pub repeat_apart : is_repeat (y ∷ ys) x ≡ true → is_next (y ∷ ys) x ≡ false
   repeat_apart again =
       let counter : counter_of x.bytes ≡ length (y ∷ ys) - 1 = eqb-true _ _ (both_true _ _ again).0 in
       let other : (counter_of x.bytes == length (y ∷ ys)) ≡ false = ne_eqb _ _ (λ e. omega arith) in
       simp other
 
-  grown_is : length (y ∷ ys) < need_of (length_of (opener_of y ys).bytes)
+  pub grown_is : length (y ∷ ys) < need_of (length_of (opener_of y ys).bytes)
       → Some (grown (entry y ys) (take (1 + min 7 (left_of (entry y ys)) - 1) (drop 1 x.bytes)) x.moment 750000) ≡ assembly_of (x ∷ y ∷ ys)
   grown_is more =
       let count : 1 + min 7 (left_of (entry y ys)) - 1 ≡ min 7 (left_after (length_of (opener_of y ys).bytes) (length (y ∷ ys))) = ap (λ n. 1 + min 7 n - 1) (left_is more) ∙ omega arith in
@@ -286,22 +287,22 @@ so_far_by : (x y : FastPiece) (ys acc : List FastPiece) (o : Option (List FastPi
 so_far_by x y ys acc None valid was is before = let none : None ≡ Some acc = is in cc
 so_far_by x y ys acc (Some a) valid was is before = so_far_more x a acc _ _ _ valid (before a was) refl refl refl is
 
-so_far : (p acc : List FastPiece) → AllByRecursion (λ x. length x.bytes ≤ 8) p → accepted fast_rules p ≡ Some acc → IsSoFar acc
+pub so_far : (p acc : List FastPiece) → AllByRecursion (λ x. length x.bytes ≤ 8) p → accepted fast_rules p ≡ Some acc → IsSoFar acc
 so_far [] acc valid is = cc
 so_far (x ∷ []) acc valid is = first_so_far x acc _ valid.0 refl is
 so_far (x ∷ y ∷ ys) acc valid is = so_far_by x y ys acc _ valid.0 refl is (λ a was. so_far (y ∷ ys) a valid.1 was)
 
-all_front : {X : Type 0} (P : X → Type 0) (xs ys : List X) → AllByRecursion P (xs ++ ys) → AllByRecursion P xs
+pub all_front : {X : Type 0} (P : X → Type 0) (xs ys : List X) → AllByRecursion P (xs ++ ys) → AllByRecursion P xs
 all_front P [] ys all = tt
 all_front P (x ∷ xs) ys all = (all.0, all_front P xs ys all.1)
 
 -- a prefix has no more frames than its message
-within : (y : FastPiece) (ys : List FastPiece) → IsSoFar (y ∷ ys) → length (y ∷ ys) ≤ need_of (length_of (opener_of y ys).bytes)
+pub within : (y : FastPiece) (ys : List FastPiece) → IsSoFar (y ∷ ys) → length (y ∷ ys) ≤ need_of (length_of (opener_of y ys).bytes)
 within y [] far = let need = need_is (length_of y.bytes) in omega arith
 within y (z ∷ zs) far = let n = next_facts z zs y far.0 in omega (arith, n.fewer)
 
 -- one more frame
-step_by : (h : List FastPiece) (x : FastPiece) (q : Option (List FastPiece)) (b : Bool) → AllByRecursion (λ x. length x.bytes ≤ 8) h → open_at fast_rules h x.moment ≡ q → is_opener x.bytes ≡ b
+pub step_by : (h : List FastPiece) (x : FastPiece) (q : Option (List FastPiece)) (b : Bool) → AllByRecursion (λ x. length x.bytes ≤ 8) h → open_at fast_rules h x.moment ≡ q → is_opener x.bytes ≡ b
     → left_by (verdict (assembly_at q) x.bytes) x (assembly_at q) ≡ assembly_at (fed fast_rules q x)
 step_by h x q true valid is opens =
     let right : assembly_at (fed fast_rules q x) ≡ assembly_at (if_open fast_rules (Some (x ∷ []))) = rw opens refl in
@@ -324,7 +325,7 @@ step_by h x (Some acc) false valid is opens =
         later_by y ys x (facts_of y ys far) opens more admitted _ _ _ _ refl refl refl refl ∙ sym right
 
 pub kept_open : (h : List FastPiece) → AllByRecursion (λ x. length x.bytes ≤ 8) h → assembly_after h ≡ assembly_at (open_of fast_rules h)
-unfolding assembly_after
+unfolding entry_after
 kept_open [] valid = refl
 kept_open (x ∷ h) valid =
     let before : left_at (assembly_after h) x.moment ≡ assembly_at (open_at fast_rules h x.moment) = ap (λ a. left_at a x.moment) (kept_open h valid.1) ∙ kept_is (open_of fast_rules h) x.moment in

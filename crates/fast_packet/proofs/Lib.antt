@@ -3,3 +3,4 @@ pub mod Verdicts
 pub mod Lawful
 pub mod SplitRuns
 pub mod Assemblies
+pub mod Keys

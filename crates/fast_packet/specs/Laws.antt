@@ -2,7 +2,8 @@
 use Rattle.std.specs.Prelude.{◌≡◌, ℕ, ◌-◌, true, if◌then◌else◌, List, [], ◌∷◌, length, take, drop, map, reverse, Option, Some, None}
 use Rattle.std.specs.List.{AllByRecursion}
 use Rattle.runs.specs.Runs.{is_whole, accepted, opener_of}
-use Rattle.slot_views.specs.Slots.{Entry, grown, is_complete, is_expired}
+use Rattle.slot_views.specs.Slots.{Entry, grown}
+use Rattle.slot_views.specs.Traces.{Filling, if_incomplete, entry_after}
 use Rattle.fast_packet.specs.declared.verdict.Verdict.{Verdict}
 use Rattle.fast_packet.specs.declared.verdict.Verdict.TheVariants.{Short, Opens, Orphan, Again, OutOfOrder, Next}
 use Rattle.fast_packet.specs.FastFrames.{sequence_of, length_of, need_of}
@@ -38,10 +39,7 @@ abbrev pub assembly_at : Option (List FastPiece) → Option Entry
 assembly_at None = None
 assembly_at (Some acc) = assembly_of acc
 
--- what a frame leaves of the assembly of its key, and what a later moment does
-abbrev pub if_incomplete : Entry → Option Entry
-if_incomplete e = if is_complete e then None else Some e
-
+-- what a frame leaves of the assembly of its key
 abbrev pub grown_by : ℕ → FastPiece → Option Entry → Option Entry
 grown_by end x None = None
 grown_by end x (Some e) = if_incomplete (grown e (take (end - 1) (drop 1 x.bytes)) x.moment 750000)
@@ -54,11 +52,10 @@ left_by Again x o = o
 left_by OutOfOrder x o = None
 left_by (Next end) x o = grown_by end x o
 
-abbrev pub left_at : Option Entry → ℕ → Option Entry
-left_at None m = None
-left_at (Some e) m = if is_expired m e then None else Some e
+-- frames fill assemblies
+abbrev pub filling : Filling FastPiece
+filling = record { moment = λ x. x.moment; admitted = λ x. x.admitted; step = λ o x. left_by (verdict o x.bytes) x o }
 
 -- the assembly of one key after its frames
-unfoldable pub assembly_after : List FastPiece → Option Entry
-assembly_after [] = None
-assembly_after (x ∷ h) = let o = left_at (assembly_after h) x.moment in left_by (verdict o x.bytes) x o
+abbrev pub assembly_after : List FastPiece → Option Entry
+assembly_after h = entry_after filling h

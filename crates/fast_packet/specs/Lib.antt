@@ -6,3 +6,4 @@ pub mod Rows
 pub mod Verdicts
 pub mod Split
 pub mod Laws
+pub mod Keys

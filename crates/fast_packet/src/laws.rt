@@ -1,11 +1,16 @@
 //! What is promised of fast packets, whoever assembles them.
 ghost use Rattle.runs.specs.Laws.{OneStep, OneSuffix};
 ghost use Rattle.fast_packet.specs.FastRuns.{FastPiece, fast_rules};
-ghost use Rattle.std.specs.Prelude.{◌≡◌, ℕ, List, ◌≤◌, length};
+ghost use Rattle.fast_packet.specs.declared.key.FastKey.{FastKey};
+ghost use Rattle.std.specs.Prelude.{◌≡◌, ℕ, List, ◌∷◌, ◌≤◌, length};
 ghost use Rattle.fast_packet.specs.Split.{frames_of};
 ghost use Rattle.fast_packet.specs.Laws.{IsRunOf, assembly_after, assembly_at};
+ghost use Rattle.fast_packet.specs.Keys.{AreFed, FollowsRuns, AnswersRuns};
+ghost use Rattle.fast_packet.specs.declared.answers.FastFed.{FastFed};
 ghost use Rattle.std.specs.List.{AllByRecursion};
 ghost use Rattle.runs.specs.Runs.{open_of};
+
+use crate::key::FastKey;
 
 /// The frames of one sender and PGN have one open prefix at most, and one more frame, or a later moment, does to it what the
 /// rules of fast packets say of the frames accepted so far alone.
@@ -23,4 +28,11 @@ pub fn split_is_a_run()
 /// accepted so far.
 pub fn assembly_is_open_prefix()
     ensures { (h : List FastPiece) → AllByRecursion (λ x. length x.bytes ≤ 8) h → assembly_after h ≡ assembly_at (open_of fast_rules h) }
+{}
+
+/// Whatever frames of all keys come, the assemblies are those of the open prefixes among the frames of each key, and each frame is
+/// answered as those say: a message completes exactly where the frames of its key end with a run, and is that run's payload.
+pub fn keys_follow_runs()
+    ensures follows { (limit : ℕ) (h : List (FastKey × FastPiece)) → AreFed ⟦<FastKey as Ord>⟧.cmp limit h → FollowsRuns ⟦<FastKey as Ord>⟧.cmp limit h }
+    ensures answers { (limit : ℕ) (h : List (FastKey × FastPiece)) (k : FastKey) (x : FastPiece) (fed : FastFed) → AreFed ⟦<FastKey as Ord>⟧.cmp limit ((k, x) ∷ h) → AnswersRuns ⟦<FastKey as Ord>⟧.cmp limit k x h fed }
 {}

@@ -5,7 +5,9 @@ pub mod Writing
 pub mod Numbers
 pub mod ProgressLaws
 pub mod StandLaws
-pub mod ConvertLaws
+pub mod SaidLaws
+pub mod ShowLaws
+pub mod FilterLaws
 pub mod Causes
 pub mod EndLaws
 pub mod WordLaws

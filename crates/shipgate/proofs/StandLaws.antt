@@ -9,7 +9,7 @@ use Rattle.shipgate.specs.LineReader.{Held, HasNoLf, Takes, EndsLongLine, Waits}
 use Rattle.shipgate.specs.Writing.{Sends}
 use Rattle.std.specs.List.{flat_map}
 use Rattle.shipgate.specs.Progress.{ended, StandsFor, Stand, Rested, WritesSome, WritesAll}
-use Rattle.shipgate.proofs.Writing.{Joins-then}
+use Rattle.shipgate.proofs.Writing.{Joins-then, Sends-then}
 use Rattle.shipgate.proofs.ProgressLaws.{cut_more, cut_line, whole_of_cut, front_of_cut, AreTexts-push}
 
 -- ---- what the reader holds
@@ -84,13 +84,6 @@ Leaves-then None b c x y p q = tt
 Leaves-then (Some a) None c x y p q = absurd p
 Leaves-then (Some a) (Some b) None x y p q = absurd q
 Leaves-then (Some a) (Some b) (Some c) x y p q = p ∙ (ap (λ (xs : List ℕ). x ++ xs) q ∙ sym (append_assoc x y c))
-
-pub Sends-then : (a b c : Option (List ℕ)) (done text waiting left : List ℕ) → Sends a b done waiting → Sends b c (waiting ++ text) left → Sends a c (done ++ text) left
-Sends-then a b c done text waiting left s t = record {
-  sent = s.sent ++ t.sent;
-  joins = Joins-then a b c s.sent t.sent s.joins t.joins;
-  whole = append_assoc s.sent t.sent left ∙ (ap (λ (xs : List ℕ). s.sent ++ xs) t.whole ∙ (sym (append_assoc s.sent waiting text) ∙ ap (λ (xs : List ℕ). xs ++ text) s.whole));
-}
 
 -- ---- where the command stands
 

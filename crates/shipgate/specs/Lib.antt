@@ -1,8 +1,10 @@
 pub mod Lines
 pub mod LineReader
 pub mod Writing
-pub mod Capture
+pub mod Says
 pub mod Convert
+pub mod Show
+pub mod Filter
 pub mod Progress
 pub mod Words
 pub mod Run

@@ -1,37 +1,32 @@
-//! `convert`: a capture in, the sentences of its frames out.
-ghost use Rattle.std.specs.Prelude.{◌≡◌, ◌+◌, ◌<◌, ◌≤◌, ◌^◌, ◌++◌, [], false, length, MatchResult, OnOk, Option, List, ℕ};
+//! `convert`: the sentences of a line's frame, or the report of the line.
+ghost use Rattle.std.specs.Prelude.{◌≡◌, [], ◌++◌, false, List, ℕ, Ok};
 ghost use Rattle.std.specs.List.{flat_map};
-ghost use Rattle.std.specs.Fmt.{decimal};
-ghost use Rattle.arrayvec.specs.ArrayVec.{array_vec_len};
 ghost use Rattle.n2k_id.specs.Frame.{IsFrame};
 ghost use Rattle.n2k_id.specs.Identifier.{parts_of};
-ghost use Rattle.readings.specs.Ranges.{IsValid};
+ghost use Rattle.readings.specs.Ranges.{IsValid as IsValidReading};
 ghost use Rattle.readings.specs.Rows.{row_of};
 ghost use Rattle.pgn_profile.specs.Profiled.{kind_of, GivesValid};
 ghost use Rattle.sentence_rows.specs.Lines.{lines_of};
 ghost use Rattle.sentence_rows.specs.Text.{IsText};
+ghost use Rattle.capture_text.specs.Reading.{read as read_as, view, IsValid};
+ghost use Rattle.gate_outside.specs.Faults.{HasCause};
 ghost use Rattle.shipgate.specs.Talker.{talker_of};
-ghost use Rattle.gate_outside.specs.Faults.{HasCause, Rose};
-ghost use Rattle.shipgate.specs.Convert.{refusal, IsLineText, IsFrameText, IsMessageText, IsPayloadText, IsNextText, PutsNext};
-ghost use Rattle.shipgate.specs.Progress.{TakesLines, TakesLast, Ends};
-ghost use Rattle.shipgate.specs.Capture.{frame_of_line};
+ghost use Rattle.shipgate.specs.Says.{rule_of};
+ghost use Rattle.shipgate.specs.Convert.{refusal, IsPayloadText, IsMessageText, IsSaidText, IsConverted};
+ghost use Rattle.shipgate.specs.Filter.{PutsLine};
 ghost use Rattle.shipgate.specs.Writing.{Writes};
 
-use crate::capture::frame_of_line;
-use crate::ending::Ending;
-use crate::line_reader::{LineReader, Next};
+use crate::says::rule_of;
 use crate::talker::talker_of;
+use crate::text::{Text, put, put_number, put_part};
 use crate::writer::Writer;
 use arrayvec::ArrayVec;
-use gate_outside::{Failed, Sink, Source};
+use capture_text::{Event, LineRule, read_line};
+use gate_outside::{Failed, Sink};
 use n2k_id::{Frame, parts};
 use pgn_profile::{Kind, Profiled, kind, read};
 use readings::{Reading, row};
 use sentence_rows::{Lines, sentences};
-use unit_fraction::write_decimal;
-
-/// How many bytes an input may have.
-const LIMIT: u64 = 1 << 40;
 
 /// The rule of a line that isn't converted.
 const NOT_CONVERTED: u8 = 5;
@@ -39,31 +34,16 @@ const NOT_CONVERTED: u8 = 5;
 /// The rule of a payload that is too short for its message.
 const SHORT_MESSAGE: u8 = 22;
 
-/// The text of one line: at most two sentences.
-type Text = ArrayVec<u8, 164>;
-
-#[tactic(auto, using(crate::proofs::Numbers::plain_decimal, crate::proofs::Numbers::plain_decimal_len))]
-fn put_number(number: u64, text: &mut Text)
-    requires { array_vec_len text.old ≤ 60 }
-    ensures number { text.new.items ≡ text.old.items ++ decimal number }
-    ensures len { array_vec_len text.new ≤ array_vec_len text.old + 20 }
-{
-    let mut digits = ArrayVec::new();
-    write_decimal(false, number, 0, &mut digits);
-    let _ = text.try_extend_from_slice(digits.as_slice());
-}
-
 // The report of a rule about a line.
 #[tactic(auto, unfolding(crate::specs::Convert::refusal))]
 fn write_refusal(rule: u8, number: u64, text: &mut Text)
     requires { text.old.items ≡ [] }
     ensures { text.new.items ≡ refusal rule number }
 {
-    let _ = text.try_extend_from_slice(b"rule ");
+    put(b"rule ", text);
     put_number(u64::from(rule), text);
-    let _ = text.try_extend_from_slice(b" line=");
-    put_number(number, text);
-    let _ = text.try_push(b'\n');
+    put_part(b"line", number, text);
+    put(b"\n", text);
 }
 
 // The sentences behind one another.
@@ -79,7 +59,7 @@ fn put_lines(lines: &Lines, text: &mut Text)
 // The sentences of a reading.
 fn write_reading(reading: &Reading, text: &mut Text)
     requires empty { text.old.items ≡ [] }
-    requires valid { IsValid reading.now }
+    requires valid { IsValidReading reading.now }
     ensures { (lines : List (List ℕ)) × IsText reading.now (talker_of (row_of reading.now)) false lines × (text.new.items ≡ flat_map (λ line. line) lines) }
 {
     let mut lines = ArrayVec::new();
@@ -121,151 +101,67 @@ fn pgn_of(frame: &Frame) -> u32
     }
 }
 
-// What a line gives that isn't empty.
-fn write_held_line(number: u64, line: &[u8], text: &mut Text)
-    requires { text.old.items ≡ [] }
-    ensures { IsFrameText number (frame_of_line line.now) text.new.items }
+// What a line gives that says something.
+fn write_event(number: u64, event: &Event<'_>, text: &mut Text)
+    requires empty { text.old.items ≡ [] }
+    requires valid { IsValid event.now }
+    ensures { IsSaidText number (Ok (view event.now)) text.new.items }
 {
-    match frame_of_line(line) {
-        Some(frame) => write_message(number, pgn_of(&frame), frame.held(), text),
-        None => write_refusal(NOT_CONVERTED, number, text),
+    match event {
+        Event::Frame { frame, .. } => write_message(number, pgn_of(frame), frame.held(), text),
+        Event::Datagram { .. } => write_refusal(NOT_CONVERTED, number, text),
+        Event::Tick { .. } => write_refusal(NOT_CONVERTED, number, text),
     }
 }
 
-// The text of a line of no more bytes than a line may have.
-#[tactic(auto, unfolding(crate::specs::Convert::IsLineText))]
-fn write_line(number: u64, line: &[u8], text: &mut Text)
-    requires empty { text.old.items ≡ [] }
-    requires held { length line.now ≤ 4096 }
-    ensures { IsLineText number line.now text.new.items }
+// What a line gives that isn't empty.
+fn write_said(number: u64, line: &[u8], room: &mut [u8; 2048], text: &mut Text)
+    requires { text.old.items ≡ [] }
+    ensures { IsSaidText number (read_as line.now) text.new.items }
+{
+    match read_line(line, room) {
+        Ok(event) => write_event(number, &event, text),
+        Err(rule) => write_refusal(rule_of(rule), number, text),
+    }
+}
+
+#[tactic(auto, using(crate::proofs::SaidLaws::converted_empty, crate::proofs::SaidLaws::converted_line))]
+fn write_line(number: u64, line: &[u8], room: &mut [u8; 2048], text: &mut Text)
+    requires { text.old.items ≡ [] }
+    ensures { IsConverted number line.now text.new.items }
 {
     if !line.is_empty() {
-        write_held_line(number, line, text);
+        write_said(number, line, room, text);
     }
 }
 
-// Writes the text of a line.
-fn put_line<K: Sink>(
+/// Writes the sentences of a line, or its report.
+pub(crate) fn put_line<K: Sink>(
     number: u64,
     line: &[u8],
+    room: &mut [u8; 2048],
     writer: &mut Writer,
     out: &mut K,
 ) -> Result<(), Failed>
-    requires { length line.now ≤ 4096 }
-    ensures sent { PutsNext (K.taken out.old) (K.taken out.new) Next.Line number line.now writer.old writer.new result }
+    ensures sent { PutsLine IsConverted (K.taken out.old) (K.taken out.new) number line.now writer.old writer.new result }
     ensures cause { HasCause (K.fault_count out.old) (K.fault_count out.new) result }
 {
     let mut text = ArrayVec::new();
-    write_line(number, line, &mut text);
+    write_line(number, line, room, &mut text);
     writer.put(text.as_slice(), out)
 }
 
-// Writes the report of a line that is too long.
-fn put_refusal<K: Sink>(number: u64, writer: &mut Writer, out: &mut K) -> Result<(), Failed>
-    ensures sent { Writes (K.taken out.old) (K.taken out.new) (writer.old ++ refusal 5 number) writer.new result }
+/// Writes the report of a rule about a line.
+pub(crate) fn put_refusal<K: Sink>(
+    rule: LineRule,
+    number: u64,
+    writer: &mut Writer,
+    out: &mut K,
+) -> Result<(), Failed>
+    ensures sent { Writes (K.taken out.old) (K.taken out.new) (writer.old ++ refusal (rule_of rule) number) writer.new result }
     ensures cause { HasCause (K.fault_count out.old) (K.fault_count out.new) result }
 {
     let mut text = ArrayVec::new();
-    write_refusal(NOT_CONVERTED, number, &mut text);
+    write_refusal(rule_of(rule), number, &mut text);
     writer.put(text.as_slice(), out)
-}
-
-// Writes the text of the line that the reader took, if it took one.
-fn put_next<K: Sink>(
-    next: Next,
-    number: u64,
-    reader: &LineReader,
-    writer: &mut Writer,
-    out: &mut K,
-) -> Result<(), Failed>
-    requires { next ≡ Next.Line → length reader.now.line ≤ 4096 }
-    ensures sent { PutsNext (K.taken out.old) (K.taken out.new) next number reader.now.line writer.old writer.new result }
-    ensures cause { HasCause (K.fault_count out.old) (K.fault_count out.new) result }
-{
-    match next {
-        Next::Line => put_line(number, reader.line(), writer, out),
-        Next::Long => put_refusal(number, writer, out),
-        Next::Unfinished => Ok(()),
-    }
-}
-
-// Writes the texts of all lines that have come whole, and answers how many lines there were so far.
-fn convert_lines<K: Sink>(
-    number: u64,
-    reader: &mut LineReader,
-    writer: &mut Writer,
-    out: &mut K,
-) -> Result<u64, Failed>
-    requires { number + length reader.old.unread < 2 ^ 63 }
-    ensures sent { TakesLines IsLineText (K.taken out.old) (K.taken out.new) reader.old reader.new writer.old writer.new number result }
-    ensures cause { HasCause (K.fault_count out.old) (K.fault_count out.new) result }
-{
-    let mut count = number;
-    'lines: loop {
-        let next = reader.advance();
-        if let Next::Unfinished = next {
-            return Ok(count);
-        }
-        count += 1;
-        match put_next(next, count, reader, writer, out) {
-            Ok(()) => {}
-            Err(Failed) => return Err(Failed),
-        }
-    }
-}
-
-// Writes the text of what follows the last LF, at the end of the input.
-fn convert_last<K: Sink>(
-    number: u64,
-    reader: &mut LineReader,
-    writer: &mut Writer,
-    out: &mut K,
-) -> Result<(), Failed>
-    requires { number < 2 ^ 63 }
-    ensures sent { TakesLast IsLineText (K.taken out.old) (K.taken out.new) reader.old writer.old number result }
-    ensures cause { HasCause (K.fault_count out.old) (K.fault_count out.new) result }
-{
-    let next = reader.finish();
-    match put_next(next, number + 1, reader, writer, out) {
-        Ok(()) => writer.flush(out),
-        Err(Failed) => Err(Failed),
-    }
-}
-
-/// Converts the input, line by line, until it ends or a call fails.
-///
-/// Each line of a frame whose message comes in one frame gives the sentences of its reading, without
-/// claims or choice. Every other line that isn't empty gives a report with its number, counted from 1. What waits is written before each read,
-/// so that a reader at the other end of a pipe sees at once what there is to see.
-pub(crate) fn convert<S: Source, K: Sink>(input: &mut S, out: &mut K) -> Ending
-    ensures ends { Ends IsLineText (S.left input.old) (S.left input.new) (K.taken out.old) (K.taken out.new) result }
-    ensures source { result ≡ Ending.SourceFailed → Rose (S.fault_count input.old) (S.fault_count input.new) }
-    ensures sink { result ≡ Ending.SinkFailed → Rose (K.fault_count out.old) (K.fault_count out.new) }
-{
-    let mut reader = LineReader::new();
-    let mut writer = Writer::new();
-    let mut number = 0;
-    let mut total = 0;
-    'pieces: loop {
-        if let Err(Failed) = writer.flush(out) {
-            return Ending::SinkFailed;
-        }
-        match reader.fill(input) {
-            Err(Failed) => return Ending::SourceFailed,
-            Ok(0) => {
-                return match convert_last(number, &mut reader, &mut writer, out) {
-                    Ok(()) => Ending::Done,
-                    Err(Failed) => Ending::SinkFailed,
-                };
-            }
-            Ok(count) => total += count as u64,
-        }
-        if total > LIMIT {
-            return Ending::TooLong;
-        }
-        match convert_lines(number, &mut reader, &mut writer, out) {
-            Err(Failed) => return Ending::SinkFailed,
-            Ok(count) => number = count,
-        }
-    }
 }

@@ -5,7 +5,6 @@ ghost use Rattle.gate_outside.specs.Faults.{HasCause};
 ghost use Rattle.shipgate.specs.LineReader.{HasNoLf, ReadsBehind};
 
 use gate_outside::{Failed, Source};
-use memchr::memchr;
 use std::marker::Model;
 
 /// The length of the longest line. A longer one is refused unread.
@@ -30,7 +29,7 @@ fn first_lf(bytes: &[u8]) -> Option<usize>
     ensures { MatchOption result (HasNoLf bytes.now) (λ at.
         (at < length bytes.now) × (slice_index bytes.now at ≡ 10) × HasNoLf (take at bytes.now)) }
 {
-    memchr(b'\n', bytes)
+    bytes.iter().position(|byte| *byte == b'\n')
 }
 
 // The length of a line whose bytes up to its LF are these: a CR at the end is no part of it.

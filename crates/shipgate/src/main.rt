@@ -8,12 +8,15 @@
 ghost use Rattle.std.specs.Prelude.{IfOk};
 ghost use Rattle.shipgate.specs.Run.{IsStatus};
 
-mod capture;
 mod convert;
 mod ending;
+mod filter;
 mod line_reader;
 mod run;
+mod says;
+mod show;
 mod talker;
+mod text;
 mod words;
 mod writer;
 
@@ -23,7 +26,7 @@ use std::alloc::AllocError;
 use std::io::ErrorKind;
 use std::process::ExitCode;
 use std::{env, rt};
-pub use words::Command;
+pub use words::{Command, Filter};
 
 /// Want of memory before the program began.
 const NO_MEMORY: u8 = 7;

@@ -151,25 +151,74 @@ fn other_lines_are_reported_by_number(rt: HostRuntime) -> Result<(), Fail> {
     bytes.extend_from_slice(b"\r\n\x00\xFF\n")?;
     bytes.extend_from_slice(&HEADING[..HEADING.len() - 1])?;
     bytes.push(b'\r')?;
-    let expected =
-        b"rule 5 line=3\n$HEHDT,90.0,T*16\r\nrule 22 line=5\nrule 5 line=6\nrule 5 line=7\nrule 5 line=8\nrule 5 line=9\n$HEHDT,90.0,T*16\r\n";
-    for most in [1, 7, 70_000] {
-        let given = Given {
-            bytes: bytes.as_slice(),
-            most,
-            failing: &[],
-        };
-        let (status, taken) = outcome(
-            alloc,
-            "convert",
-            &given,
-            &Room {
-                most: 3,
+    let converted: &[u8] =
+        b"rule 1 line=3\n$HEHDT,90.0,T*16\r\nrule 22 line=5\nrule 5 line=6\nrule 5 line=7\nrule 2 line=8\nrule 1 line=9\n$HEHDT,90.0,T*16\r\n";
+    let shown: &[u8] =
+        b"line=3 rule 1\nline=4 prio=2 pgn=127250 src=23 dst=255 len=8\nline=5 prio=2 pgn=127250 src=23 dst=255 len=1\nline=6 prio=3 pgn=129029 src=23 dst=255 len=8\nline=7 prio=6 pgn=60928 src=23 dst=255 len=8\nline=8 rule 2\nline=9 rule 1\nline=10 prio=2 pgn=127250 src=23 dst=255 len=8\n";
+    for (word, expected) in [("convert", converted), ("show", shown)] {
+        for most in [1, 7, 70_000] {
+            let given = Given {
+                bytes: bytes.as_slice(),
+                most,
                 failing: &[],
-            },
-        )?;
-        assert_eq!(rt; status, 0);
-        assert_eq!(rt; taken.as_slice(), expected.as_slice());
+            };
+            let (status, taken) = outcome(
+                alloc,
+                word,
+                &given,
+                &Room {
+                    most: 3,
+                    failing: &[],
+                },
+            )?;
+            assert_eq!(rt; status, 0);
+            assert_eq!(rt; taken.as_slice(), expected);
+        }
+    }
+    Ok(())
+}
+
+#[test]
+fn datagrams_and_other_lines_are_shown(rt: HostRuntime) -> Result<(), Fail> {
+    // Each capture, what `show` writes and what `convert` writes.
+    let rows: [(&[u8], &[u8], &[u8]); 4] = [
+        (
+            b"(1.000000) can0 123#00\n(1.000000) tick\nhello\n",
+            b"line=1 rule 4\nline=2 tick\nline=3 rule 1\n",
+            b"rule 4 line=1\nrule 5 line=2\nrule 1 line=3\n",
+        ),
+        (
+            b"(1.000000) udp0 NAVD#5564506243005C733A4949303030312C6E3A312A30315C2448454844542C39302E302C542A31360D0A\n",
+            b"line=1 at=6 s=II0001 d=- g=- n=1 $HEHDT,90.0,T*16\n",
+            b"rule 5 line=1\n",
+        ),
+        (
+            b"(1.000000) udp0 NAVD#5564506243",
+            b"line=1 at=5 rule 30\n",
+            b"rule 5 line=1\n",
+        ),
+        // A group with an empty destination, a line without a source, and a rest.
+        (
+            b"\n(1.000000) udp0 NAVD#5564506243005C673A312D322D303030372C733A4949303030322C643A2C6E3A3030372A30335C2448454844542C39302E302C542A31360D0A780A79\n",
+            b"line=2 at=6 s=II0002 d= g=1-2-7 n=7 $HEHDT,90.0,T*16\nline=2 at=57 rule 34\nline=2 at=59 rule 31\n",
+            b"rule 5 line=2\n",
+        ),
+    ];
+    for (capture, shown, converted) in rows {
+        for (word, expected) in [("show", shown), ("convert", converted)] {
+            let given = Given {
+                bytes: capture,
+                most: 4096,
+                failing: &[],
+            };
+            let room = Room {
+                most: 4096,
+                failing: &[],
+            };
+            let (status, taken) = outcome(rt.alloc(), word, &given, &room)?;
+            assert_eq!(rt; status, 0);
+            assert_eq!(rt; taken.as_slice(), expected);
+        }
     }
     Ok(())
 }
@@ -180,6 +229,7 @@ fn failures_have_their_status_and_lose_no_complete_line(rt: HostRuntime) -> Resu
     const FIRST: &[u32] = &[1];
     const SECOND: &[u32] = &[2];
     let all: &[u8] = b"$HEHDT,90.0,T*16\r\n";
+    let shown: &[u8] = b"line=1 prio=2 pgn=127250 src=23 dst=255 len=8\n";
     let none: &[u8] = b"";
     let usage: &[u8] =
         b"usage: shipgate convert | show | check CONFIG | replay CONFIG | serve CONFIG TURNS | demo SEED COUNT\n";
@@ -191,6 +241,9 @@ fn failures_have_their_status_and_lose_no_complete_line(rt: HostRuntime) -> Resu
         ("convert", NONE, 4096, FIRST, 4, none),
         ("convert", NONE, 3, SECOND, 4, &all[..3]),
         ("convert", NONE, 0, NONE, 4, none),
+        ("show", NONE, 3, NONE, 0, shown),
+        ("show", SECOND, 4096, NONE, 5, shown),
+        ("show", NONE, 3, SECOND, 4, &shown[..3]),
         ("", NONE, 4096, NONE, 2, usage),
         ("", NONE, 4096, FIRST, 2, none),
         ("Convert", NONE, 4096, NONE, 2, usage),

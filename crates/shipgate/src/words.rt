@@ -2,11 +2,20 @@
 ghost use Rattle.std.specs.Prelude.{map, MatchOption, string_bytes};
 ghost use Rattle.shipgate.specs.Words.{IsForm, IsNoForm};
 
+/// A command that writes a text for each line of a capture by itself.
+#[derive(Clone, Copy, Debug, PartialEq, Eq)]
+pub enum Filter {
+    /// The sentences of each frame.
+    Convert,
+    /// What each line says, in plain numbers.
+    Show,
+}
+
 /// A command of the program.
 #[derive(Clone, Copy, Debug, PartialEq, Eq)]
 pub enum Command {
-    /// Turns a capture into sentences.
-    Convert,
+    /// Reads a capture and writes a text for each of its lines.
+    Lines(Filter),
 }
 
 /// What is written where the words are no command.
@@ -20,7 +29,9 @@ pub(crate) fn command_of(words: &[String]) -> Option<Command>
     match words {
         [word] => {
             if word.as_str() == "convert" {
-                Some(Command::Convert)
+                Some(Command::Lines(Filter::Convert))
+            } else if word.as_str() == "show" {
+                Some(Command::Lines(Filter::Show))
             } else {
                 None
             }

@@ -40,7 +40,8 @@ pub(crate) fn send<K: Sink>(piece: &[u8], out: &mut K) -> Result<(), Failed>
 }
 
 impl Writer {
-    ghost use Rattle.std.specs.Prelude.{◌≡◌, ◌≤◌, [], ◌++◌, length, OnOk};
+    ghost use Rattle.std.specs.Prelude.{◌≡◌, [], ◌++◌, OnOk};
+    ghost use Rattle.std.specs.List.{flat_map};
     ghost use Rattle.gate_outside.specs.Faults.{HasCause};
     ghost use Rattle.shipgate.specs.Writing.{Writes};
 
@@ -67,19 +68,45 @@ impl Writer {
         }
     }
 
+    // Writes all that waits, and lets a text wait. One that is longer than may wait is written at once.
+    fn put_anew<K: Sink>(&mut self, text: &[u8], out: &mut K) -> Result<(), Failed>
+        ensures sent { Writes (K.taken out.old) (K.taken out.new) (self.old ++ text.now) self.new result }
+        ensures cause { HasCause (K.fault_count out.old) (K.fault_count out.new) result }
+    {
+        match self.flush(out) {
+            Ok(()) => {}
+            Err(Failed) => return Err(Failed),
+        }
+        if text.len() > ROOM {
+            return send(text, out);
+        }
+        let _fits = self.waiting.try_extend_from_slice(text);
+        Ok(())
+    }
+
     /// Lets a text wait behind what waits, which is written first where there is no room for both.
     pub(crate) fn put<K: Sink>(&mut self, text: &[u8], out: &mut K) -> Result<(), Failed>
-        requires { length text.now ≤ ROOM }
         ensures sent { Writes (K.taken out.old) (K.taken out.new) (self.old ++ text.now) self.new result }
         ensures cause { HasCause (K.fault_count out.old) (K.fault_count out.new) result }
     {
         if text.len() > self.waiting.remaining_capacity() {
-            match self.flush(out) {
+            return self.put_anew(text, out);
+        }
+        let _fits = self.waiting.try_extend_from_slice(text);
+        Ok(())
+    }
+
+    /// Lets these pieces wait, one behind the other.
+    pub(crate) fn put_all<K: Sink>(&mut self, pieces: &[&[u8]], out: &mut K) -> Result<(), Failed>
+        ensures sent { Writes (K.taken out.old) (K.taken out.new) (self.old ++ flat_map (λ piece. piece.now) pieces.now) self.new result }
+        ensures cause { HasCause (K.fault_count out.old) (K.fault_count out.new) result }
+    {
+        for piece in pieces {
+            match self.put(piece, out) {
                 Ok(()) => {}
                 Err(Failed) => return Err(Failed),
             }
         }
-        let _ = self.waiting.try_extend_from_slice(text);
         Ok(())
     }
 }

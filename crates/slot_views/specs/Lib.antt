@@ -2,3 +2,4 @@ pub mod Slots
 pub mod Shelf
 pub mod Answers
 pub mod Rows
+pub mod Traces

@@ -7,6 +7,7 @@
 mod answers;
 mod buffers;
 mod growth;
+mod laws;
 mod opening;
 mod shelf;
 mod slot;
@@ -15,4 +16,5 @@ mod slots;
 mod tests;
 
 pub use answers::{Begun, Ended, Grown, Kept, View};
+pub use laws::{expired_end_one_by_one, keys_stand_apart};
 pub use slots::Slots;

@@ -5,3 +5,6 @@ pub mod Laws
 pub mod Again
 pub mod Decimal
 pub mod Written
+pub mod GroupVerdicts
+pub mod GroupPrefixes
+pub mod GroupKeys

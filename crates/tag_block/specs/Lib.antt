@@ -3,3 +3,8 @@ pub mod Numbers
 pub mod Tag
 pub mod Reading
 pub mod Writing
+pub mod Groups
+pub mod GroupAnswers
+pub mod GroupRows
+pub mod GroupRuns
+pub mod GroupLaws

@@ -1,5 +1,5 @@
-use Rattle.shipgate.specs.declared.words.Command.TheVariants.{Convert}
+use Rattle.shipgate.specs.declared.words.Command.TheVariants.{Lines}
 use Rattle.shipgate.proofs.run.run.Goals as goal
 
 pub returns-in-None-clause-complete : goal.returns-in-None-clause-complete
-returns-in-None-clause-complete g c = λ bytes form left within source sink. absurd (c.in-None.ensures Convert form)
+returns-in-None-clause-complete g c = λ filter bytes form left within source sink. absurd (c.in-None.ensures (Lines filter) form)

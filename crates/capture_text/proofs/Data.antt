@@ -1,0 +1,87 @@
+-- Bytes in hexadecimal digits, up to the end of the line or a space.
+use Rattle.std.proofs.Common.{◌≡◌, ℕ, true, false, cond, leb, ◌&&◌, List, [], ◌∷◌, ◌++◌, length, take, drop, Option, Some, None, Ok, refl, sym, ap, ◌∙◌, arith}
+use Rattle.std.specs.Prelude.{◌==◌, ◌||◌, option_map}
+use Rattle.std.specs.Char.{is_ascii_hexdigit}
+use Rattle.std.specs.List.{prefix_len, list_all}
+use Rattle.std.specs.Result.{result_ok}
+use Rattle.std.specs.Int.{w32, from_be_bytes}
+use Rattle.std.proofs.lemmas.Bool.{and_parts, eqb-true, leb-true, le-leb}
+use Rattle.std.proofs.lemmas.List.{take-append-drop}
+use Rattle.std.proofs.lemmas.List.Folds.{length-prefix_len}
+use Rattle.std.proofs.lemmas.List.Sums.{list_all-from_AllPass}
+use Rattle.hex.specs.Hex.{decode_of, is_hex_digit}
+use Rattle.hex.proofs.HexLemmas.{decode_of-ok}
+use Rattle.sentence_text.proofs.Bytes.{splits, all_weaker}
+use Rattle.capture_text.specs.Capture.{is_end, IsData, IsNumber}
+use Rattle.capture_text.specs.Reading.{data_at, number_of, is_other_kind}
+use Rattle.capture_text.proofs.Cuts.{if_some, some_is, result_some}
+
+digit_of_hex : (c : ℕ) → is_hex_digit c ≡ true → is_ascii_hexdigit c ≡ true
+digit_of_hex c h = grind arith
+
+pub written_digits : (digits bytes : List ℕ) → decode_of digits ≡ Ok bytes → list_all is_ascii_hexdigit digits ≡ true
+written_digits digits bytes e = all_weaker is_hex_digit is_ascii_hexdigit digit_of_hex digits (list_all-from_AllPass is_hex_digit digits (decode_of-ok digits bytes e).1)
+
+pub end_stops : (rest : List ℕ) → is_end rest ≡ true → prefix_len is_ascii_hexdigit rest ≡ 0
+end_stops [] h = refl
+end_stops (c ∷ cs) h = rw (eqb-true c 32 h) refl
+
+pub data_found : (behind held : List ℕ) → data_at behind ≡ Some held → IsData held behind
+unfolding data_at
+data_found behind held e =
+    let n = prefix_len is_ascii_hexdigit behind in
+    let made = if_some (leb n 16 && is_end (drop n behind)) (result_ok (decode_of (take n behind))) held e in
+    let h = and_parts (leb n 16) (is_end (drop n behind)) made.0 in
+    record {
+      digits = take n behind;
+      rest = drop n behind;
+      spelled = sym (take-append-drop n behind);
+      few = omega (arith, length-prefix_len is_ascii_hexdigit behind, leb-true n 16 h.0);
+      written = result_some (decode_of (take n behind)) held made.1;
+      ends = h.1;
+    }
+
+abbrev data_by : ℕ → List ℕ → List ℕ → Option (List ℕ)
+data_by n digits rest = cond (leb n 16 && is_end rest) (result_ok (decode_of digits)) None
+
+pub data_again : (behind held : List ℕ) → IsData held behind → data_at behind ≡ Some held
+unfolding data_at
+data_again behind held h =
+    let text = h.digits ++ h.rest in
+    let s = splits is_ascii_hexdigit h.digits h.rest (written_digits h.digits held h.written) (end_stops h.rest h.ends) in
+    let few : leb (length h.digits) 16 ≡ true = le-leb (length h.digits) 16 h.few in
+    let ends : is_end h.rest ≡ true = h.ends in
+    let written : decode_of h.digits ≡ Ok held = h.written in
+    ap data_at h.spelled
+    ∙ ap (λ (x : List ℕ). data_by (prefix_len is_ascii_hexdigit text) (take (prefix_len is_ascii_hexdigit text) text) x) s.tail_is
+    ∙ ap (λ (x : List ℕ). data_by (prefix_len is_ascii_hexdigit text) x h.rest) s.front_is
+    ∙ ap (λ (x : ℕ). data_by x h.digits h.rest) s.run
+    ∙ rw (few, ends, written) refl
+
+-- data don't begin as another kind of frame
+plain_digit : (c : ℕ) → is_ascii_hexdigit c ≡ true → (c == 82 || c == 35) ≡ false
+plain_digit c h = grind arith
+
+plain_start : (digits rest : List ℕ) → list_all is_ascii_hexdigit digits ≡ true → is_end rest ≡ true → is_other_kind (digits ++ rest) ≡ false
+plain_start [] [] d e = refl
+plain_start [] (c ∷ cs) d e = rw (eqb-true c 32 e) refl
+plain_start (c ∷ cs) rest d e = plain_digit c (and_parts (is_ascii_hexdigit c) (list_all is_ascii_hexdigit cs) d).0
+
+pub data_plain : (behind held : List ℕ) → IsData held behind → is_other_kind behind ≡ false
+data_plain behind held h = ap is_other_kind h.spelled ∙ plain_start h.digits h.rest (written_digits h.digits held h.written) h.ends
+
+-- ---- the number of eight digits
+
+number_with : (digits : List ℕ) (bytes : Option (List ℕ)) (n : ℕ) → result_ok (decode_of digits) ≡ bytes → length digits ≡ 8 → option_map (from_be_bytes w32) bytes ≡ Some n → IsNumber n digits
+number_with digits None n e eight f = absurd cc
+number_with digits (Some bytes) n e eight f = record { eight = eight; bytes = bytes; written = result_some (decode_of digits) bytes e; value = sym (some_is (from_be_bytes w32 bytes) n f) }
+
+pub number_found : (digits : List ℕ) (n : ℕ) → length digits ≡ 8 → number_of digits ≡ Some n → IsNumber n digits
+unfolding number_of
+number_found digits n eight e = number_with digits (result_ok (decode_of digits)) n refl eight e
+
+pub number_again : (digits : List ℕ) (n : ℕ) → IsNumber n digits → number_of digits ≡ Some n
+unfolding number_of
+number_again digits n h =
+    let written : decode_of digits ≡ Ok h.bytes = h.written in
+    rw written (ap (λ (x : ℕ). Some x) (sym h.value))

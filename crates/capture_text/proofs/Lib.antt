@@ -1,0 +1,9 @@
+pub mod Again
+pub mod Cuts
+pub mod Data
+pub mod Frames
+pub mod Hex
+pub mod Laws
+pub mod Lines
+pub mod Numbers
+pub mod Times

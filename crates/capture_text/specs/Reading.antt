@@ -1,0 +1,136 @@
+-- What a line of a capture reads as: what it says, or the rule that it breaks.
+use Rattle.std.specs.Prelude.{◌≡◌, ℕ, ◌+◌, ◌^◌, ◌≤◌, ◌==◌, Bool, ◌&&◌, ◌||◌, nat_eq, nat_lt, nat_le, List, ◌++◌, length, take, drop, codes, slice_index, Option, Some, None, option_map, Result, Ok, Err, if◌then◌else◌}
+use Rattle.std.specs.List.{prefix_len, list_all}
+use Rattle.std.specs.Cmp.Lexicographic.{pointwise}
+use Rattle.std.specs.Char.{is_ascii_digit, is_ascii_graphic, is_ascii_hexdigit}
+use Rattle.std.specs.Result.{result_ok}
+use Rattle.std.specs.Int.{w32, from_be_bytes}
+use Rattle.hex.specs.Hex.{decode_of}
+use Rattle.unit_fraction.specs.Digits.{number}
+use Rattle.n2k_id.specs.declared.frame.Frame.{Frame}
+use Rattle.n2k_id.specs.Frame.{BusFrame, bus_frame}
+use Rattle.n2k_id.specs.Frame as valid
+use Rattle.sentence_text.specs.Text.{is_address_byte}
+use Rattle.capture_text.specs.declared.event.Event.{Event}
+use Rattle.capture_text.specs.declared.event.Event.TheVariants as event
+use Rattle.capture_text.specs.declared.event.LineRule.{LineRule}
+use Rattle.capture_text.specs.declared.event.LineRule.TheVariants.{Form, NotExtended, Long}
+use Rattle.capture_text.specs.Capture.{Seen, frame, datagram, tick, is_end}
+
+-- a moment, and what follows the space behind its time
+pub record Timed : Type 0 where
+  pub moment : ℕ
+  pub rest : List ℕ
+
+-- the digits of the seconds and of the microseconds behind `(`, each up to the first other byte
+unfoldable pub time_at : List ℕ → Option Timed
+time_at line = let seconds = drop 1 line in let n = prefix_len is_ascii_digit seconds in let micros = drop (n + 1) seconds in
+    if slice_index line 0 == 40 && nat_le 1 n && nat_le n 10 && slice_index seconds n == 46
+    && prefix_len is_ascii_digit micros == 6 && slice_index micros 6 == 41 && slice_index micros 7 == 32
+    then Some (record { moment = number (take n seconds ++ take 6 micros); rest = drop 8 micros })
+    else None
+
+-- ---- the three kinds of lines, behind the interface
+
+abbrev pub is_group : List ℕ → Bool
+is_group text = length text == 4 && list_all is_address_byte text
+
+unfoldable pub bytes_at : List ℕ → Option (List ℕ)
+bytes_at tail = let behind = drop 6 tail in let n = prefix_len is_ascii_hexdigit behind in
+    if slice_index tail 0 == 32 && is_group (take 4 (drop 1 tail)) && slice_index tail 5 == 35 && is_end (drop n behind)
+    then result_ok (decode_of (take n behind))
+    else None
+
+unfoldable pub data_at : List ℕ → Option (List ℕ)
+data_at behind = let n = prefix_len is_ascii_hexdigit behind in
+    if nat_le n 16 && is_end (drop n behind) then result_ok (decode_of (take n behind)) else None
+
+unfoldable pub number_of : List ℕ → Option ℕ
+number_of digits = option_map (from_be_bytes w32) (result_ok (decode_of digits))
+
+abbrev pub frame_with : List ℕ → Option ℕ → Result BusFrame LineRule
+frame_with held None = Err Form
+frame_with held (Some id) = if nat_lt id (2 ^ 29) then Ok (record { id = id; held = held }) else Err NotExtended
+
+-- a frame of this identifier, where there are data
+abbrev pub frame_of : List ℕ → Option (List ℕ) → Result BusFrame LineRule
+frame_of identifier None = Err Form
+frame_of identifier (Some held) = if length identifier == 3 then Err NotExtended else frame_with held (number_of identifier)
+
+abbrev pub is_other_kind : List ℕ → Bool
+is_other_kind behind = slice_index behind 0 == 82 || slice_index behind 0 == 35
+
+unfoldable pub frame_at : List ℕ → Result BusFrame LineRule
+frame_at tail = let digits = drop 1 tail in let n = prefix_len is_ascii_hexdigit digits in let behind = drop (n + 1) digits in
+    if slice_index tail 0 == 32 && (n == 3 || n == 8) && slice_index digits n == 35
+    then if is_other_kind behind then Err NotExtended else frame_of (take n digits) (data_at behind)
+    else Err Form
+
+-- ---- the line
+
+abbrev pub seen_tick : ℕ → Bool → Result Seen LineRule
+seen_tick moment ends = if ends then Ok (tick moment) else Err Form
+
+abbrev pub seen_datagram : ℕ → Option (List ℕ) → Result Seen LineRule
+seen_datagram moment None = Err Form
+seen_datagram moment (Some bytes) = Ok (datagram moment bytes)
+
+abbrev pub seen_frame : ℕ → Result BusFrame LineRule → Result Seen LineRule
+seen_frame moment (Ok seen) = Ok (frame moment seen)
+seen_frame moment (Err rule) = Err rule
+
+abbrev pub is_name : List ℕ → List ℕ → Bool
+is_name name text = pointwise nat_eq text name
+
+-- by the interface
+unfoldable pub seen_behind : ℕ → List ℕ → List ℕ → Result Seen LineRule
+seen_behind moment name tail = if is_name (codes "tick") name then seen_tick moment (is_end tail)
+    else if is_name (codes "udp0") name then seen_datagram moment (bytes_at tail)
+    else seen_frame moment (frame_at tail)
+
+-- an interface, and what follows it
+pub record Named : Type 0 where
+  pub name : List ℕ
+  pub tail : List ℕ
+
+abbrev pub interface_at : List ℕ → Option Named
+interface_at rest = let n = prefix_len is_ascii_graphic rest in
+    if nat_le 1 n && nat_le n 16 then Some (record { name = take n rest; tail = drop n rest }) else None
+
+abbrev pub seen_named : ℕ → Option Named → Result Seen LineRule
+seen_named moment None = Err Form
+seen_named moment (Some i) = seen_behind moment i.name i.tail
+
+-- behind the time
+abbrev pub seen_at : Option Timed → Result Seen LineRule
+seen_at None = Err Form
+seen_at (Some t) = seen_named t.moment (interface_at t.rest)
+
+unfoldable pub read : List ℕ → Result Seen LineRule
+read line = if nat_lt 4096 (length line) then Err Long else seen_at (time_at line)
+
+-- ---- what the calls answer, in these terms
+
+abbrev pub view : Event → Seen
+view (event.Frame moment f) = frame moment (bus_frame f)
+view (event.Datagram moment bytes) = datagram moment bytes.now
+view (event.Tick moment) = tick moment
+
+abbrev pub seen : Result Event LineRule → Result Seen LineRule
+seen (Ok e) = Ok (view e)
+seen (Err rule) = Err rule
+
+-- a frame in an event is valid
+abbrev pub IsValid : Event → Type 0
+IsValid (event.Frame moment f) = valid.IsFrame f
+IsValid (event.Datagram moment bytes) = Unit {0}
+IsValid (event.Tick moment) = Unit {0}
+
+-- so many bytes of the room were written, or there are none
+abbrev pub IsPut : Option ℕ → List ℕ → Option (List ℕ) → Type 0
+IsPut None room bytes = bytes ≡ None
+IsPut (Some count) room bytes = (count ≤ length room) × (bytes ≡ Some (take count room))
+
+abbrev pub bus_frame_in : Result Frame LineRule → Result BusFrame LineRule
+bus_frame_in (Ok f) = Ok (bus_frame f)
+bus_frame_in (Err rule) = Err rule

@@ -1,0 +1,62 @@
+-- The line that is written of an emit.
+use Rattle.std.specs.Prelude.{ℕ, ◌≤◌, false, List, [], ◌∷◌, ◌++◌, length, codes, Option, Some, None}
+use Rattle.std.specs.Fmt.{decimal}
+use Rattle.std.specs.Int.{w32, to_be_bytes}
+use Rattle.hex.specs.Hex.{encode_upper}
+use Rattle.unit_fraction.specs.Text.{decimal_text}
+use Rattle.n2k_id.specs.declared.frame.Frame.{Frame}
+use Rattle.n2k_id.specs.Frame.{IsFrame, bus_frame, held_bytes}
+use Rattle.capture_text.specs.declared.emit.Detail.{Detail}
+use Rattle.capture_text.specs.declared.emit.Detail.TheVariants as detail
+use Rattle.capture_text.specs.declared.emit.Report.{Report}
+use Rattle.capture_text.specs.declared.emit.Emit.{Emit}
+use Rattle.capture_text.specs.declared.emit.Emit.TheVariants as emit
+use Rattle.capture_text.specs.Capture.{Seen, frame, datagram}
+
+-- a frame is valid, and a datagram has at most 512 bytes
+abbrev pub CanWrite : Emit → Type 0
+CanWrite (emit.Can f) = IsFrame f
+CanWrite (emit.Net group bytes) = length bytes.now ≤ 512
+CanWrite (emit.Report report) = Unit {0}
+
+-- the seconds and six digits of microseconds in parentheses, and a space
+abbrev pub time_text : ℕ → List ℕ
+time_text moment = 40 ∷ (decimal_text false moment 6 ++ codes ") ")
+
+-- a key, `=` and a number, behind a space
+abbrev pub part : List ℕ → ℕ → List ℕ
+part key number = 32 ∷ (key ++ 61 ∷ decimal number)
+
+abbrev pub detail_text : Detail → List ℕ
+detail_text detail.Nothing = []
+detail_text (detail.Source address pgn) = part (codes "src") address ++ part (codes "pgn") pgn
+detail_text (detail.Address address) = part (codes "addr") address
+detail_text (detail.At at) = part (codes "at") at
+detail_text (detail.AtField at field) = part (codes "at") at ++ part (codes "field") field
+detail_text (detail.GroupKey sfi code) = codes " sfi=" ++ sfi ++ part (codes "group") code
+detail_text (detail.Line line) = part (codes "line") line
+detail_text detail.Bus = codes " link=bus"
+detail_text detail.Net = codes " link=net"
+
+abbrev pub report_text : Report → List ℕ
+report_text report = codes "rule " ++ decimal report.rule ++ detail_text report.detail
+
+abbrev pub frame_text : Frame → List ℕ
+frame_text f = codes "can0 " ++ encode_upper (to_be_bytes w32 f.id) ++ 35 ∷ encode_upper (held_bytes f)
+
+abbrev pub datagram_text : List ℕ → List ℕ → List ℕ
+datagram_text group bytes = codes "udp0 " ++ group ++ 35 ∷ encode_upper bytes
+
+abbrev pub emit_text : Emit → List ℕ
+emit_text (emit.Can f) = frame_text f
+emit_text (emit.Net group bytes) = datagram_text group bytes.now
+emit_text (emit.Report report) = report_text report
+
+abbrev pub line_text : Emit → ℕ → List ℕ
+line_text emitted moment = time_text moment ++ emit_text emitted
+
+-- what a line says that is written of a frame or of a datagram
+abbrev pub said : Emit → ℕ → Option Seen
+said (emit.Can f) moment = Some (frame moment (bus_frame f))
+said (emit.Net group bytes) moment = Some (datagram moment bytes.now)
+said (emit.Report report) moment = None

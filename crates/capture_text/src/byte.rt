@@ -1,0 +1,55 @@
+ghost use Rattle.std.specs.Prelude.{◌≡◌, ◌≤◌, length, slice_index};
+ghost use Rattle.std.specs.Char.{is_ascii_digit, is_ascii_graphic, is_ascii_hexdigit};
+ghost use Rattle.std.specs.List.{prefix_len};
+ghost use Rattle.capture_text.specs.Capture as capture;
+ghost use Rattle.capture_text.specs.Reading as spec;
+
+use sentence_text::Group;
+
+/// How many decimal digits come first.
+pub(crate) fn digit_run(text: &[u8]) -> usize
+    ensures run { result ≡ prefix_len is_ascii_digit text.now }
+    ensures within { result ≤ length text.now }
+{
+    text.iter().take_while(|byte| byte.is_ascii_digit()).count()
+}
+
+/// How many hexadecimal digits come first.
+pub(crate) fn hex_run(text: &[u8]) -> usize
+    ensures run { result ≡ prefix_len is_ascii_hexdigit text.now }
+    ensures within { result ≤ length text.now }
+{
+    text.iter()
+        .take_while(|byte| byte.is_ascii_hexdigit())
+        .count()
+}
+
+/// How many bytes of a name come first.
+pub(crate) fn name_run(text: &[u8]) -> usize
+    ensures run { result ≡ prefix_len is_ascii_graphic text.now }
+    ensures within { result ≤ length text.now }
+{
+    text.iter()
+        .take_while(|byte| byte.is_ascii_graphic())
+        .count()
+}
+
+/// The byte at a place; 0, which stands nowhere in the layout of a line, past the end.
+pub(crate) fn byte_at(text: &[u8], place: usize) -> u8
+    ensures { result ≡ slice_index text.now place }
+{
+    if place < text.len() { text[place] } else { 0 }
+}
+
+/// Whether a line ends here, or a space and any text follow.
+pub(crate) fn is_end(rest: &[u8]) -> bool
+    ensures { result ≡ capture.is_end rest.now }
+{
+    matches!(rest, [] | [b' ', ..])
+}
+
+pub(crate) fn is_group(text: &[u8]) -> bool
+    ensures { result ≡ spec.is_group text.now }
+{
+    Group::of(text).is_some()
+}

@@ -1,0 +1,23 @@
+use n2k_id::Frame;
+
+/// What a line of a capture says. Each moment is in microseconds.
+#[derive(Clone, Copy, Debug, PartialEq, Eq)]
+pub enum Event<'a> {
+    /// A frame on the bus.
+    Frame { moment: u64, frame: Frame },
+    /// A datagram on the network.
+    Datagram { moment: u64, bytes: &'a [u8] },
+    /// Time passes.
+    Tick { moment: u64 },
+}
+
+/// The rule that a line of a capture breaks.
+#[derive(Clone, Copy, Debug, PartialEq, Eq)]
+pub enum LineRule {
+    /// It has none of the forms of a line.
+    Form,
+    /// It is a frame of the bus, but no data frame with a 29-bit identifier.
+    NotExtended,
+    /// It has more than 4096 bytes.
+    Long,
+}

@@ -1,0 +1,20 @@
+//! The text of a capture: what happened on the bus and on the network, line by line, and what a gateway emits.
+//!
+//! A line is laid out as the log of candump: a time, an interface and a frame. An interface `udp0` carries datagrams
+//! of IEC 61162-450, and `tick` says that time passes. What is read is lent from the caller's room; nothing takes
+//! memory.
+#![tactic(auto)]
+
+mod byte;
+mod emit;
+mod event;
+mod reading;
+mod writing;
+
+pub use emit::{Detail, Emit, Report};
+pub use event::{Event, LineRule};
+pub use reading::read_line;
+pub use writing::write_emit;
+
+#[cfg(test)]
+mod tests;

@@ -1,0 +1,260 @@
+ghost use Rattle.std.specs.Prelude.{◌≡◌, ◌+◌, ◌*◌, ◌<◌, ◌≤◌, ◌^◌, ◌⊎◌, ◌++◌, ◌↔◌, length, Ok, Err, Some, None, IfOk, IfSome, MatchOption, IsTrue};
+ghost use Rattle.std.specs.Char.{is_ascii_digit};
+ghost use Rattle.std.specs.List.{list_all};
+ghost use Rattle.std.specs.Result.{result_ok};
+ghost use Rattle.hex.specs.Hex.{decode_of};
+ghost use Rattle.unit_fraction.specs.Digits.{number_after};
+ghost use Rattle.n2k_id.specs.Frame.{IsFrame};
+ghost use Rattle.capture_text.specs.Capture.{Seen, IsLine, IsNotExtended, IsNoLine};
+ghost use Rattle.capture_text.specs.Reading as spec;
+
+use crate::byte::{byte_at, digit_run, hex_run, is_end, is_group, name_run};
+use crate::event::{Event, LineRule};
+use n2k_id::Frame;
+
+/// The most bytes of a line.
+const LONGEST: usize = 4096;
+
+/// The number that the digits write behind those that were read before.
+#[tactic(auto, using(crate::proofs::Numbers::digit_range, unit_fraction::proofs::Number::number_step))]
+fn number_behind(before: u64, digits: &[u8]) -> u64
+    requires digits { IsTrue (list_all is_ascii_digit digits.now) }
+    requires fits { number_after before digits.now < 2 ^ 64 }
+    ensures { result ≡ number_after before digits.now }
+{
+    let mut number = before;
+    for digit in digits {
+        number = number * 10 + u64::from(*digit - b'0');
+    }
+    number
+}
+
+/// The moment that seconds and microseconds write.
+#[tactic(auto, using(crate::proofs::Numbers::few_digits, crate::proofs::Numbers::both_few, unit_fraction::proofs::Number::number_after_append))]
+fn moment(seconds: &[u8], micros: &[u8]) -> u64
+    requires seconds { IsTrue (list_all is_ascii_digit seconds.now) }
+    requires micros { IsTrue (list_all is_ascii_digit micros.now) }
+    requires few { length seconds.now + length micros.now ≤ 16 }
+    ensures { result ≡ number_after 0 (seconds.now ++ micros.now) }
+{
+    number_behind(number_behind(0, seconds), micros)
+}
+
+/// The moment of the time at the front, and what follows the space behind it.
+#[tactic(auto, using(crate::proofs::Numbers::front_digits), unfolding(crate::specs::Reading::time_at))]
+fn time(line: &[u8]) -> Option<(u64, &[u8])>
+    ensures shorter { IfSome result (λ t. length t.1.now ≤ length line.now) }
+    ensures reads { MatchOption result (spec.time_at line.now ≡ None) (λ t. spec.time_at line.now ≡ Some (record { moment = t.0; rest = t.1.now })) }
+{
+    if byte_at(line, 0) != b'(' {
+        return None;
+    }
+    let digits = line.split_at(1).1;
+    let count = digit_run(digits);
+    if count < 1 || count > 10 || byte_at(digits, count) != b'.' {
+        return None;
+    }
+    let behind = digits.split_at(count + 1).1;
+    if digit_run(behind) != 6 || byte_at(behind, 6) != b')' || byte_at(behind, 7) != b' ' {
+        return None;
+    }
+    let moment = moment(digits.split_at(count).0, behind.split_at(6).0);
+    Some((moment, behind.split_at(8).1))
+}
+
+/// Puts the bytes that the digits write into the room, and says how many there are.
+fn put_bytes(digits: &[u8], room: &mut [u8]) -> Option<usize>
+    requires { length digits.now ≤ 2 * length room.old }
+    ensures { spec.IsPut result room.new (result_ok (decode_of digits.now)) }
+{
+    let count = digits.len() / 2;
+    match hex::decode_to_slice(digits, &mut room[..count]) {
+        Ok(()) => Some(count),
+        Err(_) => None,
+    }
+}
+
+/// Puts the bytes of a datagram into the room, and says how many there are.
+#[tactic(auto, unfolding(crate::specs::Reading::bytes_at))]
+fn put_datagram(tail: &[u8], room: &mut [u8; 2048]) -> Option<usize>
+    requires { length tail.now ≤ LONGEST }
+    ensures { spec.IsPut result room.new (spec.bytes_at tail.now) }
+{
+    if byte_at(tail, 0) != b' ' || byte_at(tail, 5) != b'#' || !is_group(&tail[1..5]) {
+        return None;
+    }
+    let behind = tail.split_at(6).1;
+    let (digits, rest) = behind.split_at(hex_run(behind));
+    if !is_end(rest) {
+        return None;
+    }
+    put_bytes(digits, &mut room[..])
+}
+
+/// Puts the data of a frame into the room, and says how many bytes there are.
+#[tactic(auto, unfolding(crate::specs::Reading::data_at))]
+fn put_data(behind: &[u8], room: &mut [u8; 8]) -> Option<usize>
+    ensures { spec.IsPut result room.new (spec.data_at behind.now) }
+{
+    let (digits, rest) = behind.split_at(hex_run(behind));
+    if digits.len() > 16 || !is_end(rest) {
+        return None;
+    }
+    put_bytes(digits, &mut room[..])
+}
+
+/// The number that eight digits write.
+#[tactic(auto, unfolding(crate::specs::Reading::number_of))]
+fn number(digits: &[u8]) -> Option<u32>
+    requires { length digits.now ≡ 8 }
+    ensures { result ≡ spec.number_of digits.now }
+{
+    let mut bytes = [0; 4];
+    match hex::decode_to_slice(digits, &mut bytes) {
+        Ok(()) => Some(u32::from_be_bytes(bytes)),
+        Err(_) => None,
+    }
+}
+
+/// The frame of an identifier of eight digits, and of these data.
+fn frame_with(identifier: &[u8], held: &[u8]) -> Result<Frame, LineRule>
+    requires eight { length identifier.now ≡ 8 }
+    requires few { length held.now ≤ 8 }
+    ensures reads { spec.bus_frame_in result ≡ spec.frame_with held.now (spec.number_of identifier.now) }
+    ensures valid { IfOk result IsFrame }
+{
+    match number(identifier) {
+        None => Err(LineRule::Form),
+        Some(id) => match Frame::of(id, held) {
+            Some(frame) => Ok(frame),
+            None => Err(LineRule::NotExtended),
+        },
+    }
+}
+
+/// The frame of an identifier of three or eight digits, and of the data behind its `#`.
+fn frame_of(identifier: &[u8], behind: &[u8]) -> Result<Frame, LineRule>
+    requires { (length identifier.now ≡ 3) ⊎ (length identifier.now ≡ 8) }
+    ensures reads { spec.bus_frame_in result ≡ spec.frame_of identifier.now (spec.data_at behind.now) }
+    ensures valid { IfOk result IsFrame }
+{
+    let mut room = [0; 8];
+    match put_data(behind, &mut room) {
+        None => Err(LineRule::Form),
+        Some(count) => {
+            if identifier.len() == 3 {
+                return Err(LineRule::NotExtended);
+            }
+            frame_with(identifier, &room[..count])
+        }
+    }
+}
+
+/// Whether a remote frame, or a frame of CAN FD, follows its identifier.
+fn is_other_kind(behind: &[u8]) -> bool
+    ensures { result ≡ spec.is_other_kind behind.now }
+{
+    byte_at(behind, 0) == b'R' || byte_at(behind, 0) == b'#'
+}
+
+/// The frame of the bus behind the interface.
+#[tactic(auto, unfolding(crate::specs::Reading::frame_at))]
+fn frame(tail: &[u8]) -> Result<Frame, LineRule>
+    ensures reads { spec.bus_frame_in result ≡ spec.frame_at tail.now }
+    ensures valid { IfOk result IsFrame }
+{
+    if byte_at(tail, 0) != b' ' {
+        return Err(LineRule::Form);
+    }
+    let digits = tail.split_at(1).1;
+    let count = hex_run(digits);
+    if (count != 3 && count != 8) || byte_at(digits, count) != b'#' {
+        return Err(LineRule::Form);
+    }
+    let behind = digits.split_at(count + 1).1;
+    if is_other_kind(behind) {
+        return Err(LineRule::NotExtended);
+    }
+    frame_of(digits.split_at(count).0, behind)
+}
+
+/// The interface at the front, and what follows it.
+fn interface(rest: &[u8]) -> Option<(&[u8], &[u8])>
+    ensures shorter { IfSome result (λ t. length t.1.now ≤ length rest.now) }
+    ensures reads { MatchOption result (spec.interface_at rest.now ≡ None) (λ t. spec.interface_at rest.now ≡ Some (record { name = t.0.now; tail = t.1.now })) }
+{
+    let count = name_run(rest);
+    if count < 1 || count > 16 {
+        return None;
+    }
+    Some(rest.split_at(count))
+}
+
+/// What follows the time says, by the interface.
+#[tactic(auto, unfolding(crate::specs::Reading::seen_behind))]
+fn event<'a>(
+    moment: u64,
+    name: &[u8],
+    tail: &[u8],
+    room: &'a mut [u8; 2048],
+) -> Result<Event<'a>, LineRule>
+    requires { length tail.now ≤ LONGEST }
+    ensures reads { spec.seen result ≡ spec.seen_behind moment name.now tail.now }
+    ensures valid { IfOk result spec.IsValid }
+{
+    if name == b"tick".as_slice() {
+        if !is_end(tail) {
+            return Err(LineRule::Form);
+        }
+        return Ok(Event::Tick { moment });
+    }
+    if name == b"udp0".as_slice() {
+        return match put_datagram(tail, room) {
+            Some(count) => Ok(Event::Datagram {
+                moment,
+                bytes: &room[..count],
+            }),
+            None => Err(LineRule::Form),
+        };
+    }
+    match frame(tail) {
+        Ok(frame) => Ok(Event::Frame { moment, frame }),
+        Err(rule) => Err(rule),
+    }
+}
+
+#[tactic(auto, unfolding(crate::specs::Reading::read))]
+fn parse<'a>(line: &[u8], room: &'a mut [u8; 2048]) -> Result<Event<'a>, LineRule>
+    ensures reads { spec.seen result ≡ spec.read line.now }
+    ensures valid { IfOk result spec.IsValid }
+{
+    if line.len() > LONGEST {
+        return Err(LineRule::Long);
+    }
+    let (moment, rest) = match time(line) {
+        Some((moment, rest)) => (moment, rest),
+        None => return Err(LineRule::Form),
+    };
+    let (name, tail) = match interface(rest) {
+        Some((name, tail)) => (name, tail),
+        None => return Err(LineRule::Form),
+    };
+    event(moment, name, tail, room)
+}
+
+/// What a line of a capture says, without its line end. The bytes of a datagram are put into the room.
+pub fn read_line<'a>(line: &[u8], room: &'a mut [u8; 2048]) -> Result<Event<'a>, LineRule>
+    // What is read is spelled so.
+    ensures found { IfOk result (λ e. IsLine (spec.view e) line.now) }
+    // What is spelled so is read.
+    ensures only { (event : Seen) → IsLine event line.now → spec.seen result ≡ Ok event }
+    // Which rule it is.
+    ensures long { (result ≡ Err LineRule.Long) ↔ (4096 < length line.now) }
+    ensures not_extended { (result ≡ Err LineRule.NotExtended) ↔ IsNotExtended line.now }
+    ensures form { (result ≡ Err LineRule.Form) ↔ IsNoLine line.now }
+    ensures exact { spec.seen result ≡ spec.read line.now }
+    // A frame is valid.
+    ensures valid { IfOk result spec.IsValid }
+{
+    parse(line, room)
+}

@@ -1,0 +1,27 @@
+-- What a case unfolds.
+use Rattle.std.specs.Prelude.{⊤}
+use Rattle.std.specs.Fmt.{digits}
+use Rattle.n2k_id.specs.Identifier.{has_destination, parts_at, parts_of, group_of, identifier_of}
+use Rattle.n2k_id.specs.Name.{bits_at, is_arbitrary, name_bytes, name_at, fields_of}
+use Rattle.n2k_id.specs.Pattern.{matches_fields, matches, stating}
+use Rattle.claim_table.specs.Claims.{left_by, free_from, next_free, next_own, claim, is_obeyed, command}
+use Rattle.claim_table.specs.Presets.{opened}
+use Rattle.pgn_profile.specs.Profiled.{messages}
+use Rattle.unit_fraction.specs.Round.{nearest}
+use Rattle.hex.proofs.OnLiterals.{hex_on_literals}
+use Rattle.capture_text.specs.Reading.{time_at, bytes_at, data_at, number_of, frame_at, seen_behind, read}
+use Rattle.unit_fraction.specs.Reading as decimals
+use Rattle.fast_packet.specs.Split.{frames_to}
+use Rattle.sentence_text.specs.Reading.{front_fault, sum_fault, end_fault}
+use Rattle.tag_block.specs.Reading.{parameter_at, parameters_at, block_end_at, block_at, blocks_at, group_in, settle}
+use Rattle.tag_block.specs.Reading as tags
+use Rattle.datagram450.specs.Datagram.{items_from}
+use Rattle.datagram450.specs.Item as items
+use Rattle.sentence_rows.specs.Columns as columns
+use Rattle.sentence_rows.specs.Formatters.{formatter_of}
+use Rattle.sentence_rows.specs.ReadRow.{hdt, read_sentence}
+use Rattle.history.specs.Datagrams.{date_in_year, date_after, date_of}
+
+unfoldable pub cases : ⊤
+unfolding digits has_destination parts_at parts_of group_of identifier_of bits_at is_arbitrary name_bytes name_at fields_of matches_fields matches stating left_by free_from next_free next_own claim is_obeyed command opened messages hex_on_literals time_at bytes_at data_at number_of frame_at seen_behind read nearest decimals.read frames_to front_fault sum_fault end_fault parameter_at parameters_at block_end_at block_at blocks_at group_in settle tags.read items_from items.item columns.measure columns.number columns.counted columns.unit_letter columns.text columns.decimal columns.raw_of columns.is_blank columns.side formatter_of hdt read_sentence date_in_year date_after date_of
+cases = tt

@@ -1,0 +1,14 @@
+use Rattle.history.proofs.ReplayCases.{one_line, backwards, cut_off_in_data, cut_off_in_identifier}
+use Rattle.history.proofs.cases.captures_are_replayed.Goals as goal
+
+pub returns-clause-one_line : goal.returns-clause-one_line
+returns-clause-one_line c = one_line
+
+pub returns-clause-backwards : goal.returns-clause-backwards
+returns-clause-backwards c = backwards
+
+pub returns-clause-cut_off_in_data : goal.returns-clause-cut_off_in_data
+returns-clause-cut_off_in_data c = cut_off_in_data
+
+pub returns-clause-cut_off_in_identifier : goal.returns-clause-cut_off_in_identifier
+returns-clause-cut_off_in_identifier c = cut_off_in_identifier

@@ -1,0 +1,123 @@
+-- Whose message is said: that of the best source that is fresh.
+use Rattle.std.specs.Prelude.{ℕ, ◌+◌, ◌*◌, Bool, false, ◌&&◌, ◌||◌, not, ◌==◌, nat_le, nat_lt, List, [], ◌∷◌, find, Option, Some, None, is_some, if◌then◌else◌}
+use Rattle.std.specs.List.{list_any, list_all}
+use Rattle.n2k_id.specs.declared.pattern.Pattern.{Pattern}
+use Rattle.n2k_id.specs.Pattern.{matches}
+use Rattle.readings.specs.declared.reading.Reading.{Reading}
+use Rattle.readings.specs.declared.rows.Row.{Row}
+use Rattle.readings.specs.declared.rows.Row.TheVariants as row
+use Rattle.readings.specs.Rows.{row_of, principal}
+use Rattle.pgn_profile.specs.Profiled.{profiled}
+use Rattle.pgn_profile.specs.declared.profiled.Profiled.{Profiled}
+use Rattle.pgn_profile.specs.declared.profiled.Profiled.TheVariants as says
+use Rattle.claim_table.specs.Claims.{holder_at}
+use Rattle.claim_table.specs.declared.answer.Holder.{Holder}
+use Rattle.history.specs.Settings.{Settings, RowRule}
+use Rattle.history.specs.Known.{Known, since_of}
+use Rattle.history.specs.Messages.{Message}
+
+-- a row's place in the table of rows
+abbrev pub row_number : Row → ℕ
+row_number row.HeadingTrue = 0
+row_number row.HeadingMagnetic = 1
+row_number row.RateOfTurn = 2
+row_number row.RudderFirst = 3
+row_number row.RudderSecond = 4
+row_number row.WaterSpeed = 5
+row_number row.Depth = 6
+row_number row.DistanceLog = 7
+row_number row.Position = 8
+row_number row.CourseSpeed = 9
+row_number row.Gnss = 10
+row_number row.Time = 11
+row_number row.WindApparent = 12
+row_number row.WindTrue = 13
+row_number row.WindNorth = 14
+row_number row.WaterTemperature = 15
+row_number row.CrossTrack = 16
+
+-- a source's place among those that are preferred, and its NAME
+pub record Rank : Type 0 where
+  pub place : ℕ
+  pub name : ℕ
+
+abbrev pub is_before : Rank → Rank → Bool
+is_before a b = nat_lt a.place b.place || ((a.place == b.place) && nat_lt a.name b.name)
+
+-- the first place of the list whose pattern matches the NAME; others come after all listed ones, where they are taken
+abbrev pub place_in : Bool → ℕ → List Pattern → ℕ → Option ℕ
+place_in others at [] name = if others then Some at else None
+place_in others at (p ∷ ps) name = if matches p name then Some at else place_in others (at + 1) ps name
+
+abbrev pub ranked : ℕ → Option ℕ → Option Rank
+ranked name None = None
+ranked name (Some place) = Some (record { place = place; name = name })
+
+abbrev pub rank_of : RowRule → ℕ → Option Rank
+rank_of rule name = ranked name (place_in rule.others 0 rule.sources name)
+
+-- what a message says, where it is in the profile
+abbrev pub reading_in : Profiled → Option Reading
+reading_in (says.Reading r) = Some r
+reading_in says.Outside = None
+reading_in says.Short = None
+
+abbrev pub reading_of : Message → Option Reading
+reading_of d = reading_in (profiled d.pgn d.payload)
+
+abbrev pub is_row : Row → Option Reading → Bool
+is_row row None = false
+is_row row (Some r) = row_number (row_of r) == row_number row
+
+-- the values are there without which it says nothing of its row
+abbrev pub is_usable : Option Reading → Bool
+is_usable None = false
+is_usable (Some r) = list_all is_some (principal r)
+
+-- ---- who is fresh
+
+-- the message is of the row, from the source, since it holds its address
+abbrev pub is_of : Row → ℕ → ℕ → Message → Bool
+is_of row source since d = (d.source == source) && (nat_le since d.index && is_row row (reading_of d))
+
+-- it says something of its row, and isn't older than the timeout, which is in milliseconds
+abbrev pub still_counts : ℕ → ℕ → Option Message → Bool
+still_counts timeout m None = false
+still_counts timeout m (Some d) = is_usable (reading_of d) && nat_le m (d.moment + 1000 * timeout)
+
+-- a source is fresh where its last message of the row since it holds its address counts still
+abbrev pub is_fresh_since : RowRule → Row → ℕ → ℕ → List Message → Option ℕ → Bool
+is_fresh_since rule row source m older None = false
+is_fresh_since rule row source m older (Some since) = still_counts rule.timeout m (find (is_of row source since) older)
+
+abbrev pub is_fresh : RowRule → Known → Row → ℕ → ℕ → List Message → Bool
+is_fresh rule k row source m older = is_fresh_since rule row source m older (since_of k source)
+
+-- ---- whose message is selected
+
+abbrev pub is_better : Rank → Option Rank → Bool
+is_better rank None = false
+is_better rank (Some other) = is_before other rank
+
+-- the holder of the address by its NAME has a smaller rank, and is fresh
+abbrev pub outranks : RowRule → Known → Row → Rank → ℕ → List Message → ℕ → Bool
+outranks rule k row rank m older source = is_better rank (rank_at rule (holder_at k.claims.holders source)) && is_fresh rule k row source m older
+  where
+    rank_at : RowRule → Option Holder → Option Rank
+    rank_at rule None = None
+    rank_at rule (Some h) = rank_of rule h.name.0
+
+-- a message with a reading is selected where its NAME has a rank in the row, and no source of a smaller rank is fresh just before;
+-- only one that has sent a message can be
+abbrev pub is_first : RowRule → Known → Row → ℕ → List Message → Option Rank → Bool
+is_first rule k row m older None = false
+is_first rule k row m older (Some rank) = not (list_any (λ d. outranks rule k row rank m older d.source) older)
+
+abbrev pub selected_reading : Settings → Known → List Message → Message → Option Reading → Option Reading
+selected_reading c k older d None = None
+selected_reading c k older d (Some r) = let row = row_of r in let rule = c.rows row in
+    if is_first rule k row d.moment older (rank_of rule d.name) then Some r else None
+
+-- the reading of a message that is selected among those before it
+abbrev pub selected : Settings → Known → List Message → Message → Option Reading
+selected c k older d = selected_reading c k older d (reading_of d)

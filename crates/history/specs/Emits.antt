@@ -1,0 +1,57 @@
+-- What a gateway emits, as plain values.
+use Rattle.std.specs.Prelude.{ℕ, List, [], ◌∷◌, map, Option, Some, None}
+use Rattle.n2k_id.specs.Frame.{BusFrame}
+use Rattle.n2k_id.specs.Identifier.{identifier_of}
+use Rattle.n2k_id.specs.Name.{name_bytes}
+use Rattle.capture_text.specs.declared.emit.Detail.{Detail}
+use Rattle.capture_text.specs.declared.emit.Detail.TheVariants as detail
+use Rattle.capture_text.specs.declared.emit.Report.{Report}
+use Rattle.iso_transport.specs.declared.reply.Reply.{Reply}
+use Rattle.iso_transport.specs.Replies.{reply_bytes}
+
+pub data Emit : Type 0 where
+  -- a frame for the bus
+  can : BusFrame → Emit
+  -- a datagram for a transmission group of the network
+  net : List ℕ → List ℕ → Emit
+  report : Report → Emit
+
+-- with its moment
+pub record Emitted : Type 0 where
+  pub moment : ℕ
+  pub emit : Emit
+
+abbrev pub at : ℕ → List Emit → List Emitted
+at m emits = map (λ e. record { moment = m; emit = e }) emits
+
+-- a rule that was broken
+abbrev pub broken : ℕ → Detail → Emit
+broken rule what = report (record { rule = rule; detail = what })
+
+-- with the source and the PGN
+abbrev pub of_source : ℕ → ℕ → ℕ → Emit
+of_source rule source pgn = broken rule (detail.Source source pgn)
+
+abbrev pub sent : ℕ → ℕ → ℕ → ℕ → List ℕ → Emit
+sent priority pgn destination source held = can (record { id = identifier_of (record { priority = priority; pgn = pgn; destination = destination; source = source }); held = held })
+
+-- the claim of an address by a NAME; a device that can claim none says so from address 254
+abbrev pub claim_frame : ℕ → ℕ → Emit
+claim_frame name address = sent 6 60928 255 address (name_bytes name)
+
+abbrev pub own_claim : ℕ → Option ℕ → Emit
+own_claim name None = claim_frame name 254
+own_claim name (Some address) = claim_frame name address
+
+-- the request for the claims of all
+abbrev pub request_for_claims : ℕ → Emit
+request_for_claims address = sent 6 59904 255 address (0x00 ∷ 0xEE ∷ 0x00 ∷ [])
+
+-- a reply of the transport protocol; without an own address there is none
+abbrev pub reply_from : Option ℕ → ℕ → Reply → List Emit
+reply_from None destination reply = []
+reply_from (Some own) destination reply = sent 7 60416 destination own (reply_bytes reply) ∷ []
+
+abbrev pub replied : Option ℕ → ℕ → Option Reply → List Emit
+replied own destination None = []
+replied own destination (Some reply) = reply_from own destination reply

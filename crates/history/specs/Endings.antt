@@ -1,0 +1,75 @@
+-- The messages that end before they are complete: by time, or since an address changes hands.
+use Rattle.std.specs.Prelude.{ℕ, Bool, false, ◌&&◌, ◌||◌, not, ◌==◌, List, [], ◌∷◌, ◌++◌, filter, Option, Some, None, is_some, is_none, if◌then◌else◌}
+use Rattle.std.specs.List.{flat_map}
+use Rattle.iso_transport.specs.declared.reply.Reply.{Reply}
+use Rattle.iso_transport.specs.declared.reply.Reply.TheVariants.{Abort}
+use Rattle.iso_transport.specs.IsoRuns.{IsoPiece, session_of}
+use Rattle.capture_text.specs.declared.emit.Detail.TheVariants as detail
+use Rattle.history.specs.Known.{Known}
+use Rattle.history.specs.Traces.{Note}
+use Rattle.history.specs.Opens.{FastKey, IsoKey, fast_keys, iso_keys, fast_open, iso_open}
+use Rattle.history.specs.Heard.{Taken, GroupKey, group_keys, group_open}
+use Rattle.history.specs.Emits.{Emit, broken, of_source, replied}
+
+-- ---- what is open after an entry no more
+
+-- a key is open in one state at a moment, and not in another at another moment
+abbrev pub fast_ended : Known → ℕ → Known → ℕ → List Note → FastKey → Bool
+fast_ended k m after n notes key = is_some (fast_open k notes key m) && is_none (fast_open after notes key n)
+
+abbrev pub iso_ended : Known → ℕ → Known → ℕ → List Note → IsoKey → Bool
+iso_ended k m after n notes key = is_some (iso_open k notes key m) && is_none (iso_open after notes key n)
+
+-- the message of an open session
+abbrev pub pgn_of : Option (List IsoPiece) → ℕ
+pgn_of None = 0
+pgn_of (Some acc) = (session_of acc).pgn
+
+abbrev pub session_pgn : Known → List Note → IsoKey → ℕ → ℕ
+session_pgn k notes key m = pgn_of (iso_open k notes key m)
+
+-- ---- by time (rule 16), in the order of the keys; the sender of an addressed session is told so with reason 3
+
+abbrev pub abort_reply : Bool → ℕ → Option Reply
+abort_reply addressed pgn = if addressed then Some (Abort 3 pgn) else None
+
+module _ (k : Known) (notes : List Note) (before m : ℕ) where
+  abbrev pub fast_expired : List Emit
+  fast_expired = flat_map (λ key. of_source 16 key.source key.pgn ∷ []) (filter (fast_ended k before k m notes) (fast_keys notes))
+
+  abbrev pub iso_expired : List Emit
+  iso_expired =
+      flat_map
+      (λ key. let pgn = session_pgn k notes key before in of_source 16 key.source pgn ∷ replied k.claims.own key.source (abort_reply key.addressed pgn))
+      (filter (iso_ended k before k m notes) (iso_keys notes))
+
+-- groups of lines that are overdue (rule 42), in the order of their keys
+abbrev pub group_ended : List Taken → ℕ → ℕ → GroupKey → Bool
+group_ended taken before m key = is_some (group_open taken key before) && is_none (group_open taken key m)
+
+abbrev pub groups_expired : List Taken → ℕ → ℕ → List Emit
+groups_expired taken before m =
+    flat_map (λ key. broken 42 (detail.GroupKey key.source key.code) ∷ []) (filter (group_ended taken before m) (group_keys taken))
+
+-- ---- by a claim or a command (rule 17), all at one moment
+
+module _ (k after : Known) (notes : List Note) (m : ℕ) where
+  abbrev pub fast_lost : (FastKey → Bool) → List Emit
+  fast_lost is_meant = flat_map (λ key. of_source 17 key.source key.pgn ∷ []) (filter (λ key. is_meant key && fast_ended k m after m notes key) (fast_keys notes))
+
+  abbrev pub iso_lost : (IsoKey → Bool) → List Emit
+  iso_lost is_meant =
+      flat_map (λ key. of_source 17 key.source (session_pgn k notes key m) ∷ []) (filter (λ key. is_meant key && iso_ended k m after m notes key) (iso_keys notes))
+
+  -- of one address: fast packets by PGN, then the broadcast session, then the addressed one
+  abbrev pub lost_at : Option ℕ → List Emit
+  lost_at None = []
+  lost_at (Some a) = fast_lost (λ key. key.source == a) ++ iso_lost (λ key. key.source == a)
+
+  -- the other addressed sessions, by source
+  abbrev pub lost_elsewhere : Option ℕ → Option ℕ → List Emit
+  lost_elsewhere left won = iso_lost (λ key. key.addressed && not (is_at left key.source || is_at won key.source))
+    where
+      is_at : Option ℕ → ℕ → Bool
+      is_at None a = false
+      is_at (Some b) a = b == a

@@ -1,0 +1,60 @@
+-- What is emitted of fast packets.
+use Rattle.std.specs.Prelude.{[], ◌∷◌, codes}
+use Rattle.history.specs.Entries.{tick}
+use Rattle.history.specs.Settings.{Settings}
+use Rattle.history.specs.Emits.{of_source}
+use Rattle.history.specs.Cases.{Emits, IsSilent, full, emitted, navd, two_devices, fix, fix_said}
+
+-- two senders in turn: each message is said when its last frame comes, and a frame behind it belongs to none
+abbrev pub InTurn : Type 0
+InTurn =
+    Emits two_devices 1000000
+    (fix 1000000 24 0 ∷ fix 1001000 23 0 ∷ fix 1002000 24 1 ∷ fix 1003000 23 1 ∷ fix 1004000 24 2 ∷ fix 1005000 23 2 ∷ fix 1006000 24 3
+    ∷ fix 1007000 23 3 ∷ fix 1008000 24 4 ∷ fix 1009000 23 4 ∷ fix 1010000 24 5 ∷ fix 1011000 23 5 ∷ fix 1012000 24 6 ∷ fix 1013000 23 6
+    ∷ fix 1014000 23 6 ∷ [])
+    (emitted 1012000 (navd (codes "s:II0001,n:1*01") fix_said)
+    ∷ emitted 1013000 (navd (codes "s:II0001,n:2*02") fix_said)
+    ∷ emitted 1014000 (of_source 12 23 129029)
+    ∷ [])
+
+-- a frame may come 750 ms after the one before it, and no later
+abbrev pub JustInTime : Type 0
+JustInTime = IsSilent two_devices 5000000 (fix 5000000 23 0 ∷ fix 5750000 23 1 ∷ [])
+
+abbrev pub TooLate : Type 0
+TooLate =
+    Emits two_devices 5000000 (fix 5000000 23 0 ∷ fix 5750001 23 1 ∷ [])
+    (emitted 5750001 (of_source 16 23 129029) ∷ emitted 5750001 (of_source 12 23 129029) ∷ [])
+
+-- with room for one message, an opener of another is refused until the first has ended
+abbrev pub one_slot : Settings
+one_slot = record two_devices { fast_slots = 1 }
+
+abbrev pub NoRoom : Type 0
+NoRoom =
+    Emits one_slot 5000000 (fix 5000000 23 0 ∷ fix 5100000 24 0 ∷ tick 5750001 ∷ fix 5800000 24 0 ∷ [])
+    (emitted 5100000 (of_source 15 24 129029) ∷ emitted 5750001 (of_source 16 23 129029) ∷ [])
+
+-- lengths of 224 and 0
+abbrev pub WrongLengths : Type 0
+WrongLengths =
+    Emits two_devices 1000000 (full 1000000 0x0DF80517 0x00E0000000000000 ∷ full 1001000 0x0DF80517 0 ∷ [])
+    (emitted 1000000 (of_source 13 23 129029) ∷ emitted 1001000 (of_source 13 23 129029) ∷ [])
+
+-- a frame that comes twice is passed over, and the message is said once
+abbrev pub SentTwice : Type 0
+SentTwice =
+    Emits two_devices 1000000
+    (fix 1000000 23 0 ∷ fix 1001000 23 1 ∷ fix 1002000 23 2 ∷ fix 1003000 23 3 ∷ fix 1004000 23 3 ∷ fix 1005000 23 4 ∷ fix 1006000 23 5
+    ∷ fix 1007000 23 6 ∷ [])
+    (emitted 1007000 (navd (codes "s:II0001,n:1*01") fix_said) ∷ [])
+
+-- a second frame 1 with other bytes is none that was sent twice
+abbrev pub OutOfOrder : Type 0
+OutOfOrder =
+    Emits two_devices 1000000 (fix 1000000 23 0 ∷ fix 1001000 23 1 ∷ full 1002000 0x0DF80517 0x012F000000000001 ∷ [])
+    (emitted 1002000 (of_source 11 23 129029) ∷ [])
+
+-- an opener that comes twice begins its message again
+abbrev pub BegunAgain : Type 0
+BegunAgain = Emits two_devices 1000000 (fix 1000000 23 0 ∷ fix 1001000 23 0 ∷ []) (emitted 1001000 (of_source 14 23 129029) ∷ [])

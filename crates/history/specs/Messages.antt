@@ -1,0 +1,83 @@
+-- The messages that were complete.
+use Rattle.std.specs.Prelude.{ℕ, ◌&&◌, ◌||◌, not, List, [], ◌∷◌, length, Option, Some, None, option_map, if◌then◌else◌}
+use Rattle.claim_table.specs.Claims.{holder_at}
+use Rattle.claim_table.specs.declared.answer.Holder.{Holder}
+use Rattle.pgn_profile.specs.Profiled.{kind_of}
+use Rattle.pgn_profile.specs.declared.kinds.Kind.{Kind}
+use Rattle.pgn_profile.specs.declared.kinds.Kind.TheVariants.{Single, Fast, Outside}
+use Rattle.runs.specs.Runs.{run_of}
+use Rattle.fast_packet.specs.FastRuns as fast
+use Rattle.fast_packet.specs.FastRuns.{FastPiece, fast_rules}
+use Rattle.iso_transport.specs.IsoRuns as iso
+use Rattle.iso_transport.specs.IsoRuns.{IsoPiece, iso_rules}
+use Rattle.iso_transport.specs.IsoRuns.{session_of}
+use Rattle.history.specs.Entries as entry
+use Rattle.history.specs.Entries.{Entry, History}
+use Rattle.history.specs.Settings.{Settings}
+use Rattle.history.specs.Known.{Known, known, is_own}
+use Rattle.history.specs.Traces.{Note, fast_trace, iso_trace, is_transport, is_bearing}
+use Rattle.history.specs.Opens.{iso_key_of, note_of, notes_of}
+
+-- a complete message: by which entry, when, from whom, and what it carries
+pub record Message : Type 0 where
+  pub index : ℕ
+  pub moment : ℕ
+  pub source : ℕ
+  pub name : ℕ
+  pub pgn : ℕ
+  pub payload : List ℕ
+
+-- a PGN with its payload
+pub record Carried : Type 0 where
+  pub pgn : ℕ
+  pub payload : List ℕ
+
+abbrev pub carried : ℕ → List ℕ → Carried
+carried pgn payload = record { pgn = pgn; payload = payload }
+
+abbrev pub fast_carried : ℕ → Option (List FastPiece) → Option Carried
+fast_carried pgn run = option_map (λ r. carried pgn (fast.payload r)) run
+
+abbrev pub iso_carried : Option (List IsoPiece) → Option Carried
+iso_carried run = option_map (λ r. carried (session_of r).pgn (iso.payload r)) run
+
+-- what a frame completes that is no transport frame: it is a message, or ends a run
+abbrev pub by_kind : Kind → Known → Note → List Note → Option Carried
+by_kind Single k n older = Some (carried n.parts.pgn n.bytes)
+by_kind Fast k n older = fast_carried n.parts.pgn (run_of fast_rules (fast_trace k n.parts.source n.parts.pgn (n ∷ older)))
+by_kind Outside k n older = None
+
+-- and what a transport frame to all or to the gateway completes, where it bears on a session
+abbrev pub by_session : Known → Note → List Note → Option Carried
+by_session k n older = let addressed = (iso_key_of n.parts).addressed in
+    if (not addressed || is_own k n.parts.destination) && is_bearing addressed n
+    then iso_carried (run_of (iso_rules addressed) (iso_trace k addressed n.parts.source (n ∷ older)))
+    else None
+
+abbrev pub completed_by : Known → Note → List Note → Option Carried
+completed_by k n older = if is_transport n.parts then by_session k n older else by_kind (kind_of n.parts.pgn) k n older
+
+abbrev pub said_by : ℕ → ℕ → ℕ → Option Holder → Option Carried → Option Message
+said_by index moment source None what = None
+said_by index moment source (Some h) what =
+    option_map (λ x. record { index = index; moment = moment; source = source; name = h.name.0; pgn = x.pgn; payload = x.payload }) what
+
+-- the message that an entry completes, of a source that holds its address
+abbrev pub done : Settings → ℕ → History → Entry → Option Message
+done c s h (entry.frame m f) =
+    let k = known c s h in
+    let older = notes_of c s h in
+    let n = note_of c (length h) k older m f in
+    said_by (length h) m n.parts.source (holder_at k.claims.holders n.parts.source) (completed_by k n older)
+done c s h (entry.datagram m bytes) = None
+done c s h (entry.tick m) = None
+done c s h (entry.command m source address) = None
+
+abbrev pub with_message : Option Message → List Message → List Message
+with_message None older = older
+with_message (Some d) older = d ∷ older
+
+-- all messages that were ever complete
+abbrev pub messages_of : Settings → ℕ → History → List Message
+messages_of c s [] = []
+messages_of c s (e ∷ h) = with_message (done c s h e) (messages_of c s h)

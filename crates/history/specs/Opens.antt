@@ -1,0 +1,117 @@
+-- Which messages are open, and which openers find room.
+use Rattle.std.specs.Prelude.{ℕ, Bool, true, false, ◌&&◌, ◌||◌, not, ◌==◌, nat_lt, List, [], ◌∷◌, length, filter, Option, is_some, if◌then◌else◌}
+use Rattle.std.specs.Bool.{beq}
+use Rattle.n2k_id.specs.declared.header.Parts.{Parts}
+use Rattle.n2k_id.specs.Frame.{BusFrame}
+use Rattle.n2k_id.specs.Identifier.{parts_of}
+use Rattle.claim_table.specs.Claims.{is_ready}
+use Rattle.pgn_profile.specs.Profiled.{kind_of}
+use Rattle.pgn_profile.specs.declared.kinds.Kind.{Kind}
+use Rattle.pgn_profile.specs.declared.kinds.Kind.TheVariants.{Single, Fast, Outside}
+use Rattle.runs.specs.Runs.{open_at}
+use Rattle.fast_packet.specs.FastRuns.{FastPiece, fast_rules}
+use Rattle.iso_transport.specs.IsoRuns.{IsoPiece, iso_rules}
+use Rattle.history.specs.Entries as entry
+use Rattle.history.specs.Entries.{Entry, History}
+use Rattle.history.specs.Settings.{Settings}
+use Rattle.history.specs.Known.{Known, known}
+use Rattle.history.specs.Traces.{Note, fast_trace, iso_trace, is_transport}
+
+-- the message comes as a fast packet
+abbrev pub is_fast : Kind → Bool
+is_fast Single = false
+is_fast Fast = true
+is_fast Outside = false
+
+-- ---- keys, in the order in which they are reported
+
+-- a source with a PGN, or with whether its session is addressed
+pub record FastKey : Type 0 where
+  pub source : ℕ
+  pub pgn : ℕ
+
+pub record IsoKey : Type 0 where
+  pub addressed : Bool
+  pub source : ℕ
+
+abbrev pub same_fast : FastKey → FastKey → Bool
+same_fast a b = (a.source == b.source) && (a.pgn == b.pgn)
+
+-- by source, then by PGN
+abbrev pub before_fast : FastKey → FastKey → Bool
+before_fast a b = nat_lt a.source b.source || ((a.source == b.source) && nat_lt a.pgn b.pgn)
+
+abbrev pub same_iso : IsoKey → IsoKey → Bool
+same_iso a b = beq a.addressed b.addressed && (a.source == b.source)
+
+-- broadcast sessions before addressed ones, each by source
+abbrev pub before_iso : IsoKey → IsoKey → Bool
+before_iso a b = (not a.addressed && b.addressed) || (beq a.addressed b.addressed && nat_lt a.source b.source)
+
+-- a key among others in their order, once
+abbrev pub placed : {K : Type 0} → (K → K → Bool) → (K → K → Bool) → K → List K → List K
+placed same before k [] = k ∷ []
+placed same before k (x ∷ xs) = if same k x then x ∷ xs else if before k x then k ∷ x ∷ xs else x ∷ placed same before k xs
+
+abbrev pub fast_keys : List Note → List FastKey
+fast_keys [] = []
+fast_keys (n ∷ notes) =
+    if is_fast (kind_of n.parts.pgn)
+    then placed same_fast before_fast (record { source = n.parts.source; pgn = n.parts.pgn }) (fast_keys notes)
+    else fast_keys notes
+
+abbrev pub iso_key_of : Parts → IsoKey
+iso_key_of p = record { addressed = not (p.destination == 255); source = p.source }
+
+abbrev pub iso_keys : List Note → List IsoKey
+iso_keys [] = []
+iso_keys (n ∷ notes) =
+    if is_transport n.parts then placed same_iso before_iso (iso_key_of n.parts) (iso_keys notes) else iso_keys notes
+
+-- ---- what is open at a moment
+
+abbrev pub fast_open : Known → List Note → FastKey → ℕ → Option (List FastPiece)
+fast_open k notes key m = open_at fast_rules (fast_trace k key.source key.pgn notes) m
+
+abbrev pub iso_open : Known → List Note → IsoKey → ℕ → Option (List IsoPiece)
+iso_open k notes key m = open_at (iso_rules key.addressed) (iso_trace k key.addressed key.source notes) m
+
+abbrev pub open_fast_keys : Known → List Note → ℕ → List FastKey
+open_fast_keys k notes m = filter (λ key. is_some (fast_open k notes key m)) (fast_keys notes)
+
+abbrev pub open_iso_keys : Known → List Note → ℕ → List IsoKey
+open_iso_keys k notes m = filter (λ key. is_some (iso_open k notes key m)) (iso_keys notes)
+
+-- ---- which openers find room: fewer of the other keys of the kind are open than the limit
+
+abbrev pub is_fast_admitted : ℕ → Known → List Note → FastKey → ℕ → Bool
+is_fast_admitted limit k notes key m = nat_lt (length (filter (λ other. not (same_fast other key)) (open_fast_keys k notes m))) limit
+
+abbrev pub is_iso_admitted : ℕ → Known → List Note → IsoKey → ℕ → Bool
+is_iso_admitted limit k notes key m = nat_lt (length (filter (λ other. not (same_iso other key)) (open_iso_keys k notes m))) limit
+
+abbrev pub is_admitted : Settings → Known → List Note → Parts → ℕ → Bool
+is_admitted c k notes p m =
+    if is_transport p then is_iso_admitted c.iso_slots k notes (iso_key_of p) m
+    else is_fast_admitted c.fast_slots k notes (record { source = p.source; pgn = p.pgn }) m
+
+abbrev pub note_of : Settings → ℕ → Known → List Note → ℕ → BusFrame → Note
+note_of c index k notes m f = let p = parts_of f.id in record {
+  index = index;
+  moment = m;
+  parts = p;
+  bytes = f.held;
+  ready = is_ready k.claims m;
+  admitted = is_admitted c k notes p m;
+}
+
+abbrev pub noted : Settings → ℕ → Known → List Note → Entry → List Note
+noted c index k notes (entry.frame m f) = note_of c index k notes m f ∷ notes
+noted c index k notes (entry.datagram m bytes) = notes
+noted c index k notes (entry.tick m) = notes
+noted c index k notes (entry.command m source address) = notes
+
+-- the frames of a history, each with what the history before it says of it
+abbrev pub notes_of : Settings → ℕ → History → List Note
+notes_of c s [] = []
+notes_of c s (e ∷ h) = noted c (length h) (known c s h) (notes_of c s h) e

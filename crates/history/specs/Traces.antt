@@ -1,0 +1,63 @@
+-- The frames of one sender that belong together: those since it holds its address.
+use Rattle.std.specs.Prelude.{ℕ, Bool, true, false, ◌&&◌, ◌||◌, not, ◌==◌, nat_le, List, [], map, filter, Option, Some, None}
+use Rattle.n2k_id.specs.declared.header.Parts.{Parts}
+use Rattle.fast_packet.specs.FastRuns.{FastPiece}
+use Rattle.iso_transport.specs.IsoRuns.{IsoPiece}
+use Rattle.iso_transport.specs.Audience.{is_data, is_management, bears}
+use Rattle.iso_transport.specs.Connection.{control_at}
+use Rattle.history.specs.Known.{Known, since_of}
+
+-- a frame, with what the history before it says of it
+pub record Note : Type 0 where
+  pub index : ℕ
+  pub moment : ℕ
+  pub parts : Parts
+  pub bytes : List ℕ
+  -- the gateway was ready to answer
+  pub ready : Bool
+  -- there was room for a message that it opens
+  pub admitted : Bool
+
+-- the frames of a source from an entry on
+abbrev pub is_since : ℕ → ℕ → Note → Bool
+is_since source since n = (n.parts.source == source) && nat_le since n.index
+
+-- ---- fast packets: by source and PGN
+
+abbrev pub fast_piece : Note → FastPiece
+fast_piece n = record { moment = n.moment; bytes = n.bytes; admitted = n.admitted }
+
+abbrev pub fast_trace_since : Option ℕ → ℕ → ℕ → List Note → List FastPiece
+fast_trace_since None source pgn notes = []
+fast_trace_since (Some since) source pgn notes = map fast_piece (filter (λ n. is_since source since n && (n.parts.pgn == pgn)) notes)
+
+abbrev pub fast_trace : Known → ℕ → ℕ → List Note → List FastPiece
+fast_trace k source pgn notes = fast_trace_since (since_of k source) source pgn notes
+
+-- ---- the transport protocol: by source, to all or to the gateway
+
+-- a transport frame
+abbrev pub is_transport : Parts → Bool
+is_transport p = is_management p || is_data p
+
+-- it can open, extend or end a session; an RTS (control byte 16) only where the gateway was ready to answer it
+abbrev pub is_bearing : Bool → Note → Bool
+is_bearing addressed n = is_transport n.parts && (bears addressed (is_data n.parts) n.bytes && (is_data n.parts || (not (control_at n.bytes == 16) || n.ready)))
+
+abbrev pub iso_piece : Note → IsoPiece
+iso_piece n = record { moment = n.moment; packet = is_data n.parts; bytes = n.bytes; admitted = n.admitted }
+
+abbrev pub broadcast_since : Option ℕ → ℕ → List Note → List IsoPiece
+broadcast_since None source notes = []
+broadcast_since (Some since) source notes = map iso_piece (filter (λ n. is_since source since n && ((n.parts.destination == 255) && is_bearing false n)) notes)
+
+-- to the own address, since the gateway has it
+abbrev pub addressed_since : Option ℕ → Option ℕ → ℕ → ℕ → List Note → List IsoPiece
+addressed_since None own own_since source notes = []
+addressed_since (Some since) None own_since source notes = []
+addressed_since (Some since) (Some own) own_since source notes =
+    map iso_piece (filter (λ n. is_since source since n && ((n.parts.destination == own) && (nat_le own_since n.index && is_bearing true n))) notes)
+
+abbrev pub iso_trace : Known → Bool → ℕ → List Note → List IsoPiece
+iso_trace k false source notes = broadcast_since (since_of k source) source notes
+iso_trace k true source notes = addressed_since (since_of k source) k.claims.own k.own_since source notes

@@ -1,0 +1,11 @@
+//! What the gateway emits, as a definition over everything that ever came.
+#![tactic(auto)]
+
+mod cases;
+mod laws;
+
+pub use cases::{
+    addresses_change_hands, captures_are_replayed, datagrams_are_heard, fast_packets_are_joined,
+    sessions_are_answered, sources_are_chosen,
+};
+pub use laws::addresses_are_sound;

@@ -1,0 +1,7 @@
+pub mod Verdicts
+pub mod Lawful
+pub mod Sessions
+pub mod Prefixes
+pub mod Following
+pub mod Maps
+pub mod Joining

@@ -1,0 +1,90 @@
+-- What follows from what a frame is.
+use Rattle.std.proofs.Common.{◌≡◌, ℕ, ◌≤◌, ◌&&◌, not, nat_lt, Bool, true, false, if◌then◌else◌, List, length, Option, Some, None, option_map, is_some, refl, arith}
+use Rattle.std.proofs.lemmas.Bool.{leb-true}
+use Rattle.std.specs.declared.cmp.Ordering.{Ordering}
+use Rattle.slot_views.specs.Slots.{Entry, SlotMap, entry_at}
+use Rattle.n2k_id.specs.declared.header.Parts.{Parts}
+use Rattle.iso_transport.specs.declared.key.IsoKey.{IsoKey}
+use Rattle.iso_transport.specs.declared.answers.IsoFed.{IsoFed}
+use Rattle.iso_transport.specs.Audience.{key_of}
+use Rattle.iso_transport.specs.Assembly.{verdict_of, fed_by, fed_after}
+use Rattle.iso_transport.specs.Answers.{restarted_by, reply_by, OutcomeBy, FeedGives}
+use Rattle.iso_transport.specs.declared.answers.IsoRefusal.TheVariants as refusal
+use Rattle.iso_transport.specs.declared.connection.Cm.{Cm}
+use Rattle.iso_transport.specs.declared.connection.Cm.TheVariants.{Rts, Cts, EndAck, Bam, Abort}
+use Rattle.iso_transport.specs.declared.session.Session.{Session}
+use Rattle.iso_transport.specs.declared.verdict.Verdict.{Verdict}
+use Rattle.iso_transport.specs.declared.verdict.Verdict.TheVariants.{Ignored, Again, Refused, Ends, Opens, Next}
+use Rattle.iso_transport.specs.Cm.{cm_of}
+use Rattle.iso_transport.specs.Sessions.{is_size, announced}
+use Rattle.iso_transport.specs.Verdicts.{IsSmall, VerdictFits, TellsSmall, opener_verdict, sized_verdict, abort_verdict, kind_verdict, management_verdict, pgn_in}
+
+both_true : (a b : Bool) → (a && b) ≡ true → (a ≡ true) × (b ≡ true)
+both_true true b h = (refl, h)
+both_true false b h = cc
+
+-- there is no room exactly where none of the key is open, and as many are as the limit
+abbrev pub full_where : Bool → Option Entry → Bool
+full_where crowded o = not (is_some o) && crowded
+
+module _ (crowded : Bool) (o : Option Entry) (bytes : List ℕ) where
+  opener_fits : (addressed : Bool) (s : Session) → IsSmall s → 9 ≤ s.size → VerdictFits (full_where crowded o) o bytes (opener_verdict addressed crowded (option_map pgn_in o) s)
+  opener_fits addressed s small size = by_room crowded o small size
+    where
+      by_room : (c : Bool) (o : Option Entry) → IsSmall s → 9 ≤ s.size → VerdictFits (full_where c o) o bytes (opener_verdict addressed c (option_map pgn_in o) s)
+      by_room c (Some e) small size = record { small = small; size = size; room = refl }
+      by_room true None small size = tt
+      by_room false None small size = record { small = small; size = size; room = refl }
+
+  sized_fits : (addressed : Bool) (s : Session) (packets : ℕ) → 1 ≤ s.window → (b : Bool) → is_size s.size packets ≡ b → VerdictFits (full_where crowded o) o bytes (sized_verdict addressed crowded (option_map pgn_in o) s packets)
+  sized_fits addressed s packets window true is =
+      let one = both_true _ _ is in
+      let two = both_true _ _ one.1 in
+      rw is (opener_fits addressed s (record { size = leb-true _ _ two.0; window = window }) (leb-true _ _ one.0))
+  sized_fits addressed s packets window false is = rw is tt
+
+  abort_fits : (p : Option ℕ) → VerdictFits (full_where crowded o) o bytes (abort_verdict p)
+  abort_fits None = tt
+  abort_fits (Some pgn) = tt
+
+  kind_fits : (addressed : Bool) (cm : Option Cm) → VerdictFits (full_where crowded o) o bytes (kind_verdict addressed crowded (option_map pgn_in o) cm)
+  kind_fits addressed None = tt
+  kind_fits true (Some (Rts size packets limit p)) = sized_fits true (announced (Some (Rts size packets limit p))) packets (omega arith) _ refl
+  kind_fits false (Some (Rts size packets limit p)) = tt
+  kind_fits addressed (Some (Cts count next p)) = tt
+  kind_fits addressed (Some (EndAck size packets p)) = tt
+  kind_fits true (Some (Bam size packets p)) = tt
+  kind_fits false (Some (Bam size packets p)) = sized_fits false (announced (Some (Bam size packets p))) packets (omega arith) _ refl
+  kind_fits true (Some (Abort reason p)) = abort_fits (option_map pgn_in o)
+  kind_fits false (Some (Abort reason p)) = tt
+
+  by_test : (addressed b : Bool) (cm : Option Cm) → VerdictFits (full_where crowded o) o bytes (if b then Refused refusal.Size None else kind_verdict addressed crowded (option_map pgn_in o) cm)
+  by_test addressed true cm = tt
+  by_test addressed false cm = kind_fits addressed cm
+
+  pub management_fits : (addressed : Bool) → VerdictFits (full_where crowded o) o bytes (management_verdict addressed crowded (option_map pgn_in o) bytes)
+  management_fits addressed = by_test addressed (nat_lt (length bytes) 8) (cm_of bytes)
+
+-- what is told of an open session fits a reply
+pub tells_small : (full : Bool) (o : Option Entry) (bytes : List ℕ) (v : Verdict) → VerdictFits full o bytes v → TellsSmall v
+tells_small full o bytes Ignored fits = tt
+tells_small full o bytes Again fits = tt
+tells_small full o bytes (Refused reason reply) fits = tt
+tells_small full o bytes (Ends reason reply) fits = tt
+tells_small full o bytes (Opens s old) fits = fits.small
+tells_small full o bytes (Next s number end) fits = fits.small
+
+-- what a frame does, with the names of the code
+pub fed_same : (cmp : IsoKey → IsoKey → Ordering) (s : SlotMap IsoKey) (own : Option ℕ) (parts : Parts) (k : IsoKey) (bytes held : List ℕ) (moment : ℕ) (v : Verdict)
+    → k ≡ key_of parts → held ≡ bytes → v ≡ verdict_of cmp s own parts held → fed_by cmp s k held moment v ≡ fed_after cmp s own parts bytes moment
+fed_same cmp s own parts k bytes held moment v key same is = rw (is, key, same)
+
+pub gives_same : (cmp : IsoKey → IsoKey → Ordering) (s : SlotMap IsoKey) (own : Option ℕ) (parts : Parts) (k : IsoKey) (bytes held : List ℕ) (moment : ℕ) (v : Verdict) (fed : IsoFed)
+    → k ≡ key_of parts → held ≡ bytes → v ≡ verdict_of cmp s own parts held
+    → fed.restarted ≡ restarted_by v → fed.reply ≡ reply_by k.addressed v → OutcomeBy k.addressed (entry_at cmp s k) held moment v fed.outcome
+    → FeedGives cmp s own parts bytes moment fed
+gives_same cmp s own parts k bytes held moment v fed key same is restarted reply outcome = record {
+  restarted = rw (is, same) at restarted;
+  reply = rw (is, key, same) at reply;
+  outcome = rw (is, key, same) at outcome;
+}

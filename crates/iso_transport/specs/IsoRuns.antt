@@ -1,0 +1,75 @@
+-- What a message of the transport protocol is: a run of frames of one sender, all to this node (addressed) or all to all.
+use Rattle.std.specs.Cmp.Lexicographic.{pointwise}
+use Rattle.std.specs.Prelude.{ℕ, ◌+◌, ◌-◌, ◌*◌, Bool, false, ◌&&◌, not, ◌==◌, nat_eq, nat_le, nat_lt, min, List, [], ◌∷◌, ◌++◌, length, take, drop, slice_index}
+use Rattle.runs.specs.Runs.{Rules, opener_of}
+use Rattle.iso_transport.specs.declared.session.Session.{Session}
+use Rattle.iso_transport.specs.Cm.{cm_of}
+use Rattle.iso_transport.specs.Sessions.{packets_of, opens, announced, gap_after}
+
+-- a frame, as it is to its run: a packet (TP.DT) or a connection management frame
+pub record IsoPiece : Type 0 where
+  pub moment : ℕ
+  pub packet : Bool
+  pub bytes : List ℕ
+  pub admitted : Bool
+
+-- what a packet holds: its number, and from byte 1 on 7 bytes of the message or what is left of it
+abbrev pub number_of : List ℕ → ℕ
+number_of bytes = slice_index bytes 0
+
+abbrev pub end_of : ℕ → ℕ
+end_of left = 1 + min 7 left
+
+abbrev pub part_of : ℕ → List ℕ → List ℕ
+part_of left bytes = take (min 7 left) (drop 1 bytes)
+
+-- how many bytes of the message are left after so many packets
+abbrev pub left_after : ℕ → ℕ → ℕ
+left_after size packets = size - 7 * packets
+
+abbrev pub is_opener : Bool → IsoPiece → Bool
+is_opener addressed x = not x.packet && opens addressed (cm_of x.bytes)
+
+-- the message that the opener of these announces
+abbrev pub session_of : List IsoPiece → Session
+session_of [] = announced (cm_of [])
+session_of (y ∷ ys) = announced (cm_of (opener_of y ys).bytes)
+
+-- as many frames as the message has packets, and its opener
+abbrev pub need_of : IsoPiece → ℕ
+need_of x = packets_of (announced (cm_of x.bytes)).size + 1
+
+-- the next packet has the number of frames so far, the opener counted, and holds what it owes
+abbrev pub is_next : List IsoPiece → IsoPiece → Bool
+is_next [] x = false
+is_next (y ∷ ys) x =
+    let k = length (y ∷ ys) in
+    x.packet && ((number_of x.bytes == k) && (nat_lt k (need_of (opener_of y ys)) && nat_le (end_of (left_after (session_of (y ∷ ys)).size (k - 1))) (length x.bytes)))
+
+-- a repeat is the last packet again, of 8 bytes, where that isn't the last one of the message
+abbrev pub is_repeat : List IsoPiece → IsoPiece → Bool
+is_repeat [] x = false
+is_repeat (y ∷ ys) x =
+    let k = length (y ∷ ys) in
+    x.packet && ((length x.bytes == 8) && (nat_le 2 k && (nat_lt k (need_of (opener_of y ys)) && pointwise nat_eq x.bytes y.bytes)))
+
+abbrev pub iso_rules : Bool → Rules IsoPiece
+iso_rules addressed = record {
+  moment = λ x. x.moment;
+  admitted = λ x. x.admitted;
+  opens = is_opener addressed;
+  need = need_of;
+  is_next = is_next;
+  is_repeat = is_repeat;
+  gap = λ acc. gap_after addressed (session_of acc) (length acc - 1);
+}
+
+-- the bytes of a message of this size in its packets, in order; the oldest frame is the opener, which has none
+abbrev pub joined : ℕ → List IsoPiece → List ℕ
+joined size [] = []
+joined size (x ∷ []) = []
+joined size (x ∷ y ∷ ys) = joined size (y ∷ ys) ++ part_of (left_after size (length (y ∷ ys) - 1)) x.bytes
+
+-- the payload of a run
+abbrev pub payload : List IsoPiece → List ℕ
+payload acc = joined (session_of acc).size acc

@@ -1,0 +1,13 @@
+pub mod Connection
+pub mod Cm
+pub mod Replies
+pub mod Sessions
+pub mod Audience
+pub mod IsoRuns
+pub mod Verdicts
+pub mod Assembly
+pub mod Answers
+pub mod Rows
+pub mod Told
+pub mod Laws
+pub mod Joining

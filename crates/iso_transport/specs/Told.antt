@@ -1,0 +1,140 @@
+-- What a frame is to its key, said twice: by the frames of the run that is open, and by the session that stands for it.
+use Rattle.std.specs.Prelude.{ℕ, ◌+◌, ◌-◌, ◌%◌, Bool, true, false, not, ◌==◌, nat_lt, min, if◌then◌else◌, List, [], ◌∷◌, length, Option, Some, None, option_map}
+use Rattle.slot_views.specs.Slots.{Entry, is_complete, is_expired}
+use Rattle.iso_transport.specs.declared.answers.IsoRefusal.TheVariants as refusal
+use Rattle.iso_transport.specs.declared.session.Session.{Session}
+use Rattle.iso_transport.specs.declared.verdict.Verdict.{Verdict}
+use Rattle.iso_transport.specs.declared.verdict.Verdict.TheVariants.{Ignored, Again, Refused, Ends, Opens, Next}
+use Rattle.iso_transport.specs.declared.connection.Cm.{Cm}
+use Rattle.iso_transport.specs.declared.connection.Cm.TheVariants.{Rts, Cts, EndAck, Bam, Abort}
+use Rattle.iso_transport.specs.declared.reply.Reply.{Reply}
+use Rattle.iso_transport.specs.declared.reply.Reply.TheVariants as reply
+use Rattle.iso_transport.specs.Cm.{cm_of}
+use Rattle.iso_transport.specs.Sessions.{packets_of, gap_after, abort_to, mark_of}
+use Rattle.iso_transport.specs.IsoRuns.{IsoPiece, number_of, end_of, left_after, session_of, is_opener, is_next, is_repeat, joined, payload}
+use Rattle.iso_transport.specs.Verdicts.{management_verdict, frame_verdict}
+use Rattle.iso_transport.specs.Assembly.{opening, extended}
+
+-- ---- by the frames accepted so far of the run that is open
+
+-- the message of the run
+abbrev pub pgn_of : List IsoPiece → ℕ
+pgn_of acc = (session_of acc).pgn
+
+-- how many bytes of it are still to come
+abbrev pub left_of_run : List IsoPiece → ℕ
+left_of_run acc = left_after (session_of acc).size (length acc - 1)
+
+-- a packet is too short, or else a repeat, or the next one, or out of order
+abbrev pub packet_told : Bool → Option (List IsoPiece) → IsoPiece → Verdict
+packet_told addressed None x = Refused refusal.Orphan None
+packet_told addressed (Some acc) x =
+    if nat_lt (length x.bytes) (end_of (left_of_run acc)) then Ends refusal.Size (abort_to addressed 2 (pgn_of acc))
+    else if is_repeat acc x then Again
+    else if is_next acc x then Next (session_of acc) (number_of x.bytes) (end_of (left_of_run acc))
+    else Ends refusal.Order (abort_to addressed 2 (pgn_of acc))
+
+-- a frame that is no packet is told by what it says and the message that is open
+abbrev pub told : Bool → Option (List IsoPiece) → IsoPiece → Verdict
+told addressed o x = if x.packet then packet_told addressed o x else management_verdict addressed (not x.admitted) (option_map pgn_of o) x.bytes
+
+-- the reply to the next packet: the acknowledgement after the last one, and a grant after each multiple of the window
+abbrev pub reply_to_next : Session → ℕ → Option Reply
+reply_to_next s number = if number == packets_of s.size then Some (reply.EndAck s.size (packets_of s.size) s.pgn)
+    else if number % s.window == 0 then Some (reply.Cts (min s.window (packets_of s.size - number)) (number + 1) s.pgn) else None
+
+-- to any packet of an open session: nothing to a repeat, and an abort to one that is short or out of order
+abbrev pub reply_to_packet : Option (List IsoPiece) → IsoPiece → Option Reply
+reply_to_packet None x = None
+reply_to_packet (Some acc) x = if is_next acc x then reply_to_next (session_of acc) (number_of x.bytes) else if is_repeat acc x then None else Some (reply.Abort 2 (pgn_of acc))
+
+-- to an opener: the first grant, or an abort where there is no room
+abbrev pub reply_to_opener : Session → Bool → Reply
+reply_to_opener s admitted = if admitted then reply.Cts (min s.window (packets_of s.size)) 1 s.pgn else reply.Abort 1 s.pgn
+
+-- the frame is an RTS
+abbrev pub is_request : Option Cm → Bool
+is_request None = false
+is_request (Some (Rts size packets limit pgn)) = true
+is_request (Some (Cts count next pgn)) = false
+is_request (Some (EndAck size packets pgn)) = false
+is_request (Some (Bam size packets pgn)) = false
+is_request (Some (Abort why pgn)) = false
+
+-- to any frame of a trace: only the sender of a message to this node has a reply
+abbrev pub reply_to : Bool → Option (List IsoPiece) → IsoPiece → Option Reply
+reply_to false o x = None
+reply_to true o x = if x.packet then reply_to_packet o x
+    else if is_opener true x then Some (reply_to_opener (session_of (x ∷ [])) x.admitted)
+    else if is_request (cm_of x.bytes) then Some (reply.Abort 2 (pgn_of (x ∷ []))) else None
+
+-- a message, by its PGN and its bytes
+pub record Message : Type 0 where
+  pub pgn : ℕ
+  pub bytes : List ℕ
+
+-- the message that a run carries
+abbrev pub message_of : Option (List IsoPiece) → Option Message
+message_of None = None
+message_of (Some acc) = Some (record { pgn = pgn_of acc; bytes = payload acc })
+
+-- ---- by the session that is open
+
+-- what a frame is to its key's session
+abbrev pub verdict_on : Bool → Option Entry → IsoPiece → Verdict
+verdict_on addressed o x = frame_verdict addressed (not x.admitted) o x.packet x.bytes
+
+-- what it leaves of it, and what a later moment does
+abbrev pub if_incomplete : Entry → Option Entry
+if_incomplete e = if is_complete e then None else Some e
+
+abbrev pub extended_by : Bool → Session → ℕ → ℕ → IsoPiece → Option Entry → Option Entry
+extended_by addressed s number end x None = None
+extended_by addressed s number end x (Some e) = if_incomplete (extended addressed s number end x.bytes x.moment e)
+
+abbrev pub left_by : Bool → Verdict → IsoPiece → Option Entry → Option Entry
+left_by addressed Ignored x o = o
+left_by addressed Again x o = o
+left_by addressed (Refused reason reply) x o = o
+left_by addressed (Ends reason reply) x o = None
+left_by addressed (Opens s old) x o = if x.admitted then if_incomplete (opening addressed s x.moment) else None
+left_by addressed (Next s number end) x o = extended_by addressed s number end x o
+
+abbrev pub left_at : Option Entry → ℕ → Option Entry
+left_at None m = None
+left_at (Some e) m = if is_expired m e then None else Some e
+
+-- the message that it completes
+abbrev pub completed_entry : Session → Entry → Option Message
+completed_entry s e = if is_complete e then Some (record { pgn = s.pgn; bytes = e.bytes }) else None
+
+abbrev pub completed_with : Bool → Session → ℕ → ℕ → IsoPiece → Option Entry → Option Message
+completed_with addressed s number end x None = None
+completed_with addressed s number end x (Some e) = completed_entry s (extended addressed s number end x.bytes x.moment e)
+
+abbrev pub completed_by : Bool → Verdict → IsoPiece → Option Entry → Option Message
+completed_by addressed Ignored x o = None
+completed_by addressed Again x o = None
+completed_by addressed (Refused reason reply) x o = None
+completed_by addressed (Ends reason reply) x o = None
+completed_by addressed (Opens s old) x o = None
+completed_by addressed (Next s number end) x o = completed_with addressed s number end x o
+
+-- ---- the session that stands for the frames accepted so far
+
+abbrev pub assembly_of : Bool → List IsoPiece → Option Entry
+assembly_of addressed [] = None
+assembly_of addressed (x ∷ xs) =
+    let s = session_of (x ∷ xs) in
+    Some (record {
+      bytes = joined s.size (x ∷ xs);
+      next = length (x ∷ xs);
+      need = packets_of s.size + 1;
+      last = x.moment;
+      gap = gap_after addressed s (length (x ∷ xs) - 1);
+      mark = mark_of s;
+    })
+
+abbrev pub assembly_at : Bool → Option (List IsoPiece) → Option Entry
+assembly_at addressed None = None
+assembly_at addressed (Some acc) = assembly_of addressed acc

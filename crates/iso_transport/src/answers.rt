@@ -1,0 +1,53 @@
+//! What the assembler answers.
+
+use crate::reply::Reply;
+use slot_views::View;
+
+/// Why a frame was refused.
+#[derive(Clone, Copy, Debug, PartialEq, Eq)]
+pub enum IsoRefusal {
+    /// A connection management frame of fewer than 8 bytes, an RTS to all, a BAM to this node, an opener with a size or a packet
+    /// count that no message has, or a packet that holds less than it owes. The last two end an open session.
+    Size,
+    /// A packet that isn't the next one. The session ended.
+    Order,
+    /// A packet whose session isn't open.
+    Orphan,
+    /// An opener of this message while as many sessions are open as the limit.
+    Full(u32),
+    /// The sender aborted the session of this message, which ended.
+    Aborted(u32),
+}
+
+/// What became of a frame.
+#[derive(Clone, Copy, Debug, PartialEq, Eq)]
+pub enum IsoOutcome<'a> {
+    /// It is to another node, or gives nothing. Nothing changed.
+    Ignored,
+    /// It opened a session, or was added to one, and more packets are to come.
+    Held,
+    /// It completed this message, whose session is closed.
+    Complete { pgn: u32, view: View<'a> },
+    /// It is the last packet again, as some adapters send it. Nothing changed.
+    Repeat,
+    /// It was refused.
+    Refused(IsoRefusal),
+}
+
+/// The answer to a frame.
+#[derive(Clone, Copy, Debug, PartialEq, Eq)]
+pub struct IsoFed<'a> {
+    /// An opener came while a session of this message was open, which is given up.
+    pub restarted: Option<u32>,
+    /// What the sender has to be told.
+    pub reply: Option<Reply>,
+    pub outcome: IsoOutcome<'a>,
+}
+
+/// A session that was taken out, and the message that it was for.
+#[derive(Clone, Copy, Debug, PartialEq, Eq)]
+pub struct IsoEnded {
+    pub addressed: bool,
+    pub source: u8,
+    pub pgn: u32,
+}

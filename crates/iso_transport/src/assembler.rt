@@ -1,0 +1,303 @@
+//! The assembler.
+ghost use Rattle.std.specs.Prelude.{◌≡◌, ◌≤◌, ◌<◌, [], IfOk, IsSomeAnd, length, option_map};
+ghost use Rattle.std.specs.List.{find};
+ghost use Rattle.std.specs.Borrow.{sem};
+ghost use Rattle.n2k_id.specs.Frame.{IsFrame, held_bytes};
+ghost use Rattle.slot_views.specs.Slots.{SlotMap, IsOrdered, grown, entry_at, is_full, without, released, begun_after, grown_after, has_expired};
+ghost use Rattle.iso_transport.specs.Audience.{key_of};
+ghost use Rattle.iso_transport.specs.Sessions.{gap_after, session_at};
+ghost use Rattle.iso_transport.specs.Verdicts.{VerdictFits, IsOpening, packet_verdict, pgn_in};
+ghost use Rattle.iso_transport.specs.Assembly.{verdict_of, fed_by, fed_after, is_addressed, is_crowded, least_of, opening, part_to};
+
+use crate::answers::{IsoEnded, IsoFed, IsoOutcome, IsoRefusal};
+use crate::key::IsoKey;
+use crate::session::Session;
+use crate::verdict::{Verdict, is_to, management_verdict, packet_verdict};
+use n2k_id::{Frame, Parts};
+use slot_views::{Begun, Ended, Grown, Slots};
+use std::alloc::{AllocError, Global};
+use std::marker::Model;
+
+/// The longest message has 1785 bytes in 255 packets, each with room for 7; its opener has room for as many, and carries none.
+const ROOM: usize = 1792;
+
+/// How many bytes of the message a packet carries at most.
+const PIECE: usize = 7;
+
+/// The PGN of connection management (TP.CM).
+const MANAGEMENT: u32 = 60416;
+
+/// The PGN of data (TP.DT).
+const DATA: u32 = 60160;
+
+/// Messages of several senders in the making (ISO 11783-3, transport protocol).
+#[derive(Drop)]
+pub struct IsoAssembler {
+    slots: Slots<IsoKey, ROOM, PIECE>,
+}
+
+impl Model for IsoAssembler {
+    ghost use Rattle.slot_views.specs.Slots.{SlotMap};
+    ghost use Rattle.iso_transport.specs.declared.key.IsoKey.{IsoKey};
+
+    ghost Value = { SlotMap IsoKey };
+
+    ghost view = { λ s. s.slots };
+}
+
+impl IsoAssembler {
+    ghost use Rattle.iso_transport.specs.Rows.{ends_as};
+    ghost use Rattle.iso_transport.specs.Answers.{FeedGives, OutcomeBy, NextGives, ended_of};
+
+    /// No session, with the memory for `limit` of them.
+    pub fn new(alloc: Global, limit: u16) -> Result<Self, AllocError>
+        ensures { IfOk result (λ s. s ≡ record { limit = limit; entries = [] }) }
+    {
+        let slots = Slots::new(alloc, limit)?;
+        Ok(IsoAssembler { slots })
+    }
+
+    /// Takes a frame of the transport protocol: PGN 60416 or 60160, to any node. `own` is this node's address, where it has one.
+    #[tactic(auto, using(crate::proofs::Verdicts::tells_small))]
+    pub fn feed<'a>(
+        &'a mut self,
+        own: Option<u8>,
+        parts: &Parts,
+        frame: &Frame,
+        moment: u64,
+    ) -> IsoFed<'a>
+        requires { IsFrame frame.now }
+        ensures* after { sem 𝓛 (ends_as self.entry (fed_after ⟦<IsoKey as Ord>⟧.cmp self.old own parts.now (held_bytes frame.now) moment)) }
+        ensures answer { FeedGives ⟦<IsoKey as Ord>⟧.cmp self.old own parts.now (held_bytes frame.now) moment result }
+    {
+        let bytes = frame.held();
+        let key = IsoKey::of(parts);
+        let verdict = self.verdict(own, parts, bytes);
+        let restarted = verdict.restarted();
+        let reply = verdict.reply(key.addressed);
+        let outcome = self.take(key, bytes, moment, verdict);
+        IsoFed {
+            restarted,
+            reply,
+            outcome,
+        }
+    }
+
+    // Does what the frame of the key asks for.
+    fn take<'a>(
+        &'a mut self,
+        key: IsoKey,
+        bytes: &[u8],
+        moment: u64,
+        verdict: Verdict,
+    ) -> IsoOutcome<'a>
+        requires { VerdictFits (is_full ⟦<IsoKey as Ord>⟧.cmp self.old key) (entry_at ⟦<IsoKey as Ord>⟧.cmp self.old key) bytes.now verdict }
+        ensures* after { sem 𝓛 (ends_as self.entry (fed_by ⟦<IsoKey as Ord>⟧.cmp self.old key bytes.now moment verdict)) }
+        ensures answer { OutcomeBy key.addressed (entry_at ⟦<IsoKey as Ord>⟧.cmp self.old key) bytes.now moment verdict result }
+    {
+        match verdict {
+            Verdict::Ignored => IsoOutcome::Ignored,
+            Verdict::Again => IsoOutcome::Repeat,
+            Verdict::Refused(refusal, _) => IsoOutcome::Refused(refusal),
+            Verdict::Ends(refusal, _) => {
+                let _ = self.slots.give_up(key);
+                IsoOutcome::Refused(refusal)
+            }
+            Verdict::Opens(session, _) => self.begin(key, session, moment),
+            Verdict::Next(session, number, end) => {
+                self.grow(key, session, number, part(bytes, end), moment)
+            }
+        }
+    }
+
+    // Opens the session, in the place of the one that is open.
+    fn begin<'a>(&'a mut self, key: IsoKey, session: Session, moment: u64) -> IsoOutcome<'a>
+        requires { IsOpening (is_full ⟦<IsoKey as Ord>⟧.cmp self.old key) session }
+        ensures* after { sem 𝓛 (ends_as self.entry (begun_after ⟦<IsoKey as Ord>⟧.cmp self.old key (opening key.addressed session moment))) }
+        ensures answer { result ≡ IsoOutcome.Held }
+    {
+        let need = session.packets() + 1;
+        let gap = session.gap_after(key.addressed, 0);
+        match self
+            .slots
+            .begin(key, &[], need, moment, gap, session.mark())
+        {
+            Begun::Held { .. } => IsoOutcome::Held,
+            Begun::Full => IsoOutcome::Refused(IsoRefusal::Full(session.pgn)),
+            Begun::Complete { view, .. } => IsoOutcome::Complete {
+                pgn: session.pgn,
+                view,
+            },
+        }
+    }
+
+    // Adds the part of the message that the packet with this number holds.
+    fn grow<'a>(
+        &'a mut self,
+        key: IsoKey,
+        session: Session,
+        number: u8,
+        part: &[u8],
+        moment: u64,
+    ) -> IsoOutcome<'a>
+        requires window { 1 ≤ session.window }
+        requires fits { length part.now ≤ 7 }
+        requires awaited { IsSomeAnd (entry_at ⟦<IsoKey as Ord>⟧.cmp self.old key) (λ e. number ≡ e.next) }
+        ensures* after { sem 𝓛 (ends_as self.entry (grown_after ⟦<IsoKey as Ord>⟧.cmp self.old key number part.now moment (gap_after key.addressed session number))) }
+        ensures answer { NextGives (entry_at ⟦<IsoKey as Ord>⟧.cmp self.old key) session (λ e. grown e part.now moment (gap_after key.addressed session number)) result }
+    {
+        let gap = session.gap_after(key.addressed, number);
+        match self.slots.grow(key, u16::from(number), part, moment, gap) {
+            Grown::Held => IsoOutcome::Held,
+            Grown::Complete(view) => IsoOutcome::Complete {
+                pgn: session.pgn,
+                view,
+            },
+            Grown::Absent => IsoOutcome::Refused(IsoRefusal::Orphan),
+            Grown::NotNext(_) => IsoOutcome::Refused(IsoRefusal::Order),
+        }
+    }
+
+    // What the frame is to the sessions.
+    #[tactic(auto, using(crate::proofs::Verdicts::management_fits))]
+    fn verdict(&self, own: Option<u8>, parts: &Parts, bytes: &[u8]) -> Verdict
+        ensures value { result ≡ verdict_of ⟦<IsoKey as Ord>⟧.cmp self.now own parts.now bytes.now }
+        ensures fits { VerdictFits (is_full ⟦<IsoKey as Ord>⟧.cmp self.now (key_of parts.now)) (entry_at ⟦<IsoKey as Ord>⟧.cmp self.now (key_of parts.now)) bytes.now result }
+    {
+        if !is_to(own, parts.destination) {
+            return Verdict::Ignored;
+        }
+        let key = IsoKey::of(parts);
+        match parts.pgn {
+            MANAGEMENT => management_verdict(
+                key.addressed,
+                self.is_crowded(),
+                self.message_of(key),
+                bytes,
+            ),
+            DATA => self.packet_verdict(key, bytes),
+            _ => Verdict::Ignored,
+        }
+    }
+
+    // What a packet is to the session of its key.
+    fn packet_verdict(&self, key: IsoKey, bytes: &[u8]) -> Verdict
+        ensures { result ≡ packet_verdict key.addressed (entry_at ⟦<IsoKey as Ord>⟧.cmp self.now key) bytes.now }
+    {
+        match self.slots.kept(key) {
+            None => Verdict::Refused(IsoRefusal::Orphan, None),
+            Some(kept) => {
+                let held = self.slots.held_bytes(key).unwrap_or(&[]);
+                packet_verdict(key.addressed, kept, held, bytes)
+            }
+        }
+    }
+
+    // The message of the key's session, where it is open.
+    fn message_of(&self, key: IsoKey) -> Option<u32>
+        ensures { result ≡ option_map pgn_in (entry_at ⟦<IsoKey as Ord>⟧.cmp self.now key) }
+    {
+        match self.slots.kept(key) {
+            None => None,
+            Some(kept) => Some(Session::of_mark(kept.mark).pgn),
+        }
+    }
+
+    // Whether as many sessions are open as the limit.
+    fn is_crowded(&self) -> bool
+        ensures { result ≡ is_crowded self.now }
+    {
+        self.slots.count() == self.slots.limit()
+    }
+
+    /// Ends the session of the least key whose next frame is overdue at the moment.
+    pub fn expire_one(&mut self, moment: u64) -> Option<IsoEnded>
+        ensures after { self.new ≡ without self.old (has_expired moment) }
+        ensures answer { result ≡ option_map ended_of (find (has_expired moment) self.old.entries) }
+    {
+        match self.slots.expire_one(moment) {
+            Some(ended) => Some(told(ended)),
+            None => None,
+        }
+    }
+
+    /// Ends the session of the sender's least key: the one to all before the one to this node.
+    pub fn drop_source(&mut self, source: u8) -> Option<IsoEnded>
+        ensures after { self.new ≡ released ⟦<IsoKey as Ord>⟧.cmp self.old (least_of ⟦<IsoKey as Ord>⟧.cmp self.old source) }
+        ensures answer { result ≡ option_map (λ e. ended_of (least_of ⟦<IsoKey as Ord>⟧.cmp self.old source, e)) (entry_at ⟦<IsoKey as Ord>⟧.cmp self.old (least_of ⟦<IsoKey as Ord>⟧.cmp self.old source)) }
+    {
+        let key = self.least_of(source);
+        let message = self.message_of(key);
+        let _ = self.slots.give_up(key);
+        match message {
+            Some(pgn) => Some(IsoEnded {
+                addressed: key.addressed,
+                source,
+                pgn,
+            }),
+            None => None,
+        }
+    }
+
+    // The sender's least key that is held, or else its greater one.
+    fn least_of(&self, source: u8) -> IsoKey
+        ensures { result ≡ least_of ⟦<IsoKey as Ord>⟧.cmp self.now source }
+    {
+        let to_all = IsoKey {
+            addressed: false,
+            source,
+        };
+        IsoKey {
+            addressed: self.slots.kept(to_all).is_none(),
+            source,
+        }
+    }
+
+    /// Ends the session of the least key of those to this node.
+    pub fn drop_addressed(&mut self) -> Option<IsoEnded>
+        ensures after { self.new ≡ without self.old (is_addressed ⟦<IsoKey as Ord>⟧.cmp) }
+        ensures answer { result ≡ option_map ended_of (find (is_addressed ⟦<IsoKey as Ord>⟧.cmp) self.old.entries) }
+    {
+        let low = IsoKey {
+            addressed: true,
+            source: 0,
+        };
+        let high = IsoKey {
+            addressed: true,
+            source: 255,
+        };
+        match self.slots.drop_between(low, high) {
+            Some(ended) => Some(told(ended)),
+            None => None,
+        }
+    }
+
+    /// How many sessions are open.
+    pub fn count(&self) -> u16
+        ensures count { result ≡ length self.now.entries }
+        ensures within { result ≤ self.now.limit }
+        ensures ordered { IsOrdered ⟦<IsoKey as Ord>⟧.cmp self.now.entries }
+    {
+        self.slots.count()
+    }
+}
+
+// The session that was taken out.
+fn told(ended: Ended<IsoKey>) -> IsoEnded
+    ensures { result ≡ record { addressed = ended.key.addressed; source = ended.key.source; pgn = (session_at ended.mark).pgn } }
+{
+    IsoEnded {
+        addressed: ended.key.addressed,
+        source: ended.key.source,
+        pgn: Session::of_mark(ended.mark).pgn,
+    }
+}
+
+// The bytes of a packet from byte 1 to this place.
+fn part(bytes: &[u8], end: usize) -> &[u8]
+    requires start { 1 ≤ end }
+    requires enough { end ≤ length bytes.now }
+    ensures { result.now ≡ part_to end bytes.now }
+{
+    &bytes[1..end]
+}

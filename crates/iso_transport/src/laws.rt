@@ -1,0 +1,38 @@
+//! What is promised of messages of the transport protocol, whoever joins them.
+ghost use Rattle.std.specs.Prelude.{true, false};
+ghost use Rattle.runs.specs.Laws.{OneStep, OneSuffix};
+ghost use Rattle.iso_transport.specs.IsoRuns.{iso_rules};
+ghost use Rattle.iso_transport.specs.Joining.{FeedsItsKey, EndsTheFirst, OrdersKeys};
+ghost use Rattle.iso_transport.specs.Laws.{FollowsRuns, HasItsSize};
+
+use crate::key::IsoKey;
+
+/// The frames of one sender to this node, and those to all, have one open prefix at most, and one more frame, or a later moment,
+/// does to it what the rules of the transport protocol say of the frames accepted so far alone.
+pub fn iso_runs()
+    ensures addressed_step { OneStep (iso_rules true) }
+    ensures addressed_suffix { OneSuffix (iso_rules true) }
+    ensures broadcast_step { OneStep (iso_rules false) }
+    ensures broadcast_suffix { OneSuffix (iso_rules false) }
+{}
+
+/// A session is the open prefix of the frames of its key: what a frame is to the one, leaves of it and completes, it is to the
+/// other, leaves of it and completes. An overdue session is one whose prefix is no longer open, to the microsecond.
+pub fn sessions_follow_runs()
+    ensures addressed { FollowsRuns true }
+    ensures broadcast { FollowsRuns false }
+{}
+
+/// A message that is complete has as many bytes as its opener announced.
+pub fn messages_have_their_size()
+    ensures addressed { HasItsSize true }
+    ensures broadcast { HasItsSize false }
+{}
+
+/// A frame changes the session of its key alone, and is to all sessions what it is to that one. Sessions to all come before those
+/// to this node, and the first one that passes a test is the one that is taken out.
+pub fn frames_change_their_key_alone()
+    ensures feed { FeedsItsKey ⟦<IsoKey as Ord>⟧.cmp }
+    ensures ends { EndsTheFirst ⟦<IsoKey as Ord>⟧.cmp }
+    ensures order { OrdersKeys ⟦<IsoKey as Ord>⟧.cmp }
+{}

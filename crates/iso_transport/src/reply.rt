@@ -1,0 +1,47 @@
+//! Replies, as they are written.
+ghost use Rattle.std.specs.Prelude.{◌≡◌, ◌^◌, ◌<◌, ◌++◌};
+ghost use Rattle.iso_transport.specs.Cm.{cm_of};
+ghost use Rattle.iso_transport.specs.Replies.{reply_bytes, pgn_bytes, as_cm, pgn_told};
+
+use crate::connection::{ABORT, CTS, END_ACK};
+
+/// What the sender of a message to this node is told, in a connection management frame. `pgn` is the message's, of 24 bits.
+#[derive(Clone, Copy, Debug, PartialEq, Eq)]
+pub enum Reply {
+    /// It may send `count` packets, from the packet `next` on (clear to send).
+    Cts { count: u8, next: u8, pgn: u32 },
+    /// The message of `size` bytes came whole, in so many packets (end of message acknowledgement).
+    EndAck { size: u16, packets: u8, pgn: u32 },
+    /// The message is given up (connection abort). Reasons: 1, no room for another session; 2, a frame that doesn't fit the
+    /// session, or a size that no message has; 3, a time limit.
+    Abort { reason: u8, pgn: u32 },
+}
+
+/// The data bytes of the reply's frame: `read_cm` reads them as the kind and the numbers of the reply.
+pub fn write_reply(reply: &Reply) -> [u8; 8]
+    requires { pgn_told reply.now < 2 ^ 24 }
+    ensures bytes { result ≡ reply_bytes reply.now }
+    ensures again { cm_of result ≡ Some (as_cm reply.now) }
+{
+    match *reply {
+        Reply::Cts { count, next, pgn } => laid_out([CTS, count, next, 255, 255], pgn),
+        Reply::EndAck { size, packets, pgn } => {
+            let low = (size % 256) as u8;
+            let high = (size / 256) as u8;
+            laid_out([END_ACK, low, high, packets, 255], pgn)
+        }
+        Reply::Abort { reason, pgn } => laid_out([ABORT, reason, 255, 255, 255], pgn),
+    }
+}
+
+// The first five bytes, and the PGN behind them.
+fn laid_out(first: [u8; 5], pgn: u32) -> [u8; 8]
+    requires { pgn < 2 ^ 24 }
+    ensures { result ≡ first ++ pgn_bytes pgn }
+{
+    let [a, b, c, d, e] = first;
+    let low = (pgn % 256) as u8;
+    let middle = (pgn / 256 % 256) as u8;
+    let high = (pgn / 65536) as u8;
+    [a, b, c, d, e, low, middle, high]
+}

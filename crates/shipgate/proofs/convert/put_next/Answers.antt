@@ -1,6 +1,0 @@
-use Rattle.std.proofs.Common.{refl}
-use Rattle.shipgate.specs.Convert.{refusal}
-use Rattle.shipgate.proofs.convert.put_next.Goals as goal
-
-pub returns-in-Long-clause-sent : goal.returns-in-Long-clause-sent
-returns-in-Long-clause-sent g c = (refusal 5 c.args.number, rw c.in-Long.is refl, c.put_refusal.ensures.sent)

@@ -1,0 +1,17 @@
+-- What a line of a capture says by its grammar, or which rule it breaks.
+use Rattle.std.specs.Prelude.{ℕ, ◌<◌, List, length, Result, Ok, Err}
+use Rattle.capture_text.specs.declared.event.LineRule.{LineRule}
+use Rattle.capture_text.specs.declared.event.LineRule.TheVariants.{Form, NotExtended, Long}
+use Rattle.capture_text.specs.Capture.{Seen, IsLine, IsNotExtended, IsNoLine}
+
+abbrev pub Says : List ℕ → Result Seen LineRule → Type 0
+Says line (Ok seen) = IsLine seen line
+Says line (Err Form) = IsNoLine line
+Says line (Err NotExtended) = IsNotExtended line
+Says line (Err Long) = 4096 < length line
+
+-- the number of a rule
+abbrev pub rule_of : LineRule → ℕ
+rule_of Form = 1
+rule_of Long = 2
+rule_of NotExtended = 4

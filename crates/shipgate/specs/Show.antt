@@ -1,0 +1,94 @@
+-- What `show` writes for a line.
+use Rattle.std.specs.Prelude.{◌≡◌, ℕ, ◌-◌, List, [], ◌∷◌, ◌++◌, length, take, codes, Option, Some, None, Result, Ok, Err}
+use Rattle.std.specs.List.{flat_map}
+use Rattle.std.specs.Fmt.{decimal}
+use Rattle.n2k_id.specs.Frame.{BusFrame}
+use Rattle.n2k_id.specs.Identifier.{parts_of}
+use Rattle.tag_block.specs.declared.group_part.GroupPart.{GroupPart}
+use Rattle.tag_block.specs.Tag.{Said}
+use Rattle.datagram450.specs.declared.fault.DatagramFault.{DatagramFault}
+use Rattle.datagram450.specs.declared.fault.DatagramFault.TheVariants as faults
+use Rattle.datagram450.specs.Item.{Item, line, bad}
+use Rattle.datagram450.specs.Datagram as datagrams
+use Rattle.capture_text.specs.declared.event.LineRule.{LineRule}
+use Rattle.capture_text.specs.Capture.{Seen, frame, datagram, tick}
+use Rattle.capture_text.specs.Writing.{part}
+use Rattle.shipgate.specs.Says.{Says, rule_of}
+
+abbrev pub start : ℕ → List ℕ
+start number = codes "line=" ++ decimal number
+
+abbrev pub tick_text : ℕ → List ℕ
+tick_text number = start number ++ codes " tick\n"
+
+-- the parts of the identifier, and how many data bytes there are
+abbrev pub frame_text : ℕ → BusFrame → List ℕ
+frame_text number seen = let p = parts_of seen.id in start number ++ part (codes "prio") p.priority ++ part (codes "pgn") p.pgn
+    ++ part (codes "src") p.source ++ part (codes "dst") p.destination ++ part (codes "len") (length seen.held) ++ 10 ∷ []
+
+abbrev pub rule_end : ℕ → List ℕ
+rule_end rule = codes " rule " ++ decimal rule ++ 10 ∷ []
+
+-- a rule about the line
+abbrev pub rule_text : ℕ → ℕ → List ℕ
+rule_text number rule = start number ++ rule_end rule
+
+-- a rule about a place in its datagram
+abbrev pub place_text : ℕ → ℕ → ℕ → List ℕ
+place_text number at rule = start number ++ part (codes "at") at ++ rule_end rule
+
+-- ---- a line of a datagram: what isn't there is a dash
+
+abbrev pub text_or_dash : Option (List ℕ) → List ℕ
+text_or_dash None = 45 ∷ []
+text_or_dash (Some text) = text
+
+abbrev pub group_or_dash : Option GroupPart → List ℕ
+group_or_dash None = 45 ∷ []
+group_or_dash (Some group) = decimal group.number ++ 45 ∷ (decimal group.total ++ 45 ∷ decimal group.code)
+
+abbrev pub count_or_dash : Option ℕ → List ℕ
+count_or_dash None = 45 ∷ []
+count_or_dash (Some count) = decimal count
+
+-- a sentence without its CR and LF
+abbrev pub bare : List ℕ → List ℕ
+bare sentence = take (length sentence - 2) sentence
+
+-- up to the destination
+abbrev pub front_text : ℕ → ℕ → List ℕ → List ℕ
+front_text number at source = start number ++ part (codes "at") at ++ codes " s=" ++ source ++ codes " d="
+
+-- behind it, up to the sentence
+abbrev pub middle_text : Option GroupPart → Option ℕ → List ℕ
+middle_text group count = codes " g=" ++ group_or_dash group ++ codes " n=" ++ count_or_dash count ++ 32 ∷ []
+
+abbrev pub line_text : ℕ → ℕ → Said → List ℕ → List ℕ
+line_text number at said sentence = front_text number at said.source
+    ++ (text_or_dash said.destination ++ (middle_text said.group said.count ++ (bare sentence ++ 10 ∷ [])))
+
+abbrev pub item_text : ℕ → Item → List ℕ
+item_text number (line at said sentence parts) = line_text number at said sentence
+item_text number (bad rule at) = place_text number at rule
+
+-- one line for each item of a datagram, or one where it has no header or is too long
+abbrev pub items_text : ℕ → Result (List Item) DatagramFault → List ℕ
+items_text number (Ok items) = flat_map (item_text number) items
+items_text number (Err (faults.Header place)) = place_text number place 30
+items_text number (Err faults.Long) = place_text number 1472 47
+
+-- ---- the line
+
+abbrev pub seen_text : ℕ → Seen → List ℕ
+seen_text number (frame moment seen) = frame_text number seen
+seen_text number (datagram moment bytes) = items_text number (datagrams.read bytes)
+seen_text number (tick moment) = tick_text number
+
+abbrev pub said_text : ℕ → Result Seen LineRule → List ℕ
+said_text number (Ok seen) = seen_text number seen
+said_text number (Err rule) = rule_text number (rule_of rule)
+
+-- What a line gives by its number: nothing where it is empty, else by what it says.
+unfoldable pub IsShown : ℕ → List ℕ → List ℕ → Type 0
+IsShown number [] text = text ≡ []
+IsShown number (b ∷ bytes) text = (said : Result Seen LineRule) × Says (b ∷ bytes) said × (text ≡ said_text number said)

@@ -1,0 +1,326 @@
+//! `show`: what a line says, in plain numbers.
+ghost use Rattle.std.specs.Prelude.{◌≡◌, ◌+◌, ◌≤◌, ◌*◌, [], ◌++◌, option_map};
+ghost use Rattle.std.specs.List.{flat_map};
+ghost use Rattle.arrayvec.specs.ArrayVec.{array_vec_len};
+ghost use Rattle.n2k_id.specs.Frame.{IsFrame, bus_frame};
+ghost use Rattle.sentence_text.specs.Names.{IsSfi};
+ghost use Rattle.datagram450.specs.Item.{item_view};
+ghost use Rattle.datagram450.specs.Datagram.{read as items_of};
+ghost use Rattle.capture_text.specs.Reading.{read as read_as, view, IsValid};
+ghost use Rattle.gate_outside.specs.Faults.{HasCause};
+ghost use Rattle.shipgate.specs.Says.{rule_of};
+ghost use Rattle.shipgate.specs.Show as spec;
+ghost use Rattle.shipgate.specs.Filter.{PutsLine};
+ghost use Rattle.shipgate.specs.Writing.{Writes};
+
+use crate::says::rule_of;
+use crate::text::{Text, put, put_number, put_part};
+use crate::writer::Writer;
+use arrayvec::ArrayVec;
+use capture_text::{Event, LineRule, read_line};
+use datagram450::{DatagramFault, LineItem, LineIter, lines};
+use gate_outside::{Failed, Sink};
+use n2k_id::{Frame, parts};
+use sentence_text::Sfi;
+use tag_block::GroupPart;
+
+/// The rule of a datagram without its header.
+const NO_HEADER: u8 = 30;
+
+/// The rule of a datagram that is too long, and the first place that it may not have.
+const DATAGRAM_LONG: u8 = 47;
+
+const LONGEST: u16 = 1472;
+
+fn write_start(number: u64, text: &mut Text)
+    requires { text.old.items ≡ [] }
+    ensures text { text.new.items ≡ spec.start number }
+    ensures len { array_vec_len text.new ≤ 25 }
+{
+    put(b"line=", text);
+    put_number(number, text);
+}
+
+fn write_tick(number: u64, text: &mut Text)
+    requires { text.old.items ≡ [] }
+    ensures { text.new.items ≡ spec.tick_text number }
+{
+    write_start(number, text);
+    put(b" tick\n", text);
+}
+
+fn put_rule(rule: u8, text: &mut Text)
+    requires { array_vec_len text.old ≤ 100 }
+    ensures { text.new.items ≡ text.old.items ++ spec.rule_end rule }
+{
+    put(b" rule ", text);
+    put_number(u64::from(rule), text);
+    put(b"\n", text);
+}
+
+fn write_rule(number: u64, rule: u8, text: &mut Text)
+    requires { text.old.items ≡ [] }
+    ensures { text.new.items ≡ spec.rule_text number rule }
+{
+    write_start(number, text);
+    put_rule(rule, text);
+}
+
+fn write_place(number: u64, at: u16, rule: u8, text: &mut Text)
+    requires { text.old.items ≡ [] }
+    ensures { text.new.items ≡ spec.place_text number at rule }
+{
+    write_start(number, text);
+    put_part(b"at", u64::from(at), text);
+    put_rule(rule, text);
+}
+
+// The parts of the identifier, and how many data bytes there are.
+fn write_frame(number: u64, frame: &Frame, text: &mut Text)
+    requires empty { text.old.items ≡ [] }
+    requires valid { IsFrame frame.now }
+    ensures { text.new.items ≡ spec.frame_text number (bus_frame frame.now) }
+{
+    write_start(number, text);
+    if let Some(parts) = parts(frame.id) {
+        put_part(b"prio", u64::from(parts.priority), text);
+        put_part(b"pgn", u64::from(parts.pgn), text);
+        put_part(b"src", u64::from(parts.source), text);
+        put_part(b"dst", u64::from(parts.destination), text);
+    }
+    put_part(b"len", frame.held().len() as u64, text);
+    put(b"\n", text);
+}
+
+fn put_group(group: &Option<GroupPart>, text: &mut Text)
+    requires { array_vec_len text.old ≤ 20 }
+    ensures text { text.new.items ≡ text.old.items ++ spec.group_or_dash group.now }
+    ensures len { array_vec_len text.new ≤ array_vec_len text.old + 62 }
+{
+    match group {
+        None => put(b"-", text),
+        Some(group) => {
+            put_number(u64::from(group.number), text);
+            put(b"-", text);
+            put_number(u64::from(group.total), text);
+            put(b"-", text);
+            put_number(u64::from(group.code), text);
+        }
+    }
+}
+
+fn put_count(count: &Option<u16>, text: &mut Text)
+    requires { array_vec_len text.old ≤ 100 }
+    ensures text { text.new.items ≡ text.old.items ++ spec.count_or_dash count.now }
+    ensures len { array_vec_len text.new ≤ array_vec_len text.old + 20 }
+{
+    match count {
+        None => put(b"-", text),
+        Some(count) => put_number(u64::from(*count), text),
+    }
+}
+
+// A line of a datagram up to its destination.
+fn write_front(number: u64, at: u16, source: &Sfi, text: &mut Text)
+    requires { text.old.items ≡ [] }
+    ensures { text.new.items ≡ spec.front_text number at source.now }
+{
+    write_start(number, text);
+    put_part(b"at", u64::from(at), text);
+    put(b" s=", text);
+    put(source.as_bytes(), text);
+    put(b" d=", text);
+}
+
+// What stands between the destination and the sentence.
+fn write_middle(group: &Option<GroupPart>, count: &Option<u16>, text: &mut Text)
+    requires { text.old.items ≡ [] }
+    ensures { text.new.items ≡ spec.middle_text group.now count.now }
+{
+    put(b" g=", text);
+    put_group(group, text);
+    put(b" n=", text);
+    put_count(count, text);
+    put(b" ", text);
+}
+
+// A sentence without its CR and LF.
+fn bare(sentence: &[u8]) -> &[u8]
+    ensures { result.now ≡ spec.bare sentence.now }
+{
+    sentence.split_at(sentence.len().saturating_sub(2)).0
+}
+
+fn text_or_dash<'a>(text: &Option<&'a [u8]>) -> &'a [u8]
+    ensures { result.now ≡ spec.text_or_dash (option_map (λ t. t.now) text.now) }
+{
+    match text {
+        Some(text) => text,
+        None => b"-",
+    }
+}
+
+// Writes the line of an item.
+fn put_item<K: Sink>(
+    number: u64,
+    item: &LineItem<'_>,
+    writer: &mut Writer,
+    out: &mut K,
+) -> Result<(), Failed>
+    ensures sent { Writes (K.taken out.old) (K.taken out.new) (writer.old ++ spec.item_text number (item_view item.now)) writer.new result }
+    ensures cause { HasCause (K.fault_count out.old) (K.fault_count out.new) result }
+{
+    match item {
+        LineItem::Line { at, tag, text, .. } => {
+            let mut front = ArrayVec::new();
+            write_front(number, *at, &tag.source, &mut front);
+            let mut middle = ArrayVec::new();
+            write_middle(&tag.group, &tag.count, &mut middle);
+            writer.put_all(
+                &[
+                    front.as_slice(),
+                    text_or_dash(&tag.destination),
+                    middle.as_slice(),
+                    bare(text),
+                    b"\n",
+                ],
+                out,
+            )
+        }
+        LineItem::Bad { rule, at } => {
+            let mut text = ArrayVec::new();
+            write_place(number, *at, *rule, &mut text);
+            writer.put(text.as_slice(), out)
+        }
+    }
+}
+
+// Writes the lines of the items.
+fn put_items<K: Sink>(
+    number: u64,
+    items: LineIter<'_>,
+    writer: &mut Writer,
+    out: &mut K,
+) -> Result<(), Failed>
+    ensures sent { Writes (K.taken out.old) (K.taken out.new) (writer.old ++ flat_map (spec.item_text number) items.entry) writer.new result }
+    ensures cause { HasCause (K.fault_count out.old) (K.fault_count out.new) result }
+{
+    let mut items = items;
+    'items: while let Some(item) = items.next() {
+        match put_item(number, &item, writer, out) {
+            Ok(()) => {}
+            Err(Failed) => return Err(Failed),
+        }
+    }
+    Ok(())
+}
+
+// Writes the report of a rule about a place in a datagram.
+fn put_place<K: Sink>(
+    number: u64,
+    at: u16,
+    rule: u8,
+    writer: &mut Writer,
+    out: &mut K,
+) -> Result<(), Failed>
+    ensures sent { Writes (K.taken out.old) (K.taken out.new) (writer.old ++ spec.place_text number at rule) writer.new result }
+    ensures cause { HasCause (K.fault_count out.old) (K.fault_count out.new) result }
+{
+    let mut text = ArrayVec::new();
+    write_place(number, at, rule, &mut text);
+    writer.put(text.as_slice(), out)
+}
+
+// Writes what a datagram gives.
+fn put_datagram<K: Sink>(
+    number: u64,
+    bytes: &[u8],
+    writer: &mut Writer,
+    out: &mut K,
+) -> Result<(), Failed>
+    ensures sent { Writes (K.taken out.old) (K.taken out.new) (writer.old ++ spec.items_text number (items_of bytes.now)) writer.new result }
+    ensures cause { HasCause (K.fault_count out.old) (K.fault_count out.new) result }
+{
+    match lines(bytes) {
+        Ok(items) => put_items(number, items, writer, out),
+        Err(DatagramFault::Header(place)) => {
+            put_place(number, place as u16, NO_HEADER, writer, out)
+        }
+        Err(DatagramFault::Long) => put_place(number, LONGEST, DATAGRAM_LONG, writer, out),
+    }
+}
+
+/// Writes the report of a rule about a line.
+pub(crate) fn put_refusal<K: Sink>(
+    rule: LineRule,
+    number: u64,
+    writer: &mut Writer,
+    out: &mut K,
+) -> Result<(), Failed>
+    ensures sent { Writes (K.taken out.old) (K.taken out.new) (writer.old ++ spec.rule_text number (rule_of rule)) writer.new result }
+    ensures cause { HasCause (K.fault_count out.old) (K.fault_count out.new) result }
+{
+    let mut text = ArrayVec::new();
+    write_rule(number, rule_of(rule), &mut text);
+    writer.put(text.as_slice(), out)
+}
+
+// Writes what is said.
+fn put_event<K: Sink>(
+    number: u64,
+    event: &Event<'_>,
+    writer: &mut Writer,
+    out: &mut K,
+) -> Result<(), Failed>
+    requires { IsValid event.now }
+    ensures sent { Writes (K.taken out.old) (K.taken out.new) (writer.old ++ spec.seen_text number (view event.now)) writer.new result }
+    ensures cause { HasCause (K.fault_count out.old) (K.fault_count out.new) result }
+{
+    match event {
+        Event::Frame { frame, .. } => {
+            let mut text = ArrayVec::new();
+            write_frame(number, frame, &mut text);
+            writer.put(text.as_slice(), out)
+        }
+        Event::Datagram { bytes, .. } => put_datagram(number, bytes, writer, out),
+        Event::Tick { .. } => {
+            let mut text = ArrayVec::new();
+            write_tick(number, &mut text);
+            writer.put(text.as_slice(), out)
+        }
+    }
+}
+
+// Writes what a line says, or the rule that it breaks.
+fn put_said<K: Sink>(
+    number: u64,
+    line: &[u8],
+    room: &mut [u8; 2048],
+    writer: &mut Writer,
+    out: &mut K,
+) -> Result<(), Failed>
+    ensures sent { Writes (K.taken out.old) (K.taken out.new) (writer.old ++ spec.said_text number (read_as line.now)) writer.new result }
+    ensures cause { HasCause (K.fault_count out.old) (K.fault_count out.new) result }
+{
+    match read_line(line, room) {
+        Ok(event) => put_event(number, &event, writer, out),
+        Err(rule) => put_refusal(rule, number, writer, out),
+    }
+}
+
+/// Writes what a line says, or its rule; nothing where it is empty.
+pub(crate) fn put_line<K: Sink>(
+    number: u64,
+    line: &[u8],
+    room: &mut [u8; 2048],
+    writer: &mut Writer,
+    out: &mut K,
+) -> Result<(), Failed>
+    ensures sent { PutsLine spec.IsShown (K.taken out.old) (K.taken out.new) number line.now writer.old writer.new result }
+    ensures cause { HasCause (K.fault_count out.old) (K.fault_count out.new) result }
+{
+    if line.is_empty() {
+        return Ok(());
+    }
+    put_said(number, line, room, writer, out)
+}

@@ -1,0 +1,173 @@
+-- Each step on the map leaves all entries but the key's own.
+use Rattle.std.proofs.Common.{◌≡◌, ℕ, suc, ◌≤◌, ◌==◌, Bool, true, false, not, if◌then◌else◌, List, [], ◌∷◌, length, refl, sym, ◌∙◌, ap, Option, Some, None, IsSome, arith}
+use Rattle.std.proofs.lemmas.Bool.{eqb-false}
+use Rattle.std.specs.List.{filter, find}
+use Rattle.std.specs.Cmp.{IsTotalOrder}
+use Rattle.std.specs.declared.cmp.Ordering.{Ordering}
+use Rattle.std.specs.declared.cmp.Ordering.TheVariants.{Less, Equal, Greater}
+use Rattle.std.specs.BTreeMap.{is_at, insert_entry}
+use Rattle.std.proofs.lemmas.Map.{length-set_value}
+use Rattle.slot_views.specs.Slots.{Entry, SlotMap, IsOrdered, grown, is_complete, has_expired, entry_at, is_held, is_full, released, added, changed, begun_after, grown_from, grown_after, without, without_first}
+use Rattle.slot_views.specs.Traces.{if_incomplete, grown_entry, unexpired}
+use Rattle.slot_views.proofs.Steps.{released_absent}
+use Rattle.slot_views.proofs.Tied.{same_itself, removed_at, written_at, inserted_at, ordered_removed, ordered_written, ordered_inserted}
+use Rattle.slot_views.proofs.Traces.{released_fewer}
+
+-- all but the entry of one key is as before
+pub record Keeps {K : Type 0} (cmp : K → K → Ordering) (s : SlotMap K) (k : K) (t : SlotMap K) : Type 0 where
+  pub others : (j : K) → is_at (cmp k) j ≡ false → entry_at cmp t j ≡ entry_at cmp s j
+  pub ordered : IsOrdered cmp t.entries
+  pub limit : t.limit ≡ s.limit
+  pub within : length s.entries ≤ s.limit → length t.entries ≤ s.limit
+
+module _ {K : Type 0} {cmp : K → K → Ordering} (o : IsTotalOrder cmp) (s : SlotMap K) (k : K) (sorted : IsOrdered cmp s.entries) where
+  pub same_keeps : Keeps cmp s k s
+  same_keeps = record { others = λ j other. refl; ordered = sorted; limit = refl; within = λ le. le }
+
+  -- without the key
+  pub released_here : entry_at cmp (released cmp s k) k ≡ None
+  released_here = removed_at o k k s.entries sorted ∙ rw (same_itself o k) refl
+
+  released_others : (j : K) → is_at (cmp k) j ≡ false → entry_at cmp (released cmp s k) j ≡ entry_at cmp s j
+  released_others j other = removed_at o k j s.entries sorted ∙ rw other refl
+
+  released_within : length (released cmp s k).entries ≤ length s.entries
+  released_within = by (is_held cmp s k) refl
+    where
+      by : (b : Bool) → is_held cmp s k ≡ b → length (released cmp s k).entries ≤ length s.entries
+      by true held = let fewer = released_fewer cmp s k held in omega (arith, fewer)
+      by false absent = let same = ap (λ (t : SlotMap K). length t.entries) (released_absent cmp s k absent) in omega (arith, same)
+
+  pub released_keeps : Keeps cmp s k (released cmp s k)
+  released_keeps = record {
+    others = released_others;
+    ordered = ordered_removed o (is_at (cmp k)) s.entries sorted;
+    limit = refl;
+    within = λ le. let fewer = released_within in omega (arith, le, fewer);
+  }
+
+  -- with another entry at the key, which is held
+  written_length : (w : Entry) → length (changed cmp s k w).entries ≡ length s.entries
+  written_length w = length-set_value (is_at (cmp k)) s.entries w
+
+  changed_keeps : (w : Entry) → IsSome (entry_at cmp s k) → Keeps cmp s k (changed cmp s k w)
+  changed_keeps w held = record {
+    others = λ j other. written_at o k j s.entries w held ∙ rw other refl;
+    ordered = ordered_written o (is_at (cmp k)) w s.entries sorted;
+    limit = refl;
+    within = λ le. let same = written_length w in omega (arith, le, same);
+  }
+
+  changed_here : (w : Entry) → IsSome (entry_at cmp s k) → entry_at cmp (changed cmp s k w) k ≡ Some w
+  changed_here w held = written_at o k k s.entries w held ∙ rw (same_itself o k) refl
+
+  -- with a new entry at the key
+  inserted_by : (e : K × Entry) (es : List (K × Entry)) (v : Entry) (r : Ordering) → cmp k e.0 ≡ r → length (insert_entry cmp es k v) ≤ suc (length es) → length (insert_entry cmp (e ∷ es) k v) ≤ suc (length (e ∷ es))
+  inserted_by e es v Less is rest = rw is (omega arith)
+  inserted_by e es v Equal is rest = rw is (omega arith)
+  inserted_by e es v Greater is rest = rw is (omega (arith, rest))
+
+  inserted_length : (v : Entry) (es : List (K × Entry)) → length (insert_entry cmp es k v) ≤ suc (length es)
+  inserted_length v [] = omega arith
+  inserted_length v (e ∷ es) = inserted_by e es v _ refl (inserted_length v es)
+
+  added_within : (v : Entry) → is_full cmp s k ≡ false → length s.entries ≤ s.limit → length (added cmp (released cmp s k) k v).entries ≤ s.limit
+  added_within v room le = by (is_held cmp s k) refl
+    where
+      more : length (added cmp (released cmp s k) k v).entries ≤ suc (length (released cmp s k).entries)
+      more = inserted_length v (released cmp s k).entries
+
+      by : (b : Bool) → is_held cmp s k ≡ b → length (added cmp (released cmp s k) k v).entries ≤ s.limit
+      by true held = let fewer = released_fewer cmp s k held in omega (arith, fewer, more, le)
+      by false absent =
+          let same = ap (λ (t : SlotMap K). length t.entries) (released_absent cmp s k absent) in
+          let apart : (length s.entries == s.limit) ≡ false = rw absent at room in
+          let fewer = eqb-false _ _ apart in
+          omega (arith, fewer, same, more, le)
+
+  added_keeps : (v : Entry) → is_full cmp s k ≡ false → Keeps cmp s k (added cmp (released cmp s k) k v)
+  added_keeps v room = record {
+    others = λ j other. inserted_at o k j v (released cmp s k).entries ∙ (rw other refl ∙ released_others j other);
+    ordered = ordered_inserted o k v (released cmp s k).entries (ordered_removed o (is_at (cmp k)) s.entries sorted);
+    limit = refl;
+    within = added_within v room;
+  }
+
+  added_here : (v : Entry) → entry_at cmp (added cmp (released cmp s k) k v) k ≡ Some v
+  added_here v = inserted_at o k k v (released cmp s k).entries ∙ rw (same_itself o k) refl
+
+  -- an opening
+  pub begun_keeps : (e : Entry) → Keeps cmp s k (begun_after cmp s k e)
+  begun_keeps e = by (is_full cmp s k) (is_complete e) refl refl
+    where
+      by : (f c : Bool) → is_full cmp s k ≡ f → is_complete e ≡ c → Keeps cmp s k (begun_after cmp s k e)
+      by true c ef ec = rw ef same_keeps
+      by false true ef ec = rw (ef, ec) released_keeps
+      by false false ef ec = rw (ef, ec) (added_keeps e ef)
+
+  full_absent : is_full cmp s k ≡ true → entry_at cmp s k ≡ None
+  full_absent full = by (entry_at cmp s k) refl
+    where
+      by : (e : Option Entry) → entry_at cmp s k ≡ e → entry_at cmp s k ≡ None
+      by None is = is
+      by (Some e) is = let room : is_full cmp s k ≡ false = rw is refl in cc
+
+  pub begun_here : (e : Entry) → entry_at cmp (begun_after cmp s k e) k ≡ (if not (is_full cmp s k) then if_incomplete e else None)
+  begun_here e = by (is_full cmp s k) (is_complete e) refl refl
+    where
+      by : (f c : Bool) → is_full cmp s k ≡ f → is_complete e ≡ c → entry_at cmp (begun_after cmp s k e) k ≡ (if not (is_full cmp s k) then if_incomplete e else None)
+      by true c ef ec = rw ef (full_absent ef)
+      by false true ef ec = rw (ef, ec) released_here
+      by false false ef ec = rw (ef, ec) (added_here e)
+
+  -- a growth
+  module _ (next : ℕ) (piece : List ℕ) (moment gap : ℕ) where
+    pub grown_keeps : Keeps cmp s k (grown_after cmp s k next piece moment gap)
+    grown_keeps = by (entry_at cmp s k) refl
+      where
+        held : (e : Entry) (n c : Bool) → entry_at cmp s k ≡ Some e → (e.next == next) ≡ n → is_complete (grown e piece moment gap) ≡ c → Keeps cmp s k (grown_from cmp s k next piece moment gap (Some e))
+        held e false c is en ec = rw en released_keeps
+        held e true true is en ec = rw (en, ec) released_keeps
+        held e true false is en ec = rw (en, ec) (changed_keeps (grown e piece moment gap) (rw is refl))
+
+        by : (e : Option Entry) → entry_at cmp s k ≡ e → Keeps cmp s k (grown_after cmp s k next piece moment gap)
+        by None is = rw is same_keeps
+        by (Some e) is = rw is (held e _ _ is refl refl)
+
+    pub grown_here : entry_at cmp (grown_after cmp s k next piece moment gap) k ≡ grown_entry next piece moment gap (entry_at cmp s k)
+    grown_here = by (entry_at cmp s k) refl
+      where
+        held : (e : Entry) (n c : Bool) → entry_at cmp s k ≡ Some e → (e.next == next) ≡ n → is_complete (grown e piece moment gap) ≡ c
+            → entry_at cmp (grown_from cmp s k next piece moment gap (Some e)) k ≡ grown_entry next piece moment gap (Some e)
+        held e false c is en ec = rw en released_here
+        held e true true is en ec = rw (en, ec) released_here
+        held e true false is en ec = rw (en, ec) (changed_here (grown e piece moment gap) (rw is refl))
+
+        by : (e : Option Entry) → entry_at cmp s k ≡ e → entry_at cmp (grown_after cmp s k next piece moment gap) k ≡ grown_entry next piece moment gap (entry_at cmp s k)
+        by None is = ap (λ e. entry_at cmp (grown_from cmp s k next piece moment gap e) k) is ∙ (is ∙ ap (grown_entry next piece moment gap) (sym is))
+        by (Some e) is = ap (λ e. entry_at cmp (grown_from cmp s k next piece moment gap e) k) is ∙ (held e _ _ is refl refl ∙ ap (grown_entry next piece moment gap) (sym is))
+
+-- what has expired ends one by one
+module _ {X : Type 0} (p : X → Bool) where
+  all_stay : (xs : List X) → find p xs ≡ None → filter (λ x. not (p x)) xs ≡ xs
+  all_stay [] none = refl
+  all_stay (x ∷ xs) none = by (p x) refl (λ later. all_stay xs later)
+    where
+      by : (b : Bool) → p x ≡ b → (find p xs ≡ None → filter (λ x. not (p x)) xs ≡ xs) → filter (λ x. not (p x)) (x ∷ xs) ≡ x ∷ xs
+      by true eb rest = let found : Some x ≡ None = rw eb at none in cc
+      by false eb rest = let later : find p xs ≡ None = rw eb at none in rw eb (ap {B = List X} (λ ys. x ∷ ys) (rest later))
+
+  one_fewer : (xs : List X) → filter (λ x. not (p x)) (without_first p xs) ≡ filter (λ x. not (p x)) xs
+  one_fewer [] = refl
+  one_fewer (x ∷ xs) = by (p x) refl (one_fewer xs)
+    where
+      by : (b : Bool) → p x ≡ b → filter (λ x. not (p x)) (without_first p xs) ≡ filter (λ x. not (p x)) xs → filter (λ x. not (p x)) (without_first p (x ∷ xs)) ≡ filter (λ x. not (p x)) (x ∷ xs)
+      by true eb rest = rw eb refl
+      by false eb rest = rw (eb, eb) (ap {B = List X} (λ ys. x ∷ ys) rest)
+
+module _ {K : Type 0} (s : SlotMap K) (m : ℕ) where
+  pub ends_with_all : find (has_expired m) s.entries ≡ None → unexpired m s ≡ s
+  ends_with_all none = rw (all_stay (has_expired m) s.entries none) refl
+
+  pub ends_one : unexpired m (without s (has_expired m)) ≡ unexpired m s
+  ends_one = rw (one_fewer (has_expired m) s.entries) refl

@@ -1,0 +1,161 @@
+//! The assembler of groups of lines.
+ghost use Rattle.std.specs.Prelude.{◌≡◌, ◌≤◌, [], IfOk, length, option_map};
+ghost use Rattle.std.specs.List.{find};
+ghost use Rattle.std.specs.Borrow.{sem};
+ghost use Rattle.slot_views.specs.Slots.{SlotMap, entry_at, without, has_expired};
+ghost use Rattle.tag_block.specs.Groups.{IsGroupPart, VerdictFits, verdict, fed_after};
+
+use crate::group_answers::{GroupFed, GroupOutcome};
+use crate::group_key::GroupKey;
+use crate::group_part::GroupPart;
+use crate::group_verdict::{GroupVerdict, verdict_of};
+use sentence_text::Sfi;
+use slot_views::{Begun, Grown, Slots};
+use std::alloc::{AllocError, Global};
+use std::marker::Model;
+
+/// A group has at most 9 lines, each with a sentence of at most 120 bytes.
+const ROOM: usize = 1080;
+
+/// How long a sentence is at most.
+const PIECE: usize = 120;
+
+/// How long the next line may take, in microseconds.
+const GAP: u32 = 750_000;
+
+/// Groups of lines of several senders in the making (IEC 61162-450, the parameter `g` of the TAG block).
+///
+/// It is seen as its limit and the list of its open groups in the order of their keys: of each the sentences so far, how many
+/// they are, the total, the moment of the last line, and how long the next one may take.
+#[derive(Drop)]
+pub struct GroupAssembler {
+    slots: Slots<GroupKey, ROOM, PIECE>,
+}
+
+impl Model for GroupAssembler {
+    ghost use Rattle.slot_views.specs.Slots.{SlotMap};
+    ghost use Rattle.tag_block.specs.declared.group_key.GroupKey.{GroupKey};
+
+    ghost Value = { SlotMap GroupKey };
+
+    ghost view = { λ s. s.slots };
+}
+
+impl GroupAssembler {
+    ghost use Rattle.tag_block.specs.GroupRows.{ends_as};
+    ghost use Rattle.tag_block.specs.GroupAnswers.{FeedGives};
+
+    /// No group, with the memory for `limit` of them.
+    pub fn new(alloc: Global, limit: u16) -> Result<Self, AllocError>
+        ensures { IfOk result (λ s. s ≡ record { limit = limit; entries = [] }) }
+    {
+        let slots = Slots::new(alloc, limit)?;
+        Ok(GroupAssembler { slots })
+    }
+
+    /// Takes a line of a group: who sent it, its place in the group, and its sentence.
+    pub fn feed<'a>(
+        &'a mut self,
+        sfi: Sfi,
+        part: GroupPart,
+        sentence: &[u8],
+        moment: u64,
+    ) -> GroupFed<'a>
+        requires place { IsGroupPart part }
+        requires fits { length sentence.now ≤ 120 }
+        ensures* after { sem 𝓛 (ends_as self.entry (fed_after ⟦<GroupKey as Ord>⟧.cmp self.old (record { sfi = sfi; code = part.code }) part sentence.now moment)) }
+        ensures answer { FeedGives ⟦<GroupKey as Ord>⟧.cmp self.old (record { sfi = sfi; code = part.code }) part sentence.now moment result }
+    {
+        match self.verdict(sfi, part) {
+            GroupVerdict::Opens => {
+                let total = u16::from(part.total);
+                match self
+                    .slots
+                    .begin(key_of(sfi, part), sentence, total, moment, GAP, 0)
+                {
+                    Begun::Full => GroupFed {
+                        restarted: false,
+                        outcome: GroupOutcome::Full,
+                    },
+                    Begun::Held { replaced } => GroupFed {
+                        restarted: replaced,
+                        outcome: GroupOutcome::Held,
+                    },
+                    Begun::Complete { replaced, view } => GroupFed {
+                        restarted: replaced,
+                        outcome: GroupOutcome::Complete(view),
+                    },
+                }
+            }
+            GroupVerdict::Follows => {
+                let before = u16::from(part.number - 1);
+                match self
+                    .slots
+                    .grow(key_of(sfi, part), before, sentence, moment, GAP)
+                {
+                    Grown::Held => GroupFed {
+                        restarted: false,
+                        outcome: GroupOutcome::Held,
+                    },
+                    Grown::Complete(view) => GroupFed {
+                        restarted: false,
+                        outcome: GroupOutcome::Complete(view),
+                    },
+                    Grown::Absent => GroupFed {
+                        restarted: false,
+                        outcome: GroupOutcome::Order,
+                    },
+                    Grown::NotNext(_) => GroupFed {
+                        restarted: false,
+                        outcome: GroupOutcome::Order,
+                    },
+                }
+            }
+            GroupVerdict::Breaks => {
+                let _ = self.slots.give_up(key_of(sfi, part));
+                GroupFed {
+                    restarted: false,
+                    outcome: GroupOutcome::Order,
+                }
+            }
+        }
+    }
+
+    // What the line is to the open group of its key.
+    #[tactic(auto, using(crate::proofs::GroupVerdicts::fits_from))]
+    fn verdict(&self, sfi: Sfi, part: GroupPart) -> GroupVerdict
+        ensures value { result ≡ verdict (entry_at ⟦<GroupKey as Ord>⟧.cmp self.now (record { sfi = sfi; code = part.code })) part }
+        ensures fits { VerdictFits (entry_at ⟦<GroupKey as Ord>⟧.cmp self.now (record { sfi = sfi; code = part.code })) part result }
+    {
+        verdict_of(self.slots.kept(key_of(sfi, part)), part)
+    }
+
+    /// Ends the group of the least key whose next line is overdue at the moment.
+    pub fn expire_one(&mut self, moment: u64) -> Option<GroupKey>
+        ensures after { self.new ≡ without self.old (has_expired moment) }
+        ensures answer { result ≡ option_map (λ e. e.0) (find (has_expired moment) self.old.entries) }
+    {
+        match self.slots.expire_one(moment) {
+            Some(ended) => Some(ended.key),
+            None => None,
+        }
+    }
+
+    /// How many groups are open.
+    pub fn count(&self) -> u16
+        ensures count { result ≡ length self.now.entries }
+        ensures within { result ≤ self.now.limit }
+    {
+        self.slots.count()
+    }
+}
+
+// Which group the line belongs to.
+fn key_of(sfi: Sfi, part: GroupPart) -> GroupKey
+    ensures { result ≡ record { sfi = sfi; code = part.code } }
+{
+    GroupKey {
+        sfi,
+        code: part.code,
+    }
+}
