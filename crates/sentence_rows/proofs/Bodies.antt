@@ -1,18 +1,23 @@
 -- A body has only bytes that a sentence may have, and room for them.
-use Rattle.std.proofs.Common.{◌≡◌, ℕ, zero, suc, ◌+◌, ◌/◌, ◌%◌, ◌^◌, ◌<◌, ◌≤◌, Bool, true, false, ◌&&◌, IsTrue, List, [], ◌∷◌, ◌++◌, Option, length, length-append, drop, get_or, refl, sym, ap, subst, ◌∙◌, append_assoc, arith}
-use Rattle.std.specs.Prelude.{Some, None, nat_lt, unsigned_abs, if◌then◌else◌}
+use Rattle.std.proofs.Common.{◌≡◌, ℕ, zero, suc, ◌+◌, ◌/◌, ◌%◌, ◌^◌, ◌<◌, ◌≤◌, Bool, true, false, ◌&&◌, IsTrue, List, [], ◌∷◌, ◌++◌, Option, Result, Ok, length, length-append, map, take, drop, get_or, refl, sym, ap, subst, ◌∙◌, append_assoc, arith}
+use Rattle.std.specs.Prelude.{Some, None, ◌==◌, not, nat_lt, unsigned_abs, if◌then◌else◌}
 use Rattle.std.specs.Char.{is_ascii_digit}
 use Rattle.std.specs.Fmt.{decimal}
-use Rattle.std.specs.List.{AllByRecursion, list_all}
+use Rattle.std.specs.List.{AllByRecursion, list_all, position_or_len}
 use Rattle.std.specs.Str.{all_ascii_digits}
 use Rattle.std.proofs.Math.Nat.{div-le_self}
 use Rattle.std.proofs.Math.Seq.{drop-cons}
+use Rattle.std.proofs.lemmas.Bool.{not-true}
 use Rattle.std.proofs.lemmas.Bool.Decides.{nat_tests}
 use Rattle.std.proofs.lemmas.Fmt.{digits_decimal}
 use Rattle.std.proofs.lemmas.List.Folds.{list_all-append}
 use Rattle.readings.proofs.Ranges.{by_place}
-use Rattle.sentence_text.specs.Text.{is_address_byte, is_body_byte, is_capital}
-use Rattle.sentence_text.specs.Sentence.{parts_of, sentence}
+use Rattle.sentence_text.specs.Text.{is_address_byte, is_body_byte, is_capital, is_field_byte}
+use Rattle.sentence_text.specs.declared.fault.SentenceFault.{SentenceFault}
+use Rattle.sentence_text.specs.Fields.{field_at_front, fields_of}
+use Rattle.sentence_text.specs.Reading.{read}
+use Rattle.sentence_text.specs.Sentence.{Parts, parts_of, sentence}
+use Rattle.sentence_text.proofs.Fields.{fields_before_comma}
 use Rattle.unit_fraction.specs.Digits.{spelling}
 use Rattle.unit_fraction.specs.Text.{behind_point, decimal_text, decimals, shows_minus}
 use Rattle.unit_fraction.proofs.Text.{own}
@@ -21,19 +26,20 @@ use Rattle.sentence_rows.specs.declared.field.Field.{Field}
 use Rattle.sentence_rows.specs.declared.field.Field.TheVariants.{Empty, Letter, Decimal, Magnitude, Side, Angle, Degrees, Time, Digits, Satellites}
 use Rattle.sentence_rows.specs.Field.{IsPrintable, body_text, body_width, count, degrees_text, is_negative, text_of, time_text, width_of}
 use Rattle.sentence_rows.specs.Lines.{sentence_by}
+use Rattle.sentence_rows.specs.Stable.{IsReadBack}
 use Rattle.sentence_rows.proofs.Counts.{count_fits}
 use Rattle.sentence_rows.proofs.Texts.{text_fits}
 
-abbrev AreBytes : List ℕ → Type 0
-AreBytes bytes = list_all is_body_byte bytes ≡ true
+abbrev pub AreBytes : List ℕ → Type 0
+AreBytes bytes = list_all is_field_byte bytes ≡ true
 
 joined : (xs ys : List ℕ) → AreBytes xs → AreBytes ys → AreBytes (xs ++ ys)
-joined xs ys p q = list_all-append is_body_byte xs ys ∙ (rw (p, q) refl)
+joined xs ys p q = list_all-append is_field_byte xs ys ∙ (rw (p, q) refl)
 
-digit_byte : (m : ℕ) → m < 10 → is_body_byte (48 + m) ≡ true
+digit_byte : (m : ℕ) → m < 10 → is_field_byte (48 + m) ≡ true
 digit_byte m h = grind (arith, nat_tests)
 
-one : (c : ℕ) → is_body_byte c ≡ true → AreBytes (c ∷ [])
+one : (c : ℕ) → is_field_byte c ≡ true → AreBytes (c ∷ [])
 one c h = rw h refl
 
 decimals_bytes : (k n : ℕ) → AreBytes (decimals k n)
@@ -41,7 +47,7 @@ decimals_bytes zero n = refl
 decimals_bytes (suc k) n =
     joined (decimals k (n / 10)) ((48 + n % 10) ∷ []) (decimals_bytes k (n / 10)) (one (48 + n % 10) (digit_byte (n % 10) (omega arith)))
 
-ascii_byte : (c : ℕ) → is_ascii_digit c ≡ true → is_body_byte c ≡ true
+ascii_byte : (c : ℕ) → is_ascii_digit c ≡ true → is_field_byte c ≡ true
 ascii_byte c h = grind (arith, nat_tests)
 
 both : (a b : Bool) → (a && b) ≡ true → (a ≡ true) × (b ≡ true)
@@ -73,7 +79,7 @@ text_bytes negative n places h =
     (joined whole (spelling false [] (behind_point places (decimals places n))) (decimal_bytes (n / 10 ^ places) small)
     (behind_bytes places (decimals places n) (decimals_bytes places n)))
 
-side_byte : (b : Bool) (p n : ℕ) → is_body_byte p ≡ true → is_body_byte n ≡ true → AreBytes ((if b then n else p) ∷ [])
+side_byte : (b : Bool) (p n : ℕ) → is_field_byte p ≡ true → is_field_byte n ≡ true → AreBytes ((if b then n else p) ∷ [])
 side_byte true p n hp hn = one n hn
 side_byte false p n hp hn = one p hp
 
@@ -95,7 +101,7 @@ time_bytes raw =
     (joined (decimals 2 (n / 360000)) (decimals 2 (n / 6000 % 60)) (decimals_bytes 2 (n / 360000)) (decimals_bytes 2 (n / 6000 % 60))) (decimals_bytes 2 (n / 100 % 60)))
     (joined (46 ∷ []) (decimals 2 (n % 100)) refl (decimals_bytes 2 (n % 100)))
 
-field_bytes : (f : Field) → IsPrintable f → AreBytes (text_of f)
+pub field_bytes : (f : Field) → IsPrintable f → AreBytes (text_of f)
 field_bytes Empty h = refl
 field_bytes (Letter c) h = one c h
 field_bytes (Decimal None unit) h = refl
@@ -116,9 +122,24 @@ field_bytes (Digits (Some n) w) h = decimals_bytes w n
 field_bytes (Satellites None) h = refl
 field_bytes (Satellites (Some n)) h = satellites_bytes (unsigned_abs n) h (nat_lt (unsigned_abs n) 10)
 
-body_bytes : (fields : List Field) → AllByRecursion IsPrintable fields → AreBytes (body_text fields)
+-- the bytes of a body are those of its fields and commas
+abbrev AreBody : List ℕ → Type 0
+AreBody bytes = list_all is_body_byte bytes ≡ true
+
+in_body : (bytes : List ℕ) → AreBytes bytes → AreBody bytes
+in_body [] h = refl
+in_body (c ∷ cs) h =
+    let parts = both (is_field_byte c) (list_all is_field_byte cs) h in
+    let front = both (is_body_byte c) (not (c == 44)) parts.0 in
+    let rest = in_body cs parts.1 in
+    rw (front.0, rest) refl
+
+body_joined : (xs ys : List ℕ) → AreBody xs → AreBody ys → AreBody (xs ++ ys)
+body_joined xs ys p q = list_all-append is_body_byte xs ys ∙ (rw (p, q) refl)
+
+body_bytes : (fields : List Field) → AllByRecursion IsPrintable fields → AreBody (body_text fields)
 body_bytes [] h = refl
-body_bytes (f ∷ fs) h = joined (44 ∷ text_of f) (body_text fs) (joined (44 ∷ []) (text_of f) refl (field_bytes f h.0)) (body_bytes fs h.1)
+body_bytes (f ∷ fs) h = body_joined (44 ∷ text_of f) (body_text fs) (body_joined (44 ∷ []) (text_of f) refl (in_body (text_of f) (field_bytes f h.0))) (body_bytes fs h.1)
 
 length_body : (fields : List Field) → AllByRecursion IsPrintable fields → length (body_text fields) ≤ body_width fields
 length_body [] h = omega arith
@@ -183,3 +204,64 @@ written_sentence talker formatter body rest new fields b two three printable sho
     let room : length (sentence (parts_of talker formatter rest)) ≤ 82 =
     let P : List ℕ → Type 0 = λ bs. length bs ≤ 82 in subst P (sym same) (sentence_fits talker formatter fields two three printable short) in
     written (fits room) ∙ same
+
+-- ---- the fields of a body
+
+take_one_more : (n c : ℕ) (cs : List ℕ) → take (1 + n) (c ∷ cs) ≡ c ∷ take n cs
+take_one_more n c cs = grind arith
+
+before_comma : (c : ℕ) (cs : List ℕ) → (c == 44) ≡ false → field_at_front (c ∷ cs) ≡ c ∷ field_at_front cs
+before_comma c cs e =
+    let len : position_or_len (λ x. x == 44) (c ∷ cs) ≡ 1 + position_or_len (λ x. x == 44) cs = rw e refl in
+    ap (λ (n : ℕ). take n (c ∷ cs)) len ∙ take_one_more (position_or_len (λ x. x == 44) cs) c cs
+
+no_comma : (c : ℕ) (cs : List ℕ) → AreBytes (c ∷ cs) → ((c == 44) ≡ false) × AreBytes cs
+no_comma c cs h =
+    let parts = both (is_field_byte c) (list_all is_field_byte cs) h in
+    let front = both (is_body_byte c) (not (c == 44)) parts.0 in
+    (not-true (c == 44) front.1, parts.1)
+
+front_again : (t rest : List ℕ) → AreBytes t → field_at_front rest ≡ [] → field_at_front (t ++ rest) ≡ t
+front_again [] rest h e = e
+front_again (c ∷ cs) rest h e =
+    let n = no_comma c cs h in
+    before_comma c (cs ++ rest) n.0 ∙ ap (λ (x : List ℕ). c ∷ x) (front_again cs rest n.1 e)
+
+fields_behind : (t rest : List ℕ) → AreBytes t → fields_of (t ++ rest) ≡ fields_of rest
+fields_behind [] rest h = refl
+fields_behind (c ∷ cs) rest h =
+    let n = no_comma c cs h in
+    fields_before_comma c (cs ++ rest) n.0 ∙ fields_behind cs rest n.1
+
+starts : (fields : List Field) → field_at_front (body_text fields) ≡ []
+starts [] = refl
+starts (f ∷ fs) = refl
+
+-- the fields of a body are the texts of its fields
+pub fields_text : (fields : List Field) → AllByRecursion IsPrintable fields → fields_of (body_text fields) ≡ map text_of fields
+fields_text [] h = refl
+fields_text (f ∷ fs) h =
+    let t = text_of f in
+    let b = field_bytes f h.0 in
+    ap (λ (x : List ℕ). x ∷ fields_of (t ++ body_text fs)) (front_again t (body_text fs) b (starts fs))
+    ∙ ap (λ (x : List (List ℕ)). t ∷ x) (fields_behind t (body_text fs) b ∙ fields_text fs h.1)
+
+abbrev said_by : List ℕ → List ℕ → List ℕ → Result Parts SentenceFault
+said_by talker formatter body = Ok (record { start = 36; talker = talker; formatter = formatter; body = body })
+
+-- a sentence that is written is read back
+pub read_back : (talker formatter body rest new : List ℕ) (fields : List Field) (b : Bool) → length talker ≡ 2 → length formatter ≡ 3
+    → AllByRecursion IsPrintable fields → body_width fields ≤ 71 → 0 < length fields → body ≡ body_text fields → rest ≡ drop 1 body
+    → (length (sentence (parts_of talker formatter rest)) ≤ 82 → IsTrue b) → (IsTrue b → new ≡ sentence (parts_of talker formatter rest))
+    → (IsTrue b → read new ≡ Ok (parts_of talker formatter rest)) → IsReadBack talker formatter fields
+read_back talker formatter body rest new fields b two three printable short some e r fits written again =
+    let comma = behind_comma body rest fields some e r in
+    let same : sentence (parts_of talker formatter rest) ≡ sentence_by talker formatter fields =
+    ap (λ (bs : List ℕ). sentence (record { start = 36; talker = talker; formatter = formatter; body = bs })) comma in
+    let room : length (sentence (parts_of talker formatter rest)) ≤ 82 =
+    let P : List ℕ → Type 0 = λ bs. length bs ≤ 82 in subst P (sym same) (sentence_fits talker formatter fields two three printable short) in
+    let done = fits room in
+    record {
+      is_sentence = ap read (sym (written done ∙ same)) ∙ again done ∙ ap (said_by talker formatter) comma;
+      has_fields = fields_text fields printable;
+    }

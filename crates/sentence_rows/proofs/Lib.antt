@@ -6,3 +6,9 @@ pub mod Columns
 pub mod DigitNumbers
 pub mod Valid
 pub mod Dates
+pub mod Again
+pub mod Texted
+pub mod FixedTexts
+pub mod DateTexts
+pub mod StableRows
+pub mod StableLines

@@ -1,6 +1,7 @@
 -- A reading of a day and a time is said with the date of the day.
-use Rattle.std.proofs.Common.{◌≡◌, ℕ, ℤ, Bool, List, [], ◌∷◌, ◌++◌, Option, Some, None, sym, ap, subst, ◌∙◌}
+use Rattle.std.proofs.Common.{◌≡◌, ℕ, ℤ, Bool, List, [], ◌∷◌, ◌++◌, Option, Some, None, map, sym, ap, subst, ◌∙◌}
 use Rattle.std.specs.Prelude.{codes}
+use Rattle.std.specs.List.{AllByRecursion}
 use Rattle.arrayvec.specs.ArrayVec.{ArrayVec}
 use Rattle.jiff.specs.Types.{Date}
 use Rattle.jiff.specs.Words.{epoch_day}
@@ -8,24 +9,35 @@ use Rattle.readings.specs.declared.reading.Reading.{Reading}
 use Rattle.readings.specs.declared.reading.Reading.TheVariants as reading
 use Rattle.sentence_rows.specs.declared.lines.SentenceText.{SentenceText}
 use Rattle.sentence_rows.specs.Lines.{lines_of, sentence_by}
-use Rattle.sentence_rows.specs.Text.{Dated, IsText, zda}
+use Rattle.sentence_rows.specs.Stable.{IsReadBack, IsSaid}
+use Rattle.sentence_rows.specs.Text.{Dated, IsText, day_said, said, zda}
+
+-- a sentence is added and read back
+abbrev Adds : List ℕ → List (List ℕ) → List (List ℕ) → Option ℤ → Option Date → Type 0
+Adds talker lines old time d = (lines ≡ old ++ sentence_by talker (codes "ZDA") (zda time d) ∷ []) × IsReadBack talker (codes "ZDA") (zda time d)
 
 pub dated_zda : (date time : Option ℤ) (day : ℤ) (talker : List ℕ) (lines old : List (List ℕ)) (d : Date) → date ≡ Some day → epoch_day d ≡ day
-    → lines ≡ old ++ sentence_by talker (codes "ZDA") (zda time (Some d)) ∷ []
-    → Dated date (λ e. lines ≡ old ++ sentence_by talker (codes "ZDA") (zda time e) ∷ [])
-dated_zda date time day talker lines old d there on said =
-    let P : Option ℤ → Type 0 = λ o. Dated o (λ e. lines ≡ old ++ sentence_by talker (codes "ZDA") (zda time e) ∷ []) in
-    subst P (sym there) (d, on, said)
+    → lines ≡ old ++ sentence_by talker (codes "ZDA") (zda time (Some d)) ∷ [] → IsReadBack talker (codes "ZDA") (zda time (Some d))
+    → Dated date (λ e. Adds talker lines old time e)
+dated_zda date time day talker lines old d there on said again =
+    let P : Option ℤ → Type 0 = λ o. Dated o (λ e. Adds talker lines old time e) in
+    subst P (sym there) (d, on, (said, again))
 
 weaker : (date : Option ℤ) (P Q : Option Date → Type 0) → ((d : Option Date) → P d → Q d) → Dated date P → Dated date Q
 weaker None P Q f h = f None h
 weaker (Some day) P Q f h = (h.0, h.1, f (Some h.0) h.2)
 
 pub time_said : (r : Reading) (date time : Option ℤ) (talker : List ℕ) (with_ths : Bool) (lines : List (List ℕ)) (old : ArrayVec SentenceText)
-    → r ≡ reading.Time date time → old.items ≡ []
-    → Dated date (λ d. lines ≡ lines_of old ++ sentence_by talker (codes "ZDA") (zda time d) ∷ []) → IsText r talker with_ths lines
+    → r ≡ reading.Time date time → old.items ≡ [] → Dated date (λ d. Adds talker lines (lines_of old) time d) → IsSaid r talker with_ths lines
 time_said r date time talker with_ths lines old is empty said =
-    let P : Reading → Type 0 = λ q. IsText q talker with_ths lines in
+    let P : Reading → Type 0 = λ q. IsSaid q talker with_ths lines in
     subst P (sym is)
-    (weaker date (λ d. lines ≡ lines_of old ++ sentence_by talker (codes "ZDA") (zda time d) ∷ []) (λ d. lines ≡ sentence_by talker (codes "ZDA") (zda time d) ∷ [])
-    (λ d e. e ∙ ap (λ (texts : List SentenceText). lines_of (record { items = texts }) ++ sentence_by talker (codes "ZDA") (zda time d) ∷ []) empty) said)
+    (weaker date (λ d. Adds talker lines (lines_of old) time d)
+    (λ d. (lines ≡ sentence_by talker (codes "ZDA") (zda time d) ∷ []) × (IsReadBack talker (codes "ZDA") (zda time d) × Unit {0}))
+    (λ d e. (e.0 ∙ ap (λ (texts : List SentenceText). lines_of (record { items = texts }) ++ sentence_by talker (codes "ZDA") (zda time d) ∷ []) empty, (e.1, tt))) said)
+
+-- what is said and read back is said
+pub is_text : (r : Reading) (talker : List ℕ) (with_ths : Bool) (lines : List (List ℕ)) → IsSaid r talker with_ths lines → IsText r talker with_ths lines
+is_text r talker with_ths lines h =
+    weaker (day_said r) (λ d. (lines ≡ map (λ s. sentence_by talker s.0 s.1) (said with_ths d r)) × AllByRecursion (λ s. IsReadBack talker s.0 s.1) (said with_ths d r))
+    (λ d. lines ≡ map (λ s. sentence_by talker s.0 s.1) (said with_ths d r)) (λ d e. e.0) h

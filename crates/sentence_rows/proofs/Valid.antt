@@ -1,5 +1,5 @@
 -- Each value that is read is in its range.
-use Rattle.std.proofs.Common.{◌≡◌, ℕ, zero, suc, ◌+◌, ◌-◌, ◌*◌, ◌/◌, ◌%◌, ◌^◌, ◌<◌, ◌≤◌, ℤ, pos, negsuc, neg_ℤ, ◌-ℤ◌, ◌≤ℤ◌, Bool, true, false, List, [], ◌∷◌, length, take, drop, Option, Some, None, Result, Ok, Err, refl, sym, subst, ◌∙◌, inl, inr, arith}
+use Rattle.std.proofs.Common.{◌≡◌, ℕ, ◌+◌, ◌-◌, ◌*◌, ◌/◌, ◌%◌, ◌^◌, ◌<◌, ◌≤◌, ℤ, pos, negsuc, ◌≤ℤ◌, Bool, true, false, List, [], ◌∷◌, length, take, drop, Option, Some, None, Result, Ok, Err, refl, sym, subst, inl, inr, arith}
 use Rattle.std.specs.Prelude.{◌&&◌, ◌==◌, not, nat_le, nat_lt, unsigned_abs, is_none, is_some, IfOk, IfSome, if◌then◌else◌}
 use Rattle.std.specs.Char.{is_ascii_digit}
 use Rattle.std.specs.List.{list_all}
@@ -18,10 +18,10 @@ use Rattle.unit_fraction.specs.declared.decimal.DecimalFault.{DecimalFault}
 use Rattle.unit_fraction.specs.declared.decimal.DecimalFault.TheVariants.{Empty, Byte, Long}
 use Rattle.unit_fraction.specs.Digits.{number as number_of_digits}
 use Rattle.unit_fraction.specs.Reading.{read}
-use Rattle.unit_fraction.specs.Round.{round, signed, nearest}
+use Rattle.unit_fraction.specs.Round.{nearest}
 use Rattle.sentence_rows.specs.declared.digits.Fixed.{Fixed}
 use Rattle.sentence_rows.specs.declared.fault.FieldFault.{FieldFault}
-use Rattle.sentence_rows.specs.declared.fault.FieldFault.TheVariants.{Form, Outside, Range as OutOfRange}
+use Rattle.sentence_rows.specs.declared.fault.FieldFault.TheVariants.{Form, Range as OutOfRange}
 use Rattle.sentence_rows.specs.declared.formatter.Formatter.{Formatter}
 use Rattle.sentence_rows.specs.declared.formatter.Formatter.TheVariants as formatter
 use Rattle.sentence_rows.specs.declared.quantity.Quantity.{Quantity}
@@ -218,8 +218,8 @@ part_of whole most [] = (omega arith, omega arith)
 part_of whole most (c ∷ cs) =
     elim (cases_Bool ((c == 46) && nat_le (length cs) most && list_all is_ascii_digit cs)) [
       | inl e ↦ rw e (let p = and_parts ((c == 46) && nat_le (length cs) most) (list_all is_ascii_digit cs) e in
-        let q = and_parts (c == 46) (nat_le (length cs) most) p.0 in
-        (small cs p.1, leb-true (length cs) most q.1))
+          let q = and_parts (c == 46) (nat_le (length cs) most) p.0 in
+          (small cs p.1, leb-true (length cs) most q.1))
       | inr e ↦ rw e tt
     ]
 
@@ -316,7 +316,7 @@ only_within : (range : Range) (meant : Bool) (v : Option ℤ) → Admits range v
 only_within range true v h = h
 only_within range false v h = tt
 
-beside_within : (range : Range) (v other : Option ℤ) → Admits range v → Admits range (beside v other)
+pub beside_within : (range : Range) (v other : Option ℤ) → Admits range v → Admits range (beside v other)
 beside_within range v other h = only_within range (is_some other) v h
 
 kelvin_within : (v : Option ℤ) → Admits (ranges.either_side 100000) v → Admits ranges.kelvin (rows.from_freezing v)
@@ -416,9 +416,10 @@ gll_valid f =
     let longitude = spec.coordinate f 3 quantity.longitude 5 69 87 in
     let valid = spec.status f 6 (is_none (value latitude) && is_none (value longitude)) in
     reads_ok IsValid (fault latitude ∷ fault longitude ∷ spec.counted f 5 ∷ fault valid ∷ [])
-    (reading.Position (only_if (holds valid) (beside (value latitude) (value longitude))) (only_if (holds valid) (beside (value longitude) (value latitude))))
-    (only_within ranges.latitude (holds valid) (beside (value latitude) (value longitude)) (beside_within ranges.latitude (value latitude) (value longitude) (coordinate_within f 1 quantity.latitude 4 78 83 refl)),
-    (only_within ranges.longitude (holds valid) (beside (value longitude) (value latitude)) (beside_within ranges.longitude (value longitude) (value latitude) (coordinate_within f 3 quantity.longitude 5 69 87 refl)), tt))
+    (reading.Position (only_if (holds valid) (beside (value latitude) (value longitude))) (only_if (holds valid) (beside (value longitude) (value latitude)))) (
+      only_within ranges.latitude (holds valid) (beside (value latitude) (value longitude)) (beside_within ranges.latitude (value latitude) (value longitude) (coordinate_within f 1 quantity.latitude 4 78 83 refl)),
+      (only_within ranges.longitude (holds valid) (beside (value longitude) (value latitude)) (beside_within ranges.longitude (value longitude) (value latitude) (coordinate_within f 3 quantity.longitude 5 69 87 refl)), tt),
+    )
 
 vtg_valid : (f : List (List ℕ)) → IfOk (rows.vtg f) IsValid
 unfolding rows.vtg
@@ -426,9 +427,10 @@ vtg_valid f =
     let course = spec.either_unit f 1 quantity.angle 84 quantity.angle 77 in
     let speed = spec.either_unit f 5 quantity.knots 78 quantity.kilometres_per_hour 75 in
     let valid = not (rows.is_invalid_mode f) in
-    reads_ok IsValid (fault course ∷ fault speed ∷ []) (reading.CourseSpeed (spec.is_magnetic f) (only_if valid (value course)) (only_if valid (value speed)))
-    (only_within ranges.angle valid (value course) (either_within ranges.angle f 1 quantity.angle 84 quantity.angle 77 refl refl),
-    (only_within ranges.speed valid (value speed) (either_within ranges.speed f 5 quantity.knots 78 quantity.kilometres_per_hour 75 refl refl), tt))
+    reads_ok IsValid (fault course ∷ fault speed ∷ []) (reading.CourseSpeed (spec.is_magnetic f) (only_if valid (value course)) (only_if valid (value speed))) (
+      only_within ranges.angle valid (value course) (either_within ranges.angle f 1 quantity.angle 84 quantity.angle 77 refl refl),
+      (only_within ranges.speed valid (value speed) (either_within ranges.speed f 5 quantity.knots 78 quantity.kilometres_per_hour 75 refl refl), tt),
+    )
 
 gga_valid : (f : List (List ℕ)) → IfOk (rows.gga f) IsValid
 unfolding rows.gga
@@ -442,11 +444,19 @@ gga_valid f =
     let altitude = spec.measure f 9 quantity.altitude_metres 77 in
     let separation = spec.measure f 11 quantity.separation_metres 77 in
     reads_ok IsValid (fault at ∷ fault latitude ∷ fault longitude ∷ fault method ∷ fault seen ∷ fault hdop ∷ fault altitude ∷ fault separation ∷ [])
-    (reading.Gnss None (value at) (beside (value latitude) (value longitude)) (beside (value longitude) (value latitude)) (value altitude) (result_unwrap_or method 0) (value seen) (value hdop) (value separation))
-    (tt, (time_within f 1,
-    (beside_within ranges.fix_latitude (value latitude) (value longitude) (coordinate_within f 2 quantity.fix_latitude 4 78 83 refl),
-    (beside_within ranges.fix_longitude (value longitude) (value latitude) (coordinate_within f 4 quantity.fix_longitude 5 69 87 refl),
-    (measure_within f 9 quantity.altitude_metres 77, (quality_within f 6, (satellites_within f 7, (number_within f 8 quantity.dilution, (measure_within f 11 quantity.separation_metres 77, tt)))))))))
+    (reading.Gnss None (value at) (beside (value latitude) (value longitude)) (beside (value longitude) (value latitude)) (value altitude) (result_unwrap_or method 0) (value seen) (value hdop) (value separation)) (
+      tt,
+      (
+        time_within f 1,
+        (
+          beside_within ranges.fix_latitude (value latitude) (value longitude) (coordinate_within f 2 quantity.fix_latitude 4 78 83 refl),
+          (
+            beside_within ranges.fix_longitude (value longitude) (value latitude) (coordinate_within f 4 quantity.fix_longitude 5 69 87 refl),
+            (measure_within f 9 quantity.altitude_metres 77, (quality_within f 6, (satellites_within f 7, (number_within f 8 quantity.dilution, (measure_within f 11 quantity.separation_metres 77, tt))))),
+          ),
+        ),
+      ),
+    )
 
 zda_valid : (f : List (List ℕ)) → IfOk (rows.zda f) IsValid
 unfolding rows.zda
@@ -455,7 +465,7 @@ zda_valid f =
     let day = spec.date f 2 in
     reads_ok IsValid (fault at ∷ fault day ∷ []) (reading.Time (value day) (value at)) (date_within f 2, (time_within f 1, tt))
 
-wind_valid : (is_true : Bool) (speed angle : Option ℤ) → Admits ranges.speed speed → Admits ranges.angle angle → IsValid (rows.wind is_true speed angle)
+wind_valid : (from_true : Bool) (speed angle : Option ℤ) → Admits ranges.speed speed → Admits ranges.angle angle → IsValid (rows.wind from_true speed angle)
 wind_valid true speed angle s a = (s, (a, tt))
 wind_valid false speed angle s a = (s, (a, tt))
 

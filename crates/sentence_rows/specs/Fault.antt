@@ -1,7 +1,7 @@
 -- What is read of a field or of a sentence: the value, or the first fault with its field's number.
-use Rattle.std.specs.Prelude.{ℕ, ℤ, Bool, false, List, [], ◌∷◌, Option, Some, None, Result, Ok, Err, if◌then◌else◌}
+use Rattle.std.specs.Prelude.{ℕ, Bool, false, List, [], ◌∷◌, Option, Some, None, Result, Ok, Err, if◌then◌else◌}
 use Rattle.sentence_rows.specs.declared.fault.FieldFault.{FieldFault}
-use Rattle.sentence_rows.specs.declared.fault.FieldFault.TheVariants.{Form, Range}
+use Rattle.sentence_rows.specs.declared.fault.FieldFault.TheVariants.{Form}
 
 -- the fault of a part of a sentence, if it has one
 abbrev pub fault : {A : Type 0} → Result A FieldFault → Option FieldFault

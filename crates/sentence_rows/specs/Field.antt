@@ -3,7 +3,7 @@ use Rattle.std.specs.Prelude.{ℕ, ◌+◌, ◌*◌, ◌/◌, ◌%◌, ◌^◌, 
 use Rattle.std.specs.Fmt.{decimal}
 use Rattle.unit_fraction.specs.Round.{round}
 use Rattle.unit_fraction.specs.Text.{decimal_text, decimals}
-use Rattle.sentence_text.specs.Text.{is_body_byte}
+use Rattle.sentence_text.specs.Text.{is_field_byte}
 use Rattle.sentence_rows.specs.declared.conversion.Conversion.{Conversion}
 use Rattle.sentence_rows.specs.Conversions.{degrees}
 use Rattle.sentence_rows.specs.declared.field.Field.{Field}
@@ -74,10 +74,10 @@ IsCounted unit (Some raw) = unsigned_abs raw ≤ unit.largest
 
 -- the field has a text, of printable bytes and at most its width
 abbrev pub IsPrintable : Field → Type 0
-IsPrintable (Letter letter) = IsTrue (is_body_byte letter)
+IsPrintable (Letter letter) = IsTrue (is_field_byte letter)
 IsPrintable (Decimal raw unit) = IsTrue (is_sound unit) × IsCounted unit raw
 IsPrintable (Magnitude raw unit) = IsTrue (is_sound unit) × IsCounted unit raw
-IsPrintable (Side raw unit positive negative) = IsTrue (nat_lt 0 unit.den) × IsTrue (is_body_byte positive) × IsTrue (is_body_byte negative)
+IsPrintable (Side raw unit positive negative) = IsTrue (nat_lt 0 unit.den) × IsTrue (is_field_byte positive) × IsTrue (is_field_byte negative)
 IsPrintable (Degrees raw unit width) = IsTrue (is_sound unit) × IsCounted unit raw
 IsPrintable (Satellites None) = Unit {0}
 IsPrintable (Satellites (Some number)) = unsigned_abs number < 1000

@@ -8,3 +8,4 @@ pub mod Civil
 pub mod Columns
 pub mod Formatters
 pub mod ReadRow
+pub mod Stable

@@ -1,5 +1,5 @@
 -- The readings of each sentence: for each formatter its fields in order, and the values that they give.
-use Rattle.std.specs.Prelude.{◌≡◌, ℕ, ◌+◌, ℤ, pos, ◌+ℤ◌, Bool, true, false, not, ◌&&◌, ◌==◌, nat_lt, nat_le, List, [], ◌∷◌, ◌++◌, length, Option, Some, None, is_none, IfSome, Result, Ok, Err, if◌then◌else◌}
+use Rattle.std.specs.Prelude.{◌≡◌, ℕ, ℤ, pos, ◌+ℤ◌, Bool, false, not, ◌&&◌, ◌==◌, nat_lt, List, [], ◌∷◌, length, Option, Some, None, is_none, IfSome, Result, Ok, Err, if◌then◌else◌}
 use Rattle.std.specs.Option.{option_to_list}
 use Rattle.std.specs.Result.{result_unwrap_or}
 use Rattle.sentence_text.specs.Sentence.{Parts}
@@ -139,7 +139,7 @@ zda f =
     reads (fault at ∷ fault day ∷ []) (reading.Time (value day) (value at))
 
 abbrev pub wind : Bool → Option ℤ → Option ℤ → Reading
-wind is_true speed angle = if is_true then reading.WindTrue speed angle else reading.WindApparent speed angle
+wind from_true speed angle = if from_true then reading.WindTrue speed angle else reading.WindApparent speed angle
 
 -- angle, R or T, speed, its unit, status
 unfoldable pub mwv : List (List ℕ) → Result Reading FieldFault

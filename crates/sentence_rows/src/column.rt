@@ -79,13 +79,7 @@ pub(crate) fn unit_letter(
 }
 
 /// Whether the text is the first of two letters.
-fn which(
-    text: &[u8],
-    at: u8,
-    first: u8,
-    second: u8,
-    may_lack: bool,
-) -> Result<bool, FieldFault>
+fn which(text: &[u8], at: u8, first: u8, second: u8, may_lack: bool) -> Result<bool, FieldFault>
     ensures { result ≡ spec.which at first second may_lack text.now }
 {
     if is_letter(text, first, false) {

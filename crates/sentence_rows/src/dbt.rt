@@ -7,16 +7,17 @@ ghost use Rattle.std.specs.List.{list_all};
 ghost use Rattle.sentence_text.specs.Text.{is_capital};
 ghost use Rattle.sentence_rows.specs.Field.{IsCounted};
 ghost use Rattle.sentence_rows.specs.Lines.{lines_of, sentence_by};
+ghost use Rattle.sentence_rows.specs.Stable.{IsReadBack};
 ghost use Rattle.sentence_rows.specs.Text as text;
 ghost use Rattle.sentence_rows.specs.Columns.{fields_in};
 ghost use Rattle.sentence_rows.specs.ReadRow as spec;
 
+use crate::column::counted;
 use crate::conversion::{FATHOMS, FEET, METRES};
+use crate::fault::FieldFault;
 use crate::field::Field::{Decimal, Letter};
 use crate::lines::{Lines, put};
 use crate::number::measure;
-use crate::column::counted;
-use crate::fault::FieldFault;
 use crate::quantity;
 use readings::Reading;
 use sentence_text::Sentence;
@@ -27,7 +28,8 @@ pub(crate) fn dbt(talker: [u8; 2], depth: Option<i64>, out: &mut Lines)
     requires feet { IsCounted FEET depth }
     requires metres { IsCounted METRES depth }
     requires fathoms { IsCounted FATHOMS depth }
-    ensures { lines_of out.new ≡ lines_of out.old ++ sentence_by talker (codes "DBT") (text.dbt depth) ∷ [] }
+    ensures said { lines_of out.new ≡ lines_of out.old ++ sentence_by talker (codes "DBT") (text.dbt depth) ∷ [] }
+    ensures again { IsReadBack talker (codes "DBT") (text.dbt depth) }
 {
     put(
         talker,

@@ -84,19 +84,17 @@ pub(crate) fn fixed_in(text: &[u8], width: u8, most: u8) -> Option<Fixed>
     })
 }
 
-fn digits_in(
-    text: &[u8],
-    at: u8,
-    may_lack: bool,
-    least: u8,
-    most: u8,
-) -> Result<u64, FieldFault>
+fn digits_in(text: &[u8], at: u8, may_lack: bool, least: u8, most: u8) -> Result<u64, FieldFault>
     requires { most ≤ 12 }
     ensures exact { result ≡ spec.digits_in at may_lack least most text.now }
     ensures small { IfOk result (λ n. n < 10 ^ most) }
 {
     if text.is_empty() {
-        return if may_lack { Ok(0) } else { Err(FieldFault::Form(at)) };
+        return if may_lack {
+            Ok(0)
+        } else {
+            Err(FieldFault::Form(at))
+        };
     }
     let length = text.len();
     if usize::from(least) <= length && length <= usize::from(most) && are_digits(text) {

@@ -8,15 +8,16 @@ ghost use Rattle.std.specs.List.{list_all};
 ghost use Rattle.sentence_text.specs.Text.{is_capital};
 ghost use Rattle.sentence_rows.specs.Field.{IsCounted};
 ghost use Rattle.sentence_rows.specs.Lines.{lines_of, sentence_by};
+ghost use Rattle.sentence_rows.specs.Stable.{IsReadBack};
 ghost use Rattle.sentence_rows.specs.Text as text;
 ghost use Rattle.sentence_rows.specs.Columns.{fields_in};
 ghost use Rattle.sentence_rows.specs.ReadRow as spec;
 
 use crate::conversion::{METRES, OFFSET_METRES, RANGE_METRES};
+use crate::fault::FieldFault;
 use crate::field::Field::Decimal;
 use crate::lines::{Lines, put};
 use crate::number::number;
-use crate::fault::FieldFault;
 use crate::quantity;
 use readings::Reading;
 use sentence_text::Sentence;
@@ -33,7 +34,8 @@ pub(crate) fn dpt(
     requires depth { IsCounted METRES depth }
     requires offset { IsCounted OFFSET_METRES offset }
     requires range { IsCounted RANGE_METRES range }
-    ensures { lines_of out.new ≡ lines_of out.old ++ sentence_by talker (codes "DPT") (text.dpt depth offset range) ∷ [] }
+    ensures said { lines_of out.new ≡ lines_of out.old ++ sentence_by talker (codes "DPT") (text.dpt depth offset range) ∷ [] }
+    ensures again { IsReadBack talker (codes "DPT") (text.dpt depth offset range) }
 {
     put(
         talker,

@@ -9,20 +9,20 @@ ghost use Rattle.std.specs.List.{list_all};
 ghost use Rattle.sentence_text.specs.Text.{is_capital};
 ghost use Rattle.sentence_rows.specs.Field.{IsCounted, IsPrintable};
 ghost use Rattle.sentence_rows.specs.Lines.{lines_of, sentence_by};
+ghost use Rattle.sentence_rows.specs.Stable.{IsReadBack};
 ghost use Rattle.sentence_rows.specs.Text as text;
 ghost use Rattle.sentence_rows.specs.Columns.{fields_in};
 ghost use Rattle.sentence_rows.specs.ReadRow as spec;
 
-use crate::conversion::{ALTITUDE_METRES, DILUTION, FIX_MINUTES, SEPARATION_METRES};
-use crate::field::Field::{self, Decimal, Degrees, Empty, Letter, Satellites, Side, Time};
-use crate::letter::letter_where;
-use crate::lines::{Lines, put};
 use crate::clock::time;
-use crate::position::coordinate;
-use crate::fix::{quality, satellites};
-use crate::number::{measure, number};
-use crate::letter::beside;
+use crate::conversion::{ALTITUDE_METRES, DILUTION, FIX_MINUTES, SEPARATION_METRES};
 use crate::fault::FieldFault;
+use crate::field::Field::{self, Decimal, Degrees, Empty, Letter, Satellites, Side, Time};
+use crate::fix::{quality, satellites};
+use crate::letter::{beside, letter_where};
+use crate::lines::{Lines, put};
+use crate::number::{measure, number};
+use crate::position::coordinate;
 use crate::quantity;
 use readings::Reading;
 use sentence_text::Sentence;
@@ -48,7 +48,8 @@ pub(crate) fn gga(
     requires satellites { IsPrintable (Field.Satellites satellites) }
     requires hdop { IsCounted DILUTION hdop }
     requires separation { IsCounted SEPARATION_METRES separation }
-    ensures { lines_of out.new ≡ lines_of out.old ++ sentence_by talker (codes "GGA") (text.gga time latitude longitude altitude method satellites hdop separation) ∷ [] }
+    ensures said { lines_of out.new ≡ lines_of out.old ++ sentence_by talker (codes "GGA") (text.gga time latitude longitude altitude method satellites hdop separation) ∷ [] }
+    ensures again { IsReadBack talker (codes "GGA") (text.gga time latitude longitude altitude method satellites hdop separation) }
 {
     let quality = letter_where(latitude.is_some(), b'0' + method, b'0');
     put(

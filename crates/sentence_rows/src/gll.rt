@@ -8,17 +8,18 @@ ghost use Rattle.std.specs.List.{list_all};
 ghost use Rattle.sentence_text.specs.Text.{is_capital};
 ghost use Rattle.sentence_rows.specs.Field.{IsCounted};
 ghost use Rattle.sentence_rows.specs.Lines.{lines_of, sentence_by};
+ghost use Rattle.sentence_rows.specs.Stable.{IsReadBack};
 ghost use Rattle.sentence_rows.specs.Text as text;
 ghost use Rattle.sentence_rows.specs.Columns.{fields_in};
 ghost use Rattle.sentence_rows.specs.ReadRow as spec;
 
+use crate::column::{counted, status};
 use crate::conversion::MINUTES;
+use crate::fault::FieldFault;
 use crate::field::Field::{Degrees, Empty, Letter, Side};
 use crate::letter::{beside, letter_where, only_if};
 use crate::lines::{Lines, put};
 use crate::position::coordinate;
-use crate::column::{counted, status};
-use crate::fault::FieldFault;
 use crate::quantity;
 use readings::Reading;
 use sentence_text::Sentence;
@@ -28,7 +29,8 @@ pub(crate) fn gll(talker: [u8; 2], latitude: Option<i64>, longitude: Option<i64>
     requires talker { IsTrue (list_all is_capital talker) }
     requires latitude { IsCounted MINUTES latitude }
     requires longitude { IsCounted MINUTES longitude }
-    ensures { lines_of out.new ≡ lines_of out.old ++ sentence_by talker (codes "GLL") (text.gll latitude longitude) ∷ [] }
+    ensures said { lines_of out.new ≡ lines_of out.old ++ sentence_by talker (codes "GLL") (text.gll latitude longitude) ∷ [] }
+    ensures again { IsReadBack talker (codes "GLL") (text.gll latitude longitude) }
 {
     let status = letter_where(latitude.is_some(), b'A', b'V');
     let mode = letter_where(latitude.is_some(), b'A', b'N');

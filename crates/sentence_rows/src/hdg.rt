@@ -7,16 +7,16 @@ ghost use Rattle.std.specs.List.{list_all};
 ghost use Rattle.sentence_text.specs.Text.{is_capital};
 ghost use Rattle.sentence_rows.specs.Field.{IsCounted};
 ghost use Rattle.sentence_rows.specs.Lines.{lines_of, sentence_by};
+ghost use Rattle.sentence_rows.specs.Stable.{IsReadBack};
 ghost use Rattle.sentence_rows.specs.Text as text;
 ghost use Rattle.sentence_rows.specs.Columns.{fields_in};
 ghost use Rattle.sentence_rows.specs.ReadRow as spec;
 
 use crate::conversion::DEGREES;
+use crate::fault::FieldFault;
 use crate::field::Field::{Angle, Magnitude, Side};
 use crate::lines::{Lines, put};
-use crate::number::number;
-use crate::number::sided;
-use crate::fault::FieldFault;
+use crate::number::{number, sided};
 use crate::quantity;
 use readings::Reading;
 use sentence_text::Sentence;
@@ -32,7 +32,8 @@ pub(crate) fn hdg(
     requires talker { IsTrue (list_all is_capital talker) }
     requires deviation { IsCounted DEGREES deviation }
     requires variation { IsCounted DEGREES variation }
-    ensures { lines_of out.new ≡ lines_of out.old ++ sentence_by talker (codes "HDG") (text.hdg heading deviation variation) ∷ [] }
+    ensures said { lines_of out.new ≡ lines_of out.old ++ sentence_by talker (codes "HDG") (text.hdg heading deviation variation) ∷ [] }
+    ensures again { IsReadBack talker (codes "HDG") (text.hdg heading deviation variation) }
 {
     put(
         talker,

@@ -6,14 +6,15 @@ ghost use Rattle.std.specs.Prelude.{◌≡◌, ◌<◌, [], ◌∷◌, ◌++◌,
 ghost use Rattle.std.specs.List.{list_all};
 ghost use Rattle.sentence_text.specs.Text.{is_capital};
 ghost use Rattle.sentence_rows.specs.Lines.{lines_of, sentence_by};
+ghost use Rattle.sentence_rows.specs.Stable.{IsReadBack};
 ghost use Rattle.sentence_rows.specs.Text as text;
 ghost use Rattle.sentence_rows.specs.Columns.{fields_in};
 ghost use Rattle.sentence_rows.specs.ReadRow as spec;
 
+use crate::fault::FieldFault;
 use crate::field::Field::{Angle, Letter};
 use crate::lines::{Lines, put};
 use crate::number::measure;
-use crate::fault::FieldFault;
 use crate::quantity;
 use readings::Reading;
 use sentence_text::Sentence;
@@ -21,7 +22,8 @@ use sentence_text::Sentence;
 pub(crate) fn hdt(talker: [u8; 2], heading: Option<i64>, out: &mut Lines)
     requires room { length out.old.items < 2 }
     requires talker { IsTrue (list_all is_capital talker) }
-    ensures { lines_of out.new ≡ lines_of out.old ++ sentence_by talker (codes "HDT") (text.hdt heading) ∷ [] }
+    ensures said { lines_of out.new ≡ lines_of out.old ++ sentence_by talker (codes "HDT") (text.hdt heading) ∷ [] }
+    ensures again { IsReadBack talker (codes "HDT") (text.hdt heading) }
 {
     put(talker, *b"HDT", &[Angle(heading), Letter(b'T')], out);
 }

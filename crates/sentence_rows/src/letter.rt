@@ -1,13 +1,13 @@
 ghost use Rattle.std.specs.Prelude.{◌≡◌, IsTrue, Some, None, is_some};
-ghost use Rattle.sentence_text.specs.Text.{is_body_byte};
+ghost use Rattle.sentence_text.specs.Text.{is_field_byte};
 ghost use Rattle.sentence_rows.specs.Text as text;
 
 /// The letter of a status or mode: `first` where something is there, `second` where nothing is.
 pub(crate) fn letter_where(there: bool, first: u8, second: u8) -> u8
-    requires first { IsTrue (is_body_byte first) }
-    requires second { IsTrue (is_body_byte second) }
+    requires first { IsTrue (is_field_byte first) }
+    requires second { IsTrue (is_field_byte second) }
     ensures value { result ≡ text.letter_where there first second }
-    ensures printable { IsTrue (is_body_byte result) }
+    ensures printable { IsTrue (is_field_byte result) }
 {
     if there { first } else { second }
 }

@@ -3,6 +3,7 @@ ghost use Rattle.std.specs.List.{AllByRecursion, list_all};
 ghost use Rattle.sentence_text.specs.Text.{is_address_byte, is_capital};
 ghost use Rattle.sentence_rows.specs.Field.{IsPrintable, body_text, body_width};
 ghost use Rattle.sentence_rows.specs.Lines.{lines_of, sentence_by};
+ghost use Rattle.sentence_rows.specs.Stable.{IsReadBack};
 
 use crate::field::Field;
 use arrayvec::ArrayVec;
@@ -58,7 +59,8 @@ fn sentence_of(talker: [u8; 2], formatter: [u8; 3], fields: &[Field]) -> Sentenc
     requires some { 0 < length fields.now }
     requires printable { AllByRecursion IsPrintable fields.now }
     requires short { body_width fields.now ≤ 71 }
-    ensures { result.bytes.items ≡ sentence_by talker formatter fields.now }
+    ensures text { result.bytes.items ≡ sentence_by talker formatter fields.now }
+    ensures again { IsReadBack talker formatter fields.now }
 {
     let body = body_of(fields);
     let mut bytes = ArrayVec::new();
@@ -74,7 +76,8 @@ pub(crate) fn put(talker: [u8; 2], formatter: [u8; 3], fields: &[Field], out: &m
     requires some { 0 < length fields.now }
     requires printable { AllByRecursion IsPrintable fields.now }
     requires short { body_width fields.now ≤ 71 }
-    ensures { lines_of out.new ≡ lines_of out.old ++ sentence_by talker formatter fields.now ∷ [] }
+    ensures said { lines_of out.new ≡ lines_of out.old ++ sentence_by talker formatter fields.now ∷ [] }
+    ensures again { IsReadBack talker formatter fields.now }
 {
     out.push(sentence_of(talker, formatter, fields));
 }

@@ -8,15 +8,16 @@ ghost use Rattle.readings.specs.Ranges.{Admits, kelvin as kelvin_range};
 ghost use Rattle.sentence_text.specs.Text.{is_capital};
 ghost use Rattle.sentence_rows.specs.Field.{IsCounted};
 ghost use Rattle.sentence_rows.specs.Lines.{lines_of, sentence_by};
+ghost use Rattle.sentence_rows.specs.Stable.{IsReadBack};
 ghost use Rattle.sentence_rows.specs.Text as text;
 ghost use Rattle.sentence_rows.specs.Columns.{IsSmall, fields_in};
 ghost use Rattle.sentence_rows.specs.ReadRow as spec;
 
 use crate::conversion::CELSIUS;
+use crate::fault::FieldFault;
 use crate::field::Field::{Decimal, Letter};
 use crate::lines::{Lines, put};
 use crate::number::measure;
-use crate::fault::FieldFault;
 use crate::quantity;
 use readings::Reading;
 use sentence_text::Sentence;
@@ -26,7 +27,8 @@ pub(crate) fn mtw(talker: [u8; 2], kelvin: Option<i64>, out: &mut Lines)
     requires talker { IsTrue (list_all is_capital talker) }
     requires kelvin { IsCounted CELSIUS (text.above_freezing kelvin) }
     requires range { Admits kelvin_range kelvin }
-    ensures { lines_of out.new ≡ lines_of out.old ++ sentence_by talker (codes "MTW") (text.mtw kelvin) ∷ [] }
+    ensures said { lines_of out.new ≡ lines_of out.old ++ sentence_by talker (codes "MTW") (text.mtw kelvin) ∷ [] }
+    ensures again { IsReadBack talker (codes "MTW") (text.mtw kelvin) }
 {
     let celsius = match kelvin {
         Some(kelvin) => Some(kelvin - 273_150),

@@ -7,17 +7,18 @@ ghost use Rattle.std.specs.List.{list_all};
 ghost use Rattle.sentence_text.specs.Text.{is_capital};
 ghost use Rattle.sentence_rows.specs.Field.{IsCounted};
 ghost use Rattle.sentence_rows.specs.Lines.{lines_of, sentence_by};
+ghost use Rattle.sentence_rows.specs.Stable.{IsReadBack};
 ghost use Rattle.sentence_rows.specs.Text as text;
 ghost use Rattle.sentence_rows.specs.Columns.{fields_in};
 ghost use Rattle.sentence_rows.specs.ReadRow as spec;
 
+use crate::column::is_magnetic;
 use crate::conversion::{KNOTS, METRES_PER_SECOND};
+use crate::fault::FieldFault;
 use crate::field::Field::{Angle, Decimal, Letter};
 use crate::letter::only_if;
 use crate::lines::{Lines, put};
 use crate::number::either_unit;
-use crate::column::is_magnetic;
-use crate::fault::FieldFault;
 use crate::quantity;
 use readings::Reading;
 use sentence_text::Sentence;
@@ -33,7 +34,8 @@ pub(crate) fn mwd(
     requires talker { IsTrue (list_all is_capital talker) }
     requires knots { IsCounted KNOTS speed }
     requires metres { IsCounted METRES_PER_SECOND speed }
-    ensures { lines_of out.new ≡ lines_of out.old ++ sentence_by talker (codes "MWD") (text.mwd magnetic speed angle) ∷ [] }
+    ensures said { lines_of out.new ≡ lines_of out.old ++ sentence_by talker (codes "MWD") (text.mwd magnetic speed angle) ∷ [] }
+    ensures again { IsReadBack talker (codes "MWD") (text.mwd magnetic speed angle) }
 {
     let from_true = only_if(!magnetic, angle);
     let from_magnetic = only_if(magnetic, angle);
@@ -59,14 +61,7 @@ pub(crate) fn mwd(
 pub(crate) fn read(sentence: &Sentence<'_>) -> Result<Reading, FieldFault>
     ensures { result ≡ spec.mwd (fields_in sentence.now) }
 {
-    let angle = either_unit(
-        sentence,
-        1,
-        quantity::ANGLE,
-        b'T',
-        quantity::ANGLE,
-        b'M',
-    )?;
+    let angle = either_unit(sentence, 1, quantity::ANGLE, b'T', quantity::ANGLE, b'M')?;
     let speed = either_unit(
         sentence,
         5,

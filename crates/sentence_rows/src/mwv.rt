@@ -5,20 +5,21 @@
 
 ghost use Rattle.std.specs.Prelude.{◌≡◌, ◌<◌, [], ◌∷◌, ◌++◌, codes, length, IsTrue};
 ghost use Rattle.std.specs.List.{list_all};
-ghost use Rattle.sentence_text.specs.Text.{is_capital, is_body_byte};
+ghost use Rattle.sentence_text.specs.Text.{is_capital, is_field_byte};
 ghost use Rattle.sentence_rows.specs.Field.{IsCounted};
 ghost use Rattle.sentence_rows.specs.Lines.{lines_of, sentence_by};
+ghost use Rattle.sentence_rows.specs.Stable.{IsReadBack};
 ghost use Rattle.sentence_rows.specs.Text as text;
 ghost use Rattle.sentence_rows.specs.Columns.{fields_in};
 ghost use Rattle.sentence_rows.specs.ReadRow as spec;
 
+use crate::column::{reference, status};
 use crate::conversion::KNOTS;
+use crate::fault::FieldFault;
 use crate::field::Field::{Angle, Decimal, Letter};
 use crate::letter::{letter_where, only_if};
 use crate::lines::{Lines, put};
 use crate::number::{number, wind_speed};
-use crate::column::{reference, status};
-use crate::fault::FieldFault;
 use crate::quantity;
 use readings::Reading;
 use sentence_text::Sentence;
@@ -32,9 +33,10 @@ pub(crate) fn mwv(
 )
     requires room { length out.old.items < 2 }
     requires talker { IsTrue (list_all is_capital talker) }
-    requires reference { IsTrue (is_body_byte reference) }
+    requires reference { IsTrue (is_field_byte reference) }
     requires speed { IsCounted KNOTS speed }
-    ensures { lines_of out.new ≡ lines_of out.old ++ sentence_by talker (codes "MWV") (text.mwv reference speed angle) ∷ [] }
+    ensures said { lines_of out.new ≡ lines_of out.old ++ sentence_by talker (codes "MWV") (text.mwv reference speed angle) ∷ [] }
+    ensures again { IsReadBack talker (codes "MWV") (text.mwv reference speed angle) }
 {
     let status = letter_where(angle.is_some() || speed.is_some(), b'A', b'V');
     put(

@@ -179,11 +179,7 @@ fn speed_unit_of(text: &[u8], at: u8, beside_nothing: bool) -> Result<Quantity, 
 
 /// The unit of a wind's speed, which may be left out beside an empty value.
 #[tactic(auto, unfolding(crate::specs::Columns::speed_unit))]
-fn speed_unit(
-    sentence: &Sentence<'_>,
-    at: u8,
-    beside_nothing: bool,
-) -> Result<Quantity, FieldFault>
+fn speed_unit(sentence: &Sentence<'_>, at: u8, beside_nothing: bool) -> Result<Quantity, FieldFault>
     ensures exact { result ≡ spec.speed_unit (spec.fields_in sentence.now) at beside_nothing }
     ensures fit { IfOk result (λ q. IsTrue (is_fit q)) }
 {

@@ -31,11 +31,7 @@ fn minutes_of(fixed: &Fixed) -> Decimal
     }
 }
 
-fn degrees_in(
-    fixed: Option<Fixed>,
-    at: u8,
-    q: Quantity,
-) -> Result<Option<i64>, FieldFault>
+fn degrees_in(fixed: Option<Fixed>, at: u8, q: Quantity) -> Result<Option<i64>, FieldFault>
     requires fit { IsTrue (is_fit q) }
     requires few { spec.AreFixed 5 9 fixed }
     ensures exact { result ≡ spec.degrees_in at q fixed }
@@ -51,12 +47,7 @@ fn degrees_in(
     scaled(at, q, Some(minutes_of(&fixed)))
 }
 
-fn degrees_of(
-    text: &[u8],
-    at: u8,
-    q: Quantity,
-    width: u8,
-) -> Result<Option<i64>, FieldFault>
+fn degrees_of(text: &[u8], at: u8, q: Quantity, width: u8) -> Result<Option<i64>, FieldFault>
     requires fit { IsTrue (is_fit q) }
     requires width { width ≤ 5 }
     ensures exact { result ≡ spec.degrees_of at q width text.now }

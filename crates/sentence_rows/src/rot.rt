@@ -7,17 +7,18 @@ ghost use Rattle.std.specs.List.{list_all};
 ghost use Rattle.sentence_text.specs.Text.{is_capital};
 ghost use Rattle.sentence_rows.specs.Field.{IsCounted};
 ghost use Rattle.sentence_rows.specs.Lines.{lines_of, sentence_by};
+ghost use Rattle.sentence_rows.specs.Stable.{IsReadBack};
 ghost use Rattle.sentence_rows.specs.Text as text;
 ghost use Rattle.sentence_rows.specs.Columns.{fields_in};
 ghost use Rattle.sentence_rows.specs.ReadRow as spec;
 
+use crate::column::status;
 use crate::conversion::DEGREES_PER_MINUTE;
+use crate::fault::FieldFault;
 use crate::field::Field::{Decimal, Letter};
 use crate::letter::{letter_where, only_if};
 use crate::lines::{Lines, put};
 use crate::number::number;
-use crate::column::status;
-use crate::fault::FieldFault;
 use crate::quantity;
 use readings::Reading;
 use sentence_text::Sentence;
@@ -26,7 +27,8 @@ pub(crate) fn rot(talker: [u8; 2], rate: Option<i64>, out: &mut Lines)
     requires room { length out.old.items < 2 }
     requires talker { IsTrue (list_all is_capital talker) }
     requires rate { IsCounted DEGREES_PER_MINUTE rate }
-    ensures { lines_of out.new ≡ lines_of out.old ++ sentence_by talker (codes "ROT") (text.rot rate) ∷ [] }
+    ensures said { lines_of out.new ≡ lines_of out.old ++ sentence_by talker (codes "ROT") (text.rot rate) ∷ [] }
+    ensures again { IsReadBack talker (codes "ROT") (text.rot rate) }
 {
     let status = letter_where(rate.is_some(), b'A', b'V');
     put(

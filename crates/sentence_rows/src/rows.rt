@@ -1,8 +1,9 @@
-ghost use Rattle.std.specs.Prelude.{◌≡◌, [], IsTrue};
+ghost use Rattle.std.specs.Prelude.{◌≡◌, [], All, IsTrue};
 ghost use Rattle.std.specs.List.{list_all};
 ghost use Rattle.readings.specs.Ranges.{IsValid};
 ghost use Rattle.sentence_text.specs.Text.{is_capital};
 ghost use Rattle.sentence_rows.specs.Lines.{lines_of};
+ghost use Rattle.sentence_rows.specs.Stable.{IsSaid, IsStable};
 ghost use Rattle.sentence_rows.specs.Text.{IsText};
 
 use crate::letter::beside;
@@ -10,13 +11,12 @@ use crate::lines::Lines;
 use crate::{dbt, dpt, gga, gll, hdg, hdt, mtw, mwd, mwv, rot, rsa, ths, vhw, vlw, vtg, xte, zda};
 use readings::Reading;
 
-/// Says the reading in one or two sentences of the talker, which `out`, empty before, then holds. A true heading
-/// is said in THS besides HDT where `ths`.
-pub fn sentences(reading: &Reading, talker: [u8; 2], ths: bool, out: &mut Lines)
+/// Says the reading in its sentences.
+fn say(reading: &Reading, talker: [u8; 2], ths: bool, out: &mut Lines)
     requires empty { out.old.items ≡ [] }
     requires valid { IsValid reading.now }
     requires talker { IsTrue (list_all is_capital talker) }
-    ensures { IsText reading.now talker ths (lines_of out.new) }
+    ensures { IsSaid reading.now talker ths (lines_of out.new) }
 {
     match *reading {
         Reading::HeadingTrue { heading } => {
@@ -86,4 +86,19 @@ pub fn sentences(reading: &Reading, talker: [u8; 2], ths: bool, out: &mut Lines)
         Reading::WaterTemperature { kelvin } => mtw::mtw(talker, kelvin, out),
         Reading::CrossTrack { distance } => xte::xte(talker, distance, out),
     }
+}
+
+/// Says the reading in one or two sentences of the talker, which `out`, empty before, then holds. A true heading
+/// is said in THS besides HDT where `ths`.
+#[tactic(auto, using(crate::proofs::Said::is_text, crate::proofs::StableLines::stable_lines))]
+pub fn sentences(reading: &Reading, talker: [u8; 2], ths: bool, out: &mut Lines)
+    requires empty { out.old.items ≡ [] }
+    requires valid { IsValid reading.now }
+    requires talker { IsTrue (list_all is_capital talker) }
+    // The lines are the sentences of the reading.
+    ensures said { IsText reading.now talker ths (lines_of out.new) }
+    // Each line is read as one reading, which is said in it again.
+    ensures stable { All (IsStable talker ths) (lines_of out.new) }
+{
+    say(reading, talker, ths, out);
 }

@@ -8,15 +8,16 @@ ghost use Rattle.std.specs.List.{list_all};
 ghost use Rattle.sentence_text.specs.Text.{is_capital};
 ghost use Rattle.sentence_rows.specs.Field.{IsCounted};
 ghost use Rattle.sentence_rows.specs.Lines.{lines_of, sentence_by};
+ghost use Rattle.sentence_rows.specs.Stable.{IsReadBack};
 ghost use Rattle.sentence_rows.specs.Text as text;
 ghost use Rattle.sentence_rows.specs.Columns.{fields_in};
 ghost use Rattle.sentence_rows.specs.ReadRow as spec;
 
+use crate::column::status;
 use crate::conversion::DEGREES;
+use crate::fault::FieldFault;
 use crate::field::Field::{Decimal, Empty, Letter};
 use crate::letter::{letter_where, only_if};
-use crate::column::status;
-use crate::fault::FieldFault;
 use crate::lines::{Lines, put};
 use crate::number::number;
 use crate::quantity;
@@ -27,7 +28,8 @@ pub(crate) fn rsa_first(talker: [u8; 2], position: Option<i64>, out: &mut Lines)
     requires room { length out.old.items < 2 }
     requires talker { IsTrue (list_all is_capital talker) }
     requires position { IsCounted DEGREES position }
-    ensures { lines_of out.new ≡ lines_of out.old ++ sentence_by talker (codes "RSA") (text.rsa_first position) ∷ [] }
+    ensures said { lines_of out.new ≡ lines_of out.old ++ sentence_by talker (codes "RSA") (text.rsa_first position) ∷ [] }
+    ensures again { IsReadBack talker (codes "RSA") (text.rsa_first position) }
 {
     let status = letter_where(position.is_some(), b'A', b'V');
     put(
@@ -47,7 +49,8 @@ pub(crate) fn rsa_second(talker: [u8; 2], position: Option<i64>, out: &mut Lines
     requires room { length out.old.items < 2 }
     requires talker { IsTrue (list_all is_capital talker) }
     requires position { IsCounted DEGREES position }
-    ensures { lines_of out.new ≡ lines_of out.old ++ sentence_by talker (codes "RSA") (text.rsa_second position) ∷ [] }
+    ensures said { lines_of out.new ≡ lines_of out.old ++ sentence_by talker (codes "RSA") (text.rsa_second position) ∷ [] }
+    ensures again { IsReadBack talker (codes "RSA") (text.rsa_second position) }
 {
     let status = letter_where(position.is_some(), b'A', b'V');
     put(

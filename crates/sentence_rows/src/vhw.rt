@@ -7,16 +7,17 @@ ghost use Rattle.std.specs.List.{list_all};
 ghost use Rattle.sentence_text.specs.Text.{is_capital};
 ghost use Rattle.sentence_rows.specs.Field.{IsCounted};
 ghost use Rattle.sentence_rows.specs.Lines.{lines_of, sentence_by};
+ghost use Rattle.sentence_rows.specs.Stable.{IsReadBack};
 ghost use Rattle.sentence_rows.specs.Text as text;
 ghost use Rattle.sentence_rows.specs.Columns.{fields_in};
 ghost use Rattle.sentence_rows.specs.ReadRow as spec;
 
+use crate::column::counted;
 use crate::conversion::{KILOMETRES_PER_HOUR, KNOTS};
+use crate::fault::FieldFault;
 use crate::field::Field::{Decimal, Empty, Letter};
 use crate::lines::{Lines, put};
 use crate::number::either_unit;
-use crate::column::counted;
-use crate::fault::FieldFault;
 use crate::quantity;
 use readings::Reading;
 use sentence_text::Sentence;
@@ -26,7 +27,8 @@ pub(crate) fn vhw(talker: [u8; 2], speed: Option<i64>, out: &mut Lines)
     requires talker { IsTrue (list_all is_capital talker) }
     requires knots { IsCounted KNOTS speed }
     requires kilometres { IsCounted KILOMETRES_PER_HOUR speed }
-    ensures { lines_of out.new ≡ lines_of out.old ++ sentence_by talker (codes "VHW") (text.vhw speed) ∷ [] }
+    ensures said { lines_of out.new ≡ lines_of out.old ++ sentence_by talker (codes "VHW") (text.vhw speed) ∷ [] }
+    ensures again { IsReadBack talker (codes "VHW") (text.vhw speed) }
 {
     put(
         talker,

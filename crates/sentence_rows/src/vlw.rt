@@ -7,15 +7,16 @@ ghost use Rattle.std.specs.List.{list_all};
 ghost use Rattle.sentence_text.specs.Text.{is_capital};
 ghost use Rattle.sentence_rows.specs.Field.{IsCounted};
 ghost use Rattle.sentence_rows.specs.Lines.{lines_of, sentence_by};
+ghost use Rattle.sentence_rows.specs.Stable.{IsReadBack};
 ghost use Rattle.sentence_rows.specs.Text as text;
 ghost use Rattle.sentence_rows.specs.Columns.{fields_in};
 ghost use Rattle.sentence_rows.specs.ReadRow as spec;
 
 use crate::conversion::NAUTICAL_MILES;
+use crate::fault::FieldFault;
 use crate::field::Field::{Decimal, Letter};
 use crate::lines::{Lines, put};
 use crate::number::measure;
-use crate::fault::FieldFault;
 use crate::quantity;
 use readings::Reading;
 use sentence_text::Sentence;
@@ -25,7 +26,8 @@ pub(crate) fn vlw(talker: [u8; 2], log: Option<i64>, trip: Option<i64>, out: &mu
     requires talker { IsTrue (list_all is_capital talker) }
     requires log { IsCounted NAUTICAL_MILES log }
     requires trip { IsCounted NAUTICAL_MILES trip }
-    ensures { lines_of out.new ≡ lines_of out.old ++ sentence_by talker (codes "VLW") (text.vlw log trip) ∷ [] }
+    ensures said { lines_of out.new ≡ lines_of out.old ++ sentence_by talker (codes "VLW") (text.vlw log trip) ∷ [] }
+    ensures again { IsReadBack talker (codes "VLW") (text.vlw log trip) }
 {
     put(
         talker,

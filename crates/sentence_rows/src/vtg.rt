@@ -8,17 +8,18 @@ ghost use Rattle.std.specs.List.{list_all};
 ghost use Rattle.sentence_text.specs.Text.{is_capital};
 ghost use Rattle.sentence_rows.specs.Field.{IsCounted};
 ghost use Rattle.sentence_rows.specs.Lines.{lines_of, sentence_by};
+ghost use Rattle.sentence_rows.specs.Stable.{IsReadBack};
 ghost use Rattle.sentence_rows.specs.Text as text;
 ghost use Rattle.sentence_rows.specs.Columns.{fields_in};
 ghost use Rattle.sentence_rows.specs.ReadRow as spec;
 
+use crate::column::{field, is_letter, is_magnetic};
 use crate::conversion::{KILOMETRES_PER_HOUR, KNOTS};
+use crate::fault::FieldFault;
 use crate::field::Field::{Angle, Decimal, Letter};
 use crate::letter::{letter_where, only_if};
 use crate::lines::{Lines, put};
 use crate::number::either_unit;
-use crate::column::{field, is_letter, is_magnetic};
-use crate::fault::FieldFault;
 use crate::quantity;
 use readings::Reading;
 use sentence_text::Sentence;
@@ -34,7 +35,8 @@ pub(crate) fn vtg(
     requires talker { IsTrue (list_all is_capital talker) }
     requires knots { IsCounted KNOTS speed }
     requires kilometres { IsCounted KILOMETRES_PER_HOUR speed }
-    ensures { lines_of out.new ≡ lines_of out.old ++ sentence_by talker (codes "VTG") (text.vtg magnetic course speed) ∷ [] }
+    ensures said { lines_of out.new ≡ lines_of out.old ++ sentence_by talker (codes "VTG") (text.vtg magnetic course speed) ∷ [] }
+    ensures again { IsReadBack talker (codes "VTG") (text.vtg magnetic course speed) }
 {
     let from_true = only_if(!magnetic, course);
     let from_magnetic = only_if(magnetic, course);
@@ -62,14 +64,7 @@ pub(crate) fn vtg(
 pub(crate) fn read(sentence: &Sentence<'_>) -> Result<Reading, FieldFault>
     ensures { result ≡ spec.vtg (fields_in sentence.now) }
 {
-    let course = either_unit(
-        sentence,
-        1,
-        quantity::ANGLE,
-        b'T',
-        quantity::ANGLE,
-        b'M',
-    )?;
+    let course = either_unit(sentence, 1, quantity::ANGLE, b'T', quantity::ANGLE, b'M')?;
     let speed = either_unit(
         sentence,
         5,

@@ -8,17 +8,18 @@ ghost use Rattle.std.specs.List.{list_all};
 ghost use Rattle.sentence_text.specs.Text.{is_capital};
 ghost use Rattle.sentence_rows.specs.Field.{IsCounted};
 ghost use Rattle.sentence_rows.specs.Lines.{lines_of, sentence_by};
+ghost use Rattle.sentence_rows.specs.Stable.{IsReadBack};
 ghost use Rattle.sentence_rows.specs.Text as text;
 ghost use Rattle.sentence_rows.specs.Columns.{fields_in};
 ghost use Rattle.sentence_rows.specs.ReadRow as spec;
 
+use crate::column::{is_blank, status, unit_letter};
 use crate::conversion::TRACK_MILES;
+use crate::fault::FieldFault;
 use crate::field::Field::{Letter, Magnitude, Side};
 use crate::letter::{letter_where, only_if};
 use crate::lines::{Lines, put};
 use crate::number::sided;
-use crate::column::{is_blank, status, unit_letter};
-use crate::fault::FieldFault;
 use crate::quantity;
 use readings::Reading;
 use sentence_text::Sentence;
@@ -27,7 +28,8 @@ pub(crate) fn xte(talker: [u8; 2], distance: Option<i64>, out: &mut Lines)
     requires room { length out.old.items < 2 }
     requires talker { IsTrue (list_all is_capital talker) }
     requires distance { IsCounted TRACK_MILES distance }
-    ensures { lines_of out.new ≡ lines_of out.old ++ sentence_by talker (codes "XTE") (text.xte distance) ∷ [] }
+    ensures said { lines_of out.new ≡ lines_of out.old ++ sentence_by talker (codes "XTE") (text.xte distance) ∷ [] }
+    ensures again { IsReadBack talker (codes "XTE") (text.xte distance) }
 {
     let status = letter_where(distance.is_some(), b'A', b'V');
     let mode = letter_where(distance.is_some(), b'A', b'N');

@@ -8,17 +8,18 @@ ghost use Rattle.jiff.specs.Words.{IsEpochDay, epoch_day};
 ghost use Rattle.readings.specs.Ranges.{Admits, Holds, date as date_range};
 ghost use Rattle.sentence_text.specs.Text.{is_capital};
 ghost use Rattle.sentence_rows.specs.Lines.{lines_of, sentence_by};
+ghost use Rattle.sentence_rows.specs.Stable.{IsReadBack};
 ghost use Rattle.sentence_rows.specs.Text as text;
 ghost use Rattle.sentence_rows.specs.Columns.{fields_in};
 ghost use Rattle.sentence_rows.specs.ReadRow as spec;
 
-use crate::field::Field::{Digits, Time};
-use crate::lines::{Lines, put};
-use jiff::ToSpan;
-use jiff::civil::Date;
 use crate::clock::{DAYS_BEFORE_1970, date, time};
 use crate::fault::FieldFault;
+use crate::field::Field::{Digits, Time};
+use crate::lines::{Lines, put};
 use crate::quantity;
+use jiff::ToSpan;
+use jiff::civil::Date;
 use readings::Reading;
 use sentence_text::Sentence;
 
@@ -60,7 +61,8 @@ fn year_of(date: Date) -> u64
 fn put_date(talker: [u8; 2], time: Option<i64>, date: Date, out: &mut Lines)
     requires room { length out.old.items < 2 }
     requires talker { IsTrue (list_all is_capital talker) }
-    ensures { lines_of out.new ≡ lines_of out.old ++ sentence_by talker (codes "ZDA") (text.zda time (Some date)) ∷ [] }
+    ensures said { lines_of out.new ≡ lines_of out.old ++ sentence_by talker (codes "ZDA") (text.zda time (Some date)) ∷ [] }
+    ensures again { IsReadBack talker (codes "ZDA") (text.zda time (Some date)) }
 {
     let fields = [
         Time(time),
@@ -76,7 +78,8 @@ fn put_date(talker: [u8; 2], time: Option<i64>, date: Date, out: &mut Lines)
 fn put_no_date(talker: [u8; 2], time: Option<i64>, out: &mut Lines)
     requires room { length out.old.items < 2 }
     requires talker { IsTrue (list_all is_capital talker) }
-    ensures { lines_of out.new ≡ lines_of out.old ++ sentence_by talker (codes "ZDA") (text.zda time None) ∷ [] }
+    ensures said { lines_of out.new ≡ lines_of out.old ++ sentence_by talker (codes "ZDA") (text.zda time None) ∷ [] }
+    ensures again { IsReadBack talker (codes "ZDA") (text.zda time None) }
 {
     let fields = [
         Time(time),
@@ -93,7 +96,7 @@ pub(crate) fn zda(talker: [u8; 2], day: Option<i64>, time: Option<i64>, out: &mu
     requires room { length out.old.items < 2 }
     requires talker { IsTrue (list_all is_capital talker) }
     requires day { Admits date_range day }
-    ensures { text.Dated day (λ d. lines_of out.new ≡ lines_of out.old ++ sentence_by talker (codes "ZDA") (text.zda time d) ∷ []) }
+    ensures { text.Dated day (λ d. (lines_of out.new ≡ lines_of out.old ++ sentence_by talker (codes "ZDA") (text.zda time d) ∷ []) × IsReadBack talker (codes "ZDA") (text.zda time d)) }
 {
     match day {
         Some(day) => put_date(talker, time, civil_date(day), out),

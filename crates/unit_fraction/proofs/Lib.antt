@@ -3,4 +3,4 @@ pub mod Round
 pub mod Text
 pub mod Number
 pub mod DecimalLaws
-mod ThereAndBack
+pub mod ThereAndBack

@@ -1,0 +1,317 @@
+-- Texts of a fixed number of digits, which are read as the numbers that they write.
+use Rattle.std.proofs.Common.{◌≡◌, ℕ, zero, suc, ◌+◌, ◌*◌, ◌/◌, ◌%◌, ◌^◌, ◌<◌, ◌≤◌, ℤ, pos, Bool, true, false, Option, Some, None, Result, Ok, Err, List, [], ◌∷◌, ◌++◌, length, length-append, take, drop, refl, sym, ap, ◌∙◌, arith}
+use Rattle.std.specs.Prelude.{◌&&◌, ◌==◌, nat_le, nat_lt, unsigned_abs, is_none, unwrap_or, if◌then◌else◌}
+use Rattle.std.specs.Char.{is_ascii_digit}
+use Rattle.std.specs.Fmt.{decimal}
+use Rattle.std.specs.List.{list_all}
+use Rattle.std.specs.Str.{all_ascii_digits}
+use Rattle.std.proofs.Math.Nat.{pow-succ'}
+use Rattle.std.proofs.lemmas.Bool.{le-leb, lt-leb, lt-ltb, ltb-true}
+use Rattle.std.proofs.lemmas.Fmt.{decimal_nonempty, digits_decimal, digits_value-decimal, length-decimal-le}
+use Rattle.std.proofs.lemmas.List.{take_at, drop_at}
+use Rattle.std.proofs.lemmas.List.Folds.{list_all-append}
+use Rattle.unit_fraction.specs.Digits.{number_after, number}
+use Rattle.unit_fraction.specs.Text.{decimals}
+use Rattle.unit_fraction.proofs.Number.{number_after_append}
+use Rattle.unit_fraction.proofs.Text.{own}
+use Rattle.sentence_rows.specs.declared.conversion.Conversion.{Conversion}
+use Rattle.sentence_rows.specs.declared.digits.Fixed.{Fixed}
+use Rattle.sentence_rows.specs.declared.quantity.Quantity.{Quantity}
+use Rattle.sentence_rows.specs.declared.fault.FieldFault.{FieldFault}
+use Rattle.sentence_rows.specs.declared.fault.FieldFault.TheVariants.{Range as OutOfRange}
+use Rattle.sentence_rows.specs.declared.field.Field.TheVariants.{Degrees, Satellites, Side, Time}
+use Rattle.sentence_rows.specs.Field.{count, degrees_text, is_negative, text_of, time_text}
+use Rattle.sentence_rows.specs.Fault.{given}
+use Rattle.sentence_rows.specs.Columns as spec
+use Rattle.sentence_rows.proofs.Again.{Paired, IsNoMore, back, read_size, scales, size_again}
+use Rattle.sentence_rows.proofs.Texted.{Fields, given_at, says_at, said_value, side_of, side_nowhere, toward_signed}
+
+-- ---- digits
+
+abbrev AreDigits : List ℕ → Type 0
+AreDigits ds = list_all is_ascii_digit ds ≡ true
+
+digits_joined : (xs ys : List ℕ) → AreDigits xs → AreDigits ys → AreDigits (xs ++ ys)
+digits_joined xs ys p q = list_all-append is_ascii_digit xs ys ∙ (rw (p, q) refl)
+
+digit_at : (m : ℕ) → m < 10 → is_ascii_digit (48 + m) ≡ true
+digit_at m h = grind arith
+
+one_digit : (m : ℕ) → m < 10 → AreDigits ((48 + m) ∷ [])
+one_digit m h = let d : is_ascii_digit (48 + m) ≡ true = digit_at m h in rw d refl
+
+pub digits_decimals : (k n : ℕ) → AreDigits (decimals k n)
+digits_decimals zero n = refl
+digits_decimals (suc k) n = digits_joined (decimals k (n / 10)) ((48 + n % 10) ∷ []) (digits_decimals k (n / 10)) (one_digit (n % 10) (omega arith))
+
+pub length_decimals : (k n : ℕ) → length (decimals k n) ≡ k
+length_decimals zero n = refl
+length_decimals (suc k) n = let rest = length_decimals k (n / 10) in simp length-append (omega (arith, rest))
+
+number_push : (n : ℕ) (ds : List ℕ) (d : ℕ) → number_after n (ds ++ (48 + d) ∷ []) ≡ number_after n ds * 10 + d
+number_push n ds d = number_after_append n ds ((48 + d) ∷ []) ∙ omega arith
+
+pub number_decimals : (k n : ℕ) → n < 10 ^ k → number (decimals k n) ≡ n
+number_decimals zero n below = omega arith
+number_decimals (suc k) n below =
+    let power : 10 ^ suc k ≡ 10 * 10 ^ k = pow-succ' 10 k in
+    let rest = number_decimals k (n / 10) (omega (arith, power)) in
+    number_push 0 (decimals k (n / 10)) (n % 10) ∙ omega (arith, rest)
+
+-- two more digits
+two_more : (m n : ℕ) → n < 100 → number_after m (decimals 2 n) ≡ m * 100 + n
+two_more m n below =
+    number_push m (decimals 1 (n / 10)) (n % 10) ∙ ap (λ (x : ℕ). x * 10 + n % 10) (number_push m [] (n / 10 % 10)) ∙ omega arith
+
+pub two_behind : (ds : List ℕ) (n : ℕ) → n < 100 → number (ds ++ decimals 2 n) ≡ number ds * 100 + n
+two_behind ds n below = number_after_append 0 ds (decimals 2 n) ∙ two_more (number ds) n below
+
+-- ---- a fixed number of digits, a point and more digits
+
+abbrev fixed_by : ℕ → ℕ → ℕ → Option Fixed
+fixed_by whole part places = Some (record { whole = whole; part = part; places = places })
+
+part_text : (most : ℕ) (ds : List ℕ) → AreDigits ds → length ds ≤ most → spec.part_behind most (46 ∷ ds) ≡ Some ds
+part_text most ds h few =
+    let short : nat_le (length ds) most ≡ true = le-leb (length ds) most few in
+    rw (short, h) refl
+
+pub fixed_text : (width most : ℕ) (whole part : List ℕ) → AreDigits whole → length whole ≡ width → AreDigits part → length part ≤ most
+    → spec.fixed_in width most (whole ++ 46 ∷ part) ≡ fixed_by (number whole) (number part) (length part)
+unfolding spec.fixed_in
+fixed_text width most whole part w len p few =
+    let long : nat_le width (length (whole ++ 46 ∷ part)) ≡ true = le-leb width (length (whole ++ 46 ∷ part)) (omega (arith, length-append whole (46 ∷ part), len)) in
+    let front : take width (whole ++ 46 ∷ part) ≡ whole = take_at whole (46 ∷ part) width len in
+    let behind : drop width (whole ++ 46 ∷ part) ≡ 46 ∷ part = drop_at whole (46 ∷ part) width len in
+    let more : spec.part_behind most (46 ∷ part) ≡ Some part = part_text most part p few in
+    rw (long, front, behind, w, more) refl
+
+-- ---- positions
+
+degrees_some : (at : ℕ) (q : Quantity) (width : ℕ) (bytes : List ℕ) → 0 < length bytes → spec.degrees_of at q width bytes ≡ spec.degrees_in at q (spec.fixed_in width 9 bytes)
+degrees_some at q width [] h = absurd (omega arith)
+degrees_some at q width (c ∷ cs) h = refl
+
+minutes_split : (m : ℕ) → m / 600000 * 100 + m % 600000 / 10000 ≡ m / 600000 * 100 + m % 600000 / 10000
+minutes_split m = refl
+
+below_sixty : (a b : ℕ) → b < 60 → (a * 100 + b) % 100 ≡ b
+below_sixty a b h = omega arith
+
+hundreds : (a b : ℕ) → b < 60 → (a * 100 + b) / 100 ≡ a
+hundreds a b h = omega arith
+
+whole_minutes : (m : ℕ) → (m / 600000 * 60 + m % 600000 / 10000) * 10000 + m % 10000 ≡ m
+whole_minutes m = omega arith
+
+-- what is read of a count of ten-thousandths of a minute
+degrees_read : (at width m : ℕ) (q : Quantity) → m / 600000 < 10 ^ width
+    → spec.degrees_of at q (width + 2) (degrees_text width m) ≡ spec.scaled at q (Some (record { negative = false; digits = m; places = 4 }))
+degrees_read at width m q below =
+    let a = m / 600000 in
+    let b = m % 600000 / 10000 in
+    let sixty : b < 60 = omega arith in
+    let whole = decimals width a ++ decimals 2 b in
+    let part = decimals 4 (m % 10000) in
+    let len : length whole ≡ width + 2 = omega (arith, length-append (decimals width a) (decimals 2 b), length_decimals width a, length_decimals 2 b) in
+    let long : 0 < length (whole ++ 46 ∷ part) = omega (arith, length-append whole (46 ∷ part), len) in
+    let w : number whole ≡ a * 100 + b = two_behind (decimals width a) b (omega arith) ∙ ap (λ (n : ℕ). n * 100 + b) (number_decimals width a below) in
+    let p : number part ≡ m % 10000 = number_decimals 4 (m % 10000) (omega arith) in
+    let four = length_decimals 4 (m % 10000) in
+    let is : spec.fixed_in (width + 2) 9 (whole ++ 46 ∷ part) ≡ fixed_by (a * 100 + b) (m % 10000) 4 =
+    fixed_text (width + 2) 9 whole part (digits_joined (decimals width a) (decimals 2 b) (digits_decimals width a) (digits_decimals 2 b)) len (digits_decimals 4 (m % 10000)) (omega (arith, four))
+    ∙ ap (λ (n : ℕ). fixed_by n (number part) (length part)) w ∙ ap (λ (n : ℕ). fixed_by (a * 100 + b) n (length part)) p ∙ ap (λ (n : ℕ). fixed_by (a * 100 + b) (m % 10000) n) four in
+    degrees_some at q (width + 2) (whole ++ 46 ∷ part) long
+    ∙ ap (spec.degrees_in at q) is
+    ∙ in_range at q a b (m % 10000) m sixty (whole_minutes m)
+  where
+    in_range : (at : ℕ) (q : Quantity) (a b part m : ℕ) → b < 60 → (a * 60 + b) * 10000 + part ≡ m
+        → spec.degrees_in at q (fixed_by (a * 100 + b) part 4) ≡ spec.scaled at q (Some (record { negative = false; digits = m; places = 4 }))
+    in_range at q a b part m small e =
+        let rest : (a * 100 + b) % 100 ≡ b = below_sixty a b small in
+        let deg : (a * 100 + b) / 100 ≡ a = hundreds a b small in
+        let under : nat_le 60 b ≡ false = lt-leb 60 b small in
+        rw (rest, deg, under, e) refl
+
+pub coordinate_of : (f : Fields) (at width : ℕ) (q : Quantity) (u : Conversion) (raw : Option ℤ) (first second : ℕ) → Paired u q → IsNoMore q.most raw → u.places ≡ 4
+    → ((r : ℤ) → unsigned_abs r ≤ q.most → unsigned_abs (count u r) / 600000 < 10 ^ width) → (first == second) ≡ false
+    → spec.field_at f at ≡ Some (text_of (Degrees raw u width)) → spec.field_at f (at + 1) ≡ Some (text_of (Side raw u first second))
+    → spec.coordinate f at q (width + 2) first second ≡ Ok (back q u raw)
+unfolding spec.coordinate spec.degrees
+coordinate_of f at width q u None first second p le four below ne e s =
+    given_at (spec.text_says (spec.field_at f at) at (spec.degrees_of at q (width + 2))) None (λ v. given (spec.side f (at + 1) first second (is_none v)) (λ n. Ok (spec.toward n v)))
+    (says_at (spec.field_at f at) [] at (spec.degrees_of at q (width + 2)) e)
+    ∙ given_at (spec.side f (at + 1) first second true) false (λ n. Ok (spec.toward n None)) (side_nowhere f (at + 1) first second [] s)
+coordinate_of f at width q u (Some raw) first second p le four below ne e s =
+    let negative = is_negative (count u raw) in
+    let m = unsigned_abs (count u raw) in
+    let size = read_size q u m in
+    let scale : spec.scaled at q (Some (record { negative = false; digits = m; places = 4 })) ≡ Ok (Some (pos size)) =
+    ap (λ (k : ℕ). spec.scaled at q (Some (record { negative = false; digits = m; places = k }))) (sym four) ∙ scales q u false m at p.by (size_again u q raw p le) in
+    given_at (spec.text_says (spec.field_at f at) at (spec.degrees_of at q (width + 2))) (Some (pos size)) (λ v. given (spec.side f (at + 1) first second (is_none v)) (λ n. Ok (spec.toward n v)))
+    (says_at (spec.field_at f at) (degrees_text width m) at (spec.degrees_of at q (width + 2)) e ∙ degrees_read at width m q (below raw le) ∙ scale)
+    ∙ given_at (spec.side f (at + 1) first second false) negative (λ n. Ok (spec.toward n (Some (pos size)))) (side_of f (at + 1) first second negative ne s)
+    ∙ ap said_value (toward_signed negative size)
+
+-- ---- time of day
+
+abbrev pub back_time : Option ℤ → Option ℤ
+back_time None = None
+back_time (Some raw) = Some (pos (unsigned_abs raw / 100 * 100))
+
+pub same_time : (raw : Option ℤ) → text_of (Time (back_time raw)) ≡ text_of (Time raw)
+same_time None = refl
+same_time (Some raw) = let h : unsigned_abs raw / 100 * 100 / 100 ≡ unsigned_abs raw / 100 = omega arith in rw h refl
+
+time_some : (at : ℕ) (bytes : List ℕ) → 0 < length bytes → spec.time_of at bytes ≡ spec.time_in at (spec.fixed_in 6 4 bytes)
+time_some at [] h = absurd (omega arith)
+time_some at (c ∷ cs) h = refl
+
+abbrev said_time : ℕ → Result (Option ℤ) FieldFault
+said_time n = Ok (Some (pos n))
+
+in_day : (at h m s c : ℕ) → h < 24 → m < 60 → s < 60 → c < 100
+    → spec.time_in at (fixed_by ((h * 100 + m) * 100 + s) c 2) ≡ Ok (Some (pos (((h * 60 + m) * 60 + s) * 10000 + c * 100)))
+in_day at h m s c hours minutes seconds few =
+    let x = (h * 100 + m) * 100 + s in
+    let a : x / 10000 ≡ h = omega arith in
+    let b : x / 100 % 100 ≡ m = omega arith in
+    let d : x % 100 ≡ s = omega arith in
+    let e : nat_lt h 24 ≡ true = lt-ltb h 24 hours in
+    let g : nat_lt m 60 ≡ true = lt-ltb m 60 minutes in
+    let i : nat_lt s 60 ≡ true = lt-ltb s 60 seconds in
+    rw (a, b, d, e, g, i) (ap (λ (n : ℕ). said_time n) (omega arith))
+
+seconds_of : (n : ℕ) → (n / 360000 * 60 + n / 6000 % 60) * 60 + n / 100 % 60 ≡ n / 100
+seconds_of n = omega arith
+
+hundredths : (n : ℕ) → ((n / 360000 * 60 + n / 6000 % 60) * 60 + n / 100 % 60) * 10000 + n % 100 * 100 ≡ n * 100
+hundredths n = let s = seconds_of n in omega arith
+
+time_read : (at raw : ℕ) → raw ≤ 863999999 → spec.time_of at (time_text raw) ≡ said_time (raw / 100 * 100)
+time_read at raw le =
+    let n = raw / 100 in
+    let h = n / 360000 in
+    let m = n / 6000 % 60 in
+    let s = n / 100 % 60 in
+    let c = n % 100 in
+    let front = decimals 2 h ++ decimals 2 m in
+    let whole = front ++ decimals 2 s in
+    let part = decimals 2 c in
+    let hours : h < 24 = omega arith in
+    let len : length whole ≡ 6 =
+    omega (arith, length-append front (decimals 2 s), length-append (decimals 2 h) (decimals 2 m), length_decimals 2 h, length_decimals 2 m, length_decimals 2 s) in
+    let two = length_decimals 2 c in
+    let long : 0 < length (whole ++ 46 ∷ part) = omega (arith, length-append whole (46 ∷ part), len) in
+    let w : number whole ≡ (h * 100 + m) * 100 + s =
+    two_behind front s (omega arith) ∙ ap (λ (x : ℕ). x * 100 + s) (two_behind (decimals 2 h) m (omega arith) ∙ ap (λ (x : ℕ). x * 100 + m) (number_decimals 2 h (omega arith))) in
+    let p : number part ≡ c = number_decimals 2 c (omega arith) in
+    let all : AreDigits whole = digits_joined front (decimals 2 s) (digits_joined (decimals 2 h) (decimals 2 m) (digits_decimals 2 h) (digits_decimals 2 m)) (digits_decimals 2 s) in
+    let is : spec.fixed_in 6 4 (whole ++ 46 ∷ part) ≡ fixed_by ((h * 100 + m) * 100 + s) c 2 =
+    fixed_text 6 4 whole part all len (digits_decimals 2 c) (omega (arith, two))
+    ∙ ap (λ (x : ℕ). fixed_by x (number part) (length part)) w ∙ ap (λ (x : ℕ). fixed_by ((h * 100 + m) * 100 + s) x (length part)) p ∙ ap (λ (x : ℕ). fixed_by ((h * 100 + m) * 100 + s) c x) two in
+    time_some at (whole ++ 46 ∷ part) long
+    ∙ ap (spec.time_in at) is
+    ∙ in_day at h m s c hours (omega arith) (omega arith) (omega arith)
+    ∙ ap said_time (hundredths n)
+
+pub time_said : (f : Fields) (at : ℕ) (raw : Option ℤ) → IsNoMore 863999999 raw → spec.field_at f at ≡ Some (text_of (Time raw)) → spec.time f at ≡ Ok (back_time raw)
+unfolding spec.time
+time_said f at None le e = says_at (spec.field_at f at) [] at (spec.time_of at) e
+time_said f at (Some raw) le e = says_at (spec.field_at f at) (time_text (unsigned_abs raw)) at (spec.time_of at) e ∙ time_read at (unsigned_abs raw) le
+
+-- ---- whole numbers
+
+abbrev said_number : ℕ → Result ℕ FieldFault
+said_number n = Ok n
+
+digits_some : (at : ℕ) (may_lack : Bool) (least most : ℕ) (bytes : List ℕ) → 0 < length bytes → least ≤ length bytes → length bytes ≤ most → AreDigits bytes
+    → spec.digits_in at may_lack least most bytes ≡ Ok (number bytes)
+digits_some at may_lack least most [] some low high h = absurd (omega arith)
+digits_some at may_lack least most (c ∷ cs) some low high h =
+    let a : nat_le least (length (c ∷ cs)) ≡ true = le-leb least (length (c ∷ cs)) low in
+    let b : nat_le (length (c ∷ cs)) most ≡ true = le-leb (length (c ∷ cs)) most high in
+    rw (a, b, h) refl
+
+pub digits_of : (f : Fields) (at : ℕ) (may_lack : Bool) (least most : ℕ) (bytes : List ℕ) → spec.field_at f at ≡ Some bytes → 0 < length bytes → least ≤ length bytes → length bytes ≤ most
+    → AreDigits bytes → spec.digits f at may_lack least most ≡ Ok (number bytes)
+unfolding spec.digits
+digits_of f at may_lack least most bytes e some low high h =
+    says_at (spec.field_at f at) bytes at (spec.digits_in at may_lack least most) e ∙ digits_some at may_lack least most bytes some low high h
+
+pub no_digits : (f : Fields) (at least most : ℕ) → spec.field_at f at ≡ Some [] → spec.digits f at true least most ≡ Ok 0
+unfolding spec.digits
+no_digits f at least most e = says_at (spec.field_at f at) [] at (spec.digits_in at true least most) e
+
+-- the number of satellites, and the method of a fix
+satellites_text : (n : ℕ) → List ℕ
+satellites_text n = if nat_lt n 10 then decimals 2 n else decimal n
+
+record Counted (n : ℕ) (bytes : List ℕ) : Type 0 where
+  some : 0 < length bytes
+  few : length bytes ≤ 3
+  are_digits : AreDigits bytes
+  value : number bytes ≡ n
+
+list_digits : (xs : List ℕ) → list_all is_ascii_digit xs ≡ all_ascii_digits xs
+list_digits [] = refl
+list_digits (c ∷ cs) = ap (λ b. is_ascii_digit c && b) (list_digits cs)
+
+counted_text : (n : ℕ) (b : Bool) → n < 1000 → nat_lt n 10 ≡ b → Counted n (if b then decimals 2 n else decimal n)
+counted_text n true few e =
+    let two = length_decimals 2 n in
+    let small : n < 10 = ltb-true n 10 e in
+    record { some = omega (arith, two); few = omega (arith, two); are_digits = digits_decimals 2 n; value = number_decimals 2 n (omega arith) }
+counted_text n false few e =
+    record {
+      some = decimal_nonempty n (omega arith);
+      few = length-decimal-le 3 n (omega arith) (omega arith) (omega arith);
+      are_digits = list_digits (decimal n) ∙ digits_decimal own n (omega arith);
+      value = digits_value-decimal own n (omega arith);
+    }
+
+nothing_not : (bytes : List ℕ) → 0 < length bytes → spec.is_nothing bytes ≡ false
+nothing_not [] h = absurd (omega arith)
+nothing_not (c ∷ cs) h = refl
+
+blank_at : (f : Fields) (at : ℕ) (bytes : List ℕ) → spec.field_at f at ≡ Some bytes → spec.is_blank f at ≡ spec.is_nothing bytes
+unfolding spec.is_blank spec.text
+blank_at f at bytes e = ap (λ (o : Option (List ℕ)). spec.is_nothing (unwrap_or o [])) e
+
+pub blank_none : (f : Fields) (at : ℕ) → spec.field_at f at ≡ Some [] → spec.is_blank f at ≡ true
+blank_none f at e = blank_at f at [] e
+
+pub blank_some : (f : Fields) (at : ℕ) (bytes : List ℕ) → spec.field_at f at ≡ Some bytes → 0 < length bytes → spec.is_blank f at ≡ false
+blank_some f at bytes e h = blank_at f at bytes e ∙ nothing_not bytes h
+
+abbrev pub back_count : Option ℤ → Option ℤ
+back_count None = None
+back_count (Some raw) = Some (pos (unsigned_abs raw))
+
+pub same_count : (raw : Option ℤ) → text_of (Satellites (back_count raw)) ≡ text_of (Satellites raw)
+same_count None = refl
+same_count (Some raw) = refl
+
+pub satellites_of : (f : Fields) (at : ℕ) (raw : Option ℤ) → IsNoMore 252 raw → spec.field_at f at ≡ Some (text_of (Satellites raw)) → spec.satellites f at ≡ Ok (back_count raw)
+unfolding spec.satellites
+satellites_of f at None le e =
+    let blank = blank_none f at e in
+    given_at (spec.digits f at true 1 3) 0 (λ n. if spec.is_blank f at then Ok None else if nat_le n 252 then Ok (Some (pos n)) else Err (OutOfRange at)) (no_digits f at 1 3 e)
+    ∙ rw blank refl
+satellites_of f at (Some raw) le e =
+    let n = unsigned_abs raw in
+    let t : Counted n (text_of (Satellites (Some raw))) = counted_text n (nat_lt n 10) (omega arith) refl in
+    let blank = blank_some f at (text_of (Satellites (Some raw))) e t.some in
+    let fits : nat_le n 252 ≡ true = le-leb n 252 le in
+    given_at (spec.digits f at true 1 3) n (λ x. if spec.is_blank f at then Ok None else if nat_le x 252 then Ok (Some (pos x)) else Err (OutOfRange at))
+    (digits_of f at true 1 3 (text_of (Satellites (Some raw))) e t.some t.some t.few t.are_digits ∙ ap said_number t.value)
+    ∙ rw (blank, fits) refl
+
+pub quality_of : (f : Fields) (at m : ℕ) → m ≤ 8 → spec.field_at f at ≡ Some ((48 + m) ∷ []) → spec.quality f at ≡ Ok m
+unfolding spec.quality
+quality_of f at m le e =
+    let value : number ((48 + m) ∷ []) ≡ m = omega arith in
+    let fits : nat_le m 8 ≡ true = le-leb m 8 le in
+    given_at (spec.digits f at true 1 1) m (λ n. if nat_le n 8 then Ok n else Err (OutOfRange at))
+    (digits_of f at true 1 1 ((48 + m) ∷ []) e (omega arith) (omega arith) (omega arith) (one_digit m (omega arith)) ∙ ap said_number value)
+    ∙ rw fits refl

@@ -1,0 +1,36 @@
+-- What is promised of the sentences that are written: read again, each says the same.
+use Rattle.std.specs.Prelude.{◌≡◌, ℕ, Bool, List, [], ◌∷◌, map, Contains, Ok}
+use Rattle.std.specs.List.{AllByRecursion}
+use Rattle.readings.specs.declared.reading.Reading.{Reading}
+use Rattle.sentence_text.specs.Fields.{fields_of}
+use Rattle.sentence_text.specs.Reading.{read}
+use Rattle.sentence_text.specs.Sentence.{Parts}
+use Rattle.sentence_rows.specs.declared.field.Field.{Field}
+use Rattle.sentence_rows.specs.Field.{body_text, text_of}
+use Rattle.sentence_rows.specs.Lines.{sentence_by}
+use Rattle.sentence_rows.specs.ReadRow.{read_row}
+use Rattle.sentence_rows.specs.Text.{Dated, IsText, day_said, said}
+
+-- the line is read as a sentence with one reading, and it is among the sentences in which the talker says that reading
+pub record IsStable (talker : List ℕ) (with_ths : Bool) (line : List ℕ) : Type 0 where
+  pub parts : Parts
+  pub is_sentence : read line ≡ Ok parts
+  pub reading : Reading
+  pub is_read : read_row parts ≡ Ok (reading ∷ [])
+  pub lines : List (List ℕ)
+  pub are_said : IsText reading talker with_ths lines
+  pub among : Contains lines line
+
+-- the parts of a sentence of fields
+abbrev pub parts_by : List ℕ → List ℕ → List Field → Parts
+parts_by talker formatter fields = record { start = 36; talker = talker; formatter = formatter; body = body_text fields }
+
+-- a sentence of fields is read as its parts, and its body as the texts of the fields
+pub record IsReadBack (talker formatter : List ℕ) (fields : List Field) : Type 0 where
+  pub is_sentence : read (sentence_by talker formatter fields) ≡ Ok (parts_by talker formatter fields)
+  pub has_fields : fields_of (body_text fields) ≡ map text_of fields
+
+-- the lines are the sentences in which the talker says the reading, and each of them is read back
+abbrev pub IsSaid : Reading → List ℕ → Bool → List (List ℕ) → Type 0
+IsSaid r talker with_ths lines =
+    Dated (day_said r) (λ d. (lines ≡ map (λ s. sentence_by talker s.0 s.1) (said with_ths d r)) × AllByRecursion (λ s. IsReadBack talker s.0 s.1) (said with_ths d r))
