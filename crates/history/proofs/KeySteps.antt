@@ -32,7 +32,7 @@ steps : OneStep fast_rules
 steps = one_step_of fast_rules lawful
 
 -- a holder of a table has its address since an entry that came
-dated_at : (i : ℕ) (holders : List (Option Holder)) (a : ℕ) (x : Holder) → All (IsSinceBy i) holders → holder_at holders a ≡ Some x → x.since ≤ i
+pub dated_at : (i : ℕ) (holders : List (Option Holder)) (a : ℕ) (x : Holder) → All (IsSinceBy i) holders → holder_at holders a ≡ Some x → x.since ≤ i
 dated_at i holders a x all e = subst (IsSinceBy i) e (All-get_or (IsSinceBy i) holders a None (held_within holders a x e) all)
 
 -- a PGN of fast packets is neither that of claims nor one of the transport protocol
@@ -63,7 +63,7 @@ no_transport p e = rw (not_fast p.pgn 60416 management_kind e, not_fast p.pgn 60
 no_claim : (f : BusFrame) → kind_of (parts_of f.id).pgn ≡ Fast → is_claim f ≡ false
 no_claim f e = rw (not_claim (parts_of f.id).pgn e) refl
 
-known_same : (c : Settings) (s : ℕ) (h : History) (m : ℕ) (f : BusFrame) → is_claim f ≡ false → known c s (frame m f ∷ h) ≡ known c s h
+pub known_same : (c : Settings) (s : ℕ) (h : History) (m : ℕ) (f : BusFrame) → is_claim f ≡ false → known c s (frame m f ∷ h) ≡ known c s h
 known_same c s h m f e = rw e refl
 
 -- the frame is one of its own key
@@ -124,7 +124,7 @@ other_piece (Some since) a p n notes e = rw (unlike (n.parts.source == a) (nat_l
     unlike true false z e = refl
     unlike false y z e = refl
 
-eqb-sym : (a b : ℕ) → (a == b) ≡ (b == a)
+pub eqb-sym : (a b : ℕ) → (a == b) ≡ (b == a)
 eqb-sym a b = elim (cases_Bool (a == b)) [
   | inl same ↦ same ∙ sym (eq-eqb b a (sym (eqb-true a b same)))
   | inr other ↦ other ∙ sym (ne_eqb b a (λ e. eqb-false a b other (sym e)))

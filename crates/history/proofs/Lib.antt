@@ -3,6 +3,7 @@ pub mod Fates
 pub mod Moves
 pub mod TraceMoves
 pub mod KeySteps
+pub mod SessionSteps
 mod Computed
 mod ClaimCases
 mod FastCases

@@ -1,5 +1,5 @@
 -- What one more frame does to what is open of its key.
-use Rattle.std.specs.Prelude.{◌≡◌, ℕ, ◌≤◌, Bool, true, false, ◌&&◌, ◌||◌, not, ◌==◌, List, [], ◌∷◌, length, Option, Some, None, if◌then◌else◌}
+use Rattle.std.specs.Prelude.{◌≡◌, ℕ, ◌≤◌, Bool, true, false, ◌&&◌, ◌||◌, not, ◌==◌, List, [], ◌∷◌, length, Option, Some, None, is_some, if◌then◌else◌}
 use Rattle.n2k_id.specs.Frame.{BusFrame}
 use Rattle.n2k_id.specs.Identifier.{parts_of}
 use Rattle.claim_table.specs.Claims.{holder_at}
@@ -12,7 +12,7 @@ use Rattle.iso_transport.specs.IsoRuns.{iso_rules}
 use Rattle.history.specs.AddressLaws.{AreSettings}
 use Rattle.history.specs.Entries.{Entry, History, frame, moment_of}
 use Rattle.history.specs.Settings.{Settings}
-use Rattle.history.specs.Known.{Known, known, is_own, is_claim}
+use Rattle.history.specs.Known.{Known, known, is_own, is_claim, since_of}
 use Rattle.history.specs.Traces.{Note, fast_piece, iso_piece, is_transport, is_bearing}
 use Rattle.history.specs.Opens.{FastKey, IsoKey, same_fast, same_iso, iso_key_of, fast_open, iso_open, note_of, notes_of}
 use Rattle.history.specs.Messages.{done, said_by, fast_carried, iso_carried}
@@ -49,3 +49,40 @@ FramesKeepFast = (c : Settings) (s : ℕ) (h : History) (m : ℕ) (f : BusFrame)
 abbrev pub TimeEndsFast : Type 0
 TimeEndsFast =
     (k : Known) (notes : List Note) (key : FastKey) (m n : ℕ) → m ≤ n → fast_open k notes key n ≡ kept_at fast_rules (fast_open k notes key m) n
+
+-- ---- the transport protocol
+
+-- the frame bears on the session of this key: it is from the key's source, which holds its address, and to all or to the gateway
+abbrev pub is_meant : Known → Note → Bool → Bool
+is_meant k n addressed = if addressed then is_own k n.parts.destination else n.parts.destination == 255
+
+abbrev pub concerns : Known → Note → IsoKey → Bool
+concerns k n key = is_some (since_of k key.source) && ((n.parts.source == key.source) && (is_meant k n key.addressed && is_bearing key.addressed n))
+
+pub record StepsIso (c : Settings) (s : ℕ) (h : History) (m : ℕ) (f : BusFrame) : Type 0 where
+  -- of each key on whose session it bears, the frame leaves what the rules say of the frames that were open; all others stay open
+  pub left : (key : IsoKey) (n : ℕ) → iso_open (known c s (frame m f ∷ h)) (notes_of c s (frame m f ∷ h)) key n
+      ≡ (if concerns (known c s h) (the_note c s h m f) key
+      then kept_at (iso_rules key.addressed) (fed (iso_rules key.addressed) (iso_open (known c s h) (notes_of c s h) key m) (iso_piece (the_note c s h m f))) n
+      else iso_open (known c s h) (notes_of c s h) key n)
+
+-- and it completes what they say
+pub record CompletesIso (c : Settings) (s : ℕ) (h : History) (m : ℕ) (f : BusFrame) (holder : Holder) : Type 0 where
+  pub completed : let key = iso_key_of (parts_of f.id) in done c s h (frame m f)
+      ≡ said_by (length h) m (parts_of f.id).source (Some holder)
+      (if concerns (known c s h) (the_note c s h m f) key
+      then iso_carried (finished (iso_rules key.addressed) (iso_open (known c s h) (notes_of c s h) key m) (iso_piece (the_note c s h m f)))
+      else None)
+
+abbrev pub FramesStepIso : Type 0
+FramesStepIso = (c : Settings) (s : ℕ) (h : History) (m : ℕ) (f : BusFrame) → AreSettings c → is_claim f ≡ false → StepsIso c s h m f
+
+abbrev pub FramesCompleteIso : Type 0
+FramesCompleteIso =
+    (c : Settings) (s : ℕ) (h : History) (m : ℕ) (f : BusFrame) (holder : Holder) → AreSettings c → is_transport (parts_of f.id) ≡ true
+    → holder_at (known c s h).claims.holders (parts_of f.id).source ≡ Some holder → CompletesIso c s h m f holder
+
+abbrev pub TimeEndsIso : Type 0
+TimeEndsIso =
+    (k : Known) (notes : List Note) (key : IsoKey) (m n : ℕ) → m ≤ n
+    → iso_open k notes key n ≡ kept_at (iso_rules key.addressed) (iso_open k notes key m) n

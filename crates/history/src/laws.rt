@@ -1,6 +1,6 @@
 //! What is promised of every history. Each law is a function that does nothing, and whose clause is the law.
 ghost use Rattle.history.specs.AddressLaws.{AddressesAreSound};
-ghost use Rattle.history.specs.KeyLaws.{FramesStepFast, FramesKeepFast, TimeEndsFast};
+ghost use Rattle.history.specs.KeyLaws.{FramesStepFast, FramesKeepFast, TimeEndsFast, FramesStepIso, FramesCompleteIso, TimeEndsIso};
 ghost use Rattle.history.specs.TraceLaws.{ClaimsMoveTraces, CommandsMoveTraces};
 
 /// After every history no NAME has two addresses and the gateway's own has no other holder, and each is held since an entry of the
@@ -22,4 +22,12 @@ pub fn fast_frames_step_their_key()
     ensures step { FramesStepFast }
     ensures others { FramesKeepFast }
     ensures later { TimeEndsFast }
+{}
+
+/// One more transport frame does to the session on which it bears what the rules say of the frames that were open, completes what they
+/// say, and changes no other session; a later moment ends what is overdue.
+pub fn transport_frames_step_their_session()
+    ensures step { FramesStepIso }
+    ensures complete { FramesCompleteIso }
+    ensures later { TimeEndsIso }
 {}

@@ -1,0 +1,174 @@
+-- The laws of one key of the transport protocol.
+use Rattle.std.proofs.Common.{◌≡◌, ◌≢◌, ℕ, ◌≤◌, Bool, true, false, ◌&&◌, ◌||◌, not, List, [], ◌∷◌, length, map, refl, sym, ap, subst, ◌∙◌, ◌==◌, nat_le}
+use Rattle.std.specs.Prelude.{Option, Some, None, filter, is_some, if◌then◌else◌, option_map}
+use Rattle.std.proofs.lemmas.Bool.{eqb-true, eq-eqb, le-leb}
+use Rattle.n2k_id.specs.declared.header.Parts.{Parts}
+use Rattle.n2k_id.specs.Frame.{BusFrame}
+use Rattle.n2k_id.specs.Identifier.{parts_of}
+use Rattle.claim_table.specs.declared.answer.Holder.{Holder}
+use Rattle.claim_table.specs.Claims.{holder_at}
+use Rattle.runs.specs.Runs.{fed, finished, kept_at, open_at, open_of, run_of}
+use Rattle.runs.specs.Laws.{OneStep}
+use Rattle.runs.proofs.Steps.{one_step_of}
+use Rattle.iso_transport.specs.IsoRuns.{IsoPiece, iso_rules}
+use Rattle.iso_transport.proofs.Lawful.{lawful}
+use Rattle.history.specs.Entries.{Entry, History, frame}
+use Rattle.history.specs.Settings.{Settings}
+use Rattle.history.specs.Known.{Known, known, is_own, is_claim, since_of}
+use Rattle.history.specs.Traces.{Note, is_since, iso_piece, iso_trace, broadcast_since, addressed_since, is_transport, is_bearing}
+use Rattle.history.specs.Opens.{IsoKey, iso_key_of, iso_open, note_of, notes_of}
+use Rattle.history.specs.Messages.{done, said_by, completed_by, by_session, iso_carried}
+use Rattle.history.specs.AddressLaws.{AreSettings, AreSound}
+use Rattle.history.specs.KeyLaws.{is_meant, concerns, StepsIso, CompletesIso, FramesStepIso, FramesCompleteIso, TimeEndsIso, the_note}
+use Rattle.history.proofs.Addresses.{addresses_are_sound}
+use Rattle.history.proofs.KeySteps.{dated_at, known_same, eqb-sym}
+
+steps : (addressed : Bool) → OneStep (iso_rules addressed)
+steps addressed = one_step_of (iso_rules addressed) (lawful addressed)
+
+abbrev with_piece : Bool → Note → List IsoPiece → List IsoPiece
+with_piece b n rest = if b then iso_piece n ∷ rest else rest
+
+-- a filter's answer on the newest frame, whose index is late enough
+kept_if : (q : Note → Bool) (n : Note) (notes : List Note) (b : Bool) → q n ≡ b → map iso_piece (filter q (n ∷ notes)) ≡ with_piece b n (map iso_piece (filter q notes))
+kept_if q n notes true e = rw e refl
+kept_if q n notes false e = rw e refl
+
+recent : (x y : Bool) → y ≡ true → (x && y) ≡ x
+recent true true e = refl
+recent false true e = refl
+recent x false e = cc
+
+broadcast_head : (since a : ℕ) (n : Note) (notes : List Note) → since ≤ n.index
+    → broadcast_since (Some since) a (n ∷ notes) ≡ with_piece ((n.parts.source == a) && ((n.parts.destination == 255) && is_bearing false n)) n (broadcast_since (Some since) a notes)
+broadcast_head since a n notes le =
+    kept_if (λ x. is_since a since x && ((x.parts.destination == 255) && is_bearing false x)) n notes ((n.parts.source == a) && ((n.parts.destination == 255) && is_bearing false n))
+    (rw (le-leb since n.index le, recent (n.parts.source == a) true refl) refl)
+
+addressed_head : (since own own_since a : ℕ) (n : Note) (notes : List Note) → since ≤ n.index → own_since ≤ n.index
+    → addressed_since (Some since) (Some own) own_since a (n ∷ notes) ≡ with_piece ((n.parts.source == a) && ((own == n.parts.destination) && is_bearing true n)) n (addressed_since (Some since) (Some own) own_since a notes)
+addressed_head since own own_since a n notes le late =
+    kept_if (λ x. is_since a since x && ((x.parts.destination == own) && (nat_le own_since x.index && is_bearing true x))) n notes ((n.parts.source == a) && ((own == n.parts.destination) && is_bearing true n))
+    (rw (le-leb since n.index le, le-leb own_since n.index late, recent (n.parts.source == a) true refl, eqb-sym n.parts.destination own) refl)
+
+-- ---- the trace of a key with the newest frame
+
+piece_if : (k : Known) (since : Option ℕ) (a : ℕ) (addressed : Bool) (n : Note) → Bool
+piece_if k since a addressed n = is_some since && ((n.parts.source == a) && (is_meant k n addressed && is_bearing addressed n))
+
+abbrev IsLate : Option ℕ → ℕ → Type 0
+IsLate None i = Unit {0}
+IsLate (Some since) i = since ≤ i
+
+broadcast_trace : (k : Known) (since : Option ℕ) (a : ℕ) (n : Note) (notes : List Note) → IsLate since n.index
+    → broadcast_since since a (n ∷ notes) ≡ with_piece (piece_if k since a false n) n (broadcast_since since a notes)
+unfolding piece_if
+broadcast_trace k None a n notes late = refl
+broadcast_trace k (Some since) a n notes late = broadcast_head since a n notes late
+
+addressed_trace : (k : Known) (since own : Option ℕ) (own_since a : ℕ) (n : Note) (notes : List Note) → k.claims.own ≡ own → IsLate since n.index → own_since ≤ n.index
+    → addressed_since since own own_since a (n ∷ notes) ≡ with_piece (piece_if k since a true n) n (addressed_since since own own_since a notes)
+unfolding piece_if
+addressed_trace k None own own_since a n notes e late own_late = refl
+addressed_trace k (Some since) None own_since a n notes e late own_late = sym (rw (e, none (n.parts.source == a)) refl)
+  where
+    none : (x : Bool) → (x && false) ≡ false
+    none true = refl
+    none false = refl
+addressed_trace k (Some since) (Some own) own_since a n notes e late own_late = rw e (addressed_head since own own_since a n notes late own_late)
+
+module _ (c : Settings) (s : ℕ) (h : History) (m : ℕ) (f : BusFrame) (are : AreSettings c) where
+  late : (a : ℕ) (o : Option Holder) → holder_at (known c s h).claims.holders a ≡ o → IsLate (option_map (λ (y : Holder). y.since) o) (length h)
+  late a None e = tt
+  late a (Some x) e = dated_at (length h) (known c s h).claims.holders a x (addresses_are_sound c s h are).dated e
+
+  trace_is : (addressed : Bool) (a : ℕ) → iso_trace (known c s h) addressed a (the_note c s h m f ∷ notes_of c s h)
+      ≡ with_piece (concerns (known c s h) (the_note c s h m f) (record { addressed = addressed; source = a })) (the_note c s h m f) (iso_trace (known c s h) addressed a (notes_of c s h))
+  unfolding piece_if
+  trace_is false a = broadcast_trace (known c s h) (since_of (known c s h) a) a (the_note c s h m f) (notes_of c s h) (late a (holder_at (known c s h).claims.holders a) refl)
+  trace_is true a =
+      addressed_trace (known c s h) (since_of (known c s h) a) (known c s h).claims.own (known c s h).own_since a (the_note c s h m f) (notes_of c s h) refl
+      (late a (holder_at (known c s h).claims.holders a) refl) (addresses_are_sound c s h are).own_dated
+
+  -- what is open with the frame or without it
+  opens : (addressed : Bool) (t : List IsoPiece) (n : ℕ) (b : Bool)
+      → open_at (iso_rules addressed) (with_piece b (the_note c s h m f) t) n
+      ≡ (if b then kept_at (iso_rules addressed) (fed (iso_rules addressed) (open_at (iso_rules addressed) t m) (iso_piece (the_note c s h m f))) n else open_at (iso_rules addressed) t n)
+  opens addressed t n true = ap (λ (o : Option (List IsoPiece)). kept_at (iso_rules addressed) o n) ((steps addressed).prefix t (iso_piece (the_note c s h m f)))
+  opens addressed t n false = refl
+
+  pub step : is_claim f ≡ false → StepsIso c s h m f
+  step other = record {
+    left = λ key n.
+    rw (known_same c s h m f other)
+    (ap (λ (t : List IsoPiece). open_at (iso_rules key.addressed) t n) (trace_is key.addressed key.source)
+    ∙ opens key.addressed (iso_trace (known c s h) key.addressed key.source (notes_of c s h)) n (concerns (known c s h) (the_note c s h m f) key));
+  }
+
+pub iso_steps : FramesStepIso
+iso_steps c s h m f are other = step c s h m f are other
+
+pub iso_ends : TimeEndsIso
+iso_ends k notes key m n le = (steps key.addressed).later (iso_trace k key.addressed key.source notes) m n le
+
+-- ---- what it completes
+
+-- the frame bears on the session of its own key where it is to all or to the gateway
+meant_is : (k : Known) (n : Note) → (not (iso_key_of n.parts).addressed || is_own k n.parts.destination) ≡ is_meant k n (iso_key_of n.parts).addressed
+meant_is k n = by (n.parts.destination == 255) refl
+  where
+    by : (b : Bool) → (n.parts.destination == 255) ≡ b → (not (not (n.parts.destination == 255)) || is_own k n.parts.destination) ≡ is_meant k n (not (n.parts.destination == 255))
+    by true e = rw e refl
+    by false e = rw e refl
+
+held_and_own : (k : Known) (n : Note) (x : ℕ) → since_of k n.parts.source ≡ Some x → (addressed : Bool)
+    → concerns k n (record { addressed = addressed; source = n.parts.source }) ≡ (is_meant k n addressed && is_bearing addressed n)
+held_and_own k n x e addressed = rw (e, eq-eqb n.parts.source n.parts.source refl) refl
+
+session_is : (k : Known) (n : Note) (older : List Note) (b : Bool) → ((not (iso_key_of n.parts).addressed || is_own k n.parts.destination) && is_bearing (iso_key_of n.parts).addressed n) ≡ b
+    → by_session k n older ≡ (if b then iso_carried (run_of (iso_rules (iso_key_of n.parts).addressed) (iso_trace k (iso_key_of n.parts).addressed n.parts.source (n ∷ older))) else None)
+session_is k n older true e = rw e refl
+session_is k n older false e = rw e refl
+
+completed_iso : (k : Known) (n : Note) (older : List Note) → is_transport n.parts ≡ true → completed_by k n older ≡ by_session k n older
+completed_iso k n older e = rw e refl
+
+module _ (c : Settings) (s : ℕ) (h : History) (m : ℕ) (f : BusFrame) (x : Holder) (are : AreSettings c) (transport : is_transport (parts_of f.id) ≡ true)
+  (holds : holder_at (known c s h).claims.holders (parts_of f.id).source ≡ Some x) where
+  since_is : since_of (known c s h) (parts_of f.id).source ≡ Some x.since
+  since_is = ap (option_map (λ (y : Holder). y.since)) holds
+
+  concerns_is : concerns (known c s h) (the_note c s h m f) (iso_key_of (parts_of f.id))
+      ≡ ((not (iso_key_of (parts_of f.id)).addressed || is_own (known c s h) (parts_of f.id).destination) && is_bearing (iso_key_of (parts_of f.id)).addressed (the_note c s h m f))
+  concerns_is =
+      held_and_own (known c s h) (the_note c s h m f) x.since since_is (iso_key_of (parts_of f.id)).addressed
+      ∙ ap (λ (b : Bool). b && is_bearing (iso_key_of (parts_of f.id)).addressed (the_note c s h m f)) (sym (meant_is (known c s h) (the_note c s h m f)))
+
+  -- the run that it ends, or none
+  ends : (addressed : Bool) (b : Bool) → concerns (known c s h) (the_note c s h m f) (record { addressed = addressed; source = (parts_of f.id).source }) ≡ b
+      → (if b then iso_carried (run_of (iso_rules addressed) (iso_trace (known c s h) addressed (parts_of f.id).source (the_note c s h m f ∷ notes_of c s h))) else None)
+      ≡ (if b then iso_carried (finished (iso_rules addressed) (iso_open (known c s h) (notes_of c s h) (record { addressed = addressed; source = (parts_of f.id).source }) m) (iso_piece (the_note c s h m f))) else None)
+  ends addressed true e =
+      ap (λ (t : List IsoPiece). iso_carried (run_of (iso_rules addressed) t))
+      (trace_is c s h m f are addressed (parts_of f.id).source ∙ ap (λ (b : Bool). with_piece b (the_note c s h m f) (iso_trace (known c s h) addressed (parts_of f.id).source (notes_of c s h))) e)
+      ∙ ap iso_carried ((steps addressed).whole (iso_trace (known c s h) addressed (parts_of f.id).source (notes_of c s h)) (iso_piece (the_note c s h m f)))
+  ends addressed false e = refl
+
+  completes : completed_by (known c s h) (the_note c s h m f) (notes_of c s h)
+      ≡ (if concerns (known c s h) (the_note c s h m f) (iso_key_of (parts_of f.id))
+      then iso_carried (finished (iso_rules (iso_key_of (parts_of f.id)).addressed) (iso_open (known c s h) (notes_of c s h) (iso_key_of (parts_of f.id)) m) (iso_piece (the_note c s h m f)))
+      else None)
+  completes =
+      completed_iso (known c s h) (the_note c s h m f) (notes_of c s h) transport
+      ∙ session_is (known c s h) (the_note c s h m f) (notes_of c s h) (concerns (known c s h) (the_note c s h m f) (iso_key_of (parts_of f.id))) (sym concerns_is)
+      ∙ ends (iso_key_of (parts_of f.id)).addressed (concerns (known c s h) (the_note c s h m f) (iso_key_of (parts_of f.id))) refl
+
+  pub complete : CompletesIso c s h m f x
+  complete = record {
+    completed =
+    ap (λ (o : Option Holder). said_by (length h) m (parts_of f.id).source o (completed_by (known c s h) (the_note c s h m f) (notes_of c s h))) holds
+    ∙ ap (said_by (length h) m (parts_of f.id).source (Some x)) completes;
+  }
+
+pub iso_completes : FramesCompleteIso
+iso_completes c s h m f x are transport holds = complete c s h m f x are transport holds
