@@ -4,6 +4,7 @@ pub mod Moves
 pub mod TraceMoves
 pub mod KeySteps
 pub mod SessionSteps
+pub mod FreshSteps
 mod Computed
 mod ClaimCases
 mod FastCases

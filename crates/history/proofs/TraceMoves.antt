@@ -172,6 +172,19 @@ module _ (c : Settings) (s : ℕ) (h : History) (m : ℕ) (f : BusFrame) (are : 
       not_it : (p : ℕ) → p ≢ 60928 → ((parts_of f.id).pgn == p) ≡ false
       not_it p other = rw pgn_is (ne_eqb 60928 p (λ e. other (sym e)))
 
+-- what of the claim a note of another kind needs: who holds an address after it, and since when
+pub known_after_claim : (c : Settings) (s : ℕ) (h : History) (m : ℕ) (f : BusFrame) → is_claim f ≡ true
+    → known c s (frame m f ∷ h) ≡ followed_by (length h) (known c s h) (claim (known c s h).claims (claim_by (length h) m f)).after
+known_after_claim c s h m f claims = rw claims refl
+
+pub moved_since : (c : Settings) (s : ℕ) (h : History) (m : ℕ) (f : BusFrame) → AreSettings c → (a : ℕ)
+    → Moved (is_lost (claim (known c s h).claims (claim_by (length h) m f)).step a) (length h) (since_of (known c s h) a)
+    (since_of (followed_by (length h) (known c s h) (claim (known c s h).claims (claim_by (length h) m f)).after) a)
+unfolding since_in
+moved_since c s h m f are a =
+    moved_of (known c s h).claims (claim_by (length h) m f) (claim (known c s h).claims (claim_by (length h) m f)) a
+    (fate (known c s h).claims (claim_by (length h) m f) (addresses_are_sound c s h are).sound a)
+
 pub claims_move_traces : ClaimsMoveTraces
 claims_move_traces c s h m f are claims = claim_moves c s h m f are claims
 
@@ -185,7 +198,7 @@ commanded_holders : (c : Claims) (a m : ℕ) → (command c a m).holders ≡ c.h
 unfolding command
 commanded_holders c a m = same_holders (is_obeyed c a) c a m
 
-same_since : (index : ℕ) (k : Known) (a m source : ℕ) → since_of (followed_by index k (command k.claims a m)) source ≡ since_of k source
+pub same_since : (index : ℕ) (k : Known) (a m source : ℕ) → since_of (followed_by index k (command k.claims a m)) source ≡ since_of k source
 same_since index k a m source = ap (λ (x : List (Option Holder)). option_map (λ (h : Holder). h.since) (holder_at x source)) (commanded_holders k.claims a m)
 
 module _ (a i own_since : ℕ) (notes : List Note) (below : AreBelow i notes) where

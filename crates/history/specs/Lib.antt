@@ -16,6 +16,7 @@ pub mod Replay
 pub mod AddressLaws
 pub mod TraceLaws
 pub mod KeyLaws
+pub mod FreshLaws
 pub mod Cases
 pub mod ClaimCases
 pub mod FastCases

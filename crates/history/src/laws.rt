@@ -1,5 +1,6 @@
 //! What is promised of every history. Each law is a function that does nothing, and whose clause is the law.
 ghost use Rattle.history.specs.AddressLaws.{AddressesAreSound};
+ghost use Rattle.history.specs.FreshLaws.{FreshByLast, MessagesAreKept, ClaimsForget, CommandsForgetNone};
 ghost use Rattle.history.specs.KeyLaws.{FramesStepFast, FramesKeepFast, TimeEndsFast, FramesStepIso, FramesCompleteIso, TimeEndsIso};
 ghost use Rattle.history.specs.TraceLaws.{ClaimsMoveTraces, CommandsMoveTraces};
 
@@ -30,4 +31,13 @@ pub fn transport_frames_step_their_session()
     ensures step { FramesStepIso }
     ensures complete { FramesCompleteIso }
     ensures later { TimeEndsIso }
+{}
+
+/// Whether a source is fresh in a row is known by its last message of that row since it holds its address: the next one takes its place,
+/// and it is forgotten exactly where the address is lost.
+pub fn freshness_is_kept()
+    ensures last { FreshByLast }
+    ensures messages { MessagesAreKept }
+    ensures claims { ClaimsForget }
+    ensures commands { CommandsForgetNone }
 {}

@@ -1,0 +1,160 @@
+-- The laws of freshness.
+use Rattle.std.proofs.Common.{◌≡◌, ◌≢◌, ℕ, suc, ◌<◌, ◌≤◌, Bool, true, false, ◌&&◌, List, [], ◌∷◌, ◌⊎◌, inl, inr, length, refl, sym, ap, subst, ◌∙◌, ◌==◌, nat_le, arith}
+use Rattle.std.specs.Prelude.{Option, Some, None, find, if◌then◌else◌, option_map}
+use Rattle.std.specs.List.{AllByRecursion}
+use Rattle.pgn_profile.specs.Profiled.{messages}
+use Rattle.history.specs.Traces.{Note}
+use Rattle.std.proofs.lemmas.Bool.{and_parts, eqb-true, lt-leb, le-leb, cases_Bool}
+use Rattle.n2k_id.specs.Frame.{BusFrame}
+use Rattle.n2k_id.specs.Identifier.{parts_of}
+use Rattle.readings.specs.declared.rows.Row.{Row}
+use Rattle.claim_table.specs.declared.answer.Holder.{Holder}
+use Rattle.claim_table.specs.Claims.{holder_at, claim}
+use Rattle.history.specs.Entries.{Entry, History, frame, datagram, tick, command}
+use Rattle.history.specs.Settings.{Settings}
+use Rattle.history.specs.Known.{Known, known, since_of, is_claim, claim_by, followed_by}
+use Rattle.history.specs.Messages.{Message, Carried, done, messages_of, said_by, with_message, completed_by}
+use Rattle.history.specs.Opens.{note_of, notes_of}
+use Rattle.history.specs.Choice.{is_row, reading_of, is_of, is_fresh_since, still_counts}
+use Rattle.history.specs.AddressLaws.{AreSettings}
+use Rattle.history.specs.TraceLaws.{is_lost}
+use Rattle.history.specs.FreshLaws.{last_since, last_of, tells, FreshByLast, MessagesAreKept, ClaimsForget, CommandsForgetNone}
+use Rattle.history.proofs.Addresses.{addresses_are_sound}
+use Rattle.history.proofs.KeySteps.{dated_at, known_same}
+use Rattle.history.proofs.TraceMoves.{same_since, moved_since, known_after_claim}
+use Rattle.history.proofs.Moves.{Moved}
+use Rattle.history.proofs.Moves as moves
+
+pub fresh_by_last : FreshByLast
+fresh_by_last rule k row source m older = by (since_of k source)
+  where
+    by : (since : Option ℕ) → is_fresh_since rule row source m older since ≡ still_counts rule.timeout m (last_since row source older since)
+    by None = refl
+    by (Some since) = refl
+
+-- each message has the index of an entry of the history
+abbrev AreBelow : ℕ → List Message → Type 0
+AreBelow n older = AllByRecursion (λ d. d.index < n) older
+
+later : (n : ℕ) (older : List Message) → AreBelow n older → AreBelow (suc n) older
+later n [] h = tt
+later n (d ∷ older) h = (omega (arith, h.0), later n older h.1)
+
+added : (n m source : ℕ) (x : Option Holder) (what : Option Carried) (older : List Message) → AreBelow n older → AreBelow (suc n) (with_message (said_by n m source x what) older)
+added n m source None what older h = later n older h
+added n m source (Some x) None older h = later n older h
+added n m source (Some x) (Some w) older h = (omega arith, later n older h)
+
+below : (c : Settings) (s : ℕ) (h : History) → AreBelow (length h) (messages_of c s h)
+below c s [] = tt
+below c s (frame m f ∷ h) =
+    added (length h) m (parts_of f.id).source (holder_at (known c s h).claims.holders (parts_of f.id).source)
+    (completed_by (known c s h) (note_of c (length h) (known c s h) (notes_of c s h) m f) (notes_of c s h)) (messages_of c s h) (below c s h)
+below c s (datagram m bytes ∷ h) = later (length h) (messages_of c s h) (below c s h)
+below c s (tick m ∷ h) = later (length h) (messages_of c s h) (below c s h)
+below c s (command m source address ∷ h) = later (length h) (messages_of c s h) (below c s h)
+
+-- ---- what is found
+
+found_newest : (row : Row) (source since : ℕ) (d : Message) (older : List Message) → since ≤ d.index
+    → find (is_of row source since) (d ∷ older) ≡ (if (d.source == source) && is_row row (reading_of d) then Some d else find (is_of row source since) older)
+found_newest row source since d older le = rw (le-leb since d.index le) refl
+
+none_since : (row : Row) (source i : ℕ) (older : List Message) → AreBelow i older → find (is_of row source i) older ≡ None
+none_since row source i [] h = refl
+none_since row source i (d ∷ older) h = rw (lt-leb i d.index h.0, neither (d.source == source)) (none_since row source i older h.1)
+  where
+    neither : (x : Bool) → (x && false) ≡ false
+    neither true = refl
+    neither false = refl
+
+-- ---- a frame that is no claim
+
+abbrev IsDated : Option ℕ → ℕ → Type 0
+IsDated None n = Unit {0}
+IsDated (Some since) n = since ≤ n
+
+-- a message is of a source that holds its address
+abbrev IsHeld : ℕ → Option ℕ → Option Message → Type 0
+IsHeld source since None = Unit {0}
+IsHeld source since (Some d) = (d.source == source) ≡ true → (x : ℕ) × (since ≡ Some x)
+
+abbrev HasIndex : ℕ → Option Message → Type 0
+HasIndex n None = Unit {0}
+HasIndex n (Some d) = d.index ≡ n
+
+module _ (row : Row) (source n : ℕ) (older : List Message) where
+  unheld : (d : Message) (b : Bool) → (d.source == source) ≡ b → IsHeld source None (Some d) → None ≡ (if tells row source (Some d) then Some d else None)
+  unheld d true e held = let x = held e in cc
+  unheld d false e held = rw e refl
+
+  kept : (since : Option ℕ) (said : Option Message) → IsDated since n → HasIndex n said → IsHeld source since said
+      → last_since row source (with_message said older) since ≡ (if tells row source said then said else last_since row source older since)
+  kept since None dated index held = refl
+  kept None (Some d) dated index held = unheld d (d.source == source) refl held
+  kept (Some since) (Some d) dated index held = found_newest row source since d older (subst (λ (x : ℕ). since ≤ x) (sym index) dated)
+
+said_index : (n m from : ℕ) (x : Option Holder) (what : Option Carried) → HasIndex n (said_by n m from x what)
+said_index n m from None what = tt
+said_index n m from (Some x) None = tt
+said_index n m from (Some x) (Some w) = refl
+
+said_held : (k : Known) (n m from source : ℕ) (x : Option Holder) (what : Option Carried) → holder_at k.claims.holders from ≡ x → IsHeld source (since_of k source) (said_by n m from x what)
+said_held k n m from source None what e = tt
+said_held k n m from source (Some x) None e = tt
+said_held k n m from source (Some x) (Some w) e =
+    λ same. (x.since, ap (λ (a : ℕ). since_of k a) (sym (eqb-true from source same)) ∙ ap (option_map (λ (y : Holder). y.since)) e)
+
+dated : (c : Settings) (s : ℕ) (h : History) → AreSettings c → (source : ℕ) (x : Option Holder) → holder_at (known c s h).claims.holders source ≡ x
+    → IsDated (option_map (λ (y : Holder). y.since) x) (length h)
+dated c s h are source None e = tt
+dated c s h are source (Some x) e = dated_at (length h) (known c s h).claims.holders source x (addresses_are_sound c s h are).dated e
+
+pub messages_are_kept : MessagesAreKept
+messages_are_kept c s h m f row source are other =
+    rw (known_same c s h m f other)
+    (kept row source (length h) (messages_of c s h) (since_of (known c s h) source) (done c s h (frame m f))
+    (dated c s h are source (holder_at (known c s h).claims.holders source) refl)
+    (said_index (length h) m (parts_of f.id).source (holder_at (known c s h).claims.holders (parts_of f.id).source) (completed_by (known c s h) (note_of c (length h) (known c s h) (notes_of c s h) m f) (notes_of c s h)))
+    (said_held (known c s h) (length h) m (parts_of f.id).source source (holder_at (known c s h).claims.holders (parts_of f.id).source) (completed_by (known c s h) (note_of c (length h) (known c s h) (notes_of c s h) m f) (notes_of c s h)) refl))
+
+-- ---- a claim
+
+claim_completes_none : (k : Known) (n : Note) (older : List Note) → n.parts.pgn ≡ 60928 → completed_by k n older ≡ None
+unfolding messages
+claim_completes_none k n older e = rw e refl
+
+says_none : (n m from : ℕ) (x : Option Holder) → said_by n m from x None ≡ None
+says_none n m from None = refl
+says_none n m from (Some x) = refl
+
+claim_says_none : (c : Settings) (s : ℕ) (h : History) (m : ℕ) (f : BusFrame) → is_claim f ≡ true → messages_of c s (frame m f ∷ h) ≡ messages_of c s h
+claim_says_none c s h m f claims =
+    ap (λ (x : Option Message). with_message x (messages_of c s h))
+    (ap (said_by (length h) m (parts_of f.id).source (holder_at (known c s h).claims.holders (parts_of f.id).source))
+    (claim_completes_none (known c s h) (note_of c (length h) (known c s h) (notes_of c s h) m f) (notes_of c s h) (eqb-true (parts_of f.id).pgn 60928 (and_parts _ _ claims).0))
+    ∙ says_none (length h) m (parts_of f.id).source (holder_at (known c s h).claims.holders (parts_of f.id).source))
+
+module _ (row : Row) (source i : ℕ) (older : List Message) (below_i : AreBelow i older) where
+  forgotten : (after : Option ℕ) → (after ≡ Some i) ⊎ (after ≡ None) → last_since row source older after ≡ None
+  forgotten after (inl e) = rw e (none_since row source i older below_i)
+  forgotten after (inr e) = rw e refl
+
+  none_before : (lost : Bool) (before : Option ℕ) → (lost ≡ true) ⊎ (before ≡ None) → None ≡ (if lost then None else last_since row source older before)
+  none_before lost before (inl e) = rw e refl
+  none_before true before (inr e) = refl
+  none_before false before (inr e) = rw e refl
+
+  by_move : (lost : Bool) (before after : Option ℕ) → Moved lost i before after → last_since row source older after ≡ (if lost then None else last_since row source older before)
+  by_move lost before after (moves.stays kept same) = rw (same, kept) refl
+  by_move lost before after (moves.begins new old) = forgotten after new ∙ none_before lost before old
+
+pub claims_forget : ClaimsForget
+claims_forget c s h m f row source are claims =
+    rw (known_after_claim c s h m f claims)
+    (ap (λ (x : List Message). last_of (followed_by (length h) (known c s h) (claim (known c s h).claims (claim_by (length h) m f)).after) row source x) (claim_says_none c s h m f claims)
+    ∙ by_move row source (length h) (messages_of c s h) (below c s h) (is_lost (claim (known c s h).claims (claim_by (length h) m f)).step source) (since_of (known c s h) source)
+    (since_of (followed_by (length h) (known c s h) (claim (known c s h).claims (claim_by (length h) m f)).after) source) (moved_since c s h m f are source))
+
+pub commands_forget_none : CommandsForgetNone
+commands_forget_none c s h m from address row source = ap (last_since row source (messages_of c s h)) (same_since (length h) (known c s h) address m source)

@@ -1,0 +1,14 @@
+use Rattle.history.proofs.FreshSteps.{fresh_by_last, messages_are_kept, claims_forget, commands_forget_none}
+use Rattle.history.proofs.laws.freshness_is_kept.Goals as goal
+
+pub returns-clause-last : goal.returns-clause-last
+returns-clause-last c = fresh_by_last
+
+pub returns-clause-messages : goal.returns-clause-messages
+returns-clause-messages c = messages_are_kept
+
+pub returns-clause-claims : goal.returns-clause-claims
+returns-clause-claims c = claims_forget
+
+pub returns-clause-commands : goal.returns-clause-commands
+returns-clause-commands c = commands_forget_none

@@ -1,0 +1,49 @@
+-- By what is kept of each row and source, its freshness is known.
+use Rattle.std.specs.Prelude.{◌≡◌, ℕ, Bool, true, false, ◌&&◌, ◌==◌, List, [], ◌∷◌, length, find, Option, Some, None, is_some, if◌then◌else◌}
+use Rattle.n2k_id.specs.Frame.{BusFrame}
+use Rattle.readings.specs.declared.rows.Row.{Row}
+use Rattle.claim_table.specs.Claims.{claim}
+use Rattle.history.specs.AddressLaws.{AreSettings}
+use Rattle.history.specs.TraceLaws.{is_lost}
+use Rattle.history.specs.Entries.{Entry, History, frame, command}
+use Rattle.history.specs.Settings.{Settings, RowRule}
+use Rattle.history.specs.Known.{Known, known, since_of, is_claim, claim_by}
+use Rattle.history.specs.Messages.{Message, done, messages_of}
+use Rattle.history.specs.Choice.{is_row, reading_of, is_of, is_fresh, still_counts}
+
+-- the last message of a row from a source since it holds its address
+abbrev pub last_since : Row → ℕ → List Message → Option ℕ → Option Message
+last_since row source older None = None
+last_since row source older (Some since) = find (is_of row source since) older
+
+abbrev pub last_of : Known → Row → ℕ → List Message → Option Message
+last_of k row source older = last_since row source older (since_of k source)
+
+-- the message is of the row, from the source
+abbrev pub tells : Row → ℕ → Option Message → Bool
+tells row source None = false
+tells row source (Some d) = (d.source == source) && is_row row (reading_of d)
+
+-- whether a source is fresh depends on that message alone
+abbrev pub FreshByLast : Type 0
+FreshByLast = (rule : RowRule) (k : Known) (row : Row) (source m : ℕ) (older : List Message) → is_fresh rule k row source m older ≡ still_counts rule.timeout m (last_of k row source older)
+
+-- a message takes the place of the one before, of its row and its source
+abbrev pub MessagesAreKept : Type 0
+MessagesAreKept =
+    (c : Settings) (s : ℕ) (h : History) (m : ℕ) (f : BusFrame) (row : Row) (source : ℕ) → AreSettings c → is_claim f ≡ false
+    → last_of (known c s (frame m f ∷ h)) row source (messages_of c s (frame m f ∷ h))
+    ≡ (if tells row source (done c s h (frame m f)) then done c s h (frame m f) else last_of (known c s h) row source (messages_of c s h))
+
+-- a claim forgets those of the addresses that were lost by it, and no others
+abbrev pub ClaimsForget : Type 0
+ClaimsForget =
+    (c : Settings) (s : ℕ) (h : History) (m : ℕ) (f : BusFrame) (row : Row) (source : ℕ) → AreSettings c → is_claim f ≡ true
+    → last_of (known c s (frame m f ∷ h)) row source (messages_of c s (frame m f ∷ h))
+    ≡ (if is_lost (claim (known c s h).claims (claim_by (length h) m f)).step source then None else last_of (known c s h) row source (messages_of c s h))
+
+-- a command forgets none
+abbrev pub CommandsForgetNone : Type 0
+CommandsForgetNone =
+    (c : Settings) (s : ℕ) (h : History) (m from address : ℕ) (row : Row) (source : ℕ)
+    → last_of (known c s (command m from address ∷ h)) row source (messages_of c s (command m from address ∷ h)) ≡ last_of (known c s h) row source (messages_of c s h)
