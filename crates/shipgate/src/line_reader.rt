@@ -1,6 +1,7 @@
 //! Cuts an input that comes in pieces into its lines, within fixed memory.
-ghost use Rattle.std.specs.Prelude.{◌≡◌, ◌+◌, ◌<◌, ◌≤◌, length, take, drop, slice_index, MatchOption};
-ghost use Rattle.shipgate.specs.Lines.{without_cr};
+ghost use Rattle.std.specs.Prelude.{◌≡◌, ◌+◌, ◌<◌, ◌≤◌, ◌||◌, false, length, take, drop, slice_index, MatchOption};
+ghost use Rattle.std.specs.List.{fold};
+ghost use Rattle.shipgate.specs.Lines.{is_lf, without_cr};
 ghost use Rattle.gate_outside.specs.Faults.{HasCause};
 ghost use Rattle.shipgate.specs.LineReader.{HasNoLf, ReadsBehind};
 
@@ -13,6 +14,9 @@ const LONGEST: usize = 4096;
 /// How many bytes are read at once at most.
 const PIECE: usize = 65536;
 
+/// How many bytes are compared with LF at once.
+const BLOCK: usize = 32;
+
 /// What `advance` found.
 #[derive(Clone, Copy, Debug, PartialEq, Eq)]
 pub(crate) enum Next {
@@ -24,12 +28,46 @@ pub(crate) enum Next {
     Unfinished,
 }
 
+// Where the first LF stands, looked for byte by byte.
+fn lf_in(bytes: &[u8]) -> Option<usize>
+    ensures { MatchOption result (HasNoLf bytes.now) (λ at.
+        (at < length bytes.now) × (slice_index bytes.now at ≡ 10) × HasNoLf (take at bytes.now)) }
+{
+    bytes.iter().position(|byte| *byte == b'\n')
+}
+
+// Whether an LF is among the bytes. All of them are compared, many at once, and none is a reason to stop.
+fn has_lf(block: &[u8]) -> bool
+    ensures { result ≡ fold (λ found byte. found || is_lf byte) false block.now }
+{
+    block
+        .iter()
+        .fold(false, |found, byte| found | (*byte == b'\n'))
+}
+
+// How many bytes come first in whole blocks without an LF.
+#[tactic(auto, using(crate::proofs::Blocks::no_lf_more))]
+fn passed(bytes: &[u8]) -> usize
+    ensures within { result ≤ length bytes.now }
+    ensures no_lf { HasNoLf (take result bytes.now) }
+{
+    let mut at = 0;
+    while bytes.len() - at >= BLOCK && !has_lf(&bytes[at..at + BLOCK]) {
+        at += BLOCK;
+    }
+    at
+}
+
 // Where the first LF stands.
 fn first_lf(bytes: &[u8]) -> Option<usize>
     ensures { MatchOption result (HasNoLf bytes.now) (λ at.
         (at < length bytes.now) × (slice_index bytes.now at ≡ 10) × HasNoLf (take at bytes.now)) }
 {
-    bytes.iter().position(|byte| *byte == b'\n')
+    let at = passed(bytes);
+    match lf_in(bytes.split_at(at).1) {
+        Some(count) => Some(at + count),
+        None => None,
+    }
 }
 
 // The length of a line whose bytes up to its LF are these: a CR at the end is no part of it.
