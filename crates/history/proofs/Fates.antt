@@ -1,5 +1,5 @@
 -- Who holds an address after a claim.
-use Rattle.std.proofs.Common.{◌≡◌, ◌≢◌, ℕ, zero, suc, ◌⊎◌, inl, inr, Bool, true, false, ◌||◌, List, [], ◌∷◌, set, refl, sym, ap, subst, ◌∙◌, ◌==◌, nat_lt}
+use Rattle.std.proofs.Common.{◌≡◌, ◌≢◌, ℕ, zero, suc, ◌⊎◌, inl, inr, Bool, true, false, ◌||◌, List, [], ◌∷◌, set, refl, sym, ap, subst, ◌∙◌, ◌==◌}
 use Rattle.std.specs.Prelude.{Option, Some, None}
 use Rattle.std.proofs.lemmas.Bool.{cases_Bool, eqb-true, eq-eqb}
 use Rattle.std.proofs.lemmas.List.{get_or-set_other}
@@ -8,7 +8,7 @@ use Rattle.claim_table.specs.declared.answer.OwnAnswer.{OwnAnswer}
 use Rattle.claim_table.specs.declared.answer.OwnAnswer.TheVariants.{Silent, Defend}
 use Rattle.claim_table.specs.Claims.{Claims, Claim, Outcome, holder_at, holder_by, is_at, left_by, vacated, outcome, moved, next_own, with_released, with_taken, without_left, claim}
 use Rattle.claim_table.specs.Laws.{IsSound}
-use Rattle.claim_table.specs.Cases.{IsCase, IsOthers, duplicate, cannot_claim, defended, given_up, free, kept, won}
+use Rattle.claim_table.specs.Cases.{IsCase, duplicate, cannot_claim, defended, given_up, free, kept, won}
 use Rattle.claim_table.proofs.CaseLemmas.{claim_case, is_at-true, is_at-false, not_eqb}
 use Rattle.claim_table.proofs.SoundLemmas.{none_at_set, vacated_other, vacated_free, left_elsewhere}
 use Rattle.history.specs.FromBus.{won_by}
@@ -46,10 +46,9 @@ same_or_other a b = elim (cases_Bool (a == b)) [ inl e ↦ inl (eqb-true a b e) 
 
 -- where it takes one: another NAME's, or one that nobody has
 module _ (c : Claims) (k : Claim) (o : Outcome) (left : Option ℕ) (elsewhere : left ≢ Some k.address)
-  (released : o.step.released ≡ left) (holders : o.after.holders ≡ set (vacated c.holders left) k.address (Some (holder_by k)))
-  (from : (is_at k.address (won_by o.step) ≡ true) ⊎ ((won_by o.step ≡ None) × (holder_at (vacated c.holders left) k.address ≡ None)))
-  (only : (a : ℕ) → a ≢ k.address → is_at a (won_by o.step) ≡ false) where
-
+    (released : o.step.released ≡ left) (holders : o.after.holders ≡ set (vacated c.holders left) k.address (Some (holder_by k)))
+    (from : (is_at k.address (won_by o.step) ≡ true) ⊎ ((won_by o.step ≡ None) × (holder_at (vacated c.holders left) k.address ≡ None)))
+    (only : (a : ℕ) → a ≢ k.address → is_at a (won_by o.step) ≡ false) where
   lost_is : (a : ℕ) (b w : Bool) → is_at a left ≡ b → is_at a (won_by o.step) ≡ w → is_lost o.step a ≡ (b || w)
   lost_is a b w e f = rw (released, e, f) refl
 

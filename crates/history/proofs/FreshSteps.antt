@@ -1,16 +1,16 @@
 -- The laws of freshness.
-use Rattle.std.proofs.Common.{◌≡◌, ◌≢◌, ℕ, suc, ◌<◌, ◌≤◌, Bool, true, false, ◌&&◌, List, [], ◌∷◌, ◌⊎◌, inl, inr, length, refl, sym, ap, subst, ◌∙◌, ◌==◌, nat_le, arith}
+use Rattle.std.proofs.Common.{◌≡◌, ℕ, suc, ◌<◌, ◌≤◌, Bool, true, false, ◌&&◌, List, [], ◌∷◌, ◌⊎◌, inl, inr, length, refl, sym, ap, subst, ◌∙◌, ◌==◌, arith}
 use Rattle.std.specs.Prelude.{Option, Some, None, find, if◌then◌else◌, option_map}
 use Rattle.std.specs.List.{AllByRecursion}
 use Rattle.pgn_profile.specs.Profiled.{messages}
 use Rattle.history.specs.Traces.{Note}
-use Rattle.std.proofs.lemmas.Bool.{and_parts, eqb-true, lt-leb, le-leb, cases_Bool}
+use Rattle.std.proofs.lemmas.Bool.{and_parts, eqb-true, lt-leb, le-leb}
 use Rattle.n2k_id.specs.Frame.{BusFrame}
 use Rattle.n2k_id.specs.Identifier.{parts_of}
 use Rattle.readings.specs.declared.rows.Row.{Row}
 use Rattle.claim_table.specs.declared.answer.Holder.{Holder}
 use Rattle.claim_table.specs.Claims.{holder_at, claim}
-use Rattle.history.specs.Entries.{Entry, History, frame, datagram, tick, command}
+use Rattle.history.specs.Entries.{History, frame, datagram, tick, command}
 use Rattle.history.specs.Settings.{Settings}
 use Rattle.history.specs.Known.{Known, known, since_of, is_claim, claim_by, followed_by}
 use Rattle.history.specs.Messages.{Message, Carried, done, messages_of, said_by, with_message, completed_by}

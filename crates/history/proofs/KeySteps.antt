@@ -1,28 +1,27 @@
 -- The laws of one key.
-use Rattle.std.proofs.Common.{◌≡◌, ◌≢◌, ℕ, ◌≤◌, Bool, true, false, ◌&&◌, ◌||◌, not, List, [], ◌∷◌, ◌⊎◌, inl, inr, length, map, refl, sym, ap, subst, ◌∙◌, ◌==◌, nat_le}
-use Rattle.std.specs.Prelude.{Option, Some, None, All, filter, if◌then◌else◌, option_map}
-use Rattle.std.proofs.lemmas.Bool.{eqb-true, eqb-false, ne_eqb, eq-eqb, and_parts, le-leb, cases_Bool}
+use Rattle.std.proofs.Common.{◌≡◌, ℕ, ◌≤◌, Bool, true, false, ◌&&◌, List, ◌∷◌, inl, inr, length, refl, sym, ap, subst, ◌∙◌, ◌==◌, nat_le}
+use Rattle.std.specs.Prelude.{Option, Some, None, All, option_map}
+use Rattle.std.proofs.lemmas.Bool.{eqb-true, eqb-false, ne_eqb, eq-eqb, le-leb, cases_Bool}
 use Rattle.n2k_id.specs.declared.header.Parts.{Parts}
 use Rattle.n2k_id.specs.Frame.{BusFrame}
 use Rattle.n2k_id.specs.Identifier.{parts_of}
 use Rattle.claim_table.specs.declared.answer.Holder.{Holder}
 use Rattle.claim_table.specs.Claims.{IsSinceBy, holder_at}
 use Rattle.pgn_profile.specs.Profiled.{kind_of, messages}
-use Rattle.pgn_profile.specs.declared.kinds.Kind.{Kind}
-use Rattle.pgn_profile.specs.declared.kinds.Kind.TheVariants.{Single, Fast, Outside}
-use Rattle.runs.specs.Runs.{fed, finished, kept_at, open_at, open_of, run_of}
+use Rattle.pgn_profile.specs.declared.kinds.Kind.TheVariants.{Fast, Outside}
+use Rattle.runs.specs.Runs.{fed, finished, kept_at, open_at, run_of}
 use Rattle.runs.specs.Laws.{OneStep}
 use Rattle.runs.proofs.Steps.{one_step_of}
 use Rattle.fast_packet.specs.FastRuns.{FastPiece, fast_rules}
 use Rattle.fast_packet.proofs.Lawful.{lawful}
-use Rattle.history.specs.Entries.{Entry, History, frame}
+use Rattle.history.specs.Entries.{History, frame}
 use Rattle.history.specs.Settings.{Settings}
 use Rattle.history.specs.Known.{Known, known, is_claim, since_of}
-use Rattle.history.specs.Traces.{Note, is_since, fast_piece, fast_trace, fast_trace_since, is_transport}
-use Rattle.history.specs.Opens.{FastKey, same_fast, fast_open, note_of, notes_of}
-use Rattle.history.specs.Messages.{done, said_by, completed_by, by_kind, fast_carried}
+use Rattle.history.specs.Traces.{Note, fast_piece, fast_trace, fast_trace_since, is_transport}
+use Rattle.history.specs.Opens.{FastKey, same_fast, fast_open, notes_of}
+use Rattle.history.specs.Messages.{said_by, completed_by, fast_carried}
 use Rattle.history.specs.AddressLaws.{AreSettings}
-use Rattle.history.specs.KeyLaws.{StepsFast, KeepsFast, FramesStepFast, FramesKeepFast, TimeEndsFast, fast_key, the_note}
+use Rattle.history.specs.KeyLaws.{StepsFast, FramesStepFast, FramesKeepFast, TimeEndsFast, fast_key, the_note}
 use Rattle.history.proofs.Addresses.{addresses_are_sound}
 use Rattle.claim_table.proofs.SoundLemmas.{held_within}
 use Rattle.std.proofs.lemmas.List.Elements.{All-get_or}
@@ -76,7 +75,7 @@ completed_fast : (k : Known) (n : Note) (older : List Note) → kind_of n.parts.
 completed_fast k n older e = rw (no_transport n.parts e, e) refl
 
 module _ (c : Settings) (s : ℕ) (h : History) (m : ℕ) (f : BusFrame) (x : Holder) (are : AreSettings c) (fast : kind_of (parts_of f.id).pgn ≡ Fast)
-  (holds : holder_at (known c s h).claims.holders (parts_of f.id).source ≡ Some x) where
+    (holds : holder_at (known c s h).claims.holders (parts_of f.id).source ≡ Some x) where
   since_is : since_of (known c s h) (parts_of f.id).source ≡ Some x.since
   since_is = ap (option_map (λ (y : Holder). y.since)) holds
 
@@ -105,8 +104,8 @@ module _ (c : Settings) (s : ℕ) (h : History) (m : ℕ) (f : BusFrame) (x : Ho
   step = record {
     left = left;
     completed =
-    ap (λ (o : Option Holder). said_by (length h) m (parts_of f.id).source o (completed_by (known c s h) (the_note c s h m f) (notes_of c s h))) holds
-    ∙ ap (said_by (length h) m (parts_of f.id).source (Some x)) completes;
+        ap (λ (o : Option Holder). said_by (length h) m (parts_of f.id).source o (completed_by (known c s h) (the_note c s h m f) (notes_of c s h))) holds
+        ∙ ap (said_by (length h) m (parts_of f.id).source (Some x)) completes;
   }
 
 pub fast_steps : FramesStepFast
@@ -136,9 +135,9 @@ not_same key other e = rw (eqb-sym other.source key.source, eqb-sym other.pgn ke
 pub fast_keeps : FramesKeepFast
 fast_keeps c s h m f e = record {
   others = λ key n apart.
-  rw (known_same c s h m f e)
-  (ap (λ (t : List FastPiece). open_at fast_rules t n)
-  (other_piece (since_of (known c s h) key.source) key.source key.pgn (the_note c s h m f) (notes_of c s h) (not_same key (fast_key c s h m f) apart)));
+      rw (known_same c s h m f e)
+      (ap (λ (t : List FastPiece). open_at fast_rules t n)
+      (other_piece (since_of (known c s h) key.source) key.source key.pgn (the_note c s h m f) (notes_of c s h) (not_same key (fast_key c s h m f) apart)));
 }
 
 pub fast_ends : TimeEndsFast

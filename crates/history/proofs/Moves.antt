@@ -1,14 +1,13 @@
 -- What counts for a source after a claim or a command.
-use Rattle.std.proofs.Common.{◌≡◌, ◌≢◌, ℕ, suc, ◌<◌, ◌≤◌, Bool, true, false, ◌&&◌, ◌||◌, not, List, [], ◌∷◌, ◌⊎◌, inl, inr, length, map, refl, sym, ap, subst, ◌∙◌, ◌==◌, nat_le, arith}
-use Rattle.std.specs.Prelude.{Option, Some, None, filter, if◌then◌else◌, option_map}
+use Rattle.std.proofs.Common.{◌≡◌, ℕ, suc, ◌<◌, Bool, true, false, ◌&&◌, List, [], ◌∷◌, ◌⊎◌, inl, inr, length, map, refl, sym, ap, ◌∙◌, ◌==◌, nat_le, arith}
+use Rattle.std.specs.Prelude.{Option, Some, None, filter, if◌then◌else◌}
 use Rattle.std.specs.List.{AllByRecursion}
 use Rattle.std.proofs.lemmas.Bool.{lt-leb}
-use Rattle.n2k_id.specs.Frame.{BusFrame}
 use Rattle.history.specs.Entries.{Entry, History, frame, datagram, tick, command}
 use Rattle.history.specs.Settings.{Settings}
 use Rattle.history.specs.Known.{Known, known}
 use Rattle.history.specs.Traces.{Note, is_since}
-use Rattle.history.specs.Opens.{note_of, noted, notes_of}
+use Rattle.history.specs.Opens.{noted, notes_of}
 
 -- each note has the index of an entry of the history
 abbrev pub AreBelow : ℕ → List Note → Type 0

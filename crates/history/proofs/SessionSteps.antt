@@ -1,24 +1,23 @@
 -- The laws of one key of the transport protocol.
-use Rattle.std.proofs.Common.{◌≡◌, ◌≢◌, ℕ, ◌≤◌, Bool, true, false, ◌&&◌, ◌||◌, not, List, [], ◌∷◌, length, map, refl, sym, ap, subst, ◌∙◌, ◌==◌, nat_le}
+use Rattle.std.proofs.Common.{◌≡◌, ℕ, ◌≤◌, Bool, true, false, ◌&&◌, ◌||◌, not, List, ◌∷◌, length, map, refl, sym, ap, ◌∙◌, ◌==◌, nat_le}
 use Rattle.std.specs.Prelude.{Option, Some, None, filter, is_some, if◌then◌else◌, option_map}
-use Rattle.std.proofs.lemmas.Bool.{eqb-true, eq-eqb, le-leb}
-use Rattle.n2k_id.specs.declared.header.Parts.{Parts}
+use Rattle.std.proofs.lemmas.Bool.{eq-eqb, le-leb}
 use Rattle.n2k_id.specs.Frame.{BusFrame}
 use Rattle.n2k_id.specs.Identifier.{parts_of}
 use Rattle.claim_table.specs.declared.answer.Holder.{Holder}
 use Rattle.claim_table.specs.Claims.{holder_at}
-use Rattle.runs.specs.Runs.{fed, finished, kept_at, open_at, open_of, run_of}
+use Rattle.runs.specs.Runs.{fed, finished, kept_at, open_at, run_of}
 use Rattle.runs.specs.Laws.{OneStep}
 use Rattle.runs.proofs.Steps.{one_step_of}
 use Rattle.iso_transport.specs.IsoRuns.{IsoPiece, iso_rules}
 use Rattle.iso_transport.proofs.Lawful.{lawful}
-use Rattle.history.specs.Entries.{Entry, History, frame}
+use Rattle.history.specs.Entries.{History}
 use Rattle.history.specs.Settings.{Settings}
 use Rattle.history.specs.Known.{Known, known, is_own, is_claim, since_of}
 use Rattle.history.specs.Traces.{Note, is_since, iso_piece, iso_trace, broadcast_since, addressed_since, is_transport, is_bearing}
-use Rattle.history.specs.Opens.{IsoKey, iso_key_of, iso_open, note_of, notes_of}
-use Rattle.history.specs.Messages.{done, said_by, completed_by, by_session, iso_carried}
-use Rattle.history.specs.AddressLaws.{AreSettings, AreSound}
+use Rattle.history.specs.Opens.{iso_key_of, iso_open, notes_of}
+use Rattle.history.specs.Messages.{said_by, completed_by, by_session, iso_carried}
+use Rattle.history.specs.AddressLaws.{AreSettings}
 use Rattle.history.specs.KeyLaws.{is_meant, concerns, StepsIso, CompletesIso, FramesStepIso, FramesCompleteIso, TimeEndsIso, the_note}
 use Rattle.history.proofs.Addresses.{addresses_are_sound}
 use Rattle.history.proofs.KeySteps.{dated_at, known_same, eqb-sym}
@@ -100,9 +99,9 @@ module _ (c : Settings) (s : ℕ) (h : History) (m : ℕ) (f : BusFrame) (are : 
   pub step : is_claim f ≡ false → StepsIso c s h m f
   step other = record {
     left = λ key n.
-    rw (known_same c s h m f other)
-    (ap (λ (t : List IsoPiece). open_at (iso_rules key.addressed) t n) (trace_is key.addressed key.source)
-    ∙ opens key.addressed (iso_trace (known c s h) key.addressed key.source (notes_of c s h)) n (concerns (known c s h) (the_note c s h m f) key));
+        rw (known_same c s h m f other)
+        (ap (λ (t : List IsoPiece). open_at (iso_rules key.addressed) t n) (trace_is key.addressed key.source)
+        ∙ opens key.addressed (iso_trace (known c s h) key.addressed key.source (notes_of c s h)) n (concerns (known c s h) (the_note c s h m f) key));
   }
 
 pub iso_steps : FramesStepIso
@@ -134,7 +133,7 @@ completed_iso : (k : Known) (n : Note) (older : List Note) → is_transport n.pa
 completed_iso k n older e = rw e refl
 
 module _ (c : Settings) (s : ℕ) (h : History) (m : ℕ) (f : BusFrame) (x : Holder) (are : AreSettings c) (transport : is_transport (parts_of f.id) ≡ true)
-  (holds : holder_at (known c s h).claims.holders (parts_of f.id).source ≡ Some x) where
+    (holds : holder_at (known c s h).claims.holders (parts_of f.id).source ≡ Some x) where
   since_is : since_of (known c s h) (parts_of f.id).source ≡ Some x.since
   since_is = ap (option_map (λ (y : Holder). y.since)) holds
 
@@ -166,8 +165,8 @@ module _ (c : Settings) (s : ℕ) (h : History) (m : ℕ) (f : BusFrame) (x : Ho
   pub complete : CompletesIso c s h m f x
   complete = record {
     completed =
-    ap (λ (o : Option Holder). said_by (length h) m (parts_of f.id).source o (completed_by (known c s h) (the_note c s h m f) (notes_of c s h))) holds
-    ∙ ap (said_by (length h) m (parts_of f.id).source (Some x)) completes;
+        ap (λ (o : Option Holder). said_by (length h) m (parts_of f.id).source o (completed_by (known c s h) (the_note c s h m f) (notes_of c s h))) holds
+        ∙ ap (said_by (length h) m (parts_of f.id).source (Some x)) completes;
   }
 
 pub iso_completes : FramesCompleteIso

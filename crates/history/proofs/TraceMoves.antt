@@ -1,7 +1,7 @@
 -- The laws of traces: what counts after a claim, and after a command.
-use Rattle.std.proofs.Common.{◌≡◌, ◌≢◌, ℕ, ◌<◌, ◌≤◌, Bool, true, false, ◌&&◌, ◌||◌, not, List, [], ◌∷◌, ◌⊎◌, inl, inr, length, map, refl, sym, ap, subst, ◌∙◌, ◌==◌, nat_le}
+use Rattle.std.proofs.Common.{◌≡◌, ◌≢◌, ℕ, ◌<◌, Bool, true, false, ◌&&◌, ◌||◌, not, List, [], ◌∷◌, ◌⊎◌, inl, inr, length, map, refl, sym, ap, ◌∙◌, ◌==◌, nat_le}
 use Rattle.std.specs.Prelude.{Option, Some, None, filter, if◌then◌else◌, option_map}
-use Rattle.std.proofs.lemmas.Bool.{eqb-true, eqb-false, ne_eqb, and_parts, lt-leb}
+use Rattle.std.proofs.lemmas.Bool.{eqb-true, ne_eqb, and_parts, lt-leb}
 use Rattle.n2k_id.specs.declared.header.Parts.{Parts}
 use Rattle.n2k_id.specs.Frame.{BusFrame}
 use Rattle.n2k_id.specs.Identifier.{parts_of}
@@ -9,12 +9,10 @@ use Rattle.claim_table.specs.declared.answer.Holder.{Holder}
 use Rattle.claim_table.specs.Claims.{Claims, Claim, Outcome, claim, command, holder_at, is_obeyed, moved_if}
 use Rattle.fast_packet.specs.FastRuns.{FastPiece}
 use Rattle.iso_transport.specs.IsoRuns.{IsoPiece}
-use Rattle.iso_transport.specs.Audience.{is_data}
-use Rattle.history.specs.Entries.{Entry, History, frame}
-use Rattle.history.specs.Entries as entry
+use Rattle.history.specs.Entries.{History, frame}
 use Rattle.history.specs.Settings.{Settings}
 use Rattle.history.specs.Known.{Known, known, is_claim, claim_by, followed_by, since_of, since_own}
-use Rattle.history.specs.Traces.{Note, is_since, fast_piece, fast_trace, fast_trace_since, iso_piece, iso_trace, broadcast_since, addressed_since, is_transport, is_bearing}
+use Rattle.history.specs.Traces.{Note, is_since, fast_piece, fast_trace_since, iso_piece, broadcast_since, addressed_since, is_transport, is_bearing}
 use Rattle.history.specs.Opens.{note_of, notes_of}
 use Rattle.history.specs.AddressLaws.{AreSettings}
 use Rattle.history.specs.TraceLaws.{is_lost, same_own, LeavesTraces, ClaimsMoveTraces, CommandsMoveTraces}
@@ -79,7 +77,7 @@ or_false true = refl
 or_false false = refl
 
 module _ (a i own_since : ℕ) (n : Note) (notes : List Note) (below : AreBelow i notes) (claims : n.parts.pgn ≡ 60928) (lost : Bool) (since after : Option ℕ)
-  (moved : Moved lost i since after) where
+    (moved : Moved lost i since after) where
   changed : (rest : List IsoPiece) → [] ≡ (if lost || true then [] else rest)
   changed rest = rw (or_true lost) refl
 
@@ -157,16 +155,16 @@ module _ (c : Settings) (s : ℕ) (h : History) (m : ℕ) (f : BusFrame) (are : 
   unfolding n
   claim_moves = record {
     fast = λ a p other. rw known_is (
-    fast_as (since_of (followed_by (length h) (known c s h) (claim (known c s h).claims (claim_by (length h) m f)).after) a) a p (n ∷ notes_of c s h)
-    ∙ moved_trace fast_piece (λ x. x.parts.pgn == p) a (length h) n (notes_of c s h) (notes_below c s h) (not_it p other) _ _ _ (moved a)
-    ∙ ap (λ (x : List FastPiece). if is_lost (claim (known c s h).claims (claim_by (length h) m f)).step a then [] else x) (sym (fast_as (since_of (known c s h) a) a p (notes_of c s h))));
+        fast_as (since_of (followed_by (length h) (known c s h) (claim (known c s h).claims (claim_by (length h) m f)).after) a) a p (n ∷ notes_of c s h)
+        ∙ moved_trace fast_piece (λ x. x.parts.pgn == p) a (length h) n (notes_of c s h) (notes_below c s h) (not_it p other) _ _ _ (moved a)
+        ∙ ap (λ (x : List FastPiece). if is_lost (claim (known c s h).claims (claim_by (length h) m f)).step a then [] else x) (sym (fast_as (since_of (known c s h) a) a p (notes_of c s h))));
     broadcast = λ a. rw known_is (
-    broadcast_as (since_of (followed_by (length h) (known c s h) (claim (known c s h).claims (claim_by (length h) m f)).after) a) a (n ∷ notes_of c s h)
-    ∙ moved_trace iso_piece (λ x. (x.parts.destination == 255) && is_bearing false x) a (length h) n (notes_of c s h) (notes_below c s h) (to_all_not n pgn_is) _ _ _ (moved a)
-    ∙ ap (λ (x : List IsoPiece). if is_lost (claim (known c s h).claims (claim_by (length h) m f)).step a then [] else x) (sym (broadcast_as (since_of (known c s h) a) a (notes_of c s h))));
+        broadcast_as (since_of (followed_by (length h) (known c s h) (claim (known c s h).claims (claim_by (length h) m f)).after) a) a (n ∷ notes_of c s h)
+        ∙ moved_trace iso_piece (λ x. (x.parts.destination == 255) && is_bearing false x) a (length h) n (notes_of c s h) (notes_below c s h) (to_all_not n pgn_is) _ _ _ (moved a)
+        ∙ ap (λ (x : List IsoPiece). if is_lost (claim (known c s h).claims (claim_by (length h) m f)).step a then [] else x) (sym (broadcast_as (since_of (known c s h) a) a (notes_of c s h))));
     addressed = λ a. rw known_is (
-    by_own a (length h) (known c s h).own_since n (notes_of c s h) (notes_below c s h) pgn_is _ _ _ (moved a) (known c s h).claims.own
-    (claim (known c s h).claims (claim_by (length h) m f)).after.own);
+        by_own a (length h) (known c s h).own_since n (notes_of c s h) (notes_below c s h) pgn_is _ _ _ (moved a) (known c s h).claims.own
+        (claim (known c s h).claims (claim_by (length h) m f)).after.own);
   }
     where
       not_it : (p : ℕ) → p ≢ 60928 → ((parts_of f.id).pgn == p) ≡ false
@@ -223,7 +221,7 @@ commands_move_traces c s h m source address = record {
   fast = λ a p other. ap (λ (x : Option ℕ). fast_trace_since x a p (notes_of c s h)) (same_since (length h) (known c s h) address m a);
   broadcast = λ a. ap (λ (x : Option ℕ). broadcast_since x a (notes_of c s h)) (same_since (length h) (known c s h) address m a);
   addressed = λ a.
-  ap (λ (x : Option ℕ). addressed_since x (command (known c s h).claims address m).own (since_own (length h) (known c s h).own_since (known c s h).claims.own (command (known c s h).claims address m).own) a (notes_of c s h))
-  (same_since (length h) (known c s h) address m a)
-  ∙ by_command a (length h) (known c s h).own_since (notes_of c s h) (notes_below c s h) (since_of (known c s h) a) (known c s h).claims.own (command (known c s h).claims address m).own;
+      ap (λ (x : Option ℕ). addressed_since x (command (known c s h).claims address m).own (since_own (length h) (known c s h).own_since (known c s h).claims.own (command (known c s h).claims address m).own) a (notes_of c s h))
+      (same_since (length h) (known c s h) address m a)
+      ∙ by_command a (length h) (known c s h).own_since (notes_of c s h) (notes_below c s h) (since_of (known c s h) a) (known c s h).claims.own (command (known c s h).claims address m).own;
 }

@@ -1,11 +1,11 @@
 -- By what is kept of each row and source, its freshness is known.
-use Rattle.std.specs.Prelude.{◌≡◌, ℕ, Bool, true, false, ◌&&◌, ◌==◌, List, [], ◌∷◌, length, find, Option, Some, None, is_some, if◌then◌else◌}
+use Rattle.std.specs.Prelude.{◌≡◌, ℕ, Bool, true, false, ◌&&◌, ◌==◌, List, ◌∷◌, length, find, Option, Some, None, if◌then◌else◌}
 use Rattle.n2k_id.specs.Frame.{BusFrame}
 use Rattle.readings.specs.declared.rows.Row.{Row}
 use Rattle.claim_table.specs.Claims.{claim}
 use Rattle.history.specs.AddressLaws.{AreSettings}
 use Rattle.history.specs.TraceLaws.{is_lost}
-use Rattle.history.specs.Entries.{Entry, History, frame, command}
+use Rattle.history.specs.Entries.{History, frame, command}
 use Rattle.history.specs.Settings.{Settings, RowRule}
 use Rattle.history.specs.Known.{Known, known, since_of, is_claim, claim_by}
 use Rattle.history.specs.Messages.{Message, done, messages_of}

@@ -1,20 +1,20 @@
 -- What one more frame does to what is open of its key.
-use Rattle.std.specs.Prelude.{◌≡◌, ℕ, ◌≤◌, Bool, true, false, ◌&&◌, ◌||◌, not, ◌==◌, List, [], ◌∷◌, length, Option, Some, None, is_some, if◌then◌else◌}
+use Rattle.std.specs.Prelude.{◌≡◌, ℕ, ◌≤◌, Bool, true, false, ◌&&◌, ◌==◌, List, ◌∷◌, length, Some, None, is_some, if◌then◌else◌}
 use Rattle.n2k_id.specs.Frame.{BusFrame}
 use Rattle.n2k_id.specs.Identifier.{parts_of}
 use Rattle.claim_table.specs.Claims.{holder_at}
 use Rattle.claim_table.specs.declared.answer.Holder.{Holder}
 use Rattle.pgn_profile.specs.Profiled.{kind_of}
 use Rattle.pgn_profile.specs.declared.kinds.Kind.TheVariants.{Fast}
-use Rattle.runs.specs.Runs.{fed, finished, kept_at, open_at}
+use Rattle.runs.specs.Runs.{fed, finished, kept_at}
 use Rattle.fast_packet.specs.FastRuns.{fast_rules}
 use Rattle.iso_transport.specs.IsoRuns.{iso_rules}
 use Rattle.history.specs.AddressLaws.{AreSettings}
-use Rattle.history.specs.Entries.{Entry, History, frame, moment_of}
+use Rattle.history.specs.Entries.{History, frame}
 use Rattle.history.specs.Settings.{Settings}
 use Rattle.history.specs.Known.{Known, known, is_own, is_claim, since_of}
 use Rattle.history.specs.Traces.{Note, fast_piece, iso_piece, is_transport, is_bearing}
-use Rattle.history.specs.Opens.{FastKey, IsoKey, same_fast, same_iso, iso_key_of, fast_open, iso_open, note_of, notes_of}
+use Rattle.history.specs.Opens.{FastKey, IsoKey, same_fast, iso_key_of, fast_open, iso_open, note_of, notes_of}
 use Rattle.history.specs.Messages.{done, said_by, fast_carried, iso_carried}
 
 -- a frame that is no claim, from a source that holds its address

@@ -1,12 +1,12 @@
 -- What a claim or a command does to the frames that count for a source.
-use Rattle.std.specs.Prelude.{◌≡◌, ◌≢◌, ℕ, Bool, ◌||◌, not, ◌==◌, List, [], ◌∷◌, length, Option, Some, None, true, false, if◌then◌else◌}
+use Rattle.std.specs.Prelude.{◌≡◌, ◌≢◌, ℕ, Bool, ◌||◌, not, ◌==◌, [], ◌∷◌, length, Option, Some, None, true, false, if◌then◌else◌}
 use Rattle.n2k_id.specs.Frame.{BusFrame}
-use Rattle.claim_table.specs.Claims.{Claims, claim, is_at}
+use Rattle.claim_table.specs.Claims.{claim, is_at}
 use Rattle.claim_table.specs.declared.answer.ClaimStep.{ClaimStep}
 use Rattle.history.specs.AddressLaws.{AreSettings}
 use Rattle.history.specs.Entries.{Entry, History, frame, command}
 use Rattle.history.specs.Settings.{Settings}
-use Rattle.history.specs.Known.{Known, known, is_claim, claim_by}
+use Rattle.history.specs.Known.{known, is_claim, claim_by}
 use Rattle.history.specs.Traces.{fast_trace, iso_trace}
 use Rattle.history.specs.Opens.{notes_of}
 use Rattle.history.specs.FromBus.{won_by}

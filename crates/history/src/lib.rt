@@ -8,4 +8,7 @@ pub use cases::{
     addresses_change_hands, captures_are_replayed, datagrams_are_heard, fast_packets_are_joined,
     sessions_are_answered, sources_are_chosen,
 };
-pub use laws::{addresses_are_sound, addresses_keep_their_frames, fast_frames_step_their_key, freshness_is_kept, transport_frames_step_their_session};
+pub use laws::{
+    addresses_are_sound, addresses_keep_their_frames, fast_frames_step_their_key,
+    freshness_is_kept, transport_frames_step_their_session,
+};
