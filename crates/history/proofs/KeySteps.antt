@@ -14,11 +14,12 @@ use Rattle.runs.specs.Laws.{OneStep}
 use Rattle.runs.proofs.Steps.{one_step_of}
 use Rattle.fast_packet.specs.FastRuns.{FastPiece, fast_rules}
 use Rattle.fast_packet.proofs.Lawful.{lawful}
+use Rattle.fast_packet.specs.declared.key.FastKey.{FastKey}
 use Rattle.history.specs.Entries.{History, frame}
 use Rattle.history.specs.Settings.{Settings}
 use Rattle.history.specs.Known.{Known, known, is_claim, since_of}
 use Rattle.history.specs.Traces.{Note, fast_piece, fast_trace, fast_trace_since, is_transport}
-use Rattle.history.specs.Opens.{FastKey, same_fast, fast_open, notes_of}
+use Rattle.history.specs.Opens.{same_fast, fast_open, notes_of}
 use Rattle.history.specs.Messages.{said_by, completed_by, fast_carried}
 use Rattle.history.specs.AddressLaws.{AreSettings}
 use Rattle.history.specs.KeyLaws.{StepsFast, FramesStepFast, FramesKeepFast, TimeEndsFast, fast_key, the_note}

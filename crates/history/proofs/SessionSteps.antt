@@ -11,11 +11,12 @@ use Rattle.runs.specs.Laws.{OneStep}
 use Rattle.runs.proofs.Steps.{one_step_of}
 use Rattle.iso_transport.specs.IsoRuns.{IsoPiece, iso_rules}
 use Rattle.iso_transport.proofs.Lawful.{lawful}
+use Rattle.iso_transport.specs.Audience.{key_of}
 use Rattle.history.specs.Entries.{History}
 use Rattle.history.specs.Settings.{Settings}
 use Rattle.history.specs.Known.{Known, known, is_own, is_claim, since_of}
 use Rattle.history.specs.Traces.{Note, is_since, iso_piece, iso_trace, broadcast_since, addressed_since, is_transport, is_bearing}
-use Rattle.history.specs.Opens.{iso_key_of, iso_open, notes_of}
+use Rattle.history.specs.Opens.{iso_open, notes_of}
 use Rattle.history.specs.Messages.{said_by, completed_by, by_session, iso_carried}
 use Rattle.history.specs.AddressLaws.{AreSettings}
 use Rattle.history.specs.KeyLaws.{is_meant, concerns, StepsIso, CompletesIso, FramesStepIso, FramesCompleteIso, TimeEndsIso, the_note}
@@ -113,7 +114,7 @@ iso_ends k notes key m n le = (steps key.addressed).later (iso_trace k key.addre
 -- ---- what it completes
 
 -- the frame bears on the session of its own key where it is to all or to the gateway
-meant_is : (k : Known) (n : Note) → (not (iso_key_of n.parts).addressed || is_own k n.parts.destination) ≡ is_meant k n (iso_key_of n.parts).addressed
+meant_is : (k : Known) (n : Note) → (not (key_of n.parts).addressed || is_own k n.parts.destination) ≡ is_meant k n (key_of n.parts).addressed
 meant_is k n = by (n.parts.destination == 255) refl
   where
     by : (b : Bool) → (n.parts.destination == 255) ≡ b → (not (not (n.parts.destination == 255)) || is_own k n.parts.destination) ≡ is_meant k n (not (n.parts.destination == 255))
@@ -124,8 +125,8 @@ held_and_own : (k : Known) (n : Note) (x : ℕ) → since_of k n.parts.source �
     → concerns k n (record { addressed = addressed; source = n.parts.source }) ≡ (is_meant k n addressed && is_bearing addressed n)
 held_and_own k n x e addressed = rw (e, eq-eqb n.parts.source n.parts.source refl) refl
 
-session_is : (k : Known) (n : Note) (older : List Note) (b : Bool) → ((not (iso_key_of n.parts).addressed || is_own k n.parts.destination) && is_bearing (iso_key_of n.parts).addressed n) ≡ b
-    → by_session k n older ≡ (if b then iso_carried (run_of (iso_rules (iso_key_of n.parts).addressed) (iso_trace k (iso_key_of n.parts).addressed n.parts.source (n ∷ older))) else None)
+session_is : (k : Known) (n : Note) (older : List Note) (b : Bool) → ((not (key_of n.parts).addressed || is_own k n.parts.destination) && is_bearing (key_of n.parts).addressed n) ≡ b
+    → by_session k n older ≡ (if b then iso_carried (run_of (iso_rules (key_of n.parts).addressed) (iso_trace k (key_of n.parts).addressed n.parts.source (n ∷ older))) else None)
 session_is k n older true e = rw e refl
 session_is k n older false e = rw e refl
 
@@ -137,11 +138,11 @@ module _ (c : Settings) (s : ℕ) (h : History) (m : ℕ) (f : BusFrame) (x : Ho
   since_is : since_of (known c s h) (parts_of f.id).source ≡ Some x.since
   since_is = ap (option_map (λ (y : Holder). y.since)) holds
 
-  concerns_is : concerns (known c s h) (the_note c s h m f) (iso_key_of (parts_of f.id))
-      ≡ ((not (iso_key_of (parts_of f.id)).addressed || is_own (known c s h) (parts_of f.id).destination) && is_bearing (iso_key_of (parts_of f.id)).addressed (the_note c s h m f))
+  concerns_is : concerns (known c s h) (the_note c s h m f) (key_of (parts_of f.id))
+      ≡ ((not (key_of (parts_of f.id)).addressed || is_own (known c s h) (parts_of f.id).destination) && is_bearing (key_of (parts_of f.id)).addressed (the_note c s h m f))
   concerns_is =
-      held_and_own (known c s h) (the_note c s h m f) x.since since_is (iso_key_of (parts_of f.id)).addressed
-      ∙ ap (λ (b : Bool). b && is_bearing (iso_key_of (parts_of f.id)).addressed (the_note c s h m f)) (sym (meant_is (known c s h) (the_note c s h m f)))
+      held_and_own (known c s h) (the_note c s h m f) x.since since_is (key_of (parts_of f.id)).addressed
+      ∙ ap (λ (b : Bool). b && is_bearing (key_of (parts_of f.id)).addressed (the_note c s h m f)) (sym (meant_is (known c s h) (the_note c s h m f)))
 
   -- the run that it ends, or none
   ends : (addressed : Bool) (b : Bool) → concerns (known c s h) (the_note c s h m f) (record { addressed = addressed; source = (parts_of f.id).source }) ≡ b
@@ -154,13 +155,13 @@ module _ (c : Settings) (s : ℕ) (h : History) (m : ℕ) (f : BusFrame) (x : Ho
   ends addressed false e = refl
 
   completes : completed_by (known c s h) (the_note c s h m f) (notes_of c s h)
-      ≡ (if concerns (known c s h) (the_note c s h m f) (iso_key_of (parts_of f.id))
-      then iso_carried (finished (iso_rules (iso_key_of (parts_of f.id)).addressed) (iso_open (known c s h) (notes_of c s h) (iso_key_of (parts_of f.id)) m) (iso_piece (the_note c s h m f)))
+      ≡ (if concerns (known c s h) (the_note c s h m f) (key_of (parts_of f.id))
+      then iso_carried (finished (iso_rules (key_of (parts_of f.id)).addressed) (iso_open (known c s h) (notes_of c s h) (key_of (parts_of f.id)) m) (iso_piece (the_note c s h m f)))
       else None)
   completes =
       completed_iso (known c s h) (the_note c s h m f) (notes_of c s h) transport
-      ∙ session_is (known c s h) (the_note c s h m f) (notes_of c s h) (concerns (known c s h) (the_note c s h m f) (iso_key_of (parts_of f.id))) (sym concerns_is)
-      ∙ ends (iso_key_of (parts_of f.id)).addressed (concerns (known c s h) (the_note c s h m f) (iso_key_of (parts_of f.id))) refl
+      ∙ session_is (known c s h) (the_note c s h m f) (notes_of c s h) (concerns (known c s h) (the_note c s h m f) (key_of (parts_of f.id))) (sym concerns_is)
+      ∙ ends (key_of (parts_of f.id)).addressed (concerns (known c s h) (the_note c s h m f) (key_of (parts_of f.id))) refl
 
   pub complete : CompletesIso c s h m f x
   complete = record {

@@ -5,10 +5,13 @@ use Rattle.iso_transport.specs.declared.reply.Reply.{Reply}
 use Rattle.iso_transport.specs.declared.reply.Reply.TheVariants.{Abort}
 use Rattle.iso_transport.specs.IsoRuns.{IsoPiece, session_of}
 use Rattle.capture_text.specs.declared.emit.Detail.TheVariants as detail
+use Rattle.fast_packet.specs.declared.key.FastKey.{FastKey}
+use Rattle.iso_transport.specs.declared.key.IsoKey.{IsoKey}
+use Rattle.tag_block.specs.declared.group_key.GroupKey.{GroupKey}
 use Rattle.history.specs.Known.{Known}
 use Rattle.history.specs.Traces.{Note}
-use Rattle.history.specs.Opens.{FastKey, IsoKey, fast_keys, iso_keys, fast_open, iso_open}
-use Rattle.history.specs.Heard.{Taken, GroupKey, group_keys, group_open}
+use Rattle.history.specs.Opens.{fast_keys, iso_keys, fast_open, iso_open}
+use Rattle.history.specs.Heard.{Taken, group_keys, group_open}
 use Rattle.history.specs.Emits.{Emit, broken, of_source, replied}
 
 -- ---- what is open after an entry no more
@@ -49,7 +52,7 @@ group_ended taken before m key = is_some (group_open taken key before) && is_non
 
 abbrev pub groups_expired : List Taken → ℕ → ℕ → List Emit
 groups_expired taken before m =
-    flat_map (λ key. broken 42 (detail.GroupKey key.source key.code) ∷ []) (filter (group_ended taken before m) (group_keys taken))
+    flat_map (λ key. broken 42 (detail.GroupKey key.sfi key.code) ∷ []) (filter (group_ended taken before m) (group_keys taken))
 
 -- ---- by a claim or a command (rule 17), all at one moment
 

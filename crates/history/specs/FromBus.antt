@@ -29,12 +29,13 @@ use Rattle.iso_transport.specs.Audience.{is_data}
 use Rattle.iso_transport.specs.Connection.{control_at}
 use Rattle.iso_transport.specs.Told.{told}
 use Rattle.capture_text.specs.declared.emit.Detail.TheVariants as detail
+use Rattle.iso_transport.specs.Audience.{key_of}
 use Rattle.history.specs.Entries as entry
 use Rattle.history.specs.Entries.{Entry, History, now}
 use Rattle.history.specs.Settings.{Settings}
 use Rattle.history.specs.Known.{Known, known, known_after, is_own, is_claim, claim_by}
 use Rattle.history.specs.Traces.{Note, fast_piece, iso_piece, is_transport}
-use Rattle.history.specs.Opens.{iso_key_of, fast_open, iso_open, note_of, notes_of}
+use Rattle.history.specs.Opens.{fast_open, iso_open, note_of, notes_of}
 use Rattle.history.specs.Messages.{Message, done, messages_of}
 use Rattle.history.specs.Choice.{selected}
 use Rattle.history.specs.Emits.{Emit, net, broken, of_source, own_claim, replied}
@@ -126,7 +127,7 @@ abbrev pub by_verdict : Known → Note → Bool → Verdict → Handled
 by_verdict k n addressed v = record { reports = iso_reports n.parts v; replies = replied k.claims.own n.parts.source (reply_by addressed v) }
 
 abbrev pub from_transport : Known → Note → List Note → ℕ → Handled
-from_transport k n older m = let key = iso_key_of n.parts in
+from_transport k n older m = let key = key_of n.parts in
     if is_early k m n then reported (of_source 45 n.parts.source 60416 ∷ [])
     else by_verdict k n key.addressed (told key.addressed (iso_open k older key m) (iso_piece n))
 

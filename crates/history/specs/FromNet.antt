@@ -22,12 +22,13 @@ use Rattle.datagram450.specs.declared.fault.DatagramFault.TheVariants.{Header, L
 use Rattle.datagram450.specs.Datagram as datagrams
 use Rattle.datagram450.specs.Item.{Item, line, bad}
 use Rattle.capture_text.specs.declared.emit.Detail.TheVariants as detail
+use Rattle.tag_block.specs.declared.group_key.GroupKey.{GroupKey}
 use Rattle.history.specs.Settings.{Settings, RowRule}
 use Rattle.history.specs.Known.{Known}
 use Rattle.history.specs.Opens.{is_fast}
 use Rattle.history.specs.Choice.{is_row, is_usable}
 use Rattle.history.specs.Emits.{Emit, broken, sent}
-use Rattle.history.specs.Heard.{Taken, GroupKey, same_text, several, group_line, group_open, is_admitted, handed_over}
+use Rattle.history.specs.Heard.{Taken, same_text, several, group_line, group_open, is_admitted, handed_over}
 
 -- a reading that was heard: when, from whom
 pub record Net : Type 0 where
@@ -127,7 +128,7 @@ module _ (c : Settings) (k : Known) (m : ℕ) where
   abbrev pub group_reports : Taken → List Taken → Option GroupPart → List Emit
   group_reports t older None = []
   group_reports t older (Some part) =
-      let key : GroupKey = record { source = t.source; code = part.code } in
+      let key : GroupKey = record { sfi = t.source; code = part.code } in
       let o = group_open older key m in
       let said : ℕ → Emit = λ rule. broken rule (detail.GroupKey t.source part.code) in
       if part.number == 1 then (if is_some o then said 40 ∷ [] else []) ++ (if t.admitted then [] else said 41 ∷ [])
@@ -135,7 +136,7 @@ module _ (c : Settings) (k : Known) (m : ℕ) where
 
   abbrev pub room_for : List Taken → List ℕ → Option GroupPart → Bool
   room_for taken source None = true
-  room_for taken source (Some part) = is_admitted c.group_slots taken (record { source = source; code = part.code }) m
+  room_for taken source (Some part) = is_admitted c.group_slots taken (record { sfi = source; code = part.code }) m
 
   abbrev pub with_taken : ℕ → Heard → Taken → Heard
   with_taken at h t =

@@ -4,6 +4,7 @@ use Rattle.std.specs.Cmp.Lexicographic.{pointwise}
 use Rattle.runs.specs.Runs.{open_at, run_of}
 use Rattle.tag_block.specs.declared.group_part.GroupPart.{GroupPart}
 use Rattle.tag_block.specs.GroupRuns.{GroupLine, group_rules}
+use Rattle.tag_block.specs.declared.group_key.GroupKey.{GroupKey}
 use Rattle.history.specs.Opens.{placed}
 
 abbrev pub same_text : List ℕ → List ℕ → Bool
@@ -26,15 +27,11 @@ pub record Taken : Type 0 where
 
 -- ---- groups of lines (IEC 61162-450), by source and code
 
-pub record GroupKey : Type 0 where
-  pub source : List ℕ
-  pub code : ℕ
-
 abbrev pub same_group : GroupKey → GroupKey → Bool
-same_group a b = same_text a.source b.source && (a.code == b.code)
+same_group a b = same_text a.sfi b.sfi && (a.code == b.code)
 
 abbrev pub before_group : GroupKey → GroupKey → Bool
-before_group a b = before_text a.source b.source || (same_text a.source b.source && nat_lt a.code b.code)
+before_group a b = before_text a.sfi b.sfi || (same_text a.sfi b.sfi && nat_lt a.code b.code)
 
 -- the place in a group of two lines or more
 abbrev pub several : Option GroupPart → Option GroupPart
@@ -47,7 +44,7 @@ group_line t part = record { moment = t.moment; part = part; sentence = t.senten
 -- the line, where it is of the group
 abbrev pub line_in : GroupKey → Taken → Option GroupPart → Option GroupLine
 line_in key t None = None
-line_in key t (Some part) = if same_group key (record { source = t.source; code = part.code }) then Some (group_line t part) else None
+line_in key t (Some part) = if same_group key (record { sfi = t.source; code = part.code }) then Some (group_line t part) else None
 
 -- the lines of a group
 abbrev pub group_trace : GroupKey → List Taken → List GroupLine
@@ -55,7 +52,7 @@ group_trace key taken = filter_map (λ t. line_in key t (several t.group)) taken
 
 abbrev pub key_with : List ℕ → Option GroupPart → List GroupKey → List GroupKey
 key_with source None keys = keys
-key_with source (Some part) keys = placed same_group before_group (record { source = source; code = part.code }) keys
+key_with source (Some part) keys = placed same_group before_group (record { sfi = source; code = part.code }) keys
 
 -- the groups whose lines came, by source and then by code
 abbrev pub group_keys : List Taken → List GroupKey
@@ -80,7 +77,7 @@ sentences_in (Some lines) = reverse (map (λ l. l.sentence) lines)
 
 abbrev pub handed_with : Taken → List Taken → Option GroupPart → List (List ℕ)
 handed_with t older None = t.sentence ∷ []
-handed_with t older (Some part) = sentences_in (run_of group_rules (group_trace (record { source = t.source; code = part.code }) (t ∷ older)))
+handed_with t older (Some part) = sentences_in (run_of group_rules (group_trace (record { sfi = t.source; code = part.code }) (t ∷ older)))
 
 abbrev pub handed_over : Taken → List Taken → List (List ℕ)
 handed_over t older = handed_with t older (several t.group)

@@ -9,12 +9,15 @@ use Rattle.pgn_profile.specs.declared.kinds.Kind.TheVariants.{Fast}
 use Rattle.runs.specs.Runs.{fed, finished, kept_at}
 use Rattle.fast_packet.specs.FastRuns.{fast_rules}
 use Rattle.iso_transport.specs.IsoRuns.{iso_rules}
+use Rattle.fast_packet.specs.declared.key.FastKey.{FastKey}
+use Rattle.iso_transport.specs.declared.key.IsoKey.{IsoKey}
+use Rattle.iso_transport.specs.Audience.{key_of}
 use Rattle.history.specs.AddressLaws.{AreSettings}
 use Rattle.history.specs.Entries.{History, frame}
 use Rattle.history.specs.Settings.{Settings}
 use Rattle.history.specs.Known.{Known, known, is_own, is_claim, since_of}
 use Rattle.history.specs.Traces.{Note, fast_piece, iso_piece, is_transport, is_bearing}
-use Rattle.history.specs.Opens.{FastKey, IsoKey, same_fast, iso_key_of, fast_open, iso_open, note_of, notes_of}
+use Rattle.history.specs.Opens.{same_fast, fast_open, iso_open, note_of, notes_of}
 use Rattle.history.specs.Messages.{done, said_by, fast_carried, iso_carried}
 
 -- a frame that is no claim, from a source that holds its address
@@ -68,7 +71,7 @@ pub record StepsIso (c : Settings) (s : ℕ) (h : History) (m : ℕ) (f : BusFra
 
 -- and it completes what they say
 pub record CompletesIso (c : Settings) (s : ℕ) (h : History) (m : ℕ) (f : BusFrame) (holder : Holder) : Type 0 where
-  pub completed : let key = iso_key_of (parts_of f.id) in done c s h (frame m f)
+  pub completed : let key = key_of (parts_of f.id) in done c s h (frame m f)
       ≡ said_by (length h) m (parts_of f.id).source (Some holder)
       (if concerns (known c s h) (the_note c s h m f) key
       then iso_carried (finished (iso_rules key.addressed) (iso_open (known c s h) (notes_of c s h) key m) (iso_piece (the_note c s h m f)))

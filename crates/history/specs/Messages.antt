@@ -11,12 +11,13 @@ use Rattle.fast_packet.specs.FastRuns.{FastPiece, fast_rules}
 use Rattle.iso_transport.specs.IsoRuns as iso
 use Rattle.iso_transport.specs.IsoRuns.{IsoPiece, iso_rules}
 use Rattle.iso_transport.specs.IsoRuns.{session_of}
+use Rattle.iso_transport.specs.Audience.{key_of}
 use Rattle.history.specs.Entries as entry
 use Rattle.history.specs.Entries.{Entry, History}
 use Rattle.history.specs.Settings.{Settings}
 use Rattle.history.specs.Known.{Known, known, is_own}
 use Rattle.history.specs.Traces.{Note, fast_trace, iso_trace, is_transport, is_bearing}
-use Rattle.history.specs.Opens.{iso_key_of, note_of, notes_of}
+use Rattle.history.specs.Opens.{note_of, notes_of}
 
 -- a complete message: by which entry, when, from whom, and what it carries
 pub record Message : Type 0 where
@@ -49,7 +50,7 @@ by_kind Outside k n older = None
 
 -- and what a transport frame to all or to the gateway completes, where it bears on a session
 abbrev pub by_session : Known → Note → List Note → Option Carried
-by_session k n older = let addressed = (iso_key_of n.parts).addressed in
+by_session k n older = let addressed = (key_of n.parts).addressed in
     if (not addressed || is_own k n.parts.destination) && is_bearing addressed n
     then iso_carried (run_of (iso_rules addressed) (iso_trace k addressed n.parts.source (n ∷ older)))
     else None

@@ -11,6 +11,9 @@ use Rattle.pgn_profile.specs.declared.kinds.Kind.TheVariants.{Single, Fast, Outs
 use Rattle.runs.specs.Runs.{open_at}
 use Rattle.fast_packet.specs.FastRuns.{FastPiece, fast_rules}
 use Rattle.iso_transport.specs.IsoRuns.{IsoPiece, iso_rules}
+use Rattle.fast_packet.specs.declared.key.FastKey.{FastKey}
+use Rattle.iso_transport.specs.declared.key.IsoKey.{IsoKey}
+use Rattle.iso_transport.specs.Audience.{key_of}
 use Rattle.history.specs.Entries as entry
 use Rattle.history.specs.Entries.{Entry, History}
 use Rattle.history.specs.Settings.{Settings}
@@ -24,15 +27,6 @@ is_fast Fast = true
 is_fast Outside = false
 
 -- ---- keys, in the order in which they are reported
-
--- a source with a PGN, or with whether its session is addressed
-pub record FastKey : Type 0 where
-  pub source : ℕ
-  pub pgn : ℕ
-
-pub record IsoKey : Type 0 where
-  pub addressed : Bool
-  pub source : ℕ
 
 abbrev pub same_fast : FastKey → FastKey → Bool
 same_fast a b = (a.source == b.source) && (a.pgn == b.pgn)
@@ -60,13 +54,10 @@ fast_keys (n ∷ notes) =
     then placed same_fast before_fast (record { source = n.parts.source; pgn = n.parts.pgn }) (fast_keys notes)
     else fast_keys notes
 
-abbrev pub iso_key_of : Parts → IsoKey
-iso_key_of p = record { addressed = not (p.destination == 255); source = p.source }
-
 abbrev pub iso_keys : List Note → List IsoKey
 iso_keys [] = []
 iso_keys (n ∷ notes) =
-    if is_transport n.parts then placed same_iso before_iso (iso_key_of n.parts) (iso_keys notes) else iso_keys notes
+    if is_transport n.parts then placed same_iso before_iso (key_of n.parts) (iso_keys notes) else iso_keys notes
 
 -- ---- what is open at a moment
 
@@ -92,7 +83,7 @@ is_iso_admitted limit k notes key m = nat_lt (length (filter (λ other. not (sam
 
 abbrev pub is_admitted : Settings → Known → List Note → Parts → ℕ → Bool
 is_admitted c k notes p m =
-    if is_transport p then is_iso_admitted c.iso_slots k notes (iso_key_of p) m
+    if is_transport p then is_iso_admitted c.iso_slots k notes (key_of p) m
     else is_fast_admitted c.fast_slots k notes (record { source = p.source; pgn = p.pgn }) m
 
 abbrev pub note_of : Settings → ℕ → Known → List Note → ℕ → BusFrame → Note
