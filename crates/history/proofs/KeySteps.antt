@@ -114,7 +114,7 @@ fast_steps c s h m f x are fast holds = step c s h m f x are fast holds
 
 -- ---- other keys
 
-other_piece : (since : Option ℕ) (a p : ℕ) (n : Note) (notes : List Note) → ((n.parts.source == a) && (n.parts.pgn == p)) ≡ false
+pub other_piece : (since : Option ℕ) (a p : ℕ) (n : Note) (notes : List Note) → ((n.parts.source == a) && (n.parts.pgn == p)) ≡ false
     → fast_trace_since since a p (n ∷ notes) ≡ fast_trace_since since a p notes
 other_piece None a p n notes e = refl
 other_piece (Some since) a p n notes e = rw (unlike (n.parts.source == a) (nat_le since n.index) (n.parts.pgn == p) e) refl

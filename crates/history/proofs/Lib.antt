@@ -5,6 +5,7 @@ pub mod TraceMoves
 pub mod KeySteps
 pub mod SessionSteps
 pub mod FreshSteps
+pub mod Counts
 mod Computed
 mod ClaimCases
 mod FastCases

@@ -17,6 +17,7 @@ pub mod AddressLaws
 pub mod TraceLaws
 pub mod KeyLaws
 pub mod FreshLaws
+pub mod CountLaws
 pub mod Cases
 pub mod ClaimCases
 pub mod FastCases

@@ -1,6 +1,7 @@
 -- Which messages are open, and which openers find room.
 use Rattle.std.specs.Prelude.{ℕ, Bool, true, false, ◌&&◌, ◌||◌, not, ◌==◌, nat_lt, List, [], ◌∷◌, length, filter, Option, is_some, if◌then◌else◌}
 use Rattle.std.specs.Bool.{beq}
+use Rattle.std.specs.List.{list_any}
 use Rattle.n2k_id.specs.declared.header.Parts.{Parts}
 use Rattle.n2k_id.specs.Frame.{BusFrame}
 use Rattle.n2k_id.specs.Identifier.{parts_of}
@@ -43,9 +44,12 @@ abbrev pub before_iso : IsoKey → IsoKey → Bool
 before_iso a b = (not a.addressed && b.addressed) || (beq a.addressed b.addressed && nat_lt a.source b.source)
 
 -- a key among others in their order, once
+abbrev pub inserted : {K : Type 0} → (K → K → Bool) → K → List K → List K
+inserted before k [] = k ∷ []
+inserted before k (x ∷ xs) = if before k x then k ∷ x ∷ xs else x ∷ inserted before k xs
+
 abbrev pub placed : {K : Type 0} → (K → K → Bool) → (K → K → Bool) → K → List K → List K
-placed same before k [] = k ∷ []
-placed same before k (x ∷ xs) = if same k x then x ∷ xs else if before k x then k ∷ x ∷ xs else x ∷ placed same before k xs
+placed same before k xs = if list_any (same k) xs then xs else inserted before k xs
 
 abbrev pub fast_keys : List Note → List FastKey
 fast_keys [] = []
