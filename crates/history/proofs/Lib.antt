@@ -6,6 +6,7 @@ pub mod KeySteps
 pub mod SessionSteps
 pub mod FreshSteps
 pub mod Counts
+pub mod FastCounts
 mod Computed
 mod ClaimCases
 mod FastCases

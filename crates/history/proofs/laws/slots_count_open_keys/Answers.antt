@@ -1,4 +1,4 @@
-use Rattle.history.proofs.Counts.{slots_count_fast}
+use Rattle.history.proofs.FastCounts.{slots_count_fast}
 use Rattle.history.proofs.laws.slots_count_open_keys.Goals as goal
 
 pub returns : goal.returns
