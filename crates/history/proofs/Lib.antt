@@ -7,6 +7,8 @@ pub mod SessionSteps
 pub mod FreshSteps
 pub mod Counts
 pub mod FastCounts
+pub mod IsoCounts
+pub mod GroupCounts
 mod Computed
 mod ClaimCases
 mod FastCases

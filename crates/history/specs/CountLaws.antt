@@ -6,9 +6,14 @@ use Rattle.std.specs.declared.cmp.Ordering.{Ordering}
 use Rattle.slot_views.specs.Slots.{SlotMap, IsOrdered, entry_at, is_full}
 use Rattle.fast_packet.specs.declared.key.FastKey.{FastKey}
 use Rattle.pgn_profile.specs.Profiled.{kind_of}
+use Rattle.iso_transport.specs.declared.key.IsoKey.{IsoKey}
+use Rattle.tag_block.specs.declared.group_key.GroupKey.{GroupKey}
+use Rattle.claim_table.specs.Laws.{IsSound}
 use Rattle.history.specs.Known.{Known}
+use Rattle.history.specs.Heard as heard
+use Rattle.history.specs.Heard.{Taken, same_group, group_open, open_groups}
 use Rattle.history.specs.Traces.{Note}
-use Rattle.history.specs.Opens.{is_fast, same_fast, fast_open, open_fast_keys, is_fast_admitted}
+use Rattle.history.specs.Opens.{is_fast, same_fast, same_iso, fast_open, iso_open, open_fast_keys, open_iso_keys, is_fast_admitted, is_iso_admitted}
 
 -- the map holds a key exactly where it is one of fast packets and is open
 module _ (cmp : FastKey → FastKey → Ordering) (k : Known) (notes : List Note) (m : ℕ) (slots : SlotMap FastKey) where
@@ -27,3 +32,38 @@ module _ (cmp : FastKey → FastKey → Ordering) (k : Known) (notes : List Note
 abbrev pub SlotsCountFast : Type 0
 SlotsCountFast =
     (cmp : FastKey → FastKey → Ordering) (k : Known) (notes : List Note) (m : ℕ) (slots : SlotMap FastKey) → HoldsFast cmp k notes m slots → CountsFast cmp k notes m slots
+
+-- the same of sessions of the transport protocol, of a gateway whose addresses are sound
+module _ (cmp : IsoKey → IsoKey → Ordering) (k : Known) (notes : List Note) (m : ℕ) (slots : SlotMap IsoKey) where
+  pub record HoldsIso : Type 0 where
+    pub sound : IsSound k.claims
+    pub order : IsTotalOrder cmp
+    pub tells : (a b : IsoKey) → is_at (cmp a) b ≡ same_iso a b
+    pub ordered : IsOrdered cmp slots.entries
+    pub within : length slots.entries ≤ slots.limit
+    pub holds : (key : IsoKey) → is_some (entry_at cmp slots key) ≡ is_some (iso_open k notes key m)
+
+  pub record CountsIso : Type 0 where
+    pub count : length slots.entries ≡ length (open_iso_keys k notes m)
+    pub room : (key : IsoKey) → is_iso_admitted slots.limit k notes key m ≡ not (is_full cmp slots key)
+
+abbrev pub SlotsCountIso : Type 0
+SlotsCountIso =
+    (cmp : IsoKey → IsoKey → Ordering) (k : Known) (notes : List Note) (m : ℕ) (slots : SlotMap IsoKey) → HoldsIso cmp k notes m slots → CountsIso cmp k notes m slots
+
+-- and of groups of lines
+module _ (cmp : GroupKey → GroupKey → Ordering) (taken : List Taken) (m : ℕ) (slots : SlotMap GroupKey) where
+  pub record HoldsGroups : Type 0 where
+    pub order : IsTotalOrder cmp
+    pub tells : (a b : GroupKey) → is_at (cmp a) b ≡ same_group a b
+    pub ordered : IsOrdered cmp slots.entries
+    pub within : length slots.entries ≤ slots.limit
+    pub holds : (key : GroupKey) → is_some (entry_at cmp slots key) ≡ is_some (group_open taken key m)
+
+  pub record CountsGroups : Type 0 where
+    pub count : length slots.entries ≡ length (open_groups taken m)
+    pub room : (key : GroupKey) → heard.is_admitted slots.limit taken key m ≡ not (is_full cmp slots key)
+
+abbrev pub SlotsCountGroups : Type 0
+SlotsCountGroups =
+    (cmp : GroupKey → GroupKey → Ordering) (taken : List Taken) (m : ℕ) (slots : SlotMap GroupKey) → HoldsGroups cmp taken m slots → CountsGroups cmp taken m slots

@@ -1,6 +1,6 @@
 //! What is promised of every history. Each law is a function that does nothing, and whose clause is the law.
 ghost use Rattle.history.specs.AddressLaws.{AddressesAreSound};
-ghost use Rattle.history.specs.CountLaws.{SlotsCountFast};
+ghost use Rattle.history.specs.CountLaws.{SlotsCountFast, SlotsCountIso, SlotsCountGroups};
 ghost use Rattle.history.specs.FreshLaws.{FreshByLast, MessagesAreKept, ClaimsForget, CommandsForgetNone};
 ghost use Rattle.history.specs.KeyLaws.{FramesStepFast, FramesKeepFast, TimeEndsFast, FramesStepIso, FramesCompleteIso, TimeEndsIso};
 ghost use Rattle.history.specs.TraceLaws.{ClaimsMoveTraces, CommandsMoveTraces};
@@ -43,8 +43,10 @@ pub fn freshness_is_kept()
     ensures commands { CommandsForgetNone }
 {}
 
-/// A map that holds what is open has as many places taken as fast keys are open, and is full for an opener exactly where that finds no
-/// room.
+/// A map that holds what is open of a kind has as many places taken as keys of that kind are open, and is full for an opener exactly
+/// where that finds no room.
 pub fn slots_count_open_keys()
     ensures fast { SlotsCountFast }
+    ensures iso { SlotsCountIso }
+    ensures groups { SlotsCountGroups }
 {}
