@@ -9,6 +9,8 @@ pub mod Counts
 pub mod FastCounts
 pub mod IsoCounts
 pub mod GroupCounts
+pub mod Erased
+pub mod Normal
 mod Computed
 mod ClaimCases
 mod FastCases
