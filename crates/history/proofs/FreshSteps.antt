@@ -128,7 +128,7 @@ says_none : (n m from : ℕ) (x : Option Holder) → said_by n m from x None ≡
 says_none n m from None = refl
 says_none n m from (Some x) = refl
 
-claim_says_none : (c : Settings) (s : ℕ) (h : History) (m : ℕ) (f : BusFrame) → is_claim f ≡ true → messages_of c s (frame m f ∷ h) ≡ messages_of c s h
+pub claim_says_none : (c : Settings) (s : ℕ) (h : History) (m : ℕ) (f : BusFrame) → is_claim f ≡ true → messages_of c s (frame m f ∷ h) ≡ messages_of c s h
 claim_says_none c s h m f claims =
     ap (λ (x : Option Message). with_message x (messages_of c s h))
     (ap (said_by (length h) m (parts_of f.id).source (holder_at (known c s h).claims.holders (parts_of f.id).source))

@@ -36,7 +36,7 @@ pub dated_at : (i : ℕ) (holders : List (Option Holder)) (a : ℕ) (x : Holder)
 dated_at i holders a x all e = subst (IsSinceBy i) e (All-get_or (IsSinceBy i) holders a None (held_within holders a x e) all)
 
 -- a PGN of fast packets is neither that of claims nor one of the transport protocol
-claim_kind : kind_of 60928 ≡ Outside
+pub claim_kind : kind_of 60928 ≡ Outside
 unfolding messages
 claim_kind = refl
 

@@ -11,6 +11,8 @@ pub mod IsoCounts
 pub mod GroupCounts
 pub mod Erased
 pub mod Normal
+pub mod Unseen
+pub mod Isolation
 mod Computed
 mod ClaimCases
 mod FastCases

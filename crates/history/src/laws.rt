@@ -2,6 +2,7 @@
 ghost use Rattle.history.specs.AddressLaws.{AddressesAreSound};
 ghost use Rattle.history.specs.CountLaws.{SlotsCountFast, SlotsCountIso, SlotsCountGroups};
 ghost use Rattle.history.specs.FreshLaws.{FreshByLast, MessagesAreKept, ClaimsForget, CommandsForgetNone};
+ghost use Rattle.history.specs.IsolationLaws.{Isolation};
 ghost use Rattle.history.specs.KeyLaws.{FramesStepFast, FramesKeepFast, TimeEndsFast, FramesStepIso, FramesCompleteIso, TimeEndsIso};
 ghost use Rattle.history.specs.TraceLaws.{ClaimsMoveTraces, CommandsMoveTraces};
 
@@ -49,4 +50,10 @@ pub fn slots_count_open_keys()
     ensures fast { SlotsCountFast }
     ensures iso { SlotsCountIso }
     ensures groups { SlotsCountGroups }
+{}
+
+/// Which messages of a device are complete is decided by the claims, the commands and its own frames alone, as long as none of its
+/// openers is refused for want of room: whatever else is on the bus.
+pub fn devices_are_isolated()
+    ensures { Isolation }
 {}

@@ -9,6 +9,6 @@ pub use cases::{
     sessions_are_answered, sources_are_chosen,
 };
 pub use laws::{
-    addresses_are_sound, addresses_keep_their_frames, fast_frames_step_their_key,
+    addresses_are_sound, addresses_keep_their_frames, devices_are_isolated, fast_frames_step_their_key,
     freshness_is_kept, slots_count_open_keys, transport_frames_step_their_session,
 };

@@ -1,8 +1,6 @@
 use Rattle.history.proofs.FastCounts.{slots_count_fast}
 use Rattle.history.proofs.IsoCounts.{slots_count_iso}
 use Rattle.history.proofs.GroupCounts.{slots_count_groups}
-use Rattle.history.proofs.Erased.{claim_erased}
-use Rattle.history.proofs.Normal.{IsUnseen}
 use Rattle.history.proofs.laws.slots_count_open_keys.Goals as goal
 
 pub returns-clause-fast : goal.returns-clause-fast

@@ -1,0 +1,130 @@
+-- A device is isolated: its messages in a history are those in the history of the claims, the commands and its own frames.
+use Rattle.std.proofs.Common.{◌≡◌, ◌≢◌, ℕ, suc, ◌≤◌, Bool, true, false, ◌&&◌, ◌||◌, not, List, [], ◌∷◌, ◌⊎◌, inl, inr, length, map, refl, sym, ap, subst, ◌∙◌, ◌==◌, nat_le}
+use Rattle.std.specs.Prelude.{Option, Some, None, filter, is_some, if◌then◌else◌, option_map}
+use Rattle.std.specs.List.{AllByRecursion}
+use Rattle.std.proofs.lemmas.Bool.{eqb-true, eq-eqb, and_parts, cases_Bool, false≢true}
+use Rattle.n2k_id.specs.declared.header.Parts.{Parts}
+use Rattle.n2k_id.specs.Frame.{BusFrame}
+use Rattle.n2k_id.specs.Identifier.{parts_of}
+use Rattle.n2k_id.specs.Name.{name_at}
+use Rattle.claim_table.specs.declared.answer.Holder.{Holder}
+use Rattle.claim_table.specs.declared.answer.ClaimStep.{ClaimStep}
+use Rattle.claim_table.specs.Claims.{Claims, Claim, Outcome, claim_of, claim, command, holder_at, is_ready}
+use Rattle.pgn_profile.specs.Profiled.{kind_of, messages}
+use Rattle.pgn_profile.specs.declared.kinds.Kind.{Kind}
+use Rattle.pgn_profile.specs.declared.kinds.Kind.TheVariants.{Single, Fast, Outside}
+use Rattle.runs.specs.Runs.{run_of}
+use Rattle.fast_packet.specs.FastRuns.{FastPiece, fast_rules}
+use Rattle.iso_transport.specs.declared.key.IsoKey.{IsoKey}
+use Rattle.iso_transport.specs.Audience.{key_of, bears, is_data}
+use Rattle.iso_transport.specs.IsoRuns.{IsoPiece, iso_rules}
+use Rattle.history.specs.Entries.{Entry, History, frame, datagram, tick}
+use Rattle.history.specs.Entries as entry
+use Rattle.history.specs.Settings.{Settings}
+use Rattle.history.specs.Known.{Known, known, is_own, is_claim, claim_by, followed_by, since_of}
+use Rattle.history.specs.Traces.{Note, fast_piece, fast_trace, iso_piece, iso_trace, is_transport, is_bearing}
+use Rattle.history.specs.Opens.{is_fast, note_of, notes_of}
+use Rattle.history.specs.Messages.{Message, Carried, done, messages_of, said_by, with_message, completed_by, by_kind, by_session, fast_carried, iso_carried}
+use Rattle.history.specs.AddressLaws.{AreSettings}
+use Rattle.history.specs.TraceLaws.{is_lost, same_own}
+use Rattle.history.specs.KeyLaws.{is_meant, concerns, the_note}
+use Rattle.history.specs.IsolationLaws.{keeps, narrowed, plain, from, opens, FindsRoom, NoneRefused, Isolation}
+use Rattle.history.proofs.KeySteps.{known_same, claim_kind}
+use Rattle.history.proofs.TraceMoves.{claims_move_traces, commands_move_traces, known_after_claim}
+use Rattle.history.proofs.FreshSteps.{claim_says_none}
+use Rattle.history.proofs.Erased.{bare, erased, unnumbered, bare_at, claim_erased, command_erased}
+use Rattle.history.proofs.Normal.{run_of_map}
+use Rattle.history.proofs.Unseen.{fast_norm, iso_norm, fast_unseen, iso_unseen, fast_carries, iso_carries}
+
+-- what of a history is as in another
+pub record Alike (c : Settings) (s a : ℕ) (h g : History) : Type 0 where
+  pub claims : erased (known c s h).claims ≡ erased (known c s g).claims
+  pub fast : (p : ℕ) → kind_of p ≡ Fast → map fast_norm (fast_trace (known c s h) a p (notes_of c s h)) ≡ map fast_norm (fast_trace (known c s g) a p (notes_of c s g))
+  pub iso : (addressed : Bool) → map iso_norm (iso_trace (known c s h) addressed a (notes_of c s h)) ≡ map iso_norm (iso_trace (known c s g) addressed a (notes_of c s g))
+  pub told : from a (messages_of c s h) ≡ from a (messages_of c s g)
+
+-- ---- a claim
+
+by_erased : (c d : Claims) (k l : Claim) → erased c ≡ erased d → unnumbered k ≡ unnumbered l → (erased (claim c k).after ≡ erased (claim d l).after) × ((claim c k).step ≡ (claim d l).step)
+by_erased c d k l e f =
+    let same : claim (erased c) (unnumbered k) ≡ claim (erased d) (unnumbered l) = ap (λ (x : Claims). claim x (unnumbered k)) e ∙ ap (claim (erased d)) f in
+    (ap (λ (o : Outcome). o.after) (sym (claim_erased c k)) ∙ ap (λ (o : Outcome). o.after) same ∙ ap (λ (o : Outcome). o.after) (claim_erased d l),
+    ap (λ (o : Outcome). o.step) (sym (claim_erased c k)) ∙ ap (λ (o : Outcome). o.step) same ∙ ap (λ (o : Outcome). o.step) (claim_erased d l))
+
+cut_same : {X : Type 0} (f : X → X) (b d : Bool) (t u : List X) → b ≡ d → map f t ≡ map f u → map f (if b then [] else t) ≡ map f (if d then [] else u)
+cut_same f b d t u e same = rw e (by d)
+  where
+    by : (x : Bool) → map f (if x then [] else t) ≡ map f (if x then [] else u)
+    by true = refl
+    by false = same
+
+not_claims_pgn : (p : ℕ) → kind_of p ≡ Fast → p ≢ 60928
+not_claims_pgn p fast e = let two : Outside ≡ Fast = sym claim_kind ∙ subst (λ (x : ℕ). kind_of x ≡ Fast) e fast in cc
+
+module _ (c : Settings) (s a : ℕ) (h g : History) (m : ℕ) (f : BusFrame) (are : AreSettings c) (alike : Alike c s a h g) (claims : is_claim f ≡ true) where
+  both : (erased (claim (known c s h).claims (claim_by (length h) m f)).after ≡ erased (claim (known c s g).claims (claim_by (length g) m f)).after)
+      × ((claim (known c s h).claims (claim_by (length h) m f)).step ≡ (claim (known c s g).claims (claim_by (length g) m f)).step)
+  both = by_erased (known c s h).claims (known c s g).claims (claim_by (length h) m f) (claim_by (length g) m f) alike.claims refl
+
+  same_lost : is_lost (claim (known c s h).claims (claim_by (length h) m f)).step a ≡ is_lost (claim (known c s g).claims (claim_by (length g) m f)).step a
+  same_lost = ap (λ (x : ClaimStep). is_lost x a) both.1
+
+  after_claim : erased (known c s (frame m f ∷ h)).claims ≡ erased (known c s (frame m f ∷ g)).claims
+  after_claim = rw (known_after_claim c s h m f claims, known_after_claim c s g m f claims) both.0
+
+  same_changed : same_own (known c s h).claims.own (known c s (frame m f ∷ h)).claims.own ≡ same_own (known c s g).claims.own (known c s (frame m f ∷ g)).claims.own
+  same_changed =
+      ap (λ (x : Claims). same_own x.own (known c s (frame m f ∷ h)).claims.own) alike.claims
+      ∙ ap (λ (x : Claims). same_own (known c s g).claims.own x.own) after_claim
+
+  iso_after : (addressed : Bool) → map iso_norm (iso_trace (known c s (frame m f ∷ h)) addressed a (notes_of c s (frame m f ∷ h))) ≡ map iso_norm (iso_trace (known c s (frame m f ∷ g)) addressed a (notes_of c s (frame m f ∷ g)))
+  iso_after false =
+      ap (map iso_norm) ((claims_move_traces c s h m f are claims).broadcast a)
+      ∙ cut_same iso_norm _ _ (iso_trace (known c s h) false a (notes_of c s h)) (iso_trace (known c s g) false a (notes_of c s g)) same_lost (alike.iso false)
+      ∙ ap (map iso_norm) (sym ((claims_move_traces c s g m f are claims).broadcast a))
+  iso_after true =
+      ap (map iso_norm) ((claims_move_traces c s h m f are claims).addressed a)
+      ∙ cut_same iso_norm _ _ (iso_trace (known c s h) true a (notes_of c s h)) (iso_trace (known c s g) true a (notes_of c s g)) (rw (same_lost, same_changed) refl) (alike.iso true)
+      ∙ ap (map iso_norm) (sym ((claims_move_traces c s g m f are claims).addressed a))
+
+  pub claim_alike : Alike c s a (frame m f ∷ h) (frame m f ∷ g)
+  claim_alike = record {
+    claims = after_claim;
+    fast = λ p fast.
+    ap (map fast_norm) ((claims_move_traces c s h m f are claims).fast a p (not_claims_pgn p fast))
+    ∙ cut_same fast_norm _ _ (fast_trace (known c s h) a p (notes_of c s h)) (fast_trace (known c s g) a p (notes_of c s g)) same_lost (alike.fast p fast)
+    ∙ ap (map fast_norm) (sym ((claims_move_traces c s g m f are claims).fast a p (not_claims_pgn p fast)));
+    iso = iso_after;
+    told = ap (from a) (claim_says_none c s h m f claims) ∙ alike.told ∙ sym (ap (from a) (claim_says_none c s g m f claims));
+  }
+
+-- ---- a command
+
+module _ (c : Settings) (s a : ℕ) (h g : History) (m source address : ℕ) (alike : Alike c s a h g) where
+  commanded : erased (known c s (entry.command m source address ∷ h)).claims ≡ erased (known c s (entry.command m source address ∷ g)).claims
+  commanded =
+      sym (command_erased (known c s h).claims address m) ∙ ap (λ (x : Claims). command x address m) alike.claims ∙ command_erased (known c s g).claims address m
+
+  own_changed : same_own (known c s h).claims.own (known c s (entry.command m source address ∷ h)).claims.own ≡ same_own (known c s g).claims.own (known c s (entry.command m source address ∷ g)).claims.own
+  own_changed =
+      ap (λ (x : Claims). same_own x.own (known c s (entry.command m source address ∷ h)).claims.own) alike.claims
+      ∙ ap (λ (x : Claims). same_own (known c s g).claims.own x.own) commanded
+
+  iso_commanded : (addressed : Bool) → map iso_norm (iso_trace (known c s (entry.command m source address ∷ h)) addressed a (notes_of c s (entry.command m source address ∷ h)))
+      ≡ map iso_norm (iso_trace (known c s (entry.command m source address ∷ g)) addressed a (notes_of c s (entry.command m source address ∷ g)))
+  iso_commanded false =
+      ap (map iso_norm) ((commands_move_traces c s h m source address).broadcast a) ∙ alike.iso false ∙ ap (map iso_norm) (sym ((commands_move_traces c s g m source address).broadcast a))
+  iso_commanded true =
+      ap (map iso_norm) ((commands_move_traces c s h m source address).addressed a)
+      ∙ cut_same iso_norm _ _ (iso_trace (known c s h) true a (notes_of c s h)) (iso_trace (known c s g) true a (notes_of c s g)) (ap not own_changed) (alike.iso true)
+      ∙ ap (map iso_norm) (sym ((commands_move_traces c s g m source address).addressed a))
+
+  pub command_alike : Alike c s a (entry.command m source address ∷ h) (entry.command m source address ∷ g)
+  command_alike = record {
+    claims = commanded;
+    fast = λ p fast.
+    ap (map fast_norm) ((commands_move_traces c s h m source address).fast a p (not_claims_pgn p fast)) ∙ alike.fast p fast
+    ∙ ap (map fast_norm) (sym ((commands_move_traces c s g m source address).fast a p (not_claims_pgn p fast)));
+    iso = iso_commanded;
+    told = alike.told;
+  }

@@ -1,0 +1,54 @@
+-- What a device sends alone decides, with the claims and commands, which of its messages are complete.
+use Rattle.std.specs.Prelude.{◌≡◌, ℕ, Bool, true, false, ◌&&◌, ◌||◌, ◌==◌, List, map, filter}
+use Rattle.std.specs.List.{AllByRecursion}
+use Rattle.n2k_id.specs.Identifier.{parts_of}
+use Rattle.pgn_profile.specs.Profiled.{kind_of}
+use Rattle.fast_packet.specs.FastFrames as fast
+use Rattle.iso_transport.specs.IsoRuns as iso
+use Rattle.history.specs.AddressLaws.{AreSettings}
+use Rattle.history.specs.Entries.{Entry, History, frame, datagram, tick, command}
+use Rattle.history.specs.Settings.{Settings}
+use Rattle.history.specs.Known.{is_claim}
+use Rattle.history.specs.Traces.{Note, iso_piece, is_transport}
+use Rattle.history.specs.Opens.{is_fast, notes_of}
+use Rattle.history.specs.Messages.{Message, messages_of}
+
+-- the claims, the commands and the frames from an address
+abbrev pub keeps : ℕ → Entry → Bool
+keeps a (frame m f) = is_claim f || ((parts_of f.id).source == a)
+keeps a (datagram m bytes) = false
+keeps a (tick m) = false
+keeps a (command m source address) = true
+
+abbrev pub narrowed : ℕ → History → History
+narrowed a h = filter (keeps a) h
+
+-- a message, whatever came between
+pub record Plain : Type 0 where
+  pub moment : ℕ
+  pub source : ℕ
+  pub name : ℕ
+  pub pgn : ℕ
+  pub payload : List ℕ
+
+abbrev pub plain : Message → Plain
+plain d = record { moment = d.moment; source = d.source; name = d.name; pgn = d.pgn; payload = d.payload }
+
+abbrev pub from : ℕ → List Message → List Plain
+from a older = map plain (filter (λ d. d.source == a) older)
+
+-- a frame opens a message
+abbrev pub opens : Note → Bool
+opens n = (is_fast (kind_of n.parts.pgn) && fast.is_opener n.bytes) || (is_transport n.parts && (iso.is_opener false (iso_piece n) || iso.is_opener true (iso_piece n)))
+
+-- no opener from the address was refused for want of room
+abbrev pub FindsRoom : ℕ → Note → Type 0
+FindsRoom a n = (n.parts.source == a) ≡ true → opens n ≡ true → n.admitted ≡ true
+
+abbrev pub NoneRefused : Settings → ℕ → History → ℕ → Type 0
+NoneRefused c s h a = AllByRecursion (FindsRoom a) (notes_of c s h)
+
+abbrev pub Isolation : Type 0
+Isolation =
+    (c : Settings) (s : ℕ) (h : History) (a : ℕ) → AreSettings c → NoneRefused c s h a → NoneRefused c s (narrowed a h) a
+    → from a (messages_of c s h) ≡ from a (messages_of c s (narrowed a h))
