@@ -22,7 +22,9 @@ use Rattle.history.specs.Entries.{Entry, History, frame, datagram, tick}
 use Rattle.history.specs.Entries as entry
 use Rattle.history.specs.Settings.{Settings}
 use Rattle.history.specs.Known.{Known, known, is_own, is_claim, claim_by, followed_by, since_of}
-use Rattle.history.specs.Traces.{Note, fast_piece, fast_trace, iso_piece, iso_trace, is_transport, is_bearing}
+use Rattle.fast_packet.specs.FastFrames.{is_opener}
+use Rattle.iso_transport.specs.IsoRuns.{is_opener as iso_opener}
+use Rattle.history.specs.Traces.{Note, is_since, fast_piece, fast_trace, fast_trace_since, iso_piece, iso_trace, broadcast_since, addressed_since, is_transport, is_bearing}
 use Rattle.history.specs.Opens.{is_fast, note_of, notes_of}
 use Rattle.history.specs.Messages.{Message, Carried, done, messages_of, said_by, with_message, completed_by, by_kind, by_session, fast_carried, iso_carried}
 use Rattle.history.specs.AddressLaws.{AreSettings}
@@ -128,3 +130,81 @@ module _ (c : Settings) (s a : ℕ) (h g : History) (m source address : ℕ) (al
     iso = iso_commanded;
     told = alike.told;
   }
+
+-- ---- openers of a trace found room
+
+fast_rooms : (a since p : ℕ) (notes : List Note) → is_fast (kind_of p) ≡ true → AllByRecursion (FindsRoom a) notes
+    → AllByRecursion (λ x. fast_rules.opens x ≡ true → fast_rules.admitted x ≡ true) (map fast_piece (filter (λ n. is_since a since n && (n.parts.pgn == p)) notes))
+fast_rooms a since p [] fast all = tt
+fast_rooms a since p (n ∷ notes) fast all = by (is_since a since n && (n.parts.pgn == p)) refl (fast_rooms a since p notes fast all.1)
+  where
+    room : (is_since a since n && (n.parts.pgn == p)) ≡ true → fast_rules.opens (fast_piece n) ≡ true → fast_rules.admitted (fast_piece n) ≡ true
+    room e opening =
+        let parts = and_parts (is_since a since n) (n.parts.pgn == p) e in
+        let kind : is_fast (kind_of n.parts.pgn) ≡ true = subst (λ (x : ℕ). is_fast (kind_of x) ≡ true) (sym (eqb-true n.parts.pgn p parts.1)) fast in
+        all.0 (and_parts (n.parts.source == a) (nat_le since n.index) parts.0).0 (rw (kind, opening) refl)
+
+    by : (b : Bool) → (is_since a since n && (n.parts.pgn == p)) ≡ b
+        → AllByRecursion (λ x. fast_rules.opens x ≡ true → fast_rules.admitted x ≡ true) (map fast_piece (filter (λ n. is_since a since n && (n.parts.pgn == p)) notes))
+        → AllByRecursion (λ x. fast_rules.opens x ≡ true → fast_rules.admitted x ≡ true) (map fast_piece (filter (λ n. is_since a since n && (n.parts.pgn == p)) (n ∷ notes)))
+    by true e rest = rw e (room e, rest)
+    by false e rest = rw e rest
+
+fast_trace_rooms : (k : Known) (a p : ℕ) (notes : List Note) → is_fast (kind_of p) ≡ true → AllByRecursion (FindsRoom a) notes
+    → AllByRecursion (λ x. fast_rules.opens x ≡ true → fast_rules.admitted x ≡ true) (fast_trace k a p notes)
+fast_trace_rooms k a p notes fast all = by (since_of k a)
+  where
+    by : (since : Option ℕ) → AllByRecursion (λ x. fast_rules.opens x ≡ true → fast_rules.admitted x ≡ true) (fast_trace_since since a p notes)
+    by None = tt
+    by (Some since) = fast_rooms a since p notes fast all
+
+iso_opens_is : (addressed : Bool) (n : Note) → is_transport n.parts ≡ true → (iso_rules addressed).opens (iso_piece n) ≡ true → opens n ≡ true
+iso_opens_is false n transport e = rw (transport, e) (or_any (is_fast (kind_of n.parts.pgn) && is_opener n.bytes))
+  where
+    or_any : (b : Bool) → (b || true) ≡ true
+    or_any true = refl
+    or_any false = refl
+iso_opens_is true n transport e = rw (transport, e) (or_both (is_fast (kind_of n.parts.pgn) && is_opener n.bytes) (iso_opener false (iso_piece n)))
+  where
+    or_both : (b d : Bool) → (b || (d || true)) ≡ true
+    or_both true d = refl
+    or_both false true = refl
+    or_both false false = refl
+
+-- frames of which each bears on a session
+iso_rooms : (addressed : Bool) (a : ℕ) (q : Note → Bool) → ((n : Note) → q n ≡ true → ((n.parts.source == a) ≡ true) × (is_transport n.parts ≡ true)) → (notes : List Note) → AllByRecursion (FindsRoom a) notes
+    → AllByRecursion (λ x. (iso_rules addressed).opens x ≡ true → (iso_rules addressed).admitted x ≡ true) (map iso_piece (filter q notes))
+iso_rooms addressed a q tells [] all = tt
+iso_rooms addressed a q tells (n ∷ notes) all = by (q n) refl (iso_rooms addressed a q tells notes all.1)
+  where
+    by : (b : Bool) → q n ≡ b → AllByRecursion (λ x. (iso_rules addressed).opens x ≡ true → (iso_rules addressed).admitted x ≡ true) (map iso_piece (filter q notes))
+        → AllByRecursion (λ x. (iso_rules addressed).opens x ≡ true → (iso_rules addressed).admitted x ≡ true) (map iso_piece (filter q (n ∷ notes)))
+    by true e rest = let facts = tells n e in rw e ((λ opening. all.0 facts.0 (iso_opens_is addressed n facts.1 opening)), rest)
+    by false e rest = rw e rest
+
+iso_trace_rooms : (k : Known) (addressed : Bool) (a : ℕ) (notes : List Note) → AllByRecursion (FindsRoom a) notes
+    → AllByRecursion (λ x. (iso_rules addressed).opens x ≡ true → (iso_rules addressed).admitted x ≡ true) (iso_trace k addressed a notes)
+iso_trace_rooms k false a notes all = by (since_of k a)
+  where
+    tells : (since : ℕ) (n : Note) → (is_since a since n && ((n.parts.destination == 255) && is_bearing false n)) ≡ true → ((n.parts.source == a) ≡ true) × (is_transport n.parts ≡ true)
+    tells since n e =
+        let parts = and_parts (is_since a since n) ((n.parts.destination == 255) && is_bearing false n) e in
+        let bearing = (and_parts (n.parts.destination == 255) (is_bearing false n) parts.1).1 in
+        ((and_parts (n.parts.source == a) (nat_le since n.index) parts.0).0, (and_parts (is_transport n.parts) _ bearing).0)
+
+    by : (since : Option ℕ) → AllByRecursion (λ x. (iso_rules false).opens x ≡ true → (iso_rules false).admitted x ≡ true) (broadcast_since since a notes)
+    by None = tt
+    by (Some since) = iso_rooms false a (λ n. is_since a since n && ((n.parts.destination == 255) && is_bearing false n)) (tells since) notes all
+iso_trace_rooms k true a notes all = by (since_of k a) k.claims.own
+  where
+    tells : (since own : ℕ) (n : Note) → (is_since a since n && ((n.parts.destination == own) && (nat_le k.own_since n.index && is_bearing true n))) ≡ true → ((n.parts.source == a) ≡ true) × (is_transport n.parts ≡ true)
+    tells since own n e =
+        let parts = and_parts (is_since a since n) ((n.parts.destination == own) && (nat_le k.own_since n.index && is_bearing true n)) e in
+        let late = (and_parts (n.parts.destination == own) (nat_le k.own_since n.index && is_bearing true n) parts.1).1 in
+        let bearing = (and_parts (nat_le k.own_since n.index) (is_bearing true n) late).1 in
+        ((and_parts (n.parts.source == a) (nat_le since n.index) parts.0).0, (and_parts (is_transport n.parts) _ bearing).0)
+
+    by : (since own : Option ℕ) → AllByRecursion (λ x. (iso_rules true).opens x ≡ true → (iso_rules true).admitted x ≡ true) (addressed_since since own k.own_since a notes)
+    by None own = tt
+    by (Some since) None = tt
+    by (Some since) (Some own) = iso_rooms true a (λ n. is_since a since n && ((n.parts.destination == own) && (nat_le k.own_since n.index && is_bearing true n))) (tells since own) notes all

@@ -28,7 +28,7 @@ use Rattle.claim_table.proofs.SoundLemmas.{held_within}
 use Rattle.std.proofs.lemmas.List.Elements.{All-get_or}
 
 -- the two laws of runs, of fast packets
-steps : OneStep fast_rules
+pub steps : OneStep fast_rules
 steps = one_step_of fast_rules lawful
 
 -- a holder of a table has its address since an entry that came

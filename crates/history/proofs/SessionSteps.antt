@@ -23,10 +23,10 @@ use Rattle.history.specs.KeyLaws.{is_meant, concerns, StepsIso, CompletesIso, Fr
 use Rattle.history.proofs.Addresses.{addresses_are_sound}
 use Rattle.history.proofs.KeySteps.{dated_at, known_same, eqb-sym}
 
-steps : (addressed : Bool) → OneStep (iso_rules addressed)
+pub steps : (addressed : Bool) → OneStep (iso_rules addressed)
 steps addressed = one_step_of (iso_rules addressed) (lawful addressed)
 
-abbrev with_piece : Bool → Note → List IsoPiece → List IsoPiece
+abbrev pub with_piece : Bool → Note → List IsoPiece → List IsoPiece
 with_piece b n rest = if b then iso_piece n ∷ rest else rest
 
 -- a filter's answer on the newest frame, whose index is late enough
@@ -56,7 +56,7 @@ addressed_head since own own_since a n notes le late =
 piece_if : (k : Known) (since : Option ℕ) (a : ℕ) (addressed : Bool) (n : Note) → Bool
 piece_if k since a addressed n = is_some since && ((n.parts.source == a) && (is_meant k n addressed && is_bearing addressed n))
 
-abbrev IsLate : Option ℕ → ℕ → Type 0
+abbrev pub IsLate : Option ℕ → ℕ → Type 0
 IsLate None i = Unit {0}
 IsLate (Some since) i = since ≤ i
 
@@ -78,11 +78,11 @@ addressed_trace k (Some since) None own_since a n notes e late own_late = sym (r
 addressed_trace k (Some since) (Some own) own_since a n notes e late own_late = rw e (addressed_head since own own_since a n notes late own_late)
 
 module _ (c : Settings) (s : ℕ) (h : History) (m : ℕ) (f : BusFrame) (are : AreSettings c) where
-  late : (a : ℕ) (o : Option Holder) → holder_at (known c s h).claims.holders a ≡ o → IsLate (option_map (λ (y : Holder). y.since) o) (length h)
+  pub late : (a : ℕ) (o : Option Holder) → holder_at (known c s h).claims.holders a ≡ o → IsLate (option_map (λ (y : Holder). y.since) o) (length h)
   late a None e = tt
   late a (Some x) e = dated_at (length h) (known c s h).claims.holders a x (addresses_are_sound c s h are).dated e
 
-  trace_is : (addressed : Bool) (a : ℕ) → iso_trace (known c s h) addressed a (the_note c s h m f ∷ notes_of c s h)
+  pub trace_is : (addressed : Bool) (a : ℕ) → iso_trace (known c s h) addressed a (the_note c s h m f ∷ notes_of c s h)
       ≡ with_piece (concerns (known c s h) (the_note c s h m f) (record { addressed = addressed; source = a })) (the_note c s h m f) (iso_trace (known c s h) addressed a (notes_of c s h))
   unfolding piece_if
   trace_is false a = broadcast_trace (known c s h) (since_of (known c s h) a) a (the_note c s h m f) (notes_of c s h) (late a (holder_at (known c s h).claims.holders a) refl)
@@ -125,12 +125,12 @@ held_and_own : (k : Known) (n : Note) (x : ℕ) → since_of k n.parts.source �
     → concerns k n (record { addressed = addressed; source = n.parts.source }) ≡ (is_meant k n addressed && is_bearing addressed n)
 held_and_own k n x e addressed = rw (e, eq-eqb n.parts.source n.parts.source refl) refl
 
-session_is : (k : Known) (n : Note) (older : List Note) (b : Bool) → ((not (key_of n.parts).addressed || is_own k n.parts.destination) && is_bearing (key_of n.parts).addressed n) ≡ b
+pub session_is : (k : Known) (n : Note) (older : List Note) (b : Bool) → ((not (key_of n.parts).addressed || is_own k n.parts.destination) && is_bearing (key_of n.parts).addressed n) ≡ b
     → by_session k n older ≡ (if b then iso_carried (run_of (iso_rules (key_of n.parts).addressed) (iso_trace k (key_of n.parts).addressed n.parts.source (n ∷ older))) else None)
 session_is k n older true e = rw e refl
 session_is k n older false e = rw e refl
 
-completed_iso : (k : Known) (n : Note) (older : List Note) → is_transport n.parts ≡ true → completed_by k n older ≡ by_session k n older
+pub completed_iso : (k : Known) (n : Note) (older : List Note) → is_transport n.parts ≡ true → completed_by k n older ≡ by_session k n older
 completed_iso k n older e = rw e refl
 
 module _ (c : Settings) (s : ℕ) (h : History) (m : ℕ) (f : BusFrame) (x : Holder) (are : AreSettings c) (transport : is_transport (parts_of f.id) ≡ true)
