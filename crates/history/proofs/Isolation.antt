@@ -31,7 +31,11 @@ use Rattle.history.specs.AddressLaws.{AreSettings}
 use Rattle.history.specs.TraceLaws.{is_lost, same_own}
 use Rattle.history.specs.KeyLaws.{is_meant, concerns, the_note}
 use Rattle.history.specs.IsolationLaws.{keeps, narrowed, plain, from, opens, FindsRoom, NoneRefused, Isolation}
+use Rattle.std.proofs.lemmas.Bool.{le-leb}
+use Rattle.iso_transport.specs.Connection.{control_at}
+use Rattle.history.specs.IsolationLaws.{Plain}
 use Rattle.history.proofs.KeySteps.{known_same, claim_kind}
+use Rattle.history.proofs.SessionSteps.{IsLate, late, trace_is}
 use Rattle.history.proofs.TraceMoves.{claims_move_traces, commands_move_traces, known_after_claim}
 use Rattle.history.proofs.FreshSteps.{claim_says_none}
 use Rattle.history.proofs.Erased.{bare, erased, unnumbered, bare_at, claim_erased, command_erased}
@@ -208,3 +212,111 @@ iso_trace_rooms k true a notes all = by (since_of k a) k.claims.own
     by None own = tt
     by (Some since) None = tt
     by (Some since) (Some own) = iso_rooms true a (λ n. is_since a since n && ((n.parts.destination == own) && (nat_le k.own_since n.index && is_bearing true n))) (tells since own) notes all
+
+-- ---- a frame of the device, which is no claim
+
+some_bare : (x : Option Holder) → is_some (option_map (λ (y : Holder). y.since) x) ≡ is_some (bare x)
+some_bare None = refl
+some_bare (Some h) = refl
+
+own_same : (k l : Known) (b : ℕ) → k.claims.own ≡ l.claims.own → is_own k b ≡ is_own l b
+own_same k l b e = by l.claims.own refl
+  where
+    by : (o : Option ℕ) → l.claims.own ≡ o → is_own k b ≡ is_own l b
+    by None f = rw (e, f) refl
+    by (Some x) f = rw (e, f) refl
+
+fast_head : (k : Known) (a p : ℕ) (n : Note) (notes : List Note) → (n.parts.source == a) ≡ true → IsLate (since_of k a) n.index
+    → fast_trace k a p (n ∷ notes) ≡ (if is_some (since_of k a) && (n.parts.pgn == p) then fast_piece n ∷ fast_trace k a p notes else fast_trace k a p notes)
+fast_head k a p n notes source late = by (since_of k a) late
+  where
+    with_pgn : (since : ℕ) → since ≤ n.index → (b : Bool) → (n.parts.pgn == p) ≡ b
+        → fast_trace_since (Some since) a p (n ∷ notes) ≡ (if b then fast_piece n ∷ fast_trace_since (Some since) a p notes else fast_trace_since (Some since) a p notes)
+    with_pgn since le true e = rw (source, le-leb since n.index le, e) refl
+    with_pgn since le false e = rw (source, le-leb since n.index le, e) refl
+
+    by : (since : Option ℕ) → IsLate since n.index
+        → fast_trace_since since a p (n ∷ notes) ≡ (if is_some since && (n.parts.pgn == p) then fast_piece n ∷ fast_trace_since since a p notes else fast_trace_since since a p notes)
+    by None le = refl
+    by (Some since) le = with_pgn since le (n.parts.pgn == p) refl
+
+piece_same : {X : Type 0} (f : X → X) (b d : Bool) (x y : X) (t u : List X) → b ≡ d → f x ≡ f y → map f t ≡ map f u → map f (if b then x ∷ t else t) ≡ map f (if d then y ∷ u else u)
+piece_same f b d x y t u e one same = rw e (by d)
+  where
+    by : (z : Bool) → map f (if z then x ∷ t else t) ≡ map f (if z then y ∷ u else u)
+    by true = rw (one, same) refl
+    by false = same
+
+-- the same message of two holders of one NAME
+said_same : (a i j m src : ℕ) (x y : Option Holder) (v w : Option Carried) (t u : List Message) → bare x ≡ bare y → v ≡ w → from a t ≡ from a u
+    → from a (with_message (said_by i m src x v) t) ≡ from a (with_message (said_by j m src y w) u)
+said_same a i j m src None None v w t u e f same = same
+said_same a i j m src (Some x) None v w t u e f same = cc
+said_same a i j m src None (Some y) v w t u e f same = cc
+said_same a i j m src (Some x) (Some y) v None t u e f same = rw f same
+said_same a i j m src (Some x) (Some y) v (Some w) t u e f same = rw f (by (src == a))
+  where
+    name_of : Option Holder → ℕ
+    name_of None = 0
+    name_of (Some h) = h.name.0
+
+    names : x.name.0 ≡ y.name.0
+    names = ap name_of e
+
+    made : ℕ → Plain
+    made name = record { moment = m; source = src; name = name; pgn = w.pgn; payload = w.payload }
+
+    by : (b : Bool) → map plain (if b then record { index = i; moment = m; source = src; name = x.name.0; pgn = w.pgn; payload = w.payload } ∷ filter (λ d. d.source == a) t else filter (λ d. d.source == a) t)
+        ≡ map plain (if b then record { index = j; moment = m; source = src; name = y.name.0; pgn = w.pgn; payload = w.payload } ∷ filter (λ d. d.source == a) u else filter (λ d. d.source == a) u)
+    by true = ap (λ (z : ℕ). made z ∷ from a t) names ∙ ap (λ (z : List Plain). made y.name.0 ∷ z) same
+    by false = same
+
+module _ (c : Settings) (s a : ℕ) (h g : History) (m : ℕ) (f : BusFrame) (are : AreSettings c) (alike : Alike c s a h g) (other : is_claim f ≡ false)
+  (source : ((parts_of f.id).source == a) ≡ true) where
+  holders_same : bare (holder_at (known c s h).claims.holders a) ≡ bare (holder_at (known c s g).claims.holders a)
+  holders_same = sym (bare_at (known c s h).claims.holders a) ∙ ap (λ (x : Claims). holder_at x.holders a) alike.claims ∙ bare_at (known c s g).claims.holders a
+
+  held_same : is_some (since_of (known c s h) a) ≡ is_some (since_of (known c s g) a)
+  held_same = some_bare (holder_at (known c s h).claims.holders a) ∙ ap is_some holders_same ∙ sym (some_bare (holder_at (known c s g).claims.holders a))
+
+  owns_same : (known c s h).claims.own ≡ (known c s g).claims.own
+  owns_same = ap (λ (x : Claims). x.own) alike.claims
+
+  ready_same : (the_note c s h m f).ready ≡ (the_note c s g m f).ready
+  ready_same = ap (λ (x : Claims). is_ready x m) alike.claims
+
+  late_h : IsLate (since_of (known c s h) a) (length h)
+  late_h = late c s h m f are a (holder_at (known c s h).claims.holders a) refl
+
+  late_g : IsLate (since_of (known c s g) a) (length g)
+  late_g = late c s g m f are a (holder_at (known c s g).claims.holders a) refl
+
+  fast_own : (p : ℕ) → kind_of p ≡ Fast
+      → map fast_norm (fast_trace (known c s h) a p (the_note c s h m f ∷ notes_of c s h)) ≡ map fast_norm (fast_trace (known c s g) a p (the_note c s g m f ∷ notes_of c s g))
+  fast_own p fast =
+      ap (map fast_norm) (fast_head (known c s h) a p (the_note c s h m f) (notes_of c s h) source late_h)
+      ∙ piece_same fast_norm _ _ (fast_piece (the_note c s h m f)) (fast_piece (the_note c s g m f)) (fast_trace (known c s h) a p (notes_of c s h)) (fast_trace (known c s g) a p (notes_of c s g))
+      (ap (λ (b : Bool). b && ((parts_of f.id).pgn == p)) held_same) refl (alike.fast p fast)
+      ∙ ap (map fast_norm) (sym (fast_head (known c s g) a p (the_note c s g m f) (notes_of c s g) source late_g))
+
+  meant_same : (addressed : Bool) → is_meant (known c s h) (the_note c s h m f) addressed ≡ is_meant (known c s g) (the_note c s g m f) addressed
+  meant_same true = own_same (known c s h) (known c s g) (parts_of f.id).destination owns_same
+  meant_same false = refl
+
+  bearing_same : (addressed : Bool) → is_bearing addressed (the_note c s h m f) ≡ is_bearing addressed (the_note c s g m f)
+  bearing_same addressed =
+      ap (λ (b : Bool). is_transport (parts_of f.id) && (bears addressed (is_data (parts_of f.id)) f.held && (is_data (parts_of f.id) || (not (control_at f.held == 16) || b)))) ready_same
+
+  concerns_same : (addressed : Bool) → concerns (known c s h) (the_note c s h m f) (record { addressed = addressed; source = a }) ≡ concerns (known c s g) (the_note c s g m f) (record { addressed = addressed; source = a })
+  concerns_same addressed =
+      ap (λ (b : Bool). b && (((parts_of f.id).source == a) && (is_meant (known c s h) (the_note c s h m f) addressed && is_bearing addressed (the_note c s h m f)))) held_same
+      ∙ ap (λ (b : Bool). is_some (since_of (known c s g) a) && (((parts_of f.id).source == a) && (b && is_bearing addressed (the_note c s h m f)))) (meant_same addressed)
+      ∙ ap (λ (b : Bool). is_some (since_of (known c s g) a) && (((parts_of f.id).source == a) && (is_meant (known c s g) (the_note c s g m f) addressed && b))) (bearing_same addressed)
+
+  iso_own : (addressed : Bool)
+      → map iso_norm (iso_trace (known c s h) addressed a (the_note c s h m f ∷ notes_of c s h)) ≡ map iso_norm (iso_trace (known c s g) addressed a (the_note c s g m f ∷ notes_of c s g))
+  iso_own addressed =
+      ap (map iso_norm) (trace_is c s h m f are addressed a)
+      ∙ piece_same iso_norm _ _ (iso_piece (the_note c s h m f)) (iso_piece (the_note c s g m f)) (iso_trace (known c s h) addressed a (notes_of c s h)) (iso_trace (known c s g) addressed a (notes_of c s g))
+      (concerns_same addressed) refl (alike.iso addressed)
+      ∙ ap (map iso_norm) (sym (trace_is c s g m f are addressed a))
