@@ -35,7 +35,9 @@ use Rattle.std.proofs.lemmas.Bool.{le-leb}
 use Rattle.iso_transport.specs.Connection.{control_at}
 use Rattle.history.specs.IsolationLaws.{Plain}
 use Rattle.history.proofs.KeySteps.{known_same, claim_kind}
-use Rattle.history.proofs.SessionSteps.{IsLate, late, trace_is}
+use Rattle.history.proofs.SessionSteps.{IsLate, late, trace_is, session_is, completed_iso}
+use Rattle.history.proofs.SessionSteps.{steps as iso_steps}
+use Rattle.history.proofs.KeySteps.{steps as fast_steps}
 use Rattle.history.proofs.TraceMoves.{claims_move_traces, commands_move_traces, known_after_claim}
 use Rattle.history.proofs.FreshSteps.{claim_says_none}
 use Rattle.history.proofs.Erased.{bare, erased, unnumbered, bare_at, claim_erased, command_erased}
@@ -271,6 +273,9 @@ said_same a i j m src (Some x) (Some y) v (Some w) t u e f same = rw f (by (src 
     by true = ap (λ (z : ℕ). made z ∷ from a t) names ∙ ap (λ (z : List Plain). made y.name.0 ∷ z) same
     by false = same
 
+not_session : (k : Known) (n : Note) (older : List Note) → is_transport n.parts ≡ false → completed_by k n older ≡ by_kind (kind_of n.parts.pgn) k n older
+not_session k n older e = rw e refl
+
 module _ (c : Settings) (s a : ℕ) (h g : History) (m : ℕ) (f : BusFrame) (are : AreSettings c) (alike : Alike c s a h g) (other : is_claim f ≡ false)
   (source : ((parts_of f.id).source == a) ≡ true) where
   holders_same : bare (holder_at (known c s h).claims.holders a) ≡ bare (holder_at (known c s g).claims.holders a)
@@ -320,3 +325,70 @@ module _ (c : Settings) (s a : ℕ) (h g : History) (m : ℕ) (f : BusFrame) (ar
       ∙ piece_same iso_norm _ _ (iso_piece (the_note c s h m f)) (iso_piece (the_note c s g m f)) (iso_trace (known c s h) addressed a (notes_of c s h)) (iso_trace (known c s g) addressed a (notes_of c s g))
       (concerns_same addressed) refl (alike.iso addressed)
       ∙ ap (map iso_norm) (sym (trace_is c s g m f are addressed a))
+
+  -- what it completes
+  module _ (rooms_h : AllByRecursion (FindsRoom a) (the_note c s h m f ∷ notes_of c s h)) (rooms_g : AllByRecursion (FindsRoom a) (the_note c s g m f ∷ notes_of c s g)) where
+    from_source : (parts_of f.id).source ≡ a
+    from_source = eqb-true (parts_of f.id).source a source
+
+    fast_done : kind_of (parts_of f.id).pgn ≡ Fast
+        → fast_carried (parts_of f.id).pgn (run_of fast_rules (fast_trace (known c s h) a (parts_of f.id).pgn (the_note c s h m f ∷ notes_of c s h)))
+        ≡ fast_carried (parts_of f.id).pgn (run_of fast_rules (fast_trace (known c s g) a (parts_of f.id).pgn (the_note c s g m f ∷ notes_of c s g)))
+    fast_done fast =
+        sym (fast_carries (parts_of f.id).pgn (run_of fast_rules (fast_trace (known c s h) a (parts_of f.id).pgn (the_note c s h m f ∷ notes_of c s h))))
+        ∙ ap (fast_carried (parts_of f.id).pgn) (sym (run_of_map fast_rules fast_norm fast_unseen fast_steps (fast_trace (known c s h) a (parts_of f.id).pgn (the_note c s h m f ∷ notes_of c s h))
+        (fast_trace_rooms (known c s h) a (parts_of f.id).pgn (the_note c s h m f ∷ notes_of c s h) (ap is_fast fast) rooms_h)))
+        ∙ ap (λ (t : List FastPiece). fast_carried (parts_of f.id).pgn (run_of fast_rules t)) (fast_own (parts_of f.id).pgn fast)
+        ∙ ap (fast_carried (parts_of f.id).pgn) (run_of_map fast_rules fast_norm fast_unseen fast_steps (fast_trace (known c s g) a (parts_of f.id).pgn (the_note c s g m f ∷ notes_of c s g))
+        (fast_trace_rooms (known c s g) a (parts_of f.id).pgn (the_note c s g m f ∷ notes_of c s g) (ap is_fast fast) rooms_g))
+        ∙ fast_carries (parts_of f.id).pgn (run_of fast_rules (fast_trace (known c s g) a (parts_of f.id).pgn (the_note c s g m f ∷ notes_of c s g)))
+
+    iso_done : (addressed : Bool)
+        → iso_carried (run_of (iso_rules addressed) (iso_trace (known c s h) addressed a (the_note c s h m f ∷ notes_of c s h)))
+        ≡ iso_carried (run_of (iso_rules addressed) (iso_trace (known c s g) addressed a (the_note c s g m f ∷ notes_of c s g)))
+    iso_done addressed =
+        sym (iso_carries (run_of (iso_rules addressed) (iso_trace (known c s h) addressed a (the_note c s h m f ∷ notes_of c s h))))
+        ∙ ap iso_carried (sym (run_of_map (iso_rules addressed) iso_norm (iso_unseen addressed) (iso_steps addressed) (iso_trace (known c s h) addressed a (the_note c s h m f ∷ notes_of c s h))
+        (iso_trace_rooms (known c s h) addressed a (the_note c s h m f ∷ notes_of c s h) rooms_h)))
+        ∙ ap (λ (t : List IsoPiece). iso_carried (run_of (iso_rules addressed) t)) (iso_own addressed)
+        ∙ ap iso_carried (run_of_map (iso_rules addressed) iso_norm (iso_unseen addressed) (iso_steps addressed) (iso_trace (known c s g) addressed a (the_note c s g m f ∷ notes_of c s g))
+        (iso_trace_rooms (known c s g) addressed a (the_note c s g m f ∷ notes_of c s g) rooms_g))
+        ∙ iso_carries (run_of (iso_rules addressed) (iso_trace (known c s g) addressed a (the_note c s g m f ∷ notes_of c s g)))
+
+    session_done : by_session (known c s h) (the_note c s h m f) (notes_of c s h) ≡ by_session (known c s g) (the_note c s g m f) (notes_of c s g)
+    session_done =
+        session_is (known c s h) (the_note c s h m f) (notes_of c s h) _ refl
+        ∙ choose ((not (key_of (parts_of f.id)).addressed || is_own (known c s h) (parts_of f.id).destination) && is_bearing (key_of (parts_of f.id)).addressed (the_note c s h m f))
+        ((not (key_of (parts_of f.id)).addressed || is_own (known c s g) (parts_of f.id).destination) && is_bearing (key_of (parts_of f.id)).addressed (the_note c s g m f))
+        (rw (own_same (known c s h) (known c s g) (parts_of f.id).destination owns_same) (ap (λ (b : Bool). (not (key_of (parts_of f.id)).addressed || is_own (known c s g) (parts_of f.id).destination) && b) (bearing_same (key_of (parts_of f.id)).addressed)))
+        (subst (λ (x : ℕ). iso_carried (run_of (iso_rules (key_of (parts_of f.id)).addressed) (iso_trace (known c s h) (key_of (parts_of f.id)).addressed x (the_note c s h m f ∷ notes_of c s h)))
+        ≡ iso_carried (run_of (iso_rules (key_of (parts_of f.id)).addressed) (iso_trace (known c s g) (key_of (parts_of f.id)).addressed x (the_note c s g m f ∷ notes_of c s g)))) (sym from_source) (iso_done (key_of (parts_of f.id)).addressed))
+        ∙ sym (session_is (known c s g) (the_note c s g m f) (notes_of c s g) _ refl)
+      where
+        choose : (b d : Bool) → b ≡ d → {x y : Option Carried} → x ≡ y → (if b then x else None) ≡ (if d then y else None)
+        choose b d e {x = x} {y = y} same = rw (e, same) refl
+
+    kind_done : (kind : Kind) → kind_of (parts_of f.id).pgn ≡ kind → by_kind kind (known c s h) (the_note c s h m f) (notes_of c s h) ≡ by_kind kind (known c s g) (the_note c s g m f) (notes_of c s g)
+    kind_done Single e = refl
+    kind_done Fast e =
+        subst (λ (x : ℕ). fast_carried (parts_of f.id).pgn (run_of fast_rules (fast_trace (known c s h) x (parts_of f.id).pgn (the_note c s h m f ∷ notes_of c s h)))
+        ≡ fast_carried (parts_of f.id).pgn (run_of fast_rules (fast_trace (known c s g) x (parts_of f.id).pgn (the_note c s g m f ∷ notes_of c s g)))) (sym from_source) (fast_done e)
+    kind_done Outside e = refl
+
+    completes : completed_by (known c s h) (the_note c s h m f) (notes_of c s h) ≡ completed_by (known c s g) (the_note c s g m f) (notes_of c s g)
+    completes = by (is_transport (parts_of f.id)) refl
+      where
+        by : (b : Bool) → is_transport (parts_of f.id) ≡ b → completed_by (known c s h) (the_note c s h m f) (notes_of c s h) ≡ completed_by (known c s g) (the_note c s g m f) (notes_of c s g)
+        by true e = completed_iso (known c s h) (the_note c s h m f) (notes_of c s h) e ∙ session_done ∙ sym (completed_iso (known c s g) (the_note c s g m f) (notes_of c s g) e)
+        by false e = not_session (known c s h) (the_note c s h m f) (notes_of c s h) e ∙ kind_done (kind_of (parts_of f.id).pgn) refl ∙ sym (not_session (known c s g) (the_note c s g m f) (notes_of c s g) e)
+
+    pub own_alike : Alike c s a (frame m f ∷ h) (frame m f ∷ g)
+    own_alike = record {
+      claims = rw (known_same c s h m f other, known_same c s g m f other) alike.claims;
+      fast = λ p fast. rw (known_same c s h m f other, known_same c s g m f other) (fast_own p fast);
+      iso = λ addressed. rw (known_same c s h m f other, known_same c s g m f other) (iso_own addressed);
+      told =
+      said_same a (length h) (length g) m (parts_of f.id).source (holder_at (known c s h).claims.holders (parts_of f.id).source) (holder_at (known c s g).claims.holders (parts_of f.id).source)
+      (completed_by (known c s h) (the_note c s h m f) (notes_of c s h)) (completed_by (known c s g) (the_note c s g m f) (notes_of c s g)) (messages_of c s h) (messages_of c s g)
+      (subst (λ (x : ℕ). bare (holder_at (known c s h).claims.holders x) ≡ bare (holder_at (known c s g).claims.holders x)) (sym from_source) holders_same) completes alike.told;
+    }
