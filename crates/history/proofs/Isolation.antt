@@ -34,8 +34,8 @@ use Rattle.history.specs.IsolationLaws.{keeps, narrowed, plain, from, opens, Fin
 use Rattle.std.proofs.lemmas.Bool.{le-leb}
 use Rattle.iso_transport.specs.Connection.{control_at}
 use Rattle.history.specs.IsolationLaws.{Plain}
-use Rattle.history.proofs.KeySteps.{known_same, claim_kind}
-use Rattle.history.proofs.SessionSteps.{IsLate, late, trace_is, session_is, completed_iso}
+use Rattle.history.proofs.KeySteps.{known_same, claim_kind, other_piece}
+use Rattle.history.proofs.SessionSteps.{IsLate, with_piece, late, trace_is, session_is, completed_iso}
 use Rattle.history.proofs.SessionSteps.{steps as iso_steps}
 use Rattle.history.proofs.KeySteps.{steps as fast_steps}
 use Rattle.history.proofs.TraceMoves.{claims_move_traces, commands_move_traces, known_after_claim}
@@ -392,3 +392,84 @@ module _ (c : Settings) (s a : ℕ) (h g : History) (m : ℕ) (f : BusFrame) (ar
       (completed_by (known c s h) (the_note c s h m f) (notes_of c s h)) (completed_by (known c s g) (the_note c s g m f) (notes_of c s g)) (messages_of c s h) (messages_of c s g)
       (subst (λ (x : ℕ). bare (holder_at (known c s h).claims.holders x) ≡ bare (holder_at (known c s g).claims.holders x)) (sym from_source) holders_same) completes alike.told;
     }
+
+-- ---- a frame of another device
+
+dropped : (a i m src : ℕ) (x : Option Holder) (w : Option Carried) (t : List Message) → (src == a) ≡ false → from a (with_message (said_by i m src x w) t) ≡ from a t
+dropped a i m src None w t e = refl
+dropped a i m src (Some x) None t e = refl
+dropped a i m src (Some x) (Some w) t e = rw e refl
+
+fast_past : (k : Known) (a p : ℕ) (n : Note) (notes : List Note) → (n.parts.source == a) ≡ false → fast_trace k a p (n ∷ notes) ≡ fast_trace k a p notes
+fast_past k a p n notes e = other_piece (since_of k a) a p n notes (rw e refl)
+
+not_concerned : (k : Known) (n : Note) (a : ℕ) (addressed : Bool) → (n.parts.source == a) ≡ false → concerns k n (record { addressed = addressed; source = a }) ≡ false
+not_concerned k n a addressed e = rw e (and_no (is_some (since_of k a)))
+  where
+    and_no : (x : Bool) → (x && false) ≡ false
+    and_no true = refl
+    and_no false = refl
+
+module _ (c : Settings) (s a : ℕ) (h g : History) (m : ℕ) (f : BusFrame) (are : AreSettings c) (alike : Alike c s a h g) (other : is_claim f ≡ false)
+  (elsewhere : ((parts_of f.id).source == a) ≡ false) where
+  iso_past : (addressed : Bool) → iso_trace (known c s h) addressed a (the_note c s h m f ∷ notes_of c s h) ≡ iso_trace (known c s h) addressed a (notes_of c s h)
+  iso_past addressed =
+      trace_is c s h m f are addressed a
+      ∙ ap (λ (b : Bool). with_piece b (the_note c s h m f) (iso_trace (known c s h) addressed a (notes_of c s h))) (not_concerned (known c s h) (the_note c s h m f) a addressed elsewhere)
+
+  pub other_alike : Alike c s a (frame m f ∷ h) g
+  other_alike = record {
+    claims = rw (known_same c s h m f other) alike.claims;
+    fast = λ p fast. rw (known_same c s h m f other) (ap (map fast_norm) (fast_past (known c s h) a p (the_note c s h m f) (notes_of c s h) elsewhere) ∙ alike.fast p fast);
+    iso = λ addressed. rw (known_same c s h m f other) (ap (map iso_norm) (iso_past addressed) ∙ alike.iso addressed);
+    told =
+    dropped a (length h) m (parts_of f.id).source (holder_at (known c s h).claims.holders (parts_of f.id).source)
+    (completed_by (known c s h) (the_note c s h m f) (notes_of c s h)) (messages_of c s h) elsewhere
+    ∙ alike.told;
+  }
+
+-- ---- a whole history
+
+kept_is : (a : ℕ) (e : Entry) (h : History) → keeps a e ≡ true → narrowed a (e ∷ h) ≡ e ∷ narrowed a h
+kept_is a e h keep = rw keep refl
+
+gone_is : (a : ℕ) (e : Entry) (h : History) → keeps a e ≡ false → narrowed a (e ∷ h) ≡ narrowed a h
+gone_is a e h gone = rw gone refl
+
+module _ (c : Settings) (s a : ℕ) (are : AreSettings c) where
+  with_claim : (h : History) (m : ℕ) (f : BusFrame) → is_claim f ≡ true → Alike c s a h (narrowed a h) → Alike c s a (frame m f ∷ h) (narrowed a (frame m f ∷ h))
+  with_claim h m f claims alike =
+      subst (Alike c s a (frame m f ∷ h)) (sym (kept_is a (frame m f) h (rw claims refl))) (claim_alike c s a h (narrowed a h) m f are alike claims)
+
+  with_own : (h : History) (m : ℕ) (f : BusFrame) → is_claim f ≡ false → ((parts_of f.id).source == a) ≡ true → NoneRefused c s (frame m f ∷ h) a → NoneRefused c s (narrowed a (frame m f ∷ h)) a
+      → Alike c s a h (narrowed a h) → Alike c s a (frame m f ∷ h) (narrowed a (frame m f ∷ h))
+  with_own h m f other own rooms rooms_kept alike =
+      let keep : keeps a (frame m f) ≡ true = rw (other, own) refl in
+      subst (Alike c s a (frame m f ∷ h)) (sym (kept_is a (frame m f) h keep))
+      (own_alike c s a h (narrowed a h) m f are alike other own rooms (subst (λ (g : History). NoneRefused c s g a) (kept_is a (frame m f) h keep) rooms_kept))
+
+  with_other : (h : History) (m : ℕ) (f : BusFrame) → is_claim f ≡ false → ((parts_of f.id).source == a) ≡ false → Alike c s a h (narrowed a h) → Alike c s a (frame m f ∷ h) (narrowed a (frame m f ∷ h))
+  with_other h m f other elsewhere alike =
+      subst (Alike c s a (frame m f ∷ h)) (sym (gone_is a (frame m f) h (rw (other, elsewhere) refl))) (other_alike c s a h (narrowed a h) m f are alike other elsewhere)
+
+  -- what is kept of a frame's rooms
+  rooms_before : (h : History) (m : ℕ) (f : BusFrame) (b : Bool) → keeps a (frame m f) ≡ b → NoneRefused c s (narrowed a (frame m f ∷ h)) a → NoneRefused c s (narrowed a h) a
+  rooms_before h m f true e rooms = (subst (λ (g : History). NoneRefused c s g a) (kept_is a (frame m f) h e) rooms).1
+  rooms_before h m f false e rooms = subst (λ (g : History). NoneRefused c s g a) (gone_is a (frame m f) h e) rooms
+
+  with_frame : (h : History) (m : ℕ) (f : BusFrame) → NoneRefused c s (frame m f ∷ h) a → NoneRefused c s (narrowed a (frame m f ∷ h)) a
+      → (b d : Bool) → is_claim f ≡ b → ((parts_of f.id).source == a) ≡ d → Alike c s a h (narrowed a h) → Alike c s a (frame m f ∷ h) (narrowed a (frame m f ∷ h))
+  with_frame h m f rooms rooms_kept true d e own alike = with_claim h m f e alike
+  with_frame h m f rooms rooms_kept false true e own alike = with_own h m f e own rooms rooms_kept alike
+  with_frame h m f rooms rooms_kept false false e own alike = with_other h m f e own alike
+
+  alike_all : (h : History) → NoneRefused c s h a → NoneRefused c s (narrowed a h) a → Alike c s a h (narrowed a h)
+  alike_all [] rooms rooms_kept = record { claims = refl; fast = λ p fast. refl; iso = λ addressed. refl; told = refl }
+  alike_all (frame m f ∷ h) rooms rooms_kept =
+      with_frame h m f rooms rooms_kept (is_claim f) ((parts_of f.id).source == a) refl refl (alike_all h rooms.1 (rooms_before h m f (keeps a (frame m f)) refl rooms_kept))
+  alike_all (datagram m bytes ∷ h) rooms rooms_kept = let same = alike_all h rooms rooms_kept in record { claims = same.claims; fast = same.fast; iso = same.iso; told = same.told }
+  alike_all (tick m ∷ h) rooms rooms_kept = let same = alike_all h rooms rooms_kept in record { claims = same.claims; fast = same.fast; iso = same.iso; told = same.told }
+  alike_all (entry.command m source address ∷ h) rooms rooms_kept = command_alike c s a h (narrowed a h) m source address (alike_all h rooms rooms_kept)
+
+pub isolation : Isolation
+isolation c s h a are rooms rooms_kept = (alike_all c s a are h rooms rooms_kept).told

@@ -1,5 +1,5 @@
-use Rattle.history.proofs.Isolation.{claim_alike}
+use Rattle.history.proofs.Isolation.{isolation}
 use Rattle.history.proofs.laws.devices_are_isolated.Goals as goal
 
 pub returns : goal.returns
-returns c = ?
+returns c = isolation
