@@ -45,10 +45,10 @@ all_kinds [] = tt
 all_kinds (k ∷ ks) = (refl, all_kinds ks)
 
 -- a line of another group, and a line of none
-line_past : (key : GroupKey) (t : Taken) (part : GroupPart) → same_group key (record { sfi = t.source; code = part.code }) ≡ false → line_in key t (Some part) ≡ None
+pub line_past : (key : GroupKey) (t : Taken) (part : GroupPart) → same_group key (record { sfi = t.source; code = part.code }) ≡ false → line_in key t (Some part) ≡ None
 line_past key t part e = rw e refl
 
-trace_past : (key : GroupKey) (t : Taken) (older : List Taken) → line_in key t (several t.group) ≡ None → group_trace key (t ∷ older) ≡ group_trace key older
+pub trace_past : (key : GroupKey) (t : Taken) (older : List Taken) → line_in key t (several t.group) ≡ None → group_trace key (t ∷ older) ≡ group_trace key older
 trace_past key t older e = rw e refl
 
 -- a group whose key didn't come has no lines

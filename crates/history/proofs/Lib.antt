@@ -9,6 +9,7 @@ pub mod Counts
 pub mod FastCounts
 pub mod IsoCounts
 pub mod GroupCounts
+pub mod GroupSteps
 mod Computed
 mod ClaimCases
 mod FastCases

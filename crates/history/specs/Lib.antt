@@ -18,6 +18,7 @@ pub mod TraceLaws
 pub mod KeyLaws
 pub mod FreshLaws
 pub mod CountLaws
+pub mod GroupLaws
 pub mod Cases
 pub mod ClaimCases
 pub mod FastCases

@@ -2,6 +2,7 @@
 ghost use Rattle.history.specs.AddressLaws.{AddressesAreSound};
 ghost use Rattle.history.specs.CountLaws.{SlotsCountFast, SlotsCountIso, SlotsCountGroups};
 ghost use Rattle.history.specs.FreshLaws.{FreshByLast, MessagesAreKept, ClaimsForget, CommandsForgetNone};
+ghost use Rattle.history.specs.GroupLaws.{LinesStepGroup, LinesStandAlone, TimeEndsGroup};
 ghost use Rattle.history.specs.KeyLaws.{FramesStepFast, FramesKeepFast, TimeEndsFast, FramesStepIso, FramesCompleteIso, TimeEndsIso};
 ghost use Rattle.history.specs.TraceLaws.{ClaimsMoveTraces, CommandsMoveTraces};
 
@@ -32,6 +33,15 @@ pub fn transport_frames_step_their_session()
     ensures step { FramesStepIso }
     ensures complete { FramesCompleteIso }
     ensures later { TimeEndsIso }
+{}
+
+/// One more taken line does to what is open of its group what the rules of groups say of the lines that were open, hands over the
+/// sentences that they say, and changes no other group; a line that is in no group of two lines or more hands over its own sentence; a
+/// later moment ends what is overdue.
+pub fn group_lines_step_their_group()
+    ensures step { LinesStepGroup }
+    ensures alone { LinesStandAlone }
+    ensures later { TimeEndsGroup }
 {}
 
 /// Whether a source is fresh in a row is known by its last message of that row since it holds its address: the next one takes its place,
