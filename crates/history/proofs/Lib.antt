@@ -10,6 +10,7 @@ pub mod FastCounts
 pub mod IsoCounts
 pub mod GroupCounts
 pub mod GroupSteps
+pub mod Refusals
 mod Computed
 mod ClaimCases
 mod FastCases

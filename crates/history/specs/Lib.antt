@@ -19,6 +19,7 @@ pub mod KeyLaws
 pub mod FreshLaws
 pub mod CountLaws
 pub mod GroupLaws
+pub mod RefusalLaws
 pub mod Cases
 pub mod ClaimCases
 pub mod FastCases

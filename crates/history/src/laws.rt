@@ -4,6 +4,7 @@ ghost use Rattle.history.specs.CountLaws.{SlotsCountFast, SlotsCountIso, SlotsCo
 ghost use Rattle.history.specs.FreshLaws.{FreshByLast, MessagesAreKept, ClaimsForget, CommandsForgetNone};
 ghost use Rattle.history.specs.GroupLaws.{LinesStepGroup, LinesStandAlone, TimeEndsGroup};
 ghost use Rattle.history.specs.KeyLaws.{FramesStepFast, FramesKeepFast, TimeEndsFast, FramesStepIso, FramesCompleteIso, TimeEndsIso};
+ghost use Rattle.history.specs.RefusalLaws.{FastRefusalsBreak};
 ghost use Rattle.history.specs.TraceLaws.{ClaimsMoveTraces, CommandsMoveTraces};
 
 /// After every history no NAME has two addresses and the gateway's own has no other holder, and each is held since an entry of the
@@ -25,6 +26,11 @@ pub fn fast_frames_step_their_key()
     ensures step { FramesStepFast }
     ensures others { FramesKeepFast }
     ensures later { TimeEndsFast }
+{}
+
+/// A frame of fast packets is refused exactly where it leaves nothing open of its key and completes nothing.
+pub fn fast_refusals_break()
+    ensures { FastRefusalsBreak }
 {}
 
 /// One more transport frame does to the session on which it bears what the rules say of the frames that were open, completes what they
