@@ -4,7 +4,7 @@ ghost use Rattle.history.specs.CountLaws.{SlotsCountFast, SlotsCountIso, SlotsCo
 ghost use Rattle.history.specs.FreshLaws.{FreshByLast, MessagesAreKept, ClaimsForget, CommandsForgetNone};
 ghost use Rattle.history.specs.GroupLaws.{LinesStepGroup, LinesStandAlone, TimeEndsGroup};
 ghost use Rattle.history.specs.KeyLaws.{FramesStepFast, FramesKeepFast, TimeEndsFast, FramesStepIso, FramesCompleteIso, TimeEndsIso};
-ghost use Rattle.history.specs.RefusalLaws.{FastRefusalsBreak};
+ghost use Rattle.history.specs.RefusalLaws.{FastRefusalsBreak, TransportRefusalsBreak};
 ghost use Rattle.history.specs.TraceLaws.{ClaimsMoveTraces, CommandsMoveTraces};
 
 /// After every history no NAME has two addresses and the gateway's own has no other holder, and each is held since an entry of the
@@ -39,6 +39,11 @@ pub fn transport_frames_step_their_session()
     ensures step { FramesStepIso }
     ensures complete { FramesCompleteIso }
     ensures later { TimeEndsIso }
+{}
+
+/// Of a session that is open, a frame that bears on it ends it exactly where it leaves nothing open of its key and completes nothing.
+pub fn transport_refusals_break()
+    ensures { TransportRefusalsBreak }
 {}
 
 /// One more taken line does to what is open of its group what the rules of groups say of the lines that were open, hands over the

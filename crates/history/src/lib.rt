@@ -10,5 +10,5 @@ pub use cases::{
 };
 pub use laws::{
     addresses_are_sound, addresses_keep_their_frames, fast_frames_step_their_key, fast_refusals_break,
-    freshness_is_kept, group_lines_step_their_group, slots_count_open_keys, transport_frames_step_their_session,
+    freshness_is_kept, group_lines_step_their_group, slots_count_open_keys, transport_frames_step_their_session, transport_refusals_break,
 };
