@@ -1,16 +1,16 @@
 -- The laws of one group of lines.
-use Rattle.std.proofs.Common.{◌≡◌, ℕ, ◌≤◌, Bool, true, false, ◌&&◌, List, [], ◌∷◌, refl, ap, ◌∙◌, ◌==◌}
+use Rattle.std.proofs.Common.{◌≡◌, ℕ, true, List, [], ◌∷◌, refl, ap, ◌∙◌}
 use Rattle.std.specs.Prelude.{Option, Some, None}
 use Rattle.std.proofs.lemmas.Bool.{eq-eqb}
-use Rattle.runs.specs.Runs.{fed, finished, kept_at, open_at, run_of}
+use Rattle.runs.specs.Runs.{kept_at, open_at, run_of}
 use Rattle.runs.specs.Laws.{OneStep}
 use Rattle.runs.proofs.Steps.{one_step_of}
 use Rattle.tag_block.specs.declared.group_part.GroupPart.{GroupPart}
 use Rattle.tag_block.specs.declared.group_key.GroupKey.{GroupKey}
 use Rattle.tag_block.specs.GroupRuns.{GroupLine, group_rules}
 use Rattle.tag_block.proofs.GroupPrefixes.{lawful}
-use Rattle.history.specs.Heard.{Taken, same_text, same_group, several, group_line, line_in, group_trace, group_open, sentences_in, handed_with, handed_over}
-use Rattle.history.specs.GroupLaws.{group_key, StepsGroup, StandsAlone, LinesStepGroup, LinesStandAlone, TimeEndsGroup}
+use Rattle.history.specs.Heard.{Taken, same_text, several, group_line, line_in, group_trace, group_open, sentences_in, handed_with}
+use Rattle.history.specs.GroupLaws.{group_key, StepsGroup, LinesStepGroup, LinesStandAlone, TimeEndsGroup}
 use Rattle.history.proofs.GroupCounts.{line_past, trace_past}
 
 -- the laws of runs, of groups

@@ -1,17 +1,16 @@
 -- A frame breaks what is open of its key exactly where it leaves nothing open and completes nothing.
-use Rattle.std.proofs.Common.{◌≡◌, ℕ, ◌+◌, ◌-◌, ◌<◌, ◌≤◌, Bool, true, false, ◌&&◌, ◌||◌, not, ◌==◌, nat_le, nat_lt, ◌↔◌, List, [], ◌∷◌, length, is_some, is_none, refl, sym, ap, ◌∙◌, arith}
+use Rattle.std.proofs.Common.{◌≡◌, ℕ, Bool, true, false, ◌&&◌, ◌||◌, not, ◌==◌, nat_le, nat_lt, List, [], ◌∷◌, length, is_some, is_none, refl, sym, ap, ◌∙◌, arith}
 use Rattle.std.specs.Prelude.{Option, Some, None, if◌then◌else◌, slice_index}
 use Rattle.std.proofs.lemmas.Bool.{eqb-true, ne_eqb, leb-true, ltb-true, le-ltb, lt-leb, and_parts, false≢true}
 use Rattle.runs.specs.Runs.{Rules, IsLawful, is_admitted, is_whole, if_open, if_whole, open_at}
 use Rattle.runs.proofs.Suffixes.{one_suffix_of}
 use Rattle.fast_packet.specs.declared.answers.FastRefusal.{FastRefusal}
-use Rattle.fast_packet.specs.declared.answers.FastRefusal.TheVariants.{Order, Orphan, Length}
+use Rattle.fast_packet.specs.declared.answers.FastRefusal.TheVariants.{Order, Length}
 use Rattle.fast_packet.specs.FastFrames.{counter_of, is_opener, is_no_later}
 use Rattle.fast_packet.specs.FastRuns.{FastPiece, fast_rules, is_next, is_repeat}
 use Rattle.fast_packet.specs.Keys.{refused, is_awaited}
 use Rattle.fast_packet.proofs.Lawful.{lawful, no_next, no_repeat}
 use Rattle.fast_packet.proofs.Assemblies.{counter_zero}
-use Rattle.iso_transport.specs.declared.connection.Cm.{Cm}
 use Rattle.iso_transport.specs.declared.connection.Cm.TheVariants.{Rts, Bam, Abort}
 use Rattle.iso_transport.specs.declared.session.Session.{Session}
 use Rattle.iso_transport.specs.declared.answers.IsoRefusal.TheVariants as refusal

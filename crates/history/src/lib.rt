@@ -9,6 +9,7 @@ pub use cases::{
     sessions_are_answered, sources_are_chosen,
 };
 pub use laws::{
-    addresses_are_sound, addresses_keep_their_frames, fast_frames_step_their_key, fast_refusals_break,
-    freshness_is_kept, group_lines_step_their_group, slots_count_open_keys, transport_frames_step_their_session, transport_refusals_break,
+    addresses_are_sound, addresses_keep_their_frames, fast_frames_step_their_key,
+    fast_refusals_break, freshness_is_kept, group_lines_step_their_group, slots_count_open_keys,
+    transport_frames_step_their_session, transport_refusals_break,
 };
