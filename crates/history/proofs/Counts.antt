@@ -1,13 +1,13 @@
 -- Open keys and the places of a map.
-use Rattle.std.proofs.Common.{◌≡◌, ◌≢◌, ℕ, suc, ◌<◌, ◌≤◌, Bool, true, false, ◌&&◌, ◌||◌, not, List, [], ◌∷◌, ◌⊎◌, inl, inr, length, refl, sym, ap, subst, ◌∙◌, ◌==◌, nat_lt, arith, is_some}
-use Rattle.std.specs.Prelude.{Option, Some, None, filter, if◌then◌else◌}
+use Rattle.std.proofs.Common.{◌≡◌, ℕ, suc, ◌≤◌, Bool, true, false, ◌&&◌, ◌||◌, not, List, [], ◌∷◌, inl, inr, length, refl, sym, ap, subst, ◌∙◌, ◌==◌, nat_lt, arith, is_some}
+use Rattle.std.specs.Prelude.{filter, if◌then◌else◌}
 use Rattle.std.specs.List.{AllByRecursion, IsDistinct, list_any}
 use Rattle.std.specs.Cmp.{IsTotalOrder}
 use Rattle.std.specs.Ordering.{eq_by_cmp}
 use Rattle.std.specs.BTreeMap.{is_at}
 use Rattle.std.specs.declared.cmp.Ordering.{Ordering}
 use Rattle.std.proofs.lemmas.Bool.{cases_Bool, eqb-true, eqb-false, and_parts, lt-ltb, le-ltb}
-use Rattle.slot_views.specs.Slots.{Entry, SlotMap, IsOrdered, entry_at, is_full}
+use Rattle.slot_views.specs.Slots.{SlotMap, IsOrdered, entry_at, is_full}
 use Rattle.slot_views.proofs.Traces.{counted_once, as_many}
 use Rattle.slot_views.proofs.Tied.{same_turned}
 use Rattle.history.specs.Opens.{inserted, placed}
@@ -87,7 +87,6 @@ agreed : {K : Type 0} (P : K → Type 0) (p q : K → Bool) → ((j : K) → P j
 agreed P p q same [] all = refl
 agreed P p q same (k ∷ ks) all = rw (same k all.0, agreed P p q same ks all.1) refl
 
-
 -- a key put to others that another isn't among
 module _ {K : Type 0} (same before : K → K → Bool) (same_is : (a b : K) → same a b ≡ true → a ≡ b) where
   pub any_placed : (key one : K) (ks : List K) → list_any (same key) (placed same before one ks) ≡ false → (same key one ≡ false) × (list_any (same key) ks ≡ false)
@@ -115,7 +114,7 @@ pub record Held {K : Type 0} (cmp : K → K → Ordering) (same before : K → K
   pub among : (key : K) → of_kind key ≡ true → is_open key ≡ true → list_any (same key) keys ≡ true
 
 module _ {K : Type 0} {cmp : K → K → Ordering} {same before : K → K → Bool} {keys : List K} {of_kind is_open : K → Bool} {slots : SlotMap K}
-  (h : Held cmp same before keys of_kind is_open slots) where
+    (h : Held cmp same before keys of_kind is_open slots) where
   there : (key : K) → is_some (entry_at cmp slots key) ≡ true → list_any (is_at (cmp key)) keys ≡ true
   there key is =
       let parts = and_parts (of_kind key) (is_open key) (sym (h.holds key) ∙ is) in

@@ -1,6 +1,6 @@
 -- Computed: what is emitted of fast packets.
 use Rattle.std.proofs.Common.{refl}
-use Rattle.history.specs.FastCases.{InTurn, JustInTime, TooLate, NoRoom, WrongLengths, SentTwice, OutOfOrder, BegunAgain}
+use Rattle.history.specs.FastCases.{InTurn, JustInTime, TooLate, NoRoom, WrongLengths, SentTwice, OutOfOrder, BegunAgain, Longest}
 use Rattle.history.proofs.Computed.{cases}
 
 pub in_turn : InTurn
@@ -34,3 +34,7 @@ out_of_order = refl
 pub begun_again : BegunAgain
 unfolding cases
 begun_again = refl
+
+pub longest : Longest
+unfolding cases
+longest = refl

@@ -1,5 +1,5 @@
 -- Fast keys that are open, and the places of a map.
-use Rattle.std.proofs.Common.{◌≡◌, ◌≢◌, ℕ, Bool, true, false, ◌&&◌, ◌||◌, not, List, [], ◌∷◌, ◌⊎◌, inl, inr, length, refl, sym, ap, subst, ◌∙◌, ◌==◌, is_some}
+use Rattle.std.proofs.Common.{◌≡◌, ℕ, Bool, true, false, ◌&&◌, List, [], ◌∷◌, inl, inr, refl, sym, ap, ◌∙◌, ◌==◌, is_some}
 use Rattle.std.specs.Prelude.{Option, Some, None, if◌then◌else◌}
 use Rattle.std.specs.List.{AllByRecursion, IsDistinct, list_any}
 use Rattle.std.specs.Ordering.{eq_by_cmp}
@@ -68,7 +68,6 @@ no_frames key (Some since) (n ∷ notes) fast none = by (is_fast (kind_of n.part
         let parts = any_placed same_fast before_fast same_is key (record { source = n.parts.source; pgn = n.parts.pgn }) (fast_keys notes) absent in
         other (sym (same_fast_as key (record { source = n.parts.source; pgn = n.parts.pgn })) ∙ parts.0) (rest parts.1)
     by false e absent rest = other (rw (other_kind e) (and_no (n.parts.source == key.source))) (rest absent)
-
 
 module _ (cmp : FastKey → FastKey → Ordering) (k : Known) (notes : List Note) (m : ℕ) (slots : SlotMap FastKey) (h : HoldsFast cmp k notes m slots) where
   distinct_keys : (ns : List Note) → IsDistinct (eq_by_cmp cmp) (fast_keys ns)

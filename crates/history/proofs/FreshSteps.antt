@@ -18,7 +18,7 @@ use Rattle.history.specs.Opens.{note_of, notes_of}
 use Rattle.history.specs.Choice.{is_row, reading_of, is_of, is_fresh_since, still_counts}
 use Rattle.history.specs.AddressLaws.{AreSettings}
 use Rattle.history.specs.TraceLaws.{is_lost}
-use Rattle.history.specs.FreshLaws.{last_since, last_of, tells, FreshByLast, MessagesAreKept, ClaimsForget, CommandsForgetNone}
+use Rattle.history.specs.FreshLaws.{last_since, last_of, tells, FreshByLast, MessagesAreKept, ClaimsForget, CommandsForgetNone, ReadingsAreKept}
 use Rattle.history.proofs.Addresses.{addresses_are_sound}
 use Rattle.history.proofs.KeySteps.{dated_at, known_same}
 use Rattle.history.proofs.TraceMoves.{same_since, moved_since, known_after_claim}
@@ -158,3 +158,8 @@ claims_forget c s h m f row source are claims =
 
 pub commands_forget_none : CommandsForgetNone
 commands_forget_none c s h m from address row source = ap (last_since row source (messages_of c s h)) (same_since (length h) (known c s h) address m source)
+
+-- ---- on the network
+
+pub readings_are_kept : ReadingsAreKept
+readings_are_kept rule row source m n older = (refl, refl)

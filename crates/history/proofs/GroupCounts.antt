@@ -1,6 +1,6 @@
 -- Groups of lines that are open, and the places of a map.
-use Rattle.std.proofs.Common.{◌≡◌, ◌≢◌, ℕ, suc, Bool, true, false, ◌&&◌, ◌||◌, not, List, [], ◌∷◌, length, refl, sym, ap, subst, ◌∙◌, ◌==◌, is_some}
-use Rattle.std.specs.Prelude.{Option, Some, None, if◌then◌else◌}
+use Rattle.std.proofs.Common.{◌≡◌, ℕ, Bool, true, false, List, [], ◌∷◌, refl, sym, ap, ◌∙◌, ◌==◌, is_some}
+use Rattle.std.specs.Prelude.{Option, Some, None}
 use Rattle.std.specs.List.{AllByRecursion, IsDistinct, list_any}
 use Rattle.std.specs.Ordering.{eq_by_cmp}
 use Rattle.std.specs.declared.cmp.Ordering.{Ordering}
@@ -10,8 +10,7 @@ use Rattle.runs.specs.Runs.{open_at}
 use Rattle.tag_block.specs.declared.group_key.GroupKey.{GroupKey}
 use Rattle.tag_block.specs.declared.group_part.GroupPart.{GroupPart}
 use Rattle.tag_block.specs.GroupRuns.{GroupLine, group_rules}
-use Rattle.history.specs.Opens.{placed}
-use Rattle.history.specs.Heard.{Taken, same_text, same_group, before_group, several, group_line, line_in, group_trace, key_with, group_keys, group_open}
+use Rattle.history.specs.Heard.{Taken, same_text, same_group, before_group, several, line_in, group_trace, key_with, group_keys, group_open}
 use Rattle.history.specs.CountLaws.{HoldsGroups, CountsGroups, SlotsCountGroups}
 use Rattle.history.proofs.KeySteps.{eqb-sym}
 use Rattle.history.proofs.Counts.{any_placed, distinct_placed, Held, counted, room}
@@ -45,10 +44,10 @@ all_kinds [] = tt
 all_kinds (k ∷ ks) = (refl, all_kinds ks)
 
 -- a line of another group, and a line of none
-line_past : (key : GroupKey) (t : Taken) (part : GroupPart) → same_group key (record { sfi = t.source; code = part.code }) ≡ false → line_in key t (Some part) ≡ None
+pub line_past : (key : GroupKey) (t : Taken) (part : GroupPart) → same_group key (record { sfi = t.source; code = part.code }) ≡ false → line_in key t (Some part) ≡ None
 line_past key t part e = rw e refl
 
-trace_past : (key : GroupKey) (t : Taken) (older : List Taken) → line_in key t (several t.group) ≡ None → group_trace key (t ∷ older) ≡ group_trace key older
+pub trace_past : (key : GroupKey) (t : Taken) (older : List Taken) → line_in key t (several t.group) ≡ None → group_trace key (t ∷ older) ≡ group_trace key older
 trace_past key t older e = rw e refl
 
 -- a group whose key didn't come has no lines

@@ -1,11 +1,11 @@
 -- Sessions that are open, and the places of a map.
-use Rattle.std.proofs.Common.{◌≡◌, ◌≢◌, ℕ, ◌<◌, Bool, true, false, ◌&&◌, ◌||◌, not, List, [], ◌∷◌, length, refl, sym, ap, subst, ◌∙◌, ◌==◌, nat_le, is_some, arith}
+use Rattle.std.proofs.Common.{◌≡◌, ℕ, ◌<◌, Bool, true, false, ◌&&◌, List, [], ◌∷◌, refl, sym, ap, ◌∙◌, ◌==◌, nat_le, is_some, arith}
 use Rattle.std.specs.Prelude.{Option, Some, None, if◌then◌else◌}
 use Rattle.std.specs.List.{AllByRecursion, IsDistinct, list_any}
 use Rattle.std.specs.Bool.{beq}
 use Rattle.std.specs.Ordering.{eq_by_cmp}
 use Rattle.std.specs.declared.cmp.Ordering.{Ordering}
-use Rattle.std.proofs.lemmas.Bool.{cases_Bool, eqb-true, eq-eqb, ne_eqb, and_parts, false≢true}
+use Rattle.std.proofs.lemmas.Bool.{eqb-true, ne_eqb, and_parts, false≢true}
 use Rattle.slot_views.specs.Slots.{SlotMap}
 use Rattle.runs.specs.Runs.{open_at}
 use Rattle.iso_transport.specs.declared.key.IsoKey.{IsoKey}
@@ -13,11 +13,11 @@ use Rattle.iso_transport.specs.IsoRuns.{IsoPiece, iso_rules}
 use Rattle.iso_transport.specs.Audience.{key_of}
 use Rattle.claim_table.specs.Laws.{IsSound}
 use Rattle.history.specs.Known.{Known, since_of}
-use Rattle.history.specs.Traces.{Note, is_since, iso_trace, broadcast_since, addressed_since, is_transport, is_bearing}
+use Rattle.history.specs.Traces.{Note, iso_trace, broadcast_since, addressed_since, is_transport, is_bearing}
 use Rattle.history.specs.Opens.{placed, same_iso, before_iso, iso_keys, iso_open}
 use Rattle.history.specs.CountLaws.{HoldsIso, CountsIso, SlotsCountIso}
 use Rattle.history.proofs.KeySteps.{eqb-sym}
-use Rattle.history.proofs.Counts.{all_placed, any_placed, distinct_placed, Held, counted, room}
+use Rattle.history.proofs.Counts.{any_placed, distinct_placed, Held, counted, room}
 
 both_is : (a b : Bool) → beq a b ≡ true → a ≡ b
 both_is true true e = refl

@@ -13,6 +13,8 @@ pub mod Erased
 pub mod Normal
 pub mod Unseen
 pub mod Isolation
+pub mod GroupSteps
+pub mod Refusals
 mod Computed
 mod ClaimCases
 mod FastCases
@@ -20,3 +22,4 @@ mod ChoiceCases
 mod TransportCases
 mod NetCases
 mod ReplayCases
+mod IsolationCases

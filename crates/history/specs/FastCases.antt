@@ -1,6 +1,6 @@
 -- What is emitted of fast packets.
-use Rattle.std.specs.Prelude.{[], ◌∷◌, codes}
-use Rattle.history.specs.Entries.{tick}
+use Rattle.std.specs.Prelude.{ℕ, ◌+◌, List, [], ◌∷◌, codes}
+use Rattle.history.specs.Entries.{Entry, tick}
 use Rattle.history.specs.Settings.{Settings}
 use Rattle.history.specs.Emits.{of_source}
 use Rattle.history.specs.Cases.{Emits, IsSilent, full, emitted, navd, two_devices, fix, fix_said}
@@ -58,3 +58,21 @@ OutOfOrder =
 -- an opener that comes twice begins its message again
 abbrev pub BegunAgain : Type 0
 BegunAgain = Emits two_devices 1000000 (fix 1000000 23 0 ∷ fix 1001000 23 0 ∷ []) (emitted 1001000 (of_source 14 23 129029) ∷ [])
+
+-- the longest message, of 223 bytes in 32 frames: it begins with the position fix, and what follows it says nothing
+abbrev pub longest : List ℕ
+longest =
+    0x00DF00DB4C0008AF ∷ 0x012F000000000000 ∷ 0x0200080000000000 ∷ 0x03000002E0AEBB00 ∷ 0x040000000010FC09
+    ∷ 0x056900FF7FF40600 ∷ 0x060000FFFFFFFFFF ∷ 0x07FFFFFFFFFFFFFF ∷ 0x08FFFFFFFFFFFFFF ∷ 0x09FFFFFFFFFFFFFF
+    ∷ 0x0AFFFFFFFFFFFFFF ∷ 0x0BFFFFFFFFFFFFFF ∷ 0x0CFFFFFFFFFFFFFF ∷ 0x0DFFFFFFFFFFFFFF ∷ 0x0EFFFFFFFFFFFFFF
+    ∷ 0x0FFFFFFFFFFFFFFF ∷ 0x10FFFFFFFFFFFFFF ∷ 0x11FFFFFFFFFFFFFF ∷ 0x12FFFFFFFFFFFFFF ∷ 0x13FFFFFFFFFFFFFF
+    ∷ 0x14FFFFFFFFFFFFFF ∷ 0x15FFFFFFFFFFFFFF ∷ 0x16FFFFFFFFFFFFFF ∷ 0x17FFFFFFFFFFFFFF ∷ 0x18FFFFFFFFFFFFFF
+    ∷ 0x19FFFFFFFFFFFFFF ∷ 0x1AFFFFFFFFFFFFFF ∷ 0x1BFFFFFFFFFFFFFF ∷ 0x1CFFFFFFFFFFFFFF ∷ 0x1DFFFFFFFFFFFFFF
+    ∷ 0x1EFFFFFFFFFFFFFF ∷ 0x1FFFFFFFFFFFFFFF ∷ []
+
+abbrev pub each_from : ℕ → List ℕ → List Entry
+each_from moment [] = []
+each_from moment (x ∷ xs) = full moment 0x0DF80517 x ∷ each_from (moment + 1000) xs
+
+abbrev pub Longest : Type 0
+Longest = Emits two_devices 1000000 (each_from 1000000 longest) (emitted 1031000 (navd (codes "s:II0001,n:1*01") fix_said) ∷ [])

@@ -19,6 +19,8 @@ pub mod KeyLaws
 pub mod FreshLaws
 pub mod CountLaws
 pub mod IsolationLaws
+pub mod GroupLaws
+pub mod RefusalLaws
 pub mod Cases
 pub mod ClaimCases
 pub mod FastCases
@@ -26,3 +28,4 @@ pub mod ChoiceCases
 pub mod TransportCases
 pub mod NetCases
 pub mod ReplayCases
+pub mod IsolationCases

@@ -5,6 +5,7 @@ ghost use Rattle.history.specs.ChoiceCases as choice_cases;
 ghost use Rattle.history.specs.TransportCases as transport_cases;
 ghost use Rattle.history.specs.NetCases as net_cases;
 ghost use Rattle.history.specs.ReplayCases as replay_cases;
+ghost use Rattle.history.specs.IsolationCases as isolation_cases;
 
 /// What is emitted while addresses change hands.
 pub fn addresses_change_hands()
@@ -27,6 +28,7 @@ pub fn fast_packets_are_joined()
     ensures sent_twice { fast_cases.SentTwice }
     ensures out_of_order { fast_cases.OutOfOrder }
     ensures begun_again { fast_cases.BegunAgain }
+    ensures longest { fast_cases.Longest }
 {}
 
 /// Whose messages are said.
@@ -64,4 +66,10 @@ pub fn captures_are_replayed()
     ensures backwards { replay_cases.Backwards }
     ensures cut_off_in_data { replay_cases.CutOffInData }
     ensures cut_off_in_identifier { replay_cases.CutOffInIdentifier }
+{}
+
+/// A device's messages, with and without another device between them.
+pub fn devices_are_apart()
+    ensures same_alone { isolation_cases.SameAlone }
+    ensures one_done { isolation_cases.OneDone }
 {}

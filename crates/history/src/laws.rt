@@ -1,9 +1,11 @@
 //! What is promised of every history. Each law is a function that does nothing, and whose clause is the law.
 ghost use Rattle.history.specs.AddressLaws.{AddressesAreSound};
 ghost use Rattle.history.specs.CountLaws.{SlotsCountFast, SlotsCountIso, SlotsCountGroups};
-ghost use Rattle.history.specs.FreshLaws.{FreshByLast, MessagesAreKept, ClaimsForget, CommandsForgetNone};
+ghost use Rattle.history.specs.FreshLaws.{FreshByLast, MessagesAreKept, ClaimsForget, CommandsForgetNone, ReadingsAreKept};
 ghost use Rattle.history.specs.IsolationLaws.{Isolation};
+ghost use Rattle.history.specs.GroupLaws.{LinesStepGroup, LinesStandAlone, TimeEndsGroup};
 ghost use Rattle.history.specs.KeyLaws.{FramesStepFast, FramesKeepFast, TimeEndsFast, FramesStepIso, FramesCompleteIso, TimeEndsIso};
+ghost use Rattle.history.specs.RefusalLaws.{FastRefusalsBreak, TransportRefusalsBreak};
 ghost use Rattle.history.specs.TraceLaws.{ClaimsMoveTraces, CommandsMoveTraces};
 
 /// After every history no NAME has two addresses and the gateway's own has no other holder, and each is held since an entry of the
@@ -27,12 +29,31 @@ pub fn fast_frames_step_their_key()
     ensures later { TimeEndsFast }
 {}
 
+/// A frame of fast packets is refused exactly where it leaves nothing open of its key and completes nothing.
+pub fn fast_refusals_break()
+    ensures { FastRefusalsBreak }
+{}
+
 /// One more transport frame does to the session on which it bears what the rules say of the frames that were open, completes what they
 /// say, and changes no other session; a later moment ends what is overdue.
 pub fn transport_frames_step_their_session()
     ensures step { FramesStepIso }
     ensures complete { FramesCompleteIso }
     ensures later { TimeEndsIso }
+{}
+
+/// Of a session that is open, a frame that bears on it ends it exactly where it leaves nothing open of its key and completes nothing.
+pub fn transport_refusals_break()
+    ensures { TransportRefusalsBreak }
+{}
+
+/// One more taken line does to what is open of its group what the rules of groups say of the lines that were open, hands over the
+/// sentences that they say, and changes no other group; a line that is in no group of two lines or more hands over its own sentence; a
+/// later moment ends what is overdue.
+pub fn group_lines_step_their_group()
+    ensures step { LinesStepGroup }
+    ensures alone { LinesStandAlone }
+    ensures later { TimeEndsGroup }
 {}
 
 /// Whether a source is fresh in a row is known by its last message of that row since it holds its address: the next one takes its place,
@@ -42,6 +63,7 @@ pub fn freshness_is_kept()
     ensures messages { MessagesAreKept }
     ensures claims { ClaimsForget }
     ensures commands { CommandsForgetNone }
+    ensures readings { ReadingsAreKept }
 {}
 
 /// A map that holds what is open of a kind has as many places taken as keys of that kind are open, and is full for an opener exactly

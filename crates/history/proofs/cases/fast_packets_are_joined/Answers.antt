@@ -1,4 +1,4 @@
-use Rattle.history.proofs.FastCases.{in_turn, just_in_time, too_late, no_room, wrong_lengths, sent_twice, out_of_order, begun_again}
+use Rattle.history.proofs.FastCases.{in_turn, just_in_time, too_late, no_room, wrong_lengths, sent_twice, out_of_order, begun_again, longest}
 use Rattle.history.proofs.cases.fast_packets_are_joined.Goals as goal
 
 pub returns-clause-in_turn : goal.returns-clause-in_turn
@@ -24,3 +24,6 @@ returns-clause-out_of_order c = out_of_order
 
 pub returns-clause-begun_again : goal.returns-clause-begun_again
 returns-clause-begun_again c = begun_again
+
+pub returns-clause-longest : goal.returns-clause-longest
+returns-clause-longest c = longest

@@ -1,4 +1,4 @@
-use Rattle.history.proofs.FreshSteps.{fresh_by_last, messages_are_kept, claims_forget, commands_forget_none}
+use Rattle.history.proofs.FreshSteps.{fresh_by_last, messages_are_kept, claims_forget, commands_forget_none, readings_are_kept}
 use Rattle.history.proofs.laws.freshness_is_kept.Goals as goal
 
 pub returns-clause-last : goal.returns-clause-last
@@ -12,3 +12,6 @@ returns-clause-claims c = claims_forget
 
 pub returns-clause-commands : goal.returns-clause-commands
 returns-clause-commands c = commands_forget_none
+
+pub returns-clause-readings : goal.returns-clause-readings
+returns-clause-readings c = readings_are_kept
