@@ -1,32 +1,29 @@
 -- A device is isolated: its messages in a history are those in the history of the claims, the commands and its own frames.
-use Rattle.std.proofs.Common.{◌≡◌, ◌≢◌, ℕ, suc, ◌≤◌, Bool, true, false, ◌&&◌, ◌||◌, not, List, [], ◌∷◌, ◌⊎◌, inl, inr, length, map, refl, sym, ap, subst, ◌∙◌, ◌==◌, nat_le}
+use Rattle.std.proofs.Common.{◌≡◌, ◌≢◌, ℕ, ◌≤◌, Bool, true, false, ◌&&◌, ◌||◌, not, List, [], ◌∷◌, length, map, refl, sym, ap, subst, ◌∙◌, ◌==◌, nat_le}
 use Rattle.std.specs.Prelude.{Option, Some, None, filter, is_some, if◌then◌else◌, option_map}
 use Rattle.std.specs.List.{AllByRecursion}
-use Rattle.std.proofs.lemmas.Bool.{eqb-true, eq-eqb, and_parts, cases_Bool, false≢true}
-use Rattle.n2k_id.specs.declared.header.Parts.{Parts}
+use Rattle.std.proofs.lemmas.Bool.{eqb-true, and_parts}
 use Rattle.n2k_id.specs.Frame.{BusFrame}
 use Rattle.n2k_id.specs.Identifier.{parts_of}
-use Rattle.n2k_id.specs.Name.{name_at}
 use Rattle.claim_table.specs.declared.answer.Holder.{Holder}
 use Rattle.claim_table.specs.declared.answer.ClaimStep.{ClaimStep}
-use Rattle.claim_table.specs.Claims.{Claims, Claim, Outcome, claim_of, claim, command, holder_at, is_ready}
-use Rattle.pgn_profile.specs.Profiled.{kind_of, messages}
+use Rattle.claim_table.specs.Claims.{Claims, Claim, Outcome, claim, command, holder_at, is_ready}
+use Rattle.pgn_profile.specs.Profiled.{kind_of}
 use Rattle.pgn_profile.specs.declared.kinds.Kind.{Kind}
 use Rattle.pgn_profile.specs.declared.kinds.Kind.TheVariants.{Single, Fast, Outside}
 use Rattle.runs.specs.Runs.{run_of}
 use Rattle.fast_packet.specs.FastRuns.{FastPiece, fast_rules}
-use Rattle.iso_transport.specs.declared.key.IsoKey.{IsoKey}
 use Rattle.iso_transport.specs.Audience.{key_of, bears, is_data}
 use Rattle.iso_transport.specs.IsoRuns.{IsoPiece, iso_rules}
 use Rattle.history.specs.Entries.{Entry, History, frame, datagram, tick}
 use Rattle.history.specs.Entries as entry
 use Rattle.history.specs.Settings.{Settings}
-use Rattle.history.specs.Known.{Known, known, is_own, is_claim, claim_by, followed_by, since_of}
+use Rattle.history.specs.Known.{Known, known, is_own, is_claim, claim_by, since_of}
 use Rattle.fast_packet.specs.FastFrames.{is_opener}
 use Rattle.iso_transport.specs.IsoRuns.{is_opener as iso_opener}
 use Rattle.history.specs.Traces.{Note, is_since, fast_piece, fast_trace, fast_trace_since, iso_piece, iso_trace, broadcast_since, addressed_since, is_transport, is_bearing}
-use Rattle.history.specs.Opens.{is_fast, note_of, notes_of}
-use Rattle.history.specs.Messages.{Message, Carried, done, messages_of, said_by, with_message, completed_by, by_kind, by_session, fast_carried, iso_carried}
+use Rattle.history.specs.Opens.{is_fast, notes_of}
+use Rattle.history.specs.Messages.{Message, Carried, messages_of, said_by, with_message, completed_by, by_kind, by_session, fast_carried, iso_carried}
 use Rattle.history.specs.AddressLaws.{AreSettings}
 use Rattle.history.specs.TraceLaws.{is_lost, same_own}
 use Rattle.history.specs.KeyLaws.{is_meant, concerns, the_note}
@@ -55,9 +52,10 @@ pub record Alike (c : Settings) (s a : ℕ) (h g : History) : Type 0 where
 
 by_erased : (c d : Claims) (k l : Claim) → erased c ≡ erased d → unnumbered k ≡ unnumbered l → (erased (claim c k).after ≡ erased (claim d l).after) × ((claim c k).step ≡ (claim d l).step)
 by_erased c d k l e f =
-    let same : claim (erased c) (unnumbered k) ≡ claim (erased d) (unnumbered l) = ap (λ (x : Claims). claim x (unnumbered k)) e ∙ ap (claim (erased d)) f in
-    (ap (λ (o : Outcome). o.after) (sym (claim_erased c k)) ∙ ap (λ (o : Outcome). o.after) same ∙ ap (λ (o : Outcome). o.after) (claim_erased d l),
-    ap (λ (o : Outcome). o.step) (sym (claim_erased c k)) ∙ ap (λ (o : Outcome). o.step) same ∙ ap (λ (o : Outcome). o.step) (claim_erased d l))
+    let same : claim (erased c) (unnumbered k) ≡ claim (erased d) (unnumbered l) = ap (λ (x : Claims). claim x (unnumbered k)) e ∙ ap (claim (erased d)) f in (
+      ap (λ (o : Outcome). o.after) (sym (claim_erased c k)) ∙ ap (λ (o : Outcome). o.after) same ∙ ap (λ (o : Outcome). o.after) (claim_erased d l),
+      ap (λ (o : Outcome). o.step) (sym (claim_erased c k)) ∙ ap (λ (o : Outcome). o.step) same ∙ ap (λ (o : Outcome). o.step) (claim_erased d l),
+    )
 
 cut_same : {X : Type 0} (f : X → X) (b d : Bool) (t u : List X) → b ≡ d → map f t ≡ map f u → map f (if b then [] else t) ≡ map f (if d then [] else u)
 cut_same f b d t u e same = rw e (by d)
@@ -99,9 +97,9 @@ module _ (c : Settings) (s a : ℕ) (h g : History) (m : ℕ) (f : BusFrame) (ar
   claim_alike = record {
     claims = after_claim;
     fast = λ p fast.
-    ap (map fast_norm) ((claims_move_traces c s h m f are claims).fast a p (not_claims_pgn p fast))
-    ∙ cut_same fast_norm _ _ (fast_trace (known c s h) a p (notes_of c s h)) (fast_trace (known c s g) a p (notes_of c s g)) same_lost (alike.fast p fast)
-    ∙ ap (map fast_norm) (sym ((claims_move_traces c s g m f are claims).fast a p (not_claims_pgn p fast)));
+        ap (map fast_norm) ((claims_move_traces c s h m f are claims).fast a p (not_claims_pgn p fast))
+        ∙ cut_same fast_norm _ _ (fast_trace (known c s h) a p (notes_of c s h)) (fast_trace (known c s g) a p (notes_of c s g)) same_lost (alike.fast p fast)
+        ∙ ap (map fast_norm) (sym ((claims_move_traces c s g m f are claims).fast a p (not_claims_pgn p fast)));
     iso = iso_after;
     told = ap (from a) (claim_says_none c s h m f claims) ∙ alike.told ∙ sym (ap (from a) (claim_says_none c s g m f claims));
   }
@@ -131,8 +129,8 @@ module _ (c : Settings) (s a : ℕ) (h g : History) (m source address : ℕ) (al
   command_alike = record {
     claims = commanded;
     fast = λ p fast.
-    ap (map fast_norm) ((commands_move_traces c s h m source address).fast a p (not_claims_pgn p fast)) ∙ alike.fast p fast
-    ∙ ap (map fast_norm) (sym ((commands_move_traces c s g m source address).fast a p (not_claims_pgn p fast)));
+        ap (map fast_norm) ((commands_move_traces c s h m source address).fast a p (not_claims_pgn p fast)) ∙ alike.fast p fast
+        ∙ ap (map fast_norm) (sym ((commands_move_traces c s g m source address).fast a p (not_claims_pgn p fast)));
     iso = iso_commanded;
     told = alike.told;
   }
@@ -277,7 +275,7 @@ not_session : (k : Known) (n : Note) (older : List Note) → is_transport n.part
 not_session k n older e = rw e refl
 
 module _ (c : Settings) (s a : ℕ) (h g : History) (m : ℕ) (f : BusFrame) (are : AreSettings c) (alike : Alike c s a h g) (other : is_claim f ≡ false)
-  (source : ((parts_of f.id).source == a) ≡ true) where
+    (source : ((parts_of f.id).source == a) ≡ true) where
   holders_same : bare (holder_at (known c s h).claims.holders a) ≡ bare (holder_at (known c s g).claims.holders a)
   holders_same = sym (bare_at (known c s h).claims.holders a) ∙ ap (λ (x : Claims). holder_at x.holders a) alike.claims ∙ bare_at (known c s g).claims.holders a
 
@@ -388,9 +386,9 @@ module _ (c : Settings) (s a : ℕ) (h g : History) (m : ℕ) (f : BusFrame) (ar
       fast = λ p fast. rw (known_same c s h m f other, known_same c s g m f other) (fast_own p fast);
       iso = λ addressed. rw (known_same c s h m f other, known_same c s g m f other) (iso_own addressed);
       told =
-      said_same a (length h) (length g) m (parts_of f.id).source (holder_at (known c s h).claims.holders (parts_of f.id).source) (holder_at (known c s g).claims.holders (parts_of f.id).source)
-      (completed_by (known c s h) (the_note c s h m f) (notes_of c s h)) (completed_by (known c s g) (the_note c s g m f) (notes_of c s g)) (messages_of c s h) (messages_of c s g)
-      (subst (λ (x : ℕ). bare (holder_at (known c s h).claims.holders x) ≡ bare (holder_at (known c s g).claims.holders x)) (sym from_source) holders_same) completes alike.told;
+          said_same a (length h) (length g) m (parts_of f.id).source (holder_at (known c s h).claims.holders (parts_of f.id).source) (holder_at (known c s g).claims.holders (parts_of f.id).source)
+          (completed_by (known c s h) (the_note c s h m f) (notes_of c s h)) (completed_by (known c s g) (the_note c s g m f) (notes_of c s g)) (messages_of c s h) (messages_of c s g)
+          (subst (λ (x : ℕ). bare (holder_at (known c s h).claims.holders x) ≡ bare (holder_at (known c s g).claims.holders x)) (sym from_source) holders_same) completes alike.told;
     }
 
 -- ---- a frame of another device
@@ -411,7 +409,7 @@ not_concerned k n a addressed e = rw e (and_no (is_some (since_of k a)))
     and_no false = refl
 
 module _ (c : Settings) (s a : ℕ) (h g : History) (m : ℕ) (f : BusFrame) (are : AreSettings c) (alike : Alike c s a h g) (other : is_claim f ≡ false)
-  (elsewhere : ((parts_of f.id).source == a) ≡ false) where
+    (elsewhere : ((parts_of f.id).source == a) ≡ false) where
   iso_past : (addressed : Bool) → iso_trace (known c s h) addressed a (the_note c s h m f ∷ notes_of c s h) ≡ iso_trace (known c s h) addressed a (notes_of c s h)
   iso_past addressed =
       trace_is c s h m f are addressed a
@@ -423,9 +421,9 @@ module _ (c : Settings) (s a : ℕ) (h g : History) (m : ℕ) (f : BusFrame) (ar
     fast = λ p fast. rw (known_same c s h m f other) (ap (map fast_norm) (fast_past (known c s h) a p (the_note c s h m f) (notes_of c s h) elsewhere) ∙ alike.fast p fast);
     iso = λ addressed. rw (known_same c s h m f other) (ap (map iso_norm) (iso_past addressed) ∙ alike.iso addressed);
     told =
-    dropped a (length h) m (parts_of f.id).source (holder_at (known c s h).claims.holders (parts_of f.id).source)
-    (completed_by (known c s h) (the_note c s h m f) (notes_of c s h)) (messages_of c s h) elsewhere
-    ∙ alike.told;
+        dropped a (length h) m (parts_of f.id).source (holder_at (known c s h).claims.holders (parts_of f.id).source)
+        (completed_by (known c s h) (the_note c s h m f) (notes_of c s h)) (messages_of c s h) elsewhere
+        ∙ alike.told;
   }
 
 -- ---- a whole history

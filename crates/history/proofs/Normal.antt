@@ -1,10 +1,9 @@
 -- Where every opener found room, a run hangs on the pieces but for whether there was room.
-use Rattle.std.proofs.Common.{◌≡◌, ℕ, suc, Bool, true, false, ◌&&◌, not, List, [], ◌∷◌, length, map, refl, sym, ap, subst, ◌∙◌, ◌==◌, nat_le}
+use Rattle.std.proofs.Common.{◌≡◌, ℕ, Bool, true, false, ◌&&◌, not, List, [], ◌∷◌, map, refl, sym, ap, subst, ◌∙◌}
 use Rattle.std.specs.Prelude.{Option, Some, None, if◌then◌else◌, option_map}
 use Rattle.std.specs.List.{AllByRecursion}
-use Rattle.std.proofs.lemmas.Bool.{and_parts}
 use Rattle.std.proofs.lemmas.List.{length-map}
-use Rattle.runs.specs.Runs.{Rules, IsLawful, opener_of, is_whole, is_admitted, in_time, if_open, if_whole, kept_at, fed, fed_later, finished, finished_later, open_of, open_at, run_of}
+use Rattle.runs.specs.Runs.{Rules, opener_of, is_whole, is_admitted, in_time, if_open, if_whole, kept_at, fed, fed_later, finished, finished_later, open_of, open_at, run_of}
 use Rattle.runs.specs.Laws.{OneStep}
 
 -- a change of pieces that the rules don't see, and after which all found room

@@ -2,7 +2,7 @@
 use Rattle.std.specs.Prelude.{◌≡◌, ℕ, List, [], ◌∷◌, reverse, map}
 use Rattle.history.specs.Entries.{Entry}
 use Rattle.history.specs.Messages.{messages_of}
-use Rattle.history.specs.IsolationLaws.{Plain, from}
+use Rattle.history.specs.IsolationLaws.{from}
 use Rattle.history.specs.Cases.{two_devices, fix}
 
 -- a position fix of 23 alone, and with one of 24 in turn

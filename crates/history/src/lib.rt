@@ -5,11 +5,12 @@ mod cases;
 mod laws;
 
 pub use cases::{
-    addresses_change_hands, captures_are_replayed, datagrams_are_heard, devices_are_apart, fast_packets_are_joined,
-    sessions_are_answered, sources_are_chosen,
+    addresses_change_hands, captures_are_replayed, datagrams_are_heard, devices_are_apart,
+    fast_packets_are_joined, sessions_are_answered, sources_are_chosen,
 };
 pub use laws::{
-    addresses_are_sound, addresses_keep_their_frames, devices_are_isolated, fast_frames_step_their_key,
-    fast_refusals_break, freshness_is_kept, group_lines_step_their_group, slots_count_open_keys,
-    transport_frames_step_their_session, transport_refusals_break,
+    addresses_are_sound, addresses_keep_their_frames, devices_are_isolated,
+    fast_frames_step_their_key, fast_refusals_break, freshness_is_kept,
+    group_lines_step_their_group, slots_count_open_keys, transport_frames_step_their_session,
+    transport_refusals_break,
 };
