@@ -1,8 +1,6 @@
 use Rattle.std.proofs.Common.{Err, sym, ap, ◌∙◌}
-use Rattle.std.specs.Prelude.{Result}
 use Rattle.std.specs.List.{flat_map}
 use Rattle.datagram450.specs.declared.fault.DatagramFault.{DatagramFault}
-use Rattle.datagram450.specs.declared.fault.DatagramFault.TheVariants.{Long}
 use Rattle.datagram450.specs.Datagram.{read}
 use Rattle.shipgate.specs.Show.{item_text, items_text, place_text}
 use Rattle.shipgate.proofs.Writing.{writes_as}

@@ -1,4 +1,4 @@
-use Rattle.std.proofs.Common.{ℕ, ◌+◌, ◌≤◌, List, [], drop, length, get_or, arith}
+use Rattle.std.proofs.Common.{ℕ, ◌+◌, List, [], drop, get_or, arith}
 use Rattle.std.specs.Borrow.{Bor}
 use Rattle.shipgate.proofs.Causes.{Rose-later}
 use Rattle.shipgate.proofs.Writing.{pieces_text, partly_none, partly_more, partly_all, partly_stopped, next_piece, no_piece}
