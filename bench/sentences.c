@@ -185,15 +185,19 @@ static char *put_gll(char *start, struct value latitude, struct value longitude)
     return put_sum(start, put_text(at, there ? ",,A,A" : ",,V,N"));
 }
 
-static char *put_vtg(char *start, int magnetic, struct value course, struct value speed) {
-    char *at = put_text(start, "$GPVTG,");
-    at = put_angle(at, only_if(!magnetic, course));
+/* A direction, true or magnetic, and a speed in knots and in another unit. */
+static char *put_vector(char *at, int magnetic, struct value angle, struct value speed, struct unit other) {
+    at = put_angle(at, only_if(!magnetic, angle));
     at = put_text(at, ",T,");
-    at = put_angle(at, only_if(magnetic, course));
+    at = put_angle(at, only_if(magnetic, angle));
     at = put_text(at, ",M,");
     at = put_decimal(at, speed, knots);
     at = put_text(at, ",N,");
-    at = put_decimal(at, speed, kilometres_per_hour);
+    return put_decimal(at, speed, other);
+}
+
+static char *put_vtg(char *start, int magnetic, struct value course, struct value speed) {
+    char *at = put_vector(put_text(start, "$GPVTG,"), magnetic, course, speed, kilometres_per_hour);
     return put_sum(start, put_text(at, course.there || speed.there ? ",K,A" : ",K,N"));
 }
 
@@ -227,14 +231,7 @@ static char *put_mwv(char *start, char reference, struct value speed, struct val
 }
 
 static char *put_mwd(char *start, int magnetic, struct value speed, struct value angle) {
-    char *at = put_text(start, "$WIMWD,");
-    at = put_angle(at, only_if(!magnetic, angle));
-    at = put_text(at, ",T,");
-    at = put_angle(at, only_if(magnetic, angle));
-    at = put_text(at, ",M,");
-    at = put_decimal(at, speed, knots);
-    at = put_text(at, ",N,");
-    at = put_decimal(at, speed, metres_per_second);
+    char *at = put_vector(put_text(start, "$WIMWD,"), magnetic, angle, speed, metres_per_second);
     return put_sum(start, put_text(at, ",M"));
 }
 
