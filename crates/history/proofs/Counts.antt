@@ -16,7 +16,7 @@ pub or_parts : (a b : Bool) → (a || b) ≡ false → (a ≡ false) × (b ≡ f
 or_parts false b e = (refl, e)
 or_parts true b e = cc
 
-all_inserted : {K : Type 0} (P : K → Type 0) (before : K → K → Bool) (k : K) (ks : List K) → P k → AllByRecursion P ks → AllByRecursion P (inserted before k ks)
+pub all_inserted : {K : Type 0} (P : K → Type 0) (before : K → K → Bool) (k : K) (ks : List K) → P k → AllByRecursion P ks → AllByRecursion P (inserted before k ks)
 all_inserted P before k [] one all = (one, tt)
 all_inserted P before k (x ∷ ks) one all = by (before k x) (all_inserted P before k ks one all.1)
   where

@@ -31,7 +31,7 @@ fast_all (n ∷ notes) = by (is_fast (kind_of n.parts.pgn)) refl (fast_all notes
 same_fast_as : (key other : FastKey) → same_fast key other ≡ ((other.source == key.source) && (other.pgn == key.pgn))
 same_fast_as key other = rw (eqb-sym other.source key.source, eqb-sym other.pgn key.pgn) refl
 
-same_is : (key one : FastKey) → same_fast key one ≡ true → key ≡ one
+pub same_is : (key one : FastKey) → same_fast key one ≡ true → key ≡ one
 same_is key one e =
     let parts = and_parts (key.source == one.source) (key.pgn == one.pgn) e in
     let source : key.source ≡ one.source = eqb-true key.source one.source parts.0 in
@@ -41,7 +41,7 @@ same_is key one e =
     made : ℕ → ℕ → FastKey
     made source pgn = record { source = source; pgn = pgn }
 
-no_frames : (key : FastKey) (since : Option ℕ) (notes : List Note) → is_fast (kind_of key.pgn) ≡ true → list_any (same_fast key) (fast_keys notes) ≡ false
+pub no_frames : (key : FastKey) (since : Option ℕ) (notes : List Note) → is_fast (kind_of key.pgn) ≡ true → list_any (same_fast key) (fast_keys notes) ≡ false
     → fast_trace_since since key.source key.pgn notes ≡ []
 no_frames key None notes fast none = refl
 no_frames key (Some since) [] fast none = refl

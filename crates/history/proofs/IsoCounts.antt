@@ -25,13 +25,13 @@ both_is false false e = refl
 both_is true false e = cc
 both_is false true e = cc
 
-both_turn : (a b : Bool) → beq a b ≡ beq b a
+pub both_turn : (a b : Bool) → beq a b ≡ beq b a
 both_turn true true = refl
 both_turn false false = refl
 both_turn true false = refl
 both_turn false true = refl
 
-same_is : (key one : IsoKey) → same_iso key one ≡ true → key ≡ one
+pub same_is : (key one : IsoKey) → same_iso key one ≡ true → key ≡ one
 same_is key one e =
     let parts = and_parts (beq key.addressed one.addressed) (key.source == one.source) e in
     let addressed : key.addressed ≡ one.addressed = both_is key.addressed one.addressed parts.0 in
@@ -124,7 +124,7 @@ module _ (k : Known) (sound : IsSound k.claims) where
       none_to_own (Some since) None = refl
       none_to_own (Some since) (Some own) = refl
 
-  no_frames : (key : IsoKey) (notes : List Note) → list_any (same_iso key) (iso_keys notes) ≡ false → iso_trace k key.addressed key.source notes ≡ []
+  pub no_frames : (key : IsoKey) (notes : List Note) → list_any (same_iso key) (iso_keys notes) ≡ false → iso_trace k key.addressed key.source notes ≡ []
   no_frames key [] none = no_trace key.addressed key.source
   no_frames key (n ∷ notes) none = by (is_transport n.parts) refl none (λ absent. no_frames key notes absent)
     where

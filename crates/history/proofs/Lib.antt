@@ -12,6 +12,8 @@ pub mod GroupCounts
 pub mod Erased
 pub mod Normal
 pub mod Unseen
+pub mod Fewer
+pub mod Room
 pub mod Isolation
 pub mod GroupSteps
 pub mod Refusals

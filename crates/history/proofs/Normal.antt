@@ -151,3 +151,6 @@ module _ {X : Type 0} (r : Rules X) (norm : X → X) (u : IsUnseen r norm) where
         ∙ ap (λ (o : Option (List X)). finished r o (norm x)) (at_map t x (open_of_map t all.1))
         ∙ finished_map (open_at r t (r.moment x)) x (kept_room (open_of r t) (r.moment x) (open_room t)) all.0
         ∙ ap (option_map (map norm)) (sym (steps.whole t x))
+
+    pub open_at_map : (t : List X) (m : ℕ) → AllByRecursion (λ x. r.opens x ≡ true → r.admitted x ≡ true) t → open_at r (map norm t) m ≡ option_map (map norm) (open_at r t m)
+    open_at_map t m all = ap (λ (o : Option (List X)). kept_at r o m) (open_of_map t all) ∙ kept_map (open_of r t) m

@@ -1,0 +1,176 @@
+-- Where only a device's frames are kept, no more keys are open than were, so its openers find room that found it.
+use Rattle.std.proofs.Common.{◌≡◌, ℕ, suc, ◌<◌, ◌≤◌, Bool, true, false, ◌&&◌, ◌||◌, not, List, [], ◌∷◌, length, map, refl, sym, ap, subst, ◌∙◌, ◌==◌, nat_lt, arith, is_some}
+use Rattle.std.specs.Prelude.{Option, Some, None, filter, if◌then◌else◌, option_map}
+use Rattle.std.specs.List.{AllByRecursion, list_any}
+use Rattle.std.specs.Bool.{beq}
+use Rattle.std.proofs.lemmas.Bool.{eqb-true, eq-eqb, and_parts, false≢true, lt-ltb, ltb-true}
+use Rattle.runs.specs.Runs.{open_at}
+use Rattle.pgn_profile.specs.Profiled.{kind_of}
+use Rattle.fast_packet.specs.declared.key.FastKey.{FastKey}
+use Rattle.fast_packet.specs.FastRuns.{FastPiece, fast_rules}
+use Rattle.iso_transport.specs.declared.key.IsoKey.{IsoKey}
+use Rattle.iso_transport.specs.Audience.{key_of}
+use Rattle.iso_transport.specs.IsoRuns.{IsoPiece, iso_rules}
+use Rattle.claim_table.specs.Laws.{IsSound}
+use Rattle.history.specs.Known.{Known, since_of}
+use Rattle.history.specs.Traces.{Note, fast_trace, iso_trace, is_transport}
+use Rattle.history.specs.Opens.{placed, is_fast, same_fast, before_fast, fast_keys, fast_open, open_fast_keys, is_fast_admitted, same_iso, before_iso, iso_keys, iso_open, open_iso_keys, is_iso_admitted}
+use Rattle.history.proofs.KeySteps.{eqb-sym}
+use Rattle.history.proofs.Counts.{all_placed}
+use Rattle.history.proofs.FastCounts as fast
+use Rattle.history.proofs.IsoCounts as iso
+use Rattle.history.proofs.Fewer.{Apart, apart_placed, apart_filtered, among_filtered, no_longer}
+
+-- a frame of a fast packet or of the transport protocol is the device's
+abbrev pub IsOwnKind : ℕ → Note → Type 0
+IsOwnKind a n = (is_fast (kind_of n.parts.pgn) || is_transport n.parts) ≡ true → (n.parts.source == a) ≡ true
+
+or_true : (b : Bool) → (b || true) ≡ true
+or_true true = refl
+or_true false = refl
+
+true_or : (b d : Bool) → b ≡ true → (b || d) ≡ true
+true_or b d e = rw e refl
+
+smaller : (a b limit : ℕ) → a ≤ b → nat_lt b limit ≡ true → nat_lt a limit ≡ true
+smaller a b limit le less = lt-ltb a limit (omega (arith, le, ltb-true b limit less))
+
+-- ---- fast packets
+
+fast_turn : (a b : FastKey) → same_fast a b ≡ same_fast b a
+fast_turn a b = rw (eqb-sym a.source b.source, eqb-sym a.pgn b.pgn) refl
+
+fast_itself : (a : FastKey) → same_fast a a ≡ true
+fast_itself a = rw (eq-eqb a.source a.source refl, eq-eqb a.pgn a.pgn refl) refl
+
+fast_apart : (notes : List Note) → Apart same_fast fast.same_is fast_turn fast_itself (fast_keys notes)
+fast_apart [] = tt
+fast_apart (n ∷ notes) = by (is_fast (kind_of n.parts.pgn)) (fast_apart notes)
+  where
+    by : (b : Bool) → Apart same_fast fast.same_is fast_turn fast_itself (fast_keys notes)
+        → Apart same_fast fast.same_is fast_turn fast_itself (if b then placed same_fast before_fast (record { source = n.parts.source; pgn = n.parts.pgn }) (fast_keys notes) else fast_keys notes)
+    by true rest = apart_placed same_fast fast.same_is fast_turn fast_itself before_fast (record { source = n.parts.source; pgn = n.parts.pgn }) (fast_keys notes) rest
+    by false rest = rest
+
+abbrev IsFastOf : ℕ → FastKey → Type 0
+IsFastOf a key = ((key.source == a) ≡ true) × (is_fast (kind_of key.pgn) ≡ true)
+
+fast_own : (a : ℕ) (notes : List Note) → AllByRecursion (IsOwnKind a) notes → AllByRecursion (IsFastOf a) (fast_keys notes)
+fast_own a [] all = tt
+fast_own a (n ∷ notes) all = by (is_fast (kind_of n.parts.pgn)) refl (fast_own a notes all.1)
+  where
+    by : (b : Bool) → is_fast (kind_of n.parts.pgn) ≡ b → AllByRecursion (IsFastOf a) (fast_keys notes)
+        → AllByRecursion (IsFastOf a) (if b then placed same_fast before_fast (record { source = n.parts.source; pgn = n.parts.pgn }) (fast_keys notes) else fast_keys notes)
+    by true e rest = all_placed (IsFastOf a) same_fast before_fast (record { source = n.parts.source; pgn = n.parts.pgn }) (fast_keys notes) (all.0 (true_or (is_fast (kind_of n.parts.pgn)) (is_transport n.parts) e), e) rest
+    by false e rest = rest
+
+fast_came : (k : Known) (notes : List Note) (m : ℕ) (key : FastKey) → is_fast (kind_of key.pgn) ≡ true → is_some (fast_open k notes key m) ≡ true → list_any (same_fast key) (fast_keys notes) ≡ true
+fast_came k notes m key kind is_open = by (list_any (same_fast key) (fast_keys notes)) refl
+  where
+    by : (b : Bool) → list_any (same_fast key) (fast_keys notes) ≡ b → list_any (same_fast key) (fast_keys notes) ≡ true
+    by true e = e
+    by false e =
+        let nothing : fast_trace k key.source key.pgn notes ≡ [] = fast.no_frames key (since_of k key.source) notes kind e in
+        let closed : is_some (fast_open k notes key m) ≡ false = ap (λ (t : List FastPiece). is_some (open_at fast_rules t m)) nothing in
+        absurd (false≢true (sym closed ∙ is_open))
+
+-- what is open of the device in one is open in the other
+module _ (a : ℕ) (k l : Known) (notes kept : List Note) (m : ℕ) (own : AllByRecursion (IsOwnKind a) kept)
+  (opens : (key : FastKey) → IsFastOf a key → is_some (fast_open l kept key m) ≡ is_some (fast_open k notes key m)) where
+  fast_among : (key : FastKey) (ks : List FastKey) → AllByRecursion (IsFastOf a) ks
+      → AllByRecursion (λ x. list_any (same_fast x) (filter (λ other. not (same_fast other key)) (open_fast_keys k notes m)) ≡ true)
+      (filter (λ other. not (same_fast other key)) (filter (λ x. is_some (fast_open l kept x m)) ks))
+  fast_among key [] all = tt
+  fast_among key (x ∷ ks) all = by (is_some (fast_open l kept x m)) refl (not (same_fast x key)) refl (fast_among key ks all.1)
+    where
+      there : is_some (fast_open l kept x m) ≡ true → not (same_fast x key) ≡ true → list_any (same_fast x) (filter (λ other. not (same_fast other key)) (open_fast_keys k notes m)) ≡ true
+      there e f =
+          let is_open : is_some (fast_open k notes x m) ≡ true = sym (opens x all.0) ∙ e in
+          among_filtered same_fast fast.same_is fast_turn fast_itself (λ other. not (same_fast other key)) x (open_fast_keys k notes m) f
+          (among_filtered same_fast fast.same_is fast_turn fast_itself (λ other. is_some (fast_open k notes other m)) x (fast_keys notes) is_open (fast_came k notes m x all.0.1 is_open))
+
+      by : (b : Bool) → is_some (fast_open l kept x m) ≡ b → (d : Bool) → not (same_fast x key) ≡ d
+          → AllByRecursion (λ y. list_any (same_fast y) (filter (λ other. not (same_fast other key)) (open_fast_keys k notes m)) ≡ true) (filter (λ other. not (same_fast other key)) (filter (λ y. is_some (fast_open l kept y m)) ks))
+          → AllByRecursion (λ y. list_any (same_fast y) (filter (λ other. not (same_fast other key)) (open_fast_keys k notes m)) ≡ true) (filter (λ other. not (same_fast other key)) (filter (λ y. is_some (fast_open l kept y m)) (x ∷ ks)))
+      by true e true f rest = rw e (rw f (there e f, rest))
+      by true e false f rest = rw e (rw f rest)
+      by false e d f rest = rw e rest
+
+  pub fast_room : (limit : ℕ) (key : FastKey) → is_fast_admitted limit k notes key m ≡ true → is_fast_admitted limit l kept key m ≡ true
+  fast_room limit key room =
+      smaller (length (filter (λ other. not (same_fast other key)) (open_fast_keys l kept m))) (length (filter (λ other. not (same_fast other key)) (open_fast_keys k notes m))) limit
+      (no_longer same_fast fast.same_is fast_turn fast_itself (filter (λ other. not (same_fast other key)) (open_fast_keys l kept m)) (filter (λ other. not (same_fast other key)) (open_fast_keys k notes m))
+      (apart_filtered same_fast fast.same_is fast_turn fast_itself (λ other. not (same_fast other key)) (open_fast_keys l kept m)
+      (apart_filtered same_fast fast.same_is fast_turn fast_itself (λ x. is_some (fast_open l kept x m)) (fast_keys kept) (fast_apart kept)))
+      (fast_among key (fast_keys kept) (fast_own a kept own)))
+      room
+
+-- ---- the transport protocol
+
+iso_turn : (a b : IsoKey) → same_iso a b ≡ same_iso b a
+iso_turn a b = rw (iso.both_turn a.addressed b.addressed, eqb-sym a.source b.source) refl
+
+both_itself : (b : Bool) → beq b b ≡ true
+both_itself true = refl
+both_itself false = refl
+
+iso_itself : (a : IsoKey) → same_iso a a ≡ true
+iso_itself a = rw (both_itself a.addressed, eq-eqb a.source a.source refl) refl
+
+iso_apart : (notes : List Note) → Apart same_iso iso.same_is iso_turn iso_itself (iso_keys notes)
+iso_apart [] = tt
+iso_apart (n ∷ notes) = by (is_transport n.parts) (iso_apart notes)
+  where
+    by : (b : Bool) → Apart same_iso iso.same_is iso_turn iso_itself (iso_keys notes) → Apart same_iso iso.same_is iso_turn iso_itself (if b then placed same_iso before_iso (key_of n.parts) (iso_keys notes) else iso_keys notes)
+    by true rest = apart_placed same_iso iso.same_is iso_turn iso_itself before_iso (key_of n.parts) (iso_keys notes) rest
+    by false rest = rest
+
+abbrev IsIsoOf : ℕ → IsoKey → Type 0
+IsIsoOf a key = (key.source == a) ≡ true
+
+iso_own : (a : ℕ) (notes : List Note) → AllByRecursion (IsOwnKind a) notes → AllByRecursion (IsIsoOf a) (iso_keys notes)
+iso_own a [] all = tt
+iso_own a (n ∷ notes) all = by (is_transport n.parts) refl (iso_own a notes all.1)
+  where
+    by : (b : Bool) → is_transport n.parts ≡ b → AllByRecursion (IsIsoOf a) (iso_keys notes) → AllByRecursion (IsIsoOf a) (if b then placed same_iso before_iso (key_of n.parts) (iso_keys notes) else iso_keys notes)
+    by true e rest = all_placed (IsIsoOf a) same_iso before_iso (key_of n.parts) (iso_keys notes) (all.0 (rw e (or_true (is_fast (kind_of n.parts.pgn))))) rest
+    by false e rest = rest
+
+iso_came : (k : Known) → IsSound k.claims → (notes : List Note) (m : ℕ) (key : IsoKey) → is_some (iso_open k notes key m) ≡ true → list_any (same_iso key) (iso_keys notes) ≡ true
+iso_came k sound notes m key is_open = by (list_any (same_iso key) (iso_keys notes)) refl
+  where
+    by : (b : Bool) → list_any (same_iso key) (iso_keys notes) ≡ b → list_any (same_iso key) (iso_keys notes) ≡ true
+    by true e = e
+    by false e =
+        let closed : is_some (iso_open k notes key m) ≡ false = ap (λ (t : List IsoPiece). is_some (open_at (iso_rules key.addressed) t m)) (iso.no_frames k sound key notes e) in
+        absurd (false≢true (sym closed ∙ is_open))
+
+module _ (a : ℕ) (k l : Known) (sound : IsSound k.claims) (notes kept : List Note) (m : ℕ) (own : AllByRecursion (IsOwnKind a) kept)
+  (opens : (key : IsoKey) → IsIsoOf a key → is_some (iso_open l kept key m) ≡ is_some (iso_open k notes key m)) where
+  iso_among : (key : IsoKey) (ks : List IsoKey) → AllByRecursion (IsIsoOf a) ks
+      → AllByRecursion (λ x. list_any (same_iso x) (filter (λ other. not (same_iso other key)) (open_iso_keys k notes m)) ≡ true)
+      (filter (λ other. not (same_iso other key)) (filter (λ x. is_some (iso_open l kept x m)) ks))
+  iso_among key [] all = tt
+  iso_among key (x ∷ ks) all = by (is_some (iso_open l kept x m)) refl (not (same_iso x key)) refl (iso_among key ks all.1)
+    where
+      there : is_some (iso_open l kept x m) ≡ true → not (same_iso x key) ≡ true → list_any (same_iso x) (filter (λ other. not (same_iso other key)) (open_iso_keys k notes m)) ≡ true
+      there e f =
+          let is_open : is_some (iso_open k notes x m) ≡ true = sym (opens x all.0) ∙ e in
+          among_filtered same_iso iso.same_is iso_turn iso_itself (λ other. not (same_iso other key)) x (open_iso_keys k notes m) f
+          (among_filtered same_iso iso.same_is iso_turn iso_itself (λ other. is_some (iso_open k notes other m)) x (iso_keys notes) is_open (iso_came k sound notes m x is_open))
+
+      by : (b : Bool) → is_some (iso_open l kept x m) ≡ b → (d : Bool) → not (same_iso x key) ≡ d
+          → AllByRecursion (λ y. list_any (same_iso y) (filter (λ other. not (same_iso other key)) (open_iso_keys k notes m)) ≡ true) (filter (λ other. not (same_iso other key)) (filter (λ y. is_some (iso_open l kept y m)) ks))
+          → AllByRecursion (λ y. list_any (same_iso y) (filter (λ other. not (same_iso other key)) (open_iso_keys k notes m)) ≡ true) (filter (λ other. not (same_iso other key)) (filter (λ y. is_some (iso_open l kept y m)) (x ∷ ks)))
+      by true e true f rest = rw e (rw f (there e f, rest))
+      by true e false f rest = rw e (rw f rest)
+      by false e d f rest = rw e rest
+
+  pub iso_room : (limit : ℕ) (key : IsoKey) → is_iso_admitted limit k notes key m ≡ true → is_iso_admitted limit l kept key m ≡ true
+  iso_room limit key room =
+      smaller (length (filter (λ other. not (same_iso other key)) (open_iso_keys l kept m))) (length (filter (λ other. not (same_iso other key)) (open_iso_keys k notes m))) limit
+      (no_longer same_iso iso.same_is iso_turn iso_itself (filter (λ other. not (same_iso other key)) (open_iso_keys l kept m)) (filter (λ other. not (same_iso other key)) (open_iso_keys k notes m))
+      (apart_filtered same_iso iso.same_is iso_turn iso_itself (λ other. not (same_iso other key)) (open_iso_keys l kept m)
+      (apart_filtered same_iso iso.same_is iso_turn iso_itself (λ x. is_some (iso_open l kept x m)) (iso_keys kept) (iso_apart kept)))
+      (iso_among key (iso_keys kept) (iso_own a kept own)))
+      room
