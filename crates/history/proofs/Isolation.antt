@@ -2,7 +2,7 @@
 use Rattle.std.proofs.Common.{◌≡◌, ◌≢◌, ℕ, ◌≤◌, Bool, true, false, ◌&&◌, ◌||◌, not, List, [], ◌∷◌, length, map, refl, sym, ap, subst, ◌∙◌, ◌==◌, nat_le}
 use Rattle.std.specs.Prelude.{Option, Some, None, filter, is_some, if◌then◌else◌, option_map}
 use Rattle.std.specs.List.{AllByRecursion}
-use Rattle.std.proofs.lemmas.Bool.{eqb-true, and_parts}
+use Rattle.std.proofs.lemmas.Bool.{eqb-true, and_parts, false≢true}
 use Rattle.n2k_id.specs.Frame.{BusFrame}
 use Rattle.n2k_id.specs.Identifier.{parts_of}
 use Rattle.claim_table.specs.declared.answer.Holder.{Holder}
@@ -11,10 +11,12 @@ use Rattle.claim_table.specs.Claims.{Claims, Claim, Outcome, claim, command, hol
 use Rattle.pgn_profile.specs.Profiled.{kind_of}
 use Rattle.pgn_profile.specs.declared.kinds.Kind.{Kind}
 use Rattle.pgn_profile.specs.declared.kinds.Kind.TheVariants.{Single, Fast, Outside}
-use Rattle.runs.specs.Runs.{run_of}
+use Rattle.runs.specs.Runs.{run_of, open_at}
+use Rattle.fast_packet.specs.declared.key.FastKey.{FastKey}
 use Rattle.fast_packet.specs.FastRuns.{FastPiece, fast_rules}
 use Rattle.iso_transport.specs.Audience.{key_of, bears, is_data}
 use Rattle.iso_transport.specs.IsoRuns.{IsoPiece, iso_rules}
+use Rattle.iso_transport.specs.declared.key.IsoKey.{IsoKey}
 use Rattle.history.specs.Entries.{Entry, History, frame, datagram, tick}
 use Rattle.history.specs.Entries as entry
 use Rattle.history.specs.Settings.{Settings}
@@ -22,7 +24,7 @@ use Rattle.history.specs.Known.{Known, known, is_own, is_claim, claim_by, since_
 use Rattle.fast_packet.specs.FastFrames.{is_opener}
 use Rattle.iso_transport.specs.IsoRuns.{is_opener as iso_opener}
 use Rattle.history.specs.Traces.{Note, is_since, fast_piece, fast_trace, fast_trace_since, iso_piece, iso_trace, broadcast_since, addressed_since, is_transport, is_bearing}
-use Rattle.history.specs.Opens.{is_fast, notes_of}
+use Rattle.history.specs.Opens.{is_fast, notes_of, fast_open, iso_open}
 use Rattle.history.specs.Messages.{Message, Carried, messages_of, said_by, with_message, completed_by, by_kind, by_session, fast_carried, iso_carried}
 use Rattle.history.specs.AddressLaws.{AreSettings}
 use Rattle.history.specs.TraceLaws.{is_lost, same_own}
@@ -38,7 +40,9 @@ use Rattle.history.proofs.KeySteps.{steps as fast_steps}
 use Rattle.history.proofs.TraceMoves.{claims_move_traces, commands_move_traces, known_after_claim}
 use Rattle.history.proofs.FreshSteps.{claim_says_none}
 use Rattle.history.proofs.Erased.{bare, erased, unnumbered, bare_at, claim_erased, command_erased}
-use Rattle.history.proofs.Normal.{run_of_map}
+use Rattle.history.proofs.Addresses.{addresses_are_sound}
+use Rattle.history.proofs.Room.{IsOwnKind, fast_room, iso_room}
+use Rattle.history.proofs.Normal.{run_of_map, open_at_map}
 use Rattle.history.proofs.Unseen.{fast_norm, iso_norm, fast_unseen, iso_unseen, fast_carries, iso_carries}
 
 -- what of a history is as in another
@@ -47,8 +51,20 @@ pub record Alike (c : Settings) (s a : ℕ) (h g : History) : Type 0 where
   pub fast : (p : ℕ) → kind_of p ≡ Fast → map fast_norm (fast_trace (known c s h) a p (notes_of c s h)) ≡ map fast_norm (fast_trace (known c s g) a p (notes_of c s g))
   pub iso : (addressed : Bool) → map iso_norm (iso_trace (known c s h) addressed a (notes_of c s h)) ≡ map iso_norm (iso_trace (known c s g) addressed a (notes_of c s g))
   pub told : from a (messages_of c s h) ≡ from a (messages_of c s g)
+  -- in the other, only the device sends, and its openers found room
+  pub only : AllByRecursion (IsOwnKind a) (notes_of c s g)
+  pub rooms : NoneRefused c s g a
 
 -- ---- a claim
+
+claim_is_neither : (n : Note) → n.parts.pgn ≡ 60928 → (is_fast (kind_of n.parts.pgn) ≡ false) × (is_transport n.parts ≡ false)
+claim_is_neither n e = (rw e (ap is_fast claim_kind), rw e refl)
+
+claim_is_no_kind : (a : ℕ) (n : Note) → n.parts.pgn ≡ 60928 → IsOwnKind a n
+claim_is_no_kind a n e = λ kind. let neither = claim_is_neither n e in absurd (false≢true (sym (rw (neither.0, neither.1) refl) ∙ kind))
+
+claim_is_no_opener : (a : ℕ) (n : Note) → n.parts.pgn ≡ 60928 → FindsRoom a n
+claim_is_no_opener a n e = λ source opening. let neither = claim_is_neither n e in absurd (false≢true (sym (rw (neither.0, neither.1) refl) ∙ opening))
 
 by_erased : (c d : Claims) (k l : Claim) → erased c ≡ erased d → unnumbered k ≡ unnumbered l → (erased (claim c k).after ≡ erased (claim d l).after) × ((claim c k).step ≡ (claim d l).step)
 by_erased c d k l e f =
@@ -93,6 +109,9 @@ module _ (c : Settings) (s a : ℕ) (h g : History) (m : ℕ) (f : BusFrame) (ar
       ∙ cut_same iso_norm _ _ (iso_trace (known c s h) true a (notes_of c s h)) (iso_trace (known c s g) true a (notes_of c s g)) (rw (same_lost, same_changed) refl) (alike.iso true)
       ∙ ap (map iso_norm) (sym ((claims_move_traces c s g m f are claims).addressed a))
 
+  pgn_is : (parts_of f.id).pgn ≡ 60928
+  pgn_is = eqb-true (parts_of f.id).pgn 60928 (and_parts _ _ claims).0
+
   pub claim_alike : Alike c s a (frame m f ∷ h) (frame m f ∷ g)
   claim_alike = record {
     claims = after_claim;
@@ -102,6 +121,8 @@ module _ (c : Settings) (s a : ℕ) (h g : History) (m : ℕ) (f : BusFrame) (ar
         ∙ ap (map fast_norm) (sym ((claims_move_traces c s g m f are claims).fast a p (not_claims_pgn p fast)));
     iso = iso_after;
     told = ap (from a) (claim_says_none c s h m f claims) ∙ alike.told ∙ sym (ap (from a) (claim_says_none c s g m f claims));
+    only = (claim_is_no_kind a (the_note c s g m f) pgn_is, alike.only);
+    rooms = (claim_is_no_opener a (the_note c s g m f) pgn_is, alike.rooms);
   }
 
 -- ---- a command
@@ -133,6 +154,8 @@ module _ (c : Settings) (s a : ℕ) (h g : History) (m source address : ℕ) (al
         ∙ ap (map fast_norm) (sym ((commands_move_traces c s g m source address).fast a p (not_claims_pgn p fast)));
     iso = iso_commanded;
     told = alike.told;
+    only = alike.only;
+    rooms = alike.rooms;
   }
 
 -- ---- openers of a trace found room
@@ -324,6 +347,55 @@ module _ (c : Settings) (s a : ℕ) (h g : History) (m : ℕ) (f : BusFrame) (ar
       (concerns_same addressed) refl (alike.iso addressed)
       ∙ ap (map iso_norm) (sym (trace_is c s g m f are addressed a))
 
+  -- its openers find room where they found it
+  module _ (found : AllByRecursion (FindsRoom a) (notes_of c s h)) where
+    some_map : {X Y : Type 0} (f : X → Y) (o : Option X) → is_some (option_map f o) ≡ is_some o
+    some_map f None = refl
+    some_map f (Some x) = refl
+
+    fast_is : (kind : Kind) → is_fast kind ≡ true → kind ≡ Fast
+    fast_is Single e = cc
+    fast_is Fast e = refl
+    fast_is Outside e = cc
+
+    fast_open_same : (p : ℕ) → is_fast (kind_of p) ≡ true → is_some (open_at fast_rules (fast_trace (known c s g) a p (notes_of c s g)) m) ≡ is_some (open_at fast_rules (fast_trace (known c s h) a p (notes_of c s h)) m)
+    fast_open_same p kind =
+        sym (some_map (map fast_norm) (open_at fast_rules (fast_trace (known c s g) a p (notes_of c s g)) m))
+        ∙ ap is_some (sym (open_at_map fast_rules fast_norm fast_unseen fast_steps (fast_trace (known c s g) a p (notes_of c s g)) m (fast_trace_rooms (known c s g) a p (notes_of c s g) kind alike.rooms)))
+        ∙ ap (λ (t : List FastPiece). is_some (open_at fast_rules t m)) (sym (alike.fast p (fast_is (kind_of p) kind)))
+        ∙ ap is_some (open_at_map fast_rules fast_norm fast_unseen fast_steps (fast_trace (known c s h) a p (notes_of c s h)) m (fast_trace_rooms (known c s h) a p (notes_of c s h) kind found))
+        ∙ some_map (map fast_norm) (open_at fast_rules (fast_trace (known c s h) a p (notes_of c s h)) m)
+
+    fast_opens : (key : FastKey) → ((key.source == a) ≡ true) × (is_fast (kind_of key.pgn) ≡ true) → is_some (fast_open (known c s g) (notes_of c s g) key m) ≡ is_some (fast_open (known c s h) (notes_of c s h) key m)
+    fast_opens key of =
+        subst (λ (x : ℕ). is_some (open_at fast_rules (fast_trace (known c s g) x key.pgn (notes_of c s g)) m) ≡ is_some (open_at fast_rules (fast_trace (known c s h) x key.pgn (notes_of c s h)) m))
+        (sym (eqb-true key.source a of.0)) (fast_open_same key.pgn of.1)
+
+    iso_open_same : (addressed : Bool) → is_some (open_at (iso_rules addressed) (iso_trace (known c s g) addressed a (notes_of c s g)) m) ≡ is_some (open_at (iso_rules addressed) (iso_trace (known c s h) addressed a (notes_of c s h)) m)
+    iso_open_same addressed =
+        sym (some_map (map iso_norm) (open_at (iso_rules addressed) (iso_trace (known c s g) addressed a (notes_of c s g)) m))
+        ∙ ap is_some (sym (open_at_map (iso_rules addressed) iso_norm (iso_unseen addressed) (iso_steps addressed) (iso_trace (known c s g) addressed a (notes_of c s g)) m (iso_trace_rooms (known c s g) addressed a (notes_of c s g) alike.rooms)))
+        ∙ ap (λ (t : List IsoPiece). is_some (open_at (iso_rules addressed) t m)) (sym (alike.iso addressed))
+        ∙ ap is_some (open_at_map (iso_rules addressed) iso_norm (iso_unseen addressed) (iso_steps addressed) (iso_trace (known c s h) addressed a (notes_of c s h)) m (iso_trace_rooms (known c s h) addressed a (notes_of c s h) found))
+        ∙ some_map (map iso_norm) (open_at (iso_rules addressed) (iso_trace (known c s h) addressed a (notes_of c s h)) m)
+
+    iso_opens : (key : IsoKey) → (key.source == a) ≡ true → is_some (iso_open (known c s g) (notes_of c s g) key m) ≡ is_some (iso_open (known c s h) (notes_of c s h) key m)
+    iso_opens key of =
+        subst (λ (x : ℕ). is_some (open_at (iso_rules key.addressed) (iso_trace (known c s g) key.addressed x (notes_of c s g)) m) ≡ is_some (open_at (iso_rules key.addressed) (iso_trace (known c s h) key.addressed x (notes_of c s h)) m))
+        (sym (eqb-true key.source a of)) (iso_open_same key.addressed)
+
+    still_admitted : (the_note c s h m f).admitted ≡ true → (the_note c s g m f).admitted ≡ true
+    still_admitted room = by (is_transport (parts_of f.id)) refl room
+      where
+        by : (b : Bool) → is_transport (parts_of f.id) ≡ b → (the_note c s h m f).admitted ≡ true → (the_note c s g m f).admitted ≡ true
+        by true e was =
+            rw e (iso_room a (known c s h) (known c s g) (addresses_are_sound c s h are).sound (notes_of c s h) (notes_of c s g) m alike.only iso_opens c.iso_slots (key_of (parts_of f.id)) (rw e at was))
+        by false e was =
+            rw e (fast_room a (known c s h) (known c s g) (notes_of c s h) (notes_of c s g) m alike.only fast_opens c.fast_slots (record { source = (parts_of f.id).source; pgn = (parts_of f.id).pgn }) (rw e at was))
+
+    pub room_kept : FindsRoom a (the_note c s h m f) → FindsRoom a (the_note c s g m f)
+    room_kept room = λ own opening. still_admitted (room own opening)
+
   -- what it completes
   module _ (rooms_h : AllByRecursion (FindsRoom a) (the_note c s h m f ∷ notes_of c s h)) (rooms_g : AllByRecursion (FindsRoom a) (the_note c s g m f ∷ notes_of c s g)) where
     from_source : (parts_of f.id).source ≡ a
@@ -389,6 +461,8 @@ module _ (c : Settings) (s a : ℕ) (h g : History) (m : ℕ) (f : BusFrame) (ar
           said_same a (length h) (length g) m (parts_of f.id).source (holder_at (known c s h).claims.holders (parts_of f.id).source) (holder_at (known c s g).claims.holders (parts_of f.id).source)
           (completed_by (known c s h) (the_note c s h m f) (notes_of c s h)) (completed_by (known c s g) (the_note c s g m f) (notes_of c s g)) (messages_of c s h) (messages_of c s g)
           (subst (λ (x : ℕ). bare (holder_at (known c s h).claims.holders x) ≡ bare (holder_at (known c s g).claims.holders x)) (sym from_source) holders_same) completes alike.told;
+      only = ((λ kind. source), alike.only);
+      rooms = rooms_g;
     }
 
 -- ---- a frame of another device
@@ -424,6 +498,8 @@ module _ (c : Settings) (s a : ℕ) (h g : History) (m : ℕ) (f : BusFrame) (ar
         dropped a (length h) m (parts_of f.id).source (holder_at (known c s h).claims.holders (parts_of f.id).source)
         (completed_by (known c s h) (the_note c s h m f) (notes_of c s h)) (messages_of c s h) elsewhere
         ∙ alike.told;
+    only = alike.only;
+    rooms = alike.rooms;
   }
 
 -- ---- a whole history
@@ -439,35 +515,31 @@ module _ (c : Settings) (s a : ℕ) (are : AreSettings c) where
   with_claim h m f claims alike =
       subst (Alike c s a (frame m f ∷ h)) (sym (kept_is a (frame m f) h (rw claims refl))) (claim_alike c s a h (narrowed a h) m f are alike claims)
 
-  with_own : (h : History) (m : ℕ) (f : BusFrame) → is_claim f ≡ false → ((parts_of f.id).source == a) ≡ true → NoneRefused c s (frame m f ∷ h) a → NoneRefused c s (narrowed a (frame m f ∷ h)) a
+  with_own : (h : History) (m : ℕ) (f : BusFrame) → is_claim f ≡ false → ((parts_of f.id).source == a) ≡ true → NoneRefused c s (frame m f ∷ h) a
       → Alike c s a h (narrowed a h) → Alike c s a (frame m f ∷ h) (narrowed a (frame m f ∷ h))
-  with_own h m f other own rooms rooms_kept alike =
+  with_own h m f other own rooms alike =
       let keep : keeps a (frame m f) ≡ true = rw (other, own) refl in
-      subst (Alike c s a (frame m f ∷ h)) (sym (kept_is a (frame m f) h keep))
-      (own_alike c s a h (narrowed a h) m f are alike other own rooms (subst (λ (g : History). NoneRefused c s g a) (kept_is a (frame m f) h keep) rooms_kept))
+      let kept : AllByRecursion (FindsRoom a) (the_note c s (narrowed a h) m f ∷ notes_of c s (narrowed a h)) = (room_kept c s a h (narrowed a h) m f are alike other own rooms.1 rooms.0, alike.rooms) in
+      subst (Alike c s a (frame m f ∷ h)) (sym (kept_is a (frame m f) h keep)) (own_alike c s a h (narrowed a h) m f are alike other own rooms kept)
 
   with_other : (h : History) (m : ℕ) (f : BusFrame) → is_claim f ≡ false → ((parts_of f.id).source == a) ≡ false → Alike c s a h (narrowed a h) → Alike c s a (frame m f ∷ h) (narrowed a (frame m f ∷ h))
   with_other h m f other elsewhere alike =
       subst (Alike c s a (frame m f ∷ h)) (sym (gone_is a (frame m f) h (rw (other, elsewhere) refl))) (other_alike c s a h (narrowed a h) m f are alike other elsewhere)
 
-  -- what is kept of a frame's rooms
-  rooms_before : (h : History) (m : ℕ) (f : BusFrame) (b : Bool) → keeps a (frame m f) ≡ b → NoneRefused c s (narrowed a (frame m f ∷ h)) a → NoneRefused c s (narrowed a h) a
-  rooms_before h m f true e rooms = (subst (λ (g : History). NoneRefused c s g a) (kept_is a (frame m f) h e) rooms).1
-  rooms_before h m f false e rooms = subst (λ (g : History). NoneRefused c s g a) (gone_is a (frame m f) h e) rooms
-
-  with_frame : (h : History) (m : ℕ) (f : BusFrame) → NoneRefused c s (frame m f ∷ h) a → NoneRefused c s (narrowed a (frame m f ∷ h)) a
+  with_frame : (h : History) (m : ℕ) (f : BusFrame) → NoneRefused c s (frame m f ∷ h) a
       → (b d : Bool) → is_claim f ≡ b → ((parts_of f.id).source == a) ≡ d → Alike c s a h (narrowed a h) → Alike c s a (frame m f ∷ h) (narrowed a (frame m f ∷ h))
-  with_frame h m f rooms rooms_kept true d e own alike = with_claim h m f e alike
-  with_frame h m f rooms rooms_kept false true e own alike = with_own h m f e own rooms rooms_kept alike
-  with_frame h m f rooms rooms_kept false false e own alike = with_other h m f e own alike
+  with_frame h m f rooms true d e own alike = with_claim h m f e alike
+  with_frame h m f rooms false true e own alike = with_own h m f e own rooms alike
+  with_frame h m f rooms false false e own alike = with_other h m f e own alike
 
-  alike_all : (h : History) → NoneRefused c s h a → NoneRefused c s (narrowed a h) a → Alike c s a h (narrowed a h)
-  alike_all [] rooms rooms_kept = record { claims = refl; fast = λ p fast. refl; iso = λ addressed. refl; told = refl }
-  alike_all (frame m f ∷ h) rooms rooms_kept =
-      with_frame h m f rooms rooms_kept (is_claim f) ((parts_of f.id).source == a) refl refl (alike_all h rooms.1 (rooms_before h m f (keeps a (frame m f)) refl rooms_kept))
-  alike_all (datagram m bytes ∷ h) rooms rooms_kept = let same = alike_all h rooms rooms_kept in record { claims = same.claims; fast = same.fast; iso = same.iso; told = same.told }
-  alike_all (tick m ∷ h) rooms rooms_kept = let same = alike_all h rooms rooms_kept in record { claims = same.claims; fast = same.fast; iso = same.iso; told = same.told }
-  alike_all (entry.command m source address ∷ h) rooms rooms_kept = command_alike c s a h (narrowed a h) m source address (alike_all h rooms rooms_kept)
+  alike_all : (h : History) → NoneRefused c s h a → Alike c s a h (narrowed a h)
+  alike_all [] rooms = record { claims = refl; fast = λ p fast. refl; iso = λ addressed. refl; told = refl; only = tt; rooms = tt }
+  alike_all (frame m f ∷ h) rooms = with_frame h m f rooms (is_claim f) ((parts_of f.id).source == a) refl refl (alike_all h rooms.1)
+  alike_all (datagram m bytes ∷ h) rooms =
+      let same = alike_all h rooms in record { claims = same.claims; fast = same.fast; iso = same.iso; told = same.told; only = same.only; rooms = same.rooms }
+  alike_all (tick m ∷ h) rooms =
+      let same = alike_all h rooms in record { claims = same.claims; fast = same.fast; iso = same.iso; told = same.told; only = same.only; rooms = same.rooms }
+  alike_all (entry.command m source address ∷ h) rooms = command_alike c s a h (narrowed a h) m source address (alike_all h rooms)
 
 pub isolation : Isolation
-isolation c s h a are rooms rooms_kept = (alike_all c s a are h rooms rooms_kept).told
+isolation c s h a are rooms = (alike_all c s a are h rooms).told

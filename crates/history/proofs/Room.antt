@@ -1,9 +1,9 @@
 -- Where only a device's frames are kept, no more keys are open than were, so its openers find room that found it.
-use Rattle.std.proofs.Common.{◌≡◌, ℕ, suc, ◌<◌, ◌≤◌, Bool, true, false, ◌&&◌, ◌||◌, not, List, [], ◌∷◌, length, map, refl, sym, ap, subst, ◌∙◌, ◌==◌, nat_lt, arith, is_some}
-use Rattle.std.specs.Prelude.{Option, Some, None, filter, if◌then◌else◌, option_map}
+use Rattle.std.proofs.Common.{◌≡◌, ℕ, ◌≤◌, Bool, true, false, ◌||◌, not, List, [], ◌∷◌, length, refl, sym, ap, ◌∙◌, ◌==◌, nat_lt, arith, is_some}
+use Rattle.std.specs.Prelude.{filter, if◌then◌else◌}
 use Rattle.std.specs.List.{AllByRecursion, list_any}
 use Rattle.std.specs.Bool.{beq}
-use Rattle.std.proofs.lemmas.Bool.{eqb-true, eq-eqb, and_parts, false≢true, lt-ltb, ltb-true}
+use Rattle.std.proofs.lemmas.Bool.{eq-eqb, false≢true, lt-ltb, ltb-true}
 use Rattle.runs.specs.Runs.{open_at}
 use Rattle.pgn_profile.specs.Profiled.{kind_of}
 use Rattle.fast_packet.specs.declared.key.FastKey.{FastKey}
@@ -13,7 +13,7 @@ use Rattle.iso_transport.specs.Audience.{key_of}
 use Rattle.iso_transport.specs.IsoRuns.{IsoPiece, iso_rules}
 use Rattle.claim_table.specs.Laws.{IsSound}
 use Rattle.history.specs.Known.{Known, since_of}
-use Rattle.history.specs.Traces.{Note, fast_trace, iso_trace, is_transport}
+use Rattle.history.specs.Traces.{Note, fast_trace, is_transport}
 use Rattle.history.specs.Opens.{placed, is_fast, same_fast, before_fast, fast_keys, fast_open, open_fast_keys, is_fast_admitted, same_iso, before_iso, iso_keys, iso_open, open_iso_keys, is_iso_admitted}
 use Rattle.history.proofs.KeySteps.{eqb-sym}
 use Rattle.history.proofs.Counts.{all_placed}
@@ -76,7 +76,7 @@ fast_came k notes m key kind is_open = by (list_any (same_fast key) (fast_keys n
 
 -- what is open of the device in one is open in the other
 module _ (a : ℕ) (k l : Known) (notes kept : List Note) (m : ℕ) (own : AllByRecursion (IsOwnKind a) kept)
-  (opens : (key : FastKey) → IsFastOf a key → is_some (fast_open l kept key m) ≡ is_some (fast_open k notes key m)) where
+    (opens : (key : FastKey) → IsFastOf a key → is_some (fast_open l kept key m) ≡ is_some (fast_open k notes key m)) where
   fast_among : (key : FastKey) (ks : List FastKey) → AllByRecursion (IsFastOf a) ks
       → AllByRecursion (λ x. list_any (same_fast x) (filter (λ other. not (same_fast other key)) (open_fast_keys k notes m)) ≡ true)
       (filter (λ other. not (same_fast other key)) (filter (λ x. is_some (fast_open l kept x m)) ks))
@@ -146,7 +146,7 @@ iso_came k sound notes m key is_open = by (list_any (same_iso key) (iso_keys not
         absurd (false≢true (sym closed ∙ is_open))
 
 module _ (a : ℕ) (k l : Known) (sound : IsSound k.claims) (notes kept : List Note) (m : ℕ) (own : AllByRecursion (IsOwnKind a) kept)
-  (opens : (key : IsoKey) → IsIsoOf a key → is_some (iso_open l kept key m) ≡ is_some (iso_open k notes key m)) where
+    (opens : (key : IsoKey) → IsIsoOf a key → is_some (iso_open l kept key m) ≡ is_some (iso_open k notes key m)) where
   iso_among : (key : IsoKey) (ks : List IsoKey) → AllByRecursion (IsIsoOf a) ks
       → AllByRecursion (λ x. list_any (same_iso x) (filter (λ other. not (same_iso other key)) (open_iso_keys k notes m)) ≡ true)
       (filter (λ other. not (same_iso other key)) (filter (λ x. is_some (iso_open l kept x m)) ks))

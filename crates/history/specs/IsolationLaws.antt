@@ -50,5 +50,5 @@ NoneRefused c s h a = AllByRecursion (FindsRoom a) (notes_of c s h)
 
 abbrev pub Isolation : Type 0
 Isolation =
-    (c : Settings) (s : ℕ) (h : History) (a : ℕ) → AreSettings c → NoneRefused c s h a → NoneRefused c s (narrowed a h) a
+    (c : Settings) (s : ℕ) (h : History) (a : ℕ) → AreSettings c → NoneRefused c s h a
     → from a (messages_of c s h) ≡ from a (messages_of c s (narrowed a h))

@@ -1,5 +1,4 @@
 use Rattle.history.proofs.Isolation.{isolation}
-use Rattle.history.proofs.Room.{fast_room, iso_room}
 use Rattle.history.proofs.laws.devices_are_isolated.Goals as goal
 
 pub returns : goal.returns
