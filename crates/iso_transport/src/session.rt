@@ -10,10 +10,10 @@ const SIZES: u64 = 1786;
 /// How many windows there are, 1 to 8.
 const WINDOWS: u64 = 8;
 
-/// How long the first packet of a grant may take, in microseconds (ISO 11783-3, time limit T2).
+/// How long the first packet of a grant may take, in microseconds (ISO 11783-3, the longest wait behind a clear to send).
 const GRANTED_GAP: u32 = 1_250_000;
 
-/// How long each other packet may take, in microseconds (ISO 11783-3, time limit T1).
+/// How long each other packet may take, in microseconds (ISO 11783-3, the longest gap between packets).
 const GAP: u32 = 750_000;
 
 /// A session's message, by its PGN and size, and how many packets its sender is granted at once: 1 to 8, and 1 where nothing

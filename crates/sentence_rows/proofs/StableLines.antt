@@ -9,6 +9,7 @@ use Rattle.readings.specs.declared.reading.Reading.TheVariants as reading
 use Rattle.sentence_rows.specs.Stable.{IsSaid, IsStable}
 use Rattle.sentence_rows.specs.Text.{beside}
 use Rattle.sentence_rows.proofs.StableRows as row
+use Rattle.sentence_rows.proofs.StableFixes as fix
 use Rattle.sentence_rows.proofs.Valid.{beside_within}
 
 one_line : (P : List ℕ → Type 0) (lines : List (List ℕ)) (x : List ℕ) → lines ≡ x ∷ [] → P x → All P lines
@@ -25,9 +26,9 @@ few_methods m h = omega (arith, ints, h.1)
 time_lines : (date time : Option ℤ) (talker : List ℕ) (with_ths : Bool) (lines : List (List ℕ)) → Admits ranges.date date → Admits ranges.time time
     → IsSaid (reading.Time date time) talker with_ths lines → All (IsStable talker with_ths) lines
 time_lines None time talker with_ths lines in_date in_time s =
-    one_line (IsStable talker with_ths) lines _ s.0 (row.no_zda_stable talker with_ths time in_time s.1.0)
+    one_line (IsStable talker with_ths) lines _ s.0 (fix.no_zda_stable talker with_ths time in_time s.1.0)
 time_lines (Some day) time talker with_ths lines in_date in_time s =
-    one_line (IsStable talker with_ths) lines _ s.2.0 (row.zda_stable talker with_ths time s.0 day in_time s.1 in_date s.2.1.0)
+    one_line (IsStable talker with_ths) lines _ s.2.0 (fix.zda_stable talker with_ths time s.0 day in_time s.1 in_date s.2.1.0)
 
 pub stable_lines : (r : Reading) (talker : List ℕ) (with_ths : Bool) (lines : List (List ℕ)) → IsValid r → IsSaid r talker with_ths lines → All (IsStable talker with_ths) lines
 stable_lines (reading.HeadingTrue h) talker false lines v s = one_line (IsStable talker false) lines _ s.0 (row.hdt_stable talker false h s.1.0)
@@ -44,12 +45,12 @@ stable_lines (reading.Depth d o r) talker with_ths lines v s =
 stable_lines (reading.DistanceLog l t) talker with_ths lines v s = one_line (IsStable talker with_ths) lines _ s.0 (row.vlw_stable talker with_ths l t v.0 v.1.0 s.1.0)
 stable_lines (reading.Position la lo) talker with_ths lines v s =
     one_line (IsStable talker with_ths) lines _ s.0
-    (row.gll_stable talker with_ths (beside la lo) (beside lo la) (beside_within ranges.latitude la lo v.0) (beside_within ranges.longitude lo la v.1.0) (row.both_beside la lo) s.1.0)
+    (fix.gll_stable talker with_ths (beside la lo) (beside lo la) (beside_within ranges.latitude la lo v.0) (beside_within ranges.longitude lo la v.1.0) (fix.both_beside la lo) s.1.0)
 stable_lines (reading.CourseSpeed m c x) talker with_ths lines v s = one_line (IsStable talker with_ths) lines _ s.0 (row.vtg_stable talker with_ths m c x v.1.0 s.1.0)
 stable_lines (reading.Gnss da t la lo al m n h x) talker with_ths lines v s =
     one_line (IsStable talker with_ths) lines _ s.0
-    (row.gga_stable talker with_ths t (beside la lo) (beside lo la) al m n h x v.1.0 (beside_within ranges.fix_latitude la lo v.1.1.0) (beside_within ranges.fix_longitude lo la v.1.1.1.0)
-    v.1.1.1.1.0 (few_methods m v.1.1.1.1.1.0) v.1.1.1.1.1.1.0 v.1.1.1.1.1.1.1.0 v.1.1.1.1.1.1.1.1.0 (row.both_beside la lo) s.1.0)
+    (fix.gga_stable talker with_ths t (beside la lo) (beside lo la) al m n h x v.1.0 (beside_within ranges.fix_latitude la lo v.1.1.0) (beside_within ranges.fix_longitude lo la v.1.1.1.0)
+    v.1.1.1.1.0 (few_methods m v.1.1.1.1.1.0) v.1.1.1.1.1.1.0 v.1.1.1.1.1.1.1.0 v.1.1.1.1.1.1.1.1.0 (fix.both_beside la lo) s.1.0)
 stable_lines (reading.Time da t) talker with_ths lines v s = time_lines da t talker with_ths lines v.0 v.1.0 s
 stable_lines (reading.WindApparent x a) talker with_ths lines v s = one_line (IsStable talker with_ths) lines _ s.0 (row.apparent_stable talker with_ths x a v.0 s.1.0)
 stable_lines (reading.WindTrue x a) talker with_ths lines v s = one_line (IsStable talker with_ths) lines _ s.0 (row.true_stable talker with_ths x a v.0 s.1.0)

@@ -1,13 +1,10 @@
--- Each sentence that is written is read as a reading that is said in it again.
-use Rattle.std.proofs.Common.{◌≡◌, ℕ, ◌+◌, ◌*◌, ◌/◌, ◌%◌, ◌^◌, ◌<◌, ◌≤◌, ℤ, pos, negsuc, ◌+ℤ◌, ◌-ℤ◌, Bool, true, false, Option, Some, None, Result, Ok, List, [], ◌∷◌, ◌++◌, length, length-append, map, refl, sym, ap, subst, ◌∙◌, arith}
+-- Each sentence that is written is read as a reading that is said in it again: all but GLL, GGA and ZDA.
+use Rattle.std.proofs.Common.{◌≡◌, ℕ, ◌+◌, ◌*◌, ◌%◌, ◌<◌, ◌≤◌, ℤ, pos, negsuc, ◌+ℤ◌, ◌-ℤ◌, Bool, true, false, Option, Some, None, Result, Ok, List, [], ◌∷◌, ◌++◌, length, length-append, map, refl, sym, ap, subst, ◌∙◌, arith}
 use Rattle.std.specs.Prelude.{◌&&◌, ◌||◌, not, codes, nat_lt, unsigned_abs, is_none, is_some, Contains, if◌then◌else◌}
 use Rattle.std.proofs.lemmas.Bool.{le-ltb}
 use Rattle.std.proofs.lemmas.Int.{ints}
-use Rattle.std.proofs.lemmas.Nat.{mul-le}
-use Rattle.jiff.specs.Types.{Date}
-use Rattle.jiff.specs.Words.{epoch_day}
 use Rattle.readings.specs.Ranges as ranges
-use Rattle.readings.specs.Ranges.{Admits, Holds}
+use Rattle.readings.specs.Ranges.{Admits}
 use Rattle.readings.specs.declared.reading.Reading.{Reading}
 use Rattle.readings.specs.declared.reading.Reading.TheVariants as reading
 use Rattle.unit_fraction.specs.Round.{nearest}
@@ -20,22 +17,21 @@ use Rattle.sentence_rows.specs.declared.fault.FieldFault.{FieldFault}
 use Rattle.sentence_rows.specs.declared.formatter.Formatter.{Formatter}
 use Rattle.sentence_rows.specs.declared.formatter.Formatter.TheVariants as formatter
 use Rattle.sentence_rows.specs.declared.field.Field.{Field}
-use Rattle.sentence_rows.specs.declared.field.Field.TheVariants.{Angle, Decimal, Degrees}
+use Rattle.sentence_rows.specs.declared.field.Field.TheVariants.{Angle, Decimal}
 use Rattle.sentence_rows.specs.Conversions as unit
 use Rattle.sentence_rows.specs.Quantities as quantity
-use Rattle.sentence_rows.specs.Field.{body_text, count, degrees_text, text_of}
+use Rattle.sentence_rows.specs.Field.{body_text, count, text_of}
 use Rattle.sentence_rows.specs.Columns as spec
 use Rattle.sentence_rows.specs.Formatters.{formatter_of, name_of}
 use Rattle.sentence_rows.specs.Lines.{sentence_by}
 use Rattle.sentence_rows.specs.ReadRow as rows
 use Rattle.sentence_rows.specs.Stable.{IsReadBack, IsStable, parts_by}
 use Rattle.sentence_rows.specs.Text as text
-use Rattle.sentence_rows.specs.Text.{IsText, beside, letter_where, only_if, said}
+use Rattle.sentence_rows.specs.Text.{IsText, letter_where, only_if, said}
 use Rattle.sentence_rows.proofs.Again as again
-use Rattle.sentence_rows.proofs.Again.{Paired, ReadsAs, IsNoMore, back, count_size, nearest_mono, nothing_lost, printed, read_size, reads_decimal, reads_digits, reads_nothing, reads_unsigned, same_decimal, same_magnitude, same_side}
+use Rattle.sentence_rows.proofs.Again.{Paired, ReadsAs, IsNoMore, back, nearest_mono, nothing_lost, printed, read_size, reads_decimal, reads_digits, reads_nothing, reads_unsigned, same_decimal, same_magnitude, same_side}
 use Rattle.sentence_rows.proofs.Texted.{Fields, number_of, measure_of, either_first, either_second, status_of, sided_of, mode_said, reference_of, wind_of, unit_of}
-use Rattle.sentence_rows.proofs.FixedTexts.{coordinate_of, back_time, same_time, time_said, back_count, same_count, satellites_of, quality_of, blank_none, blank_some}
-use Rattle.sentence_rows.proofs.DateTexts.{date_said, no_date_said}
+use Rattle.sentence_rows.proofs.FixedTexts.{blank_none, blank_some}
 
 -- ---- a whole sentence
 
@@ -59,7 +55,7 @@ named formatter.Mtw = refl
 named formatter.Xte = refl
 named formatter.Ths = refl
 
-abbrev texts : List Field → List (List ℕ)
+abbrev pub texts : List Field → List (List ℕ)
 texts fields = map text_of fields
 
 abbrev joined : List (List ℕ) → List ℕ
@@ -70,7 +66,7 @@ body_joined : (fields : List Field) → body_text fields ≡ joined (texts field
 body_joined [] = refl
 body_joined (f ∷ fs) = ap (λ (b : List ℕ). (44 ∷ text_of f) ++ b) (body_joined fs)
 
-same_sentence : (talker formatter : List ℕ) (a b : List Field) → texts a ≡ texts b → sentence_by talker formatter a ≡ sentence_by talker formatter b
+pub same_sentence : (talker formatter : List ℕ) (a b : List Field) → texts a ≡ texts b → sentence_by talker formatter a ≡ sentence_by talker formatter b
 same_sentence talker name a b e =
     let body : body_text a ≡ body_text b = body_joined a ∙ ap joined e ∙ sym (body_joined b) in
     ap (λ (bs : List ℕ). sentence (record { start = 36; talker = talker; formatter = name; body = bs })) body
@@ -84,7 +80,7 @@ read_by talker k fields r has is =
     ∙ ap rows.listed is
 
 -- of the sentences of a reading this is the one at a place
-stable_at : (talker : List ℕ) (with_ths : Bool) (k : Formatter) (fields : List Field) (r : Reading) (lines : List (List ℕ)) → IsReadBack talker (name_of k) fields
+pub stable_at : (talker : List ℕ) (with_ths : Bool) (k : Formatter) (fields : List Field) (r : Reading) (lines : List (List ℕ)) → IsReadBack talker (name_of k) fields
     → rows.read_as k (texts fields) ≡ Ok (r, None) → IsText r talker with_ths lines → Contains lines (sentence_by talker (name_of k) fields)
     → IsStable talker with_ths (sentence_by talker (name_of k) fields)
 stable_at talker with_ths k fields r lines b is said_so there = record {
@@ -97,11 +93,11 @@ stable_at talker with_ths k fields r lines b is said_so there = record {
   among = there;
 }
 
-abbrev lines_by : List ℕ → List (List ℕ × List Field) → List (List ℕ)
+abbrev pub lines_by : List ℕ → List (List ℕ × List Field) → List (List ℕ)
 lines_by talker sentences = map (λ s. sentence_by talker s.0 s.1) sentences
 
 -- a reading without a date, whose first sentence has the same texts
-stable_first : (talker : List ℕ) (with_ths : Bool) (k : Formatter) (fields same : List Field) (rest : List (List ℕ × List Field)) (r : Reading)
+pub stable_first : (talker : List ℕ) (with_ths : Bool) (k : Formatter) (fields same : List Field) (rest : List (List ℕ × List Field)) (r : Reading)
     → IsReadBack talker (name_of k) fields → rows.read_as k (texts fields) ≡ Ok (r, None) → IsText r talker with_ths (lines_by talker ((name_of k, same) ∷ rest))
     → texts same ≡ texts fields → IsStable talker with_ths (sentence_by talker (name_of k) fields)
 stable_first talker with_ths k fields same rest r b is said_so e =
@@ -109,15 +105,15 @@ stable_first talker with_ths k fields same rest r b is said_so e =
 
 -- ---- ranges
 
-no_more_either : (most : ℕ) (v : Option ℤ) → Admits (ranges.either_side most) v → IsNoMore most v
+pub no_more_either : (most : ℕ) (v : Option ℤ) → Admits (ranges.either_side most) v → IsNoMore most v
 no_more_either most None h = tt
 no_more_either most (Some raw) h = omega (arith, ints, h.0, h.1)
 
-no_more_up : (most : ℕ) (v : Option ℤ) → Admits (ranges.up_to most) v → IsNoMore most v
+pub no_more_up : (most : ℕ) (v : Option ℤ) → Admits (ranges.up_to most) v → IsNoMore most v
 no_more_up most None h = tt
 no_more_up most (Some raw) h = omega (arith, ints, h.0, h.1)
 
-reads_up : (q : Quantity) (u : Conversion) (v : Option ℤ) → Paired u q → Admits (ranges.up_to q.most) v → ReadsAs q (text_of (Decimal v u)) (back q u v)
+pub reads_up : (q : Quantity) (u : Conversion) (v : Option ℤ) → Paired u q → Admits (ranges.up_to q.most) v → ReadsAs q (text_of (Decimal v u)) (back q u v)
 reads_up q u None p h = reads_nothing q
 reads_up q u (Some (pos n)) p h = reads_unsigned q u n p (omega (arith, ints, h.1))
 reads_up q u (Some (negsuc n)) p h = absurd (omega (arith, ints, h.0))
@@ -171,7 +167,7 @@ hdt_of : (f : Fields) (a : Option ℤ) → spec.measure f 1 quantity.angle 84 �
 unfolding rows.hdt
 hdt_of f a m = rw m refl
 
-alone_of : (r : Result Reading FieldFault) (x : Reading) → r ≡ Ok x → rows.alone r ≡ Ok (x, None)
+pub alone_of : (r : Result Reading FieldFault) (x : Reading) → r ≡ Ok x → rows.alone r ≡ Ok (x, None)
 alone_of r x e = ap rows.alone e
 
 pub hdt_stable : (talker : List ℕ) (with_ths : Bool) (h : Option ℤ) → IsReadBack talker (codes "HDT") (text.hdt h) → IsStable talker with_ths (sentence_by talker (codes "HDT") (text.hdt h))
@@ -453,7 +449,7 @@ speed_said f at other other_unit other_letter (Some x) in_s e1 e2 e3 e4 c1 c2 =
     subst (λ (v : Option ℤ). ReadsAs quantity.knots bytes v) (exact_up quantity.knots unit.knots (Some x) again.knots (omega arith) in_s) (reads_up quantity.knots unit.knots (Some x) again.knots in_s) in
     either_first f at quantity.knots 78 other other_letter x (measure_of f at quantity.knots 78 (Some x) (number_of f at quantity.knots bytes (Some x) e1 reads_x) e2) c1 c2
 
-counted_in : (f : Fields) (at : ℕ) → at ≤ length f → spec.counted f at ≡ None
+pub counted_in : (f : Fields) (at : ℕ) → at ≤ length f → spec.counted f at ≡ None
 unfolding spec.counted
 counted_in f at le = let h : nat_lt (length f) at ≡ false = le-ltb (length f) at le in rw h refl
 
@@ -642,201 +638,3 @@ true_stable talker with_ths s a in_s b =
     let a' = back_angle a in
     stable_first talker with_ths formatter.Mwv (text.mwv 84 s a) (text.mwv 84 s a') [] (reading.WindTrue s a') b
     (alone_of (rows.mwv (texts (text.mwv 84 s a))) (reading.WindTrue s a') (mwv_read true s a in_s)) refl (same_wind 84 s a)
-
--- ---- positions
-
-below_degrees : (u : Conversion) (q : Quantity) (width : ℕ) (r : ℤ) → Paired u q → printed u q.most / 600000 < 10 ^ width → unsigned_abs r ≤ q.most
-    → unsigned_abs (count u r) / 600000 < 10 ^ width
-below_degrees u q width r p h le =
-    let size = count_size u r in
-    let most : printed u (unsigned_abs r) ≤ printed u q.most =
-    nearest_mono (unsigned_abs r * u.num) (q.most * u.num) u.den p.den (mul-le (unsigned_abs r) u.num q.most u.num le (omega arith)) in
-    omega (arith, size, most, h)
-
-latitude_ends : printed unit.minutes 900000000 / 600000 < 10 ^ 2
-unfolding nearest
-latitude_ends = omega arith
-
-longitude_ends : printed unit.minutes 1800000000 / 600000 < 10 ^ 3
-unfolding nearest
-longitude_ends = omega arith
-
-fix_latitude_ends : printed unit.fix_minutes 900000000000000000 / 600000 < 10 ^ 2
-unfolding nearest
-fix_latitude_ends = omega arith
-
-fix_longitude_ends : printed unit.fix_minutes 1800000000000000000 / 600000 < 10 ^ 3
-unfolding nearest
-fix_longitude_ends = omega arith
-
-same_degrees : (u : Conversion) (q : Quantity) (raw : Option ℤ) (width : ℕ) → Paired u q → text_of (Degrees (back q u raw) u width) ≡ text_of (Degrees raw u width)
-same_degrees u q None width p = refl
-same_degrees u q (Some raw) width p = ap (λ (c : ℤ). degrees_text width (unsigned_abs c)) (again.count_again u q raw p)
-
--- latitude and longitude are both there, or neither is
-abbrev pub Both : Option ℤ → Option ℤ → Type 0
-Both la lo = is_some la ≡ is_some lo
-
-pub both_beside : (la lo : Option ℤ) → Both (beside la lo) (beside lo la)
-both_beside None None = refl
-both_beside None (Some y) = refl
-both_beside (Some x) None = refl
-both_beside (Some x) (Some y) = refl
-
-beside_same : (v other : Option ℤ) → is_some v ≡ is_some other → beside v other ≡ v
-beside_same None other e = rw (← e) refl
-beside_same (Some x) other e = rw (← e) refl
-
-only_if_some : (v : Option ℤ) (b : Bool) → is_some v ≡ b → only_if b v ≡ v
-only_if_some None b e = rw (← e) refl
-only_if_some (Some x) b e = rw (← e) refl
-
--- ---- GLL
-
-gll_of : (f : Fields) (la lo : Option ℤ) (there : Bool) → spec.coordinate f 1 quantity.latitude 4 78 83 ≡ Ok la → spec.coordinate f 3 quantity.longitude 5 69 87 ≡ Ok lo
-    → spec.counted f 5 ≡ None → spec.status f 6 (is_none la && is_none lo) ≡ Ok there
-    → rows.gll f ≡ Ok (reading.Position (only_if there (beside la lo)) (only_if there (beside lo la)))
-unfolding rows.gll
-gll_of f la lo there e1 e2 e3 e4 = rw (e1, e2, e3, e4) refl
-
-abbrev position_said : Option ℤ → Option ℤ → Result Reading FieldFault
-position_said la lo = Ok (reading.Position la lo)
-
-pub gll_stable : (talker : List ℕ) (with_ths : Bool) (la lo : Option ℤ) → Admits ranges.latitude la → Admits ranges.longitude lo → Both la lo
-    → IsReadBack talker (codes "GLL") (text.gll la lo) → IsStable talker with_ths (sentence_by talker (codes "GLL") (text.gll la lo))
-gll_stable talker with_ths la lo in_la in_lo both b =
-    let f = texts (text.gll la lo) in
-    let u = unit.minutes in
-    let la' = back quantity.latitude u la in
-    let lo' = back quantity.longitude u lo in
-    let la_there = again.there_again u quantity.latitude la in
-    let lo_there = again.there_again u quantity.longitude lo in
-    let both' : is_some la' ≡ is_some lo' = la_there ∙ both ∙ sym lo_there in
-    let e1 = coordinate_of f 1 2 quantity.latitude u la 78 83 again.latitude (no_more_either 900000000 la in_la) refl (λ r le. below_degrees u quantity.latitude 2 r again.latitude latitude_ends le) refl refl refl in
-    let e2 = coordinate_of f 3 3 quantity.longitude u lo 69 87 again.longitude (no_more_either 1800000000 lo in_lo) refl (λ r le. below_degrees u quantity.longitude 3 r again.longitude longitude_ends le) refl refl refl in
-    let x1 : only_if (is_some la) (beside la' lo') ≡ la' = ap (only_if (is_some la)) (beside_same la' lo' both') ∙ only_if_some la' (is_some la) la_there in
-    let x2 : only_if (is_some la) (beside lo' la') ≡ lo' = ap (only_if (is_some la)) (beside_same lo' la' (sym both')) ∙ only_if_some lo' (is_some la) (lo_there ∙ sym both) in
-    let is : rows.gll f ≡ position_said la' lo' =
-    gll_of f la' lo' (is_some la) e1 e2 (counted_in f 5 (omega arith)) (status_of f 6 (is_none la' && is_none lo') (is_some la) refl)
-    ∙ ap (λ (x : Option ℤ). position_said x (only_if (is_some la) (beside lo' la'))) x1 ∙ ap (position_said la') x2 in
-    let same : texts (text.gll (beside la' lo') (beside lo' la')) ≡ texts (text.gll la lo) =
-    let y1 = beside_same la' lo' both' in
-    let y2 = beside_same lo' la' (sym both') in
-    let s1 = same_degrees u quantity.latitude la 2 again.latitude in
-    let s2 = same_side u quantity.latitude la 78 83 again.latitude in
-    let s3 = same_degrees u quantity.longitude lo 3 again.longitude in
-    let s4 = same_side u quantity.longitude lo 69 87 again.longitude in
-    let s5 : letter_where (is_some la') 65 86 ≡ letter_where (is_some la) 65 86 = ap (λ (t : Bool). letter_where t 65 86) la_there in
-    let s6 : letter_where (is_some la') 65 78 ≡ letter_where (is_some la) 65 78 = ap (λ (t : Bool). letter_where t 65 78) la_there in
-    ap (λ (x : Option ℤ). texts (text.gll x (beside lo' la'))) y1 ∙ ap (λ (x : Option ℤ). texts (text.gll la' x)) y2 ∙ (cc) in
-    stable_first talker with_ths formatter.Gll (text.gll la lo) (text.gll (beside la' lo') (beside lo' la')) [] (reading.Position la' lo') b (alone_of (rows.gll f) (reading.Position la' lo') is) refl same
-
--- ---- GGA
-
-gga_of : (f : Fields) (t la lo : Option ℤ) (m : ℕ) (n h al s : Option ℤ) → spec.time f 1 ≡ Ok t → spec.coordinate f 2 quantity.fix_latitude 4 78 83 ≡ Ok la
-    → spec.coordinate f 4 quantity.fix_longitude 5 69 87 ≡ Ok lo → spec.quality f 6 ≡ Ok m → spec.satellites f 7 ≡ Ok n → spec.number f 8 quantity.dilution ≡ Ok h
-    → spec.measure f 9 quantity.altitude_metres 77 ≡ Ok al → spec.measure f 11 quantity.separation_metres 77 ≡ Ok s
-    → rows.gga f ≡ Ok (reading.Gnss None t (beside la lo) (beside lo la) al m n h s)
-unfolding rows.gga
-gga_of f t la lo m n h al s e1 e2 e3 e4 e5 e6 e7 e8 = rw (e1, e2, e3, e4, e5, e6, e7, e8) refl
-
-abbrev method_there : Bool → ℕ → ℕ
-method_there there m = if there then m else 0
-
-method_letter : (there : Bool) (m : ℕ) → letter_where there (48 + m) 48 ≡ 48 + method_there there m
-method_letter true m = refl
-method_letter false m = refl
-
-method_small : (there : Bool) (m : ℕ) → m ≤ 8 → method_there there m ≤ 8
-method_small true m le = le
-method_small false m le = omega arith
-
-same_method : (there : Bool) (m : ℕ) → letter_where there (48 + method_there there m) 48 ≡ letter_where there (48 + m) 48
-same_method true m = refl
-same_method false m = refl
-
-abbrev some_letter : ℕ → Option (List ℕ)
-some_letter c = Some (c ∷ [])
-
-abbrev fix_said : ℕ → Option ℤ → Option ℤ → Option ℤ → Option ℤ → Option ℤ → Option ℤ → Option ℤ → Result Reading FieldFault
-fix_said m t la lo al n h s = Ok (reading.Gnss None t la lo al m n h s)
-
-time_no_more : (t : Option ℤ) → Admits ranges.time t → IsNoMore 863999999 t
-time_no_more t h = no_more_up 863999999 t h
-
-pub gga_stable : (talker : List ℕ) (with_ths : Bool) (t la lo al : Option ℤ) (m : ℕ) (n h s : Option ℤ) → Admits ranges.time t → Admits ranges.fix_latitude la → Admits ranges.fix_longitude lo
-    → Admits ranges.altitude al → m ≤ 8 → Admits ranges.satellites n → Admits ranges.hdop h → Admits ranges.separation s → Both la lo
-    → IsReadBack talker (codes "GGA") (text.gga t la lo al m n h s) → IsStable talker with_ths (sentence_by talker (codes "GGA") (text.gga t la lo al m n h s))
-gga_stable talker with_ths t la lo al m n h s in_t in_la in_lo in_al in_m in_n in_h in_s both b =
-    let f = texts (text.gga t la lo al m n h s) in
-    let u = unit.fix_minutes in
-    let t' = back_time t in
-    let la' = back quantity.fix_latitude u la in
-    let lo' = back quantity.fix_longitude u lo in
-    let m' = method_there (is_some la) m in
-    let n' = back_count n in
-    let h' = back quantity.dilution unit.dilution h in
-    let al' = back quantity.altitude_metres unit.altitude_metres al in
-    let s' = back quantity.separation_metres unit.separation_metres s in
-    let la_there = again.there_again u quantity.fix_latitude la in
-    let lo_there = again.there_again u quantity.fix_longitude lo in
-    let both' : is_some la' ≡ is_some lo' = la_there ∙ both ∙ sym lo_there in
-    let y1 = beside_same la' lo' both' in
-    let y2 = beside_same lo' la' (sym both') in
-    let e1 = time_said f 1 t (time_no_more t in_t) refl in
-    let e2 = coordinate_of f 2 2 quantity.fix_latitude u la 78 83 again.fix_latitude (no_more_either 900000000000000000 la in_la) refl (λ r le. below_degrees u quantity.fix_latitude 2 r again.fix_latitude fix_latitude_ends le) refl refl refl in
-    let e3 = coordinate_of f 4 3 quantity.fix_longitude u lo 69 87 again.fix_longitude (no_more_either 1800000000000000000 lo in_lo) refl (λ r le. below_degrees u quantity.fix_longitude 3 r again.fix_longitude fix_longitude_ends le) refl refl refl in
-    let letter : spec.field_at f 6 ≡ Some ((48 + m') ∷ []) = ap (λ (c : ℕ). some_letter c) (method_letter (is_some la) m) in
-    let e4 = quality_of f 6 m' (method_small (is_some la) m in_m) letter in
-    let e5 = satellites_of f 7 n (no_more_up 252 n in_n) refl in
-    let e6 = number_of f 8 quantity.dilution (text_of (Decimal h unit.dilution)) h' refl (reads_up quantity.dilution unit.dilution h again.dilution in_h) in
-    let e7 = measure_of f 9 quantity.altitude_metres 77 al' (number_of f 9 quantity.altitude_metres (text_of (Decimal al unit.altitude_metres)) al' refl (reads_decimal quantity.altitude_metres unit.altitude_metres al again.altitude_metres refl (no_more_either 9999900000 al in_al))) refl in
-    let e8 = measure_of f 11 quantity.separation_metres 77 s' (number_of f 11 quantity.separation_metres (text_of (Decimal s unit.separation_metres)) s' refl (reads_decimal quantity.separation_metres unit.separation_metres s again.separation_metres refl (no_more_either 99990 s in_s))) refl in
-    let is : rows.gga f ≡ fix_said m' t' la' lo' al' n' h' s' =
-    gga_of f t' la' lo' m' n' h' al' s' e1 e2 e3 e4 e5 e6 e7 e8 ∙ ap (λ (x : Option ℤ). fix_said m' t' x (beside lo' la') al' n' h' s') y1 ∙ ap (λ (x : Option ℤ). fix_said m' t' la' x al' n' h' s') y2 in
-    let same : texts (text.gga t' (beside la' lo') (beside lo' la') al' m' n' h' s') ≡ texts (text.gga t la lo al m n h s) =
-    let s0 = same_time t in
-    let s1 = same_degrees u quantity.fix_latitude la 2 again.fix_latitude in
-    let s2 = same_side u quantity.fix_latitude la 78 83 again.fix_latitude in
-    let s3 = same_degrees u quantity.fix_longitude lo 3 again.fix_longitude in
-    let s4 = same_side u quantity.fix_longitude lo 69 87 again.fix_longitude in
-    let s5 : letter_where (is_some la') (48 + m') 48 ≡ letter_where (is_some la) (48 + m) 48 = ap (λ (x : Bool). letter_where x (48 + m') 48) la_there ∙ same_method (is_some la) m in
-    let s6 = same_count n in
-    let s7 = same_decimal unit.dilution quantity.dilution h again.dilution in
-    let s8 = same_decimal unit.altitude_metres quantity.altitude_metres al again.altitude_metres in
-    let s9 = same_decimal unit.separation_metres quantity.separation_metres s again.separation_metres in
-    ap (λ (x : Option ℤ). texts (text.gga t' x (beside lo' la') al' m' n' h' s')) y1 ∙ ap (λ (x : Option ℤ). texts (text.gga t' la' x al' m' n' h' s')) y2 ∙ (cc) in
-    stable_first talker with_ths formatter.Gga (text.gga t la lo al m n h s) (text.gga t' (beside la' lo') (beside lo' la') al' m' n' h' s') [] (reading.Gnss None t' la' lo' al' m' n' h' s') b
-    (alone_of (rows.gga f) (reading.Gnss None t' la' lo' al' m' n' h' s') is) refl same
-
--- ---- ZDA
-
-zda_of : (f : Fields) (t d : Option ℤ) → spec.time f 1 ≡ Ok t → spec.date f 2 ≡ Ok d → rows.zda f ≡ Ok (reading.Time d t)
-unfolding rows.zda
-zda_of f t d e1 e2 = rw (e1, e2) refl
-
-same_zda : (t : Option ℤ) (d : Option Date) → texts (text.zda (back_time t) d) ≡ texts (text.zda t d)
-same_zda t None = let s = same_time t in cc
-same_zda t (Some d) = let s = same_time t in cc
-
-pub zda_stable : (talker : List ℕ) (with_ths : Bool) (t : Option ℤ) (d : Date) (day : ℤ) → Admits ranges.time t → epoch_day d ≡ day → Holds ranges.date day
-    → IsReadBack talker (codes "ZDA") (text.zda t (Some d)) → IsStable talker with_ths (sentence_by talker (codes "ZDA") (text.zda t (Some d)))
-zda_stable talker with_ths t d day in_t on in_day b =
-    let f = texts (text.zda t (Some d)) in
-    let t' = back_time t in
-    let e1 = time_said f 1 t (time_no_more t in_t) refl in
-    let e2 = date_said f 2 d day on in_day refl refl refl in
-    let lines = lines_by talker ((codes "ZDA", text.zda t' (Some d)) ∷ []) in
-    stable_at talker with_ths formatter.Zda (text.zda t (Some d)) (reading.Time (Some day) t') lines b (alone_of (rows.zda f) (reading.Time (Some day) t') (zda_of f t' (Some day) e1 e2))
-    (d, on, refl) (0, omega arith, same_sentence talker (codes "ZDA") (text.zda t' (Some d)) (text.zda t (Some d)) (same_zda t (Some d)))
-
-pub no_zda_stable : (talker : List ℕ) (with_ths : Bool) (t : Option ℤ) → Admits ranges.time t → IsReadBack talker (codes "ZDA") (text.zda t None)
-    → IsStable talker with_ths (sentence_by talker (codes "ZDA") (text.zda t None))
-no_zda_stable talker with_ths t in_t b =
-    let f = texts (text.zda t None) in
-    let t' = back_time t in
-    let e1 = time_said f 1 t (time_no_more t in_t) refl in
-    let e2 = no_date_said f 2 refl refl refl in
-    let lines = lines_by talker ((codes "ZDA", text.zda t' None) ∷ []) in
-    stable_at talker with_ths formatter.Zda (text.zda t None) (reading.Time None t') lines b (alone_of (rows.zda f) (reading.Time None t') (zda_of f t' None e1 e2)) refl
-    (0, omega arith, same_sentence talker (codes "ZDA") (text.zda t' None) (text.zda t None) (same_zda t None))
