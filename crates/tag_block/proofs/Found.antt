@@ -57,7 +57,7 @@ within bytes place c e = elim (cases_lt place (length bytes)) [
   | inr le ↦ absurd (omega (arith, get_or_past bytes place 0 le, e))
 ]
 
-split_at_byte : (bytes : List ℕ) (place c : ℕ) → slice_index bytes place ≡ suc c → bytes ≡ take place bytes ++ suc c ∷ drop (place + 1) bytes
+pub split_at_byte : (bytes : List ℕ) (place c : ℕ) → slice_index bytes place ≡ suc c → bytes ≡ take place bytes ++ suc c ∷ drop (place + 1) bytes
 split_at_byte bytes place c e =
     let here = drop-cons bytes place 0 (within bytes place c e) in
     sym (take-append-drop place bytes) ∙ ap (λ (x : List ℕ). take place bytes ++ x) (here ∙ ap (λ (b : ℕ). b ∷ drop (suc place) bytes) e ∙ ap (λ (n : ℕ). suc c ∷ drop n bytes) (sym (add-one place)))

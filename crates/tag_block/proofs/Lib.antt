@@ -1,3 +1,5 @@
+pub mod Run
+pub mod Sum
 pub mod Loops
 pub mod Found
 pub mod Settling

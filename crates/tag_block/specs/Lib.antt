@@ -2,6 +2,7 @@ pub mod Bytes
 pub mod Numbers
 pub mod Tag
 pub mod Reading
+pub mod Sums
 pub mod Writing
 pub mod Groups
 pub mod GroupAnswers

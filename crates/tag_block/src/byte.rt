@@ -1,6 +1,6 @@
-ghost use Rattle.std.specs.Prelude.{◌≡◌, ◌≤◌, length, slice_index};
+ghost use Rattle.std.specs.Prelude.{◌≡◌, ◌≤◌, length, take, slice_index, bit_xor};
 ghost use Rattle.std.specs.Char.{digit_value};
-ghost use Rattle.std.specs.List.{list_all, prefix_len};
+ghost use Rattle.std.specs.List.{fold, list_all, prefix_len};
 ghost use Rattle.sentence_text.specs.Text as text;
 ghost use Rattle.tag_block.specs.Bytes as bytes;
 ghost use Rattle.tag_block.specs.Tag.{xor_of};
@@ -29,20 +29,38 @@ pub(crate) fn all_digits(digits: &[u8]) -> bool
     digits.iter().all(|byte| is_digit(*byte))
 }
 
-/// How many bytes of a code come first.
-pub(crate) fn code_run(text: &[u8]) -> usize
-    ensures run { result ≡ prefix_len bytes.is_code_byte text.now }
-    ensures within { result ≤ length text.now }
+/// How many bytes of a code come first, and the exclusive or of the sum before and these bytes.
+#[tactic(auto, using(crate::proofs::Run::run_starts, crate::proofs::Run::run_goes_on, crate::proofs::Run::run_stops, crate::proofs::Run::run_ends))]
+pub(crate) fn code_run(text: &[u8], before: u8) -> (usize, u8)
+    ensures run { result.0 ≡ prefix_len bytes.is_code_byte text.now }
+    ensures within { result.0 ≤ length text.now }
+    ensures sum { result.1 ≡ fold bit_xor before (take result.0 text.now) }
 {
-    text.iter().take_while(|byte| is_code_byte(**byte)).count()
+    let mut sum = before;
+    for (count, byte) in text.iter().enumerate() {
+        if !is_code_byte(*byte) {
+            return (count, sum);
+        }
+        sum ^= *byte;
+    }
+    (text.len(), sum)
 }
 
-/// How many bytes of a value come first.
-pub(crate) fn value_run(text: &[u8]) -> usize
-    ensures run { result ≡ prefix_len bytes.is_value_byte text.now }
-    ensures within { result ≤ length text.now }
+/// How many bytes of a value come first, and the exclusive or of the sum before and these bytes.
+#[tactic(auto, using(crate::proofs::Run::run_starts, crate::proofs::Run::run_goes_on, crate::proofs::Run::run_stops, crate::proofs::Run::run_ends))]
+pub(crate) fn value_run(text: &[u8], before: u8) -> (usize, u8)
+    ensures run { result.0 ≡ prefix_len bytes.is_value_byte text.now }
+    ensures within { result.0 ≤ length text.now }
+    ensures sum { result.1 ≡ fold bit_xor before (take result.0 text.now) }
 {
-    text.iter().take_while(|byte| is_value_byte(**byte)).count()
+    let mut sum = before;
+    for (count, byte) in text.iter().enumerate() {
+        if !is_value_byte(*byte) {
+            return (count, sum);
+        }
+        sum ^= *byte;
+    }
+    (text.len(), sum)
 }
 
 /// The byte at a place; 0, which stands nowhere in a block, past the end.

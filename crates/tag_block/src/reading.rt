@@ -1,24 +1,27 @@
-ghost use Rattle.std.specs.Prelude.{◌≡◌, ℕ, List, Ok, ◌++◌, ◌+◌, ◌-◌, ◌<◌, ◌≤◌, length, option_map, IfOk};
-ghost use Rattle.tag_block.specs.Tag.{Said, IsTag, BeginsNoBlock, Fronts};
+ghost use Rattle.std.specs.Prelude.{◌≡◌, ℕ, List, Ok, ◌++◌, ◌+◌, ◌-◌, ◌<◌, ◌≤◌, length, option_map, IfOk, bit_xor};
+ghost use Rattle.std.specs.List.{fold};
+ghost use Rattle.tag_block.specs.Tag.{Said, IsTag, BeginsNoBlock, Fronts, xor_of};
+ghost use Rattle.tag_block.specs.Sums.{passed, seen_content};
 ghost use Rattle.tag_block.specs.Reading as spec;
 
-use crate::byte::{byte_at, code_run, value_of, value_run, xor};
+use crate::byte::{byte_at, code_run, value_of, value_run};
 use crate::fault::{TagFault, TagRule};
 use crate::group_part::GroupPart;
 use crate::number::{group, number};
 use crate::tag::Tag;
-use crate::values::{Scan, Value, Values, keep};
+use crate::values::{Content, Scan, Value, Values, keep};
 use sentence_text::Sfi;
 
-/// One parameter.
-#[tactic(auto, unfolding(crate::specs::Reading::parameter_at))]
-fn parameter<'a>(total: usize, scan: Scan<'a>) -> Result<Scan<'a>, TagFault>
-    requires { length scan.rest.now ≤ total }
-    ensures reads { spec.seen_scan result ≡ spec.parameter_at total (spec.scan scan.entry) }
-    ensures shorter { IfOk result (λ s. length s.rest.now < length scan.entry.rest.now) }
+/// One parameter, whose bytes the sum takes in.
+#[tactic(auto, using(crate::proofs::Sum::parameter_sum), unfolding(crate::specs::Reading::parameter_at))]
+fn parameter<'a>(total: usize, content: Content<'a>) -> Result<Content<'a>, TagFault>
+    requires { length content.scan.rest.now ≤ total }
+    ensures reads { seen_content result ≡ spec.parameter_at total (spec.scan content.entry.scan) }
+    ensures shorter { IfOk result (λ c. length c.scan.rest.now < length content.entry.scan.rest.now) }
+    ensures sum { IfOk result (λ c. c.sum ≡ fold bit_xor content.entry.sum (passed content.entry.scan.rest.now c.scan.rest.now)) }
 {
-    let rest = scan.rest;
-    let code = code_run(rest);
+    let rest = content.scan.rest;
+    let (code, sum) = code_run(rest, content.sum);
     if code == 0 {
         return Err(TagRule::Form.at(total - rest.len()));
     }
@@ -26,35 +29,41 @@ fn parameter<'a>(total: usize, scan: Scan<'a>) -> Result<Scan<'a>, TagFault>
         return Err(TagRule::Form.at(total - rest.len() + code));
     }
     let (code, text) = (rest.split_at(code).0, rest.split_at(code + 1).1);
-    let (value, rest) = text.split_at(value_run(text));
+    let (length, sum) = value_run(text, sum ^ b':');
+    let (value, rest) = text.split_at(length);
     let value = Value {
         place: total - text.len(),
         text: value,
     };
-    Ok(Scan {
-        values: keep(scan.values, code, value),
+    let scan = Scan {
+        values: keep(content.scan.values, code, value),
         rest,
-    })
+    };
+    Ok(Content { scan, sum })
 }
 
-/// Parameters with commas between them.
-fn parameters<'a>(total: usize, scan: Scan<'a>) -> Result<Scan<'a>, TagFault>
+/// Parameters with commas between them, and the sum of all their bytes.
+fn parameters<'a>(total: usize, scan: Scan<'a>) -> Result<Content<'a>, TagFault>
     requires { length scan.rest.now ≤ total }
-    ensures reads { spec.seen_scan result ≡ spec.parameters_at (length scan.entry.rest.now + 1) total (spec.scan scan.entry) }
-    ensures shorter { IfOk result (λ s. length s.rest.now ≤ length scan.entry.rest.now) }
+    ensures reads { seen_content result ≡ spec.parameters_at (length scan.entry.rest.now + 1) total (spec.scan scan.entry) }
+    ensures shorter { IfOk result (λ c. length c.scan.rest.now ≤ length scan.entry.rest.now) }
+    ensures sum { IfOk result (λ c. c.sum ≡ xor_of (passed scan.entry.rest.now c.scan.rest.now)) }
 {
-    let mut scan = scan;
+    let mut content = Content { scan, sum: 0 };
     loop {
-        let next = match parameter(total, scan) {
+        let next = match parameter(total, content) {
             Ok(next) => next,
             Err(fault) => return Err(fault),
         };
-        if byte_at(next.rest, 0) != b',' {
+        if byte_at(next.scan.rest, 0) != b',' {
             return Ok(next);
         }
-        scan = Scan {
-            values: next.values,
-            rest: next.rest.split_at(1).1,
+        content = Content {
+            scan: Scan {
+                values: next.scan.values,
+                rest: next.scan.rest.split_at(1).1,
+            },
+            sum: next.sum ^ b',',
         };
     }
 }
@@ -98,12 +107,10 @@ fn block<'a>(total: usize, scan: Scan<'a>) -> Result<Scan<'a>, TagFault>
     ensures reads { spec.seen_scan result ≡ spec.block_at total (spec.scan scan.entry) }
     ensures shorter { IfOk result (λ s. length s.rest.now < length scan.entry.rest.now) }
 {
-    let behind = match parameters(total, scan) {
-        Ok(behind) => behind,
-        Err(fault) => return Err(fault),
-    };
-    let content = scan.rest.split_at(scan.rest.len() - behind.rest.len()).0;
-    block_end(total, xor(content), behind)
+    match parameters(total, scan) {
+        Ok(content) => block_end(total, content.sum, content.scan),
+        Err(fault) => Err(fault),
+    }
 }
 
 /// Blocks while the next byte is `\`.

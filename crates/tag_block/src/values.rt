@@ -24,6 +24,13 @@ pub(crate) struct Scan<'a> {
     pub(crate) rest: &'a [u8],
 }
 
+/// What was read of a block's content, and the exclusive or of the bytes between the block's first `\` and the rest.
+#[derive(Clone, Copy)]
+pub(crate) struct Content<'a> {
+    pub(crate) scan: Scan<'a>,
+    pub(crate) sum: u8,
+}
+
 /// The values once a parameter more has come.
 pub(crate) fn keep<'a>(values: Values<'a>, code: &[u8], value: Value<'a>) -> Values<'a>
     ensures { spec.placed_values result ≡ spec.keep (spec.placed_values values.entry) code.now (spec.placed value.entry) }
