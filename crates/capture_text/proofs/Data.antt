@@ -1,62 +1,79 @@
 -- Bytes in hexadecimal digits, up to the end of the line or a space.
-use Rattle.std.proofs.Common.{◌≡◌, ℕ, true, false, cond, leb, ◌&&◌, List, [], ◌∷◌, ◌++◌, length, take, drop, Option, Some, None, Ok, refl, sym, ap, ◌∙◌, arith}
+use Rattle.std.proofs.Common.{◌≡◌, ℕ, ◌+◌, ◌≤◌, true, false, cond, leb, List, [], ◌∷◌, ◌++◌, length, take, drop, Option, Some, None, Ok, refl, sym, ap, ◌∙◌, one-add, arith, inl, inr}
 use Rattle.std.specs.Prelude.{◌==◌, ◌||◌, option_map}
 use Rattle.std.specs.Char.{is_ascii_hexdigit}
 use Rattle.std.specs.List.{prefix_len, list_all}
 use Rattle.std.specs.Result.{result_ok}
 use Rattle.std.specs.Int.{w32, from_be_bytes}
-use Rattle.std.proofs.lemmas.Bool.{and_parts, eqb-true, leb-true, le-leb}
+use Rattle.std.proofs.lemmas.Bool.{cases_Bool, and_parts, eqb-true, leb-true, le-leb}
 use Rattle.std.proofs.lemmas.List.{take-append-drop}
 use Rattle.std.proofs.lemmas.List.Folds.{length-prefix_len}
-use Rattle.std.proofs.lemmas.List.Sums.{list_all-from_AllPass}
+use Rattle.std.proofs.lemmas.List.Sums.{list_all-from_AllPass, prefix_len-le-length}
 use Rattle.hex.specs.Hex.{decode_of, is_hex_digit}
 use Rattle.hex.proofs.HexLemmas.{decode_of-ok}
 use Rattle.sentence_text.proofs.Bytes.{splits, all_weaker}
 use Rattle.capture_text.specs.Capture.{is_end, IsData, IsNumber}
-use Rattle.capture_text.specs.Reading.{data_at, number_of, is_other_kind}
+use Rattle.capture_text.specs.Reading.{is_no_space, up_to_space, data_at, number_of, is_other_kind}
 use Rattle.capture_text.proofs.Cuts.{if_some, some_is, result_some}
 
 digit_of_hex : (c : ℕ) → is_hex_digit c ≡ true → is_ascii_hexdigit c ≡ true
 digit_of_hex c h = grind arith
 
+pub hex_of_digit : (c : ℕ) → is_ascii_hexdigit c ≡ true → is_hex_digit c ≡ true
+hex_of_digit c h = grind arith
+
 pub written_digits : (digits bytes : List ℕ) → decode_of digits ≡ Ok bytes → list_all is_ascii_hexdigit digits ≡ true
 written_digits digits bytes e = all_weaker is_hex_digit is_ascii_hexdigit digit_of_hex digits (list_all-from_AllPass is_hex_digit digits (decode_of-ok digits bytes e).1)
 
-pub end_stops : (rest : List ℕ) → is_end rest ≡ true → prefix_len is_ascii_hexdigit rest ≡ 0
+-- a digit is no space
+pub no_space : (c : ℕ) → is_ascii_hexdigit c ≡ true → is_no_space c ≡ true
+no_space c h = grind arith
+
+pub end_stops : (rest : List ℕ) → is_end rest ≡ true → prefix_len is_no_space rest ≡ 0
 end_stops [] h = refl
 end_stops (c ∷ cs) h = rw (eqb-true c 32 h) refl
+
+-- what follows the bytes before the first space
+pub up_to_end : (text : List ℕ) → is_end (drop (prefix_len is_no_space text) text) ≡ true
+up_to_end [] = refl
+up_to_end (c ∷ cs) = elim (cases_Bool (c == 32)) [
+  | inl e ↦ rw e e
+  | inr e ↦
+      let len : prefix_len is_no_space (c ∷ cs) ≡ 1 + prefix_len is_no_space cs = rw e refl in
+      ap (λ (n : ℕ). is_end (drop n (c ∷ cs))) (len ∙ one-add (prefix_len is_no_space cs)) ∙ up_to_end cs
+]
+
+pub up_to_space_len : (text : List ℕ) → length (up_to_space text) ≤ length text
+up_to_space_len text = omega (arith, length-prefix_len is_no_space text, prefix_len-le-length is_no_space text)
+
+-- digits that are written are what stands before the first space
+pub digits_again : (digits rest bytes : List ℕ) → decode_of digits ≡ Ok bytes → is_end rest ≡ true → up_to_space (digits ++ rest) ≡ digits
+digits_again digits rest bytes written ends =
+    (splits is_no_space digits rest (all_weaker is_ascii_hexdigit is_no_space no_space digits (written_digits digits bytes written)) (end_stops rest ends)).front_is
 
 pub data_found : (behind held : List ℕ) → data_at behind ≡ Some held → IsData held behind
 unfolding data_at
 data_found behind held e =
-    let n = prefix_len is_ascii_hexdigit behind in
-    let made = if_some (leb n 16 && is_end (drop n behind)) (result_ok (decode_of (take n behind))) held e in
-    let h = and_parts (leb n 16) (is_end (drop n behind)) made.0 in
+    let digits = up_to_space behind in
+    let made = if_some (leb (length digits) 16) (result_ok (decode_of digits)) held e in
     record {
-      digits = take n behind;
-      rest = drop n behind;
-      spelled = sym (take-append-drop n behind);
-      few = omega (arith, length-prefix_len is_ascii_hexdigit behind, leb-true n 16 h.0);
-      written = result_some (decode_of (take n behind)) held made.1;
-      ends = h.1;
+      digits = digits;
+      rest = drop (prefix_len is_no_space behind) behind;
+      spelled = sym (take-append-drop (prefix_len is_no_space behind) behind);
+      few = leb-true (length digits) 16 made.0;
+      written = result_some (decode_of digits) held made.1;
+      ends = up_to_end behind;
     }
 
-abbrev data_by : ℕ → List ℕ → List ℕ → Option (List ℕ)
-data_by n digits rest = cond (leb n 16 && is_end rest) (result_ok (decode_of digits)) None
+abbrev data_by : List ℕ → Option (List ℕ)
+data_by digits = cond (leb (length digits) 16) (result_ok (decode_of digits)) None
 
 pub data_again : (behind held : List ℕ) → IsData held behind → data_at behind ≡ Some held
 unfolding data_at
 data_again behind held h =
-    let text = h.digits ++ h.rest in
-    let s = splits is_ascii_hexdigit h.digits h.rest (written_digits h.digits held h.written) (end_stops h.rest h.ends) in
     let few : leb (length h.digits) 16 ≡ true = le-leb (length h.digits) 16 h.few in
-    let ends : is_end h.rest ≡ true = h.ends in
     let written : decode_of h.digits ≡ Ok held = h.written in
-    ap data_at h.spelled
-    ∙ ap (λ (x : List ℕ). data_by (prefix_len is_ascii_hexdigit text) (take (prefix_len is_ascii_hexdigit text) text) x) s.tail_is
-    ∙ ap (λ (x : List ℕ). data_by (prefix_len is_ascii_hexdigit text) x h.rest) s.front_is
-    ∙ ap (λ (x : ℕ). data_by x h.digits h.rest) s.run
-    ∙ rw (few, ends, written) refl
+    ap data_at h.spelled ∙ ap data_by (digits_again h.digits h.rest held h.written h.ends) ∙ rw (few, written) refl
 
 -- data don't begin as another kind of frame
 plain_digit : (c : ℕ) → is_ascii_hexdigit c ≡ true → (c == 82 || c == 35) ≡ false

@@ -1,18 +1,23 @@
 -- What follows the interface of a bus: what is read is spelled so, and what is spelled so is read.
-use Rattle.std.proofs.Common.{◌≡◌, ℕ, ◌+◌, ◌<◌, ◌^◌, true, false, cond, ltb, ◌&&◌, List, [], ◌∷◌, ◌++◌, length, get_or, take, drop, Option, Some, None, Result, Ok, Err, refl, sym, ap, subst, ◌∙◌, inl, inr}
-use Rattle.std.specs.Prelude.{◌==◌, ◌||◌, ◌⊎◌}
+use Rattle.std.proofs.Common.{◌≡◌, ℕ, suc, ◌%◌, ◌<◌, ◌^◌, Bool, true, false, cond, ltb, List, [], ◌∷◌, ◌++◌, length, get_or, take, drop, Option, Some, None, Result, Ok, Err, refl, sym, ap, subst, ◌∙◌, arith, inl, inr}
+use Rattle.std.specs.Prelude.{◌==◌, ◌||◌, ◌⊎◌, is_some}
 use Rattle.std.specs.Char.{is_ascii_hexdigit}
-use Rattle.std.specs.List.{prefix_len, list_all}
-use Rattle.std.proofs.lemmas.Bool.{cases_Bool, and_parts, or_left, or_right, eqb-true, eqb-false, eq-eqb, ltb-true, ltb-false, lt-ltb, le-ltb}
-use Rattle.std.proofs.lemmas.List.Folds.{length-prefix_len}
-use Rattle.sentence_text.proofs.Bytes.{front_passes, splits}
+use Rattle.std.specs.Int.{w32, from_be_bytes}
+use Rattle.std.specs.List.{list_all}
+use Rattle.std.proofs.lemmas.Bool.{cases_Bool, or_left, or_right, eqb-true, eq-eqb, ltb-true, ltb-false, lt-ltb, le-ltb}
+use Rattle.std.proofs.lemmas.List.{length-take, get_or_append_left}
+use Rattle.std.proofs.lemmas.List.Elements.{All-get_or}
+use Rattle.std.proofs.lemmas.List.Sums.{AllPass-from_list_all}
+use Rattle.hex.specs.Hex.{is_hex_digit}
+use Rattle.hex.proofs.HexLemmas.{decode_of-digits}
+use Rattle.sentence_text.proofs.Bytes.{all_weaker}
 use Rattle.n2k_id.specs.Frame.{BusFrame}
 use Rattle.capture_text.specs.declared.event.LineRule.{LineRule}
 use Rattle.capture_text.specs.declared.event.LineRule.TheVariants.{Form, NotExtended, Long}
 use Rattle.capture_text.specs.Capture.{IsData, IsNumber, IsShort, IsWide, IsOtherKind, IsOtherFrame}
-use Rattle.capture_text.specs.Reading.{data_at, number_of, is_other_kind, frame_with, frame_of, frame_at}
-use Rattle.capture_text.proofs.Cuts.{cut_by_test, cut_at}
-use Rattle.capture_text.proofs.Data.{data_found, data_again, data_plain, number_found, number_again}
+use Rattle.capture_text.specs.Reading.{data_at, number_of, is_other_kind, short_frame, frame_with, wide_frame, frame_at}
+use Rattle.capture_text.proofs.Cuts.{within, cut_by_test, cut_at}
+use Rattle.capture_text.proofs.Data.{hex_of_digit, written_digits, data_found, data_again, data_plain, number_found, number_again}
 
 abbrev Answer : Type 0
 Answer = Result BusFrame LineRule
@@ -26,79 +31,97 @@ refused r = Err r
 given_is : (f g : BusFrame) → given f ≡ given g → f ≡ g
 given_is f g e = cc
 
--- an identifier of three or eight digits, `#` and what follows it
+-- an identifier of hexadecimal digits, `#` and what follows it
 pub record Layout (tail identifier behind : List ℕ) : Type 0 where
   pub spelled : tail ≡ 32 ∷ (identifier ++ 35 ∷ behind)
   pub digits : list_all is_ascii_hexdigit identifier ≡ true
-  pub len : (length identifier ≡ 3) ⊎ (length identifier ≡ 8)
 
-abbrev frame_by : List ℕ → List ℕ → Answer
-frame_by identifier behind = cond (is_other_kind behind) (refused NotExtended) (frame_of identifier (data_at behind))
+-- the identifier has three digits, or eight that write a number, or there is none
+data FrameKind (tail : List ℕ) : Type 0 where
+  short : (identifier behind : List ℕ) → Layout tail identifier behind → length identifier ≡ 3 → frame_at tail ≡ short_frame true behind → FrameKind tail
+  wide : (identifier behind : List ℕ) (id : ℕ) → Layout tail identifier behind → IsNumber id identifier → frame_at tail ≡ wide_frame (Some id) behind → FrameKind tail
+  formless : frame_at tail ≡ Err Form → FrameKind tail
 
--- the tail has this layout and gives this, or it gives Form
-pub record LaidOut (tail : List ℕ) : Type 0 where
-  pub identifier : List ℕ
-  pub behind : List ℕ
-  pub layout : Layout tail identifier behind
-  pub gives : frame_at tail ≡ frame_by identifier behind
+front_len : (text : List ℕ) (n c : ℕ) → get_or text n 0 ≡ suc c → length (take n text) ≡ n
+front_len text n c e = omega (arith, length-take n text, within text n c e)
 
-pub laid_out : (tail : List ℕ) → LaidOut tail ⊎ (frame_at tail ≡ Err Form)
+frame_kind : (tail : List ℕ) → FrameKind tail
 unfolding frame_at
-laid_out tail =
+frame_kind tail =
     let digits = drop 1 tail in
-    let n = prefix_len is_ascii_hexdigit digits in
-    let behind = drop (n + 1) digits in
-    let p0 = get_or tail 0 0 == 32 in
-    let p1 = n == 3 || n == 8 in
-    let p2 = get_or digits n 0 == 35 in
-    elim (cases_Bool (p0 && p1 && p2)) [
+    elim (cases_Bool (get_or tail 0 0 == 32)) [
+      | inr e ↦ formless (rw e refl)
       | inl e ↦
-          let h2 = and_parts (p0 && p1) p2 e in
-          let h1 = and_parts p0 p1 h2.0 in
-          let a : tail ≡ 32 ∷ digits = cut_by_test tail 0 31 h1.0 in
-          let b : digits ≡ take n digits ++ 35 ∷ behind = cut_by_test digits n 34 h2.1 in
-          let len = length-prefix_len is_ascii_hexdigit digits in
-          inl (record {
-            identifier = take n digits;
-            behind = behind;
-            layout = record {
-              spelled = a ∙ ap (λ (x : List ℕ). 32 ∷ x) b;
-              digits = front_passes is_ascii_hexdigit digits;
-              len = width n (take n digits) len h1.1;
-            };
-            gives = rw e refl;
-          })
-      | inr e ↦ inr (rw e refl)
+          let a : tail ≡ 32 ∷ digits = cut_by_test tail 0 31 e in
+          elim (cases_Bool (get_or digits 3 0 == 35)) [
+            | inl three ↦
+                elim (cases_Bool (list_all is_ascii_hexdigit (take 3 digits))) [
+                  | inl all ↦
+                      short (take 3 digits) (drop 4 digits) (record { spelled = a ∙ ap (λ (x : List ℕ). 32 ∷ x) (cut_by_test digits 3 34 three); digits = all })
+                      (front_len digits 3 34 (eqb-true (get_or digits 3 0) 35 three))
+                      (rw (e, three, all) refl)
+                  | inr other ↦ formless (rw (e, three, other) refl)
+                ]
+            | inr longer ↦
+                elim (cases_Bool (get_or digits 8 0 == 35)) [
+                  | inl eight ↦
+                      with_number tail (number_of (take 8 digits)) (a ∙ ap (λ (x : List ℕ). 32 ∷ x) (cut_by_test digits 8 34 eight)) (front_len digits 8 34 (eqb-true (get_or digits 8 0) 35 eight)) refl
+                      (rw (e, longer, eight) refl)
+                  | inr other ↦ formless (rw (e, longer, other) refl)
+                ]
+          ]
     ]
   where
-    width : (n : ℕ) (identifier : List ℕ) → length identifier ≡ n → (n == 3 || n == 8) ≡ true → (length identifier ≡ 3) ⊎ (length identifier ≡ 8)
-    width n identifier len e = elim (cases_Bool (n == 3)) [
-      | inl three ↦ inl (len ∙ eqb-true n 3 three)
-      | inr other ↦ inr (len ∙ eqb-true n 8 (rw other at e))
-    ]
+    with_number : (tail : List ℕ) (id : Option ℕ) → tail ≡ 32 ∷ (take 8 (drop 1 tail) ++ 35 ∷ drop 9 (drop 1 tail)) → length (take 8 (drop 1 tail)) ≡ 8 → number_of (take 8 (drop 1 tail)) ≡ id
+        → frame_at tail ≡ wide_frame (number_of (take 8 (drop 1 tail))) (drop 9 (drop 1 tail)) → FrameKind tail
+    with_number tail None spelled eight n g = formless (g ∙ ap (λ (x : Option ℕ). wide_frame x (drop 9 (drop 1 tail))) n)
+    with_number tail (Some id) spelled eight n g =
+        let identifier = take 8 (drop 1 tail) in
+        let is = number_found identifier id eight n in
+        wide identifier (drop 9 (drop 1 tail)) id (record { spelled = spelled; digits = written_digits identifier is.bytes is.written }) is (g ∙ ap (λ (x : Option ℕ). wide_frame x (drop 9 (drop 1 tail))) n)
 
-abbrev layout_by : ℕ → ℕ → List ℕ → List ℕ → Answer
-layout_by n hash identifier behind = cond ((n == 3 || n == 8) && (hash == 35)) (frame_by identifier behind) (refused Form)
+-- ---- what is laid out so gives this
 
-width_again : (n : ℕ) → (n ≡ 3) ⊎ (n ≡ 8) → (n == 3 || n == 8) ≡ true
-width_again n h = elim h [
-  | inl e ↦ or_left (n == 3) (n == 8) (eq-eqb n 3 e)
-  | inr e ↦ or_right (n == 3) (n == 8) (eq-eqb n 8 e)
-]
-
-pub layout_again : (tail identifier behind : List ℕ) → Layout tail identifier behind → frame_at tail ≡ frame_by identifier behind
+short_again : (tail identifier behind : List ℕ) → Layout tail identifier behind → length identifier ≡ 3 → frame_at tail ≡ short_frame true behind
 unfolding frame_at
-layout_again tail identifier behind h =
+short_again tail identifier behind h three =
     let text = identifier ++ 35 ∷ behind in
-    let s = splits is_ascii_hexdigit identifier (35 ∷ behind) h.digits refl in
-    let cut = cut_at identifier 35 behind (prefix_len is_ascii_hexdigit text) (sym s.run) in
-    let wide : (length identifier == 3 || length identifier == 8) ≡ true = width_again (length identifier) h.len in
-    ap frame_at h.spelled
-    ∙ ap (λ (x : List ℕ). layout_by (prefix_len is_ascii_hexdigit text) (get_or text (prefix_len is_ascii_hexdigit text) 0) (take (prefix_len is_ascii_hexdigit text) text) x) cut.behind_is
-    ∙ ap (λ (x : List ℕ). layout_by (prefix_len is_ascii_hexdigit text) (get_or text (prefix_len is_ascii_hexdigit text) 0) x behind) cut.front_is
-    ∙ ap (λ (x : ℕ). layout_by (prefix_len is_ascii_hexdigit text) x identifier behind) cut.byte_is
-    ∙ ap (λ (x : ℕ). layout_by x 35 identifier behind) s.run
-    ∙ rw wide refl
+    let cut = cut_at identifier 35 behind 3 three in
+    let byte : get_or text 3 0 ≡ 35 = cut.byte_is in
+    let front : take 3 text ≡ identifier = cut.front_is in
+    let rest : drop 4 text ≡ behind = cut.behind_is in
+    let digits : list_all is_ascii_hexdigit identifier ≡ true = h.digits in
+    ap frame_at h.spelled ∙ rw (byte, front, rest, digits) refl
+
+no_hash : (c : ℕ) → is_ascii_hexdigit c ≡ true → (c == 35) ≡ false
+no_hash c h = grind arith
+
+-- one of eight digits has no `#` behind its third
+no_short : (identifier behind : List ℕ) → list_all is_ascii_hexdigit identifier ≡ true → length identifier ≡ 8 → (get_or (identifier ++ 35 ∷ behind) 3 0 == 35) ≡ false
+no_short identifier behind digits eight =
+    let lt : 3 < length identifier = omega (arith, eight) in
+    let digit : is_ascii_hexdigit (get_or identifier 3 0) ≡ true = All-get_or (λ c. is_ascii_hexdigit c ≡ true) identifier 3 0 lt (AllPass-from_list_all is_ascii_hexdigit identifier digits) in
+    ap (λ (c : ℕ). c == 35) (get_or_append_left identifier (35 ∷ behind) 0 3 lt) ∙ no_hash (get_or identifier 3 0) digit
+
+wide_again : (tail identifier behind : List ℕ) (id : ℕ) → Layout tail identifier behind → IsNumber id identifier → frame_at tail ≡ wide_frame (Some id) behind
+unfolding frame_at
+wide_again tail identifier behind id h n =
+    let text = identifier ++ 35 ∷ behind in
+    let cut = cut_at identifier 35 behind 8 n.eight in
+    let longer : (get_or text 3 0 == 35) ≡ false = no_short identifier behind h.digits n.eight in
+    let byte : get_or text 8 0 ≡ 35 = cut.byte_is in
+    let front : take 8 text ≡ identifier = cut.front_is in
+    let rest : drop 9 text ≡ behind = cut.behind_is in
+    let number : number_of identifier ≡ Some id = number_again identifier id n in
+    ap frame_at h.spelled ∙ rw (longer, byte, front, rest, number) refl
+
+-- eight digits write a number
+number_there : (identifier : List ℕ) → list_all is_ascii_hexdigit identifier ≡ true → length identifier ≡ 8 → (id : ℕ) × IsNumber id identifier
+number_there identifier digits eight =
+    let even : length identifier % 2 ≡ 0 = omega (arith, eight) in
+    let hex = AllPass-from_list_all is_hex_digit identifier (all_weaker is_ascii_hexdigit is_hex_digit hex_of_digit identifier digits) in
+    let r = decode_of-digits identifier even hex in
+    (from_be_bytes w32 r.0, record { eight = eight; bytes = r.0; written = r.1; value = refl })
 
 -- ---- a data frame
 
@@ -110,59 +133,48 @@ pub record FrameRead (tail : List ℕ) (seen : BusFrame) : Type 0 where
   pub fits : seen.id < 2 ^ 29
   pub is_data : IsData seen.held behind
 
-record FrameMade (identifier behind : List ℕ) (seen : BusFrame) : Type 0 where
-  number : IsNumber seen.id identifier
+record FrameMade (id : ℕ) (behind : List ℕ) (seen : BusFrame) : Type 0 where
+  id_is : id ≡ seen.id
   fits : seen.id < 2 ^ 29
   is_data : IsData seen.held behind
 
-eight_of : (n : ℕ) → (n ≡ 3) ⊎ (n ≡ 8) → (n == 3) ≡ false → n ≡ 8
-eight_of n h other = elim h [
-  | inl three ↦ absurd (eqb-false n 3 other three)
-  | inr eight ↦ eight
-]
-
-with_id : (identifier behind held : List ℕ) (id : ℕ) (seen : BusFrame) → IsNumber id identifier → IsData held behind → frame_with held (Some id) ≡ Ok seen → FrameMade identifier behind seen
-with_id identifier behind held id seen h d e = elim (cases_Bool (ltb id (2 ^ 29))) [
+with_data : (id : ℕ) (behind : List ℕ) (held : Option (List ℕ)) (seen : BusFrame) → data_at behind ≡ held → frame_with id held ≡ Ok seen → FrameMade id behind seen
+with_data id behind None seen d e = absurd (let f : refused Form ≡ Ok seen = e in cc)
+with_data id behind (Some held) seen d e = elim (cases_Bool (ltb id (2 ^ 29))) [
   | inl fits ↦
-      let one : FrameMade identifier behind (record { id = id; held = held }) = record { number = h; fits = ltb-true id (2 ^ 29) fits; is_data = d } in
-      subst (FrameMade identifier behind) (given_is (record { id = id; held = held }) seen (rw fits at e)) one
-  | inr wide ↦ absurd (let f : refused NotExtended ≡ Ok seen = rw wide at e in cc)
+      let one : FrameMade id behind (record { id = id; held = held }) = record { id_is = refl; fits = ltb-true id (2 ^ 29) fits; is_data = data_found behind held d } in
+      subst (FrameMade id behind) (given_is (record { id = id; held = held }) seen (rw fits at e)) one
+  | inr large ↦ absurd (let f : refused NotExtended ≡ Ok seen = rw large at e in cc)
 ]
 
-with_number : (identifier behind held : List ℕ) (id : Option ℕ) (seen : BusFrame) → length identifier ≡ 8 → number_of identifier ≡ id → IsData held behind → frame_with held id ≡ Ok seen → FrameMade identifier behind seen
-with_number identifier behind held None seen eight n d e = absurd cc
-with_number identifier behind held (Some id) seen eight n d e = with_id identifier behind held id seen (number_found identifier id eight n) d e
-
-with_data : (identifier behind : List ℕ) (held : Option (List ℕ)) (seen : BusFrame) → (length identifier ≡ 3) ⊎ (length identifier ≡ 8) → data_at behind ≡ held → frame_of identifier held ≡ Ok seen → FrameMade identifier behind seen
-with_data identifier behind None seen len d e = absurd cc
-with_data identifier behind (Some held) seen len d e = elim (cases_Bool (length identifier == 3)) [
-  | inl three ↦ absurd (let f : refused NotExtended ≡ Ok seen = rw three at e in cc)
-  | inr other ↦ with_number identifier behind held (number_of identifier) seen (eight_of (length identifier) len other) refl (data_found behind held d) (rw other at e)
-]
-
-by_kind : (identifier behind : List ℕ) (seen : BusFrame) → (length identifier ≡ 3) ⊎ (length identifier ≡ 8) → frame_by identifier behind ≡ Ok seen → FrameMade identifier behind seen
-by_kind identifier behind seen len e = elim (cases_Bool (is_other_kind behind)) [
+by_kind : (id : ℕ) (behind : List ℕ) (seen : BusFrame) → wide_frame (Some id) behind ≡ Ok seen → FrameMade id behind seen
+by_kind id behind seen e = elim (cases_Bool (is_other_kind behind)) [
   | inl other ↦ absurd (let f : refused NotExtended ≡ Ok seen = rw other at e in cc)
-  | inr plain ↦ with_data identifier behind (data_at behind) seen len refl (rw plain at e)
+  | inr plain ↦ with_data id behind (data_at behind) seen refl (rw plain at e)
 ]
+
+abbrev short_by : Bool → Answer
+short_by other = cond other (refused NotExtended) (refused Form)
+
+no_short_frame : (other : Bool) (seen : BusFrame) → short_by other ≡ Ok seen → ⊥
+no_short_frame true seen e = cc
+no_short_frame false seen e = cc
 
 pub frame_found : (tail : List ℕ) (seen : BusFrame) → frame_at tail ≡ Ok seen → FrameRead tail seen
-frame_found tail seen e = elim (laid_out tail) [
-  | inl l ↦
-      let made = by_kind l.identifier l.behind seen l.layout.len (sym l.gives ∙ e) in
-      record { identifier = l.identifier; behind = l.behind; layout = l.layout; number = made.number; fits = made.fits; is_data = made.is_data }
-  | inr form ↦ absurd cc
+frame_found tail seen e = elim (frame_kind tail) [
+  | short identifier behind l three g ↦ absurd (no_short_frame (is_other_kind behind || is_some (data_at behind)) seen (sym g ∙ e))
+  | wide identifier behind id l n g ↦
+      let made = by_kind id behind seen (sym g ∙ e) in
+      record { identifier = identifier; behind = behind; layout = l; number = subst (λ (x : ℕ). IsNumber x identifier) made.id_is n; fits = made.fits; is_data = made.is_data }
+  | formless g ↦ absurd (let f : refused Form ≡ Ok seen = sym g ∙ e in cc)
 ]
 
 pub frame_again : (tail identifier behind : List ℕ) (seen : BusFrame) → Layout tail identifier behind → IsNumber seen.id identifier → seen.id < 2 ^ 29 → IsData seen.held behind → frame_at tail ≡ Ok seen
 frame_again tail identifier behind seen l n fits d =
     let plain : is_other_kind behind ≡ false = data_plain behind seen.held d in
     let there : data_at behind ≡ Some seen.held = data_again behind seen.held d in
-    let eight : length identifier ≡ 8 = n.eight in
-    let wide : (length identifier == 3) ≡ false = rw eight refl in
-    let number : number_of identifier ≡ Some seen.id = number_again identifier seen.id n in
     let small : ltb seen.id (2 ^ 29) ≡ true = lt-ltb seen.id (2 ^ 29) fits in
-    layout_again tail identifier behind l ∙ rw (plain, there, wide, number, small) refl
+    wide_again tail identifier behind seen.id l n ∙ rw (plain, there, small) refl
 
 -- ---- what else a bus carries
 
@@ -185,84 +197,88 @@ other_kind identifier (c ∷ cs) len e = (
   ],
 )
 
-wide_id : (held identifier behind : List ℕ) (id : Option ℕ) → length identifier ≡ 8 → number_of identifier ≡ id → IsData held behind → frame_with held id ≡ Err NotExtended → IsOtherFrame identifier behind
-wide_id held identifier behind None eight n d e = absurd (let f : refused Form ≡ Err NotExtended = e in cc)
-wide_id held identifier behind (Some id) eight n d e = elim (cases_Bool (ltb id (2 ^ 29))) [
+short_data : (identifier behind : List ℕ) (held : Option (List ℕ)) → length identifier ≡ 3 → data_at behind ≡ held → short_by (is_some held) ≡ Err NotExtended → IsOtherFrame identifier behind
+short_data identifier behind None three d e = absurd (let f : refused Form ≡ Err NotExtended = e in cc)
+short_data identifier behind (Some held) three d e = inl (held, data_found behind held d, inl three)
+
+other_short : (identifier behind : List ℕ) → length identifier ≡ 3 → short_frame true behind ≡ Err NotExtended → IsOtherFrame identifier behind
+other_short identifier behind three e = elim (cases_Bool (is_other_kind behind)) [
+  | inl other ↦ inr (other_kind identifier behind (inl three) other)
+  | inr plain ↦ short_data identifier behind (data_at behind) three refl (rw plain at e)
+]
+
+wide_data : (identifier behind : List ℕ) (id : ℕ) (held : Option (List ℕ)) → IsNumber id identifier → data_at behind ≡ held → frame_with id held ≡ Err NotExtended → IsOtherFrame identifier behind
+wide_data identifier behind id None n d e = absurd (let f : refused Form ≡ Err NotExtended = e in cc)
+wide_data identifier behind id (Some held) n d e = elim (cases_Bool (ltb id (2 ^ 29))) [
   | inl fits ↦ absurd (let f : given (record { id = id; held = held }) ≡ Err NotExtended = rw fits at e in cc)
-  | inr wide ↦ inl (held, d, inr (id, number_found identifier id eight n, ltb-false id (2 ^ 29) wide))
+  | inr large ↦ inl (held, data_found behind held d, inr (id, n, ltb-false id (2 ^ 29) large))
 ]
 
-other_data : (identifier behind : List ℕ) (held : Option (List ℕ)) → (length identifier ≡ 3) ⊎ (length identifier ≡ 8) → data_at behind ≡ held → frame_of identifier held ≡ Err NotExtended → IsOtherFrame identifier behind
-other_data identifier behind None len d e = absurd (let f : refused Form ≡ Err NotExtended = e in cc)
-other_data identifier behind (Some held) len d e = elim (cases_Bool (length identifier == 3)) [
-  | inl three ↦ inl (held, data_found behind held d, inl (eqb-true (length identifier) 3 three))
-  | inr other ↦ wide_id held identifier behind (number_of identifier) (eight_of (length identifier) len other) refl (data_found behind held d) (rw other at e)
-]
-
-other_by_kind : (identifier behind : List ℕ) → (length identifier ≡ 3) ⊎ (length identifier ≡ 8) → frame_by identifier behind ≡ Err NotExtended → IsOtherFrame identifier behind
-other_by_kind identifier behind len e = elim (cases_Bool (is_other_kind behind)) [
-  | inl other ↦ inr (other_kind identifier behind len other)
-  | inr plain ↦ other_data identifier behind (data_at behind) len refl (rw plain at e)
+other_wide : (identifier behind : List ℕ) (id : ℕ) → IsNumber id identifier → wide_frame (Some id) behind ≡ Err NotExtended → IsOtherFrame identifier behind
+other_wide identifier behind id n e = elim (cases_Bool (is_other_kind behind)) [
+  | inl other ↦ inr (other_kind identifier behind (inr n.eight) other)
+  | inr plain ↦ wide_data identifier behind id (data_at behind) n refl (rw plain at e)
 ]
 
 pub other_found : (tail : List ℕ) → frame_at tail ≡ Err NotExtended → OtherRead tail
-other_found tail e = elim (laid_out tail) [
-  | inl l ↦ record { identifier = l.identifier; behind = l.behind; layout = l.layout; other = other_by_kind l.identifier l.behind l.layout.len (sym l.gives ∙ e) }
-  | inr form ↦ absurd (let f : refused Form ≡ Err NotExtended = sym form ∙ e in cc)
+other_found tail e = elim (frame_kind tail) [
+  | short identifier behind l three g ↦ record { identifier = identifier; behind = behind; layout = l; other = other_short identifier behind three (sym g ∙ e) }
+  | wide identifier behind id l n g ↦ record { identifier = identifier; behind = behind; layout = l; other = other_wide identifier behind id n (sym g ∙ e) }
+  | formless g ↦ absurd (let f : refused Form ≡ Err NotExtended = sym g ∙ e in cc)
 ]
 
-other_width : (identifier : List ℕ) → IsShort identifier ⊎ IsWide identifier → (held : List ℕ) → frame_of identifier (Some held) ≡ Err NotExtended
-other_width identifier h held = elim h [
-  | inl three ↦
-      let a : (length identifier == 3) ≡ true = eq-eqb (length identifier) 3 three in
-      rw a refl
-  | inr wide ↦
-      let eight : length identifier ≡ 8 = wide.1.eight in
-      let a : (length identifier == 3) ≡ false = rw eight refl in
-      let number : number_of identifier ≡ Some wide.0 = number_again identifier wide.0 wide.1 in
-      let large : ltb wide.0 (2 ^ 29) ≡ false = le-ltb wide.0 (2 ^ 29) wide.2 in
-      rw (a, number, large) refl
-]
-
-kind_again : (kind : ℕ) → (kind ≡ 82) ⊎ (kind ≡ 35) → (kind == 82 || kind == 35) ≡ true
-kind_again kind h = elim h [
+kind_again : (behind : List ℕ) (kind : ℕ) (rest : List ℕ) → behind ≡ kind ∷ rest → (kind ≡ 82) ⊎ (kind ≡ 35) → is_other_kind behind ≡ true
+kind_again behind kind rest is h = ap is_other_kind is ∙ elim h [
   | inl e ↦ or_left (kind == 82) (kind == 35) (eq-eqb kind 82 e)
   | inr e ↦ or_right (kind == 82) (kind == 35) (eq-eqb kind 35 e)
 ]
 
+-- of either width
+kind_gives : (tail identifier behind : List ℕ) → Layout tail identifier behind → (length identifier ≡ 3) ⊎ (length identifier ≡ 8) → is_other_kind behind ≡ true → frame_at tail ≡ Err NotExtended
+kind_gives tail identifier behind l len other = elim len [
+  | inl three ↦ short_again tail identifier behind l three ∙ rw other refl
+  | inr eight ↦
+      let n = number_there identifier l.digits eight in
+      wide_again tail identifier behind n.0 l n.1 ∙ rw other refl
+]
+
+data_gives : (tail identifier behind held : List ℕ) → Layout tail identifier behind → IsData held behind → IsShort identifier ⊎ IsWide identifier → frame_at tail ≡ Err NotExtended
+data_gives tail identifier behind held l d h =
+    let plain : is_other_kind behind ≡ false = data_plain behind held d in
+    let there : data_at behind ≡ Some held = data_again behind held d in
+    elim h [
+      | inl three ↦ short_again tail identifier behind l three ∙ rw (plain, there) refl
+      | inr w ↦
+          let large : ltb w.0 (2 ^ 29) ≡ false = le-ltb w.0 (2 ^ 29) w.2 in
+          wide_again tail identifier behind w.0 l w.1 ∙ rw (plain, there, large) refl
+    ]
+
 pub other_again : (tail identifier behind : List ℕ) → Layout tail identifier behind → IsOtherFrame identifier behind → frame_at tail ≡ Err NotExtended
-other_again tail identifier behind l h = layout_again tail identifier behind l ∙ elim h [
-  | inl x ↦
-      let plain : is_other_kind behind ≡ false = data_plain behind x.0 x.1 in
-      let there : data_at behind ≡ Some x.0 = data_again behind x.0 x.1 in
-      rw (plain, there) (other_width identifier x.2 x.0)
-  | inr k ↦
-      let other : is_other_kind behind ≡ true = ap is_other_kind k.3 ∙ kind_again k.1 k.4 in
-      rw other refl
+other_again tail identifier behind l h = elim h [
+  | inl x ↦ data_gives tail identifier behind x.0 l x.1 x.2
+  | inr k ↦ kind_gives tail identifier behind l k.0 (kind_again behind k.1 k.2 k.3 k.4)
 ]
 
 pub frame_never_long : (tail : List ℕ) → frame_at tail ≡ Err Long → ⊥
-frame_never_long tail e = elim (laid_out tail) [
-  | inl l ↦ by_kind l.identifier l.behind (sym l.gives ∙ e)
-  | inr form ↦ (let f : refused Form ≡ Err Long = sym form ∙ e in cc)
+frame_never_long tail e = elim (frame_kind tail) [
+  | short identifier behind l three g ↦ by_short (is_other_kind behind || is_some (data_at behind)) (sym g ∙ e)
+  | wide identifier behind id l n g ↦ by_wide id behind (sym g ∙ e)
+  | formless g ↦ (let f : refused Form ≡ Err Long = sym g ∙ e in cc)
 ]
   where
-    by_number : (held : List ℕ) (id : Option ℕ) → frame_with held id ≡ Err Long → ⊥
-    by_number held None e = cc
-    by_number held (Some id) e = elim (cases_Bool (ltb id (2 ^ 29))) [
+    by_short : (other : Bool) → short_by other ≡ Err Long → ⊥
+    by_short true e = cc
+    by_short false e = cc
+
+    by_data : (id : ℕ) (held : Option (List ℕ)) → frame_with id held ≡ Err Long → ⊥
+    by_data id None e = cc
+    by_data id (Some held) e = elim (cases_Bool (ltb id (2 ^ 29))) [
       | inl fits ↦ (let f : given (record { id = id; held = held }) ≡ Err Long = rw fits at e in cc)
-      | inr wide ↦ (let f : refused NotExtended ≡ Err Long = rw wide at e in cc)
+      | inr large ↦ (let f : refused NotExtended ≡ Err Long = rw large at e in cc)
     ]
 
-    by_data : (identifier : List ℕ) (held : Option (List ℕ)) → frame_of identifier held ≡ Err Long → ⊥
-    by_data identifier None e = cc
-    by_data identifier (Some held) e = elim (cases_Bool (length identifier == 3)) [
-      | inl three ↦ (let f : refused NotExtended ≡ Err Long = rw three at e in cc)
-      | inr other ↦ by_number held (number_of identifier) (rw other at e)
-    ]
-
-    by_kind : (identifier behind : List ℕ) → frame_by identifier behind ≡ Err Long → ⊥
-    by_kind identifier behind e = elim (cases_Bool (is_other_kind behind)) [
+    by_wide : (id : ℕ) (behind : List ℕ) → wide_frame (Some id) behind ≡ Err Long → ⊥
+    by_wide id behind e = elim (cases_Bool (is_other_kind behind)) [
       | inl other ↦ (let f : refused NotExtended ≡ Err Long = rw other at e in cc)
-      | inr plain ↦ by_data identifier (data_at behind) (rw plain at e)
+      | inr plain ↦ by_data id (data_at behind) (rw plain at e)
     ]

@@ -96,7 +96,7 @@ again_frame : (moment : ℕ) (f : BusFrame) (line : List ℕ) → IsFrame moment
 again_frame moment f line h =
     let b = h.on_bus in
     let tail : List ℕ = 32 ∷ (h.identifier ++ 35 ∷ h.behind) in
-    let l : Layout tail h.identifier h.behind = record { spelled = refl; digits = b.digits; len = inr h.number.eight } in
+    let l : Layout tail h.identifier h.behind = record { spelled = refl; digits = b.digits } in
     read_begins moment b.name tail line b.begins refl
     ∙ on_bus_gives moment b.name tail b.no_tick b.no_datagram
     ∙ ap (seen_frame moment) (frame_again tail h.identifier h.behind f l h.number h.fits h.is_data)
@@ -170,17 +170,11 @@ not_extended_found line e = elim (line_kind line) [
       ]
 ]
 
-other_len : (identifier behind : List ℕ) → IsOtherFrame identifier behind → (length identifier ≡ 3) ⊎ (length identifier ≡ 8)
-other_len identifier behind h = elim h [
-  | inl x ↦ elim x.2 [ inl three ↦ inl three | inr wide ↦ inr wide.1.eight ]
-  | inr k ↦ k.0
-]
-
 pub not_extended_again : (line : List ℕ) → IsNotExtended line → read line ≡ Err NotExtended
 not_extended_again line h =
     let b = h.on_bus in
     let tail : List ℕ = 32 ∷ (h.identifier ++ 35 ∷ h.behind) in
-    let l : Layout tail h.identifier h.behind = record { spelled = refl; digits = b.digits; len = other_len h.identifier h.behind h.other } in
+    let l : Layout tail h.identifier h.behind = record { spelled = refl; digits = b.digits } in
     read_begins h.moment b.name tail line b.begins refl
     ∙ on_bus_gives h.moment b.name tail b.no_tick b.no_datagram
     ∙ ap (seen_frame h.moment) (other_again tail h.identifier h.behind l h.other)

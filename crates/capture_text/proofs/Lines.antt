@@ -1,7 +1,7 @@
 -- The laws of a line: what is read is spelled so, what is spelled so is read, and which rule is broken.
 use Rattle.std.proofs.Common.{◌≡◌, ◌≢◌, ℕ, ◌<◌, ◌≤◌, Bool, true, false, cond, ltb, leb, ◌&&◌, List, [], ◌∷◌, ◌++◌, length, get_or, take, drop, Option, Some, None, Result, Ok, Err, refl, sym, ap, subst, ◌∙◌, arith, inl, inr}
 use Rattle.std.specs.Prelude.{◌==◌, codes}
-use Rattle.std.specs.Char.{is_ascii_hexdigit, is_ascii_graphic}
+use Rattle.std.specs.Char.{is_ascii_graphic}
 use Rattle.std.specs.List.{prefix_len, list_all}
 use Rattle.std.specs.Result.{result_ok}
 use Rattle.std.specs.Cmp.Lexicographic.{same_text}
@@ -15,10 +15,10 @@ use Rattle.sentence_text.proofs.Bytes.{front_passes, splits}
 use Rattle.capture_text.specs.declared.event.LineRule.{LineRule}
 use Rattle.capture_text.specs.declared.event.LineRule.TheVariants.{Form, Long}
 use Rattle.capture_text.specs.Capture.{Seen, IsInterface, Begins, is_end}
-use Rattle.capture_text.specs.Reading.{Timed, time_at, Named, interface_at, is_group, bytes_at, frame_at, seen_frame, is_name, seen_behind, seen_named, seen_at, read}
+use Rattle.capture_text.specs.Reading.{Timed, time_at, Named, interface_at, is_group, is_no_space, up_to_space, bytes_at, frame_at, seen_frame, is_name, seen_behind, seen_named, seen_at, read}
 use Rattle.capture_text.proofs.Cuts.{cut_by_test, cut_found, if_some, some_is, result_some, four}
 use Rattle.capture_text.proofs.Times.{time_found, time_again}
-use Rattle.capture_text.proofs.Data.{written_digits, end_stops}
+use Rattle.capture_text.proofs.Data.{up_to_end, digits_again}
 
 abbrev pub Answer : Type 0
 Answer = Result Seen LineRule
@@ -87,13 +87,12 @@ unfolding bytes_at
 bytes_found tail bytes e =
     let group = take 4 (drop 1 tail) in
     let behind = drop 6 tail in
-    let n = prefix_len is_ascii_hexdigit behind in
+    let digits = up_to_space behind in
+    let rest = drop (prefix_len is_no_space behind) behind in
     let p0 = get_or tail 0 0 == 32 in
     let p2 = get_or tail 5 0 == 35 in
-    let p3 = is_end (drop n behind) in
-    let h = if_some (p0 && is_group group && p2 && p3) (result_ok (decode_of (take n behind))) bytes e in
-    let h3 = and_parts (p0 && is_group group && p2) p3 h.0 in
-    let h2 = and_parts (p0 && is_group group) p2 h3.0 in
+    let h = if_some (p0 && is_group group && p2) (result_ok (decode_of digits)) bytes e in
+    let h2 = and_parts (p0 && is_group group) p2 h.0 in
     let h1 = and_parts p0 (is_group group) h2.0 in
     let a : tail ≡ 32 ∷ drop 1 tail = cut_by_test tail 0 31 h1.0 in
     let hash : get_or (drop 1 tail) 4 0 ≡ 35 = ap (λ (x : List ℕ). get_or x 5 0) (sym a) ∙ eqb-true (get_or tail 5 0) 35 h2.1 in
@@ -101,38 +100,35 @@ bytes_found tail bytes e =
     let same : drop 5 (drop 1 tail) ≡ behind = ap (drop 6) (sym a) in
     record {
       group = group;
-      digits = take n behind;
-      rest = drop n behind;
-      spelled = a ∙ ap (λ (x : List ℕ). 32 ∷ x) (b ∙ ap (λ (x : List ℕ). group ++ 35 ∷ x) (same ∙ sym (take-append-drop n behind)));
+      digits = digits;
+      rest = rest;
+      spelled = a ∙ ap (λ (x : List ℕ). 32 ∷ x) (b ∙ ap (λ (x : List ℕ). group ++ 35 ∷ x) (same ∙ sym (take-append-drop (prefix_len is_no_space behind) behind)));
       is_group = group_found group h1.1;
-      written = result_some (decode_of (take n behind)) bytes h.1;
-      ends = h3.1;
+      written = result_some (decode_of digits) bytes h.1;
+      ends = up_to_end behind;
     }
 
-abbrev bytes_by : List ℕ → List ℕ → List ℕ → Option (List ℕ)
-bytes_by group digits rest = cond (is_group group && is_end rest) (result_ok (decode_of digits)) None
+abbrev bytes_by : List ℕ → List ℕ → Option (List ℕ)
+bytes_by group digits = cond (is_group group) (result_ok (decode_of digits)) None
 
-bytes_laid_out : (a b c d : ℕ) (behind : List ℕ)
-    → bytes_at (32 ∷ a ∷ b ∷ c ∷ d ∷ 35 ∷ behind) ≡ bytes_by (a ∷ b ∷ c ∷ d ∷ []) (take (prefix_len is_ascii_hexdigit behind) behind) (drop (prefix_len is_ascii_hexdigit behind) behind)
+bytes_laid_out : (a b c d : ℕ) (behind : List ℕ) → bytes_at (32 ∷ a ∷ b ∷ c ∷ d ∷ 35 ∷ behind) ≡ bytes_by (a ∷ b ∷ c ∷ d ∷ []) (up_to_space behind)
 unfolding bytes_at
-bytes_laid_out a b c d behind = by_test (is_group (a ∷ b ∷ c ∷ d ∷ [])) (is_end (drop (prefix_len is_ascii_hexdigit behind) behind)) (result_ok (decode_of (take (prefix_len is_ascii_hexdigit behind) behind)))
+bytes_laid_out a b c d behind = by_test (is_group (a ∷ b ∷ c ∷ d ∷ [])) (result_ok (decode_of (up_to_space behind)))
   where
-    by_test : (p q : Bool) (x : Option (List ℕ)) → cond (true && p && true && q) x None ≡ cond (p && q) x None
-    by_test true q x = refl
-    by_test false q x = refl
+    by_test : (p : Bool) (x : Option (List ℕ)) → cond (true && p && true) x None ≡ cond p x None
+    by_test true x = refl
+    by_test false x = refl
 
 pub bytes_again : (group digits rest bytes : List ℕ) → IsGroup group → decode_of digits ≡ Ok bytes → is_end rest ≡ true → bytes_at (32 ∷ (group ++ 35 ∷ (digits ++ rest))) ≡ Some bytes
 bytes_again group digits rest bytes g written ends =
     let f = four group g.len in
     let named : List ℕ = f.0 ∷ f.1 ∷ f.2 ∷ f.3 ∷ [] in
     let is : is_group named ≡ true = ap is_group (sym f.4) ∙ group_again group g in
-    let s = splits is_ascii_hexdigit digits rest (written_digits digits bytes written) (end_stops rest ends) in
     let behind = digits ++ rest in
     ap (λ (x : List ℕ). bytes_at (32 ∷ (x ++ 35 ∷ behind))) f.4
     ∙ bytes_laid_out f.0 f.1 f.2 f.3 behind
-    ∙ ap (λ (x : List ℕ). bytes_by named (take (prefix_len is_ascii_hexdigit behind) behind) x) s.tail_is
-    ∙ ap (λ (x : List ℕ). bytes_by named x rest) s.front_is
-    ∙ rw (is, ends, written) refl
+    ∙ ap (bytes_by named) (digits_again digits rest bytes written ends)
+    ∙ rw (is, written) refl
 
 -- ---- the whole line, up to its interface
 

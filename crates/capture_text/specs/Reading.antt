@@ -1,5 +1,5 @@
 -- What a line of a capture reads as: what it says, or the rule that it breaks.
-use Rattle.std.specs.Prelude.{◌≡◌, ℕ, ◌+◌, ◌^◌, ◌≤◌, ◌==◌, Bool, ◌&&◌, ◌||◌, nat_eq, nat_lt, nat_le, List, ◌++◌, length, take, drop, codes, slice_index, Option, Some, None, option_map, Result, Ok, Err, if◌then◌else◌}
+use Rattle.std.specs.Prelude.{◌≡◌, ℕ, ◌+◌, ◌^◌, ◌≤◌, ◌==◌, Bool, ◌&&◌, ◌||◌, not, nat_eq, nat_lt, nat_le, List, ◌++◌, length, take, drop, codes, slice_index, Option, Some, None, is_some, option_map, Result, Ok, Err, if◌then◌else◌}
 use Rattle.std.specs.List.{prefix_len, list_all}
 use Rattle.std.specs.Cmp.Lexicographic.{pointwise}
 use Rattle.std.specs.Char.{is_ascii_digit, is_ascii_graphic, is_ascii_hexdigit}
@@ -35,35 +35,45 @@ time_at line = let seconds = drop 1 line in let n = prefix_len is_ascii_digit se
 abbrev pub is_group : List ℕ → Bool
 is_group text = length text == 4 && list_all is_address_byte text
 
+-- digits stand before the first space, or before the end
+abbrev pub is_no_space : ℕ → Bool
+is_no_space c = not (c == 32)
+
+abbrev pub up_to_space : List ℕ → List ℕ
+up_to_space text = take (prefix_len is_no_space text) text
+
 unfoldable pub bytes_at : List ℕ → Option (List ℕ)
-bytes_at tail = let behind = drop 6 tail in let n = prefix_len is_ascii_hexdigit behind in
-    if slice_index tail 0 == 32 && is_group (take 4 (drop 1 tail)) && slice_index tail 5 == 35 && is_end (drop n behind)
-    then result_ok (decode_of (take n behind))
+bytes_at tail = if slice_index tail 0 == 32 && is_group (take 4 (drop 1 tail)) && slice_index tail 5 == 35
+    then result_ok (decode_of (up_to_space (drop 6 tail)))
     else None
 
 unfoldable pub data_at : List ℕ → Option (List ℕ)
-data_at behind = let n = prefix_len is_ascii_hexdigit behind in
-    if nat_le n 16 && is_end (drop n behind) then result_ok (decode_of (take n behind)) else None
+data_at behind = let digits = up_to_space behind in if nat_le (length digits) 16 then result_ok (decode_of digits) else None
 
 unfoldable pub number_of : List ℕ → Option ℕ
 number_of digits = option_map (from_be_bytes w32) (result_ok (decode_of digits))
 
-abbrev pub frame_with : List ℕ → Option ℕ → Result BusFrame LineRule
-frame_with held None = Err Form
-frame_with held (Some id) = if nat_lt id (2 ^ 29) then Ok (record { id = id; held = held }) else Err NotExtended
-
--- a frame of this identifier, where there are data
-abbrev pub frame_of : List ℕ → Option (List ℕ) → Result BusFrame LineRule
-frame_of identifier None = Err Form
-frame_of identifier (Some held) = if length identifier == 3 then Err NotExtended else frame_with held (number_of identifier)
-
 abbrev pub is_other_kind : List ℕ → Bool
 is_other_kind behind = slice_index behind 0 == 82 || slice_index behind 0 == 35
 
+-- behind an identifier of three digits
+abbrev pub short_frame : Bool → List ℕ → Result BusFrame LineRule
+short_frame is_identifier behind = if is_identifier && (is_other_kind behind || is_some (data_at behind)) then Err NotExtended else Err Form
+
+abbrev pub frame_with : ℕ → Option (List ℕ) → Result BusFrame LineRule
+frame_with id None = Err Form
+frame_with id (Some held) = if nat_lt id (2 ^ 29) then Ok (record { id = id; held = held }) else Err NotExtended
+
+-- behind an identifier of eight digits
+abbrev pub wide_frame : Option ℕ → List ℕ → Result BusFrame LineRule
+wide_frame None behind = Err Form
+wide_frame (Some id) behind = if is_other_kind behind then Err NotExtended else frame_with id (data_at behind)
+
 unfoldable pub frame_at : List ℕ → Result BusFrame LineRule
-frame_at tail = let digits = drop 1 tail in let n = prefix_len is_ascii_hexdigit digits in let behind = drop (n + 1) digits in
-    if slice_index tail 0 == 32 && (n == 3 || n == 8) && slice_index digits n == 35
-    then if is_other_kind behind then Err NotExtended else frame_of (take n digits) (data_at behind)
+frame_at tail = let digits = drop 1 tail in
+    if not (slice_index tail 0 == 32) then Err Form
+    else if slice_index digits 3 == 35 then short_frame (list_all is_ascii_hexdigit (take 3 digits)) (drop 4 digits)
+    else if slice_index digits 8 == 35 then wide_frame (number_of (take 8 digits)) (drop 9 digits)
     else Err Form
 
 -- ---- the line

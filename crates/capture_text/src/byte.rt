@@ -1,6 +1,6 @@
 ghost use Rattle.std.specs.Prelude.{◌≡◌, ◌≤◌, length, slice_index};
 ghost use Rattle.std.specs.Char.{is_ascii_digit, is_ascii_graphic, is_ascii_hexdigit};
-ghost use Rattle.std.specs.List.{prefix_len};
+ghost use Rattle.std.specs.List.{list_all, prefix_len};
 ghost use Rattle.capture_text.specs.Capture as capture;
 ghost use Rattle.capture_text.specs.Reading as spec;
 
@@ -14,14 +14,25 @@ pub(crate) fn digit_run(text: &[u8]) -> usize
     text.iter().take_while(|byte| byte.is_ascii_digit()).count()
 }
 
-/// How many hexadecimal digits come first.
-pub(crate) fn hex_run(text: &[u8]) -> usize
-    ensures run { result ≡ prefix_len is_ascii_hexdigit text.now }
+/// How many bytes come before the first space, or before the end.
+fn text_run(text: &[u8]) -> usize
+    ensures run { result ≡ prefix_len spec.is_no_space text.now }
     ensures within { result ≤ length text.now }
 {
-    text.iter()
-        .take_while(|byte| byte.is_ascii_hexdigit())
-        .count()
+    text.iter().take_while(|byte| **byte != b' ').count()
+}
+
+/// The bytes before the first space, or before the end.
+pub(crate) fn up_to_space(text: &[u8]) -> &[u8]
+    ensures { result.now ≡ spec.up_to_space text.now }
+{
+    text.split_at(text_run(text)).0
+}
+
+pub(crate) fn all_hexadecimal(text: &[u8]) -> bool
+    ensures { result ≡ list_all is_ascii_hexdigit text.now }
+{
+    text.iter().all(|byte| byte.is_ascii_hexdigit())
 }
 
 /// How many bytes of a name come first.

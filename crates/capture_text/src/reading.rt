@@ -1,5 +1,5 @@
-ghost use Rattle.std.specs.Prelude.{◌≡◌, ◌+◌, ◌*◌, ◌<◌, ◌≤◌, ◌^◌, ◌⊎◌, ◌++◌, ◌↔◌, length, Ok, Err, Some, None, IfOk, IfSome, MatchOption, IsTrue};
-ghost use Rattle.std.specs.Char.{is_ascii_digit};
+ghost use Rattle.std.specs.Prelude.{◌≡◌, ◌+◌, ◌*◌, ◌<◌, ◌≤◌, ◌^◌, ◌⊎◌, ◌++◌, ◌↔◌, length, Ok, Err, Some, None, is_some, IfOk, IfSome, MatchOption, IsTrue};
+ghost use Rattle.std.specs.Char.{is_ascii_digit, is_ascii_hexdigit};
 ghost use Rattle.std.specs.List.{list_all};
 ghost use Rattle.std.specs.Result.{result_ok};
 ghost use Rattle.hex.specs.Hex.{decode_of};
@@ -8,7 +8,7 @@ ghost use Rattle.n2k_id.specs.Frame.{IsFrame};
 ghost use Rattle.capture_text.specs.Capture.{Seen, IsLine, IsNotExtended, IsNoLine};
 ghost use Rattle.capture_text.specs.Reading as spec;
 
-use crate::byte::{byte_at, digit_run, hex_run, is_end, is_group, name_run};
+use crate::byte::{all_hexadecimal, byte_at, digit_run, is_end, is_group, name_run, up_to_space};
 use crate::event::{Event, LineRule};
 use n2k_id::Frame;
 
@@ -75,7 +75,7 @@ fn put_bytes(digits: &[u8], room: &mut [u8]) -> Option<usize>
 }
 
 /// Puts the bytes of a datagram into the room, and says how many there are.
-#[tactic(auto, unfolding(crate::specs::Reading::bytes_at))]
+#[tactic(auto, using(crate::proofs::Data::up_to_space_len), unfolding(crate::specs::Reading::bytes_at))]
 fn put_datagram(tail: &[u8], room: &mut [u8; 2048]) -> Option<usize>
     requires { length tail.now ≤ LONGEST }
     ensures { spec.IsPut result room.new (spec.bytes_at tail.now) }
@@ -83,12 +83,7 @@ fn put_datagram(tail: &[u8], room: &mut [u8; 2048]) -> Option<usize>
     if byte_at(tail, 0) != b' ' || byte_at(tail, 5) != b'#' || !is_group(&tail[1..5]) {
         return None;
     }
-    let behind = tail.split_at(6).1;
-    let (digits, rest) = behind.split_at(hex_run(behind));
-    if !is_end(rest) {
-        return None;
-    }
-    put_bytes(digits, &mut room[..])
+    put_bytes(up_to_space(tail.split_at(6).1), &mut room[..])
 }
 
 /// Puts the data of a frame into the room, and says how many bytes there are.
@@ -96,8 +91,8 @@ fn put_datagram(tail: &[u8], room: &mut [u8; 2048]) -> Option<usize>
 fn put_data(behind: &[u8], room: &mut [u8; 8]) -> Option<usize>
     ensures { spec.IsPut result room.new (spec.data_at behind.now) }
 {
-    let (digits, rest) = behind.split_at(hex_run(behind));
-    if digits.len() > 16 || !is_end(rest) {
+    let digits = up_to_space(behind);
+    if digits.len() > 16 {
         return None;
     }
     put_bytes(digits, &mut room[..])
@@ -116,45 +111,61 @@ fn number(digits: &[u8]) -> Option<u32>
     }
 }
 
-/// The frame of an identifier of eight digits, and of these data.
-fn frame_with(identifier: &[u8], held: &[u8]) -> Result<Frame, LineRule>
-    requires eight { length identifier.now ≡ 8 }
-    requires few { length held.now ≤ 8 }
-    ensures reads { spec.bus_frame_in result ≡ spec.frame_with held.now (spec.number_of identifier.now) }
+/// Whether a remote frame, or a frame of CAN FD, follows its identifier.
+fn is_other_kind(behind: &[u8]) -> bool
+    ensures { result ≡ spec.is_other_kind behind.now }
+{
+    byte_at(behind, 0) == b'R' || byte_at(behind, 0) == b'#'
+}
+
+/// Whether data follow their identifier.
+fn are_data(behind: &[u8]) -> bool
+    ensures { result ≡ is_some (spec.data_at behind.now) }
+{
+    put_data(behind, &mut [0; 8]).is_some()
+}
+
+/// What a frame with an identifier of three digits breaks.
+fn short_frame(identifier: &[u8], behind: &[u8]) -> LineRule
+    ensures { Err result ≡ spec.short_frame (list_all is_ascii_hexdigit identifier.now) behind.now }
+{
+    if all_hexadecimal(identifier) && (is_other_kind(behind) || are_data(behind)) {
+        LineRule::NotExtended
+    } else {
+        LineRule::Form
+    }
+}
+
+/// The frame of an identifier, and of the data behind its `#`.
+fn frame_with(id: u32, behind: &[u8]) -> Result<Frame, LineRule>
+    ensures reads { spec.bus_frame_in result ≡ spec.frame_with id (spec.data_at behind.now) }
     ensures valid { IfOk result IsFrame }
 {
-    match number(identifier) {
+    let mut room = [0; 8];
+    match put_data(behind, &mut room) {
         None => Err(LineRule::Form),
-        Some(id) => match Frame::of(id, held) {
+        Some(count) => match Frame::of(id, &room[..count]) {
             Some(frame) => Ok(frame),
             None => Err(LineRule::NotExtended),
         },
     }
 }
 
-/// The frame of an identifier of three or eight digits, and of the data behind its `#`.
-fn frame_of(identifier: &[u8], behind: &[u8]) -> Result<Frame, LineRule>
-    requires { (length identifier.now ≡ 3) ⊎ (length identifier.now ≡ 8) }
-    ensures reads { spec.bus_frame_in result ≡ spec.frame_of identifier.now (spec.data_at behind.now) }
+/// The frame of an identifier of eight digits.
+fn wide_frame(identifier: &[u8], behind: &[u8]) -> Result<Frame, LineRule>
+    requires eight { length identifier.now ≡ 8 }
+    ensures reads { spec.bus_frame_in result ≡ spec.wide_frame (spec.number_of identifier.now) behind.now }
     ensures valid { IfOk result IsFrame }
 {
-    let mut room = [0; 8];
-    match put_data(behind, &mut room) {
+    match number(identifier) {
         None => Err(LineRule::Form),
-        Some(count) => {
-            if identifier.len() == 3 {
+        Some(id) => {
+            if is_other_kind(behind) {
                 return Err(LineRule::NotExtended);
             }
-            frame_with(identifier, &room[..count])
+            frame_with(id, behind)
         }
     }
-}
-
-/// Whether a remote frame, or a frame of CAN FD, follows its identifier.
-fn is_other_kind(behind: &[u8]) -> bool
-    ensures { result ≡ spec.is_other_kind behind.now }
-{
-    byte_at(behind, 0) == b'R' || byte_at(behind, 0) == b'#'
 }
 
 /// The frame of the bus behind the interface.
@@ -167,15 +178,13 @@ fn frame(tail: &[u8]) -> Result<Frame, LineRule>
         return Err(LineRule::Form);
     }
     let digits = tail.split_at(1).1;
-    let count = hex_run(digits);
-    if (count != 3 && count != 8) || byte_at(digits, count) != b'#' {
-        return Err(LineRule::Form);
+    if byte_at(digits, 3) == b'#' {
+        return Err(short_frame(digits.split_at(3).0, digits.split_at(4).1));
     }
-    let behind = digits.split_at(count + 1).1;
-    if is_other_kind(behind) {
-        return Err(LineRule::NotExtended);
+    if byte_at(digits, 8) == b'#' {
+        return wide_frame(digits.split_at(8).0, digits.split_at(9).1);
     }
-    frame_of(digits.split_at(count).0, behind)
+    Err(LineRule::Form)
 }
 
 /// The interface at the front, and what follows it.
