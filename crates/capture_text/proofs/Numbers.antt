@@ -42,18 +42,3 @@ decimal_len n (suc k) fits few =
 pub all_digits : (ds : List ℕ) → list_all is_ascii_digit ds ≡ all_ascii_digits ds
 all_digits [] = refl
 all_digits (c ∷ cs) = ap (λ b. is_ascii_digit c && b) (all_digits cs)
-
-pub digit_range : (ds : List ℕ) (i : ℕ) → list_all is_ascii_digit ds ≡ true → i < length ds → (48 ≤ get_or ds i 0) × (get_or ds i 0 ≤ 57)
-digit_range ds i digits lt = digit_in_range ds i (sym (all_digits ds) ∙ digits) lt
-
--- sixteen digits write less than 10^16
-pub few_digits : (ds : List ℕ) → list_all is_ascii_digit ds ≡ true → length ds ≤ 16 → number_after 0 ds < 10 ^ 16
-few_digits ds digits few = digits_value_short own ds 16 (sym (all_digits ds) ∙ digits) few
-
-pub both_few : (xs ys : List ℕ) → list_all is_ascii_digit xs ≡ true → list_all is_ascii_digit ys ≡ true → length xs + length ys ≤ 16
-    → number_after (number_after 0 xs) ys < 10 ^ 16
-both_few xs ys h k few =
-    omega (arith, sym (number_after_append 0 xs ys), few_digits (xs ++ ys) (all_append is_ascii_digit xs ys h k) (omega (arith, length-append xs ys)))
-
-pub front_digits : (ds : List ℕ) (n : ℕ) → n ≡ prefix_len is_ascii_digit ds → list_all is_ascii_digit (take n ds) ≡ true
-front_digits ds n e = ap (λ (k : ℕ). list_all is_ascii_digit (take k ds)) e ∙ front_passes is_ascii_digit ds

@@ -1,111 +1,184 @@
 -- The time of a line: what is read is spelled so, and what is spelled so is read.
-use Rattle.std.proofs.Common.{◌≡◌, ℕ, ◌+◌, ◌<◌, ◌≤◌, true, cond, leb, ◌&&◌, List, [], ◌∷◌, ◌++◌, length, get_or, take, drop, Option, Some, None, refl, sym, ap, subst, ◌∙◌, append_assoc, length-append, arith}
+use Rattle.std.proofs.Common.{◌≡◌, ℕ, zero, suc, ◌+◌, ◌-◌, ◌<◌, ◌≤◌, true, false, cond, leb, ◌&&◌, List, [], ◌∷◌, ◌++◌, length, get_or, take, drop, Option, Some, None, refl, sym, ap, subst, ◌∙◌, append_assoc, length-append, arith, take-take}
 use Rattle.std.specs.Prelude.{◌==◌}
 use Rattle.std.specs.Char.{is_ascii_digit}
-use Rattle.std.specs.List.{prefix_len}
+use Rattle.std.specs.List.{prefix_len, list_all}
 use Rattle.std.proofs.lemmas.Bool.{and_parts, eqb-true, leb-true, le-leb}
 use Rattle.std.proofs.lemmas.List.{length-take, take_more}
-use Rattle.std.proofs.lemmas.List.Folds.{length-prefix_len}
-use Rattle.sentence_text.proofs.Bytes.{front_passes, splits}
-use Rattle.unit_fraction.specs.Digits.{number}
+use Rattle.std.proofs.lemmas.List.Sums.{prefix_len-le-length}
+use Rattle.std.proofs.Math.Seq.{take-append-add}
+use Rattle.sentence_text.proofs.Bytes.{front_passes, run_of}
+use Rattle.unit_fraction.specs.Digits.{number, number_after}
+use Rattle.unit_fraction.proofs.Number.{number_after_append}
 use Rattle.capture_text.specs.Capture.{IsTime}
-use Rattle.capture_text.specs.Reading.{Timed, time_at}
-use Rattle.capture_text.proofs.Cuts.{within, cut_by_test, cut_at, if_some, some_is}
-use Rattle.capture_text.proofs.Numbers.{front_digits}
+use Rattle.capture_text.specs.Reading.{Timed, seconds_at, micros_at, micros_behind, time_at}
+use Rattle.capture_text.proofs.Cuts.{within, cut_found, cut_by_test, cut_at, if_some, some_is}
 
 pub record TimeRead (line : List ℕ) (t : Timed) : Type 0 where
   pub time : List ℕ
   pub is_time : IsTime t.moment time
   pub spelled : line ≡ time ++ 32 ∷ t.rest
 
+-- ---- digits among the first m bytes
+
+-- those that are counted
+front_digits : (m n : ℕ) (text : List ℕ) → prefix_len is_ascii_digit (take m text) ≡ n → list_all is_ascii_digit (take n text) ≡ true
+front_digits m n text e =
+    let le : n ≤ m = omega (arith, e, prefix_len-le-length is_ascii_digit (take m text), length-take m text) in
+    ap (list_all is_ascii_digit) (sym (take-take n m text le))
+    ∙ ap (λ (k : ℕ). list_all is_ascii_digit (take k (take m text))) (sym e)
+    ∙ front_passes is_ascii_digit (take m text)
+
+other_first : (k c : ℕ) (rest : List ℕ) → is_ascii_digit c ≡ false → prefix_len is_ascii_digit (take k (c ∷ rest)) ≡ 0
+other_first zero c rest e = refl
+other_first (suc k) c rest e = rw e refl
+
+-- those that come before another byte
+front_run : (m : ℕ) (digits : List ℕ) (c : ℕ) (rest : List ℕ) → list_all is_ascii_digit digits ≡ true → is_ascii_digit c ≡ false → length digits ≤ m
+    → prefix_len is_ascii_digit (take m (digits ++ c ∷ rest)) ≡ length digits
+front_run m digits c rest all other le =
+    let more = m - length digits in
+    let whole : m ≡ length digits + more = omega (arith, le) in
+    ap (λ (k : ℕ). prefix_len is_ascii_digit (take k (digits ++ c ∷ rest))) whole
+    ∙ ap (prefix_len is_ascii_digit) (take-append-add digits (c ∷ rest) more)
+    ∙ run_of is_ascii_digit digits (take more (c ∷ rest)) all (other_first more c rest other)
+
+-- ---- what is read is spelled so
+
+record SecondsRead (text : List ℕ) (t : Timed) : Type 0 where
+  seconds : List ℕ
+  spelled : text ≡ seconds ++ 46 ∷ t.rest
+  some : 1 ≤ length seconds
+  few : length seconds ≤ 10
+  are_digits : list_all is_ascii_digit seconds ≡ true
+  value : t.moment ≡ number seconds
+
+seconds_found : (text : List ℕ) (t : Timed) → seconds_at text ≡ Some t → SecondsRead text t
+unfolding seconds_at
+seconds_found text t e =
+    let n = prefix_len is_ascii_digit (take 10 text) in
+    let made : Timed = record { moment = number (take n text); rest = drop (n + 1) text } in
+    let is = if_some (leb 1 n && (get_or text n 0 == 46)) (Some made) t e in
+    let h = and_parts (leb 1 n) (get_or text n 0 == 46) is.0 in
+    let point : get_or text n 0 ≡ 46 = eqb-true (get_or text n 0) 46 h.1 in
+    let len : length (take n text) ≡ n = omega (arith, length-take n text, within text n 45 point) in
+    let one : SecondsRead text made = record {
+      seconds = take n text;
+      spelled = cut_found text n 45 point;
+      some = omega (arith, len, leb-true 1 n h.0);
+      few = omega (arith, len, prefix_len-le-length is_ascii_digit (take 10 text), length-take 10 text);
+      are_digits = front_digits 10 n text refl;
+      value = refl;
+    } in
+    subst (SecondsRead text) (some_is made t is.1) one
+
+record MicrosRead (before : ℕ) (text : List ℕ) (t : Timed) : Type 0 where
+  micros : List ℕ
+  spelled : text ≡ (micros ++ 41 ∷ []) ++ 32 ∷ t.rest
+  six : length micros ≡ 6
+  are_digits : list_all is_ascii_digit micros ≡ true
+  value : t.moment ≡ number_after before micros
+
+micros_found : (before : ℕ) (text : List ℕ) (t : Timed) → micros_at before text ≡ Some t → MicrosRead before text t
+unfolding micros_at
+micros_found before text t e =
+    let micros = take 6 text in
+    let made : Timed = record { moment = number_after before micros; rest = drop 8 text } in
+    let p0 = prefix_len is_ascii_digit micros == 6 in
+    let p1 = get_or text 6 0 == 41 in
+    let p2 = get_or text 7 0 == 32 in
+    let is = if_some (p0 && p1 && p2) (Some made) t e in
+    let h2 = and_parts (p0 && p1) p2 is.0 in
+    let h1 = and_parts p0 p1 h2.0 in
+    let closed : get_or text 6 0 ≡ 41 = eqb-true (get_or text 6 0) 41 h1.1 in
+    let room : 6 < length text = within text 6 40 closed in
+    let seven : take 7 text ≡ micros ++ 41 ∷ [] = take_more text 6 0 room ∙ ap (λ (c : ℕ). micros ++ c ∷ []) closed in
+    let one : MicrosRead before text made = record {
+      micros = micros;
+      spelled = cut_by_test text 7 31 h2.1 ∙ ap (λ (x : List ℕ). x ++ 32 ∷ drop 8 text) seven;
+      six = omega (arith, room, length-take 6 text);
+      are_digits = front_digits 6 6 text (eqb-true (prefix_len is_ascii_digit micros) 6 h1.0);
+      value = refl;
+    } in
+    subst (MicrosRead before text) (some_is made t is.1) one
+
+behind_found : (line : List ℕ) (s : Option Timed) (t : Timed) → get_or line 0 0 ≡ 40 → seconds_at (drop 1 line) ≡ s → micros_behind s ≡ Some t → TimeRead line t
+behind_found line None t first e f = absurd cc
+behind_found line (Some s) t first e f =
+    let a = seconds_found (drop 1 line) s e in
+    let b = micros_found s.moment s.rest t f in
+    let closed : List ℕ = b.micros ++ 41 ∷ [] in
+    record {
+      time = 40 ∷ (a.seconds ++ 46 ∷ closed);
+      is_time = record {
+        seconds = a.seconds;
+        micros = b.micros;
+        spelled = refl;
+        some = a.some;
+        few = a.few;
+        six = b.six;
+        seconds_digits = a.are_digits;
+        micros_digits = b.are_digits;
+        value = b.value ∙ ap (λ (n : ℕ). number_after n b.micros) a.value ∙ sym (number_after_append 0 a.seconds b.micros);
+      };
+      spelled = cut_found line 0 39 first
+      ∙ ap (λ (x : List ℕ). 40 ∷ x) (a.spelled ∙ ap (λ (x : List ℕ). a.seconds ++ 46 ∷ x) b.spelled ∙ sym (append_assoc a.seconds (46 ∷ closed) (32 ∷ t.rest)));
+    }
+
 pub time_found : (line : List ℕ) (t : Timed) → time_at line ≡ Some t → TimeRead line t
 unfolding time_at
 time_found line t e =
-    let seconds = drop 1 line in
-    let n = prefix_len is_ascii_digit seconds in
-    let behind = drop (n + 1) seconds in
-    let six = prefix_len is_ascii_digit behind == 6 in
-    let front = take n seconds in
-    let micros = take 6 behind in
-    let made : Timed = record { moment = number (front ++ micros); rest = drop 8 behind } in
-    let p0 = get_or line 0 0 == 40 in
-    let p1 = leb 1 n in
-    let p2 = leb n 10 in
-    let p3 = get_or seconds n 0 == 46 in
-    let p5 = get_or behind 6 0 == 41 in
-    let p6 = get_or behind 7 0 == 32 in
-    let made_is = if_some (p0 && p1 && p2 && p3 && six && p5 && p6) (Some made) t e in
-    let h6 = and_parts (p0 && p1 && p2 && p3 && six && p5) p6 made_is.0 in
-    let h5 = and_parts (p0 && p1 && p2 && p3 && six) p5 h6.0 in
-    let h4 = and_parts (p0 && p1 && p2 && p3) six h5.0 in
-    let h3 = and_parts (p0 && p1 && p2) p3 h4.0 in
-    let h2 = and_parts (p0 && p1) p2 h3.0 in
-    let h1 = and_parts p0 p1 h2.0 in
-    let a : line ≡ 40 ∷ seconds = cut_by_test line 0 39 h1.0 in
-    let b : seconds ≡ front ++ 46 ∷ behind = cut_by_test seconds n 45 h3.1 in
-    let closed : get_or behind 6 0 ≡ 41 = eqb-true (get_or behind 6 0) 41 h5.1 in
-    let room : 6 < length behind = within behind 6 40 closed in
-    let seven : take 7 behind ≡ micros ++ 41 ∷ [] = take_more behind 6 0 room ∙ ap (λ (c : ℕ). micros ++ c ∷ []) closed in
-    let m : behind ≡ (micros ++ 41 ∷ []) ++ 32 ∷ drop 8 behind = cut_by_test behind 7 31 h6.1 ∙ ap (λ (x : List ℕ). x ++ 32 ∷ drop 8 behind) seven in
-    let len = length-prefix_len is_ascii_digit seconds in
-    let exact : prefix_len is_ascii_digit behind ≡ 6 = eqb-true (prefix_len is_ascii_digit behind) 6 h4.1 in
-    let one : TimeRead line made = record {
-      time = 40 ∷ (front ++ 46 ∷ (micros ++ 41 ∷ []));
-      is_time = record {
-        seconds = front;
-        micros = micros;
-        spelled = refl;
-        some = omega (arith, len, leb-true 1 n h1.1);
-        few = omega (arith, len, leb-true n 10 h2.1);
-        six = omega (arith, room, length-take 6 behind);
-        seconds_digits = front_passes is_ascii_digit seconds;
-        micros_digits = front_digits behind 6 (sym exact);
-        value = refl;
-      };
-      spelled = a ∙ ap (λ (x : List ℕ). 40 ∷ x) (b ∙ ap (λ (x : List ℕ). front ++ 46 ∷ x) m ∙ sym (append_assoc front (46 ∷ (micros ++ 41 ∷ [])) (32 ∷ drop 8 behind)));
-    } in
-    subst (TimeRead line) (some_is made t made_is.1) one
+    let h = if_some (get_or line 0 0 == 40) (micros_behind (seconds_at (drop 1 line))) t e in
+    behind_found line (seconds_at (drop 1 line)) t (eqb-true (get_or line 0 0) 40 h.0) refl h.1
 
--- ---- the other way
+-- ---- what is spelled so is read
 
--- behind `(`, from the count of the first digits, the byte behind them, these digits, and what follows that byte
-abbrev made_of : ℕ → ℕ → List ℕ → List ℕ → Option Timed
-made_of n point front behind =
-    cond (leb 1 n && leb n 10 && (point == 46) && (prefix_len is_ascii_digit behind == 6) && (get_or behind 6 0 == 41) && (get_or behind 7 0 == 32))
-    (Some (record { moment = number (front ++ take 6 behind); rest = drop 8 behind })) None
+abbrev seconds_by : ℕ → ℕ → List ℕ → List ℕ → Option Timed
+seconds_by n point front behind = cond (leb 1 n && (point == 46)) (Some (record { moment = number front; rest = behind })) None
 
-made_again : (seconds micros rest : List ℕ) (moment : ℕ) → IsTime moment (40 ∷ (seconds ++ 46 ∷ (micros ++ 41 ∷ []))) → 1 ≤ length seconds → length seconds ≤ 10 → length micros ≡ 6
-    → prefix_len is_ascii_digit (micros ++ 41 ∷ 32 ∷ rest) ≡ length micros → moment ≡ number (seconds ++ micros)
-    → made_of (length seconds) 46 seconds (micros ++ 41 ∷ 32 ∷ rest) ≡ Some (record { moment = moment; rest = rest })
-made_again seconds micros rest moment h some few six run value =
-    let behind = micros ++ 41 ∷ 32 ∷ rest in
-    let a : leb 1 (length seconds) ≡ true = le-leb 1 (length seconds) some in
-    let b : leb (length seconds) 10 ≡ true = le-leb (length seconds) 10 few in
-    let c : prefix_len is_ascii_digit behind ≡ 6 = run ∙ six in
+seconds_again : (seconds rest : List ℕ) → 1 ≤ length seconds → length seconds ≤ 10 → list_all is_ascii_digit seconds ≡ true
+    → seconds_at (seconds ++ 46 ∷ rest) ≡ Some (record { moment = number seconds; rest = rest })
+unfolding seconds_at
+seconds_again seconds rest some few digits =
+    let text = seconds ++ 46 ∷ rest in
+    let n = prefix_len is_ascii_digit (take 10 text) in
+    let run : n ≡ length seconds = front_run 10 seconds 46 rest digits refl few in
+    let cut = cut_at seconds 46 rest n (sym run) in
+    let enough : leb 1 (length seconds) ≡ true = le-leb 1 (length seconds) some in
+    ap (λ (x : List ℕ). seconds_by n (get_or text n 0) (take n text) x) cut.behind_is
+    ∙ ap (λ (x : List ℕ). seconds_by n (get_or text n 0) x rest) cut.front_is
+    ∙ ap (λ (x : ℕ). seconds_by n x seconds rest) cut.byte_is
+    ∙ ap (λ (x : ℕ). seconds_by x 46 seconds rest) run
+    ∙ rw enough refl
+
+micros_again : (before : ℕ) (micros rest : List ℕ) → length micros ≡ 6 → list_all is_ascii_digit micros ≡ true
+    → micros_at before (micros ++ 41 ∷ 32 ∷ rest) ≡ Some (record { moment = number_after before micros; rest = rest })
+unfolding micros_at
+micros_again before micros rest six digits =
+    let text = micros ++ 41 ∷ 32 ∷ rest in
+    let run : prefix_len is_ascii_digit (take 6 text) ≡ 6 = front_run 6 micros 41 (32 ∷ rest) digits refl (omega (arith, six)) ∙ six in
     let cut = cut_at micros 41 (32 ∷ rest) 6 six in
-    let joined : behind ≡ (micros ++ 41 ∷ []) ++ 32 ∷ rest = sym (append_assoc micros (41 ∷ []) (32 ∷ rest)) in
-    let next = cut_at (micros ++ 41 ∷ []) 32 rest 7 (omega (arith, length-append micros (41 ∷ []))) in
-    let d : get_or behind 6 0 ≡ 41 = cut.byte_is in
-    let f : get_or behind 7 0 ≡ 32 = ap (λ (x : List ℕ). get_or x 7 0) joined ∙ next.byte_is in
-    let g : take 6 behind ≡ micros = cut.front_is in
-    let k : drop 8 behind ≡ rest = ap (drop 8) joined ∙ next.behind_is in
-    rw (a, b, c, d, f, g, k) (ap (λ (x : ℕ). Some (record { moment = x; rest = rest })) (sym value))
+    let joined : text ≡ (micros ++ 41 ∷ []) ++ 32 ∷ rest = sym (append_assoc micros (41 ∷ []) (32 ∷ rest)) in
+    let next = cut_at (micros ++ 41 ∷ []) 32 rest 7 (omega (arith, length-append micros (41 ∷ []), six)) in
+    let closed : get_or text 6 0 ≡ 41 = cut.byte_is in
+    let space : get_or text 7 0 ≡ 32 = ap (λ (x : List ℕ). get_or x 7 0) joined ∙ next.byte_is in
+    let front : take 6 text ≡ micros = cut.front_is in
+    let behind : drop 8 text ≡ rest = ap (drop 8) joined ∙ next.behind_is in
+    rw (run, closed, space, front, behind) refl
+
+time_by : (text : List ℕ) → time_at (40 ∷ text) ≡ micros_behind (seconds_at text)
+unfolding time_at
+time_by text = refl
 
 pub time_again : (moment : ℕ) (time rest : List ℕ) → IsTime moment time → time_at (time ++ 32 ∷ rest) ≡ Some (record { moment = moment; rest = rest })
-unfolding time_at
 time_again moment time rest h =
     let behind = h.micros ++ 41 ∷ 32 ∷ rest in
-    let text = h.seconds ++ 46 ∷ behind in
     let inner : (h.micros ++ 41 ∷ []) ++ 32 ∷ rest ≡ behind = append_assoc h.micros (41 ∷ []) (32 ∷ rest) in
-    let shape : time ++ 32 ∷ rest ≡ 40 ∷ text =
+    let shape : time ++ 32 ∷ rest ≡ 40 ∷ (h.seconds ++ 46 ∷ behind) =
     ap (λ (x : List ℕ). x ++ 32 ∷ rest) h.spelled ∙ ap (λ (x : List ℕ). 40 ∷ x) (append_assoc h.seconds (46 ∷ (h.micros ++ 41 ∷ [])) (32 ∷ rest) ∙ ap (λ (x : List ℕ). h.seconds ++ 46 ∷ x) inner) in
-    let s = splits is_ascii_digit h.seconds (46 ∷ behind) h.seconds_digits refl in
-    let u = splits is_ascii_digit h.micros (41 ∷ 32 ∷ rest) h.micros_digits refl in
-    let cut = cut_at h.seconds 46 behind (prefix_len is_ascii_digit text) (sym s.run) in
-    let first : time_at (40 ∷ text) ≡ made_of (prefix_len is_ascii_digit text) (get_or text (prefix_len is_ascii_digit text) 0) (take (prefix_len is_ascii_digit text) text) (drop (prefix_len is_ascii_digit text + 1) text) = refl in
-    ap time_at shape ∙ first
-    ∙ ap (λ (x : List ℕ). made_of (prefix_len is_ascii_digit text) (get_or text (prefix_len is_ascii_digit text) 0) (take (prefix_len is_ascii_digit text) text) x) cut.behind_is
-    ∙ ap (λ (x : List ℕ). made_of (prefix_len is_ascii_digit text) (get_or text (prefix_len is_ascii_digit text) 0) x behind) cut.front_is
-    ∙ ap (λ (x : ℕ). made_of (prefix_len is_ascii_digit text) x h.seconds behind) cut.byte_is
-    ∙ ap (λ (x : ℕ). made_of x 46 h.seconds behind) s.run
-    ∙ made_again h.seconds h.micros rest moment (subst (IsTime moment) h.spelled h) h.some h.few h.six u.run h.value
+    let value : number_after (number h.seconds) h.micros ≡ moment = sym (number_after_append 0 h.seconds h.micros) ∙ sym h.value in
+    ap time_at shape
+    ∙ time_by (h.seconds ++ 46 ∷ behind)
+    ∙ ap micros_behind (seconds_again h.seconds behind h.some h.few h.seconds_digits)
+    ∙ micros_again (number h.seconds) h.micros rest h.six h.micros_digits
+    ∙ ap (λ (x : ℕ). Some (record { moment = x; rest = rest })) value

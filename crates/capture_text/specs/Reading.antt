@@ -6,7 +6,7 @@ use Rattle.std.specs.Char.{is_ascii_digit, is_ascii_graphic, is_ascii_hexdigit}
 use Rattle.std.specs.Result.{result_ok}
 use Rattle.std.specs.Int.{w32, from_be_bytes}
 use Rattle.hex.specs.Hex.{decode_of}
-use Rattle.unit_fraction.specs.Digits.{number}
+use Rattle.unit_fraction.specs.Digits.{number, number_after}
 use Rattle.n2k_id.specs.declared.frame.Frame.{Frame}
 use Rattle.n2k_id.specs.Frame.{BusFrame, bus_frame}
 use Rattle.n2k_id.specs.Frame as valid
@@ -22,13 +22,23 @@ pub record Timed : Type 0 where
   pub moment : ℕ
   pub rest : List ℕ
 
--- the digits of the seconds and of the microseconds behind `(`, each up to the first other byte
-unfoldable pub time_at : List ℕ → Option Timed
-time_at line = let seconds = drop 1 line in let n = prefix_len is_ascii_digit seconds in let micros = drop (n + 1) seconds in
-    if slice_index line 0 == 40 && nat_le 1 n && nat_le n 10 && slice_index seconds n == 46
-    && prefix_len is_ascii_digit micros == 6 && slice_index micros 6 == 41 && slice_index micros 7 == 32
-    then Some (record { moment = number (take n seconds ++ take 6 micros); rest = drop 8 micros })
+-- one to ten digits of seconds, and the point behind them
+unfoldable pub seconds_at : List ℕ → Option Timed
+seconds_at text = let n = prefix_len is_ascii_digit (take 10 text) in
+    if nat_le 1 n && slice_index text n == 46 then Some (record { moment = number (take n text); rest = drop (n + 1) text }) else None
+
+-- six digits of microseconds, `)` and a space
+unfoldable pub micros_at : ℕ → List ℕ → Option Timed
+micros_at seconds text = if prefix_len is_ascii_digit (take 6 text) == 6 && slice_index text 6 == 41 && slice_index text 7 == 32
+    then Some (record { moment = number_after seconds (take 6 text); rest = drop 8 text })
     else None
+
+abbrev pub micros_behind : Option Timed → Option Timed
+micros_behind None = None
+micros_behind (Some t) = micros_at t.moment t.rest
+
+unfoldable pub time_at : List ℕ → Option Timed
+time_at line = if slice_index line 0 == 40 then micros_behind (seconds_at (drop 1 line)) else None
 
 -- ---- the three kinds of lines, behind the interface
 

@@ -1,18 +1,10 @@
 ghost use Rattle.std.specs.Prelude.{◌≡◌, ◌≤◌, length, slice_index};
-ghost use Rattle.std.specs.Char.{is_ascii_digit, is_ascii_graphic, is_ascii_hexdigit};
+ghost use Rattle.std.specs.Char.{is_ascii_graphic, is_ascii_hexdigit};
 ghost use Rattle.std.specs.List.{list_all, prefix_len};
 ghost use Rattle.capture_text.specs.Capture as capture;
 ghost use Rattle.capture_text.specs.Reading as spec;
 
 use sentence_text::Group;
-
-/// How many decimal digits come first.
-pub(crate) fn digit_run(text: &[u8]) -> usize
-    ensures run { result ≡ prefix_len is_ascii_digit text.now }
-    ensures within { result ≤ length text.now }
-{
-    text.iter().take_while(|byte| byte.is_ascii_digit()).count()
-}
 
 /// How many bytes come before the first space, or before the end.
 fn text_run(text: &[u8]) -> usize

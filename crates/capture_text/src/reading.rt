@@ -1,6 +1,6 @@
-ghost use Rattle.std.specs.Prelude.{◌≡◌, ◌+◌, ◌*◌, ◌<◌, ◌≤◌, ◌^◌, ◌⊎◌, ◌++◌, ◌↔◌, length, Ok, Err, Some, None, is_some, IfOk, IfSome, MatchOption, IsTrue};
+ghost use Rattle.std.specs.Prelude.{◌≡◌, ◌+◌, ◌*◌, ◌<◌, ◌≤◌, ◌^◌, ◌⊎◌, ◌++◌, ◌↔◌, length, take, Ok, Err, Some, None, is_some, IfOk, IfSome, MatchOption};
 ghost use Rattle.std.specs.Char.{is_ascii_digit, is_ascii_hexdigit};
-ghost use Rattle.std.specs.List.{list_all};
+ghost use Rattle.std.specs.List.{list_all, prefix_len};
 ghost use Rattle.std.specs.Result.{result_ok};
 ghost use Rattle.hex.specs.Hex.{decode_of};
 ghost use Rattle.unit_fraction.specs.Digits.{number_after};
@@ -8,40 +8,68 @@ ghost use Rattle.n2k_id.specs.Frame.{IsFrame};
 ghost use Rattle.capture_text.specs.Capture.{Seen, IsLine, IsNotExtended, IsNoLine};
 ghost use Rattle.capture_text.specs.Reading as spec;
 
-use crate::byte::{all_hexadecimal, byte_at, digit_run, is_end, is_group, name_run, up_to_space};
+use crate::byte::{all_hexadecimal, byte_at, is_end, is_group, name_run, up_to_space};
 use crate::event::{Event, LineRule};
 use n2k_id::Frame;
 
 /// The most bytes of a line.
 const LONGEST: usize = 4096;
 
-/// The number that the digits write behind those that were read before.
-#[tactic(auto, using(crate::proofs::Numbers::digit_range, unit_fraction::proofs::Number::number_step))]
-fn number_behind(before: u64, digits: &[u8]) -> u64
-    requires digits { IsTrue (list_all is_ascii_digit digits.now) }
-    requires fits { number_after before digits.now < 2 ^ 64 }
-    ensures { result ≡ number_after before digits.now }
+/// How many digits come first, and the number that they write behind those that were read before.
+#[tactic(auto, using(crate::proofs::Digits::run_starts, crate::proofs::Digits::run_goes_on, crate::proofs::Digits::run_stops, crate::proofs::Digits::run_ends))]
+fn digit_run(before: u64, text: &[u8]) -> (usize, u64)
+    requires { (before + 1) * 10 ^ length text.now ≤ 10 ^ 16 }
+    ensures run { result.0 ≡ prefix_len is_ascii_digit text.now }
+    ensures number { result.1 ≡ number_after before (take result.0 text.now) }
+    ensures small { result.1 < (before + 1) * 10 ^ result.0 }
 {
     let mut number = before;
-    for digit in digits {
-        number = number * 10 + u64::from(*digit - b'0');
+    for (count, byte) in text.iter().enumerate() {
+        if !byte.is_ascii_digit() {
+            return (count, number);
+        }
+        number = number * 10 + u64::from(*byte - b'0');
     }
-    number
+    (text.len(), number)
 }
 
-/// The moment that seconds and microseconds write.
-#[tactic(auto, using(crate::proofs::Numbers::few_digits, crate::proofs::Numbers::both_few, unit_fraction::proofs::Number::number_after_append))]
-fn moment(seconds: &[u8], micros: &[u8]) -> u64
-    requires seconds { IsTrue (list_all is_ascii_digit seconds.now) }
-    requires micros { IsTrue (list_all is_ascii_digit micros.now) }
-    requires few { length seconds.now + length micros.now ≤ 16 }
-    ensures { result ≡ number_after 0 (seconds.now ++ micros.now) }
+/// The first bytes, at most so many.
+fn front(text: &[u8], most: usize) -> &[u8]
+    ensures { result.now ≡ take most text.now }
 {
-    number_behind(number_behind(0, seconds), micros)
+    text.split_at(text.len().min(most)).0
+}
+
+/// The seconds at the front, and what follows the point behind them.
+#[tactic(auto, using(crate::proofs::Digits::seconds_fit, crate::proofs::Digits::seconds_few, crate::proofs::Digits::seconds_there), unfolding(crate::specs::Reading::seconds_at))]
+fn seconds(text: &[u8]) -> Option<(u64, &[u8])>
+    ensures few { IfSome result (λ t. t.0 < 10 ^ 10) }
+    ensures shorter { IfSome result (λ t. length t.1.now ≤ length text.now) }
+    ensures reads { MatchOption result (spec.seconds_at text.now ≡ None) (λ t. spec.seconds_at text.now ≡ Some (record { moment = t.0; rest = t.1.now })) }
+{
+    let (count, seconds) = digit_run(0, front(text, 10));
+    if count < 1 || byte_at(text, count) != b'.' {
+        return None;
+    }
+    Some((seconds, text.split_at(count + 1).1))
+}
+
+/// The moment whose seconds were read and whose microseconds are at the front, and what follows the space behind them.
+#[tactic(auto, using(crate::proofs::Digits::micros_fit, crate::proofs::Digits::six_are_front), unfolding(crate::specs::Reading::micros_at))]
+fn moment(seconds: u64, text: &[u8]) -> Option<(u64, &[u8])>
+    requires { seconds < 10 ^ 10 }
+    ensures shorter { IfSome result (λ t. length t.1.now ≤ length text.now) }
+    ensures reads { MatchOption result (spec.micros_at seconds text.now ≡ None) (λ t. spec.micros_at seconds text.now ≡ Some (record { moment = t.0; rest = t.1.now })) }
+{
+    let (count, moment) = digit_run(seconds, front(text, 6));
+    if count != 6 || byte_at(text, 6) != b')' || byte_at(text, 7) != b' ' {
+        return None;
+    }
+    Some((moment, text.split_at(8).1))
 }
 
 /// The moment of the time at the front, and what follows the space behind it.
-#[tactic(auto, using(crate::proofs::Numbers::front_digits), unfolding(crate::specs::Reading::time_at))]
+#[tactic(auto, unfolding(crate::specs::Reading::time_at))]
 fn time(line: &[u8]) -> Option<(u64, &[u8])>
     ensures shorter { IfSome result (λ t. length t.1.now ≤ length line.now) }
     ensures reads { MatchOption result (spec.time_at line.now ≡ None) (λ t. spec.time_at line.now ≡ Some (record { moment = t.0; rest = t.1.now })) }
@@ -49,17 +77,10 @@ fn time(line: &[u8]) -> Option<(u64, &[u8])>
     if byte_at(line, 0) != b'(' {
         return None;
     }
-    let digits = line.split_at(1).1;
-    let count = digit_run(digits);
-    if count < 1 || count > 10 || byte_at(digits, count) != b'.' {
-        return None;
+    match seconds(line.split_at(1).1) {
+        Some((seconds, rest)) => moment(seconds, rest),
+        None => None,
     }
-    let behind = digits.split_at(count + 1).1;
-    if digit_run(behind) != 6 || byte_at(behind, 6) != b')' || byte_at(behind, 7) != b' ' {
-        return None;
-    }
-    let moment = moment(digits.split_at(count).0, behind.split_at(6).0);
-    Some((moment, behind.split_at(8).1))
 }
 
 /// Puts the bytes that the digits write into the room, and says how many there are.
