@@ -1,8 +1,8 @@
--- A whole number as a decimal without decimals.
+-- A whole number as a decimal without decimals, and how long it is.
 use Rattle.std.proofs.Common.{◌≡◌, ℕ, ◌/◌, ◌^◌, ◌<◌, ◌≤◌, false, length, ap, ◌∙◌, arith}
 use Rattle.std.specs.Fmt.{decimal}
 use Rattle.std.proofs.lemmas.List.{append-nil}
-use Rattle.std.proofs.lemmas.Fmt.{length-decimal-le_wide}
+use Rattle.std.proofs.lemmas.Fmt.{length-decimal-le, length-decimal-le_wide}
 use Rattle.unit_fraction.specs.Text.{decimal_text}
 
 pub plain_decimal : (n : ℕ) → decimal_text false n 0 ≡ decimal n
@@ -10,5 +10,16 @@ plain_decimal n =
     let one : n / 10 ^ 0 ≡ n = omega arith in
     append-nil (decimal (n / 10 ^ 0)) ∙ ap decimal one
 
-pub plain_decimal_len : (n : ℕ) → n < 2 ^ 64 → length (decimal_text false n 0) ≤ 20
-plain_decimal_len n fits = omega (arith, ap length (plain_decimal n), length-decimal-le_wide 20 n (omega arith) (omega arith) (omega arith))
+-- ---- how many digits a number has, by its type
+
+pub digits_of_a_byte : (n : ℕ) → n < 256 → length (decimal n) ≤ 3
+digits_of_a_byte n fits = length-decimal-le 3 n (omega arith) (omega arith) (omega arith)
+
+pub digits_of_a_short : (n : ℕ) → n < 65536 → length (decimal n) ≤ 5
+digits_of_a_short n fits = length-decimal-le 5 n (omega arith) (omega arith) (omega arith)
+
+pub digits_of_a_word : (n : ℕ) → n < 2 ^ 32 → length (decimal n) ≤ 10
+digits_of_a_word n fits = length-decimal-le 10 n (omega arith) (omega arith) (omega arith)
+
+pub digits_of_a_long : (n : ℕ) → n < 2 ^ 64 → length (decimal n) ≤ 20
+digits_of_a_long n fits = length-decimal-le_wide 20 n (omega arith) (omega arith) (omega arith)

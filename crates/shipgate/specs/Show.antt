@@ -43,9 +43,12 @@ abbrev pub text_or_dash : Option (List ℕ) → List ℕ
 text_or_dash None = 45 ∷ []
 text_or_dash (Some text) = text
 
+abbrev pub group_text : ℕ → ℕ → ℕ → List ℕ
+group_text number total code = decimal number ++ 45 ∷ (decimal total ++ 45 ∷ decimal code)
+
 abbrev pub group_or_dash : Option GroupPart → List ℕ
 group_or_dash None = 45 ∷ []
-group_or_dash (Some group) = decimal group.number ++ 45 ∷ (decimal group.total ++ 45 ∷ decimal group.code)
+group_or_dash (Some group) = group_text group.number group.total group.code
 
 abbrev pub count_or_dash : Option ℕ → List ℕ
 count_or_dash None = 45 ∷ []

@@ -18,7 +18,7 @@ ghost use Rattle.shipgate.specs.Writing.{Writes};
 
 use crate::says::rule_of;
 use crate::talker::talker_of;
-use crate::text::{Text, put, put_number, put_part};
+use crate::text::{Text, put, put_part};
 use crate::writer::Writer;
 use arrayvec::ArrayVec;
 use capture_text::{Event, LineRule, read_line};
@@ -34,60 +34,71 @@ const NOT_CONVERTED: u8 = 5;
 /// The rule of a payload that is too short for its message.
 const SHORT_MESSAGE: u8 = 22;
 
+/// What a line gives: at most two sentences.
+type Answer = ArrayVec<u8, 164>;
+
 // The report of a rule about a line.
-#[tactic(auto, unfolding(crate::specs::Convert::refusal))]
-fn write_refusal(rule: u8, number: u64, text: &mut Text)
-    requires { text.old.items ≡ [] }
-    ensures { text.new.items ≡ refusal rule number }
+#[tactic(auto, using(crate::proofs::Numbers::digits_of_a_byte, crate::proofs::Numbers::digits_of_a_long), unfolding(crate::specs::Convert::refusal))]
+fn refusal_of(rule: u8, number: u64) -> Text
+    ensures { result.items ≡ refusal rule number }
 {
-    put(b"rule ", text);
-    put_number(u64::from(rule), text);
-    put_part(b"line", number, text);
-    put(b"\n", text);
+    let mut text = ArrayVec::new();
+    put_part(b"rule ", u64::from(rule), &mut text);
+    put_part(b" line=", number, &mut text);
+    put(b"\n", &mut text);
+    text
+}
+
+fn write_refusal(rule: u8, number: u64, answer: &mut Answer)
+    requires { answer.old.items ≡ [] }
+    ensures { answer.new.items ≡ refusal rule number }
+{
+    let text = refusal_of(rule, number);
+    let _fits = answer.try_extend_from_slice(text.as_slice());
 }
 
 // The sentences behind one another.
-fn put_lines(lines: &Lines, text: &mut Text)
-    requires { text.old.items ≡ [] }
-    ensures { text.new.items ≡ flat_map (λ line. line) (lines_of lines.now) }
+fn put_lines(lines: &Lines, answer: &mut Answer)
+    requires { answer.old.items ≡ [] }
+    ensures { answer.new.items ≡ flat_map (λ line. line) (lines_of lines.now) }
 {
     for line in lines.as_slice() {
-        let _ = text.try_extend_from_slice(line.bytes.as_slice());
+        let _ = answer.try_extend_from_slice(line.bytes.as_slice());
     }
 }
 
 // The sentences of a reading.
-fn write_reading(reading: &Reading, text: &mut Text)
-    requires empty { text.old.items ≡ [] }
+fn write_reading(reading: &Reading, answer: &mut Answer)
+    requires empty { answer.old.items ≡ [] }
     requires valid { IsValidReading reading.now }
-    ensures { (lines : List (List ℕ)) × IsText reading.now (talker_of (row_of reading.now)) false lines × (text.new.items ≡ flat_map (λ line. line) lines) }
+    ensures { (lines : List (List ℕ)) × IsText reading.now (talker_of (row_of reading.now)) false lines × (answer.new.items ≡ flat_map (λ line. line) lines) }
 {
     let mut lines = ArrayVec::new();
     sentences(reading, talker_of(row(reading)), false, &mut lines);
-    put_lines(&lines, text);
+    put_lines(&lines, answer);
 }
 
-fn write_payload(number: u64, profiled: &Profiled, text: &mut Text)
-    requires empty { text.old.items ≡ [] }
+fn write_payload(number: u64, profiled: &Profiled, answer: &mut Answer)
+    requires empty { answer.old.items ≡ [] }
     requires valid { GivesValid profiled.now }
-    ensures { IsPayloadText number profiled.now text.new.items }
+    ensures { IsPayloadText number profiled.now answer.new.items }
 {
     match profiled {
-        Profiled::Reading(reading) => write_reading(reading, text),
-        Profiled::Outside => write_refusal(NOT_CONVERTED, number, text),
-        Profiled::Short => write_refusal(SHORT_MESSAGE, number, text),
+        Profiled::Reading(reading) => write_reading(reading, answer),
+        Profiled::Outside => write_refusal(NOT_CONVERTED, number, answer),
+        Profiled::Short => write_refusal(SHORT_MESSAGE, number, answer),
     }
 }
 
 // What a message gives that came in one frame.
-fn write_message(number: u64, pgn: u32, payload: &[u8], text: &mut Text)
-    requires { text.old.items ≡ [] }
-    ensures { IsMessageText number (kind_of pgn) pgn payload.now text.new.items }
+fn write_message(number: u64, pgn: u32, payload: &[u8], answer: &mut Answer)
+    requires { answer.old.items ≡ [] }
+    ensures { IsMessageText number (kind_of pgn) pgn payload.now answer.new.items }
 {
     match kind(pgn) {
-        Kind::Single => write_payload(number, &read(pgn, payload), text),
-        Kind::Fast => write_refusal(NOT_CONVERTED, number, text),
-        Kind::Outside => write_refusal(NOT_CONVERTED, number, text),
+        Kind::Single => write_payload(number, &read(pgn, payload), answer),
+        Kind::Fast => write_refusal(NOT_CONVERTED, number, answer),
+        Kind::Outside => write_refusal(NOT_CONVERTED, number, answer),
     }
 }
 
@@ -102,36 +113,36 @@ fn pgn_of(frame: &Frame) -> u32
 }
 
 // What a line gives that says something.
-fn write_event(number: u64, event: &Event<'_>, text: &mut Text)
-    requires empty { text.old.items ≡ [] }
+fn write_event(number: u64, event: &Event<'_>, answer: &mut Answer)
+    requires empty { answer.old.items ≡ [] }
     requires valid { IsValid event.now }
-    ensures { IsSaidText number (Ok (view event.now)) text.new.items }
+    ensures { IsSaidText number (Ok (view event.now)) answer.new.items }
 {
     match event {
-        Event::Frame { frame, .. } => write_message(number, pgn_of(frame), frame.held(), text),
-        Event::Datagram { .. } => write_refusal(NOT_CONVERTED, number, text),
-        Event::Tick { .. } => write_refusal(NOT_CONVERTED, number, text),
+        Event::Frame { frame, .. } => write_message(number, pgn_of(frame), frame.held(), answer),
+        Event::Datagram { .. } => write_refusal(NOT_CONVERTED, number, answer),
+        Event::Tick { .. } => write_refusal(NOT_CONVERTED, number, answer),
     }
 }
 
 // What a line gives that isn't empty.
-fn write_said(number: u64, line: &[u8], room: &mut [u8; 2048], text: &mut Text)
-    requires { text.old.items ≡ [] }
-    ensures { IsSaidText number (read_as line.now) text.new.items }
+fn write_said(number: u64, line: &[u8], room: &mut [u8; 2048], answer: &mut Answer)
+    requires { answer.old.items ≡ [] }
+    ensures { IsSaidText number (read_as line.now) answer.new.items }
 {
     match read_line(line, room) {
-        Ok(event) => write_event(number, &event, text),
-        Err(rule) => write_refusal(rule_of(rule), number, text),
+        Ok(event) => write_event(number, &event, answer),
+        Err(rule) => write_refusal(rule_of(rule), number, answer),
     }
 }
 
 #[tactic(auto, using(crate::proofs::SaidLaws::converted_empty, crate::proofs::SaidLaws::converted_line))]
-fn write_line(number: u64, line: &[u8], room: &mut [u8; 2048], text: &mut Text)
-    requires { text.old.items ≡ [] }
-    ensures { IsConverted number line.now text.new.items }
+fn write_line(number: u64, line: &[u8], room: &mut [u8; 2048], answer: &mut Answer)
+    requires { answer.old.items ≡ [] }
+    ensures { IsConverted number line.now answer.new.items }
 {
     if !line.is_empty() {
-        write_said(number, line, room, text);
+        write_said(number, line, room, answer);
     }
 }
 
@@ -146,9 +157,9 @@ pub(crate) fn put_line<K: Sink>(
     ensures sent { PutsLine IsConverted (K.taken out.old) (K.taken out.new) number line.now writer.old writer.new result }
     ensures cause { HasCause (K.fault_count out.old) (K.fault_count out.new) result }
 {
-    let mut text = ArrayVec::new();
-    write_line(number, line, room, &mut text);
-    writer.put(text.as_slice(), out)
+    let mut answer = ArrayVec::new();
+    write_line(number, line, room, &mut answer);
+    writer.put(answer.as_slice(), out)
 }
 
 /// Writes the report of a rule about a line.
@@ -161,7 +172,6 @@ pub(crate) fn put_refusal<K: Sink>(
     ensures sent { Writes (K.taken out.old) (K.taken out.new) (writer.old ++ refusal (rule_of rule) number) writer.new result }
     ensures cause { HasCause (K.fault_count out.old) (K.fault_count out.new) result }
 {
-    let mut text = ArrayVec::new();
-    write_refusal(rule_of(rule), number, &mut text);
+    let text = refusal_of(rule_of(rule), number);
     writer.put(text.as_slice(), out)
 }

@@ -32,13 +32,13 @@ const DATAGRAM_LONG: u8 = 47;
 
 const LONGEST: u16 = 1472;
 
+#[tactic(auto, using(crate::proofs::Numbers::digits_of_a_long))]
 fn write_start(number: u64, text: &mut Text)
     requires { text.old.items ≡ [] }
     ensures text { text.new.items ≡ spec.start number }
     ensures len { array_vec_len text.new ≤ 25 }
 {
-    put(b"line=", text);
-    put_number(number, text);
+    put_part(b"line=", number, text);
 }
 
 fn write_tick(number: u64, text: &mut Text)
@@ -49,12 +49,12 @@ fn write_tick(number: u64, text: &mut Text)
     put(b" tick\n", text);
 }
 
+#[tactic(auto, using(crate::proofs::Numbers::digits_of_a_byte))]
 fn put_rule(rule: u8, text: &mut Text)
-    requires { array_vec_len text.old ≤ 100 }
+    requires { array_vec_len text.old ≤ 50 }
     ensures { text.new.items ≡ text.old.items ++ spec.rule_end rule }
 {
-    put(b" rule ", text);
-    put_number(u64::from(rule), text);
+    put_part(b" rule ", u64::from(rule), text);
     put(b"\n", text);
 }
 
@@ -66,16 +66,18 @@ fn write_rule(number: u64, rule: u8, text: &mut Text)
     put_rule(rule, text);
 }
 
+#[tactic(auto, using(crate::proofs::Numbers::digits_of_a_short))]
 fn write_place(number: u64, at: u16, rule: u8, text: &mut Text)
     requires { text.old.items ≡ [] }
     ensures { text.new.items ≡ spec.place_text number at rule }
 {
     write_start(number, text);
-    put_part(b"at", u64::from(at), text);
+    put_part(b" at=", u64::from(at), text);
     put_rule(rule, text);
 }
 
 // The parts of the identifier, and how many data bytes there are.
+#[tactic(auto, using(crate::proofs::Numbers::digits_of_a_byte, crate::proofs::Numbers::digits_of_a_word))]
 fn write_frame(number: u64, frame: &Frame, text: &mut Text)
     requires empty { text.old.items ≡ [] }
     requires valid { IsFrame frame.now }
@@ -83,36 +85,42 @@ fn write_frame(number: u64, frame: &Frame, text: &mut Text)
 {
     write_start(number, text);
     if let Some(parts) = parts(frame.id) {
-        put_part(b"prio", u64::from(parts.priority), text);
-        put_part(b"pgn", u64::from(parts.pgn), text);
-        put_part(b"src", u64::from(parts.source), text);
-        put_part(b"dst", u64::from(parts.destination), text);
+        put_part(b" prio=", u64::from(parts.priority), text);
+        put_part(b" pgn=", u64::from(parts.pgn), text);
+        put_part(b" src=", u64::from(parts.source), text);
+        put_part(b" dst=", u64::from(parts.destination), text);
     }
-    put_part(b"len", frame.held().len() as u64, text);
+    put_part(b" len=", u64::from(frame.len), text);
     put(b"\n", text);
+}
+
+#[tactic(auto, using(crate::proofs::Numbers::digits_of_a_byte, crate::proofs::Numbers::digits_of_a_short))]
+fn put_group_part(number: u8, total: u8, code: u16, text: &mut Text)
+    requires { array_vec_len text.old ≤ 20 }
+    ensures text { text.new.items ≡ text.old.items ++ spec.group_text number total code }
+    ensures len { array_vec_len text.new ≤ array_vec_len text.old + 13 }
+{
+    put_number(u64::from(number), text);
+    put_part(b"-", u64::from(total), text);
+    put_part(b"-", u64::from(code), text);
 }
 
 fn put_group(group: &Option<GroupPart>, text: &mut Text)
     requires { array_vec_len text.old ≤ 20 }
     ensures text { text.new.items ≡ text.old.items ++ spec.group_or_dash group.now }
-    ensures len { array_vec_len text.new ≤ array_vec_len text.old + 62 }
+    ensures len { array_vec_len text.new ≤ array_vec_len text.old + 13 }
 {
     match group {
         None => put(b"-", text),
-        Some(group) => {
-            put_number(u64::from(group.number), text);
-            put(b"-", text);
-            put_number(u64::from(group.total), text);
-            put(b"-", text);
-            put_number(u64::from(group.code), text);
-        }
+        Some(group) => put_group_part(group.number, group.total, group.code, text),
     }
 }
 
+#[tactic(auto, using(crate::proofs::Numbers::digits_of_a_short))]
 fn put_count(count: &Option<u16>, text: &mut Text)
-    requires { array_vec_len text.old ≤ 100 }
+    requires { array_vec_len text.old ≤ 50 }
     ensures text { text.new.items ≡ text.old.items ++ spec.count_or_dash count.now }
-    ensures len { array_vec_len text.new ≤ array_vec_len text.old + 20 }
+    ensures len { array_vec_len text.new ≤ array_vec_len text.old + 5 }
 {
     match count {
         None => put(b"-", text),
@@ -121,12 +129,13 @@ fn put_count(count: &Option<u16>, text: &mut Text)
 }
 
 // A line of a datagram up to its destination.
+#[tactic(auto, using(crate::proofs::Numbers::digits_of_a_short))]
 fn write_front(number: u64, at: u16, source: &Sfi, text: &mut Text)
     requires { text.old.items ≡ [] }
     ensures { text.new.items ≡ spec.front_text number at source.now }
 {
     write_start(number, text);
-    put_part(b"at", u64::from(at), text);
+    put_part(b" at=", u64::from(at), text);
     put(b" s=", text);
     put(source.as_bytes(), text);
     put(b" d=", text);

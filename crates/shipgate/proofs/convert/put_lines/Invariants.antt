@@ -4,6 +4,6 @@ use Rattle.shipgate.proofs.convert.put_lines.Given as goal
 
 abbrev pub invariant-loop-line : goal.invariant-loop-line
 invariant-loop-line l = record {
-  lines : l.text.items ≡ flat_map (λ line. line) (map (λ t. t.bytes.items) (take l.line-index l.line-items));
-  len : length l.text.items ≤ 82 * l.line-index;
+  lines : l.answer.items ≡ flat_map (λ line. line) (map (λ t. t.bytes.items) (take l.line-index l.line-items));
+  len : length l.answer.items ≤ 82 * l.line-index;
 }
