@@ -1,19 +1,18 @@
 -- Bytes in hexadecimal digits, up to the end of the line or a space.
-use Rattle.std.proofs.Common.{◌≡◌, ℕ, ◌+◌, ◌≤◌, true, false, cond, leb, List, [], ◌∷◌, ◌++◌, length, take, drop, Option, Some, None, Ok, refl, sym, ap, ◌∙◌, one-add, arith, inl, inr}
+use Rattle.std.proofs.Common.{◌≡◌, ℕ, ◌+◌, ◌*◌, ◌≤◌, true, false, leb, List, [], ◌∷◌, ◌++◌, length, drop, Option, Some, None, Ok, refl, sym, ap, ◌∙◌, one-add, arith, inl, inr}
 use Rattle.std.specs.Prelude.{◌==◌, ◌||◌, option_map}
 use Rattle.std.specs.Char.{is_ascii_hexdigit}
 use Rattle.std.specs.List.{prefix_len, list_all}
 use Rattle.std.specs.Result.{result_ok}
 use Rattle.std.specs.Int.{w32, from_be_bytes}
 use Rattle.std.proofs.lemmas.Bool.{cases_Bool, and_parts, eqb-true, leb-true, le-leb}
-use Rattle.std.proofs.lemmas.List.{take-append-drop}
-use Rattle.std.proofs.lemmas.List.Folds.{length-prefix_len}
-use Rattle.std.proofs.lemmas.List.Sums.{list_all-from_AllPass, prefix_len-le-length}
+use Rattle.std.proofs.lemmas.List.{append-nil, take-append-drop}
+use Rattle.std.proofs.lemmas.List.Sums.{list_all-from_AllPass}
 use Rattle.hex.specs.Hex.{decode_of, is_hex_digit}
 use Rattle.hex.proofs.HexLemmas.{decode_of-ok}
 use Rattle.sentence_text.proofs.Bytes.{splits, all_weaker}
 use Rattle.capture_text.specs.Capture.{is_end, IsData, IsNumber}
-use Rattle.capture_text.specs.Reading.{is_no_space, up_to_space, data_at, number_of, is_other_kind}
+use Rattle.capture_text.specs.Reading.{is_no_space, up_to_space, bytes_of, bytes_before_end, data_at, number_of, is_other_kind}
 use Rattle.capture_text.proofs.Cuts.{if_some, some_is, result_some}
 
 digit_of_hex : (c : ℕ) → is_hex_digit c ≡ true → is_ascii_hexdigit c ≡ true
@@ -43,37 +42,56 @@ up_to_end (c ∷ cs) = elim (cases_Bool (c == 32)) [
       ap (λ (n : ℕ). is_end (drop n (c ∷ cs))) (len ∙ one-add (prefix_len is_no_space cs)) ∙ up_to_end cs
 ]
 
-pub up_to_space_len : (text : List ℕ) → length (up_to_space text) ≤ length text
-up_to_space_len text = omega (arith, length-prefix_len is_no_space text, prefix_len-le-length is_no_space text)
-
 -- digits that are written are what stands before the first space
 pub digits_again : (digits rest bytes : List ℕ) → decode_of digits ≡ Ok bytes → is_end rest ≡ true → up_to_space (digits ++ rest) ≡ digits
 digits_again digits rest bytes written ends =
     (splits is_no_space digits rest (all_weaker is_ascii_hexdigit is_no_space no_space digits (written_digits digits bytes written)) (end_stops rest ends)).front_is
 
-pub data_found : (behind held : List ℕ) → data_at behind ≡ Some held → IsData held behind
-unfolding data_at
-data_found behind held e =
-    let digits = up_to_space behind in
-    let made = if_some (leb (length digits) 16) (result_ok (decode_of digits)) held e in
+-- ---- bytes before the end or a space
+
+pub record BytesFound (most : ℕ) (text bytes : List ℕ) : Type 0 where
+  pub digits : List ℕ
+  pub rest : List ℕ
+  pub spelled : text ≡ digits ++ rest
+  pub few : length digits ≤ 2 * most
+  pub written : decode_of digits ≡ Ok bytes
+  pub ends : is_end rest ≡ true
+
+pub bytes_found : (most : ℕ) (text bytes : List ℕ) → bytes_before_end most text ≡ Some bytes → BytesFound most text bytes
+unfolding bytes_before_end
+bytes_found most text bytes e =
+    let digits = up_to_space text in
+    let made = if_some (leb (length digits) (2 * most)) (result_ok (decode_of digits)) bytes e in
     record {
       digits = digits;
-      rest = drop (prefix_len is_no_space behind) behind;
-      spelled = sym (take-append-drop (prefix_len is_no_space behind) behind);
-      few = leb-true (length digits) 16 made.0;
-      written = result_some (decode_of digits) held made.1;
-      ends = up_to_end behind;
+      rest = drop (prefix_len is_no_space text) text;
+      spelled = sym (take-append-drop (prefix_len is_no_space text) text);
+      few = leb-true (length digits) (2 * most) made.0;
+      written = result_some (decode_of digits) bytes made.1;
+      ends = up_to_end text;
     }
 
-abbrev data_by : List ℕ → Option (List ℕ)
-data_by digits = cond (leb (length digits) 16) (result_ok (decode_of digits)) None
+pub bytes_again : (most : ℕ) (digits rest bytes : List ℕ) → length digits ≤ 2 * most → decode_of digits ≡ Ok bytes → is_end rest ≡ true
+    → bytes_before_end most (digits ++ rest) ≡ Some bytes
+unfolding bytes_before_end
+bytes_again most digits rest bytes few written ends =
+    let fits : leb (length digits) (2 * most) ≡ true = le-leb (length digits) (2 * most) few in
+    ap (bytes_of most) (digits_again digits rest bytes written ends) ∙ rw (fits, written) refl
+
+-- where all of a text is digits, they are the bytes before its end
+pub whole_is_bytes : (most : ℕ) (text bytes : List ℕ) → bytes_of most text ≡ Some bytes → bytes_before_end most text ≡ Some bytes
+whole_is_bytes most text bytes e =
+    let made = if_some (leb (length text) (2 * most)) (result_ok (decode_of text)) bytes e in
+    ap (bytes_before_end most) (sym (append-nil text))
+    ∙ bytes_again most text [] bytes (leb-true (length text) (2 * most) made.0) (result_some (decode_of text) bytes made.1) refl
+
+pub data_found : (behind held : List ℕ) → data_at behind ≡ Some held → IsData held behind
+data_found behind held e =
+    let f = bytes_found 8 behind held e in
+    record { digits = f.digits; rest = f.rest; spelled = f.spelled; few = f.few; written = f.written; ends = f.ends }
 
 pub data_again : (behind held : List ℕ) → IsData held behind → data_at behind ≡ Some held
-unfolding data_at
-data_again behind held h =
-    let few : leb (length h.digits) 16 ≡ true = le-leb (length h.digits) 16 h.few in
-    let written : decode_of h.digits ≡ Ok held = h.written in
-    ap data_at h.spelled ∙ ap data_by (digits_again h.digits h.rest held h.written h.ends) ∙ rw (few, written) refl
+data_again behind held h = ap data_at h.spelled ∙ bytes_again 8 h.digits h.rest held h.few h.written h.ends
 
 -- data don't begin as another kind of frame
 plain_digit : (c : ℕ) → is_ascii_hexdigit c ≡ true → (c == 82 || c == 35) ≡ false

@@ -1,5 +1,5 @@
 -- Going over digits, and the number that they write.
-use Rattle.std.proofs.Common.{◌≡◌, ℕ, suc, ◌+◌, ◌-◌, ◌*◌, ◌<◌, ◌≤◌, ◌^◌, true, false, leb, Option, Some, List, [], ◌∷◌, ◌++◌, length, get_or, take, drop, drop-cons, refl, sym, ap, ◌∙◌, add-one, arith, take-take}
+use Rattle.std.proofs.Common.{◌≡◌, ℕ, suc, ◌+◌, ◌-◌, ◌*◌, ◌<◌, ◌≤◌, ◌^◌, true, false, leb, Some, List, [], ◌∷◌, length, get_or, take, drop, drop-cons, refl, sym, ap, ◌∙◌, add-one, arith, take-take}
 use Rattle.std.specs.Char.{is_ascii_digit}
 use Rattle.std.specs.List.{prefix_len}
 use Rattle.std.proofs.lemmas.Bool.{le-leb}
@@ -9,7 +9,7 @@ use Rattle.std.proofs.lemmas.List.Sums.{prefix_len-drop_all, prefix_len-le-lengt
 use Rattle.std.proofs.lemmas.Nat.{mul-le}
 use Rattle.std.proofs.Math.Nat.{pow-le-pow_right}
 use Rattle.unit_fraction.specs.Digits.{number_after, number}
-use Rattle.capture_text.specs.Reading.{Timed, seconds_at}
+use Rattle.capture_text.specs.Reading.{seconds_at}
 use Rattle.unit_fraction.proofs.Number.{number_after_append}
 
 -- so many digits were passed, and their number is known

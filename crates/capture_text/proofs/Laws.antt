@@ -1,19 +1,16 @@
 -- The laws of read_line: what is read is spelled so, what is spelled so is read, and which rule is broken.
-use Rattle.std.proofs.Common.{◌≡◌, ◌≢◌, ℕ, ◌<◌, ◌≤◌, Bool, true, false, List, ◌∷◌, ◌++◌, length, Option, Some, None, Result, Ok, Err, refl, sym, ap, subst, ◌∙◌, length-append, arith, inl, inr}
-use Rattle.std.specs.Prelude.{◌⊎◌, codes, IfOk}
+use Rattle.std.proofs.Common.{◌≡◌, ◌≢◌, ℕ, ◌<◌, ◌≤◌, Bool, true, false, List, ◌∷◌, ◌++◌, length, Option, Some, None, Result, Ok, Err, refl, sym, ap, subst, ◌∙◌, arith, inl, inr}
+use Rattle.std.specs.Prelude.{codes, IfOk}
 use Rattle.std.specs.Cmp.Lexicographic.{same_text, other_text}
 use Rattle.std.proofs.lemmas.Bool.{cases_Bool}
 use Rattle.n2k_id.specs.Frame.{BusFrame}
 use Rattle.capture_text.specs.declared.event.Event.{Event}
 use Rattle.capture_text.specs.declared.event.LineRule.{LineRule}
 use Rattle.capture_text.specs.declared.event.LineRule.TheVariants.{Form, NotExtended, Long}
-use Rattle.capture_text.specs.Capture.{Seen, frame, datagram, tick, Begins, is_end, IsDatagram, IsOnBus, IsFrame, IsLine, IsOtherFrame, IsNotExtended, IsNoLine}
+use Rattle.capture_text.specs.Capture.{Seen, frame, datagram, tick, Begins, is_end, IsDatagram, IsOnBus, IsFrame, IsLine, IsNotExtended, IsNoLine}
 use Rattle.capture_text.specs.Reading.{bytes_at, frame_at, seen_tick, seen_datagram, seen_frame, is_name, seen_behind, read, view, seen}
 use Rattle.capture_text.proofs.Frames.{Layout, frame_found, frame_again, other_found, other_again, frame_never_long}
-use Rattle.capture_text.proofs.Lines.{Answer, given, refused, given_is, bytes_found, bytes_again, too_long, LineKind, long, formless, laid, line_kind, read_begins, on_bus_gives, end_no_name}
-
-tail_fits : (moment : ℕ) (name tail line : List ℕ) → Begins moment name tail line → length tail ≤ 4096
-tail_fits moment name tail line h = omega (arith, h.most, ap length h.spelled, length-append h.time (32 ∷ (name ++ tail)), length-append name tail)
+use Rattle.capture_text.proofs.Lines.{Answer, given, refused, given_is, datagram_found, datagram_again, too_long, LineKind, long, formless, laid, line_kind, read_begins, on_bus_gives, end_no_name}
 
 -- ---- what is read is spelled so
 
@@ -24,12 +21,11 @@ tick_line moment tail line false s h ends e = absurd (let f : refused Form ≡ O
 datagram_line : (moment : ℕ) (tail line : List ℕ) (bytes : Option (List ℕ)) (s : Seen) → Begins moment (codes "udp0") tail line → bytes_at tail ≡ bytes → seen_datagram moment bytes ≡ Ok s → IsLine s line
 datagram_line moment tail line None s h b e = absurd (let f : refused Form ≡ Ok s = e in cc)
 datagram_line moment tail line (Some bytes) s h b e =
-    let r = bytes_found tail bytes b in
-    let behind = r.digits ++ r.rest in
-    let room : length r.digits ≤ 4096 =
-    omega (arith, tail_fits moment (codes "udp0") tail line h, ap length r.spelled, length-append r.group (35 ∷ behind), length-append r.digits r.rest) in
-    let begins : Begins moment (codes "udp0") (32 ∷ (r.group ++ 35 ∷ behind)) line = subst (λ (x : List ℕ). Begins moment (codes "udp0") x line) r.spelled h in
-    let is : IsDatagram moment bytes line = record { group = r.group; digits = r.digits; rest = r.rest; begins = begins; is_group = r.is_group; few = room; written = r.written; ends = r.ends } in
+    let r = datagram_found tail bytes b in
+    let f = r.found in
+    let spelled : tail ≡ 32 ∷ (r.group ++ 35 ∷ (f.digits ++ f.rest)) = r.spelled ∙ ap (λ (x : List ℕ). 32 ∷ (r.group ++ 35 ∷ x)) f.spelled in
+    let begins = subst (λ (x : List ℕ). Begins moment (codes "udp0") x line) spelled h in
+    let is : IsDatagram moment bytes line = record { group = r.group; digits = f.digits; rest = f.rest; begins = begins; is_group = r.is_group; few = f.few; written = f.written; ends = f.ends } in
     subst (λ (x : Seen). IsLine x line) (given_is (datagram moment bytes) s e) is
 
 on_bus : (moment : ℕ) (name tail line identifier behind : List ℕ) → Begins moment name tail line → name ≢ codes "tick" → name ≢ codes "udp0" → Layout tail identifier behind → IsOnBus moment identifier behind line
@@ -114,7 +110,7 @@ again line (frame moment f) h = again_frame moment f line h
 again line (datagram moment bytes) h =
     read_begins moment (codes "udp0") (32 ∷ (h.group ++ 35 ∷ (h.digits ++ h.rest))) line h.begins refl
     ∙ datagram_gives moment (32 ∷ (h.group ++ 35 ∷ (h.digits ++ h.rest)))
-    ∙ ap (seen_datagram moment) (bytes_again h.group h.digits h.rest bytes h.is_group h.written h.ends)
+    ∙ ap (seen_datagram moment) (datagram_again h.group h.digits h.rest bytes h.is_group h.few h.written h.ends)
 again line (tick moment) h =
     read_begins moment (codes "tick") h.tail line h.begins (end_no_name h.tail h.ends)
     ∙ tick_gives moment h.tail

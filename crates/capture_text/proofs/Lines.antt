@@ -3,7 +3,6 @@ use Rattle.std.proofs.Common.{◌≡◌, ◌≢◌, ℕ, ◌<◌, ◌≤◌, Boo
 use Rattle.std.specs.Prelude.{◌==◌, codes}
 use Rattle.std.specs.Char.{is_ascii_graphic}
 use Rattle.std.specs.List.{prefix_len, list_all}
-use Rattle.std.specs.Result.{result_ok}
 use Rattle.std.specs.Cmp.Lexicographic.{same_text}
 use Rattle.std.proofs.lemmas.Bool.{cases_Bool, cases_lt, and_parts, and_from, eqb-true, eq-eqb, leb-true, le-leb, lt-ltb, le-ltb}
 use Rattle.std.proofs.lemmas.List.{take-append-drop}
@@ -15,10 +14,10 @@ use Rattle.sentence_text.proofs.Bytes.{front_passes, splits}
 use Rattle.capture_text.specs.declared.event.LineRule.{LineRule}
 use Rattle.capture_text.specs.declared.event.LineRule.TheVariants.{Form, Long}
 use Rattle.capture_text.specs.Capture.{Seen, IsInterface, Begins, is_end}
-use Rattle.capture_text.specs.Reading.{Timed, time_at, Named, interface_at, is_group, is_no_space, up_to_space, bytes_at, frame_at, seen_frame, is_name, seen_behind, seen_named, seen_at, read}
-use Rattle.capture_text.proofs.Cuts.{cut_by_test, cut_found, if_some, some_is, result_some, four}
+use Rattle.capture_text.specs.Reading.{Timed, time_at, Named, interface_at, is_group, bytes_before_end, bytes_at, frame_at, seen_frame, is_name, seen_behind, seen_named, seen_at, read}
+use Rattle.capture_text.proofs.Cuts.{cut_by_test, cut_found, if_some, some_is, four}
 use Rattle.capture_text.proofs.Times.{time_found, time_again}
-use Rattle.capture_text.proofs.Data.{up_to_end, digits_again}
+use Rattle.capture_text.proofs.Data.{BytesFound, bytes_found, bytes_again}
 
 abbrev pub Answer : Type 0
 Answer = Result Seen LineRule
@@ -65,14 +64,12 @@ end_no_name (c ∷ cs) h = rw (eqb-true c 32 h) refl
 
 -- ---- a datagram
 
-pub record BytesRead (tail bytes : List ℕ) : Type 0 where
+pub record DatagramRead (tail bytes : List ℕ) : Type 0 where
   pub group : List ℕ
-  pub digits : List ℕ
-  pub rest : List ℕ
-  pub spelled : tail ≡ 32 ∷ (group ++ 35 ∷ (digits ++ rest))
   pub is_group : IsGroup group
-  pub written : decode_of digits ≡ Ok bytes
-  pub ends : is_end rest ≡ true
+  pub behind : List ℕ
+  pub spelled : tail ≡ 32 ∷ (group ++ 35 ∷ behind)
+  pub found : BytesFound 2048 behind bytes
 
 group_found : (group : List ℕ) → is_group group ≡ true → IsGroup group
 group_found group e =
@@ -82,16 +79,14 @@ group_found group e =
 group_again : (group : List ℕ) → IsGroup group → is_group group ≡ true
 group_again group h = and_from (length group == 4) (list_all is_address_byte group) (eq-eqb (length group) 4 h.len) h.bytes
 
-pub bytes_found : (tail bytes : List ℕ) → bytes_at tail ≡ Some bytes → BytesRead tail bytes
+pub datagram_found : (tail bytes : List ℕ) → bytes_at tail ≡ Some bytes → DatagramRead tail bytes
 unfolding bytes_at
-bytes_found tail bytes e =
+datagram_found tail bytes e =
     let group = take 4 (drop 1 tail) in
     let behind = drop 6 tail in
-    let digits = up_to_space behind in
-    let rest = drop (prefix_len is_no_space behind) behind in
     let p0 = get_or tail 0 0 == 32 in
     let p2 = get_or tail 5 0 == 35 in
-    let h = if_some (p0 && is_group group && p2) (result_ok (decode_of digits)) bytes e in
+    let h = if_some (p0 && is_group group && p2) (bytes_before_end 2048 behind) bytes e in
     let h2 = and_parts (p0 && is_group group) p2 h.0 in
     let h1 = and_parts p0 (is_group group) h2.0 in
     let a : tail ≡ 32 ∷ drop 1 tail = cut_by_test tail 0 31 h1.0 in
@@ -100,35 +95,29 @@ bytes_found tail bytes e =
     let same : drop 5 (drop 1 tail) ≡ behind = ap (drop 6) (sym a) in
     record {
       group = group;
-      digits = digits;
-      rest = rest;
-      spelled = a ∙ ap (λ (x : List ℕ). 32 ∷ x) (b ∙ ap (λ (x : List ℕ). group ++ 35 ∷ x) (same ∙ sym (take-append-drop (prefix_len is_no_space behind) behind)));
       is_group = group_found group h1.1;
-      written = result_some (decode_of digits) bytes h.1;
-      ends = up_to_end behind;
+      behind = behind;
+      spelled = a ∙ ap (λ (x : List ℕ). 32 ∷ x) (b ∙ ap (λ (x : List ℕ). group ++ 35 ∷ x) same);
+      found = bytes_found 2048 behind bytes h.1;
     }
 
-abbrev bytes_by : List ℕ → List ℕ → Option (List ℕ)
-bytes_by group digits = cond (is_group group) (result_ok (decode_of digits)) None
-
-bytes_laid_out : (a b c d : ℕ) (behind : List ℕ) → bytes_at (32 ∷ a ∷ b ∷ c ∷ d ∷ 35 ∷ behind) ≡ bytes_by (a ∷ b ∷ c ∷ d ∷ []) (up_to_space behind)
+datagram_laid_out : (a b c d : ℕ) (behind : List ℕ) → bytes_at (32 ∷ a ∷ b ∷ c ∷ d ∷ 35 ∷ behind) ≡ cond (is_group (a ∷ b ∷ c ∷ d ∷ [])) (bytes_before_end 2048 behind) None
 unfolding bytes_at
-bytes_laid_out a b c d behind = by_test (is_group (a ∷ b ∷ c ∷ d ∷ [])) (result_ok (decode_of (up_to_space behind)))
+datagram_laid_out a b c d behind = by_test (is_group (a ∷ b ∷ c ∷ d ∷ [])) (bytes_before_end 2048 behind)
   where
     by_test : (p : Bool) (x : Option (List ℕ)) → cond (true && p && true) x None ≡ cond p x None
     by_test true x = refl
     by_test false x = refl
 
-pub bytes_again : (group digits rest bytes : List ℕ) → IsGroup group → decode_of digits ≡ Ok bytes → is_end rest ≡ true → bytes_at (32 ∷ (group ++ 35 ∷ (digits ++ rest))) ≡ Some bytes
-bytes_again group digits rest bytes g written ends =
+pub datagram_again : (group digits rest bytes : List ℕ) → IsGroup group → length digits ≤ 4096 → decode_of digits ≡ Ok bytes → is_end rest ≡ true
+    → bytes_at (32 ∷ (group ++ 35 ∷ (digits ++ rest))) ≡ Some bytes
+datagram_again group digits rest bytes g few written ends =
     let f = four group g.len in
-    let named : List ℕ = f.0 ∷ f.1 ∷ f.2 ∷ f.3 ∷ [] in
-    let is : is_group named ≡ true = ap is_group (sym f.4) ∙ group_again group g in
+    let is : is_group (f.0 ∷ f.1 ∷ f.2 ∷ f.3 ∷ []) ≡ true = ap is_group (sym f.4) ∙ group_again group g in
     let behind = digits ++ rest in
     ap (λ (x : List ℕ). bytes_at (32 ∷ (x ++ 35 ∷ behind))) f.4
-    ∙ bytes_laid_out f.0 f.1 f.2 f.3 behind
-    ∙ ap (bytes_by named) (digits_again digits rest bytes written ends)
-    ∙ rw (is, written) refl
+    ∙ datagram_laid_out f.0 f.1 f.2 f.3 behind
+    ∙ rw is (bytes_again 2048 digits rest bytes few written ends)
 
 -- ---- the whole line, up to its interface
 

@@ -122,7 +122,7 @@ behind_found line (Some s) t first e f =
         value = b.value ∙ ap (λ (n : ℕ). number_after n b.micros) a.value ∙ sym (number_after_append 0 a.seconds b.micros);
       };
       spelled = cut_found line 0 39 first
-      ∙ ap (λ (x : List ℕ). 40 ∷ x) (a.spelled ∙ ap (λ (x : List ℕ). a.seconds ++ 46 ∷ x) b.spelled ∙ sym (append_assoc a.seconds (46 ∷ closed) (32 ∷ t.rest)));
+          ∙ ap (λ (x : List ℕ). 40 ∷ x) (a.spelled ∙ ap (λ (x : List ℕ). a.seconds ++ 46 ∷ x) b.spelled ∙ sym (append_assoc a.seconds (46 ∷ closed) (32 ∷ t.rest)));
     }
 
 pub time_found : (line : List ℕ) (t : Timed) → time_at line ≡ Some t → TimeRead line t

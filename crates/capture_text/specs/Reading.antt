@@ -1,5 +1,5 @@
 -- What a line of a capture reads as: what it says, or the rule that it breaks.
-use Rattle.std.specs.Prelude.{◌≡◌, ℕ, ◌+◌, ◌^◌, ◌≤◌, ◌==◌, Bool, ◌&&◌, ◌||◌, not, nat_eq, nat_lt, nat_le, List, ◌++◌, length, take, drop, codes, slice_index, Option, Some, None, is_some, option_map, Result, Ok, Err, if◌then◌else◌}
+use Rattle.std.specs.Prelude.{◌≡◌, ℕ, ◌+◌, ◌*◌, ◌^◌, ◌≤◌, ◌==◌, Bool, ◌&&◌, ◌||◌, not, nat_eq, nat_lt, nat_le, List, length, take, drop, codes, slice_index, Option, Some, None, is_some, option_map, Result, Ok, Err, if◌then◌else◌}
 use Rattle.std.specs.List.{prefix_len, list_all}
 use Rattle.std.specs.Cmp.Lexicographic.{pointwise}
 use Rattle.std.specs.Char.{is_ascii_digit, is_ascii_graphic, is_ascii_hexdigit}
@@ -52,13 +52,19 @@ is_no_space c = not (c == 32)
 abbrev pub up_to_space : List ℕ → List ℕ
 up_to_space text = take (prefix_len is_no_space text) text
 
-unfoldable pub bytes_at : List ℕ → Option (List ℕ)
-bytes_at tail = if slice_index tail 0 == 32 && is_group (take 4 (drop 1 tail)) && slice_index tail 5 == 35
-    then result_ok (decode_of (up_to_space (drop 6 tail)))
-    else None
+-- at most so many bytes, in two digits each
+abbrev pub bytes_of : ℕ → List ℕ → Option (List ℕ)
+bytes_of most digits = if nat_le (length digits) (2 * most) then result_ok (decode_of digits) else None
 
-unfoldable pub data_at : List ℕ → Option (List ℕ)
-data_at behind = let digits = up_to_space behind in if nat_le (length digits) 16 then result_ok (decode_of digits) else None
+-- those that are written up to the end or a space
+unfoldable pub bytes_before_end : ℕ → List ℕ → Option (List ℕ)
+bytes_before_end most text = bytes_of most (up_to_space text)
+
+abbrev pub data_at : List ℕ → Option (List ℕ)
+data_at behind = bytes_before_end 8 behind
+
+unfoldable pub bytes_at : List ℕ → Option (List ℕ)
+bytes_at tail = if slice_index tail 0 == 32 && is_group (take 4 (drop 1 tail)) && slice_index tail 5 == 35 then bytes_before_end 2048 (drop 6 tail) else None
 
 unfoldable pub number_of : List ℕ → Option ℕ
 number_of digits = option_map (from_be_bytes w32) (result_ok (decode_of digits))

@@ -44,7 +44,6 @@ fn front(text: &[u8], most: usize) -> &[u8]
 #[tactic(auto, using(crate::proofs::Digits::seconds_fit, crate::proofs::Digits::seconds_few, crate::proofs::Digits::seconds_there), unfolding(crate::specs::Reading::seconds_at))]
 fn seconds(text: &[u8]) -> Option<(u64, &[u8])>
     ensures few { IfSome result (λ t. t.0 < 10 ^ 10) }
-    ensures shorter { IfSome result (λ t. length t.1.now ≤ length text.now) }
     ensures reads { MatchOption result (spec.seconds_at text.now ≡ None) (λ t. spec.seconds_at text.now ≡ Some (record { moment = t.0; rest = t.1.now })) }
 {
     let (count, seconds) = digit_run(0, front(text, 10));
@@ -58,7 +57,6 @@ fn seconds(text: &[u8]) -> Option<(u64, &[u8])>
 #[tactic(auto, using(crate::proofs::Digits::micros_fit, crate::proofs::Digits::six_are_front), unfolding(crate::specs::Reading::micros_at))]
 fn moment(seconds: u64, text: &[u8]) -> Option<(u64, &[u8])>
     requires { seconds < 10 ^ 10 }
-    ensures shorter { IfSome result (λ t. length t.1.now ≤ length text.now) }
     ensures reads { MatchOption result (spec.micros_at seconds text.now ≡ None) (λ t. spec.micros_at seconds text.now ≡ Some (record { moment = t.0; rest = t.1.now })) }
 {
     let (count, moment) = digit_run(seconds, front(text, 6));
@@ -71,7 +69,6 @@ fn moment(seconds: u64, text: &[u8]) -> Option<(u64, &[u8])>
 /// The moment of the time at the front, and what follows the space behind it.
 #[tactic(auto, unfolding(crate::specs::Reading::time_at))]
 fn time(line: &[u8]) -> Option<(u64, &[u8])>
-    ensures shorter { IfSome result (λ t. length t.1.now ≤ length line.now) }
     ensures reads { MatchOption result (spec.time_at line.now ≡ None) (λ t. spec.time_at line.now ≡ Some (record { moment = t.0; rest = t.1.now })) }
 {
     if byte_at(line, 0) != b'(' {
@@ -85,9 +82,11 @@ fn time(line: &[u8]) -> Option<(u64, &[u8])>
 
 /// Puts the bytes that the digits write into the room, and says how many there are.
 fn put_bytes(digits: &[u8], room: &mut [u8]) -> Option<usize>
-    requires { length digits.now ≤ 2 * length room.old }
-    ensures { spec.IsPut result room.new (result_ok (decode_of digits.now)) }
+    ensures { spec.IsPut result room.new (spec.bytes_of (length room.old) digits.now) }
 {
+    if digits.len() > 2 * room.len() {
+        return None;
+    }
     let count = digits.len() / 2;
     match hex::decode_to_slice(digits, &mut room[..count]) {
         Ok(()) => Some(count),
@@ -95,28 +94,34 @@ fn put_bytes(digits: &[u8], room: &mut [u8]) -> Option<usize>
     }
 }
 
+/// Puts the bytes that are written up to the end or a space into the room, and says how many there are.
+#[tactic(auto, using(crate::proofs::Data::whole_is_bytes), unfolding(crate::specs::Reading::bytes_before_end))]
+fn put_bytes_before_end(text: &[u8], room: &mut [u8]) -> Option<usize>
+    ensures { spec.IsPut result room.new (spec.bytes_before_end (length room.old) text.now) }
+{
+    // Nearly every line ends with its digits, so that no space has to be looked for.
+    match put_bytes(text, room) {
+        Some(count) => Some(count),
+        None => put_bytes(up_to_space(text), room),
+    }
+}
+
 /// Puts the bytes of a datagram into the room, and says how many there are.
-#[tactic(auto, using(crate::proofs::Data::up_to_space_len), unfolding(crate::specs::Reading::bytes_at))]
+#[tactic(auto, unfolding(crate::specs::Reading::bytes_at))]
 fn put_datagram(tail: &[u8], room: &mut [u8; 2048]) -> Option<usize>
-    requires { length tail.now ≤ LONGEST }
     ensures { spec.IsPut result room.new (spec.bytes_at tail.now) }
 {
     if byte_at(tail, 0) != b' ' || byte_at(tail, 5) != b'#' || !is_group(&tail[1..5]) {
         return None;
     }
-    put_bytes(up_to_space(tail.split_at(6).1), &mut room[..])
+    put_bytes_before_end(tail.split_at(6).1, &mut room[..])
 }
 
 /// Puts the data of a frame into the room, and says how many bytes there are.
-#[tactic(auto, unfolding(crate::specs::Reading::data_at))]
 fn put_data(behind: &[u8], room: &mut [u8; 8]) -> Option<usize>
     ensures { spec.IsPut result room.new (spec.data_at behind.now) }
 {
-    let digits = up_to_space(behind);
-    if digits.len() > 16 {
-        return None;
-    }
-    put_bytes(digits, &mut room[..])
+    put_bytes_before_end(behind, &mut room[..])
 }
 
 /// The number that eight digits write.
@@ -210,7 +215,6 @@ fn frame(tail: &[u8]) -> Result<Frame, LineRule>
 
 /// The interface at the front, and what follows it.
 fn interface(rest: &[u8]) -> Option<(&[u8], &[u8])>
-    ensures shorter { IfSome result (λ t. length t.1.now ≤ length rest.now) }
     ensures reads { MatchOption result (spec.interface_at rest.now ≡ None) (λ t. spec.interface_at rest.now ≡ Some (record { name = t.0.now; tail = t.1.now })) }
 {
     let count = name_run(rest);
@@ -228,7 +232,6 @@ fn event<'a>(
     tail: &[u8],
     room: &'a mut [u8; 2048],
 ) -> Result<Event<'a>, LineRule>
-    requires { length tail.now ≤ LONGEST }
     ensures reads { spec.seen result ≡ spec.seen_behind moment name.now tail.now }
     ensures valid { IfOk result spec.IsValid }
 {
