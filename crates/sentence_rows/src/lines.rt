@@ -30,18 +30,17 @@ impl Default for SentenceText {
 /// The sentences of one reading.
 pub type Lines = ArrayVec<SentenceText, 2>;
 
-/// The fields, each behind a comma.
-fn body_of(fields: &[Field]) -> ArrayVec<u8, 82>
+/// Leaves the fields, each behind a comma.
+fn put_body(fields: &[Field], body: &mut ArrayVec<u8, 82>)
+    requires empty { body.old.items ≡ [] }
     requires printable { AllByRecursion IsPrintable fields.now }
     requires short { body_width fields.now ≤ 71 }
-    ensures { result.items ≡ body_text fields.now }
+    ensures { body.new.items ≡ body_text fields.now }
 {
-    let mut body = ArrayVec::new();
     for field in fields {
         body.push(b',');
-        field.append(&mut body);
+        field.append(body);
     }
-    body
 }
 
 /// What stands behind the first byte.
@@ -52,20 +51,20 @@ fn behind_first(bytes: &[u8]) -> &[u8]
     &bytes[1..]
 }
 
-/// The sentence of the fields.
-fn sentence_of(talker: [u8; 2], formatter: [u8; 3], fields: &[Field]) -> SentenceText
+/// Leaves the sentence of the fields.
+fn write_sentence(talker: [u8; 2], formatter: [u8; 3], fields: &[Field], text: &mut SentenceText)
+    requires empty { text.old.bytes.items ≡ [] }
     requires talker { IsTrue (list_all is_capital talker) }
     requires formatter { IsTrue (list_all is_address_byte formatter) }
     requires some { 0 < length fields.now }
     requires printable { AllByRecursion IsPrintable fields.now }
     requires short { body_width fields.now ≤ 71 }
-    ensures text { result.bytes.items ≡ sentence_by talker formatter fields.now }
+    ensures text { text.new.bytes.items ≡ sentence_by talker formatter fields.now }
     ensures again { IsReadBack talker formatter fields.now }
 {
-    let body = body_of(fields);
-    let mut bytes = ArrayVec::new();
-    let _ = write(talker, formatter, behind_first(&body), &mut bytes);
-    SentenceText { bytes }
+    let mut body = ArrayVec::new();
+    put_body(fields, &mut body);
+    let _ = write(talker, formatter, behind_first(&body), &mut text.bytes);
 }
 
 /// Adds the sentence of the fields.
@@ -79,5 +78,7 @@ pub(crate) fn put(talker: [u8; 2], formatter: [u8; 3], fields: &[Field], out: &m
     ensures said { lines_of out.new ≡ lines_of out.old ++ sentence_by talker formatter fields.now ∷ [] }
     ensures again { IsReadBack talker formatter fields.now }
 {
-    out.push(sentence_of(talker, formatter, fields));
+    let mut text = SentenceText::default();
+    write_sentence(talker, formatter, fields, &mut text);
+    out.push(text);
 }

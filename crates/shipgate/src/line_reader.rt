@@ -15,7 +15,7 @@ const LONGEST: usize = 4096;
 const PIECE: usize = 65536;
 
 /// How many bytes are compared with LF at once.
-const BLOCK: usize = 32;
+const BLOCK: usize = 16;
 
 /// What `advance` found.
 #[derive(Clone, Copy, Debug, PartialEq, Eq)]
