@@ -3,8 +3,10 @@ use Rattle.std.proofs.Common.{◌≡◌, ◌≢◌, ℕ, zero, suc, ◌+◌, ◌
 use Rattle.std.specs.Prelude.{◌==◌}
 use Rattle.std.specs.List.{position_or_len}
 use Rattle.std.proofs.lemmas.Bool.{cases_Bool}
+use Rattle.std.proofs.lemmas.List.{append-nil}
 use Rattle.datagram450.specs.Item.{Item, bad, item}
-use Rattle.datagram450.specs.Datagram.{Cut, before, cut, items_at, items_from}
+use Rattle.datagram450.specs.Datagram.{IsLine, Cut, before, cut, items_at, items_from}
+use Rattle.datagram450.proofs.Cuts.{line_is}
 
 abbrev pub end_place : List ℕ → ℕ
 end_place bytes = position_or_len (λ c. c == 10) bytes
@@ -92,3 +94,13 @@ line_next (suc n) at place bytes line behind some e h is is_behind =
     ∙ ap (λ (l : List ℕ). item at l ∷ items_from n (at + length l) (drop (suc place) bytes)) line_is
     ∙ ap (λ (b : List ℕ). item at line ∷ items_from n (at + length line) b) behind_is
     ∙ ap (λ (k : ℕ). item at line ∷ items_from k (at + length line) behind) less
+
+-- all of it is one line
+pub line_alone : (left at : ℕ) (bytes behind : List ℕ) (given : Item) → left ≢ 0 → IsLine bytes → given ≡ item at bytes → length behind ≡ 0 → items_from left at bytes ≡ given ∷ items_from left at behind
+unfolding items_from
+line_alone zero at bytes behind given some h g none = absurd (some refl)
+line_alone (suc n) at bytes behind given some h g none =
+    ap (λ (x : List ℕ). items_of (suc n) at (cut x)) (sym (append-nil bytes))
+    ∙ ap (items_of (suc n) at) (line_is bytes [] h)
+    ∙ ap (λ (i : Item). i ∷ []) (sym g)
+    ∙ ap (λ (xs : List Item). given ∷ xs) (sym (no_items (suc n) at behind none))

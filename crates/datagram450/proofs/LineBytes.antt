@@ -13,7 +13,8 @@ use Rattle.sentence_text.proofs.Bytes.{all_append, all_weaker, all_parts}
 use Rattle.tag_block.specs.Bytes.{is_code_byte, is_value_byte}
 use Rattle.tag_block.specs.Tag.{Parameter, IsParameter, parameter_text, Block, IsBlock, block_text, content, Said, IsTag}
 use Rattle.datagram450.specs.Datagram.{IsLine, HasNoEnd}
-use Rattle.datagram450.specs.Item.{LineOf}
+use Rattle.datagram450.specs.Item.{LineOf, line, item}
+use Rattle.datagram450.proofs.Spelled.{line_found}
 
 abbrev inner : ℕ → Bool
 inner c = not (c == 10)
@@ -106,3 +107,7 @@ is_line said text parts bytes h =
       inner = all_append inner h.front (before_end parts s.high s.low) (tag_inner said h.front h.tag) behind;
       spelled = h.spelled ∙ ap (λ (x : List ℕ). h.front ++ x) (s.spelled ∙ ends parts s.high s.low) ∙ sym (append_assoc h.front (before_end parts s.high s.low) (10 ∷ []));
     }
+
+-- bytes that give a sentence are one line
+pub line_alone : (at by : ℕ) (bytes text : List ℕ) (said : Said) (parts : Parts) → line at said text parts ≡ item by bytes → IsLine bytes
+line_alone at by bytes text said parts e = is_line said text parts bytes (line_found by at bytes said text parts (sym e))

@@ -62,17 +62,17 @@ front_is bytes said n parts e f =
     let front = fronts bytes said n e in
     record { front = take n bytes; tag = front.is; sentence = sentence_of (drop n bytes) parts f; spelled = sym (take-append-drop n bytes) }
 
-pub line_found : (at : ℕ) (bytes : List ℕ) (said : Said) (text : List ℕ) (parts : Parts) → item at bytes ≡ line at said text parts → LineOf said text parts bytes
+pub line_found : (at by : ℕ) (bytes : List ℕ) (said : Said) (text : List ℕ) (parts : Parts) → item at bytes ≡ line by said text parts → LineOf said text parts bytes
 unfolding item
-line_found at bytes said text parts e = by_tag (tags.read bytes) refl e
+line_found at by bytes said text parts e = by_tag (tags.read bytes) refl e
   where
-    by_sentence : (s : Said) (n : ℕ) → tags.read bytes ≡ Ok (s, n) → (r : Result Parts SentenceFault) → sentences.read (drop n bytes) ≡ r → with_sentence at n s (drop n bytes) r ≡ line at said text parts → LineOf said text parts bytes
+    by_sentence : (s : Said) (n : ℕ) → tags.read bytes ≡ Ok (s, n) → (r : Result Parts SentenceFault) → sentences.read (drop n bytes) ≡ r → with_sentence at n s (drop n bytes) r ≡ line by said text parts → LineOf said text parts bytes
     by_sentence s n t (Ok p) f e =
-        let same = same_line at at s said (drop n bytes) text p parts e in
+        let same = same_line at by s said (drop n bytes) text p parts e in
         let is = front_is bytes s n p t f in
         rw (← same.said_is, ← same.text_is, ← same.parts_are) is
     by_sentence s n t (Err x) f e = absurd cc
 
-    by_tag : (r : Result (Said × ℕ) TagFault) → tags.read bytes ≡ r → with_tag at bytes r ≡ line at said text parts → LineOf said text parts bytes
+    by_tag : (r : Result (Said × ℕ) TagFault) → tags.read bytes ≡ r → with_tag at bytes r ≡ line by said text parts → LineOf said text parts bytes
     by_tag (Ok t) f e = by_sentence t.0 t.1 f (sentences.read (drop t.1 bytes)) refl e
     by_tag (Err x) f e = absurd cc

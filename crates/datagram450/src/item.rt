@@ -1,10 +1,14 @@
-ghost use Rattle.std.specs.Prelude.{◌≡◌, ◌+◌, ◌≤◌, length, IfOk, IfErr};
+ghost use Rattle.std.specs.Prelude.{◌≡◌, ◌+◌, ◌≤◌, length, IfOk, IfErr, IfSome};
 ghost use Rattle.tag_block.specs.Reading as tags;
 ghost use Rattle.sentence_text.specs.Reading as sentences;
 ghost use Rattle.datagram450.specs.Item.{item, item_view, tag_rule as rule_of_tag, sentence_rule as rule_of_sentence};
+ghost use Rattle.datagram450.specs.Datagram.{IsLine};
 
 use sentence_text::{Sentence, SentenceFault, SentenceRule};
 use tag_block::{Tag, TagFault, TagRule};
+
+/// How many bytes are tried as one line before its end is looked for. Longer ones are mostly several lines.
+const MOST_ALONE: usize = 240;
 
 /// What a line of a datagram gives.
 #[derive(Clone, Copy, Debug)]
@@ -90,5 +94,31 @@ pub(crate) fn read_line<'a>(at: u16, line: &'a [u8]) -> LineItem<'a>
             rule: sentence_rule(fault.rule),
             at: at + length as u16 + fault.place as u16,
         },
+    }
+}
+
+/// What is left of a datagram from this place on, where all of it is one short line that says something. The end of
+/// that line needn't be looked for.
+#[tactic(auto, using(crate::proofs::LineBytes::line_alone))]
+pub(crate) fn last_line<'a>(at: u16, rest: &'a [u8]) -> Option<LineItem<'a>>
+    requires { at + length rest.now ≤ 1472 }
+    ensures { IfSome result (λ i. IsLine rest.now × (item_view i ≡ item at rest.now)) }
+{
+    if rest.len() > MOST_ALONE {
+        return None;
+    }
+    match read_line(at, rest) {
+        LineItem::Line {
+            at,
+            tag,
+            text,
+            sentence,
+        } => Some(LineItem::Line {
+            at,
+            tag,
+            text,
+            sentence,
+        }),
+        LineItem::Bad { .. } => None,
     }
 }

@@ -7,7 +7,7 @@ ghost use Rattle.datagram450.specs.Datagram.{read, DatagramOf};
 
 use crate::fault::DatagramFault;
 use crate::header::HEADER;
-use crate::item::{LineItem, read_line};
+use crate::item::{LineItem, last_line, read_line};
 use std::marker::Model;
 
 /// The longest datagram that is read.
@@ -53,6 +53,12 @@ impl<'a> Iterator for LineIter<'a> {
             return None;
         }
         let (at, rest) = (self.at, self.rest);
+        if self.left > 0 {
+            if let Some(item) = last_line(at, rest) {
+                self.rest = rest.split_at(rest.len()).1;
+                return Some(item);
+            }
+        }
         let place = text_run(rest);
         if place == rest.len() {
             self.rest = rest.split_at(place).1;

@@ -10,7 +10,7 @@ pub returns-clause-only : goal.returns-clause-only
 returns-clause-only c = λ items h. c.start.ensures ∙ is_read items c.args.bytes.now h
 
 pub returns-clause-line_found : goal.returns-clause-line_found
-returns-clause-line_found c = λ at bytes text said parts e. line_found at bytes said text parts e
+returns-clause-line_found c = λ at bytes text said parts e. line_found at at bytes said text parts e
 
 pub returns-clause-line_only : goal.returns-clause-line_only
 returns-clause-line_only c = λ at bytes text said parts h. line_read at said text parts bytes h

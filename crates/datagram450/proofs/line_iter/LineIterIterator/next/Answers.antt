@@ -1,8 +1,8 @@
 use Rattle.std.proofs.Common.{rules, ◌≡◌, ◌<◌, ◌+◌, ◌-◌, ◌∷◌, length, length-drop, sym, ap, ◌∙◌, arith}
 use Rattle.std.proofs.lemmas.Bool.{eqb-true}
-use Rattle.datagram450.specs.Item.{Item}
+use Rattle.datagram450.specs.Item.{Item, item_view}
 use Rattle.datagram450.specs.Datagram.{items_from}
-use Rattle.datagram450.proofs.Cutting.{end_place, is_some, no_items, rest_alone, line_too_many, line_next}
+use Rattle.datagram450.proofs.Cutting.{end_place, is_some, no_items, rest_alone, line_alone, line_too_many, line_next}
 use Rattle.datagram450.proofs.line_iter.LineIterIterator.next.Goals as goal
 
 pub returns-then-is_empty-clause-steps : goal.returns-then-is_empty-clause-steps
@@ -11,11 +11,21 @@ returns-then-is_empty-clause-steps c =
     let none = sym c.self.view_is ∙ no_items s.left s.at s.rest.now (eqb-true (length s.rest.now) 0 (sym c.is_empty.ensures ∙ c.if-is_empty.true)) in
     (none, none)
 
+pub returns-in-Some-clause-steps : goal.returns-in-Some-clause-steps
+returns-in-Some-clause-steps c =
+    let s = c.self.inside in
+    let none : length c.split_at.result.1.now ≡ 0 = omega (arith, ap length c.split_at.ensures.back, length-drop (length s.rest.now) s.rest.now) in
+    sym c.self.view_is ∙ line_alone s.left s.at s.rest.now c.split_at.result.1.now (item_view c.in-Some.item) (λ e. omega (arith, c.if-self-gt0.true, e)) c.in-Some.ensures.0 c.in-Some.ensures.1 none
+
+pub returns-in-Some-clause-goes : goal.returns-in-Some-clause-goes
+returns-in-Some-clause-goes c =
+    let shorter = ap length (returns-in-Some-clause-steps c) in search rules
+
 pub returns-then-place-rest-clause-steps : goal.returns-then-place-rest-clause-steps
 returns-then-place-rest-clause-steps c =
     let s = c.self.inside in
-    let none : length c.split_at.result.1.now ≡ 0 = omega (arith, ap length c.split_at.ensures.back, length-drop c.text_run-place.result s.rest.now, c.if-place-rest.true) in
-    sym c.self.view_is ∙ rest_alone s.left s.at s.rest.now c.split_at.result.1.now (is_some s.rest.now c.is_empty.result c.is_empty.ensures c.if-is_empty.false) (sym c.text_run-place.ensures.run ∙ c.if-place-rest.true) none
+    let none : length c.split_at-then-place-rest.result.1.now ≡ 0 = omega (arith, ap length c.split_at-then-place-rest.ensures.back, length-drop c.text_run-place.result s.rest.now, c.if-place-rest.true) in
+    sym c.self.view_is ∙ rest_alone s.left s.at s.rest.now c.split_at-then-place-rest.result.1.now (is_some s.rest.now c.is_empty.result c.is_empty.ensures c.if-is_empty.false) (sym c.text_run-place.ensures.run ∙ c.if-place-rest.true) none
 
 pub returns-then-place-rest-clause-goes : goal.returns-then-place-rest-clause-goes
 returns-then-place-rest-clause-goes c =
