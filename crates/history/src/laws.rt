@@ -8,8 +8,8 @@ ghost use Rattle.history.specs.KeyLaws.{FramesStepFast, FramesKeepFast, TimeEnds
 ghost use Rattle.history.specs.RefusalLaws.{FastRefusalsBreak, TransportRefusalsBreak};
 ghost use Rattle.history.specs.TraceLaws.{ClaimsMoveTraces, CommandsMoveTraces};
 
-/// After every history no NAME has two addresses and the gateway's own has no other holder, and each is held since an entry of the
-/// history.
+/// After every history no NAME has two addresses and the gateway's own has no other holder, and no index since which an address is
+/// held, or is the own one, is greater than the number of entries.
 pub fn addresses_are_sound()
     ensures { AddressesAreSound }
 {}
@@ -21,8 +21,8 @@ pub fn addresses_keep_their_frames()
     ensures commands { CommandsMoveTraces }
 {}
 
-/// One more fast frame does to what is open of its key what the rules of fast packets say of the frames that were open, completes what
-/// they say, and changes no other key; a later moment ends what is overdue.
+/// One more fast frame of a source that holds its address does to what is open of its key what the rules of fast packets say of the
+/// frames that were open, completes what they say, and changes no other key; a later moment ends what is overdue.
 pub fn fast_frames_step_their_key()
     ensures step { FramesStepFast }
     ensures others { FramesKeepFast }
@@ -42,7 +42,8 @@ pub fn transport_frames_step_their_session()
     ensures later { TimeEndsIso }
 {}
 
-/// Of a session that is open, a frame that bears on it ends it exactly where it leaves nothing open of its key and completes nothing.
+/// A transport frame that bears on an open session, and finds room if it is an opener, ends it exactly where it leaves nothing open of
+/// its key and completes nothing.
 pub fn transport_refusals_break()
     ensures { TransportRefusalsBreak }
 {}
