@@ -7,7 +7,7 @@ ghost use Rattle.datagram450.specs.Datagram.{IsLine};
 use sentence_text::{Sentence, SentenceFault, SentenceRule};
 use tag_block::{Tag, TagFault, TagRule};
 
-/// How many bytes are tried as one line before its end is looked for. Longer ones are mostly several lines.
+/// How many bytes are tried as one line before its end is looked for. More are mostly several lines.
 const MOST_ALONE: usize = 240;
 
 /// What a line of a datagram gives.
@@ -97,10 +97,10 @@ pub(crate) fn read_line<'a>(at: u16, line: &'a [u8]) -> LineItem<'a>
     }
 }
 
-/// What is left of a datagram from this place on, where all of it is one short line that says something. The end of
-/// that line needn't be looked for.
+/// What a datagram gives from this place on, where all of that is one short line that says something: most datagrams are
+/// of one line, and its end needn't be looked for.
 #[tactic(auto, using(crate::proofs::LineBytes::line_alone))]
-pub(crate) fn last_line<'a>(at: u16, rest: &'a [u8]) -> Option<LineItem<'a>>
+pub(crate) fn only_line<'a>(at: u16, rest: &'a [u8]) -> Option<LineItem<'a>>
     requires { at + length rest.now ≤ 1472 }
     ensures { IfSome result (λ i. IsLine rest.now × (item_view i ≡ item at rest.now)) }
 {

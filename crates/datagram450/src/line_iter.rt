@@ -7,7 +7,7 @@ ghost use Rattle.datagram450.specs.Datagram.{read, DatagramOf};
 
 use crate::fault::DatagramFault;
 use crate::header::HEADER;
-use crate::item::{LineItem, last_line, read_line};
+use crate::item::{LineItem, only_line, read_line};
 use std::marker::Model;
 
 /// The longest datagram that is read.
@@ -53,8 +53,8 @@ impl<'a> Iterator for LineIter<'a> {
             return None;
         }
         let (at, rest) = (self.at, self.rest);
-        if self.left > 0 {
-            if let Some(item) = last_line(at, rest) {
+        if self.left == MOST_LINES {
+            if let Some(item) = only_line(at, rest) {
                 self.rest = rest.split_at(rest.len()).1;
                 return Some(item);
             }

@@ -15,7 +15,7 @@ pub returns-in-Some-clause-steps : goal.returns-in-Some-clause-steps
 returns-in-Some-clause-steps c =
     let s = c.self.inside in
     let none : length c.split_at.result.1.now ≡ 0 = omega (arith, ap length c.split_at.ensures.back, length-drop (length s.rest.now) s.rest.now) in
-    sym c.self.view_is ∙ line_alone s.left s.at s.rest.now c.split_at.result.1.now (item_view c.in-Some.item) (λ e. omega (arith, c.if-self-gt0.true, e)) c.in-Some.ensures.0 c.in-Some.ensures.1 none
+    sym c.self.view_is ∙ line_alone s.left s.at s.rest.now c.split_at.result.1.now (item_view c.in-Some.item) (λ e. omega (arith, c.if-self-eq-MOST_LINES.true, e)) c.in-Some.ensures.0 c.in-Some.ensures.1 none
 
 pub returns-in-Some-clause-goes : goal.returns-in-Some-clause-goes
 returns-in-Some-clause-goes c =

@@ -4,7 +4,7 @@ use Rattle.sentence_text.specs.Reading as sentences
 use Rattle.datagram450.specs.declared.item.LineItem.{LineItem}
 use Rattle.datagram450.specs.Item.{item_view}
 use Rattle.datagram450.proofs.LineBytes.{line_alone}
-use Rattle.datagram450.proofs.item.last_line.Goals as goal
+use Rattle.datagram450.proofs.item.only_line.Goals as goal
 
 pub returns-in-Line : goal.returns-in-Line
 returns-in-Line c =
