@@ -38,5 +38,6 @@ pub enum Emit<'a> {
     Can(Frame),
     /// A datagram for a transmission group of the network.
     Net(Group, &'a [u8]),
+    /// What was refused or given up.
     Report(Report),
 }

@@ -1,4 +1,4 @@
-//! What lies outside the program: the bytes that it reads and the bytes that it writes.
+//! What lies outside the program: its input and its output, files, links and the time.
 //!
 //! Each kind of outside is a trait. It says what a call does to the content, wherever the object
 //! tells its content, and it counts its faults: a call may fail only where that count rises. So a

@@ -37,6 +37,7 @@ pub const KNOTS: Conversion = Conversion {
     digits: 6,
 };
 
+/// From 0.01 m/s.
 pub const KILOMETRES_PER_HOUR: Conversion = Conversion {
     num: 18,
     den: 5,
@@ -45,6 +46,7 @@ pub const KILOMETRES_PER_HOUR: Conversion = Conversion {
     digits: 6,
 };
 
+/// From 0.01 m/s.
 pub const METRES_PER_SECOND: Conversion = Conversion {
     num: 1,
     den: 1,
@@ -61,6 +63,7 @@ pub const METRES: Conversion = Conversion {
     digits: 7,
 };
 
+/// Depth, from 0.01 m.
 pub const FEET: Conversion = Conversion {
     num: 125,
     den: 381,
@@ -69,6 +72,7 @@ pub const FEET: Conversion = Conversion {
     digits: 6,
 };
 
+/// Depth, from 0.01 m.
 pub const FATHOMS: Conversion = Conversion {
     num: 125,
     den: 2_286,
