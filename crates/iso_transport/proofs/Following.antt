@@ -238,7 +238,7 @@ module _ (addressed : Bool) where
     replied_by_tests ours false false false et er en = let next = next_is et ∙ en in simp (et, er, next)
 
   -- what stands open: a prefix of a message that isn't whole
-  abbrev Standing : Option (List IsoPiece) → Type 0
+  abbrev pub Standing : Option (List IsoPiece) → Type 0
   Standing None = Unit {0}
   Standing (Some []) = ⊥
   Standing (Some (y ∷ ys)) = Facts addressed y ys × (length (y ∷ ys) < need_of (opener_of y ys)) × (is_admitted (iso_rules addressed) (y ∷ ys) ≡ true)
@@ -247,7 +247,7 @@ module _ (addressed : Bool) where
   all_front P [] ys all = tt
   all_front P (x ∷ xs) ys all = (all.0, all_front P xs ys all.1)
 
-  standing_by : (h : List IsoPiece) (m : ℕ) (q : Option (List IsoPiece)) → IsTrace addressed h → open_at (iso_rules addressed) h m ≡ q → Standing q
+  pub standing_by : (h : List IsoPiece) (m : ℕ) (q : Option (List IsoPiece)) → IsTrace addressed h → open_at (iso_rules addressed) h m ≡ q → Standing q
   standing_by h m None trace is = tt
   standing_by h m (Some acc) trace is =
       let o = (one_suffix_of (iso_rules addressed) (lawful addressed)).is_open h acc m is in
@@ -411,7 +411,7 @@ module _ (x : IsoPiece) (ep : x.packet ≡ false) where
   management_is : (addressed crowded : Bool) (o : Option ℕ) → nat_lt (length x.bytes) 8 ≡ false → management_verdict addressed crowded o x.bytes ≡ kind_verdict addressed crowded o (cm_of x.bytes)
   management_is addressed crowded o long = cond-false (nat_lt (length x.bytes) 8) (Refused refusal.Size None) (kind_verdict addressed crowded o (cm_of x.bytes)) long
 
-  told_is : (addressed : Bool) (q : Option (List IsoPiece)) → nat_lt (length x.bytes) 8 ≡ false → told addressed q x ≡ kind_verdict addressed (not x.admitted) (option_map pgn_of q) (cm_of x.bytes)
+  pub told_is : (addressed : Bool) (q : Option (List IsoPiece)) → nat_lt (length x.bytes) 8 ≡ false → told addressed q x ≡ kind_verdict addressed (not x.admitted) (option_map pgn_of q) (cm_of x.bytes)
   told_is addressed q long = cond-false x.packet (packet_told addressed q x) (management_verdict addressed (not x.admitted) (option_map pgn_of q) x.bytes) ep ∙ management_is addressed (not x.admitted) (option_map pgn_of q) long
 
 -- ---- what a sender is told
@@ -528,7 +528,7 @@ module _ (addressed : Bool) where
   finished_packet : (q : Option (List IsoPiece)) (x : IsoPiece) → x.packet ≡ true → finished (iso_rules addressed) q x ≡ finished_later (iso_rules addressed) q x
   finished_packet q x ep = rw ep refl
 
-  told_packet : (q : Option (List IsoPiece)) (x : IsoPiece) → x.packet ≡ true → told addressed q x ≡ packet_told addressed q x
+  pub told_packet : (q : Option (List IsoPiece)) (x : IsoPiece) → x.packet ≡ true → told addressed q x ≡ packet_told addressed q x
   told_packet q x ep = cond-true x.packet (packet_told addressed q x) (management_verdict addressed (not x.admitted) (option_map pgn_of q) x.bytes) ep
 
   -- what a frame leaves

@@ -42,7 +42,7 @@ management_same : (addressed c d : Bool) (pgn : ℕ) (bytes : List ℕ) → mana
 management_same addressed c d pgn bytes = ap (λ v. if nat_lt (length bytes) 8 then Refused refusal.Size None else v) (kind_same addressed c d pgn (cm_of bytes))
 
 -- that as many sessions are open as the limit counts where the key's isn't
-frame_same : (addressed crowded : Bool) (o : Option Entry) (p : Bool) (bytes : List ℕ) → frame_verdict addressed crowded o p bytes ≡ frame_verdict addressed (not (not (full_where crowded o))) o p bytes
+pub frame_same : (addressed crowded : Bool) (o : Option Entry) (p : Bool) (bytes : List ℕ) → frame_verdict addressed crowded o p bytes ≡ frame_verdict addressed (not (not (full_where crowded o))) o p bytes
 frame_same addressed true None p bytes = refl
 frame_same addressed false None p bytes = refl
 frame_same addressed crowded (Some e) true bytes = refl
@@ -69,7 +69,7 @@ packet_fits full addressed (Some e) bytes = by_tests (nat_lt (length bytes) (end
           enough = ltb-false _ _ et;
         })
 
-frame_fits : (addressed crowded : Bool) (o : Option Entry) (p : Bool) (bytes : List ℕ) → VerdictFits (full_where crowded o) o bytes (frame_verdict addressed crowded o p bytes)
+pub frame_fits : (addressed crowded : Bool) (o : Option Entry) (p : Bool) (bytes : List ℕ) → VerdictFits (full_where crowded o) o bytes (frame_verdict addressed crowded o p bytes)
 frame_fits addressed crowded o true bytes = packet_fits (full_where crowded o) addressed o bytes
 frame_fits addressed crowded o false bytes = management_fits crowded o bytes addressed
 
@@ -186,7 +186,7 @@ module _ (cmp : IsoKey → IsoKey → Ordering) (o : IsTotalOrder cmp) (same : (
       subst (λ l. Changes cmp s (grown_after cmp s (key_of parts) number (part_to end bytes) moment (gap_after (key_of parts).addressed session number)) (key_of parts) (left_by (key_of parts).addressed (Next session number end) (piece_of cmp s parts bytes moment) l)) (sym fits.held)
       (grows s k e number (part_to end bytes) moment gap map fits.held fits.awaited _ refl)
 
-  concerned : (s : SlotMap IsoKey) (own : Option ℕ) (parts : Parts) (bytes : List ℕ) → concerns own parts ≡ true
+  pub concerned : (s : SlotMap IsoKey) (own : Option ℕ) (parts : Parts) (bytes : List ℕ) → concerns own parts ≡ true
       → verdict_of cmp s own parts bytes ≡ frame_verdict (key_of parts).addressed (is_crowded s) (entry_at cmp s (key_of parts)) (is_data parts) bytes
   concerned s own parts bytes ours = cond-true (concerns own parts) (frame_verdict (key_of parts).addressed (is_crowded s) (entry_at cmp s (key_of parts)) (is_data parts) bytes) Ignored ours
 
@@ -228,7 +228,7 @@ module _ (cmp : IsoKey → IsoKey → Ordering) (o : IsTotalOrder cmp) (same : (
   }
 
 -- ---- the order of the keys
-keys_total : IsTotalOrder key.TheImpl.ghosts.cmp
+pub keys_total : IsTotalOrder key.TheImpl.ghosts.cmp
 keys_total = then_total (on_total (λ (k : IsoKey). k.addressed) bool_cmp_total) (on_total (λ (k : IsoKey). k.source) nat_cmp_total)
 
 sources_by : (n m : ℕ) (b c : Bool) → nat_lt n m ≡ b → (n == m) ≡ c → is_eq (nat_cmp n m) ≡ true → m ≡ n
@@ -248,7 +248,7 @@ key_from a n = record { addressed = a; source = n }
 key_same : (a b : Bool) (n m : ℕ) → b ≡ a → m ≡ n → key_from b m ≡ key_from a n
 key_same a b n m e f = rw (e, f) refl
 
-keys_same : (k x : IsoKey) → is_at (key.TheImpl.ghosts.cmp k) x ≡ true → x ≡ k
+pub keys_same : (k x : IsoKey) → is_at (key.TheImpl.ghosts.cmp k) x ≡ true → x ≡ k
 keys_same k x here =
     let fields = fields_by k.addressed x.addressed k.source x.source here in
     key_same k.addressed x.addressed k.source x.source fields.0 fields.1

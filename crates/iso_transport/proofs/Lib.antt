@@ -5,3 +5,4 @@ pub mod Prefixes
 pub mod Following
 pub mod Maps
 pub mod Joining
+pub mod Keys

@@ -11,3 +11,4 @@ pub mod Rows
 pub mod Told
 pub mod Laws
 pub mod Joining
+pub mod Keys

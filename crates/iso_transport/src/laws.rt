@@ -1,8 +1,12 @@
 //! What is promised of messages of the transport protocol, whoever joins them.
-ghost use Rattle.std.specs.Prelude.{true, false};
+ghost use Rattle.std.specs.Prelude.{◌≡◌, ℕ, true, false, List, ◌∷◌, Option};
 ghost use Rattle.runs.specs.Laws.{OneStep, OneSuffix};
-ghost use Rattle.iso_transport.specs.IsoRuns.{iso_rules};
-ghost use Rattle.iso_transport.specs.Joining.{FeedsItsKey, EndsTheFirst, OrdersKeys};
+ghost use Rattle.n2k_id.specs.declared.header.Parts.{Parts};
+ghost use Rattle.iso_transport.specs.declared.key.IsoKey.{IsoKey};
+ghost use Rattle.iso_transport.specs.Audience.{key_of, is_data};
+ghost use Rattle.iso_transport.specs.IsoRuns.{IsoPiece, iso_rules};
+ghost use Rattle.iso_transport.specs.Joining.{concerns, FeedsItsKey, EndsTheFirst, OrdersKeys};
+ghost use Rattle.iso_transport.specs.Keys.{AreFed, AllFollow, AllAnswered};
 ghost use Rattle.iso_transport.specs.Laws.{FollowsRuns, HasItsSize};
 
 use crate::key::IsoKey;
@@ -35,4 +39,13 @@ pub fn frames_change_their_key_alone()
     ensures feed { FeedsItsKey ⟦<IsoKey as Ord>⟧.cmp }
     ensures ends { EndsTheFirst ⟦<IsoKey as Ord>⟧.cmp }
     ensures order { OrdersKeys ⟦<IsoKey as Ord>⟧.cmp }
+{}
+
+/// Whatever frames of all keys come, the sessions are those of the open prefixes among the frames of each key, and as many as the
+/// keys that are open. Each frame is answered as the frames of its key say: a message completes exactly where they end with a run,
+/// and is that run's payload; its sender is told what the rules of the run say; and an opener finds no room exactly where as many
+/// of the other keys as the limit are open.
+pub fn all_sessions_follow_runs()
+    ensures follows { (limit : ℕ) (h : List (IsoKey × IsoPiece)) → AreFed ⟦<IsoKey as Ord>⟧.cmp limit h → AllFollow ⟦<IsoKey as Ord>⟧.cmp limit h }
+    ensures answers { (limit : ℕ) (h : List (IsoKey × IsoPiece)) (own : Option ℕ) (parts : Parts) (x : IsoPiece) → AreFed ⟦<IsoKey as Ord>⟧.cmp limit ((key_of parts, x) ∷ h) → concerns own parts ≡ true → x.packet ≡ is_data parts → AllAnswered ⟦<IsoKey as Ord>⟧.cmp limit own parts x h }
 {}
