@@ -9,7 +9,7 @@ use Rattle.claim_table.specs.Presets.{opened}
 use Rattle.pgn_profile.specs.Profiled.{messages}
 use Rattle.unit_fraction.specs.Round.{nearest}
 use Rattle.hex.proofs.OnLiterals.{hex_on_literals}
-use Rattle.capture_text.specs.Reading.{time_at, bytes_at, data_at, number_of, frame_at, seen_behind, read}
+use Rattle.capture_text.specs.Reading.{seconds_at, micros_at, time_at, bytes_before_end, bytes_at, number_of, frame_at, seen_behind, read}
 use Rattle.unit_fraction.specs.Reading as decimals
 use Rattle.fast_packet.specs.Split.{frames_to}
 use Rattle.sentence_text.specs.Reading.{front_fault, sum_fault, end_fault}
@@ -23,5 +23,5 @@ use Rattle.sentence_rows.specs.ReadRow.{hdt, read_sentence}
 use Rattle.history.specs.Datagrams.{date_in_year, date_after, date_of}
 
 unfoldable pub cases : ⊤
-unfolding digits has_destination parts_at parts_of group_of identifier_of bits_at is_arbitrary name_bytes name_at fields_of matches_fields matches stating left_by free_from next_free next_own claim is_obeyed command opened messages hex_on_literals time_at bytes_at data_at number_of frame_at seen_behind read nearest decimals.read frames_to front_fault sum_fault end_fault parameter_at parameters_at block_end_at block_at blocks_at group_in settle tags.read items_from items.item columns.measure columns.number columns.counted columns.unit_letter columns.text columns.decimal columns.raw_of columns.is_blank columns.side formatter_of hdt read_sentence date_in_year date_after date_of
+unfolding digits has_destination parts_at parts_of group_of identifier_of bits_at is_arbitrary name_bytes name_at fields_of matches_fields matches stating left_by free_from next_free next_own claim is_obeyed command opened messages hex_on_literals seconds_at micros_at time_at bytes_before_end bytes_at number_of frame_at seen_behind read nearest decimals.read frames_to front_fault sum_fault end_fault parameter_at parameters_at block_end_at block_at blocks_at group_in settle tags.read items_from items.item columns.measure columns.number columns.counted columns.unit_letter columns.text columns.decimal columns.raw_of columns.is_blank columns.side formatter_of hdt read_sentence date_in_year date_after date_of
 cases = tt
