@@ -1,5 +1,5 @@
 -- A device is isolated: its messages in a history are those in the history of the claims, the commands and its own frames.
-use Rattle.std.proofs.Common.{◌≡◌, ◌≢◌, ℕ, ◌≤◌, Bool, true, false, ◌&&◌, ◌||◌, not, List, [], ◌∷◌, length, map, refl, sym, ap, subst, ◌∙◌, ◌==◌, nat_le}
+use Rattle.std.proofs.Common.{◌≡◌, ℕ, Bool, true, false, ◌&&◌, ◌||◌, not, List, [], ◌∷◌, length, map, refl, sym, ap, subst, ◌∙◌, ◌==◌}
 use Rattle.std.specs.Prelude.{Option, Some, None, filter, is_some, if◌then◌else◌, option_map}
 use Rattle.std.specs.List.{AllByRecursion}
 use Rattle.std.proofs.lemmas.Bool.{eqb-true, and_parts, false≢true}
@@ -23,17 +23,16 @@ use Rattle.history.specs.Settings.{Settings}
 use Rattle.history.specs.Known.{Known, known, is_own, is_claim, claim_by, since_of}
 use Rattle.fast_packet.specs.FastFrames.{is_opener}
 use Rattle.iso_transport.specs.IsoRuns.{is_opener as iso_opener}
-use Rattle.history.specs.Traces.{Note, is_since, fast_piece, fast_trace, fast_trace_since, iso_piece, iso_trace, broadcast_since, addressed_since, is_transport, is_bearing}
+use Rattle.history.specs.Traces.{Note, fast_piece, fast_trace, iso_piece, iso_trace, is_transport, is_bearing}
 use Rattle.history.specs.Opens.{is_fast, notes_of, fast_open, iso_open}
 use Rattle.history.specs.Messages.{Message, Carried, messages_of, said_by, with_message, completed_by, by_kind, by_session, fast_carried, iso_carried}
 use Rattle.history.specs.AddressLaws.{AreSettings}
 use Rattle.history.specs.TraceLaws.{is_lost, same_own}
 use Rattle.history.specs.KeyLaws.{is_meant, concerns, the_note}
 use Rattle.history.specs.IsolationLaws.{keeps, narrowed, plain, from, opens, FindsRoom, NoneRefused, Isolation}
-use Rattle.std.proofs.lemmas.Bool.{le-leb}
 use Rattle.iso_transport.specs.Connection.{control_at}
 use Rattle.history.specs.IsolationLaws.{Plain}
-use Rattle.history.proofs.KeySteps.{known_same, claim_kind, other_piece}
+use Rattle.history.proofs.KeySteps.{known_same, claim_kind}
 use Rattle.history.proofs.SessionSteps.{IsLate, with_piece, late, trace_is, session_is, completed_iso}
 use Rattle.history.proofs.SessionSteps.{steps as iso_steps}
 use Rattle.history.proofs.KeySteps.{steps as fast_steps}
@@ -41,19 +40,17 @@ use Rattle.history.proofs.TraceMoves.{claims_move_traces, commands_move_traces, 
 use Rattle.history.proofs.FreshSteps.{claim_says_none}
 use Rattle.history.proofs.Erased.{bare, erased, unnumbered, bare_at, claim_erased, command_erased}
 use Rattle.history.proofs.Addresses.{addresses_are_sound}
+use Rattle.history.proofs.Roomy.{Roomy, not_claims_pgn, fast_head, fast_past, fast_with, iso_with, roomy}
 use Rattle.history.proofs.Room.{IsOwnKind, fast_room, iso_room}
 use Rattle.history.proofs.Normal.{run_of_map, open_at_map}
 use Rattle.history.proofs.Unseen.{fast_norm, iso_norm, fast_unseen, iso_unseen, fast_carries, iso_carries}
 
--- what of a history is as in another
-pub record Alike (c : Settings) (s a : ℕ) (h g : History) : Type 0 where
-  pub claims : erased (known c s h).claims ≡ erased (known c s g).claims
-  pub fast : (p : ℕ) → kind_of p ≡ Fast → map fast_norm (fast_trace (known c s h) a p (notes_of c s h)) ≡ map fast_norm (fast_trace (known c s g) a p (notes_of c s g))
-  pub iso : (addressed : Bool) → map iso_norm (iso_trace (known c s h) addressed a (notes_of c s h)) ≡ map iso_norm (iso_trace (known c s g) addressed a (notes_of c s g))
-  pub told : from a (messages_of c s h) ≡ from a (messages_of c s g)
-  -- in the other, only the device sends, and its openers found room
-  pub only : AllByRecursion (IsOwnKind a) (notes_of c s g)
-  pub rooms : NoneRefused c s g a
+-- what of a history of one gateway is as in one of another
+pub record Alike (c d : Settings) (s a : ℕ) (h g : History) : Type 0 where
+  pub claims : erased (known c s h).claims ≡ erased (known d s g).claims
+  pub fast : (p : ℕ) → kind_of p ≡ Fast → map fast_norm (fast_trace (known c s h) a p (notes_of c s h)) ≡ map fast_norm (fast_trace (known d s g) a p (notes_of d s g))
+  pub iso : (addressed : Bool) → map iso_norm (iso_trace (known c s h) addressed a (notes_of c s h)) ≡ map iso_norm (iso_trace (known d s g) addressed a (notes_of d s g))
+  pub told : from a (messages_of c s h) ≡ from a (messages_of d s g)
 
 -- ---- a claim
 
@@ -63,8 +60,20 @@ claim_is_neither n e = (rw e (ap is_fast claim_kind), rw e refl)
 claim_is_no_kind : (a : ℕ) (n : Note) → n.parts.pgn ≡ 60928 → IsOwnKind a n
 claim_is_no_kind a n e = λ kind. let neither = claim_is_neither n e in absurd (false≢true (sym (rw (neither.0, neither.1) refl) ∙ kind))
 
-claim_is_no_opener : (a : ℕ) (n : Note) → n.parts.pgn ≡ 60928 → FindsRoom a n
-claim_is_no_opener a n e = λ source opening. let neither = claim_is_neither n e in absurd (false≢true (sym (rw (neither.0, neither.1) refl) ∙ opening))
+claim_is_no_opener : (a : ℕ) (k : Known) (n : Note) → n.parts.pgn ≡ 60928 → FindsRoom a k n
+claim_is_no_opener a k n e = λ source opening.
+    let neither = claim_is_neither n e in
+    absurd (false≢true (sym (closed (is_some (since_of k n.parts.source)) (is_fast (kind_of n.parts.pgn)) (is_opener n.bytes) (n.parts.source == n.parts.source) (is_meant k n (key_of n.parts).addressed) (is_transport n.parts)
+    (bears (key_of n.parts).addressed (is_data n.parts) n.bytes && (is_data n.parts || (not (control_at n.bytes == 16) || n.ready))) (iso_opener (key_of n.parts).addressed (iso_piece n)) neither.0 neither.1) ∙ opening))
+  where
+    closed : (held fast first own meant transport bearing opener : Bool) → fast ≡ false → transport ≡ false
+        → ((held && (fast && first)) || ((held && (own && (meant && (transport && bearing)))) && opener)) ≡ false
+    closed false fast first own meant transport bearing opener e f = refl
+    closed true true first own meant transport bearing opener e f = cc
+    closed true false first own meant true bearing opener e f = cc
+    closed true false first false meant false bearing opener e f = refl
+    closed true false first true false false bearing opener e f = refl
+    closed true false first true true false bearing opener e f = refl
 
 by_erased : (c d : Claims) (k l : Claim) → erased c ≡ erased d → unnumbered k ≡ unnumbered l → (erased (claim c k).after ≡ erased (claim d l).after) × ((claim c k).step ≡ (claim d l).step)
 by_erased c d k l e f =
@@ -80,161 +89,76 @@ cut_same f b d t u e same = rw e (by d)
     by true = refl
     by false = same
 
-not_claims_pgn : (p : ℕ) → kind_of p ≡ Fast → p ≢ 60928
-not_claims_pgn p fast e = let two : Outside ≡ Fast = sym claim_kind ∙ subst (λ (x : ℕ). kind_of x ≡ Fast) e fast in cc
+module _ (c d : Settings) (s a : ℕ) (h g : History) (m : ℕ) (f : BusFrame) (are : AreSettings c) (too : AreSettings d) (alike : Alike c d s a h g) (claims : is_claim f ≡ true) where
+  both : (erased (claim (known c s h).claims (claim_by (length h) m f)).after ≡ erased (claim (known d s g).claims (claim_by (length g) m f)).after)
+      × ((claim (known c s h).claims (claim_by (length h) m f)).step ≡ (claim (known d s g).claims (claim_by (length g) m f)).step)
+  both = by_erased (known c s h).claims (known d s g).claims (claim_by (length h) m f) (claim_by (length g) m f) alike.claims refl
 
-module _ (c : Settings) (s a : ℕ) (h g : History) (m : ℕ) (f : BusFrame) (are : AreSettings c) (alike : Alike c s a h g) (claims : is_claim f ≡ true) where
-  both : (erased (claim (known c s h).claims (claim_by (length h) m f)).after ≡ erased (claim (known c s g).claims (claim_by (length g) m f)).after)
-      × ((claim (known c s h).claims (claim_by (length h) m f)).step ≡ (claim (known c s g).claims (claim_by (length g) m f)).step)
-  both = by_erased (known c s h).claims (known c s g).claims (claim_by (length h) m f) (claim_by (length g) m f) alike.claims refl
-
-  same_lost : is_lost (claim (known c s h).claims (claim_by (length h) m f)).step a ≡ is_lost (claim (known c s g).claims (claim_by (length g) m f)).step a
+  same_lost : is_lost (claim (known c s h).claims (claim_by (length h) m f)).step a ≡ is_lost (claim (known d s g).claims (claim_by (length g) m f)).step a
   same_lost = ap (λ (x : ClaimStep). is_lost x a) both.1
 
-  after_claim : erased (known c s (frame m f ∷ h)).claims ≡ erased (known c s (frame m f ∷ g)).claims
-  after_claim = rw (known_after_claim c s h m f claims, known_after_claim c s g m f claims) both.0
+  after_claim : erased (known c s (frame m f ∷ h)).claims ≡ erased (known d s (frame m f ∷ g)).claims
+  after_claim = rw (known_after_claim c s h m f claims, known_after_claim d s g m f claims) both.0
 
-  same_changed : same_own (known c s h).claims.own (known c s (frame m f ∷ h)).claims.own ≡ same_own (known c s g).claims.own (known c s (frame m f ∷ g)).claims.own
+  same_changed : same_own (known c s h).claims.own (known c s (frame m f ∷ h)).claims.own ≡ same_own (known d s g).claims.own (known d s (frame m f ∷ g)).claims.own
   same_changed =
       ap (λ (x : Claims). same_own x.own (known c s (frame m f ∷ h)).claims.own) alike.claims
-      ∙ ap (λ (x : Claims). same_own (known c s g).claims.own x.own) after_claim
+      ∙ ap (λ (x : Claims). same_own (known d s g).claims.own x.own) after_claim
 
-  iso_after : (addressed : Bool) → map iso_norm (iso_trace (known c s (frame m f ∷ h)) addressed a (notes_of c s (frame m f ∷ h))) ≡ map iso_norm (iso_trace (known c s (frame m f ∷ g)) addressed a (notes_of c s (frame m f ∷ g)))
+  iso_after : (addressed : Bool) → map iso_norm (iso_trace (known c s (frame m f ∷ h)) addressed a (notes_of c s (frame m f ∷ h))) ≡ map iso_norm (iso_trace (known d s (frame m f ∷ g)) addressed a (notes_of d s (frame m f ∷ g)))
   iso_after false =
       ap (map iso_norm) ((claims_move_traces c s h m f are claims).broadcast a)
-      ∙ cut_same iso_norm _ _ (iso_trace (known c s h) false a (notes_of c s h)) (iso_trace (known c s g) false a (notes_of c s g)) same_lost (alike.iso false)
-      ∙ ap (map iso_norm) (sym ((claims_move_traces c s g m f are claims).broadcast a))
+      ∙ cut_same iso_norm _ _ (iso_trace (known c s h) false a (notes_of c s h)) (iso_trace (known d s g) false a (notes_of d s g)) same_lost (alike.iso false)
+      ∙ ap (map iso_norm) (sym ((claims_move_traces d s g m f too claims).broadcast a))
   iso_after true =
       ap (map iso_norm) ((claims_move_traces c s h m f are claims).addressed a)
-      ∙ cut_same iso_norm _ _ (iso_trace (known c s h) true a (notes_of c s h)) (iso_trace (known c s g) true a (notes_of c s g)) (rw (same_lost, same_changed) refl) (alike.iso true)
-      ∙ ap (map iso_norm) (sym ((claims_move_traces c s g m f are claims).addressed a))
+      ∙ cut_same iso_norm _ _ (iso_trace (known c s h) true a (notes_of c s h)) (iso_trace (known d s g) true a (notes_of d s g)) (rw (same_lost, same_changed) refl) (alike.iso true)
+      ∙ ap (map iso_norm) (sym ((claims_move_traces d s g m f too claims).addressed a))
 
   pgn_is : (parts_of f.id).pgn ≡ 60928
   pgn_is = eqb-true (parts_of f.id).pgn 60928 (and_parts _ _ claims).0
 
-  pub claim_alike : Alike c s a (frame m f ∷ h) (frame m f ∷ g)
+  pub claim_alike : Alike c d s a (frame m f ∷ h) (frame m f ∷ g)
   claim_alike = record {
     claims = after_claim;
     fast = λ p fast.
         ap (map fast_norm) ((claims_move_traces c s h m f are claims).fast a p (not_claims_pgn p fast))
-        ∙ cut_same fast_norm _ _ (fast_trace (known c s h) a p (notes_of c s h)) (fast_trace (known c s g) a p (notes_of c s g)) same_lost (alike.fast p fast)
-        ∙ ap (map fast_norm) (sym ((claims_move_traces c s g m f are claims).fast a p (not_claims_pgn p fast)));
+        ∙ cut_same fast_norm _ _ (fast_trace (known c s h) a p (notes_of c s h)) (fast_trace (known d s g) a p (notes_of d s g)) same_lost (alike.fast p fast)
+        ∙ ap (map fast_norm) (sym ((claims_move_traces d s g m f too claims).fast a p (not_claims_pgn p fast)));
     iso = iso_after;
-    told = ap (from a) (claim_says_none c s h m f claims) ∙ alike.told ∙ sym (ap (from a) (claim_says_none c s g m f claims));
-    only = (claim_is_no_kind a (the_note c s g m f) pgn_is, alike.only);
-    rooms = (claim_is_no_opener a (the_note c s g m f) pgn_is, alike.rooms);
+    told = ap (from a) (claim_says_none c s h m f claims) ∙ alike.told ∙ sym (ap (from a) (claim_says_none d s g m f claims));
   }
 
 -- ---- a command
 
-module _ (c : Settings) (s a : ℕ) (h g : History) (m source address : ℕ) (alike : Alike c s a h g) where
-  commanded : erased (known c s (entry.command m source address ∷ h)).claims ≡ erased (known c s (entry.command m source address ∷ g)).claims
+module _ (c d : Settings) (s a : ℕ) (h g : History) (m source address : ℕ) (alike : Alike c d s a h g) where
+  commanded : erased (known c s (entry.command m source address ∷ h)).claims ≡ erased (known d s (entry.command m source address ∷ g)).claims
   commanded =
-      sym (command_erased (known c s h).claims address m) ∙ ap (λ (x : Claims). command x address m) alike.claims ∙ command_erased (known c s g).claims address m
+      sym (command_erased (known c s h).claims address m) ∙ ap (λ (x : Claims). command x address m) alike.claims ∙ command_erased (known d s g).claims address m
 
-  own_changed : same_own (known c s h).claims.own (known c s (entry.command m source address ∷ h)).claims.own ≡ same_own (known c s g).claims.own (known c s (entry.command m source address ∷ g)).claims.own
+  own_changed : same_own (known c s h).claims.own (known c s (entry.command m source address ∷ h)).claims.own ≡ same_own (known d s g).claims.own (known d s (entry.command m source address ∷ g)).claims.own
   own_changed =
       ap (λ (x : Claims). same_own x.own (known c s (entry.command m source address ∷ h)).claims.own) alike.claims
-      ∙ ap (λ (x : Claims). same_own (known c s g).claims.own x.own) commanded
+      ∙ ap (λ (x : Claims). same_own (known d s g).claims.own x.own) commanded
 
   iso_commanded : (addressed : Bool) → map iso_norm (iso_trace (known c s (entry.command m source address ∷ h)) addressed a (notes_of c s (entry.command m source address ∷ h)))
-      ≡ map iso_norm (iso_trace (known c s (entry.command m source address ∷ g)) addressed a (notes_of c s (entry.command m source address ∷ g)))
+      ≡ map iso_norm (iso_trace (known d s (entry.command m source address ∷ g)) addressed a (notes_of d s (entry.command m source address ∷ g)))
   iso_commanded false =
-      ap (map iso_norm) ((commands_move_traces c s h m source address).broadcast a) ∙ alike.iso false ∙ ap (map iso_norm) (sym ((commands_move_traces c s g m source address).broadcast a))
+      ap (map iso_norm) ((commands_move_traces c s h m source address).broadcast a) ∙ alike.iso false ∙ ap (map iso_norm) (sym ((commands_move_traces d s g m source address).broadcast a))
   iso_commanded true =
       ap (map iso_norm) ((commands_move_traces c s h m source address).addressed a)
-      ∙ cut_same iso_norm _ _ (iso_trace (known c s h) true a (notes_of c s h)) (iso_trace (known c s g) true a (notes_of c s g)) (ap not own_changed) (alike.iso true)
-      ∙ ap (map iso_norm) (sym ((commands_move_traces c s g m source address).addressed a))
+      ∙ cut_same iso_norm _ _ (iso_trace (known c s h) true a (notes_of c s h)) (iso_trace (known d s g) true a (notes_of d s g)) (ap not own_changed) (alike.iso true)
+      ∙ ap (map iso_norm) (sym ((commands_move_traces d s g m source address).addressed a))
 
-  pub command_alike : Alike c s a (entry.command m source address ∷ h) (entry.command m source address ∷ g)
+  pub command_alike : Alike c d s a (entry.command m source address ∷ h) (entry.command m source address ∷ g)
   command_alike = record {
     claims = commanded;
     fast = λ p fast.
         ap (map fast_norm) ((commands_move_traces c s h m source address).fast a p (not_claims_pgn p fast)) ∙ alike.fast p fast
-        ∙ ap (map fast_norm) (sym ((commands_move_traces c s g m source address).fast a p (not_claims_pgn p fast)));
+        ∙ ap (map fast_norm) (sym ((commands_move_traces d s g m source address).fast a p (not_claims_pgn p fast)));
     iso = iso_commanded;
     told = alike.told;
-    only = alike.only;
-    rooms = alike.rooms;
   }
-
--- ---- openers of a trace found room
-
-fast_rooms : (a since p : ℕ) (notes : List Note) → is_fast (kind_of p) ≡ true → AllByRecursion (FindsRoom a) notes
-    → AllByRecursion (λ x. fast_rules.opens x ≡ true → fast_rules.admitted x ≡ true) (map fast_piece (filter (λ n. is_since a since n && (n.parts.pgn == p)) notes))
-fast_rooms a since p [] fast all = tt
-fast_rooms a since p (n ∷ notes) fast all = by (is_since a since n && (n.parts.pgn == p)) refl (fast_rooms a since p notes fast all.1)
-  where
-    room : (is_since a since n && (n.parts.pgn == p)) ≡ true → fast_rules.opens (fast_piece n) ≡ true → fast_rules.admitted (fast_piece n) ≡ true
-    room e opening =
-        let parts = and_parts (is_since a since n) (n.parts.pgn == p) e in
-        let kind : is_fast (kind_of n.parts.pgn) ≡ true = subst (λ (x : ℕ). is_fast (kind_of x) ≡ true) (sym (eqb-true n.parts.pgn p parts.1)) fast in
-        all.0 (and_parts (n.parts.source == a) (nat_le since n.index) parts.0).0 (rw (kind, opening) refl)
-
-    by : (b : Bool) → (is_since a since n && (n.parts.pgn == p)) ≡ b
-        → AllByRecursion (λ x. fast_rules.opens x ≡ true → fast_rules.admitted x ≡ true) (map fast_piece (filter (λ n. is_since a since n && (n.parts.pgn == p)) notes))
-        → AllByRecursion (λ x. fast_rules.opens x ≡ true → fast_rules.admitted x ≡ true) (map fast_piece (filter (λ n. is_since a since n && (n.parts.pgn == p)) (n ∷ notes)))
-    by true e rest = rw e (room e, rest)
-    by false e rest = rw e rest
-
-fast_trace_rooms : (k : Known) (a p : ℕ) (notes : List Note) → is_fast (kind_of p) ≡ true → AllByRecursion (FindsRoom a) notes
-    → AllByRecursion (λ x. fast_rules.opens x ≡ true → fast_rules.admitted x ≡ true) (fast_trace k a p notes)
-fast_trace_rooms k a p notes fast all = by (since_of k a)
-  where
-    by : (since : Option ℕ) → AllByRecursion (λ x. fast_rules.opens x ≡ true → fast_rules.admitted x ≡ true) (fast_trace_since since a p notes)
-    by None = tt
-    by (Some since) = fast_rooms a since p notes fast all
-
-iso_opens_is : (addressed : Bool) (n : Note) → is_transport n.parts ≡ true → (iso_rules addressed).opens (iso_piece n) ≡ true → opens n ≡ true
-iso_opens_is false n transport e = rw (transport, e) (or_any (is_fast (kind_of n.parts.pgn) && is_opener n.bytes))
-  where
-    or_any : (b : Bool) → (b || true) ≡ true
-    or_any true = refl
-    or_any false = refl
-iso_opens_is true n transport e = rw (transport, e) (or_both (is_fast (kind_of n.parts.pgn) && is_opener n.bytes) (iso_opener false (iso_piece n)))
-  where
-    or_both : (b d : Bool) → (b || (d || true)) ≡ true
-    or_both true d = refl
-    or_both false true = refl
-    or_both false false = refl
-
--- frames of which each bears on a session
-iso_rooms : (addressed : Bool) (a : ℕ) (q : Note → Bool) → ((n : Note) → q n ≡ true → ((n.parts.source == a) ≡ true) × (is_transport n.parts ≡ true)) → (notes : List Note) → AllByRecursion (FindsRoom a) notes
-    → AllByRecursion (λ x. (iso_rules addressed).opens x ≡ true → (iso_rules addressed).admitted x ≡ true) (map iso_piece (filter q notes))
-iso_rooms addressed a q tells [] all = tt
-iso_rooms addressed a q tells (n ∷ notes) all = by (q n) refl (iso_rooms addressed a q tells notes all.1)
-  where
-    by : (b : Bool) → q n ≡ b → AllByRecursion (λ x. (iso_rules addressed).opens x ≡ true → (iso_rules addressed).admitted x ≡ true) (map iso_piece (filter q notes))
-        → AllByRecursion (λ x. (iso_rules addressed).opens x ≡ true → (iso_rules addressed).admitted x ≡ true) (map iso_piece (filter q (n ∷ notes)))
-    by true e rest = let facts = tells n e in rw e ((λ opening. all.0 facts.0 (iso_opens_is addressed n facts.1 opening)), rest)
-    by false e rest = rw e rest
-
-iso_trace_rooms : (k : Known) (addressed : Bool) (a : ℕ) (notes : List Note) → AllByRecursion (FindsRoom a) notes
-    → AllByRecursion (λ x. (iso_rules addressed).opens x ≡ true → (iso_rules addressed).admitted x ≡ true) (iso_trace k addressed a notes)
-iso_trace_rooms k false a notes all = by (since_of k a)
-  where
-    tells : (since : ℕ) (n : Note) → (is_since a since n && ((n.parts.destination == 255) && is_bearing false n)) ≡ true → ((n.parts.source == a) ≡ true) × (is_transport n.parts ≡ true)
-    tells since n e =
-        let parts = and_parts (is_since a since n) ((n.parts.destination == 255) && is_bearing false n) e in
-        let bearing = (and_parts (n.parts.destination == 255) (is_bearing false n) parts.1).1 in
-        ((and_parts (n.parts.source == a) (nat_le since n.index) parts.0).0, (and_parts (is_transport n.parts) _ bearing).0)
-
-    by : (since : Option ℕ) → AllByRecursion (λ x. (iso_rules false).opens x ≡ true → (iso_rules false).admitted x ≡ true) (broadcast_since since a notes)
-    by None = tt
-    by (Some since) = iso_rooms false a (λ n. is_since a since n && ((n.parts.destination == 255) && is_bearing false n)) (tells since) notes all
-iso_trace_rooms k true a notes all = by (since_of k a) k.claims.own
-  where
-    tells : (since own : ℕ) (n : Note) → (is_since a since n && ((n.parts.destination == own) && (nat_le k.own_since n.index && is_bearing true n))) ≡ true → ((n.parts.source == a) ≡ true) × (is_transport n.parts ≡ true)
-    tells since own n e =
-        let parts = and_parts (is_since a since n) ((n.parts.destination == own) && (nat_le k.own_since n.index && is_bearing true n)) e in
-        let late = (and_parts (n.parts.destination == own) (nat_le k.own_since n.index && is_bearing true n) parts.1).1 in
-        let bearing = (and_parts (nat_le k.own_since n.index) (is_bearing true n) late).1 in
-        ((and_parts (n.parts.source == a) (nat_le since n.index) parts.0).0, (and_parts (is_transport n.parts) _ bearing).0)
-
-    by : (since own : Option ℕ) → AllByRecursion (λ x. (iso_rules true).opens x ≡ true → (iso_rules true).admitted x ≡ true) (addressed_since since own k.own_since a notes)
-    by None own = tt
-    by (Some since) None = tt
-    by (Some since) (Some own) = iso_rooms true a (λ n. is_since a since n && ((n.parts.destination == own) && (nat_le k.own_since n.index && is_bearing true n))) (tells since own) notes all
 
 -- ---- a frame of the device, which is no claim
 
@@ -248,20 +172,6 @@ own_same k l b e = by l.claims.own refl
     by : (o : Option ℕ) → l.claims.own ≡ o → is_own k b ≡ is_own l b
     by None f = rw (e, f) refl
     by (Some x) f = rw (e, f) refl
-
-fast_head : (k : Known) (a p : ℕ) (n : Note) (notes : List Note) → (n.parts.source == a) ≡ true → IsLate (since_of k a) n.index
-    → fast_trace k a p (n ∷ notes) ≡ (if is_some (since_of k a) && (n.parts.pgn == p) then fast_piece n ∷ fast_trace k a p notes else fast_trace k a p notes)
-fast_head k a p n notes source late = by (since_of k a) late
-  where
-    with_pgn : (since : ℕ) → since ≤ n.index → (b : Bool) → (n.parts.pgn == p) ≡ b
-        → fast_trace_since (Some since) a p (n ∷ notes) ≡ (if b then fast_piece n ∷ fast_trace_since (Some since) a p notes else fast_trace_since (Some since) a p notes)
-    with_pgn since le true e = rw (source, le-leb since n.index le, e) refl
-    with_pgn since le false e = rw (source, le-leb since n.index le, e) refl
-
-    by : (since : Option ℕ) → IsLate since n.index
-        → fast_trace_since since a p (n ∷ notes) ≡ (if is_some since && (n.parts.pgn == p) then fast_piece n ∷ fast_trace_since since a p notes else fast_trace_since since a p notes)
-    by None le = refl
-    by (Some since) le = with_pgn since le (n.parts.pgn == p) refl
 
 piece_same : {X : Type 0} (f : X → X) (b d : Bool) (x y : X) (t u : List X) → b ≡ d → f x ≡ f y → map f t ≡ map f u → map f (if b then x ∷ t else t) ≡ map f (if d then y ∷ u else u)
 piece_same f b d x y t u e one same = rw e (by d)
@@ -297,173 +207,189 @@ said_same a i j m src (Some x) (Some y) v (Some w) t u e f same = rw f (by (src 
 not_session : (k : Known) (n : Note) (older : List Note) → is_transport n.parts ≡ false → completed_by k n older ≡ by_kind (kind_of n.parts.pgn) k n older
 not_session k n older e = rw e refl
 
-module _ (c : Settings) (s a : ℕ) (h g : History) (m : ℕ) (f : BusFrame) (are : AreSettings c) (alike : Alike c s a h g) (other : is_claim f ≡ false)
+module _ (c d : Settings) (s a : ℕ) (h g : History) (m : ℕ) (f : BusFrame) (are : AreSettings c) (too : AreSettings d) (alike : Alike c d s a h g) (other : is_claim f ≡ false)
     (source : ((parts_of f.id).source == a) ≡ true) where
-  holders_same : bare (holder_at (known c s h).claims.holders a) ≡ bare (holder_at (known c s g).claims.holders a)
-  holders_same = sym (bare_at (known c s h).claims.holders a) ∙ ap (λ (x : Claims). holder_at x.holders a) alike.claims ∙ bare_at (known c s g).claims.holders a
+  holders_same : bare (holder_at (known c s h).claims.holders a) ≡ bare (holder_at (known d s g).claims.holders a)
+  holders_same = sym (bare_at (known c s h).claims.holders a) ∙ ap (λ (x : Claims). holder_at x.holders a) alike.claims ∙ bare_at (known d s g).claims.holders a
 
-  held_same : is_some (since_of (known c s h) a) ≡ is_some (since_of (known c s g) a)
-  held_same = some_bare (holder_at (known c s h).claims.holders a) ∙ ap is_some holders_same ∙ sym (some_bare (holder_at (known c s g).claims.holders a))
+  held_same : is_some (since_of (known c s h) a) ≡ is_some (since_of (known d s g) a)
+  held_same = some_bare (holder_at (known c s h).claims.holders a) ∙ ap is_some holders_same ∙ sym (some_bare (holder_at (known d s g).claims.holders a))
 
-  owns_same : (known c s h).claims.own ≡ (known c s g).claims.own
+  owns_same : (known c s h).claims.own ≡ (known d s g).claims.own
   owns_same = ap (λ (x : Claims). x.own) alike.claims
 
-  ready_same : (the_note c s h m f).ready ≡ (the_note c s g m f).ready
+  ready_same : (the_note c s h m f).ready ≡ (the_note d s g m f).ready
   ready_same = ap (λ (x : Claims). is_ready x m) alike.claims
 
   late_h : IsLate (since_of (known c s h) a) (length h)
   late_h = late c s h m f are a (holder_at (known c s h).claims.holders a) refl
 
-  late_g : IsLate (since_of (known c s g) a) (length g)
-  late_g = late c s g m f are a (holder_at (known c s g).claims.holders a) refl
+  late_g : IsLate (since_of (known d s g) a) (length g)
+  late_g = late d s g m f too a (holder_at (known d s g).claims.holders a) refl
 
   fast_own : (p : ℕ) → kind_of p ≡ Fast
-      → map fast_norm (fast_trace (known c s h) a p (the_note c s h m f ∷ notes_of c s h)) ≡ map fast_norm (fast_trace (known c s g) a p (the_note c s g m f ∷ notes_of c s g))
+      → map fast_norm (fast_trace (known c s h) a p (the_note c s h m f ∷ notes_of c s h)) ≡ map fast_norm (fast_trace (known d s g) a p (the_note d s g m f ∷ notes_of d s g))
   fast_own p fast =
       ap (map fast_norm) (fast_head (known c s h) a p (the_note c s h m f) (notes_of c s h) source late_h)
-      ∙ piece_same fast_norm _ _ (fast_piece (the_note c s h m f)) (fast_piece (the_note c s g m f)) (fast_trace (known c s h) a p (notes_of c s h)) (fast_trace (known c s g) a p (notes_of c s g))
+      ∙ piece_same fast_norm _ _ (fast_piece (the_note c s h m f)) (fast_piece (the_note d s g m f)) (fast_trace (known c s h) a p (notes_of c s h)) (fast_trace (known d s g) a p (notes_of d s g))
       (ap (λ (b : Bool). b && ((parts_of f.id).pgn == p)) held_same) refl (alike.fast p fast)
-      ∙ ap (map fast_norm) (sym (fast_head (known c s g) a p (the_note c s g m f) (notes_of c s g) source late_g))
+      ∙ ap (map fast_norm) (sym (fast_head (known d s g) a p (the_note d s g m f) (notes_of d s g) source late_g))
 
-  meant_same : (addressed : Bool) → is_meant (known c s h) (the_note c s h m f) addressed ≡ is_meant (known c s g) (the_note c s g m f) addressed
-  meant_same true = own_same (known c s h) (known c s g) (parts_of f.id).destination owns_same
+  meant_same : (addressed : Bool) → is_meant (known c s h) (the_note c s h m f) addressed ≡ is_meant (known d s g) (the_note d s g m f) addressed
+  meant_same true = own_same (known c s h) (known d s g) (parts_of f.id).destination owns_same
   meant_same false = refl
 
-  bearing_same : (addressed : Bool) → is_bearing addressed (the_note c s h m f) ≡ is_bearing addressed (the_note c s g m f)
+  bearing_same : (addressed : Bool) → is_bearing addressed (the_note c s h m f) ≡ is_bearing addressed (the_note d s g m f)
   bearing_same addressed =
       ap (λ (b : Bool). is_transport (parts_of f.id) && (bears addressed (is_data (parts_of f.id)) f.held && (is_data (parts_of f.id) || (not (control_at f.held == 16) || b)))) ready_same
 
-  concerns_same : (addressed : Bool) → concerns (known c s h) (the_note c s h m f) (record { addressed = addressed; source = a }) ≡ concerns (known c s g) (the_note c s g m f) (record { addressed = addressed; source = a })
+  concerns_same : (addressed : Bool) → concerns (known c s h) (the_note c s h m f) (record { addressed = addressed; source = a }) ≡ concerns (known d s g) (the_note d s g m f) (record { addressed = addressed; source = a })
   concerns_same addressed =
       ap (λ (b : Bool). b && (((parts_of f.id).source == a) && (is_meant (known c s h) (the_note c s h m f) addressed && is_bearing addressed (the_note c s h m f)))) held_same
-      ∙ ap (λ (b : Bool). is_some (since_of (known c s g) a) && (((parts_of f.id).source == a) && (b && is_bearing addressed (the_note c s h m f)))) (meant_same addressed)
-      ∙ ap (λ (b : Bool). is_some (since_of (known c s g) a) && (((parts_of f.id).source == a) && (is_meant (known c s g) (the_note c s g m f) addressed && b))) (bearing_same addressed)
+      ∙ ap (λ (b : Bool). is_some (since_of (known d s g) a) && (((parts_of f.id).source == a) && (b && is_bearing addressed (the_note c s h m f)))) (meant_same addressed)
+      ∙ ap (λ (b : Bool). is_some (since_of (known d s g) a) && (((parts_of f.id).source == a) && (is_meant (known d s g) (the_note d s g m f) addressed && b))) (bearing_same addressed)
 
   iso_own : (addressed : Bool)
-      → map iso_norm (iso_trace (known c s h) addressed a (the_note c s h m f ∷ notes_of c s h)) ≡ map iso_norm (iso_trace (known c s g) addressed a (the_note c s g m f ∷ notes_of c s g))
+      → map iso_norm (iso_trace (known c s h) addressed a (the_note c s h m f ∷ notes_of c s h)) ≡ map iso_norm (iso_trace (known d s g) addressed a (the_note d s g m f ∷ notes_of d s g))
   iso_own addressed =
       ap (map iso_norm) (trace_is c s h m f are addressed a)
-      ∙ piece_same iso_norm _ _ (iso_piece (the_note c s h m f)) (iso_piece (the_note c s g m f)) (iso_trace (known c s h) addressed a (notes_of c s h)) (iso_trace (known c s g) addressed a (notes_of c s g))
+      ∙ piece_same iso_norm _ _ (iso_piece (the_note c s h m f)) (iso_piece (the_note d s g m f)) (iso_trace (known c s h) addressed a (notes_of c s h)) (iso_trace (known d s g) addressed a (notes_of d s g))
       (concerns_same addressed) refl (alike.iso addressed)
-      ∙ ap (map iso_norm) (sym (trace_is c s g m f are addressed a))
-
-  -- its openers find room where they found it
-  module _ (found : AllByRecursion (FindsRoom a) (notes_of c s h)) where
-    some_map : {X Y : Type 0} (f : X → Y) (o : Option X) → is_some (option_map f o) ≡ is_some o
-    some_map f None = refl
-    some_map f (Some x) = refl
-
-    fast_is : (kind : Kind) → is_fast kind ≡ true → kind ≡ Fast
-    fast_is Single e = cc
-    fast_is Fast e = refl
-    fast_is Outside e = cc
-
-    fast_open_same : (p : ℕ) → is_fast (kind_of p) ≡ true → is_some (open_at fast_rules (fast_trace (known c s g) a p (notes_of c s g)) m) ≡ is_some (open_at fast_rules (fast_trace (known c s h) a p (notes_of c s h)) m)
-    fast_open_same p kind =
-        sym (some_map (map fast_norm) (open_at fast_rules (fast_trace (known c s g) a p (notes_of c s g)) m))
-        ∙ ap is_some (sym (open_at_map fast_rules fast_norm fast_unseen fast_steps (fast_trace (known c s g) a p (notes_of c s g)) m (fast_trace_rooms (known c s g) a p (notes_of c s g) kind alike.rooms)))
-        ∙ ap (λ (t : List FastPiece). is_some (open_at fast_rules t m)) (sym (alike.fast p (fast_is (kind_of p) kind)))
-        ∙ ap is_some (open_at_map fast_rules fast_norm fast_unseen fast_steps (fast_trace (known c s h) a p (notes_of c s h)) m (fast_trace_rooms (known c s h) a p (notes_of c s h) kind found))
-        ∙ some_map (map fast_norm) (open_at fast_rules (fast_trace (known c s h) a p (notes_of c s h)) m)
-
-    fast_opens : (key : FastKey) → ((key.source == a) ≡ true) × (is_fast (kind_of key.pgn) ≡ true) → is_some (fast_open (known c s g) (notes_of c s g) key m) ≡ is_some (fast_open (known c s h) (notes_of c s h) key m)
-    fast_opens key of =
-        subst (λ (x : ℕ). is_some (open_at fast_rules (fast_trace (known c s g) x key.pgn (notes_of c s g)) m) ≡ is_some (open_at fast_rules (fast_trace (known c s h) x key.pgn (notes_of c s h)) m))
-        (sym (eqb-true key.source a of.0)) (fast_open_same key.pgn of.1)
-
-    iso_open_same : (addressed : Bool) → is_some (open_at (iso_rules addressed) (iso_trace (known c s g) addressed a (notes_of c s g)) m) ≡ is_some (open_at (iso_rules addressed) (iso_trace (known c s h) addressed a (notes_of c s h)) m)
-    iso_open_same addressed =
-        sym (some_map (map iso_norm) (open_at (iso_rules addressed) (iso_trace (known c s g) addressed a (notes_of c s g)) m))
-        ∙ ap is_some (sym (open_at_map (iso_rules addressed) iso_norm (iso_unseen addressed) (iso_steps addressed) (iso_trace (known c s g) addressed a (notes_of c s g)) m (iso_trace_rooms (known c s g) addressed a (notes_of c s g) alike.rooms)))
-        ∙ ap (λ (t : List IsoPiece). is_some (open_at (iso_rules addressed) t m)) (sym (alike.iso addressed))
-        ∙ ap is_some (open_at_map (iso_rules addressed) iso_norm (iso_unseen addressed) (iso_steps addressed) (iso_trace (known c s h) addressed a (notes_of c s h)) m (iso_trace_rooms (known c s h) addressed a (notes_of c s h) found))
-        ∙ some_map (map iso_norm) (open_at (iso_rules addressed) (iso_trace (known c s h) addressed a (notes_of c s h)) m)
-
-    iso_opens : (key : IsoKey) → (key.source == a) ≡ true → is_some (iso_open (known c s g) (notes_of c s g) key m) ≡ is_some (iso_open (known c s h) (notes_of c s h) key m)
-    iso_opens key of =
-        subst (λ (x : ℕ). is_some (open_at (iso_rules key.addressed) (iso_trace (known c s g) key.addressed x (notes_of c s g)) m) ≡ is_some (open_at (iso_rules key.addressed) (iso_trace (known c s h) key.addressed x (notes_of c s h)) m))
-        (sym (eqb-true key.source a of)) (iso_open_same key.addressed)
-
-    still_admitted : (the_note c s h m f).admitted ≡ true → (the_note c s g m f).admitted ≡ true
-    still_admitted room = by (is_transport (parts_of f.id)) refl room
-      where
-        by : (b : Bool) → is_transport (parts_of f.id) ≡ b → (the_note c s h m f).admitted ≡ true → (the_note c s g m f).admitted ≡ true
-        by true e was =
-            rw e (iso_room a (known c s h) (known c s g) (addresses_are_sound c s h are).sound (notes_of c s h) (notes_of c s g) m alike.only iso_opens c.iso_slots (key_of (parts_of f.id)) (rw e at was))
-        by false e was =
-            rw e (fast_room a (known c s h) (known c s g) (notes_of c s h) (notes_of c s g) m alike.only fast_opens c.fast_slots (record { source = (parts_of f.id).source; pgn = (parts_of f.id).pgn }) (rw e at was))
-
-    pub room_kept : FindsRoom a (the_note c s h m f) → FindsRoom a (the_note c s g m f)
-    room_kept room = λ own opening. still_admitted (room own opening)
+      ∙ ap (map iso_norm) (sym (trace_is d s g m f too addressed a))
 
   -- what it completes
-  module _ (rooms_h : AllByRecursion (FindsRoom a) (the_note c s h m f ∷ notes_of c s h)) (rooms_g : AllByRecursion (FindsRoom a) (the_note c s g m f ∷ notes_of c s g)) where
+  module _ (room_h : Roomy c s a h) (room_g : Roomy d s a g) (finds_h : FindsRoom a (known c s h) (the_note c s h m f)) (finds_g : FindsRoom a (known d s g) (the_note d s g m f)) where
     from_source : (parts_of f.id).source ≡ a
     from_source = eqb-true (parts_of f.id).source a source
 
     fast_done : kind_of (parts_of f.id).pgn ≡ Fast
         → fast_carried (parts_of f.id).pgn (run_of fast_rules (fast_trace (known c s h) a (parts_of f.id).pgn (the_note c s h m f ∷ notes_of c s h)))
-        ≡ fast_carried (parts_of f.id).pgn (run_of fast_rules (fast_trace (known c s g) a (parts_of f.id).pgn (the_note c s g m f ∷ notes_of c s g)))
+        ≡ fast_carried (parts_of f.id).pgn (run_of fast_rules (fast_trace (known d s g) a (parts_of f.id).pgn (the_note d s g m f ∷ notes_of d s g)))
     fast_done fast =
         sym (fast_carries (parts_of f.id).pgn (run_of fast_rules (fast_trace (known c s h) a (parts_of f.id).pgn (the_note c s h m f ∷ notes_of c s h))))
         ∙ ap (fast_carried (parts_of f.id).pgn) (sym (run_of_map fast_rules fast_norm fast_unseen fast_steps (fast_trace (known c s h) a (parts_of f.id).pgn (the_note c s h m f ∷ notes_of c s h))
-        (fast_trace_rooms (known c s h) a (parts_of f.id).pgn (the_note c s h m f ∷ notes_of c s h) (ap is_fast fast) rooms_h)))
+        (fast_with c s a are h m f finds_h room_h (parts_of f.id).pgn fast)))
         ∙ ap (λ (t : List FastPiece). fast_carried (parts_of f.id).pgn (run_of fast_rules t)) (fast_own (parts_of f.id).pgn fast)
-        ∙ ap (fast_carried (parts_of f.id).pgn) (run_of_map fast_rules fast_norm fast_unseen fast_steps (fast_trace (known c s g) a (parts_of f.id).pgn (the_note c s g m f ∷ notes_of c s g))
-        (fast_trace_rooms (known c s g) a (parts_of f.id).pgn (the_note c s g m f ∷ notes_of c s g) (ap is_fast fast) rooms_g))
-        ∙ fast_carries (parts_of f.id).pgn (run_of fast_rules (fast_trace (known c s g) a (parts_of f.id).pgn (the_note c s g m f ∷ notes_of c s g)))
+        ∙ ap (fast_carried (parts_of f.id).pgn) (run_of_map fast_rules fast_norm fast_unseen fast_steps (fast_trace (known d s g) a (parts_of f.id).pgn (the_note d s g m f ∷ notes_of d s g))
+        (fast_with d s a too g m f finds_g room_g (parts_of f.id).pgn fast))
+        ∙ fast_carries (parts_of f.id).pgn (run_of fast_rules (fast_trace (known d s g) a (parts_of f.id).pgn (the_note d s g m f ∷ notes_of d s g)))
 
     iso_done : (addressed : Bool)
         → iso_carried (run_of (iso_rules addressed) (iso_trace (known c s h) addressed a (the_note c s h m f ∷ notes_of c s h)))
-        ≡ iso_carried (run_of (iso_rules addressed) (iso_trace (known c s g) addressed a (the_note c s g m f ∷ notes_of c s g)))
+        ≡ iso_carried (run_of (iso_rules addressed) (iso_trace (known d s g) addressed a (the_note d s g m f ∷ notes_of d s g)))
     iso_done addressed =
         sym (iso_carries (run_of (iso_rules addressed) (iso_trace (known c s h) addressed a (the_note c s h m f ∷ notes_of c s h))))
         ∙ ap iso_carried (sym (run_of_map (iso_rules addressed) iso_norm (iso_unseen addressed) (iso_steps addressed) (iso_trace (known c s h) addressed a (the_note c s h m f ∷ notes_of c s h))
-        (iso_trace_rooms (known c s h) addressed a (the_note c s h m f ∷ notes_of c s h) rooms_h)))
+        (iso_with c s a are h m f finds_h room_h addressed)))
         ∙ ap (λ (t : List IsoPiece). iso_carried (run_of (iso_rules addressed) t)) (iso_own addressed)
-        ∙ ap iso_carried (run_of_map (iso_rules addressed) iso_norm (iso_unseen addressed) (iso_steps addressed) (iso_trace (known c s g) addressed a (the_note c s g m f ∷ notes_of c s g))
-        (iso_trace_rooms (known c s g) addressed a (the_note c s g m f ∷ notes_of c s g) rooms_g))
-        ∙ iso_carries (run_of (iso_rules addressed) (iso_trace (known c s g) addressed a (the_note c s g m f ∷ notes_of c s g)))
+        ∙ ap iso_carried (run_of_map (iso_rules addressed) iso_norm (iso_unseen addressed) (iso_steps addressed) (iso_trace (known d s g) addressed a (the_note d s g m f ∷ notes_of d s g))
+        (iso_with d s a too g m f finds_g room_g addressed))
+        ∙ iso_carries (run_of (iso_rules addressed) (iso_trace (known d s g) addressed a (the_note d s g m f ∷ notes_of d s g)))
 
-    session_done : by_session (known c s h) (the_note c s h m f) (notes_of c s h) ≡ by_session (known c s g) (the_note c s g m f) (notes_of c s g)
+    session_done : by_session (known c s h) (the_note c s h m f) (notes_of c s h) ≡ by_session (known d s g) (the_note d s g m f) (notes_of d s g)
     session_done =
         session_is (known c s h) (the_note c s h m f) (notes_of c s h) _ refl
         ∙ choose ((not (key_of (parts_of f.id)).addressed || is_own (known c s h) (parts_of f.id).destination) && is_bearing (key_of (parts_of f.id)).addressed (the_note c s h m f))
-        ((not (key_of (parts_of f.id)).addressed || is_own (known c s g) (parts_of f.id).destination) && is_bearing (key_of (parts_of f.id)).addressed (the_note c s g m f))
-        (rw (own_same (known c s h) (known c s g) (parts_of f.id).destination owns_same) (ap (λ (b : Bool). (not (key_of (parts_of f.id)).addressed || is_own (known c s g) (parts_of f.id).destination) && b) (bearing_same (key_of (parts_of f.id)).addressed)))
+        ((not (key_of (parts_of f.id)).addressed || is_own (known d s g) (parts_of f.id).destination) && is_bearing (key_of (parts_of f.id)).addressed (the_note d s g m f))
+        (rw (own_same (known c s h) (known d s g) (parts_of f.id).destination owns_same) (ap (λ (b : Bool). (not (key_of (parts_of f.id)).addressed || is_own (known d s g) (parts_of f.id).destination) && b) (bearing_same (key_of (parts_of f.id)).addressed)))
         (subst (λ (x : ℕ). iso_carried (run_of (iso_rules (key_of (parts_of f.id)).addressed) (iso_trace (known c s h) (key_of (parts_of f.id)).addressed x (the_note c s h m f ∷ notes_of c s h)))
-        ≡ iso_carried (run_of (iso_rules (key_of (parts_of f.id)).addressed) (iso_trace (known c s g) (key_of (parts_of f.id)).addressed x (the_note c s g m f ∷ notes_of c s g)))) (sym from_source) (iso_done (key_of (parts_of f.id)).addressed))
-        ∙ sym (session_is (known c s g) (the_note c s g m f) (notes_of c s g) _ refl)
+        ≡ iso_carried (run_of (iso_rules (key_of (parts_of f.id)).addressed) (iso_trace (known d s g) (key_of (parts_of f.id)).addressed x (the_note d s g m f ∷ notes_of d s g)))) (sym from_source) (iso_done (key_of (parts_of f.id)).addressed))
+        ∙ sym (session_is (known d s g) (the_note d s g m f) (notes_of d s g) _ refl)
       where
         choose : (b d : Bool) → b ≡ d → {x y : Option Carried} → x ≡ y → (if b then x else None) ≡ (if d then y else None)
         choose b d e {x = x} {y = y} same = rw (e, same) refl
 
-    kind_done : (kind : Kind) → kind_of (parts_of f.id).pgn ≡ kind → by_kind kind (known c s h) (the_note c s h m f) (notes_of c s h) ≡ by_kind kind (known c s g) (the_note c s g m f) (notes_of c s g)
+    kind_done : (kind : Kind) → kind_of (parts_of f.id).pgn ≡ kind → by_kind kind (known c s h) (the_note c s h m f) (notes_of c s h) ≡ by_kind kind (known d s g) (the_note d s g m f) (notes_of d s g)
     kind_done Single e = refl
     kind_done Fast e =
         subst (λ (x : ℕ). fast_carried (parts_of f.id).pgn (run_of fast_rules (fast_trace (known c s h) x (parts_of f.id).pgn (the_note c s h m f ∷ notes_of c s h)))
-        ≡ fast_carried (parts_of f.id).pgn (run_of fast_rules (fast_trace (known c s g) x (parts_of f.id).pgn (the_note c s g m f ∷ notes_of c s g)))) (sym from_source) (fast_done e)
+        ≡ fast_carried (parts_of f.id).pgn (run_of fast_rules (fast_trace (known d s g) x (parts_of f.id).pgn (the_note d s g m f ∷ notes_of d s g)))) (sym from_source) (fast_done e)
     kind_done Outside e = refl
 
-    completes : completed_by (known c s h) (the_note c s h m f) (notes_of c s h) ≡ completed_by (known c s g) (the_note c s g m f) (notes_of c s g)
+    completes : completed_by (known c s h) (the_note c s h m f) (notes_of c s h) ≡ completed_by (known d s g) (the_note d s g m f) (notes_of d s g)
     completes = by (is_transport (parts_of f.id)) refl
       where
-        by : (b : Bool) → is_transport (parts_of f.id) ≡ b → completed_by (known c s h) (the_note c s h m f) (notes_of c s h) ≡ completed_by (known c s g) (the_note c s g m f) (notes_of c s g)
-        by true e = completed_iso (known c s h) (the_note c s h m f) (notes_of c s h) e ∙ session_done ∙ sym (completed_iso (known c s g) (the_note c s g m f) (notes_of c s g) e)
-        by false e = not_session (known c s h) (the_note c s h m f) (notes_of c s h) e ∙ kind_done (kind_of (parts_of f.id).pgn) refl ∙ sym (not_session (known c s g) (the_note c s g m f) (notes_of c s g) e)
+        by : (b : Bool) → is_transport (parts_of f.id) ≡ b → completed_by (known c s h) (the_note c s h m f) (notes_of c s h) ≡ completed_by (known d s g) (the_note d s g m f) (notes_of d s g)
+        by true e = completed_iso (known c s h) (the_note c s h m f) (notes_of c s h) e ∙ session_done ∙ sym (completed_iso (known d s g) (the_note d s g m f) (notes_of d s g) e)
+        by false e = not_session (known c s h) (the_note c s h m f) (notes_of c s h) e ∙ kind_done (kind_of (parts_of f.id).pgn) refl ∙ sym (not_session (known d s g) (the_note d s g m f) (notes_of d s g) e)
 
-    pub own_alike : Alike c s a (frame m f ∷ h) (frame m f ∷ g)
+    pub own_alike : Alike c d s a (frame m f ∷ h) (frame m f ∷ g)
     own_alike = record {
-      claims = rw (known_same c s h m f other, known_same c s g m f other) alike.claims;
-      fast = λ p fast. rw (known_same c s h m f other, known_same c s g m f other) (fast_own p fast);
-      iso = λ addressed. rw (known_same c s h m f other, known_same c s g m f other) (iso_own addressed);
+      claims = rw (known_same c s h m f other, known_same d s g m f other) alike.claims;
+      fast = λ p fast. rw (known_same c s h m f other, known_same d s g m f other) (fast_own p fast);
+      iso = λ addressed. rw (known_same c s h m f other, known_same d s g m f other) (iso_own addressed);
       told =
-          said_same a (length h) (length g) m (parts_of f.id).source (holder_at (known c s h).claims.holders (parts_of f.id).source) (holder_at (known c s g).claims.holders (parts_of f.id).source)
-          (completed_by (known c s h) (the_note c s h m f) (notes_of c s h)) (completed_by (known c s g) (the_note c s g m f) (notes_of c s g)) (messages_of c s h) (messages_of c s g)
-          (subst (λ (x : ℕ). bare (holder_at (known c s h).claims.holders x) ≡ bare (holder_at (known c s g).claims.holders x)) (sym from_source) holders_same) completes alike.told;
-      only = ((λ kind. source), alike.only);
-      rooms = rooms_g;
+          said_same a (length h) (length g) m (parts_of f.id).source (holder_at (known c s h).claims.holders (parts_of f.id).source) (holder_at (known d s g).claims.holders (parts_of f.id).source)
+          (completed_by (known c s h) (the_note c s h m f) (notes_of c s h)) (completed_by (known d s g) (the_note d s g m f) (notes_of d s g)) (messages_of c s h) (messages_of d s g)
+          (subst (λ (x : ℕ). bare (holder_at (known c s h).claims.holders x) ≡ bare (holder_at (known d s g).claims.holders x)) (sym from_source) holders_same) completes alike.told;
     }
+
+-- ---- its openers find room where they found it
+module _ (c : Settings) (s a : ℕ) (h g : History) (m : ℕ) (f : BusFrame) (are : AreSettings c) (alike : Alike c c s a h g) (other : is_claim f ≡ false)
+    (source : ((parts_of f.id).source == a) ≡ true) (room_h : Roomy c s a h) (room_g : Roomy c s a g) (only : AllByRecursion (IsOwnKind a) (notes_of c s g)) where
+  some_map : {X Y : Type 0} (f : X → Y) (o : Option X) → is_some (option_map f o) ≡ is_some o
+  some_map f None = refl
+  some_map f (Some x) = refl
+
+  fast_is : (kind : Kind) → is_fast kind ≡ true → kind ≡ Fast
+  fast_is Single e = cc
+  fast_is Fast e = refl
+  fast_is Outside e = cc
+
+  fast_open_same : (p : ℕ) → is_fast (kind_of p) ≡ true → is_some (open_at fast_rules (fast_trace (known c s g) a p (notes_of c s g)) m) ≡ is_some (open_at fast_rules (fast_trace (known c s h) a p (notes_of c s h)) m)
+  fast_open_same p kind =
+      sym (some_map (map fast_norm) (open_at fast_rules (fast_trace (known c s g) a p (notes_of c s g)) m))
+      ∙ ap is_some (sym (open_at_map fast_rules fast_norm fast_unseen fast_steps (fast_trace (known c s g) a p (notes_of c s g)) m (room_g.fast p (fast_is (kind_of p) kind))))
+      ∙ ap (λ (t : List FastPiece). is_some (open_at fast_rules t m)) (sym (alike.fast p (fast_is (kind_of p) kind)))
+      ∙ ap is_some (open_at_map fast_rules fast_norm fast_unseen fast_steps (fast_trace (known c s h) a p (notes_of c s h)) m (room_h.fast p (fast_is (kind_of p) kind)))
+      ∙ some_map (map fast_norm) (open_at fast_rules (fast_trace (known c s h) a p (notes_of c s h)) m)
+
+  fast_opens : (key : FastKey) → ((key.source == a) ≡ true) × (is_fast (kind_of key.pgn) ≡ true) → is_some (fast_open (known c s g) (notes_of c s g) key m) ≡ is_some (fast_open (known c s h) (notes_of c s h) key m)
+  fast_opens key of =
+      subst (λ (x : ℕ). is_some (open_at fast_rules (fast_trace (known c s g) x key.pgn (notes_of c s g)) m) ≡ is_some (open_at fast_rules (fast_trace (known c s h) x key.pgn (notes_of c s h)) m))
+      (sym (eqb-true key.source a of.0)) (fast_open_same key.pgn of.1)
+
+  iso_open_same : (addressed : Bool) → is_some (open_at (iso_rules addressed) (iso_trace (known c s g) addressed a (notes_of c s g)) m) ≡ is_some (open_at (iso_rules addressed) (iso_trace (known c s h) addressed a (notes_of c s h)) m)
+  iso_open_same addressed =
+      sym (some_map (map iso_norm) (open_at (iso_rules addressed) (iso_trace (known c s g) addressed a (notes_of c s g)) m))
+      ∙ ap is_some (sym (open_at_map (iso_rules addressed) iso_norm (iso_unseen addressed) (iso_steps addressed) (iso_trace (known c s g) addressed a (notes_of c s g)) m (room_g.iso addressed)))
+      ∙ ap (λ (t : List IsoPiece). is_some (open_at (iso_rules addressed) t m)) (sym (alike.iso addressed))
+      ∙ ap is_some (open_at_map (iso_rules addressed) iso_norm (iso_unseen addressed) (iso_steps addressed) (iso_trace (known c s h) addressed a (notes_of c s h)) m (room_h.iso addressed))
+      ∙ some_map (map iso_norm) (open_at (iso_rules addressed) (iso_trace (known c s h) addressed a (notes_of c s h)) m)
+
+  iso_opens : (key : IsoKey) → (key.source == a) ≡ true → is_some (iso_open (known c s g) (notes_of c s g) key m) ≡ is_some (iso_open (known c s h) (notes_of c s h) key m)
+  iso_opens key of =
+      subst (λ (x : ℕ). is_some (open_at (iso_rules key.addressed) (iso_trace (known c s g) key.addressed x (notes_of c s g)) m) ≡ is_some (open_at (iso_rules key.addressed) (iso_trace (known c s h) key.addressed x (notes_of c s h)) m))
+      (sym (eqb-true key.source a of)) (iso_open_same key.addressed)
+
+  still_admitted : (the_note c s h m f).admitted ≡ true → (the_note c s g m f).admitted ≡ true
+  still_admitted room = by (is_transport (parts_of f.id)) refl room
+    where
+      by : (b : Bool) → is_transport (parts_of f.id) ≡ b → (the_note c s h m f).admitted ≡ true → (the_note c s g m f).admitted ≡ true
+      by true e was =
+          rw e (iso_room a (known c s h) (known c s g) (addresses_are_sound c s h are).sound (notes_of c s h) (notes_of c s g) m only iso_opens c.iso_slots (key_of (parts_of f.id)) (rw e at was))
+      by false e was =
+          rw e (fast_room a (known c s h) (known c s g) (notes_of c s h) (notes_of c s g) m only fast_opens c.fast_slots (record { source = (parts_of f.id).source; pgn = (parts_of f.id).pgn }) (rw e at was))
+
+  from_it : (parts_of f.id).source ≡ a
+  from_it = eqb-true (parts_of f.id).source a source
+
+  held_there : is_some (since_of (known c s h) (parts_of f.id).source) ≡ is_some (since_of (known c s g) (parts_of f.id).source)
+  held_there = subst (λ (x : ℕ). is_some (since_of (known c s h) x) ≡ is_some (since_of (known c s g) x)) (sym from_it) (held_same c c s a h g m f are are alike other source)
+
+  concerns_there : concerns (known c s h) (the_note c s h m f) (key_of (parts_of f.id)) ≡ concerns (known c s g) (the_note c s g m f) (key_of (parts_of f.id))
+  concerns_there =
+      subst (λ (x : ℕ). concerns (known c s h) (the_note c s h m f) (record { addressed = (key_of (parts_of f.id)).addressed; source = x })
+      ≡ concerns (known c s g) (the_note c s g m f) (record { addressed = (key_of (parts_of f.id)).addressed; source = x }))
+      (sym from_it) (concerns_same c c s a h g m f are are alike other source (key_of (parts_of f.id)).addressed)
+
+  opens_same : opens (known c s h) (the_note c s h m f) ≡ opens (known c s g) (the_note c s g m f)
+  opens_same =
+      ap (λ (b : Bool). (b && (is_fast (kind_of (parts_of f.id).pgn) && is_opener f.held)) || (concerns (known c s h) (the_note c s h m f) (key_of (parts_of f.id)) && iso_opener (key_of (parts_of f.id)).addressed (iso_piece (the_note c s h m f)))) held_there
+      ∙ ap (λ (b : Bool). (is_some (since_of (known c s g) (parts_of f.id).source) && (is_fast (kind_of (parts_of f.id).pgn) && is_opener f.held)) || (b && iso_opener (key_of (parts_of f.id)).addressed (iso_piece (the_note c s h m f)))) concerns_there
+
+  pub room_kept : FindsRoom a (known c s h) (the_note c s h m f) → FindsRoom a (known c s g) (the_note c s g m f)
+  room_kept room = λ own opening. still_admitted (room own (opens_same ∙ opening))
 
 -- ---- a frame of another device
 
@@ -472,9 +398,6 @@ dropped a i m src None w t e = refl
 dropped a i m src (Some x) None t e = refl
 dropped a i m src (Some x) (Some w) t e = rw e refl
 
-fast_past : (k : Known) (a p : ℕ) (n : Note) (notes : List Note) → (n.parts.source == a) ≡ false → fast_trace k a p (n ∷ notes) ≡ fast_trace k a p notes
-fast_past k a p n notes e = other_piece (since_of k a) a p n notes (rw e refl)
-
 not_concerned : (k : Known) (n : Note) (a : ℕ) (addressed : Bool) → (n.parts.source == a) ≡ false → concerns k n (record { addressed = addressed; source = a }) ≡ false
 not_concerned k n a addressed e = rw e (and_no (is_some (since_of k a)))
   where
@@ -482,14 +405,14 @@ not_concerned k n a addressed e = rw e (and_no (is_some (since_of k a)))
     and_no true = refl
     and_no false = refl
 
-module _ (c : Settings) (s a : ℕ) (h g : History) (m : ℕ) (f : BusFrame) (are : AreSettings c) (alike : Alike c s a h g) (other : is_claim f ≡ false)
+module _ (c d : Settings) (s a : ℕ) (h g : History) (m : ℕ) (f : BusFrame) (are : AreSettings c) (too : AreSettings d) (alike : Alike c d s a h g) (other : is_claim f ≡ false)
     (elsewhere : ((parts_of f.id).source == a) ≡ false) where
   iso_past : (addressed : Bool) → iso_trace (known c s h) addressed a (the_note c s h m f ∷ notes_of c s h) ≡ iso_trace (known c s h) addressed a (notes_of c s h)
   iso_past addressed =
       trace_is c s h m f are addressed a
       ∙ ap (λ (b : Bool). with_piece b (the_note c s h m f) (iso_trace (known c s h) addressed a (notes_of c s h))) (not_concerned (known c s h) (the_note c s h m f) a addressed elsewhere)
 
-  pub other_alike : Alike c s a (frame m f ∷ h) g
+  pub other_alike : Alike c d s a (frame m f ∷ h) g
   other_alike = record {
     claims = rw (known_same c s h m f other) alike.claims;
     fast = λ p fast. rw (known_same c s h m f other) (ap (map fast_norm) (fast_past (known c s h) a p (the_note c s h m f) (notes_of c s h) elsewhere) ∙ alike.fast p fast);
@@ -498,8 +421,6 @@ module _ (c : Settings) (s a : ℕ) (h g : History) (m : ℕ) (f : BusFrame) (ar
         dropped a (length h) m (parts_of f.id).source (holder_at (known c s h).claims.holders (parts_of f.id).source)
         (completed_by (known c s h) (the_note c s h m f) (notes_of c s h)) (messages_of c s h) elsewhere
         ∙ alike.told;
-    only = alike.only;
-    rooms = alike.rooms;
   }
 
 -- ---- a whole history
@@ -510,36 +431,87 @@ kept_is a e h keep = rw keep refl
 gone_is : (a : ℕ) (e : Entry) (h : History) → keeps a e ≡ false → narrowed a (e ∷ h) ≡ narrowed a h
 gone_is a e h gone = rw gone refl
 
-module _ (c : Settings) (s a : ℕ) (are : AreSettings c) where
-  with_claim : (h : History) (m : ℕ) (f : BusFrame) → is_claim f ≡ true → Alike c s a h (narrowed a h) → Alike c s a (frame m f ∷ h) (narrowed a (frame m f ∷ h))
+module _ (c d : Settings) (s a : ℕ) (are : AreSettings c) (too : AreSettings d) (start : known c s [] ≡ known d s []) where
+  with_claim : (h : History) (m : ℕ) (f : BusFrame) → is_claim f ≡ true → Alike c d s a h (narrowed a h) → Alike c d s a (frame m f ∷ h) (narrowed a (frame m f ∷ h))
   with_claim h m f claims alike =
-      subst (Alike c s a (frame m f ∷ h)) (sym (kept_is a (frame m f) h (rw claims refl))) (claim_alike c s a h (narrowed a h) m f are alike claims)
+      subst (Alike c d s a (frame m f ∷ h)) (sym (kept_is a (frame m f) h (rw claims refl))) (claim_alike c d s a h (narrowed a h) m f are too alike claims)
 
-  with_own : (h : History) (m : ℕ) (f : BusFrame) → is_claim f ≡ false → ((parts_of f.id).source == a) ≡ true → NoneRefused c s (frame m f ∷ h) a
-      → Alike c s a h (narrowed a h) → Alike c s a (frame m f ∷ h) (narrowed a (frame m f ∷ h))
-  with_own h m f other own rooms alike =
+  with_own : (h : History) (m : ℕ) (f : BusFrame) → is_claim f ≡ false → ((parts_of f.id).source == a) ≡ true → NoneRefused c s (frame m f ∷ h) a → NoneRefused d s (frame m f ∷ narrowed a h) a
+      → Alike c d s a h (narrowed a h) → Alike c d s a (frame m f ∷ h) (narrowed a (frame m f ∷ h))
+  with_own h m f other own rooms kept alike =
       let keep : keeps a (frame m f) ≡ true = rw (other, own) refl in
-      let kept : AllByRecursion (FindsRoom a) (the_note c s (narrowed a h) m f ∷ notes_of c s (narrowed a h)) = (room_kept c s a h (narrowed a h) m f are alike other own rooms.1 rooms.0, alike.rooms) in
-      subst (Alike c s a (frame m f ∷ h)) (sym (kept_is a (frame m f) h keep)) (own_alike c s a h (narrowed a h) m f are alike other own rooms kept)
+      subst (Alike c d s a (frame m f ∷ h)) (sym (kept_is a (frame m f) h keep))
+      (own_alike c d s a h (narrowed a h) m f are too alike other own (roomy c s a are h rooms.1) (roomy d s a too (narrowed a h) kept.1) rooms.0 kept.0)
 
-  with_other : (h : History) (m : ℕ) (f : BusFrame) → is_claim f ≡ false → ((parts_of f.id).source == a) ≡ false → Alike c s a h (narrowed a h) → Alike c s a (frame m f ∷ h) (narrowed a (frame m f ∷ h))
+  with_other : (h : History) (m : ℕ) (f : BusFrame) → is_claim f ≡ false → ((parts_of f.id).source == a) ≡ false → Alike c d s a h (narrowed a h) → Alike c d s a (frame m f ∷ h) (narrowed a (frame m f ∷ h))
   with_other h m f other elsewhere alike =
-      subst (Alike c s a (frame m f ∷ h)) (sym (gone_is a (frame m f) h (rw (other, elsewhere) refl))) (other_alike c s a h (narrowed a h) m f are alike other elsewhere)
+      subst (Alike c d s a (frame m f ∷ h)) (sym (gone_is a (frame m f) h (rw (other, elsewhere) refl))) (other_alike c d s a h (narrowed a h) m f are too alike other elsewhere)
 
-  with_frame : (h : History) (m : ℕ) (f : BusFrame) → NoneRefused c s (frame m f ∷ h) a
-      → (b d : Bool) → is_claim f ≡ b → ((parts_of f.id).source == a) ≡ d → Alike c s a h (narrowed a h) → Alike c s a (frame m f ∷ h) (narrowed a (frame m f ∷ h))
-  with_frame h m f rooms true d e own alike = with_claim h m f e alike
-  with_frame h m f rooms false true e own alike = with_own h m f e own rooms alike
-  with_frame h m f rooms false false e own alike = with_other h m f e own alike
+  alike_all : (h : History) → NoneRefused c s h a → NoneRefused d s (narrowed a h) a → Alike c d s a h (narrowed a h)
+  alike_all [] rooms kept = record {
+    claims = ap (λ (k : Known). erased k.claims) start;
+    fast = λ p fast. ap (λ (k : Known). map fast_norm (fast_trace k a p [])) start;
+    iso = λ addressed. ap (λ (k : Known). map iso_norm (iso_trace k addressed a [])) start;
+    told = refl;
+  }
+  alike_all (frame m f ∷ h) rooms kept = by (is_claim f) refl ((parts_of f.id).source == a) refl (λ found. alike_all h rooms.1 found)
+    where
+      same : (x : History) → narrowed a (frame m f ∷ h) ≡ x → NoneRefused d s x a
+      same x e = subst (λ (y : History). NoneRefused d s y a) e kept
 
-  alike_all : (h : History) → NoneRefused c s h a → Alike c s a h (narrowed a h)
-  alike_all [] rooms = record { claims = refl; fast = λ p fast. refl; iso = λ addressed. refl; told = refl; only = tt; rooms = tt }
-  alike_all (frame m f ∷ h) rooms = with_frame h m f rooms (is_claim f) ((parts_of f.id).source == a) refl refl (alike_all h rooms.1)
-  alike_all (datagram m bytes ∷ h) rooms =
-      let same = alike_all h rooms in record { claims = same.claims; fast = same.fast; iso = same.iso; told = same.told; only = same.only; rooms = same.rooms }
-  alike_all (tick m ∷ h) rooms =
-      let same = alike_all h rooms in record { claims = same.claims; fast = same.fast; iso = same.iso; told = same.told; only = same.only; rooms = same.rooms }
-  alike_all (entry.command m source address ∷ h) rooms = command_alike c s a h (narrowed a h) m source address (alike_all h rooms)
+      by : (b : Bool) → is_claim f ≡ b → (e : Bool) → ((parts_of f.id).source == a) ≡ e → (NoneRefused d s (narrowed a h) a → Alike c d s a h (narrowed a h))
+          → Alike c d s a (frame m f ∷ h) (narrowed a (frame m f ∷ h))
+      by true claims e own before = with_claim h m f claims (before (same (frame m f ∷ narrowed a h) (kept_is a (frame m f) h (rw claims refl))).1)
+      by false claims true own before =
+          let now = same (frame m f ∷ narrowed a h) (kept_is a (frame m f) h (rw (claims, own) refl)) in
+          with_own h m f claims own rooms now (before now.1)
+      by false claims false own before = with_other h m f claims own (before (same (narrowed a h) (gone_is a (frame m f) h (rw (claims, own) refl))))
+  alike_all (datagram m bytes ∷ h) rooms kept =
+      let same = alike_all h rooms kept in record { claims = same.claims; fast = same.fast; iso = same.iso; told = same.told }
+  alike_all (tick m ∷ h) rooms kept =
+      let same = alike_all h rooms kept in record { claims = same.claims; fast = same.fast; iso = same.iso; told = same.told }
+  alike_all (entry.command m source address ∷ h) rooms kept = command_alike c d s a h (narrowed a h) m source address (alike_all h rooms kept)
+
+-- ---- only the device's frames are kept, and its openers find room still
+
+module _ (c : Settings) (s a : ℕ) where
+  kept_kinds : (h : History) → AllByRecursion (IsOwnKind a) (notes_of c s (narrowed a h))
+  kept_kinds [] = tt
+  kept_kinds (frame m f ∷ h) = by (is_claim f) refl ((parts_of f.id).source == a) refl (kept_kinds h)
+    where
+      same : (x : History) → narrowed a (frame m f ∷ h) ≡ x → AllByRecursion (IsOwnKind a) (notes_of c s x) → AllByRecursion (IsOwnKind a) (notes_of c s (narrowed a (frame m f ∷ h)))
+      same x e all = subst (λ (y : History). AllByRecursion (IsOwnKind a) (notes_of c s y)) (sym e) all
+
+      by : (b : Bool) → is_claim f ≡ b → (e : Bool) → ((parts_of f.id).source == a) ≡ e → AllByRecursion (IsOwnKind a) (notes_of c s (narrowed a h))
+          → AllByRecursion (IsOwnKind a) (notes_of c s (narrowed a (frame m f ∷ h)))
+      by true claims e own all =
+          same (frame m f ∷ narrowed a h) (kept_is a (frame m f) h (rw claims refl))
+          (claim_is_no_kind a (the_note c s (narrowed a h) m f) (eqb-true (parts_of f.id).pgn 60928 (and_parts _ _ claims).0), all)
+      by false claims true own all = same (frame m f ∷ narrowed a h) (kept_is a (frame m f) h (rw (claims, own) refl)) ((λ kind. own), all)
+      by false claims false own all = same (narrowed a h) (gone_is a (frame m f) h (rw (claims, own) refl)) all
+  kept_kinds (datagram m bytes ∷ h) = kept_kinds h
+  kept_kinds (tick m ∷ h) = kept_kinds h
+  kept_kinds (entry.command m source address ∷ h) = kept_kinds h
+
+  module _ (are : AreSettings c) where
+    kept_rooms : (h : History) → NoneRefused c s h a → NoneRefused c s (narrowed a h) a
+    kept_rooms [] rooms = tt
+    kept_rooms (frame m f ∷ h) rooms = by (is_claim f) refl ((parts_of f.id).source == a) refl (kept_rooms h rooms.1)
+      where
+        same : (x : History) → narrowed a (frame m f ∷ h) ≡ x → NoneRefused c s x a → NoneRefused c s (narrowed a (frame m f ∷ h)) a
+        same x e all = subst (λ (y : History). NoneRefused c s y a) (sym e) all
+
+        by : (b : Bool) → is_claim f ≡ b → (e : Bool) → ((parts_of f.id).source == a) ≡ e → NoneRefused c s (narrowed a h) a → NoneRefused c s (narrowed a (frame m f ∷ h)) a
+        by true claims e own kept =
+            same (frame m f ∷ narrowed a h) (kept_is a (frame m f) h (rw claims refl))
+            (claim_is_no_opener a (known c s (narrowed a h)) (the_note c s (narrowed a h) m f) (eqb-true (parts_of f.id).pgn 60928 (and_parts _ _ claims).0), kept)
+        by false claims true own kept =
+            same (frame m f ∷ narrowed a h) (kept_is a (frame m f) h (rw (claims, own) refl))
+            (room_kept c s a h (narrowed a h) m f are (alike_all c c s a are are refl h rooms.1 kept) claims own (roomy c s a are h rooms.1) (roomy c s a are (narrowed a h) kept) (kept_kinds h) rooms.0, kept)
+        by false claims false own kept = same (narrowed a h) (gone_is a (frame m f) h (rw (claims, own) refl)) kept
+    kept_rooms (datagram m bytes ∷ h) rooms = kept_rooms h rooms
+    kept_rooms (tick m ∷ h) rooms = kept_rooms h rooms
+    kept_rooms (entry.command m source address ∷ h) rooms = kept_rooms h rooms
 
 pub isolation : Isolation
-isolation c s h a are rooms = (alike_all c s a are h rooms).told
+isolation c s h a are rooms = (alike_all c c s a are are refl h rooms (kept_rooms c s a are h rooms)).told

@@ -14,6 +14,7 @@ pub mod Normal
 pub mod Unseen
 pub mod Fewer
 pub mod Room
+pub mod Roomy
 pub mod Isolation
 pub mod GroupSteps
 pub mod Refusals

@@ -1,16 +1,17 @@
 -- What a device sends alone decides, with the claims and commands, which of its messages are complete.
-use Rattle.std.specs.Prelude.{◌≡◌, ℕ, Bool, true, false, ◌&&◌, ◌||◌, ◌==◌, List, map, filter}
-use Rattle.std.specs.List.{AllByRecursion}
+use Rattle.std.specs.Prelude.{◌≡◌, ℕ, Bool, true, false, ◌&&◌, ◌||◌, ◌==◌, List, [], ◌∷◌, map, filter, is_some}
 use Rattle.n2k_id.specs.Identifier.{parts_of}
 use Rattle.pgn_profile.specs.Profiled.{kind_of}
 use Rattle.fast_packet.specs.FastFrames as fast
+use Rattle.iso_transport.specs.Audience.{key_of}
 use Rattle.iso_transport.specs.IsoRuns as iso
 use Rattle.history.specs.AddressLaws.{AreSettings}
 use Rattle.history.specs.Entries.{Entry, History, frame, datagram, tick, command}
 use Rattle.history.specs.Settings.{Settings}
-use Rattle.history.specs.Known.{is_claim}
-use Rattle.history.specs.Traces.{Note, iso_piece, is_transport}
-use Rattle.history.specs.Opens.{is_fast, notes_of}
+use Rattle.history.specs.Known.{Known, known, is_claim, since_of}
+use Rattle.history.specs.Traces.{Note, iso_piece}
+use Rattle.history.specs.Opens.{is_fast}
+use Rattle.history.specs.KeyLaws.{concerns, the_note}
 use Rattle.history.specs.Messages.{Message, messages_of}
 
 -- the claims, the commands and the frames from an address
@@ -37,16 +38,23 @@ plain d = record { moment = d.moment; source = d.source; name = d.name; pgn = d.
 abbrev pub from : ℕ → List Message → List Plain
 from a older = map plain (filter (λ d. d.source == a) older)
 
--- a frame opens a message
-abbrev pub opens : Note → Bool
-opens n = (is_fast (kind_of n.parts.pgn) && fast.is_opener n.bytes) || (is_transport n.parts && (iso.is_opener false (iso_piece n) || iso.is_opener true (iso_piece n)))
+-- a frame opens a message: it begins a fast packet of a source that holds its address, or a session that concerns the gateway
+abbrev pub opens : Known → Note → Bool
+opens k n =
+    (is_some (since_of k n.parts.source) && (is_fast (kind_of n.parts.pgn) && fast.is_opener n.bytes))
+    || (concerns k n (key_of n.parts) && iso.is_opener (key_of n.parts).addressed (iso_piece n))
+
+-- by what is known when it comes, the frame is no opener from the address, or finds room
+abbrev pub FindsRoom : ℕ → Known → Note → Type 0
+FindsRoom a k n = (n.parts.source == a) ≡ true → opens k n ≡ true → n.admitted ≡ true
 
 -- no opener from the address was refused for want of room
-abbrev pub FindsRoom : ℕ → Note → Type 0
-FindsRoom a n = (n.parts.source == a) ≡ true → opens n ≡ true → n.admitted ≡ true
-
 abbrev pub NoneRefused : Settings → ℕ → History → ℕ → Type 0
-NoneRefused c s h a = AllByRecursion (FindsRoom a) (notes_of c s h)
+NoneRefused c s [] a = Unit {0}
+NoneRefused c s (frame m f ∷ h) a = FindsRoom a (known c s h) (the_note c s h m f) × NoneRefused c s h a
+NoneRefused c s (datagram m bytes ∷ h) a = NoneRefused c s h a
+NoneRefused c s (tick m ∷ h) a = NoneRefused c s h a
+NoneRefused c s (command m source address ∷ h) a = NoneRefused c s h a
 
 abbrev pub Isolation : Type 0
 Isolation =

@@ -72,4 +72,6 @@ pub fn captures_are_replayed()
 pub fn devices_are_apart()
     ensures same_alone { isolation_cases.SameAlone }
     ensures one_done { isolation_cases.OneDone }
+    ensures unheard { isolation_cases.Unheard }
+    ensures not_refused { isolation_cases.NotRefused }
 {}
