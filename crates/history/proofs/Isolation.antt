@@ -1,5 +1,5 @@
 -- A device is isolated: its messages in a history are those in the history of the claims, the commands and its own frames.
-use Rattle.std.proofs.Common.{◌≡◌, ℕ, Bool, true, false, ◌&&◌, ◌||◌, not, List, [], ◌∷◌, length, map, refl, sym, ap, subst, ◌∙◌, ◌==◌}
+use Rattle.std.proofs.Common.{◌≡◌, ◌<◌, ℕ, Bool, true, false, ◌&&◌, ◌||◌, not, List, [], ◌∷◌, length, map, refl, sym, ap, subst, ◌∙◌, ◌==◌}
 use Rattle.std.specs.Prelude.{Option, Some, None, filter, is_some, if◌then◌else◌, option_map}
 use Rattle.std.specs.List.{AllByRecursion}
 use Rattle.std.proofs.lemmas.Bool.{eqb-true, and_parts, false≢true}
@@ -7,7 +7,9 @@ use Rattle.n2k_id.specs.Frame.{BusFrame}
 use Rattle.n2k_id.specs.Identifier.{parts_of}
 use Rattle.claim_table.specs.declared.answer.Holder.{Holder}
 use Rattle.claim_table.specs.declared.answer.ClaimStep.{ClaimStep}
-use Rattle.claim_table.specs.Claims.{Claims, Claim, Outcome, claim, command, holder_at, is_ready}
+use Rattle.claim_table.specs.Claims.{Claims, Claim, Outcome, claim, command, holder_at, is_ready, started}
+use Rattle.claim_table.specs.Presets.{opened, repeats}
+use Rattle.claim_table.specs.declared.preset.Preset.{Preset}
 use Rattle.pgn_profile.specs.Profiled.{kind_of}
 use Rattle.pgn_profile.specs.declared.kinds.Kind.{Kind}
 use Rattle.pgn_profile.specs.declared.kinds.Kind.TheVariants.{Single, Fast, Outside}
@@ -29,7 +31,7 @@ use Rattle.history.specs.Messages.{Message, Carried, messages_of, said_by, with_
 use Rattle.history.specs.AddressLaws.{AreSettings}
 use Rattle.history.specs.TraceLaws.{is_lost, same_own}
 use Rattle.history.specs.KeyLaws.{is_meant, concerns, the_note}
-use Rattle.history.specs.IsolationLaws.{keeps, narrowed, plain, from, opens, FindsRoom, NoneRefused, Isolation}
+use Rattle.history.specs.IsolationLaws.{keeps, narrowed, plain, from, opens, FindsRoom, NoneRefused, Isolation, IsolationOfTwo}
 use Rattle.iso_transport.specs.Connection.{control_at}
 use Rattle.history.specs.IsolationLaws.{Plain}
 use Rattle.history.proofs.KeySteps.{known_same, claim_kind}
@@ -515,3 +517,27 @@ module _ (c : Settings) (s a : ℕ) where
 
 pub isolation : Isolation
 isolation c s h a are rooms = (alike_all c c s a are are refl h rooms (kept_rooms c s a are h rooms)).told
+
+-- ---- two gateways
+
+alike_settings : (c d : Settings) → d.name ≡ c.name → d.address ≡ c.address → d.presets ≡ c.presets → AreSettings c → AreSettings d
+alike_settings c d name address presets are = record {
+  address = subst (λ (x : ℕ). x < 252) (sym address) are.address;
+  apart = subst (λ (x : List Preset). repeats x ≡ false) (sym presets) are.apart;
+  others = rw (name, address, presets) are.others;
+}
+
+alike_start : (c d : Settings) (s : ℕ) → d.name ≡ c.name → d.address ≡ c.address → d.presets ≡ c.presets → known c s [] ≡ known d s []
+alike_start c d s name address presets =
+    ap (λ (x : ℕ). begun x c.address c.presets) (sym name) ∙ ap (λ (x : ℕ). begun d.name x c.presets) (sym address) ∙ ap (begun d.name d.address) (sym presets)
+  where
+    begun : ℕ → ℕ → List Preset → Known
+    begun name address presets = record { claims = started (opened name address presets) s; own_since = 0 }
+
+pub isolation_of_two : IsolationOfTwo
+isolation_of_two c d s h g a are name address presets same rooms_h rooms_g =
+    let too : AreSettings d = alike_settings c d name address presets are in
+    let kept : NoneRefused d s (narrowed a h) a = subst (λ (x : History). NoneRefused d s x a) same (kept_rooms d s a too g rooms_g) in
+    (alike_all c d s a are too (alike_start c d s name address presets) h rooms_h kept).told
+    ∙ ap (λ (x : History). from a (messages_of d s x)) (sym same)
+    ∙ sym (isolation d s g a too rooms_g)

@@ -76,7 +76,7 @@ fast_opens k n a p source kind counts opening =
     let parts = and_parts (is_some (since_of k a)) (n.parts.pgn == p) counts in
     let held : is_some (since_of k n.parts.source) ≡ true = subst (λ (x : ℕ). is_some (since_of k x) ≡ true) (sym (eqb-true n.parts.source a source)) parts.0 in
     let fast : is_fast (kind_of n.parts.pgn) ≡ true = subst (λ (x : ℕ). is_fast (kind_of x) ≡ true) (sym (eqb-true n.parts.pgn p parts.1)) kind in
-    first (is_some (since_of k n.parts.source)) (is_fast (kind_of n.parts.pgn)) (is_opener n.bytes) (concerns k n (key_of n.parts) && iso_opener (key_of n.parts).addressed (iso_piece n)) held fast opening
+    first (is_some (since_of k n.parts.source)) (is_fast (kind_of n.parts.pgn)) (is_opener n.bytes) _ held fast opening
   where
     first : (x y z u : Bool) → x ≡ true → y ≡ true → z ≡ true → ((x && (y && z)) || u) ≡ true
     first true true true u e f g = refl
@@ -115,7 +115,7 @@ key_is k sound n a addressed e =
 iso_opens : (k : Known) → IsSound k.claims → (n : Note) (a : ℕ) (addressed : Bool) → concerns k n (record { addressed = addressed; source = a }) ≡ true
     → (iso_rules addressed).opens (iso_piece n) ≡ true → opens k n ≡ true
 iso_opens k sound n a addressed e opening =
-    second (is_some (since_of k n.parts.source) && (is_fast (kind_of n.parts.pgn) && is_opener n.bytes)) (concerns k n (key_of n.parts) && iso_opener (key_of n.parts).addressed (iso_piece n))
+    second _ (concerns k n (key_of n.parts) && iso_opener (key_of n.parts).addressed (iso_piece n))
     (subst (λ (x : IsoKey). (concerns k n x && iso_opener x.addressed (iso_piece n)) ≡ true) (sym (key_is k sound n a addressed e))
     (both (concerns k n (record { addressed = addressed; source = a })) (iso_opener addressed (iso_piece n)) e opening))
   where

@@ -60,3 +60,11 @@ abbrev pub Isolation : Type 0
 Isolation =
     (c : Settings) (s : ℕ) (h : History) (a : ℕ) → AreSettings c → NoneRefused c s h a
     → from a (messages_of c s h) ≡ from a (messages_of c s (narrowed a h))
+
+-- two gateways of one NAME, one address and the same presets, that differ in all else as they like: where the claims, the commands and
+-- the frames from an address are the same in their histories, with the same moments, so are the messages from it
+abbrev pub IsolationOfTwo : Type 0
+IsolationOfTwo =
+    (c d : Settings) (s : ℕ) (h g : History) (a : ℕ) → AreSettings c → d.name ≡ c.name → d.address ≡ c.address → d.presets ≡ c.presets
+    → narrowed a g ≡ narrowed a h → NoneRefused c s h a → NoneRefused d s g a
+    → from a (messages_of c s h) ≡ from a (messages_of d s g)

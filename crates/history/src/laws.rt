@@ -2,7 +2,7 @@
 ghost use Rattle.history.specs.AddressLaws.{AddressesAreSound};
 ghost use Rattle.history.specs.CountLaws.{SlotsCountFast, SlotsCountIso, SlotsCountGroups};
 ghost use Rattle.history.specs.FreshLaws.{FreshByLast, MessagesAreKept, ClaimsForget, CommandsForgetNone, ReadingsAreKept};
-ghost use Rattle.history.specs.IsolationLaws.{Isolation};
+ghost use Rattle.history.specs.IsolationLaws.{Isolation, IsolationOfTwo};
 ghost use Rattle.history.specs.GroupLaws.{LinesStepGroup, LinesStandAlone, TimeEndsGroup};
 ghost use Rattle.history.specs.KeyLaws.{FramesStepFast, FramesKeepFast, TimeEndsFast, FramesStepIso, FramesCompleteIso, TimeEndsIso};
 ghost use Rattle.history.specs.RefusalLaws.{FastRefusalsBreak, TransportRefusalsBreak};
@@ -79,4 +79,11 @@ pub fn slots_count_open_keys()
 /// openers is refused for want of room: whatever else is on the bus.
 pub fn devices_are_isolated()
     ensures { Isolation }
+{}
+
+/// Two gateways with one NAME, address and list of presets, which differ in all else, take the same messages from a device at the same
+/// moments, where both hear the same claims, commands and frames of it and neither refuses an opener of it for want of room: whatever
+/// else each of them hears.
+pub fn devices_are_isolated_in_two()
+    ensures { IsolationOfTwo }
 {}
