@@ -22,6 +22,7 @@ mod Computed
 mod ClaimCases
 mod FastCases
 mod ChoiceCases
+mod RowCases
 mod TransportCases
 mod NetCases
 mod ReplayCases

@@ -25,6 +25,7 @@ pub mod Cases
 pub mod ClaimCases
 pub mod FastCases
 pub mod ChoiceCases
+pub mod RowCases
 pub mod TransportCases
 pub mod NetCases
 pub mod ReplayCases

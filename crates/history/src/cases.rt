@@ -2,6 +2,7 @@
 ghost use Rattle.history.specs.ClaimCases as claim_cases;
 ghost use Rattle.history.specs.FastCases as fast_cases;
 ghost use Rattle.history.specs.ChoiceCases as choice_cases;
+ghost use Rattle.history.specs.RowCases as row_cases;
 ghost use Rattle.history.specs.TransportCases as transport_cases;
 ghost use Rattle.history.specs.NetCases as net_cases;
 ghost use Rattle.history.specs.ReplayCases as replay_cases;
@@ -36,6 +37,12 @@ pub fn sources_are_chosen()
     ensures one_heading { choice_cases.OneHeading }
     ensures first_of_two { choice_cases.FirstOfTwo }
     ensures short { choice_cases.Short }
+{}
+
+/// What is said of single messages.
+pub fn messages_are_said()
+    ensures time_after_claim { row_cases.TimeAfterClaim }
+    ensures two_sentences { row_cases.TwoSentences }
 {}
 
 /// What is emitted of the transport protocol.

@@ -6,7 +6,7 @@ mod laws;
 
 pub use cases::{
     addresses_change_hands, captures_are_replayed, datagrams_are_heard, devices_are_apart,
-    fast_packets_are_joined, sessions_are_answered, sources_are_chosen,
+    fast_packets_are_joined, messages_are_said, sessions_are_answered, sources_are_chosen,
 };
 pub use laws::{
     addresses_are_sound, addresses_keep_their_frames, devices_are_isolated,
