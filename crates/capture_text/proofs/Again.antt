@@ -69,7 +69,7 @@ begins moment name tail early is four short = record {
 }
 
 pub frame_again : (moment : ℕ) (f : Frame) → moment < 10 ^ 16 → IsFrame f → IsBytes (to_be_bytes w32 f.id) × IsBytes (held_bytes f)
-    → IsLine (frame moment (bus_frame f)) (time_text moment ++ frame_text f) × (read (time_text moment ++ frame_text f) ≡ Ok (frame moment (bus_frame f)))
+    → IsLine (frame moment (bus_frame f)) (time_text moment ++ frame_text (bus_frame f)) × (read (time_text moment ++ frame_text (bus_frame f)) ≡ Ok (frame moment (bus_frame f)))
 frame_again moment f early valid fit =
     let id = encode_upper (to_be_bytes w32 f.id) in
     let held = encode_upper (held_bytes f) in
@@ -78,7 +78,7 @@ frame_again moment f early valid fit =
     let few : length (held_bytes f) ≤ 8 = omega (arith, length-take f.len f.bytes, valid.fits) in
     let written = decode_of-encode_upper (to_be_bytes w32 f.id) fit.0 in
     let short : length (32 ∷ (id ++ 35 ∷ held)) ≤ 2000 = omega (arith, length-append id (35 ∷ held), id_len, held_len, few) in
-    let line : IsLine (frame moment (bus_frame f)) (time_text moment ++ frame_text f) = record {
+    let line : IsLine (frame moment (bus_frame f)) (time_text moment ++ frame_text (bus_frame f)) = record {
       identifier = id;
       behind = held;
       on_bus = record {
@@ -99,7 +99,7 @@ frame_again moment f early valid fit =
         ends = refl;
       };
     } in
-    (line, again (time_text moment ++ frame_text f) (frame moment (bus_frame f)) line)
+    (line, again (time_text moment ++ frame_text (bus_frame f)) (frame moment (bus_frame f)) line)
 
 pub datagram_again : (moment : ℕ) (group bytes : List ℕ) → moment < 10 ^ 16 → length bytes ≤ 512 → IsGroup group × IsBytes bytes
     → IsLine (datagram moment bytes) (time_text moment ++ datagram_text group bytes) × (read (time_text moment ++ datagram_text group bytes) ≡ Ok (datagram moment bytes))
@@ -126,10 +126,10 @@ abbrev pub SaysAgain : Emit → ℕ → List ℕ → Type 0
 SaysAgain emitted moment line = IfSome (said emitted moment) (λ event. IsLine event line × (read line ≡ Ok event))
 
 pub can_again : (emitted : Emit) (f : Frame) (moment : ℕ) (before line : List ℕ) → emitted ≡ emit.Can f → CanWrite emitted → IsBytes (to_be_bytes w32 f.id) × IsBytes (held_bytes f)
-    → before ≡ time_text moment → line ≡ before ++ frame_text f → moment < 10 ^ 16 → SaysAgain emitted moment line
+    → before ≡ time_text moment → line ≡ before ++ frame_text (bus_frame f) → moment < 10 ^ 16 → SaysAgain emitted moment line
 can_again emitted f moment before line is can fit starts text early =
     let valid : CanWrite (emit.Can f) = subst CanWrite is can in
-    let whole : line ≡ time_text moment ++ frame_text f = text ∙ ap (λ (x : List ℕ). x ++ frame_text f) starts in
+    let whole : line ≡ time_text moment ++ frame_text (bus_frame f) = text ∙ ap (λ (x : List ℕ). x ++ frame_text (bus_frame f)) starts in
     subst (λ (x : Emit). SaysAgain x moment line) (sym is) (subst (SaysAgain (emit.Can f) moment) (sym whole) (frame_again moment f early valid fit))
 
 pub net_again : (emitted : Emit) (group : List ℕ) (bytes : Bor (List ℕ)) (moment : ℕ) (before line : List ℕ) → emitted ≡ emit.Net group bytes → CanWrite emitted → IsGroup group × IsBytes bytes.now

@@ -4,8 +4,7 @@ use Rattle.std.specs.Fmt.{decimal}
 use Rattle.std.specs.Int.{w32, to_be_bytes}
 use Rattle.hex.specs.Hex.{encode_upper}
 use Rattle.unit_fraction.specs.Text.{decimal_text}
-use Rattle.n2k_id.specs.declared.frame.Frame.{Frame}
-use Rattle.n2k_id.specs.Frame.{IsFrame, bus_frame, held_bytes}
+use Rattle.n2k_id.specs.Frame.{IsFrame, BusFrame, bus_frame}
 use Rattle.capture_text.specs.declared.emit.Detail.{Detail}
 use Rattle.capture_text.specs.declared.emit.Detail.TheVariants as detail
 use Rattle.capture_text.specs.declared.emit.Report.{Report}
@@ -41,14 +40,14 @@ detail_text detail.Net = codes " link=net"
 abbrev pub report_text : Report → List ℕ
 report_text report = codes "rule " ++ decimal report.rule ++ detail_text report.detail
 
-abbrev pub frame_text : Frame → List ℕ
-frame_text f = codes "can0 " ++ encode_upper (to_be_bytes w32 f.id) ++ 35 ∷ encode_upper (held_bytes f)
+abbrev pub frame_text : BusFrame → List ℕ
+frame_text f = codes "can0 " ++ encode_upper (to_be_bytes w32 f.id) ++ 35 ∷ encode_upper f.held
 
 abbrev pub datagram_text : List ℕ → List ℕ → List ℕ
 datagram_text group bytes = codes "udp0 " ++ group ++ 35 ∷ encode_upper bytes
 
 abbrev pub emit_text : Emit → List ℕ
-emit_text (emit.Can f) = frame_text f
+emit_text (emit.Can f) = frame_text (bus_frame f)
 emit_text (emit.Net group bytes) = datagram_text group bytes.now
 emit_text (emit.Report report) = report_text report
 

@@ -2,7 +2,7 @@ ghost use Rattle.std.specs.Prelude.{◌≡◌, ◌+◌, ◌*◌, ◌<◌, ◌≤
 ghost use Rattle.std.specs.Fmt.{decimal};
 ghost use Rattle.arrayvec.specs.ArrayVec.{array_vec_len};
 ghost use Rattle.hex.specs.Hex.{encode_upper, IsBytes};
-ghost use Rattle.n2k_id.specs.Frame.{IsFrame, held_bytes};
+ghost use Rattle.n2k_id.specs.Frame.{IsFrame, bus_frame, held_bytes};
 ghost use Rattle.std.specs.Int.{w32, to_be_bytes};
 ghost use Rattle.sentence_text.specs.Names.{IsGroup};
 ghost use Rattle.unit_fraction.specs.Text.{decimal_text};
@@ -125,7 +125,7 @@ fn put_report(report: &Report, out: &mut Line)
 fn put_frame(frame: &Frame, out: &mut Line)
     requires valid { IsFrame frame.now }
     requires room { array_vec_len out.old ≤ 1000 }
-    ensures text { out.new.items ≡ out.old.items ++ frame_text frame.now }
+    ensures text { out.new.items ≡ out.old.items ++ frame_text (bus_frame frame.now) }
     ensures fit { IsBytes (to_be_bytes w32 frame.now.id) × IsBytes (held_bytes frame.now) }
 {
     put(b"can0 ", out);

@@ -1,16 +1,13 @@
 -- The text of a replay: a capture in, all emits out, a line each.
-use Rattle.std.specs.Prelude.{ℕ, ◌+◌, List, [], ◌∷◌, ◌++◌, Option, Some, None, Result, Ok, Err, codes}
+use Rattle.std.specs.Prelude.{ℕ, ◌+◌, List, [], ◌∷◌, ◌++◌, Option, Some, None, Result, Ok, Err}
 use Rattle.std.specs.List.{flat_map}
-use Rattle.std.specs.Int.{w32, to_be_bytes}
-use Rattle.hex.specs.Hex.{encode_upper}
-use Rattle.n2k_id.specs.Frame.{BusFrame}
 use Rattle.capture_text.specs.declared.emit.Detail.TheVariants as detail
 use Rattle.capture_text.specs.declared.event.LineRule.{LineRule}
 use Rattle.capture_text.specs.declared.event.LineRule.TheVariants.{Form, NotExtended, Long}
 use Rattle.capture_text.specs.Capture as capture
 use Rattle.capture_text.specs.Capture.{Seen}
 use Rattle.capture_text.specs.Reading.{read}
-use Rattle.capture_text.specs.Writing.{time_text, datagram_text, report_text}
+use Rattle.capture_text.specs.Writing.{time_text, frame_text, datagram_text, report_text}
 use Rattle.history.specs.Entries as entry
 use Rattle.history.specs.Entries.{Entry, History, now, moment_of}
 use Rattle.history.specs.Settings.{Settings}
@@ -18,9 +15,6 @@ use Rattle.history.specs.Emits.{Emit, Emitted, can, net, report, at, broken}
 use Rattle.history.specs.Gate.{stepped, at_start}
 
 -- ---- the line of an emit
-
-abbrev pub frame_text : BusFrame → List ℕ
-frame_text f = codes "can0 " ++ encode_upper (to_be_bytes w32 f.id) ++ 35 ∷ encode_upper f.held
 
 abbrev pub emit_text : Emit → List ℕ
 emit_text (can f) = frame_text f
