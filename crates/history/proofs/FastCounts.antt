@@ -18,7 +18,7 @@ use Rattle.history.proofs.KeySteps.{eqb-sym, other_piece}
 use Rattle.history.proofs.Counts.{all_placed, any_placed, distinct_placed, Held, counted, room}
 
 -- each key that came has a PGN of fast packets
-fast_all : (notes : List Note) → AllByRecursion (λ key. is_fast (kind_of key.pgn) ≡ true) (fast_keys notes)
+pub fast_all : (notes : List Note) → AllByRecursion (λ key. is_fast (kind_of key.pgn) ≡ true) (fast_keys notes)
 fast_all [] = tt
 fast_all (n ∷ notes) = by (is_fast (kind_of n.parts.pgn)) refl (fast_all notes)
   where

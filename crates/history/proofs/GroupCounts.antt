@@ -23,13 +23,13 @@ text_is (x ∷ a) (y ∷ b) e =
     let parts = and_parts (x == y) (same_text a b) e in
     ap (λ (z : ℕ). z ∷ a) (eqb-true x y parts.0) ∙ ap (λ (z : List ℕ). y ∷ z) (text_is a b parts.1)
 
-text_turn : (a b : List ℕ) → same_text a b ≡ same_text b a
+pub text_turn : (a b : List ℕ) → same_text a b ≡ same_text b a
 text_turn [] [] = refl
 text_turn [] (y ∷ b) = refl
 text_turn (x ∷ a) [] = refl
 text_turn (x ∷ a) (y ∷ b) = rw (eqb-sym x y, text_turn a b) refl
 
-same_is : (key one : GroupKey) → same_group key one ≡ true → key ≡ one
+pub same_is : (key one : GroupKey) → same_group key one ≡ true → key ≡ one
 same_is key one e =
     let parts = and_parts (same_text key.sfi one.sfi) (key.code == one.code) e in
     let sfi : key.sfi ≡ one.sfi = text_is key.sfi one.sfi parts.0 in
@@ -51,7 +51,7 @@ pub trace_past : (key : GroupKey) (t : Taken) (older : List Taken) → line_in k
 trace_past key t older e = rw e refl
 
 -- a group whose key didn't come has no lines
-no_lines : (key : GroupKey) (taken : List Taken) → list_any (same_group key) (group_keys taken) ≡ false → group_trace key taken ≡ []
+pub no_lines : (key : GroupKey) (taken : List Taken) → list_any (same_group key) (group_keys taken) ≡ false → group_trace key taken ≡ []
 no_lines key [] none = refl
 no_lines key (t ∷ older) none = by (several t.group) refl none (λ absent. no_lines key older absent)
   where

@@ -17,7 +17,7 @@ use Rattle.history.proofs.GroupCounts.{line_past, trace_past}
 steps : OneStep group_rules
 steps = one_step_of group_rules lawful
 
-text_same : (a : List ℕ) → same_text a a ≡ true
+pub text_same : (a : List ℕ) → same_text a a ≡ true
 text_same [] = refl
 text_same (x ∷ a) = rw (eq-eqb x x refl) (text_same a)
 

@@ -57,7 +57,7 @@ not_fast p q outside e = elim (cases_Bool (p == q)) [
 not_claim : (p : ℕ) → kind_of p ≡ Fast → (p == 60928) ≡ false
 not_claim p e = not_fast p 60928 claim_kind e
 
-no_transport : (p : Parts) → kind_of p.pgn ≡ Fast → is_transport p ≡ false
+pub no_transport : (p : Parts) → kind_of p.pgn ≡ Fast → is_transport p ≡ false
 no_transport p e = rw (not_fast p.pgn 60416 management_kind e, not_fast p.pgn 60160 data_kind e) refl
 
 no_claim : (f : BusFrame) → kind_of (parts_of f.id).pgn ≡ Fast → is_claim f ≡ false

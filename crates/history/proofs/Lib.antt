@@ -16,7 +16,11 @@ pub mod Fewer
 pub mod Room
 pub mod Roomy
 pub mod Isolation
+pub mod Limits
+pub mod FastLimits
+pub mod IsoLimits
 pub mod GroupSteps
+pub mod GroupLimits
 pub mod Refusals
 mod Computed
 mod ClaimCases

@@ -37,13 +37,13 @@ smaller a b limit le less = lt-ltb a limit (omega (arith, le, ltb-true b limit l
 
 -- ---- fast packets
 
-fast_turn : (a b : FastKey) → same_fast a b ≡ same_fast b a
+pub fast_turn : (a b : FastKey) → same_fast a b ≡ same_fast b a
 fast_turn a b = rw (eqb-sym a.source b.source, eqb-sym a.pgn b.pgn) refl
 
-fast_itself : (a : FastKey) → same_fast a a ≡ true
+pub fast_itself : (a : FastKey) → same_fast a a ≡ true
 fast_itself a = rw (eq-eqb a.source a.source refl, eq-eqb a.pgn a.pgn refl) refl
 
-fast_apart : (notes : List Note) → Apart same_fast fast.same_is fast_turn fast_itself (fast_keys notes)
+pub fast_apart : (notes : List Note) → Apart same_fast fast.same_is fast_turn fast_itself (fast_keys notes)
 fast_apart [] = tt
 fast_apart (n ∷ notes) = by (is_fast (kind_of n.parts.pgn)) (fast_apart notes)
   where
@@ -64,7 +64,7 @@ fast_own a (n ∷ notes) all = by (is_fast (kind_of n.parts.pgn)) refl (fast_own
     by true e rest = all_placed (IsFastOf a) same_fast before_fast (record { source = n.parts.source; pgn = n.parts.pgn }) (fast_keys notes) (all.0 (true_or (is_fast (kind_of n.parts.pgn)) (is_transport n.parts) e), e) rest
     by false e rest = rest
 
-fast_came : (k : Known) (notes : List Note) (m : ℕ) (key : FastKey) → is_fast (kind_of key.pgn) ≡ true → is_some (fast_open k notes key m) ≡ true → list_any (same_fast key) (fast_keys notes) ≡ true
+pub fast_came : (k : Known) (notes : List Note) (m : ℕ) (key : FastKey) → is_fast (kind_of key.pgn) ≡ true → is_some (fast_open k notes key m) ≡ true → list_any (same_fast key) (fast_keys notes) ≡ true
 fast_came k notes m key kind is_open = by (list_any (same_fast key) (fast_keys notes)) refl
   where
     by : (b : Bool) → list_any (same_fast key) (fast_keys notes) ≡ b → list_any (same_fast key) (fast_keys notes) ≡ true
@@ -107,17 +107,17 @@ module _ (a : ℕ) (k l : Known) (notes kept : List Note) (m : ℕ) (own : AllBy
 
 -- ---- the transport protocol
 
-iso_turn : (a b : IsoKey) → same_iso a b ≡ same_iso b a
+pub iso_turn : (a b : IsoKey) → same_iso a b ≡ same_iso b a
 iso_turn a b = rw (iso.both_turn a.addressed b.addressed, eqb-sym a.source b.source) refl
 
 both_itself : (b : Bool) → beq b b ≡ true
 both_itself true = refl
 both_itself false = refl
 
-iso_itself : (a : IsoKey) → same_iso a a ≡ true
+pub iso_itself : (a : IsoKey) → same_iso a a ≡ true
 iso_itself a = rw (both_itself a.addressed, eq-eqb a.source a.source refl) refl
 
-iso_apart : (notes : List Note) → Apart same_iso iso.same_is iso_turn iso_itself (iso_keys notes)
+pub iso_apart : (notes : List Note) → Apart same_iso iso.same_is iso_turn iso_itself (iso_keys notes)
 iso_apart [] = tt
 iso_apart (n ∷ notes) = by (is_transport n.parts) (iso_apart notes)
   where
@@ -136,7 +136,7 @@ iso_own a (n ∷ notes) all = by (is_transport n.parts) refl (iso_own a notes al
     by true e rest = all_placed (IsIsoOf a) same_iso before_iso (key_of n.parts) (iso_keys notes) (all.0 (rw e (or_true (is_fast (kind_of n.parts.pgn))))) rest
     by false e rest = rest
 
-iso_came : (k : Known) → IsSound k.claims → (notes : List Note) (m : ℕ) (key : IsoKey) → is_some (iso_open k notes key m) ≡ true → list_any (same_iso key) (iso_keys notes) ≡ true
+pub iso_came : (k : Known) → IsSound k.claims → (notes : List Note) (m : ℕ) (key : IsoKey) → is_some (iso_open k notes key m) ≡ true → list_any (same_iso key) (iso_keys notes) ≡ true
 iso_came k sound notes m key is_open = by (list_any (same_iso key) (iso_keys notes)) refl
   where
     by : (b : Bool) → list_any (same_iso key) (iso_keys notes) ≡ b → list_any (same_iso key) (iso_keys notes) ≡ true

@@ -97,7 +97,7 @@ concerned_source k n a addressed e =
     (and_parts (n.parts.source == a) (is_meant k n addressed && is_bearing addressed n)
     (and_parts (is_some (since_of k a)) ((n.parts.source == a) && (is_meant k n addressed && is_bearing addressed n)) e).1).0
 
-key_is : (k : Known) → IsSound k.claims → (n : Note) (a : ℕ) (addressed : Bool) → concerns k n (record { addressed = addressed; source = a }) ≡ true
+pub key_is : (k : Known) → IsSound k.claims → (n : Note) (a : ℕ) (addressed : Bool) → concerns k n (record { addressed = addressed; source = a }) ≡ true
     → key_of n.parts ≡ record { addressed = addressed; source = a }
 key_is k sound n a addressed e =
     let meant = (and_parts (is_meant k n addressed) (is_bearing addressed n)

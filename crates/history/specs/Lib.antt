@@ -18,6 +18,7 @@ pub mod TraceLaws
 pub mod KeyLaws
 pub mod FreshLaws
 pub mod CountLaws
+pub mod LimitLaws
 pub mod IsolationLaws
 pub mod GroupLaws
 pub mod RefusalLaws

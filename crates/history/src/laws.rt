@@ -3,6 +3,7 @@ ghost use Rattle.history.specs.AddressLaws.{AddressesAreSound};
 ghost use Rattle.history.specs.CountLaws.{SlotsCountFast, SlotsCountIso, SlotsCountGroups};
 ghost use Rattle.history.specs.FreshLaws.{FreshByLast, MessagesAreKept, ClaimsForget, CommandsForgetNone, ReadingsAreKept};
 ghost use Rattle.history.specs.IsolationLaws.{Isolation, IsolationOfTwo};
+ghost use Rattle.history.specs.LimitLaws.{FastWithinLimit, IsoWithinLimit, GroupsWithinLimit};
 ghost use Rattle.history.specs.GroupLaws.{LinesStepGroup, LinesStandAlone, TimeEndsGroup};
 ghost use Rattle.history.specs.KeyLaws.{FramesStepFast, FramesKeepFast, TimeEndsFast, FramesStepIso, FramesCompleteIso, TimeEndsIso};
 ghost use Rattle.history.specs.RefusalLaws.{FastRefusalsBreak, TransportRefusalsBreak};
@@ -86,4 +87,12 @@ pub fn devices_are_isolated()
 /// else each of them hears.
 pub fn devices_are_isolated_in_two()
     ensures { IsolationOfTwo }
+{}
+
+/// At no moment are more messages of fast packets, sessions of the transport protocol or groups of lines open than the configuration
+/// has room for.
+pub fn open_keys_keep_the_limits()
+    ensures fast { FastWithinLimit }
+    ensures iso { IsoWithinLimit }
+    ensures groups { GroupsWithinLimit }
 {}
