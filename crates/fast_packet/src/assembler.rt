@@ -3,7 +3,7 @@ ghost use Rattle.std.specs.Prelude.{◌≡◌, ◌≤◌, ◌+◌, [], IfOk, len
 ghost use Rattle.std.specs.List.{find};
 ghost use Rattle.std.specs.Borrow.{sem};
 ghost use Rattle.n2k_id.specs.Frame.{IsFrame, held_bytes};
-ghost use Rattle.slot_views.specs.Slots.{SlotMap, entry_at, without, has_expired};
+ghost use Rattle.slot_views.specs.Slots.{SlotMap, IsOrdered, entry_at, without, has_expired};
 ghost use Rattle.fast_packet.specs.Assembly.{verdict, fed_after, is_from};
 ghost use Rattle.fast_packet.specs.Verdicts.{VerdictFits};
 
@@ -182,7 +182,9 @@ impl FastAssembler {
 
     /// How many assemblies are open.
     pub fn count(&self) -> u16
-        ensures { result ≡ length self.now.entries }
+        ensures count { result ≡ length self.now.entries }
+        ensures within { result ≤ self.now.limit }
+        ensures ordered { IsOrdered ⟦<FastKey as Ord>⟧.cmp self.now.entries }
     {
         self.slots.count()
     }

@@ -2,7 +2,7 @@
 ghost use Rattle.std.specs.Prelude.{◌≡◌, ◌≤◌, [], IfOk, length, option_map};
 ghost use Rattle.std.specs.List.{find};
 ghost use Rattle.std.specs.Borrow.{sem};
-ghost use Rattle.slot_views.specs.Slots.{SlotMap, entry_at, without, has_expired};
+ghost use Rattle.slot_views.specs.Slots.{SlotMap, IsOrdered, entry_at, without, has_expired};
 ghost use Rattle.tag_block.specs.Groups.{IsGroupPart, VerdictFits, verdict, fed_after};
 
 use crate::group_answers::{GroupFed, GroupOutcome};
@@ -145,6 +145,7 @@ impl GroupAssembler {
     pub fn count(&self) -> u16
         ensures count { result ≡ length self.now.entries }
         ensures within { result ≤ self.now.limit }
+        ensures ordered { IsOrdered ⟦<GroupKey as Ord>⟧.cmp self.now.entries }
     {
         self.slots.count()
     }
