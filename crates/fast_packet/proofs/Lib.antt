@@ -4,3 +4,4 @@ pub mod Lawful
 pub mod SplitRuns
 pub mod Assemblies
 pub mod Keys
+pub mod Sources

@@ -3,7 +3,7 @@ use Rattle.std.specs.Cmp.Lexicographic.{pointwise}
 use Rattle.std.specs.Prelude.{ℕ, ◌+◌, ◌-◌, ◌*◌, ◌/◌, ◌%◌, Bool, ◌&&◌, ◌==◌, nat_eq, nat_le, nat_lt, min, if◌then◌else◌, List, ◌∷◌, length, take, drop, Option, Some, None}
 use Rattle.std.specs.declared.cmp.Ordering.{Ordering}
 use Rattle.slot_views.specs.declared.answers.Kept.{Kept}
-use Rattle.slot_views.specs.Slots.{Entry, SlotMap, is_between, opened, entry_at, released, begun_after, grown_after}
+use Rattle.slot_views.specs.Slots.{Entry, SlotMap, opened, entry_at, released, begun_after, grown_after}
 use Rattle.fast_packet.specs.declared.key.FastKey.{FastKey}
 use Rattle.fast_packet.specs.declared.verdict.Verdict.{Verdict}
 use Rattle.fast_packet.specs.declared.verdict.Verdict.TheVariants.{Short, Opens, Orphan, Again, OutOfOrder, Next}
@@ -26,9 +26,9 @@ left_of e = opener_length e - length e.bytes
 abbrev pub as_entry : Kept → List ℕ → Entry
 as_entry kept held = record { bytes = held; next = kept.next; need = kept.need; last = 0; gap = 0; mark = kept.mark }
 
--- the assembly is of that source: its key lies from the source's least one to its greatest
-abbrev pub is_from : (FastKey → FastKey → Ordering) → ℕ → FastKey × Entry → Bool
-is_from cmp source e = is_between cmp (record { source = source; pgn = 0 }) (record { source = source; pgn = 4294967295 }) e
+-- the assembly is of that source; every PGN of a key fits 32 bits
+abbrev pub is_from : ℕ → FastKey × Entry → Bool
+is_from source e = (e.0.source == source) && nat_le e.0.pgn 4294967295
 
 -- the last frame that was added, where it was no frame 0
 abbrev pub last_frame : Entry → List ℕ

@@ -165,9 +165,10 @@ impl FastAssembler {
     }
 
     /// Ends the assembly of the source's least key.
+    #[tactic(auto, using(crate::proofs::Sources::range_is))]
     pub fn drop_source(&mut self, source: u8) -> Option<FastKey>
-        ensures after { self.new ≡ without self.old (is_from ⟦<FastKey as Ord>⟧.cmp source) }
-        ensures answer { result ≡ option_map (λ e. e.0) (find (is_from ⟦<FastKey as Ord>⟧.cmp source) self.old.entries) }
+        ensures after { self.new ≡ without self.old (is_from source) }
+        ensures answer { result ≡ option_map (λ e. e.0) (find (is_from source) self.old.entries) }
     {
         let low = FastKey { source, pgn: 0 };
         let high = FastKey {
