@@ -93,7 +93,7 @@ fn size_at(bytes: &[u8]) -> u16
     requires { 8 ≤ length bytes.now }
     ensures { result ≡ size_at bytes.now }
 {
-    u16::from(bytes[1]) + 256 * u16::from(bytes[2])
+    u16::from_le_bytes([bytes[1], bytes[2]])
 }
 
 // The message's PGN.
@@ -101,5 +101,5 @@ fn pgn_at(bytes: &[u8]) -> u32
     requires { 8 ≤ length bytes.now }
     ensures { result ≡ pgn_at bytes.now }
 {
-    u32::from(bytes[5]) + 256 * u32::from(bytes[6]) + 65536 * u32::from(bytes[7])
+    u32::from_le_bytes([bytes[5], bytes[6], bytes[7], 0])
 }

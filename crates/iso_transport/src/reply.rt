@@ -26,8 +26,7 @@ pub fn write_reply(reply: &Reply) -> [u8; 8]
     match *reply {
         Reply::Cts { count, next, pgn } => laid_out([CTS, count, next, 255, 255], pgn),
         Reply::EndAck { size, packets, pgn } => {
-            let low = (size % 256) as u8;
-            let high = (size / 256) as u8;
+            let [low, high] = size.to_le_bytes();
             laid_out([END_ACK, low, high, packets, 255], pgn)
         }
         Reply::Abort { reason, pgn } => laid_out([ABORT, reason, 255, 255, 255], pgn),
@@ -40,8 +39,6 @@ fn laid_out(first: [u8; 5], pgn: u32) -> [u8; 8]
     ensures { result ≡ first ++ pgn_bytes pgn }
 {
     let [a, b, c, d, e] = first;
-    let low = (pgn % 256) as u8;
-    let middle = (pgn / 256 % 256) as u8;
-    let high = (pgn / 65536) as u8;
+    let [low, middle, high, _] = pgn.to_le_bytes();
     [a, b, c, d, e, low, middle, high]
 }

@@ -1,5 +1,7 @@
 ghost use Rattle.std.specs.Prelude.{◌≡◌, ◌-◌, ◌^◌, ◌<◌, ◌≤◌, ◌↔◌, ◌++◌, length, replicate, IsSome, IfSome};
 
+use crate::identifier::IDENTIFIER_END;
+
 /// A CAN data frame with a 29-bit identifier (ISO 11898-1's extended format).
 ///
 /// A frame is valid where `id` is below `2^29`, `len` is at most 8 and the bytes from place `len`
@@ -13,9 +15,6 @@ pub struct Frame {
     /// The data bytes, and 0 in each place beyond them.
     pub bytes: [u8; 8],
 }
-
-/// The first value that is no 29-bit identifier.
-const IDENTIFIER_END: u32 = 1 << 29;
 
 impl Frame {
     ghost use Rattle.n2k_id.specs.Frame.{IsFrame, BusFrame, Carries, held_bytes};
