@@ -3,12 +3,12 @@ use Rattle.std.proofs.Common.{◌≡◌, ℕ, ◌+◌, ◌&&◌, min, Bool, true
 use Rattle.std.proofs.lemmas.Bool.{leb-true, eqb-true}
 use Rattle.slot_views.specs.declared.answers.Kept.{Kept}
 use Rattle.slot_views.specs.Slots.{Entry}
-use Rattle.slot_views.specs.Answers.{kept_of}
+use Rattle.slot_views.specs.Answers.{kept_of, as_entry}
 use Rattle.fast_packet.specs.declared.verdict.Verdict.{Verdict}
 use Rattle.fast_packet.specs.declared.verdict.Verdict.TheVariants.{Short, Opens, Orphan, Again, OutOfOrder, Next}
 use Rattle.fast_packet.specs.FastFrames.{is_opener, is_no_later}
 use Rattle.fast_packet.specs.Verdicts.{IsNext, VerdictFits}
-use Rattle.fast_packet.specs.Assembly.{left_of, is_again, follows, is_enough, later_verdict, verdict, as_entry}
+use Rattle.fast_packet.specs.Assembly.{left_of, is_again, follows, is_enough, later_verdict, verdict}
 
 -- by what is told of the assembly
 pub told_verdict : (o : Option Entry) (kept : Kept) (held bytes : List ℕ) (r : Verdict) → Some kept ≡ option_map kept_of o → held ≡ unwrap_or (option_map (λ e. e.bytes) o) [] → r ≡ later_verdict (Some (as_entry kept held)) bytes

@@ -2,7 +2,6 @@
 use Rattle.std.specs.Cmp.Lexicographic.{pointwise}
 use Rattle.std.specs.Prelude.{ℕ, ◌+◌, ◌-◌, ◌*◌, ◌/◌, ◌%◌, Bool, ◌&&◌, ◌==◌, nat_eq, nat_le, nat_lt, min, if◌then◌else◌, List, ◌∷◌, length, take, drop, Option, Some, None}
 use Rattle.std.specs.declared.cmp.Ordering.{Ordering}
-use Rattle.slot_views.specs.declared.answers.Kept.{Kept}
 use Rattle.slot_views.specs.Slots.{Entry, SlotMap, opened, entry_at, released, begun_after, grown_after}
 use Rattle.fast_packet.specs.declared.key.FastKey.{FastKey}
 use Rattle.fast_packet.specs.declared.verdict.Verdict.{Verdict}
@@ -21,10 +20,6 @@ opener_length e = e.mark % 256
 -- how many bytes the assembly still waits for
 abbrev pub left_of : Entry → ℕ
 left_of e = opener_length e - length e.bytes
-
--- an assembly by what is told of it; when its last frame came plays no part in what the next one is
-abbrev pub as_entry : Kept → List ℕ → Entry
-as_entry kept held = record { bytes = held; next = kept.next; need = kept.need; last = 0; gap = 0; mark = kept.mark }
 
 -- the assembly is of that source; every PGN of a key fits 32 bits
 abbrev pub is_from : ℕ → FastKey × Entry → Bool

@@ -1,5 +1,6 @@
 //! What a frame is to the assembly of its key.
 ghost use Rattle.std.specs.Prelude.{◌≡◌, []};
+ghost use Rattle.slot_views.specs.Answers.{as_entry};
 ghost use Rattle.fast_packet.specs.Assembly as assembly;
 
 use slot_views::Kept;
@@ -23,7 +24,7 @@ pub enum Verdict {
 
 /// What a later frame is to an assembly that is open, by what is kept of it and its bytes so far.
 pub(crate) fn later_verdict(kept: Kept, held: &[u8], bytes: &[u8]) -> Verdict
-    ensures { result ≡ assembly.later_verdict (Some (assembly.as_entry kept held.now)) bytes.now }
+    ensures { result ≡ assembly.later_verdict (Some (as_entry kept held.now)) bytes.now }
 {
     if is_again(kept, held, bytes) {
         return Verdict::Again;
@@ -41,7 +42,7 @@ pub(crate) fn later_verdict(kept: Kept, held: &[u8], bytes: &[u8]) -> Verdict
 
 // Whether the frame is the last one again, where that was neither frame 0 nor the last one of the message.
 fn is_again(kept: Kept, held: &[u8], bytes: &[u8]) -> bool
-    ensures { result ≡ assembly.is_again (assembly.as_entry kept held.now) bytes.now }
+    ensures { result ≡ assembly.is_again (as_entry kept held.now) bytes.now }
 {
     if bytes.len() != 8 || kept.next < 2 || kept.next >= kept.need {
         return false;
@@ -52,7 +53,7 @@ fn is_again(kept: Kept, held: &[u8], bytes: &[u8]) -> bool
 
 // Whether the frame has the next counter and the sequence.
 fn follows(kept: Kept, bytes: &[u8]) -> bool
-    ensures { result ≡ assembly.follows (assembly.as_entry kept []) bytes.now }
+    ensures { result ≡ assembly.follows (as_entry kept []) bytes.now }
 {
     match bytes.first() {
         None => kept.next == 0 && kept.mark < 256,

@@ -7,6 +7,7 @@ use Rattle.runs.specs.Runs.{is_whole, is_admitted, opener_of, since_opener, if_o
 use Rattle.runs.proofs.Steps.{one_step_of}
 use Rattle.runs.proofs.Suffixes.{one_suffix_of}
 use Rattle.slot_views.specs.Slots.{Entry, is_complete}
+use Rattle.slot_views.specs.Traces.{left_at, entry_after}
 use Rattle.iso_transport.specs.declared.answers.IsoRefusal.TheVariants as refusal
 use Rattle.iso_transport.specs.declared.connection.Cm.{Cm}
 use Rattle.iso_transport.specs.declared.connection.Cm.TheVariants.{Rts, Cts, EndAck, Bam, Abort}
@@ -23,7 +24,7 @@ use Rattle.iso_transport.specs.Audience.{bears}
 use Rattle.iso_transport.specs.IsoRuns.{IsoPiece, number_of, end_of, part_of, session_of, need_of, is_opener, is_next, is_repeat, iso_rules, joined, payload}
 use Rattle.iso_transport.specs.Verdicts.{session_in, pgn_in, left_of, is_again, packet_verdict, opener_verdict, sized_verdict, abort_verdict, kind_verdict, management_verdict}
 use Rattle.iso_transport.specs.Assembly.{extended}
-use Rattle.iso_transport.specs.Told.{Message, pgn_of, left_of_run, packet_told, told, reply_to_next, reply_to_packet, reply_to_opener, is_request, reply_to, message_of, verdict_on, left_by, left_at, completed_by, assembly_of, assembly_at}
+use Rattle.iso_transport.specs.Told.{Message, pgn_of, left_of_run, packet_told, told, reply_to_next, reply_to_packet, reply_to_opener, is_request, reply_to, message_of, verdict_on, left_by, completed_by, assembly_of, assembly_at}
 use Rattle.iso_transport.specs.Laws.{IsOfTrace, IsTrace, assembly_after, FollowsRuns, HasItsSize}
 use Rattle.iso_transport.proofs.Lawful.{lawful, both_true, and_false, no_next, no_repeat}
 use Rattle.iso_transport.proofs.Sessions.{Opened, opened_from, session_kept}
@@ -576,7 +577,7 @@ module _ (addressed : Bool) where
   replies_law h x trace admits = ap (reply_by addressed) (told_law h x trace.1) ∙ replied addressed (open_at (iso_rules addressed) h x.moment) x (standing_by addressed h x.moment _ trace.1 refl) trace.0 admits
 
   all_law : (h : List IsoPiece) → IsTrace addressed h → assembly_after addressed h ≡ assembly_at addressed (open_of (iso_rules addressed) h)
-  unfolding assembly_after
+  unfolding entry_after
   all_law [] trace = refl
   all_law (x ∷ h) trace =
       let before : left_at (assembly_after addressed h) x.moment ≡ assembly_at addressed (open_at (iso_rules addressed) h x.moment) =

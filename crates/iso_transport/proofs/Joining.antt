@@ -8,6 +8,7 @@ use Rattle.std.specs.Ordering.{bool_cmp, nat_cmp, is_eq, is_gt, ordering_then}
 use Rattle.std.specs.Map.{remove_entry}
 use Rattle.std.specs.BTreeMap.{is_at}
 use Rattle.slot_views.specs.Slots.{Entry, SlotMap, grown, entry_at, is_held, is_full, is_complete, with_entries, released, begun_after, grown_after}
+use Rattle.slot_views.specs.Traces.{if_incomplete}
 use Rattle.n2k_id.specs.declared.header.Parts.{Parts}
 use Rattle.iso_transport.specs.declared.connection.Cm.{Cm}
 use Rattle.iso_transport.specs.declared.connection.Cm.TheVariants.{Rts, Cts, EndAck, Bam, Abort}
@@ -23,7 +24,7 @@ use Rattle.iso_transport.specs.Audience.{is_data, key_of, bears}
 use Rattle.iso_transport.specs.IsoRuns.{number_of, end_of}
 use Rattle.iso_transport.specs.Verdicts.{pgn_in, left_of, is_again, VerdictFits, packet_verdict, kind_verdict, management_verdict, frame_verdict}
 use Rattle.iso_transport.specs.Assembly.{opening, is_crowded, part_to, fed_by, verdict_of, fed_after}
-use Rattle.iso_transport.specs.Told.{if_incomplete, verdict_on, left_by}
+use Rattle.iso_transport.specs.Told.{verdict_on, left_by}
 use Rattle.iso_transport.specs.Joining.{concerns, IsMap, Changes, piece_of, FeedsItsKey, EndsTheFirst, OrdersKeys}
 use Rattle.iso_transport.proofs.Verdicts.{full_where, management_fits}
 use Rattle.iso_transport.proofs.Maps.{IsApart, ordered_removed, removed_here, removed_other, set_here, set_other, ordered_set, inserted_here, inserted_other, ordered_inserted, length_removed, length_removed_held, length_set, length_inserted, found, none_found, none_passes}

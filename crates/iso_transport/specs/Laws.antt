@@ -1,12 +1,13 @@
 -- What is promised of messages of the transport protocol.
-use Rattle.std.specs.Prelude.{◌≡◌, ℕ, ◌≤◌, Bool, true, false, List, [], ◌∷◌, length, Option, Some, None}
+use Rattle.std.specs.Prelude.{◌≡◌, ℕ, ◌≤◌, Bool, true, false, List, ◌∷◌, length, Option, Some, None}
 use Rattle.std.specs.List.{AllByRecursion}
 use Rattle.slot_views.specs.Slots.{Entry}
+use Rattle.slot_views.specs.Traces.{Filling, left_at, entry_after}
 use Rattle.runs.specs.Runs.{open_of, open_at, run_of}
 use Rattle.iso_transport.specs.Audience.{bears}
 use Rattle.iso_transport.specs.IsoRuns.{IsoPiece, iso_rules, session_of, payload}
 use Rattle.iso_transport.specs.Answers.{reply_by}
-use Rattle.iso_transport.specs.Told.{told, reply_to, message_of, verdict_on, left_by, left_at, completed_by, assembly_at}
+use Rattle.iso_transport.specs.Told.{told, reply_to, message_of, verdict_on, left_by, completed_by, assembly_at}
 
 -- a frame of a trace: one of at most 8 bytes that can open, extend or end a session
 pub record IsOfTrace (addressed : Bool) (x : IsoPiece) : Type 0 where
@@ -16,10 +17,13 @@ pub record IsOfTrace (addressed : Bool) (x : IsoPiece) : Type 0 where
 abbrev pub IsTrace : Bool → List IsoPiece → Type 0
 IsTrace addressed h = AllByRecursion (IsOfTrace addressed) h
 
+-- frames fill sessions
+abbrev pub filling : Bool → Filling IsoPiece
+filling addressed = record { moment = λ x. x.moment; admitted = λ x. x.admitted; step = λ o x. left_by addressed (verdict_on addressed o x) x o }
+
 -- the session of a key after the frames of its trace
-unfoldable pub assembly_after : Bool → List IsoPiece → Option Entry
-assembly_after addressed [] = None
-assembly_after addressed (x ∷ h) = let o = left_at (assembly_after addressed h) x.moment in left_by addressed (verdict_on addressed o x) x o
+abbrev pub assembly_after : Bool → List IsoPiece → Option Entry
+assembly_after addressed h = entry_after (filling addressed) h
 
 -- the session of a trace is that of the prefix that is open in it: one more frame, or a later moment, does to the one what it does
 -- to the other

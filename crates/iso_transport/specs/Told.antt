@@ -1,6 +1,7 @@
 -- What a frame is to its key, said twice: by the frames of the run that is open, and by the session that stands for it.
 use Rattle.std.specs.Prelude.{ℕ, ◌+◌, ◌-◌, ◌%◌, Bool, true, false, not, ◌==◌, nat_lt, min, if◌then◌else◌, List, [], ◌∷◌, length, Option, Some, None, option_map}
-use Rattle.slot_views.specs.Slots.{Entry, is_complete, is_expired}
+use Rattle.slot_views.specs.Slots.{Entry, is_complete}
+use Rattle.slot_views.specs.Traces.{if_incomplete}
 use Rattle.iso_transport.specs.declared.answers.IsoRefusal.TheVariants as refusal
 use Rattle.iso_transport.specs.declared.session.Session.{Session}
 use Rattle.iso_transport.specs.declared.verdict.Verdict.{Verdict}
@@ -84,10 +85,7 @@ message_of (Some acc) = Some (record { pgn = pgn_of acc; bytes = payload acc })
 abbrev pub verdict_on : Bool → Option Entry → IsoPiece → Verdict
 verdict_on addressed o x = frame_verdict addressed (not x.admitted) o x.packet x.bytes
 
--- what it leaves of it, and what a later moment does
-abbrev pub if_incomplete : Entry → Option Entry
-if_incomplete e = if is_complete e then None else Some e
-
+-- what it leaves of it
 abbrev pub extended_by : Bool → Session → ℕ → ℕ → IsoPiece → Option Entry → Option Entry
 extended_by addressed s number end x None = None
 extended_by addressed s number end x (Some e) = if_incomplete (extended addressed s number end x.bytes x.moment e)
@@ -99,10 +97,6 @@ left_by addressed (Refused reason reply) x o = o
 left_by addressed (Ends reason reply) x o = None
 left_by addressed (Opens s old) x o = if x.admitted then if_incomplete (opening addressed s x.moment) else None
 left_by addressed (Next s number end) x o = extended_by addressed s number end x o
-
-abbrev pub left_at : Option Entry → ℕ → Option Entry
-left_at None m = None
-left_at (Some e) m = if is_expired m e then None else Some e
 
 -- the message that it completes
 abbrev pub completed_entry : Session → Entry → Option Message

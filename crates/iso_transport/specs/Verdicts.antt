@@ -1,7 +1,6 @@
 -- What a frame is to the session of its key.
 use Rattle.std.specs.Cmp.Lexicographic.{pointwise}
 use Rattle.std.specs.Prelude.{◌≡◌, ℕ, ◌-◌, ◌≤◌, Bool, false, ◌&&◌, ◌||◌, ◌==◌, nat_eq, nat_le, nat_lt, if◌then◌else◌, List, ◌∷◌, length, drop, Option, Some, None, option_map}
-use Rattle.slot_views.specs.declared.answers.Kept.{Kept}
 use Rattle.slot_views.specs.Slots.{Entry}
 use Rattle.n2k_id.specs.declared.header.Parts.{Parts}
 use Rattle.iso_transport.specs.declared.connection.Cm.{Cm}
@@ -14,10 +13,6 @@ use Rattle.iso_transport.specs.Cm.{cm_of}
 use Rattle.iso_transport.specs.Sessions.{is_size, announced, abort_to, session_at}
 use Rattle.iso_transport.specs.IsoRuns.{number_of, end_of}
 use Rattle.iso_transport.specs.Audience.{is_to, is_management, is_data, key_of}
-
--- a session by what is told of it; when its last frame came plays no part in what the next one is
-abbrev pub as_entry : Kept → List ℕ → Entry
-as_entry kept held = record { bytes = held; next = kept.next; need = kept.need; last = 0; gap = 0; mark = kept.mark }
 
 -- the message of a session, and how many of its bytes are still to come
 abbrev pub session_in : Entry → Session

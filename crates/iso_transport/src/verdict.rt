@@ -1,5 +1,6 @@
 //! What a frame is to the session of its key.
 ghost use Rattle.std.specs.Prelude.{◌≡◌, ◌≤◌, []};
+ghost use Rattle.slot_views.specs.Answers.{as_entry};
 ghost use Rattle.iso_transport.specs.Sessions as sessions;
 ghost use Rattle.iso_transport.specs.Audience as audience;
 ghost use Rattle.iso_transport.specs.Verdicts as verdicts;
@@ -157,7 +158,7 @@ fn abort_to(addressed: bool, reason: u8, pgn: u32) -> Option<Reply>
 
 /// What a packet is to a session that is open, by what is kept of it and its bytes so far.
 pub(crate) fn packet_verdict(addressed: bool, kept: Kept, held: &[u8], bytes: &[u8]) -> Verdict
-    ensures { result ≡ verdicts.packet_verdict addressed (Some (verdicts.as_entry kept held.now)) bytes.now }
+    ensures { result ≡ verdicts.packet_verdict addressed (Some (as_entry kept held.now)) bytes.now }
 {
     let session = Session::of_mark(kept.mark);
     let left = usize::from(session.size).saturating_sub(held.len());
@@ -178,7 +179,7 @@ pub(crate) fn packet_verdict(addressed: bool, kept: Kept, held: &[u8], bytes: &[
 
 // Whether the packet is the last one again, where that isn't the last one of the message.
 fn is_again(kept: Kept, held: &[u8], bytes: &[u8]) -> bool
-    ensures { result ≡ verdicts.is_again (verdicts.as_entry kept held.now) bytes.now }
+    ensures { result ≡ verdicts.is_again (as_entry kept held.now) bytes.now }
 {
     if bytes.len() != 8 || kept.next < 2 || kept.next >= kept.need {
         return false;

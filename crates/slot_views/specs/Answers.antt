@@ -1,5 +1,5 @@
 -- What the answers say of the map before the call.
-use Rattle.std.specs.Prelude.{◌≡◌, ◌≢◌, ℕ, true, false, length, None, IsSomeAnd}
+use Rattle.std.specs.Prelude.{◌≡◌, ◌≢◌, ℕ, true, false, List, length, None, IsSomeAnd}
 use Rattle.std.specs.declared.cmp.Ordering.{Ordering}
 use Rattle.slot_views.specs.declared.answers.Begun.{Begun}
 use Rattle.slot_views.specs.declared.answers.Begun.TheVariants.{Full, Held as BegunHeld, Complete as BegunComplete}
@@ -22,6 +22,10 @@ ended_of e = record { key = e.0; mark = e.1.mark }
 -- what `kept` tells of an entry
 abbrev pub kept_of : Entry → Kept
 kept_of e = record { next = e.next; need = e.need; length = length e.bytes; mark = e.mark }
+
+-- an entry by what `kept` tells of it and its bytes; when its last piece came plays no part in what the next one is to it
+abbrev pub as_entry : Kept → List ℕ → Entry
+as_entry kept held = record { bytes = held; next = kept.next; need = kept.need; last = 0; gap = 0; mark = kept.mark }
 
 module _ {K : Type 0} (cmp : K → K → Ordering) (s : SlotMap K) (k : K) where
   -- `begin`, with the entry as it opens

@@ -1,7 +1,6 @@
 -- A block that is written is in the grammar.
 use Rattle.std.proofs.Common.{◌≡◌, ℕ, ◌+◌, ◌-◌, ◌*◌, ◌/◌, ◌%◌, ◌<◌, ◌≤◌, true, List, [], ◌∷◌, take, drop, All, Option, Some, None, refl, sym, ap, subst, ◌∙◌, arith, rules}
 use Rattle.std.specs.Prelude.{IfSome, option_map}
-use Rattle.std.specs.Char.{digit_value}
 use Rattle.std.specs.Fmt.{decimal}
 use Rattle.std.specs.List.{list_all, fold, flat_map}
 use Rattle.std.proofs.lemmas.Bool.{and_from}
@@ -17,8 +16,9 @@ use Rattle.tag_block.specs.declared.group_part.GroupPart.{GroupPart}
 use Rattle.tag_block.specs.declared.writing.TagParts.{TagParts}
 use Rattle.tag_block.specs.Bytes.{is_value_byte}
 use Rattle.tag_block.specs.Numbers.{number, IsNumber}
+use Rattle.sentence_text.proofs.Spelling.{digit_value-capital_digit}
 use Rattle.tag_block.specs.Tag.{Parameter, IsParameter, content, xor_of, IsBlock, block_text, parameters, Standing, stands, nothing, standing, IsTag, IsGroupOf, IsCountOf}
-use Rattle.tag_block.specs.Writing.{IsWritable, IsWritableGroup, group_parameter, source_parameter, count_parameter, capital_digit, summed, block_with, block_of, said_by}
+use Rattle.tag_block.specs.Writing.{IsWritable, IsWritableGroup, group_parameter, source_parameter, count_parameter, summed, block_with, block_of, said_by}
 
 own : IsNumeralModel (λ ds. list_all is_digit ds ≡ true) number
 own = numerals_by_fold (λ ds. list_all is_digit ds ≡ true) (search rules) (λ n ds. fold (λ m c. m * 10 + (c - 48)) n ds) (search rules)
@@ -42,9 +42,6 @@ decimal_is_value n small = all_weaker is_digit is_value_byte digit_is_value (dec
 
 one_digit_value : (n : ℕ) → n ≤ 9 → is_value_byte (48 + n) ≡ true
 one_digit_value n small = grind arith
-
-digit_value-capital_digit : (n : ℕ) → n < 16 → digit_value (capital_digit n) ≡ n
-digit_value-capital_digit n small = grind arith
 
 sfi_is_value : (text : List ℕ) → IsSfi text → list_all is_value_byte text ≡ true
 sfi_is_value text h =

@@ -1,8 +1,9 @@
 -- What TAG blocks of IEC 61162-450 are, as a relation between what they say and all of their bytes.
-use Rattle.std.specs.Prelude.{◌≡◌, ℕ, ◌+◌, ◌*◌, ◌<◌, ◌≤◌, ◌≢◌, Bool, ◌&&◌, ◌==◌, List, [], ◌∷◌, ◌++◌, length, take, drop, slice_index, All, Option, Some, None, IsTrue, bit_xor, if◌then◌else◌}
+use Rattle.std.specs.Prelude.{◌≡◌, ℕ, ◌+◌, ◌*◌, ◌<◌, ◌≤◌, ◌≢◌, Bool, ◌&&◌, ◌==◌, List, [], ◌∷◌, ◌++◌, length, take, drop, slice_index, All, Option, Some, None, IsTrue, if◌then◌else◌}
 use Rattle.std.specs.List.{fold, flat_map, list_all}
 use Rattle.std.specs.Char.{digit_value}
 use Rattle.sentence_text.specs.Names.{IsSfi}
+pub use Rattle.sentence_text.specs.Sentence.{xor_of}
 use Rattle.tag_block.specs.declared.group_part.GroupPart.{GroupPart}
 use Rattle.tag_block.specs.Bytes.{is_code_byte, is_value_byte}
 use Rattle.tag_block.specs.Numbers.{IsNumber, IsGroupText}
@@ -30,9 +31,6 @@ pub record Block : Type 0 where
   pub others : List Parameter
   pub high : ℕ
   pub low : ℕ
-
-abbrev pub xor_of : List ℕ → ℕ
-xor_of bytes = fold bit_xor 0 bytes
 
 -- the sum goes over the bytes between the first `\` and `*`; its digits are of either case
 pub record IsBlock (b : Block) : Type 0 where

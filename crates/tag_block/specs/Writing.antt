@@ -1,6 +1,7 @@
 -- The one TAG block that is written of a group, a source and a count.
-use Rattle.std.specs.Prelude.{ℕ, ◌+◌, ◌/◌, ◌%◌, ◌≤◌, List, [], ◌∷◌, nat_lt, Option, Some, None, IfSome, if◌then◌else◌}
+use Rattle.std.specs.Prelude.{ℕ, ◌+◌, ◌/◌, ◌%◌, ◌≤◌, List, [], ◌∷◌, Option, Some, None, IfSome}
 use Rattle.std.specs.Fmt.{decimal}
+pub use Rattle.sentence_text.specs.Sentence.{capital_digit}
 use Rattle.tag_block.specs.declared.group_part.GroupPart.{GroupPart}
 use Rattle.tag_block.specs.declared.writing.TagParts.{TagParts}
 use Rattle.tag_block.specs.Tag.{Parameter, Block, content, xor_of, Said}
@@ -28,9 +29,6 @@ source_parameter source = record { code = 115 ∷ []; value = source }
 
 abbrev pub count_parameter : ℕ → Parameter
 count_parameter count = record { code = 110 ∷ []; value = decimal count }
-
-abbrev pub capital_digit : ℕ → ℕ
-capital_digit n = if nat_lt n 10 then 48 + n else 55 + n
 
 abbrev pub summed : Parameter → List Parameter → Block
 summed first others = let sum = xor_of (content first others) in
