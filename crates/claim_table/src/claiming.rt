@@ -25,6 +25,9 @@ impl ClaimTable {
     /// The NAME leaves the address that it held. Of two NAMEs that claim one address, the smaller
     /// number has it: the gateway defends its address against a greater one and gives way to a
     /// smaller one (ISO 11783-5).
+    ///
+    /// The address is 0 to 254, and 254 says that the NAME can claim none; the index is at least that
+    /// of every claim before.
     pub fn claim(&mut self, address: u8, name: Name, index: u64, moment: u64) -> ClaimStep
         requires address { address < 255 }
         requires latest { All (IsSinceBy index) self.old.holders }

@@ -75,7 +75,7 @@ impl ClaimTable {
         }
     }
 
-    /// The moment from which readiness is counted.
+    /// Sets the moment, in microseconds, from which readiness is counted.
     pub fn start(&mut self, moment: u64)
         ensures { self.new ≡ started self.old moment }
     {

@@ -11,7 +11,7 @@ pub enum FastRefusal {
     Orphan,
     /// No byte, a length of 0 or above 223, or fewer bytes than the frame owes. An open assembly ended.
     Length,
-    /// A frame 0 while as many assemblies are open as the limit.
+    /// A frame 0 whose key has no assembly open, while as many are open as the limit. Nothing changed.
     Full,
 }
 

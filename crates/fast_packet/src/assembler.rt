@@ -52,7 +52,8 @@ impl FastAssembler {
         Ok(FastAssembler { slots })
     }
 
-    /// Takes a frame of the PGN from the source.
+    /// Takes a frame of the PGN from the source. `moment` is in microseconds. What is overdue at it has to be ended first
+    /// (`expire_one`): this call looks at no gap.
     pub fn feed<'a>(&'a mut self, source: u8, pgn: u32, frame: &Frame, moment: u64) -> FastFed<'a>
         requires { IsFrame frame.now }
         ensures* after { sem 𝓛 (ends_as self.entry (fed_after ⟦<FastKey as Ord>⟧.cmp self.old (record { source = source; pgn = pgn }) (held_bytes frame.now) moment)) }

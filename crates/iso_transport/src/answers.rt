@@ -13,7 +13,7 @@ pub enum IsoRefusal {
     Order,
     /// A packet whose session isn't open.
     Orphan,
-    /// An opener of this message while as many sessions are open as the limit.
+    /// An opener of this message whose key has no session open, while as many are open as the limit. Nothing changed.
     Full(u32),
     /// The sender aborted the session of this message, which ended.
     Aborted(u32),

@@ -58,6 +58,9 @@ impl IsoAssembler {
     }
 
     /// Takes a frame of the transport protocol: PGN 60416 or 60160, to any node. `own` is this node's address, where it has one.
+    /// An RTS to this node is given only while the node may answer.
+    ///
+    /// `moment` is in microseconds. What is overdue at it has to be ended first (`expire_one`): this call looks at no gap.
     #[tactic(auto, using(crate::proofs::Verdicts::tells_small))]
     pub fn feed<'a>(
         &'a mut self,

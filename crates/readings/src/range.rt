@@ -32,52 +32,52 @@ impl Range {
     }
 }
 
-/// Headings, courses and the angle of the wind: once round.
+/// Headings, courses and the angle of the wind: once round, in 1e-4 radian.
 pub const ANGLE: Range = Range {
     low: 0,
     high: 62_832,
 };
 
-/// Deviation and variation: half a turn to either side.
+/// Deviation and variation: half a turn to either side, in 1e-4 radian.
 pub const DEVIATION: Range = Range {
     low: -31_416,
     high: 31_416,
 };
 
-/// The rate of turn.
+/// The rate of turn, in 1/32,000,000 rad/s.
 pub const RATE_OF_TURN: Range = Range {
     low: -930_842_268,
     high: 930_842_268,
 };
 
-/// A rudder: a quarter turn to either side.
+/// A rudder: a quarter turn to either side, in 1e-4 radian.
 pub const RUDDER: Range = Range {
     low: -15_708,
     high: 15_708,
 };
 
-/// Speeds of ship and wind.
+/// Speeds of ship and wind, in 0.01 m/s.
 pub const SPEED: Range = Range {
     low: 0,
     high: 65_532,
 };
 
-/// The depth below the transducer.
+/// The depth below the transducer, in 0.01 m.
 pub const DEPTH: Range = Range {
     low: 0,
     high: 1_200_000,
 };
 
-/// The transducer's offset.
+/// The transducer's offset, in 0.001 m.
 pub const OFFSET: Range = Range {
     low: -32_764,
     high: 32_764,
 };
 
-/// The range of the depth scale.
+/// The range of the depth scale, in 10 m.
 pub const DEPTH_SCALE: Range = Range { low: 0, high: 252 };
 
-/// Total and trip distance through the water.
+/// Total and trip distance through the water, in metres.
 pub const WATER_DISTANCE: Range = Range {
     low: 0,
     high: 3_704_000_000,
@@ -101,7 +101,7 @@ pub const DATE: Range = Range {
     high: 65_532,
 };
 
-/// The time of day, without leap seconds.
+/// The time of day, without leap seconds, in 1e-4 second.
 pub const TIME: Range = Range {
     low: 0,
     high: 863_999_999,
@@ -119,7 +119,7 @@ pub const FIX_LONGITUDE: Range = Range {
     high: 1_800_000_000_000_000_000,
 };
 
-/// Altitude of a satellite fix.
+/// Altitude of a satellite fix, in 1e-6 m.
 pub const ALTITUDE: Range = Range {
     low: -9_999_900_000,
     high: 9_999_900_000,
@@ -131,25 +131,25 @@ pub const METHOD: Range = Range { low: 0, high: 8 };
 /// Number of satellites.
 pub const SATELLITES: Range = Range { low: 0, high: 252 };
 
-/// Horizontal dilution of precision.
+/// Horizontal dilution of precision, in hundredths.
 pub const HDOP: Range = Range {
     low: 0,
     high: 9_999,
 };
 
-/// The geoid's height above the ellipsoid.
+/// The geoid's height above the ellipsoid, in 0.01 m.
 pub const SEPARATION: Range = Range {
     low: -99_990,
     high: 99_990,
 };
 
-/// Temperature of the sea, from -100 to 100 degrees Celsius.
+/// Temperature of the sea, from -100 to 100 degrees Celsius, in 0.001 K.
 pub const KELVIN: Range = Range {
     low: 173_150,
     high: 373_150,
 };
 
-/// Distance from the track.
+/// Distance from the track, in 0.01 m.
 pub const CROSS_TRACK: Range = Range {
     low: -18_520_000,
     high: 18_520_000,

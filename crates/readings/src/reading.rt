@@ -26,12 +26,12 @@ pub enum Reading {
         rate: Option<i64>,
     },
 
-    /// The angle of the only rudder, or of the first one.
+    /// The angle of the only rudder, or of the first one; below zero it is to port.
     RudderFirst {
         position: Option<i64>,
     },
 
-    /// The angle of the second rudder.
+    /// The angle of the second rudder; below zero it is to port.
     RudderSecond {
         position: Option<i64>,
     },

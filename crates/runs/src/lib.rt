@@ -7,12 +7,14 @@
 ghost use Rattle.runs.specs.Runs.{Rules, IsLawful};
 ghost use Rattle.runs.specs.Laws.{OneStep, OneSuffix};
 
-/// One more piece, or a later moment, does to the open prefix what the rules say of the pieces accepted so far alone.
+/// One more piece, or a later moment, does to the open prefix what the rules say of the pieces accepted so far alone. So it is by
+/// rules whose openers are neither the next piece nor a repeat, and by which neither comes after a whole run (`IsLawful`).
 pub fn one_step<P>(_pieces: &[P])
     ensures { (rules : Rules P) → IsLawful rules → OneStep rules }
 {}
 
-/// Among the pieces of one sender at most one prefix is open, and at most one run ends with the newest piece.
+/// Among the pieces of one sender at most one prefix is open, and at most one run ends with the newest piece. So it is by rules
+/// whose openers are neither the next piece nor a repeat, and by which neither comes after a whole run (`IsLawful`).
 pub fn one_suffix<P>(_pieces: &[P])
     ensures { (rules : Rules P) → IsLawful rules → OneSuffix rules }
 {}

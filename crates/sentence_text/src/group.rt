@@ -42,6 +42,7 @@ impl Group {
         }
     }
 
+    /// Its four characters.
     pub fn as_bytes(&self) -> &[u8; 4]
         ensures text { result.now ≡ self.now }
         ensures form { IsGroup self.now }

@@ -42,6 +42,7 @@ impl Sfi {
         }
     }
 
+    /// Its six characters.
     pub fn as_bytes(&self) -> &[u8; 6]
         ensures text { result.now ≡ self.now }
         ensures form { IsSfi self.now }

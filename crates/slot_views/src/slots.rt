@@ -49,6 +49,9 @@ impl<K: Copy + Ord, const CAP: usize, const PIECE: usize> Slots<K, CAP, PIECE> {
 
     /// Opens an entry at the key with its first piece, in the place of the one that is held there. `need` is the number of pieces,
     /// `moment` that of this piece, `gap` how long the next one may take, `mark` a number of the caller's own.
+    ///
+    /// `need` is at least 1, the piece at most `PIECE` bytes, and `need` pieces of `PIECE` bytes fit `CAP`; moments and gaps are in
+    /// one unit.
     pub fn begin<'a>(
         &'a mut self,
         key: K,

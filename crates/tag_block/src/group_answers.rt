@@ -11,7 +11,7 @@ pub enum GroupOutcome<'a> {
     Complete(View<'a>),
     /// It isn't the first line of a group, nor the next one of an open group with its total. An open group of its key ended.
     Order,
-    /// It is the first line of a group, and as many groups are open as the limit.
+    /// It is the first line of a group whose key has none open, while as many are open as the limit. Nothing changed.
     Full,
 }
 

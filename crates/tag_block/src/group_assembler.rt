@@ -53,7 +53,10 @@ impl GroupAssembler {
         Ok(GroupAssembler { slots })
     }
 
-    /// Takes a line of a group: who sent it, its place in the group, and its sentence.
+    /// Takes a line of a group: who sent it, its place in the group, and its sentence. The total is 2 to 9, the number 1 to the
+    /// total, the sentence at most 120 bytes.
+    ///
+    /// `moment` is in microseconds. What is overdue at it has to be ended first (`expire_one`): this call looks at no gap.
     pub fn feed<'a>(
         &'a mut self,
         sfi: Sfi,

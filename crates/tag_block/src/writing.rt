@@ -142,6 +142,8 @@ fn block(parts: &TagParts) -> Text
 
 /// Appends one TAG block: the group where there is one, the source and the count. Says whether it fitted; if not,
 /// nothing is appended.
+///
+/// The number is 1 to the total, the total 2 to 9, the code 1 to 99, and the count 1 to 999.
 pub fn write(parts: &TagParts, out: &mut Packet) -> bool
     requires { IsWritable parts.now }
     ensures fits { IsTrue result ↔ (array_vec_len out.old + length (block_text (block_of parts.now)) ≤ 512) }
