@@ -52,13 +52,6 @@ module _ {X : Type 0} (r : Rules X) where
   accepted (x ∷ []) = if r.opens x then Some (x ∷ []) else None
   accepted (x ∷ y ∷ ys) = accepted_after (accepted (y ∷ ys)) x
 
-  abbrev pub is_prefix : List X → Bool
-  is_prefix p = is_some (accepted p)
-    where
-      is_some : Option (List X) → Bool
-      is_some None = false
-      is_some (Some acc) = true
-
   -- a prefix of h at its end, with these pieces accepted, whose opener was admitted, and that isn't whole; the moment is in time
   pub record IsOpen (h : List X) (m : ℕ) (p acc : List X) : Type 0 where
     pub older : List X
