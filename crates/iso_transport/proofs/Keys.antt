@@ -7,7 +7,7 @@ use Rattle.std.specs.BTreeMap.{is_at}
 use Rattle.std.specs.declared.cmp.Ordering.{Ordering}
 use Rattle.runs.specs.Runs.{open_at, run_of}
 use Rattle.slot_views.specs.Slots.{Entry, SlotMap, IsOrdered, is_full, entry_at, released, begun_after, grown_after}
-use Rattle.slot_views.specs.Traces.{Filling, left_at as entry_left_at, entry_after, if_incomplete, grown_entry, unexpired, now_of, pieces_at, keys_in, other_open_keys as other_open_entries, open_keys as open_entries, IsNoted as AreNoted, IsStep, map_after}
+use Rattle.slot_views.specs.Traces.{Filling, left_at, entry_after, if_incomplete, grown_entry, unexpired, now_of, pieces_at, keys_in, other_open_keys as other_open_entries, open_keys as open_entries, IsNoted as AreNoted, IsStep, map_after}
 use Rattle.slot_views.proofs.Keeping.{Keeps, same_keeps, released_keeps, released_here, begun_keeps, begun_here, grown_keeps, grown_here}
 use Rattle.slot_views.proofs.Traces.{joined, joined_before, noted_room}
 use Rattle.n2k_id.specs.declared.header.Parts.{Parts}
@@ -28,7 +28,7 @@ use Rattle.iso_transport.specs.IsoRuns.{IsoPiece, number_of, end_of, session_of,
 use Rattle.iso_transport.specs.Verdicts.{VerdictFits, opener_verdict, abort_verdict, kind_verdict, frame_verdict}
 use Rattle.iso_transport.specs.Assembly.{opening, extended, part_to, is_crowded, fed_by, verdict_of, fed_after}
 use Rattle.iso_transport.specs.Answers.{restarted_by, reply_by, NextGives, OutcomeBy, FeedGives}
-use Rattle.iso_transport.specs.Told.{Message, pgn_of, left_of_run, packet_told, told, message_of, verdict_on, extended_by, left_by, left_at, completed_by, completed_with, assembly_at}
+use Rattle.iso_transport.specs.Told.{Message, pgn_of, left_of_run, packet_told, told, message_of, verdict_on, extended_by, left_by, completed_by, completed_with, assembly_at}
 use Rattle.iso_transport.specs.Laws.{IsOfTrace, IsTrace, assembly_after}
 use Rattle.iso_transport.specs.Joining.{concerns}
 use Rattle.iso_transport.specs.Keys.{is_open_at, given_up, OutcomeIs, AnswerIs, open_keys, other_open_keys, IsNoted, sessions_after, AreFed, sessions, AllFollow, AllAnswered}
@@ -129,29 +129,25 @@ module _ {cmp : IsoKey → IsoKey → Ordering} (o : IsTotalOrder cmp) where
   }
 
 -- ---- what such frames make of the session of one key
-left_same : (e : Option Entry) (m : ℕ) → entry_left_at e m ≡ left_at e m
-left_same None m = refl
-left_same (Some e) m = refl
-
 entry_is : (a : Bool) (p : List IsoPiece) → entry_after filling (all_of_kind a p) ≡ assembly_after a p
-unfolding entry_after assembly_after
+unfolding entry_after
 entry_is a [] = refl
 entry_is a (x ∷ p) =
-    let before : entry_left_at (entry_after filling (all_of_kind a p)) x.moment ≡ left_at (assembly_after a p) x.moment =
-    ap (λ e. entry_left_at e x.moment) (entry_is a p) ∙ left_same (assembly_after a p) x.moment in
+    let before : left_at (entry_after filling (all_of_kind a p)) x.moment ≡ left_at (assembly_after a p) x.moment =
+    ap (λ e. left_at e x.moment) (entry_is a p) in
     ap (λ e. left_by a (verdict_on a e x) x e) before
 
-left_is : (a : Bool) (p : List IsoPiece) (m : ℕ) → IsTrace a p → entry_left_at (entry_after filling (all_of_kind a p)) m ≡ assembly_at a (open_at (iso_rules a) p m)
+left_is : (a : Bool) (p : List IsoPiece) (m : ℕ) → IsTrace a p → left_at (entry_after filling (all_of_kind a p)) m ≡ assembly_at a (open_at (iso_rules a) p m)
 left_is a p m trace =
-    ap (λ e. entry_left_at e m) (entry_is a p)
-    ∙ (left_same (assembly_after a p) m ∙ (ap (λ e. left_at e m) ((follows_runs a).all p trace) ∙ (follows_runs a).later p m))
+    ap (λ e. left_at e m) (entry_is a p)
+    ∙ (ap (λ e. left_at e m) ((follows_runs a).all p trace) ∙ (follows_runs a).later p m)
 
 some_same : (a : Bool) (q : Option (List IsoPiece)) → Standing a q → is_some (assembly_at a q) ≡ is_some q
 some_same a None stands = refl
 some_same a (Some []) stands = absurd stands
 some_same a (Some (y ∷ ys)) stands = refl
 
-some_is : (a : Bool) (p : List IsoPiece) (m : ℕ) → IsTrace a p → is_some (entry_left_at (entry_after filling (all_of_kind a p)) m) ≡ is_some (open_at (iso_rules a) p m)
+some_is : (a : Bool) (p : List IsoPiece) (m : ℕ) → IsTrace a p → is_some (left_at (entry_after filling (all_of_kind a p)) m) ≡ is_some (open_at (iso_rules a) p m)
 some_is a p m trace = ap is_some (left_is a p m trace) ∙ some_same a (open_at (iso_rules a) p m) (standing_by a p m _ trace refl)
 
 -- what passes two tests that agree
@@ -161,7 +157,7 @@ filtered_same p q same (x ∷ xs) = rw (same x, filtered_same p q same xs) refl
 
 -- the frames leave a session open
 abbrev leaves_open : List Kinded → ℕ → Bool
-leaves_open p m = is_some (entry_left_at (entry_after filling p) m)
+leaves_open p m = is_some (left_at (entry_after filling p) m)
 
 module _ {cmp : IsoKey → IsoKey → Ordering} (o : IsTotalOrder cmp) (same : (k x : IsoKey) → is_at (cmp k) x ≡ true → x ≡ k) where
   trace_at : (k : IsoKey) (h : List (IsoKey × IsoPiece)) → AllByRecursion (λ n. IsOfTrace n.0.addressed n.1) h → IsTrace k.addressed (pieces_at cmp k h)
@@ -203,8 +199,8 @@ module _ {cmp : IsoKey → IsoKey → Ordering} (o : IsTotalOrder cmp) (same : (
 
   -- the keys that are open
   module _ (h : List (IsoKey × IsoPiece)) (valid : AllByRecursion (λ n. IsOfTrace n.0.addressed n.1) h) (m : ℕ) where
-    left_at_key : (k : IsoKey) → entry_left_at (entry_after filling (pieces_at cmp k (kinded h))) m ≡ assembly_at k.addressed (open_at (iso_rules k.addressed) (pieces_at cmp k h) m)
-    left_at_key k = ap (λ p. entry_left_at (entry_after filling p) m) (pieces_are k h) ∙ left_is k.addressed (pieces_at cmp k h) m (trace_at k h valid)
+    left_at_key : (k : IsoKey) → left_at (entry_after filling (pieces_at cmp k (kinded h))) m ≡ assembly_at k.addressed (open_at (iso_rules k.addressed) (pieces_at cmp k h) m)
+    left_at_key k = ap (λ p. left_at (entry_after filling p) m) (pieces_are k h) ∙ left_is k.addressed (pieces_at cmp k h) m (trace_at k h valid)
 
     open_is : (k : IsoKey) → leaves_open (pieces_at cmp k (kinded h)) m ≡ is_open_at k (pieces_at cmp k h) m
     open_is k = ap (λ p. leaves_open p m) (pieces_are k h) ∙ some_is k.addressed (pieces_at cmp k h) m (trace_at k h valid)
