@@ -14,8 +14,8 @@ pub record AreSettings (c : Settings) : Type 0 where
   pub apart : repeats c.presets ≡ false
   pub others : takes c.name c.address c.presets ≡ false
 
--- no NAME has two addresses, the own address has no other holder and the own NAME none besides it; and each holder, and the gateway
--- its own address, has it since an entry of the history
+-- no NAME has two addresses, the own address has no other holder and the own NAME none besides it; and no index since which a holder
+-- has its address, or the gateway its own, is greater than n
 pub record AreSound (k : Known) (n : ℕ) : Type 0 where
   pub sound : IsSound k.claims
   pub dated : All (IsSinceBy n) k.claims.holders

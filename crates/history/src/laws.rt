@@ -89,8 +89,8 @@ pub fn devices_are_isolated_in_two()
     ensures { IsolationOfTwo }
 {}
 
-/// At no moment are more messages of fast packets, sessions of the transport protocol or groups of lines open than the configuration
-/// has room for.
+/// From the last entry of a history on, whose moments don't go back, no more messages of fast packets, sessions of the transport
+/// protocol and groups of lines are open than the configuration has room for.
 pub fn open_keys_keep_the_limits()
     ensures fast { FastWithinLimit }
     ensures iso { IsoWithinLimit }
