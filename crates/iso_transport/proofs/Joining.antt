@@ -9,7 +9,7 @@ use Rattle.std.specs.Map.{remove_entry}
 use Rattle.std.specs.BTreeMap.{is_at}
 use Rattle.slot_views.specs.Slots.{Entry, SlotMap, grown, entry_at, is_held, is_full, is_complete, with_entries, released, begun_after, grown_after}
 use Rattle.slot_views.specs.Traces.{if_incomplete}
-use Rattle.n2k_id.specs.declared.header.Parts.{Parts}
+use Rattle.n2k_id.specs.declared.identifier_parts.Parts.{Parts}
 use Rattle.iso_transport.specs.declared.connection.Cm.{Cm}
 use Rattle.iso_transport.specs.declared.connection.Cm.TheVariants.{Rts, Cts, EndAck, Bam, Abort}
 use Rattle.iso_transport.specs.declared.answers.IsoRefusal.TheVariants as refusal

@@ -10,7 +10,7 @@ use Rattle.slot_views.specs.Slots.{Entry, SlotMap, IsOrdered, is_full, entry_at,
 use Rattle.slot_views.specs.Traces.{Filling, left_at, entry_after, if_incomplete, grown_entry, unexpired, now_of, pieces_at, keys_in, other_open_keys as other_open_entries, open_keys as open_entries, IsNoted as AreNoted, IsStep, map_after}
 use Rattle.slot_views.proofs.Keeping.{Keeps, same_keeps, released_keeps, released_here, begun_keeps, begun_here, grown_keeps, grown_here}
 use Rattle.slot_views.proofs.Traces.{joined, joined_before, noted_room}
-use Rattle.n2k_id.specs.declared.header.Parts.{Parts}
+use Rattle.n2k_id.specs.declared.identifier_parts.Parts.{Parts}
 use Rattle.iso_transport.specs.declared.key.IsoKey.{IsoKey}
 use Rattle.iso_transport.specs.declared.answers.IsoFed.{IsoFed}
 use Rattle.iso_transport.specs.declared.answers.IsoOutcome.{IsoOutcome}

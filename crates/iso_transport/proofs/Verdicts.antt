@@ -3,7 +3,7 @@ use Rattle.std.proofs.Common.{◌≡◌, ℕ, ◌≤◌, ◌&&◌, not, nat_lt, 
 use Rattle.std.proofs.lemmas.Bool.{leb-true}
 use Rattle.std.specs.declared.cmp.Ordering.{Ordering}
 use Rattle.slot_views.specs.Slots.{Entry, SlotMap, entry_at}
-use Rattle.n2k_id.specs.declared.header.Parts.{Parts}
+use Rattle.n2k_id.specs.declared.identifier_parts.Parts.{Parts}
 use Rattle.iso_transport.specs.declared.key.IsoKey.{IsoKey}
 use Rattle.iso_transport.specs.declared.answers.IsoFed.{IsoFed}
 use Rattle.iso_transport.specs.Audience.{key_of}

@@ -1,6 +1,6 @@
 -- Which frames of the transport protocol concern this node, and in which session.
 use Rattle.std.specs.Prelude.{ℕ, Bool, ◌&&◌, ◌||◌, not, ◌==◌, nat_le, List, length, Option, Some, None, false}
-use Rattle.n2k_id.specs.declared.header.Parts.{Parts}
+use Rattle.n2k_id.specs.declared.identifier_parts.Parts.{Parts}
 use Rattle.iso_transport.specs.declared.key.IsoKey.{IsoKey}
 use Rattle.iso_transport.specs.Connection.{control_at}
 

@@ -4,7 +4,7 @@ use Rattle.std.specs.List.{find}
 use Rattle.std.specs.declared.cmp.Ordering.{Ordering}
 use Rattle.std.specs.declared.cmp.Ordering.TheVariants.{Less}
 use Rattle.slot_views.specs.Slots.{Entry, SlotMap, IsOrdered, entry_at, is_full, released, without}
-use Rattle.n2k_id.specs.declared.header.Parts.{Parts}
+use Rattle.n2k_id.specs.declared.identifier_parts.Parts.{Parts}
 use Rattle.iso_transport.specs.declared.key.IsoKey.{IsoKey}
 use Rattle.iso_transport.specs.Audience.{is_to, is_management, is_data, key_of, bears}
 use Rattle.iso_transport.specs.IsoRuns.{IsoPiece}

@@ -7,7 +7,7 @@ use Rattle.std.specs.declared.cmp.Ordering.{Ordering}
 use Rattle.runs.specs.Runs.{open_at, run_of}
 use Rattle.slot_views.specs.Slots.{SlotMap, entry_at}
 use Rattle.slot_views.specs.Traces.{unexpired, now_of, pieces_at, keys_in}
-use Rattle.n2k_id.specs.declared.header.Parts.{Parts}
+use Rattle.n2k_id.specs.declared.identifier_parts.Parts.{Parts}
 use Rattle.iso_transport.specs.declared.key.IsoKey.{IsoKey}
 use Rattle.iso_transport.specs.declared.answers.IsoFed.{IsoFed}
 use Rattle.iso_transport.specs.declared.answers.IsoRefusal.{IsoRefusal}

@@ -1,5 +1,5 @@
 use Rattle.std.proofs.Common.{◌≡◌, ℕ, ◌+◌, ◌-◌, ◌*◌, ◌/◌, ◌%◌, ◌^◌, ◌<◌, Bool, true, false, MatchBool, refl, ◌∙◌, arith}
-use Rattle.n2k_id.specs.declared.header.Parts.{Parts}
+use Rattle.n2k_id.specs.declared.identifier_parts.Parts.{Parts}
 use Rattle.n2k_id.specs.Identifier.{has_destination, parts_at, parts_of, group_of, identifier_of, CanJoin, IsLaidOut}
 
 -- the three parts of an identifier's number

@@ -1,5 +1,5 @@
 use Rattle.std.specs.Prelude.{◌≡◌, ℕ, ◌+◌, ◌-◌, ◌*◌, ◌/◌, ◌%◌, ◌^◌, ◌<◌, Bool, MatchBool, nat_lt, if◌then◌else◌}
-use Rattle.n2k_id.specs.declared.header.Parts.{Parts}
+use Rattle.n2k_id.specs.declared.identifier_parts.Parts.{Parts}
 
 -- From its top a 29-bit identifier holds the priority (3 bits), the extended data page (1), the data
 -- page (1), PF (8), PS (8) and the source (8); the four in the middle are its group.

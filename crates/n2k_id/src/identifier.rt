@@ -1,7 +1,7 @@
 ghost use Rattle.std.specs.Prelude.{◌≡◌, ◌^◌, ◌<◌, ◌↔◌, IsTrue, IsSome, IfSome};
 ghost use Rattle.n2k_id.specs.Identifier.{CanJoin, IsLaidOut, has_destination, group_of, identifier_of, parts_of};
 
-use crate::header::Parts;
+use crate::identifier_parts::Parts;
 
 /// The first number that is no 29-bit identifier.
 pub(crate) const IDENTIFIER_END: u32 = 1 << 29;

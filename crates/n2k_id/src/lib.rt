@@ -3,15 +3,15 @@
 #![tactic(auto)]
 
 mod frame;
-mod header;
 mod identifier;
+mod identifier_parts;
 mod name;
 mod pattern;
 #[cfg(test)]
 mod tests;
 
 pub use frame::Frame;
-pub use header::Parts;
 pub use identifier::{join, parts};
+pub use identifier_parts::Parts;
 pub use name::{Name, NameFields, read_name, write_name};
 pub use pattern::Pattern;
