@@ -3,7 +3,7 @@ use Rattle.std.proofs.lemmas.Bool.{eqb-true, eq-eqb}
 use Rattle.std.proofs.lemmas.Bool.Decides.{nat_tests}
 use Rattle.claim_table.specs.declared.answer.Holder.{Holder}
 use Rattle.claim_table.specs.Cases.{CanGoTo, IsCase, IsOthers, duplicate, cannot_claim, defended, given_up, free, kept, won}
-use Rattle.claim_table.specs.Claims.{Claims, Claim, at_address, at_held, at_other, at_own, claim, holder_at, is_at, is_obeyed, left_by, settled, told, with_released, without_left}
+use Rattle.claim_table.specs.Claims.{Claims, Claim, at_address, at_held, at_other, at_own, claim, holder_at, is_at, is_obeyed, left_by, settled, by_name, with_released, without_left}
 
 pub not_eqb : (a b : ℕ) → (a == b) ≡ false → a ≢ b
 not_eqb a b e same = let equal : (a == b) ≡ true = eq-eqb a b same in cc
@@ -45,14 +45,14 @@ settled_case : (c : Claims) (k : Claim) (b : Bool) → k.name ≢ c.name → (k.
 settled_case c k true n e = cannot_claim n (eqb-true k.address 254 e) refl
 settled_case c k false n e = address_case c k (is_at k.address c.own) (record { name = n; address = not_eqb k.address 254 e }) refl
 
-told_case : (c : Claims) (k : Claim) (b : Bool) → (k.name == c.name) ≡ b → IsCase c k (told c k b)
-told_case c k true e = duplicate (eqb-true k.name c.name e) refl
-told_case c k false e = settled_case c k (k.address == 254) (not_eqb k.name c.name e) refl
+name_case : (c : Claims) (k : Claim) (b : Bool) → (k.name == c.name) ≡ b → IsCase c k (by_name c k b)
+name_case c k true e = duplicate (eqb-true k.name c.name e) refl
+name_case c k false e = settled_case c k (k.address == 254) (not_eqb k.name c.name e) refl
 
 -- each claim is one of the seven cases
 pub claim_case : (c : Claims) (k : Claim) → IsCase c k (claim c k)
 unfolding claim
-claim_case c k = told_case c k (k.name == c.name) refl
+claim_case c k = name_case c k (k.name == c.name) refl
 
 -- three tests tell three facts
 all_three : {P Q R : Type 0} (p q r : Bool) → IsTrue p ↔ P → IsTrue q ↔ Q → IsTrue r ↔ R → IsTrue (p && q && r) ↔ (P × Q × R)

@@ -1,4 +1,5 @@
 pub mod CaseLemmas
+pub mod CappedLemmas
 pub mod FirstFreeLemmas
 pub mod LawLemmas
 pub mod SearchLemmas

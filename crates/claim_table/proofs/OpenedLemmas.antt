@@ -38,7 +38,7 @@ with_preset holders p = set holders p.address (Some (preset_holder p))
 -- a preset that shares nothing with the gateway or a holder keeps a table sound
 with_preset_sound : (c : Claims) (p : Preset) (own : ℕ) → IsSound c → c.own ≡ Some own → ((a : ℕ) (h : Holder) → holder_at c.holders a ≡ Some h → h.name.0 ≢ p.name.0) → p.address ≢ own → p.name.0 ≢ c.name → IsSound (record c { holders = with_preset c.holders p })
 with_preset_sound c p own sound at fresh address name =
-    taken_sound c (claim_of_preset p) c.own c.counted sound (λ b h e n. absurd (fresh b h e n)) name free sound.own_within
+    taken_sound c (claim_of_preset p) c.own c.counted_from sound (λ b h e n. absurd (fresh b h e n)) name free sound.own_within
   where
     free : (b : ℕ) → c.own ≡ Some b → holder_at (with_preset c.holders p) b ≡ None
     free b e =
@@ -72,7 +72,7 @@ nobody_at zero a = refl
 nobody_at (suc n) zero = refl
 nobody_at (suc n) (suc a) = nobody_at n a
 
-empty_sound : (name own n : ℕ) → n ≡ 254 → own < 252 → IsSound (record { name = name; holders = replicate n None; own = Some own; counted = 0 })
+empty_sound : (name own n : ℕ) → n ≡ 254 → own < 252 → IsSound (record { name = name; holders = replicate n None; own = Some own; counted_from = 0 })
 empty_sound name own n e within = record {
   room = length-replicate {A = Option Holder} n None ∙ e;
   one_each = λ a b h g f. let nobody = nobody_at n a in absurd (let both : None ≡ Some h = sym nobody ∙ f in cc);
@@ -89,7 +89,7 @@ nobody_fresh n ps a h e = let both : None ≡ Some h = sym (nobody_at n a) ∙ e
 pub opened_sound : (name own : ℕ) (ps : List Preset) → own < 252 → repeats ps ≡ false → takes name own ps ≡ false → IsSound (opened name own ps)
 unfolding opened
 opened_sound name own ps within r t =
-    placed_sound (record { name = name; holders = replicate 254 None; own = Some own; counted = 0 }) ps own (empty_sound name own 254 refl within) refl (nobody_fresh 254 ps) r t
+    placed_sound (record { name = name; holders = replicate 254 None; own = Some own; counted_from = 0 }) ps own (empty_sound name own 254 refl within) refl (nobody_fresh 254 ps) r t
 
 placed_dated : (holders : List (Option Holder)) (ps : List Preset) → All (IsSinceBy 0) holders → All (IsSinceBy 0) (placed holders ps)
 placed_dated holders [] all = all

@@ -139,7 +139,7 @@ taken_holder holders a new b h e =
     ]
 
 -- an address taken by a NAME that holds no other keeps a table sound, with an own address that is free
-pub taken_sound : (d : Claims) (k : Claim) (own : Option ℕ) (m : ℕ) → IsSound d → ((b : ℕ) (h : Holder) → holder_at d.holders b ≡ Some h → h.name.0 ≡ k.name → b ≡ k.address) → k.name ≢ d.name → ((b : ℕ) → own ≡ Some b → holder_at (with_taken d k).holders b ≡ None) → ((b : ℕ) → own ≡ Some b → b < 252) → IsSound (record { name = d.name; holders = (with_taken d k).holders; own = own; counted = m })
+pub taken_sound : (d : Claims) (k : Claim) (own : Option ℕ) (m : ℕ) → IsSound d → ((b : ℕ) (h : Holder) → holder_at d.holders b ≡ Some h → h.name.0 ≡ k.name → b ≡ k.address) → k.name ≢ d.name → ((b : ℕ) → own ≡ Some b → holder_at (with_taken d k).holders b ≡ None) → ((b : ℕ) → own ≡ Some b → b < 252) → IsSound (record { name = d.name; holders = (with_taken d k).holders; own = own; counted_from = m })
 taken_sound d k own m sound single n free within = record {
   room = length-set d.holders k.address (Some (holder_by k)) ∙ sound.room;
   one_each = λ a b h g e f same. apart a b h g (at a h e) (at b g f) same;

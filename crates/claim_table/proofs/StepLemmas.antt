@@ -18,11 +18,11 @@ own_stays_free d k sound n b e =
 taken_aside : (c : Claims) (k : Claim) → IsSound c → k.name ≢ c.name → c.own ≢ Some k.address → IsSound (with_taken (without_left c k) k)
 taken_aside c k sound n own =
     let d = without_left_sound c k sound in
-    taken_sound (without_left c k) k c.own c.counted d (alone c k sound) n (own_stays_free (without_left c k) k d own) d.own_within
+    taken_sound (without_left c k) k c.own c.counted_from d (alone c k sound) n (own_stays_free (without_left c k) k d own) d.own_within
 
 moved_sound : (c : Claims) (k : Claim) (x : Option ℕ) → IsSound c → k.name ≢ c.name → next_own (with_taken (without_left c k) k) k.address ≡ x → IsSound (moved (with_taken (without_left c k) k) k.moment x).after
 moved_sound c k None sound n e =
-    taken_sound (without_left c k) k None c.counted (without_left_sound c k sound) (alone c k sound) n (λ b f. cc) (λ b f. cc)
+    taken_sound (without_left c k) k None c.counted_from (without_left_sound c k sound) (alone c k sound) n (λ b f. cc) (λ b f. cc)
 moved_sound c k (Some a) sound n e =
     let opened = next_open (with_taken (without_left c k) k) k.address a e in
     taken_sound (without_left c k) k (Some a) k.moment (without_left_sound c k sound) (alone c k sound) n (λ b f. let same : a ≡ b = cc in rw (sym same) opened.free) (λ b f. let same : a ≡ b = cc in rw (sym same) opened.within)

@@ -1,7 +1,7 @@
 use Rattle.std.specs.Prelude.{◌≡◌, ◌≢◌, ℕ, ◌+◌, ◌<◌, ◌≤◌, None, Some, IsSome}
 use Rattle.claim_table.specs.declared.answer.Holder.{Holder}
 use Rattle.claim_table.specs.declared.answer.OwnAnswer.TheVariants.{Silent, Defend, Duplicate}
-use Rattle.claim_table.specs.Claims.{Claims, Claim, Outcome, holder_at, left_by, moved, next_own, outcome, with_released, with_taken, without_left}
+use Rattle.claim_table.specs.Claims.{Claims, Claim, Outcome, claim_wait, move_places, holder_at, left_by, moved, next_own, outcome, with_released, with_taken, without_left}
 
 -- another device's claim, after its NAME has left the address that it held
 pub record IsOthers (c : Claims) (k : Claim) : Type 0 where
@@ -27,11 +27,11 @@ pub data IsCase (c : Claims) (k : Claim) (o : Outcome) : Type 0 where
 
 -- where a command to go to an address is obeyed
 pub record CanGoTo (c : Claims) (a : ℕ) : Type 0 where
-  pub within : a < 252
+  pub within : a < move_places
   pub elsewhere : c.own ≢ Some a
   pub free : holder_at c.holders a ≡ None
 
--- when a device may send: it has had its address for 250 milliseconds
+-- when a device may send: it has had its address for the wait of a claim
 pub record IsReady (c : Claims) (m : ℕ) : Type 0 where
   pub own : IsSome c.own
-  pub waited : c.counted + 250000 ≤ m
+  pub waited : c.counted_from + claim_wait ≤ m

@@ -6,6 +6,18 @@ use Rattle.claim_table.specs.declared.answer.ClaimStep.{ClaimStep}
 use Rattle.claim_table.specs.declared.answer.OwnAnswer.{OwnAnswer}
 use Rattle.claim_table.specs.declared.answer.OwnAnswer.TheVariants.{Silent, Defend, Move, CannotClaim, Duplicate}
 
+-- a device can hold an address of 0 to 253
+abbrev pub places : ℕ
+places = 254
+
+-- the gateway may go to an address of 0 to 251
+abbrev pub move_places : ℕ
+move_places = 252
+
+-- how long a device has its address before it sends anything else (ISO 11783-5): 250 milliseconds
+abbrev pub claim_wait : ℕ
+claim_wait = 250000
+
 -- what the gateway knows of the bus's addresses
 pub record Claims : Type 0 where
   -- the gateway's own NAME
@@ -15,7 +27,7 @@ pub record Claims : Type 0 where
   -- the gateway's own address
   pub own : Option ℕ
   -- the moment from which readiness is counted
-  pub counted : ℕ
+  pub counted_from : ℕ
 
 -- a claim: the address, the NAME that claims it, the index and the moment of the event
 pub record Claim : Type 0 where
@@ -27,7 +39,7 @@ pub record Claim : Type 0 where
 abbrev pub claim_of : ℕ → ℕ → ℕ → ℕ → Claim
 claim_of address name index moment = record { address = address; name = name; index = index; moment = moment }
 
--- what a claim leaves, and what is told of it
+-- what a claim leaves, and what is by_name of it
 pub record Outcome : Type 0 where
   pub after : Claims
   pub step : ClaimStep
@@ -87,7 +99,7 @@ with_taken c k = record c { holders = slice_set c.holders k.address (Some (holde
 
 -- the address after this one, in cyclic order over 0 to 251
 abbrev pub following : ℕ → ℕ
-following a = (a + 1) % 252
+following a = (a + 1) % move_places
 
 -- the first free one of k addresses, of which the first is b with this holder
 unfoldable pub free_from : ℕ → List (Option Holder) → ℕ → Option Holder → Option ℕ
@@ -97,7 +109,7 @@ free_from (suc k) holders b (Some h) = free_from k holders (following b) (holder
 
 -- the first free address after this one
 unfoldable pub next_free : List (Option Holder) → ℕ → Option ℕ
-next_free holders a = free_from 252 holders (following a) (holder_at holders (following a))
+next_free holders a = free_from move_places holders (following a) (holder_at holders (following a))
 
 abbrev pub when : Bool → Option ℕ → Option ℕ
 when true o = o
@@ -110,7 +122,7 @@ next_own c a = when (is_arbitrary c.name) (next_free c.holders a)
 -- the gateway goes to this address, or has none
 abbrev pub moved : Claims → ℕ → Option ℕ → Outcome
 moved c m None = outcome (record c { own = None }) None CannotClaim
-moved c m (Some b) = outcome (record c { own = Some b; counted = m }) None (Move b)
+moved c m (Some b) = outcome (record c { own = Some b; counted_from = m }) None (Move b)
 
 -- the own address is claimed, by a greater NAME or not
 abbrev pub at_own : Claims → Claim → Bool → Outcome
@@ -137,27 +149,27 @@ abbrev pub settled : Claims → Claim → Bool → Outcome
 settled c k true = outcome c None Silent
 settled c k false = at_address c k (is_at k.address c.own)
 
--- the address that the claiming NAME left is told as well
+-- the address that the claiming NAME left is by_name as well
 abbrev pub with_released : Option ℕ → Outcome → Outcome
 with_released left o = record o { step = record o.step { released = left } }
 
 -- the claiming NAME is the own one or not
-abbrev pub told : Claims → Claim → Bool → Outcome
-told c k true = outcome c None Duplicate
-told c k false = with_released (left_by c k) (settled (without_left c k) k (k.address == 254))
+abbrev pub by_name : Claims → Claim → Bool → Outcome
+by_name c k true = outcome c None Duplicate
+by_name c k false = with_released (left_by c k) (settled (without_left c k) k (k.address == 254))
 
 -- one claim
 unfoldable pub claim : Claims → Claim → Outcome
-claim c k = told c k (k.name == c.name)
+claim c k = by_name c k (k.name == c.name)
 
 -- the gateway goes to this address, if it obeys
 abbrev pub moved_if : Bool → Claims → ℕ → ℕ → Claims
-moved_if true c a m = record c { own = Some a; counted = m }
+moved_if true c a m = record c { own = Some a; counted_from = m }
 moved_if false c a m = c
 
 -- a command is obeyed where the address is one that a device may have, isn't the own one and is free
 unfoldable pub is_obeyed : Claims → ℕ → Bool
-is_obeyed c a = nat_lt a 252 && not (is_at a c.own) && is_none (holder_at c.holders a)
+is_obeyed c a = nat_lt a move_places && not (is_at a c.own) && is_none (holder_at c.holders a)
 
 -- one command to go to an address
 unfoldable pub command : Claims → ℕ → ℕ → Claims
@@ -165,11 +177,11 @@ command c a m = moved_if (is_obeyed c a) c a m
 
 -- readiness is counted from this moment
 abbrev pub started : Claims → ℕ → Claims
-started c m = record c { counted = m }
+started c m = record c { counted_from = m }
 
--- the gateway has had its address for 250 milliseconds
+-- the gateway has had its address for the wait of a claim
 abbrev pub is_ready : Claims → ℕ → Bool
-is_ready c m = is_some c.own && nat_le (c.counted + 250000) m
+is_ready c m = is_some c.own && nat_le (c.counted_from + claim_wait) m
 
 -- a request for the gateway's claim is answered by it, or by cannot claim
 abbrev pub answer_to_request : Option ℕ → OwnAnswer

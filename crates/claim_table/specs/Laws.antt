@@ -1,16 +1,17 @@
-use Rattle.std.specs.Prelude.{◌≡◌, ◌≢◌, ℕ, ◌+◌, ◌%◌, ◌<◌, ◌≤◌, ◌⊎◌, Option, None, Some, MatchOption, List, [], ◌∷◌, length, All}
+use Rattle.std.specs.Prelude.{◌≡◌, ◌≢◌, ℕ, ◌+◌, ◌%◌, ◌<◌, ◌≤◌, min, ◌⊎◌, Option, None, Some, MatchOption, List, [], ◌∷◌, length, map, All}
+use Rattle.n2k_id.specs.declared.name.Name.{Name}
 use Rattle.claim_table.specs.declared.answer.Holder.{Holder}
 use Rattle.claim_table.specs.declared.answer.OwnAnswer.TheVariants.{Defend}
-use Rattle.claim_table.specs.Claims.{Claims, Claim, IsSinceBy, claim, command, holder_at, left_by, next_free, outcome, with_released, without_left}
+use Rattle.claim_table.specs.Claims.{Claims, Claim, Outcome, IsSinceBy, move_places, places, claim, command, holder_at, is_obeyed, left_by, next_free, outcome, with_released, without_left}
 
 -- what holds of every table of a running gateway
 pub record IsSound (c : Claims) : Type 0 where
-  pub room : length c.holders ≡ 254
+  pub room : length c.holders ≡ places
   -- no NAME holds two addresses
   pub one_each : (a b : ℕ) (h g : Holder) → holder_at c.holders a ≡ Some h → holder_at c.holders b ≡ Some g → h.name.0 ≡ g.name.0 → a ≡ b
   -- the own address has no other holder, and is one that a device may move to
   pub own_free : (a : ℕ) → c.own ≡ Some a → holder_at c.holders a ≡ None
-  pub own_within : (a : ℕ) → c.own ≡ Some a → a < 252
+  pub own_within : (a : ℕ) → c.own ≡ Some a → a < move_places
   -- the own NAME is no holder
   pub others : (a : ℕ) (h : Holder) → holder_at c.holders a ≡ Some h → h.name.0 ≢ c.name
 
@@ -58,9 +59,47 @@ HoldersAreDated =
 
 -- the address j places after the one that follows a, in cyclic order over 0 to 251, has no holder
 abbrev pub IsFreeAfter : List (Option Holder) → ℕ → ℕ → Type 0
-IsFreeAfter holders a j = holder_at holders ((a + 1 + j) % 252) ≡ None
+IsFreeAfter holders a j = holder_at holders ((a + 1 + j) % move_places) ≡ None
 
 -- a search gives the first of them, and nothing exactly where there is none
 abbrev pub FindsFirstFree : Type 0
 FindsFirstFree =
-    (holders : List (Option Holder)) (a : ℕ) → MatchOption (next_free holders a) ((j : ℕ) → j < 252 → ¬ IsFreeAfter holders a j) (λ b. (j : ℕ) × (j < 252) × (b ≡ (a + 1 + j) % 252) × IsFreeAfter holders a j × ((i : ℕ) → i < j → ¬ IsFreeAfter holders a i))
+    (holders : List (Option Holder)) (a : ℕ) → MatchOption (next_free holders a) ((j : ℕ) → j < move_places → ¬ IsFreeAfter holders a j) (λ b. (j : ℕ) × (j < move_places) × (b ≡ (a + 1 + j) % move_places) × IsFreeAfter holders a j × ((i : ℕ) → i < j → ¬ IsFreeAfter holders a i))
+
+-- ---- what no claim and no command touches, and what they do with indices
+
+-- the address that a claim wins from another NAME isn't one that the claiming NAME leaves
+abbrev pub WonIsNotLeft : Type 0
+WonIsNotLeft =
+    (c : Claims) (k : Claim) (won : ℕ × Name) → (claim c k).step.lost ≡ Some won → (won.0 ≡ k.address) × ((claim c k).step.released ≢ Some won.0)
+
+-- no claim and no command gives the gateway another NAME
+abbrev pub NameStays : Type 0
+NameStays = (c : Claims) (s : Step) → (stepped c s).name ≡ c.name
+
+-- a command changes no holder
+abbrev pub CommandsKeepHolders : Type 0
+CommandsKeepHolders = (c : Claims) (address moment : ℕ) → (command c address moment).holders ≡ c.holders
+
+-- a holder whose index is counted no further than n
+abbrev pub capped_holder : ℕ → Option Holder → Option Holder
+capped_holder n None = None
+capped_holder n (Some h) = Some (record { name = h.name; since = min n h.since })
+
+abbrev pub capped : ℕ → Claims → Claims
+capped n c = record c { holders = map (capped_holder n) c.holders }
+
+abbrev pub capped_claim : ℕ → Claim → Claim
+capped_claim n k = record k { index = min n k.index }
+
+abbrev pub capped_outcome : ℕ → Outcome → Outcome
+capped_outcome n o = record o { after = capped n o.after }
+
+-- a gateway that counts entries no further than n tells and does what one does that counts on: no answer looks at an index
+pub record CountsNoFurther (n : ℕ) (c : Claims) : Type 0 where
+  pub claimed : (k : Claim) → claim (capped n c) (capped_claim n k) ≡ capped_outcome n (claim c k)
+  pub obeyed : (address : ℕ) → is_obeyed (capped n c) address ≡ is_obeyed c address
+  pub commanded : (address moment : ℕ) → command (capped n c) address moment ≡ capped n (command c address moment)
+
+abbrev pub IndicesMayStop : Type 0
+IndicesMayStop = (n : ℕ) (c : Claims) → CountsNoFurther n c

@@ -2,7 +2,7 @@ use Rattle.std.specs.Prelude.{ℕ, ◌==◌, ◌||◌, Bool, false, Option, None
 use Rattle.std.specs.List.{list_any}
 use Rattle.claim_table.specs.declared.answer.Holder.{Holder}
 use Rattle.claim_table.specs.declared.preset.Preset.{Preset}
-use Rattle.claim_table.specs.Claims.{Claims}
+use Rattle.claim_table.specs.Claims.{Claims, places}
 
 abbrev pub shares : Preset → Preset → Bool
 shares p q = p.address == q.address || p.name.0 == q.name.0
@@ -29,7 +29,7 @@ placed holders (p ∷ ps) = placed (slice_set holders p.address (Some (preset_ho
 unfoldable pub opened : ℕ → ℕ → List Preset → Claims
 opened name preferred ps = record {
   name = name;
-  holders = placed (replicate 254 None) ps;
+  holders = placed (replicate places None) ps;
   own = Some preferred;
-  counted = 0;
+  counted_from = 0;
 }

@@ -47,7 +47,7 @@ impl ClaimTable {
         ensures step { result ≡ (claim self.old (claim_of address name.0 index moment)).step }
     {
         if name == self.name {
-            return told(None, OwnAnswer::Duplicate);
+            return step_of(None, OwnAnswer::Duplicate);
         }
         if address < NULL_ADDRESS && self.own == Some(address) && name < self.name {
             return self.give_way(address, name, index, moment);
@@ -80,13 +80,13 @@ impl ClaimTable {
     /// The gateway goes to this address, or has none.
     fn go(&mut self, next: Option<u8>, moment: u64) -> OwnAnswer
         ensures after { self.new ≡ (moved self.old moment next).after }
-        ensures told { result ≡ (moved self.old moment next).step.own }
+        ensures own { result ≡ (moved self.old moment next).step.own }
     {
         self.own = next;
         match next {
             None => OwnAnswer::CannotClaim,
             Some(address) => {
-                self.counted = moment;
+                self.counted_from = moment;
                 OwnAnswer::Move(address)
             }
         }
@@ -135,7 +135,7 @@ impl ClaimTable {
         }
         Ways {
             left: other_than(lost, held),
-            next: reached(lost, fewest),
+            next: address_after(lost, fewest),
         }
     }
 
@@ -165,10 +165,10 @@ impl ClaimTable {
         ensures step { result ≡ (settled self.old (claim_of address name.0 index 0) (address == 254)).step }
     {
         if address == NULL_ADDRESS {
-            return told(None, OwnAnswer::Silent);
+            return step_of(None, OwnAnswer::Silent);
         }
         if self.own == Some(address) {
-            told(None, OwnAnswer::Defend)
+            step_of(None, OwnAnswer::Defend)
         } else {
             self.contest(address, name, index)
         }
@@ -191,14 +191,14 @@ impl ClaimTable {
         match self.holder(address) {
             None => {
                 self.take(address, name, index);
-                told(None, OwnAnswer::Silent)
+                step_of(None, OwnAnswer::Silent)
             }
             Some(holder) => {
                 if name < holder.name {
                     self.take(address, name, index);
-                    told(Some((address, holder.name)), OwnAnswer::Silent)
+                    step_of(Some((address, holder.name)), OwnAnswer::Silent)
                 } else {
-                    told(None, OwnAnswer::Silent)
+                    step_of(None, OwnAnswer::Silent)
                 }
             }
         }
@@ -212,11 +212,12 @@ impl ClaimTable {
         ensures after { self.new ≡ command self.old address moment }
         ensures obeyed { result ≡ is_obeyed self.old address }
         ensures exactly { IsTrue result ↔ CanGoTo self.old address }
+        ensures holders { self.new.holders ≡ self.old.holders }
     {
         let obeyed = self.is_obeyed(address);
         if obeyed {
             self.own = Some(address);
-            self.counted = moment;
+            self.counted_from = moment;
         }
         obeyed
     }
@@ -258,7 +259,7 @@ fn is_held_by(holder: &Option<Holder>, name: Name) -> bool
 }
 
 /// What is told of a claim by which no address was left.
-fn told(lost: Option<(u8, Name)>, own: OwnAnswer) -> ClaimStep
+fn step_of(lost: Option<(u8, Name)>, own: OwnAnswer) -> ClaimStep
     ensures { result ≡ step_of lost own }
 {
     ClaimStep {
@@ -313,7 +314,7 @@ fn steps_to(lost: u8, address: u8) -> u8
 }
 
 /// The address so many steps on from the first one after the lost one; none, where that is a whole round.
-fn reached(lost: u8, steps: u8) -> Option<u8>
+fn address_after(lost: u8, steps: u8) -> Option<u8>
     requires lost { lost < 254 }
     ensures none { steps ≡ 252 → result ≡ None }
     ensures some { steps < 252 → result ≡ Some ((lost + 1 + steps) % 252) }

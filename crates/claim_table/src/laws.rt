@@ -1,7 +1,7 @@
 //! Laws of address claim, over every list of claims and commands. Each is a function that does
 //! nothing, and whose clause is the law.
 
-ghost use Rattle.claim_table.specs.Laws.{DefenceKeeps, FindsFirstFree, HoldersAreDated, SmallerNamesKeep, StaysSound};
+ghost use Rattle.claim_table.specs.Laws.{CommandsKeepHolders, DefenceKeeps, FindsFirstFree, HoldersAreDated, IndicesMayStop, NameStays, SmallerNamesKeep, StaysSound, WonIsNotLeft};
 
 /// Every holder has its address since an index that the list of events has reached.
 #[tactic(auto, using(crate::proofs::LawLemmas::holders_are_dated))]
@@ -34,4 +34,24 @@ pub fn smaller_names_keep_their_addresses()
 #[tactic(auto, using(crate::proofs::StepLemmas::defence_keeps))]
 pub fn a_defence_changes_nothing()
     ensures { DefenceKeeps }
+{}
+
+/// The address that a claim wins from another NAME is the one that was claimed, and not one that the claiming NAME leaves.
+#[tactic(auto, using(crate::proofs::LawLemmas::won_is_not_left))]
+pub fn the_address_won_is_not_the_one_left()
+    ensures { WonIsNotLeft }
+{}
+
+/// The gateway keeps its NAME, and a command keeps every holder of an address with the index since which it holds it.
+#[tactic(auto, using(crate::proofs::LawLemmas::name_stays, crate::proofs::LawLemmas::command_keeps_holders))]
+pub fn names_and_holders_stay()
+    ensures name { NameStays }
+    ensures holders { CommandsKeepHolders }
+{}
+
+/// A gateway whose count of entries has stopped, so that later indices are all one, answers each claim and each command as one
+/// that counts on, and keeps the same table but for those indices.
+#[tactic(auto, using(crate::proofs::CappedLemmas::indices_may_stop))]
+pub fn indices_may_stop()
+    ensures { IndicesMayStop }
 {}

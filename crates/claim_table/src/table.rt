@@ -23,7 +23,7 @@ pub struct ClaimTable {
     pub(crate) name: Name,
     pub(crate) holders: Vec<Option<Holder>>,
     pub(crate) own: Option<u8>,
-    pub(crate) counted: u64,
+    pub(crate) counted_from: u64,
 }
 
 impl Model for ClaimTable {
@@ -32,7 +32,7 @@ impl Model for ClaimTable {
 
     ghost Value = { Claims };
 
-    ghost view = { λ t. record { name = t.name.0; holders = t.holders.items; own = t.own; counted = t.counted } };
+    ghost view = { λ t. record { name = t.name.0; holders = t.holders.items; own = t.own; counted_from = t.counted_from } };
 
     ghost invariant = { λ t. length t.holders.items ≡ 254 };
 }
@@ -70,7 +70,7 @@ impl ClaimTable {
                 name: own,
                 holders,
                 own: Some(preferred),
-                counted: 0,
+                counted_from: 0,
             }),
         }
     }
@@ -79,7 +79,7 @@ impl ClaimTable {
     pub fn start(&mut self, moment: u64)
         ensures { self.new ≡ started self.old moment }
     {
-        self.counted = moment;
+        self.counted_from = moment;
     }
 
     /// Who holds the address. None exactly where nobody does, or the gateway itself.
@@ -111,7 +111,7 @@ impl ClaimTable {
         ensures ready { result ≡ is_ready self.now moment }
         ensures exactly { IsTrue result ↔ IsReady self.now moment }
     {
-        match moment.checked_sub(self.counted) {
+        match moment.checked_sub(self.counted_from) {
             None => false,
             Some(passed) => self.own.is_some() && passed >= CLAIM_WAIT,
         }

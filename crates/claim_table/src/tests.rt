@@ -208,3 +208,15 @@ fn presets_that_clash_are_refused(rt: HostRuntime) {
         Some(ClaimFault::OwnTaken)
     );
 }
+
+#[test]
+fn faults_say_what_is_wrong(rt: HostRuntime) -> Result<(), Fail> {
+    let twice = format!(in rt.alloc(); "{}", ClaimFault::PresetTwice)?;
+    assert_eq!(rt; twice.as_str(), "two presets share an address or a NAME");
+    let taken = format!(in rt.alloc(); "{}", ClaimFault::OwnTaken)?;
+    assert_eq!(rt;
+        taken.as_str(),
+        "a preset has the gateway's own address or NAME"
+    );
+    Ok(())
+}

@@ -13,5 +13,5 @@ pub returns-clause-step : goal.returns-clause-step
 returns-clause-step c =
     let ways = c.ways-ways.ensures in
     let k = claim_of c.args.address c.args.name.0 c.args.index c.args.moment in
-    let told = rw (c.take.ensures, c.vacate.ensures) at c.go-own.ensures.told in
-    gives_way_tells c.args.self.now k c.ways-ways.result.left c.ways-ways.result.next c.go-own.result ways.left (ways.next c.args.index c.args.moment) told
+    let own = rw (c.take.ensures, c.vacate.ensures) at c.go-own.ensures.own in
+    gives_way_tells c.args.self.now k c.ways-ways.result.left c.ways-ways.result.next c.go-own.result ways.left (ways.next c.args.index c.args.moment) own

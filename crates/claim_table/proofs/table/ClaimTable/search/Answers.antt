@@ -42,4 +42,4 @@ returns-clause-next c h =
     let at_end : c.loop-place.place ≡ 254 = omega arith in
     let found = held_is_position n holders c.loop-place.held (rw (at_end ∙ sym c.requires.room) at c.loop-place.invariant.held) in
     let left = c.other_than.ensures.other ∙ ap (other_than c.args.lost) found in
-    rw left (next_reached n holders c.args.lost c.loop-place.fewest h c.reached.result (omega (arith, c.requires.room)) (rw at_end at c.loop-place.invariant.nearest) c.reached.ensures.none c.reached.ensures.some)
+    rw left (next_reached n holders c.args.lost c.loop-place.fewest h c.address_after.result (omega (arith, c.requires.room)) (rw at_end at c.loop-place.invariant.nearest) c.address_after.ensures.none c.address_after.ensures.some)
