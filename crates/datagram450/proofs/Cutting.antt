@@ -4,6 +4,7 @@ use Rattle.std.specs.Prelude.{◌==◌}
 use Rattle.std.specs.List.{position_or_len}
 use Rattle.std.proofs.lemmas.Bool.{cases_Bool}
 use Rattle.std.proofs.lemmas.List.{append-nil}
+use Rattle.report_rules.specs.Rules.{line_form, too_many_lines}
 use Rattle.datagram450.specs.Item.{Item, bad, item}
 use Rattle.datagram450.specs.Datagram.{IsLine, Cut, before, cut, items_at, items_from}
 use Rattle.datagram450.proofs.Cuts.{line_is}
@@ -63,18 +64,18 @@ pub is_some : (bytes : List ℕ) (empty : Bool) → empty ≡ (length bytes == 0
 is_some [] empty e f z = cc
 is_some (c ∷ cs) empty e f z = omega (arith, z)
 
-rest_gives : (left at : ℕ) (bytes : List ℕ) → length bytes ≢ 0 → items_at left at [] bytes ≡ bad 31 at ∷ []
+rest_gives : (left at : ℕ) (bytes : List ℕ) → length bytes ≢ 0 → items_at left at [] bytes ≡ bad line_form at ∷ []
 rest_gives left at [] some = absurd (some refl)
 rest_gives left at (c ∷ cs) some = refl
 
 -- what is left behind the last item is nothing
-pub rest_alone : (left at : ℕ) (bytes behind : List ℕ) → length bytes ≢ 0 → end_place bytes ≡ length bytes → length behind ≡ 0 → items_from left at bytes ≡ bad 31 at ∷ items_from left at behind
+pub rest_alone : (left at : ℕ) (bytes behind : List ℕ) → length bytes ≢ 0 → end_place bytes ≡ length bytes → length behind ≡ 0 → items_from left at bytes ≡ bad line_form at ∷ items_from left at behind
 unfolding items_from
-rest_alone left at bytes behind some h none = ap (items_of left at) (cut_none bytes h) ∙ rest_gives left at bytes some ∙ ap (λ (xs : List Item). bad 31 at ∷ xs) (sym (no_items left at behind none))
+rest_alone left at bytes behind some h none = ap (items_of left at) (cut_none bytes h) ∙ rest_gives left at bytes some ∙ ap (λ (xs : List Item). bad line_form at ∷ xs) (sym (no_items left at behind none))
 
-pub line_too_many : (left at : ℕ) (bytes behind : List ℕ) → left ≡ 0 → end_place bytes < length bytes → length behind ≡ 0 → items_from left at bytes ≡ bad 46 at ∷ items_from left at behind
+pub line_too_many : (left at : ℕ) (bytes behind : List ℕ) → left ≡ 0 → end_place bytes < length bytes → length behind ≡ 0 → items_from left at bytes ≡ bad too_many_lines at ∷ items_from left at behind
 unfolding items_from
-line_too_many zero at bytes behind e h none = ap (items_of 0 at) (cut_line (end_place bytes) bytes refl h) ∙ ap (λ (xs : List Item). bad 46 at ∷ xs) (sym (no_items 0 at behind none))
+line_too_many zero at bytes behind e h none = ap (items_of 0 at) (cut_line (end_place bytes) bytes refl h) ∙ ap (λ (xs : List Item). bad too_many_lines at ∷ xs) (sym (no_items 0 at behind none))
 line_too_many (suc n) at bytes behind e h none = absurd (omega (arith, e))
 
 line_first : (left at place : ℕ) (bytes : List ℕ) → end_place bytes ≡ place → place < length bytes

@@ -1,6 +1,7 @@
 -- What a datagram of IEC 61162-450 is: the header and lines; and what its lines give, in order.
 use Rattle.std.specs.Prelude.{◌≡◌, ℕ, zero, suc, ◌+◌, ◌≤◌, ◌==◌, not, nat_lt, List, [], ◌∷◌, ◌++◌, length, drop, All, IsTrue, Result, Ok, Err, if◌then◌else◌}
 use Rattle.std.specs.List.{common_prefix_len, list_all, flat_map}
+use Rattle.report_rules.specs.Rules.{line_form, too_many_lines}
 use Rattle.datagram450.specs.declared.fault.DatagramFault.{DatagramFault}
 use Rattle.datagram450.specs.declared.fault.DatagramFault.TheVariants.{Header, Long}
 use Rattle.datagram450.specs.Item.{Item, bad, item}
@@ -40,8 +41,8 @@ pub record IsCut (c : Cut) (bytes : List ℕ) : Type 0 where
 -- a line too many ends the items
 abbrev pub items_at : ℕ → ℕ → List (List ℕ) → List ℕ → List Item
 items_at left at [] [] = []
-items_at left at [] (c ∷ cs) = bad 31 at ∷ []
-items_at zero at (l ∷ ls) rest = bad 46 at ∷ []
+items_at left at [] (c ∷ cs) = bad line_form at ∷ []
+items_at zero at (l ∷ ls) rest = bad too_many_lines at ∷ []
 items_at (suc left) at (l ∷ ls) rest = item at l ∷ items_at left (at + length l) ls rest
 
 -- bytes is a datagram of at most 1472 bytes, and these are the items of its first 64 lines, and of a line too many or a

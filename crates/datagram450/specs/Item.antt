@@ -1,5 +1,6 @@
 -- What a line of a datagram gives: what its TAG blocks and its sentence say, or the first rule that it breaks.
 use Rattle.std.specs.Prelude.{◌≡◌, ℕ, ◌+◌, List, ◌++◌, drop, Result, Ok, Err}
+use Rattle.report_rules.specs.Rules.{tag_form, tag_sum, no_source, sentence_form, sentence_sum}
 use Rattle.tag_block.specs.declared.fault.TagFault.{TagFault}
 use Rattle.tag_block.specs.declared.fault.TagRule.{TagRule}
 use Rattle.tag_block.specs.declared.fault.TagRule.TheVariants as tag_rules
@@ -27,18 +28,18 @@ pub record LineOf (said : Said) (text : List ℕ) (parts : Parts) (line : List �
   pub spelled : line ≡ front ++ text
 
 abbrev pub tag_rule : TagRule → ℕ
-tag_rule tag_rules.Form = 32
-tag_rule tag_rules.Sum = 33
-tag_rule tag_rules.NoSource = 34
+tag_rule tag_rules.Form = tag_form
+tag_rule tag_rules.Sum = tag_sum
+tag_rule tag_rules.NoSource = no_source
 
 abbrev pub sentence_rule : SentenceRule → ℕ
-sentence_rule sentence_rules.Long = 35
-sentence_rule sentence_rules.Start = 35
-sentence_rule sentence_rules.Address = 35
-sentence_rule sentence_rules.NoSum = 35
-sentence_rule sentence_rules.Byte = 35
-sentence_rule sentence_rules.Sum = 36
-sentence_rule sentence_rules.End = 35
+sentence_rule sentence_rules.Long = sentence_form
+sentence_rule sentence_rules.Start = sentence_form
+sentence_rule sentence_rules.Address = sentence_form
+sentence_rule sentence_rules.NoSum = sentence_form
+sentence_rule sentence_rules.Byte = sentence_form
+sentence_rule sentence_rules.Sum = sentence_sum
+sentence_rule sentence_rules.End = sentence_form
 
 -- the sentence behind n bytes of TAG blocks of the line that begins at this place
 abbrev pub with_sentence : ℕ → ℕ → Said → List ℕ → Result Parts SentenceFault → Item

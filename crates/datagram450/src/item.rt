@@ -4,6 +4,7 @@ ghost use Rattle.sentence_text.specs.Reading as sentences;
 ghost use Rattle.datagram450.specs.Item.{item, item_view, tag_rule as rule_of_tag, sentence_rule as rule_of_sentence};
 ghost use Rattle.datagram450.specs.Datagram.{IsLine};
 
+use report_rules::{NO_SOURCE, SENTENCE_FORM, SENTENCE_SUM, TAG_FORM, TAG_SUM};
 use sentence_text::{Sentence, SentenceFault, SentenceRule};
 use tag_block::{Tag, TagFault, TagRule};
 
@@ -22,8 +23,8 @@ pub enum LineItem<'a> {
         text: &'a [u8],
         sentence: Sentence<'a>,
     },
-    /// The first rule that is broken: 31 a rest without LF, 32 the form of a TAG block, 33 its sum, 34 no source, 35
-    /// the form of the sentence, 36 its sum, 46 more than 64 lines.
+    /// The first rule that is broken, by its number: `LINE_FORM` for a rest without LF, `TAG_FORM`, `TAG_SUM`, `NO_SOURCE`,
+    /// `SENTENCE_FORM`, `SENTENCE_SUM`, or `TOO_MANY_LINES` (of `report_rules`).
     Bad {
         rule: u8,
         /// Where the rule is broken in the datagram.
@@ -35,9 +36,9 @@ fn tag_rule(rule: TagRule) -> u8
     ensures { result ≡ rule_of_tag rule }
 {
     match rule {
-        TagRule::Form => 32,
-        TagRule::Sum => 33,
-        TagRule::NoSource => 34,
+        TagRule::Form => TAG_FORM,
+        TagRule::Sum => TAG_SUM,
+        TagRule::NoSource => NO_SOURCE,
     }
 }
 
@@ -45,8 +46,13 @@ fn sentence_rule(rule: SentenceRule) -> u8
     ensures { result ≡ rule_of_sentence rule }
 {
     match rule {
-        SentenceRule::Sum => 36,
-        _ => 35,
+        SentenceRule::Long
+        | SentenceRule::Start
+        | SentenceRule::Address
+        | SentenceRule::NoSum
+        | SentenceRule::Byte
+        | SentenceRule::End => SENTENCE_FORM,
+        SentenceRule::Sum => SENTENCE_SUM,
     }
 }
 

@@ -8,6 +8,7 @@ ghost use Rattle.datagram450.specs.Datagram.{read, DatagramOf};
 use crate::fault::DatagramFault;
 use crate::header::HEADER;
 use crate::item::{LineItem, only_line, read_line};
+use report_rules::{LINE_FORM, TOO_MANY_LINES};
 use std::marker::Model;
 
 /// The longest datagram that is read.
@@ -62,11 +63,17 @@ impl<'a> Iterator for LineIter<'a> {
         let place = text_run(rest);
         if place == rest.len() {
             self.rest = rest.split_at(place).1;
-            return Some(LineItem::Bad { rule: 31, at });
+            return Some(LineItem::Bad {
+                rule: LINE_FORM,
+                at,
+            });
         }
         if self.left == 0 {
             self.rest = rest.split_at(rest.len()).1;
-            return Some(LineItem::Bad { rule: 46, at });
+            return Some(LineItem::Bad {
+                rule: TOO_MANY_LINES,
+                at,
+            });
         }
         let (line, behind) = rest.split_at(place + 1);
         self.at = at + line.len() as u16;
