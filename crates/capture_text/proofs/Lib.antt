@@ -5,6 +5,7 @@ pub mod Digits
 pub mod Frames
 pub mod Hex
 pub mod Laws
+pub mod LineEnds
 pub mod Lines
 pub mod Numbers
 pub mod Times

@@ -1,3 +1,6 @@
+ghost use Rattle.std.specs.Prelude.{◌≡◌};
+ghost use Rattle.capture_text.specs.Event.{rule_number};
+
 use n2k_id::Frame;
 
 /// What a line of a capture says. Each moment is in microseconds.
@@ -20,4 +23,17 @@ pub enum LineRule {
     NotExtended,
     /// It has more than 4096 bytes.
     Long,
+}
+
+impl LineRule {
+    /// The number by which a report names the rule.
+    pub fn number(self) -> u8
+        ensures { result ≡ rule_number self }
+    {
+        match self {
+            LineRule::Form => report_rules::CAPTURE_FORM,
+            LineRule::NotExtended => report_rules::NOT_EXTENDED,
+            LineRule::Long => report_rules::LINE_LONG,
+        }
+    }
 }

@@ -3,7 +3,7 @@ use Rattle.std.specs.Prelude.{ℕ, ◌+◌, List, [], ◌∷◌, ◌++◌, Optio
 use Rattle.std.specs.List.{flat_map}
 use Rattle.capture_text.specs.declared.emit.Detail.TheVariants as detail
 use Rattle.capture_text.specs.declared.event.LineRule.{LineRule}
-use Rattle.capture_text.specs.declared.event.LineRule.TheVariants.{Form, NotExtended, Long}
+use Rattle.capture_text.specs.Event.{rule_number}
 use Rattle.capture_text.specs.Capture as capture
 use Rattle.capture_text.specs.Capture.{Seen}
 use Rattle.capture_text.specs.Reading.{read}
@@ -30,11 +30,6 @@ abbrev pub entry_of : Seen → Entry
 entry_of (capture.frame m f) = entry.frame m f
 entry_of (capture.datagram m bytes) = entry.datagram m bytes
 entry_of (capture.tick m) = entry.tick m
-
-abbrev pub rule_of : LineRule → ℕ
-rule_of Form = 1
-rule_of Long = 2
-rule_of NotExtended = 4
 
 -- ---- a gateway that is started by the first event of a capture
 
@@ -65,7 +60,7 @@ module _ (c : Settings) where
   -- a line that is refused is reported by its number, at the moment that was reached
   abbrev pub with_read : ℕ → Option Running → Result Seen LineRule → Replayed
   with_read number g (Ok seen) = with_event g (entry_of seen)
-  with_read number g (Err rule) = record { emits = at (moment_in g) (broken (rule_of rule) (detail.Line number) ∷ []); after = g }
+  with_read number g (Err rule) = record { emits = at (moment_in g) (broken (rule_number rule) (detail.Line number) ∷ []); after = g }
 
   -- an empty line gives nothing
   abbrev pub with_line : ℕ → Option Running → List ℕ → Replayed

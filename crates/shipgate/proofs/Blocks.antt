@@ -5,7 +5,7 @@ use Rattle.std.proofs.lemmas.Bool.{or_parts}
 use Rattle.std.proofs.lemmas.List.{take-append-drop, drop-take, get_or-drop, length-drop}
 use Rattle.std.proofs.lemmas.List.Elements.{All-nil, All-cons, All-append}
 use Rattle.std.proofs.lemmas.Grind.{common_steps}
-use Rattle.shipgate.specs.Lines.{is_lf}
+use Rattle.capture_text.specs.Lines.{is_lf}
 use Rattle.shipgate.specs.LineReader.{HasNoLf}
 
 abbrev any_lf : Bool → List ℕ → Bool

@@ -3,7 +3,8 @@ use Rattle.std.proofs.Common.{◌≡◌, ℕ, ◌^◌, ◌<◌, ◌≤◌, false
 use Rattle.std.specs.Prelude.{Option, Some, None}
 use Rattle.std.proofs.lemmas.List.{append-nil, nil_from_length}
 use Rattle.gate_outside.specs.Told.{Leaves}
-use Rattle.shipgate.specs.Lines.{lines_of, complete_lines, AreTexts}
+use Rattle.capture_text.specs.Lines.{lines_of, complete_lines}
+use Rattle.shipgate.specs.Lines.{AreTexts}
 use Rattle.shipgate.specs.LineReader.{Held, IsEnd, Came}
 use Rattle.shipgate.specs.Writing.{Sends}
 use Rattle.shipgate.specs.Progress.{StandsFor, Stand, Rested, AreAll, WritesSome, Finishes, StopsReading, StopsWriting, PassesLimit, WritesAll}

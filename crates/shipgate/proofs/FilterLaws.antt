@@ -5,7 +5,7 @@ use Rattle.gate_outside.specs.declared.Failed.{Failed}
 use Rattle.std.proofs.lemmas.List.{length-append}
 use Rattle.shipgate.specs.declared.line_reader.Next.{Next}
 use Rattle.shipgate.specs.declared.line_reader.Next.TheVariants.{Line, Long, Unfinished}
-use Rattle.shipgate.specs.Lines.{without_cr, lines_of, complete_lines}
+use Rattle.capture_text.specs.Lines.{without_cr, lines_of, complete_lines}
 use Rattle.shipgate.specs.LineReader.{Held, Advances, Finishes}
 use Rattle.shipgate.specs.declared.words.Filter.{Filter}
 use Rattle.shipgate.specs.declared.words.Filter.TheVariants.{Convert, Show}

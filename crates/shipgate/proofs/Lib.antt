@@ -1,5 +1,4 @@
 pub mod Blocks
-pub mod Lines
 pub mod Moves
 pub mod LineReaderLaws
 pub mod Writing

@@ -10,7 +10,7 @@ use Rattle.std.specs.Prelude.{Option, Result, Ok, Err, IfOk}
 use borrow.Rule.Slice.PartMut.{put_mid, post_of}
 use Rattle.gate_outside.specs.declared.Failed.{Failed}
 use Rattle.gate_outside.specs.Source.{Reads, TellsEnd}
-use Rattle.shipgate.specs.Lines.{without_cr}
+use Rattle.capture_text.specs.Lines.{without_cr}
 use Rattle.shipgate.specs.LineReader.{Held, HasNoLf, Takes, IsLine, EndsLongLine, Advances, Finishes, Came, ReadsBehind}
 
 -- what is left of a part of the buffer behind so many bytes of it

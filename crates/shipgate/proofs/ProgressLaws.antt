@@ -4,7 +4,8 @@ use Rattle.std.specs.List.{flat_map, AllByRecursion, slice_split}
 use Rattle.std.proofs.lemmas.List.{append-nil, length-map, map-append, take_at}
 use Rattle.std.proofs.lemmas.List.Splits.{slice_split_at, slice_split_none, length-slice_split}
 use Rattle.std.proofs.lemmas.Grind.{flat_map-append}
-use Rattle.shipgate.specs.Lines.{is_lf, without_cr, front, lines_of, complete_lines, AreTexts}
+use Rattle.capture_text.specs.Lines.{is_lf, without_cr, front, lines_of, complete_lines}
+use Rattle.shipgate.specs.Lines.{AreTexts}
 use Rattle.shipgate.specs.LineReader.{HasNoLf}
 use Rattle.shipgate.specs.Progress.{ended, Cut}
 

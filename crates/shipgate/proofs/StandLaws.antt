@@ -4,7 +4,9 @@ use Rattle.std.specs.Prelude.{Option, Some, None}
 use Rattle.std.proofs.lemmas.List.{append-nil, length-append, length-map, map-append, take_all}
 use Rattle.std.proofs.lemmas.List.Elements.{All-append}
 use Rattle.gate_outside.specs.Told.{Leaves, Joins}
-use Rattle.shipgate.specs.Lines.{is_lf, without_cr, lines_of, complete_lines, AreTexts}
+use Rattle.capture_text.specs.Lines.{is_lf, without_cr, lines_of, complete_lines}
+use Rattle.capture_text.proofs.LineEnds.{without_cr-len}
+use Rattle.shipgate.specs.Lines.{AreTexts}
 use Rattle.shipgate.specs.LineReader.{Held, HasNoLf, Takes, EndsLongLine, Waits}
 use Rattle.shipgate.specs.Writing.{Sends}
 use Rattle.std.specs.List.{flat_map}
@@ -23,11 +25,6 @@ pub record Begins (rest : List ℕ) (new : Held) (raw : List ℕ) : Type 0 where
 pub begins_with_line : (old new : Held) (rest raw : List ℕ) → StandsFor old rest → Takes old new raw → old.skipping ≡ false → Begins rest new raw
 begins_with_line old new rest raw (inl s) takes held = record { split = sym s.1 ∙ takes.whole; no_lf = takes.no_lf; holds = inl (takes.starts, refl) }
 begins_with_line old new rest raw (inr s) takes held = absurd (let e : true ≡ false = sym s.0 ∙ held in cc)
-
-without_cr-len : (bytes : List ℕ) → length bytes ≤ length (without_cr bytes) + 1
-without_cr-len [] = omega arith
-without_cr-len (b ∷ []) = omega arith
-without_cr-len (b ∷ c ∷ bytes) = omega (arith, without_cr-len (c ∷ bytes))
 
 -- a line that is too long, whole again
 pub record BeginsLong (rest : List ℕ) (new : Held) : Type 0 where

@@ -12,9 +12,10 @@ use Rattle.pgn_profile.specs.Profiled.{kind_of, profiled}
 use Rattle.sentence_rows.specs.Text.{IsText}
 use Rattle.capture_text.specs.declared.event.LineRule.{LineRule}
 use Rattle.capture_text.specs.declared.emit.Detail.TheVariants as detail
+use Rattle.capture_text.specs.Event.{rule_number}
 use Rattle.capture_text.specs.Capture.{Seen, frame, datagram, tick}
 use Rattle.capture_text.specs.Writing.{report_text}
-use Rattle.shipgate.specs.Says.{Says, rule_of}
+use Rattle.shipgate.specs.Says.{Says}
 use Rattle.shipgate.specs.Talker.{talker_of}
 
 -- the report of a rule about a line
@@ -42,7 +43,7 @@ abbrev pub IsSaidText : ℕ → Result Seen LineRule → List ℕ → Type 0
 IsSaidText number (Ok (frame moment seen)) text = IsFrameText number seen text
 IsSaidText number (Ok (datagram moment bytes)) text = text ≡ refusal 5 number
 IsSaidText number (Ok (tick moment)) text = text ≡ refusal 5 number
-IsSaidText number (Err rule) text = text ≡ refusal (rule_of rule) number
+IsSaidText number (Err rule) text = text ≡ refusal (rule_number rule) number
 
 -- What a line gives by its number: nothing where it is empty, else by what it says.
 unfoldable pub IsConverted : ℕ → List ℕ → List ℕ → Type 0

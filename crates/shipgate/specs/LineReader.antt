@@ -3,7 +3,7 @@ use Rattle.std.specs.Prelude.{◌≡◌, ◌+◌, ◌<◌, ◌≤◌, ◌⊎◌,
 use Rattle.gate_outside.specs.Told.{Leaves}
 use Rattle.shipgate.specs.declared.line_reader.Next.{Next}
 use Rattle.shipgate.specs.declared.line_reader.Next.TheVariants.{Line, Long, Unfinished}
-use Rattle.shipgate.specs.Lines.{is_lf, without_cr}
+use Rattle.capture_text.specs.Lines.{is_lf, without_cr}
 
 pub record Held : Type 0 where
   -- the line that was taken last

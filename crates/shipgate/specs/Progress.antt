@@ -5,7 +5,8 @@ use Rattle.gate_outside.specs.Told.{Leaves, Joins}
 use Rattle.gate_outside.specs.declared.Failed.{Failed}
 use Rattle.shipgate.specs.declared.ending.Ending.{Ending}
 use Rattle.shipgate.specs.declared.ending.Ending.TheVariants as ending
-use Rattle.shipgate.specs.Lines.{without_cr, lines_of, complete_lines, AreTexts}
+use Rattle.capture_text.specs.Lines.{without_cr, lines_of, complete_lines}
+use Rattle.shipgate.specs.Lines.{AreTexts}
 use Rattle.shipgate.specs.LineReader.{Held, HasNoLf}
 use Rattle.shipgate.specs.Writing.{Sends}
 

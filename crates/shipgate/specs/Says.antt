@@ -9,9 +9,3 @@ Says line (Ok seen) = IsLine seen line
 Says line (Err Form) = IsNoLine line
 Says line (Err NotExtended) = IsNotExtended line
 Says line (Err Long) = 4096 < length line
-
--- the number of a rule
-abbrev pub rule_of : LineRule → ℕ
-rule_of Form = 1
-rule_of Long = 2
-rule_of NotExtended = 4

@@ -11,9 +11,10 @@ use Rattle.datagram450.specs.declared.fault.DatagramFault.TheVariants as faults
 use Rattle.datagram450.specs.Item.{Item, line, bad}
 use Rattle.datagram450.specs.Datagram as datagrams
 use Rattle.capture_text.specs.declared.event.LineRule.{LineRule}
+use Rattle.capture_text.specs.Event.{rule_number}
 use Rattle.capture_text.specs.Capture.{Seen, frame, datagram, tick}
 use Rattle.capture_text.specs.Writing.{part}
-use Rattle.shipgate.specs.Says.{Says, rule_of}
+use Rattle.shipgate.specs.Says.{Says}
 
 abbrev pub start : ℕ → List ℕ
 start number = codes "line=" ++ decimal number
@@ -89,7 +90,7 @@ seen_text number (tick moment) = tick_text number
 
 abbrev pub said_text : ℕ → Result Seen LineRule → List ℕ
 said_text number (Ok seen) = seen_text number seen
-said_text number (Err rule) = rule_text number (rule_of rule)
+said_text number (Err rule) = rule_text number (rule_number rule)
 
 -- What a line gives by its number: nothing where it is empty, else by what it says.
 unfoldable pub IsShown : ℕ → List ℕ → List ℕ → Type 0

@@ -11,12 +11,11 @@ ghost use Rattle.sentence_rows.specs.Text.{IsText};
 ghost use Rattle.capture_text.specs.Reading.{read as read_as, view, IsValid};
 ghost use Rattle.gate_outside.specs.Faults.{HasCause};
 ghost use Rattle.shipgate.specs.Talker.{talker_of};
-ghost use Rattle.shipgate.specs.Says.{rule_of};
+ghost use Rattle.capture_text.specs.Event.{rule_number};
 ghost use Rattle.shipgate.specs.Convert.{refusal, IsPayloadText, IsMessageText, IsSaidText, IsConverted};
 ghost use Rattle.shipgate.specs.Filter.{PutsLine};
 ghost use Rattle.shipgate.specs.Writing.{Writes};
 
-use crate::says::rule_of;
 use crate::talker::talker_of;
 use crate::text::{Text, put, put_part};
 use crate::writer::Writer;
@@ -132,7 +131,7 @@ fn write_said(number: u64, line: &[u8], room: &mut [u8; 2048], answer: &mut Answ
 {
     match read_line(line, room) {
         Ok(event) => write_event(number, &event, answer),
-        Err(rule) => write_refusal(rule_of(rule), number, answer),
+        Err(rule) => write_refusal(rule.number(), number, answer),
     }
 }
 
@@ -169,9 +168,9 @@ pub(crate) fn put_refusal<K: Sink>(
     writer: &mut Writer,
     out: &mut K,
 ) -> Result<(), Failed>
-    ensures sent { Writes (K.taken out.old) (K.taken out.new) (writer.old ++ refusal (rule_of rule) number) writer.new result }
+    ensures sent { Writes (K.taken out.old) (K.taken out.new) (writer.old ++ refusal (rule_number rule) number) writer.new result }
     ensures cause { HasCause (K.fault_count out.old) (K.fault_count out.new) result }
 {
-    let text = refusal_of(rule_of(rule), number);
+    let text = refusal_of(rule.number(), number);
     writer.put(text.as_slice(), out)
 }

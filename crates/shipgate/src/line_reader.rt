@@ -1,7 +1,7 @@
 //! Cuts an input that comes in pieces into its lines, within fixed memory.
 ghost use Rattle.std.specs.Prelude.{◌≡◌, ◌+◌, ◌<◌, ◌≤◌, ◌||◌, false, length, take, drop, slice_index, MatchOption};
 ghost use Rattle.std.specs.List.{fold};
-ghost use Rattle.shipgate.specs.Lines.{is_lf, without_cr};
+ghost use Rattle.capture_text.specs.Lines.{is_lf, without_cr};
 ghost use Rattle.gate_outside.specs.Faults.{HasCause};
 ghost use Rattle.shipgate.specs.LineReader.{HasNoLf, ReadsBehind};
 

@@ -13,7 +13,6 @@ mod ending;
 mod filter;
 mod line_reader;
 mod run;
-mod says;
 mod show;
 mod talker;
 mod text;

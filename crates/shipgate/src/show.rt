@@ -8,12 +8,11 @@ ghost use Rattle.datagram450.specs.Item.{item_view};
 ghost use Rattle.datagram450.specs.Datagram.{read as items_of};
 ghost use Rattle.capture_text.specs.Reading.{read as read_as, view, IsValid};
 ghost use Rattle.gate_outside.specs.Faults.{HasCause};
-ghost use Rattle.shipgate.specs.Says.{rule_of};
+ghost use Rattle.capture_text.specs.Event.{rule_number};
 ghost use Rattle.shipgate.specs.Show as spec;
 ghost use Rattle.shipgate.specs.Filter.{PutsLine};
 ghost use Rattle.shipgate.specs.Writing.{Writes};
 
-use crate::says::rule_of;
 use crate::text::{Text, put, put_number, put_part};
 use crate::writer::Writer;
 use arrayvec::ArrayVec;
@@ -266,11 +265,11 @@ pub(crate) fn put_refusal<K: Sink>(
     writer: &mut Writer,
     out: &mut K,
 ) -> Result<(), Failed>
-    ensures sent { Writes (K.taken out.old) (K.taken out.new) (writer.old ++ spec.rule_text number (rule_of rule)) writer.new result }
+    ensures sent { Writes (K.taken out.old) (K.taken out.new) (writer.old ++ spec.rule_text number (rule_number rule)) writer.new result }
     ensures cause { HasCause (K.fault_count out.old) (K.fault_count out.new) result }
 {
     let mut text = ArrayVec::new();
-    write_rule(number, rule_of(rule), &mut text);
+    write_rule(number, rule.number(), &mut text);
     writer.put(text.as_slice(), out)
 }
 

@@ -1,5 +1,5 @@
 use Rattle.shipgate.specs.Filter.{Gives}
-use Rattle.shipgate.specs.Lines.{lines_of}
+use Rattle.capture_text.specs.Lines.{lines_of}
 use Rattle.shipgate.proofs.StandLaws.{whole_stopped}
 use Rattle.shipgate.proofs.FilterLaws.{last_waits, last_flushed}
 use Rattle.shipgate.proofs.filter.filter_last.Goals as goal

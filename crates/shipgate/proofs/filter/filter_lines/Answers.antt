@@ -1,6 +1,6 @@
 use Rattle.std.proofs.Common.{ℕ, ◌+◌, ◌≤◌, List, length, refl, subst, ◌∙◌, arith}
 use Rattle.shipgate.specs.Filter.{Gives}
-use Rattle.shipgate.specs.Lines.{complete_lines}
+use Rattle.capture_text.specs.Lines.{complete_lines}
 use Rattle.shipgate.specs.Progress.{WritesSome}
 use Rattle.shipgate.proofs.Causes.{Rose-later}
 use Rattle.shipgate.proofs.StandLaws.{stand_waiting}

@@ -1,6 +1,6 @@
 use Rattle.std.proofs.Common.{◌≡◌, ◌-◌, length, take, sym, ◌∙◌, arith}
 use Rattle.std.proofs.lemmas.List.{take_all}
-use Rattle.shipgate.proofs.Lines.{without_cr-cr, without_cr-other, without_cr-none}
+use Rattle.capture_text.proofs.LineEnds.{without_cr-cr, without_cr-other, without_cr-none}
 use Rattle.shipgate.proofs.line_reader.line_len.Goals as goal
 use Rattle.shipgate.proofs.line_reader.line_len.Goals.{else-len-gt0-via-then-len-gt0+else-bytes-len-eq13, else-len-gt0-via-else-len-gt0}
 

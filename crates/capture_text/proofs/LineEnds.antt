@@ -1,7 +1,7 @@
--- Laws of lines.
-use Rattle.std.proofs.Common.{◌≡◌, ℕ, zero, suc, ◌≢◌, cond, eqb, List, [], ◌∷◌, length, get_or, take, refl, ap, arith}
+-- Where a line ends.
+use Rattle.std.proofs.Common.{◌≡◌, ℕ, zero, suc, ◌≢◌, cond, eqb, ◌+◌, ◌≤◌, List, [], ◌∷◌, length, get_or, take, refl, ap, arith}
 use Rattle.std.proofs.lemmas.Grind.{common_steps}
-use Rattle.shipgate.specs.Lines.{without_cr}
+use Rattle.capture_text.specs.Lines.{without_cr}
 
 pub without_cr-cr : (bytes : List ℕ) (n : ℕ) → length bytes ≡ suc n → get_or bytes n 0 ≡ 13 → without_cr bytes ≡ take n bytes
 without_cr-cr [] n len last = absurd (omega arith)
@@ -23,3 +23,8 @@ without_cr-other (b ∷ c ∷ bytes) (suc n) len last = ap (λ (w : List ℕ). b
 pub without_cr-none : (bytes : List ℕ) → length bytes ≡ 0 → without_cr bytes ≡ bytes
 without_cr-none [] len = refl
 without_cr-none (b ∷ bytes) len = absurd (omega arith)
+
+pub without_cr-len : (bytes : List ℕ) → length bytes ≤ length (without_cr bytes) + 1
+without_cr-len [] = omega arith
+without_cr-len (b ∷ []) = omega arith
+without_cr-len (b ∷ c ∷ bytes) = omega (arith, without_cr-len (c ∷ bytes))
