@@ -7,7 +7,7 @@ use Rattle.std.proofs.lemmas.List.{map-set, length-map}
 use Rattle.claim_table.specs.declared.answer.Holder.{Holder}
 use Rattle.claim_table.specs.declared.answer.OwnAnswer.TheVariants.{Silent}
 use Rattle.n2k_id.specs.Name.{is_arbitrary}
-use Rattle.claim_table.specs.Claims.{Claims, Claim, Outcome, outcome, holder_at, is_held_by, other_than, left_by, vacated, without_left, holder_by, with_taken, following, free_from, next_free, when, next_own, moved, at_own, at_held, at_other, at_address, settled, with_released, told, claim, is_at, moved_if, is_obeyed, command}
+use Rattle.claim_table.specs.Claims.{Claims, Claim, Outcome, outcome, holder_at, is_held_by, other_than, left_by, vacated, without_left, holder_by, with_taken, following, free_from, next_free, when, next_own, moved, at_own, at_held, at_other, at_address, settled, with_released, by_name, claim, is_at, moved_if, is_obeyed, command}
 
 -- a holder without its since
 abbrev pub bare : Option Holder → Option Holder
@@ -92,16 +92,16 @@ settled_case : (c : Claims) (k : Claim) (b : Bool) → settled (erased c) (unnum
 settled_case c k true = refl
 settled_case c k false = address_case c k (is_at k.address c.own)
 
-told_case : (c : Claims) (k : Claim) (b : Bool) → told (erased c) (unnumbered k) b ≡ erased_outcome (told c k b)
-told_case c k true = refl
-told_case c k false =
+by_name_case : (c : Claims) (k : Claim) (b : Bool) → by_name (erased c) (unnumbered k) b ≡ erased_outcome (by_name c k b)
+by_name_case c k true = refl
+by_name_case c k false =
     ap (λ (left : Option ℕ). with_released left (settled (without_left (erased c) (unnumbered k)) (unnumbered k) (k.address == 254))) (left_bare c k)
     ∙ ap (λ (x : Claims). with_released (left_by c k) (settled x (unnumbered k) (k.address == 254))) (without_bare c k)
     ∙ ap (with_released (left_by c k)) (settled_case (without_left c k) k (k.address == 254))
 
 pub claim_erased : (c : Claims) (k : Claim) → claim (erased c) (unnumbered k) ≡ erased_outcome (claim c k)
 unfolding claim
-claim_erased c k = told_case c k (k.name == c.name)
+claim_erased c k = by_name_case c k (k.name == c.name)
 
 -- ---- a command
 

@@ -11,7 +11,7 @@ use Rattle.claim_table.specs.Laws.{IsSound}
 use Rattle.claim_table.specs.Cases.{IsCase, duplicate, cannot_claim, defended, given_up, free, kept, won}
 use Rattle.claim_table.proofs.CaseLemmas.{claim_case, is_at-true, is_at-false, not_eqb}
 use Rattle.claim_table.proofs.SoundLemmas.{none_at_set, vacated_other, vacated_free, left_elsewhere}
-use Rattle.history.specs.FromBus.{won_by}
+use Rattle.history.specs.Known.{address_won}
 use Rattle.history.specs.TraceLaws.{is_lost}
 
 -- an address is held as before, or since the claim, or no more
@@ -47,9 +47,9 @@ same_or_other a b = elim (cases_Bool (a == b)) [ inl e ↦ inl (eqb-true a b e) 
 -- where it takes one: another NAME's, or one that nobody has
 module _ (c : Claims) (k : Claim) (o : Outcome) (left : Option ℕ) (elsewhere : left ≢ Some k.address)
     (released : o.step.released ≡ left) (holders : o.after.holders ≡ set (vacated c.holders left) k.address (Some (holder_by k)))
-    (from : (is_at k.address (won_by o.step) ≡ true) ⊎ ((won_by o.step ≡ None) × (holder_at (vacated c.holders left) k.address ≡ None)))
-    (only : (a : ℕ) → a ≢ k.address → is_at a (won_by o.step) ≡ false) where
-  lost_is : (a : ℕ) (b w : Bool) → is_at a left ≡ b → is_at a (won_by o.step) ≡ w → is_lost o.step a ≡ (b || w)
+    (from : (is_at k.address (address_won o.step) ≡ true) ⊎ ((address_won o.step ≡ None) × (holder_at (vacated c.holders left) k.address ≡ None)))
+    (only : (a : ℕ) → a ≢ k.address → is_at a (address_won o.step) ≡ false) where
+  lost_is : (a : ℕ) (b w : Bool) → is_at a left ≡ b → is_at a (address_won o.step) ≡ w → is_lost o.step a ≡ (b || w)
   lost_is a b w e f = rw (released, e, f) refl
 
   held : (a : ℕ) → holder_at o.after.holders a ≡ holder_at (set (vacated c.holders left) k.address (Some (holder_by k))) a
@@ -74,7 +74,7 @@ module _ (c : Claims) (k : Claim) (o : Outcome) (left : Option ℕ) (elsewhere :
   other_place : (a : ℕ) → a ≢ k.address → (b : Bool) → is_at a left ≡ b → Fate c k o a
   other_place a n true e =
       let here : left ≡ Some a = is_at-true a left e in
-      begins (inr (held a ∙ get_or-set_other (vacated c.holders left) k.address a (Some (holder_by k)) None n ∙ gone left here)) (inl (lost_is a true (is_at a (won_by o.step)) e refl))
+      begins (inr (held a ∙ get_or-set_other (vacated c.holders left) k.address a (Some (holder_by k)) None n ∙ gone left here)) (inl (lost_is a true (is_at a (address_won o.step)) e refl))
     where
       gone : (l : Option ℕ) → l ≡ Some a → holder_at (vacated c.holders l) a ≡ None
       gone None f = cc

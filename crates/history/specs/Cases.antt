@@ -1,5 +1,5 @@
 -- How a case is written down: identifiers, bytes and moments as numbers.
-use Rattle.std.specs.Prelude.{◌≡◌, ℕ, ◌+◌, true, false, List, [], ◌∷◌, ◌++◌, codes, slice_index}
+use Rattle.std.specs.Prelude.{◌≡◌, ℕ, ◌+◌, true, false, List, [], ◌∷◌, ◌++◌, map, codes, slice_index}
 use Rattle.std.specs.Int.{w64, to_be_bytes}
 use Rattle.claim_table.specs.declared.preset.Preset.{Preset}
 use Rattle.readings.specs.declared.rows.Row.{Row}
@@ -45,6 +45,11 @@ talker_of row.WaterTemperature = codes "YX"
 talker_of row.CrossTrack = codes "II"
 talker_of _ = codes "GP"
 
+abbrev pub all_rows : List Row
+all_rows = row.HeadingTrue ∷ row.HeadingMagnetic ∷ row.RateOfTurn ∷ row.RudderFirst ∷ row.RudderSecond ∷ row.WaterSpeed ∷ row.Depth ∷
+    row.DistanceLog ∷ row.Position ∷ row.CourseSpeed ∷ row.Gnss ∷ row.Time ∷ row.WindApparent ∷ row.WindTrue ∷ row.WindNorth ∷
+    row.WaterTemperature ∷ row.CrossTrack ∷ []
+
 abbrev pub plain_rule : Row → RowRule
 plain_rule r = record { sources = []; others = true; timeout = 5000; talker = talker_of r; group = codes "NAVD" }
 
@@ -58,7 +63,7 @@ with_presets presets = record {
   group_slots = 8;
   ths = false;
   presets = presets;
-  rows = plain_rule;
+  rows = map plain_rule all_rows;
   net_sources = codes "II0002" ∷ [];
 }
 

@@ -5,44 +5,23 @@ use Rattle.n2k_id.specs.declared.pattern.Pattern.{Pattern}
 use Rattle.n2k_id.specs.Pattern.{matches}
 use Rattle.readings.specs.declared.reading.Reading.{Reading}
 use Rattle.readings.specs.declared.rows.Row.{Row}
-use Rattle.readings.specs.declared.rows.Row.TheVariants as row
 use Rattle.readings.specs.Rows.{row_of, principal}
 use Rattle.pgn_profile.specs.Profiled.{profiled}
 use Rattle.pgn_profile.specs.declared.profiled.Profiled.{Profiled}
 use Rattle.pgn_profile.specs.declared.profiled.Profiled.TheVariants as says
 use Rattle.claim_table.specs.Claims.{holder_at}
 use Rattle.claim_table.specs.declared.answer.Holder.{Holder}
-use Rattle.history.specs.Settings.{Settings, RowRule}
+use Rattle.history.specs.Settings.{Settings, RowRule, same_row, rule_of}
 use Rattle.history.specs.Known.{Known, since_of}
 use Rattle.history.specs.Messages.{Message}
-
--- a row's place in the table of rows
-abbrev pub row_number : Row → ℕ
-row_number row.HeadingTrue = 0
-row_number row.HeadingMagnetic = 1
-row_number row.RateOfTurn = 2
-row_number row.RudderFirst = 3
-row_number row.RudderSecond = 4
-row_number row.WaterSpeed = 5
-row_number row.Depth = 6
-row_number row.DistanceLog = 7
-row_number row.Position = 8
-row_number row.CourseSpeed = 9
-row_number row.Gnss = 10
-row_number row.Time = 11
-row_number row.WindApparent = 12
-row_number row.WindTrue = 13
-row_number row.WindNorth = 14
-row_number row.WaterTemperature = 15
-row_number row.CrossTrack = 16
 
 -- a source's place among those that are preferred, and its NAME
 pub record Rank : Type 0 where
   pub place : ℕ
   pub name : ℕ
 
-abbrev pub is_before : Rank → Rank → Bool
-is_before a b = nat_lt a.place b.place || ((a.place == b.place) && nat_lt a.name b.name)
+abbrev pub is_smaller : Rank → Rank → Bool
+is_smaller a b = nat_lt a.place b.place || ((a.place == b.place) && nat_lt a.name b.name)
 
 -- the first place of the list whose pattern matches the NAME; others come after all listed ones, where they are taken
 abbrev pub place_in : Bool → ℕ → List Pattern → ℕ → Option ℕ
@@ -67,7 +46,7 @@ reading_of d = reading_in (profiled d.pgn d.payload)
 
 abbrev pub is_row : Row → Option Reading → Bool
 is_row row None = false
-is_row row (Some r) = row_number (row_of r) == row_number row
+is_row row (Some r) = same_row (row_of r) row
 
 -- the values are there without which it says nothing of its row
 abbrev pub is_usable : Option Reading → Bool
@@ -80,10 +59,13 @@ is_usable (Some r) = list_all is_some (principal r)
 abbrev pub is_of : Row → ℕ → ℕ → Message → Bool
 is_of row source since d = (d.source == source) && (nat_le since d.index && is_row row (reading_of d))
 
--- it says something of its row, and isn't older than the timeout, which is in milliseconds
+-- what was said at a moment says something of its row, and isn't older than the timeout, which is in milliseconds
+abbrev pub is_current : ℕ → ℕ → ℕ → Option Reading → Bool
+is_current timeout m said_at r = is_usable r && nat_le m (said_at + 1000 * timeout)
+
 abbrev pub still_counts : ℕ → ℕ → Option Message → Bool
 still_counts timeout m None = false
-still_counts timeout m (Some d) = is_usable (reading_of d) && nat_le m (d.moment + 1000 * timeout)
+still_counts timeout m (Some d) = is_current timeout m d.moment (reading_of d)
 
 -- a source is fresh where its last message of the row since it holds its address counts still
 abbrev pub is_fresh_since : RowRule → Row → ℕ → ℕ → List Message → Option ℕ → Bool
@@ -97,7 +79,7 @@ is_fresh rule k row source m older = is_fresh_since rule row source m older (sin
 
 abbrev pub is_better : Rank → Option Rank → Bool
 is_better rank None = false
-is_better rank (Some other) = is_before other rank
+is_better rank (Some other) = is_smaller other rank
 
 -- the holder of the address by its NAME has a smaller rank, and is fresh
 abbrev pub outranks : RowRule → Known → Row → Rank → ℕ → List Message → ℕ → Bool
@@ -105,7 +87,7 @@ outranks rule k row rank m older source = is_better rank (rank_at rule (holder_a
   where
     rank_at : RowRule → Option Holder → Option Rank
     rank_at rule None = None
-    rank_at rule (Some h) = rank_of rule h.name.0
+    rank_at rule (Some holder) = rank_of rule holder.name.0
 
 -- a message with a reading is selected where its NAME has a rank in the row, and no source of a smaller rank is fresh just before;
 -- only one that has sent a message can be
@@ -115,7 +97,7 @@ is_first rule k row m older (Some rank) = not (list_any (λ d. outranks rule k r
 
 abbrev pub selected_reading : Settings → Known → List Message → Message → Option Reading → Option Reading
 selected_reading c k older d None = None
-selected_reading c k older d (Some r) = let row = row_of r in let rule = c.rows row in
+selected_reading c k older d (Some r) = let row = row_of r in let rule = rule_of c row in
     if is_first rule k row d.moment older (rank_of rule d.name) then Some r else None
 
 -- the reading of a message that is selected among those before it

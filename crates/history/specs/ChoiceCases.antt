@@ -1,5 +1,5 @@
 -- Whose messages are said.
-use Rattle.std.specs.Prelude.{ℕ, [], ◌∷◌, codes}
+use Rattle.std.specs.Prelude.{ℕ, [], ◌∷◌, map, codes}
 use Rattle.n2k_id.specs.declared.pattern.Pattern.{Pattern}
 use Rattle.n2k_id.specs.Name.{fields_of}
 use Rattle.n2k_id.specs.Pattern.{stating}
@@ -8,7 +8,7 @@ use Rattle.readings.specs.declared.rows.Row.TheVariants as row
 use Rattle.history.specs.Entries.{frame}
 use Rattle.history.specs.Settings.{Settings, RowRule}
 use Rattle.history.specs.Emits.{of_source}
-use Rattle.history.specs.Cases.{Emits, full, emitted, navd, two_devices, plain_rule}
+use Rattle.history.specs.Cases.{Emits, full, emitted, navd, two_devices, all_rows, plain_rule}
 
 abbrev pub OneHeading : Type 0
 OneHeading =
@@ -25,7 +25,7 @@ ranked_rule row.HeadingTrue = record (plain_rule row.HeadingTrue) { sources = of
 ranked_rule r = plain_rule r
 
 abbrev pub ranked : Settings
-ranked = record two_devices { rows = ranked_rule }
+ranked = record two_devices { rows = map ranked_rule all_rows }
 
 -- the second source is heard once the first has been silent for more than 2 seconds, or has nothing to say
 abbrev pub FirstOfTwo : Type 0

@@ -10,8 +10,7 @@ use Rattle.iso_transport.specs.declared.key.IsoKey.{IsoKey}
 use Rattle.tag_block.specs.declared.group_key.GroupKey.{GroupKey}
 use Rattle.claim_table.specs.Laws.{IsSound}
 use Rattle.history.specs.Known.{Known}
-use Rattle.history.specs.Heard as heard
-use Rattle.history.specs.Heard.{Taken, same_group, group_open, open_groups}
+use Rattle.history.specs.Heard.{Taken, same_group, group_open, open_groups, is_group_admitted}
 use Rattle.history.specs.Traces.{Note}
 use Rattle.history.specs.Opens.{is_fast, same_fast, same_iso, fast_open, iso_open, open_fast_keys, open_iso_keys, is_fast_admitted, is_iso_admitted}
 
@@ -62,7 +61,7 @@ module _ (cmp : GroupKey → GroupKey → Ordering) (taken : List Taken) (m : �
 
   pub record CountsGroups : Type 0 where
     pub count : length slots.entries ≡ length (open_groups taken m)
-    pub room : (key : GroupKey) → heard.is_admitted slots.limit taken key m ≡ not (is_full cmp slots key)
+    pub room : (key : GroupKey) → is_group_admitted slots.limit taken key m ≡ not (is_full cmp slots key)
 
 abbrev pub SlotsCountGroups : Type 0
 SlotsCountGroups =

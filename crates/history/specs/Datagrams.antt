@@ -39,10 +39,10 @@ date_after (suc years) year days =
 unfoldable pub date_of : ℤ → Civil
 date_of day = date_after 200 1970 (unsigned_abs day)
 
--- ---- counters (IEC 61162-450): over all that was said before
+-- ---- counters (IEC 61162-450): over all that was spoken before
 
 -- a datagram that was said: its transmission group, and how many sentences it had
-pub record Said : Type 0 where
+pub record Spoken : Type 0 where
   pub group : List ℕ
   pub lines : ℕ
 
@@ -50,17 +50,17 @@ abbrev pub same_group : List ℕ → List ℕ → Bool
 same_group a b = pointwise nat_eq a b
 
 -- the sentences on a transmission group, and the groups of lines, whichever transmission group they were on
-abbrev pub lines_on : List ℕ → List Said → ℕ
+abbrev pub lines_on : List ℕ → List Spoken → ℕ
 lines_on group [] = 0
 lines_on group (x ∷ xs) = if same_group x.group group then lines_on group xs + x.lines else lines_on group xs
 
-abbrev pub line_groups : List Said → ℕ
+abbrev pub line_groups : List Spoken → ℕ
 line_groups [] = 0
 line_groups (x ∷ xs) = if nat_le 2 x.lines then line_groups xs + 1 else line_groups xs
 
 -- the code of a line group is from 1 to 99, in turn
 
-abbrev pub next_code : List Said → ℕ
+abbrev pub next_code : List Spoken → ℕ
 next_code before = line_groups before % 99 + 1
 
 -- ---- the datagram
@@ -90,5 +90,5 @@ lines_from sfi total code before number [] = []
 lines_from sfi total code before number (x ∷ xs) =
     line_text (record { group = part_of total code number; source = sfi; count = before % 999 + 1 }) x ++ lines_from sfi total code (before + 1) (number + 1) xs
 
-abbrev pub datagram_of : List ℕ → List Said → List ℕ → List (List ℕ) → List ℕ
+abbrev pub datagram_of : List ℕ → List Spoken → List ℕ → List (List ℕ) → List ℕ
 datagram_of sfi before group sentences = header ++ lines_from sfi (length sentences) (next_code before) (lines_on group before) 1 sentences

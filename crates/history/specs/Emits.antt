@@ -1,5 +1,5 @@
 -- What a gateway emits, as plain values.
-use Rattle.std.specs.Prelude.{ℕ, List, [], ◌∷◌, map, Option, Some, None}
+use Rattle.std.specs.Prelude.{ℕ, Bool, List, [], ◌∷◌, map, Option, Some, None, if◌then◌else◌}
 use Rattle.n2k_id.specs.Frame.{BusFrame}
 use Rattle.n2k_id.specs.Identifier.{identifier_of}
 use Rattle.n2k_id.specs.Name.{name_bytes}
@@ -25,8 +25,18 @@ abbrev pub at : ℕ → List Emit → List Emitted
 at m emits = map (λ e. record { moment = m; emit = e }) emits
 
 -- a rule that was broken
+abbrev pub report_of : ℕ → Detail → Report
+report_of rule what = record { rule = rule; detail = what }
+
+-- where it was
+abbrev pub breaks : Bool → ℕ → Detail → List Report
+breaks it rule what = if it then report_of rule what ∷ [] else []
+
+abbrev pub reported : List Report → List Emit
+reported reports = map report reports
+
 abbrev pub broken : ℕ → Detail → Emit
-broken rule what = report (record { rule = rule; detail = what })
+broken rule what = report (report_of rule what)
 
 -- with the source and the PGN
 abbrev pub of_source : ℕ → ℕ → ℕ → Emit

@@ -4,6 +4,7 @@ use Rattle.std.specs.List.{flat_map}
 use Rattle.iso_transport.specs.declared.reply.Reply.{Reply}
 use Rattle.iso_transport.specs.declared.reply.Reply.TheVariants.{Abort}
 use Rattle.iso_transport.specs.IsoRuns.{IsoPiece, session_of}
+use Rattle.report_rules.specs.Rules as rules
 use Rattle.capture_text.specs.declared.emit.Detail.TheVariants as detail
 use Rattle.fast_packet.specs.declared.key.FastKey.{FastKey}
 use Rattle.iso_transport.specs.declared.key.IsoKey.{IsoKey}
@@ -38,12 +39,12 @@ abort_reply addressed pgn = if addressed then Some (Abort 3 pgn) else None
 
 module _ (k : Known) (notes : List Note) (before m : ℕ) where
   abbrev pub fast_expired : List Emit
-  fast_expired = flat_map (λ key. of_source 16 key.source key.pgn ∷ []) (filter (fast_ended k before k m notes) (fast_keys notes))
+  fast_expired = flat_map (λ key. of_source rules.expired key.source key.pgn ∷ []) (filter (fast_ended k before k m notes) (fast_keys notes))
 
   abbrev pub iso_expired : List Emit
   iso_expired =
       flat_map
-      (λ key. let pgn = session_pgn k notes key before in of_source 16 key.source pgn ∷ replied k.claims.own key.source (abort_reply key.addressed pgn))
+      (λ key. let pgn = session_pgn k notes key before in of_source rules.expired key.source pgn ∷ replied k.claims.own key.source (abort_reply key.addressed pgn))
       (filter (iso_ended k before k m notes) (iso_keys notes))
 
 -- groups of lines that are overdue (rule 42), in the order of their keys
@@ -52,17 +53,17 @@ group_ended taken before m key = is_some (group_open taken key before) && is_non
 
 abbrev pub groups_expired : List Taken → ℕ → ℕ → List Emit
 groups_expired taken before m =
-    flat_map (λ key. broken 42 (detail.GroupKey key.sfi key.code) ∷ []) (filter (group_ended taken before m) (group_keys taken))
+    flat_map (λ key. broken rules.group_expired (detail.GroupKey key.sfi key.code) ∷ []) (filter (group_ended taken before m) (group_keys taken))
 
 -- ---- by a claim or a command (rule 17), all at one moment
 
 module _ (k after : Known) (notes : List Note) (m : ℕ) where
   abbrev pub fast_lost : (FastKey → Bool) → List Emit
-  fast_lost is_meant = flat_map (λ key. of_source 17 key.source key.pgn ∷ []) (filter (λ key. is_meant key && fast_ended k m after m notes key) (fast_keys notes))
+  fast_lost is_meant = flat_map (λ key. of_source rules.claim_lost key.source key.pgn ∷ []) (filter (λ key. is_meant key && fast_ended k m after m notes key) (fast_keys notes))
 
   abbrev pub iso_lost : (IsoKey → Bool) → List Emit
   iso_lost is_meant =
-      flat_map (λ key. of_source 17 key.source (session_pgn k notes key m) ∷ []) (filter (λ key. is_meant key && iso_ended k m after m notes key) (iso_keys notes))
+      flat_map (λ key. of_source rules.claim_lost key.source (session_pgn k notes key m) ∷ []) (filter (λ key. is_meant key && iso_ended k m after m notes key) (iso_keys notes))
 
   -- of one address: fast packets by PGN, then the broadcast session, then the addressed one
   abbrev pub lost_at : Option ℕ → List Emit

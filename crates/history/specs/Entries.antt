@@ -1,5 +1,5 @@
 -- What the gateway has lived through: a list of entries, of which the newest is the first.
-use Rattle.std.specs.Prelude.{◌≡◌, ℕ, ◌^◌, ◌<◌, ◌≤◌, Bool, nat_le, List, [], ◌∷◌, length, All}
+use Rattle.std.specs.Prelude.{◌≡◌, ℕ, ◌^◌, ◌<◌, ◌≤◌, Bool, nat_le, List, [], ◌∷◌, length}
 use Rattle.n2k_id.specs.Frame.{BusFrame}
 
 -- an event that was accepted, or a command; each with its moment in microseconds
@@ -10,7 +10,7 @@ pub data Entry : Type 0 where
   datagram : ℕ → List ℕ → Entry
   -- time passed
   tick : ℕ → Entry
-  -- a message was complete by which the device at this address (the first) tells the gateway to go to another (the second)
+  -- a message was complete by which the device at an address (the second number) tells the gateway to go to another (the third)
   command : ℕ → ℕ → ℕ → Entry
 
 abbrev pub History : Type 0
@@ -31,15 +31,12 @@ now (e ∷ h) = moment_of e
 abbrev pub is_accepted : History → Entry → Bool
 is_accepted h e = nat_le (now h) (moment_of e)
 
-abbrev pub IsByte : ℕ → Type 0
-IsByte b = b < 256
-
--- what the outside can offer: frames of 29-bit identifiers with at most 8 bytes
+-- what the outside can offer: frames of 29-bit identifiers with at most 8 bytes; a command comes from an address
 abbrev pub IsOffered : Entry → Type 0
-IsOffered (frame m f) = (f.id < 2 ^ 29) × (length f.held ≤ 8) × All IsByte f.held
-IsOffered (datagram m bytes) = All IsByte bytes
+IsOffered (frame m f) = (f.id < 2 ^ 29) × (length f.held ≤ 8)
+IsOffered (datagram m bytes) = Unit {0}
 IsOffered (tick m) = Unit {0}
-IsOffered (command m source address) = (source < 256) × (address < 256)
+IsOffered (command m source address) = source < 256
 
 -- an event is no earlier than what was before; a command is handled at the moment of the event that completed it
 abbrev pub IsTimely : History → Entry → Type 0

@@ -11,8 +11,7 @@ use Rattle.history.specs.Known.{Known, known, since_of, is_claim, claim_by}
 use Rattle.history.specs.Messages.{Message, done, messages_of}
 use Rattle.history.specs.Choice.{is_row, reading_of, is_of, is_fresh, still_counts}
 use Rattle.history.specs.Heard.{same_text}
-use Rattle.history.specs.FromNet as heard
-use Rattle.history.specs.FromNet.{Net, counts_still}
+use Rattle.history.specs.NetReadings.{NetReading, last_heard, counts_still, is_net_fresh}
 
 -- the last message of a row from a source since it holds its address
 abbrev pub last_since : Row → ℕ → List Message → Option ℕ → Option Message
@@ -52,11 +51,8 @@ CommandsForgetNone =
     → last_of (known c s (command m from address ∷ h)) row source (messages_of c s (command m from address ∷ h)) ≡ last_of (known c s h) row source (messages_of c s h)
 
 -- on the network there are no claims: a reading takes the place of the one before, of its row and its source, and none is forgotten
-abbrev pub last_heard : Row → List ℕ → List Net → Option Net
-last_heard row source older = find (λ n. same_text n.source source && is_row row (Some n.reading)) older
-
 abbrev pub ReadingsAreKept : Type 0
 ReadingsAreKept =
-    (rule : RowRule) (row : Row) (source : List ℕ) (m : ℕ) (n : Net) (older : List Net)
-    → (heard.is_fresh rule row source m older ≡ counts_still rule.timeout m (last_heard row source older))
-    × (last_heard row source (n ∷ older) ≡ (if same_text n.source source && is_row row (Some n.reading) then Some n else last_heard row source older))
+    (rule : RowRule) (row : Row) (source : List ℕ) (m : ℕ) (n : NetReading) (older : List NetReading)
+    → (is_net_fresh rule row source m older ≡ counts_still rule.timeout m (last_heard row source older))
+    × (last_heard row source (n ∷ older) ≡ (if same_text n.line.source source && is_row row (Some n.reading) then Some n else last_heard row source older))

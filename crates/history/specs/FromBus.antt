@@ -1,208 +1,133 @@
--- What a frame from the bus gives, and what time and commands do.
-use Rattle.std.specs.Prelude.{ℕ, ◌+◌, ◌*◌, Bool, true, false, ◌&&◌, ◌||◌, not, ◌==◌, nat_lt, List, [], ◌∷◌, ◌++◌, length, slice_index, Option, Some, None, is_some, is_none, if◌then◌else◌}
+-- What a frame from the bus gives, and what a command does: the rules that it breaks, what it makes the gateway send on the bus, and
+-- the datagram in which the message is said that it completes.
+use Rattle.std.specs.Prelude.{ℕ, ◌+◌, ◌*◌, Bool, ◌&&◌, not, ◌==◌, nat_lt, List, [], ◌∷◌, ◌++◌, length, slice_index, Option, Some, None, if◌then◌else◌}
 use Rattle.n2k_id.specs.declared.identifier_parts.Parts.{Parts}
 use Rattle.n2k_id.specs.Frame.{BusFrame}
 use Rattle.n2k_id.specs.Identifier.{parts_of}
-use Rattle.n2k_id.specs.Name.{name_at}
-use Rattle.claim_table.specs.Claims.{holder_at, claim, is_obeyed, is_ready}
+use Rattle.report_rules.specs.Rules as rules
+use Rattle.claim_table.specs.Claims.{Claims, claim, is_obeyed}
 use Rattle.claim_table.specs.declared.answer.ClaimStep.{ClaimStep}
 use Rattle.claim_table.specs.declared.answer.OwnAnswer.{OwnAnswer}
 use Rattle.claim_table.specs.declared.answer.OwnAnswer.TheVariants.{Silent, Defend, Move, CannotClaim, Duplicate}
 use Rattle.readings.specs.declared.reading.Reading.{Reading}
 use Rattle.readings.specs.Rows.{row_of}
-use Rattle.pgn_profile.specs.Profiled.{kind_of, profiled}
-use Rattle.pgn_profile.specs.declared.kinds.Kind.{Kind}
-use Rattle.pgn_profile.specs.declared.kinds.Kind.TheVariants.{Single, Fast, Outside}
-use Rattle.pgn_profile.specs.declared.profiled.Profiled.{Profiled}
-use Rattle.pgn_profile.specs.declared.profiled.Profiled.TheVariants as says
-use Rattle.fast_packet.specs.declared.answers.FastRefusal.{FastRefusal}
-use Rattle.fast_packet.specs.declared.answers.FastRefusal.TheVariants as fast_refusal
-use Rattle.fast_packet.specs.FastFrames.{is_opener}
 use Rattle.fast_packet.specs.FastRuns.{FastPiece}
-use Rattle.fast_packet.specs.Keys.{refused}
-use Rattle.iso_transport.specs.declared.answers.IsoRefusal.{IsoRefusal}
-use Rattle.iso_transport.specs.declared.answers.IsoRefusal.TheVariants as iso_refusal
-use Rattle.iso_transport.specs.declared.verdict.Verdict.{Verdict}
-use Rattle.iso_transport.specs.declared.verdict.Verdict.TheVariants as what
-use Rattle.iso_transport.specs.Answers.{reply_by}
-use Rattle.iso_transport.specs.Audience.{is_data}
-use Rattle.iso_transport.specs.Connection.{control_at}
-use Rattle.iso_transport.specs.Told.{told}
-use Rattle.capture_text.specs.declared.emit.Detail.TheVariants as detail
+use Rattle.iso_transport.specs.declared.reply.Reply.{Reply}
 use Rattle.iso_transport.specs.Audience.{key_of}
+use Rattle.iso_transport.specs.IsoRuns.{IsoPiece}
+use Rattle.iso_transport.specs.Told.{reply_to}
+use Rattle.capture_text.specs.declared.emit.Report.{Report}
+use Rattle.capture_text.specs.declared.emit.Detail.TheVariants as detail
 use Rattle.history.specs.Entries as entry
-use Rattle.history.specs.Entries.{Entry, History, now}
-use Rattle.history.specs.Settings.{Settings}
-use Rattle.history.specs.Known.{Known, known, known_after, is_own, is_claim, claim_by}
-use Rattle.history.specs.Traces.{Note, fast_piece, iso_piece, is_transport}
+use Rattle.history.specs.Entries.{Entry, History}
+use Rattle.history.specs.Settings.{Settings, rule_of}
+use Rattle.history.specs.Known.{Known, known, known_after, is_claim, claim_by, address_left, address_won}
+use Rattle.history.specs.Meanings.{Meaning, address_claim, request, transport, meaning_of, is_of_session, is_of_fast_packet}
+use Rattle.history.specs.Traces.{Note, iso_piece}
 use Rattle.history.specs.Opens.{fast_open, iso_open, note_of, notes_of}
 use Rattle.history.specs.Messages.{Message, done, messages_of}
 use Rattle.history.specs.Choice.{selected}
-use Rattle.history.specs.Emits.{Emit, net, broken, of_source, own_claim, replied}
+use Rattle.history.specs.Emits.{Emit, net, breaks, reported, own_claim, replied}
 use Rattle.history.specs.Endings.{lost_at, lost_elsewhere}
-use Rattle.history.specs.Datagrams.{Said, sentences_of, datagram_of}
+use Rattle.history.specs.Datagrams.{Spoken, sentences_of, datagram_of}
+use Rattle.history.specs.BusRules.{is_early, frame_breaks}
 
--- the frame is to all or to the gateway
-abbrev pub is_to : Known → Parts → Bool
-is_to k p = (p.destination == 255) || is_own k p.destination
+-- ---- a claim (ISO 11783-5): rule 17 for what ends, the address that was left before the one that was won; then the gateway's own
+-- frame, after a defence, a move, or the loss of its address
 
--- ---- a claim
+abbrev pub own_answer : ℕ → OwnAnswer → Option ℕ → List Emit
+own_answer name Silent own = []
+own_answer name Defend own = own_claim name own ∷ []
+own_answer name (Move address) own = own_claim name own ∷ []
+own_answer name CannotClaim own = own_claim name own ∷ []
+own_answer name Duplicate own = []
 
--- rule 17 for what ends, then the gateway's own frame
-abbrev pub answered_claim : ℕ → OwnAnswer → Known → List Emit
-answered_claim name Silent after = []
-answered_claim name Defend after = own_claim name after.claims.own ∷ []
-answered_claim name (Move address) after = own_claim name after.claims.own ∷ []
-answered_claim name CannotClaim after = own_claim name after.claims.own ∷ []
-answered_claim name Duplicate after = []
+abbrev pub step_gives : ℕ → Known → Known → List Note → ℕ → ClaimStep → List Emit
+step_gives name k after notes m step =
+    lost_at k after notes m (address_left step)
+    ++ lost_at k after notes m (address_won step)
+    ++ lost_elsewhere k after notes m (address_left step) (address_won step)
+    ++ own_answer name step.own after.claims.own
 
--- the address that another NAME lost by the claim: told with its holder, or the gateway's own one
-abbrev pub won_by : ClaimStep → Option ℕ
-won_by step = address_in step.lost
-  where
-    address_in : {A : Type 0} → Option (ℕ × A) → Option ℕ
-    address_in None = None
-    address_in (Some x) = Some x.0
+abbrev pub claim_gives : ℕ → ℕ → Known → List Note → ℕ → BusFrame → List Emit
+claim_gives name index k notes m f =
+    if is_claim f then step_gives name k (known_after index k (entry.frame m f)) notes m (claim k.claims (claim_by index m f)).step else []
 
-abbrev pub claim_gives : Settings → Known → Known → List Note → ℕ → ClaimStep → List Emit
-claim_gives c k after notes m step =
-    lost_at k after notes m step.released
-    ++ lost_at k after notes m (won_by step)
-    ++ lost_elsewhere k after notes m step.released (won_by step)
-    ++ answered_claim c.name step.own after
+-- ---- a request (ISO 11783-5): what is asked for is 24 bits, and only a claim is answered here
 
--- by the gateway's own NAME it is rule 23
-abbrev pub from_claim : Settings → ℕ → Known → List Note → ℕ → BusFrame → List Emit
-from_claim c index k notes m f =
-    if name_at f.held == c.name then broken 23 (detail.Address (parts_of f.id).source) ∷ []
-    else claim_gives c k (known_after index k (entry.frame m f)) notes m (claim k.claims (claim_by index m f)).step
-
--- ---- a request
-
--- what is asked for is 24 bits
 abbrev pub asked : List ℕ → ℕ
 asked held = slice_index held 0 + 256 * slice_index held 1 + 65536 * slice_index held 2
 
-abbrev pub from_request : Settings → Known → Parts → List ℕ → List Emit
-from_request c k p held =
-    if not (is_to k p) then []
-    else if nat_lt (length held) 3 then of_source 25 p.source 59904 ∷ []
-    else if asked held == 60928 then own_claim c.name k.claims.own ∷ []
-    else []
+abbrev pub request_gives : ℕ → Option ℕ → List ℕ → List Emit
+request_gives name own held = if not (nat_lt (length held) 3) && (asked held == 60928) then own_claim name own ∷ [] else []
 
--- ---- the transport protocol
+-- ---- a frame of the transport protocol (ISO 11783-3): the reply to its sender, by the frames of its session that are open
 
-abbrev pub iso_rule : IsoRefusal → Parts → Emit
-iso_rule iso_refusal.Size p = of_source 18 p.source p.pgn
-iso_rule iso_refusal.Order p = of_source 19 p.source p.pgn
-iso_rule iso_refusal.Orphan p = of_source 20 p.source p.pgn
-iso_rule (iso_refusal.Full pgn) p = of_source 15 p.source pgn
-iso_rule (iso_refusal.Aborted pgn) p = of_source 21 p.source pgn
+abbrev pub session_reply : Bool → Option (List IsoPiece) → Note → Option Reply
+session_reply addressed packets n = if is_early addressed n.ready (iso_piece n) then None else reply_to addressed packets (iso_piece n)
 
-abbrev pub restarted : Parts → Option ℕ → List Emit
-restarted p None = []
-restarted p (Some old) = of_source 14 p.source old ∷ []
+abbrev pub session_gives : Option ℕ → Option (List IsoPiece) → Note → List Emit
+session_gives own packets n = replied own n.parts.source (session_reply (key_of n.parts).addressed packets n)
 
-abbrev pub iso_reports : Parts → Verdict → List Emit
-iso_reports p what.Ignored = []
-iso_reports p what.Again = []
-iso_reports p (what.Refused reason reply) = iso_rule reason p ∷ []
-iso_reports p (what.Ends reason reply) = iso_rule reason p ∷ []
-iso_reports p (what.Opens session old) = restarted p old
-iso_reports p (what.Next session number end) = []
-
--- an RTS to the gateway while it isn't ready
-abbrev pub is_early : Known → ℕ → Note → Bool
-is_early k m n = is_own k n.parts.destination && (not (is_data n.parts) && (nat_lt 7 (length n.bytes) && ((control_at n.bytes == 16) && not (is_ready k.claims m))))
-
--- a frame's reports, and the replies to its sender
-pub record Handled : Type 0 where
-  pub reports : List Emit
-  pub replies : List Emit
-
-abbrev pub reported : List Emit → Handled
-reported reports = record { reports = reports; replies = [] }
-
-abbrev pub by_verdict : Known → Note → Bool → Verdict → Handled
-by_verdict k n addressed v = record { reports = iso_reports n.parts v; replies = replied k.claims.own n.parts.source (reply_by addressed v) }
-
-abbrev pub from_transport : Known → Note → List Note → ℕ → Handled
-from_transport k n older m = let key = key_of n.parts in
-    if is_early k m n then reported (of_source 45 n.parts.source 60416 ∷ [])
-    else by_verdict k n key.addressed (told key.addressed (iso_open k older key m) (iso_piece n))
-
--- ---- fast packets
-
-abbrev pub fast_rule : FastRefusal → ℕ
-fast_rule fast_refusal.Order = 11
-fast_rule fast_refusal.Orphan = 12
-fast_rule fast_refusal.Length = 13
-fast_rule fast_refusal.Full = 15
-
-abbrev pub fast_refused : Parts → Option FastRefusal → List Emit
-fast_refused p None = []
-fast_refused p (Some reason) = of_source (fast_rule reason) p.source p.pgn ∷ []
-
-abbrev pub fast_reports : Parts → Option (List FastPiece) → FastPiece → List Emit
-fast_reports p o x = (if is_opener x.bytes && is_some o then of_source 14 p.source p.pgn ∷ [] else []) ++ fast_refused p (refused o x)
-
-abbrev pub from_profile : Kind → Known → Note → List Note → ℕ → Handled
-from_profile Single k n older m = reported []
-from_profile Fast k n older m = reported (fast_reports n.parts (fast_open k older (record { source = n.parts.source; pgn = n.parts.pgn }) m) (fast_piece n))
-from_profile Outside k n older m = reported []
-
--- ---- a message
-
-abbrev pub is_short : Profiled → Bool
-is_short says.Short = true
-is_short (says.Reading r) = false
-is_short says.Outside = false
-
-abbrev pub reported_short : Option Message → List Emit
-reported_short None = []
-reported_short (Some d) = if is_short (profiled d.pgn d.payload) then of_source 22 d.source d.pgn ∷ [] else []
+-- ---- a message that is selected is said in one datagram
 
 abbrev pub chosen : Settings → Known → List Message → Option Message → Option Reading
 chosen c k older None = None
 chosen c k older (Some d) = selected c k older d
 
-abbrev pub spoken : Settings → List Said → Option Reading → List Emit
-spoken c before None = []
-spoken c before (Some r) = let rule = c.rows (row_of r) in
+abbrev pub said_in : Settings → List Spoken → Option Reading → List Emit
+said_in c before None = []
+said_in c before (Some r) = let rule = rule_of c (row_of r) in
     net rule.group (datagram_of c.sfi before rule.group (sentences_of rule.talker c.ths r)) ∷ []
 
--- its reports stand before the replies, and these before the datagram of the message that it completes
-abbrev pub gives : Settings → Known → List Said → List Message → Handled → Option Message → List Emit
-gives c k before older handled d = handled.reports ++ reported_short d ++ handled.replies ++ spoken c before (chosen c k older d)
+-- ---- a frame, over the history before it
 
--- ---- a frame goes to the first of these
+-- what is open of its fast packet, and of its session
+abbrev pub frames_before : Meaning → Known → List Note → ℕ → Parts → Option (List FastPiece)
+frames_before meaning k notes m p = if is_of_fast_packet meaning then fast_open k notes (record { source = p.source; pgn = p.pgn }) m else None
 
-abbrev pub is_profile : Kind → Bool
-is_profile Single = true
-is_profile Fast = true
-is_profile Outside = false
+abbrev pub packets_before : Meaning → Known → List Note → ℕ → Parts → Option (List IsoPiece)
+packets_before meaning k notes m p = if is_of_session meaning then iso_open k notes (key_of p) m else None
 
-abbrev pub handled_by : Known → Note → List Note → ℕ → Handled
-handled_by k n older m = if is_transport n.parts then from_transport k n older m else from_profile (kind_of n.parts.pgn) k n older m
+module _ (c : Settings) (s : ℕ) (h : History) (m : ℕ) (f : BusFrame) where
+  abbrev pub meaning_after : Meaning
+  meaning_after = meaning_of (known c s h).claims.own (known c s h).claims.holders (parts_of f.id)
 
-abbrev pub from_frame : Settings → ℕ → History → List Said → ℕ → BusFrame → List Emit
-from_frame c s h before m f =
-    let k = known c s h in
-    let older = notes_of c s h in
-    let p = parts_of f.id in
-    if p.pgn == 60928 then (if is_claim f then from_claim c (length h) k older m f else of_source 25 p.source p.pgn ∷ [])
-    else if is_own k p.source then of_source 24 p.source p.pgn ∷ []
-    else if p.pgn == 59904 then from_request c k p f.held
-    else if not ((is_transport p && is_to k p) || is_profile (kind_of p.pgn)) then []
-    else if is_none (holder_at k.claims.holders p.source) then of_source 10 p.source p.pgn ∷ []
-    else gives c k before (messages_of c s h) (handled_by k (note_of c (length h) k older m f) older m) (done c s h (entry.frame m f))
+  -- the rules that it breaks
+  abbrev pub frame_refused : List Report
+  frame_refused =
+      let k = known c s h in
+      let notes = notes_of c s h in
+      let n = note_of c (length h) k notes m f in
+      frame_breaks c.name meaning_after n (frames_before meaning_after k notes m n.parts) (packets_before meaning_after k notes m n.parts)
+      (done c s h (entry.frame m f))
 
--- ---- a command to go to an address
+  -- what it makes the gateway send on the bus
+  abbrev pub answers_by : Meaning → List Emit
+  answers_by address_claim = claim_gives c.name (length h) (known c s h) (notes_of c s h) m f
+  answers_by request = request_gives c.name (known c s h).claims.own f.held
+  answers_by transport =
+      let k = known c s h in
+      let notes = notes_of c s h in
+      session_gives k.claims.own (packets_before transport k notes m (parts_of f.id)) (note_of c (length h) k notes m f)
+  answers_by _ = []
+
+  -- its reports stand before its replies, and these before the datagram of the message that it completes
+  abbrev pub from_frame : List Spoken → List Emit
+  from_frame before =
+      reported frame_refused ++ answers_by meaning_after
+      ++ said_in c before (chosen c (known c s h) (messages_of c s h) (done c s h (entry.frame m f)))
+
+-- ---- a command to go to an address (ISO 11783-5), which is obeyed or is rule 26
+
+abbrev pub command_breaks : Claims → ℕ → ℕ → List Report
+command_breaks claims source address = breaks (not (is_obeyed claims address)) rules.command_not_obeyed (detail.Source source 65240)
+
+abbrev pub command_gives : ℕ → ℕ → Known → List Note → ℕ → ℕ → ℕ → List Emit
+command_gives name index k notes m source address =
+    let after = known_after index k (entry.command m source address) in
+    if is_obeyed k.claims address then lost_elsewhere k after notes m None None ++ own_claim name after.claims.own ∷ [] else []
 
 abbrev pub from_command : Settings → ℕ → History → ℕ → ℕ → ℕ → List Emit
-from_command c s h m source address =
-    let k = known c s h in
-    let after = known_after (length h) k (entry.command m source address) in
-    if is_obeyed k.claims address
-    then lost_elsewhere k after (notes_of c s h) m None None ++ own_claim c.name after.claims.own ∷ []
-    else of_source 26 source 65240 ∷ []
+from_command c s h m source address = let k = known c s h in
+    reported (command_breaks k.claims source address) ++ command_gives c.name (length h) k (notes_of c s h) m source address

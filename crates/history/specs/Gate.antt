@@ -1,54 +1,81 @@
 -- What the gateway emits at each entry, over the history before it.
-use Rattle.std.specs.Prelude.{ℕ, ◌&&◌, ◌==◌, nat_le, List, [], ◌∷◌, ◌++◌, length, Option, Some, None, slice_index, if◌then◌else◌}
+use Rattle.std.specs.Prelude.{ℕ, ◌&&◌, ◌==◌, nat_le, List, [], ◌∷◌, ◌++◌, length, Option, Some, None, Result, slice_index, if◌then◌else◌}
 use Rattle.n2k_id.specs.Name.{name_at}
+use Rattle.claim_table.specs.Claims.{is_ready}
 use Rattle.readings.specs.declared.reading.Reading.{Reading}
 use Rattle.readings.specs.Rows.{row_of}
+use Rattle.datagram450.specs.declared.fault.DatagramFault.{DatagramFault}
+use Rattle.datagram450.specs.Datagram as datagrams
+use Rattle.datagram450.specs.Item.{Item}
+use Rattle.capture_text.specs.declared.emit.Report.{Report}
 use Rattle.capture_text.specs.declared.emit.Detail.TheVariants as detail
+use Rattle.report_rules.specs.Rules as rules
 use Rattle.history.specs.Entries as entry
 use Rattle.history.specs.Entries.{Entry, History, now, moment_of, is_accepted}
-use Rattle.history.specs.Settings.{Settings}
+use Rattle.history.specs.Settings.{Settings, rule_of}
 use Rattle.history.specs.Known.{Known, known}
 use Rattle.history.specs.Opens.{notes_of}
 use Rattle.history.specs.Messages.{Message, done, messages_of}
-use Rattle.history.specs.Emits.{Emit, Emitted, at, broken, own_claim, request_for_claims}
+use Rattle.history.specs.Emits.{Emit, Emitted, can, net, report, at, broken, own_claim, request_for_claims}
 use Rattle.history.specs.Endings.{fast_expired, iso_expired, groups_expired}
-use Rattle.history.specs.Datagrams.{Said, sentences_of}
-use Rattle.history.specs.FromNet.{Heard, silence, heard_by}
-use Rattle.history.specs.FromBus.{chosen, from_frame, from_command}
+use Rattle.history.specs.Datagrams.{Spoken, sentences_of}
+use Rattle.history.specs.Heard.{Came, came_at, with_items, lines_of}
+use Rattle.history.specs.FromNet.{items_in, datagram_gives}
+use Rattle.history.specs.FromBus.{chosen, frame_refused, from_frame, command_breaks, from_command}
 
 module _ (c : Settings) (s : ℕ) where
   -- what an entry makes the gateway say on the network
-  abbrev pub with_said : Option Reading → List Said → List Said
-  with_said None before = before
-  with_said (Some r) before = let rule = c.rows (row_of r) in
+  abbrev pub with_spoken : Option Reading → List Spoken → List Spoken
+  with_spoken None before = before
+  with_spoken (Some r) before = let rule = rule_of c (row_of r) in
       record { group = rule.group; lines = length (sentences_of rule.talker c.ths r) } ∷ before
 
-  abbrev pub said_of : History → List Said
-  said_of [] = []
-  said_of (e ∷ h) = with_said (chosen c (known c s h) (messages_of c s h) (done c s h e)) (said_of h)
+  abbrev pub spoken_of : History → List Spoken
+  spoken_of [] = []
+  spoken_of (e ∷ h) = with_spoken (chosen c (known c s h) (messages_of c s h) (done c s h e)) (spoken_of h)
 
-  -- what was heard from the network
-  abbrev pub heard_after : Known → Heard → Entry → Heard
-  heard_after k h (entry.frame m f) = h
-  heard_after k h (entry.datagram m bytes) = heard_by c k m bytes h
-  heard_after k h (entry.tick m) = h
-  heard_after k h (entry.command m source address) = h
+  -- the items of a datagram that comes after a history
+  abbrev pub came : History → ℕ → Result (List Item) DatagramFault → List Came
+  came h m read = came_at m (is_ready (known c s h).claims m) (items_in read)
 
-  abbrev pub heard : History → Heard
-  heard [] = silence
-  heard (e ∷ h) = heard_after (known c s h) (heard h) e
+  abbrev pub items_of : History → Entry → List Came
+  items_of h (entry.frame m f) = []
+  items_of h (entry.datagram m bytes) = came h m (datagrams.read bytes)
+  items_of h (entry.tick m) = []
+  items_of h (entry.command m source address) = []
+
+  -- the items of all datagrams, the newest first
+  abbrev pub heard : History → List Came
+  heard [] = []
+  heard (e ∷ h) = with_items (heard h) (items_of h e)
 
   -- what is overdue ends first
   abbrev pub expired : History → ℕ → List Emit
   expired h m =
       let k = known c s h in
       let notes = notes_of c s h in
-      fast_expired k notes (now h) m ++ iso_expired k notes (now h) m ++ groups_expired (heard h).taken (now h) m
+      fast_expired k notes (now h) m ++ iso_expired k notes (now h) m ++ groups_expired (lines_of c (heard h)) (now h) m
+
+  -- the rules that an entry breaks; of a datagram, the reports among what it gives
+  abbrev pub reports_in : List Emit → List Report
+  reports_in [] = []
+  reports_in (report r ∷ emits) = r ∷ reports_in emits
+  reports_in (can f ∷ emits) = reports_in emits
+  reports_in (net group bytes ∷ emits) = reports_in emits
+
+  abbrev pub datagram_after : History → ℕ → List ℕ → List Emit
+  datagram_after h m bytes = let read = datagrams.read bytes in datagram_gives c (known c s h).claims.own (heard h) (came h m read) read
+
+  abbrev pub broken_by : History → Entry → List Report
+  broken_by h (entry.frame m f) = frame_refused c s h m f
+  broken_by h (entry.datagram m bytes) = reports_in (datagram_after h m bytes)
+  broken_by h (entry.tick m) = []
+  broken_by h (entry.command m source address) = command_breaks (known c s h).claims source address
 
   -- what an entry gives by itself
   abbrev pub handled : History → Entry → List Emit
-  handled h (entry.frame m f) = from_frame c s h (said_of h) m f
-  handled h (entry.datagram m bytes) = (heard_by c (known c s h) m bytes (heard h)).emits
+  handled h (entry.frame m f) = from_frame c s h m f (spoken_of h)
+  handled h (entry.datagram m bytes) = datagram_after h m bytes
   handled h (entry.tick m) = []
   handled h (entry.command m source address) = from_command c s h m source address
 
@@ -77,17 +104,17 @@ module _ (c : Settings) (s : ℕ) where
   abbrev pub stepped : History → Entry → Stepped
   stepped h e =
       if is_accepted h e then with_command h e (command_in (done c s h e) (moment_of e))
-      else record { emits = at (now h) (broken 3 detail.Nothing ∷ []); after = h }
+      else record { emits = at (now h) (broken rules.moment_back detail.Nothing ∷ []); after = h }
 
   -- ---- a list of events, in the order in which they come
 
   -- the start gives the own claim and the request for the claims of all
-  abbrev pub at_start : List Emitted
-  at_start = at s (own_claim c.name (Some c.address) ∷ request_for_claims c.address ∷ [])
+  abbrev pub opening : List Emitted
+  opening = at s (own_claim c.name (Some c.address) ∷ request_for_claims c.address ∷ [])
 
   abbrev pub from_events : History → List Entry → List Emitted
   from_events h [] = []
   from_events h (e ∷ es) = let x = stepped h e in x.emits ++ from_events x.after es
 
   abbrev pub gate : List Entry → List Emitted
-  gate events = at_start ++ from_events [] events
+  gate events = opening ++ from_events [] events

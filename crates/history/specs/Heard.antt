@@ -1,10 +1,14 @@
--- What is heard from the network: the lines that are taken, and the groups that they make.
-use Rattle.std.specs.Prelude.{ℕ, Bool, false, ◌&&◌, ◌||◌, not, ◌==◌, nat_eq, nat_le, nat_lt, List, [], ◌∷◌, length, map, reverse, filter, filter_map, Option, Some, None, is_some, if◌then◌else◌}
+-- What is heard from the network (IEC 61162-450): the items of all datagrams, the lines that are taken of them, and the groups that
+-- these make. Every list has the newest first.
+use Rattle.std.specs.Prelude.{ℕ, Bool, true, false, ◌&&◌, ◌||◌, not, ◌==◌, nat_eq, nat_le, nat_lt, List, [], ◌∷◌, length, map, reverse, filter, filter_map, position, Option, Some, None, is_some, if◌then◌else◌}
 use Rattle.std.specs.Cmp.Lexicographic.{pointwise}
 use Rattle.runs.specs.Runs.{open_at, run_of}
 use Rattle.tag_block.specs.declared.group_part.GroupPart.{GroupPart}
-use Rattle.tag_block.specs.GroupRuns.{GroupLine, group_rules}
 use Rattle.tag_block.specs.declared.group_key.GroupKey.{GroupKey}
+use Rattle.tag_block.specs.Tag.{Said}
+use Rattle.tag_block.specs.GroupRuns.{GroupLine, group_rules}
+use Rattle.datagram450.specs.Item.{Item, line, bad}
+use Rattle.history.specs.Settings.{Settings}
 use Rattle.history.specs.Opens.{placed}
 
 abbrev pub same_text : List ℕ → List ℕ → Bool
@@ -16,10 +20,27 @@ before_text [] b = false
 before_text (x ∷ xs) [] = false
 before_text (x ∷ xs) (y ∷ ys) = nat_lt x y || ((x == y) && before_text xs ys)
 
--- a line that is taken: when it came, from whom, its place in a group where it has one, its sentence, and whether there was room
--- for a group that it opens
+-- an item of a datagram, its place in it included: when it came, and whether the gateway was ready then
+pub record Came : Type 0 where
+  pub moment : ℕ
+  pub ready : Bool
+  pub item : Item
+
+-- the items of a datagram, in its order
+abbrev pub came_at : ℕ → Bool → List Item → List Came
+came_at m ready items = map (λ i. record { moment = m; ready = ready; item = i }) items
+
+-- with the items of one more datagram
+abbrev pub with_items : List Came → List Came → List Came
+with_items older [] = older
+with_items older (x ∷ items) = with_items (x ∷ older) items
+
+-- a line that is taken: when it came, and whether the gateway was ready then; its place in its datagram, its source, its place in a
+-- group where it has one, its sentence, and whether there was room for a group that it opens
 pub record Taken : Type 0 where
   pub moment : ℕ
+  pub ready : Bool
+  pub place : ℕ
   pub source : List ℕ
   pub group : Option GroupPart
   pub sentence : List ℕ
@@ -48,7 +69,7 @@ line_in key t (Some part) = if same_group key (record { sfi = t.source; code = p
 
 -- the lines of a group
 abbrev pub group_trace : GroupKey → List Taken → List GroupLine
-group_trace key taken = filter_map (λ t. line_in key t (several t.group)) taken
+group_trace key lines = filter_map (λ t. line_in key t (several t.group)) lines
 
 abbrev pub key_with : List ℕ → Option GroupPart → List GroupKey → List GroupKey
 key_with source None keys = keys
@@ -60,14 +81,57 @@ group_keys [] = []
 group_keys (t ∷ older) = key_with t.source (several t.group) (group_keys older)
 
 abbrev pub group_open : List Taken → GroupKey → ℕ → Option (List GroupLine)
-group_open taken key m = open_at group_rules (group_trace key taken) m
+group_open lines key m = open_at group_rules (group_trace key lines) m
 
 abbrev pub open_groups : List Taken → ℕ → List GroupKey
-open_groups taken m = filter (λ key. is_some (group_open taken key m)) (group_keys taken)
+open_groups lines m = filter (λ key. is_some (group_open lines key m)) (group_keys lines)
 
--- a first line finds room where fewer of the other groups are open than the limit
-abbrev pub is_admitted : ℕ → List Taken → GroupKey → ℕ → Bool
-is_admitted limit taken key m = nat_lt (length (filter (λ other. not (same_group other key)) (open_groups taken m))) limit
+-- a first line finds room where fewer of the other groups are open just before it than the limit
+abbrev pub is_group_admitted : ℕ → List Taken → GroupKey → ℕ → Bool
+is_group_admitted limit lines key m = nat_lt (length (filter (λ other. not (same_group other key)) (open_groups lines m))) limit
+
+-- ---- the lines that are taken: those of listed sources that are for all or for the gateway, and not its own
+
+-- the place of a source among those that are listed
+abbrev pub place_of : Settings → List ℕ → Option ℕ
+place_of c source = position (same_text source) c.net_sources
+
+abbrev pub is_own_line : Settings → Said → Bool
+is_own_line c said = same_text said.source c.sfi
+
+-- a line without a destination is for all
+abbrev pub is_elsewhere : Settings → Option (List ℕ) → Bool
+is_elsewhere c None = false
+is_elsewhere c (Some destination) = not (same_text destination c.sfi)
+
+abbrev pub is_taken : Settings → Said → Bool
+is_taken c said = not (is_own_line c said) && (not (is_elsewhere c said.destination) && is_some (place_of c said.source))
+
+-- a line that is in no group needs no room
+abbrev pub is_line_admitted : Settings → List Taken → List ℕ → Option GroupPart → ℕ → Bool
+is_line_admitted c lines source None m = true
+is_line_admitted c lines source (Some part) m = is_group_admitted c.group_slots lines (record { sfi = source; code = part.code }) m
+
+-- the line as it is taken after these
+abbrev pub taken_after : Settings → List Taken → Came → ℕ → Said → List ℕ → Taken
+taken_after c lines x place said sentence = record {
+  moment = x.moment;
+  ready = x.ready;
+  place = place;
+  source = said.source;
+  group = said.group;
+  sentence = sentence;
+  admitted = is_line_admitted c lines said.source said.group x.moment;
+}
+
+abbrev pub with_item : Settings → List Taken → Came → Item → List Taken
+with_item c lines x (line place said sentence parts) = if is_taken c said then taken_after c lines x place said sentence ∷ lines else lines
+with_item c lines x (bad rule place) = lines
+
+-- of all items that came
+abbrev pub lines_of : Settings → List Came → List Taken
+lines_of c [] = []
+lines_of c (x ∷ older) = with_item c (lines_of c older) x x.item
 
 -- ---- the sentences that the newest line hands over, in their order: its own, or those of the group that it ends
 

@@ -4,6 +4,7 @@ use Rattle.n2k_id.specs.Frame.{BusFrame}
 use Rattle.n2k_id.specs.Identifier.{parts_of}
 use Rattle.n2k_id.specs.Name.{name_at}
 use Rattle.claim_table.specs.Presets.{opened}
+use Rattle.claim_table.specs.declared.answer.ClaimStep.{ClaimStep}
 use Rattle.claim_table.specs.Claims.{Claims, Claim, claim_of, started, claim, command, holder_at}
 use Rattle.history.specs.Entries as entry
 use Rattle.history.specs.Entries.{Entry, History}
@@ -38,6 +39,18 @@ since_own index since (Some before) (Some after) = if before == after then since
 since_own index since None after = index
 since_own index since (Some before) None = since
 
+-- what a claim takes away from other holders: the address that its NAME left for the claimed one, and the claimed one where it is won
+-- from another NAME; the gateway's own address is neither
+abbrev pub address_left : ClaimStep → Option ℕ
+address_left step = step.released
+
+abbrev pub address_won : ClaimStep → Option ℕ
+address_won step = address_in step.lost
+  where
+    address_in : {A : Type 0} → Option (ℕ × A) → Option ℕ
+    address_in None = None
+    address_in (Some x) = Some x.0
+
 abbrev pub followed_by : ℕ → Known → Claims → Known
 followed_by index k after = record { claims = after; own_since = since_own index k.own_since k.claims.own after.own }
 
@@ -50,10 +63,10 @@ known_after index k (entry.command m source address) = followed_by index k (comm
 
 module _ (c : Settings) (s : ℕ) where
   -- what is known at the start: the presets, and the configured address, which may be used 250 ms later
-  abbrev pub at_start : Known
-  at_start = record { claims = started (opened c.name c.address c.presets) s; own_since = 0 }
+  abbrev pub known_at_start : Known
+  known_at_start = record { claims = started (opened c.name c.address c.presets) s; own_since = 0 }
 
   -- what is known after a history
   abbrev pub known : History → Known
-  known [] = at_start
+  known [] = known_at_start
   known (e ∷ h) = known_after (length h) (known h) e

@@ -8,8 +8,12 @@ pub mod Choice
 pub mod Emits
 pub mod Endings
 pub mod Datagrams
+pub mod Meanings
+pub mod BusRules
 pub mod FromBus
 pub mod Heard
+pub mod NetReadings
+pub mod NetRules
 pub mod FromNet
 pub mod Gate
 pub mod Replay

@@ -12,7 +12,7 @@ use Rattle.history.specs.Entries as entry
 use Rattle.history.specs.Entries.{Entry, History, now, moment_of}
 use Rattle.history.specs.Settings.{Settings}
 use Rattle.history.specs.Emits.{Emit, Emitted, can, net, report, at, broken}
-use Rattle.history.specs.Gate.{stepped, at_start}
+use Rattle.history.specs.Gate.{stepped, opening}
 
 -- ---- the line of an emit
 
@@ -54,7 +54,7 @@ module _ (c : Settings) where
 
   -- the first event starts the gateway at its moment
   abbrev pub with_event : Option Running → Entry → Replayed
-  with_event None e = stepped_from (moment_of e) [] (at_start c (moment_of e)) e
+  with_event None e = stepped_from (moment_of e) [] (opening c (moment_of e)) e
   with_event (Some g) e = stepped_from g.start g.history [] e
 
   -- a line that is refused is reported by its number, at the moment that was reached

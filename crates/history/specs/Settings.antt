@@ -1,8 +1,9 @@
 -- How a gateway is configured, as plain values.
-use Rattle.std.specs.Prelude.{ℕ, Bool, List}
+use Rattle.std.specs.Prelude.{ℕ, zero, suc, Bool, false, ◌==◌, List, [], ◌∷◌}
 use Rattle.n2k_id.specs.declared.pattern.Pattern.{Pattern}
 use Rattle.claim_table.specs.declared.preset.Preset.{Preset}
 use Rattle.readings.specs.declared.rows.Row.{Row}
+use Rattle.readings.specs.declared.rows.Row.TheVariants as row
 
 -- whom a row is taken from, and to whom it is said
 pub record RowRule : Type 0 where
@@ -28,6 +29,42 @@ pub record Settings : Type 0 where
   pub ths : Bool
   -- the devices whose addresses are known before they claim
   pub presets : List Preset
-  pub rows : Row → RowRule
+  -- one rule for each row, by the row's number
+  pub rows : List RowRule
   -- whom the network is heard from, in order of preference
   pub net_sources : List (List ℕ)
+
+-- a row's place in the table of rows
+abbrev pub row_number : Row → ℕ
+row_number row.HeadingTrue = 0
+row_number row.HeadingMagnetic = 1
+row_number row.RateOfTurn = 2
+row_number row.RudderFirst = 3
+row_number row.RudderSecond = 4
+row_number row.WaterSpeed = 5
+row_number row.Depth = 6
+row_number row.DistanceLog = 7
+row_number row.Position = 8
+row_number row.CourseSpeed = 9
+row_number row.Gnss = 10
+row_number row.Time = 11
+row_number row.WindApparent = 12
+row_number row.WindTrue = 13
+row_number row.WindNorth = 14
+row_number row.WaterTemperature = 15
+row_number row.CrossTrack = 16
+
+abbrev pub same_row : Row → Row → Bool
+same_row a b = row_number a == row_number b
+
+-- a row without a rule is taken from nobody
+abbrev pub no_rule : RowRule
+no_rule = record { sources = []; others = false; timeout = 0; talker = []; group = [] }
+
+abbrev pub rule_at : List RowRule → ℕ → RowRule
+rule_at [] number = no_rule
+rule_at (rule ∷ rules) zero = rule
+rule_at (rule ∷ rules) (suc number) = rule_at rules number
+
+abbrev pub rule_of : Settings → Row → RowRule
+rule_of c row = rule_at c.rows (row_number row)

@@ -6,14 +6,13 @@ use Rattle.claim_table.specs.declared.answer.ClaimStep.{ClaimStep}
 use Rattle.history.specs.AddressLaws.{AreSettings}
 use Rattle.history.specs.Entries.{Entry, History, frame, command}
 use Rattle.history.specs.Settings.{Settings}
-use Rattle.history.specs.Known.{known, is_claim, claim_by}
+use Rattle.history.specs.Known.{known, is_claim, claim_by, address_left, address_won}
 use Rattle.history.specs.Traces.{fast_trace, iso_trace}
 use Rattle.history.specs.Opens.{notes_of}
-use Rattle.history.specs.FromBus.{won_by}
 
 -- its holder lost the address: the claiming NAME left it, or took it from another NAME
 abbrev pub is_lost : ClaimStep → ℕ → Bool
-is_lost step a = is_at a step.released || is_at a (won_by step)
+is_lost step a = is_at a (address_left step) || is_at a (address_won step)
 
 abbrev pub same_own : Option ℕ → Option ℕ → Bool
 same_own None None = true

@@ -1,0 +1,156 @@
+-- Which rules a frame from the bus breaks: one table, in the order of the rules' numbers. Each row is a condition on the frame and on
+-- what is open of its key just before it. A repeat breaks none.
+use Rattle.std.specs.Prelude.{ℕ, Bool, true, false, ◌&&◌, ◌||◌, not, ◌==◌, nat_le, nat_lt, List, [], ◌∷◌, ◌++◌, length, Option, Some, None, is_some, is_none}
+use Rattle.n2k_id.specs.Name.{name_at}
+use Rattle.report_rules.specs.Rules as rules
+use Rattle.pgn_profile.specs.Profiled.{profiled}
+use Rattle.pgn_profile.specs.declared.profiled.Profiled.{Profiled}
+use Rattle.pgn_profile.specs.declared.profiled.Profiled.TheVariants as says
+use Rattle.fast_packet.specs.FastFrames as fast
+use Rattle.fast_packet.specs.FastRuns as fast_runs
+use Rattle.fast_packet.specs.FastRuns.{FastPiece}
+use Rattle.fast_packet.specs.Keys.{is_awaited}
+use Rattle.iso_transport.specs.Audience.{key_of}
+use Rattle.iso_transport.specs.Connection.{control_at}
+use Rattle.iso_transport.specs.IsoRuns as iso_runs
+use Rattle.iso_transport.specs.IsoRuns.{IsoPiece, end_of, session_of}
+use Rattle.iso_transport.specs.Told.{left_of_run}
+use Rattle.capture_text.specs.declared.emit.Report.{Report}
+use Rattle.capture_text.specs.declared.emit.Detail.{Detail}
+use Rattle.capture_text.specs.declared.emit.Detail.TheVariants as detail
+use Rattle.history.specs.Meanings.{Meaning, is_address_claim, is_own_source, is_request, is_from_nobody, is_of_session, is_of_fast_packet}
+use Rattle.history.specs.Traces.{Note, fast_piece, iso_piece}
+use Rattle.history.specs.Messages.{Message}
+use Rattle.history.specs.Emits.{breaks}
+
+-- ---- claims and requests (ISO 11783-5)
+
+-- the bytes are no NAME, or the address is none that can be claimed
+abbrev pub is_malformed_claim : Note → Bool
+is_malformed_claim n = nat_lt (length n.bytes) 8 || (n.parts.source == 255)
+
+abbrev pub is_duplicate : ℕ → Note → Bool
+is_duplicate name n = not (is_malformed_claim n) && (name_at n.bytes == name)
+
+-- what is asked for has three bytes
+abbrev pub is_malformed_request : Note → Bool
+is_malformed_request n = nat_lt (length n.bytes) 3
+
+-- ---- a frame of a fast packet (canboat), by the frames of its message that are open
+
+abbrev pub is_later_frame : FastPiece → Bool
+is_later_frame x = nat_lt 0 (fast.counter_of x.bytes)
+
+-- the frame that is awaited, but with fewer bytes than it owes
+abbrev pub is_cut_off : Option (List FastPiece) → FastPiece → Bool
+is_cut_off None x = false
+is_cut_off (Some acc) x = is_awaited acc x && not (fast_runs.is_next acc x)
+
+-- it has no byte; it is a frame 0 that opens nothing; or it is cut off
+abbrev pub is_wrong_length : Option (List FastPiece) → FastPiece → Bool
+is_wrong_length open_frames x =
+    (length x.bytes == 0) || ((fast.counter_of x.bytes == 0) && not (fast.is_opener x.bytes)) || is_cut_off open_frames x
+
+-- a later frame that is neither a repeat nor the awaited one
+abbrev pub is_out_of_order : Option (List FastPiece) → FastPiece → Bool
+is_out_of_order None x = false
+is_out_of_order (Some acc) x = is_later_frame x && (not (fast_runs.is_repeat acc x) && not (is_awaited acc x))
+
+-- ---- a frame of the transport protocol (ISO 11783-3), by the frames of its session that are open
+
+-- a connection management frame of 8 bytes with this control byte: an RTS, a BAM, an abort
+abbrev pub has_control : ℕ → IsoPiece → Bool
+has_control control x = not x.packet && (nat_le 8 (length x.bytes) && (control_at x.bytes == control))
+
+abbrev pub is_rts : IsoPiece → Bool
+is_rts x = has_control 16 x
+
+abbrev pub is_bam : IsoPiece → Bool
+is_bam x = has_control 32 x
+
+abbrev pub is_abort : IsoPiece → Bool
+is_abort x = has_control 255 x
+
+-- an RTS to the gateway before it is ready opens nothing, and has no reply
+abbrev pub is_early : Bool → Bool → IsoPiece → Bool
+is_early addressed ready x = addressed && (is_rts x && not ready)
+
+abbrev pub opens_session : Bool → Bool → IsoPiece → Bool
+opens_session addressed ready x = iso_runs.is_opener addressed x && not (is_early addressed ready x)
+
+-- an RTS to all, or a BAM to the gateway
+abbrev pub is_wrong_kind : Bool → IsoPiece → Bool
+is_wrong_kind addressed x = (not addressed && is_rts x) || (addressed && is_bam x)
+
+-- a BAM or an RTS of a size that no message has, or with another number of packets than the size needs
+abbrev pub is_wrong_size : Bool → Bool → IsoPiece → Bool
+is_wrong_size addressed ready x =
+    ((not addressed && is_bam x) || (addressed && is_rts x)) && (not (is_early addressed ready x) && not (iso_runs.is_opener addressed x))
+
+-- a packet of an open session with fewer bytes than it owes
+abbrev pub is_short_packet : Option (List IsoPiece) → IsoPiece → Bool
+is_short_packet None x = false
+is_short_packet (Some acc) x = x.packet && nat_lt (length x.bytes) (end_of (left_of_run acc))
+
+-- one that holds what it owes, and is neither a repeat nor the next
+abbrev pub is_packet_out_of_order : Option (List IsoPiece) → IsoPiece → Bool
+is_packet_out_of_order None x = false
+is_packet_out_of_order (Some acc) x =
+    x.packet && (not (nat_lt (length x.bytes) (end_of (left_of_run acc))) && (not (iso_runs.is_repeat acc x) && not (iso_runs.is_next acc x)))
+
+-- a connection management frame of fewer than 8 bytes
+abbrev pub is_cut_management : IsoPiece → Bool
+is_cut_management x = not x.packet && nat_lt (length x.bytes) 8
+
+-- the message of a session that is open
+abbrev pub session_pgn : Option (List IsoPiece) → ℕ
+session_pgn None = 0
+session_pgn (Some acc) = (session_of acc).pgn
+
+-- ---- a message
+
+abbrev pub is_short : Profiled → Bool
+is_short says.Short = true
+is_short (says.Reading r) = false
+is_short says.Outside = false
+
+abbrev pub message_breaks : Option Message → List Report
+message_breaks None = []
+message_breaks (Some d) = breaks (is_short (profiled d.pgn d.payload)) rules.short_message (detail.Source d.source d.pgn)
+
+-- ---- the table: by the gateway's NAME, what the frame is to it, what is open of its fast packet or of its session, and the message
+-- that it completes
+
+module _ (name : ℕ) (meaning : Meaning) (n : Note) (frames : Option (List FastPiece)) (packets : Option (List IsoPiece)) (message : Option Message) where
+  -- the sender, with the frame's PGN, or with that of a message
+  abbrev pub of_frame : Detail
+  of_frame = detail.Source n.parts.source n.parts.pgn
+
+  abbrev pub of_message : ℕ → Detail
+  of_message pgn = detail.Source n.parts.source pgn
+
+  abbrev pub frame_breaks : List Report
+  frame_breaks =
+      let fast_packet = is_of_fast_packet meaning in
+      let transport = is_of_session meaning in
+      let x = fast_piece n in
+      let y = iso_piece n in
+      let addressed = (key_of n.parts).addressed in
+      breaks (is_from_nobody meaning) rules.unclaimed of_frame
+      ++ breaks (fast_packet && is_out_of_order frames x) rules.fast_order of_frame
+      ++ breaks (fast_packet && (is_later_frame x && is_none frames)) rules.fast_orphan of_frame
+      ++ breaks (fast_packet && is_wrong_length frames x) rules.fast_length of_frame
+      ++ breaks (fast_packet && (fast.is_opener x.bytes && is_some frames)) rules.restarted of_frame
+      ++ breaks (transport && (opens_session addressed n.ready y && is_some packets)) rules.restarted (of_message (session_pgn packets))
+      ++ breaks (fast_packet && (fast.is_opener x.bytes && not n.admitted)) rules.slots_full of_frame
+      ++ breaks (transport && (opens_session addressed n.ready y && not n.admitted)) rules.slots_full (of_message (session_of (y ∷ [])).pgn)
+      ++ breaks (transport && (is_cut_management y || is_wrong_kind addressed y || is_wrong_size addressed n.ready y || is_short_packet packets y))
+      rules.iso_size of_frame
+      ++ breaks (transport && is_packet_out_of_order packets y) rules.iso_order of_frame
+      ++ breaks (transport && (y.packet && is_none packets)) rules.iso_orphan of_frame
+      ++ breaks (transport && (addressed && (is_abort y && is_some packets))) rules.iso_aborted (of_message (session_pgn packets))
+      ++ message_breaks message
+      ++ breaks (is_address_claim meaning && is_duplicate name n) rules.duplicate_name (detail.Address n.parts.source)
+      ++ breaks (is_own_source meaning) rules.own_address_used of_frame
+      ++ breaks ((is_address_claim meaning && is_malformed_claim n) || (is_request meaning && is_malformed_request n)) rules.claim_or_request_malformed of_frame
+      ++ breaks (transport && is_early addressed n.ready y) rules.not_ready of_frame

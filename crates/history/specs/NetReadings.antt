@@ -1,0 +1,94 @@
+-- What the lines from the network say, and which of it is selected and sent on. Every list has the newest first.
+use Rattle.std.specs.Prelude.{ℕ, ◌%◌, Bool, true, false, ◌&&◌, not, ◌==◌, List, [], ◌∷◌, map, filter, find, count_by, Option, Some, None, option_map, Result, Ok, Err, if◌then◌else◌}
+use Rattle.std.specs.List.{list_any}
+use Rattle.readings.specs.declared.reading.Reading.{Reading}
+use Rattle.readings.specs.declared.rows.Row.{Row}
+use Rattle.readings.specs.Rows.{row_of}
+use Rattle.pgn_profile.specs.Payload.{pgn_of}
+use Rattle.pgn_profile.specs.Profiled.{kind_of}
+use Rattle.sentence_text.specs.declared.fault.SentenceFault.{SentenceFault}
+use Rattle.sentence_text.specs.Sentence.{Parts}
+use Rattle.sentence_text.specs.Reading as sentences
+use Rattle.sentence_rows.specs.declared.fault.FieldFault.{FieldFault}
+use Rattle.sentence_rows.specs.declared.fault.FieldFault.TheVariants.{Outside}
+use Rattle.sentence_rows.specs.ReadRow.{read_row}
+use Rattle.history.specs.Settings.{Settings, RowRule, rule_of}
+use Rattle.history.specs.Opens.{is_fast}
+use Rattle.history.specs.Choice.{Rank, is_better, is_row, is_current}
+use Rattle.history.specs.Heard.{Taken, same_text, place_of, handed_over}
+
+-- a reading that was heard, with its line: of a group, the one that completed it
+pub record NetReading : Type 0 where
+  pub line : Taken
+  pub reading : Reading
+
+-- ---- what a sentence says: its readings, or its first fault; one that can't be read is outside the profile
+
+abbrev pub read_parts : Result Parts SentenceFault → Result (List Reading) FieldFault
+read_parts (Ok parts) = read_row parts
+read_parts (Err f) = Err Outside
+
+abbrev pub read_sentence : List ℕ → Result (List Reading) FieldFault
+read_sentence text = read_parts (sentences.read text)
+
+-- ---- the readings of the sentences that are handed over
+
+abbrev pub with_readings : Taken → List NetReading → List Reading → List NetReading
+with_readings t older [] = older
+with_readings t older (r ∷ readings) = with_readings t (record { line = t; reading = r } ∷ older) readings
+
+abbrev pub with_said : Taken → List NetReading → Result (List Reading) FieldFault → List NetReading
+with_said t older (Ok readings) = with_readings t older readings
+with_said t older (Err fault) = older
+
+abbrev pub with_sentences : Taken → List NetReading → List (List ℕ) → List NetReading
+with_sentences t older [] = older
+with_sentences t older (text ∷ texts) = with_sentences t (with_said t older (read_sentence text)) texts
+
+-- of all lines that were taken
+abbrev pub readings_of : List Taken → List NetReading
+readings_of [] = []
+readings_of (t ∷ older) = with_sentences t (readings_of older) (handed_over t older)
+
+-- ---- which readings are selected: as on the bus, without claims; the rank of a source is its place among those that are listed
+
+abbrev pub net_rank : Settings → List ℕ → Option Rank
+net_rank c source = option_map (λ place. record { place = place; name = 0 }) (place_of c source)
+
+-- the last reading of a row from a source
+abbrev pub last_heard : Row → List ℕ → List NetReading → Option NetReading
+last_heard row source older = find (λ n. same_text n.line.source source && is_row row (Some n.reading)) older
+
+abbrev pub counts_still : ℕ → ℕ → Option NetReading → Bool
+counts_still timeout m None = false
+counts_still timeout m (Some n) = is_current timeout m n.line.moment (Some n.reading)
+
+-- a source is fresh where its last reading of the row counts still
+abbrev pub is_net_fresh : RowRule → Row → List ℕ → ℕ → List NetReading → Bool
+is_net_fresh rule row source m older = counts_still rule.timeout m (last_heard row source older)
+
+-- no source of a smaller rank is fresh
+abbrev pub is_net_first : Settings → List NetReading → NetReading → Option Rank → Bool
+is_net_first c older n None = false
+is_net_first c older n (Some rank) = let row = row_of n.reading in
+    not (list_any (λ o. is_better rank (net_rank c o.line.source) && is_net_fresh (rule_of c row) row o.line.source n.line.moment older) older)
+
+abbrev pub is_net_selected : Settings → List NetReading → NetReading → Bool
+is_net_selected c older n = is_net_first c older n (net_rank c n.line.source)
+
+abbrev pub selected_of : Settings → List NetReading → List NetReading
+selected_of c [] = []
+selected_of c (n ∷ older) = if is_net_selected c older n then n ∷ selected_of c older else selected_of c older
+
+-- ---- what is sent on: the selected readings that came while the gateway was ready
+
+abbrev pub is_fast_row : Row → Bool
+is_fast_row row = is_fast (kind_of (pgn_of row))
+
+-- the PGNs of the fast packets among it
+abbrev pub fast_sent : Settings → List NetReading → List ℕ
+fast_sent c readings = map (λ n. pgn_of (row_of n.reading)) (filter (λ n. n.line.ready && is_fast_row (row_of n.reading)) (selected_of c readings))
+
+-- the sequence of the next fast packet of a PGN counts those that were sent, from 0 to 7
+abbrev pub next_sequence : Settings → List NetReading → ℕ → ℕ
+next_sequence c readings pgn = count_by (λ p. p == pgn) (fast_sent c readings) % 8
