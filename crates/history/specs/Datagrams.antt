@@ -7,7 +7,7 @@ use Rattle.readings.specs.declared.reading.Reading.TheVariants as reading
 use Rattle.sentence_rows.specs.declared.field.Field.{Field}
 use Rattle.sentence_rows.specs.declared.field.Field.TheVariants.{Time, Digits}
 use Rattle.sentence_rows.specs.Lines.{sentence_by}
-use Rattle.sentence_rows.specs.Text.{said, day_said}
+use Rattle.sentence_rows.specs.Writing.{said, day_said}
 use Rattle.tag_block.specs.declared.group_part.GroupPart.{GroupPart}
 use Rattle.datagram450.specs.Datagram.{header}
 use Rattle.datagram450.specs.Writing.{line_text}

@@ -11,7 +11,7 @@ use Rattle.sentence_text.specs.Sentence.{Parts}
 use Rattle.sentence_text.specs.Reading as sentences
 use Rattle.sentence_rows.specs.declared.fault.FieldFault.{FieldFault}
 use Rattle.sentence_rows.specs.declared.fault.FieldFault.TheVariants.{Outside}
-use Rattle.sentence_rows.specs.ReadRow.{read_row}
+use Rattle.sentence_rows.specs.Reading.{read_row}
 use Rattle.history.specs.Settings.{Settings, RowRule, rule_of}
 use Rattle.history.specs.Opens.{is_fast}
 use Rattle.history.specs.Choice.{Rank, is_better, is_row, is_current}

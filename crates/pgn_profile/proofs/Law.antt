@@ -6,7 +6,7 @@ use Rattle.readings.specs.declared.reading.Reading.{Reading}
 use Rattle.readings.specs.declared.reading.Reading.TheVariants as reading
 use Rattle.readings.specs.Numbers.{bits_of}
 use Rattle.readings.specs.Rows.{row_of}
-use Rattle.readings.specs.Ranges.{IsValid, angle, deviation, rate_of_turn, rudder, speed, depth, offset, depth_scale, water_distance, latitude, longitude, date, time, fix_latitude, fix_longitude, altitude, satellites, hdop, separation, kelvin, cross_track}
+use Rattle.readings.specs.Ranges.{IsValid, angle, deviation, rate_of_turn, rudder, speed, depth, offset, depth_scale, water_distance, latitude, longitude, date, time, fix_latitude, fix_longitude, altitude, satellites, hdop, separation, water_temperature, cross_track}
 use Rattle.pgn_profile.specs.declared.profiled.Profiled.TheVariants as says
 use Rattle.pgn_profile.specs.Payload.{payload_of, pgn_of}
 use Rattle.pgn_profile.specs.Profiled.{known_method, messages, profiled}
@@ -118,7 +118,7 @@ law (reading.WindNorth true s a) valid =
     cc
 law (reading.WaterTemperature k) valid =
     let bytes = payload_of (reading.WaterTemperature k) in
-    let e1 = unsigned_back bytes 3 3 kelvin k refl refl refl valid.0 in
+    let e1 = unsigned_back bytes 3 3 water_temperature k refl refl refl valid.0 in
     cc
 law (reading.CrossTrack d) valid =
     let bytes = payload_of (reading.CrossTrack d) in

@@ -4,7 +4,7 @@ use Rattle.std.specs.List.{list_any}
 use Rattle.readings.specs.declared.reading.Reading.{Reading}
 use Rattle.readings.specs.declared.reading.Reading.TheVariants as reading
 use Rattle.readings.specs.Numbers.{bits_of}
-use Rattle.readings.specs.Ranges.{IsValid, from_to, angle, deviation, rate_of_turn, rudder, speed, depth, offset, depth_scale, water_distance, latitude, longitude, date, time, fix_latitude, fix_longitude, altitude, satellites, hdop, separation, kelvin, cross_track}
+use Rattle.readings.specs.Ranges.{IsValid, from_to, angle, deviation, rate_of_turn, rudder, speed, depth, offset, depth_scale, water_distance, latitude, longitude, date, time, fix_latitude, fix_longitude, altitude, satellites, hdop, separation, water_temperature, cross_track}
 use Rattle.pgn_profile.specs.declared.kinds.Kind.{Kind}
 use Rattle.pgn_profile.specs.declared.kinds.Kind.TheVariants.{Single, Fast, Outside}
 use Rattle.pgn_profile.specs.declared.profiled.Profiled.{Profiled}
@@ -79,7 +79,7 @@ messages =
     ∷ message 130312 Single 5
     (where_bits (bits_at 2 0 8) (0 ∷ []) (λ p. reading.WaterTemperature (ten_times (unsigned 3 2 (from_to (pos 17315) (pos 37315)) p))) ∷ [])
     ∷ message 130316 Single 6
-    (where_bits (bits_at 2 0 8) (0 ∷ []) (λ p. reading.WaterTemperature (unsigned 3 3 kelvin p)) ∷ [])
+    (where_bits (bits_at 2 0 8) (0 ∷ []) (λ p. reading.WaterTemperature (unsigned 3 3 water_temperature p)) ∷ [])
     ∷ message 129283 Single 6 (always (λ p. reading.CrossTrack (signed 2 4 cross_track p)) ∷ [])
     ∷ []
 

@@ -19,11 +19,11 @@ use crate::field::{signed, unsigned};
 use crate::piece::Piece::{Byte, Signed, Unsigned};
 use crate::piece::{Payload, append_all};
 use crate::profiled::Profiled;
-use readings::range::{DEPTH, DEPTH_SCALE, KELVIN, OFFSET, SPEED, WATER_DISTANCE};
+use readings::range::{DEPTH, DEPTH_SCALE, OFFSET, SPEED, WATER_DISTANCE, WATER_TEMPERATURE};
 use readings::{Range, Reading};
 
 /// The temperatures of PGN 130312, in hundredths of a kelvin.
-const CENTIKELVIN: Range = Range {
+const WATER_TEMPERATURE_HUNDREDTHS: Range = Range {
     low: 17_315,
     high: 37_315,
 };
@@ -81,7 +81,7 @@ pub fn read_temperature(payload: &[u8]) -> Profiled
     if payload[2] != 0 {
         return Profiled::Outside;
     }
-    let kelvin = match unsigned(payload, 3, 2, CENTIKELVIN) {
+    let kelvin = match unsigned(payload, 3, 2, WATER_TEMPERATURE_HUNDREDTHS) {
         Some(hundredths) => Some(hundredths * 10),
         None => None,
     };
@@ -100,7 +100,7 @@ pub fn read_extended_temperature(payload: &[u8]) -> Profiled
         return Profiled::Outside;
     }
     Profiled::Reading(Reading::WaterTemperature {
-        kelvin: unsigned(payload, 3, 3, KELVIN),
+        kelvin: unsigned(payload, 3, 3, WATER_TEMPERATURE),
     })
 }
 

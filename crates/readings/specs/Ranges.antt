@@ -74,8 +74,8 @@ hdop = up_to 9999
 abbrev pub separation : Range
 separation = either_side 99990
 
-abbrev pub kelvin : Range
-kelvin = from_to (pos 173150) (pos 373150)
+abbrev pub water_temperature : Range
+water_temperature = from_to (pos 173150) (pos 373150)
 
 abbrev pub cross_track : Range
 cross_track = either_side 18520000
@@ -99,7 +99,7 @@ limits (reading.Time d t) = (date, d) ∷ (time, t) ∷ []
 limits (reading.WindApparent s a) = (speed, s) ∷ (angle, a) ∷ []
 limits (reading.WindTrue s a) = (speed, s) ∷ (angle, a) ∷ []
 limits (reading.WindNorth m s a) = (speed, s) ∷ (angle, a) ∷ []
-limits (reading.WaterTemperature k) = (kelvin, k) ∷ []
+limits (reading.WaterTemperature k) = (water_temperature, k) ∷ []
 limits (reading.CrossTrack d) = (cross_track, d) ∷ []
 
 -- the value is in the range

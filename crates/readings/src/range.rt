@@ -144,7 +144,7 @@ pub const SEPARATION: Range = Range {
 };
 
 /// Temperature of the sea, from -100 to 100 degrees Celsius, in 0.001 K.
-pub const KELVIN: Range = Range {
+pub const WATER_TEMPERATURE: Range = Range {
     low: 173_150,
     high: 373_150,
 };

@@ -4,8 +4,8 @@ ghost use Rattle.readings.specs.Ranges.{IsWithin, IsValid};
 
 use crate::range::{
     ALTITUDE, ANGLE, CROSS_TRACK, DATE, DEPTH, DEPTH_SCALE, DEVIATION, FIX_LATITUDE, FIX_LONGITUDE,
-    HDOP, KELVIN, LATITUDE, LONGITUDE, METHOD, OFFSET, RATE_OF_TURN, RUDDER, Range, SATELLITES,
-    SEPARATION, SPEED, TIME, WATER_DISTANCE,
+    HDOP, LATITUDE, LONGITUDE, METHOD, OFFSET, RATE_OF_TURN, RUDDER, Range, SATELLITES, SEPARATION,
+    SPEED, TIME, WATER_DISTANCE, WATER_TEMPERATURE,
 };
 use crate::reading::Reading;
 
@@ -74,7 +74,7 @@ pub fn valid(reading: &Reading) -> bool
         Reading::WindApparent { speed, angle }
         | Reading::WindTrue { speed, angle }
         | Reading::WindNorth { speed, angle, .. } => are_within(&[(SPEED, speed), (ANGLE, angle)]),
-        Reading::WaterTemperature { kelvin } => are_within(&[(KELVIN, kelvin)]),
+        Reading::WaterTemperature { kelvin } => are_within(&[(WATER_TEMPERATURE, kelvin)]),
         Reading::CrossTrack { distance } => are_within(&[(CROSS_TRACK, distance)]),
     }
 }

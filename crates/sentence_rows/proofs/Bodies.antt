@@ -21,7 +21,7 @@ use Rattle.sentence_text.proofs.Fields.{fields_before_comma}
 use Rattle.unit_fraction.specs.Digits.{spelling}
 use Rattle.unit_fraction.specs.Text.{behind_point, decimal_text, decimals, shows_minus}
 use Rattle.unit_fraction.proofs.Text.{own}
-use Rattle.sentence_rows.specs.Conversions.{degrees}
+use Rattle.sentence_rows.specs.WrittenUnits.{degrees}
 use Rattle.sentence_rows.specs.declared.field.Field.{Field}
 use Rattle.sentence_rows.specs.declared.field.Field.TheVariants.{Empty, Letter, Decimal, Magnitude, Side, Angle, Degrees, Time, Digits, Satellites}
 use Rattle.sentence_rows.specs.Field.{IsPrintable, body_text, body_width, count, degrees_text, is_negative, text_of, time_text, width_of}

@@ -6,17 +6,17 @@ use Rattle.std.proofs.lemmas.Bool.Decides.{nat_tests}
 use Rattle.std.proofs.lemmas.Int.{unsigned_abs-mul}
 use Rattle.std.proofs.lemmas.Nat.{mul-le}
 use Rattle.unit_fraction.specs.Round.{nearest, round}
-use Rattle.sentence_rows.specs.declared.conversion.Conversion.{Conversion}
+use Rattle.sentence_rows.specs.declared.written_unit.WrittenUnit.{WrittenUnit}
 use Rattle.sentence_rows.specs.Field.{count, is_sound}
 
 -- what a sound conversion says of its numbers
-pub record Sound (unit : Conversion) : Type 0 where
+pub record Sound (unit : WrittenUnit) : Type 0 where
   pub den : 0 < unit.den
   pub places : unit.places < unit.digits
   pub digits : unit.digits ≤ 12
   pub room : 2 * (unit.largest * unit.num) + unit.den < 2 * unit.den * 10 ^ unit.digits
 
-pub sound : (unit : Conversion) → IsTrue (is_sound unit) → Sound unit
+pub sound : (unit : WrittenUnit) → IsTrue (is_sound unit) → Sound unit
 sound unit h = record { den = grind (arith, nat_tests); places = grind (arith, nat_tests); digits = grind (arith, nat_tests); room = grind (arith, nat_tests) }
 
 abs-neg : (q : ℕ) → unsigned_abs (neg_ℤ (pos q)) ≡ q
@@ -33,7 +33,7 @@ nearest_below n d k some room =
     let positive : 0 < 2 * d = omega arith in
     (div-lt_iff_lt-mul {k = 2 * d} {x = 2 * n + d} {y = k} positive).1 room
 
-pub count_below : (unit : Conversion) (raw : ℤ) → IsTrue (is_sound unit) → unsigned_abs raw ≤ unit.largest
+pub count_below : (unit : WrittenUnit) (raw : ℤ) → IsTrue (is_sound unit) → unsigned_abs raw ≤ unit.largest
     → unsigned_abs (count unit raw) < 10 ^ unit.digits
 count_below unit raw is within =
     let s = sound unit is in
@@ -44,7 +44,7 @@ count_below unit raw is within =
     rw size (nearest_below (unsigned_abs (raw *ℤ pos unit.num)) unit.den (10 ^ unit.digits) s.den room)
 
 -- the count fits a word
-pub count_fits : (unit : Conversion) (raw : ℤ) → IsTrue (is_sound unit) → unsigned_abs raw ≤ unit.largest
+pub count_fits : (unit : WrittenUnit) (raw : ℤ) → IsTrue (is_sound unit) → unsigned_abs raw ≤ unit.largest
     → unsigned_abs (count unit raw) < 10 ^ 12
 count_fits unit raw is within =
     let s = sound unit is in

@@ -6,7 +6,7 @@ use Rattle.std.proofs.lemmas.Int.{ints}
 use Rattle.jiff.specs.Types.{Date}
 use Rattle.jiff.specs.Words.{IsDate, IsYear, IsYmd, days_in_month, epoch_day}
 use Rattle.readings.specs.Ranges.{Holds, date as date_range}
-use Rattle.sentence_rows.specs.Civil.{is_year, is_month, is_day, date_if, date_of}
+use Rattle.sentence_rows.specs.Calendar.{is_year, is_month, is_day, date_if, date_of}
 use Rattle.sentence_rows.specs.Columns.{day_number, day_of, day_within}
 
 none_if : (year month day : ℕ) (y m d : Bool) (ey : is_year year ≡ y) (em : is_month month ≡ m) (ed : is_day year month day ≡ d)

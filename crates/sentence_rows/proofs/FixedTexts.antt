@@ -14,9 +14,9 @@ use Rattle.unit_fraction.specs.Digits.{number_after, number}
 use Rattle.unit_fraction.specs.Text.{decimals}
 use Rattle.unit_fraction.proofs.Number.{number_after_append}
 use Rattle.unit_fraction.proofs.Text.{own}
-use Rattle.sentence_rows.specs.declared.conversion.Conversion.{Conversion}
+use Rattle.sentence_rows.specs.declared.written_unit.WrittenUnit.{WrittenUnit}
 use Rattle.sentence_rows.specs.declared.digits.Fixed.{Fixed}
-use Rattle.sentence_rows.specs.declared.quantity.Quantity.{Quantity}
+use Rattle.sentence_rows.specs.declared.read_unit.ReadUnit.{ReadUnit}
 use Rattle.sentence_rows.specs.declared.fault.FieldFault.{FieldFault}
 use Rattle.sentence_rows.specs.declared.fault.FieldFault.TheVariants.{Range as OutOfRange}
 use Rattle.sentence_rows.specs.declared.field.Field.TheVariants.{Degrees, Satellites, Side, Time}
@@ -88,7 +88,7 @@ fixed_text width most whole part w len p few =
 
 -- ---- positions
 
-degrees_some : (at : ℕ) (q : Quantity) (width : ℕ) (bytes : List ℕ) → 0 < length bytes → spec.degrees_of at q width bytes ≡ spec.degrees_in at q (spec.fixed_in width 9 bytes)
+degrees_some : (at : ℕ) (q : ReadUnit) (width : ℕ) (bytes : List ℕ) → 0 < length bytes → spec.degrees_of at q width bytes ≡ spec.degrees_in at q (spec.fixed_in width 9 bytes)
 degrees_some at q width [] h = absurd (omega arith)
 degrees_some at q width (c ∷ cs) h = refl
 
@@ -105,7 +105,7 @@ whole_minutes : (m : ℕ) → (m / 600000 * 60 + m % 600000 / 10000) * 10000 + m
 whole_minutes m = omega arith
 
 -- what is read of a count of ten-thousandths of a minute
-degrees_read : (at width m : ℕ) (q : Quantity) → m / 600000 < 10 ^ width
+degrees_read : (at width m : ℕ) (q : ReadUnit) → m / 600000 < 10 ^ width
     → spec.degrees_of at q (width + 2) (degrees_text width m) ≡ spec.scaled at q (Some (record { negative = false; digits = m; places = 4 }))
 degrees_read at width m q below =
     let a = m / 600000 in
@@ -125,7 +125,7 @@ degrees_read at width m q below =
     ∙ ap (spec.degrees_in at q) is
     ∙ in_range at q a b (m % 10000) m sixty (whole_minutes m)
   where
-    in_range : (at : ℕ) (q : Quantity) (a b part m : ℕ) → b < 60 → (a * 60 + b) * 10000 + part ≡ m
+    in_range : (at : ℕ) (q : ReadUnit) (a b part m : ℕ) → b < 60 → (a * 60 + b) * 10000 + part ≡ m
         → spec.degrees_in at q (fixed_by (a * 100 + b) part 4) ≡ spec.scaled at q (Some (record { negative = false; digits = m; places = 4 }))
     in_range at q a b part m small e =
         let rest : (a * 100 + b) % 100 ≡ b = below_sixty a b small in
@@ -133,7 +133,7 @@ degrees_read at width m q below =
         let under : nat_le 60 b ≡ false = lt-leb 60 b small in
         rw (rest, deg, under, e) refl
 
-pub coordinate_of : (f : Fields) (at width : ℕ) (q : Quantity) (u : Conversion) (raw : Option ℤ) (first second : ℕ) → Paired u q → IsNoMore q.most raw → u.places ≡ 4
+pub coordinate_of : (f : Fields) (at width : ℕ) (q : ReadUnit) (u : WrittenUnit) (raw : Option ℤ) (first second : ℕ) → Paired u q → IsNoMore q.most raw → u.places ≡ 4
     → ((r : ℤ) → unsigned_abs r ≤ q.most → unsigned_abs (count u r) / 600000 < 10 ^ width) → (first == second) ≡ false
     → spec.field_at f at ≡ Some (text_of (Degrees raw u width)) → spec.field_at f (at + 1) ≡ Some (text_of (Side raw u first second))
     → spec.coordinate f at q (width + 2) first second ≡ Ok (back q u raw)

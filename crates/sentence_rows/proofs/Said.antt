@@ -10,7 +10,7 @@ use Rattle.readings.specs.declared.reading.Reading.TheVariants as reading
 use Rattle.sentence_rows.specs.declared.lines.SentenceText.{SentenceText}
 use Rattle.sentence_rows.specs.Lines.{lines_of, sentence_by}
 use Rattle.sentence_rows.specs.Stable.{IsReadBack, IsSaid}
-use Rattle.sentence_rows.specs.Text.{Dated, IsText, day_said, said, zda}
+use Rattle.sentence_rows.specs.Writing.{Dated, IsText, day_said, said, zda}
 
 -- a sentence is added and read back
 abbrev Adds : List ℕ → List (List ℕ) → List (List ℕ) → Option ℤ → Option Date → Type 0

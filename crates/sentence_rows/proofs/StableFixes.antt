@@ -9,20 +9,20 @@ use Rattle.readings.specs.Ranges.{Admits, Holds}
 use Rattle.readings.specs.declared.reading.Reading.{Reading}
 use Rattle.readings.specs.declared.reading.Reading.TheVariants as reading
 use Rattle.unit_fraction.specs.Round.{nearest}
-use Rattle.sentence_rows.specs.declared.conversion.Conversion.{Conversion}
-use Rattle.sentence_rows.specs.declared.quantity.Quantity.{Quantity}
+use Rattle.sentence_rows.specs.declared.written_unit.WrittenUnit.{WrittenUnit}
+use Rattle.sentence_rows.specs.declared.read_unit.ReadUnit.{ReadUnit}
 use Rattle.sentence_rows.specs.declared.fault.FieldFault.{FieldFault}
 use Rattle.sentence_rows.specs.declared.formatter.Formatter.TheVariants as formatter
 use Rattle.sentence_rows.specs.declared.field.Field.TheVariants.{Decimal, Degrees}
-use Rattle.sentence_rows.specs.Conversions as unit
-use Rattle.sentence_rows.specs.Quantities as quantity
+use Rattle.sentence_rows.specs.WrittenUnits as unit
+use Rattle.sentence_rows.specs.ReadUnits as quantity
 use Rattle.sentence_rows.specs.Field.{count, degrees_text, text_of}
 use Rattle.sentence_rows.specs.Columns as spec
 use Rattle.sentence_rows.specs.Lines.{sentence_by}
-use Rattle.sentence_rows.specs.ReadRow as rows
+use Rattle.sentence_rows.specs.Reading as rows
 use Rattle.sentence_rows.specs.Stable.{IsReadBack, IsStable}
-use Rattle.sentence_rows.specs.Text as text
-use Rattle.sentence_rows.specs.Text.{beside, letter_where, only_if}
+use Rattle.sentence_rows.specs.Writing as text
+use Rattle.sentence_rows.specs.Writing.{beside, letter_where, only_if}
 use Rattle.sentence_rows.proofs.Again as again
 use Rattle.sentence_rows.proofs.Again.{Paired, IsNoMore, back, count_size, nearest_mono, printed, reads_decimal, same_decimal, same_side}
 use Rattle.sentence_rows.proofs.Texted.{Fields, number_of, measure_of, status_of}
@@ -32,7 +32,7 @@ use Rattle.sentence_rows.proofs.StableRows.{alone_of, counted_in, lines_by, no_m
 
 -- ---- positions
 
-below_degrees : (u : Conversion) (q : Quantity) (width : ℕ) (r : ℤ) → Paired u q → printed u q.most / 600000 < 10 ^ width → unsigned_abs r ≤ q.most
+below_degrees : (u : WrittenUnit) (q : ReadUnit) (width : ℕ) (r : ℤ) → Paired u q → printed u q.most / 600000 < 10 ^ width → unsigned_abs r ≤ q.most
     → unsigned_abs (count u r) / 600000 < 10 ^ width
 below_degrees u q width r p h le =
     let size = count_size u r in
@@ -56,7 +56,7 @@ fix_longitude_ends : printed unit.fix_minutes 1800000000000000000 / 600000 < 10 
 unfolding nearest
 fix_longitude_ends = omega arith
 
-same_degrees : (u : Conversion) (q : Quantity) (raw : Option ℤ) (width : ℕ) → Paired u q → text_of (Degrees (back q u raw) u width) ≡ text_of (Degrees raw u width)
+same_degrees : (u : WrittenUnit) (q : ReadUnit) (raw : Option ℤ) (width : ℕ) → Paired u q → text_of (Degrees (back q u raw) u width) ≡ text_of (Degrees raw u width)
 same_degrees u q None width p = refl
 same_degrees u q (Some raw) width p = ap (λ (c : ℤ). degrees_text width (unsigned_abs c)) (again.count_again u q raw p)
 
@@ -81,7 +81,7 @@ only_if_some (Some x) b e = rw (← e) refl
 -- ---- GLL
 
 gll_of : (f : Fields) (la lo : Option ℤ) (there : Bool) → spec.coordinate f 1 quantity.latitude 4 78 83 ≡ Ok la → spec.coordinate f 3 quantity.longitude 5 69 87 ≡ Ok lo
-    → spec.counted f 5 ≡ None → spec.status f 6 (is_none la && is_none lo) ≡ Ok there
+    → spec.unkept f 5 ≡ None → spec.status f 6 (is_none la && is_none lo) ≡ Ok there
     → rows.gll f ≡ Ok (reading.Position (only_if there (beside la lo)) (only_if there (beside lo la)))
 unfolding rows.gll
 gll_of f la lo there e1 e2 e3 e4 = rw (e1, e2, e3, e4) refl

@@ -7,7 +7,7 @@ use Rattle.readings.specs.Ranges.{Admits, IsValid}
 use Rattle.readings.specs.declared.reading.Reading.{Reading}
 use Rattle.readings.specs.declared.reading.Reading.TheVariants as reading
 use Rattle.sentence_rows.specs.Stable.{IsSaid, IsStable}
-use Rattle.sentence_rows.specs.Text.{beside}
+use Rattle.sentence_rows.specs.Writing.{beside}
 use Rattle.sentence_rows.proofs.StableRows as row
 use Rattle.sentence_rows.proofs.StableFixes as fix
 use Rattle.sentence_rows.proofs.Valid.{beside_within}

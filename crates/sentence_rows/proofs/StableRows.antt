@@ -11,23 +11,23 @@ use Rattle.unit_fraction.specs.Round.{nearest}
 use Rattle.unit_fraction.specs.Text.{decimal_text}
 use Rattle.sentence_text.specs.Fields.{fields_of}
 use Rattle.sentence_text.specs.Sentence.{sentence}
-use Rattle.sentence_rows.specs.declared.conversion.Conversion.{Conversion}
-use Rattle.sentence_rows.specs.declared.quantity.Quantity.{Quantity}
+use Rattle.sentence_rows.specs.declared.written_unit.WrittenUnit.{WrittenUnit}
+use Rattle.sentence_rows.specs.declared.read_unit.ReadUnit.{ReadUnit}
 use Rattle.sentence_rows.specs.declared.fault.FieldFault.{FieldFault}
 use Rattle.sentence_rows.specs.declared.formatter.Formatter.{Formatter}
 use Rattle.sentence_rows.specs.declared.formatter.Formatter.TheVariants as formatter
 use Rattle.sentence_rows.specs.declared.field.Field.{Field}
 use Rattle.sentence_rows.specs.declared.field.Field.TheVariants.{Angle, Decimal}
-use Rattle.sentence_rows.specs.Conversions as unit
-use Rattle.sentence_rows.specs.Quantities as quantity
+use Rattle.sentence_rows.specs.WrittenUnits as unit
+use Rattle.sentence_rows.specs.ReadUnits as quantity
 use Rattle.sentence_rows.specs.Field.{body_text, count, text_of}
 use Rattle.sentence_rows.specs.Columns as spec
 use Rattle.sentence_rows.specs.Formatters.{formatter_of, name_of}
 use Rattle.sentence_rows.specs.Lines.{sentence_by}
-use Rattle.sentence_rows.specs.ReadRow as rows
+use Rattle.sentence_rows.specs.Reading as rows
 use Rattle.sentence_rows.specs.Stable.{IsReadBack, IsStable, parts_by}
-use Rattle.sentence_rows.specs.Text as text
-use Rattle.sentence_rows.specs.Text.{IsText, letter_where, only_if, said}
+use Rattle.sentence_rows.specs.Writing as text
+use Rattle.sentence_rows.specs.Writing.{IsText, letter_where, only_if, said}
 use Rattle.sentence_rows.proofs.Again as again
 use Rattle.sentence_rows.proofs.Again.{Paired, ReadsAs, IsNoMore, back, nearest_mono, nothing_lost, printed, read_size, reads_decimal, reads_digits, reads_nothing, reads_unsigned, same_decimal, same_magnitude, same_side}
 use Rattle.sentence_rows.proofs.Texted.{Fields, number_of, measure_of, either_first, either_second, status_of, sided_of, mode_said, reference_of, wind_of, unit_of}
@@ -113,7 +113,7 @@ pub no_more_up : (most : ℕ) (v : Option ℤ) → Admits (ranges.up_to most) v 
 no_more_up most None h = tt
 no_more_up most (Some raw) h = omega (arith, ints, h.0, h.1)
 
-pub reads_up : (q : Quantity) (u : Conversion) (v : Option ℤ) → Paired u q → Admits (ranges.up_to q.most) v → ReadsAs q (text_of (Decimal v u)) (back q u v)
+pub reads_up : (q : ReadUnit) (u : WrittenUnit) (v : Option ℤ) → Paired u q → Admits (ranges.up_to q.most) v → ReadsAs q (text_of (Decimal v u)) (back q u v)
 reads_up q u None p h = reads_nothing q
 reads_up q u (Some (pos n)) p h = reads_unsigned q u n p (omega (arith, ints, h.1))
 reads_up q u (Some (negsuc n)) p h = absurd (omega (arith, ints, h.0))
@@ -121,7 +121,7 @@ reads_up q u (Some (negsuc n)) p h = absurd (omega (arith, ints, h.0))
 abbrev some_value : ℤ → Option ℤ
 some_value x = Some x
 
-exact_up : (q : Quantity) (u : Conversion) (v : Option ℤ) → Paired u q → u.den ≤ u.num → Admits (ranges.up_to q.most) v → back q u v ≡ v
+exact_up : (q : ReadUnit) (u : WrittenUnit) (v : Option ℤ) → Paired u q → u.den ≤ u.num → Admits (ranges.up_to q.most) v → back q u v ≡ v
 exact_up q u None p le h = refl
 exact_up q u (Some (pos n)) p le h = ap some_value (nothing_lost u q n p le)
 exact_up q u (Some (negsuc n)) p le h = absurd (omega (arith, ints, h.0))
@@ -230,7 +230,7 @@ hdg_stable talker with_ths h d v in_d in_v b =
 
 -- ---- ROT
 
-only_back : (q : Quantity) (u : Conversion) (v : Option ℤ) → only_if (is_some v) (back q u v) ≡ back q u v
+only_back : (q : ReadUnit) (u : WrittenUnit) (v : Option ℤ) → only_if (is_some v) (back q u v) ≡ back q u v
 only_back q u None = refl
 only_back q u (Some raw) = refl
 
@@ -326,13 +326,13 @@ dpt_stable talker with_ths d o r in_d in_o in_r b =
     stable_first talker with_ths formatter.Dpt (text.dpt d o r) (text.dpt d' o' r') ((codes "DBT", text.dbt d') ∷ []) (reading.Depth d' o' r') b
     (alone_of (rows.dpt f) (reading.Depth d' o' r') (dpt_of f d' o' r' e1 e2 (range_of_three (text_of (Decimal d unit.metres)) (text_of (Decimal o unit.offset_metres)) (text_of (Decimal r unit.range_metres)) r' e3))) refl same
 
-dbt_of : (f : Fields) (d : Option ℤ) → spec.counted f 1 ≡ None → spec.counted f 2 ≡ None → spec.measure f 3 quantity.metres 77 ≡ Ok d → spec.counted f 5 ≡ None → spec.counted f 6 ≡ None
+dbt_of : (f : Fields) (d : Option ℤ) → spec.unkept f 1 ≡ None → spec.unkept f 2 ≡ None → spec.measure f 3 quantity.metres 77 ≡ Ok d → spec.unkept f 5 ≡ None → spec.unkept f 6 ≡ None
     → rows.dbt f ≡ Ok (reading.Depth d None None)
 unfolding rows.dbt
 dbt_of f d c1 c2 e c5 c6 = rw (c1, c2, e, c5, c6) refl
 
-count_six : (a b c d e g : List ℕ) (at : ℕ) → at ≤ 6 → spec.counted (a ∷ b ∷ c ∷ d ∷ e ∷ g ∷ []) at ≡ None
-unfolding spec.counted
+count_six : (a b c d e g : List ℕ) (at : ℕ) → at ≤ 6 → spec.unkept (a ∷ b ∷ c ∷ d ∷ e ∷ g ∷ []) at ≡ None
+unfolding spec.unkept
 count_six a b c d e g at le = let h : nat_lt 6 at ≡ false = le-ltb 6 at le in rw h refl
 
 abbrev depth_of : Option ℤ → Result Reading FieldFault
@@ -345,7 +345,7 @@ dbt_stable talker with_ths d in_d b =
     let feet = text_of (Decimal d unit.feet) in
     let metres = text_of (Decimal d unit.metres) in
     let fathoms = text_of (Decimal d unit.fathoms) in
-    let c : (at : ℕ) → at ≤ 6 → spec.counted f at ≡ None = λ at le. count_six feet (102 ∷ []) metres (77 ∷ []) fathoms (70 ∷ []) at le in
+    let c : (at : ℕ) → at ≤ 6 → spec.unkept f at ≡ None = λ at le. count_six feet (102 ∷ []) metres (77 ∷ []) fathoms (70 ∷ []) at le in
     let reads_d : ReadsAs quantity.metres metres d =
     subst (λ (v : Option ℤ). ReadsAs quantity.metres metres v) (exact_up quantity.metres unit.metres d again.metres (omega arith) in_d) (reads_up quantity.metres unit.metres d again.metres in_d) in
     let m = measure_of f 3 quantity.metres 77 d (number_of f 3 quantity.metres metres d refl reads_d) refl in
@@ -383,11 +383,11 @@ above_again : (c : Option ℤ) → text.above_freezing (rows.from_freezing c) �
 above_again None = refl
 above_again (Some x) = ap some_value (let e : (x +ℤ pos 273150) -ℤ pos 273150 ≡ x = omega (arith, ints) in e)
 
-celsius_within : (k : Option ℤ) → Admits ranges.kelvin k → IsNoMore 100000 (text.above_freezing k)
+celsius_within : (k : Option ℤ) → Admits ranges.water_temperature k → IsNoMore 100000 (text.above_freezing k)
 celsius_within None h = tt
 celsius_within (Some x) h = omega (arith, ints, h.0, h.1)
 
-pub mtw_stable : (talker : List ℕ) (with_ths : Bool) (k : Option ℤ) → Admits ranges.kelvin k → IsReadBack talker (codes "MTW") (text.mtw k)
+pub mtw_stable : (talker : List ℕ) (with_ths : Bool) (k : Option ℤ) → Admits ranges.water_temperature k → IsReadBack talker (codes "MTW") (text.mtw k)
     → IsStable talker with_ths (sentence_by talker (codes "MTW") (text.mtw k))
 mtw_stable talker with_ths k in_k b =
     let f = texts (text.mtw k) in
@@ -435,10 +435,10 @@ xte_stable talker with_ths x in_x b =
 
 -- ---- speeds in two units
 
-speed_said : (f : Fields) (at : ℕ) (other : Quantity) (other_unit : Conversion) (other_letter : ℕ) (s : Option ℤ) → Admits ranges.speed s
+speed_said : (f : Fields) (at : ℕ) (other : ReadUnit) (other_unit : WrittenUnit) (other_letter : ℕ) (s : Option ℤ) → Admits ranges.speed s
     → spec.field_at f at ≡ Some (text_of (Decimal s unit.knots)) → spec.field_at f (at + 1) ≡ Some (78 ∷ [])
     → spec.field_at f (at + 2) ≡ Some (text_of (Decimal s other_unit)) → spec.field_at f (at + 2 + 1) ≡ Some (other_letter ∷ [])
-    → spec.counted f (at + 2) ≡ None → spec.counted f (at + 3) ≡ None → spec.either_unit f at quantity.knots 78 other other_letter ≡ Ok s
+    → spec.unkept f (at + 2) ≡ None → spec.unkept f (at + 3) ≡ None → spec.either_unit f at quantity.knots 78 other other_letter ≡ Ok s
 speed_said f at other other_unit other_letter None in_s e1 e2 e3 e4 c1 c2 =
     either_second f at quantity.knots 78 other other_letter None
     (measure_of f at quantity.knots 78 None (number_of f at quantity.knots [] None e1 (reads_nothing quantity.knots)) e2)
@@ -449,13 +449,13 @@ speed_said f at other other_unit other_letter (Some x) in_s e1 e2 e3 e4 c1 c2 =
     subst (λ (v : Option ℤ). ReadsAs quantity.knots bytes v) (exact_up quantity.knots unit.knots (Some x) again.knots (omega arith) in_s) (reads_up quantity.knots unit.knots (Some x) again.knots in_s) in
     either_first f at quantity.knots 78 other other_letter x (measure_of f at quantity.knots 78 (Some x) (number_of f at quantity.knots bytes (Some x) e1 reads_x) e2) c1 c2
 
-pub counted_in : (f : Fields) (at : ℕ) → at ≤ length f → spec.counted f at ≡ None
-unfolding spec.counted
+pub counted_in : (f : Fields) (at : ℕ) → at ≤ length f → spec.unkept f at ≡ None
+unfolding spec.unkept
 counted_in f at le = let h : nat_lt (length f) at ≡ false = le-ltb (length f) at le in rw h refl
 
 -- ---- VHW
 
-vhw_of : (f : Fields) (s : Option ℤ) → spec.counted f 1 ≡ None → spec.counted f 2 ≡ None → spec.counted f 3 ≡ None → spec.counted f 4 ≡ None
+vhw_of : (f : Fields) (s : Option ℤ) → spec.unkept f 1 ≡ None → spec.unkept f 2 ≡ None → spec.unkept f 3 ≡ None → spec.unkept f 4 ≡ None
     → spec.either_unit f 5 quantity.knots 78 quantity.kilometres_per_hour 75 ≡ Ok s → rows.vhw f ≡ Ok (reading.WaterSpeed s)
 unfolding rows.vhw
 vhw_of f s c1 c2 c3 c4 e = rw (c1, c2, c3, c4, e) refl
@@ -464,7 +464,7 @@ pub vhw_stable : (talker : List ℕ) (with_ths : Bool) (s : Option ℤ) → Admi
     → IsStable talker with_ths (sentence_by talker (codes "VHW") (text.vhw s))
 vhw_stable talker with_ths s in_s b =
     let f = texts (text.vhw s) in
-    let c : (at : ℕ) → at ≤ 8 → spec.counted f at ≡ None = λ at le. counted_in f at le in
+    let c : (at : ℕ) → at ≤ 8 → spec.unkept f at ≡ None = λ at le. counted_in f at le in
     let e = speed_said f 5 quantity.kilometres_per_hour unit.kilometres_per_hour 75 s in_s refl refl refl refl (c 7 (omega arith)) (c 8 (omega arith)) in
     stable_first talker with_ths formatter.Vhw (text.vhw s) (text.vhw s) [] (reading.WaterSpeed s) b
     (alone_of (rows.vhw f) (reading.WaterSpeed s) (vhw_of f s (c 1 (omega arith)) (c 2 (omega arith)) (c 3 (omega arith)) (c 4 (omega arith)) e)) refl refl

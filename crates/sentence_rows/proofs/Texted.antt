@@ -5,15 +5,15 @@ use Rattle.std.proofs.lemmas.Bool.{eq-eqb}
 use Rattle.unit_fraction.specs.declared.decimal.Decimal.{Decimal as Number}
 use Rattle.unit_fraction.specs.Round.{signed}
 use Rattle.unit_fraction.specs.Reading.{read}
-use Rattle.sentence_rows.specs.declared.conversion.Conversion.{Conversion}
-use Rattle.sentence_rows.specs.declared.quantity.Quantity.{Quantity}
+use Rattle.sentence_rows.specs.declared.written_unit.WrittenUnit.{WrittenUnit}
+use Rattle.sentence_rows.specs.declared.read_unit.ReadUnit.{ReadUnit}
 use Rattle.sentence_rows.specs.declared.fault.FieldFault.{FieldFault}
 use Rattle.sentence_rows.specs.declared.fault.FieldFault.TheVariants.{Form}
 use Rattle.sentence_rows.specs.declared.field.Field.TheVariants.{Magnitude, Side}
-use Rattle.sentence_rows.specs.Quantities as quantity
+use Rattle.sentence_rows.specs.ReadUnits as quantity
 use Rattle.sentence_rows.specs.Field.{count, is_negative, text_of}
 use Rattle.sentence_rows.specs.Fault.{fault, given, reads}
-use Rattle.sentence_rows.specs.Text.{letter_where}
+use Rattle.sentence_rows.specs.Writing.{letter_where}
 use Rattle.sentence_rows.specs.Columns as spec
 use Rattle.sentence_rows.proofs.Again.{Paired, ReadsAs, IsNoMore, back, read_size, reads_magnitude, reads_nothing}
 
@@ -27,7 +27,7 @@ says_at o bytes at says e = ap (λ (x : Option (List ℕ)). spec.text_says x at 
 pub given_at : {A B : Type 0} (r : Result A FieldFault) (x : A) (next : A → Result B FieldFault) → r ≡ Ok x → given r next ≡ next x
 given_at r x next e = ap (λ (y : Result _ FieldFault). given y next) e
 
-pub number_of : (f : Fields) (at : ℕ) (q : Quantity) (bytes : List ℕ) (v : Option ℤ) → spec.field_at f at ≡ Some bytes → ReadsAs q bytes v → spec.number f at q ≡ Ok v
+pub number_of : (f : Fields) (at : ℕ) (q : ReadUnit) (bytes : List ℕ) (v : Option ℤ) → spec.field_at f at ≡ Some bytes → ReadsAs q bytes v → spec.number f at q ≡ Ok v
 unfolding spec.number spec.decimal
 number_of f at q bytes v e h =
     ap (λ (r : Result (Option Number) FieldFault). given r (spec.scaled at q)) (says_at (spec.field_at f at) bytes at (λ bs. spec.decimal_in at q.signed (read bs)) e) ∙ h at
@@ -41,27 +41,27 @@ letter_of f at letter beside_nothing e =
 pub unit_of : (f : Fields) (at letter : ℕ) (beside_nothing : Bool) → spec.field_at f at ≡ Some (letter ∷ []) → spec.unit_letter f at letter beside_nothing ≡ None
 unit_of = letter_of
 
-pub measure_of : (f : Fields) (at : ℕ) (q : Quantity) (letter : ℕ) (v : Option ℤ) → spec.number f at q ≡ Ok v → spec.field_at f (at + 1) ≡ Some (letter ∷ [])
+pub measure_of : (f : Fields) (at : ℕ) (q : ReadUnit) (letter : ℕ) (v : Option ℤ) → spec.number f at q ≡ Ok v → spec.field_at f (at + 1) ≡ Some (letter ∷ [])
     → spec.measure f at q letter ≡ Ok v
 unfolding spec.measure
 measure_of f at q letter v n e =
     given_at (spec.number f at q) v (λ w. reads (spec.unit_letter f (at + 1) letter (is_none w) ∷ []) w) n
     ∙ ap (λ (x : Option FieldFault). reads (x ∷ []) v) (letter_of f (at + 1) letter (is_none v) e)
 
-pub either_first : (f : Fields) (at : ℕ) (q : Quantity) (letter : ℕ) (other : Quantity) (other_letter : ℕ) (v : ℤ) → spec.measure f at q letter ≡ Ok (Some v)
-    → spec.counted f (at + 2) ≡ None → spec.counted f (at + 3) ≡ None → spec.either_unit f at q letter other other_letter ≡ Ok (Some v)
+pub either_first : (f : Fields) (at : ℕ) (q : ReadUnit) (letter : ℕ) (other : ReadUnit) (other_letter : ℕ) (v : ℤ) → spec.measure f at q letter ≡ Ok (Some v)
+    → spec.unkept f (at + 2) ≡ None → spec.unkept f (at + 3) ≡ None → spec.either_unit f at q letter other other_letter ≡ Ok (Some v)
 unfolding spec.either_unit
 either_first f at q letter other other_letter v m one two =
     given_at (spec.measure f at q letter) (Some v)
-    (λ w. if is_none w then spec.measure f (at + 2) other other_letter else reads (spec.counted f (at + 2) ∷ spec.counted f (at + 3) ∷ []) w) m
+    (λ w. if is_none w then spec.measure f (at + 2) other other_letter else reads (spec.unkept f (at + 2) ∷ spec.unkept f (at + 3) ∷ []) w) m
     ∙ rw (one, two) refl
 
-pub either_second : (f : Fields) (at : ℕ) (q : Quantity) (letter : ℕ) (other : Quantity) (other_letter : ℕ) (v : Option ℤ) → spec.measure f at q letter ≡ Ok None
+pub either_second : (f : Fields) (at : ℕ) (q : ReadUnit) (letter : ℕ) (other : ReadUnit) (other_letter : ℕ) (v : Option ℤ) → spec.measure f at q letter ≡ Ok None
     → spec.measure f (at + 2) other other_letter ≡ Ok v → spec.either_unit f at q letter other other_letter ≡ Ok v
 unfolding spec.either_unit
 either_second f at q letter other other_letter v m n =
     given_at (spec.measure f at q letter) None
-    (λ w. if is_none w then spec.measure f (at + 2) other other_letter else reads (spec.counted f (at + 2) ∷ spec.counted f (at + 3) ∷ []) w) m
+    (λ w. if is_none w then spec.measure f (at + 2) other other_letter else reads (spec.unkept f (at + 2) ∷ spec.unkept f (at + 3) ∷ []) w) m
     ∙ n
 
 status_text : (there beside_nothing : Bool) (at : ℕ) → spec.which at 65 86 beside_nothing (letter_where there 65 86 ∷ []) ≡ Ok there
@@ -95,7 +95,7 @@ toward_signed false n = refl
 abbrev pub said_value : Option ℤ → Result (Option ℤ) FieldFault
 said_value v = Ok v
 
-pub sided_of : (f : Fields) (at : ℕ) (q : Quantity) (u : Conversion) (raw : Option ℤ) (first second : ℕ) → Paired u q → IsNoMore q.most raw → (first == second) ≡ false
+pub sided_of : (f : Fields) (at : ℕ) (q : ReadUnit) (u : WrittenUnit) (raw : Option ℤ) (first second : ℕ) → Paired u q → IsNoMore q.most raw → (first == second) ≡ false
     → spec.field_at f at ≡ Some (text_of (Magnitude raw u)) → spec.field_at f (at + 1) ≡ Some (text_of (Side raw u first second))
     → spec.sided f at q first second ≡ Ok (back q u raw)
 unfolding spec.sided

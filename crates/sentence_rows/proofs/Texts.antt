@@ -7,8 +7,8 @@ use Rattle.std.proofs.Math.Nat.{div-le_self, div-lt_iff_lt-mul, one-le-pow}
 use Rattle.std.proofs.lemmas.Nat.{pow-add}
 use Rattle.unit_fraction.specs.Digits.{spelling}
 use Rattle.unit_fraction.specs.Text.{behind_point, decimal_text, decimals, shows_minus}
-use Rattle.sentence_rows.specs.declared.conversion.Conversion.{Conversion}
-use Rattle.sentence_rows.specs.Conversions.{degrees}
+use Rattle.sentence_rows.specs.declared.written_unit.WrittenUnit.{WrittenUnit}
+use Rattle.sentence_rows.specs.WrittenUnits.{degrees}
 use Rattle.sentence_rows.specs.declared.field.Field.{Field}
 use Rattle.sentence_rows.specs.declared.field.Field.TheVariants.{Empty, Letter, Decimal, Magnitude, Side, Angle, Degrees, Time, Digits, Satellites}
 use Rattle.sentence_rows.specs.Field.{IsPrintable, count, is_negative, is_sound, text_of, width_of}
@@ -45,13 +45,13 @@ length_decimal_text negative k places n few below word =
     let m = minus_adds (shows_minus negative n) (decimal (n / 10 ^ places)) (behind_point places (decimals places n)) in
     omega (arith, w, m)
 
-pub decimal_room : (unit : Conversion) (negative : Bool) (n out : ℕ) → IsTrue (is_sound unit) → n < 10 ^ unit.digits → n < 2 ^ 64
+pub decimal_room : (unit : WrittenUnit) (negative : Bool) (n out : ℕ) → IsTrue (is_sound unit) → n < 10 ^ unit.digits → n < 2 ^ 64
     → out + (unit.digits + 2) ≤ 82 → out + length (decimal_text negative n unit.places) ≤ 82
 decimal_room unit negative n out is below word room =
     let w = length_decimal_text negative unit.digits unit.places n ((sound unit is).places) below word in
     omega (arith, w)
 
-pub magnitude_room : (unit : Conversion) (n out : ℕ) → IsTrue (is_sound unit) → n < 10 ^ unit.digits → n < 2 ^ 64
+pub magnitude_room : (unit : WrittenUnit) (n out : ℕ) → IsTrue (is_sound unit) → n < 10 ^ unit.digits → n < 2 ^ 64
     → out + (unit.digits + 1) ≤ 82 → out + length (decimal_text false n unit.places) ≤ 82
 magnitude_room unit n out is below word room =
     let w = length_unsigned_text unit.digits unit.places n ((sound unit is).places) below word in

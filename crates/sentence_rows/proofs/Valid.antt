@@ -24,15 +24,15 @@ use Rattle.sentence_rows.specs.declared.fault.FieldFault.{FieldFault}
 use Rattle.sentence_rows.specs.declared.fault.FieldFault.TheVariants.{Form, Range as OutOfRange}
 use Rattle.sentence_rows.specs.declared.formatter.Formatter.{Formatter}
 use Rattle.sentence_rows.specs.declared.formatter.Formatter.TheVariants as formatter
-use Rattle.sentence_rows.specs.declared.quantity.Quantity.{Quantity}
-use Rattle.sentence_rows.specs.Civil.{date_of}
+use Rattle.sentence_rows.specs.declared.read_unit.ReadUnit.{ReadUnit}
+use Rattle.sentence_rows.specs.Calendar.{date_of}
 use Rattle.sentence_rows.specs.Columns as spec
 use Rattle.sentence_rows.specs.Columns.{IsFixed}
 use Rattle.sentence_rows.specs.Fault.{fault, value, holds, reads, given}
-use Rattle.sentence_rows.specs.Quantities as quantity
-use Rattle.sentence_rows.specs.Quantities.{range_of}
-use Rattle.sentence_rows.specs.ReadRow as rows
-use Rattle.sentence_rows.specs.Text.{only_if, beside}
+use Rattle.sentence_rows.specs.ReadUnits as quantity
+use Rattle.sentence_rows.specs.ReadUnits.{range_of}
+use Rattle.sentence_rows.specs.Reading as rows
+use Rattle.sentence_rows.specs.Writing.{only_if, beside}
 use Rattle.sentence_rows.proofs.DigitNumbers.{decimals_below, small}
 
 -- ---- the parts of a definition
@@ -93,18 +93,18 @@ holds_by false most x within above = (above refl, omega (arith, ints))
 not_below : (n : ℕ) → pos 0 ≤ℤ pos n
 not_below n = omega (arith, ints)
 
-raw_above : (q : Quantity) (d : Decimal) → d.negative ≡ false → pos 0 ≤ℤ spec.raw_of q d
+raw_above : (q : ReadUnit) (d : Decimal) → d.negative ≡ false → pos 0 ≤ℤ spec.raw_of q d
 unfolding spec.raw_of
 raw_above q d e = rw e (not_below (nearest (d.digits * q.num) (10 ^ d.places * q.den)))
 
-scaled_within : (at : ℕ) (q : Quantity) (d : Option Decimal) → SignFits q.signed d → Admits (range_of q) (value (spec.scaled at q d))
+scaled_within : (at : ℕ) (q : ReadUnit) (d : Option Decimal) → SignFits q.signed d → Admits (range_of q) (value (spec.scaled at q d))
 scaled_within at q None h = tt
 scaled_within at q (Some d) h =
     if_value (Admits (range_of q)) (nat_le (unsigned_abs (spec.raw_of q d)) q.most) (Ok (Some (spec.raw_of q d))) (Err _)
     (λ e. holds_by q.signed q.most (spec.raw_of q d) (leb-true (unsigned_abs (spec.raw_of q d)) q.most e) (λ s. raw_above q d (sign_shown d.negative q.signed h s)))
     (λ e. tt)
 
-pub number_within : (fields : List (List ℕ)) (at : ℕ) (q : Quantity) → Admits (range_of q) (value (spec.number fields at q))
+pub number_within : (fields : List (List ℕ)) (at : ℕ) (q : ReadUnit) → Admits (range_of q) (value (spec.number fields at q))
 unfolding spec.number
 number_within fields at q =
     given_value (Admits (range_of q)) (spec.decimal fields at q.signed) (spec.scaled at q) tt
@@ -114,13 +114,13 @@ number_within fields at q =
 kept : {A : Type 0} (P : Option A → Type 0) (r : Result (Option A) FieldFault) (v : Option A) → r ≡ Ok v → P (value r) → P v
 kept P r v e h = let Q : Result (Option _) FieldFault → Type 0 = λ x. P (value x) in subst Q e h
 
-pub measure_within : (fields : List (List ℕ)) (at : ℕ) (q : Quantity) (letter : ℕ) → Admits (range_of q) (value (spec.measure fields at q letter))
+pub measure_within : (fields : List (List ℕ)) (at : ℕ) (q : ReadUnit) (letter : ℕ) → Admits (range_of q) (value (spec.measure fields at q letter))
 unfolding spec.measure
 measure_within fields at q letter =
     given_value (Admits (range_of q)) (spec.number fields at q) (λ v. reads (spec.unit_letter fields (at + 1) letter (is_none v) ∷ []) v) tt
     (λ v e. reads_value (Admits (range_of q)) (spec.unit_letter fields (at + 1) letter (is_none v) ∷ []) v tt (kept (Admits (range_of q)) (spec.number fields at q) v e (number_within fields at q)))
 
-pub either_within : (range : Range) (fields : List (List ℕ)) (at : ℕ) (q : Quantity) (letter : ℕ) (other : Quantity) (other_letter : ℕ)
+pub either_within : (range : Range) (fields : List (List ℕ)) (at : ℕ) (q : ReadUnit) (letter : ℕ) (other : ReadUnit) (other_letter : ℕ)
     → range_of q ≡ range → range_of other ≡ range → Admits range (value (spec.either_unit fields at q letter other other_letter))
 unfolding spec.either_unit
 either_within range fields at q letter other other_letter one two =
@@ -128,16 +128,16 @@ either_within range fields at q letter other other_letter one two =
     let first : P (value (spec.measure fields at q letter)) = subst (λ (r : Range). Admits r (value (spec.measure fields at q letter))) one (measure_within fields at q letter) in
     let second : P (value (spec.measure fields (at + 2) other other_letter)) = subst (λ (r : Range). Admits r (value (spec.measure fields (at + 2) other other_letter))) two (measure_within fields (at + 2) other other_letter) in
     given_value P (spec.measure fields at q letter)
-    (λ v. if is_none v then spec.measure fields (at + 2) other other_letter else reads (spec.counted fields (at + 2) ∷ spec.counted fields (at + 3) ∷ []) v) tt
-    (λ v e. if_value P (is_none v) (spec.measure fields (at + 2) other other_letter) (reads (spec.counted fields (at + 2) ∷ spec.counted fields (at + 3) ∷ []) v)
-    (λ b. second) (λ b. reads_value P (spec.counted fields (at + 2) ∷ spec.counted fields (at + 3) ∷ []) v tt (kept P (spec.measure fields at q letter) v e first)))
+    (λ v. if is_none v then spec.measure fields (at + 2) other other_letter else reads (spec.unkept fields (at + 2) ∷ spec.unkept fields (at + 3) ∷ []) v) tt
+    (λ v e. if_value P (is_none v) (spec.measure fields (at + 2) other other_letter) (reads (spec.unkept fields (at + 2) ∷ spec.unkept fields (at + 3) ∷ []) v)
+    (λ b. second) (λ b. reads_value P (spec.unkept fields (at + 2) ∷ spec.unkept fields (at + 3) ∷ []) v tt (kept P (spec.measure fields at q letter) v e first)))
 
 toward_within : (most : ℕ) (negative : Bool) (v : Option ℤ) → Admits (ranges.up_to most) v → Admits (ranges.either_side most) (spec.toward negative v)
 toward_within most negative None h = tt
 toward_within most true (Some raw) h = (omega (arith, ints), omega (arith, ints))
 toward_within most false (Some raw) h = (omega (arith, ints), omega (arith, ints))
 
-pub sided_within : (fields : List (List ℕ)) (at : ℕ) (q : Quantity) (positive negative : ℕ) → range_of q ≡ ranges.up_to q.most
+pub sided_within : (fields : List (List ℕ)) (at : ℕ) (q : ReadUnit) (positive negative : ℕ) → range_of q ≡ ranges.up_to q.most
     → Admits (ranges.either_side q.most) (value (spec.sided fields at q positive negative))
 unfolding spec.sided
 sided_within fields at q positive negative up =
@@ -147,7 +147,7 @@ sided_within fields at q positive negative up =
     (λ v e. given_value P (spec.side fields (at + 1) positive negative (is_none v)) (λ n. Ok (spec.toward n v)) tt
     (λ n b. toward_within q.most n v (kept (Admits (ranges.up_to q.most)) (spec.number fields at q) v e size)))
 
-abbrev IsSpeed : Quantity → Type 0
+abbrev IsSpeed : ReadUnit → Type 0
 IsSpeed q = (range_of q ≡ ranges.speed) × (q.signed ≡ false)
 
 if_ok : {A : Type 0} (P : A → Type 0) (b : Bool) (x y : Result A FieldFault) → IfOk x P → IfOk y P → IfOk (if b then x else y) P
@@ -186,16 +186,16 @@ wind_within fields at =
 
 -- ---- positions
 
-minutes_within : (at : ℕ) (q : Quantity) (width : ℕ) (bytes : List ℕ) → Admits (range_of q) (value (spec.degrees_of at q width bytes))
+minutes_within : (at : ℕ) (q : ReadUnit) (width : ℕ) (bytes : List ℕ) → Admits (range_of q) (value (spec.degrees_of at q width bytes))
 minutes_within at q width [] = tt
 minutes_within at q width (c ∷ cs) = degrees_in_within at q (spec.fixed_in width 9 (c ∷ cs))
   where
-    degrees_in_within : (at : ℕ) (q : Quantity) (x : Option Fixed) → Admits (range_of q) (value (spec.degrees_in at q x))
+    degrees_in_within : (at : ℕ) (q : ReadUnit) (x : Option Fixed) → Admits (range_of q) (value (spec.degrees_in at q x))
     degrees_in_within at q None = tt
     degrees_in_within at q (Some x) =
         if_value (Admits (range_of q)) (nat_le 60 (x.whole % 100)) (Err _) (spec.scaled at q (Some (spec.minutes_of x))) (λ e. tt) (λ e. scaled_within at q (Some (spec.minutes_of x)) refl)
 
-pub coordinate_within : (fields : List (List ℕ)) (at : ℕ) (q : Quantity) (width positive negative : ℕ) → range_of q ≡ ranges.up_to q.most
+pub coordinate_within : (fields : List (List ℕ)) (at : ℕ) (q : ReadUnit) (width positive negative : ℕ) → range_of q ≡ ranges.up_to q.most
     → Admits (ranges.either_side q.most) (value (spec.coordinate fields at q width positive negative))
 unfolding spec.coordinate spec.degrees
 coordinate_within fields at q width positive negative up =
@@ -319,7 +319,7 @@ only_within range false v h = tt
 pub beside_within : (range : Range) (v other : Option ℤ) → Admits range v → Admits range (beside v other)
 beside_within range v other h = only_within range (is_some other) v h
 
-kelvin_within : (v : Option ℤ) → Admits (ranges.either_side 100000) v → Admits ranges.kelvin (rows.from_freezing v)
+kelvin_within : (v : Option ℤ) → Admits (ranges.either_side 100000) v → Admits ranges.water_temperature (rows.from_freezing v)
 kelvin_within None h = tt
 kelvin_within (Some x) h = (omega (arith, ints), omega (arith, ints))
 
@@ -377,7 +377,7 @@ vhw_valid : (f : List (List ℕ)) → IfOk (rows.vhw f) IsValid
 unfolding rows.vhw
 vhw_valid f =
     let speed = spec.either_unit f 5 quantity.knots 78 quantity.kilometres_per_hour 75 in
-    reads_ok IsValid (spec.counted f 1 ∷ spec.counted f 2 ∷ spec.counted f 3 ∷ spec.counted f 4 ∷ fault speed ∷ []) (reading.WaterSpeed (value speed))
+    reads_ok IsValid (spec.unkept f 1 ∷ spec.unkept f 2 ∷ spec.unkept f 3 ∷ spec.unkept f 4 ∷ fault speed ∷ []) (reading.WaterSpeed (value speed))
     (either_within ranges.speed f 5 quantity.knots 78 quantity.kilometres_per_hour 75 refl refl, tt)
 
 depth_range_within : (f : List (List ℕ)) → Admits ranges.depth_scale (value (rows.depth_range f))
@@ -398,7 +398,7 @@ dbt_valid : (f : List (List ℕ)) → IfOk (rows.dbt f) IsValid
 unfolding rows.dbt
 dbt_valid f =
     let depth = spec.measure f 3 quantity.metres 77 in
-    reads_ok IsValid (spec.counted f 1 ∷ spec.counted f 2 ∷ fault depth ∷ spec.counted f 5 ∷ spec.counted f 6 ∷ []) (reading.Depth (value depth) None None)
+    reads_ok IsValid (spec.unkept f 1 ∷ spec.unkept f 2 ∷ fault depth ∷ spec.unkept f 5 ∷ spec.unkept f 6 ∷ []) (reading.Depth (value depth) None None)
     (measure_within f 3 quantity.metres 77, (tt, (tt, tt)))
 
 vlw_valid : (f : List (List ℕ)) → IfOk (rows.vlw f) IsValid
@@ -415,7 +415,7 @@ gll_valid f =
     let latitude = spec.coordinate f 1 quantity.latitude 4 78 83 in
     let longitude = spec.coordinate f 3 quantity.longitude 5 69 87 in
     let valid = spec.status f 6 (is_none (value latitude) && is_none (value longitude)) in
-    reads_ok IsValid (fault latitude ∷ fault longitude ∷ spec.counted f 5 ∷ fault valid ∷ [])
+    reads_ok IsValid (fault latitude ∷ fault longitude ∷ spec.unkept f 5 ∷ fault valid ∷ [])
     (reading.Position (only_if (holds valid) (beside (value latitude) (value longitude))) (only_if (holds valid) (beside (value longitude) (value latitude)))) (
       only_within ranges.latitude (holds valid) (beside (value latitude) (value longitude)) (beside_within ranges.latitude (value latitude) (value longitude) (coordinate_within f 1 quantity.latitude 4 78 83 refl)),
       (only_within ranges.longitude (holds valid) (beside (value longitude) (value latitude)) (beside_within ranges.longitude (value longitude) (value latitude) (coordinate_within f 3 quantity.longitude 5 69 87 refl)), tt),

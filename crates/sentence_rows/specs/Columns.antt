@@ -19,10 +19,10 @@ use Rattle.sentence_text.specs.declared.sentence.Sentence.{Sentence}
 use Rattle.sentence_rows.specs.declared.fault.FieldFault.{FieldFault}
 use Rattle.sentence_rows.specs.declared.fault.FieldFault.TheVariants.{Form, Range}
 use Rattle.sentence_rows.specs.declared.digits.Fixed.{Fixed}
-use Rattle.sentence_rows.specs.declared.quantity.Quantity.{Quantity}
-use Rattle.sentence_rows.specs.Civil.{date_of}
+use Rattle.sentence_rows.specs.declared.read_unit.ReadUnit.{ReadUnit}
+use Rattle.sentence_rows.specs.Calendar.{date_of}
 use Rattle.sentence_rows.specs.Fault.{fault, form_if, reads, given}
-use Rattle.sentence_rows.specs.Quantities.{knots, kilometres_per_hour, metres_per_second}
+use Rattle.sentence_rows.specs.ReadUnits.{knots, kilometres_per_hour, metres_per_second}
 
 -- ---- the fields
 
@@ -51,8 +51,8 @@ text_says None at says = Err (Form at)
 text_says (Some bytes) at says = says bytes
 
 -- a field that is only counted
-unfoldable pub counted : List (List ℕ) → ℕ → Option FieldFault
-counted fields at = form_if (nat_lt (length fields) at) at
+unfoldable pub unkept : List (List ℕ) → ℕ → Option FieldFault
+unkept fields at = form_if (nat_lt (length fields) at) at
 
 -- of a true direction in the first field and a magnetic one in the third only the magnetic one is there
 unfoldable pub is_magnetic : List (List ℕ) → Bool
@@ -113,26 +113,26 @@ unfoldable pub decimal : List (List ℕ) → ℕ → Bool → Result (Option Dec
 decimal fields at may_be_signed = text_says (field_at fields at) at (λ bytes. decimal_in at may_be_signed (read bytes))
 
 -- the raw value: the nearest whole number
-unfoldable pub raw_of : Quantity → Decimal → ℤ
+unfoldable pub raw_of : ReadUnit → Decimal → ℤ
 raw_of q d = round (signed d.negative (d.digits * q.num)) (10 ^ d.places * q.den)
 
 -- the raw value of what is written, within the quantity's range
-abbrev pub scaled : ℕ → Quantity → Option Decimal → Result (Option ℤ) FieldFault
+abbrev pub scaled : ℕ → ReadUnit → Option Decimal → Result (Option ℤ) FieldFault
 scaled at q None = Ok None
 scaled at q (Some d) = if nat_le (unsigned_abs (raw_of q d)) q.most then Ok (Some (raw_of q d)) else Err (Range at)
 
-unfoldable pub number : List (List ℕ) → ℕ → Quantity → Result (Option ℤ) FieldFault
+unfoldable pub number : List (List ℕ) → ℕ → ReadUnit → Result (Option ℤ) FieldFault
 number fields at q = given (decimal fields at q.signed) (scaled at q)
 
 -- a number, and behind it the letter of its unit
-unfoldable pub measure : List (List ℕ) → ℕ → Quantity → ℕ → Result (Option ℤ) FieldFault
+unfoldable pub measure : List (List ℕ) → ℕ → ReadUnit → ℕ → Result (Option ℤ) FieldFault
 measure fields at q letter = given (number fields at q) (λ v. reads (unit_letter fields (at + 1) letter (is_none v) ∷ []) v)
 
 -- the same in two units, the second of which isn't kept where the first isn't empty
-unfoldable pub either_unit : List (List ℕ) → ℕ → Quantity → ℕ → Quantity → ℕ → Result (Option ℤ) FieldFault
+unfoldable pub either_unit : List (List ℕ) → ℕ → ReadUnit → ℕ → ReadUnit → ℕ → Result (Option ℤ) FieldFault
 either_unit fields at q letter other other_letter =
     given (measure fields at q letter)
-    (λ v. if is_none v then measure fields (at + 2) other other_letter else reads (counted fields (at + 2) ∷ counted fields (at + 3) ∷ []) v)
+    (λ v. if is_none v then measure fields (at + 2) other other_letter else reads (unkept fields (at + 2) ∷ unkept fields (at + 3) ∷ []) v)
 
 -- a raw value with the sign that a letter stands for
 abbrev pub toward : Bool → Option ℤ → Option ℤ
@@ -140,19 +140,19 @@ toward negative None = None
 toward negative (Some raw) = Some (if negative then neg_ℤ raw else raw)
 
 -- a number, and behind it the letter of its sign
-unfoldable pub sided : List (List ℕ) → ℕ → Quantity → ℕ → ℕ → Result (Option ℤ) FieldFault
+unfoldable pub sided : List (List ℕ) → ℕ → ReadUnit → ℕ → ℕ → Result (Option ℤ) FieldFault
 sided fields at q positive negative =
     given (number fields at q) (λ v. given (side fields (at + 1) positive negative (is_none v)) (λ n. Ok (toward n v)))
 
 -- the unit of a wind's speed: N, K or M
-abbrev pub speed_unit_of : ℕ → Bool → List ℕ → Result Quantity FieldFault
+abbrev pub speed_unit_of : ℕ → Bool → List ℕ → Result ReadUnit FieldFault
 speed_unit_of at beside_nothing bytes =
     if is_letter 78 beside_nothing bytes then Ok knots
     else if is_letter 75 false bytes then Ok kilometres_per_hour
     else if is_letter 77 false bytes then Ok metres_per_second
     else Err (Form at)
 
-unfoldable pub speed_unit : List (List ℕ) → ℕ → Bool → Result Quantity FieldFault
+unfoldable pub speed_unit : List (List ℕ) → ℕ → Bool → Result ReadUnit FieldFault
 speed_unit fields at beside_nothing = text_says (field_at fields at) at (speed_unit_of at beside_nothing)
 
 -- a speed whose unit stands behind it, so that its range comes after the unit
@@ -180,20 +180,20 @@ fixed_in width most bytes =
 abbrev pub minutes_of : Fixed → Decimal
 minutes_of x = record { negative = false; digits = (x.whole / 100 * 60 + x.whole % 100) * 10 ^ x.places + x.part; places = x.places }
 
-abbrev pub degrees_in : ℕ → Quantity → Option Fixed → Result (Option ℤ) FieldFault
+abbrev pub degrees_in : ℕ → ReadUnit → Option Fixed → Result (Option ℤ) FieldFault
 degrees_in at q None = Err (Form at)
 degrees_in at q (Some x) = if nat_le 60 (x.whole % 100) then Err (Range at) else scaled at q (Some (minutes_of x))
 
-abbrev pub degrees_of : ℕ → Quantity → ℕ → List ℕ → Result (Option ℤ) FieldFault
+abbrev pub degrees_of : ℕ → ReadUnit → ℕ → List ℕ → Result (Option ℤ) FieldFault
 degrees_of at q width [] = Ok None
 degrees_of at q width (c ∷ cs) = degrees_in at q (fixed_in width 9 (c ∷ cs))
 
 -- degrees of so many digits less two and minutes of two, with at most nine decimals
-unfoldable pub degrees : List (List ℕ) → ℕ → Quantity → ℕ → Result (Option ℤ) FieldFault
+unfoldable pub degrees : List (List ℕ) → ℕ → ReadUnit → ℕ → Result (Option ℤ) FieldFault
 degrees fields at q width = text_says (field_at fields at) at (degrees_of at q width)
 
 -- the same, and behind it the letter of its sign
-unfoldable pub coordinate : List (List ℕ) → ℕ → Quantity → ℕ → ℕ → ℕ → Result (Option ℤ) FieldFault
+unfoldable pub coordinate : List (List ℕ) → ℕ → ReadUnit → ℕ → ℕ → ℕ → Result (Option ℤ) FieldFault
 coordinate fields at q width positive negative =
     given (degrees fields at q width) (λ v. given (side fields (at + 1) positive negative (is_none v)) (λ n. Ok (toward n v)))
 

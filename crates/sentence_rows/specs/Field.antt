@@ -4,13 +4,13 @@ use Rattle.std.specs.Fmt.{decimal}
 use Rattle.unit_fraction.specs.Round.{round}
 use Rattle.unit_fraction.specs.Text.{decimal_text, decimals}
 use Rattle.sentence_text.specs.Text.{is_field_byte}
-use Rattle.sentence_rows.specs.declared.conversion.Conversion.{Conversion}
-use Rattle.sentence_rows.specs.Conversions.{degrees}
+use Rattle.sentence_rows.specs.declared.written_unit.WrittenUnit.{WrittenUnit}
+use Rattle.sentence_rows.specs.WrittenUnits.{degrees}
 use Rattle.sentence_rows.specs.declared.field.Field.{Field}
 use Rattle.sentence_rows.specs.declared.field.Field.TheVariants.{Empty, Letter, Decimal, Magnitude, Side, Angle, Degrees, Time, Digits, Satellites}
 
 -- a raw value in a unit: the nearest count of the last decimals that are printed
-abbrev pub count : Conversion → ℤ → ℤ
+abbrev pub count : WrittenUnit → ℤ → ℤ
 count unit raw = round (raw *ℤ pos unit.num) unit.den
 
 abbrev pub is_negative : ℤ → Bool
@@ -62,13 +62,13 @@ width_of (Digits number width) = width
 width_of (Satellites raw) = 3
 
 -- the largest raw value has no more digits in the unit than the unit says
-abbrev pub is_sound : Conversion → Bool
+abbrev pub is_sound : WrittenUnit → Bool
 is_sound unit =
     nat_lt 0 unit.den && nat_lt unit.places unit.digits && nat_le unit.digits 12
     && nat_lt (2 * (unit.largest * unit.num) + unit.den) (2 * unit.den * 10 ^ unit.digits)
 
 -- the raw value is no larger than the unit says
-abbrev pub IsCounted : Conversion → Option ℤ → Type 0
+abbrev pub IsCounted : WrittenUnit → Option ℤ → Type 0
 IsCounted unit None = Unit {0}
 IsCounted unit (Some raw) = unsigned_abs raw ≤ unit.largest
 

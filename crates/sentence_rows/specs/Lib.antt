@@ -1,11 +1,11 @@
-pub mod Conversions
+pub mod WrittenUnits
 pub mod Field
 pub mod Lines
-pub mod Text
+pub mod Writing
 pub mod Fault
-pub mod Quantities
-pub mod Civil
+pub mod ReadUnits
+pub mod Calendar
 pub mod Columns
 pub mod Formatters
-pub mod ReadRow
+pub mod Reading
 pub mod Stable

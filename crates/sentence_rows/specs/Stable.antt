@@ -8,8 +8,8 @@ use Rattle.sentence_text.specs.Sentence.{Parts}
 use Rattle.sentence_rows.specs.declared.field.Field.{Field}
 use Rattle.sentence_rows.specs.Field.{body_text, text_of}
 use Rattle.sentence_rows.specs.Lines.{sentence_by}
-use Rattle.sentence_rows.specs.ReadRow.{read_row}
-use Rattle.sentence_rows.specs.Text.{Dated, IsText, day_said, said}
+use Rattle.sentence_rows.specs.Reading.{read_row}
+use Rattle.sentence_rows.specs.Writing.{Dated, IsText, day_said, said}
 
 -- the line is read as a sentence with one reading, and it is among the sentences in which the talker says that reading
 pub record IsStable (talker : List ℕ) (with_ths : Bool) (line : List ℕ) : Type 0 where

@@ -35,9 +35,9 @@ pub(crate) fn is_magnetic(sentence: &Sentence<'_>) -> bool
 }
 
 /// A field that isn't kept has only to be there.
-#[tactic(auto, unfolding(crate::specs::Columns::counted))]
-pub(crate) fn counted(sentence: &Sentence<'_>, at: u8) -> Result<(), FieldFault>
-    ensures { fault result ≡ spec.counted (spec.fields_in sentence.now) at }
+#[tactic(auto, unfolding(crate::specs::Columns::unkept))]
+pub(crate) fn unkept(sentence: &Sentence<'_>, at: u8) -> Result<(), FieldFault>
+    ensures { fault result ≡ spec.unkept (spec.fields_in sentence.now) at }
 {
     if sentence.count() < usize::from(at) {
         Err(FieldFault::Form(at))

@@ -8,17 +8,17 @@ ghost use Rattle.sentence_text.specs.Text.{is_capital};
 ghost use Rattle.sentence_rows.specs.Field.{IsCounted};
 ghost use Rattle.sentence_rows.specs.Lines.{lines_of, sentence_by};
 ghost use Rattle.sentence_rows.specs.Stable.{IsReadBack};
-ghost use Rattle.sentence_rows.specs.Text as text;
+ghost use Rattle.sentence_rows.specs.Writing as text;
 ghost use Rattle.sentence_rows.specs.Columns.{fields_in};
-ghost use Rattle.sentence_rows.specs.ReadRow as spec;
+ghost use Rattle.sentence_rows.specs.Reading as spec;
 
-use crate::column::counted;
-use crate::conversion::{FATHOMS, FEET, METRES};
+use crate::column::unkept;
 use crate::fault::FieldFault;
 use crate::field::Field::{Decimal, Letter};
-use crate::lines::{Lines, put};
+use crate::lines::{Lines, append};
 use crate::number::measure;
-use crate::quantity;
+use crate::read_unit;
+use crate::written_unit::{FATHOMS, FEET, METRES};
 use readings::Reading;
 use sentence_text::Sentence;
 
@@ -31,7 +31,7 @@ pub(crate) fn dbt(talker: [u8; 2], depth: Option<i64>, out: &mut Lines)
     ensures said { lines_of out.new ≡ lines_of out.old ++ sentence_by talker (codes "DBT") (text.dbt depth) ∷ [] }
     ensures again { IsReadBack talker (codes "DBT") (text.dbt depth) }
 {
-    put(
+    append(
         talker,
         *b"DBT",
         &[
@@ -47,15 +47,15 @@ pub(crate) fn dbt(talker: [u8; 2], depth: Option<i64>, out: &mut Lines)
 }
 
 /// The depth that is read from its metres. Feet and fathoms are passed over.
-#[tactic(auto, unfolding(crate::specs::ReadRow::dbt))]
+#[tactic(auto, unfolding(crate::specs::Reading::dbt))]
 pub(crate) fn read(sentence: &Sentence<'_>) -> Result<Reading, FieldFault>
     ensures { result ≡ spec.dbt (fields_in sentence.now) }
 {
-    counted(sentence, 1)?;
-    counted(sentence, 2)?;
-    let depth = measure(sentence, 3, quantity::METRES, b'M')?;
-    counted(sentence, 5)?;
-    counted(sentence, 6)?;
+    unkept(sentence, 1)?;
+    unkept(sentence, 2)?;
+    let depth = measure(sentence, 3, read_unit::METRES, b'M')?;
+    unkept(sentence, 5)?;
+    unkept(sentence, 6)?;
     Ok(Reading::Depth {
         depth,
         offset: None,

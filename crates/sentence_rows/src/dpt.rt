@@ -9,16 +9,16 @@ ghost use Rattle.sentence_text.specs.Text.{is_capital};
 ghost use Rattle.sentence_rows.specs.Field.{IsCounted};
 ghost use Rattle.sentence_rows.specs.Lines.{lines_of, sentence_by};
 ghost use Rattle.sentence_rows.specs.Stable.{IsReadBack};
-ghost use Rattle.sentence_rows.specs.Text as text;
+ghost use Rattle.sentence_rows.specs.Writing as text;
 ghost use Rattle.sentence_rows.specs.Columns.{fields_in};
-ghost use Rattle.sentence_rows.specs.ReadRow as spec;
+ghost use Rattle.sentence_rows.specs.Reading as spec;
 
-use crate::conversion::{METRES, OFFSET_METRES, RANGE_METRES};
 use crate::fault::FieldFault;
 use crate::field::Field::Decimal;
-use crate::lines::{Lines, put};
+use crate::lines::{Lines, append};
 use crate::number::number;
-use crate::quantity;
+use crate::read_unit;
+use crate::written_unit::{METRES, OFFSET_METRES, RANGE_METRES};
 use readings::Reading;
 use sentence_text::Sentence;
 
@@ -37,7 +37,7 @@ pub(crate) fn dpt(
     ensures said { lines_of out.new ≡ lines_of out.old ++ sentence_by talker (codes "DPT") (text.dpt depth offset range) ∷ [] }
     ensures again { IsReadBack talker (codes "DPT") (text.dpt depth offset range) }
 {
-    put(
+    append(
         talker,
         *b"DPT",
         &[
@@ -50,12 +50,12 @@ pub(crate) fn dpt(
 }
 
 /// The depth that is read. The range of the scale may be missing.
-#[tactic(auto, unfolding(crate::specs::ReadRow::dpt))]
+#[tactic(auto, unfolding(crate::specs::Reading::dpt))]
 pub(crate) fn read(sentence: &Sentence<'_>) -> Result<Reading, FieldFault>
     ensures { result ≡ spec.dpt (fields_in sentence.now) }
 {
-    let depth = number(sentence, 1, quantity::METRES)?;
-    let offset = number(sentence, 2, quantity::OFFSET_METRES)?;
+    let depth = number(sentence, 1, read_unit::METRES)?;
+    let offset = number(sentence, 2, read_unit::OFFSET_METRES)?;
     let range = scale_range(sentence)?;
     Ok(Reading::Depth {
         depth,
@@ -65,13 +65,13 @@ pub(crate) fn read(sentence: &Sentence<'_>) -> Result<Reading, FieldFault>
 }
 
 /// The range of the depth's scale, which may be missing.
-#[tactic(auto, unfolding(crate::specs::ReadRow::depth_range))]
+#[tactic(auto, unfolding(crate::specs::Reading::depth_range))]
 fn scale_range(sentence: &Sentence<'_>) -> Result<Option<i64>, FieldFault>
     ensures { result ≡ spec.depth_range (fields_in sentence.now) }
 {
     if sentence.count() < 3 {
         Ok(None)
     } else {
-        number(sentence, 3, quantity::RANGE_METRES)
+        number(sentence, 3, read_unit::RANGE_METRES)
     }
 }

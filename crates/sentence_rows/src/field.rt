@@ -2,7 +2,7 @@ ghost use Rattle.std.specs.Prelude.{◌≡◌, ◌+◌, ◌≤◌, ◌<◌, ◌^
 ghost use Rattle.unit_fraction.specs.Text.{decimal_text, decimals};
 ghost use Rattle.sentence_rows.specs.Field.{IsCounted, IsPrintable, count, is_sound, text_of, width_of};
 
-use crate::conversion::{Conversion, DEGREES};
+use crate::written_unit::{DEGREES, WrittenUnit};
 use arrayvec::ArrayVec;
 use unit_fraction::{Fraction, scale, write_decimal};
 
@@ -13,16 +13,16 @@ pub enum Field {
     /// A letter of a unit, a status or a mode.
     Letter(u8),
     /// A raw value in a unit, with its sign.
-    Decimal(Option<i64>, Conversion),
+    Decimal(Option<i64>, WrittenUnit),
     /// The same without its sign.
-    Magnitude(Option<i64>, Conversion),
+    Magnitude(Option<i64>, WrittenUnit),
     /// The letter that stands for a raw value's sign: the first from zero on, the second below. It goes by
     /// the value as it is printed.
-    Side(Option<i64>, Conversion, u8, u8),
+    Side(Option<i64>, WrittenUnit, u8, u8),
     /// A heading, a course or the angle of the wind in degrees, below 360.
     Angle(Option<i64>),
     /// Latitude or longitude in degrees of so many digits and minutes with four decimals.
-    Degrees(Option<i64>, Conversion, u8),
+    Degrees(Option<i64>, WrittenUnit, u8),
     /// A time of day as hhmmss.ss.
     Time(Option<i64>),
     /// The last digits of a number, so many.
@@ -41,26 +41,26 @@ impl Field {
         match self {
             Field::Empty => {}
             Field::Letter(letter) => out.push(letter),
-            Field::Decimal(raw, unit) => put_decimal(raw, unit, out),
-            Field::Magnitude(raw, unit) => put_magnitude(raw, unit, out),
-            Field::Side(raw, unit, positive, negative) => put_side(
+            Field::Decimal(raw, unit) => append_decimal(raw, unit, out),
+            Field::Magnitude(raw, unit) => append_magnitude(raw, unit, out),
+            Field::Side(raw, unit, positive, negative) => append_side(
                 raw, unit, positive, negative, out,
             ),
-            Field::Angle(raw) => put_angle(raw, out),
-            Field::Degrees(raw, unit, width) => put_degrees(raw, unit, width, out),
-            Field::Time(raw) => put_time(raw, out),
+            Field::Angle(raw) => append_angle(raw, out),
+            Field::Degrees(raw, unit, width) => append_degrees(raw, unit, width, out),
+            Field::Time(raw) => append_time(raw, out),
             Field::Digits(number, width) => {
                 if let Some(number) = number {
-                    put_digits(number, width, out);
+                    append_digits(number, width, out);
                 }
             }
-            Field::Satellites(raw) => put_satellites(raw, out),
+            Field::Satellites(raw) => append_satellites(raw, out),
         }
     }
 }
 
 /// The raw value in the unit, as a count of its last decimals.
-fn counted(raw: i64, unit: Conversion) -> i128
+fn count(raw: i64, unit: WrittenUnit) -> i128
     requires { IsTrue (nat_lt 0 unit.den) }
     ensures { result ≡ count unit raw }
 {
@@ -72,17 +72,17 @@ fn counted(raw: i64, unit: Conversion) -> i128
 }
 
 /// The same without its sign.
-fn size(raw: i64, unit: Conversion) -> u64
+fn size(raw: i64, unit: WrittenUnit) -> u64
     requires sound { IsTrue (is_sound unit) }
     requires counted { unsigned_abs raw ≤ unit.largest }
     ensures value { result ≡ unsigned_abs (count unit raw) }
     ensures small { result < 10 ^ unit.digits }
 {
-    counted(raw, unit).unsigned_abs() as u64
+    count(raw, unit).unsigned_abs() as u64
 }
 
 /// Appends the decimal, for which there is room.
-fn put_number(negative: bool, digits: u64, places: u8, out: &mut ArrayVec<u8, 82>)
+fn append_number(negative: bool, digits: u64, places: u8, out: &mut ArrayVec<u8, 82>)
     requires places { places ≤ 12 }
     requires room { length out.old.items + length (decimal_text negative digits places) ≤ 82 }
     ensures { out.new.items ≡ out.old.items ++ decimal_text negative digits places }
@@ -91,34 +91,34 @@ fn put_number(negative: bool, digits: u64, places: u8, out: &mut ArrayVec<u8, 82
 }
 
 /// Appends the raw value, with its sign where that is asked for.
-fn put_decimal(raw: Option<i64>, unit: Conversion, out: &mut ArrayVec<u8, 82>)
+fn append_decimal(raw: Option<i64>, unit: WrittenUnit, out: &mut ArrayVec<u8, 82>)
     requires sound { IsTrue (is_sound unit) }
     requires counted { IsCounted unit raw }
     requires room { length out.old.items + (unit.digits + 2) ≤ 82 }
     ensures { out.new.items ≡ out.old.items ++ text_of (Field.Decimal raw unit) }
 {
     if let Some(raw) = raw {
-        let negative = counted(raw, unit) < 0;
-        put_number(negative, size(raw, unit), unit.places, out);
+        let negative = count(raw, unit) < 0;
+        append_number(negative, size(raw, unit), unit.places, out);
     }
 }
 
 /// Appends the raw value without its sign.
-fn put_magnitude(raw: Option<i64>, unit: Conversion, out: &mut ArrayVec<u8, 82>)
+fn append_magnitude(raw: Option<i64>, unit: WrittenUnit, out: &mut ArrayVec<u8, 82>)
     requires sound { IsTrue (is_sound unit) }
     requires counted { IsCounted unit raw }
     requires room { length out.old.items + (unit.digits + 1) ≤ 82 }
     ensures { out.new.items ≡ out.old.items ++ text_of (Field.Magnitude raw unit) }
 {
     if let Some(raw) = raw {
-        put_number(false, size(raw, unit), unit.places, out);
+        append_number(false, size(raw, unit), unit.places, out);
     }
 }
 
 /// Appends the letter of the raw value's sign.
-fn put_side(
+fn append_side(
     raw: Option<i64>,
-    unit: Conversion,
+    unit: WrittenUnit,
     positive: u8,
     negative: u8,
     out: &mut ArrayVec<u8, 82>,
@@ -128,7 +128,7 @@ fn put_side(
     ensures { out.new.items ≡ out.old.items ++ text_of (Field.Side raw unit positive negative) }
 {
     if let Some(raw) = raw {
-        out.push(if counted(raw, unit) < 0 {
+        out.push(if count(raw, unit) < 0 {
             negative
         } else {
             positive
@@ -137,18 +137,18 @@ fn put_side(
 }
 
 /// Appends the angle, all round being zero.
-fn put_angle(raw: Option<i64>, out: &mut ArrayVec<u8, 82>)
+fn append_angle(raw: Option<i64>, out: &mut ArrayVec<u8, 82>)
     requires { length out.old.items + 5 ≤ 82 }
     ensures { out.new.items ≡ out.old.items ++ text_of (Field.Angle raw) }
 {
     if let Some(raw) = raw {
-        let tenths = counted(raw, DEGREES).unsigned_abs() % 3600;
-        put_number(false, tenths as u64, 1, out);
+        let tenths = count(raw, DEGREES).unsigned_abs() % 3600;
+        append_number(false, tenths as u64, 1, out);
     }
 }
 
 /// Appends degrees, and minutes with four decimals.
-fn put_degrees(raw: Option<i64>, unit: Conversion, width: u8, out: &mut ArrayVec<u8, 82>)
+fn append_degrees(raw: Option<i64>, unit: WrittenUnit, width: u8, out: &mut ArrayVec<u8, 82>)
     requires sound { IsTrue (is_sound unit) }
     requires counted { IsCounted unit raw }
     requires room { length out.old.items + (width + 7) ≤ 82 }
@@ -156,30 +156,30 @@ fn put_degrees(raw: Option<i64>, unit: Conversion, width: u8, out: &mut ArrayVec
 {
     if let Some(raw) = raw {
         let minutes = size(raw, unit);
-        put_digits(minutes / 600_000, width, out);
-        put_digits(minutes % 600_000 / 10_000, 2, out);
+        append_digits(minutes / 600_000, width, out);
+        append_digits(minutes % 600_000 / 10_000, 2, out);
         out.push(b'.');
-        put_digits(minutes % 10_000, 4, out);
+        append_digits(minutes % 10_000, 4, out);
     }
 }
 
 /// Appends the time of day, cut off to hundredths of a second.
-fn put_time(raw: Option<i64>, out: &mut ArrayVec<u8, 82>)
+fn append_time(raw: Option<i64>, out: &mut ArrayVec<u8, 82>)
     requires { length out.old.items + 9 ≤ 82 }
     ensures { out.new.items ≡ out.old.items ++ text_of (Field.Time raw) }
 {
     if let Some(raw) = raw {
         let hundredths = raw.unsigned_abs() / 100;
-        put_digits(hundredths / 360_000, 2, out);
-        put_digits(hundredths / 6_000 % 60, 2, out);
-        put_digits(hundredths / 100 % 60, 2, out);
+        append_digits(hundredths / 360_000, 2, out);
+        append_digits(hundredths / 6_000 % 60, 2, out);
+        append_digits(hundredths / 100 % 60, 2, out);
         out.push(b'.');
-        put_digits(hundredths % 100, 2, out);
+        append_digits(hundredths % 100, 2, out);
     }
 }
 
 /// Appends the number of satellites.
-fn put_satellites(raw: Option<i64>, out: &mut ArrayVec<u8, 82>)
+fn append_satellites(raw: Option<i64>, out: &mut ArrayVec<u8, 82>)
     requires few { IsPrintable (Field.Satellites raw) }
     requires room { length out.old.items + 3 ≤ 82 }
     ensures { out.new.items ≡ out.old.items ++ text_of (Field.Satellites raw) }
@@ -187,21 +187,21 @@ fn put_satellites(raw: Option<i64>, out: &mut ArrayVec<u8, 82>)
     if let Some(raw) = raw {
         let number = raw.unsigned_abs();
         if number < 10 {
-            put_digits(number, 2, out);
+            append_digits(number, 2, out);
         } else {
-            put_number(false, number, 0, out);
+            append_number(false, number, 0, out);
         }
     }
 }
 
 /// Appends the last `width` digits of the number.
-fn put_digits(number: u64, width: u8, out: &mut ArrayVec<u8, 82>)
+fn append_digits(number: u64, width: u8, out: &mut ArrayVec<u8, 82>)
     requires { length out.old.items + width ≤ 82 }
     ensures text { out.new.items ≡ out.old.items ++ decimals width number }
     ensures len { length out.new.items ≡ length out.old.items + width }
 {
     if width > 0 {
-        put_digits(number / 10, width - 1, out);
+        append_digits(number / 10, width - 1, out);
         out.push(b'0' + (number % 10) as u8);
     }
 }

@@ -10,20 +10,20 @@ ghost use Rattle.sentence_text.specs.Text.{is_capital};
 ghost use Rattle.sentence_rows.specs.Field.{IsCounted, IsPrintable};
 ghost use Rattle.sentence_rows.specs.Lines.{lines_of, sentence_by};
 ghost use Rattle.sentence_rows.specs.Stable.{IsReadBack};
-ghost use Rattle.sentence_rows.specs.Text as text;
+ghost use Rattle.sentence_rows.specs.Writing as text;
 ghost use Rattle.sentence_rows.specs.Columns.{fields_in};
-ghost use Rattle.sentence_rows.specs.ReadRow as spec;
+ghost use Rattle.sentence_rows.specs.Reading as spec;
 
 use crate::clock::time;
-use crate::conversion::{ALTITUDE_METRES, DILUTION, FIX_MINUTES, SEPARATION_METRES};
 use crate::fault::FieldFault;
 use crate::field::Field::{self, Decimal, Degrees, Empty, Letter, Satellites, Side, Time};
 use crate::fix::{quality, satellites};
 use crate::letter::{beside, letter_where};
-use crate::lines::{Lines, put};
+use crate::lines::{Lines, append};
 use crate::number::{measure, number};
 use crate::position::coordinate;
-use crate::quantity;
+use crate::read_unit;
+use crate::written_unit::{ALTITUDE_METRES, DILUTION, FIX_MINUTES, SEPARATION_METRES};
 use readings::Reading;
 use sentence_text::Sentence;
 
@@ -52,7 +52,7 @@ pub(crate) fn gga(
     ensures again { IsReadBack talker (codes "GGA") (text.gga time latitude longitude altitude method satellites hdop separation) }
 {
     let quality = letter_where(latitude.is_some(), b'0' + method, b'0');
-    put(
+    append(
         talker,
         *b"GGA",
         &[
@@ -76,18 +76,18 @@ pub(crate) fn gga(
 }
 
 /// The fix that is read.
-#[tactic(auto, unfolding(crate::specs::ReadRow::gga))]
+#[tactic(auto, unfolding(crate::specs::Reading::gga))]
 pub(crate) fn read(sentence: &Sentence<'_>) -> Result<Reading, FieldFault>
     ensures { result ≡ spec.gga (fields_in sentence.now) }
 {
     let time = time(sentence, 1)?;
-    let latitude = coordinate(sentence, 2, quantity::FIX_LATITUDE, 4, b'N', b'S')?;
-    let longitude = coordinate(sentence, 4, quantity::FIX_LONGITUDE, 5, b'E', b'W')?;
+    let latitude = coordinate(sentence, 2, read_unit::FIX_LATITUDE, 4, b'N', b'S')?;
+    let longitude = coordinate(sentence, 4, read_unit::FIX_LONGITUDE, 5, b'E', b'W')?;
     let method = quality(sentence, 6)?;
     let satellites = satellites(sentence, 7)?;
-    let hdop = number(sentence, 8, quantity::DILUTION)?;
-    let altitude = measure(sentence, 9, quantity::ALTITUDE_METRES, b'M')?;
-    let separation = measure(sentence, 11, quantity::SEPARATION_METRES, b'M')?;
+    let hdop = number(sentence, 8, read_unit::DILUTION)?;
+    let altitude = measure(sentence, 9, read_unit::ALTITUDE_METRES, b'M')?;
+    let separation = measure(sentence, 11, read_unit::SEPARATION_METRES, b'M')?;
     Ok(Reading::Gnss {
         date: None,
         time,

@@ -9,18 +9,18 @@ ghost use Rattle.sentence_text.specs.Text.{is_capital};
 ghost use Rattle.sentence_rows.specs.Field.{IsCounted};
 ghost use Rattle.sentence_rows.specs.Lines.{lines_of, sentence_by};
 ghost use Rattle.sentence_rows.specs.Stable.{IsReadBack};
-ghost use Rattle.sentence_rows.specs.Text as text;
+ghost use Rattle.sentence_rows.specs.Writing as text;
 ghost use Rattle.sentence_rows.specs.Columns.{fields_in};
-ghost use Rattle.sentence_rows.specs.ReadRow as spec;
+ghost use Rattle.sentence_rows.specs.Reading as spec;
 
-use crate::column::{counted, status};
-use crate::conversion::MINUTES;
+use crate::column::{status, unkept};
 use crate::fault::FieldFault;
 use crate::field::Field::{Degrees, Empty, Letter, Side};
 use crate::letter::{beside, letter_where, only_if};
-use crate::lines::{Lines, put};
+use crate::lines::{Lines, append};
 use crate::position::coordinate;
-use crate::quantity;
+use crate::read_unit;
+use crate::written_unit::MINUTES;
 use readings::Reading;
 use sentence_text::Sentence;
 
@@ -34,7 +34,7 @@ pub(crate) fn gll(talker: [u8; 2], latitude: Option<i64>, longitude: Option<i64>
 {
     let status = letter_where(latitude.is_some(), b'A', b'V');
     let mode = letter_where(latitude.is_some(), b'A', b'N');
-    put(
+    append(
         talker,
         *b"GLL",
         &[
@@ -51,13 +51,13 @@ pub(crate) fn gll(talker: [u8; 2], latitude: Option<i64>, longitude: Option<i64>
 }
 
 /// The position that is read; a status of `V` makes it absent.
-#[tactic(auto, unfolding(crate::specs::ReadRow::gll))]
+#[tactic(auto, unfolding(crate::specs::Reading::gll))]
 pub(crate) fn read(sentence: &Sentence<'_>) -> Result<Reading, FieldFault>
     ensures { result ≡ spec.gll (fields_in sentence.now) }
 {
-    let latitude = coordinate(sentence, 1, quantity::LATITUDE, 4, b'N', b'S')?;
-    let longitude = coordinate(sentence, 3, quantity::LONGITUDE, 5, b'E', b'W')?;
-    counted(sentence, 5)?;
+    let latitude = coordinate(sentence, 1, read_unit::LATITUDE, 4, b'N', b'S')?;
+    let longitude = coordinate(sentence, 3, read_unit::LONGITUDE, 5, b'E', b'W')?;
+    unkept(sentence, 5)?;
     let nothing = latitude.is_none() && longitude.is_none();
     let valid = status(sentence, 6, nothing)?;
     Ok(Reading::Position {

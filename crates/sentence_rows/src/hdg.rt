@@ -8,16 +8,16 @@ ghost use Rattle.sentence_text.specs.Text.{is_capital};
 ghost use Rattle.sentence_rows.specs.Field.{IsCounted};
 ghost use Rattle.sentence_rows.specs.Lines.{lines_of, sentence_by};
 ghost use Rattle.sentence_rows.specs.Stable.{IsReadBack};
-ghost use Rattle.sentence_rows.specs.Text as text;
+ghost use Rattle.sentence_rows.specs.Writing as text;
 ghost use Rattle.sentence_rows.specs.Columns.{fields_in};
-ghost use Rattle.sentence_rows.specs.ReadRow as spec;
+ghost use Rattle.sentence_rows.specs.Reading as spec;
 
-use crate::conversion::DEGREES;
 use crate::fault::FieldFault;
 use crate::field::Field::{Angle, Magnitude, Side};
-use crate::lines::{Lines, put};
+use crate::lines::{Lines, append};
 use crate::number::{number, sided};
-use crate::quantity;
+use crate::read_unit;
+use crate::written_unit::DEGREES;
 use readings::Reading;
 use sentence_text::Sentence;
 
@@ -35,7 +35,7 @@ pub(crate) fn hdg(
     ensures said { lines_of out.new ≡ lines_of out.old ++ sentence_by talker (codes "HDG") (text.hdg heading deviation variation) ∷ [] }
     ensures again { IsReadBack talker (codes "HDG") (text.hdg heading deviation variation) }
 {
-    put(
+    append(
         talker,
         *b"HDG",
         &[
@@ -50,13 +50,13 @@ pub(crate) fn hdg(
 }
 
 /// The magnetic heading that is read.
-#[tactic(auto, unfolding(crate::specs::ReadRow::hdg))]
+#[tactic(auto, unfolding(crate::specs::Reading::hdg))]
 pub(crate) fn read(sentence: &Sentence<'_>) -> Result<Reading, FieldFault>
     ensures { result ≡ spec.hdg (fields_in sentence.now) }
 {
-    let heading = number(sentence, 1, quantity::ANGLE)?;
-    let deviation = sided(sentence, 2, quantity::DEVIATION, b'E', b'W')?;
-    let variation = sided(sentence, 4, quantity::DEVIATION, b'E', b'W')?;
+    let heading = number(sentence, 1, read_unit::ANGLE)?;
+    let deviation = sided(sentence, 2, read_unit::DEVIATION, b'E', b'W')?;
+    let variation = sided(sentence, 4, read_unit::DEVIATION, b'E', b'W')?;
     Ok(Reading::HeadingMagnetic {
         heading,
         deviation,

@@ -7,15 +7,15 @@ ghost use Rattle.std.specs.List.{list_all};
 ghost use Rattle.sentence_text.specs.Text.{is_capital};
 ghost use Rattle.sentence_rows.specs.Lines.{lines_of, sentence_by};
 ghost use Rattle.sentence_rows.specs.Stable.{IsReadBack};
-ghost use Rattle.sentence_rows.specs.Text as text;
+ghost use Rattle.sentence_rows.specs.Writing as text;
 ghost use Rattle.sentence_rows.specs.Columns.{fields_in};
-ghost use Rattle.sentence_rows.specs.ReadRow as spec;
+ghost use Rattle.sentence_rows.specs.Reading as spec;
 
 use crate::fault::FieldFault;
 use crate::field::Field::{Angle, Letter};
-use crate::lines::{Lines, put};
+use crate::lines::{Lines, append};
 use crate::number::measure;
-use crate::quantity;
+use crate::read_unit;
 use readings::Reading;
 use sentence_text::Sentence;
 
@@ -25,14 +25,14 @@ pub(crate) fn hdt(talker: [u8; 2], heading: Option<i64>, out: &mut Lines)
     ensures said { lines_of out.new ≡ lines_of out.old ++ sentence_by talker (codes "HDT") (text.hdt heading) ∷ [] }
     ensures again { IsReadBack talker (codes "HDT") (text.hdt heading) }
 {
-    put(talker, *b"HDT", &[Angle(heading), Letter(b'T')], out);
+    append(talker, *b"HDT", &[Angle(heading), Letter(b'T')], out);
 }
 
 /// The true heading that is read.
-#[tactic(auto, unfolding(crate::specs::ReadRow::hdt))]
+#[tactic(auto, unfolding(crate::specs::Reading::hdt))]
 pub(crate) fn read(sentence: &Sentence<'_>) -> Result<Reading, FieldFault>
     ensures { result ≡ spec.hdt (fields_in sentence.now) }
 {
-    let heading = measure(sentence, 1, quantity::ANGLE, b'T')?;
+    let heading = measure(sentence, 1, read_unit::ANGLE, b'T')?;
     Ok(Reading::HeadingTrue { heading })
 }

@@ -6,7 +6,6 @@
 
 mod clock;
 mod column;
-mod conversion;
 mod dbt;
 mod digits;
 mod dpt;
@@ -25,10 +24,9 @@ mod mwd;
 mod mwv;
 mod number;
 mod position;
-mod quantity;
+mod read_unit;
 mod reading;
 mod rot;
-mod rows;
 mod rsa;
 #[cfg(test)]
 mod tests;
@@ -36,10 +34,12 @@ mod ths;
 mod vhw;
 mod vlw;
 mod vtg;
+mod writing;
+mod written_unit;
 mod xte;
 mod zda;
 
 pub use fault::FieldFault;
 pub use lines::{Lines, SentenceText};
 pub use reading::{Readings, read_rows};
-pub use rows::sentences;
+pub use writing::sentences;

@@ -31,7 +31,7 @@ impl Default for SentenceText {
 pub type Lines = ArrayVec<SentenceText, 2>;
 
 /// Leaves the fields, each behind a comma.
-fn put_body(fields: &[Field], body: &mut ArrayVec<u8, 82>)
+fn append_body(fields: &[Field], body: &mut ArrayVec<u8, 82>)
     requires empty { body.old.items ≡ [] }
     requires printable { AllByRecursion IsPrintable fields.now }
     requires short { body_width fields.now ≤ 71 }
@@ -63,12 +63,12 @@ fn write_sentence(talker: [u8; 2], formatter: [u8; 3], fields: &[Field], text: &
     ensures again { IsReadBack talker formatter fields.now }
 {
     let mut body = ArrayVec::new();
-    put_body(fields, &mut body);
+    append_body(fields, &mut body);
     let _ = write(talker, formatter, behind_first(&body), &mut text.bytes);
 }
 
 /// Adds the sentence of the fields.
-pub(crate) fn put(talker: [u8; 2], formatter: [u8; 3], fields: &[Field], out: &mut Lines)
+pub(crate) fn append(talker: [u8; 2], formatter: [u8; 3], fields: &[Field], out: &mut Lines)
     requires room { length out.old.items < 2 }
     requires talker { IsTrue (list_all is_capital talker) }
     requires formatter { IsTrue (list_all is_address_byte formatter) }

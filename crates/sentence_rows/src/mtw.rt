@@ -4,21 +4,21 @@
 
 ghost use Rattle.std.specs.Prelude.{◌≡◌, ◌<◌, [], ◌∷◌, ◌++◌, codes, length, IsTrue};
 ghost use Rattle.std.specs.List.{list_all};
-ghost use Rattle.readings.specs.Ranges.{Admits, kelvin as kelvin_range};
+ghost use Rattle.readings.specs.Ranges.{Admits, water_temperature as temperature_range};
 ghost use Rattle.sentence_text.specs.Text.{is_capital};
 ghost use Rattle.sentence_rows.specs.Field.{IsCounted};
 ghost use Rattle.sentence_rows.specs.Lines.{lines_of, sentence_by};
 ghost use Rattle.sentence_rows.specs.Stable.{IsReadBack};
-ghost use Rattle.sentence_rows.specs.Text as text;
+ghost use Rattle.sentence_rows.specs.Writing as text;
 ghost use Rattle.sentence_rows.specs.Columns.{IsSmall, fields_in};
-ghost use Rattle.sentence_rows.specs.ReadRow as spec;
+ghost use Rattle.sentence_rows.specs.Reading as spec;
 
-use crate::conversion::CELSIUS;
 use crate::fault::FieldFault;
 use crate::field::Field::{Decimal, Letter};
-use crate::lines::{Lines, put};
+use crate::lines::{Lines, append};
 use crate::number::measure;
-use crate::quantity;
+use crate::read_unit;
+use crate::written_unit::CELSIUS;
 use readings::Reading;
 use sentence_text::Sentence;
 
@@ -26,7 +26,7 @@ pub(crate) fn mtw(talker: [u8; 2], kelvin: Option<i64>, out: &mut Lines)
     requires room { length out.old.items < 2 }
     requires talker { IsTrue (list_all is_capital talker) }
     requires kelvin { IsCounted CELSIUS (text.above_freezing kelvin) }
-    requires range { Admits kelvin_range kelvin }
+    requires range { Admits temperature_range kelvin }
     ensures said { lines_of out.new ≡ lines_of out.old ++ sentence_by talker (codes "MTW") (text.mtw kelvin) ∷ [] }
     ensures again { IsReadBack talker (codes "MTW") (text.mtw kelvin) }
 {
@@ -34,7 +34,7 @@ pub(crate) fn mtw(talker: [u8; 2], kelvin: Option<i64>, out: &mut Lines)
         Some(kelvin) => Some(kelvin - 273_150),
         None => None,
     };
-    put(
+    append(
         talker,
         *b"MTW",
         &[Decimal(celsius, CELSIUS), Letter(b'C')],
@@ -43,11 +43,11 @@ pub(crate) fn mtw(talker: [u8; 2], kelvin: Option<i64>, out: &mut Lines)
 }
 
 /// The temperature that is read.
-#[tactic(auto, unfolding(crate::specs::ReadRow::mtw))]
+#[tactic(auto, unfolding(crate::specs::Reading::mtw))]
 pub(crate) fn read(sentence: &Sentence<'_>) -> Result<Reading, FieldFault>
     ensures { result ≡ spec.mtw (fields_in sentence.now) }
 {
-    let celsius = measure(sentence, 1, quantity::CELSIUS, b'C')?;
+    let celsius = measure(sentence, 1, read_unit::CELSIUS, b'C')?;
     Ok(Reading::WaterTemperature {
         kelvin: from_freezing(celsius),
     })

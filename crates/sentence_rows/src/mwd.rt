@@ -8,18 +8,18 @@ ghost use Rattle.sentence_text.specs.Text.{is_capital};
 ghost use Rattle.sentence_rows.specs.Field.{IsCounted};
 ghost use Rattle.sentence_rows.specs.Lines.{lines_of, sentence_by};
 ghost use Rattle.sentence_rows.specs.Stable.{IsReadBack};
-ghost use Rattle.sentence_rows.specs.Text as text;
+ghost use Rattle.sentence_rows.specs.Writing as text;
 ghost use Rattle.sentence_rows.specs.Columns.{fields_in};
-ghost use Rattle.sentence_rows.specs.ReadRow as spec;
+ghost use Rattle.sentence_rows.specs.Reading as spec;
 
 use crate::column::is_magnetic;
-use crate::conversion::{KNOTS, METRES_PER_SECOND};
 use crate::fault::FieldFault;
 use crate::field::Field::{Angle, Decimal, Letter};
 use crate::letter::only_if;
-use crate::lines::{Lines, put};
+use crate::lines::{Lines, append};
 use crate::number::either_unit;
-use crate::quantity;
+use crate::read_unit;
+use crate::written_unit::{KNOTS, METRES_PER_SECOND};
 use readings::Reading;
 use sentence_text::Sentence;
 
@@ -39,7 +39,7 @@ pub(crate) fn mwd(
 {
     let from_true = only_if(!magnetic, angle);
     let from_magnetic = only_if(magnetic, angle);
-    put(
+    append(
         talker,
         *b"MWD",
         &[
@@ -57,17 +57,17 @@ pub(crate) fn mwd(
 }
 
 /// The wind that is read: its direction, true or else magnetic, and its speed in knots or else in m/s.
-#[tactic(auto, unfolding(crate::specs::ReadRow::mwd))]
+#[tactic(auto, unfolding(crate::specs::Reading::mwd))]
 pub(crate) fn read(sentence: &Sentence<'_>) -> Result<Reading, FieldFault>
     ensures { result ≡ spec.mwd (fields_in sentence.now) }
 {
-    let angle = either_unit(sentence, 1, quantity::ANGLE, b'T', quantity::ANGLE, b'M')?;
+    let angle = either_unit(sentence, 1, read_unit::ANGLE, b'T', read_unit::ANGLE, b'M')?;
     let speed = either_unit(
         sentence,
         5,
-        quantity::KNOTS,
+        read_unit::KNOTS,
         b'N',
-        quantity::METRES_PER_SECOND,
+        read_unit::METRES_PER_SECOND,
         b'M',
     )?;
     Ok(Reading::WindNorth {

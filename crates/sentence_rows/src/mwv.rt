@@ -9,18 +9,18 @@ ghost use Rattle.sentence_text.specs.Text.{is_capital, is_field_byte};
 ghost use Rattle.sentence_rows.specs.Field.{IsCounted};
 ghost use Rattle.sentence_rows.specs.Lines.{lines_of, sentence_by};
 ghost use Rattle.sentence_rows.specs.Stable.{IsReadBack};
-ghost use Rattle.sentence_rows.specs.Text as text;
+ghost use Rattle.sentence_rows.specs.Writing as text;
 ghost use Rattle.sentence_rows.specs.Columns.{fields_in};
-ghost use Rattle.sentence_rows.specs.ReadRow as spec;
+ghost use Rattle.sentence_rows.specs.Reading as spec;
 
 use crate::column::{reference, status};
-use crate::conversion::KNOTS;
 use crate::fault::FieldFault;
 use crate::field::Field::{Angle, Decimal, Letter};
 use crate::letter::{letter_where, only_if};
-use crate::lines::{Lines, put};
+use crate::lines::{Lines, append};
 use crate::number::{number, wind_speed};
-use crate::quantity;
+use crate::read_unit;
+use crate::written_unit::KNOTS;
 use readings::Reading;
 use sentence_text::Sentence;
 
@@ -39,7 +39,7 @@ pub(crate) fn mwv(
     ensures again { IsReadBack talker (codes "MWV") (text.mwv reference speed angle) }
 {
     let status = letter_where(angle.is_some() || speed.is_some(), b'A', b'V');
-    put(
+    append(
         talker,
         *b"MWV",
         &[
@@ -54,11 +54,11 @@ pub(crate) fn mwv(
 }
 
 /// The wind that is read; a status of `V` makes it absent.
-#[tactic(auto, unfolding(crate::specs::ReadRow::mwv))]
+#[tactic(auto, unfolding(crate::specs::Reading::mwv))]
 pub(crate) fn read(sentence: &Sentence<'_>) -> Result<Reading, FieldFault>
     ensures { result ≡ spec.mwv (fields_in sentence.now) }
 {
-    let angle = number(sentence, 1, quantity::ANGLE)?;
+    let angle = number(sentence, 1, read_unit::ANGLE)?;
     let is_true = reference(sentence, 2)?;
     let speed = wind_speed(sentence, 3)?;
     let nothing = angle.is_none() && speed.is_none();

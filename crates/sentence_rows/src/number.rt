@@ -2,11 +2,11 @@
 
 ghost use Rattle.std.specs.Prelude.{◌≡◌, ◌+◌, ◌<◌, ◌≤◌, ◌^◌, IfOk, IsTrue, unsigned_abs};
 ghost use Rattle.sentence_rows.specs.Columns as spec;
-ghost use Rattle.sentence_rows.specs.Quantities.{is_fit};
+ghost use Rattle.sentence_rows.specs.ReadUnits.{is_fit};
 
-use crate::column::{counted, field, is_letter, side, unit_letter};
+use crate::column::{field, is_letter, side, unit_letter, unkept};
 use crate::fault::FieldFault;
-use crate::quantity::{KILOMETRES_PER_HOUR, KNOTS, METRES_PER_SECOND, Quantity};
+use crate::read_unit::{KILOMETRES_PER_HOUR, KNOTS, METRES_PER_SECOND, ReadUnit};
 use sentence_text::Sentence;
 use unit_fraction::{Decimal, DecimalFault, Fraction, read_decimal, scale_decimal};
 
@@ -39,7 +39,7 @@ fn decimal(
 
 /// The raw value of a decimal.
 #[tactic(auto, unfolding(crate::specs::Columns::raw_of))]
-fn raw_of(q: Quantity, decimal: &Decimal) -> i128
+fn raw_of(q: ReadUnit, decimal: &Decimal) -> i128
     requires fit { IsTrue (is_fit q) }
     requires digits { decimal.now.digits < 10 ^ 14 }
     requires places { decimal.now.places ≤ 12 }
@@ -55,7 +55,7 @@ fn raw_of(q: Quantity, decimal: &Decimal) -> i128
 /// The raw value of what is written, within the quantity's range.
 pub(crate) fn scaled(
     at: u8,
-    q: Quantity,
+    q: ReadUnit,
     decimal: Option<Decimal>,
 ) -> Result<Option<i64>, FieldFault>
     requires fit { IsTrue (is_fit q) }
@@ -80,7 +80,7 @@ pub(crate) fn scaled(
 pub(crate) fn number(
     sentence: &Sentence<'_>,
     at: u8,
-    q: Quantity,
+    q: ReadUnit,
 ) -> Result<Option<i64>, FieldFault>
     requires fit { IsTrue (is_fit q) }
     ensures exact { result ≡ spec.number (spec.fields_in sentence.now) at q }
@@ -95,7 +95,7 @@ pub(crate) fn number(
 pub(crate) fn measure(
     sentence: &Sentence<'_>,
     at: u8,
-    q: Quantity,
+    q: ReadUnit,
     letter: u8,
 ) -> Result<Option<i64>, FieldFault>
     requires fit { IsTrue (is_fit q) }
@@ -113,9 +113,9 @@ pub(crate) fn measure(
 pub(crate) fn either_unit(
     sentence: &Sentence<'_>,
     at: u8,
-    q: Quantity,
+    q: ReadUnit,
     letter: u8,
-    other: Quantity,
+    other: ReadUnit,
     other_letter: u8,
 ) -> Result<Option<i64>, FieldFault>
     requires fit { IsTrue (is_fit q) }
@@ -127,8 +127,8 @@ pub(crate) fn either_unit(
     if value.is_none() {
         return measure(sentence, at + 2, other, other_letter);
     }
-    counted(sentence, at + 2)?;
-    counted(sentence, at + 3)?;
+    unkept(sentence, at + 2)?;
+    unkept(sentence, at + 3)?;
     Ok(value)
 }
 
@@ -148,7 +148,7 @@ pub(crate) fn toward(negative: bool, value: Option<i64>) -> Option<i64>
 pub(crate) fn sided(
     sentence: &Sentence<'_>,
     at: u8,
-    q: Quantity,
+    q: ReadUnit,
     positive: u8,
     negative: u8,
 ) -> Result<Option<i64>, FieldFault>
@@ -162,7 +162,7 @@ pub(crate) fn sided(
 }
 
 /// The unit of a wind's speed.
-fn speed_unit_of(text: &[u8], at: u8, beside_nothing: bool) -> Result<Quantity, FieldFault>
+fn speed_unit_of(text: &[u8], at: u8, beside_nothing: bool) -> Result<ReadUnit, FieldFault>
     ensures exact { result ≡ spec.speed_unit_of at beside_nothing text.now }
     ensures fit { IfOk result (λ q. IsTrue (is_fit q)) }
 {
@@ -179,7 +179,7 @@ fn speed_unit_of(text: &[u8], at: u8, beside_nothing: bool) -> Result<Quantity, 
 
 /// The unit of a wind's speed, which may be left out beside an empty value.
 #[tactic(auto, unfolding(crate::specs::Columns::speed_unit))]
-fn speed_unit(sentence: &Sentence<'_>, at: u8, beside_nothing: bool) -> Result<Quantity, FieldFault>
+fn speed_unit(sentence: &Sentence<'_>, at: u8, beside_nothing: bool) -> Result<ReadUnit, FieldFault>
     ensures exact { result ≡ spec.speed_unit (spec.fields_in sentence.now) at beside_nothing }
     ensures fit { IfOk result (λ q. IsTrue (is_fit q)) }
 {

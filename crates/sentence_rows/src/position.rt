@@ -2,13 +2,13 @@
 
 ghost use Rattle.std.specs.Prelude.{◌≡◌, ◌<◌, ◌≤◌, ◌^◌, IfOk, IsTrue};
 ghost use Rattle.sentence_rows.specs.Columns as spec;
-ghost use Rattle.sentence_rows.specs.Quantities.{is_fit};
+ghost use Rattle.sentence_rows.specs.ReadUnits.{is_fit};
 
 use crate::column::{field, side};
 use crate::digits::{Fixed, fixed_in};
 use crate::fault::FieldFault;
 use crate::number::{scaled, toward};
-use crate::quantity::Quantity;
+use crate::read_unit::ReadUnit;
 use sentence_text::Sentence;
 use unit_fraction::Decimal;
 
@@ -31,7 +31,7 @@ fn minutes_of(fixed: &Fixed) -> Decimal
     }
 }
 
-fn degrees_in(fixed: Option<Fixed>, at: u8, q: Quantity) -> Result<Option<i64>, FieldFault>
+fn degrees_in(fixed: Option<Fixed>, at: u8, q: ReadUnit) -> Result<Option<i64>, FieldFault>
     requires fit { IsTrue (is_fit q) }
     requires few { spec.AreFixed 5 9 fixed }
     ensures exact { result ≡ spec.degrees_in at q fixed }
@@ -47,7 +47,7 @@ fn degrees_in(fixed: Option<Fixed>, at: u8, q: Quantity) -> Result<Option<i64>, 
     scaled(at, q, Some(minutes_of(&fixed)))
 }
 
-fn degrees_of(text: &[u8], at: u8, q: Quantity, width: u8) -> Result<Option<i64>, FieldFault>
+fn degrees_of(text: &[u8], at: u8, q: ReadUnit, width: u8) -> Result<Option<i64>, FieldFault>
     requires fit { IsTrue (is_fit q) }
     requires width { width ≤ 5 }
     ensures exact { result ≡ spec.degrees_of at q width text.now }
@@ -63,7 +63,7 @@ fn degrees_of(text: &[u8], at: u8, q: Quantity, width: u8) -> Result<Option<i64>
 fn degrees(
     sentence: &Sentence<'_>,
     at: u8,
-    q: Quantity,
+    q: ReadUnit,
     width: u8,
 ) -> Result<Option<i64>, FieldFault>
     requires fit { IsTrue (is_fit q) }
@@ -82,7 +82,7 @@ fn degrees(
 pub(crate) fn coordinate(
     sentence: &Sentence<'_>,
     at: u8,
-    q: Quantity,
+    q: ReadUnit,
     width: u8,
     positive: u8,
     negative: u8,

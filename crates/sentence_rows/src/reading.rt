@@ -2,7 +2,7 @@ ghost use Rattle.std.specs.Prelude.{◌≡◌, [], All, IfOk};
 ghost use Rattle.readings.specs.Ranges.{IsValid};
 ghost use Rattle.sentence_text.specs.Reading.{parts};
 ghost use Rattle.sentence_rows.specs.Columns.{fields_in};
-ghost use Rattle.sentence_rows.specs.ReadRow as spec;
+ghost use Rattle.sentence_rows.specs.Reading as spec;
 
 use crate::fault::FieldFault;
 use crate::formatter::Formatter;
@@ -53,7 +53,7 @@ fn read_by(
 }
 
 /// The readings of a sentence that begins with `$`.
-#[tactic(auto, unfolding(crate::specs::ReadRow::read_sentence))]
+#[tactic(auto, unfolding(crate::specs::Reading::read_sentence))]
 fn read_sentence(sentence: &Sentence<'_>) -> Result<(Reading, Option<Reading>), FieldFault>
     ensures exact { result ≡ spec.read_sentence (parts sentence.now) }
     ensures valid { IfOk result spec.AreValid }

@@ -8,18 +8,18 @@ ghost use Rattle.sentence_text.specs.Text.{is_capital};
 ghost use Rattle.sentence_rows.specs.Field.{IsCounted};
 ghost use Rattle.sentence_rows.specs.Lines.{lines_of, sentence_by};
 ghost use Rattle.sentence_rows.specs.Stable.{IsReadBack};
-ghost use Rattle.sentence_rows.specs.Text as text;
+ghost use Rattle.sentence_rows.specs.Writing as text;
 ghost use Rattle.sentence_rows.specs.Columns.{fields_in};
-ghost use Rattle.sentence_rows.specs.ReadRow as spec;
+ghost use Rattle.sentence_rows.specs.Reading as spec;
 
 use crate::column::status;
-use crate::conversion::DEGREES_PER_MINUTE;
 use crate::fault::FieldFault;
 use crate::field::Field::{Decimal, Letter};
 use crate::letter::{letter_where, only_if};
-use crate::lines::{Lines, put};
+use crate::lines::{Lines, append};
 use crate::number::number;
-use crate::quantity;
+use crate::read_unit;
+use crate::written_unit::DEGREES_PER_MINUTE;
 use readings::Reading;
 use sentence_text::Sentence;
 
@@ -31,7 +31,7 @@ pub(crate) fn rot(talker: [u8; 2], rate: Option<i64>, out: &mut Lines)
     ensures again { IsReadBack talker (codes "ROT") (text.rot rate) }
 {
     let status = letter_where(rate.is_some(), b'A', b'V');
-    put(
+    append(
         talker,
         *b"ROT",
         &[Decimal(rate, DEGREES_PER_MINUTE), Letter(status)],
@@ -40,11 +40,11 @@ pub(crate) fn rot(talker: [u8; 2], rate: Option<i64>, out: &mut Lines)
 }
 
 /// The rate of turn that is read; a status of `V` makes it absent.
-#[tactic(auto, unfolding(crate::specs::ReadRow::rot))]
+#[tactic(auto, unfolding(crate::specs::Reading::rot))]
 pub(crate) fn read(sentence: &Sentence<'_>) -> Result<Reading, FieldFault>
     ensures { result ≡ spec.rot (fields_in sentence.now) }
 {
-    let rate = number(sentence, 1, quantity::RATE_OF_TURN)?;
+    let rate = number(sentence, 1, read_unit::RATE_OF_TURN)?;
     let valid = status(sentence, 2, rate.is_none())?;
     Ok(Reading::RateOfTurn {
         rate: only_if(valid, rate),

@@ -9,18 +9,18 @@ ghost use Rattle.sentence_text.specs.Text.{is_capital};
 ghost use Rattle.sentence_rows.specs.Field.{IsCounted};
 ghost use Rattle.sentence_rows.specs.Lines.{lines_of, sentence_by};
 ghost use Rattle.sentence_rows.specs.Stable.{IsReadBack};
-ghost use Rattle.sentence_rows.specs.Text as text;
+ghost use Rattle.sentence_rows.specs.Writing as text;
 ghost use Rattle.sentence_rows.specs.Columns.{fields_in};
-ghost use Rattle.sentence_rows.specs.ReadRow as spec;
+ghost use Rattle.sentence_rows.specs.Reading as spec;
 
 use crate::column::status;
-use crate::conversion::DEGREES;
 use crate::fault::FieldFault;
 use crate::field::Field::{Decimal, Empty, Letter};
 use crate::letter::{letter_where, only_if};
-use crate::lines::{Lines, put};
+use crate::lines::{Lines, append};
 use crate::number::number;
-use crate::quantity;
+use crate::read_unit;
+use crate::written_unit::DEGREES;
 use readings::Reading;
 use sentence_text::Sentence;
 
@@ -32,7 +32,7 @@ pub(crate) fn rsa_first(talker: [u8; 2], position: Option<i64>, out: &mut Lines)
     ensures again { IsReadBack talker (codes "RSA") (text.rsa_first position) }
 {
     let status = letter_where(position.is_some(), b'A', b'V');
-    put(
+    append(
         talker,
         *b"RSA",
         &[
@@ -53,7 +53,7 @@ pub(crate) fn rsa_second(talker: [u8; 2], position: Option<i64>, out: &mut Lines
     ensures again { IsReadBack talker (codes "RSA") (text.rsa_second position) }
 {
     let status = letter_where(position.is_some(), b'A', b'V');
-    put(
+    append(
         talker,
         *b"RSA",
         &[
@@ -68,13 +68,13 @@ pub(crate) fn rsa_second(talker: [u8; 2], position: Option<i64>, out: &mut Lines
 
 /// The rudders that are read: the first where its field isn't empty or both are, and the second where its field
 /// isn't. A status of `V` makes its rudder absent.
-#[tactic(auto, unfolding(crate::specs::ReadRow::rsa))]
+#[tactic(auto, unfolding(crate::specs::Reading::rsa))]
 pub(crate) fn read(sentence: &Sentence<'_>) -> Result<(Reading, Option<Reading>), FieldFault>
     ensures { result ≡ spec.rsa (fields_in sentence.now) }
 {
-    let first = number(sentence, 1, quantity::RUDDER)?;
+    let first = number(sentence, 1, read_unit::RUDDER)?;
     let first_valid = status(sentence, 2, first.is_none())?;
-    let second = number(sentence, 3, quantity::RUDDER)?;
+    let second = number(sentence, 3, read_unit::RUDDER)?;
     let second_valid = status(sentence, 4, second.is_none())?;
     let one = Reading::RudderFirst {
         position: only_if(first_valid, first),

@@ -8,17 +8,17 @@ ghost use Rattle.sentence_text.specs.Text.{is_capital};
 ghost use Rattle.sentence_rows.specs.Field.{IsCounted};
 ghost use Rattle.sentence_rows.specs.Lines.{lines_of, sentence_by};
 ghost use Rattle.sentence_rows.specs.Stable.{IsReadBack};
-ghost use Rattle.sentence_rows.specs.Text as text;
+ghost use Rattle.sentence_rows.specs.Writing as text;
 ghost use Rattle.sentence_rows.specs.Columns.{fields_in};
-ghost use Rattle.sentence_rows.specs.ReadRow as spec;
+ghost use Rattle.sentence_rows.specs.Reading as spec;
 
-use crate::column::counted;
-use crate::conversion::{KILOMETRES_PER_HOUR, KNOTS};
+use crate::column::unkept;
 use crate::fault::FieldFault;
 use crate::field::Field::{Decimal, Empty, Letter};
-use crate::lines::{Lines, put};
+use crate::lines::{Lines, append};
 use crate::number::either_unit;
-use crate::quantity;
+use crate::read_unit;
+use crate::written_unit::{KILOMETRES_PER_HOUR, KNOTS};
 use readings::Reading;
 use sentence_text::Sentence;
 
@@ -30,7 +30,7 @@ pub(crate) fn vhw(talker: [u8; 2], speed: Option<i64>, out: &mut Lines)
     ensures said { lines_of out.new ≡ lines_of out.old ++ sentence_by talker (codes "VHW") (text.vhw speed) ∷ [] }
     ensures again { IsReadBack talker (codes "VHW") (text.vhw speed) }
 {
-    put(
+    append(
         talker,
         *b"VHW",
         &[
@@ -48,20 +48,20 @@ pub(crate) fn vhw(talker: [u8; 2], speed: Option<i64>, out: &mut Lines)
 }
 
 /// The speed through the water that is read, in knots or else in km/h. Headings are passed over.
-#[tactic(auto, unfolding(crate::specs::ReadRow::vhw))]
+#[tactic(auto, unfolding(crate::specs::Reading::vhw))]
 pub(crate) fn read(sentence: &Sentence<'_>) -> Result<Reading, FieldFault>
     ensures { result ≡ spec.vhw (fields_in sentence.now) }
 {
-    counted(sentence, 1)?;
-    counted(sentence, 2)?;
-    counted(sentence, 3)?;
-    counted(sentence, 4)?;
+    unkept(sentence, 1)?;
+    unkept(sentence, 2)?;
+    unkept(sentence, 3)?;
+    unkept(sentence, 4)?;
     let speed = either_unit(
         sentence,
         5,
-        quantity::KNOTS,
+        read_unit::KNOTS,
         b'N',
-        quantity::KILOMETRES_PER_HOUR,
+        read_unit::KILOMETRES_PER_HOUR,
         b'K',
     )?;
     Ok(Reading::WaterSpeed { speed })

@@ -8,16 +8,16 @@ ghost use Rattle.sentence_text.specs.Text.{is_capital};
 ghost use Rattle.sentence_rows.specs.Field.{IsCounted};
 ghost use Rattle.sentence_rows.specs.Lines.{lines_of, sentence_by};
 ghost use Rattle.sentence_rows.specs.Stable.{IsReadBack};
-ghost use Rattle.sentence_rows.specs.Text as text;
+ghost use Rattle.sentence_rows.specs.Writing as text;
 ghost use Rattle.sentence_rows.specs.Columns.{fields_in};
-ghost use Rattle.sentence_rows.specs.ReadRow as spec;
+ghost use Rattle.sentence_rows.specs.Reading as spec;
 
-use crate::conversion::NAUTICAL_MILES;
 use crate::fault::FieldFault;
 use crate::field::Field::{Decimal, Letter};
-use crate::lines::{Lines, put};
+use crate::lines::{Lines, append};
 use crate::number::measure;
-use crate::quantity;
+use crate::read_unit;
+use crate::written_unit::NAUTICAL_MILES;
 use readings::Reading;
 use sentence_text::Sentence;
 
@@ -29,7 +29,7 @@ pub(crate) fn vlw(talker: [u8; 2], log: Option<i64>, trip: Option<i64>, out: &mu
     ensures said { lines_of out.new ≡ lines_of out.old ++ sentence_by talker (codes "VLW") (text.vlw log trip) ∷ [] }
     ensures again { IsReadBack talker (codes "VLW") (text.vlw log trip) }
 {
-    put(
+    append(
         talker,
         *b"VLW",
         &[
@@ -43,11 +43,11 @@ pub(crate) fn vlw(talker: [u8; 2], log: Option<i64>, trip: Option<i64>, out: &mu
 }
 
 /// The distances through the water that are read.
-#[tactic(auto, unfolding(crate::specs::ReadRow::vlw))]
+#[tactic(auto, unfolding(crate::specs::Reading::vlw))]
 pub(crate) fn read(sentence: &Sentence<'_>) -> Result<Reading, FieldFault>
     ensures { result ≡ spec.vlw (fields_in sentence.now) }
 {
-    let log = measure(sentence, 1, quantity::NAUTICAL_MILES, b'N')?;
-    let trip = measure(sentence, 3, quantity::NAUTICAL_MILES, b'N')?;
+    let log = measure(sentence, 1, read_unit::NAUTICAL_MILES, b'N')?;
+    let trip = measure(sentence, 3, read_unit::NAUTICAL_MILES, b'N')?;
     Ok(Reading::DistanceLog { log, trip })
 }

@@ -9,18 +9,18 @@ ghost use Rattle.sentence_text.specs.Text.{is_capital};
 ghost use Rattle.sentence_rows.specs.Field.{IsCounted};
 ghost use Rattle.sentence_rows.specs.Lines.{lines_of, sentence_by};
 ghost use Rattle.sentence_rows.specs.Stable.{IsReadBack};
-ghost use Rattle.sentence_rows.specs.Text as text;
+ghost use Rattle.sentence_rows.specs.Writing as text;
 ghost use Rattle.sentence_rows.specs.Columns.{fields_in};
-ghost use Rattle.sentence_rows.specs.ReadRow as spec;
+ghost use Rattle.sentence_rows.specs.Reading as spec;
 
 use crate::column::{field, is_letter, is_magnetic};
-use crate::conversion::{KILOMETRES_PER_HOUR, KNOTS};
 use crate::fault::FieldFault;
 use crate::field::Field::{Angle, Decimal, Letter};
 use crate::letter::{letter_where, only_if};
-use crate::lines::{Lines, put};
+use crate::lines::{Lines, append};
 use crate::number::either_unit;
-use crate::quantity;
+use crate::read_unit;
+use crate::written_unit::{KILOMETRES_PER_HOUR, KNOTS};
 use readings::Reading;
 use sentence_text::Sentence;
 
@@ -41,7 +41,7 @@ pub(crate) fn vtg(
     let from_true = only_if(!magnetic, course);
     let from_magnetic = only_if(magnetic, course);
     let mode = letter_where(course.is_some() || speed.is_some(), b'A', b'N');
-    put(
+    append(
         talker,
         *b"VTG",
         &[
@@ -60,17 +60,17 @@ pub(crate) fn vtg(
 }
 
 /// The course, true or else magnetic, and the speed that are read; a mode of `N` makes them absent.
-#[tactic(auto, unfolding(crate::specs::ReadRow::vtg))]
+#[tactic(auto, unfolding(crate::specs::Reading::vtg))]
 pub(crate) fn read(sentence: &Sentence<'_>) -> Result<Reading, FieldFault>
     ensures { result ≡ spec.vtg (fields_in sentence.now) }
 {
-    let course = either_unit(sentence, 1, quantity::ANGLE, b'T', quantity::ANGLE, b'M')?;
+    let course = either_unit(sentence, 1, read_unit::ANGLE, b'T', read_unit::ANGLE, b'M')?;
     let speed = either_unit(
         sentence,
         5,
-        quantity::KNOTS,
+        read_unit::KNOTS,
         b'N',
-        quantity::KILOMETRES_PER_HOUR,
+        read_unit::KILOMETRES_PER_HOUR,
         b'K',
     )?;
     let valid = !is_invalid_mode(sentence);
@@ -82,7 +82,7 @@ pub(crate) fn read(sentence: &Sentence<'_>) -> Result<Reading, FieldFault>
 }
 
 /// Whether the mode, which may be missing, is `N`.
-#[tactic(auto, unfolding(crate::specs::ReadRow::is_invalid_mode, crate::specs::Columns::text))]
+#[tactic(auto, unfolding(crate::specs::Reading::is_invalid_mode, crate::specs::Columns::text))]
 fn is_invalid_mode(sentence: &Sentence<'_>) -> bool
     ensures { result ≡ spec.is_invalid_mode (fields_in sentence.now) }
 {

@@ -9,18 +9,18 @@ ghost use Rattle.sentence_text.specs.Text.{is_capital};
 ghost use Rattle.sentence_rows.specs.Field.{IsCounted};
 ghost use Rattle.sentence_rows.specs.Lines.{lines_of, sentence_by};
 ghost use Rattle.sentence_rows.specs.Stable.{IsReadBack};
-ghost use Rattle.sentence_rows.specs.Text as text;
+ghost use Rattle.sentence_rows.specs.Writing as text;
 ghost use Rattle.sentence_rows.specs.Columns.{fields_in};
-ghost use Rattle.sentence_rows.specs.ReadRow as spec;
+ghost use Rattle.sentence_rows.specs.Reading as spec;
 
 use crate::column::{is_blank, status, unit_letter};
-use crate::conversion::TRACK_MILES;
 use crate::fault::FieldFault;
 use crate::field::Field::{Letter, Magnitude, Side};
 use crate::letter::{letter_where, only_if};
-use crate::lines::{Lines, put};
+use crate::lines::{Lines, append};
 use crate::number::sided;
-use crate::quantity;
+use crate::read_unit;
+use crate::written_unit::TRACK_MILES;
 use readings::Reading;
 use sentence_text::Sentence;
 
@@ -33,7 +33,7 @@ pub(crate) fn xte(talker: [u8; 2], distance: Option<i64>, out: &mut Lines)
 {
     let status = letter_where(distance.is_some(), b'A', b'V');
     let mode = letter_where(distance.is_some(), b'A', b'N');
-    put(
+    append(
         talker,
         *b"XTE",
         &[
@@ -49,14 +49,14 @@ pub(crate) fn xte(talker: [u8; 2], distance: Option<i64>, out: &mut Lines)
 }
 
 /// The distance from the track that is read; either status of `V` makes it absent.
-#[tactic(auto, unfolding(crate::specs::ReadRow::xte))]
+#[tactic(auto, unfolding(crate::specs::Reading::xte))]
 pub(crate) fn read(sentence: &Sentence<'_>) -> Result<Reading, FieldFault>
     ensures { result ≡ spec.xte (fields_in sentence.now) }
 {
     let nothing = is_blank(sentence, 3);
     let first = status(sentence, 1, nothing)?;
     let second = status(sentence, 2, nothing)?;
-    let distance = sided(sentence, 3, quantity::TRACK_MILES, b'L', b'R')?;
+    let distance = sided(sentence, 3, read_unit::TRACK_MILES, b'L', b'R')?;
     unit_letter(sentence, 5, b'N', distance.is_none())?;
     Ok(Reading::CrossTrack {
         distance: only_if(first && second, distance),

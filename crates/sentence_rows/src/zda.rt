@@ -9,15 +9,15 @@ ghost use Rattle.readings.specs.Ranges.{Admits, Holds, date as date_range};
 ghost use Rattle.sentence_text.specs.Text.{is_capital};
 ghost use Rattle.sentence_rows.specs.Lines.{lines_of, sentence_by};
 ghost use Rattle.sentence_rows.specs.Stable.{IsReadBack};
-ghost use Rattle.sentence_rows.specs.Text as text;
+ghost use Rattle.sentence_rows.specs.Writing as text;
 ghost use Rattle.sentence_rows.specs.Columns.{fields_in};
-ghost use Rattle.sentence_rows.specs.ReadRow as spec;
+ghost use Rattle.sentence_rows.specs.Reading as spec;
 
 use crate::clock::{DAYS_BEFORE_1970, date, time};
 use crate::fault::FieldFault;
 use crate::field::Field::{Digits, Time};
-use crate::lines::{Lines, put};
-use crate::quantity;
+use crate::lines::{Lines, append};
+use crate::read_unit;
 use jiff::ToSpan;
 use jiff::civil::Date;
 use readings::Reading;
@@ -58,7 +58,7 @@ fn year_of(date: Date) -> u64
     u64::from(date.year().unsigned_abs())
 }
 
-fn put_date(talker: [u8; 2], time: Option<i64>, date: Date, out: &mut Lines)
+fn append_date(talker: [u8; 2], time: Option<i64>, date: Date, out: &mut Lines)
     requires room { length out.old.items < 2 }
     requires talker { IsTrue (list_all is_capital talker) }
     ensures said { lines_of out.new ≡ lines_of out.old ++ sentence_by talker (codes "ZDA") (text.zda time (Some date)) ∷ [] }
@@ -72,10 +72,10 @@ fn put_date(talker: [u8; 2], time: Option<i64>, date: Date, out: &mut Lines)
         Digits(Some(0), 2),
         Digits(Some(0), 2),
     ];
-    put(talker, *b"ZDA", &fields, out);
+    append(talker, *b"ZDA", &fields, out);
 }
 
-fn put_no_date(talker: [u8; 2], time: Option<i64>, out: &mut Lines)
+fn append_no_date(talker: [u8; 2], time: Option<i64>, out: &mut Lines)
     requires room { length out.old.items < 2 }
     requires talker { IsTrue (list_all is_capital talker) }
     ensures said { lines_of out.new ≡ lines_of out.old ++ sentence_by talker (codes "ZDA") (text.zda time None) ∷ [] }
@@ -89,7 +89,7 @@ fn put_no_date(talker: [u8; 2], time: Option<i64>, out: &mut Lines)
         Digits(Some(0), 2),
         Digits(Some(0), 2),
     ];
-    put(talker, *b"ZDA", &fields, out);
+    append(talker, *b"ZDA", &fields, out);
 }
 
 pub(crate) fn zda(talker: [u8; 2], day: Option<i64>, time: Option<i64>, out: &mut Lines)
@@ -99,13 +99,13 @@ pub(crate) fn zda(talker: [u8; 2], day: Option<i64>, time: Option<i64>, out: &mu
     ensures { text.Dated day (λ d. (lines_of out.new ≡ lines_of out.old ++ sentence_by talker (codes "ZDA") (text.zda time d) ∷ []) × IsReadBack talker (codes "ZDA") (text.zda time d)) }
 {
     match day {
-        Some(day) => put_date(talker, time, civil_date(day), out),
-        None => put_no_date(talker, time, out),
+        Some(day) => append_date(talker, time, civil_date(day), out),
+        None => append_no_date(talker, time, out),
     }
 }
 
 /// The time and the date that are read. The local zone is passed over.
-#[tactic(auto, unfolding(crate::specs::ReadRow::zda))]
+#[tactic(auto, unfolding(crate::specs::Reading::zda))]
 pub(crate) fn read(sentence: &Sentence<'_>) -> Result<Reading, FieldFault>
     ensures { result ≡ spec.zda (fields_in sentence.now) }
 {

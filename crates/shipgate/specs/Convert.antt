@@ -9,7 +9,7 @@ use Rattle.pgn_profile.specs.declared.kinds.Kind.TheVariants as kinds
 use Rattle.pgn_profile.specs.declared.profiled.Profiled.{Profiled}
 use Rattle.pgn_profile.specs.declared.profiled.Profiled.TheVariants as says
 use Rattle.pgn_profile.specs.Profiled.{kind_of, profiled}
-use Rattle.sentence_rows.specs.Text.{IsText}
+use Rattle.sentence_rows.specs.Writing.{IsText}
 use Rattle.capture_text.specs.declared.event.LineRule.{LineRule}
 use Rattle.capture_text.specs.declared.emit.Detail.TheVariants as detail
 use Rattle.capture_text.specs.Event.{rule_number}

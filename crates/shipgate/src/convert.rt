@@ -7,7 +7,7 @@ ghost use Rattle.readings.specs.Ranges.{IsValid as IsValidReading};
 ghost use Rattle.readings.specs.Rows.{row_of};
 ghost use Rattle.pgn_profile.specs.Profiled.{kind_of, GivesValid};
 ghost use Rattle.sentence_rows.specs.Lines.{lines_of};
-ghost use Rattle.sentence_rows.specs.Text.{IsText};
+ghost use Rattle.sentence_rows.specs.Writing.{IsText};
 ghost use Rattle.capture_text.specs.Reading.{read as read_as, view, IsValid};
 ghost use Rattle.gate_outside.specs.Faults.{HasCause};
 ghost use Rattle.shipgate.specs.Talker.{talker_of};

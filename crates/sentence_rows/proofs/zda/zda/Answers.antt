@@ -8,4 +8,4 @@ pub returns-in-Some : goal.returns-in-Some
 returns-in-Some c =
     let fits : FitsSigned w64 c.in-Some.day = search rules in
     let on = c.civil_date.ensures ∙ to_z-of_z w64 c.in-Some.day fits in
-    dated_zda c.args.day c.args.time c.in-Some.day c.args.talker _ _ c.civil_date.result c.in-Some.is on c.put_date.ensures.said c.put_date.ensures.again
+    dated_zda c.args.day c.args.time c.in-Some.day c.args.talker _ _ c.civil_date.result c.in-Some.is on c.append_date.ensures.said c.append_date.ensures.again

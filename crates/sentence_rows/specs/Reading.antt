@@ -11,10 +11,10 @@ use Rattle.sentence_rows.specs.declared.fault.FieldFault.{FieldFault}
 use Rattle.sentence_rows.specs.declared.fault.FieldFault.TheVariants.{Outside}
 use Rattle.sentence_rows.specs.declared.formatter.Formatter.{Formatter}
 use Rattle.sentence_rows.specs.declared.formatter.Formatter.TheVariants as formatter
-use Rattle.sentence_rows.specs.Text.{only_if, beside}
+use Rattle.sentence_rows.specs.Writing.{only_if, beside}
 use Rattle.sentence_rows.specs.Fault.{fault, value, holds, reads}
-use Rattle.sentence_rows.specs.Quantities as quantity
-use Rattle.sentence_rows.specs.Columns.{is_blank, is_magnetic, is_letter, text, counted, unit_letter, status, reference, heading_mode, number, measure, either_unit, sided, wind_speed, coordinate, time, date, quality, satellites}
+use Rattle.sentence_rows.specs.ReadUnits as quantity
+use Rattle.sentence_rows.specs.Columns.{is_blank, is_magnetic, is_letter, text, unkept, unit_letter, status, reference, heading_mode, number, measure, either_unit, sided, wind_speed, coordinate, time, date, quality, satellites}
 use Rattle.sentence_rows.specs.Formatters.{formatter_of}
 
 -- heading, T
@@ -68,7 +68,7 @@ rsa f =
 unfoldable pub vhw : List (List ℕ) → Result Reading FieldFault
 vhw f =
     let speed = either_unit f 5 quantity.knots 78 quantity.kilometres_per_hour 75 in
-    reads (counted f 1 ∷ counted f 2 ∷ counted f 3 ∷ counted f 4 ∷ fault speed ∷ []) (reading.WaterSpeed (value speed))
+    reads (unkept f 1 ∷ unkept f 2 ∷ unkept f 3 ∷ unkept f 4 ∷ fault speed ∷ []) (reading.WaterSpeed (value speed))
 
 -- the range of a depth's scale may be missing
 unfoldable pub depth_range : List (List ℕ) → Result (Option ℤ) FieldFault
@@ -86,7 +86,7 @@ dpt f =
 unfoldable pub dbt : List (List ℕ) → Result Reading FieldFault
 dbt f =
     let depth = measure f 3 quantity.metres 77 in
-    reads (counted f 1 ∷ counted f 2 ∷ fault depth ∷ counted f 5 ∷ counted f 6 ∷ []) (reading.Depth (value depth) None None)
+    reads (unkept f 1 ∷ unkept f 2 ∷ fault depth ∷ unkept f 5 ∷ unkept f 6 ∷ []) (reading.Depth (value depth) None None)
 
 -- log, N, trip, N
 unfoldable pub vlw : List (List ℕ) → Result Reading FieldFault
@@ -101,7 +101,7 @@ gll f =
     let latitude = coordinate f 1 quantity.latitude 4 78 83 in
     let longitude = coordinate f 3 quantity.longitude 5 69 87 in
     let valid = status f 6 (is_none (value latitude) && is_none (value longitude)) in
-    reads (fault latitude ∷ fault longitude ∷ counted f 5 ∷ fault valid ∷ [])
+    reads (fault latitude ∷ fault longitude ∷ unkept f 5 ∷ fault valid ∷ [])
     (reading.Position (only_if (holds valid) (beside (value latitude) (value longitude))) (only_if (holds valid) (beside (value longitude) (value latitude))))
 
 -- the mode at the end is N

@@ -1,6 +1,6 @@
 -- A day and a time are said with the date of the day.
 use Rattle.sentence_rows.proofs.Said.{time_said}
-use Rattle.sentence_rows.proofs.rows.say.Goals as goal
+use Rattle.sentence_rows.proofs.writing.say.Goals as goal
 
 pub returns-in-Time : goal.returns-in-Time
 returns-in-Time c =

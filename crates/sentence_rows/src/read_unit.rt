@@ -4,7 +4,7 @@
 /// A quantity in a unit of a sentence: the fraction to raw values, the largest raw value of either sign, and
 /// whether a sign may be written.
 #[derive(Clone, Copy)]
-pub struct Quantity {
+pub struct ReadUnit {
     pub num: u64,
     pub den: u64,
     pub most: u64,
@@ -12,7 +12,7 @@ pub struct Quantity {
 }
 
 /// Headings, courses and the angle of the wind in degrees, to 1e-4 radian; pi is 3.141592653589793.
-pub const ANGLE: Quantity = Quantity {
+pub const ANGLE: ReadUnit = ReadUnit {
     num: 3_141_592_653_589_793,
     den: 18_000_000_000_000,
     most: 62_832,
@@ -20,7 +20,7 @@ pub const ANGLE: Quantity = Quantity {
 };
 
 /// Deviation and variation in degrees, with a letter for the sign.
-pub const DEVIATION: Quantity = Quantity {
+pub const DEVIATION: ReadUnit = ReadUnit {
     num: 3_141_592_653_589_793,
     den: 18_000_000_000_000,
     most: 31_416,
@@ -28,7 +28,7 @@ pub const DEVIATION: Quantity = Quantity {
 };
 
 /// A rudder in degrees.
-pub const RUDDER: Quantity = Quantity {
+pub const RUDDER: ReadUnit = ReadUnit {
     num: 3_141_592_653_589_793,
     den: 18_000_000_000_000,
     most: 15_708,
@@ -36,7 +36,7 @@ pub const RUDDER: Quantity = Quantity {
 };
 
 /// Degrees a minute, to 1/32,000,000 rad/s.
-pub const RATE_OF_TURN: Quantity = Quantity {
+pub const RATE_OF_TURN: ReadUnit = ReadUnit {
     num: 3_141_592_653_589_793,
     den: 337_500_000_000,
     most: 930_842_268,
@@ -44,21 +44,21 @@ pub const RATE_OF_TURN: Quantity = Quantity {
 };
 
 /// Knots, to 0.01 m/s.
-pub const KNOTS: Quantity = Quantity {
+pub const KNOTS: ReadUnit = ReadUnit {
     num: 463,
     den: 9,
     most: 65_532,
     signed: false,
 };
 
-pub const KILOMETRES_PER_HOUR: Quantity = Quantity {
+pub const KILOMETRES_PER_HOUR: ReadUnit = ReadUnit {
     num: 250,
     den: 9,
     most: 65_532,
     signed: false,
 };
 
-pub const METRES_PER_SECOND: Quantity = Quantity {
+pub const METRES_PER_SECOND: ReadUnit = ReadUnit {
     num: 100,
     den: 1,
     most: 65_532,
@@ -66,7 +66,7 @@ pub const METRES_PER_SECOND: Quantity = Quantity {
 };
 
 /// A depth in metres, to 0.01 m.
-pub const METRES: Quantity = Quantity {
+pub const METRES: ReadUnit = ReadUnit {
     num: 100,
     den: 1,
     most: 1_200_000,
@@ -74,7 +74,7 @@ pub const METRES: Quantity = Quantity {
 };
 
 /// The transducer's offset in metres, to 0.001 m.
-pub const OFFSET_METRES: Quantity = Quantity {
+pub const OFFSET_METRES: ReadUnit = ReadUnit {
     num: 1_000,
     den: 1,
     most: 32_764,
@@ -82,7 +82,7 @@ pub const OFFSET_METRES: Quantity = Quantity {
 };
 
 /// The range of a depth's scale in metres, to 10 m.
-pub const RANGE_METRES: Quantity = Quantity {
+pub const RANGE_METRES: ReadUnit = ReadUnit {
     num: 1,
     den: 10,
     most: 252,
@@ -90,7 +90,7 @@ pub const RANGE_METRES: Quantity = Quantity {
 };
 
 /// A distance through the water, to metres.
-pub const NAUTICAL_MILES: Quantity = Quantity {
+pub const NAUTICAL_MILES: ReadUnit = ReadUnit {
     num: 1_852,
     den: 1,
     most: 3_704_000_000,
@@ -98,7 +98,7 @@ pub const NAUTICAL_MILES: Quantity = Quantity {
 };
 
 /// The distance from the track in nautical miles, with a letter for the sign, to 0.01 m.
-pub const TRACK_MILES: Quantity = Quantity {
+pub const TRACK_MILES: ReadUnit = ReadUnit {
     num: 185_200,
     den: 1,
     most: 18_520_000,
@@ -106,7 +106,7 @@ pub const TRACK_MILES: Quantity = Quantity {
 };
 
 /// Minutes of latitude, to 1e-7 degree.
-pub const LATITUDE: Quantity = Quantity {
+pub const LATITUDE: ReadUnit = ReadUnit {
     num: 500_000,
     den: 3,
     most: 900_000_000,
@@ -114,7 +114,7 @@ pub const LATITUDE: Quantity = Quantity {
 };
 
 /// Minutes of longitude, to 1e-7 degree.
-pub const LONGITUDE: Quantity = Quantity {
+pub const LONGITUDE: ReadUnit = ReadUnit {
     num: 500_000,
     den: 3,
     most: 1_800_000_000,
@@ -122,7 +122,7 @@ pub const LONGITUDE: Quantity = Quantity {
 };
 
 /// Minutes of a fix's latitude, to 1e-16 degree.
-pub const FIX_LATITUDE: Quantity = Quantity {
+pub const FIX_LATITUDE: ReadUnit = ReadUnit {
     num: 500_000_000_000_000,
     den: 3,
     most: 900_000_000_000_000_000,
@@ -130,7 +130,7 @@ pub const FIX_LATITUDE: Quantity = Quantity {
 };
 
 /// Minutes of a fix's longitude, to 1e-16 degree.
-pub const FIX_LONGITUDE: Quantity = Quantity {
+pub const FIX_LONGITUDE: ReadUnit = ReadUnit {
     num: 500_000_000_000_000,
     den: 3,
     most: 1_800_000_000_000_000_000,
@@ -138,7 +138,7 @@ pub const FIX_LONGITUDE: Quantity = Quantity {
 };
 
 /// The altitude of a fix in metres, to 1e-6 m.
-pub const ALTITUDE_METRES: Quantity = Quantity {
+pub const ALTITUDE_METRES: ReadUnit = ReadUnit {
     num: 1_000_000,
     den: 1,
     most: 9_999_900_000,
@@ -146,7 +146,7 @@ pub const ALTITUDE_METRES: Quantity = Quantity {
 };
 
 /// The geoid's height in metres, to 0.01 m.
-pub const SEPARATION_METRES: Quantity = Quantity {
+pub const SEPARATION_METRES: ReadUnit = ReadUnit {
     num: 100,
     den: 1,
     most: 99_990,
@@ -154,7 +154,7 @@ pub const SEPARATION_METRES: Quantity = Quantity {
 };
 
 /// The horizontal dilution of precision, to hundredths.
-pub const DILUTION: Quantity = Quantity {
+pub const DILUTION: ReadUnit = ReadUnit {
     num: 100,
     den: 1,
     most: 9_999,
@@ -162,7 +162,7 @@ pub const DILUTION: Quantity = Quantity {
 };
 
 /// Degrees Celsius, to thousandths of a degree.
-pub const CELSIUS: Quantity = Quantity {
+pub const CELSIUS: ReadUnit = ReadUnit {
     num: 1_000,
     den: 1,
     most: 100_000,

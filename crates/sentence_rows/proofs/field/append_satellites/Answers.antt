@@ -6,13 +6,13 @@ use Rattle.std.proofs.lemmas.Int.{to_z-of_z}
 use Rattle.sentence_rows.specs.declared.field.Field.TheVariants.{Satellites}
 use Rattle.sentence_rows.specs.Field.{IsPrintable}
 use Rattle.sentence_rows.proofs.Texts.{whole_length}
-use Rattle.sentence_rows.proofs.field.put_satellites.Goals as goal
+use Rattle.sentence_rows.proofs.field.append_satellites.Goals as goal
 
 few_in : (raw : Option ℤ) (v : ℤ) → raw ≡ Some v → IsPrintable (Satellites raw) → unsigned_abs v < 1000
 few_in raw v e h = let P : Option ℤ → Type 0 = λ o. IsPrintable (Satellites o) in subst P e h
 
-pub put_number-requires-clause-room : goal.put_number-requires-clause-room
-put_number-requires-clause-room c =
+pub append_number-requires-clause-room : goal.append_number-requires-clause-room
+append_number-requires-clause-room c =
     let fits : FitsSigned w64 c.in-Some.raw = search rules in
     let value : c.unsigned_abs-number.result ≡ unsigned_abs c.in-Some.raw =
     c.unsigned_abs-number.ensures.value ∙ ap unsigned_abs (to_z-of_z w64 c.in-Some.raw fits) in

@@ -4,7 +4,7 @@ use Rattle.jiff.specs.Words.{epoch_day}
 use Rattle.jiff.specs.Types.{Date}
 use Rattle.readings.specs.declared.reading.Reading.{Reading}
 use Rattle.readings.specs.declared.reading.Reading.TheVariants as reading
-use Rattle.sentence_rows.specs.Conversions.{degrees, degrees_per_minute, knots, kilometres_per_hour, metres_per_second, metres, feet, fathoms, offset_metres, range_metres, nautical_miles, track_miles, minutes, fix_minutes, altitude_metres, separation_metres, dilution, celsius}
+use Rattle.sentence_rows.specs.WrittenUnits.{degrees, degrees_per_minute, knots, kilometres_per_hour, metres_per_second, metres, feet, fathoms, offset_metres, range_metres, nautical_miles, track_miles, minutes, fix_minutes, altitude_metres, separation_metres, dilution, celsius}
 use Rattle.sentence_rows.specs.declared.field.Field.{Field}
 use Rattle.sentence_rows.specs.declared.field.Field.TheVariants.{Empty, Letter, Decimal, Magnitude, Side, Angle, Degrees, Time, Digits, Satellites}
 use Rattle.sentence_rows.specs.Lines.{sentence_by}

@@ -4,7 +4,7 @@ ghost use Rattle.readings.specs.Ranges.{IsValid};
 ghost use Rattle.sentence_text.specs.Text.{is_capital};
 ghost use Rattle.sentence_rows.specs.Lines.{lines_of};
 ghost use Rattle.sentence_rows.specs.Stable.{IsSaid, IsStable};
-ghost use Rattle.sentence_rows.specs.Text.{IsText};
+ghost use Rattle.sentence_rows.specs.Writing.{IsText};
 
 use crate::letter::beside;
 use crate::lines::Lines;

@@ -4,7 +4,7 @@
 /// A unit of a sentence: the fraction from raw values, the decimals, the largest raw value of either
 /// sign, and the most digits that its count has.
 #[derive(Clone, Copy)]
-pub struct Conversion {
+pub struct WrittenUnit {
     pub num: u64,
     pub den: u64,
     pub places: u8,
@@ -13,7 +13,7 @@ pub struct Conversion {
 }
 
 /// Deviation, variation and rudder, from 1e-4 radian; pi is 3.141592653589793.
-pub const DEGREES: Conversion = Conversion {
+pub const DEGREES: WrittenUnit = WrittenUnit {
     num: 180_000_000_000_000,
     den: 3_141_592_653_589_793,
     places: 1,
@@ -21,7 +21,7 @@ pub const DEGREES: Conversion = Conversion {
     digits: 4,
 };
 /// From 1/32,000,000 rad/s.
-pub const DEGREES_PER_MINUTE: Conversion = Conversion {
+pub const DEGREES_PER_MINUTE: WrittenUnit = WrittenUnit {
     num: 3_375_000_000_000,
     den: 3_141_592_653_589_793,
     places: 1,
@@ -29,7 +29,7 @@ pub const DEGREES_PER_MINUTE: Conversion = Conversion {
     digits: 7,
 };
 /// From 0.01 m/s.
-pub const KNOTS: Conversion = Conversion {
+pub const KNOTS: WrittenUnit = WrittenUnit {
     num: 900,
     den: 463,
     places: 2,
@@ -38,7 +38,7 @@ pub const KNOTS: Conversion = Conversion {
 };
 
 /// From 0.01 m/s.
-pub const KILOMETRES_PER_HOUR: Conversion = Conversion {
+pub const KILOMETRES_PER_HOUR: WrittenUnit = WrittenUnit {
     num: 18,
     den: 5,
     places: 2,
@@ -47,7 +47,7 @@ pub const KILOMETRES_PER_HOUR: Conversion = Conversion {
 };
 
 /// From 0.01 m/s.
-pub const METRES_PER_SECOND: Conversion = Conversion {
+pub const METRES_PER_SECOND: WrittenUnit = WrittenUnit {
     num: 1,
     den: 1,
     places: 2,
@@ -55,7 +55,7 @@ pub const METRES_PER_SECOND: Conversion = Conversion {
     digits: 5,
 };
 /// Depth, from 0.01 m.
-pub const METRES: Conversion = Conversion {
+pub const METRES: WrittenUnit = WrittenUnit {
     num: 1,
     den: 1,
     places: 2,
@@ -64,7 +64,7 @@ pub const METRES: Conversion = Conversion {
 };
 
 /// Depth, from 0.01 m.
-pub const FEET: Conversion = Conversion {
+pub const FEET: WrittenUnit = WrittenUnit {
     num: 125,
     den: 381,
     places: 1,
@@ -73,7 +73,7 @@ pub const FEET: Conversion = Conversion {
 };
 
 /// Depth, from 0.01 m.
-pub const FATHOMS: Conversion = Conversion {
+pub const FATHOMS: WrittenUnit = WrittenUnit {
     num: 125,
     den: 2_286,
     places: 1,
@@ -81,7 +81,7 @@ pub const FATHOMS: Conversion = Conversion {
     digits: 5,
 };
 /// The transducer's offset, from 0.001 m.
-pub const OFFSET_METRES: Conversion = Conversion {
+pub const OFFSET_METRES: WrittenUnit = WrittenUnit {
     num: 1,
     den: 10,
     places: 2,
@@ -89,7 +89,7 @@ pub const OFFSET_METRES: Conversion = Conversion {
     digits: 4,
 };
 /// The range of the depth scale, from 10 m.
-pub const RANGE_METRES: Conversion = Conversion {
+pub const RANGE_METRES: WrittenUnit = WrittenUnit {
     num: 100,
     den: 1,
     places: 1,
@@ -97,7 +97,7 @@ pub const RANGE_METRES: Conversion = Conversion {
     digits: 5,
 };
 /// Total and trip distance, from metres.
-pub const NAUTICAL_MILES: Conversion = Conversion {
+pub const NAUTICAL_MILES: WrittenUnit = WrittenUnit {
     num: 25,
     den: 463,
     places: 2,
@@ -105,7 +105,7 @@ pub const NAUTICAL_MILES: Conversion = Conversion {
     digits: 9,
 };
 /// The distance from the track, from 0.01 m.
-pub const TRACK_MILES: Conversion = Conversion {
+pub const TRACK_MILES: WrittenUnit = WrittenUnit {
     num: 5,
     den: 926,
     places: 3,
@@ -113,7 +113,7 @@ pub const TRACK_MILES: Conversion = Conversion {
     digits: 6,
 };
 /// Minutes of latitude and longitude, from 1e-7 degree.
-pub const MINUTES: Conversion = Conversion {
+pub const MINUTES: WrittenUnit = WrittenUnit {
     num: 3,
     den: 50,
     places: 4,
@@ -121,7 +121,7 @@ pub const MINUTES: Conversion = Conversion {
     digits: 9,
 };
 /// The same from 1e-16 degree.
-pub const FIX_MINUTES: Conversion = Conversion {
+pub const FIX_MINUTES: WrittenUnit = WrittenUnit {
     num: 3,
     den: 50_000_000_000,
     places: 4,
@@ -129,7 +129,7 @@ pub const FIX_MINUTES: Conversion = Conversion {
     digits: 9,
 };
 /// Altitude, from 1e-6 m.
-pub const ALTITUDE_METRES: Conversion = Conversion {
+pub const ALTITUDE_METRES: WrittenUnit = WrittenUnit {
     num: 1,
     den: 100_000,
     places: 1,
@@ -137,7 +137,7 @@ pub const ALTITUDE_METRES: Conversion = Conversion {
     digits: 5,
 };
 /// The geoid's height, from 0.01 m.
-pub const SEPARATION_METRES: Conversion = Conversion {
+pub const SEPARATION_METRES: WrittenUnit = WrittenUnit {
     num: 1,
     den: 10,
     places: 1,
@@ -145,7 +145,7 @@ pub const SEPARATION_METRES: Conversion = Conversion {
     digits: 4,
 };
 /// Dilution of precision, from hundredths.
-pub const DILUTION: Conversion = Conversion {
+pub const DILUTION: WrittenUnit = WrittenUnit {
     num: 1,
     den: 1,
     places: 2,
@@ -153,7 +153,7 @@ pub const DILUTION: Conversion = Conversion {
     digits: 4,
 };
 /// Degrees Celsius, from thousandths of a degree.
-pub const CELSIUS: Conversion = Conversion {
+pub const CELSIUS: WrittenUnit = WrittenUnit {
     num: 1,
     den: 100,
     places: 1,

@@ -1,5 +1,0 @@
-use Rattle.sentence_rows.proofs.Texts.{magnitude_room}
-use Rattle.sentence_rows.proofs.field.put_magnitude.Goals as goal
-
-pub put_number-requires-clause-room : goal.put_number-requires-clause-room
-put_number-requires-clause-room c = magnitude_room c.args.unit c.size.result _ c.requires.sound c.size.ensures.small c.size.type_inv c.requires.room
