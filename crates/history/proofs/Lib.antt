@@ -22,6 +22,8 @@ pub mod IsoLimits
 pub mod GroupSteps
 pub mod GroupLimits
 pub mod Refusals
+pub mod FastTable
+pub mod SessionTable
 mod Computed
 mod ClaimCases
 mod FastCases

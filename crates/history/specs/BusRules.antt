@@ -1,6 +1,6 @@
 -- Which rules a frame from the bus breaks: one table, in the order of the rules' numbers. Each row is a condition on the frame and on
 -- what is open of its key just before it. A repeat breaks none.
-use Rattle.std.specs.Prelude.{ℕ, Bool, true, false, ◌&&◌, ◌||◌, not, ◌==◌, nat_le, nat_lt, List, [], ◌∷◌, ◌++◌, length, Option, Some, None, is_some, is_none}
+use Rattle.std.specs.Prelude.{ℕ, Bool, true, false, ◌&&◌, ◌||◌, not, ◌==◌, nat_le, nat_lt, List, [], ◌∷◌, length, Option, Some, None, is_some, is_none}
 use Rattle.n2k_id.specs.Name.{name_at}
 use Rattle.report_rules.specs.Rules as rules
 use Rattle.pgn_profile.specs.Profiled.{profiled}
@@ -21,7 +21,7 @@ use Rattle.capture_text.specs.declared.emit.Detail.TheVariants as detail
 use Rattle.history.specs.Meanings.{Meaning, is_address_claim, is_own_source, is_request, is_from_nobody, is_of_session, is_of_fast_packet}
 use Rattle.history.specs.Traces.{Note, fast_piece, iso_piece}
 use Rattle.history.specs.Messages.{Message}
-use Rattle.history.specs.Emits.{breaks}
+use Rattle.history.specs.Emits.{Rule, breaks, broken_of}
 
 -- ---- claims and requests (ISO 11783-5)
 
@@ -114,9 +114,9 @@ is_short says.Short = true
 is_short (says.Reading r) = false
 is_short says.Outside = false
 
-abbrev pub message_breaks : Option Message → List Report
-message_breaks None = []
-message_breaks (Some d) = breaks (is_short (profiled d.pgn d.payload)) rules.short_message (detail.Source d.source d.pgn)
+abbrev pub message_rule : Option Message → Rule
+message_rule None = breaks false rules.short_message detail.Nothing
+message_rule (Some d) = breaks (is_short (profiled d.pgn d.payload)) rules.short_message (detail.Source d.source d.pgn)
 
 -- ---- the table: by the gateway's NAME, what the frame is to it, what is open of its fast packet or of its session, and the message
 -- that it completes
@@ -129,28 +129,32 @@ module _ (name : ℕ) (meaning : Meaning) (n : Note) (frames : Option (List Fast
   abbrev pub of_message : ℕ → Detail
   of_message pgn = detail.Source n.parts.source pgn
 
-  abbrev pub frame_breaks : List Report
-  frame_breaks =
+  abbrev pub frame_table : List Rule
+  frame_table =
       let fast_packet = is_of_fast_packet meaning in
       let transport = is_of_session meaning in
       let x = fast_piece n in
       let y = iso_piece n in
       let addressed = (key_of n.parts).addressed in
       breaks (is_from_nobody meaning) rules.unclaimed of_frame
-      ++ breaks (fast_packet && is_out_of_order frames x) rules.fast_order of_frame
-      ++ breaks (fast_packet && (is_later_frame x && is_none frames)) rules.fast_orphan of_frame
-      ++ breaks (fast_packet && is_wrong_length frames x) rules.fast_length of_frame
-      ++ breaks (fast_packet && (fast.is_opener x.bytes && is_some frames)) rules.restarted of_frame
-      ++ breaks (transport && (opens_session addressed n.ready y && is_some packets)) rules.restarted (of_message (session_pgn packets))
-      ++ breaks (fast_packet && (fast.is_opener x.bytes && not n.admitted)) rules.slots_full of_frame
-      ++ breaks (transport && (opens_session addressed n.ready y && not n.admitted)) rules.slots_full (of_message (session_of (y ∷ [])).pgn)
-      ++ breaks (transport && (is_cut_management y || is_wrong_kind addressed y || is_wrong_size addressed n.ready y || is_short_packet packets y))
+      ∷ breaks (fast_packet && is_out_of_order frames x) rules.fast_order of_frame
+      ∷ breaks (fast_packet && (is_later_frame x && is_none frames)) rules.fast_orphan of_frame
+      ∷ breaks (fast_packet && is_wrong_length frames x) rules.fast_length of_frame
+      ∷ breaks (fast_packet && (fast.is_opener x.bytes && is_some frames)) rules.restarted of_frame
+      ∷ breaks (transport && (opens_session addressed n.ready y && is_some packets)) rules.restarted (of_message (session_pgn packets))
+      ∷ breaks (fast_packet && (fast.is_opener x.bytes && not n.admitted)) rules.slots_full of_frame
+      ∷ breaks (transport && (opens_session addressed n.ready y && not n.admitted)) rules.slots_full (of_message (session_of (y ∷ [])).pgn)
+      ∷ breaks (transport && (is_cut_management y || is_wrong_kind addressed y || is_wrong_size addressed n.ready y || is_short_packet packets y))
       rules.iso_size of_frame
-      ++ breaks (transport && is_packet_out_of_order packets y) rules.iso_order of_frame
-      ++ breaks (transport && (y.packet && is_none packets)) rules.iso_orphan of_frame
-      ++ breaks (transport && (addressed && (is_abort y && is_some packets))) rules.iso_aborted (of_message (session_pgn packets))
-      ++ message_breaks message
-      ++ breaks (is_address_claim meaning && is_duplicate name n) rules.duplicate_name (detail.Address n.parts.source)
-      ++ breaks (is_own_source meaning) rules.own_address_used of_frame
-      ++ breaks ((is_address_claim meaning && is_malformed_claim n) || (is_request meaning && is_malformed_request n)) rules.claim_or_request_malformed of_frame
-      ++ breaks (transport && is_early addressed n.ready y) rules.not_ready of_frame
+      ∷ breaks (transport && is_packet_out_of_order packets y) rules.iso_order of_frame
+      ∷ breaks (transport && (y.packet && is_none packets)) rules.iso_orphan of_frame
+      ∷ breaks (transport && (addressed && (is_abort y && is_some packets))) rules.iso_aborted (of_message (session_pgn packets))
+      ∷ message_rule message
+      ∷ breaks (is_address_claim meaning && is_duplicate name n) rules.duplicate_name (detail.Address n.parts.source)
+      ∷ breaks (is_own_source meaning) rules.own_address_used of_frame
+      ∷ breaks ((is_address_claim meaning && is_malformed_claim n) || (is_request meaning && is_malformed_request n)) rules.claim_or_request_malformed of_frame
+      ∷ breaks (transport && is_early addressed n.ready y) rules.not_ready of_frame
+      ∷ []
+
+  abbrev pub frame_breaks : List Report
+  frame_breaks = broken_of frame_table

@@ -1,5 +1,5 @@
 -- What a gateway emits, as plain values.
-use Rattle.std.specs.Prelude.{ℕ, Bool, List, [], ◌∷◌, map, Option, Some, None, if◌then◌else◌}
+use Rattle.std.specs.Prelude.{ℕ, Bool, List, [], ◌∷◌, ◌++◌, map, Option, Some, None, if◌then◌else◌}
 use Rattle.n2k_id.specs.Frame.{BusFrame}
 use Rattle.n2k_id.specs.Identifier.{identifier_of}
 use Rattle.n2k_id.specs.Name.{name_bytes}
@@ -28,9 +28,18 @@ at m emits = map (λ e. record { moment = m; emit = e }) emits
 abbrev pub report_of : ℕ → Detail → Report
 report_of rule what = record { rule = rule; detail = what }
 
--- where it was
-abbrev pub breaks : Bool → ℕ → Detail → List Report
-breaks it rule what = if it then report_of rule what ∷ [] else []
+-- a row of a table of rules: whether the rule was broken, and what is reported then
+pub record Rule : Type 0 where
+  pub broken : Bool
+  pub report : Report
+
+abbrev pub breaks : Bool → ℕ → Detail → Rule
+breaks it rule what = record { broken = it; report = report_of rule what }
+
+-- the rules of a table that were broken, in its order
+abbrev pub broken_of : List Rule → List Report
+broken_of [] = []
+broken_of (rule ∷ table) = (if rule.broken then rule.report ∷ [] else []) ++ broken_of table
 
 abbrev pub reported : List Report → List Emit
 reported reports = map report reports

@@ -27,7 +27,7 @@ use Rattle.history.specs.Traces.{Note, iso_piece}
 use Rattle.history.specs.Opens.{fast_open, iso_open, note_of, notes_of}
 use Rattle.history.specs.Messages.{Message, done, messages_of}
 use Rattle.history.specs.Choice.{selected}
-use Rattle.history.specs.Emits.{Emit, net, breaks, reported, own_claim, replied}
+use Rattle.history.specs.Emits.{Emit, net, breaks, broken_of, reported, own_claim, replied}
 use Rattle.history.specs.Endings.{lost_at, lost_elsewhere}
 use Rattle.history.specs.Datagrams.{Spoken, sentences_of, datagram_of}
 use Rattle.history.specs.BusRules.{is_early, frame_breaks}
@@ -121,7 +121,7 @@ module _ (c : Settings) (s : ℕ) (h : History) (m : ℕ) (f : BusFrame) where
 -- ---- a command to go to an address (ISO 11783-5), which is obeyed or is rule 26
 
 abbrev pub command_breaks : Claims → ℕ → ℕ → List Report
-command_breaks claims source address = breaks (not (is_obeyed claims address)) rules.command_not_obeyed (detail.Source source 65240)
+command_breaks claims source address = broken_of (breaks (not (is_obeyed claims address)) rules.command_not_obeyed (detail.Source source 65240) ∷ [])
 
 abbrev pub command_gives : ℕ → ℕ → Known → List Note → ℕ → ℕ → ℕ → List Emit
 command_gives name index k notes m source address =

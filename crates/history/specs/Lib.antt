@@ -26,6 +26,7 @@ pub mod LimitLaws
 pub mod IsolationLaws
 pub mod GroupLaws
 pub mod RefusalLaws
+pub mod RuleLaws
 pub mod Cases
 pub mod ClaimCases
 pub mod FastCases

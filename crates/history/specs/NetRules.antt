@@ -1,5 +1,5 @@
 -- Which rules a datagram breaks, and its items, sentences and readings: each part in the order of the rules' numbers.
-use Rattle.std.specs.Prelude.{ℕ, Bool, true, false, ◌&&◌, not, ◌==◌, List, [], ◌∷◌, ◌++◌, Option, Some, None, is_some, is_none, Result, Ok, Err, if◌then◌else◌}
+use Rattle.std.specs.Prelude.{ℕ, Bool, true, false, ◌&&◌, not, ◌==◌, List, [], ◌∷◌, Option, Some, None, is_some, is_none, Result, Ok, Err, if◌then◌else◌}
 use Rattle.report_rules.specs.Rules as rules
 use Rattle.sentence_rows.specs.declared.fault.FieldFault.{FieldFault}
 use Rattle.sentence_rows.specs.declared.fault.FieldFault.TheVariants.{Outside, Form, Range}
@@ -13,7 +13,7 @@ use Rattle.datagram450.specs.Item.{Item, line, bad}
 use Rattle.capture_text.specs.declared.emit.Report.{Report}
 use Rattle.capture_text.specs.declared.emit.Detail.TheVariants as detail
 use Rattle.history.specs.Settings.{Settings}
-use Rattle.history.specs.Emits.{breaks, report_of}
+use Rattle.history.specs.Emits.{breaks, broken_of, report_of}
 use Rattle.history.specs.Heard.{Came, Taken, several, group_line, group_open, place_of, is_own_line, is_elsewhere, is_taken, taken_after}
 use Rattle.history.specs.NetReadings.{NetReading}
 
@@ -30,9 +30,11 @@ abbrev pub line_breaks : Settings → ℕ → Said → List Report
 line_breaks c place said =
     let own = is_own_line c said in
     let elsewhere = is_elsewhere c said.destination in
-    breaks (not own && (not elsewhere && is_none (place_of c said.source))) rules.unlisted_source (detail.At place)
-    ++ breaks own rules.own_line (detail.At place)
-    ++ breaks (not own && elsewhere) rules.other_destination (detail.At place)
+    broken_of
+    (breaks (not own && (not elsewhere && is_none (place_of c said.source))) rules.unlisted_source (detail.At place)
+    ∷ breaks own rules.own_line (detail.At place)
+    ∷ breaks (not own && elsewhere) rules.other_destination (detail.At place)
+    ∷ [])
 
 -- ---- a line of a group: it is the first one of an open group, or neither a first one nor the next; or it is a first one without room
 
@@ -47,8 +49,10 @@ part_breaks lines t (Some part) =
     let key : GroupKey = record { sfi = t.source; code = part.code } in
     let first = part.number == 1 in
     let open_group = group_open lines key t.moment in
-    breaks (if first then is_some open_group else not (goes_on open_group (group_line t part))) rules.group_order (detail.GroupKey t.source part.code)
-    ++ breaks (first && not t.admitted) rules.group_slots_full (detail.GroupKey t.source part.code)
+    broken_of
+    (breaks (if first then is_some open_group else not (goes_on open_group (group_line t part))) rules.group_order (detail.GroupKey t.source part.code)
+    ∷ breaks (first && not t.admitted) rules.group_slots_full (detail.GroupKey t.source part.code)
+    ∷ [])
 
 -- ---- an item after these lines: it is no line, or a line that isn't taken, or one of a group
 
@@ -70,4 +74,4 @@ sentence_breaks t (Range field) = report_of rules.field_range (detail.AtField t.
 -- ---- a selected reading, where the gateway isn't ready
 
 abbrev pub reading_breaks : NetReading → List Report
-reading_breaks n = breaks (not n.line.ready) rules.not_ready (detail.At n.line.place)
+reading_breaks n = broken_of (breaks (not n.line.ready) rules.not_ready (detail.At n.line.place) ∷ [])

@@ -7,6 +7,7 @@ ghost use Rattle.history.specs.LimitLaws.{FastWithinLimit, IsoWithinLimit, Group
 ghost use Rattle.history.specs.GroupLaws.{LinesStepGroup, LinesStandAlone, TimeEndsGroup};
 ghost use Rattle.history.specs.KeyLaws.{FramesStepFast, FramesKeepFast, TimeEndsFast, FramesStepIso, FramesCompleteIso, TimeEndsIso};
 ghost use Rattle.history.specs.RefusalLaws.{FastRefusalsBreak, TransportRefusalsBreak};
+ghost use Rattle.history.specs.RuleLaws.{FastRulesAreRefusals, SessionRulesAreVerdicts, EarlyBreaksNotReady};
 ghost use Rattle.history.specs.TraceLaws.{ClaimsMoveTraces, CommandsMoveTraces};
 
 /// After every history no NAME has two addresses and the gateway's own has no other holder, and no index since which an address is
@@ -47,6 +48,14 @@ pub fn transport_frames_step_their_session()
 /// its key and completes nothing.
 pub fn transport_refusals_break()
     ensures { TransportRefusalsBreak }
+{}
+
+/// The table of rules says of a fast frame, and of a transport frame, what the refusals and the verdicts of their assemblers say by what
+/// is open of its key; and of an RTS that comes before the gateway is ready, rule 45.
+pub fn tables_say_the_refusals()
+    ensures fast { FastRulesAreRefusals }
+    ensures sessions { SessionRulesAreVerdicts }
+    ensures early { EarlyBreaksNotReady }
 {}
 
 /// One more taken line does to what is open of its group what the rules of groups say of the lines that were open, hands over the
