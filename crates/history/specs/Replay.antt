@@ -1,4 +1,4 @@
--- The text of a replay: a capture in, all emits out, a line each.
+-- The text of a replay: the bytes of a capture in, all emits out, a line each.
 use Rattle.std.specs.Prelude.{ℕ, ◌+◌, List, [], ◌∷◌, ◌++◌, Option, Some, None, Result, Ok, Err}
 use Rattle.std.specs.List.{flat_map}
 use Rattle.capture_text.specs.declared.emit.Detail.TheVariants as detail
@@ -6,6 +6,7 @@ use Rattle.capture_text.specs.declared.event.LineRule.{LineRule}
 use Rattle.capture_text.specs.Event.{rule_number}
 use Rattle.capture_text.specs.Capture as capture
 use Rattle.capture_text.specs.Capture.{Seen}
+use Rattle.capture_text.specs.Lines.{lines_of}
 use Rattle.capture_text.specs.Reading.{read}
 use Rattle.capture_text.specs.Writing.{time_text, frame_text, datagram_text, report_text}
 use Rattle.history.specs.Entries as entry
@@ -73,5 +74,9 @@ module _ (c : Settings) where
   replayed_from number g (l ∷ ls) = let x = with_line number g l in x.emits ++ replayed_from (number + 1) x.after ls
 
   -- the lines of text of the lines of a capture, which are counted from 1
-  abbrev pub replay_text : List (List ℕ) → List ℕ
-  replay_text lines = flat_map line_of (replayed_from 1 None lines)
+  abbrev pub text_of : List (List ℕ) → List ℕ
+  text_of lines = flat_map line_of (replayed_from 1 None lines)
+
+  -- and of its bytes
+  abbrev pub replay_text : List ℕ → List ℕ
+  replay_text bytes = text_of (lines_of bytes)

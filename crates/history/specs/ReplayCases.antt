@@ -10,7 +10,7 @@ text lines = flat_map (λ l. l ++ 10 ∷ []) lines
 -- a heading
 abbrev pub OneLine : Type 0
 OneLine =
-    replay_text two_devices (codes "(1700000000.000000) can0 09F11217#005C3DFF7FFF7FFC" ∷ [])
+    replay_text two_devices (text (codes "(1700000000.000000) can0 09F11217#005C3DFF7FFF7FFC" ∷ []))
     ≡ text
     (codes "(1700000000.000000) can0 18EEFFFB#0100C0FF008232C0"
     ∷ codes "(1700000000.000000) can0 18EAFFFB#00EE00"
@@ -20,13 +20,13 @@ OneLine =
 -- time that goes back
 abbrev pub Backwards : Type 0
 Backwards =
-    replay_text two_devices (codes "(5.000000) tick" ∷ codes "(4.999999) tick" ∷ [])
+    replay_text two_devices (text (codes "(5.000000) tick" ∷ codes "(4.999999) tick" ∷ []))
     ≡ text (codes "(5.000000) can0 18EEFFFB#0100C0FF008232C0" ∷ codes "(5.000000) can0 18EAFFFB#00EE00" ∷ codes "(5.000000) rule 3" ∷ [])
 
 -- a line that was cut off within its data, and one within its identifier
 abbrev pub CutOffInData : Type 0
 CutOffInData =
-    replay_text two_devices (codes "(5.000000) can0 09F11217#005C3D" ∷ [])
+    replay_text two_devices (text (codes "(5.000000) can0 09F11217#005C3D" ∷ []))
     ≡ text
     (codes "(5.000000) can0 18EEFFFB#0100C0FF008232C0"
     ∷ codes "(5.000000) can0 18EAFFFB#00EE00"
@@ -34,4 +34,4 @@ CutOffInData =
     ∷ [])
 
 abbrev pub CutOffInIdentifier : Type 0
-CutOffInIdentifier = replay_text two_devices (codes "(5.000000) can0 09F112" ∷ []) ≡ text (codes "(0.000000) rule 1 line=1" ∷ [])
+CutOffInIdentifier = replay_text two_devices (text (codes "(5.000000) can0 09F112" ∷ [])) ≡ text (codes "(0.000000) rule 1 line=1" ∷ [])
