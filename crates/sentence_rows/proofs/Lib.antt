@@ -13,3 +13,5 @@ pub mod DateTexts
 pub mod StableRows
 pub mod StableFixes
 pub mod StableLines
+pub mod CivilDates
+pub mod Unique

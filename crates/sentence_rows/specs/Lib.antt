@@ -9,3 +9,4 @@ pub mod Columns
 pub mod Formatters
 pub mod Reading
 pub mod Stable
+pub mod Laws

@@ -7,6 +7,7 @@ use Rattle.readings.specs.declared.reading.Reading.TheVariants as reading
 use Rattle.sentence_rows.specs.WrittenUnits.{degrees, degrees_per_minute, knots, kilometres_per_hour, metres_per_second, metres, feet, fathoms, offset_metres, range_metres, nautical_miles, track_miles, minutes, fix_minutes, altitude_metres, separation_metres, dilution, celsius}
 use Rattle.sentence_rows.specs.declared.field.Field.{Field}
 use Rattle.sentence_rows.specs.declared.field.Field.TheVariants.{Empty, Letter, Decimal, Magnitude, Side, Angle, Degrees, Time, Digits, Satellites}
+use Rattle.sentence_rows.specs.Calendar.{CivilDate, civil_date}
 use Rattle.sentence_rows.specs.Lines.{sentence_by}
 
 -- the letter of a status or mode: the first where something is there, the second where nothing is
@@ -126,3 +127,21 @@ Dated (Some day) holds = (d : Date) × (epoch_day d ≡ day) × holds (Some d)
 -- the lines are the sentences in which the talker says the reading
 abbrev pub IsText : Reading → List ℕ → Bool → List (List ℕ) → Type 0
 IsText r talker with_ths lines = Dated (day_said r) (λ d. lines ≡ map (λ s. sentence_by talker s.0 s.1) (said with_ths d r))
+
+-- ---- the same, computed
+
+-- the time and date of ZDA, with the date as the calendar has it
+abbrev pub zda_on : Option ℤ → CivilDate → List Field
+zda_on t d = Time t ∷ Digits (Some d.day) 2 ∷ Digits (Some d.month) 2 ∷ Digits (Some d.year) 4 ∷ Digits (Some 0) 2 ∷ Digits (Some 0) 2 ∷ []
+
+abbrev pub time_of : Reading → Option ℤ
+time_of (reading.Time da t) = t
+time_of _ = None
+
+-- formatter and fields of each sentence of a reading that says this day
+abbrev pub said_on : Bool → Reading → Option ℤ → List (List ℕ × List Field)
+said_on with_ths r None = said with_ths None r
+said_on with_ths r (Some day) = (codes "ZDA", zda_on (time_of r) (civil_date day)) ∷ []
+
+abbrev pub sentences_of : List ℕ → Bool → Reading → List (List ℕ)
+sentences_of talker with_ths r = map (λ s. sentence_by talker s.0 s.1) (said_on with_ths r (day_said r))

@@ -17,6 +17,7 @@ mod gga;
 mod gll;
 mod hdg;
 mod hdt;
+pub mod laws;
 mod letter;
 mod lines;
 mod mtw;

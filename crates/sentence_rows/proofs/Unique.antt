@@ -1,0 +1,44 @@
+-- A reading is said in one way.
+use Rattle.std.proofs.Common.{◌≡◌, ◌↔◌, ℕ, ℤ, Bool, Option, None, Some, List, [], ◌∷◌, map, refl, sym, ◌∙◌, ap}
+use Rattle.std.specs.Prelude.{codes, unsigned_abs}
+use Rattle.jiff.specs.Types.{Date}
+use Rattle.jiff.specs.Words.{epoch_day}
+use Rattle.jiff.proofs.Family.{epoch_day_injective}
+use Rattle.readings.specs.declared.reading.Reading.{Reading}
+use Rattle.readings.specs.declared.reading.Reading.TheVariants as reading
+use Rattle.readings.specs.Ranges.{Holds, IsValid, date as date_range}
+use Rattle.sentence_rows.specs.Calendar.{CivilDate, IsDateOf, civil_date}
+use Rattle.sentence_rows.specs.Laws.{SaidInOneWay}
+use Rattle.sentence_rows.specs.Lines.{sentence_by}
+use Rattle.sentence_rows.specs.Writing.{Dated, IsText, said, said_on, sentences_of, zda, zda_on}
+use Rattle.sentence_rows.proofs.CivilDates.{dates_are_the_calendars}
+
+-- a date of the same day is said in the same fields
+same_fields : (t : Option ℤ) (day : ℤ) (d : Date) → Holds date_range day → epoch_day d ≡ day → zda t (Some d) ≡ zda_on t (civil_date day)
+same_fields t day d held e =
+    let is = dates_are_the_calendars day held in
+    let same = epoch_day_injective d is.0 (e ∙ sym is.2) in
+    rw (same.0, same.1, same.2, is.1.0, is.1.1, is.1.2) refl
+
+pub said_in_one_way : SaidInOneWay
+said_in_one_way (reading.Time (Some day) t) talker with_ths lines valid =
+    (λ text. text.2 ∙ ap (λ fields. sentence_by talker (codes "ZDA") fields ∷ []) (same_fields t day text.0 valid.0 text.1),
+     λ e. let is = dates_are_the_calendars day valid.0 in
+       (is.0, is.2, e ∙ ap (λ fields. sentence_by talker (codes "ZDA") fields ∷ []) (sym (same_fields t day is.0 valid.0 is.2))))
+said_in_one_way (reading.Time None t) talker with_ths lines valid = (λ text. text, λ e. e)
+said_in_one_way (reading.HeadingTrue h) talker with_ths lines valid = (λ text. text, λ e. e)
+said_in_one_way (reading.HeadingMagnetic h dev var) talker with_ths lines valid = (λ text. text, λ e. e)
+said_in_one_way (reading.RateOfTurn r) talker with_ths lines valid = (λ text. text, λ e. e)
+said_in_one_way (reading.RudderFirst p) talker with_ths lines valid = (λ text. text, λ e. e)
+said_in_one_way (reading.RudderSecond p) talker with_ths lines valid = (λ text. text, λ e. e)
+said_in_one_way (reading.WaterSpeed s) talker with_ths lines valid = (λ text. text, λ e. e)
+said_in_one_way (reading.Depth dep o r) talker with_ths lines valid = (λ text. text, λ e. e)
+said_in_one_way (reading.DistanceLog l t) talker with_ths lines valid = (λ text. text, λ e. e)
+said_in_one_way (reading.Position la lo) talker with_ths lines valid = (λ text. text, λ e. e)
+said_in_one_way (reading.CourseSpeed m c s) talker with_ths lines valid = (λ text. text, λ e. e)
+said_in_one_way (reading.Gnss da t la lo al m n h s) talker with_ths lines valid = (λ text. text, λ e. e)
+said_in_one_way (reading.WindApparent s a) talker with_ths lines valid = (λ text. text, λ e. e)
+said_in_one_way (reading.WindTrue s a) talker with_ths lines valid = (λ text. text, λ e. e)
+said_in_one_way (reading.WindNorth m s a) talker with_ths lines valid = (λ text. text, λ e. e)
+said_in_one_way (reading.WaterTemperature k) talker with_ths lines valid = (λ text. text, λ e. e)
+said_in_one_way (reading.CrossTrack x) talker with_ths lines valid = (λ text. text, λ e. e)

@@ -1,0 +1,14 @@
+//! What is promised of dates and of the sentences that are written. Each law is a function that does nothing, and whose clause is
+//! the law.
+ghost use Rattle.sentence_rows.specs.Laws.{DatesAreTheCalendars, SaidInOneWay};
+
+/// The date that the definitions compute for a day is the one that the calendar has for it.
+pub fn dates_are_the_calendars()
+    ensures { DatesAreTheCalendars }
+{}
+
+/// A valid reading is said in one way: the relation that `sentences` promises allows the sentences that are computed, and no others.
+#[tactic(auto, using(crate::proofs::Unique::said_in_one_way))]
+pub fn readings_are_said_in_one_way()
+    ensures { SaidInOneWay }
+{}
