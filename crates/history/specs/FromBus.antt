@@ -11,6 +11,7 @@ use Rattle.claim_table.specs.declared.answer.OwnAnswer.{OwnAnswer}
 use Rattle.claim_table.specs.declared.answer.OwnAnswer.TheVariants.{Silent, Defend, Move, CannotClaim, Duplicate}
 use Rattle.readings.specs.declared.reading.Reading.{Reading}
 use Rattle.readings.specs.Rows.{row_of}
+use Rattle.sentence_rows.specs.Writing.{sentences_of}
 use Rattle.fast_packet.specs.FastRuns.{FastPiece}
 use Rattle.iso_transport.specs.declared.reply.Reply.{Reply}
 use Rattle.iso_transport.specs.Audience.{key_of}
@@ -29,7 +30,7 @@ use Rattle.history.specs.Messages.{Message, done, messages_of}
 use Rattle.history.specs.Choice.{selected}
 use Rattle.history.specs.Emits.{Emit, net, breaks, broken_of, reported, own_claim, replied}
 use Rattle.history.specs.Endings.{lost_at, lost_elsewhere}
-use Rattle.history.specs.Datagrams.{Spoken, sentences_of, datagram_of}
+use Rattle.history.specs.Datagrams.{Spoken, datagram_of}
 use Rattle.history.specs.BusRules.{is_early, frame_breaks}
 
 -- ---- a claim (ISO 11783-5): rule 17 for what ends, the address that was left before the one that was won; then the gateway's own

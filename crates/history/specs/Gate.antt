@@ -4,6 +4,7 @@ use Rattle.n2k_id.specs.Name.{name_at}
 use Rattle.claim_table.specs.Claims.{is_ready}
 use Rattle.readings.specs.declared.reading.Reading.{Reading}
 use Rattle.readings.specs.Rows.{row_of}
+use Rattle.sentence_rows.specs.Writing.{sentences_of}
 use Rattle.datagram450.specs.declared.fault.DatagramFault.{DatagramFault}
 use Rattle.datagram450.specs.Datagram as datagrams
 use Rattle.datagram450.specs.Item.{Item}
@@ -18,7 +19,7 @@ use Rattle.history.specs.Opens.{notes_of}
 use Rattle.history.specs.Messages.{Message, done, messages_of}
 use Rattle.history.specs.Emits.{Emit, Emitted, can, net, report, at, broken, own_claim, request_for_claims}
 use Rattle.history.specs.Endings.{fast_expired, iso_expired, groups_expired}
-use Rattle.history.specs.Datagrams.{Spoken, sentences_of}
+use Rattle.history.specs.Datagrams.{Spoken}
 use Rattle.history.specs.Heard.{Came, came_at, with_items, lines_of}
 use Rattle.history.specs.FromNet.{items_in, datagram_gives}
 use Rattle.history.specs.FromBus.{chosen, frame_refused, from_frame, command_breaks, from_command}
