@@ -1,6 +1,8 @@
-ghost use Rattle.std.specs.Prelude.{◌≡◌, ◌<◌, ◌+◌, ◌%◌, ◌↔◌, ◌==◌, ◌&&◌, ◌||◌, ℕ, false, not, nat_lt, is_none, length, All, IfSome, IsTrue, None, Some, position, slice_set};
+ghost use Rattle.std.specs.Prelude.{◌≡◌, ◌<◌, ◌+◌, ◌%◌, ◌↔◌, ◌==◌, ◌&&◌, ◌||◌, ℕ, false, not, nat_lt};
+ghost use Rattle.std.specs.Prelude.{is_none, length, All, IfSome, IsTrue, None, Some, position, slice_set};
 ghost use Rattle.claim_table.specs.Cases.{CanGoTo, IsCase};
-ghost use Rattle.claim_table.specs.Claims.{IsSinceBy, at_other, at_own, claim, claim_of, command, holder_at, is_held_by, is_obeyed, left_by, moved, next_free, next_own, other_than, settled, step_of, vacated, with_released, with_taken, without_left};
+ghost use Rattle.claim_table.specs.Claims.{IsSinceBy, at_other, at_own, claim, claim_of, command, holder_at, is_held_by, is_obeyed, left_by, moved};
+ghost use Rattle.claim_table.specs.Claims.{next_free, next_own, other_than, settled, step_of, vacated, with_released, with_taken, without_left};
 
 use crate::answer::{ClaimStep, Holder, OwnAnswer};
 use crate::table::ClaimTable;
@@ -63,8 +65,9 @@ impl ClaimTable {
     /// goes, which may be the address left.
     fn give_way(&mut self, address: u8, name: Name, index: u64, moment: u64) -> ClaimStep
         requires { address < 254 }
-        ensures after { self.new ≡ (at_own (without_left self.old (claim_of address name.0 index moment)) (claim_of address name.0 index moment) false).after }
-        ensures step { result ≡ (with_released (left_by self.old (claim_of address name.0 index moment)) (at_own (without_left self.old (claim_of address name.0 index moment)) (claim_of address name.0 index moment) false)).step }
+        ensures after { let k = claim_of address name.0 index moment in self.new ≡ (at_own (without_left self.old k) k false).after }
+        ensures step { let k = claim_of address name.0 index moment in
+            result ≡ (with_released (left_by self.old k) (at_own (without_left self.old k) k false)).step }
     {
         let ways = self.ways(address, name);
         self.vacate(ways.left);
@@ -99,7 +102,8 @@ impl ClaimTable {
         requires { lost < 254 }
         ensures left { result.left ≡ other_than lost (position (is_held_by name.0) self.now.holders) }
         ensures within { IfSome result.left (λ place. place < 254) }
-        ensures next { (index moment : ℕ) → result.next ≡ next_own (with_taken (record self.now { holders = vacated self.now.holders result.left }) (claim_of lost name.0 index moment)) lost }
+        ensures next { (index moment : ℕ) → let vacant = vacated self.now.holders result.left in result.next ≡
+            next_own (with_taken (record self.now { holders = vacant }) (claim_of lost name.0 index moment)) lost }
     {
         if self.name.fields().arbitrary {
             self.search(lost, name)

@@ -1,7 +1,8 @@
 //! Laws of address claim, over every list of claims and commands. Each is a function that does
 //! nothing, and whose clause is the law.
 
-ghost use Rattle.claim_table.specs.Laws.{CommandsKeepHolders, DefenceKeeps, FindsFirstFree, HoldersAreDated, IndicesMayStop, NameStays, SmallerNamesKeep, StaysSound, WonIsNotLeft};
+ghost use Rattle.claim_table.specs.Laws.{CommandsKeepHolders, DefenceKeeps, FindsFirstFree, HoldersAreDated};
+ghost use Rattle.claim_table.specs.Laws.{IndicesMayStop, NameStays, SmallerNamesKeep, StaysSound, WonIsNotLeft};
 
 /// Every holder has its address since an index that the list of events has reached.
 #[tactic(auto, using(crate::proofs::LawLemmas::holders_are_dated))]

@@ -69,7 +69,7 @@ fn append_number(width: usize, number: i64, out: &mut Payload)
 {
     let mut bytes = [0; 8];
     LittleEndian::write_int(&mut bytes, number, width);
-    let _ = out.try_extend_from_slice(&bytes[..width]);
+    let _fits = out.try_extend_from_slice(&bytes[..width]);
 }
 
 /// Appends the pieces, one after the other.

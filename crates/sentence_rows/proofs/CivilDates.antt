@@ -156,14 +156,18 @@ unfolding days_from_civil
 day_number y m d days first e = apart (day_count (pos y) m d) (day_count (pos 1970) 1 1) days (count_of y m d days first e)
 
 dated : (c : CivilDate) (days : ℕ) → OnDay 9999 (days_of_years (1970 + 10000) + days) c → IsDateOf (pos days) c
-dated c days on = (record {
+dated c days on = (
+  record {
     year = pos c.year;
     month = c.month;
     day = c.day;
     year_in = (omega (arith, ints), let w = on.within in omega (arith, ints, w));
     month_in = (on.first, on.last);
     day_in = (on.early, on.late);
-  }, (refl, refl, refl), day_number c.year c.month c.day days on.early on.counts)
+  },
+  (refl, refl, refl),
+  day_number c.year c.month c.day days on.early on.counts,
+)
 
 pub dates_are_the_calendars : DatesAreTheCalendars
 unfolding civil_date

@@ -21,10 +21,11 @@ same_fields t day d held e =
     rw (same.0, same.1, same.2, is.1.0, is.1.1, is.1.2) refl
 
 pub said_in_one_way : SaidInOneWay
-said_in_one_way (reading.Time (Some day) t) talker with_ths lines valid =
-    (λ text. text.2 ∙ ap (λ fields. sentence_by talker (codes "ZDA") fields ∷ []) (same_fields t day text.0 valid.0 text.1),
-     λ e. let is = dates_are_the_calendars day valid.0 in
-       (is.0, is.2, e ∙ ap (λ fields. sentence_by talker (codes "ZDA") fields ∷ []) (sym (same_fields t day is.0 valid.0 is.2))))
+said_in_one_way (reading.Time (Some day) t) talker with_ths lines valid = (
+  λ text. text.2 ∙ ap (λ fields. sentence_by talker (codes "ZDA") fields ∷ []) (same_fields t day text.0 valid.0 text.1),
+  λ e. let is = dates_are_the_calendars day valid.0 in
+      (is.0, is.2, e ∙ ap (λ fields. sentence_by talker (codes "ZDA") fields ∷ []) (sym (same_fields t day is.0 valid.0 is.2))),
+)
 said_in_one_way (reading.Time None t) talker with_ths lines valid = (λ text. text, λ e. e)
 said_in_one_way (reading.HeadingTrue h) talker with_ths lines valid = (λ text. text, λ e. e)
 said_in_one_way (reading.HeadingMagnetic h dev var) talker with_ths lines valid = (λ text. text, λ e. e)

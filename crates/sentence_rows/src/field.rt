@@ -87,7 +87,7 @@ fn append_number(negative: bool, digits: u64, places: u8, out: &mut ArrayVec<u8,
     requires room { length out.old.items + length (decimal_text negative digits places) ≤ 82 }
     ensures { out.new.items ≡ out.old.items ++ decimal_text negative digits places }
 {
-    let _ = write_decimal(negative, digits, places, out);
+    let _fits = write_decimal(negative, digits, places, out);
 }
 
 /// Appends the raw value, with its sign where that is asked for.

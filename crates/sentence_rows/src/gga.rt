@@ -48,7 +48,8 @@ pub(crate) fn gga(
     requires satellites { IsPrintable (Field.Satellites satellites) }
     requires hdop { IsCounted DILUTION hdop }
     requires separation { IsCounted SEPARATION_METRES separation }
-    ensures said { lines_of out.new ≡ lines_of out.old ++ sentence_by talker (codes "GGA") (text.gga time latitude longitude altitude method satellites hdop separation) ∷ [] }
+    ensures said { lines_of out.new ≡ lines_of out.old ++ sentence_by talker (codes "GGA") (text.gga time latitude longitude altitude method
+        satellites hdop separation) ∷ [] }
     ensures again { IsReadBack talker (codes "GGA") (text.gga time latitude longitude altitude method satellites hdop separation) }
 {
     let quality = letter_where(latitude.is_some(), b'0' + method, b'0');

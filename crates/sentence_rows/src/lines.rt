@@ -64,7 +64,7 @@ fn write_sentence(talker: [u8; 2], formatter: [u8; 3], fields: &[Field], text: &
 {
     let mut body = ArrayVec::new();
     append_body(fields, &mut body);
-    let _ = write(talker, formatter, behind_first(&body), &mut text.bytes);
+    let _fits = write(talker, formatter, behind_first(&body), &mut text.bytes);
 }
 
 /// Adds the sentence of the fields.

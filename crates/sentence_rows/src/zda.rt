@@ -96,7 +96,8 @@ pub(crate) fn zda(talker: [u8; 2], day: Option<i64>, time: Option<i64>, out: &mu
     requires room { length out.old.items < 2 }
     requires talker { IsTrue (list_all is_capital talker) }
     requires day { Admits date_range day }
-    ensures { text.Dated day (λ d. (lines_of out.new ≡ lines_of out.old ++ sentence_by talker (codes "ZDA") (text.zda time d) ∷ []) × IsReadBack talker (codes "ZDA") (text.zda time d)) }
+    ensures { text.Dated day (λ d. (lines_of out.new ≡ lines_of out.old ++ sentence_by talker (codes "ZDA") (text.zda time d) ∷ []) ×
+        IsReadBack talker (codes "ZDA") (text.zda time d)) }
 {
     match day {
         Some(day) => append_date(talker, time, civil_date(day), out),

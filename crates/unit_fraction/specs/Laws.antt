@@ -1,8 +1,9 @@
 -- What is promised of a value that is written in another unit and read back.
-use Rattle.std.specs.Prelude.{◌≡◌, ℕ, ◌*◌, ◌^◌, ◌<◌, ◌≤◌, ℤ, pos, ◌*ℤ◌, Bool}
+use Rattle.std.specs.Prelude.{◌≡◌, ℕ, ◌*◌, ◌^◌, ◌<◌, ◌≤◌, ℤ, pos, ◌*ℤ◌, Bool, Ok}
 use Rattle.unit_fraction.specs.declared.decimal.Decimal.{Decimal}
 use Rattle.unit_fraction.specs.Round.{round, signed}
-use Rattle.unit_fraction.specs.Text.{shows_minus}
+use Rattle.unit_fraction.specs.Reading.{read}
+use Rattle.unit_fraction.specs.Text.{decimal_text, shows_minus}
 
 -- by p / q, which is at least one, and back by its inverse r / s
 abbrev pub IsStable : Type 0
@@ -17,3 +18,8 @@ IsStableDecimal = (num den r s places digits : ℕ) (negative : Bool) → 0 < de
 -- a decimal as it was written: zero has no minus
 abbrev pub written : Bool → ℕ → ℕ → Decimal
 written negative digits places = record { negative = shows_minus negative digits; digits = digits; places = places }
+
+-- at most twelve digits that are written are read: the same digits and places, and the sign that was shown
+abbrev pub WrittenIsRead : Type 0
+WrittenIsRead = (negative : Bool) (digits places : ℕ) → digits < 10 ^ 12 → places < 12
+    → read (decimal_text negative digits places) ≡ Ok (written negative digits places)

@@ -1,8 +1,5 @@
 //! What is promised of a value that is written in another unit and read back.
-ghost use Rattle.std.specs.Prelude.{◌≡◌, ℕ, ℤ, Bool, ◌<◌, ◌^◌, Ok};
-ghost use Rattle.unit_fraction.specs.Laws.{IsStable, IsStableDecimal, written};
-ghost use Rattle.unit_fraction.specs.Text.{decimal_text};
-ghost use Rattle.unit_fraction.specs.Reading.{read};
+ghost use Rattle.unit_fraction.specs.Laws.{IsStable, IsStableDecimal, WrittenIsRead};
 
 /// A whole number that is converted by a fraction of at least one, and back by its inverse, is the same again.
 ///
@@ -16,5 +13,5 @@ pub fn there_and_back()
 /// What `write_decimal` writes in at most twelve digits, `read_decimal` reads: the same digits and places, and the
 /// sign that was shown.
 pub fn written_is_read()
-    ensures { (negative : Bool) (digits places : ℕ) → digits < 10 ^ 12 → places < 12 → read (decimal_text negative digits places) ≡ Ok (written negative digits places) }
+    ensures { WrittenIsRead }
 {}
