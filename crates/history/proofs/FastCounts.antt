@@ -9,7 +9,7 @@ use Rattle.slot_views.specs.Slots.{SlotMap}
 use Rattle.runs.specs.Runs.{open_at}
 use Rattle.fast_packet.specs.declared.key.FastKey.{FastKey}
 use Rattle.fast_packet.specs.FastRuns.{FastPiece, fast_rules}
-use Rattle.pgn_profile.specs.Profiled.{kind_of}
+use Rattle.pgn_profile.specs.declared.kinds.Kind.{Kind}
 use Rattle.history.specs.Known.{Known, since_of}
 use Rattle.history.specs.Traces.{Note, fast_trace, fast_trace_since}
 use Rattle.history.specs.Opens.{placed, is_fast, same_fast, before_fast, fast_keys, fast_open}
@@ -18,13 +18,13 @@ use Rattle.history.proofs.KeySteps.{eqb-sym, other_piece}
 use Rattle.history.proofs.Counts.{all_placed, any_placed, distinct_placed, Held, counted, room}
 
 -- each key that came has a PGN of fast packets
-pub fast_all : (notes : List Note) → AllByRecursion (λ key. is_fast (kind_of key.pgn) ≡ true) (fast_keys notes)
-fast_all [] = tt
-fast_all (n ∷ notes) = by (is_fast (kind_of n.parts.pgn)) refl (fast_all notes)
+pub fast_all : (kinds : ℕ → Kind) (notes : List Note) → AllByRecursion (λ key. is_fast (kinds key.pgn) ≡ true) (fast_keys kinds notes)
+fast_all kinds [] = tt
+fast_all kinds (n ∷ notes) = by (is_fast (kinds n.parts.pgn)) refl (fast_all kinds notes)
   where
-    by : (b : Bool) → is_fast (kind_of n.parts.pgn) ≡ b → AllByRecursion (λ key. is_fast (kind_of key.pgn) ≡ true) (fast_keys notes)
-        → AllByRecursion (λ key. is_fast (kind_of key.pgn) ≡ true) (if b then placed same_fast before_fast (record { source = n.parts.source; pgn = n.parts.pgn }) (fast_keys notes) else fast_keys notes)
-    by true e rest = all_placed (λ key. is_fast (kind_of key.pgn) ≡ true) same_fast before_fast (record { source = n.parts.source; pgn = n.parts.pgn }) (fast_keys notes) e rest
+    by : (b : Bool) → is_fast (kinds n.parts.pgn) ≡ b → AllByRecursion (λ key. is_fast (kinds key.pgn) ≡ true) (fast_keys kinds notes)
+        → AllByRecursion (λ key. is_fast (kinds key.pgn) ≡ true) (if b then placed same_fast before_fast (record { source = n.parts.source; pgn = n.parts.pgn }) (fast_keys kinds notes) else fast_keys kinds notes)
+    by true e rest = all_placed (λ key. is_fast (kinds key.pgn) ≡ true) same_fast before_fast (record { source = n.parts.source; pgn = n.parts.pgn }) (fast_keys kinds notes) e rest
     by false e rest = rest
 
 -- a key that didn't come has no frames
@@ -41,18 +41,18 @@ same_is key one e =
     made : ℕ → ℕ → FastKey
     made source pgn = record { source = source; pgn = pgn }
 
-pub no_frames : (key : FastKey) (since : Option ℕ) (notes : List Note) → is_fast (kind_of key.pgn) ≡ true → list_any (same_fast key) (fast_keys notes) ≡ false
+pub no_frames : (kinds : ℕ → Kind) (key : FastKey) (since : Option ℕ) (notes : List Note) → is_fast (kinds key.pgn) ≡ true → list_any (same_fast key) (fast_keys kinds notes) ≡ false
     → fast_trace_since since key.source key.pgn notes ≡ []
-no_frames key None notes fast none = refl
-no_frames key (Some since) [] fast none = refl
-no_frames key (Some since) (n ∷ notes) fast none = by (is_fast (kind_of n.parts.pgn)) refl none (λ absent. no_frames key (Some since) notes fast absent)
+no_frames kinds key None notes fast none = refl
+no_frames kinds key (Some since) [] fast none = refl
+no_frames kinds key (Some since) (n ∷ notes) fast none = by (is_fast (kinds n.parts.pgn)) refl none (λ absent. no_frames kinds key (Some since) notes fast absent)
   where
     other : ((n.parts.source == key.source) && (n.parts.pgn == key.pgn)) ≡ false → fast_trace_since (Some since) key.source key.pgn notes ≡ [] → fast_trace_since (Some since) key.source key.pgn (n ∷ notes) ≡ []
     other apart rest = other_piece (Some since) key.source key.pgn n notes apart ∙ rest
 
-    other_kind : is_fast (kind_of n.parts.pgn) ≡ false → (n.parts.pgn == key.pgn) ≡ false
+    other_kind : is_fast (kinds n.parts.pgn) ≡ false → (n.parts.pgn == key.pgn) ≡ false
     other_kind e = elim (cases_Bool (n.parts.pgn == key.pgn)) [
-      | inl same ↦ let is : is_fast (kind_of n.parts.pgn) ≡ true = rw (eqb-true n.parts.pgn key.pgn same) fast in cc
+      | inl same ↦ let is : is_fast (kinds n.parts.pgn) ≡ true = rw (eqb-true n.parts.pgn key.pgn same) fast in cc
       | inr apart ↦ apart
     ]
 
@@ -60,37 +60,37 @@ no_frames key (Some since) (n ∷ notes) fast none = by (is_fast (kind_of n.part
     and_no true = refl
     and_no false = refl
 
-    by : (b : Bool) → is_fast (kind_of n.parts.pgn) ≡ b
-        → list_any (same_fast key) (if b then placed same_fast before_fast (record { source = n.parts.source; pgn = n.parts.pgn }) (fast_keys notes) else fast_keys notes) ≡ false
-        → (list_any (same_fast key) (fast_keys notes) ≡ false → fast_trace_since (Some since) key.source key.pgn notes ≡ [])
+    by : (b : Bool) → is_fast (kinds n.parts.pgn) ≡ b
+        → list_any (same_fast key) (if b then placed same_fast before_fast (record { source = n.parts.source; pgn = n.parts.pgn }) (fast_keys kinds notes) else fast_keys kinds notes) ≡ false
+        → (list_any (same_fast key) (fast_keys kinds notes) ≡ false → fast_trace_since (Some since) key.source key.pgn notes ≡ [])
         → fast_trace_since (Some since) key.source key.pgn (n ∷ notes) ≡ []
     by true e absent rest =
-        let parts = any_placed same_fast before_fast same_is key (record { source = n.parts.source; pgn = n.parts.pgn }) (fast_keys notes) absent in
+        let parts = any_placed same_fast before_fast same_is key (record { source = n.parts.source; pgn = n.parts.pgn }) (fast_keys kinds notes) absent in
         other (sym (same_fast_as key (record { source = n.parts.source; pgn = n.parts.pgn })) ∙ parts.0) (rest parts.1)
     by false e absent rest = other (rw (other_kind e) (and_no (n.parts.source == key.source))) (rest absent)
 
-module _ (cmp : FastKey → FastKey → Ordering) (k : Known) (notes : List Note) (m : ℕ) (slots : SlotMap FastKey) (h : HoldsFast cmp k notes m slots) where
-  distinct_keys : (ns : List Note) → IsDistinct (eq_by_cmp cmp) (fast_keys ns)
+module _ (kinds : ℕ → Kind) (cmp : FastKey → FastKey → Ordering) (k : Known) (notes : List Note) (m : ℕ) (slots : SlotMap FastKey) (h : HoldsFast kinds cmp k notes m slots) where
+  distinct_keys : (ns : List Note) → IsDistinct (eq_by_cmp cmp) (fast_keys kinds ns)
   unfolding IsDistinct
   distinct_keys [] = tt
-  distinct_keys (n ∷ ns) = by (is_fast (kind_of n.parts.pgn)) (distinct_keys ns)
+  distinct_keys (n ∷ ns) = by (is_fast (kinds n.parts.pgn)) (distinct_keys ns)
     where
-      by : (b : Bool) → IsDistinct (eq_by_cmp cmp) (fast_keys ns)
-          → IsDistinct (eq_by_cmp cmp) (if b then placed same_fast before_fast (record { source = n.parts.source; pgn = n.parts.pgn }) (fast_keys ns) else fast_keys ns)
-      by true rest = distinct_placed h.order same_fast before_fast h.tells (record { source = n.parts.source; pgn = n.parts.pgn }) (fast_keys ns) rest
+      by : (b : Bool) → IsDistinct (eq_by_cmp cmp) (fast_keys kinds ns)
+          → IsDistinct (eq_by_cmp cmp) (if b then placed same_fast before_fast (record { source = n.parts.source; pgn = n.parts.pgn }) (fast_keys kinds ns) else fast_keys kinds ns)
+      by true rest = distinct_placed h.order same_fast before_fast h.tells (record { source = n.parts.source; pgn = n.parts.pgn }) (fast_keys kinds ns) rest
       by false rest = rest
 
-  among : (key : FastKey) → is_fast (kind_of key.pgn) ≡ true → is_some (fast_open k notes key m) ≡ true → list_any (same_fast key) (fast_keys notes) ≡ true
-  among key fast is_open = by (list_any (same_fast key) (fast_keys notes)) refl
+  among : (key : FastKey) → is_fast (kinds key.pgn) ≡ true → is_some (fast_open k notes key m) ≡ true → list_any (same_fast key) (fast_keys kinds notes) ≡ true
+  among key fast is_open = by (list_any (same_fast key) (fast_keys kinds notes)) refl
     where
-      by : (b : Bool) → list_any (same_fast key) (fast_keys notes) ≡ b → list_any (same_fast key) (fast_keys notes) ≡ true
+      by : (b : Bool) → list_any (same_fast key) (fast_keys kinds notes) ≡ b → list_any (same_fast key) (fast_keys kinds notes) ≡ true
       by true e = e
       by false e =
-          let nothing : fast_trace k key.source key.pgn notes ≡ [] = no_frames key (since_of k key.source) notes fast e in
+          let nothing : fast_trace k key.source key.pgn notes ≡ [] = no_frames kinds key (since_of k key.source) notes fast e in
           let closed : is_some (fast_open k notes key m) ≡ false = ap (λ (t : List FastPiece). is_some (open_at fast_rules t m)) nothing in
           absurd (false≢true (sym closed ∙ is_open))
 
-  held : Held cmp same_fast before_fast (fast_keys notes) (λ key. is_fast (kind_of key.pgn)) (λ key. is_some (fast_open k notes key m)) slots
+  held : Held cmp same_fast before_fast (fast_keys kinds notes) (λ key. is_fast (kinds key.pgn)) (λ key. is_some (fast_open k notes key m)) slots
   held = record {
     order = h.order;
     tells = h.tells;
@@ -100,11 +100,11 @@ module _ (cmp : FastKey → FastKey → Ordering) (k : Known) (notes : List Note
     within = h.within;
     holds = h.holds;
     distinct = distinct_keys notes;
-    all = fast_all notes;
+    all = fast_all kinds notes;
     among = among;
   }
 
-  pub counts : CountsFast cmp k notes m slots
+  pub counts : CountsFast kinds cmp k notes m slots
   unfolding held
   counts = record { count = counted held; room = room held }
 

@@ -2,7 +2,6 @@
 use Rattle.std.proofs.Common.{◌≡◌, ℕ, suc, ◌<◌, ◌≤◌, Bool, true, false, ◌&&◌, List, [], ◌∷◌, ◌⊎◌, inl, inr, length, refl, sym, ap, subst, ◌∙◌, ◌==◌, arith}
 use Rattle.std.specs.Prelude.{Option, Some, None, find, if◌then◌else◌, option_map}
 use Rattle.std.specs.List.{AllByRecursion}
-use Rattle.pgn_profile.specs.Profiled.{messages}
 use Rattle.history.specs.Traces.{Note}
 use Rattle.std.proofs.lemmas.Bool.{and_parts, eqb-true, lt-leb, le-leb}
 use Rattle.n2k_id.specs.Frame.{BusFrame}
@@ -11,12 +10,12 @@ use Rattle.readings.specs.declared.rows.Row.{Row}
 use Rattle.claim_table.specs.declared.answer.Holder.{Holder}
 use Rattle.claim_table.specs.Claims.{holder_at, claim}
 use Rattle.history.specs.Entries.{History, frame, datagram, tick, command}
-use Rattle.history.specs.Settings.{Settings}
+use Rattle.history.specs.Receiver.{Receiver}
 use Rattle.history.specs.Known.{Known, known, since_of, is_claim, claim_by, followed_by}
 use Rattle.history.specs.Messages.{Message, Carried, done, messages_of, said_by, with_message, completed_by}
 use Rattle.history.specs.Opens.{note_of, notes_of}
 use Rattle.history.specs.Choice.{is_row, reading_of, is_of, is_fresh_since, still_counts}
-use Rattle.history.specs.AddressLaws.{AreSettings}
+use Rattle.history.specs.AddressLaws.{IsReceiver}
 use Rattle.history.specs.TraceLaws.{is_lost}
 use Rattle.history.specs.FreshLaws.{last_since, last_of, tells, FreshByLast, MessagesAreKept, ClaimsForget, CommandsForgetNone, ReadingsAreKept}
 use Rattle.history.proofs.Addresses.{addresses_are_sound}
@@ -45,11 +44,11 @@ added n m source None what older h = later n older h
 added n m source (Some x) None older h = later n older h
 added n m source (Some x) (Some w) older h = (omega arith, later n older h)
 
-below : (c : Settings) (s : ℕ) (h : History) → AreBelow (length h) (messages_of c s h)
+below : (c : Receiver) (s : ℕ) (h : History) → AreBelow (length h) (messages_of c s h)
 below c s [] = tt
 below c s (frame m f ∷ h) =
     added (length h) m (parts_of f.id).source (holder_at (known c s h).claims.holders (parts_of f.id).source)
-    (completed_by (known c s h) (note_of c (length h) (known c s h) (notes_of c s h) m f) (notes_of c s h)) (messages_of c s h) (below c s h)
+    (completed_by c.kinds (known c s h) (note_of c (length h) (known c s h) (notes_of c s h) m f) (notes_of c s h)) (messages_of c s h) (below c s h)
 below c s (datagram m bytes ∷ h) = later (length h) (messages_of c s h) (below c s h)
 below c s (tick m ∷ h) = later (length h) (messages_of c s h) (below c s h)
 below c s (command m source address ∷ h) = later (length h) (messages_of c s h) (below c s h)
@@ -105,7 +104,7 @@ said_held k n m from source (Some x) None e = tt
 said_held k n m from source (Some x) (Some w) e =
     λ same. (x.since, ap (λ (a : ℕ). since_of k a) (sym (eqb-true from source same)) ∙ ap (option_map (λ (y : Holder). y.since)) e)
 
-dated : (c : Settings) (s : ℕ) (h : History) → AreSettings c → (source : ℕ) (x : Option Holder) → holder_at (known c s h).claims.holders source ≡ x
+dated : (c : Receiver) (s : ℕ) (h : History) → IsReceiver c → (source : ℕ) (x : Option Holder) → holder_at (known c s h).claims.holders source ≡ x
     → IsDated (option_map (λ (y : Holder). y.since) x) (length h)
 dated c s h are source None e = tt
 dated c s h are source (Some x) e = dated_at (length h) (known c s h).claims.holders source x (addresses_are_sound c s h are).dated e
@@ -115,24 +114,23 @@ messages_are_kept c s h m f row source are other =
     rw (known_same c s h m f other)
     (kept row source (length h) (messages_of c s h) (since_of (known c s h) source) (done c s h (frame m f))
     (dated c s h are source (holder_at (known c s h).claims.holders source) refl)
-    (said_index (length h) m (parts_of f.id).source (holder_at (known c s h).claims.holders (parts_of f.id).source) (completed_by (known c s h) (note_of c (length h) (known c s h) (notes_of c s h) m f) (notes_of c s h)))
-    (said_held (known c s h) (length h) m (parts_of f.id).source source (holder_at (known c s h).claims.holders (parts_of f.id).source) (completed_by (known c s h) (note_of c (length h) (known c s h) (notes_of c s h) m f) (notes_of c s h)) refl))
+    (said_index (length h) m (parts_of f.id).source (holder_at (known c s h).claims.holders (parts_of f.id).source) (completed_by c.kinds (known c s h) (note_of c (length h) (known c s h) (notes_of c s h) m f) (notes_of c s h)))
+    (said_held (known c s h) (length h) m (parts_of f.id).source source (holder_at (known c s h).claims.holders (parts_of f.id).source) (completed_by c.kinds (known c s h) (note_of c (length h) (known c s h) (notes_of c s h) m f) (notes_of c s h)) refl))
 
 -- ---- a claim
 
-claim_completes_none : (k : Known) (n : Note) (older : List Note) → n.parts.pgn ≡ 60928 → completed_by k n older ≡ None
-unfolding messages
-claim_completes_none k n older e = rw e refl
+claim_completes_none : (c : Receiver) → IsReceiver c → (k : Known) (n : Note) (older : List Note) → n.parts.pgn ≡ 60928 → completed_by c.kinds k n older ≡ None
+claim_completes_none c are k n older e = rw (e, are.claims) refl
 
 says_none : (n m from : ℕ) (x : Option Holder) → said_by n m from x None ≡ None
 says_none n m from None = refl
 says_none n m from (Some x) = refl
 
-pub claim_says_none : (c : Settings) (s : ℕ) (h : History) (m : ℕ) (f : BusFrame) → is_claim f ≡ true → messages_of c s (frame m f ∷ h) ≡ messages_of c s h
-claim_says_none c s h m f claims =
+pub claim_says_none : (c : Receiver) (s : ℕ) (h : History) (m : ℕ) (f : BusFrame) → IsReceiver c → is_claim f ≡ true → messages_of c s (frame m f ∷ h) ≡ messages_of c s h
+claim_says_none c s h m f are claims =
     ap (λ (x : Option Message). with_message x (messages_of c s h))
     (ap (said_by (length h) m (parts_of f.id).source (holder_at (known c s h).claims.holders (parts_of f.id).source))
-    (claim_completes_none (known c s h) (note_of c (length h) (known c s h) (notes_of c s h) m f) (notes_of c s h) (eqb-true (parts_of f.id).pgn 60928 (and_parts _ _ claims).0))
+    (claim_completes_none c are (known c s h) (note_of c (length h) (known c s h) (notes_of c s h) m f) (notes_of c s h) (eqb-true (parts_of f.id).pgn 60928 (and_parts _ _ claims).0))
     ∙ says_none (length h) m (parts_of f.id).source (holder_at (known c s h).claims.holders (parts_of f.id).source))
 
 module _ (row : Row) (source i : ℕ) (older : List Message) (below_i : AreBelow i older) where
@@ -152,7 +150,7 @@ module _ (row : Row) (source i : ℕ) (older : List Message) (below_i : AreBelow
 pub claims_forget : ClaimsForget
 claims_forget c s h m f row source are claims =
     rw (known_after_claim c s h m f claims)
-    (ap (λ (x : List Message). last_of (followed_by (length h) (known c s h) (claim (known c s h).claims (claim_by (length h) m f)).after) row source x) (claim_says_none c s h m f claims)
+    (ap (λ (x : List Message). last_of (followed_by (length h) (known c s h) (claim (known c s h).claims (claim_by (length h) m f)).after) row source x) (claim_says_none c s h m f are claims)
     ∙ by_move row source (length h) (messages_of c s h) (below c s h) (is_lost (claim (known c s h).claims (claim_by (length h) m f)).step source) (since_of (known c s h) source)
     (since_of (followed_by (length h) (known c s h) (claim (known c s h).claims (claim_by (length h) m f)).after) source) (moved_since c s h m f are source))
 

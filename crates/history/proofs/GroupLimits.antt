@@ -13,6 +13,7 @@ use Rattle.datagram450.specs.Item.{Item, line, bad}
 use Rattle.history.specs.Entries.{Entry, History, IsHistory, now, frame, datagram, tick}
 use Rattle.history.specs.Entries as entry
 use Rattle.history.specs.Settings.{Settings}
+use Rattle.history.specs.Receiver.{receiver_of}
 use Rattle.history.specs.Known.{Known, known}
 use Rattle.history.specs.Heard.{Came, Taken, came_at, with_items, same_text, same_group, before_group, several, group_line, key_with, group_keys, group_open, open_groups, is_group_admitted, is_taken, is_line_admitted, taken_after, with_item, lines_of}
 use Rattle.history.specs.FromNet.{items_in}
@@ -139,7 +140,7 @@ module _ (c : Settings) (s : ℕ) where
   limited [] is n le = omega arith
   limited (frame m f ∷ h) is n le = limited h is.2 n (omega (arith, is.1, le))
   limited (datagram m bytes ∷ h) is n le =
-      all_within c m (heard c s h) (is_ready (known c s h).claims m) (items_in (datagrams.read bytes))
+      all_within c m (heard c s h) (is_ready (known (receiver_of c) s h).claims m) (items_in (datagrams.read bytes))
       (λ i after. limited h is.2 i (omega (arith, is.1, after))) n le
   limited (tick m ∷ h) is n le = limited h is.2 n (omega (arith, is.1, le))
   limited (entry.command m source address ∷ h) is n le = limited h is.2 n (omega (arith, is.1, le))

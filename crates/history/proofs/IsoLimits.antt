@@ -12,11 +12,11 @@ use Rattle.iso_transport.specs.Audience.{key_of}
 use Rattle.iso_transport.specs.IsoRuns.{IsoPiece, iso_rules}
 use Rattle.history.specs.Entries.{Entry, History, IsHistory, now, frame, datagram, tick}
 use Rattle.history.specs.Entries as entry
-use Rattle.history.specs.Settings.{Settings}
+use Rattle.history.specs.Receiver.{Receiver}
 use Rattle.history.specs.Known.{Known, known, is_claim, since_of}
 use Rattle.history.specs.Traces.{Note, iso_piece, iso_trace, is_transport, is_bearing}
 use Rattle.history.specs.Opens.{same_iso, iso_keys, iso_open, open_iso_keys, notes_of}
-use Rattle.history.specs.AddressLaws.{AreSettings}
+use Rattle.history.specs.AddressLaws.{IsReceiver}
 use Rattle.history.specs.KeyLaws.{is_meant, concerns, the_note}
 use Rattle.history.specs.LimitLaws.{IsoWithinLimit}
 use Rattle.history.proofs.Addresses.{addresses_are_sound}
@@ -61,7 +61,7 @@ transports k n key e =
     (and_parts (n.parts.source == key.source) (is_meant k n key.addressed && is_bearing key.addressed n)
     (and_parts (is_some (since_of k key.source)) ((n.parts.source == key.source) && (is_meant k n key.addressed && is_bearing key.addressed n)) e).1).1).1).0
 
-module _ (c : Settings) (s : ℕ) (are : AreSettings c) where
+module _ (c : Receiver) (s : ℕ) (are : IsReceiver c) where
   sound : (h : History) → IsSound (known c s h).claims
   sound h = (addresses_are_sound c s h are).sound
 

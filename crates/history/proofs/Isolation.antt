@@ -10,7 +10,6 @@ use Rattle.claim_table.specs.declared.answer.ClaimStep.{ClaimStep}
 use Rattle.claim_table.specs.Claims.{Claims, Claim, Outcome, claim, command, holder_at, is_ready, started}
 use Rattle.claim_table.specs.Presets.{opened, repeats}
 use Rattle.claim_table.specs.declared.preset.Preset.{Preset}
-use Rattle.pgn_profile.specs.Profiled.{kind_of}
 use Rattle.pgn_profile.specs.declared.kinds.Kind.{Kind}
 use Rattle.pgn_profile.specs.declared.kinds.Kind.TheVariants.{Single, Fast, Outside}
 use Rattle.runs.specs.Runs.{run_of, open_at}
@@ -21,20 +20,20 @@ use Rattle.iso_transport.specs.IsoRuns.{IsoPiece, iso_rules}
 use Rattle.iso_transport.specs.declared.key.IsoKey.{IsoKey}
 use Rattle.history.specs.Entries.{Entry, History, frame, datagram, tick}
 use Rattle.history.specs.Entries as entry
-use Rattle.history.specs.Settings.{Settings}
+use Rattle.history.specs.Receiver.{Receiver}
 use Rattle.history.specs.Known.{Known, known, is_own, is_claim, claim_by, since_of}
 use Rattle.fast_packet.specs.FastFrames.{is_opener}
 use Rattle.iso_transport.specs.IsoRuns.{is_opener as iso_opener}
 use Rattle.history.specs.Traces.{Note, fast_piece, fast_trace, iso_piece, iso_trace, is_transport, is_bearing}
 use Rattle.history.specs.Opens.{is_fast, notes_of, fast_open, iso_open}
 use Rattle.history.specs.Messages.{Message, Carried, messages_of, said_by, with_message, completed_by, by_kind, by_session, fast_carried, iso_carried}
-use Rattle.history.specs.AddressLaws.{AreSettings}
+use Rattle.history.specs.AddressLaws.{IsReceiver}
 use Rattle.history.specs.TraceLaws.{is_lost, same_own}
 use Rattle.history.specs.KeyLaws.{is_meant, concerns, the_note}
 use Rattle.history.specs.IsolationLaws.{keeps, narrowed, plain, from, opens, FindsRoom, NoneRefused, Isolation, IsolationOfTwo}
 use Rattle.iso_transport.specs.Connection.{control_at}
 use Rattle.history.specs.IsolationLaws.{Plain}
-use Rattle.history.proofs.KeySteps.{known_same, claim_kind}
+use Rattle.history.proofs.KeySteps.{known_same}
 use Rattle.history.proofs.SessionSteps.{IsLate, with_piece, late, trace_is, session_is, completed_iso}
 use Rattle.history.proofs.SessionSteps.{steps as iso_steps}
 use Rattle.history.proofs.KeySteps.{steps as fast_steps}
@@ -48,24 +47,25 @@ use Rattle.history.proofs.Normal.{run_of_map, open_at_map}
 use Rattle.history.proofs.Unseen.{fast_norm, iso_norm, fast_unseen, iso_unseen, fast_carries, iso_carries}
 
 -- what of a history of one gateway is as in one of another
-pub record Alike (c d : Settings) (s a : ℕ) (h g : History) : Type 0 where
+pub record Alike (c d : Receiver) (s a : ℕ) (h g : History) : Type 0 where
+  pub kinds : (p : ℕ) → d.kinds p ≡ c.kinds p
   pub claims : erased (known c s h).claims ≡ erased (known d s g).claims
-  pub fast : (p : ℕ) → kind_of p ≡ Fast → map fast_norm (fast_trace (known c s h) a p (notes_of c s h)) ≡ map fast_norm (fast_trace (known d s g) a p (notes_of d s g))
+  pub fast : (p : ℕ) → c.kinds p ≡ Fast → map fast_norm (fast_trace (known c s h) a p (notes_of c s h)) ≡ map fast_norm (fast_trace (known d s g) a p (notes_of d s g))
   pub iso : (addressed : Bool) → map iso_norm (iso_trace (known c s h) addressed a (notes_of c s h)) ≡ map iso_norm (iso_trace (known d s g) addressed a (notes_of d s g))
   pub told : from a (messages_of c s h) ≡ from a (messages_of d s g)
 
 -- ---- a claim
 
-claim_is_neither : (n : Note) → n.parts.pgn ≡ 60928 → (is_fast (kind_of n.parts.pgn) ≡ false) × (is_transport n.parts ≡ false)
-claim_is_neither n e = (rw e (ap is_fast claim_kind), rw e refl)
+claim_is_neither : (c : Receiver) → IsReceiver c → (n : Note) → n.parts.pgn ≡ 60928 → (is_fast (c.kinds n.parts.pgn) ≡ false) × (is_transport n.parts ≡ false)
+claim_is_neither c are n e = (rw e (ap is_fast are.claims), rw e refl)
 
-claim_is_no_kind : (a : ℕ) (n : Note) → n.parts.pgn ≡ 60928 → IsOwnKind a n
-claim_is_no_kind a n e = λ kind. let neither = claim_is_neither n e in absurd (false≢true (sym (rw (neither.0, neither.1) refl) ∙ kind))
+claim_is_no_kind : (c : Receiver) → IsReceiver c → (a : ℕ) (n : Note) → n.parts.pgn ≡ 60928 → IsOwnKind c.kinds a n
+claim_is_no_kind c are a n e = λ kind. let neither = claim_is_neither c are n e in absurd (false≢true (sym (rw (neither.0, neither.1) refl) ∙ kind))
 
-claim_is_no_opener : (a : ℕ) (k : Known) (n : Note) → n.parts.pgn ≡ 60928 → FindsRoom a k n
-claim_is_no_opener a k n e = λ source opening.
-    let neither = claim_is_neither n e in
-    absurd (false≢true (sym (closed (is_some (since_of k n.parts.source)) (is_fast (kind_of n.parts.pgn)) (is_opener n.bytes) (n.parts.source == n.parts.source) (is_meant k n (key_of n.parts).addressed) (is_transport n.parts)
+claim_is_no_opener : (c : Receiver) → IsReceiver c → (a : ℕ) (k : Known) (n : Note) → n.parts.pgn ≡ 60928 → FindsRoom c.kinds a k n
+claim_is_no_opener c are a k n e = λ source opening.
+    let neither = claim_is_neither c are n e in
+    absurd (false≢true (sym (closed (is_some (since_of k n.parts.source)) (is_fast (c.kinds n.parts.pgn)) (is_opener n.bytes) (n.parts.source == n.parts.source) (is_meant k n (key_of n.parts).addressed) (is_transport n.parts)
     (bears (key_of n.parts).addressed (is_data n.parts) n.bytes && (is_data n.parts || (not (control_at n.bytes == 16) || n.ready))) (iso_opener (key_of n.parts).addressed (iso_piece n)) neither.0 neither.1) ∙ opening))
   where
     closed : (held fast first own meant transport bearing opener : Bool) → fast ≡ false → transport ≡ false
@@ -91,7 +91,7 @@ cut_same f b d t u e same = rw e (by d)
     by true = refl
     by false = same
 
-module _ (c d : Settings) (s a : ℕ) (h g : History) (m : ℕ) (f : BusFrame) (are : AreSettings c) (too : AreSettings d) (alike : Alike c d s a h g) (claims : is_claim f ≡ true) where
+module _ (c d : Receiver) (s a : ℕ) (h g : History) (m : ℕ) (f : BusFrame) (are : IsReceiver c) (too : IsReceiver d) (alike : Alike c d s a h g) (claims : is_claim f ≡ true) where
   both : (erased (claim (known c s h).claims (claim_by (length h) m f)).after ≡ erased (claim (known d s g).claims (claim_by (length g) m f)).after)
       × ((claim (known c s h).claims (claim_by (length h) m f)).step ≡ (claim (known d s g).claims (claim_by (length g) m f)).step)
   both = by_erased (known c s h).claims (known d s g).claims (claim_by (length h) m f) (claim_by (length g) m f) alike.claims refl
@@ -122,18 +122,19 @@ module _ (c d : Settings) (s a : ℕ) (h g : History) (m : ℕ) (f : BusFrame) (
 
   pub claim_alike : Alike c d s a (frame m f ∷ h) (frame m f ∷ g)
   claim_alike = record {
+    kinds = alike.kinds;
     claims = after_claim;
     fast = λ p fast.
-        ap (map fast_norm) ((claims_move_traces c s h m f are claims).fast a p (not_claims_pgn p fast))
+        ap (map fast_norm) ((claims_move_traces c s h m f are claims).fast a p (not_claims_pgn c are p fast))
         ∙ cut_same fast_norm _ _ (fast_trace (known c s h) a p (notes_of c s h)) (fast_trace (known d s g) a p (notes_of d s g)) same_lost (alike.fast p fast)
-        ∙ ap (map fast_norm) (sym ((claims_move_traces d s g m f too claims).fast a p (not_claims_pgn p fast)));
+        ∙ ap (map fast_norm) (sym ((claims_move_traces d s g m f too claims).fast a p (not_claims_pgn d too p (alike.kinds p ∙ fast))));
     iso = iso_after;
-    told = ap (from a) (claim_says_none c s h m f claims) ∙ alike.told ∙ sym (ap (from a) (claim_says_none d s g m f claims));
+    told = ap (from a) (claim_says_none c s h m f are claims) ∙ alike.told ∙ sym (ap (from a) (claim_says_none d s g m f too claims));
   }
 
 -- ---- a command
 
-module _ (c d : Settings) (s a : ℕ) (h g : History) (m source address : ℕ) (alike : Alike c d s a h g) where
+module _ (c d : Receiver) (s a : ℕ) (h g : History) (m source address : ℕ) (are : IsReceiver c) (too : IsReceiver d) (alike : Alike c d s a h g) where
   commanded : erased (known c s (entry.command m source address ∷ h)).claims ≡ erased (known d s (entry.command m source address ∷ g)).claims
   commanded =
       sym (command_erased (known c s h).claims address m) ∙ ap (λ (x : Claims). command x address m) alike.claims ∙ command_erased (known d s g).claims address m
@@ -154,10 +155,11 @@ module _ (c d : Settings) (s a : ℕ) (h g : History) (m source address : ℕ) (
 
   pub command_alike : Alike c d s a (entry.command m source address ∷ h) (entry.command m source address ∷ g)
   command_alike = record {
+    kinds = alike.kinds;
     claims = commanded;
     fast = λ p fast.
-        ap (map fast_norm) ((commands_move_traces c s h m source address).fast a p (not_claims_pgn p fast)) ∙ alike.fast p fast
-        ∙ ap (map fast_norm) (sym ((commands_move_traces d s g m source address).fast a p (not_claims_pgn p fast)));
+        ap (map fast_norm) ((commands_move_traces c s h m source address).fast a p (not_claims_pgn c are p fast)) ∙ alike.fast p fast
+        ∙ ap (map fast_norm) (sym ((commands_move_traces d s g m source address).fast a p (not_claims_pgn d too p (alike.kinds p ∙ fast))));
     iso = iso_commanded;
     told = alike.told;
   }
@@ -206,10 +208,10 @@ said_same a i j m src (Some x) (Some y) v (Some w) t u e f same = rw f (by (src 
     by true = ap (λ (z : ℕ). made z ∷ from a t) names ∙ ap (λ (z : List Plain). made y.name.0 ∷ z) same
     by false = same
 
-not_session : (k : Known) (n : Note) (older : List Note) → is_transport n.parts ≡ false → completed_by k n older ≡ by_kind (kind_of n.parts.pgn) k n older
-not_session k n older e = rw e refl
+not_session : (kinds : ℕ → Kind) (k : Known) (n : Note) (older : List Note) → is_transport n.parts ≡ false → completed_by kinds k n older ≡ by_kind (kinds n.parts.pgn) k n older
+not_session kinds k n older e = rw e refl
 
-module _ (c d : Settings) (s a : ℕ) (h g : History) (m : ℕ) (f : BusFrame) (are : AreSettings c) (too : AreSettings d) (alike : Alike c d s a h g) (other : is_claim f ≡ false)
+module _ (c d : Receiver) (s a : ℕ) (h g : History) (m : ℕ) (f : BusFrame) (are : IsReceiver c) (too : IsReceiver d) (alike : Alike c d s a h g) (other : is_claim f ≡ false)
     (source : ((parts_of f.id).source == a) ≡ true) where
   holders_same : bare (holder_at (known c s h).claims.holders a) ≡ bare (holder_at (known d s g).claims.holders a)
   holders_same = sym (bare_at (known c s h).claims.holders a) ∙ ap (λ (x : Claims). holder_at x.holders a) alike.claims ∙ bare_at (known d s g).claims.holders a
@@ -229,7 +231,7 @@ module _ (c d : Settings) (s a : ℕ) (h g : History) (m : ℕ) (f : BusFrame) (
   late_g : IsLate (since_of (known d s g) a) (length g)
   late_g = late d s g m f too a (holder_at (known d s g).claims.holders a) refl
 
-  fast_own : (p : ℕ) → kind_of p ≡ Fast
+  fast_own : (p : ℕ) → c.kinds p ≡ Fast
       → map fast_norm (fast_trace (known c s h) a p (the_note c s h m f ∷ notes_of c s h)) ≡ map fast_norm (fast_trace (known d s g) a p (the_note d s g m f ∷ notes_of d s g))
   fast_own p fast =
       ap (map fast_norm) (fast_head (known c s h) a p (the_note c s h m f) (notes_of c s h) source late_h)
@@ -260,11 +262,11 @@ module _ (c d : Settings) (s a : ℕ) (h g : History) (m : ℕ) (f : BusFrame) (
       ∙ ap (map iso_norm) (sym (trace_is d s g m f too addressed a))
 
   -- what it completes
-  module _ (room_h : Roomy c s a h) (room_g : Roomy d s a g) (finds_h : FindsRoom a (known c s h) (the_note c s h m f)) (finds_g : FindsRoom a (known d s g) (the_note d s g m f)) where
+  module _ (room_h : Roomy c s a h) (room_g : Roomy d s a g) (finds_h : FindsRoom c.kinds a (known c s h) (the_note c s h m f)) (finds_g : FindsRoom d.kinds a (known d s g) (the_note d s g m f)) where
     from_source : (parts_of f.id).source ≡ a
     from_source = eqb-true (parts_of f.id).source a source
 
-    fast_done : kind_of (parts_of f.id).pgn ≡ Fast
+    fast_done : c.kinds (parts_of f.id).pgn ≡ Fast
         → fast_carried (parts_of f.id).pgn (run_of fast_rules (fast_trace (known c s h) a (parts_of f.id).pgn (the_note c s h m f ∷ notes_of c s h)))
         ≡ fast_carried (parts_of f.id).pgn (run_of fast_rules (fast_trace (known d s g) a (parts_of f.id).pgn (the_note d s g m f ∷ notes_of d s g)))
     fast_done fast =
@@ -273,7 +275,7 @@ module _ (c d : Settings) (s a : ℕ) (h g : History) (m : ℕ) (f : BusFrame) (
         (fast_with c s a are h m f finds_h room_h (parts_of f.id).pgn fast)))
         ∙ ap (λ (t : List FastPiece). fast_carried (parts_of f.id).pgn (run_of fast_rules t)) (fast_own (parts_of f.id).pgn fast)
         ∙ ap (fast_carried (parts_of f.id).pgn) (run_of_map fast_rules fast_norm fast_unseen fast_steps (fast_trace (known d s g) a (parts_of f.id).pgn (the_note d s g m f ∷ notes_of d s g))
-        (fast_with d s a too g m f finds_g room_g (parts_of f.id).pgn fast))
+        (fast_with d s a too g m f finds_g room_g (parts_of f.id).pgn (alike.kinds (parts_of f.id).pgn ∙ fast)))
         ∙ fast_carries (parts_of f.id).pgn (run_of fast_rules (fast_trace (known d s g) a (parts_of f.id).pgn (the_note d s g m f ∷ notes_of d s g)))
 
     iso_done : (addressed : Bool)
@@ -301,34 +303,38 @@ module _ (c d : Settings) (s a : ℕ) (h g : History) (m : ℕ) (f : BusFrame) (
         choose : (b d : Bool) → b ≡ d → {x y : Option Carried} → x ≡ y → (if b then x else None) ≡ (if d then y else None)
         choose b d e {x = x} {y = y} same = rw (e, same) refl
 
-    kind_done : (kind : Kind) → kind_of (parts_of f.id).pgn ≡ kind → by_kind kind (known c s h) (the_note c s h m f) (notes_of c s h) ≡ by_kind kind (known d s g) (the_note d s g m f) (notes_of d s g)
+    kind_done : (kind : Kind) → c.kinds (parts_of f.id).pgn ≡ kind → by_kind kind (known c s h) (the_note c s h m f) (notes_of c s h) ≡ by_kind kind (known d s g) (the_note d s g m f) (notes_of d s g)
     kind_done Single e = refl
     kind_done Fast e =
         subst (λ (x : ℕ). fast_carried (parts_of f.id).pgn (run_of fast_rules (fast_trace (known c s h) x (parts_of f.id).pgn (the_note c s h m f ∷ notes_of c s h)))
         ≡ fast_carried (parts_of f.id).pgn (run_of fast_rules (fast_trace (known d s g) x (parts_of f.id).pgn (the_note d s g m f ∷ notes_of d s g)))) (sym from_source) (fast_done e)
     kind_done Outside e = refl
 
-    completes : completed_by (known c s h) (the_note c s h m f) (notes_of c s h) ≡ completed_by (known d s g) (the_note d s g m f) (notes_of d s g)
+    completes : completed_by c.kinds (known c s h) (the_note c s h m f) (notes_of c s h) ≡ completed_by d.kinds (known d s g) (the_note d s g m f) (notes_of d s g)
     completes = by (is_transport (parts_of f.id)) refl
       where
-        by : (b : Bool) → is_transport (parts_of f.id) ≡ b → completed_by (known c s h) (the_note c s h m f) (notes_of c s h) ≡ completed_by (known d s g) (the_note d s g m f) (notes_of d s g)
-        by true e = completed_iso (known c s h) (the_note c s h m f) (notes_of c s h) e ∙ session_done ∙ sym (completed_iso (known d s g) (the_note d s g m f) (notes_of d s g) e)
-        by false e = not_session (known c s h) (the_note c s h m f) (notes_of c s h) e ∙ kind_done (kind_of (parts_of f.id).pgn) refl ∙ sym (not_session (known d s g) (the_note d s g m f) (notes_of d s g) e)
+        by : (b : Bool) → is_transport (parts_of f.id) ≡ b → completed_by c.kinds (known c s h) (the_note c s h m f) (notes_of c s h) ≡ completed_by d.kinds (known d s g) (the_note d s g m f) (notes_of d s g)
+        by true e = completed_iso c.kinds (known c s h) (the_note c s h m f) (notes_of c s h) e ∙ session_done ∙ sym (completed_iso d.kinds (known d s g) (the_note d s g m f) (notes_of d s g) e)
+        by false e =
+            not_session c.kinds (known c s h) (the_note c s h m f) (notes_of c s h) e ∙ kind_done (c.kinds (parts_of f.id).pgn) refl
+            ∙ ap (λ (kind : Kind). by_kind kind (known d s g) (the_note d s g m f) (notes_of d s g)) (sym (alike.kinds (parts_of f.id).pgn))
+            ∙ sym (not_session d.kinds (known d s g) (the_note d s g m f) (notes_of d s g) e)
 
     pub own_alike : Alike c d s a (frame m f ∷ h) (frame m f ∷ g)
     own_alike = record {
+      kinds = alike.kinds;
       claims = rw (known_same c s h m f other, known_same d s g m f other) alike.claims;
       fast = λ p fast. rw (known_same c s h m f other, known_same d s g m f other) (fast_own p fast);
       iso = λ addressed. rw (known_same c s h m f other, known_same d s g m f other) (iso_own addressed);
       told =
           said_same a (length h) (length g) m (parts_of f.id).source (holder_at (known c s h).claims.holders (parts_of f.id).source) (holder_at (known d s g).claims.holders (parts_of f.id).source)
-          (completed_by (known c s h) (the_note c s h m f) (notes_of c s h)) (completed_by (known d s g) (the_note d s g m f) (notes_of d s g)) (messages_of c s h) (messages_of d s g)
+          (completed_by c.kinds (known c s h) (the_note c s h m f) (notes_of c s h)) (completed_by d.kinds (known d s g) (the_note d s g m f) (notes_of d s g)) (messages_of c s h) (messages_of d s g)
           (subst (λ (x : ℕ). bare (holder_at (known c s h).claims.holders x) ≡ bare (holder_at (known d s g).claims.holders x)) (sym from_source) holders_same) completes alike.told;
     }
 
 -- ---- its openers find room where they found it
-module _ (c : Settings) (s a : ℕ) (h g : History) (m : ℕ) (f : BusFrame) (are : AreSettings c) (alike : Alike c c s a h g) (other : is_claim f ≡ false)
-    (source : ((parts_of f.id).source == a) ≡ true) (room_h : Roomy c s a h) (room_g : Roomy c s a g) (only : AllByRecursion (IsOwnKind a) (notes_of c s g)) where
+module _ (c : Receiver) (s a : ℕ) (h g : History) (m : ℕ) (f : BusFrame) (are : IsReceiver c) (alike : Alike c c s a h g) (other : is_claim f ≡ false)
+    (source : ((parts_of f.id).source == a) ≡ true) (room_h : Roomy c s a h) (room_g : Roomy c s a g) (only : AllByRecursion (IsOwnKind c.kinds a) (notes_of c s g)) where
   some_map : {X Y : Type 0} (f : X → Y) (o : Option X) → is_some (option_map f o) ≡ is_some o
   some_map f None = refl
   some_map f (Some x) = refl
@@ -338,15 +344,15 @@ module _ (c : Settings) (s a : ℕ) (h g : History) (m : ℕ) (f : BusFrame) (ar
   fast_is Fast e = refl
   fast_is Outside e = cc
 
-  fast_open_same : (p : ℕ) → is_fast (kind_of p) ≡ true → is_some (open_at fast_rules (fast_trace (known c s g) a p (notes_of c s g)) m) ≡ is_some (open_at fast_rules (fast_trace (known c s h) a p (notes_of c s h)) m)
+  fast_open_same : (p : ℕ) → is_fast (c.kinds p) ≡ true → is_some (open_at fast_rules (fast_trace (known c s g) a p (notes_of c s g)) m) ≡ is_some (open_at fast_rules (fast_trace (known c s h) a p (notes_of c s h)) m)
   fast_open_same p kind =
       sym (some_map (map fast_norm) (open_at fast_rules (fast_trace (known c s g) a p (notes_of c s g)) m))
-      ∙ ap is_some (sym (open_at_map fast_rules fast_norm fast_unseen fast_steps (fast_trace (known c s g) a p (notes_of c s g)) m (room_g.fast p (fast_is (kind_of p) kind))))
-      ∙ ap (λ (t : List FastPiece). is_some (open_at fast_rules t m)) (sym (alike.fast p (fast_is (kind_of p) kind)))
-      ∙ ap is_some (open_at_map fast_rules fast_norm fast_unseen fast_steps (fast_trace (known c s h) a p (notes_of c s h)) m (room_h.fast p (fast_is (kind_of p) kind)))
+      ∙ ap is_some (sym (open_at_map fast_rules fast_norm fast_unseen fast_steps (fast_trace (known c s g) a p (notes_of c s g)) m (room_g.fast p (fast_is (c.kinds p) kind))))
+      ∙ ap (λ (t : List FastPiece). is_some (open_at fast_rules t m)) (sym (alike.fast p (fast_is (c.kinds p) kind)))
+      ∙ ap is_some (open_at_map fast_rules fast_norm fast_unseen fast_steps (fast_trace (known c s h) a p (notes_of c s h)) m (room_h.fast p (fast_is (c.kinds p) kind)))
       ∙ some_map (map fast_norm) (open_at fast_rules (fast_trace (known c s h) a p (notes_of c s h)) m)
 
-  fast_opens : (key : FastKey) → ((key.source == a) ≡ true) × (is_fast (kind_of key.pgn) ≡ true) → is_some (fast_open (known c s g) (notes_of c s g) key m) ≡ is_some (fast_open (known c s h) (notes_of c s h) key m)
+  fast_opens : (key : FastKey) → ((key.source == a) ≡ true) × (is_fast (c.kinds key.pgn) ≡ true) → is_some (fast_open (known c s g) (notes_of c s g) key m) ≡ is_some (fast_open (known c s h) (notes_of c s h) key m)
   fast_opens key of =
       subst (λ (x : ℕ). is_some (open_at fast_rules (fast_trace (known c s g) x key.pgn (notes_of c s g)) m) ≡ is_some (open_at fast_rules (fast_trace (known c s h) x key.pgn (notes_of c s h)) m))
       (sym (eqb-true key.source a of.0)) (fast_open_same key.pgn of.1)
@@ -369,9 +375,9 @@ module _ (c : Settings) (s a : ℕ) (h g : History) (m : ℕ) (f : BusFrame) (ar
     where
       by : (b : Bool) → is_transport (parts_of f.id) ≡ b → (the_note c s h m f).admitted ≡ true → (the_note c s g m f).admitted ≡ true
       by true e was =
-          rw e (iso_room a (known c s h) (known c s g) (addresses_are_sound c s h are).sound (notes_of c s h) (notes_of c s g) m only iso_opens c.iso_slots (key_of (parts_of f.id)) (rw e at was))
+          rw e (iso_room c.kinds a (known c s h) (known c s g) (addresses_are_sound c s h are).sound (notes_of c s h) (notes_of c s g) m only iso_opens c.iso_slots (key_of (parts_of f.id)) (rw e at was))
       by false e was =
-          rw e (fast_room a (known c s h) (known c s g) (notes_of c s h) (notes_of c s g) m only fast_opens c.fast_slots (record { source = (parts_of f.id).source; pgn = (parts_of f.id).pgn }) (rw e at was))
+          rw e (fast_room c.kinds a (known c s h) (known c s g) (notes_of c s h) (notes_of c s g) m only fast_opens c.fast_slots (record { source = (parts_of f.id).source; pgn = (parts_of f.id).pgn }) (rw e at was))
 
   from_it : (parts_of f.id).source ≡ a
   from_it = eqb-true (parts_of f.id).source a source
@@ -385,12 +391,12 @@ module _ (c : Settings) (s a : ℕ) (h g : History) (m : ℕ) (f : BusFrame) (ar
       ≡ concerns (known c s g) (the_note c s g m f) (record { addressed = (key_of (parts_of f.id)).addressed; source = x }))
       (sym from_it) (concerns_same c c s a h g m f are are alike other source (key_of (parts_of f.id)).addressed)
 
-  opens_same : opens (known c s h) (the_note c s h m f) ≡ opens (known c s g) (the_note c s g m f)
+  opens_same : opens c.kinds (known c s h) (the_note c s h m f) ≡ opens c.kinds (known c s g) (the_note c s g m f)
   opens_same =
-      ap (λ (b : Bool). (b && (is_fast (kind_of (parts_of f.id).pgn) && is_opener f.held)) || (concerns (known c s h) (the_note c s h m f) (key_of (parts_of f.id)) && iso_opener (key_of (parts_of f.id)).addressed (iso_piece (the_note c s h m f)))) held_there
-      ∙ ap (λ (b : Bool). (is_some (since_of (known c s g) (parts_of f.id).source) && (is_fast (kind_of (parts_of f.id).pgn) && is_opener f.held)) || (b && iso_opener (key_of (parts_of f.id)).addressed (iso_piece (the_note c s h m f)))) concerns_there
+      ap (λ (b : Bool). (b && (is_fast (c.kinds (parts_of f.id).pgn) && is_opener f.held)) || (concerns (known c s h) (the_note c s h m f) (key_of (parts_of f.id)) && iso_opener (key_of (parts_of f.id)).addressed (iso_piece (the_note c s h m f)))) held_there
+      ∙ ap (λ (b : Bool). (is_some (since_of (known c s g) (parts_of f.id).source) && (is_fast (c.kinds (parts_of f.id).pgn) && is_opener f.held)) || (b && iso_opener (key_of (parts_of f.id)).addressed (iso_piece (the_note c s h m f)))) concerns_there
 
-  pub room_kept : FindsRoom a (known c s h) (the_note c s h m f) → FindsRoom a (known c s g) (the_note c s g m f)
+  pub room_kept : FindsRoom c.kinds a (known c s h) (the_note c s h m f) → FindsRoom c.kinds a (known c s g) (the_note c s g m f)
   room_kept room = λ own opening. still_admitted (room own (opens_same ∙ opening))
 
 -- ---- a frame of another device
@@ -407,7 +413,7 @@ not_concerned k n a addressed e = rw e (and_no (is_some (since_of k a)))
     and_no true = refl
     and_no false = refl
 
-module _ (c d : Settings) (s a : ℕ) (h g : History) (m : ℕ) (f : BusFrame) (are : AreSettings c) (too : AreSettings d) (alike : Alike c d s a h g) (other : is_claim f ≡ false)
+module _ (c d : Receiver) (s a : ℕ) (h g : History) (m : ℕ) (f : BusFrame) (are : IsReceiver c) (too : IsReceiver d) (alike : Alike c d s a h g) (other : is_claim f ≡ false)
     (elsewhere : ((parts_of f.id).source == a) ≡ false) where
   iso_past : (addressed : Bool) → iso_trace (known c s h) addressed a (the_note c s h m f ∷ notes_of c s h) ≡ iso_trace (known c s h) addressed a (notes_of c s h)
   iso_past addressed =
@@ -416,12 +422,13 @@ module _ (c d : Settings) (s a : ℕ) (h g : History) (m : ℕ) (f : BusFrame) (
 
   pub other_alike : Alike c d s a (frame m f ∷ h) g
   other_alike = record {
+    kinds = alike.kinds;
     claims = rw (known_same c s h m f other) alike.claims;
     fast = λ p fast. rw (known_same c s h m f other) (ap (map fast_norm) (fast_past (known c s h) a p (the_note c s h m f) (notes_of c s h) elsewhere) ∙ alike.fast p fast);
     iso = λ addressed. rw (known_same c s h m f other) (ap (map iso_norm) (iso_past addressed) ∙ alike.iso addressed);
     told =
         dropped a (length h) m (parts_of f.id).source (holder_at (known c s h).claims.holders (parts_of f.id).source)
-        (completed_by (known c s h) (the_note c s h m f) (notes_of c s h)) (messages_of c s h) elsewhere
+        (completed_by c.kinds (known c s h) (the_note c s h m f) (notes_of c s h)) (messages_of c s h) elsewhere
         ∙ alike.told;
   }
 
@@ -433,7 +440,7 @@ kept_is a e h keep = rw keep refl
 gone_is : (a : ℕ) (e : Entry) (h : History) → keeps a e ≡ false → narrowed a (e ∷ h) ≡ narrowed a h
 gone_is a e h gone = rw gone refl
 
-module _ (c d : Settings) (s a : ℕ) (are : AreSettings c) (too : AreSettings d) (start : known c s [] ≡ known d s []) where
+module _ (c d : Receiver) (s a : ℕ) (are : IsReceiver c) (too : IsReceiver d) (kinds : (p : ℕ) → d.kinds p ≡ c.kinds p) (start : known c s [] ≡ known d s []) where
   with_claim : (h : History) (m : ℕ) (f : BusFrame) → is_claim f ≡ true → Alike c d s a h (narrowed a h) → Alike c d s a (frame m f ∷ h) (narrowed a (frame m f ∷ h))
   with_claim h m f claims alike =
       subst (Alike c d s a (frame m f ∷ h)) (sym (kept_is a (frame m f) h (rw claims refl))) (claim_alike c d s a h (narrowed a h) m f are too alike claims)
@@ -451,6 +458,7 @@ module _ (c d : Settings) (s a : ℕ) (are : AreSettings c) (too : AreSettings d
 
   alike_all : (h : History) → NoneRefused c s h a → NoneRefused d s (narrowed a h) a → Alike c d s a h (narrowed a h)
   alike_all [] rooms kept = record {
+    kinds = kinds;
     claims = ap (λ (k : Known). erased k.claims) start;
     fast = λ p fast. ap (λ (k : Known). map fast_norm (fast_trace k a p [])) start;
     iso = λ addressed. ap (λ (k : Known). map iso_norm (iso_trace k addressed a [])) start;
@@ -469,65 +477,67 @@ module _ (c d : Settings) (s a : ℕ) (are : AreSettings c) (too : AreSettings d
           with_own h m f claims own rooms now (before now.1)
       by false claims false own before = with_other h m f claims own (before (same (narrowed a h) (gone_is a (frame m f) h (rw (claims, own) refl))))
   alike_all (datagram m bytes ∷ h) rooms kept =
-      let same = alike_all h rooms kept in record { claims = same.claims; fast = same.fast; iso = same.iso; told = same.told }
+      let same = alike_all h rooms kept in record { kinds = same.kinds; claims = same.claims; fast = same.fast; iso = same.iso; told = same.told }
   alike_all (tick m ∷ h) rooms kept =
-      let same = alike_all h rooms kept in record { claims = same.claims; fast = same.fast; iso = same.iso; told = same.told }
-  alike_all (entry.command m source address ∷ h) rooms kept = command_alike c d s a h (narrowed a h) m source address (alike_all h rooms kept)
+      let same = alike_all h rooms kept in record { kinds = same.kinds; claims = same.claims; fast = same.fast; iso = same.iso; told = same.told }
+  alike_all (entry.command m source address ∷ h) rooms kept = command_alike c d s a h (narrowed a h) m source address are too (alike_all h rooms kept)
 
 -- ---- only the device's frames are kept, and its openers find room still
 
-module _ (c : Settings) (s a : ℕ) where
-  kept_kinds : (h : History) → AllByRecursion (IsOwnKind a) (notes_of c s (narrowed a h))
+module _ (c : Receiver) (s a : ℕ) (are : IsReceiver c) where
+  kept_kinds : (h : History) → AllByRecursion (IsOwnKind c.kinds a) (notes_of c s (narrowed a h))
   kept_kinds [] = tt
   kept_kinds (frame m f ∷ h) = by (is_claim f) refl ((parts_of f.id).source == a) refl (kept_kinds h)
     where
-      same : (x : History) → narrowed a (frame m f ∷ h) ≡ x → AllByRecursion (IsOwnKind a) (notes_of c s x) → AllByRecursion (IsOwnKind a) (notes_of c s (narrowed a (frame m f ∷ h)))
-      same x e all = subst (λ (y : History). AllByRecursion (IsOwnKind a) (notes_of c s y)) (sym e) all
+      same : (x : History) → narrowed a (frame m f ∷ h) ≡ x → AllByRecursion (IsOwnKind c.kinds a) (notes_of c s x) → AllByRecursion (IsOwnKind c.kinds a) (notes_of c s (narrowed a (frame m f ∷ h)))
+      same x e all = subst (λ (y : History). AllByRecursion (IsOwnKind c.kinds a) (notes_of c s y)) (sym e) all
 
-      by : (b : Bool) → is_claim f ≡ b → (e : Bool) → ((parts_of f.id).source == a) ≡ e → AllByRecursion (IsOwnKind a) (notes_of c s (narrowed a h))
-          → AllByRecursion (IsOwnKind a) (notes_of c s (narrowed a (frame m f ∷ h)))
+      by : (b : Bool) → is_claim f ≡ b → (e : Bool) → ((parts_of f.id).source == a) ≡ e → AllByRecursion (IsOwnKind c.kinds a) (notes_of c s (narrowed a h))
+          → AllByRecursion (IsOwnKind c.kinds a) (notes_of c s (narrowed a (frame m f ∷ h)))
       by true claims e own all =
           same (frame m f ∷ narrowed a h) (kept_is a (frame m f) h (rw claims refl))
-          (claim_is_no_kind a (the_note c s (narrowed a h) m f) (eqb-true (parts_of f.id).pgn 60928 (and_parts _ _ claims).0), all)
+          (claim_is_no_kind c are a (the_note c s (narrowed a h) m f) (eqb-true (parts_of f.id).pgn 60928 (and_parts _ _ claims).0), all)
       by false claims true own all = same (frame m f ∷ narrowed a h) (kept_is a (frame m f) h (rw (claims, own) refl)) ((λ kind. own), all)
       by false claims false own all = same (narrowed a h) (gone_is a (frame m f) h (rw (claims, own) refl)) all
   kept_kinds (datagram m bytes ∷ h) = kept_kinds h
   kept_kinds (tick m ∷ h) = kept_kinds h
   kept_kinds (entry.command m source address ∷ h) = kept_kinds h
 
-  module _ (are : AreSettings c) where
-    kept_rooms : (h : History) → NoneRefused c s h a → NoneRefused c s (narrowed a h) a
-    kept_rooms [] rooms = tt
-    kept_rooms (frame m f ∷ h) rooms = by (is_claim f) refl ((parts_of f.id).source == a) refl (kept_rooms h rooms.1)
-      where
-        same : (x : History) → narrowed a (frame m f ∷ h) ≡ x → NoneRefused c s x a → NoneRefused c s (narrowed a (frame m f ∷ h)) a
-        same x e all = subst (λ (y : History). NoneRefused c s y a) (sym e) all
+  kept_rooms : (h : History) → NoneRefused c s h a → NoneRefused c s (narrowed a h) a
+  kept_rooms [] rooms = tt
+  kept_rooms (frame m f ∷ h) rooms = by (is_claim f) refl ((parts_of f.id).source == a) refl (kept_rooms h rooms.1)
+    where
+      same : (x : History) → narrowed a (frame m f ∷ h) ≡ x → NoneRefused c s x a → NoneRefused c s (narrowed a (frame m f ∷ h)) a
+      same x e all = subst (λ (y : History). NoneRefused c s y a) (sym e) all
 
-        by : (b : Bool) → is_claim f ≡ b → (e : Bool) → ((parts_of f.id).source == a) ≡ e → NoneRefused c s (narrowed a h) a → NoneRefused c s (narrowed a (frame m f ∷ h)) a
-        by true claims e own kept =
-            same (frame m f ∷ narrowed a h) (kept_is a (frame m f) h (rw claims refl))
-            (claim_is_no_opener a (known c s (narrowed a h)) (the_note c s (narrowed a h) m f) (eqb-true (parts_of f.id).pgn 60928 (and_parts _ _ claims).0), kept)
-        by false claims true own kept =
-            same (frame m f ∷ narrowed a h) (kept_is a (frame m f) h (rw (claims, own) refl))
-            (room_kept c s a h (narrowed a h) m f are (alike_all c c s a are are refl h rooms.1 kept) claims own (roomy c s a are h rooms.1) (roomy c s a are (narrowed a h) kept) (kept_kinds h) rooms.0, kept)
-        by false claims false own kept = same (narrowed a h) (gone_is a (frame m f) h (rw (claims, own) refl)) kept
-    kept_rooms (datagram m bytes ∷ h) rooms = kept_rooms h rooms
-    kept_rooms (tick m ∷ h) rooms = kept_rooms h rooms
-    kept_rooms (entry.command m source address ∷ h) rooms = kept_rooms h rooms
+      by : (b : Bool) → is_claim f ≡ b → (e : Bool) → ((parts_of f.id).source == a) ≡ e → NoneRefused c s (narrowed a h) a → NoneRefused c s (narrowed a (frame m f ∷ h)) a
+      by true claims e own kept =
+          same (frame m f ∷ narrowed a h) (kept_is a (frame m f) h (rw claims refl))
+          (claim_is_no_opener c are a (known c s (narrowed a h)) (the_note c s (narrowed a h) m f) (eqb-true (parts_of f.id).pgn 60928 (and_parts _ _ claims).0), kept)
+      by false claims true own kept =
+          same (frame m f ∷ narrowed a h) (kept_is a (frame m f) h (rw (claims, own) refl))
+          (room_kept c s a h (narrowed a h) m f are (alike_all c c s a are are (λ p. refl) refl h rooms.1 kept) claims own (roomy c s a are h rooms.1) (roomy c s a are (narrowed a h) kept) (kept_kinds h) rooms.0, kept)
+      by false claims false own kept = same (narrowed a h) (gone_is a (frame m f) h (rw (claims, own) refl)) kept
+  kept_rooms (datagram m bytes ∷ h) rooms = kept_rooms h rooms
+  kept_rooms (tick m ∷ h) rooms = kept_rooms h rooms
+  kept_rooms (entry.command m source address ∷ h) rooms = kept_rooms h rooms
 
 pub isolation : Isolation
-isolation c s h a are rooms = (alike_all c c s a are are refl h rooms (kept_rooms c s a are h rooms)).told
+isolation c s h a are rooms = (alike_all c c s a are are (λ p. refl) refl h rooms (kept_rooms c s a are h rooms)).told
 
 -- ---- two gateways
 
-alike_settings : (c d : Settings) → d.name ≡ c.name → d.address ≡ c.address → d.presets ≡ c.presets → AreSettings c → AreSettings d
-alike_settings c d name address presets are = record {
+alike_settings : (c d : Receiver) → d.name ≡ c.name → d.address ≡ c.address → d.presets ≡ c.presets → ((p : ℕ) → d.kinds p ≡ c.kinds p) → IsReceiver c → IsReceiver d
+alike_settings c d name address presets kinds are = record {
+  claims = kinds 60928 ∙ are.claims;
+  management = kinds 60416 ∙ are.management;
+  data_packets = kinds 60160 ∙ are.data_packets;
   address = subst (λ (x : ℕ). x < 252) (sym address) are.address;
   apart = subst (λ (x : List Preset). repeats x ≡ false) (sym presets) are.apart;
   others = rw (name, address, presets) are.others;
 }
 
-alike_start : (c d : Settings) (s : ℕ) → d.name ≡ c.name → d.address ≡ c.address → d.presets ≡ c.presets → known c s [] ≡ known d s []
+alike_start : (c d : Receiver) (s : ℕ) → d.name ≡ c.name → d.address ≡ c.address → d.presets ≡ c.presets → known c s [] ≡ known d s []
 alike_start c d s name address presets =
     ap (λ (x : ℕ). begun x c.address c.presets) (sym name) ∙ ap (λ (x : ℕ). begun d.name x c.presets) (sym address) ∙ ap (begun d.name d.address) (sym presets)
   where
@@ -535,9 +545,9 @@ alike_start c d s name address presets =
     begun name address presets = record { claims = started (opened name address presets) s; own_since = 0 }
 
 pub isolation_of_two : IsolationOfTwo
-isolation_of_two c d s h g a are name address presets same rooms_h rooms_g =
-    let too : AreSettings d = alike_settings c d name address presets are in
+isolation_of_two c d s h g a are name address presets kinds same rooms_h rooms_g =
+    let too : IsReceiver d = alike_settings c d name address presets kinds are in
     let kept : NoneRefused d s (narrowed a h) a = subst (λ (x : History). NoneRefused d s x a) same (kept_rooms d s a too g rooms_g) in
-    (alike_all c d s a are too (alike_start c d s name address presets) h rooms_h kept).told
+    (alike_all c d s a are too kinds (alike_start c d s name address presets) h rooms_h kept).told
     ∙ ap (λ (x : History). from a (messages_of d s x)) (sym same)
     ∙ sym (isolation d s g a too rooms_g)

@@ -7,7 +7,6 @@ use Rattle.n2k_id.specs.Frame.{BusFrame}
 use Rattle.n2k_id.specs.Identifier.{parts_of}
 use Rattle.claim_table.specs.declared.answer.Holder.{Holder}
 use Rattle.claim_table.specs.Claims.{IsSinceBy, holder_at}
-use Rattle.pgn_profile.specs.Profiled.{kind_of, messages}
 use Rattle.pgn_profile.specs.declared.kinds.Kind.TheVariants.{Fast, Outside}
 use Rattle.runs.specs.Runs.{fed, finished, kept_at, open_at, run_of}
 use Rattle.runs.specs.Laws.{OneStep}
@@ -16,12 +15,12 @@ use Rattle.fast_packet.specs.FastRuns.{FastPiece, fast_rules}
 use Rattle.fast_packet.proofs.Lawful.{lawful}
 use Rattle.fast_packet.specs.declared.key.FastKey.{FastKey}
 use Rattle.history.specs.Entries.{History, frame}
-use Rattle.history.specs.Settings.{Settings}
+use Rattle.history.specs.Receiver.{Receiver}
 use Rattle.history.specs.Known.{Known, known, is_claim, since_of}
 use Rattle.history.specs.Traces.{Note, fast_piece, fast_trace, fast_trace_since, is_transport}
 use Rattle.history.specs.Opens.{same_fast, fast_open, notes_of}
 use Rattle.history.specs.Messages.{said_by, completed_by, fast_carried}
-use Rattle.history.specs.AddressLaws.{AreSettings}
+use Rattle.history.specs.AddressLaws.{IsReceiver}
 use Rattle.history.specs.KeyLaws.{StepsFast, FramesStepFast, FramesKeepFast, TimeEndsFast, fast_key, the_note}
 use Rattle.history.proofs.Addresses.{addresses_are_sound}
 use Rattle.claim_table.proofs.SoundLemmas.{held_within}
@@ -36,34 +35,19 @@ pub dated_at : (i : ℕ) (holders : List (Option Holder)) (a : ℕ) (x : Holder)
 dated_at i holders a x all e = subst (IsSinceBy i) e (All-get_or (IsSinceBy i) holders a None (held_within holders a x e) all)
 
 -- a PGN of fast packets is neither that of claims nor one of the transport protocol
-pub claim_kind : kind_of 60928 ≡ Outside
-unfolding messages
-claim_kind = refl
-
-data_kind : kind_of 60160 ≡ Outside
-unfolding messages
-data_kind = refl
-
-management_kind : kind_of 60416 ≡ Outside
-unfolding messages
-management_kind = refl
-
-not_fast : (p q : ℕ) → kind_of q ≡ Outside → kind_of p ≡ Fast → (p == q) ≡ false
-not_fast p q outside e = elim (cases_Bool (p == q)) [
-  | inl same ↦ let is : kind_of p ≡ Outside = rw (eqb-true p q same) outside in cc
+not_fast : (c : Receiver) (p q : ℕ) → c.kinds q ≡ Outside → c.kinds p ≡ Fast → (p == q) ≡ false
+not_fast c p q outside e = elim (cases_Bool (p == q)) [
+  | inl same ↦ let is : c.kinds p ≡ Outside = rw (eqb-true p q same) outside in cc
   | inr other ↦ other
 ]
 
-not_claim : (p : ℕ) → kind_of p ≡ Fast → (p == 60928) ≡ false
-not_claim p e = not_fast p 60928 claim_kind e
+pub no_transport : (c : Receiver) → IsReceiver c → (p : Parts) → c.kinds p.pgn ≡ Fast → is_transport p ≡ false
+no_transport c are p e = rw (not_fast c p.pgn 60416 are.management e, not_fast c p.pgn 60160 are.data_packets e) refl
 
-pub no_transport : (p : Parts) → kind_of p.pgn ≡ Fast → is_transport p ≡ false
-no_transport p e = rw (not_fast p.pgn 60416 management_kind e, not_fast p.pgn 60160 data_kind e) refl
+no_claim : (c : Receiver) → IsReceiver c → (f : BusFrame) → c.kinds (parts_of f.id).pgn ≡ Fast → is_claim f ≡ false
+no_claim c are f e = rw (not_fast c (parts_of f.id).pgn 60928 are.claims e) refl
 
-no_claim : (f : BusFrame) → kind_of (parts_of f.id).pgn ≡ Fast → is_claim f ≡ false
-no_claim f e = rw (not_claim (parts_of f.id).pgn e) refl
-
-pub known_same : (c : Settings) (s : ℕ) (h : History) (m : ℕ) (f : BusFrame) → is_claim f ≡ false → known c s (frame m f ∷ h) ≡ known c s h
+pub known_same : (c : Receiver) (s : ℕ) (h : History) (m : ℕ) (f : BusFrame) → is_claim f ≡ false → known c s (frame m f ∷ h) ≡ known c s h
 known_same c s h m f e = rw e refl
 
 -- the frame is one of its own key
@@ -71,11 +55,11 @@ own_piece : (a p since : ℕ) (n : Note) (notes : List Note) → n.parts.source 
     → fast_trace_since (Some since) a p (n ∷ notes) ≡ fast_piece n ∷ fast_trace_since (Some since) a p notes
 own_piece a p since n notes source pgn le = rw (source, pgn, eq-eqb a a refl, eq-eqb p p refl, le-leb since n.index le) refl
 
-completed_fast : (k : Known) (n : Note) (older : List Note) → kind_of n.parts.pgn ≡ Fast
-    → completed_by k n older ≡ fast_carried n.parts.pgn (run_of fast_rules (fast_trace k n.parts.source n.parts.pgn (n ∷ older)))
-completed_fast k n older e = rw (no_transport n.parts e, e) refl
+completed_fast : (c : Receiver) → IsReceiver c → (k : Known) (n : Note) (older : List Note) → c.kinds n.parts.pgn ≡ Fast
+    → completed_by c.kinds k n older ≡ fast_carried n.parts.pgn (run_of fast_rules (fast_trace k n.parts.source n.parts.pgn (n ∷ older)))
+completed_fast c are k n older e = rw (no_transport c are n.parts e, e) refl
 
-module _ (c : Settings) (s : ℕ) (h : History) (m : ℕ) (f : BusFrame) (x : Holder) (are : AreSettings c) (fast : kind_of (parts_of f.id).pgn ≡ Fast)
+module _ (c : Receiver) (s : ℕ) (h : History) (m : ℕ) (f : BusFrame) (x : Holder) (are : IsReceiver c) (fast : c.kinds (parts_of f.id).pgn ≡ Fast)
     (holds : holder_at (known c s h).claims.holders (parts_of f.id).source ≡ Some x) where
   since_is : since_of (known c s h) (parts_of f.id).source ≡ Some x.since
   since_is = ap (option_map (λ (y : Holder). y.since)) holds
@@ -90,14 +74,14 @@ module _ (c : Settings) (s : ℕ) (h : History) (m : ℕ) (f : BusFrame) (x : Ho
   left : (n : ℕ) → fast_open (known c s (frame m f ∷ h)) (notes_of c s (frame m f ∷ h)) (fast_key c s h m f) n
       ≡ kept_at fast_rules (fed fast_rules (fast_open (known c s h) (notes_of c s h) (fast_key c s h m f) m) (fast_piece (the_note c s h m f))) n
   left n =
-      rw (known_same c s h m f (no_claim f fast))
+      rw (known_same c s h m f (no_claim c are f fast))
       (ap (λ (t : List FastPiece). open_at fast_rules t n) trace_is
       ∙ ap (λ (o : Option (List FastPiece)). kept_at fast_rules o n) (steps.prefix (fast_trace (known c s h) (parts_of f.id).source (parts_of f.id).pgn (notes_of c s h)) (fast_piece (the_note c s h m f))))
 
-  completes : completed_by (known c s h) (the_note c s h m f) (notes_of c s h)
+  completes : completed_by c.kinds (known c s h) (the_note c s h m f) (notes_of c s h)
       ≡ fast_carried (parts_of f.id).pgn (finished fast_rules (fast_open (known c s h) (notes_of c s h) (fast_key c s h m f) m) (fast_piece (the_note c s h m f)))
   completes =
-      completed_fast (known c s h) (the_note c s h m f) (notes_of c s h) fast
+      completed_fast c are (known c s h) (the_note c s h m f) (notes_of c s h) fast
       ∙ ap (λ (t : List FastPiece). fast_carried (parts_of f.id).pgn (run_of fast_rules t)) trace_is
       ∙ ap (fast_carried (parts_of f.id).pgn) (steps.whole (fast_trace (known c s h) (parts_of f.id).source (parts_of f.id).pgn (notes_of c s h)) (fast_piece (the_note c s h m f)))
 
@@ -105,7 +89,7 @@ module _ (c : Settings) (s : ℕ) (h : History) (m : ℕ) (f : BusFrame) (x : Ho
   step = record {
     left = left;
     completed =
-        ap (λ (o : Option Holder). said_by (length h) m (parts_of f.id).source o (completed_by (known c s h) (the_note c s h m f) (notes_of c s h))) holds
+        ap (λ (o : Option Holder). said_by (length h) m (parts_of f.id).source o (completed_by c.kinds (known c s h) (the_note c s h m f) (notes_of c s h))) holds
         ∙ ap (said_by (length h) m (parts_of f.id).source (Some x)) completes;
   }
 

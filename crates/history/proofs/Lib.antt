@@ -1,3 +1,4 @@
+pub mod Receivers
 pub mod Addresses
 pub mod Fates
 pub mod Moves

@@ -4,7 +4,7 @@ use Rattle.std.specs.Prelude.{Option, Some, None, filter, if◌then◌else◌}
 use Rattle.std.specs.List.{AllByRecursion}
 use Rattle.std.proofs.lemmas.Bool.{lt-leb}
 use Rattle.history.specs.Entries.{Entry, History, frame, datagram, tick, command}
-use Rattle.history.specs.Settings.{Settings}
+use Rattle.history.specs.Receiver.{Receiver}
 use Rattle.history.specs.Known.{Known, known}
 use Rattle.history.specs.Traces.{Note, is_since}
 use Rattle.history.specs.Opens.{noted, notes_of}
@@ -17,13 +17,13 @@ later : (n : ℕ) (notes : List Note) → AreBelow n notes → AreBelow (suc n) 
 later n [] h = tt
 later n (x ∷ notes) h = (omega (arith, h.0), later n notes h.1)
 
-noted_below : (c : Settings) (n : ℕ) (k : Known) (notes : List Note) (e : Entry) → AreBelow n notes → AreBelow (suc n) (noted c n k notes e)
+noted_below : (c : Receiver) (n : ℕ) (k : Known) (notes : List Note) (e : Entry) → AreBelow n notes → AreBelow (suc n) (noted c n k notes e)
 noted_below c n k notes (frame m f) h = (omega arith, later n notes h)
 noted_below c n k notes (datagram m bytes) h = later n notes h
 noted_below c n k notes (tick m) h = later n notes h
 noted_below c n k notes (command m source address) h = later n notes h
 
-pub notes_below : (c : Settings) (s : ℕ) (h : History) → AreBelow (length h) (notes_of c s h)
+pub notes_below : (c : Receiver) (s : ℕ) (h : History) → AreBelow (length h) (notes_of c s h)
 notes_below c s [] = tt
 notes_below c s (e ∷ h) = noted_below c (length h) (known c s h) (notes_of c s h) e (notes_below c s h)
 

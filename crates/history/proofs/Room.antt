@@ -5,7 +5,7 @@ use Rattle.std.specs.List.{AllByRecursion, list_any}
 use Rattle.std.specs.Bool.{beq}
 use Rattle.std.proofs.lemmas.Bool.{eq-eqb, false≢true, lt-ltb, ltb-true}
 use Rattle.runs.specs.Runs.{open_at}
-use Rattle.pgn_profile.specs.Profiled.{kind_of}
+use Rattle.pgn_profile.specs.declared.kinds.Kind.{Kind}
 use Rattle.fast_packet.specs.declared.key.FastKey.{FastKey}
 use Rattle.fast_packet.specs.FastRuns.{FastPiece, fast_rules}
 use Rattle.iso_transport.specs.declared.key.IsoKey.{IsoKey}
@@ -22,8 +22,8 @@ use Rattle.history.proofs.IsoCounts as iso
 use Rattle.history.proofs.Fewer.{Apart, apart_placed, apart_filtered, among_filtered, no_longer}
 
 -- a frame of a fast packet or of the transport protocol is the device's
-abbrev pub IsOwnKind : ℕ → Note → Type 0
-IsOwnKind a n = (is_fast (kind_of n.parts.pgn) || is_transport n.parts) ≡ true → (n.parts.source == a) ≡ true
+abbrev pub IsOwnKind : (ℕ → Kind) → ℕ → Note → Type 0
+IsOwnKind kinds a n = (is_fast (kinds n.parts.pgn) || is_transport n.parts) ≡ true → (n.parts.source == a) ≡ true
 
 or_true : (b : Bool) → (b || true) ≡ true
 or_true true = refl
@@ -43,66 +43,66 @@ fast_turn a b = rw (eqb-sym a.source b.source, eqb-sym a.pgn b.pgn) refl
 pub fast_itself : (a : FastKey) → same_fast a a ≡ true
 fast_itself a = rw (eq-eqb a.source a.source refl, eq-eqb a.pgn a.pgn refl) refl
 
-pub fast_apart : (notes : List Note) → Apart same_fast fast.same_is fast_turn fast_itself (fast_keys notes)
-fast_apart [] = tt
-fast_apart (n ∷ notes) = by (is_fast (kind_of n.parts.pgn)) (fast_apart notes)
+pub fast_apart : (kinds : ℕ → Kind) (notes : List Note) → Apart same_fast fast.same_is fast_turn fast_itself (fast_keys kinds notes)
+fast_apart kinds [] = tt
+fast_apart kinds (n ∷ notes) = by (is_fast (kinds n.parts.pgn)) (fast_apart kinds notes)
   where
-    by : (b : Bool) → Apart same_fast fast.same_is fast_turn fast_itself (fast_keys notes)
-        → Apart same_fast fast.same_is fast_turn fast_itself (if b then placed same_fast before_fast (record { source = n.parts.source; pgn = n.parts.pgn }) (fast_keys notes) else fast_keys notes)
-    by true rest = apart_placed same_fast fast.same_is fast_turn fast_itself before_fast (record { source = n.parts.source; pgn = n.parts.pgn }) (fast_keys notes) rest
+    by : (b : Bool) → Apart same_fast fast.same_is fast_turn fast_itself (fast_keys kinds notes)
+        → Apart same_fast fast.same_is fast_turn fast_itself (if b then placed same_fast before_fast (record { source = n.parts.source; pgn = n.parts.pgn }) (fast_keys kinds notes) else fast_keys kinds notes)
+    by true rest = apart_placed same_fast fast.same_is fast_turn fast_itself before_fast (record { source = n.parts.source; pgn = n.parts.pgn }) (fast_keys kinds notes) rest
     by false rest = rest
 
-abbrev IsFastOf : ℕ → FastKey → Type 0
-IsFastOf a key = ((key.source == a) ≡ true) × (is_fast (kind_of key.pgn) ≡ true)
+abbrev IsFastOf : (ℕ → Kind) → ℕ → FastKey → Type 0
+IsFastOf kinds a key = ((key.source == a) ≡ true) × (is_fast (kinds key.pgn) ≡ true)
 
-fast_own : (a : ℕ) (notes : List Note) → AllByRecursion (IsOwnKind a) notes → AllByRecursion (IsFastOf a) (fast_keys notes)
-fast_own a [] all = tt
-fast_own a (n ∷ notes) all = by (is_fast (kind_of n.parts.pgn)) refl (fast_own a notes all.1)
+fast_own : (kinds : ℕ → Kind) (a : ℕ) (notes : List Note) → AllByRecursion (IsOwnKind kinds a) notes → AllByRecursion (IsFastOf kinds a) (fast_keys kinds notes)
+fast_own kinds a [] all = tt
+fast_own kinds a (n ∷ notes) all = by (is_fast (kinds n.parts.pgn)) refl (fast_own kinds a notes all.1)
   where
-    by : (b : Bool) → is_fast (kind_of n.parts.pgn) ≡ b → AllByRecursion (IsFastOf a) (fast_keys notes)
-        → AllByRecursion (IsFastOf a) (if b then placed same_fast before_fast (record { source = n.parts.source; pgn = n.parts.pgn }) (fast_keys notes) else fast_keys notes)
-    by true e rest = all_placed (IsFastOf a) same_fast before_fast (record { source = n.parts.source; pgn = n.parts.pgn }) (fast_keys notes) (all.0 (true_or (is_fast (kind_of n.parts.pgn)) (is_transport n.parts) e), e) rest
+    by : (b : Bool) → is_fast (kinds n.parts.pgn) ≡ b → AllByRecursion (IsFastOf kinds a) (fast_keys kinds notes)
+        → AllByRecursion (IsFastOf kinds a) (if b then placed same_fast before_fast (record { source = n.parts.source; pgn = n.parts.pgn }) (fast_keys kinds notes) else fast_keys kinds notes)
+    by true e rest = all_placed (IsFastOf kinds a) same_fast before_fast (record { source = n.parts.source; pgn = n.parts.pgn }) (fast_keys kinds notes) (all.0 (true_or (is_fast (kinds n.parts.pgn)) (is_transport n.parts) e), e) rest
     by false e rest = rest
 
-pub fast_came : (k : Known) (notes : List Note) (m : ℕ) (key : FastKey) → is_fast (kind_of key.pgn) ≡ true → is_some (fast_open k notes key m) ≡ true → list_any (same_fast key) (fast_keys notes) ≡ true
-fast_came k notes m key kind is_open = by (list_any (same_fast key) (fast_keys notes)) refl
+pub fast_came : (kinds : ℕ → Kind) (k : Known) (notes : List Note) (m : ℕ) (key : FastKey) → is_fast (kinds key.pgn) ≡ true → is_some (fast_open k notes key m) ≡ true → list_any (same_fast key) (fast_keys kinds notes) ≡ true
+fast_came kinds k notes m key kind is_open = by (list_any (same_fast key) (fast_keys kinds notes)) refl
   where
-    by : (b : Bool) → list_any (same_fast key) (fast_keys notes) ≡ b → list_any (same_fast key) (fast_keys notes) ≡ true
+    by : (b : Bool) → list_any (same_fast key) (fast_keys kinds notes) ≡ b → list_any (same_fast key) (fast_keys kinds notes) ≡ true
     by true e = e
     by false e =
-        let nothing : fast_trace k key.source key.pgn notes ≡ [] = fast.no_frames key (since_of k key.source) notes kind e in
+        let nothing : fast_trace k key.source key.pgn notes ≡ [] = fast.no_frames kinds key (since_of k key.source) notes kind e in
         let closed : is_some (fast_open k notes key m) ≡ false = ap (λ (t : List FastPiece). is_some (open_at fast_rules t m)) nothing in
         absurd (false≢true (sym closed ∙ is_open))
 
 -- what is open of the device in one is open in the other
-module _ (a : ℕ) (k l : Known) (notes kept : List Note) (m : ℕ) (own : AllByRecursion (IsOwnKind a) kept)
-    (opens : (key : FastKey) → IsFastOf a key → is_some (fast_open l kept key m) ≡ is_some (fast_open k notes key m)) where
-  fast_among : (key : FastKey) (ks : List FastKey) → AllByRecursion (IsFastOf a) ks
-      → AllByRecursion (λ x. list_any (same_fast x) (filter (λ other. not (same_fast other key)) (open_fast_keys k notes m)) ≡ true)
+module _ (kinds : ℕ → Kind) (a : ℕ) (k l : Known) (notes kept : List Note) (m : ℕ) (own : AllByRecursion (IsOwnKind kinds a) kept)
+    (opens : (key : FastKey) → IsFastOf kinds a key → is_some (fast_open l kept key m) ≡ is_some (fast_open k notes key m)) where
+  fast_among : (key : FastKey) (ks : List FastKey) → AllByRecursion (IsFastOf kinds a) ks
+      → AllByRecursion (λ x. list_any (same_fast x) (filter (λ other. not (same_fast other key)) (open_fast_keys kinds k notes m)) ≡ true)
       (filter (λ other. not (same_fast other key)) (filter (λ x. is_some (fast_open l kept x m)) ks))
   fast_among key [] all = tt
   fast_among key (x ∷ ks) all = by (is_some (fast_open l kept x m)) refl (not (same_fast x key)) refl (fast_among key ks all.1)
     where
-      there : is_some (fast_open l kept x m) ≡ true → not (same_fast x key) ≡ true → list_any (same_fast x) (filter (λ other. not (same_fast other key)) (open_fast_keys k notes m)) ≡ true
+      there : is_some (fast_open l kept x m) ≡ true → not (same_fast x key) ≡ true → list_any (same_fast x) (filter (λ other. not (same_fast other key)) (open_fast_keys kinds k notes m)) ≡ true
       there e f =
           let is_open : is_some (fast_open k notes x m) ≡ true = sym (opens x all.0) ∙ e in
-          among_filtered same_fast fast.same_is fast_turn fast_itself (λ other. not (same_fast other key)) x (open_fast_keys k notes m) f
-          (among_filtered same_fast fast.same_is fast_turn fast_itself (λ other. is_some (fast_open k notes other m)) x (fast_keys notes) is_open (fast_came k notes m x all.0.1 is_open))
+          among_filtered same_fast fast.same_is fast_turn fast_itself (λ other. not (same_fast other key)) x (open_fast_keys kinds k notes m) f
+          (among_filtered same_fast fast.same_is fast_turn fast_itself (λ other. is_some (fast_open k notes other m)) x (fast_keys kinds notes) is_open (fast_came kinds k notes m x all.0.1 is_open))
 
       by : (b : Bool) → is_some (fast_open l kept x m) ≡ b → (d : Bool) → not (same_fast x key) ≡ d
-          → AllByRecursion (λ y. list_any (same_fast y) (filter (λ other. not (same_fast other key)) (open_fast_keys k notes m)) ≡ true) (filter (λ other. not (same_fast other key)) (filter (λ y. is_some (fast_open l kept y m)) ks))
-          → AllByRecursion (λ y. list_any (same_fast y) (filter (λ other. not (same_fast other key)) (open_fast_keys k notes m)) ≡ true) (filter (λ other. not (same_fast other key)) (filter (λ y. is_some (fast_open l kept y m)) (x ∷ ks)))
+          → AllByRecursion (λ y. list_any (same_fast y) (filter (λ other. not (same_fast other key)) (open_fast_keys kinds k notes m)) ≡ true) (filter (λ other. not (same_fast other key)) (filter (λ y. is_some (fast_open l kept y m)) ks))
+          → AllByRecursion (λ y. list_any (same_fast y) (filter (λ other. not (same_fast other key)) (open_fast_keys kinds k notes m)) ≡ true) (filter (λ other. not (same_fast other key)) (filter (λ y. is_some (fast_open l kept y m)) (x ∷ ks)))
       by true e true f rest = rw e (rw f (there e f, rest))
       by true e false f rest = rw e (rw f rest)
       by false e d f rest = rw e rest
 
-  pub fast_room : (limit : ℕ) (key : FastKey) → is_fast_admitted limit k notes key m ≡ true → is_fast_admitted limit l kept key m ≡ true
+  pub fast_room : (limit : ℕ) (key : FastKey) → is_fast_admitted kinds limit k notes key m ≡ true → is_fast_admitted kinds limit l kept key m ≡ true
   fast_room limit key room =
-      smaller (length (filter (λ other. not (same_fast other key)) (open_fast_keys l kept m))) (length (filter (λ other. not (same_fast other key)) (open_fast_keys k notes m))) limit
-      (no_longer same_fast fast.same_is fast_turn fast_itself (filter (λ other. not (same_fast other key)) (open_fast_keys l kept m)) (filter (λ other. not (same_fast other key)) (open_fast_keys k notes m))
-      (apart_filtered same_fast fast.same_is fast_turn fast_itself (λ other. not (same_fast other key)) (open_fast_keys l kept m)
-      (apart_filtered same_fast fast.same_is fast_turn fast_itself (λ x. is_some (fast_open l kept x m)) (fast_keys kept) (fast_apart kept)))
-      (fast_among key (fast_keys kept) (fast_own a kept own)))
+      smaller (length (filter (λ other. not (same_fast other key)) (open_fast_keys kinds l kept m))) (length (filter (λ other. not (same_fast other key)) (open_fast_keys kinds k notes m))) limit
+      (no_longer same_fast fast.same_is fast_turn fast_itself (filter (λ other. not (same_fast other key)) (open_fast_keys kinds l kept m)) (filter (λ other. not (same_fast other key)) (open_fast_keys kinds k notes m))
+      (apart_filtered same_fast fast.same_is fast_turn fast_itself (λ other. not (same_fast other key)) (open_fast_keys kinds l kept m)
+      (apart_filtered same_fast fast.same_is fast_turn fast_itself (λ x. is_some (fast_open l kept x m)) (fast_keys kinds kept) (fast_apart kinds kept)))
+      (fast_among key (fast_keys kinds kept) (fast_own kinds a kept own)))
       room
 
 -- ---- the transport protocol
@@ -128,12 +128,12 @@ iso_apart (n ∷ notes) = by (is_transport n.parts) (iso_apart notes)
 abbrev IsIsoOf : ℕ → IsoKey → Type 0
 IsIsoOf a key = (key.source == a) ≡ true
 
-iso_own : (a : ℕ) (notes : List Note) → AllByRecursion (IsOwnKind a) notes → AllByRecursion (IsIsoOf a) (iso_keys notes)
-iso_own a [] all = tt
-iso_own a (n ∷ notes) all = by (is_transport n.parts) refl (iso_own a notes all.1)
+iso_own : (kinds : ℕ → Kind) (a : ℕ) (notes : List Note) → AllByRecursion (IsOwnKind kinds a) notes → AllByRecursion (IsIsoOf a) (iso_keys notes)
+iso_own kinds a [] all = tt
+iso_own kinds a (n ∷ notes) all = by (is_transport n.parts) refl (iso_own kinds a notes all.1)
   where
     by : (b : Bool) → is_transport n.parts ≡ b → AllByRecursion (IsIsoOf a) (iso_keys notes) → AllByRecursion (IsIsoOf a) (if b then placed same_iso before_iso (key_of n.parts) (iso_keys notes) else iso_keys notes)
-    by true e rest = all_placed (IsIsoOf a) same_iso before_iso (key_of n.parts) (iso_keys notes) (all.0 (rw e (or_true (is_fast (kind_of n.parts.pgn))))) rest
+    by true e rest = all_placed (IsIsoOf a) same_iso before_iso (key_of n.parts) (iso_keys notes) (all.0 (rw e (or_true (is_fast (kinds n.parts.pgn))))) rest
     by false e rest = rest
 
 pub iso_came : (k : Known) → IsSound k.claims → (notes : List Note) (m : ℕ) (key : IsoKey) → is_some (iso_open k notes key m) ≡ true → list_any (same_iso key) (iso_keys notes) ≡ true
@@ -145,7 +145,7 @@ iso_came k sound notes m key is_open = by (list_any (same_iso key) (iso_keys not
         let closed : is_some (iso_open k notes key m) ≡ false = ap (λ (t : List IsoPiece). is_some (open_at (iso_rules key.addressed) t m)) (iso.no_frames k sound key notes e) in
         absurd (false≢true (sym closed ∙ is_open))
 
-module _ (a : ℕ) (k l : Known) (sound : IsSound k.claims) (notes kept : List Note) (m : ℕ) (own : AllByRecursion (IsOwnKind a) kept)
+module _ (kinds : ℕ → Kind) (a : ℕ) (k l : Known) (sound : IsSound k.claims) (notes kept : List Note) (m : ℕ) (own : AllByRecursion (IsOwnKind kinds a) kept)
     (opens : (key : IsoKey) → IsIsoOf a key → is_some (iso_open l kept key m) ≡ is_some (iso_open k notes key m)) where
   iso_among : (key : IsoKey) (ks : List IsoKey) → AllByRecursion (IsIsoOf a) ks
       → AllByRecursion (λ x. list_any (same_iso x) (filter (λ other. not (same_iso other key)) (open_iso_keys k notes m)) ≡ true)
@@ -172,5 +172,5 @@ module _ (a : ℕ) (k l : Known) (sound : IsSound k.claims) (notes kept : List N
       (no_longer same_iso iso.same_is iso_turn iso_itself (filter (λ other. not (same_iso other key)) (open_iso_keys l kept m)) (filter (λ other. not (same_iso other key)) (open_iso_keys k notes m))
       (apart_filtered same_iso iso.same_is iso_turn iso_itself (λ other. not (same_iso other key)) (open_iso_keys l kept m)
       (apart_filtered same_iso iso.same_is iso_turn iso_itself (λ x. is_some (iso_open l kept x m)) (iso_keys kept) (iso_apart kept)))
-      (iso_among key (iso_keys kept) (iso_own a kept own)))
+      (iso_among key (iso_keys kept) (iso_own kinds a kept own)))
       room

@@ -7,7 +7,7 @@ use Rattle.n2k_id.specs.Frame.{BusFrame}
 use Rattle.n2k_id.specs.Identifier.{parts_of}
 use Rattle.claim_table.specs.Claims.{holder_at}
 use Rattle.claim_table.specs.Laws.{IsSound}
-use Rattle.pgn_profile.specs.Profiled.{kind_of}
+use Rattle.pgn_profile.specs.declared.kinds.Kind.{Kind}
 use Rattle.pgn_profile.specs.declared.kinds.Kind.TheVariants.{Fast, Outside}
 use Rattle.runs.specs.Runs.{Rules}
 use Rattle.fast_packet.specs.FastFrames.{is_opener}
@@ -18,15 +18,15 @@ use Rattle.iso_transport.specs.IsoRuns.{is_opener as iso_opener}
 use Rattle.iso_transport.specs.declared.key.IsoKey.{IsoKey}
 use Rattle.history.specs.Entries.{Entry, History, frame, datagram, tick}
 use Rattle.history.specs.Entries as entry
-use Rattle.history.specs.Settings.{Settings}
+use Rattle.history.specs.Receiver.{Receiver}
 use Rattle.history.specs.Known.{Known, known, is_own, is_claim, since_of}
 use Rattle.history.specs.Traces.{Note, fast_piece, fast_trace, fast_trace_since, iso_piece, iso_trace, broadcast_since, addressed_since, is_bearing}
 use Rattle.history.specs.Opens.{is_fast, notes_of}
-use Rattle.history.specs.AddressLaws.{AreSettings}
+use Rattle.history.specs.AddressLaws.{IsReceiver}
 use Rattle.history.specs.KeyLaws.{is_meant, concerns, the_note}
 use Rattle.history.specs.IsolationLaws.{opens, FindsRoom, NoneRefused}
 use Rattle.history.proofs.Addresses.{addresses_are_sound}
-use Rattle.history.proofs.KeySteps.{known_same, claim_kind, other_piece}
+use Rattle.history.proofs.KeySteps.{known_same, other_piece}
 use Rattle.history.proofs.SessionSteps.{IsLate, late, trace_is}
 use Rattle.history.proofs.TraceMoves.{claims_move_traces, commands_move_traces}
 
@@ -34,8 +34,8 @@ use Rattle.history.proofs.TraceMoves.{claims_move_traces, commands_move_traces}
 abbrev pub FoundRoom : {X : Type 0} → Rules X → List X → Type 0
 FoundRoom r t = AllByRecursion (λ x. r.opens x ≡ true → r.admitted x ≡ true) t
 
-pub record Roomy (c : Settings) (s a : ℕ) (h : History) : Type 0 where
-  pub fast : (p : ℕ) → kind_of p ≡ Fast → FoundRoom fast_rules (fast_trace (known c s h) a p (notes_of c s h))
+pub record Roomy (c : Receiver) (s a : ℕ) (h : History) : Type 0 where
+  pub fast : (p : ℕ) → c.kinds p ≡ Fast → FoundRoom fast_rules (fast_trace (known c s h) a p (notes_of c s h))
   pub iso : (addressed : Bool) → FoundRoom (iso_rules addressed) (iso_trace (known c s h) addressed a (notes_of c s h))
 
 cut_room : {X : Type 0} (r : Rules X) (b : Bool) (t : List X) → FoundRoom r t → FoundRoom r (if b then [] else t)
@@ -46,8 +46,8 @@ added_room : {X : Type 0} (r : Rules X) (b : Bool) (x : X) (t : List X) → (b �
 added_room r true x t new room = (new refl, room)
 added_room r false x t new room = room
 
-pub not_claims_pgn : (p : ℕ) → kind_of p ≡ Fast → p ≢ 60928
-not_claims_pgn p fast e = let two : Outside ≡ Fast = sym claim_kind ∙ subst (λ (x : ℕ). kind_of x ≡ Fast) e fast in cc
+pub not_claims_pgn : (c : Receiver) → IsReceiver c → (p : ℕ) → c.kinds p ≡ Fast → p ≢ 60928
+not_claims_pgn c are p fast e = let two : Outside ≡ Fast = sym are.claims ∙ subst (λ (x : ℕ). c.kinds x ≡ Fast) e fast in cc
 
 -- ---- the fast frames of a source, with one more
 
@@ -70,13 +70,13 @@ fast_past k a p n notes e = other_piece (since_of k a) a p n notes (rw e refl)
 
 -- ---- what counts and is an opener of its rules opens a message
 
-fast_opens : (k : Known) (n : Note) (a p : ℕ) → (n.parts.source == a) ≡ true → is_fast (kind_of p) ≡ true → (is_some (since_of k a) && (n.parts.pgn == p)) ≡ true
-    → fast_rules.opens (fast_piece n) ≡ true → opens k n ≡ true
-fast_opens k n a p source kind counts opening =
+fast_opens : (c : Receiver) (k : Known) (n : Note) (a p : ℕ) → (n.parts.source == a) ≡ true → is_fast (c.kinds p) ≡ true → (is_some (since_of k a) && (n.parts.pgn == p)) ≡ true
+    → fast_rules.opens (fast_piece n) ≡ true → opens c.kinds k n ≡ true
+fast_opens c k n a p source kind counts opening =
     let parts = and_parts (is_some (since_of k a)) (n.parts.pgn == p) counts in
     let held : is_some (since_of k n.parts.source) ≡ true = subst (λ (x : ℕ). is_some (since_of k x) ≡ true) (sym (eqb-true n.parts.source a source)) parts.0 in
-    let fast : is_fast (kind_of n.parts.pgn) ≡ true = subst (λ (x : ℕ). is_fast (kind_of x) ≡ true) (sym (eqb-true n.parts.pgn p parts.1)) kind in
-    first (is_some (since_of k n.parts.source)) (is_fast (kind_of n.parts.pgn)) (is_opener n.bytes) _ held fast opening
+    let fast : is_fast (c.kinds n.parts.pgn) ≡ true = subst (λ (x : ℕ). is_fast (c.kinds x) ≡ true) (sym (eqb-true n.parts.pgn p parts.1)) kind in
+    first (is_some (since_of k n.parts.source)) (is_fast (c.kinds n.parts.pgn)) (is_opener n.bytes) _ held fast opening
   where
     first : (x y z u : Bool) → x ≡ true → y ≡ true → z ≡ true → ((x && (y && z)) || u) ≡ true
     first true true true u e f g = refl
@@ -112,9 +112,9 @@ key_is k sound n a addressed e =
     to true f = ap not (own_small k sound n.parts.destination k.claims.own refl f)
     to false f = ap not f
 
-iso_opens : (k : Known) → IsSound k.claims → (n : Note) (a : ℕ) (addressed : Bool) → concerns k n (record { addressed = addressed; source = a }) ≡ true
-    → (iso_rules addressed).opens (iso_piece n) ≡ true → opens k n ≡ true
-iso_opens k sound n a addressed e opening =
+iso_opens : (kinds : ℕ → Kind) (k : Known) → IsSound k.claims → (n : Note) (a : ℕ) (addressed : Bool) → concerns k n (record { addressed = addressed; source = a }) ≡ true
+    → (iso_rules addressed).opens (iso_piece n) ≡ true → opens kinds k n ≡ true
+iso_opens kinds k sound n a addressed e opening =
     second _ (concerns k n (key_of n.parts) && iso_opener (key_of n.parts).addressed (iso_piece n))
     (subst (λ (x : IsoKey). (concerns k n x && iso_opener x.addressed (iso_piece n)) ≡ true) (sym (key_is k sound n a addressed e))
     (both (concerns k n (record { addressed = addressed; source = a })) (iso_opener addressed (iso_piece n)) e opening))
@@ -129,16 +129,16 @@ iso_opens k sound n a addressed e opening =
 
 -- ---- a whole history
 
-module _ (c : Settings) (s a : ℕ) (are : AreSettings c) where
-  module _ (h : History) (m : ℕ) (f : BusFrame) (finds : FindsRoom a (known c s h) (the_note c s h m f)) (room : Roomy c s a h) where
-    pub fast_with : (p : ℕ) → kind_of p ≡ Fast → FoundRoom fast_rules (fast_trace (known c s h) a p (the_note c s h m f ∷ notes_of c s h))
+module _ (c : Receiver) (s a : ℕ) (are : IsReceiver c) where
+  module _ (h : History) (m : ℕ) (f : BusFrame) (finds : FindsRoom c.kinds a (known c s h) (the_note c s h m f)) (room : Roomy c s a h) where
+    pub fast_with : (p : ℕ) → c.kinds p ≡ Fast → FoundRoom fast_rules (fast_trace (known c s h) a p (the_note c s h m f ∷ notes_of c s h))
     fast_with p kind = by ((parts_of f.id).source == a) refl
       where
         by : (b : Bool) → ((parts_of f.id).source == a) ≡ b → FoundRoom fast_rules (fast_trace (known c s h) a p (the_note c s h m f ∷ notes_of c s h))
         by true e =
             subst (FoundRoom fast_rules) (sym (fast_head (known c s h) a p (the_note c s h m f) (notes_of c s h) e (late c s h m f are a (holder_at (known c s h).claims.holders a) refl)))
             (added_room fast_rules (is_some (since_of (known c s h) a) && ((parts_of f.id).pgn == p)) (fast_piece (the_note c s h m f)) (fast_trace (known c s h) a p (notes_of c s h))
-            (λ counts opening. finds e (fast_opens (known c s h) (the_note c s h m f) a p e (ap is_fast kind) counts opening)) (room.fast p kind))
+            (λ counts opening. finds e (fast_opens c (known c s h) (the_note c s h m f) a p e (ap is_fast kind) counts opening)) (room.fast p kind))
         by false e = subst (FoundRoom fast_rules) (sym (fast_past (known c s h) a p (the_note c s h m f) (notes_of c s h) e)) (room.fast p kind)
 
     pub iso_with : (addressed : Bool) → FoundRoom (iso_rules addressed) (iso_trace (known c s h) addressed a (the_note c s h m f ∷ notes_of c s h))
@@ -146,7 +146,7 @@ module _ (c : Settings) (s a : ℕ) (are : AreSettings c) where
         subst (FoundRoom (iso_rules addressed)) (sym (trace_is c s h m f are addressed a))
         (added_room (iso_rules addressed) (concerns (known c s h) (the_note c s h m f) (record { addressed = addressed; source = a })) (iso_piece (the_note c s h m f)) (iso_trace (known c s h) addressed a (notes_of c s h))
         (λ counts opening. finds (concerned_source (known c s h) (the_note c s h m f) a addressed counts)
-        (iso_opens (known c s h) (addresses_are_sound c s h are).sound (the_note c s h m f) a addressed counts opening)) (room.iso addressed))
+        (iso_opens c.kinds (known c s h) (addresses_are_sound c s h are).sound (the_note c s h m f) a addressed counts opening)) (room.iso addressed))
 
   start_room : Roomy c s a []
   start_room = record { fast = λ p kind. no_fast p (since_of (known c s []) a); iso = no_iso }
@@ -171,7 +171,7 @@ module _ (c : Settings) (s a : ℕ) (are : AreSettings c) where
   claim_room : (h : History) (m : ℕ) (f : BusFrame) → is_claim f ≡ true → Roomy c s a h → Roomy c s a (frame m f ∷ h)
   claim_room h m f claims room = record {
     fast = λ p kind.
-        subst (FoundRoom fast_rules) (sym ((claims_move_traces c s h m f are claims).fast a p (not_claims_pgn p kind)))
+        subst (FoundRoom fast_rules) (sym ((claims_move_traces c s h m f are claims).fast a p (not_claims_pgn c are p kind)))
         (cut_room fast_rules _ (fast_trace (known c s h) a p (notes_of c s h)) (room.fast p kind));
     iso = cut;
   }
@@ -184,7 +184,7 @@ module _ (c : Settings) (s a : ℕ) (are : AreSettings c) where
           subst (FoundRoom (iso_rules true)) (sym ((claims_move_traces c s h m f are claims).addressed a))
           (cut_room (iso_rules true) _ (iso_trace (known c s h) true a (notes_of c s h)) (room.iso true))
 
-  frame_room : (h : History) (m : ℕ) (f : BusFrame) → is_claim f ≡ false → FindsRoom a (known c s h) (the_note c s h m f) → Roomy c s a h → Roomy c s a (frame m f ∷ h)
+  frame_room : (h : History) (m : ℕ) (f : BusFrame) → is_claim f ≡ false → FindsRoom c.kinds a (known c s h) (the_note c s h m f) → Roomy c s a h → Roomy c s a (frame m f ∷ h)
   frame_room h m f other finds room = record {
     fast = λ p kind. subst (λ (k : Known). FoundRoom fast_rules (fast_trace k a p (the_note c s h m f ∷ notes_of c s h))) (sym (known_same c s h m f other)) (fast_with h m f finds room p kind);
     iso = λ addressed.
@@ -193,7 +193,7 @@ module _ (c : Settings) (s a : ℕ) (are : AreSettings c) where
 
   command_room : (h : History) (m source address : ℕ) → Roomy c s a h → Roomy c s a (entry.command m source address ∷ h)
   command_room h m source address room = record {
-    fast = λ p kind. subst (FoundRoom fast_rules) (sym ((commands_move_traces c s h m source address).fast a p (not_claims_pgn p kind))) (room.fast p kind);
+    fast = λ p kind. subst (FoundRoom fast_rules) (sym ((commands_move_traces c s h m source address).fast a p (not_claims_pgn c are p kind))) (room.fast p kind);
     iso = cut;
   }
     where

@@ -12,13 +12,14 @@ use Rattle.runs.proofs.Steps.{one_step_of}
 use Rattle.iso_transport.specs.IsoRuns.{IsoPiece, iso_rules}
 use Rattle.iso_transport.proofs.Lawful.{lawful}
 use Rattle.iso_transport.specs.Audience.{key_of}
+use Rattle.pgn_profile.specs.declared.kinds.Kind.{Kind}
 use Rattle.history.specs.Entries.{History}
-use Rattle.history.specs.Settings.{Settings}
+use Rattle.history.specs.Receiver.{Receiver}
 use Rattle.history.specs.Known.{Known, known, is_own, is_claim, since_of}
 use Rattle.history.specs.Traces.{Note, is_since, iso_piece, iso_trace, broadcast_since, addressed_since, is_transport, is_bearing}
 use Rattle.history.specs.Opens.{iso_open, notes_of}
 use Rattle.history.specs.Messages.{said_by, completed_by, by_session, iso_carried}
-use Rattle.history.specs.AddressLaws.{AreSettings}
+use Rattle.history.specs.AddressLaws.{IsReceiver}
 use Rattle.history.specs.KeyLaws.{is_meant, concerns, StepsIso, CompletesIso, FramesStepIso, FramesCompleteIso, TimeEndsIso, the_note}
 use Rattle.history.proofs.Addresses.{addresses_are_sound}
 use Rattle.history.proofs.KeySteps.{dated_at, known_same, eqb-sym}
@@ -77,7 +78,7 @@ addressed_trace k (Some since) None own_since a n notes e late own_late = sym (r
     none false = refl
 addressed_trace k (Some since) (Some own) own_since a n notes e late own_late = rw e (addressed_head since own own_since a n notes late own_late)
 
-module _ (c : Settings) (s : ℕ) (h : History) (m : ℕ) (f : BusFrame) (are : AreSettings c) where
+module _ (c : Receiver) (s : ℕ) (h : History) (m : ℕ) (f : BusFrame) (are : IsReceiver c) where
   pub late : (a : ℕ) (o : Option Holder) → holder_at (known c s h).claims.holders a ≡ o → IsLate (option_map (λ (y : Holder). y.since) o) (length h)
   late a None e = tt
   late a (Some x) e = dated_at (length h) (known c s h).claims.holders a x (addresses_are_sound c s h are).dated e
@@ -130,10 +131,10 @@ pub session_is : (k : Known) (n : Note) (older : List Note) (b : Bool) → ((not
 session_is k n older true e = rw e refl
 session_is k n older false e = rw e refl
 
-pub completed_iso : (k : Known) (n : Note) (older : List Note) → is_transport n.parts ≡ true → completed_by k n older ≡ by_session k n older
-completed_iso k n older e = rw e refl
+pub completed_iso : (kinds : ℕ → Kind) (k : Known) (n : Note) (older : List Note) → is_transport n.parts ≡ true → completed_by kinds k n older ≡ by_session k n older
+completed_iso kinds k n older e = rw e refl
 
-module _ (c : Settings) (s : ℕ) (h : History) (m : ℕ) (f : BusFrame) (x : Holder) (are : AreSettings c) (transport : is_transport (parts_of f.id) ≡ true)
+module _ (c : Receiver) (s : ℕ) (h : History) (m : ℕ) (f : BusFrame) (x : Holder) (are : IsReceiver c) (transport : is_transport (parts_of f.id) ≡ true)
     (holds : holder_at (known c s h).claims.holders (parts_of f.id).source ≡ Some x) where
   since_is : since_of (known c s h) (parts_of f.id).source ≡ Some x.since
   since_is = ap (option_map (λ (y : Holder). y.since)) holds
@@ -154,19 +155,19 @@ module _ (c : Settings) (s : ℕ) (h : History) (m : ℕ) (f : BusFrame) (x : Ho
       ∙ ap iso_carried ((steps addressed).whole (iso_trace (known c s h) addressed (parts_of f.id).source (notes_of c s h)) (iso_piece (the_note c s h m f)))
   ends addressed false e = refl
 
-  completes : completed_by (known c s h) (the_note c s h m f) (notes_of c s h)
+  completes : completed_by c.kinds (known c s h) (the_note c s h m f) (notes_of c s h)
       ≡ (if concerns (known c s h) (the_note c s h m f) (key_of (parts_of f.id))
       then iso_carried (finished (iso_rules (key_of (parts_of f.id)).addressed) (iso_open (known c s h) (notes_of c s h) (key_of (parts_of f.id)) m) (iso_piece (the_note c s h m f)))
       else None)
   completes =
-      completed_iso (known c s h) (the_note c s h m f) (notes_of c s h) transport
+      completed_iso c.kinds (known c s h) (the_note c s h m f) (notes_of c s h) transport
       ∙ session_is (known c s h) (the_note c s h m f) (notes_of c s h) (concerns (known c s h) (the_note c s h m f) (key_of (parts_of f.id))) (sym concerns_is)
       ∙ ends (key_of (parts_of f.id)).addressed (concerns (known c s h) (the_note c s h m f) (key_of (parts_of f.id))) refl
 
   pub complete : CompletesIso c s h m f x
   complete = record {
     completed =
-        ap (λ (o : Option Holder). said_by (length h) m (parts_of f.id).source o (completed_by (known c s h) (the_note c s h m f) (notes_of c s h))) holds
+        ap (λ (o : Option Holder). said_by (length h) m (parts_of f.id).source o (completed_by c.kinds (known c s h) (the_note c s h m f) (notes_of c s h))) holds
         ∙ ap (said_by (length h) m (parts_of f.id).source (Some x)) completes;
   }
 

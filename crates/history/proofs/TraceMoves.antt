@@ -10,11 +10,11 @@ use Rattle.claim_table.specs.Claims.{Claims, Claim, Outcome, claim, command, hol
 use Rattle.fast_packet.specs.FastRuns.{FastPiece}
 use Rattle.iso_transport.specs.IsoRuns.{IsoPiece}
 use Rattle.history.specs.Entries.{History, frame}
-use Rattle.history.specs.Settings.{Settings}
+use Rattle.history.specs.Receiver.{Receiver}
 use Rattle.history.specs.Known.{Known, known, is_claim, claim_by, followed_by, since_of, since_own}
 use Rattle.history.specs.Traces.{Note, is_since, fast_piece, fast_trace_since, iso_piece, broadcast_since, addressed_since, is_transport, is_bearing}
 use Rattle.history.specs.Opens.{note_of, notes_of}
-use Rattle.history.specs.AddressLaws.{AreSettings}
+use Rattle.history.specs.AddressLaws.{IsReceiver}
 use Rattle.history.specs.TraceLaws.{is_lost, same_own, LeavesTraces, ClaimsMoveTraces, CommandsMoveTraces}
 use Rattle.history.proofs.Addresses.{addresses_are_sound}
 use Rattle.history.proofs.Fates.{Fate, stays, begins, fate}
@@ -125,7 +125,7 @@ moved_of c k o a (begins new old) = moves.begins (after new) (before old)
     before (inl e) = inl e
     before (inr e) = inr (ap (option_map (λ (h : Holder). h.since)) e)
 
-module _ (c : Settings) (s : ℕ) (h : History) (m : ℕ) (f : BusFrame) (are : AreSettings c) (claims : is_claim f ≡ true) where
+module _ (c : Receiver) (s : ℕ) (h : History) (m : ℕ) (f : BusFrame) (are : IsReceiver c) (claims : is_claim f ≡ true) where
   k : Known
   k = known c s h
 
@@ -171,11 +171,11 @@ module _ (c : Settings) (s : ℕ) (h : History) (m : ℕ) (f : BusFrame) (are : 
       not_it p other = rw pgn_is (ne_eqb 60928 p (λ e. other (sym e)))
 
 -- what of the claim a note of another kind needs: who holds an address after it, and since when
-pub known_after_claim : (c : Settings) (s : ℕ) (h : History) (m : ℕ) (f : BusFrame) → is_claim f ≡ true
+pub known_after_claim : (c : Receiver) (s : ℕ) (h : History) (m : ℕ) (f : BusFrame) → is_claim f ≡ true
     → known c s (frame m f ∷ h) ≡ followed_by (length h) (known c s h) (claim (known c s h).claims (claim_by (length h) m f)).after
 known_after_claim c s h m f claims = rw claims refl
 
-pub moved_since : (c : Settings) (s : ℕ) (h : History) (m : ℕ) (f : BusFrame) → AreSettings c → (a : ℕ)
+pub moved_since : (c : Receiver) (s : ℕ) (h : History) (m : ℕ) (f : BusFrame) → IsReceiver c → (a : ℕ)
     → Moved (is_lost (claim (known c s h).claims (claim_by (length h) m f)).step a) (length h) (since_of (known c s h) a)
     (since_of (followed_by (length h) (known c s h) (claim (known c s h).claims (claim_by (length h) m f)).after) a)
 unfolding since_in

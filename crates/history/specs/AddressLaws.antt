@@ -4,7 +4,9 @@ use Rattle.claim_table.specs.Claims.{IsSinceBy}
 use Rattle.claim_table.specs.Laws.{IsSound}
 use Rattle.claim_table.specs.Presets.{repeats, takes}
 use Rattle.history.specs.Entries.{History}
+use Rattle.pgn_profile.specs.declared.kinds.Kind.TheVariants.{Outside}
 use Rattle.history.specs.Settings.{Settings}
+use Rattle.history.specs.Receiver.{Receiver, receiver_of}
 use Rattle.history.specs.Known.{Known, known}
 
 -- settings of which a gateway can be made: it begins with an address that a device may move to, no two presets share an address
@@ -14,6 +16,19 @@ pub record AreSettings (c : Settings) : Type 0 where
   pub apart : repeats c.presets ≡ false
   pub others : takes c.name c.address c.presets ≡ false
 
+-- a receiver that can be: so are its address and presets, and no PGN of claims or of the transport protocol is a message by itself
+pub record IsReceiver (r : Receiver) : Type 0 where
+  pub address : r.address < 252
+  pub apart : repeats r.presets ≡ false
+  pub others : takes r.name r.address r.presets ≡ false
+  pub claims : r.kinds 60928 ≡ Outside
+  pub management : r.kinds 60416 ≡ Outside
+  pub data_packets : r.kinds 60160 ≡ Outside
+
+-- a gateway of such settings is one
+abbrev pub GatewaysReceive : Type 0
+GatewaysReceive = (c : Settings) → AreSettings c → IsReceiver (receiver_of c)
+
 -- no NAME has two addresses, the own address has no other holder and the own NAME none besides it; and no index since which a holder
 -- has its address, or the gateway its own, is greater than n
 pub record AreSound (k : Known) (n : ℕ) : Type 0 where
@@ -22,4 +37,4 @@ pub record AreSound (k : Known) (n : ℕ) : Type 0 where
   pub own_dated : k.own_since ≤ n
 
 abbrev pub AddressesAreSound : Type 0
-AddressesAreSound = (c : Settings) (s : ℕ) (h : History) → AreSettings c → AreSound (known c s h) (length h)
+AddressesAreSound = (r : Receiver) (s : ℕ) (h : History) → IsReceiver r → AreSound (known r s h) (length h)

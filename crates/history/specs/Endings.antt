@@ -6,6 +6,7 @@ use Rattle.iso_transport.specs.declared.reply.Reply.TheVariants.{Abort}
 use Rattle.iso_transport.specs.IsoRuns.{IsoPiece, session_of}
 use Rattle.report_rules.specs.Rules as rules
 use Rattle.capture_text.specs.declared.emit.Detail.TheVariants as detail
+use Rattle.pgn_profile.specs.declared.kinds.Kind.{Kind}
 use Rattle.fast_packet.specs.declared.key.FastKey.{FastKey}
 use Rattle.iso_transport.specs.declared.key.IsoKey.{IsoKey}
 use Rattle.tag_block.specs.declared.group_key.GroupKey.{GroupKey}
@@ -38,8 +39,8 @@ abbrev pub abort_reply : Bool → ℕ → Option Reply
 abort_reply addressed pgn = if addressed then Some (Abort 3 pgn) else None
 
 module _ (k : Known) (notes : List Note) (before m : ℕ) where
-  abbrev pub fast_expired : List Emit
-  fast_expired = flat_map (λ key. of_source rules.expired key.source key.pgn ∷ []) (filter (fast_ended k before k m notes) (fast_keys notes))
+  abbrev pub fast_expired : (ℕ → Kind) → List Emit
+  fast_expired kinds = flat_map (λ key. of_source rules.expired key.source key.pgn ∷ []) (filter (fast_ended k before k m notes) (fast_keys kinds notes))
 
   abbrev pub iso_expired : List Emit
   iso_expired =
@@ -58,17 +59,17 @@ groups_expired taken before m =
 -- ---- by a claim or a command (rule 17), all at one moment
 
 module _ (k after : Known) (notes : List Note) (m : ℕ) where
-  abbrev pub fast_lost : (FastKey → Bool) → List Emit
-  fast_lost is_meant = flat_map (λ key. of_source rules.claim_lost key.source key.pgn ∷ []) (filter (λ key. is_meant key && fast_ended k m after m notes key) (fast_keys notes))
+  abbrev pub fast_lost : (ℕ → Kind) → (FastKey → Bool) → List Emit
+  fast_lost kinds is_meant = flat_map (λ key. of_source rules.claim_lost key.source key.pgn ∷ []) (filter (λ key. is_meant key && fast_ended k m after m notes key) (fast_keys kinds notes))
 
   abbrev pub iso_lost : (IsoKey → Bool) → List Emit
   iso_lost is_meant =
       flat_map (λ key. of_source rules.claim_lost key.source (session_pgn k notes key m) ∷ []) (filter (λ key. is_meant key && iso_ended k m after m notes key) (iso_keys notes))
 
   -- of one address: fast packets by PGN, then the broadcast session, then the addressed one
-  abbrev pub lost_at : Option ℕ → List Emit
-  lost_at None = []
-  lost_at (Some a) = fast_lost (λ key. key.source == a) ++ iso_lost (λ key. key.source == a)
+  abbrev pub lost_at : (ℕ → Kind) → Option ℕ → List Emit
+  lost_at kinds None = []
+  lost_at kinds (Some a) = fast_lost kinds (λ key. key.source == a) ++ iso_lost (λ key. key.source == a)
 
   -- the other addressed sessions, by source
   abbrev pub lost_elsewhere : Option ℕ → Option ℕ → List Emit

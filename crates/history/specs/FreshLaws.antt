@@ -3,10 +3,11 @@ use Rattle.std.specs.Prelude.{◌≡◌, ℕ, Bool, true, false, ◌&&◌, ◌==
 use Rattle.n2k_id.specs.Frame.{BusFrame}
 use Rattle.readings.specs.declared.rows.Row.{Row}
 use Rattle.claim_table.specs.Claims.{claim}
-use Rattle.history.specs.AddressLaws.{AreSettings}
+use Rattle.history.specs.AddressLaws.{IsReceiver}
 use Rattle.history.specs.TraceLaws.{is_lost}
 use Rattle.history.specs.Entries.{History, frame, command}
-use Rattle.history.specs.Settings.{Settings, RowRule}
+use Rattle.history.specs.Settings.{RowRule}
+use Rattle.history.specs.Receiver.{Receiver}
 use Rattle.history.specs.Known.{Known, known, since_of, is_claim, claim_by}
 use Rattle.history.specs.Messages.{Message, done, messages_of}
 use Rattle.history.specs.Choice.{is_row, reading_of, is_of, is_fresh, still_counts}
@@ -33,21 +34,21 @@ FreshByLast = (rule : RowRule) (k : Known) (row : Row) (source m : ℕ) (older :
 -- a message takes the place of the one before, of its row and its source
 abbrev pub MessagesAreKept : Type 0
 MessagesAreKept =
-    (c : Settings) (s : ℕ) (h : History) (m : ℕ) (f : BusFrame) (row : Row) (source : ℕ) → AreSettings c → is_claim f ≡ false
+    (c : Receiver) (s : ℕ) (h : History) (m : ℕ) (f : BusFrame) (row : Row) (source : ℕ) → IsReceiver c → is_claim f ≡ false
     → last_of (known c s (frame m f ∷ h)) row source (messages_of c s (frame m f ∷ h))
     ≡ (if tells row source (done c s h (frame m f)) then done c s h (frame m f) else last_of (known c s h) row source (messages_of c s h))
 
 -- a claim forgets those of the addresses that were lost by it, and no others
 abbrev pub ClaimsForget : Type 0
 ClaimsForget =
-    (c : Settings) (s : ℕ) (h : History) (m : ℕ) (f : BusFrame) (row : Row) (source : ℕ) → AreSettings c → is_claim f ≡ true
+    (c : Receiver) (s : ℕ) (h : History) (m : ℕ) (f : BusFrame) (row : Row) (source : ℕ) → IsReceiver c → is_claim f ≡ true
     → last_of (known c s (frame m f ∷ h)) row source (messages_of c s (frame m f ∷ h))
     ≡ (if is_lost (claim (known c s h).claims (claim_by (length h) m f)).step source then None else last_of (known c s h) row source (messages_of c s h))
 
 -- a command forgets none
 abbrev pub CommandsForgetNone : Type 0
 CommandsForgetNone =
-    (c : Settings) (s : ℕ) (h : History) (m from address : ℕ) (row : Row) (source : ℕ)
+    (c : Receiver) (s : ℕ) (h : History) (m from address : ℕ) (row : Row) (source : ℕ)
     → last_of (known c s (command m from address ∷ h)) row source (messages_of c s (command m from address ∷ h)) ≡ last_of (known c s h) row source (messages_of c s h)
 
 -- on the network there are no claims: a reading takes the place of the one before, of its row and its source, and none is forgotten

@@ -21,7 +21,10 @@ use Rattle.capture_text.specs.declared.emit.Report.{Report}
 use Rattle.capture_text.specs.declared.emit.Detail.TheVariants as detail
 use Rattle.history.specs.Entries as entry
 use Rattle.history.specs.Entries.{Entry, History}
+use Rattle.pgn_profile.specs.Profiled.{kind_of}
+use Rattle.pgn_profile.specs.declared.kinds.Kind.{Kind}
 use Rattle.history.specs.Settings.{Settings, rule_of}
+use Rattle.history.specs.Receiver.{receiver_of}
 use Rattle.history.specs.Known.{Known, known, known_after, is_claim, claim_by, address_left, address_won}
 use Rattle.history.specs.Meanings.{Meaning, address_claim, request, transport, meaning_of, is_of_session, is_of_fast_packet}
 use Rattle.history.specs.Traces.{Note, iso_piece}
@@ -43,16 +46,16 @@ own_answer name (Move address) own = own_claim name own ∷ []
 own_answer name CannotClaim own = own_claim name own ∷ []
 own_answer name Duplicate own = []
 
-abbrev pub step_gives : ℕ → Known → Known → List Note → ℕ → ClaimStep → List Emit
-step_gives name k after notes m step =
-    lost_at k after notes m (address_left step)
-    ++ lost_at k after notes m (address_won step)
+abbrev pub step_gives : (ℕ → Kind) → ℕ → Known → Known → List Note → ℕ → ClaimStep → List Emit
+step_gives kinds name k after notes m step =
+    lost_at k after notes m kinds (address_left step)
+    ++ lost_at k after notes m kinds (address_won step)
     ++ lost_elsewhere k after notes m (address_left step) (address_won step)
     ++ own_answer name step.own after.claims.own
 
-abbrev pub claim_gives : ℕ → ℕ → Known → List Note → ℕ → BusFrame → List Emit
-claim_gives name index k notes m f =
-    if is_claim f then step_gives name k (known_after index k (entry.frame m f)) notes m (claim k.claims (claim_by index m f)).step else []
+abbrev pub claim_gives : (ℕ → Kind) → ℕ → ℕ → Known → List Note → ℕ → BusFrame → List Emit
+claim_gives kinds name index k notes m f =
+    if is_claim f then step_gives kinds name k (known_after index k (entry.frame m f)) notes m (claim k.claims (claim_by index m f)).step else []
 
 -- ---- a request (ISO 11783-5): what is asked for is 24 bits, and only a claim is answered here
 
@@ -92,32 +95,32 @@ packets_before meaning k notes m p = if is_of_session meaning then iso_open k no
 
 module _ (c : Settings) (s : ℕ) (h : History) (m : ℕ) (f : BusFrame) where
   abbrev pub meaning_after : Meaning
-  meaning_after = meaning_of (known c s h).claims.own (known c s h).claims.holders (parts_of f.id)
+  meaning_after = meaning_of kind_of (known (receiver_of c) s h).claims.own (known (receiver_of c) s h).claims.holders (parts_of f.id)
 
   -- the rules that it breaks
   abbrev pub frame_refused : List Report
   frame_refused =
-      let k = known c s h in
-      let notes = notes_of c s h in
-      let n = note_of c (length h) k notes m f in
+      let k = known (receiver_of c) s h in
+      let notes = notes_of (receiver_of c) s h in
+      let n = note_of (receiver_of c) (length h) k notes m f in
       frame_breaks c.name meaning_after n (frames_before meaning_after k notes m n.parts) (packets_before meaning_after k notes m n.parts)
-      (done c s h (entry.frame m f))
+      (done (receiver_of c) s h (entry.frame m f))
 
   -- what it makes the gateway send on the bus
   abbrev pub answers_by : Meaning → List Emit
-  answers_by address_claim = claim_gives c.name (length h) (known c s h) (notes_of c s h) m f
-  answers_by request = request_gives c.name (known c s h).claims.own f.held
+  answers_by address_claim = claim_gives kind_of c.name (length h) (known (receiver_of c) s h) (notes_of (receiver_of c) s h) m f
+  answers_by request = request_gives c.name (known (receiver_of c) s h).claims.own f.held
   answers_by transport =
-      let k = known c s h in
-      let notes = notes_of c s h in
-      session_gives k.claims.own (packets_before transport k notes m (parts_of f.id)) (note_of c (length h) k notes m f)
+      let k = known (receiver_of c) s h in
+      let notes = notes_of (receiver_of c) s h in
+      session_gives k.claims.own (packets_before transport k notes m (parts_of f.id)) (note_of (receiver_of c) (length h) k notes m f)
   answers_by _ = []
 
   -- its reports stand before its replies, and these before the datagram of the message that it completes
   abbrev pub from_frame : List Spoken → List Emit
   from_frame before =
       reported frame_refused ++ answers_by meaning_after
-      ++ said_in c before (chosen c (known c s h) (messages_of c s h) (done c s h (entry.frame m f)))
+      ++ said_in c before (chosen c (known (receiver_of c) s h) (messages_of (receiver_of c) s h) (done (receiver_of c) s h (entry.frame m f)))
 
 -- ---- a command to go to an address (ISO 11783-5), which is obeyed or is rule 26
 
@@ -130,5 +133,5 @@ command_gives name index k notes m source address =
     if is_obeyed k.claims address then lost_elsewhere k after notes m None None ++ own_claim name after.claims.own ∷ [] else []
 
 abbrev pub from_command : Settings → ℕ → History → ℕ → ℕ → ℕ → List Emit
-from_command c s h m source address = let k = known c s h in
-    reported (command_breaks k.claims source address) ++ command_gives c.name (length h) k (notes_of c s h) m source address
+from_command c s h m source address = let k = known (receiver_of c) s h in
+    reported (command_breaks k.claims source address) ++ command_gives c.name (length h) k (notes_of (receiver_of c) s h) m source address

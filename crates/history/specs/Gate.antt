@@ -13,7 +13,9 @@ use Rattle.capture_text.specs.declared.emit.Detail.TheVariants as detail
 use Rattle.report_rules.specs.Rules as rules
 use Rattle.history.specs.Entries as entry
 use Rattle.history.specs.Entries.{Entry, History, now, moment_of, is_accepted}
+use Rattle.pgn_profile.specs.Profiled.{kind_of}
 use Rattle.history.specs.Settings.{Settings, rule_of}
+use Rattle.history.specs.Receiver.{receiver_of}
 use Rattle.history.specs.Known.{Known, known}
 use Rattle.history.specs.Opens.{notes_of}
 use Rattle.history.specs.Messages.{Message, done, messages_of}
@@ -33,11 +35,11 @@ module _ (c : Settings) (s : ℕ) where
 
   abbrev pub spoken_of : History → List Spoken
   spoken_of [] = []
-  spoken_of (e ∷ h) = with_spoken (chosen c (known c s h) (messages_of c s h) (done c s h e)) (spoken_of h)
+  spoken_of (e ∷ h) = with_spoken (chosen c (known (receiver_of c) s h) (messages_of (receiver_of c) s h) (done (receiver_of c) s h e)) (spoken_of h)
 
   -- the items of a datagram that comes after a history
   abbrev pub came : History → ℕ → Result (List Item) DatagramFault → List Came
-  came h m read = came_at m (is_ready (known c s h).claims m) (items_in read)
+  came h m read = came_at m (is_ready (known (receiver_of c) s h).claims m) (items_in read)
 
   abbrev pub items_of : History → Entry → List Came
   items_of h (entry.frame m f) = []
@@ -53,9 +55,9 @@ module _ (c : Settings) (s : ℕ) where
   -- what is overdue ends first
   abbrev pub expired : History → ℕ → List Emit
   expired h m =
-      let k = known c s h in
-      let notes = notes_of c s h in
-      fast_expired k notes (now h) m ++ iso_expired k notes (now h) m ++ groups_expired (lines_of c (heard h)) (now h) m
+      let k = known (receiver_of c) s h in
+      let notes = notes_of (receiver_of c) s h in
+      fast_expired k notes (now h) m kind_of ++ iso_expired k notes (now h) m ++ groups_expired (lines_of c (heard h)) (now h) m
 
   -- the rules that an entry breaks; of a datagram, the reports among what it gives
   abbrev pub reports_in : List Emit → List Report
@@ -65,13 +67,13 @@ module _ (c : Settings) (s : ℕ) where
   reports_in (net group bytes ∷ emits) = reports_in emits
 
   abbrev pub datagram_after : History → ℕ → List ℕ → List Emit
-  datagram_after h m bytes = let read = datagrams.read bytes in datagram_gives c (known c s h).claims.own (heard h) (came h m read) read
+  datagram_after h m bytes = let read = datagrams.read bytes in datagram_gives c (known (receiver_of c) s h).claims.own (heard h) (came h m read) read
 
   abbrev pub broken_by : History → Entry → List Report
   broken_by h (entry.frame m f) = frame_refused c s h m f
   broken_by h (entry.datagram m bytes) = reports_in (datagram_after h m bytes)
   broken_by h (entry.tick m) = []
-  broken_by h (entry.command m source address) = command_breaks (known c s h).claims source address
+  broken_by h (entry.command m source address) = command_breaks (known (receiver_of c) s h).claims source address
 
   -- what an entry gives by itself
   abbrev pub handled : History → Entry → List Emit
@@ -104,7 +106,7 @@ module _ (c : Settings) (s : ℕ) where
   -- an event that is too early is reported and changes nothing (rule 3)
   abbrev pub stepped : History → Entry → Stepped
   stepped h e =
-      if is_accepted h e then with_command h e (command_in (done c s h e) (moment_of e))
+      if is_accepted h e then with_command h e (command_in (done (receiver_of c) s h e) (moment_of e))
       else record { emits = at (now h) (broken rules.moment_back detail.Nothing ∷ []); after = h }
 
   -- ---- a list of events, in the order in which they come

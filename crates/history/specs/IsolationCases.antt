@@ -1,6 +1,7 @@
 -- A device's messages, with and without another device between them.
 use Rattle.std.specs.Prelude.{◌≡◌, ℕ, List, [], ◌∷◌, reverse, map}
 use Rattle.history.specs.Entries.{Entry, tick}
+use Rattle.history.specs.Receiver.{receiver_of}
 use Rattle.history.specs.Messages.{messages_of}
 use Rattle.history.specs.IsolationLaws.{from, NoneRefused}
 use Rattle.history.specs.Cases.{Emits, full, can_frame, emitted, two_devices, fix}
@@ -16,11 +17,11 @@ in_turn =
     ∷ fix 1004000 23 4 ∷ fix 1004500 24 4 ∷ fix 1005000 23 5 ∷ fix 1005500 24 5 ∷ fix 1006000 23 6 ∷ fix 1006500 24 6 ∷ []
 
 abbrev pub done_from : List Entry → List ℕ
-done_from events = map (λ p. p.moment) (from 23 (messages_of two_devices 0 (reverse events)))
+done_from events = map (λ p. p.moment) (from 23 (messages_of (receiver_of two_devices) 0 (reverse events)))
 
 -- one message in each, the same
 abbrev pub SameAlone : Type 0
-SameAlone = from 23 (messages_of two_devices 0 (reverse in_turn)) ≡ from 23 (messages_of two_devices 0 (reverse alone))
+SameAlone = from 23 (messages_of (receiver_of two_devices) 0 (reverse in_turn)) ≡ from 23 (messages_of (receiver_of two_devices) 0 (reverse alone))
 
 abbrev pub OneDone : Type 0
 OneDone = done_from alone ≡ 1006000 ∷ []
@@ -34,4 +35,4 @@ abbrev pub Unheard : Type 0
 Unheard = Emits one_slot 10000000 elsewhere (emitted 10250000 (can_frame 0x1CEC18FB 0x110801FFFF05F801) ∷ [])
 
 abbrev pub NotRefused : Type 0
-NotRefused = NoneRefused one_slot 10000000 (reverse elsewhere) 23
+NotRefused = NoneRefused (receiver_of one_slot) 10000000 (reverse elsewhere) 23

@@ -1,13 +1,13 @@
 -- What a device sends alone decides, with the claims and commands, which of its messages are complete.
 use Rattle.std.specs.Prelude.{◌≡◌, ℕ, Bool, true, false, ◌&&◌, ◌||◌, ◌==◌, List, [], ◌∷◌, map, filter, is_some}
 use Rattle.n2k_id.specs.Identifier.{parts_of}
-use Rattle.pgn_profile.specs.Profiled.{kind_of}
+use Rattle.pgn_profile.specs.declared.kinds.Kind.{Kind}
 use Rattle.fast_packet.specs.FastFrames as fast
 use Rattle.iso_transport.specs.Audience.{key_of}
 use Rattle.iso_transport.specs.IsoRuns as iso
-use Rattle.history.specs.AddressLaws.{AreSettings}
+use Rattle.history.specs.AddressLaws.{IsReceiver}
 use Rattle.history.specs.Entries.{Entry, History, frame, datagram, tick, command}
-use Rattle.history.specs.Settings.{Settings}
+use Rattle.history.specs.Receiver.{Receiver}
 use Rattle.history.specs.Known.{Known, known, is_claim, since_of}
 use Rattle.history.specs.Traces.{Note, iso_piece}
 use Rattle.history.specs.Opens.{is_fast}
@@ -39,32 +39,32 @@ abbrev pub from : ℕ → List Message → List Plain
 from a older = map plain (filter (λ d. d.source == a) older)
 
 -- a frame opens a message: it begins a fast packet of a source that holds its address, or a session that concerns the gateway
-abbrev pub opens : Known → Note → Bool
-opens k n =
-    (is_some (since_of k n.parts.source) && (is_fast (kind_of n.parts.pgn) && fast.is_opener n.bytes))
+abbrev pub opens : (ℕ → Kind) → Known → Note → Bool
+opens kinds k n =
+    (is_some (since_of k n.parts.source) && (is_fast (kinds n.parts.pgn) && fast.is_opener n.bytes))
     || (concerns k n (key_of n.parts) && iso.is_opener (key_of n.parts).addressed (iso_piece n))
 
 -- by what is known when it comes, the frame is no opener from the address, or finds room
-abbrev pub FindsRoom : ℕ → Known → Note → Type 0
-FindsRoom a k n = (n.parts.source == a) ≡ true → opens k n ≡ true → n.admitted ≡ true
+abbrev pub FindsRoom : (ℕ → Kind) → ℕ → Known → Note → Type 0
+FindsRoom kinds a k n = (n.parts.source == a) ≡ true → opens kinds k n ≡ true → n.admitted ≡ true
 
 -- no opener from the address was refused for want of room
-abbrev pub NoneRefused : Settings → ℕ → History → ℕ → Type 0
+abbrev pub NoneRefused : Receiver → ℕ → History → ℕ → Type 0
 NoneRefused c s [] a = Unit {0}
-NoneRefused c s (frame m f ∷ h) a = FindsRoom a (known c s h) (the_note c s h m f) × NoneRefused c s h a
+NoneRefused c s (frame m f ∷ h) a = FindsRoom c.kinds a (known c s h) (the_note c s h m f) × NoneRefused c s h a
 NoneRefused c s (datagram m bytes ∷ h) a = NoneRefused c s h a
 NoneRefused c s (tick m ∷ h) a = NoneRefused c s h a
 NoneRefused c s (command m source address ∷ h) a = NoneRefused c s h a
 
 abbrev pub Isolation : Type 0
 Isolation =
-    (c : Settings) (s : ℕ) (h : History) (a : ℕ) → AreSettings c → NoneRefused c s h a
+    (c : Receiver) (s : ℕ) (h : History) (a : ℕ) → IsReceiver c → NoneRefused c s h a
     → from a (messages_of c s h) ≡ from a (messages_of c s (narrowed a h))
 
--- two gateways of one NAME, one address and the same presets, that differ in all else as they like: where the claims, the commands and
+-- two receivers of one NAME and address, with the same presets and the same messages, that differ in all else as they like: where the claims, the commands and
 -- the frames from an address are the same in their histories, with the same moments, so are the messages from it
 abbrev pub IsolationOfTwo : Type 0
 IsolationOfTwo =
-    (c d : Settings) (s : ℕ) (h g : History) (a : ℕ) → AreSettings c → d.name ≡ c.name → d.address ≡ c.address → d.presets ≡ c.presets
+    (c d : Receiver) (s : ℕ) (h g : History) (a : ℕ) → IsReceiver c → d.name ≡ c.name → d.address ≡ c.address → d.presets ≡ c.presets → ((p : ℕ) → d.kinds p ≡ c.kinds p)
     → narrowed a g ≡ narrowed a h → NoneRefused c s h a → NoneRefused d s g a
     → from a (messages_of c s h) ≡ from a (messages_of d s g)

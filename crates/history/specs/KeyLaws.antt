@@ -4,7 +4,6 @@ use Rattle.n2k_id.specs.Frame.{BusFrame}
 use Rattle.n2k_id.specs.Identifier.{parts_of}
 use Rattle.claim_table.specs.Claims.{holder_at}
 use Rattle.claim_table.specs.declared.answer.Holder.{Holder}
-use Rattle.pgn_profile.specs.Profiled.{kind_of}
 use Rattle.pgn_profile.specs.declared.kinds.Kind.TheVariants.{Fast}
 use Rattle.runs.specs.Runs.{fed, finished, kept_at}
 use Rattle.fast_packet.specs.FastRuns.{fast_rules}
@@ -12,16 +11,16 @@ use Rattle.iso_transport.specs.IsoRuns.{iso_rules}
 use Rattle.fast_packet.specs.declared.key.FastKey.{FastKey}
 use Rattle.iso_transport.specs.declared.key.IsoKey.{IsoKey}
 use Rattle.iso_transport.specs.Audience.{key_of}
-use Rattle.history.specs.AddressLaws.{AreSettings}
+use Rattle.history.specs.AddressLaws.{IsReceiver}
 use Rattle.history.specs.Entries.{History, frame}
-use Rattle.history.specs.Settings.{Settings}
+use Rattle.history.specs.Receiver.{Receiver}
 use Rattle.history.specs.Known.{Known, known, is_own, is_claim, since_of}
 use Rattle.history.specs.Traces.{Note, fast_piece, iso_piece, is_transport, is_bearing}
 use Rattle.history.specs.Opens.{same_fast, fast_open, iso_open, note_of, notes_of}
 use Rattle.history.specs.Messages.{done, said_by, fast_carried, iso_carried}
 
 -- a frame that is no claim, from a source that holds its address
-module _ (c : Settings) (s : ℕ) (h : History) (m : ℕ) (f : BusFrame) where
+module _ (c : Receiver) (s : ℕ) (h : History) (m : ℕ) (f : BusFrame) where
   abbrev pub the_note : Note
   the_note = note_of c (length h) (known c s h) (notes_of c s h) m f
 
@@ -42,11 +41,11 @@ module _ (c : Settings) (s : ℕ) (h : History) (m : ℕ) (f : BusFrame) where
 
 abbrev pub FramesStepFast : Type 0
 FramesStepFast =
-    (c : Settings) (s : ℕ) (h : History) (m : ℕ) (f : BusFrame) (holder : Holder) → AreSettings c → kind_of (parts_of f.id).pgn ≡ Fast
+    (c : Receiver) (s : ℕ) (h : History) (m : ℕ) (f : BusFrame) (holder : Holder) → IsReceiver c → c.kinds (parts_of f.id).pgn ≡ Fast
     → holder_at (known c s h).claims.holders (parts_of f.id).source ≡ Some holder → StepsFast c s h m f holder
 
 abbrev pub FramesKeepFast : Type 0
-FramesKeepFast = (c : Settings) (s : ℕ) (h : History) (m : ℕ) (f : BusFrame) → is_claim f ≡ false → KeepsFast c s h m f
+FramesKeepFast = (c : Receiver) (s : ℕ) (h : History) (m : ℕ) (f : BusFrame) → is_claim f ≡ false → KeepsFast c s h m f
 
 -- what is open at a moment is what was open at an earlier one, but for what is overdue
 abbrev pub TimeEndsFast : Type 0
@@ -62,7 +61,7 @@ is_meant k n addressed = if addressed then is_own k n.parts.destination else n.p
 abbrev pub concerns : Known → Note → IsoKey → Bool
 concerns k n key = is_some (since_of k key.source) && ((n.parts.source == key.source) && (is_meant k n key.addressed && is_bearing key.addressed n))
 
-pub record StepsIso (c : Settings) (s : ℕ) (h : History) (m : ℕ) (f : BusFrame) : Type 0 where
+pub record StepsIso (c : Receiver) (s : ℕ) (h : History) (m : ℕ) (f : BusFrame) : Type 0 where
   -- of each key on whose session it bears, the frame leaves what the rules say of the frames that were open; all others stay open
   pub left : (key : IsoKey) (n : ℕ) → iso_open (known c s (frame m f ∷ h)) (notes_of c s (frame m f ∷ h)) key n
       ≡ (if concerns (known c s h) (the_note c s h m f) key
@@ -70,7 +69,7 @@ pub record StepsIso (c : Settings) (s : ℕ) (h : History) (m : ℕ) (f : BusFra
       else iso_open (known c s h) (notes_of c s h) key n)
 
 -- and it completes what they say
-pub record CompletesIso (c : Settings) (s : ℕ) (h : History) (m : ℕ) (f : BusFrame) (holder : Holder) : Type 0 where
+pub record CompletesIso (c : Receiver) (s : ℕ) (h : History) (m : ℕ) (f : BusFrame) (holder : Holder) : Type 0 where
   pub completed : let key = key_of (parts_of f.id) in done c s h (frame m f)
       ≡ said_by (length h) m (parts_of f.id).source (Some holder)
       (if concerns (known c s h) (the_note c s h m f) key
@@ -78,11 +77,11 @@ pub record CompletesIso (c : Settings) (s : ℕ) (h : History) (m : ℕ) (f : Bu
       else None)
 
 abbrev pub FramesStepIso : Type 0
-FramesStepIso = (c : Settings) (s : ℕ) (h : History) (m : ℕ) (f : BusFrame) → AreSettings c → is_claim f ≡ false → StepsIso c s h m f
+FramesStepIso = (c : Receiver) (s : ℕ) (h : History) (m : ℕ) (f : BusFrame) → IsReceiver c → is_claim f ≡ false → StepsIso c s h m f
 
 abbrev pub FramesCompleteIso : Type 0
 FramesCompleteIso =
-    (c : Settings) (s : ℕ) (h : History) (m : ℕ) (f : BusFrame) (holder : Holder) → AreSettings c → is_transport (parts_of f.id) ≡ true
+    (c : Receiver) (s : ℕ) (h : History) (m : ℕ) (f : BusFrame) (holder : Holder) → IsReceiver c → is_transport (parts_of f.id) ≡ true
     → holder_at (known c s h).claims.holders (parts_of f.id).source ≡ Some holder → CompletesIso c s h m f holder
 
 abbrev pub TimeEndsIso : Type 0

@@ -8,7 +8,7 @@ use Rattle.claim_table.specs.declared.answer.ClaimStep.{ClaimStep}
 use Rattle.claim_table.specs.Claims.{Claims, Claim, claim_of, started, claim, command, holder_at}
 use Rattle.history.specs.Entries as entry
 use Rattle.history.specs.Entries.{Entry, History}
-use Rattle.history.specs.Settings.{Settings}
+use Rattle.history.specs.Receiver.{Receiver}
 
 -- what is known of the addresses: their holders and the own address, and the index of the entry by which that became the own one
 pub record Known : Type 0 where
@@ -61,10 +61,10 @@ known_after index k (entry.datagram m bytes) = k
 known_after index k (entry.tick m) = k
 known_after index k (entry.command m source address) = followed_by index k (command k.claims address m)
 
-module _ (c : Settings) (s : ℕ) where
+module _ (r : Receiver) (s : ℕ) where
   -- what is known at the start: the presets, and the configured address, which may be used 250 ms later
   abbrev pub known_at_start : Known
-  known_at_start = record { claims = started (opened c.name c.address c.presets) s; own_since = 0 }
+  known_at_start = record { claims = started (opened r.name r.address r.presets) s; own_since = 0 }
 
   -- what is known after a history
   abbrev pub known : History → Known

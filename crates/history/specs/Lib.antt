@@ -1,5 +1,6 @@
 pub mod Entries
 pub mod Settings
+pub mod Receiver
 pub mod Known
 pub mod Traces
 pub mod Opens

@@ -1,8 +1,9 @@
 -- No more messages, sessions and groups are open than there is room for.
 use Rattle.std.specs.Prelude.{ℕ, ◌≤◌, length}
-use Rattle.history.specs.AddressLaws.{AreSettings}
+use Rattle.history.specs.AddressLaws.{IsReceiver}
 use Rattle.history.specs.Entries.{History, IsHistory, now}
 use Rattle.history.specs.Settings.{Settings}
+use Rattle.history.specs.Receiver.{Receiver}
 use Rattle.history.specs.Known.{known}
 use Rattle.history.specs.Opens.{notes_of, open_fast_keys, open_iso_keys}
 use Rattle.history.specs.Heard.{lines_of, open_groups}
@@ -10,12 +11,12 @@ use Rattle.history.specs.Gate.{heard}
 
 abbrev pub FastWithinLimit : Type 0
 FastWithinLimit =
-    (c : Settings) (s : ℕ) (h : History) (m : ℕ) → AreSettings c → IsHistory h → now h ≤ m
-    → length (open_fast_keys (known c s h) (notes_of c s h) m) ≤ c.fast_slots
+    (c : Receiver) (s : ℕ) (h : History) (m : ℕ) → IsReceiver c → IsHistory h → now h ≤ m
+    → length (open_fast_keys c.kinds (known c s h) (notes_of c s h) m) ≤ c.fast_slots
 
 abbrev pub IsoWithinLimit : Type 0
 IsoWithinLimit =
-    (c : Settings) (s : ℕ) (h : History) (m : ℕ) → AreSettings c → IsHistory h → now h ≤ m
+    (c : Receiver) (s : ℕ) (h : History) (m : ℕ) → IsReceiver c → IsHistory h → now h ≤ m
     → length (open_iso_keys (known c s h) (notes_of c s h) m) ≤ c.iso_slots
 
 abbrev pub GroupsWithinLimit : Type 0

@@ -3,7 +3,6 @@ use Rattle.std.specs.Prelude.{ℕ, Bool, true, false, ◌==◌, List, Option, is
 use Rattle.n2k_id.specs.declared.identifier_parts.Parts.{Parts}
 use Rattle.claim_table.specs.Claims.{holder_at}
 use Rattle.claim_table.specs.declared.answer.Holder.{Holder}
-use Rattle.pgn_profile.specs.Profiled.{kind_of}
 use Rattle.pgn_profile.specs.declared.kinds.Kind.{Kind}
 use Rattle.pgn_profile.specs.declared.kinds.Kind.TheVariants.{Single, Fast, Outside}
 use Rattle.iso_transport.specs.Audience.{is_own, is_to}
@@ -36,14 +35,14 @@ by_kind Single held = if_held held single
 by_kind Fast held = if_held held fast_packet
 by_kind Outside held = passed
 
-abbrev pub meaning_of : Option ℕ → List (Option Holder) → Parts → Meaning
-meaning_of own holders p =
+abbrev pub meaning_of : (ℕ → Kind) → Option ℕ → List (Option Holder) → Parts → Meaning
+meaning_of kinds own holders p =
     let held = is_some (holder_at holders p.source) in
     if p.pgn == 60928 then address_claim
     else if is_own own p.source then own_source
     else if p.pgn == 59904 then (if is_to own p.destination then request else passed)
     else if is_transport p then (if is_to own p.destination then if_held held transport else passed)
-    else by_kind (kind_of p.pgn) held
+    else by_kind (kinds p.pgn) held
 
 -- ---- which one it is
 

@@ -2,7 +2,6 @@
 use Rattle.std.specs.Prelude.{ℕ, ◌&&◌, ◌||◌, not, List, [], ◌∷◌, length, Option, Some, None, option_map, if◌then◌else◌}
 use Rattle.claim_table.specs.Claims.{holder_at}
 use Rattle.claim_table.specs.declared.answer.Holder.{Holder}
-use Rattle.pgn_profile.specs.Profiled.{kind_of}
 use Rattle.pgn_profile.specs.declared.kinds.Kind.{Kind}
 use Rattle.pgn_profile.specs.declared.kinds.Kind.TheVariants.{Single, Fast, Outside}
 use Rattle.runs.specs.Runs.{run_of}
@@ -14,7 +13,7 @@ use Rattle.iso_transport.specs.IsoRuns.{session_of}
 use Rattle.iso_transport.specs.Audience.{key_of}
 use Rattle.history.specs.Entries as entry
 use Rattle.history.specs.Entries.{Entry, History}
-use Rattle.history.specs.Settings.{Settings}
+use Rattle.history.specs.Receiver.{Receiver}
 use Rattle.history.specs.Known.{Known, known, is_own}
 use Rattle.history.specs.Traces.{Note, fast_trace, iso_trace, is_transport, is_bearing}
 use Rattle.history.specs.Opens.{note_of, notes_of}
@@ -55,8 +54,8 @@ by_session k n older = let addressed = (key_of n.parts).addressed in
     then iso_carried (run_of (iso_rules addressed) (iso_trace k addressed n.parts.source (n ∷ older)))
     else None
 
-abbrev pub completed_by : Known → Note → List Note → Option Carried
-completed_by k n older = if is_transport n.parts then by_session k n older else by_kind (kind_of n.parts.pgn) k n older
+abbrev pub completed_by : (ℕ → Kind) → Known → Note → List Note → Option Carried
+completed_by kinds k n older = if is_transport n.parts then by_session k n older else by_kind (kinds n.parts.pgn) k n older
 
 abbrev pub said_by : ℕ → ℕ → ℕ → Option Holder → Option Carried → Option Message
 said_by index moment source None what = None
@@ -64,21 +63,21 @@ said_by index moment source (Some h) what =
     option_map (λ x. record { index = index; moment = moment; source = source; name = h.name.0; pgn = x.pgn; payload = x.payload }) what
 
 -- the message that an entry completes, of a source that holds its address
-abbrev pub done : Settings → ℕ → History → Entry → Option Message
-done c s h (entry.frame m f) =
-    let k = known c s h in
-    let older = notes_of c s h in
-    let n = note_of c (length h) k older m f in
-    said_by (length h) m n.parts.source (holder_at k.claims.holders n.parts.source) (completed_by k n older)
-done c s h (entry.datagram m bytes) = None
-done c s h (entry.tick m) = None
-done c s h (entry.command m source address) = None
+abbrev pub done : Receiver → ℕ → History → Entry → Option Message
+done r s h (entry.frame m f) =
+    let k = known r s h in
+    let older = notes_of r s h in
+    let n = note_of r (length h) k older m f in
+    said_by (length h) m n.parts.source (holder_at k.claims.holders n.parts.source) (completed_by r.kinds k n older)
+done r s h (entry.datagram m bytes) = None
+done r s h (entry.tick m) = None
+done r s h (entry.command m source address) = None
 
 abbrev pub with_message : Option Message → List Message → List Message
 with_message None older = older
 with_message (Some d) older = d ∷ older
 
 -- all messages that were ever complete
-abbrev pub messages_of : Settings → ℕ → History → List Message
-messages_of c s [] = []
-messages_of c s (e ∷ h) = with_message (done c s h e) (messages_of c s h)
+abbrev pub messages_of : Receiver → ℕ → History → List Message
+messages_of r s [] = []
+messages_of r s (e ∷ h) = with_message (done r s h e) (messages_of r s h)

@@ -6,7 +6,6 @@ use Rattle.n2k_id.specs.declared.identifier_parts.Parts.{Parts}
 use Rattle.n2k_id.specs.Frame.{BusFrame}
 use Rattle.n2k_id.specs.Identifier.{parts_of}
 use Rattle.claim_table.specs.Claims.{is_ready}
-use Rattle.pgn_profile.specs.Profiled.{kind_of}
 use Rattle.pgn_profile.specs.declared.kinds.Kind.{Kind}
 use Rattle.pgn_profile.specs.declared.kinds.Kind.TheVariants.{Single, Fast, Outside}
 use Rattle.runs.specs.Runs.{open_at}
@@ -17,7 +16,7 @@ use Rattle.iso_transport.specs.declared.key.IsoKey.{IsoKey}
 use Rattle.iso_transport.specs.Audience.{key_of}
 use Rattle.history.specs.Entries as entry
 use Rattle.history.specs.Entries.{Entry, History}
-use Rattle.history.specs.Settings.{Settings}
+use Rattle.history.specs.Receiver.{Receiver}
 use Rattle.history.specs.Known.{Known, known}
 use Rattle.history.specs.Traces.{Note, fast_trace, iso_trace, is_transport}
 
@@ -51,12 +50,12 @@ inserted before k (x ∷ xs) = if before k x then k ∷ x ∷ xs else x ∷ inse
 abbrev pub placed : {K : Type 0} → (K → K → Bool) → (K → K → Bool) → K → List K → List K
 placed same before k xs = if list_any (same k) xs then xs else inserted before k xs
 
-abbrev pub fast_keys : List Note → List FastKey
-fast_keys [] = []
-fast_keys (n ∷ notes) =
-    if is_fast (kind_of n.parts.pgn)
-    then placed same_fast before_fast (record { source = n.parts.source; pgn = n.parts.pgn }) (fast_keys notes)
-    else fast_keys notes
+abbrev pub fast_keys : (ℕ → Kind) → List Note → List FastKey
+fast_keys kinds [] = []
+fast_keys kinds (n ∷ notes) =
+    if is_fast (kinds n.parts.pgn)
+    then placed same_fast before_fast (record { source = n.parts.source; pgn = n.parts.pgn }) (fast_keys kinds notes)
+    else fast_keys kinds notes
 
 abbrev pub iso_keys : List Note → List IsoKey
 iso_keys [] = []
@@ -71,42 +70,42 @@ fast_open k notes key m = open_at fast_rules (fast_trace k key.source key.pgn no
 abbrev pub iso_open : Known → List Note → IsoKey → ℕ → Option (List IsoPiece)
 iso_open k notes key m = open_at (iso_rules key.addressed) (iso_trace k key.addressed key.source notes) m
 
-abbrev pub open_fast_keys : Known → List Note → ℕ → List FastKey
-open_fast_keys k notes m = filter (λ key. is_some (fast_open k notes key m)) (fast_keys notes)
+abbrev pub open_fast_keys : (ℕ → Kind) → Known → List Note → ℕ → List FastKey
+open_fast_keys kinds k notes m = filter (λ key. is_some (fast_open k notes key m)) (fast_keys kinds notes)
 
 abbrev pub open_iso_keys : Known → List Note → ℕ → List IsoKey
 open_iso_keys k notes m = filter (λ key. is_some (iso_open k notes key m)) (iso_keys notes)
 
 -- ---- which openers find room: fewer of the other keys of the kind are open than the limit
 
-abbrev pub is_fast_admitted : ℕ → Known → List Note → FastKey → ℕ → Bool
-is_fast_admitted limit k notes key m = nat_lt (length (filter (λ other. not (same_fast other key)) (open_fast_keys k notes m))) limit
+abbrev pub is_fast_admitted : (ℕ → Kind) → ℕ → Known → List Note → FastKey → ℕ → Bool
+is_fast_admitted kinds limit k notes key m = nat_lt (length (filter (λ other. not (same_fast other key)) (open_fast_keys kinds k notes m))) limit
 
 abbrev pub is_iso_admitted : ℕ → Known → List Note → IsoKey → ℕ → Bool
 is_iso_admitted limit k notes key m = nat_lt (length (filter (λ other. not (same_iso other key)) (open_iso_keys k notes m))) limit
 
-abbrev pub is_admitted : Settings → Known → List Note → Parts → ℕ → Bool
-is_admitted c k notes p m =
-    if is_transport p then is_iso_admitted c.iso_slots k notes (key_of p) m
-    else is_fast_admitted c.fast_slots k notes (record { source = p.source; pgn = p.pgn }) m
+abbrev pub is_admitted : Receiver → Known → List Note → Parts → ℕ → Bool
+is_admitted r k notes p m =
+    if is_transport p then is_iso_admitted r.iso_slots k notes (key_of p) m
+    else is_fast_admitted r.kinds r.fast_slots k notes (record { source = p.source; pgn = p.pgn }) m
 
-abbrev pub note_of : Settings → ℕ → Known → List Note → ℕ → BusFrame → Note
-note_of c index k notes m f = let p = parts_of f.id in record {
+abbrev pub note_of : Receiver → ℕ → Known → List Note → ℕ → BusFrame → Note
+note_of r index k notes m f = let p = parts_of f.id in record {
   index = index;
   moment = m;
   parts = p;
   bytes = f.held;
   ready = is_ready k.claims m;
-  admitted = is_admitted c k notes p m;
+  admitted = is_admitted r k notes p m;
 }
 
-abbrev pub noted : Settings → ℕ → Known → List Note → Entry → List Note
-noted c index k notes (entry.frame m f) = note_of c index k notes m f ∷ notes
-noted c index k notes (entry.datagram m bytes) = notes
-noted c index k notes (entry.tick m) = notes
-noted c index k notes (entry.command m source address) = notes
+abbrev pub noted : Receiver → ℕ → Known → List Note → Entry → List Note
+noted r index k notes (entry.frame m f) = note_of r index k notes m f ∷ notes
+noted r index k notes (entry.datagram m bytes) = notes
+noted r index k notes (entry.tick m) = notes
+noted r index k notes (entry.command m source address) = notes
 
 -- the frames of a history, each with what the history before it says of it
-abbrev pub notes_of : Settings → ℕ → History → List Note
-notes_of c s [] = []
-notes_of c s (e ∷ h) = noted c (length h) (known c s h) (notes_of c s h) e
+abbrev pub notes_of : Receiver → ℕ → History → List Note
+notes_of r s [] = []
+notes_of r s (e ∷ h) = noted r (length h) (known r s h) (notes_of r s h) e

@@ -3,9 +3,9 @@ use Rattle.std.specs.Prelude.{◌≡◌, ◌≢◌, ℕ, Bool, ◌||◌, not, �
 use Rattle.n2k_id.specs.Frame.{BusFrame}
 use Rattle.claim_table.specs.Claims.{claim, is_at}
 use Rattle.claim_table.specs.declared.answer.ClaimStep.{ClaimStep}
-use Rattle.history.specs.AddressLaws.{AreSettings}
+use Rattle.history.specs.AddressLaws.{IsReceiver}
 use Rattle.history.specs.Entries.{Entry, History, frame, command}
-use Rattle.history.specs.Settings.{Settings}
+use Rattle.history.specs.Receiver.{Receiver}
 use Rattle.history.specs.Known.{known, is_claim, claim_by, address_left, address_won}
 use Rattle.history.specs.Traces.{fast_trace, iso_trace}
 use Rattle.history.specs.Opens.{notes_of}
@@ -22,7 +22,7 @@ same_own (Some a) (Some b) = a == b
 
 -- after an entry, nothing counts any more for the addresses that were lost, nor in sessions to an own address that changed; for all
 -- others the same frames count
-pub record LeavesTraces (c : Settings) (s : ℕ) (h : History) (e : Entry) (lost : ℕ → Bool) : Type 0 where
+pub record LeavesTraces (c : Receiver) (s : ℕ) (h : History) (e : Entry) (lost : ℕ → Bool) : Type 0 where
   pub fast : (a p : ℕ) → p ≢ 60928 → fast_trace (known c s (e ∷ h)) a p (notes_of c s (e ∷ h)) ≡ (if lost a then [] else fast_trace (known c s h) a p (notes_of c s h))
   pub broadcast : (a : ℕ) → iso_trace (known c s (e ∷ h)) false a (notes_of c s (e ∷ h)) ≡ (if lost a then [] else iso_trace (known c s h) false a (notes_of c s h))
   pub addressed : (a : ℕ) → iso_trace (known c s (e ∷ h)) true a (notes_of c s (e ∷ h))
@@ -30,8 +30,8 @@ pub record LeavesTraces (c : Settings) (s : ℕ) (h : History) (e : Entry) (lost
 
 abbrev pub ClaimsMoveTraces : Type 0
 ClaimsMoveTraces =
-    (c : Settings) (s : ℕ) (h : History) (m : ℕ) (f : BusFrame) → AreSettings c → is_claim f ≡ true
+    (c : Receiver) (s : ℕ) (h : History) (m : ℕ) (f : BusFrame) → IsReceiver c → is_claim f ≡ true
     → LeavesTraces c s h (frame m f) (is_lost (claim (known c s h).claims (claim_by (length h) m f)).step)
 
 abbrev pub CommandsMoveTraces : Type 0
-CommandsMoveTraces = (c : Settings) (s : ℕ) (h : History) (m source address : ℕ) → LeavesTraces c s h (command m source address) (λ a. false)
+CommandsMoveTraces = (c : Receiver) (s : ℕ) (h : History) (m source address : ℕ) → LeavesTraces c s h (command m source address) (λ a. false)

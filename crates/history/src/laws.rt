@@ -1,5 +1,5 @@
 //! What is promised of every history. Each law is a function that does nothing, and whose clause is the law.
-ghost use Rattle.history.specs.AddressLaws.{AddressesAreSound};
+ghost use Rattle.history.specs.AddressLaws.{AddressesAreSound, GatewaysReceive};
 ghost use Rattle.history.specs.CountLaws.{SlotsCountFast, SlotsCountIso, SlotsCountGroups};
 ghost use Rattle.history.specs.FreshLaws.{FreshByLast, MessagesAreKept, ClaimsForget, CommandsForgetNone, ReadingsAreKept};
 ghost use Rattle.history.specs.IsolationLaws.{Isolation, IsolationOfTwo};
@@ -14,6 +14,11 @@ ghost use Rattle.history.specs.TraceLaws.{ClaimsMoveTraces, CommandsMoveTraces};
 /// held, or is the own one, is greater than the number of entries.
 pub fn addresses_are_sound()
     ensures { AddressesAreSound }
+{}
+
+/// A gateway of settings of which one can be made is a receiver, of which the laws hold.
+pub fn gateways_receive()
+    ensures { GatewaysReceive }
 {}
 
 /// A claim takes away what came from the addresses that were lost by it, and a new own address what came to the old one; the frames
