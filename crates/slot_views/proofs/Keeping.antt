@@ -1,16 +1,16 @@
 -- Each step on the map leaves all entries but the key's own.
-use Rattle.std.proofs.Common.{◌≡◌, ℕ, suc, ◌≤◌, ◌==◌, Bool, true, false, not, if◌then◌else◌, List, [], ◌∷◌, length, refl, sym, ◌∙◌, ap, Option, Some, None, IsSome, arith}
+use Rattle.std.proofs.Common.{◌≡◌, ℕ, suc, ◌≤◌, ◌==◌, Bool, true, false, not, if◌then◌else◌, List, [], ◌∷◌, length, refl, sym, ◌∙◌, ap, subst, Option, Some, None, IsSome, arith}
 use Rattle.std.proofs.lemmas.Bool.{eqb-false}
-use Rattle.std.specs.List.{filter, find}
+use Rattle.std.specs.List.{AllByRecursion}
 use Rattle.std.specs.Cmp.{IsTotalOrder}
 use Rattle.std.specs.declared.cmp.Ordering.{Ordering}
 use Rattle.std.specs.declared.cmp.Ordering.TheVariants.{Less, Equal, Greater}
 use Rattle.std.specs.BTreeMap.{is_at, insert_entry}
 use Rattle.std.proofs.lemmas.Map.{length-set_value}
-use Rattle.slot_views.specs.Slots.{Entry, SlotMap, IsOrdered, grown, is_complete, has_expired, entry_at, is_held, is_full, released, added, changed, begun_after, grown_from, grown_after, without, without_first}
-use Rattle.slot_views.specs.Traces.{if_incomplete, grown_entry, unexpired}
+use Rattle.slot_views.specs.Slots.{Entry, SlotMap, IsOrdered, IsMap, Changes, grown, is_complete, entry_at, is_held, is_full, released, added, changed, begun_after, grown_from, grown_after}
+use Rattle.slot_views.specs.Traces.{if_incomplete, grown_entry}
 use Rattle.slot_views.proofs.Steps.{released_absent}
-use Rattle.slot_views.proofs.Tied.{same_itself, removed_at, written_at, inserted_at, ordered_removed, ordered_written, ordered_inserted}
+use Rattle.slot_views.proofs.Tied.{all_removed, all_written, all_inserted, same_itself, removed_at, written_at, inserted_at, ordered_removed, ordered_written, ordered_inserted}
 use Rattle.slot_views.proofs.Traces.{released_fewer}
 
 -- all but the entry of one key is as before
@@ -19,10 +19,21 @@ pub record Keeps {K : Type 0} (cmp : K → K → Ordering) (s : SlotMap K) (k : 
   pub ordered : IsOrdered cmp t.entries
   pub limit : t.limit ≡ s.limit
   pub within : length s.entries ≤ s.limit → length t.entries ≤ s.limit
+  -- what holds of this key and of all that were held holds of all that are held
+  pub keys : (p : K → Bool) → p k ≡ true → AllByRecursion (λ d. p d.0 ≡ true) s.entries → AllByRecursion (λ d. p d.0 ≡ true) t.entries
+
+-- so a map is changed at its key alone
+pub changes_of : {K : Type 0} {cmp : K → K → Ordering} (s t : SlotMap K) (k : K) (e : Option Entry) → IsMap cmp s → Keeps cmp s k t → entry_at cmp t k ≡ e → Changes cmp s t k e
+changes_of s t k e map keeps here = record {
+  here = here;
+  others = keeps.others;
+  limit = keeps.limit;
+  map = record { ordered = keeps.ordered; within = subst (λ l. length t.entries ≤ l) (sym keeps.limit) (keeps.within map.within) };
+}
 
 module _ {K : Type 0} {cmp : K → K → Ordering} (o : IsTotalOrder cmp) (s : SlotMap K) (k : K) (sorted : IsOrdered cmp s.entries) where
   pub same_keeps : Keeps cmp s k s
-  same_keeps = record { others = λ j other. refl; ordered = sorted; limit = refl; within = λ le. le }
+  same_keeps = record { others = λ j other. refl; ordered = sorted; limit = refl; within = λ le. le; keys = λ p here all. all }
 
   -- without the key
   pub released_here : entry_at cmp (released cmp s k) k ≡ None
@@ -44,6 +55,7 @@ module _ {K : Type 0} {cmp : K → K → Ordering} (o : IsTotalOrder cmp) (s : S
     ordered = ordered_removed o (is_at (cmp k)) s.entries sorted;
     limit = refl;
     within = λ le. let fewer = released_within in omega (arith, le, fewer);
+    keys = λ p here all. all_removed o (λ x. p x ≡ true) (is_at (cmp k)) s.entries all;
   }
 
   -- with another entry at the key, which is held
@@ -56,6 +68,7 @@ module _ {K : Type 0} {cmp : K → K → Ordering} (o : IsTotalOrder cmp) (s : S
     ordered = ordered_written o (is_at (cmp k)) w s.entries sorted;
     limit = refl;
     within = λ le. let same = written_length w in omega (arith, le, same);
+    keys = λ p here all. all_written o (λ x. p x ≡ true) (is_at (cmp k)) w s.entries all;
   }
 
   changed_here : (w : Entry) → IsSome (entry_at cmp s k) → entry_at cmp (changed cmp s k w) k ≡ Some w
@@ -91,6 +104,7 @@ module _ {K : Type 0} {cmp : K → K → Ordering} (o : IsTotalOrder cmp) (s : S
     ordered = ordered_inserted o k v (released cmp s k).entries (ordered_removed o (is_at (cmp k)) s.entries sorted);
     limit = refl;
     within = added_within v room;
+    keys = λ p here all. all_inserted o (λ x. p x ≡ true) k v (released cmp s k).entries (all_removed o (λ x. p x ≡ true) (is_at (cmp k)) s.entries all) here;
   }
 
   added_here : (v : Entry) → entry_at cmp (added cmp (released cmp s k) k v) k ≡ Some v
@@ -146,28 +160,3 @@ module _ {K : Type 0} {cmp : K → K → Ordering} (o : IsTotalOrder cmp) (s : S
         by : (e : Option Entry) → entry_at cmp s k ≡ e → entry_at cmp (grown_after cmp s k next piece moment gap) k ≡ grown_entry next piece moment gap (entry_at cmp s k)
         by None is = ap (λ e. entry_at cmp (grown_from cmp s k next piece moment gap e) k) is ∙ (is ∙ ap (grown_entry next piece moment gap) (sym is))
         by (Some e) is = ap (λ e. entry_at cmp (grown_from cmp s k next piece moment gap e) k) is ∙ (held e _ _ is refl refl ∙ ap (grown_entry next piece moment gap) (sym is))
-
--- what has expired ends one by one
-module _ {X : Type 0} (p : X → Bool) where
-  all_stay : (xs : List X) → find p xs ≡ None → filter (λ x. not (p x)) xs ≡ xs
-  all_stay [] none = refl
-  all_stay (x ∷ xs) none = by (p x) refl (λ later. all_stay xs later)
-    where
-      by : (b : Bool) → p x ≡ b → (find p xs ≡ None → filter (λ x. not (p x)) xs ≡ xs) → filter (λ x. not (p x)) (x ∷ xs) ≡ x ∷ xs
-      by true eb rest = let found : Some x ≡ None = rw eb at none in cc
-      by false eb rest = let later : find p xs ≡ None = rw eb at none in rw eb (ap {B = List X} (λ ys. x ∷ ys) (rest later))
-
-  one_fewer : (xs : List X) → filter (λ x. not (p x)) (without_first p xs) ≡ filter (λ x. not (p x)) xs
-  one_fewer [] = refl
-  one_fewer (x ∷ xs) = by (p x) refl (one_fewer xs)
-    where
-      by : (b : Bool) → p x ≡ b → filter (λ x. not (p x)) (without_first p xs) ≡ filter (λ x. not (p x)) xs → filter (λ x. not (p x)) (without_first p (x ∷ xs)) ≡ filter (λ x. not (p x)) (x ∷ xs)
-      by true eb rest = rw eb refl
-      by false eb rest = rw (eb, eb) (ap {B = List X} (λ ys. x ∷ ys) rest)
-
-module _ {K : Type 0} (s : SlotMap K) (m : ℕ) where
-  pub ends_with_all : find (has_expired m) s.entries ≡ None → unexpired m s ≡ s
-  ends_with_all none = rw (all_stay (has_expired m) s.entries none) refl
-
-  pub ends_one : unexpired m (without s (has_expired m)) ≡ unexpired m s
-  ends_one = rw (one_fewer (has_expired m) s.entries) refl

@@ -1,7 +1,9 @@
+pub mod Endings
 pub mod Keeping
 pub mod Lists
 pub mod Order
 pub mod Places
+pub mod Quiet
 pub mod Sound
 pub mod Steps
 pub mod Tied

@@ -8,7 +8,7 @@ use Rattle.std.specs.Cmp.{IsTotalOrder}
 use Rattle.std.specs.declared.cmp.Ordering.{Ordering}
 use Rattle.slot_views.specs.declared.slot.Slot.{Slot}
 use Rattle.slot_views.specs.declared.shelf.Shelf.{Shelf}
-use Rattle.slot_views.specs.Slots.{Entry, SlotMap, with_entries, grown}
+use Rattle.slot_views.specs.Slots.{Entry, SlotMap, IsMap, with_entries, grown}
 use Rattle.slot_views.specs.Shelf.{entry_of, entries_of, HasRoom, seen, IsSound, IsGap, Extends}
 use Rattle.slot_views.proofs.Lists.{all_set, all_insert, all_map, all_get, all_front, all_back, room_left}
 use Rattle.slot_views.proofs.Order.{ordered_set, ordered_insert}
@@ -104,3 +104,7 @@ slot_map_is limit es fs same = rw same refl
 -- a shelf shows as many entries as it has slots
 pub count_seen : {K : Type 0} {cap piece : ℕ} (s : Shelf K cap piece) → length (entries_of s.slots.items) ≡ vec_len s.slots
 count_seen s = length-map s.slots.items entry_of ∙ sym s.slots.ok.0
+
+-- what it shows is a map
+pub map_seen : {K : Type 0} {cap piece : ℕ} {cmp : K → K → Ordering} (s : Shelf K cap piece) → IsSound cmp s → IsMap cmp (seen s)
+map_seen s sound = record { ordered = sound.ordered; within = let buffers = sound.buffers in let count = count_seen s in omega arith }

@@ -77,7 +77,7 @@ module _ {K : Type 0} {cmp : K → K → Ordering} (o : IsTotalOrder cmp) where
     inserted_at (e ∷ es) = inserted_by e es _ refl (inserted_at es)
 
   -- the keys still rise
-  all_removed : (P : K → Type 0) (test : K → Bool) (es : List (K × Entry)) → AllByRecursion (λ d. P d.0) es → AllByRecursion (λ d. P d.0) (remove_entry test es)
+  pub all_removed : (P : K → Type 0) (test : K → Bool) (es : List (K × Entry)) → AllByRecursion (λ d. P d.0) es → AllByRecursion (λ d. P d.0) (remove_entry test es)
   all_removed P test [] all = tt
   all_removed P test (e ∷ es) all = by (test e.0) refl (all_removed P test es all.1)
     where
@@ -93,7 +93,7 @@ module _ {K : Type 0} {cmp : K → K → Ordering} (o : IsTotalOrder cmp) where
       by true eb rest = rw eb ordered.1
       by false eb rest = rw eb (all_removed (λ x. cmp e.0 x ≡ Less) test es ordered.0, rest)
 
-  all_written : (P : K → Type 0) (test : K → Bool) (w : Entry) (es : List (K × Entry)) → AllByRecursion (λ d. P d.0) es → AllByRecursion (λ d. P d.0) (set_value test es w)
+  pub all_written : (P : K → Type 0) (test : K → Bool) (w : Entry) (es : List (K × Entry)) → AllByRecursion (λ d. P d.0) es → AllByRecursion (λ d. P d.0) (set_value test es w)
   all_written P test w [] all = tt
   all_written P test w (e ∷ es) all = by (test e.0) refl (all_written P test w es all.1)
     where
@@ -113,7 +113,7 @@ module _ {K : Type 0} {cmp : K → K → Ordering} (o : IsTotalOrder cmp) where
   above_all k x [] less all = tt
   above_all k x (e ∷ es) less all = (o.trans k x e.0 less all.0, above_all k x es less all.1)
 
-  all_inserted : (P : K → Type 0) (k : K) (v : Entry) (es : List (K × Entry)) → AllByRecursion (λ d. P d.0) es → P k → AllByRecursion (λ d. P d.0) (insert_entry cmp es k v)
+  pub all_inserted : (P : K → Type 0) (k : K) (v : Entry) (es : List (K × Entry)) → AllByRecursion (λ d. P d.0) es → P k → AllByRecursion (λ d. P d.0) (insert_entry cmp es k v)
   all_inserted P k v [] all holds = (holds, tt)
   all_inserted P k v (e ∷ es) all holds = by (cmp k e.0) refl (all_inserted P k v es all.1 holds)
     where

@@ -3,3 +3,4 @@ pub mod Shelf
 pub mod Answers
 pub mod Rows
 pub mod Traces
+pub mod Laws

@@ -1,5 +1,5 @@
 -- What lies behind the map.
-use Rattle.std.specs.Prelude.{◌≡◌, ℕ, ◌+◌, ◌-◌, ◌*◌, ◌<◌, ◌≤◌, ◌^◌, ◌≢◌, Bool, true, false, None, IsSomeAnd, List, map, length, take, drop, slice_index_or, slice_set}
+use Rattle.std.specs.Prelude.{nat_le, min, if◌then◌else◌, [], ◌∷◌, ◌≡◌, ℕ, ◌+◌, ◌-◌, ◌*◌, ◌<◌, ◌≤◌, ◌^◌, ◌≢◌, Bool, true, false, None, IsSomeAnd, List, map, length, take, drop, slice_index_or, slice_set}
 use Rattle.std.specs.Global.{Vec}
 use Rattle.std.specs.Vec.{vec_len, vec_capacity}
 use Rattle.std.specs.List.{AllByRecursion}
@@ -33,6 +33,11 @@ module _ {K : Type 0} where
   abbrev pub Extends : List (Slot K) → List (Slot K) → ℕ → Entry → Type 0
   Extends old new i e = (s : Slot K) × (new ≡ slice_set old i s) × ((d : Slot K) → entry_of s ≡ ((slice_index_or old i d).key, e))
 
+  -- the last moment at which none of these slots has expired, and that of all time where there is none
+  unfoldable pub quiet_of : List (Slot K) → ℕ
+  quiet_of [] = 2 ^ 64 - 1
+  quiet_of (s ∷ ss) = min (s.last + s.gap) (quiet_of ss)
+
   module _ {cap piece : ℕ} where
     -- the map that a shelf stands for
     abbrev pub seen : Shelf K cap piece → SlotMap K
@@ -49,6 +54,10 @@ module _ {K : Type 0} where
       pub spare_rooms : AllByRecursion (λ b. cap ≤ vec_capacity b) s.spare.items
       pub ordered : IsOrdered cmp (entries_of s.slots.items)
       pub quiet : AllByRecursion (λ x. s.quiet_until ≤ x.last + x.gap) s.slots.items
+
+    -- up to when no slot expires, once a moment was asked about at which none had: all slots are looked at where that wasn't known
+    abbrev pub quiet_after : ℕ → Shelf K cap piece → ℕ
+    quiet_after moment s = if nat_le moment s.quiet_until then s.quiet_until else quiet_of s.slots.items
 
     -- the last spare buffer has the bytes
     pub record HasFinished (s : Shelf K cap piece) (bytes : List ℕ) : Type 0 where
@@ -89,10 +98,6 @@ module _ {K : Type 0} where
   -- no slot does
   abbrev pub NoneShows : (K × Entry → Bool) → List (Slot K) → Type 0
   NoneShows p xs = AllByRecursion (λ s. p (entry_of s) ≡ false) xs
-
-  -- the moment is before any of these slots expires
-  abbrev pub AllQuiet : ℕ → List (Slot K) → Type 0
-  AllQuiet moment xs = AllByRecursion (λ s. moment ≤ s.last + s.gap) xs
 
 module _ {K : Type 0} (cmp : K → K → Ordering) (s : SlotMap K) (k : K) {cap piece : ℕ} (after : Shelf K cap piece) where
   -- an opening, with the finished bytes in the last spare buffer

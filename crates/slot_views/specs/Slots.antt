@@ -1,10 +1,10 @@
 -- What a caller sees of the slots: a limit, and the entries in the order of their keys; and what each call makes of them.
-use Rattle.std.specs.Prelude.{◌≡◌, ℕ, ◌+◌, ◌-◌, Bool, ◌&&◌, not, ◌==◌, nat_lt, if◌then◌else◌, List, [], ◌∷◌, ◌++◌, length, Option, Some, None, is_some, refl}
+use Rattle.std.specs.Prelude.{◌≡◌, ℕ, ◌+◌, ◌-◌, Bool, ◌≤◌, false, ◌&&◌, not, ◌==◌, nat_lt, if◌then◌else◌, List, [], ◌∷◌, ◌++◌, length, Option, Some, None, is_some, refl}
 use Rattle.std.specs.Coded.{Coded, code_by, coded×, coded_ℕ, coded_list}
 use Rattle.std.specs.declared.cmp.Ordering.{Ordering}
 use Rattle.std.specs.declared.cmp.Ordering.TheVariants.{Less}
 use Rattle.std.specs.Ordering.{is_gt}
-use Rattle.std.specs.List.{AllByRecursion}
+use Rattle.std.specs.List.{AllByRecursion, filter}
 use Rattle.std.specs.Map.{lookup, remove_entry, set_value}
 use Rattle.std.specs.BTreeMap.{is_at, insert_entry}
 
@@ -63,6 +63,11 @@ module _ {K : Type 0} where
   IsOrdered cmp [] = Unit {0}
   IsOrdered cmp (e ∷ es) = AllByRecursion (λ d. cmp e.0 d.0 ≡ Less) es × IsOrdered cmp es
 
+  -- the keys rise, and are no more than the limit: so it is with all slots
+  pub record IsMap (cmp : K → K → Ordering) (s : SlotMap K) : Type 0 where
+    pub ordered : IsOrdered cmp s.entries
+    pub within : length s.entries ≤ s.limit
+
   -- the map with these entries
   abbrev pub with_entries : SlotMap K → List (K × Entry) → SlotMap K
   with_entries s es = record { limit = s.limit; entries = es }
@@ -71,6 +76,10 @@ module _ {K : Type 0} where
   abbrev pub without : SlotMap K → (K × Entry → Bool) → SlotMap K
   without s p = with_entries s (without_first p s.entries)
 
+  -- the map without all entries that pass the test
+  abbrev pub remaining : (K × Entry → Bool) → SlotMap K → SlotMap K
+  remaining p s = with_entries s (filter (λ e. not (p e)) s.entries)
+
   module _ (cmp : K → K → Ordering) where
     -- the entry of the key, where it is held
     abbrev pub entry_at : SlotMap K → K → Option Entry
@@ -78,6 +87,13 @@ module _ {K : Type 0} where
 
     abbrev pub is_held : SlotMap K → K → Bool
     is_held s k = is_some (entry_at s k)
+
+    -- t is s but for the key, which has this entry now, or none
+    pub record Changes (s t : SlotMap K) (k : K) (e : Option Entry) : Type 0 where
+      pub here : entry_at t k ≡ e
+      pub others : (j : K) → is_at (cmp k) j ≡ false → entry_at t j ≡ entry_at s j
+      pub limit : t.limit ≡ s.limit
+      pub map : IsMap cmp t
 
     -- there is no room for the key: it isn't held, and as many keys as the limit are
     abbrev pub is_full : SlotMap K → K → Bool

@@ -4,7 +4,7 @@ use Rattle.std.specs.Prelude.{◌≡◌, ℕ, ◌≤◌, false, Bool, ◌&&◌, 
 use Rattle.std.specs.List.{filter, list_any}
 use Rattle.std.specs.declared.cmp.Ordering.{Ordering}
 use Rattle.std.specs.BTreeMap.{is_at}
-use Rattle.slot_views.specs.Slots.{Entry, SlotMap, IsOrdered, grown, with_entries, entry_at, is_complete, is_full, is_expired, has_expired}
+use Rattle.slot_views.specs.Slots.{Entry, SlotMap, IsOrdered, grown, remaining, entry_at, is_complete, is_full, is_expired, has_expired}
 
 -- how the pieces of one kind fill entries
 pub record Filling (X : Type 0) : Type 0 where
@@ -31,7 +31,7 @@ left_at (Some e) m = if is_expired m e then None else Some e
 module _ {K : Type 0} where
   -- the map without all entries that have expired at the moment
   abbrev pub unexpired : ℕ → SlotMap K → SlotMap K
-  unexpired m s = with_entries s (filter (λ e. not (has_expired m e)) s.entries)
+  unexpired m s = remaining (has_expired m) s
 
   module _ {X : Type 0} where
     -- the moment of the newest piece

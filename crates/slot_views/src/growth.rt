@@ -1,5 +1,5 @@
 //! How an entry grows.
-ghost use Rattle.std.specs.Prelude.{◌≡◌, ◌+◌, ◌<◌, ◌≤◌, length, slice_index_or};
+ghost use Rattle.std.specs.Prelude.{◌≡◌, min, ◌+◌, ◌<◌, ◌≤◌, length, slice_index_or};
 ghost use Rattle.slot_views.specs.Slots.{grown, grown_after};
 ghost use Rattle.slot_views.specs.Shelf.{entry_of, seen, IsSound, Extends, GrowsAs};
 
@@ -49,6 +49,7 @@ impl<K: Copy + Ord, const CAP: usize, const PIECE: usize> Shelf<K, CAP, PIECE> {
         requires awaits { (d : _) → (slice_index_or self.old.slots.items at d).next + 1 < (slice_index_or self.old.slots.items at d).need }
         ensures sound { IsSound K.cmp self.new }
         ensures limit { self.new.limit ≡ self.old.limit }
+        ensures quiet { self.new.quiet_until ≡ min self.old.quiet_until (moment + gap) }
         ensures entries { (d : _) → Extends self.old.slots.items self.new.slots.items at (grown (entry_of (slice_index_or self.old.slots.items at d)).1 piece.now moment gap) }
     {
         let slot = &mut self.slots[at];

@@ -16,5 +16,5 @@ mod slots;
 mod tests;
 
 pub use answers::{Begun, Ended, Grown, Kept, View};
-pub use laws::{expired_end_one_by_one, keys_stand_apart};
+pub use laws::{entries_end_one_by_one, first_entry_ends, keys_stand_apart};
 pub use slots::Slots;

@@ -1,5 +1,5 @@
 //! How an entry opens.
-ghost use Rattle.std.specs.Prelude.{◌≡◌, ◌*◌, ◌<◌, ◌≤◌, length, vec_len, IsTrue};
+ghost use Rattle.std.specs.Prelude.{◌≡◌, ◌+◌, ◌*◌, min, ◌<◌, ◌≤◌, length, vec_len, IsTrue};
 ghost use Rattle.slot_views.specs.Slots.{opened, released, added, is_held, begun_after};
 ghost use Rattle.slot_views.specs.Shelf.{seen, IsSound, HasFinished, IsGap, OpensAs};
 
@@ -98,6 +98,7 @@ impl<K: Copy + Ord, const CAP: usize, const PIECE: usize> Shelf<K, CAP, PIECE> {
         requires message_fits { start.need * PIECE ≤ CAP }
         ensures sound { IsSound K.cmp self.new }
         ensures after { seen self.new ≡ added K.cmp (seen self.old) key (opened piece.now start.need start.moment start.gap start.mark) }
+        ensures quiet { self.new.quiet_until ≡ min self.old.quiet_until (start.moment + start.gap) }
     {
         let mut bytes = self.spare.pop().unwrap();
         refill(&mut bytes, piece);

@@ -3,7 +3,7 @@ ghost use Rattle.std.specs.Prelude.{◌≡◌, ◌+◌, ◌<◌, ◌≤◌, ◌^
 ghost use Rattle.std.specs.List.{remove};
 ghost use Rattle.slot_views.specs.Slots.{has_expired, is_between, IsOrdered};
 ghost use Rattle.slot_views.specs.Answers.{ended_of, kept_of};
-ghost use Rattle.slot_views.specs.Shelf.{entries_of, entry_of, seen, IsSound, HasFinished, IsAt, IsGap, Below, NotBelow, IsFirst, NoneShows};
+ghost use Rattle.slot_views.specs.Shelf.{entries_of, entry_of, seen, IsSound, HasFinished, IsAt, IsGap, Below, NotBelow, IsFirst, NoneShows, quiet_after};
 
 use crate::answers::{Ended, Kept};
 use crate::buffers::{append, buffers, keep};
@@ -129,6 +129,7 @@ impl<K: Copy + Ord, const CAP: usize, const PIECE: usize> Shelf<K, CAP, PIECE> {
         ensures slots { self.new.slots.items ≡ self.old.slots.items }
         ensures found { IfSome result (IsFirst (has_expired moment) self.old.slots.items) }
         ensures absent { IfNone result (NoneShows (has_expired moment) self.old.slots.items) }
+        ensures quiet { IfNone result (self.new.quiet_until ≡ quiet_after moment self.old) }
     {
         if moment <= self.quiet_until {
             return None;

@@ -1,7 +1,7 @@
 //! A slot: one entry, with the buffer that its bytes lie in.
-ghost use Rattle.std.specs.Prelude.{◌≡◌, ◌+◌, ◌<◌, ◌≤◌, length, vec_len, vec_capacity, IfOk, IfErr};
+ghost use Rattle.std.specs.Prelude.{min, ◌≡◌, ◌+◌, ◌<◌, ◌≤◌, length, vec_len, vec_capacity, IfOk, IfErr};
 ghost use Rattle.slot_views.specs.Slots.{grown, has_expired};
-ghost use Rattle.slot_views.specs.Shelf.{entry_of, IsFirst, NoneShows, AllQuiet};
+ghost use Rattle.slot_views.specs.Shelf.{entry_of, IsFirst, NoneShows, quiet_of};
 
 use crate::buffers::append;
 
@@ -35,7 +35,7 @@ pub(crate) fn join<K: Copy>(slot: &mut Slot<K>, piece: &[u8], moment: u64, gap: 
 pub(crate) fn first_expired<K: Copy>(slots: &Vec<Slot<K>>, moment: u64) -> Result<usize, u64>
     ensures found { IfOk result (IsFirst (has_expired moment) slots.now.items) }
     ensures absent { IfErr result (λ _. NoneShows (has_expired moment) slots.now.items) }
-    ensures quiet { IfErr result (λ until. AllQuiet until slots.now.items) }
+    ensures quiet { IfErr result (λ until. until ≡ quiet_of slots.now.items) }
 {
     let mut quiet_until = u64::MAX;
     for (at, slot) in slots.iter().enumerate() {
@@ -49,8 +49,7 @@ pub(crate) fn first_expired<K: Copy>(slots: &Vec<Slot<K>>, moment: u64) -> Resul
 
 // Up to when no entry expires, with one more whose last piece came at the moment.
 pub(crate) fn still_quiet(quiet_until: u64, moment: u64, gap: u32) -> u64
-    ensures others { result ≤ quiet_until }
-    ensures this { result ≤ moment + gap }
+    ensures { result ≡ min quiet_until (moment + gap) }
 {
     quiet_until.min(moment.saturating_add(u64::from(gap)))
 }

@@ -3,7 +3,7 @@ ghost use Rattle.std.specs.Prelude.{◌≡◌, ◌≤◌, ◌<◌, ◌*◌, ◌^
 ghost use Rattle.std.specs.Option.{option_copied};
 ghost use Rattle.std.specs.Borrow.{sem};
 ghost use Rattle.std.specs.List.{find};
-ghost use Rattle.slot_views.specs.Slots.{SlotMap, opened, grown, released, without, entry_at, is_held, begun_after, grown_after, has_expired, is_between, IsOrdered};
+ghost use Rattle.slot_views.specs.Slots.{SlotMap, opened, grown, released, without, entry_at, is_held, begun_after, grown_after, has_expired, is_between, IsMap};
 
 use crate::answers::{Begun, Ended, Grown, Kept, View};
 use crate::growth::Growth;
@@ -64,6 +64,7 @@ impl<K: Copy + Ord, const CAP: usize, const PIECE: usize> Slots<K, CAP, PIECE> {
         requires need { 1 ≤ need }
         requires piece_fits { length piece.now ≤ PIECE }
         requires message_fits { need * PIECE ≤ CAP }
+        ensures map { IsMap K.cmp self.old }
         ensures* after { sem 𝓛 (ends_as K.row CAP.row PIECE.row K.Ord self.entry (begun_after K.cmp self.old key (opened piece.now need moment gap mark))) }
         ensures answer { BeginGives K.cmp self.old key (opened piece.now need moment gap mark) result }
     {
@@ -96,6 +97,7 @@ impl<K: Copy + Ord, const CAP: usize, const PIECE: usize> Slots<K, CAP, PIECE> {
         gap: u32,
     ) -> Grown<'a>
         requires { length piece.now ≤ PIECE }
+        ensures map { IsMap K.cmp self.old }
         ensures* after { sem 𝓛 (ends_as K.row CAP.row PIECE.row K.Ord self.entry (grown_after K.cmp self.old key next piece.now moment gap)) }
         ensures answer { GrowGives K.cmp self.old key next (λ e. grown e piece.now moment gap) result }
     {
@@ -112,7 +114,8 @@ impl<K: Copy + Ord, const CAP: usize, const PIECE: usize> Slots<K, CAP, PIECE> {
 
     /// What is known of the key's entry, where the key is held.
     pub fn kept(&self, key: K) -> Option<Kept>
-        ensures { result ≡ option_map kept_of (entry_at K.cmp self.now key) }
+        ensures kept { result ≡ option_map kept_of (entry_at K.cmp self.now key) }
+        ensures map { IsMap K.cmp self.now }
     {
         match self.shelf.place(key) {
             Ok(at) => Some(self.shelf.kept(at)),
@@ -122,7 +125,8 @@ impl<K: Copy + Ord, const CAP: usize, const PIECE: usize> Slots<K, CAP, PIECE> {
 
     /// The bytes that were joined so far at the key, where it is held.
     pub fn held_bytes(&self, key: K) -> Option<&[u8]>
-        ensures { option_copied result ≡ option_map (λ e. e.bytes) (entry_at K.cmp self.now key) }
+        ensures bytes { option_copied result ≡ option_map (λ e. e.bytes) (entry_at K.cmp self.now key) }
+        ensures map { IsMap K.cmp self.now }
     {
         match self.shelf.place(key) {
             Ok(at) => Some(self.shelf.bytes(at)),
@@ -132,6 +136,7 @@ impl<K: Copy + Ord, const CAP: usize, const PIECE: usize> Slots<K, CAP, PIECE> {
 
     /// Gives the key's entry up, and says whether there was one.
     pub fn give_up(&mut self, key: K) -> bool
+        ensures map { IsMap K.cmp self.old }
         ensures after { self.new ≡ released K.cmp self.old key }
         ensures answer { result ≡ is_held K.cmp self.old key }
     {
@@ -140,6 +145,7 @@ impl<K: Copy + Ord, const CAP: usize, const PIECE: usize> Slots<K, CAP, PIECE> {
 
     /// Takes out the entry of the least key for which more time than its gap has passed at the moment.
     pub fn expire_one(&mut self, moment: u64) -> Option<Ended<K>>
+        ensures map { IsMap K.cmp self.old }
         ensures after { self.new ≡ without self.old (has_expired moment) }
         ensures answer { result ≡ option_map ended_of (find (has_expired moment) self.old.entries) }
     {
@@ -151,6 +157,7 @@ impl<K: Copy + Ord, const CAP: usize, const PIECE: usize> Slots<K, CAP, PIECE> {
 
     /// Takes out the entry of the least key from `low` to `high`, both included.
     pub fn drop_between(&mut self, low: K, high: K) -> Option<Ended<K>>
+        ensures map { IsMap K.cmp self.old }
         ensures after { self.new ≡ without self.old (is_between K.cmp low high) }
         ensures answer { result ≡ option_map ended_of (find (is_between K.cmp low high) self.old.entries) }
     {
@@ -163,15 +170,15 @@ impl<K: Copy + Ord, const CAP: usize, const PIECE: usize> Slots<K, CAP, PIECE> {
     /// How many keys are held.
     pub fn count(&self) -> u16
         ensures count { result ≡ length self.now.entries }
-        ensures within { result ≤ self.now.limit }
-        ensures ordered { IsOrdered K.cmp self.now.entries }
+        ensures map { IsMap K.cmp self.now }
     {
         self.shelf.slots.len() as u16
     }
 
     /// How many keys may be held.
     pub fn limit(&self) -> u16
-        ensures { result ≡ self.now.limit }
+        ensures limit { result ≡ self.now.limit }
+        ensures map { IsMap K.cmp self.now }
     {
         self.shelf.limit
     }

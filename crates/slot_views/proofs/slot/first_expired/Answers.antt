@@ -1,10 +1,14 @@
-use Rattle.std.proofs.Common.{◌≡◌, ◌≤◌, ◌<◌, ◌+◌, ◌-◌, length, take, get_or, subst, add-one, false, arith}
+use Rattle.std.proofs.Common.{◌≡◌, ◌<◌, ◌+◌, ◌-◌, min, length, take, get_or, sym, ◌∙◌, ap, subst, add-one, false, arith}
 use Rattle.std.proofs.lemmas.Bool.{le-ltb}
 use Rattle.slot_views.specs.declared.slot.Slot.{Slot}
 use Rattle.slot_views.specs.Slots.{has_expired}
-use Rattle.slot_views.specs.Shelf.{entry_of}
-use Rattle.slot_views.proofs.Lists.{all_map, all_take_more}
+use Rattle.slot_views.specs.Shelf.{entry_of, quiet_of}
+use Rattle.slot_views.proofs.Lists.{all_take_more}
+use Rattle.slot_views.proofs.Quiet.{quiet_none, quiet_more}
 use Rattle.slot_views.proofs.slot.first_expired.Goals as goal
+
+pub loop-at-init : goal.loop-at-init
+loop-at-init g c = record { none = tt; quiet = sym (quiet_none g.row.K.Denot) }
 
 pub loop-at-preserved : goal.loop-at-preserved
 loop-at-preserved g c =
@@ -14,7 +18,6 @@ loop-at-preserved g c =
     let read : c.slot-item.result ≡ get_or items c.loop-at.at c.slot-item.result = rw c.deref-slot-items.ensures.value at c.slot-item.is in
     rw add-one record {
       none = all_take_more (λ s. has_expired c.args.moment (entry_of s) ≡ false) items c.loop-at.at c.slot-item.result in_range c.loop-at.invariant.none (subst (λ (s : Slot g.row.K.Denot). has_expired c.args.moment (entry_of s) ≡ false) read here);
-      quiet = all_take_more (λ s. c.still_quiet-quiet_until.result ≤ s.last + s.gap) items c.loop-at.at c.slot-item.result in_range
-          (all_map (λ (s : Slot g.row.K.Denot). c.loop-at.quiet_until ≤ s.last + s.gap) (λ (s : Slot g.row.K.Denot). c.still_quiet-quiet_until.result ≤ s.last + s.gap) (λ s h. omega (arith, h, c.still_quiet-quiet_until.ensures.others)) (take c.loop-at.at items) c.loop-at.invariant.quiet)
-          (subst (λ (s : Slot g.row.K.Denot). c.still_quiet-quiet_until.result ≤ s.last + s.gap) read c.still_quiet-quiet_until.ensures.this);
+      quiet = c.still_quiet-quiet_until.ensures ∙ (ap (λ n. min n (c.slot-item.result.last + c.slot-item.result.gap)) c.loop-at.invariant.quiet
+          ∙ (ap (λ (s : Slot g.row.K.Denot). min (quiet_of (take c.loop-at.at items)) (s.last + s.gap)) read ∙ sym (quiet_more items c.loop-at.at c.slot-item.result in_range)));
     }

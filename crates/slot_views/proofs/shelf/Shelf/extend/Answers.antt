@@ -7,7 +7,7 @@ pub returns-clause-sound : goal.returns-clause-sound
 returns-clause-sound g c =
     sound_extended c.args.self.now _ c.args.at c.index_mut-slot.result.now c.join.new.slot c.args.piece.now c.args.moment c.args.gap c.requires.sound c.requires.in_range
     c.index_mut-slot.ensures.value (c.requires.awaits c.index_mut-slot.result.now) c.requires.piece_fits c.join.ensures.entry c.join.ensures.capacity c.join.ensures.len
-    c.still_quiet-self.ensures.others c.still_quiet-self.ensures.this refl refl refl (omega arith) refl
+    (omega (arith, c.still_quiet-self.ensures)) (omega (arith, c.still_quiet-self.ensures)) refl refl refl (omega arith) refl
 
 pub returns-clause-entries : goal.returns-clause-entries
 returns-clause-entries g c =

@@ -18,7 +18,7 @@ returns-clause-sound g c =
     let fewer : vec_len c.pop.new.self + 1 ≡ vec_len c.args.self.now.spare = grind (arith, c.pop.ensures.len, c.unwrap-bytes.ensures) in
     sound_opened g.met.K.Ord.total c.args.self.now _ c.args.at (slot_of g c)
     c.requires.sound c.requires.gap (room_opened (slot_of g c) c.args.piece.now reserved refl c.requires.more c.refill.ensures.len c.requires.piece_fits c.requires.message_fits)
-    c.still_quiet-self.ensures.others c.still_quiet-self.ensures.this refl c.put.ensures.items c.put.ensures.len c.put.ensures.capacity fewer (omega arith) parts.0
+    (omega (arith, c.still_quiet-self.ensures)) (omega (arith, c.still_quiet-self.ensures)) refl c.put.ensures.items c.put.ensures.len c.put.ensures.capacity fewer (omega arith) parts.0
 
 pub returns-clause-after : goal.returns-clause-after
 returns-clause-after g c =

@@ -2,6 +2,7 @@ use Rattle.std.proofs.Common.{◌≡◌, refl, true}
 use Rattle.slot_views.specs.Slots.{Entry, grown, entry_at, is_complete}
 use Rattle.slot_views.specs.Shelf.{seen, HasFinished}
 use Rattle.slot_views.specs.Answers.{Shows}
+use Rattle.slot_views.proofs.Sound.{map_seen}
 use Rattle.slot_views.proofs.Steps.{on_some}
 use Rattle.slot_views.proofs.slots.Slots.grow.Goals as goal
 
@@ -13,4 +14,4 @@ returns-in-Complete g c =
     (λ e. (e.next ≡ c.args.next) × (is_complete (more e) ≡ true) × Shows record { bytes = c.finished.result; mark = c.in-Complete.mark } (more e))
     (λ e (next, complete, finished, mark). (next, complete, record { bytes = c.finished.ensures (more e).bytes finished; mark = mark }))
     c.in-Complete.ensures.answer in
-    ((refl, λ _. tt, rw (← c.self.view_is) c.in-Complete.ensures.after), record { after = tt; answer = rw (← c.self.view_is) answer })
+    ((refl, λ _. tt, rw (← c.self.view_is) c.in-Complete.ensures.after), record { map = rw (← c.self.view_is) (map_seen c.self.inside.shelf c.self.invariant); after = tt; answer = rw (← c.self.view_is) answer })

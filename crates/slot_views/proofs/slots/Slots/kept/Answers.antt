@@ -4,8 +4,8 @@ use Rattle.slot_views.proofs.Order.{lookup_gap}
 use Rattle.slot_views.proofs.Steps.{told_found}
 use Rattle.slot_views.proofs.slots.Slots.kept.Goals as goal
 
-pub returns-in-Ok : goal.returns-in-Ok
-returns-in-Ok g c = rw (← c.self.view_is) (told_found g.K.Ord.cmp c.args.key kept_of c.self.inside.shelf.slots.items c.in-Ok.at c.kept.result c.in-Ok.ensures.found c.kept.ensures)
+pub returns-in-Ok-clause-kept : goal.returns-in-Ok-clause-kept
+returns-in-Ok-clause-kept g c = rw (← c.self.view_is) (told_found g.K.Ord.cmp c.args.key kept_of c.self.inside.shelf.slots.items c.in-Ok.at c.kept.result c.in-Ok.ensures.found c.kept.ensures)
 
-pub returns-in-Err : goal.returns-in-Err
-returns-in-Err g c = rw (← c.self.view_is) (sym (ap (option_map kept_of) (lookup_gap g.K.Ord.cmp c.args.key c.self.inside.shelf.slots.items _ c.in-Err.ensures.absent.below c.in-Err.ensures.absent.above)))
+pub returns-in-Err-clause-kept : goal.returns-in-Err-clause-kept
+returns-in-Err-clause-kept g c = rw (← c.self.view_is) (sym (ap (option_map kept_of) (lookup_gap g.K.Ord.cmp c.args.key c.self.inside.shelf.slots.items _ c.in-Err.ensures.absent.below c.in-Err.ensures.absent.above)))
