@@ -9,7 +9,7 @@ use Rattle.runs.proofs.Steps.{one_step_of}
 use Rattle.runs.proofs.Suffixes.{one_suffix_of}
 use Rattle.fast_packet.specs.declared.verdict.Verdict.TheVariants.{Next}
 use Rattle.slot_views.specs.Slots.{Entry, grown}
-use Rattle.fast_packet.specs.FastFrames.{counter_of, sequence_of, length_of, need_of, left_after, is_opener, is_no_later, later_piece}
+use Rattle.fast_packet.specs.FastFrames.{gap, longest, counter_of, sequence_of, length_of, need_of, left_after, is_opener, is_no_later, later_piece}
 use Rattle.fast_packet.specs.FastRuns.{FastPiece, is_next, is_repeat, fast_rules, joined}
 use Rattle.fast_packet.specs.Assembly.{mark_of, last_frame, is_again, follows, is_enough, verdict, opener_sequence, left_of}
 use Rattle.slot_views.specs.Traces.{left_at, entry_after}
@@ -18,14 +18,14 @@ use Rattle.fast_packet.proofs.Counts.{need_is}
 use Rattle.fast_packet.proofs.Lawful.{lawful, both_true, and_false, no_next, no_repeat}
 
 -- a later moment
-kept_by : (y : FastPiece) (ys : List FastPiece) (m : ℕ) (b : Bool) → nat_le m (y.moment + 750000) ≡ b → left_at (assembly_of (y ∷ ys)) m ≡ assembly_at (kept_at fast_rules (Some (y ∷ ys)) m)
+kept_by : (y : FastPiece) (ys : List FastPiece) (m : ℕ) (b : Bool) → nat_le m (y.moment + gap) ≡ b → left_at (assembly_of (y ∷ ys)) m ≡ assembly_at (kept_at fast_rules (Some (y ∷ ys)) m)
 kept_by y ys m true timely =
-    let reach = leb-true m (y.moment + 750000) timely in
-    let fresh : nat_lt 750000 (m - y.moment) ≡ false = le-ltb 750000 (m - y.moment) (omega (arith, reach)) in
+    let reach = leb-true m (y.moment + gap) timely in
+    let fresh : nat_lt gap (m - y.moment) ≡ false = le-ltb gap (m - y.moment) (omega (arith, reach)) in
     simp (timely, fresh)
 kept_by y ys m false late =
-    let past = leb-false m (y.moment + 750000) late in
-    let gone : nat_lt 750000 (m - y.moment) ≡ true = lt-ltb 750000 (m - y.moment) (omega (arith, past)) in
+    let past = leb-false m (y.moment + gap) late in
+    let gone : nat_lt gap (m - y.moment) ≡ true = lt-ltb gap (m - y.moment) (omega (arith, past)) in
     simp (late, gone)
 
 pub kept_is : (o : Option (List FastPiece)) (m : ℕ) → left_at (assembly_at o) m ≡ assembly_at (kept_at fast_rules o m)
@@ -52,7 +52,7 @@ IsSoFar (x ∷ y ∷ ys) = (is_next (y ∷ ys) x ≡ true) × (length x.bytes �
 
 pub record Facts (y : FastPiece) (ys : List FastPiece) (e : Entry) : Type 0 where
   pub least : 1 ≤ length_of (opener_of y ys).bytes
-  pub most : length_of (opener_of y ys).bytes ≤ 223
+  pub most : length_of (opener_of y ys).bytes ≤ longest
   pub joined_length : length (y ∷ ys) < need_of (length_of (opener_of y ys).bytes) → length e.bytes ≡ 6 + 7 * (length (y ∷ ys) - 1)
   pub last_is : 2 ≤ length (y ∷ ys) → length (y ∷ ys) < need_of (length_of (opener_of y ys).bytes) → y.bytes ≡ last_frame e
 
@@ -63,7 +63,7 @@ entry y ys =
       next = length (y ∷ ys);
       need = need_of (length_of (opener_of y ys).bytes);
       last = y.moment;
-      gap = 750000;
+      gap = gap;
       mark = mark_of (sequence_of (opener_of y ys).bytes) (length_of (opener_of y ys).bytes);
     }
 
@@ -107,10 +107,10 @@ drop_joined : (j l : List ℕ) → drop (length j) (j ++ l) ≡ l
 drop_joined [] l = refl
 drop_joined (x ∷ j) l = drop_joined j l
 
-sequence_kept : (s len : ℕ) → len ≤ 223 → mark_of s len / 256 ≡ s
+sequence_kept : (s len : ℕ) → len ≤ longest → mark_of s len / 256 ≡ s
 sequence_kept s len small = omega arith
 
-length_kept : (s len : ℕ) → len ≤ 223 → mark_of s len % 256 ≡ len
+length_kept : (s len : ℕ) → len ≤ longest → mark_of s len % 256 ≡ len
 length_kept s len small = omega arith
 
 -- a full frame carries its 7 bytes
@@ -120,7 +120,7 @@ full_piece len k bytes full enough valid =
     rw seven (take_whole 7 (drop 1 bytes) (omega (arith, length-drop 1 bytes)))
 
 -- the last frame, from what was joined
-last_by : (z : FastPiece) (zs : List FastPiece) (y : FastPiece) → is_next (z ∷ zs) y ≡ true → length y.bytes ≤ 8 → length_of (opener_of z zs).bytes ≤ 223
+last_by : (z : FastPiece) (zs : List FastPiece) (y : FastPiece) → is_next (z ∷ zs) y ≡ true → length y.bytes ≤ 8 → length_of (opener_of z zs).bytes ≤ longest
     → later_piece (left_after (length_of (opener_of z zs).bytes) (length (z ∷ zs))) y.bytes ≡ drop 1 y.bytes → 8 ≤ length y.bytes → y.bytes ≡ last_frame (entry y (z ∷ zs))
 last_by z zs y next valid most last full =
     let n = next_facts z zs y next in
@@ -224,7 +224,7 @@ module _ (y : FastPiece) (ys : List FastPiece) (x : FastPiece) (f : Facts y ys (
       simp other
 
   pub grown_is : length (y ∷ ys) < need_of (length_of (opener_of y ys).bytes)
-      → Some (grown (entry y ys) (take (1 + min 7 (left_of (entry y ys)) - 1) (drop 1 x.bytes)) x.moment 750000) ≡ assembly_of (x ∷ y ∷ ys)
+      → Some (grown (entry y ys) (take (1 + min 7 (left_of (entry y ys)) - 1) (drop 1 x.bytes)) x.moment gap) ≡ assembly_of (x ∷ y ∷ ys)
   grown_is more =
       let count : 1 + min 7 (left_of (entry y ys)) - 1 ≡ min 7 (left_after (length_of (opener_of y ys).bytes) (length (y ∷ ys))) = ap (λ n. 1 + min 7 n - 1) (left_is more) ∙ omega arith in
       rw (count, add-one (length (y ∷ ys))) refl
@@ -239,7 +239,7 @@ module _ (y : FastPiece) (ys : List FastPiece) (x : FastPiece) (f : Facts y ys (
           → left_by (Next (1 + min 7 (left_of (entry y ys)))) x (Some (entry y ys)) ≡ assembly_at (if_open fast_rules (Some (x ∷ y ∷ ys)))
       added true ew complete = simp (complete, admitted, ew)
       added false ew complete =
-          let left : left_by (Next (1 + min 7 (left_of (entry y ys)))) x (Some (entry y ys)) ≡ Some (grown (entry y ys) (take (1 + min 7 (left_of (entry y ys)) - 1) (drop 1 x.bytes)) x.moment 750000) = rw complete refl in
+          let left : left_by (Next (1 + min 7 (left_of (entry y ys)))) x (Some (entry y ys)) ≡ Some (grown (entry y ys) (take (1 + min 7 (left_of (entry y ys)) - 1) (drop 1 x.bytes)) x.moment gap) = rw complete refl in
           let right : assembly_at (if_open fast_rules (Some (x ∷ y ∷ ys))) ≡ assembly_of (x ∷ y ∷ ys) = simp (admitted, ew) in
           left ∙ (grown_is more ∙ sym right)
 

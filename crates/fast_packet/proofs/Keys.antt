@@ -1,18 +1,19 @@
 -- The assemblies of all keys are those of each key's own frames, and each frame is answered as those say.
-use Rattle.std.proofs.Common.{◌≡◌, ℕ, ◌+◌, ◌-◌, ◌<◌, ◌≤◌, ◌==◌, ◌&&◌, not, nat_le, if◌then◌else◌, min, Bool, true, false, List, [], ◌∷◌, length, take, drop, Option, Some, None, is_some, IsSomeAnd, length-take, length-drop, length-append, add-one, refl, sym, ◌∙◌, ap, subst, arith}
+use Rattle.std.proofs.Common.{◌≡◌, ℕ, ◌+◌, ◌<◌, ◌≤◌, ◌==◌, ◌&&◌, not, nat_le, if◌then◌else◌, min, Bool, true, false, List, [], ◌∷◌, length, drop, Option, Some, None, is_some, IsSomeAnd, length-take, length-drop, length-append, add-one, refl, sym, ◌∙◌, ap, subst, arith}
 use Rattle.std.proofs.lemmas.Bool.{eqb-true, eqb-false, eq-eqb, leb-true}
 use Rattle.std.specs.List.{AllByRecursion}
 use Rattle.std.specs.Cmp.{IsTotalOrder}
 use Rattle.std.specs.declared.cmp.Ordering.{Ordering}
-use Rattle.runs.specs.Runs.{opener_of, is_whole, is_admitted, since_opener, if_whole, open_of, open_at, run_of, finished}
+use Rattle.runs.specs.Runs.{opener_of, is_whole, is_admitted, since_opener, if_whole, open_of, open_at, run_of, fed, finished}
 use Rattle.runs.proofs.Steps.{one_step_of}
 use Rattle.runs.proofs.Suffixes.{one_suffix_of}
-use Rattle.slot_views.specs.Slots.{Entry, SlotMap, IsOrdered, grown, is_complete, is_held, is_full, entry_at}
+use Rattle.slot_views.specs.Slots.{Entry, SlotMap, IsOrdered, IsMap, Changes, is_complete, is_held, is_full, entry_at, released, begun_after, grown_after}
 use Rattle.slot_views.specs.Traces.{left_at, entry_after, if_incomplete, grown_entry, pieces_at, IsStep}
 use Rattle.slot_views.specs.Answers.{Shows}
-use Rattle.slot_views.proofs.Keeping.{Keeps, same_keeps, released_keeps, released_here, begun_keeps, begun_here, grown_keeps, grown_here}
+use Rattle.slot_views.proofs.Keeping.{Keeps, changes_of, same_keeps, released_keeps, released_here, begun_keeps, begun_here, grown_keeps, grown_here}
 use Rattle.slot_views.proofs.Traces.{all_at, joined, joined_before, noted_room}
 use Rattle.fast_packet.specs.declared.key.FastKey.{FastKey}
+use Rattle.fast_packet.specs.contracts.key.FastKeyOrd as key
 use Rattle.fast_packet.specs.declared.answers.FastFed.{FastFed}
 use Rattle.fast_packet.specs.declared.answers.FastOutcome.{FastOutcome}
 use Rattle.fast_packet.specs.declared.answers.FastOutcome.TheVariants.{Held, Complete, Repeat, Refused}
@@ -20,30 +21,31 @@ use Rattle.fast_packet.specs.declared.answers.FastRefusal.{FastRefusal}
 use Rattle.fast_packet.specs.declared.answers.FastRefusal.TheVariants.{Order, Orphan as NoneOpen, Length}
 use Rattle.fast_packet.specs.declared.verdict.Verdict.{Verdict}
 use Rattle.fast_packet.specs.declared.verdict.Verdict.TheVariants.{Short, Opens, Orphan, Again, OutOfOrder, Next}
-use Rattle.fast_packet.specs.FastFrames.{counter_of, sequence_of, length_of, need_of, left_after, is_opener, is_no_later, first_piece, later_piece}
+use Rattle.fast_packet.specs.FastFrames.{gap, longest, counter_of, sequence_of, length_of, need_of, left_after, is_opener, is_no_later, first_piece, later_piece}
 use Rattle.fast_packet.specs.FastRuns.{FastPiece, is_next, is_repeat, fast_rules, joined as joined_bytes, payload}
-use Rattle.fast_packet.specs.Assembly.{left_of, is_again as is_again_of, follows, is_enough, verdict, opening, fed_by}
-use Rattle.fast_packet.specs.Answers.{OpensGives, NextGives, FeedGivesBy}
+use Rattle.fast_packet.specs.Assembly.{left_of, is_again as is_again_of, follows, is_enough, verdict, opening, part_to, extended, fed_by, fed_after, key_fits, AreAssemblies}
+use Rattle.fast_packet.specs.Answers.{OpensGives, NextGives, FeedGivesBy, FeedGives}
 use Rattle.fast_packet.specs.Verdicts.{VerdictFits}
 use Rattle.fast_packet.specs.Laws.{assembly_of, assembly_at, grown_by, left_by, filling}
 use Rattle.fast_packet.specs.Keys.{is_awaited, refused, is_again, Carries, OutcomeIs, AnswerIs, is_open_at, AreFed, fed_one, assemblies, FollowsRuns, AnswersRuns}
+use Rattle.fast_packet.specs.Joining.{FeedsItsKey, StepsWithRuns}
 use Rattle.fast_packet.proofs.Counts.{need_is}
 use Rattle.fast_packet.proofs.Lawful.{lawful, both_true, no_next}
 use Rattle.fast_packet.proofs.Verdicts.{fits_from}
-use Rattle.fast_packet.proofs.Assemblies.{IsSoFar, Facts, entry, next_facts, facts_of, so_far, all_front, within, counter_zero, kept_is, kept_open, tests_next, tests_repeat, sequence_is, grown_is, repeat_apart}
+use Rattle.fast_packet.proofs.Assemblies.{IsSoFar, Facts, entry, step_by, next_facts, facts_of, so_far, all_front, within, counter_zero, kept_is, kept_open, tests_next, tests_repeat, sequence_is, grown_is, repeat_apart}
 
 module _ {cmp : FastKey → FastKey → Ordering} (o : IsTotalOrder cmp) where
   -- one frame does to the map what it does to its key's assembly
   module _ (s : SlotMap FastKey) (k : FastKey) (x : FastPiece) (sorted : IsOrdered cmp s.entries) where
-    keeps_by : (v : Verdict) → Keeps cmp s k (fed_by cmp s k x.bytes x.moment v)
+    pub keeps_by : (v : Verdict) → Keeps cmp s k (fed_by cmp s k x.bytes x.moment v)
     keeps_by Short = released_keeps o s k sorted
     keeps_by Opens = begun_keeps o s k sorted (opening x.bytes x.moment)
     keeps_by Orphan = same_keeps o s k sorted
     keeps_by Again = same_keeps o s k sorted
     keeps_by OutOfOrder = released_keeps o s k sorted
-    keeps_by (Next end) = grown_keeps o s k sorted (counter_of x.bytes) (take (end - 1) (drop 1 x.bytes)) x.moment 750000
+    keeps_by (Next end) = grown_keeps o s k sorted (counter_of x.bytes) (part_to end x.bytes) x.moment gap
 
-    keeps : Keeps cmp s k (fed_one cmp 0 s k x)
+    pub keeps : Keeps cmp s k (fed_one cmp 0 s k x)
     keeps = keeps_by (verdict (entry_at cmp s k) x.bytes)
 
     module _ (admitted : x.admitted ≡ not (is_full cmp s k)) where
@@ -54,16 +56,16 @@ module _ {cmp : FastKey → FastKey → Ordering} (o : IsTotalOrder cmp) where
       here_by Again fits = refl
       here_by OutOfOrder fits = released_here o s k sorted
       here_by (Next end) fits =
-          let piece = take (end - 1) (drop 1 x.bytes) in
-          let grows : grown_entry (counter_of x.bytes) piece x.moment 750000 (Some fits.entry) ≡ grown_by end x (Some fits.entry) =
+          let piece = part_to end x.bytes in
+          let grows : grown_entry (counter_of x.bytes) piece x.moment gap (Some fits.entry) ≡ grown_by end x (Some fits.entry) =
           rw (eqb-same (counter_of x.bytes) fits.entry.next fits.counter) refl in
-          grown_here o s k sorted (counter_of x.bytes) piece x.moment 750000
-          ∙ (ap (grown_entry (counter_of x.bytes) piece x.moment 750000) fits.held ∙ (grows ∙ ap (grown_by end x) (sym fits.held)))
+          grown_here o s k sorted (counter_of x.bytes) piece x.moment gap
+          ∙ (ap (grown_entry (counter_of x.bytes) piece x.moment gap) fits.held ∙ (grows ∙ ap (grown_by end x) (sym fits.held)))
         where
           eqb-same : (a b : ℕ) → a ≡ b → (b == a) ≡ true
           eqb-same a b same = eq-eqb b a (sym same)
 
-      here : entry_at cmp (fed_one cmp 0 s k x) k ≡ left_by (verdict (entry_at cmp s k) x.bytes) x (entry_at cmp s k)
+      pub here : entry_at cmp (fed_one cmp 0 s k x) k ≡ left_by (verdict (entry_at cmp s k) x.bytes) x (entry_at cmp s k)
       here = here_by (verdict (entry_at cmp s k) x.bytes) (fits_from (entry_at cmp s k) x.bytes (verdict (entry_at cmp s k) x.bytes) refl)
 
   pub step_is : (limit : ℕ) → IsStep cmp filling (fed_one cmp limit)
@@ -98,9 +100,9 @@ module _ (h : List FastPiece) (valid : AllByRecursion (λ x. length x.bytes ≤ 
 pub first_length : (y : FastPiece) → is_opener y.bytes ≡ true → 1 ≡ need_of (length_of y.bytes) → length (first_piece y.bytes) ≡ length_of y.bytes
 first_length y opens one =
     let holds = nat_le (2 + min 6 (length_of y.bytes)) (length y.bytes) in
-    let first = both_true (counter_of y.bytes == 0) (nat_le 1 (length_of y.bytes) && (nat_le (length_of y.bytes) 223 && holds)) opens in
-    let second = both_true (nat_le 1 (length_of y.bytes)) (nat_le (length_of y.bytes) 223 && holds) first.1 in
-    let third = both_true (nat_le (length_of y.bytes) 223) holds second.1 in
+    let first = both_true (counter_of y.bytes == 0) (nat_le 1 (length_of y.bytes) && (nat_le (length_of y.bytes) longest && holds)) opens in
+    let second = both_true (nat_le 1 (length_of y.bytes)) (nat_le (length_of y.bytes) longest && holds) first.1 in
+    let third = both_true (nat_le (length_of y.bytes) longest) holds second.1 in
     let enough : 2 + min 6 (length_of y.bytes) ≤ length y.bytes = leb-true (2 + min 6 (length_of y.bytes)) (length y.bytes) third.1 in
     let need = need_is (length_of y.bytes) in
     omega (arith, length-take (min 6 (length_of y.bytes)) (drop 2 y.bytes), length-drop 2 y.bytes, enough, one, need)
@@ -174,7 +176,7 @@ module _ (cmp : FastKey → FastKey → Ordering) (s : SlotMap FastKey) (k : Fas
     end = 1 + min 7 (left_of (entry y ys))
 
     abbrev grows : Entry → Entry
-    grows e = grown e (take (end - 1) (drop 1 x.bytes)) x.moment 750000
+    grows e = extended end x.bytes x.moment e
 
     next_refused : is_no_later x.bytes ≡ false → is_next (y ∷ ys) x ≡ true → refused q x ≡ None
     next_refused en next = by (is_repeat (y ∷ ys) x) refl
@@ -238,6 +240,50 @@ module _ (cmp : FastKey → FastKey → Ordering) (s : SlotMap FastKey) (k : Fas
         let awaited : is_awaited (y ∷ ys) x ≡ false = ap (λ n. (counter_of x.bytes == length (y ∷ ys)) && (sequence_of x.bytes == n)) (sym (sequence_is y ys x f)) ∙ eo in
         refused_fed fed Order other (rw (is, other, en, again, next, awaited) refl) (done ∙ rw (is, other, next) refl) (subst (λ v. FeedGivesBy cmp s k x.bytes x.moment v fed) told gives)
 
+-- the answer to one more frame of a key whose assembly is that of the frames that are open
+module _ (cmp : FastKey → FastKey → Ordering) (s : SlotMap FastKey) (k : FastKey) (h : List FastPiece) (x : FastPiece) (valid : AllByRecursion (λ x. length x.bytes ≤ 8) (x ∷ h)) (admitted : x.admitted ≡ not (is_full cmp s k)) where
+  open_fed : (q d : Option (List FastPiece)) → open_at fast_rules h x.moment ≡ q → entry_at cmp s k ≡ assembly_at q → d ≡ finished fast_rules q x → (b : Bool) → is_opener x.bytes ≡ b
+      → (answer : FastFed) → FeedGivesBy cmp s k x.bytes x.moment (verdict (assembly_at q) x.bytes) answer → AnswerIs q x d answer
+  open_fed q d is found done true opens answer gives =
+      let told : verdict (assembly_at q) x.bytes ≡ Opens = rw opens refl in
+      opens_fed cmp s k x q d found admitted done (some_by h valid.1 x.moment q is) opens valid.0 answer (subst (λ v. FeedGivesBy cmp s k x.bytes x.moment v answer) told gives)
+  open_fed None d is found done false other answer gives = none_fed cmp s k x None d found admitted done refl refl other _ refl answer gives
+  open_fed (Some []) d is found done false other answer gives = absurd (far_by h valid.1 x.moment (Some []) is [] refl).0
+  open_fed (Some (y ∷ ys)) d is found done false other answer gives =
+      let (far, room, awaits) = far_by h valid.1 x.moment (Some (y ∷ ys)) is (y ∷ ys) refl in
+      let apart = eqb-false (length (y ∷ ys)) (need_of (length_of (opener_of y ys).bytes)) awaits in
+      let most = within y ys far in
+      let more : length (y ∷ ys) < need_of (length_of (opener_of y ys).bytes) = omega (arith, apart, most) in
+      let f = facts_of y ys far in
+      later_fed cmp s k x (Some (y ∷ ys)) d found admitted done refl y ys refl f other more room (repeat_apart y ys x f) _ _ _ _ refl refl refl refl answer gives
+
+  pub answered : entry_at cmp s k ≡ assembly_at (open_at fast_rules h x.moment) → (d : Option (List FastPiece)) → d ≡ finished fast_rules (open_at fast_rules h x.moment) x
+      → (answer : FastFed) → FeedGives cmp s k x.bytes x.moment answer → AnswerIs (open_at fast_rules h x.moment) x d answer
+  answered found d done answer gives =
+      open_fed (open_at fast_rules h x.moment) d refl found done _ refl answer (subst (λ e. FeedGivesBy cmp s k x.bytes x.moment (verdict e x.bytes) answer) found gives)
+
+-- one more frame of any key
+module _ {cmp : FastKey → FastKey → Ordering} (o : IsTotalOrder cmp) where
+  changed : (s : SlotMap FastKey) (k : FastKey) (x : FastPiece) → IsMap cmp s → x.admitted ≡ not (is_full cmp s k)
+      → Changes cmp s (fed_after cmp s k x.bytes x.moment) k (left_by (verdict (entry_at cmp s k) x.bytes) x (entry_at cmp s k))
+  changed s k x map admitted = changes_of s (fed_after cmp s k x.bytes x.moment) k _ map (keeps o s k x map.ordered) (here o s k x map.ordered admitted)
+
+  pub feeds_its_key : FeedsItsKey cmp
+  feeds_its_key = record { changes = changed }
+
+  pub steps_with_runs : StepsWithRuns cmp
+  steps_with_runs = record {
+    answer = λ s k h x answer valid found admitted gives. answered cmp s k h x valid admitted found (finished fast_rules (open_at fast_rules h x.moment) x) refl answer gives;
+    changes = λ s k h x valid found admitted map.
+        let leaves : left_by (verdict (entry_at cmp s k) x.bytes) x (entry_at cmp s k) ≡ assembly_at (fed fast_rules (open_at fast_rules h x.moment) x) =
+        ap (λ e. left_by (verdict e x.bytes) x e) found ∙ step_by h x (open_at fast_rules h x.moment) (is_opener x.bytes) valid.1 refl refl in
+        subst (λ e. Changes cmp s (fed_after cmp s k x.bytes x.moment) k e) leaves (changed s k x map admitted);
+  }
+
+  -- what holds of all assemblies holds of them after a frame
+  pub still_assemblies : (s t : SlotMap FastKey) (k : FastKey) → key_fits k ≡ true → AreAssemblies cmp s → Keeps cmp s k t → AreAssemblies cmp t
+  still_assemblies s t k fits are keeps = record { map = (changes_of s t k _ are.map keeps refl).map; fit = keeps.keys key_fits fits are.fit }
+
 module _ {cmp : FastKey → FastKey → Ordering} (o : IsTotalOrder cmp) (limit : ℕ) where
   runs_agree : (p : List FastPiece) (m : ℕ) → AllByRecursion (λ x. length x.bytes ≤ 8) p → is_open_at p m ≡ is_some (left_at (entry_after filling p) m)
   runs_agree p m valid = agrees p valid m
@@ -265,24 +311,20 @@ module _ {cmp : FastKey → FastKey → Ordering} (o : IsTotalOrder cmp) (limit 
     admitted_p : x.admitted ≡ not (is_full cmp (assemblies cmp limit h x.moment) k)
     admitted_p = noted_room o filling (fed_one cmp limit) (step_is o limit) (λ x. length x.bytes ≤ 8) is_open_at runs_agree limit fits.some (k, x) h fits.valid fits.noted
 
-    open_fed : (q : Option (List FastPiece)) → open_at fast_rules p x.moment ≡ q → entry_at cmp (assemblies cmp limit h x.moment) k ≡ assembly_at q → run_of fast_rules (x ∷ p) ≡ finished fast_rules q x → (b : Bool) → is_opener x.bytes ≡ b
-        → (fed : FastFed) → FeedGivesBy cmp (assemblies cmp limit h x.moment) k x.bytes x.moment (verdict (assembly_at q) x.bytes) fed → AnswerIs q x (run_of fast_rules (x ∷ p)) fed
-    open_fed q is found done true opens fed gives =
-        let told : verdict (assembly_at q) x.bytes ≡ Opens = rw opens refl in
-        opens_fed cmp (assemblies cmp limit h x.moment) k x q (run_of fast_rules (x ∷ p)) found admitted_p done (some_by p valid_p x.moment q is) opens fits.valid.0 fed
-        (subst (λ v. FeedGivesBy cmp (assemblies cmp limit h x.moment) k x.bytes x.moment v fed) told gives)
-    open_fed None is found done false other fed gives =
-        none_fed cmp (assemblies cmp limit h x.moment) k x None (run_of fast_rules (x ∷ p)) found admitted_p done refl refl other _ refl fed gives
-    open_fed (Some []) is found done false other fed gives = absurd (far_by p valid_p x.moment (Some []) is [] refl).0
-    open_fed (Some (y ∷ ys)) is found done false other fed gives =
-        let (far, room, awaits) = far_by p valid_p x.moment (Some (y ∷ ys)) is (y ∷ ys) refl in
-        let apart = eqb-false (length (y ∷ ys)) (need_of (length_of (opener_of y ys).bytes)) awaits in
-        let most = within y ys far in
-        let more : length (y ∷ ys) < need_of (length_of (opener_of y ys).bytes) = omega (arith, apart, most) in
-        let f = facts_of y ys far in
-        later_fed cmp (assemblies cmp limit h x.moment) k x (Some (y ∷ ys)) (run_of fast_rules (x ∷ p)) found admitted_p done refl y ys refl f other more room (repeat_apart y ys x f) _ _ _ _ refl refl refl refl fed gives
-
     pub answers_runs : (fed : FastFed) → AnswersRuns cmp limit k x h fed
-    answers_runs fed gives =
-        open_fed (open_at fast_rules p x.moment) refl found_p ((one_step_of fast_rules lawful).whole p x) _ refl fed
-        (subst (λ e. FeedGivesBy cmp (assemblies cmp limit h x.moment) k x.bytes x.moment (verdict e x.bytes) fed) found_p gives)
+    answers_runs answer gives =
+        answered cmp (assemblies cmp limit h x.moment) k p x (fits.valid.0, valid_p) admitted_p found_p (run_of fast_rules (x ∷ p)) ((one_step_of fast_rules lawful).whole p x) answer gives
+
+-- what the steps leave of the assemblies of an assembler
+abbrev cmp : FastKey → FastKey → Ordering
+cmp = key.TheImpl.ghosts.cmp
+
+pub released_assemblies : (s : SlotMap FastKey) (k : FastKey) → key_fits k ≡ true → AreAssemblies cmp s → AreAssemblies cmp (released cmp s k)
+released_assemblies s k fits are = still_assemblies key.TheImpl.Laws.total-law s (released cmp s k) k fits are (released_keeps key.TheImpl.Laws.total-law s k are.map.ordered)
+
+pub begun_assemblies : (s : SlotMap FastKey) (k : FastKey) (e : Entry) → key_fits k ≡ true → AreAssemblies cmp s → AreAssemblies cmp (begun_after cmp s k e)
+begun_assemblies s k e fits are = still_assemblies key.TheImpl.Laws.total-law s (begun_after cmp s k e) k fits are (begun_keeps key.TheImpl.Laws.total-law s k are.map.ordered e)
+
+pub grown_assemblies : (s : SlotMap FastKey) (k : FastKey) (next : ℕ) (piece : List ℕ) (moment g : ℕ) → key_fits k ≡ true → AreAssemblies cmp s → AreAssemblies cmp (grown_after cmp s k next piece moment g)
+grown_assemblies s k next piece moment g fits are =
+    still_assemblies key.TheImpl.Laws.total-law s (grown_after cmp s k next piece moment g) k fits are (grown_keeps key.TheImpl.Laws.total-law s k are.map.ordered next piece moment g)

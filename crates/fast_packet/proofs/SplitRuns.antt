@@ -6,7 +6,7 @@ use Rattle.std.proofs.lemmas.Bool.{eq-eqb, le-leb, lt-ltb}
 use Rattle.fast_packet.proofs.Counts.{need_is}
 use Rattle.std.proofs.Common.{slice_index_or, add-one, length-drop, ◌≡◌, ℕ, zero, suc, ◌+◌, ◌-◌, ◌*◌, ◌/◌, ◌%◌, ◌<◌, ◌≤◌, ◌==◌, nat_le, nat_lt, min, true, List, [], ◌∷◌, ◌++◌, length, take, drop, map, reverse, Some, refl, sym, ◌∙◌, ap, arith}
 use Rattle.runs.specs.Runs.{accepted, accepted_after, in_time, is_whole, opener_of}
-use Rattle.fast_packet.specs.FastFrames.{counter_of, sequence_of, length_of, need_of, left_after, is_opener, later_piece}
+use Rattle.fast_packet.specs.FastFrames.{longest, counter_of, sequence_of, length_of, need_of, left_after, is_opener, later_piece}
 use Rattle.fast_packet.specs.FastRuns.{FastPiece, is_next, fast_rules, joined, payload}
 use Rattle.fast_packet.specs.Split.{filled, first_frame, later_frame, frames_to, frames_of}
 use Rattle.fast_packet.specs.Laws.{pieces_of, IsRunOf}
@@ -75,15 +75,15 @@ module _ (sequence : ℕ) (p : List ℕ) where
   next_newest zero more small = next_by (piece (first_frame sequence p)) [] zero more small refl refl
   next_newest (suc j) more small = next_by (piece (later_frame sequence p j)) (newest sequence p j) (suc j) more small (length-newest sequence p (suc j)) (opener_newest (piece (later_frame sequence p j)) j)
 
-  opens_first : 1 ≤ length p → length p ≤ 223 → is_opener (first_frame sequence p) ≡ true
+  opens_first : 1 ≤ length p → length p ≤ longest → is_opener (first_frame sequence p) ≡ true
   opens_first some fits =
       let counter : (counter_of (first_frame sequence p) == 0) ≡ true = eq-eqb _ _ (omega arith) in
       let least : nat_le 1 (length p) ≡ true = le-leb _ _ some in
-      let most : nat_le (length p) 223 ≡ true = le-leb _ _ fits in
+      let most : nat_le (length p) longest ≡ true = le-leb _ _ fits in
       let enough : nat_le (2 + min 6 (length p)) (length (first_frame sequence p)) ≡ true = le-leb _ _ (omega arith) in
       simp (counter, least, most, enough)
 
-  run_newest : (j : ℕ) → j + 1 ≤ need_of (length p) → need_of (length p) ≤ 32 → 1 ≤ length p → length p ≤ 223 → accepted fast_rules (newest sequence p j) ≡ Some (newest sequence p j)
+  run_newest : (j : ℕ) → j + 1 ≤ need_of (length p) → need_of (length p) ≤ 32 → 1 ≤ length p → length p ≤ longest → accepted fast_rules (newest sequence p j) ≡ Some (newest sequence p j)
   run_newest zero more small some fits = simp (opens_first some fits)
   run_newest (suc j) more small some fits =
       accepted_next (piece (later_frame sequence p j)) j
@@ -127,7 +127,7 @@ module _ (sequence : ℕ) (p : List ℕ) where
   each_frame zero small = ((omega arith, refl), tt)
   each_frame (suc j) small = all_append (λ f. (sequence_of f ≡ sequence) × (length f ≡ 8)) (frames_to sequence p j) (later_frame sequence p j) (each_frame j (omega arith)) (sequence_is (j + 1) (omega arith), refl)
 
-  pub split_runs : sequence ≤ 7 → 1 ≤ length p → length p ≤ 223 → IsRunOf sequence p (frames_of sequence p)
+  pub split_runs : sequence ≤ 7 → 1 ≤ length p → length p ≤ longest → IsRunOf sequence p (frames_of sequence p)
   split_runs low some fits =
       let need = need_is (length p) in
       let small : need_of (length p) ≤ 32 = omega arith in

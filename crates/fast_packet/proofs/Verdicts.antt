@@ -7,7 +7,7 @@ use Rattle.slot_views.specs.Answers.{kept_of, as_entry}
 use Rattle.fast_packet.specs.declared.verdict.Verdict.{Verdict}
 use Rattle.fast_packet.specs.declared.verdict.Verdict.TheVariants.{Short, Opens, Orphan, Again, OutOfOrder, Next}
 use Rattle.fast_packet.specs.FastFrames.{is_opener, is_no_later}
-use Rattle.fast_packet.specs.Verdicts.{IsNext, VerdictFits}
+use Rattle.fast_packet.specs.Verdicts.{IsNext, IsOpener, VerdictFits}
 use Rattle.fast_packet.specs.Assembly.{left_of, is_again, follows, is_enough, later_verdict, verdict}
 
 -- by what is told of the assembly
@@ -43,9 +43,35 @@ next_from o bytes end is = by_tests (is_opener bytes) (is_no_later bytes) refl r
     by_tests false true ea eb = let other : Next end ≡ Short = simp (ea, eb) at is in cc
     by_tests false false ea eb = later_next o bytes end (simp (ea, eb) at is)
 
+-- an opener holds what it owes
+opener_from : (bytes : List ℕ) → is_opener bytes ≡ true → IsOpener bytes
+opener_from bytes opens =
+    let one = both_true _ _ opens in
+    let two = both_true _ _ one.1 in
+    let three = both_true _ _ two.1 in
+    record { least = leb-true _ _ two.0; most = leb-true _ _ three.0; enough = leb-true _ _ three.1 }
+
+later_opens : (o : Option Entry) (bytes : List ℕ) → Opens ≡ later_verdict o bytes → ⊥
+later_opens None bytes is = cc
+later_opens (Some e) bytes is = by_tests (is_again e bytes) (follows e bytes) (is_enough e bytes) refl refl refl
+  where
+    by_tests : (a f n : Bool) → is_again e bytes ≡ a → follows e bytes ≡ f → is_enough e bytes ≡ n → ⊥
+    by_tests true f n ea ef en = let other : Opens ≡ Again = simp ea at is in cc
+    by_tests false false n ea ef en = let other : Opens ≡ OutOfOrder = simp (ea, ef) at is in cc
+    by_tests false true false ea ef en = let other : Opens ≡ Short = simp (ea, ef, en) at is in cc
+    by_tests false true true ea ef en = let other : Opens ≡ Next (1 + min 7 (left_of e)) = simp (ea, ef, en) at is in cc
+
+opens_from : (o : Option Entry) (bytes : List ℕ) → Opens ≡ verdict o bytes → IsOpener bytes
+opens_from o bytes is = by_tests (is_opener bytes) (is_no_later bytes) refl refl
+  where
+    by_tests : (a b : Bool) → is_opener bytes ≡ a → is_no_later bytes ≡ b → IsOpener bytes
+    by_tests true b ea eb = opener_from bytes ea
+    by_tests false true ea eb = let other : Opens ≡ Short = simp (ea, eb) at is in cc
+    by_tests false false ea eb = absurd (later_opens o bytes (simp (ea, eb) at is))
+
 pub fits_from : (o : Option Entry) (bytes : List ℕ) (r : Verdict) → r ≡ verdict o bytes → VerdictFits o bytes r
 fits_from o bytes Short is = tt
-fits_from o bytes Opens is = tt
+fits_from o bytes Opens is = opens_from o bytes is
 fits_from o bytes Orphan is = tt
 fits_from o bytes Again is = tt
 fits_from o bytes OutOfOrder is = tt

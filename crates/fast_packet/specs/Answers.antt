@@ -1,7 +1,7 @@
 -- What the answers say of the assemblies before the frame.
-use Rattle.std.specs.Prelude.{◌≡◌, ℕ, ◌-◌, true, false, List, take, drop, IsSomeAnd}
+use Rattle.std.specs.Prelude.{◌≡◌, ℕ, Bool, true, false, List, IsSomeAnd}
 use Rattle.std.specs.declared.cmp.Ordering.{Ordering}
-use Rattle.slot_views.specs.Slots.{Entry, SlotMap, grown, entry_at, is_held, is_full, is_complete}
+use Rattle.slot_views.specs.Slots.{Entry, SlotMap, entry_at, is_held, is_full, is_complete}
 use Rattle.slot_views.specs.Answers.{Shows}
 use Rattle.fast_packet.specs.declared.key.FastKey.{FastKey}
 use Rattle.fast_packet.specs.declared.verdict.Verdict.{Verdict}
@@ -10,7 +10,20 @@ use Rattle.fast_packet.specs.declared.answers.FastFed.{FastFed}
 use Rattle.fast_packet.specs.declared.answers.FastOutcome.{FastOutcome}
 use Rattle.fast_packet.specs.declared.answers.FastOutcome.TheVariants.{Held, Complete, Repeat, Refused}
 use Rattle.fast_packet.specs.declared.answers.FastRefusal.TheVariants as refusal
-use Rattle.fast_packet.specs.Assembly.{verdict, opening}
+use Rattle.fast_packet.specs.Assembly.{verdict, opening, extended}
+
+-- a message is given up for another one of its key, where that is open
+abbrev pub restarted_by : Bool → Verdict → Bool
+restarted_by held Short = false
+restarted_by held Opens = held
+restarted_by held Orphan = false
+restarted_by held Again = false
+restarted_by held OutOfOrder = false
+restarted_by held (Next end) = false
+
+-- what the call answers of an assembly that was taken out
+abbrev pub ended_of : FastKey × Entry → FastKey
+ended_of e = e.0
 
 module _ (cmp : FastKey → FastKey → Ordering) (s : SlotMap FastKey) (k : FastKey) where
   -- the answer to an opener, with the assembly that it opens
@@ -28,14 +41,18 @@ module _ (cmp : FastKey → FastKey → Ordering) (s : SlotMap FastKey) (k : Fas
   NextGives more (Refused reason) = ⊥
 
   module _ (bytes : List ℕ) (moment : ℕ) where
+    -- what became of a frame, by what it is
+    abbrev pub OutcomeBy : Verdict → FastOutcome → Type 0
+    OutcomeBy Short outcome = outcome ≡ Refused refusal.Length
+    OutcomeBy Opens outcome = OpensGives (opening bytes moment) outcome
+    OutcomeBy Orphan outcome = outcome ≡ Refused refusal.Orphan
+    OutcomeBy Again outcome = outcome ≡ Repeat
+    OutcomeBy OutOfOrder outcome = outcome ≡ Refused refusal.Order
+    OutcomeBy (Next end) outcome = NextGives (λ e. extended end bytes moment e) outcome
+
     -- the answer to a frame, by what it is
     abbrev pub FeedGivesBy : Verdict → FastFed → Type 0
-    FeedGivesBy Short fed = (fed.restarted ≡ false) × (fed.outcome ≡ Refused refusal.Length)
-    FeedGivesBy Opens fed = (fed.restarted ≡ is_held cmp s k) × OpensGives (opening bytes moment) fed.outcome
-    FeedGivesBy Orphan fed = (fed.restarted ≡ false) × (fed.outcome ≡ Refused refusal.Orphan)
-    FeedGivesBy Again fed = (fed.restarted ≡ false) × (fed.outcome ≡ Repeat)
-    FeedGivesBy OutOfOrder fed = (fed.restarted ≡ false) × (fed.outcome ≡ Refused refusal.Order)
-    FeedGivesBy (Next end) fed = (fed.restarted ≡ false) × NextGives (λ e. grown e (take (end - 1) (drop 1 bytes)) moment 750000) fed.outcome
+    FeedGivesBy v fed = (fed.restarted ≡ restarted_by (is_held cmp s k) v) × OutcomeBy v fed.outcome
 
     abbrev pub FeedGives : FastFed → Type 0
     FeedGives fed = FeedGivesBy (verdict (entry_at cmp s k) bytes) fed

@@ -2,6 +2,14 @@
 -- frame 0 has the length of the message in byte 1, and 6 bytes of it from byte 2 on; each later frame has 7 from byte 1 on.
 use Rattle.std.specs.Prelude.{ℕ, ◌+◌, ◌-◌, ◌*◌, ◌/◌, ◌%◌, Bool, ◌&&◌, ◌||◌, ◌==◌, nat_le, min, if◌then◌else◌, List, length, take, drop, slice_index}
 
+-- the longest message, in bytes
+abbrev pub longest : ℕ
+longest = 223
+
+-- how long the next frame may take, in microseconds
+abbrev pub gap : ℕ
+gap = 750000
+
 abbrev pub counter_of : List ℕ → ℕ
 counter_of bytes = slice_index bytes 0 % 32
 
@@ -20,9 +28,9 @@ need_of len = if nat_le len 6 then 1 else 1 + ((len - 6) + 6) / 7
 abbrev pub left_after : ℕ → ℕ → ℕ
 left_after len k = (len - 6) - 7 * (k - 1)
 
--- a frame 0 with a length from 1 to 223 that holds what it owes
+-- a frame 0 with a length from 1 to the longest that holds what it owes
 abbrev pub is_opener : List ℕ → Bool
-is_opener bytes = (counter_of bytes == 0) && (nat_le 1 (length_of bytes) && (nat_le (length_of bytes) 223 && nat_le (2 + min 6 (length_of bytes)) (length bytes)))
+is_opener bytes = (counter_of bytes == 0) && (nat_le 1 (length_of bytes) && (nat_le (length_of bytes) longest && nat_le (2 + min 6 (length_of bytes)) (length bytes)))
 
 -- no later frame: it has no byte, or the counter 0
 abbrev pub is_no_later : List ℕ → Bool

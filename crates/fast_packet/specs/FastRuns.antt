@@ -2,7 +2,7 @@
 use Rattle.std.specs.Cmp.Lexicographic.{pointwise}
 use Rattle.std.specs.Prelude.{ℕ, ◌+◌, ◌-◌, Bool, false, ◌&&◌, ◌==◌, nat_eq, nat_le, nat_lt, min, List, [], ◌∷◌, ◌++◌, length}
 use Rattle.runs.specs.Runs.{Rules, opener_of}
-use Rattle.fast_packet.specs.FastFrames.{counter_of, sequence_of, length_of, need_of, left_after, is_opener, first_piece, later_piece}
+use Rattle.fast_packet.specs.FastFrames.{gap, counter_of, sequence_of, length_of, need_of, left_after, is_opener, first_piece, later_piece}
 
 -- a frame, as it is to its run
 pub record FastPiece : Type 0 where
@@ -25,7 +25,6 @@ is_repeat (y ∷ ys) x =
     let k = length (y ∷ ys) in
     (counter_of x.bytes == (k - 1)) && ((length x.bytes == 8) && (nat_le 2 k && (nat_lt k (need_of (length_of (opener_of y ys).bytes)) && pointwise nat_eq x.bytes y.bytes)))
 
--- each frame may take 750 ms
 abbrev pub fast_rules : Rules FastPiece
 fast_rules = record {
   moment = λ x. x.moment;
@@ -34,7 +33,7 @@ fast_rules = record {
   need = λ x. need_of (length_of x.bytes);
   is_next = is_next;
   is_repeat = is_repeat;
-  gap = λ acc. 750000;
+  gap = λ acc. gap;
 }
 
 -- the bytes of a message of this length in some of its frames, in order

@@ -1,14 +1,14 @@
 -- What is promised of fast packets.
-use Rattle.std.specs.Prelude.{◌≡◌, ℕ, ◌-◌, true, if◌then◌else◌, List, [], ◌∷◌, length, take, drop, map, reverse, Option, Some, None}
+use Rattle.std.specs.Prelude.{◌≡◌, ℕ, true, if◌then◌else◌, List, [], ◌∷◌, length, map, reverse, Option, Some, None}
 use Rattle.std.specs.List.{AllByRecursion}
 use Rattle.runs.specs.Runs.{is_whole, accepted, opener_of}
-use Rattle.slot_views.specs.Slots.{Entry, grown}
+use Rattle.slot_views.specs.Slots.{Entry}
 use Rattle.slot_views.specs.Traces.{Filling, if_incomplete, entry_after}
 use Rattle.fast_packet.specs.declared.verdict.Verdict.{Verdict}
 use Rattle.fast_packet.specs.declared.verdict.Verdict.TheVariants.{Short, Opens, Orphan, Again, OutOfOrder, Next}
-use Rattle.fast_packet.specs.FastFrames.{sequence_of, length_of, need_of}
+use Rattle.fast_packet.specs.FastFrames.{gap, sequence_of, length_of, need_of}
 use Rattle.fast_packet.specs.FastRuns.{FastPiece, fast_rules, joined, payload}
-use Rattle.fast_packet.specs.Assembly.{mark_of, verdict, opening}
+use Rattle.fast_packet.specs.Assembly.{mark_of, verdict, opening, extended}
 
 -- the frames as they come one after another within a moment, the newest first
 abbrev pub pieces_of : List (List ℕ) → List FastPiece
@@ -31,7 +31,7 @@ assembly_of (x ∷ xs) =
       next = length (x ∷ xs);
       need = need_of (length_of first);
       last = x.moment;
-      gap = 750000;
+      gap = gap;
       mark = mark_of (sequence_of first) (length_of first);
     })
 
@@ -42,7 +42,7 @@ assembly_at (Some acc) = assembly_of acc
 -- what a frame leaves of the assembly of its key
 abbrev pub grown_by : ℕ → FastPiece → Option Entry → Option Entry
 grown_by end x None = None
-grown_by end x (Some e) = if_incomplete (grown e (take (end - 1) (drop 1 x.bytes)) x.moment 750000)
+grown_by end x (Some e) = if_incomplete (extended end x.bytes x.moment e)
 
 abbrev pub left_by : Verdict → FastPiece → Option Entry → Option Entry
 left_by Short x o = None

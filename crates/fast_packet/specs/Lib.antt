@@ -7,3 +7,4 @@ pub mod Verdicts
 pub mod Split
 pub mod Laws
 pub mod Keys
+pub mod Joining

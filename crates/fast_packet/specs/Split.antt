@@ -1,7 +1,7 @@
 -- The frames of a message.
 use Rattle.std.specs.Prelude.{ℕ, ◌+◌, ◌-◌, ◌*◌, ◌≤◌, List, [], ◌∷◌, ◌++◌, length, slice_index_or}
 use Rattle.std.proofs.Common.{zero, suc}
-use Rattle.fast_packet.specs.FastFrames.{need_of}
+use Rattle.fast_packet.specs.FastFrames.{longest, need_of}
 
 -- m bytes of a message from place o on, and 255 past its end
 abbrev pub filled : List ℕ → ℕ → ℕ → List ℕ
@@ -27,5 +27,5 @@ frames_of sequence p = frames_to sequence p (need_of (length p) - 1)
 pub record CanSplit (sequence : ℕ) (p : List ℕ) (frames : List (List ℕ)) : Type 0 where
   pub sequence_fits : sequence ≤ 7
   pub some : 1 ≤ length p
-  pub fits : length p ≤ 223
+  pub fits : length p ≤ longest
   pub room : length frames + need_of (length p) ≤ 32

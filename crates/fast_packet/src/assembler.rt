@@ -3,16 +3,18 @@ ghost use Rattle.std.specs.Prelude.{◌≡◌, ◌≤◌, ◌+◌, [], IfOk, len
 ghost use Rattle.std.specs.List.{find};
 ghost use Rattle.std.specs.Borrow.{sem};
 ghost use Rattle.n2k_id.specs.Frame.{IsFrame, held_bytes};
-ghost use Rattle.slot_views.specs.Slots.{SlotMap, IsOrdered, entry_at, without, has_expired};
-ghost use Rattle.fast_packet.specs.Assembly.{verdict, fed_after, is_from};
-ghost use Rattle.fast_packet.specs.Verdicts.{VerdictFits};
+ghost use Rattle.slot_views.specs.Slots.{SlotMap, IsMap, entry_at, without, begun_after, grown_after, has_expired};
+ghost use Rattle.slot_views.specs.Answers.{kept_of};
+ghost use Rattle.fast_packet.specs.FastFrames.{gap, counter_of};
+ghost use Rattle.fast_packet.specs.Assembly.{verdict, opening, part_to, extended, fed_by, fed_after, is_from};
+ghost use Rattle.fast_packet.specs.Verdicts.{IsOpener, IsNext, VerdictFits};
 
 use crate::answers::{FastFed, FastOutcome, FastRefusal};
 use crate::frames::{is_no_later, is_opener, mark_of, need_of, part};
 use crate::key::FastKey;
 use crate::verdict::{Verdict, later_verdict};
 use n2k_id::Frame;
-use slot_views::{Begun, Grown, Slots};
+use slot_views::{Begun, Grown, Kept, Slots};
 use std::alloc::{AllocError, Global};
 use std::marker::Model;
 
@@ -38,11 +40,15 @@ impl Model for FastAssembler {
     ghost Value = { SlotMap FastKey };
 
     ghost view = { λ s. s.slots };
+
+    ghost use Rattle.fast_packet.specs.Assembly.{AreAssemblies};
+
+    ghost invariant = { λ s. AreAssemblies ⟦<FastKey as Ord>⟧.cmp s.slots };
 }
 
 impl FastAssembler {
     ghost use Rattle.fast_packet.specs.Rows.{ends_as};
-    ghost use Rattle.fast_packet.specs.Answers.{FeedGives};
+    ghost use Rattle.fast_packet.specs.Answers.{FeedGives, OutcomeBy, OpensGives, NextGives, ended_of};
 
     /// No assembly, with the memory for `limit` of them.
     pub fn new(alloc: Global, limit: u16) -> Result<Self, AllocError>
@@ -56,89 +62,92 @@ impl FastAssembler {
     /// (`expire_one`): this call looks at no gap.
     pub fn feed<'a>(&'a mut self, source: u8, pgn: u32, frame: &Frame, moment: u64) -> FastFed<'a>
         requires { IsFrame frame.now }
+        ensures map { IsMap ⟦<FastKey as Ord>⟧.cmp self.old }
         ensures* after { sem 𝓛 (ends_as self.entry (fed_after ⟦<FastKey as Ord>⟧.cmp self.old (record { source = source; pgn = pgn }) (held_bytes frame.now) moment)) }
         ensures answer { FeedGives ⟦<FastKey as Ord>⟧.cmp self.old (record { source = source; pgn = pgn }) (held_bytes frame.now) moment result }
     {
         let key = FastKey { source, pgn };
         let bytes = frame.held();
-        match self.verdict(key, bytes) {
+        let kept = self.slots.kept(key);
+        let verdict = self.verdict(key, kept, bytes);
+        let restarted = verdict.restarts(kept.is_some());
+        let outcome = self.take(key, bytes, moment, verdict);
+        FastFed { restarted, outcome }
+    }
+
+    // Does what the frame of the key asks for.
+    #[tactic(auto, using(crate::proofs::Keys::released_assemblies))]
+    fn take<'a>(
+        &'a mut self,
+        key: FastKey,
+        bytes: &[u8],
+        moment: u64,
+        verdict: Verdict,
+    ) -> FastOutcome<'a>
+        requires { VerdictFits (entry_at ⟦<FastKey as Ord>⟧.cmp self.old key) bytes.now verdict }
+        ensures* after { sem 𝓛 (ends_as self.entry (fed_by ⟦<FastKey as Ord>⟧.cmp self.old key bytes.now moment verdict)) }
+        ensures answer { OutcomeBy ⟦<FastKey as Ord>⟧.cmp self.old key bytes.now moment verdict result }
+    {
+        match verdict {
             Verdict::Short => {
                 let _ = self.slots.give_up(key);
-                FastFed {
-                    restarted: false,
-                    outcome: FastOutcome::Refused(FastRefusal::Length),
-                }
+                FastOutcome::Refused(FastRefusal::Length)
             }
             Verdict::OutOfOrder => {
                 let _ = self.slots.give_up(key);
-                FastFed {
-                    restarted: false,
-                    outcome: FastOutcome::Refused(FastRefusal::Order),
-                }
+                FastOutcome::Refused(FastRefusal::Order)
             }
-            Verdict::Orphan => FastFed {
-                restarted: false,
-                outcome: FastOutcome::Refused(FastRefusal::Orphan),
-            },
-            Verdict::Again => FastFed {
-                restarted: false,
-                outcome: FastOutcome::Repeat,
-            },
-            Verdict::Opens => {
-                let length = bytes[1];
-                let piece = &bytes[2..2 + usize::from(length.min(6))];
-                match self.slots.begin(
-                    key,
-                    piece,
-                    need_of(length),
-                    moment,
-                    GAP,
-                    mark_of(bytes[0], length),
-                ) {
-                    Begun::Full => FastFed {
-                        restarted: false,
-                        outcome: FastOutcome::Refused(FastRefusal::Full),
-                    },
-                    Begun::Held { replaced } => FastFed {
-                        restarted: replaced,
-                        outcome: FastOutcome::Held,
-                    },
-                    Begun::Complete { replaced, view } => FastFed {
-                        restarted: replaced,
-                        outcome: FastOutcome::Complete(view),
-                    },
-                }
-            }
-            Verdict::Next(end) => match self.slots.grow(
-                key,
-                u16::from(bytes[0] % 32),
-                part(bytes, end),
-                moment,
-                GAP,
-            ) {
-                Grown::Held => FastFed {
-                    restarted: false,
-                    outcome: FastOutcome::Held,
-                },
-                Grown::Complete(view) => FastFed {
-                    restarted: false,
-                    outcome: FastOutcome::Complete(view),
-                },
-                Grown::Absent => FastFed {
-                    restarted: false,
-                    outcome: FastOutcome::Refused(FastRefusal::Orphan),
-                },
-                Grown::NotNext(_) => FastFed {
-                    restarted: false,
-                    outcome: FastOutcome::Refused(FastRefusal::Order),
-                },
-            },
+            Verdict::Orphan => FastOutcome::Refused(FastRefusal::Orphan),
+            Verdict::Again => FastOutcome::Repeat,
+            Verdict::Opens => self.begin(key, bytes, moment),
+            Verdict::Next(end) => self.grow(key, bytes, end, moment),
         }
     }
 
-    // What the frame is to the assembly of its key.
+    // Opens the assembly of a frame 0, in the place of the one that is open.
+    fn begin<'a>(&'a mut self, key: FastKey, bytes: &[u8], moment: u64) -> FastOutcome<'a>
+        requires { IsOpener bytes.now }
+        ensures* after { sem 𝓛 (ends_as self.entry (begun_after ⟦<FastKey as Ord>⟧.cmp self.old key (opening bytes.now moment))) }
+        ensures answer { OpensGives ⟦<FastKey as Ord>⟧.cmp self.old key (opening bytes.now moment) result }
+    {
+        let length = bytes[1];
+        let piece = &bytes[2..2 + usize::from(length.min(6))];
+        let need = need_of(length);
+        let mark = mark_of(bytes[0], length);
+        match self.slots.begin(key, piece, need, moment, GAP, mark) {
+            Begun::Full => FastOutcome::Refused(FastRefusal::Full),
+            Begun::Held { .. } => FastOutcome::Held,
+            Begun::Complete { view, .. } => FastOutcome::Complete(view),
+        }
+    }
+
+    // Adds the part of the message that the next frame holds up to this place.
+    fn grow<'a>(
+        &'a mut self,
+        key: FastKey,
+        bytes: &[u8],
+        end: usize,
+        moment: u64,
+    ) -> FastOutcome<'a>
+        requires { IsNext (entry_at ⟦<FastKey as Ord>⟧.cmp self.old key) bytes.now end }
+        ensures* after { sem 𝓛 (ends_as self.entry (grown_after ⟦<FastKey as Ord>⟧.cmp self.old key (counter_of bytes.now) (part_to end bytes.now) moment gap)) }
+        ensures answer { NextGives ⟦<FastKey as Ord>⟧.cmp self.old key (λ e. extended end bytes.now moment e) result }
+    {
+        let counter = u16::from(bytes[0] % 32);
+        match self.slots.grow(key, counter, part(bytes, end), moment, GAP) {
+            Grown::Held => FastOutcome::Held,
+            Grown::Complete(view) => FastOutcome::Complete(view),
+            // can't be: the assembly is open.
+            Grown::Absent => FastOutcome::Refused(FastRefusal::Orphan),
+            // can't be: the assembly waits for this counter.
+            Grown::NotNext(_) => FastOutcome::Refused(FastRefusal::Order),
+        }
+    }
+
+    // What the frame is to the assembly of its key, of which this is kept.
     #[tactic(auto, using(crate::proofs::Verdicts::told_verdict, crate::proofs::Verdicts::fits_from))]
-    fn verdict(&self, key: FastKey, bytes: &[u8]) -> Verdict
+    fn verdict(&self, key: FastKey, kept: Option<Kept>, bytes: &[u8]) -> Verdict
+        requires { kept ≡ option_map kept_of (entry_at ⟦<FastKey as Ord>⟧.cmp self.now key) }
         ensures value { result ≡ verdict (entry_at ⟦<FastKey as Ord>⟧.cmp self.now key) bytes.now }
         ensures fits { VerdictFits (entry_at ⟦<FastKey as Ord>⟧.cmp self.now key) bytes.now result }
     {
@@ -148,7 +157,7 @@ impl FastAssembler {
         if is_no_later(bytes) {
             return Verdict::Short;
         }
-        match self.slots.kept(key) {
+        match kept {
             None => Verdict::Orphan,
             Some(kept) => later_verdict(kept, self.slots.held_bytes(key).unwrap_or(&[]), bytes),
         }
@@ -156,8 +165,9 @@ impl FastAssembler {
 
     /// Ends the assembly of the least key whose next frame is overdue at the moment.
     pub fn expire_one(&mut self, moment: u64) -> Option<FastKey>
+        ensures map { IsMap ⟦<FastKey as Ord>⟧.cmp self.old }
         ensures after { self.new ≡ without self.old (has_expired moment) }
-        ensures answer { result ≡ option_map (λ e. e.0) (find (has_expired moment) self.old.entries) }
+        ensures answer { result ≡ option_map ended_of (find (has_expired moment) self.old.entries) }
     {
         match self.slots.expire_one(moment) {
             Some(ended) => Some(ended.key),
@@ -166,10 +176,10 @@ impl FastAssembler {
     }
 
     /// Ends the assembly of the source's least key.
-    #[tactic(auto, using(crate::proofs::Sources::range_is))]
     pub fn drop_source(&mut self, source: u8) -> Option<FastKey>
+        ensures map { IsMap ⟦<FastKey as Ord>⟧.cmp self.old }
         ensures after { self.new ≡ without self.old (is_from source) }
-        ensures answer { result ≡ option_map (λ e. e.0) (find (is_from source) self.old.entries) }
+        ensures answer { result ≡ option_map ended_of (find (is_from source) self.old.entries) }
     {
         let low = FastKey { source, pgn: 0 };
         let high = FastKey {
@@ -185,8 +195,7 @@ impl FastAssembler {
     /// How many assemblies are open.
     pub fn count(&self) -> u16
         ensures count { result ≡ length self.now.entries }
-        ensures within { result ≤ self.now.limit }
-        ensures ordered { IsOrdered ⟦<FastKey as Ord>⟧.cmp self.now.entries }
+        ensures map { IsMap ⟦<FastKey as Ord>⟧.cmp self.now }
     {
         self.slots.count()
     }

@@ -1,7 +1,10 @@
 //! How the frames of a fast packet are laid out.
-ghost use Rattle.std.specs.Prelude.{◌≡◌, ◌-◌, ◌/◌, ◌≤◌, length, take, drop};
+ghost use Rattle.std.specs.Prelude.{◌≡◌, ◌/◌, ◌≤◌, length};
 ghost use Rattle.fast_packet.specs.FastFrames as frames;
 ghost use Rattle.fast_packet.specs.Assembly as assembly;
+
+/// The longest message, in bytes.
+pub(crate) const LONGEST: usize = 223;
 
 /// Whether the frame is a frame 0 with a length from 1 to 223 that holds what it owes.
 pub(crate) fn is_opener(bytes: &[u8]) -> bool
@@ -11,7 +14,7 @@ pub(crate) fn is_opener(bytes: &[u8]) -> bool
         return false;
     }
     let length = usize::from(bytes[1]);
-    bytes[0] % 32 == 0 && length >= 1 && length <= 223 && bytes.len() >= 2 + length.min(6)
+    bytes[0] % 32 == 0 && length >= 1 && length <= LONGEST && bytes.len() >= 2 + length.min(6)
 }
 
 /// Whether the frame is no later frame: it has no byte, or the counter 0.
@@ -40,7 +43,7 @@ pub(crate) fn mark_of(first: u8, length: u8) -> u64
 pub(crate) fn part(bytes: &[u8], end: usize) -> &[u8]
     requires start { 1 ≤ end }
     requires enough { end ≤ length bytes.now }
-    ensures { result.now ≡ take (end - 1) (drop 1 bytes.now) }
+    ensures { result.now ≡ assembly.part_to end bytes.now }
 {
     &bytes[1..end]
 }

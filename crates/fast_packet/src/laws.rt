@@ -3,7 +3,10 @@ ghost use Rattle.runs.specs.Laws.{OneStep, OneSuffix};
 ghost use Rattle.fast_packet.specs.FastRuns.{FastPiece, fast_rules};
 ghost use Rattle.fast_packet.specs.declared.key.FastKey.{FastKey};
 ghost use Rattle.std.specs.Prelude.{◌≡◌, ℕ, List, ◌∷◌, ◌≤◌, length};
+ghost use Rattle.slot_views.specs.Laws.{TellsApart, EndsTheFirst};
+ghost use Rattle.fast_packet.specs.FastFrames.{longest};
 ghost use Rattle.fast_packet.specs.Split.{frames_of};
+ghost use Rattle.fast_packet.specs.Joining.{FeedsItsKey, StepsWithRuns};
 ghost use Rattle.fast_packet.specs.Laws.{IsRunOf, assembly_after, assembly_at};
 ghost use Rattle.fast_packet.specs.Keys.{AreFed, FollowsRuns, AnswersRuns};
 ghost use Rattle.fast_packet.specs.declared.answers.FastFed.{FastFed};
@@ -21,13 +24,27 @@ pub fn fast_runs()
 
 /// The frames that `split` appends are a run of its payload, with its sequence, and of no other payload.
 pub fn split_is_a_run()
-    ensures { (sequence : ℕ) (p : List ℕ) → sequence ≤ 7 → 1 ≤ length p → length p ≤ 223 → IsRunOf sequence p (frames_of sequence p) }
+    ensures { (sequence : ℕ) (p : List ℕ) → sequence ≤ 7 → 1 ≤ length p → length p ≤ longest → IsRunOf sequence p (frames_of sequence p) }
 {}
 
 /// Whatever frames of one key come, its assembly is that of the open prefix among them: its fields are those of the frames
 /// accepted so far.
 pub fn assembly_is_open_prefix()
     ensures { (h : List FastPiece) → AllByRecursion (λ x. length x.bytes ≤ 8) h → assembly_after h ≡ assembly_at (open_of fast_rules h) }
+{}
+
+/// A frame changes the assembly of its key alone, the first assembly that passes a test is the one that is taken out, and keys
+/// that stand at one place are one key.
+pub fn frames_change_their_key_alone()
+    ensures feed { FeedsItsKey ⟦<FastKey as Ord>⟧.cmp }
+    ensures ends { EndsTheFirst ⟦<FastKey as Ord>⟧.cmp }
+    ensures keys { TellsApart ⟦<FastKey as Ord>⟧.cmp }
+{}
+
+/// One frame does to the assembly of its key what it does to the frames of the key that are open, whatever the other keys hold: the
+/// answer is what those frames and this one say, and it leaves what they leave.
+pub fn frames_step_with_runs()
+    ensures { StepsWithRuns ⟦<FastKey as Ord>⟧.cmp }
 {}
 
 /// Whatever frames of all keys come, the assemblies are those of the open prefixes among the frames of each key, and each frame is

@@ -14,6 +14,9 @@ mod verdict;
 pub use answers::{FastFed, FastOutcome, FastRefusal};
 pub use assembler::FastAssembler;
 pub use key::FastKey;
-pub use laws::{assembly_is_open_prefix, fast_runs, keys_follow_runs, split_is_a_run};
+pub use laws::{
+    assembly_is_open_prefix, fast_runs, frames_change_their_key_alone, frames_step_with_runs,
+    keys_follow_runs, split_is_a_run,
+};
 pub use slot_views::View;
 pub use splitting::{FrameList, split};

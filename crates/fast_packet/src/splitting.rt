@@ -1,17 +1,15 @@
 //! A message into its frames.
 ghost use Rattle.std.specs.Prelude.{◌≡◌, ◌+◌, ◌-◌, ◌<◌, ◌≤◌, ◌↔◌, ◌++◌, IsTrue, length, slice_index_or};
 ghost use Rattle.std.specs.Bool.{OnTrue, OnFalse};
+ghost use Rattle.fast_packet.specs.FastFrames.{longest};
 ghost use Rattle.fast_packet.specs.Split.{CanSplit, frames_of};
 ghost use Rattle.fast_packet.specs.Split as parts;
 
-use crate::frames::need_of;
+use crate::frames::{LONGEST, need_of};
 use arrayvec::ArrayVec;
 
 /// The frames of one message, each of 8 bytes.
 pub type FrameList = ArrayVec<[u8; 8], 32>;
-
-/// The longest message.
-const LONGEST: usize = 223;
 
 /// Appends the frames of the payload, the last one filled with 255. False where the sequence is above 7, the payload has no byte
 /// or more than 223, or the list has no room for all of them; then nothing changes.
@@ -36,7 +34,7 @@ fn append(sequence: u8, payload: &[u8], need: u16, out: &mut FrameList)
     requires sequence { sequence ≤ 7 }
     requires some { 1 ≤ need }
     requires counter { need ≤ 32 }
-    requires length { length payload.now ≤ 223 }
+    requires length { length payload.now ≤ longest }
     requires room { length out.old.items + need ≤ 32 }
     ensures { out.new.items ≡ out.old.items ++ parts.frames_to sequence payload.now (need - 1) }
 {
@@ -49,7 +47,7 @@ fn append(sequence: u8, payload: &[u8], need: u16, out: &mut FrameList)
 // Frame 0.
 fn first_frame(sequence: u8, payload: &[u8]) -> [u8; 8]
     requires sequence { sequence ≤ 7 }
-    requires length { length payload.now ≤ 223 }
+    requires length { length payload.now ≤ longest }
     ensures { result ≡ parts.first_frame sequence payload.now }
 {
     [

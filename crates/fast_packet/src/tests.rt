@@ -216,3 +216,21 @@ fn the_longest_message_has_32_frames(rt: HostRuntime) -> Result<(), Fail> {
     assert_eq!(rt; told, Told::Complete(true));
     Ok(())
 }
+
+#[test]
+fn as_many_messages_are_open_as_the_greatest_limit(rt: HostRuntime) -> Result<(), Fail> {
+    let mut assembler = FastAssembler::new(rt.alloc(), 256)?;
+    for source in 0..u8::MAX {
+        assert_eq!(rt;
+            fed(&mut assembler, source, &FRAMES[0], 0, &PAYLOAD),
+            Told::Held
+        );
+    }
+    assert_eq!(rt;
+        fed(&mut assembler, u8::MAX, &FRAMES[0], 0, &PAYLOAD),
+        Told::Held
+    );
+    assert_eq!(rt; assembler.count(), 256);
+    assert_eq!(rt; fed(&mut assembler, 7, &FRAMES[1], 0, &PAYLOAD), Told::Held);
+    Ok(())
+}

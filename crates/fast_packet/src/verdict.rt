@@ -22,6 +22,20 @@ pub enum Verdict {
     Next(usize),
 }
 
+impl Verdict {
+    ghost use Rattle.fast_packet.specs.Answers.{restarted_by};
+
+    /// Whether a message that is open is given up for the one that the frame opens.
+    pub(crate) fn restarts(self, held: bool) -> bool
+        ensures { result ≡ restarted_by held self }
+    {
+        match self {
+            Verdict::Opens => held,
+            _ => false,
+        }
+    }
+}
+
 /// What a later frame is to an assembly that is open, by what is kept of it and its bytes so far.
 pub(crate) fn later_verdict(kept: Kept, held: &[u8], bytes: &[u8]) -> Verdict
     ensures { result ≡ assembly.later_verdict (Some (as_entry kept held.now)) bytes.now }
