@@ -1,14 +1,15 @@
 -- What each call does to the sessions of single keys.
-use Rattle.std.proofs.Common.{◌≡◌, ◌≢◌, ℕ, ◌+◌, ◌≤◌, ◌==◌, ◌&&◌, ◌||◌, not, nat_le, nat_lt, if◌then◌else◌, Bool, true, false, List, length, slice_index, Option, Some, None, is_some, option_map, refl, sym, ◌∙◌, ap, subst, arith}
-use Rattle.std.proofs.lemmas.Bool.{cond-true, cond-false, eqb-true, eqb-false, eq-eqb, le-leb, ltb-false}
+use Rattle.std.proofs.Common.{◌≡◌, ℕ, ◌≤◌, ◌==◌, ◌&&◌, ◌||◌, not, nat_le, nat_lt, if◌then◌else◌, Bool, true, false, List, length, slice_index, Option, Some, None, option_map, refl, sym, ◌∙◌, ap, subst, arith}
+use Rattle.std.proofs.lemmas.Bool.{cond-true, cond-false, eqb-true, eq-eqb, le-leb, ltb-false}
 use Rattle.std.specs.Cmp.{IsTotalOrder, bool_cmp_total}
 use Rattle.std.proofs.lemmas.Cmp.{nat_cmp_total, on_total, then_total}
 use Rattle.std.specs.declared.cmp.Ordering.{Ordering}
-use Rattle.std.specs.Ordering.{bool_cmp, nat_cmp, is_eq, is_gt, ordering_then}
-use Rattle.std.specs.Map.{remove_entry}
+use Rattle.std.specs.Ordering.{bool_cmp, nat_cmp, is_eq, ordering_then}
 use Rattle.std.specs.BTreeMap.{is_at}
-use Rattle.slot_views.specs.Slots.{Entry, SlotMap, grown, entry_at, is_held, is_full, is_complete, with_entries, released, begun_after, grown_after}
-use Rattle.slot_views.specs.Traces.{if_incomplete}
+use Rattle.slot_views.specs.Slots.{Entry, SlotMap, IsOrdered, IsMap, Changes, entry_at, is_full}
+use Rattle.slot_views.specs.Laws.{TellsApart}
+use Rattle.slot_views.specs.Traces.{if_incomplete, grown_entry}
+use Rattle.slot_views.proofs.Keeping.{Keeps, changes_of, same_keeps, released_keeps, released_here, begun_keeps, begun_here, grown_keeps, grown_here}
 use Rattle.n2k_id.specs.declared.identifier_parts.Parts.{Parts}
 use Rattle.iso_transport.specs.declared.connection.Cm.{Cm}
 use Rattle.iso_transport.specs.declared.connection.Cm.TheVariants.{Rts, Cts, EndAck, Bam, Abort}
@@ -20,14 +21,13 @@ use Rattle.iso_transport.specs.declared.verdict.Verdict.TheVariants.{Ignored, Ag
 use Rattle.iso_transport.specs.Connection.{control_at, size_at, packets_at, limit_at, pgn_at}
 use Rattle.iso_transport.specs.Cm.{cm_by, cm_of}
 use Rattle.iso_transport.specs.Sessions.{gap_after}
-use Rattle.iso_transport.specs.Audience.{is_data, key_of, bears}
-use Rattle.iso_transport.specs.IsoRuns.{number_of, end_of}
+use Rattle.iso_transport.specs.Audience.{is_data, key_of, bears, concerns}
+use Rattle.iso_transport.specs.IsoRuns.{IsoPiece, number_of, end_of}
 use Rattle.iso_transport.specs.Verdicts.{pgn_in, left_of, is_again, VerdictFits, packet_verdict, kind_verdict, management_verdict, frame_verdict}
-use Rattle.iso_transport.specs.Assembly.{opening, is_crowded, part_to, fed_by, verdict_of, fed_after}
-use Rattle.iso_transport.specs.Told.{verdict_on, left_by}
-use Rattle.iso_transport.specs.Joining.{concerns, IsMap, Changes, piece_of, FeedsItsKey, EndsTheFirst, OrdersKeys}
+use Rattle.iso_transport.specs.Assembly.{opening, is_crowded, part_to, fed_by, verdict_of, fed_after, key_fits, AreSessions}
+use Rattle.iso_transport.specs.Told.{verdict_on, extended_by, left_by}
+use Rattle.iso_transport.specs.Joining.{piece_of, FeedsItsKey, OrdersKeys}
 use Rattle.iso_transport.proofs.Verdicts.{full_where, management_fits}
-use Rattle.iso_transport.proofs.Maps.{IsApart, ordered_removed, removed_here, removed_other, set_here, set_other, ordered_set, inserted_here, inserted_other, ordered_inserted, length_removed, length_removed_held, length_set, length_inserted, found, none_found, none_passes}
 
 -- ---- what a frame is to its key, whatever the other keys hold
 
@@ -104,107 +104,61 @@ module _ (cmp : IsoKey → IsoKey → Ordering) (s : SlotMap IsoKey) (k : IsoKey
   frame_idle addressed crowded o true idle = cc
   frame_idle addressed crowded o false idle = management_idle addressed crowded (option_map pgn_in o) _ refl idle
 
-module _ (cmp : IsoKey → IsoKey → Ordering) (o : IsTotalOrder cmp) (same : (k x : IsoKey) → is_at (cmp k) x ≡ true → x ≡ k) where
-  apart_by : (k q x : IsoKey) → q ≢ k → (b : Bool) → is_at (cmp q) x ≡ b → is_at (cmp k) x ≡ true → is_at (cmp q) x ≡ false
-  apart_by k q x other true is here = absurd (other (sym (same q x is) ∙ same k x here))
-  apart_by k q x other false is here = is
-
-  apart : (k q : IsoKey) → q ≢ k → IsApart cmp o k q
-  apart k q other x here = apart_by k q x other _ refl here
-
+module _ (cmp : IsoKey → IsoKey → Ordering) (o : IsTotalOrder cmp) where
   -- ---- what the steps of the slots do to one key
-  stays : (s : SlotMap IsoKey) (k : IsoKey) → IsMap cmp s → Changes cmp s s k (entry_at cmp s k)
-  stays s k map = record { here = refl; others = λ q other. refl; limit = refl; map = map }
+  module _ (s : SlotMap IsoKey) (k : IsoKey) (x : IsoPiece) (sorted : IsOrdered cmp s.entries) where
+    keeps_by : (v : Verdict) → Keeps cmp s k (fed_by cmp s k x.bytes x.moment v)
+    keeps_by Ignored = same_keeps o s k sorted
+    keeps_by Again = same_keeps o s k sorted
+    keeps_by (Refused reason reply) = same_keeps o s k sorted
+    keeps_by (Ends reason reply) = released_keeps o s k sorted
+    keeps_by (Opens session old) = begun_keeps o s k sorted (opening k.addressed session x.moment)
+    keeps_by (Next session number end) = grown_keeps o s k sorted number (part_to end x.bytes) x.moment (gap_after k.addressed session number)
 
-  releases : (s : SlotMap IsoKey) (k : IsoKey) → IsMap cmp s → Changes cmp s (released cmp s k) k None
-  releases s k map =
-      let fewer = length_removed cmp o (is_at (cmp k)) s.entries in
-      let within = map.within in
-      record {
-        here = removed_here cmp o k s.entries map.ordered;
-        others = λ q other. removed_other cmp o k q (apart k q other) s.entries;
-        limit = refl;
-        map = record { ordered = ordered_removed cmp o (is_at (cmp k)) s.entries map.ordered; within = omega (arith, fewer, within) };
-      }
-
-  room_by : (held full : Bool) (n m limit : ℕ) → (not held && (n == limit)) ≡ false → n ≤ limit → m ≤ n → (held ≡ true → m + 1 ≡ n) → m + 1 ≤ limit
-  room_by true full n m limit not_full within fewer one = let less = one refl in omega (arith, less, within)
-  room_by false full n m limit not_full within fewer one = let apart_from = eqb-false n limit not_full in omega (arith, apart_from, within, fewer)
-
-  begins : (s : SlotMap IsoKey) (k : IsoKey) (e : Entry) → IsMap cmp s → (f c : Bool) → is_full cmp s k ≡ f → is_complete e ≡ c → Changes cmp s (begun_after cmp s k e) k (if is_full cmp s k then entry_at cmp s k else if_incomplete e)
-  begins s k e map true c full complete = rw full (stays s k map)
-  begins s k e map false true full complete = rw (full, complete) (releases s k map)
-  begins s k e map false false full complete =
-      let r = releases s k map in
-      let room = room_by (is_held cmp s k) false (length s.entries) (length (remove_entry (is_at (cmp k)) s.entries)) s.limit full map.within (length_removed cmp o (is_at (cmp k)) s.entries) (λ held. length_removed_held cmp o (is_at (cmp k)) s.entries held) in
-      let more = length_inserted cmp o k e (remove_entry (is_at (cmp k)) s.entries) in
-      rw (full, complete) (record {
-        here = inserted_here cmp o k e (remove_entry (is_at (cmp k)) s.entries);
-        others = λ q other. inserted_other cmp o k q e (apart k q other) (remove_entry (is_at (cmp k)) s.entries) ∙ r.others q other;
-        limit = refl;
-        map = record { ordered = ordered_inserted cmp o k e (remove_entry (is_at (cmp k)) s.entries) r.map.ordered; within = omega (arith, room, more) };
-      })
-
-  pub grows : (s : SlotMap IsoKey) (k : IsoKey) (e : Entry) (next : ℕ) (piece : List ℕ) (moment gap : ℕ) → IsMap cmp s → entry_at cmp s k ≡ Some e → next ≡ e.next → (c : Bool) → is_complete (grown e piece moment gap) ≡ c
-      → Changes cmp s (grown_after cmp s k next piece moment gap) k (if_incomplete (grown e piece moment gap))
-  grows s k e next piece moment gap map held awaited true complete =
-      let equal : (e.next == next) ≡ true = eq-eqb _ _ (sym awaited) in
-      rw (held, equal, complete) (releases s k map)
-  grows s k e next piece moment gap map held awaited false complete =
-      let equal : (e.next == next) ≡ true = eq-eqb _ _ (sym awaited) in
-      let is : is_some (entry_at cmp s k) ≡ true = ap is_some held in
-      let as_many = length_set cmp o (is_at (cmp k)) (grown e piece moment gap) s.entries in
-      let within = map.within in
-      rw (held, equal, complete) (record {
-        here = set_here cmp o k (grown e piece moment gap) s.entries is;
-        others = λ q other. set_other cmp o k q (grown e piece moment gap) (apart k q other) s.entries;
-        limit = refl;
-        map = record { ordered = ordered_set cmp o (is_at (cmp k)) (grown e piece moment gap) s.entries map.ordered; within = omega (arith, as_many, within) };
-      })
+    here_by : x.admitted ≡ not (is_full cmp s k) → (v : Verdict) → VerdictFits (full_where (is_crowded s) (entry_at cmp s k)) (entry_at cmp s k) x.bytes v
+        → entry_at cmp (fed_by cmp s k x.bytes x.moment v) k ≡ left_by k.addressed v x (entry_at cmp s k)
+    here_by admitted Ignored fits = refl
+    here_by admitted Again fits = refl
+    here_by admitted (Refused reason reply) fits = refl
+    here_by admitted (Ends reason reply) fits = released_here o s k sorted
+    here_by admitted (Opens session old) fits =
+        begun_here o s k sorted (opening k.addressed session x.moment) ∙ ap (λ b. if b then if_incomplete (opening k.addressed session x.moment) else None) (sym admitted)
+    here_by admitted (Next session number end) fits =
+        let piece = part_to end x.bytes in
+        let gap = gap_after k.addressed session number in
+        let grows : grown_entry number piece x.moment gap (Some fits.entry) ≡ extended_by k.addressed session number end x (Some fits.entry) =
+        rw (eq-eqb fits.entry.next number (sym fits.awaited)) refl in
+        grown_here o s k sorted number piece x.moment gap
+        ∙ (ap (grown_entry number piece x.moment gap) fits.held ∙ (grows ∙ ap (extended_by k.addressed session number end x) (sym fits.held)))
 
   -- ---- a frame, by what it is
-  full_none : (s : SlotMap IsoKey) (k : IsoKey) (l : Option Entry) (n : Bool) → entry_at cmp s k ≡ l → (not (is_some l) && n) ≡ true → l ≡ None
-  full_none s k None n held full = refl
-  full_none s k (Some e) n held full = cc
+  abbrev frame_on : SlotMap IsoKey → IsoKey → IsoPiece → Verdict
+  frame_on s k x = frame_verdict k.addressed (is_crowded s) (entry_at cmp s k) x.packet x.bytes
 
-  room_same : (s : SlotMap IsoKey) (k : IsoKey) (e : Entry) (f : Bool) → is_full cmp s k ≡ f → (if is_full cmp s k then entry_at cmp s k else if_incomplete e) ≡ (if not (is_full cmp s k) then if_incomplete e else None)
-  room_same s k e true full = rw full (full_none s k (entry_at cmp s k) (is_crowded s) refl full)
-  room_same s k e false full = rw full refl
+  told_on : (s : SlotMap IsoKey) (k : IsoKey) (x : IsoPiece) → x.admitted ≡ not (is_full cmp s k) → frame_on s k x ≡ verdict_on k.addressed (entry_at cmp s k) x
+  told_on s k x admitted =
+      frame_same k.addressed (is_crowded s) (entry_at cmp s k) x.packet x.bytes
+      ∙ ap (λ b. frame_verdict k.addressed (not b) (entry_at cmp s k) x.packet x.bytes) (sym admitted)
 
-  changes_by : (s : SlotMap IsoKey) (parts : Parts) (bytes : List ℕ) (moment : ℕ) (v : Verdict) → IsMap cmp s → VerdictFits (full_where (is_crowded s) (entry_at cmp s (key_of parts))) (entry_at cmp s (key_of parts)) bytes v
-      → Changes cmp s (fed_by cmp s (key_of parts) bytes moment v) (key_of parts) (left_by (key_of parts).addressed v (piece_of cmp s parts bytes moment) (entry_at cmp s (key_of parts)))
-  changes_by s parts bytes moment Ignored map fits = stays s (key_of parts) map
-  changes_by s parts bytes moment Again map fits = stays s (key_of parts) map
-  changes_by s parts bytes moment (Refused reason reply) map fits = stays s (key_of parts) map
-  changes_by s parts bytes moment (Ends reason reply) map fits = releases s (key_of parts) map
-  changes_by s parts bytes moment (Opens session old) map fits =
-      let e = opening (key_of parts).addressed session moment in
-      subst (λ l. Changes cmp s (begun_after cmp s (key_of parts) (opening (key_of parts).addressed session moment)) (key_of parts) l) (room_same s (key_of parts) e _ refl) (begins s (key_of parts) e map _ _ refl refl)
-  changes_by s parts bytes moment (Next session number end) map fits =
-      let k = key_of parts in
-      let e = fits.entry in
-      let gap = gap_after (key_of parts).addressed session number in
-      subst (λ l. Changes cmp s (grown_after cmp s (key_of parts) number (part_to end bytes) moment (gap_after (key_of parts).addressed session number)) (key_of parts) (left_by (key_of parts).addressed (Next session number end) (piece_of cmp s parts bytes moment) l)) (sym fits.held)
-      (grows s k e number (part_to end bytes) moment gap map fits.held fits.awaited _ refl)
+  pub changed : (s : SlotMap IsoKey) (k : IsoKey) (x : IsoPiece) → IsMap cmp s → x.admitted ≡ not (is_full cmp s k)
+      → Changes cmp s (fed_by cmp s k x.bytes x.moment (frame_on s k x)) k (left_by k.addressed (verdict_on k.addressed (entry_at cmp s k) x) x (entry_at cmp s k))
+  changed s k x map admitted =
+      let here = here_by s k x map.ordered admitted (frame_on s k x) (frame_fits k.addressed (is_crowded s) (entry_at cmp s k) x.packet x.bytes) in
+      changes_of s (fed_by cmp s k x.bytes x.moment (frame_on s k x)) k (left_by k.addressed (verdict_on k.addressed (entry_at cmp s k) x) x (entry_at cmp s k)) map
+      (keeps_by s k x map.ordered (frame_on s k x)) (here ∙ ap (λ v. left_by k.addressed v x (entry_at cmp s k)) (told_on s k x admitted))
 
   pub concerned : (s : SlotMap IsoKey) (own : Option ℕ) (parts : Parts) (bytes : List ℕ) → concerns own parts ≡ true
       → verdict_of cmp s own parts bytes ≡ frame_verdict (key_of parts).addressed (is_crowded s) (entry_at cmp s (key_of parts)) (is_data parts) bytes
   concerned s own parts bytes ours = cond-true (concerns own parts) (frame_verdict (key_of parts).addressed (is_crowded s) (entry_at cmp s (key_of parts)) (is_data parts) bytes) Ignored ours
 
-  told_law : (s : SlotMap IsoKey) (own : Option ℕ) (parts : Parts) (bytes : List ℕ) (moment : ℕ) → concerns own parts ≡ true
-      → verdict_of cmp s own parts bytes ≡ verdict_on (key_of parts).addressed (entry_at cmp s (key_of parts)) (piece_of cmp s parts bytes moment)
-  told_law s own parts bytes moment ours = concerned s own parts bytes ours ∙ frame_same (key_of parts).addressed (is_crowded s) (entry_at cmp s (key_of parts)) (is_data parts) bytes
-
   changes_law : (s : SlotMap IsoKey) (own : Option ℕ) (parts : Parts) (bytes : List ℕ) (moment : ℕ) → IsMap cmp s → concerns own parts ≡ true
       → Changes cmp s (fed_after cmp s own parts bytes moment) (key_of parts)
       (left_by (key_of parts).addressed (verdict_on (key_of parts).addressed (entry_at cmp s (key_of parts)) (piece_of cmp s parts bytes moment)) (piece_of cmp s parts bytes moment) (entry_at cmp s (key_of parts)))
   changes_law s own parts bytes moment map ours =
-      let v = frame_verdict (key_of parts).addressed (is_crowded s) (entry_at cmp s (key_of parts)) (is_data parts) bytes in
-      let base = changes_by s parts bytes moment v map (frame_fits (key_of parts).addressed (is_crowded s) (entry_at cmp s (key_of parts)) (is_data parts) bytes) in
-      let fed : Changes cmp s (fed_after cmp s own parts bytes moment) (key_of parts) (left_by (key_of parts).addressed v (piece_of cmp s parts bytes moment) (entry_at cmp s (key_of parts))) =
-      subst (λ w. Changes cmp s (fed_by cmp s (key_of parts) bytes moment w) (key_of parts) (left_by (key_of parts).addressed v (piece_of cmp s parts bytes moment) (entry_at cmp s (key_of parts)))) (sym (concerned s own parts bytes ours)) base in
-      subst (λ w. Changes cmp s (fed_after cmp s own parts bytes moment) (key_of parts) (left_by (key_of parts).addressed w (piece_of cmp s parts bytes moment) (entry_at cmp s (key_of parts))))
-      (frame_same (key_of parts).addressed (is_crowded s) (entry_at cmp s (key_of parts)) (is_data parts) bytes) fed
+      let x = piece_of cmp s parts bytes moment in
+      let o = entry_at cmp s (key_of parts) in
+      subst (λ w. Changes cmp s (fed_by cmp s (key_of parts) bytes moment w) (key_of parts) (left_by (key_of parts).addressed (verdict_on (key_of parts).addressed o x) x o)) (sym (concerned s own parts bytes ours))
+      (changed s (key_of parts) x map refl)
 
   passed_by : (s : SlotMap IsoKey) (own : Option ℕ) (parts : Parts) (bytes : List ℕ) (moment : ℕ) (c : Bool) → concerns own parts ≡ c → (c && bears (key_of parts).addressed (is_data parts) bytes) ≡ false → fed_after cmp s own parts bytes moment ≡ s
   passed_by s own parts bytes moment false other idle =
@@ -214,19 +168,14 @@ module _ (cmp : IsoKey → IsoKey → Ordering) (o : IsTotalOrder cmp) (same : (
 
   pub feeds_its_key : FeedsItsKey cmp
   feeds_its_key = record {
-    told = told_law;
+    told = λ s own parts bytes moment ours. concerned s own parts bytes ours ∙ told_on s (key_of parts) (piece_of cmp s parts bytes moment) refl;
     changes = changes_law;
     passed = λ s own parts bytes moment idle. passed_by s own parts bytes moment _ refl idle;
   }
 
-  pub ends_the_first : EndsTheFirst cmp
-  ends_the_first = record {
-    ended = λ s p e map is.
-        let f = found cmp o p s.entries e map.ordered is in
-        (f.0, f.1, subst (λ t. Changes cmp s t e.0 None) (sym (ap (with_entries s) f.2)) (releases s e.0 map));
-    none = λ s p is. (ap (with_entries s) (none_found cmp o p s.entries is), λ k e held. none_passes cmp o k e (same k) p s.entries is held);
-    released = λ s k map. releases s k map;
-  }
+  -- what holds of all sessions holds of them after a step
+  pub still_sessions : (s t : SlotMap IsoKey) (k : IsoKey) → key_fits k ≡ true → AreSessions cmp s → Keeps cmp s k t → AreSessions cmp t
+  still_sessions s t k fits are keeps = record { map = (changes_of s t k _ are.map keeps refl).map; fit = keeps.keys key_fits fits are.fit }
 
 -- ---- the order of the keys
 pub keys_total : IsTotalOrder key.TheImpl.ghosts.cmp
@@ -249,28 +198,13 @@ key_from a n = record { addressed = a; source = n }
 key_same : (a b : Bool) (n m : ℕ) → b ≡ a → m ≡ n → key_from b m ≡ key_from a n
 key_same a b n m e f = rw (e, f) refl
 
-pub keys_same : (k x : IsoKey) → is_at (key.TheImpl.ghosts.cmp k) x ≡ true → x ≡ k
+keys_same : (k x : IsoKey) → is_at (key.TheImpl.ghosts.cmp k) x ≡ true → x ≡ k
 keys_same k x here =
     let fields = fields_by k.addressed x.addressed k.source x.source here in
     key_same k.addressed x.addressed k.source x.source fields.0 fields.1
 
-pub feeds : FeedsItsKey key.TheImpl.ghosts.cmp
-feeds = feeds_its_key key.TheImpl.ghosts.cmp keys_total keys_same
-
-pub ends : EndsTheFirst key.TheImpl.ghosts.cmp
-ends = ends_the_first key.TheImpl.ghosts.cmp keys_total keys_same
-
-not_above : (n m : ℕ) (b c : Bool) → n ≤ m → nat_lt n m ≡ b → (n == m) ≡ c → is_gt (nat_cmp n m) ≡ false
-not_above n m true c le less equal = simp less
-not_above n m false true le less equal = simp (less, equal)
-not_above n m false false le less equal = let past = ltb-false n m less in absurd (eqb-false n m equal (omega (arith, past, le)))
-
-to_this_node : (a : Bool) (n : ℕ) → n ≤ 255 → (not (is_gt (ordering_then (bool_cmp true a) (nat_cmp 0 n))) && not (is_gt (ordering_then (bool_cmp a true) (nat_cmp n 255)))) ≡ a
-to_this_node false n small = refl
-to_this_node true n small =
-    let low = not_above 0 n _ _ (omega arith) refl refl in
-    let high = not_above n 255 _ _ small refl refl in
-    rw (low, high) refl
+pub keys_apart : TellsApart key.TheImpl.ghosts.cmp
+keys_apart = record { same = keys_same }
 
 pub orders : OrdersKeys key.TheImpl.ghosts.cmp
-orders = record { broadcast_first = λ a b. refl; addressed = λ k e small. to_this_node k.addressed k.source small }
+orders = record { broadcast_first = λ a b. refl }

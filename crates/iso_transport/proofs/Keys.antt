@@ -5,8 +5,9 @@ use Rattle.std.specs.List.{AllByRecursion, filter, list_any}
 use Rattle.std.specs.Cmp.{IsTotalOrder}
 use Rattle.std.specs.BTreeMap.{is_at}
 use Rattle.std.specs.declared.cmp.Ordering.{Ordering}
-use Rattle.runs.specs.Runs.{open_at, run_of}
-use Rattle.slot_views.specs.Slots.{Entry, SlotMap, IsOrdered, is_full, entry_at, released, begun_after, grown_after}
+use Rattle.runs.specs.Runs.{open_at, run_of, fed}
+use Rattle.runs.proofs.Steps.{one_step_of}
+use Rattle.slot_views.specs.Slots.{Entry, SlotMap, IsOrdered, IsMap, Changes, is_full, entry_at, released, begun_after, grown_after}
 use Rattle.slot_views.specs.Traces.{Filling, left_at, entry_after, if_incomplete, grown_entry, unexpired, now_of, pieces_at, keys_in, other_open_keys as other_open_entries, open_keys as open_entries, IsNoted as AreNoted, IsStep, map_after}
 use Rattle.slot_views.proofs.Keeping.{Keeps, same_keeps, released_keeps, released_here, begun_keeps, begun_here, grown_keeps, grown_here}
 use Rattle.slot_views.proofs.Traces.{joined, joined_before, noted_room}
@@ -23,17 +24,18 @@ use Rattle.iso_transport.specs.declared.verdict.Verdict.{Verdict}
 use Rattle.iso_transport.specs.declared.verdict.Verdict.TheVariants.{Ignored, Again, Refused, Ends, Opens, Next}
 use Rattle.iso_transport.specs.Cm.{cm_of}
 use Rattle.iso_transport.specs.Sessions.{is_size, opens, announced, gap_after, abort_to}
-use Rattle.iso_transport.specs.Audience.{key_of, is_data}
+use Rattle.iso_transport.specs.Audience.{key_of, is_data, concerns}
 use Rattle.iso_transport.specs.IsoRuns.{IsoPiece, number_of, end_of, session_of, is_next, is_repeat, iso_rules}
 use Rattle.iso_transport.specs.Verdicts.{VerdictFits, opener_verdict, abort_verdict, kind_verdict, frame_verdict}
 use Rattle.iso_transport.specs.Assembly.{opening, extended, part_to, is_crowded, fed_by, verdict_of, fed_after}
 use Rattle.iso_transport.specs.Answers.{restarted_by, reply_by, NextGives, OutcomeBy, FeedGives}
 use Rattle.iso_transport.specs.Told.{Message, pgn_of, left_of_run, packet_told, told, message_of, verdict_on, extended_by, left_by, completed_by, completed_with, assembly_at}
 use Rattle.iso_transport.specs.Laws.{IsOfTrace, IsTrace, assembly_after}
-use Rattle.iso_transport.specs.Joining.{concerns}
+use Rattle.iso_transport.specs.Joining.{StepsWithRuns}
 use Rattle.iso_transport.specs.Keys.{is_open_at, given_up, OutcomeIs, AnswerIs, open_keys, other_open_keys, IsNoted, sessions_after, AreFed, sessions, AllFollow, AllAnswered}
 use Rattle.iso_transport.proofs.Verdicts.{full_where}
-use Rattle.iso_transport.proofs.Joining.{frame_same, frame_fits, concerned}
+use Rattle.iso_transport.proofs.Lawful.{lawful}
+use Rattle.iso_transport.proofs.Joining.{frame_same, frame_fits, concerned, changed}
 use Rattle.iso_transport.proofs.Following.{told_is, told_packet, Standing, standing_by, follows_runs}
 
 -- ---- a frame, with whether its key is one of messages to this node: what slots promise of many keys speaks of pieces that say by
@@ -326,49 +328,28 @@ admits a None crowded stands none = refl
 admits a (Some []) crowded stands none = absurd stands
 admits a (Some (y ∷ ys)) crowded stands none = cc
 
-module _ {cmp : IsoKey → IsoKey → Ordering} (o : IsTotalOrder cmp) (same : (k x : IsoKey) → is_at (cmp k) x ≡ true → x ≡ k) (limit : ℕ) (h : List (IsoKey × IsoPiece)) (own : Option ℕ) (parts : Parts) (x : IsoPiece)
-    (fits : AreFed cmp limit ((key_of parts, x) ∷ h)) (ours : concerns own parts ≡ true) (kind : x.packet ≡ is_data parts) where
+-- the answer to one more frame of a key whose session is that of the frames p that are open
+module _ {cmp : IsoKey → IsoKey → Ordering} (o : IsTotalOrder cmp) (s : SlotMap IsoKey) (own : Option ℕ) (parts : Parts) (p : List IsoPiece) (x : IsoPiece)
+    (of_trace : IsTrace (key_of parts).addressed (x ∷ p)) (ours : concerns own parts ≡ true) (kind : x.packet ≡ is_data parts)
+    (found : entry_at cmp s (key_of parts) ≡ assembly_at (key_of parts).addressed (open_at (iso_rules (key_of parts).addressed) p x.moment)) (admitted : x.admitted ≡ not (is_full cmp s (key_of parts))) where
   abbrev k : IsoKey
   k = key_of parts
 
   abbrev a : Bool
   a = (key_of parts).addressed
 
-  abbrev p : List IsoPiece
-  p = pieces_at cmp (key_of parts) h
-
   abbrev q : Option (List IsoPiece)
-  q = open_at (iso_rules (key_of parts).addressed) (pieces_at cmp (key_of parts) h) x.moment
-
-  abbrev s : SlotMap IsoKey
-  s = sessions cmp limit h x.moment
-
-  trace : IsTrace a p
-  trace = trace_at o same k h fits.valid.1
+  q = open_at (iso_rules (key_of parts).addressed) p x.moment
 
   stands : Standing a q
-  stands = standing_by a p x.moment _ trace refl
-
-  noted : AreNoted cmp (λ x. x.piece.moment) (λ x. x.piece.admitted) leaves_open limit (kinded ((k, x) ∷ h))
-  noted = noted_so o same limit ((k, x) ∷ h) fits.valid fits.noted
-
-  found : entry_at cmp s k ≡ assembly_at a q
-  found =
-      ap (λ (t : SlotMap IsoKey). entry_at cmp (unexpired x.moment t) k) (sym (map_is o same limit h))
-      ∙ (joined_before o filling (fed_kinded cmp) (step_is o) (λ x. Unit {0}) leaves_open (λ p m fits. refl) limit fits.some (k, of_kind a x) (kinded h) (anything o same ((k, x) ∷ h)) noted k
-      ∙ left_at_key o same h fits.valid.1 x.moment k)
-
-  admitted : x.admitted ≡ not (is_full cmp s k)
-  admitted =
-      noted_room o filling (fed_kinded cmp) (step_is o) (λ x. Unit {0}) leaves_open (λ p m fits. refl) limit fits.some (k, of_kind a x) (kinded h) (anything o same ((k, x) ∷ h)) noted
-      ∙ ap (λ (t : SlotMap IsoKey). not (is_full cmp (unexpired x.moment t) k)) (map_is o same limit h)
+  stands = standing_by a p x.moment _ of_trace.1 refl
 
   none_open : x.admitted ≡ false → q ≡ None
   none_open none = admits a q (is_crowded s) stands (sym (ap (λ (e : Option Entry). not (not (is_some e) && is_crowded s)) found) ∙ (sym admitted ∙ none))
 
-  -- the frame as the call sees it, as the list does, and as the frames of its key do
+  -- the frame as the call sees it, and as the frames of its key do
   called : verdict_of cmp s own parts x.bytes ≡ frame_verdict a (is_crowded s) (entry_at cmp s k) x.packet x.bytes
-  called = concerned cmp o same s own parts x.bytes ours ∙ ap (λ b. frame_verdict a (is_crowded s) (entry_at cmp s k) b x.bytes) (sym kind)
+  called = concerned cmp o s own parts x.bytes ours ∙ ap (λ b. frame_verdict a (is_crowded s) (entry_at cmp s k) b x.bytes) (sym kind)
 
   on_session : verdict_of cmp s own parts x.bytes ≡ verdict_on a (assembly_at a q) x
   on_session =
@@ -377,17 +358,10 @@ module _ {cmp : IsoKey → IsoKey → Ordering} (o : IsTotalOrder cmp) (same : (
       ∙ (ap (λ b. frame_verdict a (not b) (entry_at cmp s k) x.packet x.bytes) (sym admitted) ∙ ap (λ e. verdict_on a e x) found))
 
   is_told_so : verdict_of cmp s own parts x.bytes ≡ told a q x
-  is_told_so = on_session ∙ (follows_runs a).told p x trace
-
-  of_trace : IsTrace a (x ∷ p)
-  of_trace = (fits.valid.0, trace)
+  is_told_so = on_session ∙ (follows_runs a).told p x of_trace.1
 
   done_is : completed_by a (told a q x) x (assembly_at a q) ≡ message_of (run_of (iso_rules a) (x ∷ p))
-  done_is = ap (λ v. completed_by a v x (assembly_at a q)) (sym ((follows_runs a).told p x trace)) ∙ (follows_runs a).completed p x of_trace
-
-  fed_so : fed_after cmp s own parts x.bytes x.moment ≡ sessions_after cmp limit ((k, x) ∷ h)
-  unfolding sessions_after
-  fed_so = ap (fed_by cmp s k x.bytes x.moment) called
+  done_is = ap (λ v. completed_by a v x (assembly_at a q)) (sym ((follows_runs a).told p x of_trace.1)) ∙ (follows_runs a).completed p x of_trace
 
   answered : (fed : IsoFed) → FeedGives cmp s own parts x.bytes x.moment fed → AnswerIs a q x (message_of (run_of (iso_rules a) (x ∷ p))) fed
   answered fed gives =
@@ -401,5 +375,50 @@ module _ {cmp : IsoKey → IsoKey → Ordering} (o : IsTotalOrder cmp) (same : (
         outcome = subst (λ d. OutcomeIs (told a q x) d fed.outcome) done_is (outcome_by a x (assembly_at a q) (told a q x) fed.outcome by_frames);
       }
 
+  changed_so : IsMap cmp s → Changes cmp s (fed_after cmp s own parts x.bytes x.moment) k (assembly_at a (fed (iso_rules a) q x))
+  changed_so map =
+      let step : Changes cmp s (fed_after cmp s own parts x.bytes x.moment) k (left_by a (verdict_on a (entry_at cmp s k) x) x (entry_at cmp s k)) =
+      subst (λ v. Changes cmp s (fed_by cmp s k x.bytes x.moment v) k (left_by a (verdict_on a (entry_at cmp s k) x) x (entry_at cmp s k))) (sym called) (changed cmp o s k x map admitted) in
+      let leaves : left_by a (verdict_on a (entry_at cmp s k) x) x (entry_at cmp s k) ≡ assembly_at a (fed (iso_rules a) q x) =
+      ap (λ e. left_by a (verdict_on a e x) x e) found ∙ ((follows_runs a).left p x of_trace ∙ ap (assembly_at a) ((one_step_of (iso_rules a) (lawful a)).prefix p x)) in
+      subst (λ e. Changes cmp s (fed_after cmp s own parts x.bytes x.moment) k e) leaves step
+
+pub steps_with_runs : {cmp : IsoKey → IsoKey → Ordering} → IsTotalOrder cmp → StepsWithRuns cmp
+steps_with_runs {cmp} o = record {
+  answer = λ s own parts p x fed of_trace ours kind found admitted gives.
+      let a = (key_of parts).addressed in
+      subst (λ d. AnswerIs (key_of parts).addressed (open_at (iso_rules (key_of parts).addressed) p x.moment) x (message_of d) fed) ((one_step_of (iso_rules a) (lawful a)).whole p x) (answered o s own parts p x of_trace ours kind found admitted fed gives);
+  changes = λ s own parts p x of_trace ours kind found admitted map. changed_so o s own parts p x of_trace ours kind found admitted map;
+}
+
+module _ {cmp : IsoKey → IsoKey → Ordering} (o : IsTotalOrder cmp) (same : (k x : IsoKey) → is_at (cmp k) x ≡ true → x ≡ k) (limit : ℕ) (h : List (IsoKey × IsoPiece)) (own : Option ℕ) (parts : Parts) (x : IsoPiece)
+    (fits : AreFed cmp limit ((key_of parts, x) ∷ h)) (ours : concerns own parts ≡ true) (kind : x.packet ≡ is_data parts) where
+  abbrev before : List IsoPiece
+  before = pieces_at cmp (key_of parts) h
+
+  abbrev held : SlotMap IsoKey
+  held = sessions cmp limit h x.moment
+
+  noted : AreNoted cmp (λ x. x.piece.moment) (λ x. x.piece.admitted) leaves_open limit (kinded ((key_of parts, x) ∷ h))
+  noted = noted_so o same limit ((key_of parts, x) ∷ h) fits.valid fits.noted
+
+  found_held : entry_at cmp held (key_of parts) ≡ assembly_at (key_of parts).addressed (open_at (iso_rules (key_of parts).addressed) before x.moment)
+  found_held =
+      ap (λ (t : SlotMap IsoKey). entry_at cmp (unexpired x.moment t) (key_of parts)) (sym (map_is o same limit h))
+      ∙ (joined_before o filling (fed_kinded cmp) (step_is o) (λ x. Unit {0}) leaves_open (λ p m fits. refl) limit fits.some (key_of parts, of_kind (key_of parts).addressed x) (kinded h) (anything o same ((key_of parts, x) ∷ h)) noted (key_of parts)
+      ∙ left_at_key o same h fits.valid.1 x.moment (key_of parts))
+
+  admitted_held : x.admitted ≡ not (is_full cmp held (key_of parts))
+  admitted_held =
+      noted_room o filling (fed_kinded cmp) (step_is o) (λ x. Unit {0}) leaves_open (λ p m fits. refl) limit fits.some (key_of parts, of_kind (key_of parts).addressed x) (kinded h) (anything o same ((key_of parts, x) ∷ h)) noted
+      ∙ ap (λ (t : SlotMap IsoKey). not (is_full cmp (unexpired x.moment t) (key_of parts))) (map_is o same limit h)
+
+  of_trace_held : IsTrace (key_of parts).addressed (x ∷ before)
+  of_trace_held = (fits.valid.0, trace_at o same (key_of parts) h fits.valid.1)
+
+  fed_so : fed_after cmp held own parts x.bytes x.moment ≡ sessions_after cmp limit ((key_of parts, x) ∷ h)
+  unfolding sessions_after
+  fed_so = ap (fed_by cmp held (key_of parts) x.bytes x.moment) (called o held own parts before x of_trace_held ours kind found_held admitted_held)
+
   pub all_answered : AllAnswered cmp limit own parts x h
-  all_answered = record { after = fed_so; answer = answered }
+  all_answered = record { after = fed_so; answer = λ fed gives. answered o held own parts before x of_trace_held ours kind found_held admitted_held fed gives }

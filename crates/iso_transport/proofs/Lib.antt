@@ -3,6 +3,6 @@ pub mod Lawful
 pub mod Sessions
 pub mod Prefixes
 pub mod Following
-pub mod Maps
 pub mod Joining
 pub mod Keys
+pub mod Sources

@@ -6,18 +6,18 @@ use Rattle.iso_transport.specs.declared.connection.Cm.TheVariants.{Rts, Cts, End
 use Rattle.iso_transport.specs.declared.session.Session.{Session}
 use Rattle.iso_transport.specs.Connection.{control_at, size_at, packets_at, limit_at, pgn_at}
 use Rattle.iso_transport.specs.Cm.{cm_of}
-use Rattle.iso_transport.specs.Sessions.{is_size, opens, announced, mark_of, session_at}
+use Rattle.iso_transport.specs.Sessions.{greatest_window, longest, shortest, is_size, opens, announced, mark_of, session_at}
 use Rattle.iso_transport.proofs.Lawful.{both_true}
 
 -- the numbers of a session that was opened
 pub record Opened (s : Session) : Type 0 where
-  pub least : 9 ≤ s.size
-  pub most : s.size ≤ 1785
+  pub least : shortest ≤ s.size
+  pub most : s.size ≤ longest
   pub some : 1 ≤ s.window
-  pub few : s.window ≤ 8
+  pub few : s.window ≤ greatest_window
   pub pgn : s.pgn < 2 ^ 24
 
-sized : (s : Session) (packets : ℕ) → is_size s.size packets ≡ true → 1 ≤ s.window → s.window ≤ 8 → s.pgn < 2 ^ 24 → Opened s
+sized : (s : Session) (packets : ℕ) → is_size s.size packets ≡ true → 1 ≤ s.window → s.window ≤ greatest_window → s.pgn < 2 ^ 24 → Opened s
 sized s packets is some few pgn =
     let one = both_true _ _ is in
     let two = both_true _ _ one.1 in

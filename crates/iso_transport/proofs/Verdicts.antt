@@ -16,7 +16,7 @@ use Rattle.iso_transport.specs.declared.session.Session.{Session}
 use Rattle.iso_transport.specs.declared.verdict.Verdict.{Verdict}
 use Rattle.iso_transport.specs.declared.verdict.Verdict.TheVariants.{Ignored, Again, Refused, Ends, Opens, Next}
 use Rattle.iso_transport.specs.Cm.{cm_of}
-use Rattle.iso_transport.specs.Sessions.{is_size, announced}
+use Rattle.iso_transport.specs.Sessions.{shortest, is_size, announced}
 use Rattle.iso_transport.specs.Verdicts.{IsSmall, VerdictFits, TellsSmall, opener_verdict, sized_verdict, abort_verdict, kind_verdict, management_verdict, pgn_in}
 
 both_true : (a b : Bool) → (a && b) ≡ true → (a ≡ true) × (b ≡ true)
@@ -28,10 +28,10 @@ abbrev pub full_where : Bool → Option Entry → Bool
 full_where crowded o = not (is_some o) && crowded
 
 module _ (crowded : Bool) (o : Option Entry) (bytes : List ℕ) where
-  opener_fits : (addressed : Bool) (s : Session) → IsSmall s → 9 ≤ s.size → VerdictFits (full_where crowded o) o bytes (opener_verdict addressed crowded (option_map pgn_in o) s)
+  opener_fits : (addressed : Bool) (s : Session) → IsSmall s → shortest ≤ s.size → VerdictFits (full_where crowded o) o bytes (opener_verdict addressed crowded (option_map pgn_in o) s)
   opener_fits addressed s small size = by_room crowded o small size
     where
-      by_room : (c : Bool) (o : Option Entry) → IsSmall s → 9 ≤ s.size → VerdictFits (full_where c o) o bytes (opener_verdict addressed c (option_map pgn_in o) s)
+      by_room : (c : Bool) (o : Option Entry) → IsSmall s → shortest ≤ s.size → VerdictFits (full_where c o) o bytes (opener_verdict addressed c (option_map pgn_in o) s)
       by_room c (Some e) small size = record { small = small; size = size; room = refl }
       by_room true None small size = tt
       by_room false None small size = record { small = small; size = size; room = refl }

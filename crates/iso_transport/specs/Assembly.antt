@@ -1,8 +1,9 @@
 -- What a frame does to the sessions: a limit, and the open ones by key. A session's mark is its opener's PGN, size and window;
 -- it waits for the packet with the number `next`, and is whole where that is `need`.
-use Rattle.std.specs.Prelude.{ℕ, ◌+◌, ◌-◌, Bool, true, false, not, ◌==◌, List, [], length, take, drop, Option}
+use Rattle.std.specs.Prelude.{◌≡◌, nat_le, ℕ, ◌+◌, ◌-◌, Bool, true, false, not, ◌==◌, List, [], length, take, drop, Option}
+use Rattle.std.specs.List.{AllByRecursion}
 use Rattle.std.specs.declared.cmp.Ordering.{Ordering}
-use Rattle.slot_views.specs.Slots.{Entry, SlotMap, is_between, is_held, opened, grown, entry_at, released, begun_after, grown_after}
+use Rattle.slot_views.specs.Slots.{Entry, SlotMap, IsMap, is_held, opened, grown, entry_at, released, begun_after, grown_after}
 use Rattle.n2k_id.specs.declared.identifier_parts.Parts.{Parts}
 use Rattle.iso_transport.specs.declared.key.IsoKey.{IsoKey}
 use Rattle.iso_transport.specs.declared.session.Session.{Session}
@@ -28,9 +29,21 @@ extended addressed s number end bytes moment e = grown e (part_to end bytes) mom
 abbrev pub is_crowded : SlotMap IsoKey → Bool
 is_crowded s = length s.entries == s.limit
 
--- the session is to this node: its key lies from the least such one to the greatest
-abbrev pub is_addressed : (IsoKey → IsoKey → Ordering) → IsoKey × Entry → Bool
-is_addressed cmp e = is_between cmp (record { addressed = true; source = 0 }) (record { addressed = true; source = 255 }) e
+-- the session is of that sender, and it is to this node
+abbrev pub is_from : ℕ → IsoKey × Entry → Bool
+is_from source e = e.0.source == source
+
+abbrev pub is_addressed : IsoKey × Entry → Bool
+is_addressed e = e.0.addressed
+
+-- the sender's address fits a byte
+abbrev pub key_fits : IsoKey → Bool
+key_fits k = nat_le k.source 255
+
+-- what holds of the sessions of every assembler: they are a map, and their keys fit
+pub record AreSessions (cmp : IsoKey → IsoKey → Ordering) (s : SlotMap IsoKey) : Type 0 where
+  pub map : IsMap cmp s
+  pub fit : AllByRecursion (λ e. key_fits e.0 ≡ true) s.entries
 
 -- the sender's least key that is held, or else its greater one
 abbrev pub least_of : (IsoKey → IsoKey → Ordering) → SlotMap IsoKey → ℕ → IsoKey

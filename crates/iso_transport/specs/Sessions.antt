@@ -6,17 +6,35 @@ use Rattle.iso_transport.specs.declared.reply.Reply.{Reply}
 use Rattle.iso_transport.specs.declared.reply.Reply.TheVariants as reply
 use Rattle.iso_transport.specs.declared.session.Session.{Session}
 
+-- the sizes of messages, in bytes: a shorter one goes in one frame, and the longest has 255 packets of 7 bytes
+abbrev pub shortest : ℕ
+shortest = 9
+
+abbrev pub longest : ℕ
+longest = 1785
+
+-- how many packets are granted at once at most
+abbrev pub greatest_window : ℕ
+greatest_window = 8
+
+-- how long a packet may take after the one before it, and after a grant, in microseconds
+abbrev pub gap : ℕ
+gap = 750000
+
+abbrev pub granted_gap : ℕ
+granted_gap = 1250000
+
 -- how many packets a message has: 7 bytes are in each, the last one filled up
 abbrev pub packets_of : ℕ → ℕ
 packets_of size = (size + 6) / 7
 
 -- a size that a message may have, with its number of packets
 abbrev pub is_size : ℕ → ℕ → Bool
-is_size size packets = nat_le 9 size && (nat_le size 1785 && (packets == packets_of size))
+is_size size packets = nat_le shortest size && (nat_le size longest && (packets == packets_of size))
 
 -- how many packets are granted at once, by the limit of the RTS
 abbrev pub window_of : ℕ → ℕ
-window_of limit = max 1 (min 8 limit)
+window_of limit = max 1 (min greatest_window limit)
 
 -- a frame opens a session: to this node an RTS, to all a BAM, with a size that a message may have
 abbrev pub opens : Bool → Option Cm → Bool
@@ -43,7 +61,7 @@ waits_after addressed s number = addressed && ((number % s.window == 0) && nat_l
 
 -- how long the next packet may take, in microseconds
 abbrev pub gap_after : Bool → Session → ℕ → ℕ
-gap_after addressed s number = if waits_after addressed s number then 1250000 else 750000
+gap_after addressed s number = if waits_after addressed s number then granted_gap else gap
 
 -- what its sender is told: what it may send next, of what is left no more than the window, or that the message came whole
 abbrev pub granted : Session → ℕ → Reply
@@ -62,7 +80,7 @@ abort_to addressed reason pgn = if addressed then Some (reply.Abort reason pgn) 
 
 -- a session as one number, whose digits are the window, the size and the PGN
 abbrev pub mark_of : Session → ℕ
-mark_of s = (s.pgn * 1786 + s.size) * 8 + (s.window - 1)
+mark_of s = (s.pgn * (longest + 1) + s.size) * greatest_window + (s.window - 1)
 
 abbrev pub session_at : ℕ → Session
-session_at mark = record { pgn = mark / 14288 % 2 ^ 24; size = mark / 8 % 1786; window = mark % 8 + 1 }
+session_at mark = record { pgn = mark / (greatest_window * (longest + 1)) % 2 ^ 24; size = mark / greatest_window % (longest + 1); window = mark % greatest_window + 1 }

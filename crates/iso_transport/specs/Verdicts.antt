@@ -10,9 +10,9 @@ use Rattle.iso_transport.specs.declared.session.Session.{Session}
 use Rattle.iso_transport.specs.declared.verdict.Verdict.{Verdict}
 use Rattle.iso_transport.specs.declared.verdict.Verdict.TheVariants.{Ignored, Again, Refused, Ends, Opens, Next}
 use Rattle.iso_transport.specs.Cm.{cm_of}
-use Rattle.iso_transport.specs.Sessions.{is_size, announced, abort_to, session_at}
+use Rattle.iso_transport.specs.Sessions.{longest, shortest, is_size, announced, abort_to, session_at}
 use Rattle.iso_transport.specs.IsoRuns.{number_of, end_of}
-use Rattle.iso_transport.specs.Audience.{is_to, is_management, is_data, key_of}
+use Rattle.iso_transport.specs.Audience.{is_data, key_of, concerns}
 
 -- the message of a session, and how many of its bytes are still to come
 abbrev pub session_in : Entry → Session
@@ -76,20 +76,20 @@ frame_verdict addressed crowded o packet bytes =
     if packet then packet_verdict addressed o bytes else management_verdict addressed crowded (option_map pgn_in o) bytes
 
 abbrev pub verdict : Option ℕ → Parts → Bool → Option Entry → List ℕ → Verdict
-verdict own parts crowded o bytes = if is_to own parts.destination && (is_management parts || is_data parts)
+verdict own parts crowded o bytes = if concerns own parts
     then frame_verdict (key_of parts).addressed crowded o (is_data parts) bytes else Ignored
 
 -- ---- what follows from what a frame is
 
 -- a session whose numbers fit a reply
 pub record IsSmall (s : Session) : Type 0 where
-  pub size : s.size ≤ 1785
+  pub size : s.size ≤ longest
   pub window : 1 ≤ s.window
 
 -- there is room for the session that opens, which has two packets or more
 pub record IsOpening (full : Bool) (s : Session) : Type 0 where
   pub small : IsSmall s
-  pub size : 9 ≤ s.size
+  pub size : shortest ≤ s.size
   pub room : full ≡ false
 
 -- the session waits for the packet, whose part of the message lies within it

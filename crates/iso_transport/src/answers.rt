@@ -1,7 +1,11 @@
 //! What the assembler answers.
+ghost use Rattle.std.specs.Prelude.{◌≡◌};
+ghost use Rattle.iso_transport.specs.Sessions.{session_at};
 
+use crate::key::IsoKey;
 use crate::reply::Reply;
-use slot_views::View;
+use crate::session::Session;
+use slot_views::{Ended, View};
 
 /// Why a frame was refused.
 #[derive(Clone, Copy, Debug, PartialEq, Eq)]
@@ -50,4 +54,17 @@ pub struct IsoEnded {
     pub addressed: bool,
     pub source: u8,
     pub pgn: u32,
+}
+
+impl IsoEnded {
+    // The session that an entry stood for.
+    pub(crate) fn of(ended: Ended<IsoKey>) -> IsoEnded
+        ensures { result ≡ record { addressed = ended.key.addressed; source = ended.key.source; pgn = (session_at ended.mark).pgn } }
+    {
+        IsoEnded {
+            addressed: ended.key.addressed,
+            source: ended.key.source,
+            pgn: Session::of_mark(ended.mark).pgn,
+        }
+    }
 }

@@ -3,18 +3,18 @@ ghost use Rattle.std.specs.Prelude.{◌≡◌, ◌≤◌, ◌<◌, [], IfOk, IsS
 ghost use Rattle.std.specs.List.{find};
 ghost use Rattle.std.specs.Borrow.{sem};
 ghost use Rattle.n2k_id.specs.Frame.{IsFrame, held_bytes};
-ghost use Rattle.slot_views.specs.Slots.{SlotMap, IsOrdered, grown, entry_at, is_full, without, released, begun_after, grown_after, has_expired};
+ghost use Rattle.slot_views.specs.Slots.{SlotMap, IsMap, grown, entry_at, is_full, without, released, begun_after, grown_after, has_expired};
 ghost use Rattle.iso_transport.specs.Audience.{key_of};
-ghost use Rattle.iso_transport.specs.Sessions.{gap_after, session_at};
+ghost use Rattle.iso_transport.specs.Sessions.{gap_after};
 ghost use Rattle.iso_transport.specs.Verdicts.{VerdictFits, IsOpening, packet_verdict, pgn_in};
-ghost use Rattle.iso_transport.specs.Assembly.{verdict_of, fed_by, fed_after, is_addressed, is_crowded, least_of, opening, part_to};
+ghost use Rattle.iso_transport.specs.Assembly.{verdict_of, fed_by, fed_after, is_from, is_addressed, is_crowded, least_of, opening, part_to};
 
 use crate::answers::{IsoEnded, IsoFed, IsoOutcome, IsoRefusal};
 use crate::key::IsoKey;
 use crate::session::Session;
 use crate::verdict::{Verdict, is_to, management_verdict, packet_verdict};
 use n2k_id::{Frame, Parts};
-use slot_views::{Begun, Ended, Grown, Slots};
+use slot_views::{Begun, Grown, Slots};
 use std::alloc::{AllocError, Global};
 use std::marker::Model;
 
@@ -43,6 +43,10 @@ impl Model for IsoAssembler {
     ghost Value = { SlotMap IsoKey };
 
     ghost view = { λ s. s.slots };
+
+    ghost use Rattle.iso_transport.specs.Assembly.{AreSessions};
+
+    ghost invariant = { λ s. AreSessions ⟦<IsoKey as Ord>⟧.cmp s.slots };
 }
 
 impl IsoAssembler {
@@ -70,6 +74,7 @@ impl IsoAssembler {
         moment: u64,
     ) -> IsoFed<'a>
         requires { IsFrame frame.now }
+        ensures map { IsMap ⟦<IsoKey as Ord>⟧.cmp self.old }
         ensures* after { sem 𝓛 (ends_as self.entry (fed_after ⟦<IsoKey as Ord>⟧.cmp self.old own parts.now (held_bytes frame.now) moment)) }
         ensures answer { FeedGives ⟦<IsoKey as Ord>⟧.cmp self.old own parts.now (held_bytes frame.now) moment result }
     {
@@ -87,6 +92,7 @@ impl IsoAssembler {
     }
 
     // Does what the frame of the key asks for.
+    #[tactic(auto, using(crate::proofs::Sources::released_sessions))]
     fn take<'a>(
         &'a mut self,
         key: IsoKey,
@@ -126,7 +132,9 @@ impl IsoAssembler {
             .begin(key, &[], need, moment, gap, session.mark())
         {
             Begun::Held { .. } => IsoOutcome::Held,
+            // can't be: there is room.
             Begun::Full => IsoOutcome::Refused(IsoRefusal::Full(session.pgn)),
+            // can't be: the message has two packets or more.
             Begun::Complete { view, .. } => IsoOutcome::Complete {
                 pgn: session.pgn,
                 view,
@@ -156,28 +164,28 @@ impl IsoAssembler {
                 pgn: session.pgn,
                 view,
             },
+            // can't be: the session is open.
             Grown::Absent => IsoOutcome::Refused(IsoRefusal::Orphan),
+            // can't be: the session waits for this packet.
             Grown::NotNext(_) => IsoOutcome::Refused(IsoRefusal::Order),
         }
     }
 
     // What the frame is to the sessions.
-    #[tactic(auto, using(crate::proofs::Verdicts::management_fits))]
     fn verdict(&self, own: Option<u8>, parts: &Parts, bytes: &[u8]) -> Verdict
+        ensures map { IsMap ⟦<IsoKey as Ord>⟧.cmp self.now }
         ensures value { result ≡ verdict_of ⟦<IsoKey as Ord>⟧.cmp self.now own parts.now bytes.now }
         ensures fits { VerdictFits (is_full ⟦<IsoKey as Ord>⟧.cmp self.now (key_of parts.now)) (entry_at ⟦<IsoKey as Ord>⟧.cmp self.now (key_of parts.now)) bytes.now result }
     {
+        let crowded = self.is_crowded();
         if !is_to(own, parts.destination) {
             return Verdict::Ignored;
         }
         let key = IsoKey::of(parts);
         match parts.pgn {
-            MANAGEMENT => management_verdict(
-                key.addressed,
-                self.is_crowded(),
-                self.message_of(key),
-                bytes,
-            ),
+            MANAGEMENT => {
+                management_verdict(key.addressed, crowded, self.message_of(key), bytes)
+            }
             DATA => self.packet_verdict(key, bytes),
             _ => Verdict::Ignored,
         }
@@ -208,34 +216,48 @@ impl IsoAssembler {
 
     // Whether as many sessions are open as the limit.
     fn is_crowded(&self) -> bool
-        ensures { result ≡ is_crowded self.now }
+        ensures map { IsMap ⟦<IsoKey as Ord>⟧.cmp self.now }
+        ensures crowded { result ≡ is_crowded self.now }
     {
         self.slots.count() == self.slots.limit()
     }
 
     /// Ends the session of the least key whose next frame is overdue at the moment.
     pub fn expire_one(&mut self, moment: u64) -> Option<IsoEnded>
+        ensures map { IsMap ⟦<IsoKey as Ord>⟧.cmp self.old }
         ensures after { self.new ≡ without self.old (has_expired moment) }
         ensures answer { result ≡ option_map ended_of (find (has_expired moment) self.old.entries) }
     {
         match self.slots.expire_one(moment) {
-            Some(ended) => Some(told(ended)),
+            Some(ended) => Some(IsoEnded::of(ended)),
             None => None,
         }
     }
 
     /// Ends the session of the sender's least key: the one to all before the one to this node.
+    #[tactic(auto, using(crate::proofs::Sources::least_drops))]
     pub fn drop_source(&mut self, source: u8) -> Option<IsoEnded>
-        ensures after { self.new ≡ released ⟦<IsoKey as Ord>⟧.cmp self.old (least_of ⟦<IsoKey as Ord>⟧.cmp self.old source) }
-        ensures answer { result ≡ option_map (λ e. ended_of (least_of ⟦<IsoKey as Ord>⟧.cmp self.old source, e)) (entry_at ⟦<IsoKey as Ord>⟧.cmp self.old (least_of ⟦<IsoKey as Ord>⟧.cmp self.old source)) }
+        ensures map { IsMap ⟦<IsoKey as Ord>⟧.cmp self.old }
+        ensures after { self.new ≡ without self.old (is_from source) }
+        ensures answer { result ≡ option_map ended_of (find (is_from source) self.old.entries) }
     {
         let key = self.least_of(source);
+        self.give_up(key)
+    }
+
+    // Ends the session of the key.
+    #[tactic(auto, using(crate::proofs::Sources::released_sessions))]
+    fn give_up(&mut self, key: IsoKey) -> Option<IsoEnded>
+        ensures map { IsMap ⟦<IsoKey as Ord>⟧.cmp self.old }
+        ensures after { self.new ≡ released ⟦<IsoKey as Ord>⟧.cmp self.old key }
+        ensures answer { result ≡ option_map (λ e. ended_of (key, e)) (entry_at ⟦<IsoKey as Ord>⟧.cmp self.old key) }
+    {
         let message = self.message_of(key);
         let _ = self.slots.give_up(key);
         match message {
             Some(pgn) => Some(IsoEnded {
                 addressed: key.addressed,
-                source,
+                source: key.source,
                 pgn,
             }),
             None => None,
@@ -258,8 +280,9 @@ impl IsoAssembler {
 
     /// Ends the session of the least key of those to this node.
     pub fn drop_addressed(&mut self) -> Option<IsoEnded>
-        ensures after { self.new ≡ without self.old (is_addressed ⟦<IsoKey as Ord>⟧.cmp) }
-        ensures answer { result ≡ option_map ended_of (find (is_addressed ⟦<IsoKey as Ord>⟧.cmp) self.old.entries) }
+        ensures map { IsMap ⟦<IsoKey as Ord>⟧.cmp self.old }
+        ensures after { self.new ≡ without self.old is_addressed }
+        ensures answer { result ≡ option_map ended_of (find is_addressed self.old.entries) }
     {
         let low = IsoKey {
             addressed: true,
@@ -270,7 +293,7 @@ impl IsoAssembler {
             source: 255,
         };
         match self.slots.drop_between(low, high) {
-            Some(ended) => Some(told(ended)),
+            Some(ended) => Some(IsoEnded::of(ended)),
             None => None,
         }
     }
@@ -278,21 +301,9 @@ impl IsoAssembler {
     /// How many sessions are open.
     pub fn count(&self) -> u16
         ensures count { result ≡ length self.now.entries }
-        ensures within { result ≤ self.now.limit }
-        ensures ordered { IsOrdered ⟦<IsoKey as Ord>⟧.cmp self.now.entries }
+        ensures map { IsMap ⟦<IsoKey as Ord>⟧.cmp self.now }
     {
         self.slots.count()
-    }
-}
-
-// The session that was taken out.
-fn told(ended: Ended<IsoKey>) -> IsoEnded
-    ensures { result ≡ record { addressed = ended.key.addressed; source = ended.key.source; pgn = (session_at ended.mark).pgn } }
-{
-    IsoEnded {
-        addressed: ended.key.addressed,
-        source: ended.key.source,
-        pgn: Session::of_mark(ended.mark).pgn,
     }
 }
 

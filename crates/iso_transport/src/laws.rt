@@ -3,9 +3,10 @@ ghost use Rattle.std.specs.Prelude.{◌≡◌, ℕ, true, false, List, ◌∷◌
 ghost use Rattle.runs.specs.Laws.{OneStep, OneSuffix};
 ghost use Rattle.n2k_id.specs.declared.identifier_parts.Parts.{Parts};
 ghost use Rattle.iso_transport.specs.declared.key.IsoKey.{IsoKey};
-ghost use Rattle.iso_transport.specs.Audience.{key_of, is_data};
+ghost use Rattle.iso_transport.specs.Audience.{key_of, is_data, concerns};
 ghost use Rattle.iso_transport.specs.IsoRuns.{IsoPiece, iso_rules};
-ghost use Rattle.iso_transport.specs.Joining.{concerns, FeedsItsKey, EndsTheFirst, OrdersKeys};
+ghost use Rattle.slot_views.specs.Laws.{TellsApart, EndsTheFirst};
+ghost use Rattle.iso_transport.specs.Joining.{FeedsItsKey, StepsWithRuns, OrdersKeys};
 ghost use Rattle.iso_transport.specs.Keys.{AreFed, AllFollow, AllAnswered};
 ghost use Rattle.iso_transport.specs.Laws.{FollowsRuns, HasItsSize};
 
@@ -33,12 +34,19 @@ pub fn messages_have_their_size()
     ensures broadcast { HasItsSize false }
 {}
 
-/// A frame changes the session of its key alone, and is to all sessions what it is to that one. Sessions to all come before those
-/// to this node, and the first one that passes a test is the one that is taken out.
+/// A frame changes the session of its key alone, and is to all sessions what it is to that one. The first session that passes a test
+/// is the one that is taken out, keys that stand at one place are one key, and sessions to all come before those to this node.
 pub fn frames_change_their_key_alone()
     ensures feed { FeedsItsKey ⟦<IsoKey as Ord>⟧.cmp }
     ensures ends { EndsTheFirst ⟦<IsoKey as Ord>⟧.cmp }
+    ensures keys { TellsApart ⟦<IsoKey as Ord>⟧.cmp }
     ensures order { OrdersKeys ⟦<IsoKey as Ord>⟧.cmp }
+{}
+
+/// One frame does to the session of its key what it does to the frames of the key that are open, whatever the other keys hold: the
+/// answer is what those frames and this one say, and it leaves what they leave.
+pub fn frames_step_with_runs()
+    ensures { StepsWithRuns ⟦<IsoKey as Ord>⟧.cmp }
 {}
 
 /// Whatever frames of all keys come, the sessions are those of the open prefixes among the frames of each key, and as many as the

@@ -18,7 +18,8 @@ pub use assembler::IsoAssembler;
 pub use connection::{Cm, read_cm};
 pub use key::IsoKey;
 pub use laws::{
-    all_sessions_follow_runs, frames_change_their_key_alone, iso_runs, messages_have_their_size,
+    all_sessions_follow_runs, frames_change_their_key_alone, frames_step_with_runs, iso_runs,
+    messages_have_their_size,
     sessions_follow_runs,
 };
 pub use reply::{Reply, write_reply};
