@@ -19,8 +19,7 @@ pub use connection::{Cm, read_cm};
 pub use key::IsoKey;
 pub use laws::{
     all_sessions_follow_runs, frames_change_their_key_alone, frames_step_with_runs, iso_runs,
-    messages_have_their_size,
-    sessions_follow_runs,
+    messages_have_their_size, sessions_follow_runs,
 };
 pub use reply::{Reply, write_reply};
 pub use slot_views::View;
