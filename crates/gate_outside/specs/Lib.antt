@@ -10,3 +10,4 @@ pub mod Files
 pub mod MemTime
 pub mod Link
 pub mod LinkMemory
+pub mod Streams

@@ -6,6 +6,10 @@ use Rattle.gate_outside.specs.declared.address.Routes.{Routes}
 use Rattle.gate_outside.specs.declared.link.Arrival.{Arrival}
 use Rattle.gate_outside.specs.declared.link.Arrival.TheVariants.{Bytes, Nothing}
 
+-- how many bytes the text of an address may have
+abbrev pub longest_address : ℕ
+longest_address = 64
+
 -- a group and the bytes that were handed over under it
 abbrev pub Handed : Type 0
 Handed = List ℕ × List ℕ

@@ -73,10 +73,14 @@ told_by q (Some pairs) = Some (traffic_with q pairs)
 abbrev pub traffic_of : QuietTraffic → Option Traffic
 traffic_of q = told_by q q.over.handed
 
+-- how many bytes the buffer of a receive has
+abbrev pub largest_arrival : ℕ
+largest_arrival = 1500
+
 -- an arrival that fits the buffer of a receive
 abbrev pub IsArrival : Option (Vec ℕ) → Type 0
 IsArrival None = Unit {0}
-IsArrival (Some bytes) = length bytes.items ≤ 1500
+IsArrival (Some bytes) = length bytes.items ≤ largest_arrival
 
 -- the arrival stands at the front of the buffer
 abbrev pub IsArrivalThere : List ℕ → Option (List ℕ) → Arrival → Type 0

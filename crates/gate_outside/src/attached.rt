@@ -1,6 +1,6 @@
 //! A copy of where a link listens and sends.
 ghost use Rattle.std.specs.Prelude.{◌≡◌, ◌≤◌, length, map};
-ghost use Rattle.gate_outside.specs.Link.{route_of};
+ghost use Rattle.gate_outside.specs.Link.{longest_address, route_of};
 
 use crate::{Address, Route, Routes};
 use arrayvec::ArrayVec;
@@ -23,7 +23,7 @@ impl Model for Attached {
 
 // A copy of an address.
 fn copy_of(address: &[u8]) -> Address
-    requires { length address.now ≤ 64 }
+    requires { length address.now ≤ longest_address }
     ensures { result.items ≡ address.now }
 {
     let mut copy = ArrayVec::new();
@@ -48,10 +48,10 @@ fn routes_like(list: &ArrayVec<Route, 8>) -> ArrayVec<Route, 8>
 
 impl Attached {
     ghost use Rattle.std.specs.Prelude.{◌≡◌, ◌≤◌, length};
-    ghost use Rattle.gate_outside.specs.Link.{attachment};
+    ghost use Rattle.gate_outside.specs.Link.{longest_address, attachment};
 
     pub(crate) fn at(listen: &[u8], routes: &Routes) -> Self
-        requires { length listen.now ≤ 64 }
+        requires { length listen.now ≤ longest_address }
         ensures { result ≡ attachment listen.now routes.now }
     {
         Attached {

@@ -7,7 +7,7 @@
 //!
 //! The memory forms fail at the calls that they are told to, and the quiet forms never do. Both tell
 //! their content, an output or a link for as long as it is within the room that it was made with.
-//! The adapters over a reader and a writer of std tell nothing.
+//! The adapters over a reader and a writer of std tell what std tells of these.
 #![tactic(auto)]
 
 mod address;

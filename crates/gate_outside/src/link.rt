@@ -1,7 +1,7 @@
 //! A link to the other devices: the bus or the Ethernet.
 ghost use Rattle.std.specs.Prelude.{◌≡◌, ◌≤◌, ℕ, Option, length};
 ghost use Rattle.gate_outside.specs.Faults.{HasCause};
-ghost use Rattle.gate_outside.specs.Link.{Traffic, Attaches, Receives, Fits, Sends};
+ghost use Rattle.gate_outside.specs.Link.{longest_address, Traffic, Attaches, Receives, Fits, Sends};
 
 use crate::{Failed, Routes};
 use sentence_text::Group;
@@ -29,7 +29,7 @@ pub trait Link {
 
     /// Makes the link usable: it listens at an address, and sends by these routes.
     fn attach(&mut self, listen: &[u8], routes: &Routes) -> Result<(), Failed>
-        requires { length listen.now ≤ 64 }
+        requires { length listen.now ≤ longest_address }
         ensures told { Attaches listen.now routes.now (traffic self.old) (traffic self.new) result }
         ensures cause { HasCause (fault_count self.old) (fault_count self.new) result };
 

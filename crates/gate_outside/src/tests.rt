@@ -1,4 +1,4 @@
-//! What no clause says: that the makers find memory, and that the adapters pass their bytes on.
+//! What no clause says: that the makers find memory, and the texts of faults.
 use super::*;
 use sentence_text::Group;
 use std::test::Fail;
@@ -105,5 +105,32 @@ fn links_and_files_give_what_they_hold(rt: HostRuntime) -> Result<(), Fail> {
     assert_eq!(rt; link.send(group, b"d"), Ok(()));
     assert!(rt; !link.tells());
     assert!(rt; link.handed(0).is_none());
+    Ok(())
+}
+
+#[test]
+fn the_greatest_forms_find_their_memory(rt: HostRuntime) -> Result<(), Fail> {
+    let alloc = rt.alloc();
+    let sink = MemSink::of(alloc, u32::MAX, usize::MAX, Vec::new(alloc))?;
+    assert!(rt; sink.tells());
+    let sink = QuietSink::of(alloc, u32::MAX, usize::MAX)?;
+    assert!(rt; sink.tells());
+    let link = QuietLink::of(alloc, u32::MAX, 1 << 24, Vec::new(alloc))?;
+    assert!(rt; link.tells());
+    let mut files = QuietFiles::of(vec![in alloc; b'x'; 1 << 20]?);
+    assert_eq!(rt; files.load(alloc, "any").expect(&rt, "a load").len(), 1 << 20);
+    Ok(())
+}
+
+#[test]
+fn faults_of_a_load_say_what_they_are(rt: HostRuntime) -> Result<(), Fail> {
+    let alloc = rt.alloc();
+    for (fault, text) in [
+        (LoadFault::Failed, "the file can't be read"),
+        (LoadFault::TooLong, "the file has more than 1 MiB"),
+        (LoadFault::Memory, "there is no memory for the file's bytes"),
+    ] {
+        assert_eq!(rt; fault.to_string(alloc)?.as_str(), text);
+    }
     Ok(())
 }

@@ -8,6 +8,5 @@ pub mod StandLaws
 pub mod SaidLaws
 pub mod ShowLaws
 pub mod FilterLaws
-pub mod Causes
 pub mod EndLaws
 pub mod WordLaws

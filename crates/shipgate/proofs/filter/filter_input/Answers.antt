@@ -1,4 +1,4 @@
-use Rattle.std.proofs.Common.{◌+◌, List, ℕ, [], sym, ap, subst, arith}
+use Rattle.std.proofs.Common.{◌+◌, List, ℕ, [], refl, sym, ap, subst, ◌∙◌, arith}
 use Rattle.shipgate.specs.Filter.{Gives}
 use Rattle.shipgate.specs.LineReader.{Held}
 use Rattle.shipgate.specs.Progress.{Stand, Rested}
@@ -11,8 +11,8 @@ pieces-init g c = record {
   rested = subst (λ (w : List ℕ). Rested (Gives c.args.filter) (g.S.Source.left c.args.input.now) (g.S.Source.left c.args.input.now) (g.K.Sink.taken c.args.out.now) (g.K.Sink.taken c.args.out.now) c.new-reader.result w 0 0) (sym c.new-writer.ensures)
       (begins (Gives c.args.filter) (g.S.Source.left c.args.input.now) (g.K.Sink.taken c.args.out.now) c.new-reader.result (ap (λ (h : Held). h.unread) c.new-reader.ensures) (ap (λ (h : Held). h.skipping) c.new-reader.ensures));
   within = omega arith;
-  source = omega arith;
-  sink = omega arith;
+  source = refl;
+  sink = refl;
 }
 
 pub returns-in-Err-clause-ends : goal.returns-in-Err-clause-ends
@@ -78,6 +78,6 @@ pieces-preserved g c =
     record {
       rested = c.in-Ok-filter_lines.ensures.sent (g.S.Source.left c.args.input.now) (g.S.Source.left c.fill.new.input) (g.K.Sink.taken c.args.out.now) (c.pieces.total + c.in-Ok.count) filled;
       within = c.if-total-gt-LIMIT.false;
-      source = omega (arith, c.pieces.invariant.source, c.in-Ok.ensures.cause.never_falls);
-      sink = omega (arith, c.pieces.invariant.sink, c.in_default.ensures.cause.never_falls, c.in-Ok-filter_lines.ensures.cause.never_falls);
+      source = c.in-Ok.ensures.cause.steady ∙ c.pieces.invariant.source;
+      sink = c.in-Ok-filter_lines.ensures.cause.steady ∙ (c.in_default.ensures.cause.steady ∙ c.pieces.invariant.sink);
     }

@@ -2,7 +2,7 @@ use Rattle.std.proofs.Common.{ℕ, ◌+◌, ◌≤◌, List, length, refl, subst
 use Rattle.shipgate.specs.Filter.{Gives}
 use Rattle.capture_text.specs.Lines.{complete_lines}
 use Rattle.shipgate.specs.Progress.{WritesSome}
-use Rattle.shipgate.proofs.Causes.{Rose-later}
+use Rattle.gate_outside.specs.Faults.{Rose}
 use Rattle.shipgate.proofs.StandLaws.{stand_waiting}
 use Rattle.shipgate.proofs.FilterLaws.{line_done, line_stopped, fewer_unread, is_taken}
 use Rattle.shipgate.proofs.filter.filter_lines.Goals as goal
@@ -11,7 +11,7 @@ pub lines-init : goal.lines-init
 lines-init g c = record {
   fits = omega arith;
   reaches = λ left left' told size s. (s, refl);
-  never_falls = omega arith;
+  steady = refl;
 }
 
 pub lines-preserved : goal.lines-preserved
@@ -26,7 +26,7 @@ lines-preserved g c =
           let t = c.lines.invariant.reaches left left' told size s in
           let u = line_done c.args.filter left left' told (g.K.Sink.taken c.lines.out) (g.K.Sink.taken c.put_next.new.out) c.lines.reader next.new.self c.lines.writer c.put_next.new.writer put.0 c.lines.count size next.result t.0 next.ensures taken put.1 put.2 in
           (u.0, u.1 ∙ t.1);
-      never_falls = omega (arith, c.lines.invariant.never_falls, c.in-Ok.ensures.cause.never_falls);
+      steady = c.in-Ok.ensures.cause.steady ∙ c.lines.invariant.steady;
     }
 
 pub lines-smaller : goal.lines-smaller
@@ -47,7 +47,8 @@ returns-in-Err g c = record {
       subst (λ (r : List ℕ). WritesSome (Gives c.args.filter) told (g.K.Sink.taken c.put_next.new.out) (complete_lines r)) t.1
       (line_stopped c.args.filter left left' told (g.K.Sink.taken c.lines.out) (g.K.Sink.taken c.put_next.new.out) c.lines.reader next.new.self c.lines.writer put.2.0 put.0 c.lines.count size next.result t.0 next.ensures taken put.1 put.2.1);
   cause = record {
-    never_falls = omega (arith, c.lines.invariant.never_falls, c.in-Err.ensures.cause.never_falls);
-    rose = Rose-later (g.K.Sink.fault_count c.args.out.now) (g.K.Sink.fault_count c.lines.out) (g.K.Sink.fault_count c.put_next.new.out) c.lines.invariant.never_falls c.in-Err.ensures.cause.rose;
+    never_falls = omega (arith, c.lines.invariant.steady, c.in-Err.ensures.cause.never_falls);
+    rose = subst (λ (n : ℕ). Rose n (g.K.Sink.fault_count c.put_next.new.out)) c.lines.invariant.steady c.in-Err.ensures.cause.rose;
+    steady = tt;
   };
 }

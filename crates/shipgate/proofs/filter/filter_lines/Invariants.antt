@@ -1,4 +1,4 @@
-use Rattle.std.proofs.Common.{◌+◌, ◌<◌, ◌≤◌, ◌^◌, length}
+use Rattle.std.proofs.Common.{◌≡◌, ◌+◌, ◌<◌, ◌^◌, length}
 use Rattle.shipgate.specs.Filter.{Gives}
 use Rattle.shipgate.specs.Progress.{Reaches}
 use Rattle.shipgate.proofs.filter.filter_lines.Given as goal
@@ -7,7 +7,7 @@ abbrev pub invariant-lines : goal.invariant-lines
 invariant-lines g l = record {
   fits : l.count + length l.reader.unread < 2 ^ 63;
   reaches : Reaches (Gives l.filter) (g.K.Sink.taken l.fn.out) (g.K.Sink.taken l.out) l.fn.reader l.reader l.fn.writer l.writer l.fn.number l.count;
-  never_falls : g.K.Sink.fault_count l.fn.out ≤ g.K.Sink.fault_count l.out;
+  steady : g.K.Sink.fault_count l.out ≡ g.K.Sink.fault_count l.fn.out;
 }
 
 abbrev pub decreases-lines : goal.decreases-lines

@@ -1,4 +1,4 @@
-use Rattle.std.proofs.Common.{ap, ◌∙◌, arith}
+use Rattle.std.proofs.Common.{ap, ◌∙◌}
 use Rattle.std.specs.List.{flat_map}
 use Rattle.std.proofs.lemmas.List.Concat.{flat_map-cons}
 use Rattle.datagram450.specs.Item.{item_view}
@@ -13,7 +13,7 @@ items-preserved g c =
     record {
       partly = partly_more (flat_map f c.args.items) (flat_map f c.items.items) (flat_map f c.next.new.self) c.args.writer.now (f item) (g.K.Sink.taken c.args.out.now) (g.K.Sink.taken c.items.out) (g.K.Sink.taken c.put_item.new.out) c.items.writer c.put_item.new.writer c.items.invariant.partly
           (ap (flat_map f) c.in-Some.ensures.steps ∙ flat_map-cons f item c.next.new.self) c.in-Ok.ensures.sent;
-      never_falls = omega (arith, c.items.invariant.never_falls, c.in-Ok.ensures.cause.never_falls);
+      steady = c.in-Ok.ensures.cause.steady ∙ c.items.invariant.steady;
     }
 
 pub returns-in-Err-clause-sent : goal.returns-in-Err-clause-sent

@@ -1,11 +1,11 @@
-use Rattle.std.proofs.Common.{◌≤◌, length}
+use Rattle.std.proofs.Common.{◌≡◌, length}
 use Rattle.shipgate.specs.Writing.{Sends}
 use Rattle.shipgate.proofs.writer.send.Given as goal
 
 abbrev pub invariant-loop-rest : goal.invariant-loop-rest
 invariant-loop-rest g l = record {
   sent : Sends (g.K.Sink.taken l.fn.out) (g.K.Sink.taken l.out) l.fn.piece l.rest;
-  never_falls : g.K.Sink.fault_count l.fn.out ≤ g.K.Sink.fault_count l.out;
+  steady : g.K.Sink.fault_count l.out ≡ g.K.Sink.fault_count l.fn.out;
 }
 
 abbrev pub decreases-loop-rest : goal.decreases-loop-rest
