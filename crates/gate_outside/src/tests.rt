@@ -118,7 +118,10 @@ fn the_greatest_forms_find_their_memory(rt: HostRuntime) -> Result<(), Fail> {
     let link = QuietLink::of(alloc, u32::MAX, 1 << 24, Vec::new(alloc))?;
     assert!(rt; link.tells());
     let mut files = QuietFiles::of(vec![in alloc; b'x'; 1 << 20]?);
-    assert_eq!(rt; files.load(alloc, "any").expect(&rt, "a load").len(), 1 << 20);
+    assert_eq!(rt;
+        files.load(alloc, "any").expect(&rt, "a load").len(),
+        1 << 20
+    );
     Ok(())
 }
 

@@ -44,6 +44,10 @@ pub record Rested (Gives : ℕ → List ℕ → List ℕ → Type 0) (left left'
   pub no_lf : HasNoLf stand.rest
   pub room : length held.unread ≤ 4097
 
+-- how many bytes an input may have
+abbrev pub input_limit : ℕ
+input_limit = 2 ^ 40
+
 -- Where the source tells its bytes, these are all of them.
 abbrev pub AreAll : Option (List ℕ) → List ℕ → Type 0
 AreAll left read = (bytes : List ℕ) → left ≡ Some bytes → read ≡ bytes
@@ -69,28 +73,28 @@ pub record Finishes (Gives : ℕ → List ℕ → List ℕ → Type 0) (left lef
   pub read : List ℕ
   pub leaves : Leaves left left' read
   pub all : AreAll left read
-  pub within : length read ≤ 2 ^ 40
+  pub within : length read ≤ input_limit
   pub writes : WritesAll Gives told told' (lines_of read)
 
 -- A read failed, and the text of the complete lines before it was written.
 pub record StopsReading (Gives : ℕ → List ℕ → List ℕ → Type 0) (left left' told told' : Option (List ℕ)) : Type 0 where
   pub read : List ℕ
   pub leaves : Leaves left left' read
-  pub within : length read ≤ 2 ^ 40
+  pub within : length read ≤ input_limit
   pub writes : WritesAll Gives told told' (complete_lines read)
 
 -- A write failed, and some of the text of the complete lines was written. At the end of the input all lines are complete.
 pub record StopsWriting (Gives : ℕ → List ℕ → List ℕ → Type 0) (left left' told told' : Option (List ℕ)) : Type 0 where
   pub read : List ℕ
   pub leaves : Leaves left left' read
-  pub within : length read ≤ 2 ^ 40
+  pub within : length read ≤ input_limit
   pub writes : WritesSome Gives told told' (complete_lines read) ⊎ (AreAll left read × WritesSome Gives told told' (lines_of read))
 
 -- More bytes were read than an input may have, and some of the text of the complete lines was written.
 pub record PassesLimit (Gives : ℕ → List ℕ → List ℕ → Type 0) (left left' told told' : Option (List ℕ)) : Type 0 where
   pub read : List ℕ
   pub leaves : Leaves left left' read
-  pub beyond : 2 ^ 40 < length read
+  pub beyond : input_limit < length read
   pub writes : WritesSome Gives told told' (complete_lines read)
 
 -- how a command over lines ends

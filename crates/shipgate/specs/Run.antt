@@ -1,9 +1,14 @@
 -- What the statuses of the program say.
-use Rattle.std.specs.Prelude.{◌≡◌, ◌⊎◌, ℕ, List, [], ◌++◌, Option}
+use Rattle.std.specs.Prelude.{◌≡◌, ◌≤◌, ◌⊎◌, ◌↔◌, ℕ, List, [], ◌++◌, length, Option, Some, None}
 use Rattle.gate_outside.specs.Faults.{Rose}
 use Rattle.gate_outside.specs.Told.{Joins}
 use Rattle.shipgate.specs.declared.ending.Ending.{Ending}
 use Rattle.shipgate.specs.declared.ending.Ending.TheVariants.{Done, SinkFailed, SourceFailed, TooLong}
+use Rattle.shipgate.specs.declared.words.Command.TheVariants.{Lines}
+use Rattle.shipgate.specs.declared.words.Filter.{Filter}
+use Rattle.shipgate.specs.Words.{IsForm, IsNoForm}
+use Rattle.shipgate.specs.Filter.{Gives}
+use Rattle.shipgate.specs.Progress.{input_limit, Finishes, StopsReading, StopsWriting, PassesLimit}
 
 abbrev pub status_of : Ending → ℕ
 status_of Done = 0
@@ -21,3 +26,25 @@ pub record Offers (told told' : Option (List ℕ)) (before after : ℕ) (line : 
   pub unwritten : List ℕ
   pub front : written ++ unwritten ≡ line
   pub whole : (unwritten ≡ []) ⊎ Rose before after
+
+-- What each status of a command over lines says of the bytes that were read and written.
+pub record EndsBy (Gives : ℕ → List ℕ → List ℕ → Type 0) (left left' told told' : Option (List ℕ)) (status : ℕ) : Type 0 where
+  pub done : status ≡ 0 → Finishes Gives left left' told told'
+  pub sink_failed : status ≡ 4 → StopsWriting Gives left left' told told'
+  pub source_failed : status ≡ 5 → StopsReading Gives left left' told told'
+  pub too_long : status ≡ 8 → PassesLimit Gives left left' told told'
+
+-- Nothing stops a command over lines: the source tells its bytes, they are no more than an input may have, and neither count
+-- of faults rose.
+pub record IsUnhindered (left : Option (List ℕ)) (source source' sink sink' : ℕ) : Type 0 where
+  pub bytes : List ℕ
+  pub told : left ≡ Some bytes
+  pub within : length bytes ≤ input_limit
+  pub source_held : Rose source source' → ⊥
+  pub sink_held : Rose sink sink' → ⊥
+
+-- What the program says by its status of its words and of what its reader had left, whatever its writer tells.
+pub record RunsOver (words : List (List ℕ)) (left : Option (List ℕ)) (status : ℕ) : Type 0 where
+  pub known : IsStatus status
+  pub usage : (status ≡ 2) ↔ IsNoForm words
+  pub ends : (filter : Filter) → IsForm words (Lines filter) → (left' : Option (List ℕ)) × EndsBy (Gives filter) left left' None None status

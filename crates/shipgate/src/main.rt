@@ -5,8 +5,10 @@
 //! the real outside.
 #![tactic(auto)]
 
-ghost use Rattle.std.specs.Prelude.{IfOk};
-ghost use Rattle.shipgate.specs.Run.{IsStatus};
+ghost use Rattle.std.specs.Prelude.{◌≡◌, ◌⊎◌, [], drop, map, string_bytes, Ok, IfOk, OnErr};
+ghost use Rattle.std.specs.Process.{exit_status};
+ghost use Rattle.std.specs.Vec.Iter.{into_iter_items};
+ghost use Rattle.shipgate.specs.Run.{RunsOver};
 
 mod convert;
 mod ending;
@@ -21,63 +23,97 @@ mod writer;
 
 use gate_outside::{MemClock, QuietFiles, QuietLink, ReaderSource, WriterSink};
 pub use run::run;
-use std::alloc::AllocError;
-use std::io::ErrorKind;
+use std::alloc::{AllocError, Global};
+use std::env::Args;
+use std::io::{ErrorKind, Read, Write};
 use std::process::ExitCode;
-use std::{env, rt};
+use std::{env, io};
 pub use words::{Command, Filter};
 
 /// Want of memory before the program began.
 const NO_MEMORY: u8 = 7;
 
-// The words behind the program's name. Words that are no text are no command.
-fn words_behind_name<R: rt::Env + AllocGlobal>(rt: &R) -> Result<Vec<String>, AllocError> {
-    let mut words = Vec::new(rt.alloc());
-    match env::args(rt) {
-        Ok(args) => {
-            for word in args.skip(1) {
-                words.push(word)?;
-            }
-        }
-        Err(error) => {
-            if error.kind() == ErrorKind::OutOfMemory {
-                return Err(AllocError);
-            }
-        }
+// All arguments of the process.
+fn all_words(alloc: Global, args: Args) -> Result<Vec<String>, AllocError>
+    ensures { IfOk result (λ words. words.items ≡ into_iter_items args) }
+{
+    let mut args = args;
+    let mut words = Vec::new(alloc);
+    'words: while let Some(word) = args.next() {
+        words.push(word)?;
     }
     Ok(words)
 }
 
-// The program over the standard streams. Its commands use no files, links or clock, so these are
-// empty ones.
-fn served(rt: &HostRuntime) -> Result<u8, AllocError>
-    ensures { IfOk result IsStatus }
+// The arguments of the process. Some that are no text stand for none at all: they are no command.
+fn words_of(alloc: Global, args: io::Result<Args>) -> Result<Vec<String>, AllocError>
+    ensures { IfOk args (λ args. IfOk result (λ words. words.items ≡ into_iter_items args)) }
 {
-    let words = words_behind_name(rt)?;
-    let alloc = rt.alloc();
+    match args {
+        Ok(args) => all_words(alloc, args),
+        Err(error) => {
+            if error.kind() == ErrorKind::OutOfMemory {
+                return Err(AllocError);
+            }
+            Ok(Vec::new(alloc))
+        }
+    }
+}
+
+// The words behind the program's name, which is the first of all.
+fn behind_name(words: &[String]) -> &[String]
+    ensures { result.now ≡ drop 1 words.now }
+{
+    words.get(1..).unwrap_or(&[])
+}
+
+// The program over a reader and a writer. Its commands use no files, links or clock, so these are
+// empty ones.
+fn run_over<R: Read + Drop, W: Write + Drop>(
+    alloc: Global,
+    words: &[String],
+    reader: R,
+    writer: W,
+) -> Result<u8, AllocError>
+    ensures { IfOk result (RunsOver (map string_bytes words.now) (R.remaining reader)) }
+{
     let mut files = QuietFiles::of(Vec::new(alloc));
     let mut bus = QuietLink::of(alloc, 0, 0, Vec::new(alloc))?;
     let mut net = QuietLink::of(alloc, 0, 0, Vec::new(alloc))?;
     let mut clock = MemClock::of(Vec::new(alloc));
-    let mut input = ReaderSource::new(rt.stdin());
-    let mut out = WriterSink::new(rt.stdout());
+    let mut input = ReaderSource::new(reader);
+    let mut out = WriterSink::new(writer);
     Ok(run(
-        alloc,
-        words.as_slice(),
-        &mut files,
-        &mut input,
-        &mut out,
-        &mut bus,
-        &mut net,
-        &mut clock,
+        alloc, words, &mut files, &mut input, &mut out, &mut bus, &mut net, &mut clock,
     ))
 }
 
-fn main(rt: HostRuntime) -> ExitCode {
-    match served(&rt) {
+// The program over the arguments of a process.
+fn run_with<R: Read + Drop, W: Write + Drop>(
+    alloc: Global,
+    args: io::Result<Args>,
+    reader: R,
+    writer: W,
+) -> Result<u8, AllocError>
+    ensures { IfOk args (λ args. IfOk result (RunsOver (drop 1 (map string_bytes (into_iter_items args))) (R.remaining reader))) }
+{
+    let words = words_of(alloc, args)?;
+    run_over(alloc, behind_name(words.as_slice()), reader, writer)
+}
+
+// The exit code of a status, or of want of memory before the program began.
+fn exit_code(status: Result<u8, AllocError>) -> ExitCode
+    ensures status { IfOk status (λ status. exit_status result ≡ status) }
+    ensures no_memory { OnErr status (exit_status result ≡ 7) }
+{
+    match status {
         Ok(status) => ExitCode::from(status),
         Err(AllocError) => ExitCode::from(NO_MEMORY),
     }
+}
+
+fn main(rt: HostRuntime) -> ExitCode {
+    exit_code(run_with(rt.alloc(), env::args(&rt), rt.stdin(), rt.stdout()))
 }
 
 #[cfg(test)]

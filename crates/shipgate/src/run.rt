@@ -1,10 +1,10 @@
 //! The top call: words in, a status out.
-ghost use Rattle.std.specs.Prelude.{◌≡◌, ◌≤◌, ◌↔◌, ◌^◌, List, ℕ, Some, length, map, string_bytes};
+ghost use Rattle.std.specs.Prelude.{◌≡◌, ◌↔◌, map, string_bytes};
 ghost use Rattle.gate_outside.specs.Faults.{Rose};
 ghost use Rattle.shipgate.specs.Filter.{Gives};
-ghost use Rattle.shipgate.specs.Progress.{Finishes, StopsReading, StopsWriting, PassesLimit, Ends};
+ghost use Rattle.shipgate.specs.Progress.{Ends};
 ghost use Rattle.shipgate.specs.Words.{IsForm, IsNoForm, usage_line};
-ghost use Rattle.shipgate.specs.Run.{Offers, IsStatus, status_of};
+ghost use Rattle.shipgate.specs.Run.{Offers, IsStatus, EndsBy, IsUnhindered, status_of};
 
 use crate::ending::Ending;
 use crate::filter::filter_input;
@@ -48,11 +48,10 @@ pub fn run<F: Files, S: Source, K: Sink, B: Link, E: Link, C: Clock>(
 
     // What each status says of the bytes that were read and written.
     ensures usage { (result ≡ 2) ↔ IsNoForm (map string_bytes words.now) }
-    ensures offers { result ≡ 2 → Offers (K.taken out.old) (K.taken out.new) (K.fault_count out.old) (K.fault_count out.new) usage_line }
-    ensures done { (filter : Filter) → IsForm (map string_bytes words.now) (Command.Lines filter) → result ≡ 0 → Finishes (Gives filter) (S.left input.old) (S.left input.new) (K.taken out.old) (K.taken out.new) }
-    ensures sink_failed { (filter : Filter) → IsForm (map string_bytes words.now) (Command.Lines filter) → result ≡ 4 → StopsWriting (Gives filter) (S.left input.old) (S.left input.new) (K.taken out.old) (K.taken out.new) }
-    ensures source_failed { (filter : Filter) → IsForm (map string_bytes words.now) (Command.Lines filter) → result ≡ 5 → StopsReading (Gives filter) (S.left input.old) (S.left input.new) (K.taken out.old) (K.taken out.new) }
-    ensures too_long { (filter : Filter) → IsForm (map string_bytes words.now) (Command.Lines filter) → result ≡ 8 → PassesLimit (Gives filter) (S.left input.old) (S.left input.new) (K.taken out.old) (K.taken out.new) }
+    ensures offers { result ≡ 2
+        → Offers (K.taken out.old) (K.taken out.new) (K.fault_count out.old) (K.fault_count out.new) usage_line }
+    ensures ends { (filter : Filter) → IsForm (map string_bytes words.now) (Command.Lines filter)
+        → EndsBy (Gives filter) (S.left input.old) (S.left input.new) (K.taken out.old) (K.taken out.new) result }
 
     // A failure has its cause in a count of faults.
     ensures sink_cause { result ≡ 4 → Rose (K.fault_count out.old) (K.fault_count out.new) }
@@ -67,8 +66,9 @@ pub fn run<F: Files, S: Source, K: Sink, B: Link, E: Link, C: Clock>(
     ensures clock_unused { _clock.new ≡ _clock.old }
 
     // Where nothing fails and the input isn't too long, the work is done.
-    ensures complete { (filter : Filter) (bytes : List ℕ) → IsForm (map string_bytes words.now) (Command.Lines filter) → S.left input.old ≡ Some bytes → length bytes ≤ 2 ^ 40
-        → (Rose (S.fault_count input.old) (S.fault_count input.new) → ⊥) → (Rose (K.fault_count out.old) (K.fault_count out.new) → ⊥) → result ≡ 0 }
+    ensures complete { (filter : Filter) → IsForm (map string_bytes words.now) (Command.Lines filter)
+        → IsUnhindered (S.left input.old) (S.fault_count input.old) (S.fault_count input.new) (K.fault_count out.old) (K.fault_count out.new)
+        → result ≡ 0 }
 {
     match command_of(words) {
         None => {
