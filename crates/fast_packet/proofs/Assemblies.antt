@@ -13,7 +13,7 @@ use Rattle.fast_packet.specs.FastFrames.{gap, longest, counter_of, sequence_of, 
 use Rattle.fast_packet.specs.FastRuns.{FastPiece, is_next, is_repeat, fast_rules, joined}
 use Rattle.fast_packet.specs.Assembly.{mark_of, last_frame, is_again, follows, is_enough, verdict, opener_sequence, left_of}
 use Rattle.slot_views.specs.Traces.{left_at, entry_after}
-use Rattle.fast_packet.specs.Laws.{assembly_of, assembly_at, left_by, assembly_after}
+use Rattle.fast_packet.specs.RunAssemblies.{assembly_of, assembly_at, left_by, assembly_after}
 use Rattle.fast_packet.proofs.Counts.{need_is}
 use Rattle.fast_packet.proofs.Lawful.{lawful, both_true, and_false, no_next, no_repeat}
 

@@ -26,7 +26,7 @@ use Rattle.fast_packet.specs.FastRuns.{FastPiece, is_next, is_repeat, fast_rules
 use Rattle.fast_packet.specs.Assembly.{left_of, is_again as is_again_of, follows, is_enough, verdict, opening, part_to, extended, fed_by, fed_after, key_fits, AreAssemblies}
 use Rattle.fast_packet.specs.Answers.{OpensGives, NextGives, FeedGivesBy, FeedGives}
 use Rattle.fast_packet.specs.Verdicts.{VerdictFits}
-use Rattle.fast_packet.specs.Laws.{assembly_of, assembly_at, grown_by, left_by, filling}
+use Rattle.fast_packet.specs.RunAssemblies.{assembly_of, assembly_at, grown_by, left_by, filling}
 use Rattle.fast_packet.specs.Keys.{is_awaited, refused, is_again, Carries, OutcomeIs, AnswerIs, is_open_at, AreFed, fed_one, assemblies, FollowsRuns, AnswersRuns}
 use Rattle.fast_packet.specs.Joining.{FeedsItsKey, StepsWithRuns}
 use Rattle.fast_packet.proofs.Counts.{need_is}

@@ -8,7 +8,7 @@ use Rattle.std.proofs.Common.{slice_index_or, add-one, length-drop, ◌≡◌, �
 use Rattle.runs.specs.Runs.{accepted, accepted_after, in_time, is_whole, opener_of}
 use Rattle.fast_packet.specs.FastFrames.{longest, counter_of, sequence_of, length_of, need_of, left_after, is_opener, later_piece}
 use Rattle.fast_packet.specs.FastRuns.{FastPiece, is_next, fast_rules, joined, payload}
-use Rattle.fast_packet.specs.Split.{filled, first_frame, later_frame, frames_to, frames_of}
+use Rattle.fast_packet.specs.Splitting.{filled, first_frame, later_frame, frames_to, frames_of}
 use Rattle.fast_packet.specs.Laws.{pieces_of, IsRunOf}
 
 -- a frame as a piece

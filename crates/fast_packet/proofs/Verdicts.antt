@@ -11,10 +11,10 @@ use Rattle.fast_packet.specs.Verdicts.{IsNext, IsOpener, VerdictFits}
 use Rattle.fast_packet.specs.Assembly.{left_of, is_again, follows, is_enough, later_verdict, verdict}
 
 -- by what is told of the assembly
-pub told_verdict : (o : Option Entry) (kept : Kept) (held bytes : List ℕ) (r : Verdict) → Some kept ≡ option_map kept_of o → held ≡ unwrap_or (option_map (λ e. e.bytes) o) [] → r ≡ later_verdict (Some (as_entry kept held)) bytes
+pub kept_verdict : (o : Option Entry) (kept : Kept) (held bytes : List ℕ) (r : Verdict) → Some kept ≡ option_map kept_of o → held ≡ unwrap_or (option_map (λ e. e.bytes) o) [] → r ≡ later_verdict (Some (as_entry kept held)) bytes
     → r ≡ later_verdict o bytes
-told_verdict None kept held bytes r told bytes_told is = cc
-told_verdict (Some e) kept held bytes r told bytes_told is =
+kept_verdict None kept held bytes r told bytes_told is = cc
+kept_verdict (Some e) kept held bytes r told bytes_told is =
     let same : kept ≡ kept_of e = cc in
     rw (same, bytes_told) at is
 

@@ -9,7 +9,7 @@ use Rattle.fast_packet.specs.declared.answers.FastFed.{FastFed}
 use Rattle.fast_packet.specs.FastRuns.{FastPiece, fast_rules}
 use Rattle.fast_packet.specs.Assembly.{verdict, fed_after}
 use Rattle.fast_packet.specs.Answers.{FeedGives}
-use Rattle.fast_packet.specs.Laws.{assembly_at, left_by}
+use Rattle.fast_packet.specs.RunAssemblies.{assembly_at, left_by}
 use Rattle.fast_packet.specs.Keys.{AnswerIs}
 
 module _ (cmp : FastKey → FastKey → Ordering) where

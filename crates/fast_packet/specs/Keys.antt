@@ -15,7 +15,7 @@ use Rattle.fast_packet.specs.FastFrames.{counter_of, sequence_of, length_of, is_
 use Rattle.fast_packet.specs.FastRuns.{FastPiece, is_next, is_repeat, fast_rules, payload}
 use Rattle.fast_packet.specs.Assembly.{fed_after}
 use Rattle.fast_packet.specs.Answers.{FeedGives}
-use Rattle.fast_packet.specs.Laws.{assembly_at, filling}
+use Rattle.fast_packet.specs.RunAssemblies.{assembly_at, filling}
 
 -- the frame has the sequence of the frames that are open and the counter of the next one
 abbrev pub is_awaited : List FastPiece → FastPiece → Bool

@@ -4,7 +4,8 @@ pub mod Assembly
 pub mod Answers
 pub mod Rows
 pub mod Verdicts
-pub mod Split
+pub mod Splitting
+pub mod RunAssemblies
 pub mod Laws
 pub mod Keys
 pub mod Joining

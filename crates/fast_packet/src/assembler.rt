@@ -25,7 +25,7 @@ const ROOM: usize = 224;
 const PIECE: usize = 7;
 
 /// How long the next frame may take, in microseconds.
-const GAP: u32 = 750_000;
+pub const GAP: u32 = 750_000;
 
 /// Fast packet messages of several senders in the making (canboat's fast packet protocol).
 #[derive(Drop)]
@@ -145,7 +145,7 @@ impl FastAssembler {
     }
 
     // What the frame is to the assembly of its key, of which this is kept.
-    #[tactic(auto, using(crate::proofs::Verdicts::told_verdict, crate::proofs::Verdicts::fits_from))]
+    #[tactic(auto, using(crate::proofs::Verdicts::kept_verdict, crate::proofs::Verdicts::fits_from))]
     fn verdict(&self, key: FastKey, kept: Option<Kept>, bytes: &[u8]) -> Verdict
         requires { kept ≡ option_map kept_of (entry_at ⟦<FastKey as Ord>⟧.cmp self.now key) }
         ensures value { result ≡ verdict (entry_at ⟦<FastKey as Ord>⟧.cmp self.now key) bytes.now }

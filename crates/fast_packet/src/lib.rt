@@ -12,7 +12,7 @@ mod tests;
 mod verdict;
 
 pub use answers::{FastFed, FastOutcome, FastRefusal};
-pub use assembler::FastAssembler;
+pub use assembler::{FastAssembler, GAP};
 pub use key::FastKey;
 pub use laws::{
     assembly_is_open_prefix, fast_runs, frames_change_their_key_alone, frames_step_with_runs,

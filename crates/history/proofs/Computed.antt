@@ -11,7 +11,7 @@ use Rattle.unit_fraction.specs.Round.{nearest}
 use Rattle.hex.proofs.OnLiterals.{hex_on_literals}
 use Rattle.capture_text.specs.Reading.{seconds_at, micros_at, time_at, bytes_before_end, bytes_at, number_of, frame_at, seen_behind, read}
 use Rattle.unit_fraction.specs.Reading as decimals
-use Rattle.fast_packet.specs.Split.{frames_to}
+use Rattle.fast_packet.specs.Splitting.{frames_to}
 use Rattle.sentence_text.specs.Reading.{front_fault, sum_fault, end_fault}
 use Rattle.tag_block.specs.Reading.{parameter_at, parameters_at, block_end_at, block_at, blocks_at, group_in, settle}
 use Rattle.tag_block.specs.Reading as tags

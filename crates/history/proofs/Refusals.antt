@@ -22,7 +22,7 @@ use Rattle.iso_transport.specs.IsoRuns as iso
 use Rattle.iso_transport.specs.IsoRuns.{IsoPiece, iso_rules, end_of, session_of}
 use Rattle.iso_transport.specs.Audience.{bears}
 use Rattle.iso_transport.specs.Verdicts.{sized_verdict, kind_verdict, management_verdict}
-use Rattle.iso_transport.specs.Told.{told, packet_told, pgn_of, left_of_run}
+use Rattle.iso_transport.specs.RunVerdicts.{run_verdict, packet_run_verdict, pgn_of, left_of_run}
 use Rattle.iso_transport.proofs.Lawful as iso_lawful
 use Rattle.iso_transport.proofs.Lawful.{and_false}
 use Rattle.history.specs.Traces.{fast_trace, iso_trace}
@@ -121,7 +121,7 @@ module _ (addressed : Bool) (x : IsoPiece) where
   short_is_no_repeat (y ∷ ys) short = let other = not_eight (left_of_run (y ∷ ys)) short in simp (other, and_false)
 
   packet_ends : (acc : List IsoPiece) (s n p : Bool) → nat_lt (length x.bytes) (end_of (left_of_run acc)) ≡ s → iso.is_next acc x ≡ n → iso.is_repeat acc x ≡ p
-      → ends (packet_told addressed (Some acc) x) ≡ not (n || p)
+      → ends (packet_run_verdict addressed (Some acc) x) ≡ not (n || p)
   packet_ends acc true n p es en ep = rw (es, sym en, sym ep, short_is_no_next acc es, short_is_no_repeat acc es) refl
   packet_ends acc false true true es en ep = rw (es, ep) refl
   packet_ends acc false true false es en ep = rw (es, ep, en) refl
@@ -130,9 +130,9 @@ module _ (addressed : Bool) (x : IsoPiece) where
 
   -- by the kind of frame
   told_by : (acc : List IsoPiece) (packet : Bool) → x.packet ≡ packet
-      → told addressed (Some acc) x ≡ (if packet then packet_told addressed (Some acc) x else management_verdict addressed (not x.admitted) (Some (pgn_of acc)) x.bytes)
+      → run_verdict addressed (Some acc) x ≡ (if packet then packet_run_verdict addressed (Some acc) x else management_verdict addressed (not x.admitted) (Some (pgn_of acc)) x.bytes)
   told_by acc packet e =
-      ap (λ (b : Bool). if b then packet_told addressed (Some acc) x else management_verdict addressed (not x.admitted) (Some (pgn_of acc)) x.bytes) e
+      ap (λ (b : Bool). if b then packet_run_verdict addressed (Some acc) x else management_verdict addressed (not x.admitted) (Some (pgn_of acc)) x.bytes) e
 
   -- a frame that is no packet and bears ends the session exactly where it opens none
   sized_ends : (pgn : ℕ) (s : Session) (packets : ℕ) (b : Bool) → is_size s.size packets ≡ b → ends (sized_verdict addressed (not x.admitted) (Some pgn) s packets) ≡ not b
@@ -169,7 +169,7 @@ module _ (addressed : Bool) (acc : List IsoPiece) (x : IsoPiece) (were : is_admi
   managed_goes_on false packet eo room =
       later_goes_on (iso_rules addressed) acc x false false were eo (iso_lawful.no_next acc x packet) (iso_lawful.no_repeat acc x packet)
 
-  managed_ends : x.packet ≡ false → bears addressed x.packet x.bytes ≡ true → ends (told addressed (Some acc) x) ≡ not (iso.is_opener addressed x)
+  managed_ends : x.packet ≡ false → bears addressed x.packet x.bytes ≡ true → ends (run_verdict addressed (Some acc) x) ≡ not (iso.is_opener addressed x)
   managed_ends packet bear =
       let parts = and_parts (nat_le 8 (length x.bytes)) ((not addressed && (control_at x.bytes == 32)) || (addressed && ((control_at x.bytes == 16) || (control_at x.bytes == 255)))) (rw packet at bear) in
       let enough : nat_lt (length x.bytes) 8 ≡ false = le-ltb (length x.bytes) 8 (leb-true 8 (length x.bytes) parts.0) in
@@ -179,7 +179,7 @@ module _ (addressed : Bool) (acc : List IsoPiece) (x : IsoPiece) (were : is_admi
       ∙ sym (ap (λ (b : Bool). not (not b && opens addressed (cm_of x.bytes))) packet)
 
   ends_by : (packet : Bool) → x.packet ≡ packet → bears addressed x.packet x.bytes ≡ true → (iso.is_opener addressed x ≡ true → x.admitted ≡ true)
-      → ends (told addressed (Some acc) x) ≡ not (goes_on (iso_rules addressed) (Some acc) x)
+      → ends (run_verdict addressed (Some acc) x) ≡ not (goes_on (iso_rules addressed) (Some acc) x)
   ends_by true packet bear room =
       let later : iso.is_opener addressed x ≡ false = rw packet refl in
       ap ends (told_by addressed x acc true packet)
@@ -190,7 +190,7 @@ module _ (addressed : Bool) (acc : List IsoPiece) (x : IsoPiece) (were : is_admi
 
 -- of what is open
 open_ends : (addressed : Bool) (h : List IsoPiece) (m : ℕ) (x : IsoPiece) (o : Option (List IsoPiece)) → open_at (iso_rules addressed) h m ≡ o → is_some o ≡ true
-    → bears addressed x.packet x.bytes ≡ true → (iso.is_opener addressed x ≡ true → x.admitted ≡ true) → ends (told addressed o x) ≡ not (goes_on (iso_rules addressed) o x)
+    → bears addressed x.packet x.bytes ≡ true → (iso.is_opener addressed x ≡ true → x.admitted ≡ true) → ends (run_verdict addressed o x) ≡ not (goes_on (iso_rules addressed) o x)
 open_ends addressed h m x None e some bear room = absurd (false≢true some)
 open_ends addressed h m x (Some acc) e some bear room =
     ends_by addressed acc x (admitted_of (iso_rules addressed) (iso_lawful.lawful addressed) h acc m e) x.packet refl bear room

@@ -10,7 +10,7 @@ use Rattle.iso_transport.specs.Audience.{key_of}
 use Rattle.iso_transport.specs.Connection.{control_at, size_at, packets_at}
 use Rattle.iso_transport.specs.Sessions.{is_size}
 use Rattle.iso_transport.specs.IsoRuns.{IsoPiece, end_of, session_of, is_opener, is_next, is_repeat}
-use Rattle.iso_transport.specs.Told.{left_of_run, told}
+use Rattle.iso_transport.specs.RunVerdicts.{left_of_run, run_verdict}
 use Rattle.history.specs.Emits.{Rule, breaks, broken_of}
 use Rattle.history.specs.Messages.{Message}
 use Rattle.history.specs.Traces.{Note, iso_piece}
@@ -38,7 +38,7 @@ module _ (n : Note) (rest : List Rule) (ready : Bool) (y : IsoPiece) where
       ∷ rest)
 
   abbrev Is : Bool → Option (List IsoPiece) → Type 0
-  Is addressed q = rows addressed q ≡ verdict_breaks n (told addressed q y) ++ broken_of rest
+  Is addressed q = rows addressed q ≡ verdict_breaks n (run_verdict addressed q y) ++ broken_of rest
 
   -- ---- a packet
 
@@ -159,7 +159,7 @@ session_rules_are_verdicts name n packets message room early =
     let addressed = (key_of n.parts).addressed in
     let behind : Bool → List Rule = λ b. message_rule message ∷ breaks b rules.not_ready (detail.Source n.parts.source n.parts.pgn) ∷ [] in
     told_so n (behind (is_early addressed n.ready (iso_piece n))) n.ready (iso_piece n) addressed packets (iso_piece n).packet refl room early
-    ∙ ap (λ (b : Bool). verdict_breaks n (told addressed packets (iso_piece n)) ++ broken_of (behind b)) early
+    ∙ ap (λ (b : Bool). verdict_breaks n (run_verdict addressed packets (iso_piece n)) ++ broken_of (behind b)) early
 
 pub early_breaks_not_ready : EarlyBreaksNotReady
 early_breaks_not_ready name n packets message early =

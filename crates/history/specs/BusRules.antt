@@ -14,7 +14,7 @@ use Rattle.iso_transport.specs.Audience.{key_of}
 use Rattle.iso_transport.specs.Connection.{control_at}
 use Rattle.iso_transport.specs.IsoRuns as iso_runs
 use Rattle.iso_transport.specs.IsoRuns.{IsoPiece, end_of, session_of}
-use Rattle.iso_transport.specs.Told.{left_of_run}
+use Rattle.iso_transport.specs.RunVerdicts.{left_of_run}
 use Rattle.capture_text.specs.declared.emit.Report.{Report}
 use Rattle.capture_text.specs.declared.emit.Detail.{Detail}
 use Rattle.capture_text.specs.declared.emit.Detail.TheVariants as detail

@@ -16,7 +16,7 @@ use Rattle.fast_packet.specs.FastRuns.{FastPiece}
 use Rattle.iso_transport.specs.declared.reply.Reply.{Reply}
 use Rattle.iso_transport.specs.Audience.{key_of}
 use Rattle.iso_transport.specs.IsoRuns.{IsoPiece}
-use Rattle.iso_transport.specs.Told.{reply_to}
+use Rattle.iso_transport.specs.RunVerdicts.{reply_to}
 use Rattle.capture_text.specs.declared.emit.Report.{Report}
 use Rattle.capture_text.specs.declared.emit.Detail.TheVariants as detail
 use Rattle.history.specs.Entries as entry

@@ -3,7 +3,7 @@ use Rattle.std.specs.Prelude.{ℕ, not, List, [], ◌∷◌, ◌++◌, map, Opti
 use Rattle.readings.specs.declared.reading.Reading.{Reading}
 use Rattle.readings.specs.Rows.{row_of}
 use Rattle.pgn_profile.specs.Payload.{payload_of, pgn_of, priority_of}
-use Rattle.fast_packet.specs.Split.{frames_of}
+use Rattle.fast_packet.specs.Splitting.{frames_of}
 use Rattle.sentence_rows.specs.declared.fault.FieldFault.{FieldFault}
 use Rattle.datagram450.specs.declared.fault.DatagramFault.{DatagramFault}
 use Rattle.datagram450.specs.Datagram as datagrams

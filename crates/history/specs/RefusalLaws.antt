@@ -6,7 +6,7 @@ use Rattle.fast_packet.specs.Keys.{refused}
 use Rattle.fast_packet.specs.declared.key.FastKey.{FastKey}
 use Rattle.iso_transport.specs.IsoRuns.{IsoPiece, iso_rules, is_opener}
 use Rattle.iso_transport.specs.Audience.{bears}
-use Rattle.iso_transport.specs.Told.{told}
+use Rattle.iso_transport.specs.RunVerdicts.{run_verdict}
 use Rattle.iso_transport.specs.declared.key.IsoKey.{IsoKey}
 use Rattle.iso_transport.specs.declared.verdict.Verdict.{Verdict}
 use Rattle.iso_transport.specs.declared.verdict.Verdict.TheVariants.{Ignored, Again, Refused, Ends, Opens, Next}
@@ -40,4 +40,4 @@ abbrev pub TransportRefusalsBreak : Type 0
 TransportRefusalsBreak =
     (k : Known) (notes : List Note) (key : IsoKey) (m : ℕ) (x : IsoPiece)
     → is_some (iso_open k notes key m) ≡ true → bears key.addressed x.packet x.bytes ≡ true → (is_opener key.addressed x ≡ true → x.admitted ≡ true)
-    → ends (told key.addressed (iso_open k notes key m) x) ≡ not (goes_on (iso_rules key.addressed) (iso_open k notes key m) x)
+    → ends (run_verdict key.addressed (iso_open k notes key m) x) ≡ not (goes_on (iso_rules key.addressed) (iso_open k notes key m) x)

@@ -12,7 +12,7 @@ use Rattle.iso_transport.specs.declared.verdict.Verdict.{Verdict}
 use Rattle.iso_transport.specs.declared.verdict.Verdict.TheVariants as what
 use Rattle.iso_transport.specs.Audience.{key_of}
 use Rattle.iso_transport.specs.IsoRuns.{IsoPiece}
-use Rattle.iso_transport.specs.Told.{told}
+use Rattle.iso_transport.specs.RunVerdicts.{run_verdict}
 use Rattle.capture_text.specs.declared.emit.Report.{Report}
 use Rattle.capture_text.specs.declared.emit.Detail.{Detail}
 use Rattle.capture_text.specs.declared.emit.Detail.TheVariants as detail
@@ -71,7 +71,7 @@ SessionRulesAreVerdicts =
     (name : ℕ) (n : Note) (packets : Option (List IsoPiece)) (message : Option Message) → (n.admitted ≡ false → packets ≡ None)
     → is_early (key_of n.parts).addressed n.ready (iso_piece n) ≡ false
     → frame_breaks name meanings.transport n None packets message
-    ≡ verdict_breaks n (told (key_of n.parts).addressed packets (iso_piece n)) ++ broken_of (message_rule message ∷ [])
+    ≡ verdict_breaks n (run_verdict (key_of n.parts).addressed packets (iso_piece n)) ++ broken_of (message_rule message ∷ [])
 
 abbrev pub EarlyBreaksNotReady : Type 0
 EarlyBreaksNotReady =

@@ -24,7 +24,7 @@ use Rattle.iso_transport.specs.Audience.{bears}
 use Rattle.iso_transport.specs.IsoRuns.{IsoPiece, number_of, end_of, part_of, session_of, need_of, is_opener, is_next, is_repeat, iso_rules, joined, payload}
 use Rattle.iso_transport.specs.Verdicts.{session_in, pgn_in, left_of, is_again, packet_verdict, opener_verdict, sized_verdict, abort_verdict, kind_verdict, management_verdict}
 use Rattle.iso_transport.specs.Assembly.{extended}
-use Rattle.iso_transport.specs.Told.{Message, pgn_of, left_of_run, packet_told, told, reply_to_next, reply_to_packet, reply_to_opener, is_request, reply_to, message_of, verdict_on, left_by, completed_by, assembly_of, assembly_at}
+use Rattle.iso_transport.specs.RunVerdicts.{Message, pgn_of, left_of_run, packet_run_verdict, run_verdict, reply_to_next, reply_to_packet, reply_to_opener, is_request, reply_to, message_of, verdict_on, left_by, completed_by, assembly_of, assembly_at}
 use Rattle.iso_transport.specs.Laws.{IsOfTrace, IsTrace, assembly_after, FollowsRuns, HasItsSize}
 use Rattle.iso_transport.proofs.Lawful.{lawful, both_true, and_false, no_next, no_repeat}
 use Rattle.iso_transport.proofs.Sessions.{Opened, opened_from, session_kept}
@@ -119,17 +119,17 @@ module _ (addressed : Bool) where
         by_number false = refl
 
     told_by : (t r n : Bool) → nat_lt (length x.bytes) (end_of (left_of_run (y ∷ ys))) ≡ t → is_repeat (y ∷ ys) x ≡ r → (number_of x.bytes == length (y ∷ ys)) ≡ n
-        → packet_verdict addressed (Some (entry addressed y ys)) x.bytes ≡ packet_told addressed (Some (y ∷ ys)) x
+        → packet_verdict addressed (Some (entry addressed y ys)) x.bytes ≡ packet_run_verdict addressed (Some (y ∷ ys)) x
     told_by true r n et er en = form_is ∙ simp et
     told_by false true n et er en = form_is ∙ simp (et, er)
     told_by false false true et er en =
         let next = next_is et ∙ en in
         let one : by_tests addressed (session_of (y ∷ ys)) (left_of_run (y ∷ ys)) (is_repeat (y ∷ ys) x) (number_of x.bytes == length (y ∷ ys)) x.bytes ≡ Next (session_of (y ∷ ys)) (number_of x.bytes) (end_of (left_of_run (y ∷ ys))) = simp (et, er, en) in
-        let two : packet_told addressed (Some (y ∷ ys)) x ≡ Next (session_of (y ∷ ys)) (number_of x.bytes) (end_of (left_of_run (y ∷ ys))) = simp (et, er, next) in
+        let two : packet_run_verdict addressed (Some (y ∷ ys)) x ≡ Next (session_of (y ∷ ys)) (number_of x.bytes) (end_of (left_of_run (y ∷ ys))) = simp (et, er, next) in
         form_is ∙ (one ∙ sym two)
     told_by false false false et er en = form_is ∙ simp (et, er, en, packet)
 
-    packet_is : packet_verdict addressed (Some (entry addressed y ys)) x.bytes ≡ packet_told addressed (Some (y ∷ ys)) x
+    packet_is : packet_verdict addressed (Some (entry addressed y ys)) x.bytes ≡ packet_run_verdict addressed (Some (y ∷ ys)) x
     packet_is = told_by _ _ _ refl refl refl
 
     -- a short packet is neither; a repeat has the number before the next one's
@@ -189,12 +189,12 @@ module _ (addressed : Bool) where
         (rw complete (extended_is next)) ∙ sym right
 
     left_by_tests : is_admitted (iso_rules addressed) (y ∷ ys) ≡ true → (t r n : Bool) → nat_lt (length x.bytes) (end_of (left_of_run (y ∷ ys))) ≡ t → is_repeat (y ∷ ys) x ≡ r → (number_of x.bytes == length (y ∷ ys)) ≡ n
-        → left_by addressed (packet_told addressed (Some (y ∷ ys)) x) x (Some (entry addressed y ys)) ≡ assembly_at addressed (fed_later (iso_rules addressed) (Some (y ∷ ys)) x)
+        → left_by addressed (packet_run_verdict addressed (Some (y ∷ ys)) x) x (Some (entry addressed y ys)) ≡ assembly_at addressed (fed_later (iso_rules addressed) (Some (y ∷ ys)) x)
     left_by_tests admitted true r n et er en = simp (et, short_next et, short_repeat et)
     left_by_tests admitted false true n et er en = simp (et, er, repeat_apart er)
     left_by_tests admitted false false true et er en =
         let next = next_is et ∙ en in
-        let is : packet_told addressed (Some (y ∷ ys)) x ≡ Next (session_of (y ∷ ys)) (number_of x.bytes) (end_of (left_of_run (y ∷ ys))) = simp (et, er, next) in
+        let is : packet_run_verdict addressed (Some (y ∷ ys)) x ≡ Next (session_of (y ∷ ys)) (number_of x.bytes) (end_of (left_of_run (y ∷ ys))) = simp (et, er, next) in
         let right : assembly_at addressed (fed_later (iso_rules addressed) (Some (y ∷ ys)) x) ≡ assembly_at addressed (if_open (iso_rules addressed) (Some (x ∷ y ∷ ys))) = ap (assembly_at addressed) (rw next refl) in
         ap (λ v. left_by addressed v x (Some (entry addressed y ys))) is ∙ (next_left next admitted _ refl ∙ sym right)
     left_by_tests admitted false false false et er en = let next = next_is et ∙ en in simp (et, er, next)
@@ -214,24 +214,24 @@ module _ (addressed : Bool) where
         (rw complete (ap (λ b. Some (message (pgn_of (y ∷ ys)) b)) (bytes_are next))) ∙ sym right
 
     completed_by_tests : is_admitted (iso_rules addressed) (y ∷ ys) ≡ true → (t r n : Bool) → nat_lt (length x.bytes) (end_of (left_of_run (y ∷ ys))) ≡ t → is_repeat (y ∷ ys) x ≡ r → (number_of x.bytes == length (y ∷ ys)) ≡ n
-        → completed_by addressed (packet_told addressed (Some (y ∷ ys)) x) x (Some (entry addressed y ys)) ≡ message_of (finished_later (iso_rules addressed) (Some (y ∷ ys)) x)
+        → completed_by addressed (packet_run_verdict addressed (Some (y ∷ ys)) x) x (Some (entry addressed y ys)) ≡ message_of (finished_later (iso_rules addressed) (Some (y ∷ ys)) x)
     completed_by_tests admitted true r n et er en = simp (et, short_next et)
     completed_by_tests admitted false true n et er en = simp (et, er, repeat_apart er)
     completed_by_tests admitted false false true et er en =
         let next = next_is et ∙ en in
-        let is : packet_told addressed (Some (y ∷ ys)) x ≡ Next (session_of (y ∷ ys)) (number_of x.bytes) (end_of (left_of_run (y ∷ ys))) = simp (et, er, next) in
+        let is : packet_run_verdict addressed (Some (y ∷ ys)) x ≡ Next (session_of (y ∷ ys)) (number_of x.bytes) (end_of (left_of_run (y ∷ ys))) = simp (et, er, next) in
         let right : message_of (finished_later (iso_rules addressed) (Some (y ∷ ys)) x) ≡ message_of (if_whole (iso_rules addressed) (Some (x ∷ y ∷ ys))) = ap message_of (rw next refl) in
         ap (λ v. completed_by addressed v x (Some (entry addressed y ys))) is ∙ (next_completed next admitted _ refl ∙ sym right)
     completed_by_tests admitted false false false et er en = let next = next_is et ∙ en in simp (et, er, next)
 
     -- what its sender is told
     replied_by_tests : addressed ≡ true → (t r n : Bool) → nat_lt (length x.bytes) (end_of (left_of_run (y ∷ ys))) ≡ t → is_repeat (y ∷ ys) x ≡ r → (number_of x.bytes == length (y ∷ ys)) ≡ n
-        → reply_by true (packet_told true (Some (y ∷ ys)) x) ≡ reply_to_packet (Some (y ∷ ys)) x
+        → reply_by true (packet_run_verdict true (Some (y ∷ ys)) x) ≡ reply_to_packet (Some (y ∷ ys)) x
     replied_by_tests ours true r n et er en = simp (et, short_next et, short_repeat et)
     replied_by_tests ours false true n et er en = simp (et, er, repeat_apart er)
     replied_by_tests ours false false true et er en =
         let next = next_is et ∙ en in
-        let is : packet_told true (Some (y ∷ ys)) x ≡ Next (session_of (y ∷ ys)) (number_of x.bytes) (end_of (left_of_run (y ∷ ys))) = simp (et, er, next) in
+        let is : packet_run_verdict true (Some (y ∷ ys)) x ≡ Next (session_of (y ∷ ys)) (number_of x.bytes) (end_of (left_of_run (y ∷ ys))) = simp (et, er, next) in
         let right : reply_to_packet (Some (y ∷ ys)) x ≡ reply_to_next (session_of (y ∷ ys)) (number_of x.bytes) = rw next refl in
         let number = eqb-true _ _ en in
         let few : number_of x.bytes ≤ packets_of (size_of y ys) = omega (arith, number, more) in
@@ -269,13 +269,13 @@ module _ (addressed : Bool) where
   message_is (Some (y ∷ ys)) stands = ap (λ (s : Session). Some s.pgn) (session_kept (session_of (y ∷ ys)) stands.0.opened)
 
   -- what a frame is
-  verdict_by : (q : Option (List IsoPiece)) (x : IsoPiece) (p : Bool) → Standing q → x.packet ≡ p → verdict_on addressed (assembly_at addressed q) x ≡ told addressed q x
+  verdict_by : (q : Option (List IsoPiece)) (x : IsoPiece) (p : Bool) → Standing q → x.packet ≡ p → verdict_on addressed (assembly_at addressed q) x ≡ run_verdict addressed q x
   verdict_by q x false stands ep = if_false x.packet _ _ _ _ ep (ap (λ o. management_verdict addressed (not x.admitted) o x.bytes) (message_is q stands))
   verdict_by None x true stands ep = rw ep refl
   verdict_by (Some []) x true stands ep = absurd stands
   verdict_by (Some (y ∷ ys)) x true stands ep = if_true x.packet _ _ _ _ ep (packet_is y ys x stands.0 stands.1 ep)
 
-  pub verdict_is : (q : Option (List IsoPiece)) (x : IsoPiece) → Standing q → verdict_on addressed (assembly_at addressed q) x ≡ told addressed q x
+  pub verdict_is : (q : Option (List IsoPiece)) (x : IsoPiece) → Standing q → verdict_on addressed (assembly_at addressed q) x ≡ run_verdict addressed q x
   verdict_is q x stands = verdict_by q x _ stands refl
 
 -- ---- a connection management frame of a trace: an opener or an abort
@@ -412,8 +412,8 @@ module _ (x : IsoPiece) (ep : x.packet ≡ false) where
   management_is : (addressed crowded : Bool) (o : Option ℕ) → nat_lt (length x.bytes) 8 ≡ false → management_verdict addressed crowded o x.bytes ≡ kind_verdict addressed crowded o (cm_of x.bytes)
   management_is addressed crowded o long = cond-false (nat_lt (length x.bytes) 8) (Refused refusal.Size None) (kind_verdict addressed crowded o (cm_of x.bytes)) long
 
-  pub told_is : (addressed : Bool) (q : Option (List IsoPiece)) → nat_lt (length x.bytes) 8 ≡ false → told addressed q x ≡ kind_verdict addressed (not x.admitted) (option_map pgn_of q) (cm_of x.bytes)
-  told_is addressed q long = cond-false x.packet (packet_told addressed q x) (management_verdict addressed (not x.admitted) (option_map pgn_of q) x.bytes) ep ∙ management_is addressed (not x.admitted) (option_map pgn_of q) long
+  pub told_is : (addressed : Bool) (q : Option (List IsoPiece)) → nat_lt (length x.bytes) 8 ≡ false → run_verdict addressed q x ≡ kind_verdict addressed (not x.admitted) (option_map pgn_of q) (cm_of x.bytes)
+  told_is addressed q long = cond-false x.packet (packet_run_verdict addressed q x) (management_verdict addressed (not x.admitted) (option_map pgn_of q) x.bytes) ep ∙ management_is addressed (not x.admitted) (option_map pgn_of q) long
 
 -- ---- what a sender is told
 
@@ -424,7 +424,7 @@ tests_quiet s left number false true n = refl
 tests_quiet s left number false false true = refl
 tests_quiet s left number false false false = refl
 
-packet_quiet : (q : Option (List IsoPiece)) (x : IsoPiece) → reply_by false (packet_told false q x) ≡ None
+packet_quiet : (q : Option (List IsoPiece)) (x : IsoPiece) → reply_by false (packet_run_verdict false q x) ≡ None
 packet_quiet None x = refl
 packet_quiet (Some acc) x = tests_quiet (session_of acc) (left_of_run acc) (number_of x.bytes) (nat_lt (length x.bytes) (end_of (left_of_run acc))) (is_repeat acc x) (is_next acc x)
 
@@ -449,7 +449,7 @@ management_quiet : (crowded : Bool) (o : Option ℕ) (bytes : List ℕ) (t : Boo
 management_quiet crowded o bytes true = refl
 management_quiet crowded o bytes false = kind_quiet crowded o (cm_of bytes)
 
-told_quiet : (q : Option (List IsoPiece)) (x : IsoPiece) (p : Bool) → reply_by false (if p then packet_told false q x else management_verdict false (not x.admitted) (option_map pgn_of q) x.bytes) ≡ None
+told_quiet : (q : Option (List IsoPiece)) (x : IsoPiece) (p : Bool) → reply_by false (if p then packet_run_verdict false q x else management_verdict false (not x.admitted) (option_map pgn_of q) x.bytes) ≡ None
 told_quiet q x true = packet_quiet q x
 told_quiet q x false = management_quiet (not x.admitted) (option_map pgn_of q) x.bytes (nat_lt (length x.bytes) 8)
 
@@ -503,21 +503,21 @@ module _ (x : IsoPiece) (ep : x.packet ≡ false) where
       by_open (Some acc) = refl
 
 -- any frame
-replied_packet : (q : Option (List IsoPiece)) (x : IsoPiece) → Standing true q → x.packet ≡ true → reply_by true (packet_told true q x) ≡ reply_to_packet q x
+replied_packet : (q : Option (List IsoPiece)) (x : IsoPiece) → Standing true q → x.packet ≡ true → reply_by true (packet_run_verdict true q x) ≡ reply_to_packet q x
 replied_packet None x stands ep = refl
 replied_packet (Some []) x stands ep = absurd stands
 replied_packet (Some (y ∷ ys)) x stands ep = replied_by_tests true y ys x stands.0 stands.1 ep refl _ _ _ refl refl refl
 
-replied_by : (q : Option (List IsoPiece)) (x : IsoPiece) (p : Bool) → Standing true q → IsOfTrace true x → (x.admitted ≡ false → q ≡ None) → x.packet ≡ p → reply_by true (told true q x) ≡ reply_to true q x
+replied_by : (q : Option (List IsoPiece)) (x : IsoPiece) (p : Bool) → Standing true q → IsOfTrace true x → (x.admitted ≡ false → q ≡ None) → x.packet ≡ p → reply_by true (run_verdict true q x) ≡ reply_to true q x
 replied_by q x true stands of admits ep =
-    let left : told true q x ≡ packet_told true q x = cond-true x.packet (packet_told true q x) (management_verdict true (not x.admitted) (option_map pgn_of q) x.bytes) ep in
+    let left : run_verdict true q x ≡ packet_run_verdict true q x = cond-true x.packet (packet_run_verdict true q x) (management_verdict true (not x.admitted) (option_map pgn_of q) x.bytes) ep in
     let right : reply_to true q x ≡ reply_to_packet q x = cond-true x.packet _ _ ep in
     ap (reply_by true) left ∙ (replied_packet q x stands ep ∙ sym right)
 replied_by q x false stands of admits ep =
     let (long, bearing) = bears_by true x.packet x.bytes ep of.bearing in
     ap (reply_by true) (told_is x ep true q long) ∙ kind_replied x ep q (cm_of x.bytes) bearing admits refl
 
-replied : (addressed : Bool) (q : Option (List IsoPiece)) (x : IsoPiece) → Standing addressed q → IsOfTrace addressed x → (x.admitted ≡ false → q ≡ None) → reply_by addressed (told addressed q x) ≡ reply_to addressed q x
+replied : (addressed : Bool) (q : Option (List IsoPiece)) (x : IsoPiece) → Standing addressed q → IsOfTrace addressed x → (x.admitted ≡ false → q ≡ None) → reply_by addressed (run_verdict addressed q x) ≡ reply_to addressed q x
 replied true q x stands of admits = replied_by q x _ stands of admits refl
 replied false q x stands of admits = told_quiet q x x.packet
 
@@ -529,11 +529,11 @@ module _ (addressed : Bool) where
   finished_packet : (q : Option (List IsoPiece)) (x : IsoPiece) → x.packet ≡ true → finished (iso_rules addressed) q x ≡ finished_later (iso_rules addressed) q x
   finished_packet q x ep = rw ep refl
 
-  pub told_packet : (q : Option (List IsoPiece)) (x : IsoPiece) → x.packet ≡ true → told addressed q x ≡ packet_told addressed q x
-  told_packet q x ep = cond-true x.packet (packet_told addressed q x) (management_verdict addressed (not x.admitted) (option_map pgn_of q) x.bytes) ep
+  pub told_packet : (q : Option (List IsoPiece)) (x : IsoPiece) → x.packet ≡ true → run_verdict addressed q x ≡ packet_run_verdict addressed q x
+  told_packet q x ep = cond-true x.packet (packet_run_verdict addressed q x) (management_verdict addressed (not x.admitted) (option_map pgn_of q) x.bytes) ep
 
   -- what a frame leaves
-  left_from : (q : Option (List IsoPiece)) (x : IsoPiece) (p : Bool) → Standing addressed q → IsOfTrace addressed x → x.packet ≡ p → left_by addressed (told addressed q x) x (assembly_at addressed q) ≡ assembly_at addressed (fed (iso_rules addressed) q x)
+  left_from : (q : Option (List IsoPiece)) (x : IsoPiece) (p : Bool) → Standing addressed q → IsOfTrace addressed x → x.packet ≡ p → left_by addressed (run_verdict addressed q x) x (assembly_at addressed q) ≡ assembly_at addressed (fed (iso_rules addressed) q x)
   left_from q x false stands of ep =
       let (long, bearing) = bears_by addressed x.packet x.bytes ep of.bearing in
       ap (λ v. left_by addressed v x (assembly_at addressed q)) (told_is x ep addressed q long) ∙ kind_left x ep addressed q (cm_of x.bytes) bearing refl
@@ -544,7 +544,7 @@ module _ (addressed : Bool) where
       ∙ (left_by_tests addressed y ys x stands.0 stands.1 ep stands.2 _ _ _ refl refl refl ∙ ap (assembly_at addressed) (sym (fed_packet (Some (y ∷ ys)) x ep)))
 
   -- what it completes
-  completed_from : (q : Option (List IsoPiece)) (x : IsoPiece) (p : Bool) → Standing addressed q → IsOfTrace addressed x → x.packet ≡ p → completed_by addressed (told addressed q x) x (assembly_at addressed q) ≡ message_of (finished (iso_rules addressed) q x)
+  completed_from : (q : Option (List IsoPiece)) (x : IsoPiece) (p : Bool) → Standing addressed q → IsOfTrace addressed x → x.packet ≡ p → completed_by addressed (run_verdict addressed q x) x (assembly_at addressed q) ≡ message_of (finished (iso_rules addressed) q x)
   completed_from q x false stands of ep =
       let (long, bearing) = bears_by addressed x.packet x.bytes ep of.bearing in
       ap (λ v. completed_by addressed v x (assembly_at addressed q)) (told_is x ep addressed q long)
@@ -555,7 +555,7 @@ module _ (addressed : Bool) where
       ap (λ v. completed_by addressed v x (Some (entry addressed y ys))) (told_packet (Some (y ∷ ys)) x ep)
       ∙ (completed_by_tests addressed y ys x stands.0 stands.1 ep stands.2 _ _ _ refl refl refl ∙ ap message_of (sym (finished_packet (Some (y ∷ ys)) x ep)))
 
-  told_law : (h : List IsoPiece) (x : IsoPiece) → IsTrace addressed h → verdict_on addressed (assembly_at addressed (open_at (iso_rules addressed) h x.moment)) x ≡ told addressed (open_at (iso_rules addressed) h x.moment) x
+  told_law : (h : List IsoPiece) (x : IsoPiece) → IsTrace addressed h → verdict_on addressed (assembly_at addressed (open_at (iso_rules addressed) h x.moment)) x ≡ run_verdict addressed (open_at (iso_rules addressed) h x.moment) x
   told_law h x trace = verdict_is addressed (open_at (iso_rules addressed) h x.moment) x (standing_by addressed h x.moment _ trace refl)
 
   left_law : (h : List IsoPiece) (x : IsoPiece) → IsTrace addressed (x ∷ h)
@@ -586,7 +586,7 @@ module _ (addressed : Bool) where
 
   pub follows_runs : FollowsRuns addressed
   follows_runs = record {
-    told = told_law;
+    run_verdict = told_law;
     replies = replies_law;
     left = left_law;
     completed = completed_law;

@@ -25,7 +25,7 @@ use Rattle.iso_transport.specs.Audience.{is_data, key_of, bears, concerns}
 use Rattle.iso_transport.specs.IsoRuns.{IsoPiece, number_of, end_of}
 use Rattle.iso_transport.specs.Verdicts.{pgn_in, left_of, is_again, VerdictFits, packet_verdict, kind_verdict, management_verdict, frame_verdict}
 use Rattle.iso_transport.specs.Assembly.{opening, is_crowded, part_to, fed_by, verdict_of, fed_after, key_fits, AreSessions}
-use Rattle.iso_transport.specs.Told.{verdict_on, extended_by, left_by}
+use Rattle.iso_transport.specs.RunVerdicts.{verdict_on, extended_by, left_by}
 use Rattle.iso_transport.specs.Joining.{piece_of, FeedsItsKey, OrdersKeys}
 use Rattle.iso_transport.proofs.Verdicts.{full_where, management_fits}
 
@@ -168,7 +168,7 @@ module _ (cmp : IsoKey → IsoKey → Ordering) (o : IsTotalOrder cmp) where
 
   pub feeds_its_key : FeedsItsKey cmp
   feeds_its_key = record {
-    told = λ s own parts bytes moment ours. concerned s own parts bytes ours ∙ told_on s (key_of parts) (piece_of cmp s parts bytes moment) refl;
+    verdict = λ s own parts bytes moment ours. concerned s own parts bytes ours ∙ told_on s (key_of parts) (piece_of cmp s parts bytes moment) refl;
     changes = changes_law;
     passed = λ s own parts bytes moment idle. passed_by s own parts bytes moment _ refl idle;
   }

@@ -29,7 +29,7 @@ use Rattle.iso_transport.specs.IsoRuns.{IsoPiece, number_of, end_of, session_of,
 use Rattle.iso_transport.specs.Verdicts.{VerdictFits, opener_verdict, abort_verdict, kind_verdict, frame_verdict}
 use Rattle.iso_transport.specs.Assembly.{opening, extended, part_to, is_crowded, fed_by, verdict_of, fed_after}
 use Rattle.iso_transport.specs.Answers.{restarted_by, reply_by, NextGives, OutcomeBy, FeedGives}
-use Rattle.iso_transport.specs.Told.{Message, pgn_of, left_of_run, packet_told, told, message_of, verdict_on, extended_by, left_by, completed_by, completed_with, assembly_at}
+use Rattle.iso_transport.specs.RunVerdicts.{Message, pgn_of, left_of_run, packet_run_verdict, run_verdict, message_of, verdict_on, extended_by, left_by, completed_by, completed_with, assembly_at}
 use Rattle.iso_transport.specs.Laws.{IsOfTrace, IsTrace, assembly_after}
 use Rattle.iso_transport.specs.Joining.{StepsWithRuns}
 use Rattle.iso_transport.specs.Keys.{is_open_at, given_up, OutcomeIs, AnswerIs, open_keys, other_open_keys, IsNoted, sessions_after, AreFed, sessions, AllFollow, AllAnswered}
@@ -271,13 +271,13 @@ tests_restart s left number short late false true n first last = refl
 tests_restart s left number short late false false true first last = refl
 tests_restart s left number short late false false false first last = last
 
-packet_restarts : (a : Bool) (q : Option (List IsoPiece)) (x : IsoPiece) → restarted_by (packet_told a q x) ≡ None
+packet_restarts : (a : Bool) (q : Option (List IsoPiece)) (x : IsoPiece) → restarted_by (packet_run_verdict a q x) ≡ None
 packet_restarts a None x = refl
 packet_restarts a (Some acc) x =
     tests_restart (session_of acc) (left_of_run acc) (number_of x.bytes) (Ends refusal.Size (abort_to a 2 (pgn_of acc))) (Ends refusal.Order (abort_to a 2 (pgn_of acc)))
     (nat_lt (length x.bytes) (end_of (left_of_run acc))) (is_repeat acc x) (is_next acc x) refl refl
 
-restarts : (a : Bool) (q : Option (List IsoPiece)) (x : IsoPiece) → restarted_by (told a q x) ≡ given_up a q x
+restarts : (a : Bool) (q : Option (List IsoPiece)) (x : IsoPiece) → restarted_by (run_verdict a q x) ≡ given_up a q x
 restarts a q x = by x.packet refl
   where
     given : x.packet ≡ false → given_up a q x ≡ (if opens a (cm_of x.bytes) then option_map pgn_of q else None)
@@ -286,11 +286,11 @@ restarts a q x = by x.packet refl
     none_given : x.packet ≡ true → given_up a q x ≡ None
     none_given packet = rw packet refl
 
-    long_by : (t : Bool) → x.packet ≡ false → nat_lt (length x.bytes) 8 ≡ t → restarted_by (told a q x) ≡ given_up a q x
+    long_by : (t : Bool) → x.packet ≡ false → nat_lt (length x.bytes) 8 ≡ t → restarted_by (run_verdict a q x) ≡ given_up a q x
     long_by true other short = rw (other, short) refl
     long_by false other long = ap restarted_by (told_is x other a q long) ∙ (kind_restarts a (not x.admitted) (option_map pgn_of q) (cm_of x.bytes) ∙ sym (given other))
 
-    by : (b : Bool) → x.packet ≡ b → restarted_by (told a q x) ≡ given_up a q x
+    by : (b : Bool) → x.packet ≡ b → restarted_by (run_verdict a q x) ≡ given_up a q x
     by true packet = ap restarted_by (told_packet a q x packet) ∙ (packet_restarts a q x ∙ sym (none_given packet))
     by false other = long_by _ other refl
 
@@ -357,22 +357,22 @@ module _ {cmp : IsoKey → IsoKey → Ordering} (o : IsTotalOrder cmp) (s : Slot
       ∙ (frame_same a (is_crowded s) (entry_at cmp s k) x.packet x.bytes
       ∙ (ap (λ b. frame_verdict a (not b) (entry_at cmp s k) x.packet x.bytes) (sym admitted) ∙ ap (λ e. verdict_on a e x) found))
 
-  is_told_so : verdict_of cmp s own parts x.bytes ≡ told a q x
-  is_told_so = on_session ∙ (follows_runs a).told p x of_trace.1
+  is_told_so : verdict_of cmp s own parts x.bytes ≡ run_verdict a q x
+  is_told_so = on_session ∙ (follows_runs a).run_verdict p x of_trace.1
 
-  done_is : completed_by a (told a q x) x (assembly_at a q) ≡ message_of (run_of (iso_rules a) (x ∷ p))
-  done_is = ap (λ v. completed_by a v x (assembly_at a q)) (sym ((follows_runs a).told p x of_trace.1)) ∙ (follows_runs a).completed p x of_trace
+  done_is : completed_by a (run_verdict a q x) x (assembly_at a q) ≡ message_of (run_of (iso_rules a) (x ∷ p))
+  done_is = ap (λ v. completed_by a v x (assembly_at a q)) (sym ((follows_runs a).run_verdict p x of_trace.1)) ∙ (follows_runs a).completed p x of_trace
 
   answered : (fed : IsoFed) → FeedGives cmp s own parts x.bytes x.moment fed → AnswerIs a q x (message_of (run_of (iso_rules a) (x ∷ p))) fed
   answered fed gives =
       let by_session : OutcomeBy a (assembly_at a q) x.bytes x.moment (verdict_of cmp s own parts x.bytes) fed.outcome =
       subst (λ e. OutcomeBy a e x.bytes x.moment (verdict_of cmp s own parts x.bytes) fed.outcome) found gives.outcome in
-      let by_frames : OutcomeBy a (assembly_at a q) x.bytes x.moment (told a q x) fed.outcome =
+      let by_frames : OutcomeBy a (assembly_at a q) x.bytes x.moment (run_verdict a q x) fed.outcome =
       subst (λ v. OutcomeBy a (assembly_at a q) x.bytes x.moment v fed.outcome) is_told_so by_session in
       record {
         restarted = gives.restarted ∙ (ap restarted_by is_told_so ∙ restarts a q x);
         reply = gives.reply ∙ (ap (reply_by a) on_session ∙ (follows_runs a).replies p x of_trace none_open);
-        outcome = subst (λ d. OutcomeIs (told a q x) d fed.outcome) done_is (outcome_by a x (assembly_at a q) (told a q x) fed.outcome by_frames);
+        outcome = subst (λ d. OutcomeIs (run_verdict a q x) d fed.outcome) done_is (outcome_by a x (assembly_at a q) (run_verdict a q x) fed.outcome by_frames);
       }
 
   changed_so : IsMap cmp s → Changes cmp s (fed_after cmp s own parts x.bytes x.moment) k (assembly_at a (fed (iso_rules a) q x))

@@ -129,8 +129,8 @@ grown_sessions s k next piece moment g fits are = still_sessions cmp keys_total 
 -- the session that was taken out
 pub session_ended : (o : Option (IsoKey × Entry)) (e : Ended IsoKey) (r : IsoEnded) → Some e ≡ option_map slot_ended o
     → r ≡ record { addressed = e.key.addressed; source = e.key.source; pgn = (session_at e.mark).pgn } → Some r ≡ option_map ended_of o
-session_ended None e r is told = cc
-session_ended (Some d) e r is told = let same : e ≡ slot_ended d = cc in ap Some (told ∙ ap (λ (x : Ended IsoKey). record { addressed = x.key.addressed; source = x.key.source; pgn = (session_at x.mark).pgn }) same)
+session_ended None e r is shown = cc
+session_ended (Some d) e r is shown = let same : e ≡ slot_ended d = cc in ap Some (shown ∙ ap (λ (x : Ended IsoKey). record { addressed = x.key.addressed; source = x.key.source; pgn = (session_at x.mark).pgn }) same)
 
 pub none_ended : (o : Option (IsoKey × Entry)) → None ≡ option_map slot_ended o → None ≡ option_map ended_of o
 none_ended None is = refl

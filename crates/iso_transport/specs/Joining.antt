@@ -11,7 +11,7 @@ use Rattle.iso_transport.specs.Audience.{is_data, key_of, bears, concerns}
 use Rattle.iso_transport.specs.IsoRuns.{IsoPiece, iso_rules}
 use Rattle.iso_transport.specs.Assembly.{verdict_of, fed_after}
 use Rattle.iso_transport.specs.Answers.{FeedGives}
-use Rattle.iso_transport.specs.Told.{message_of, verdict_on, left_by, assembly_at}
+use Rattle.iso_transport.specs.RunVerdicts.{message_of, verdict_on, left_by, assembly_at}
 use Rattle.iso_transport.specs.Laws.{IsTrace}
 use Rattle.iso_transport.specs.Keys.{AnswerIs}
 
@@ -26,7 +26,7 @@ module _ (cmp : IsoKey → IsoKey → Ordering) where
 
   -- a frame that concerns this node is to the sessions what it is to the session of its key, which alone it changes
   pub record FeedsItsKey : Type 0 where
-    pub told : (s : SlotMap IsoKey) (own : Option ℕ) (parts : Parts) (bytes : List ℕ) (moment : ℕ) → concerns own parts ≡ true
+    pub verdict : (s : SlotMap IsoKey) (own : Option ℕ) (parts : Parts) (bytes : List ℕ) (moment : ℕ) → concerns own parts ≡ true
         → verdict_of cmp s own parts bytes ≡ verdict_on (key_of parts).addressed (entry_at cmp s (key_of parts)) (piece_of s parts bytes moment)
     pub changes : (s : SlotMap IsoKey) (own : Option ℕ) (parts : Parts) (bytes : List ℕ) (moment : ℕ) → IsMap cmp s → concerns own parts ≡ true
         → let addressed = (key_of parts).addressed in let o = entry_at cmp s (key_of parts) in let x = piece_of s parts bytes moment in

@@ -20,7 +20,7 @@ use Rattle.iso_transport.specs.IsoRuns.{IsoPiece, is_opener, iso_rules}
 use Rattle.iso_transport.specs.Verdicts.{frame_verdict}
 use Rattle.iso_transport.specs.Assembly.{is_crowded, fed_by, fed_after}
 use Rattle.iso_transport.specs.Answers.{FeedGives}
-use Rattle.iso_transport.specs.Told.{Message, pgn_of, told, reply_to, message_of, assembly_at}
+use Rattle.iso_transport.specs.RunVerdicts.{Message, pgn_of, run_verdict, reply_to, message_of, assembly_at}
 use Rattle.iso_transport.specs.Laws.{IsOfTrace}
 
 -- the frames of the key are open at the moment
@@ -62,7 +62,7 @@ OutcomeIs v done (became.Refused reason) = (refusal_of v ≡ Some reason) × (do
 pub record AnswerIs (addressed : Bool) (q : Option (List IsoPiece)) (x : IsoPiece) (done : Option Message) (fed : IsoFed) : Type 0 where
   pub restarted : fed.restarted ≡ given_up addressed q x
   pub reply : fed.reply ≡ reply_to addressed q x
-  pub outcome : OutcomeIs (told addressed q x) done fed.outcome
+  pub outcome : OutcomeIs (run_verdict addressed q x) done fed.outcome
 
 -- ---- the frames of all keys
 

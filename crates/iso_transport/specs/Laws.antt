@@ -7,7 +7,7 @@ use Rattle.runs.specs.Runs.{open_of, open_at, run_of}
 use Rattle.iso_transport.specs.Audience.{bears}
 use Rattle.iso_transport.specs.IsoRuns.{IsoPiece, iso_rules, session_of, payload}
 use Rattle.iso_transport.specs.Answers.{reply_by}
-use Rattle.iso_transport.specs.Told.{told, reply_to, message_of, verdict_on, left_by, completed_by, assembly_at}
+use Rattle.iso_transport.specs.RunVerdicts.{run_verdict, reply_to, message_of, verdict_on, left_by, completed_by, assembly_at}
 
 -- a frame of a trace: one of at most 8 bytes that can open, extend or end a session
 pub record IsOfTrace (addressed : Bool) (x : IsoPiece) : Type 0 where
@@ -29,8 +29,8 @@ assembly_after addressed h = entry_after (filling addressed) h
 -- to the other
 pub record FollowsRuns (addressed : Bool) : Type 0 where
   -- what a frame is
-  pub told : (h : List IsoPiece) (x : IsoPiece) → IsTrace addressed h → let q = open_at (iso_rules addressed) h x.moment in
-      verdict_on addressed (assembly_at addressed q) x ≡ told addressed q x
+  pub run_verdict : (h : List IsoPiece) (x : IsoPiece) → IsTrace addressed h → let q = open_at (iso_rules addressed) h x.moment in
+      verdict_on addressed (assembly_at addressed q) x ≡ run_verdict addressed q x
   -- what its sender is told, where an opener finds room in the place of the session that is open
   pub replies : (h : List IsoPiece) (x : IsoPiece) → IsTrace addressed (x ∷ h) → let q = open_at (iso_rules addressed) h x.moment in
       (x.admitted ≡ false → q ≡ None) → reply_by addressed (verdict_on addressed (assembly_at addressed q) x) ≡ reply_to addressed q x

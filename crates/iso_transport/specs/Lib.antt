@@ -8,7 +8,7 @@ pub mod Verdicts
 pub mod Assembly
 pub mod Answers
 pub mod Rows
-pub mod Told
+pub mod RunVerdicts
 pub mod Laws
 pub mod Joining
 pub mod Keys

@@ -21,7 +21,7 @@ as_cm (EndAck size packets pgn) = cm.EndAck size packets pgn
 as_cm (Abort reason pgn) = cm.Abort reason pgn
 
 -- the message that it names
-abbrev pub pgn_told : Reply → ℕ
-pgn_told (Cts count next pgn) = pgn
-pgn_told (EndAck size packets pgn) = pgn
-pgn_told (Abort reason pgn) = pgn
+abbrev pub named_pgn : Reply → ℕ
+named_pgn (Cts count next pgn) = pgn
+named_pgn (EndAck size packets pgn) = pgn
+named_pgn (Abort reason pgn) = pgn

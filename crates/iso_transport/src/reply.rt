@@ -1,7 +1,7 @@
 //! Replies, as they are written.
 ghost use Rattle.std.specs.Prelude.{◌≡◌, ◌^◌, ◌<◌, ◌++◌};
 ghost use Rattle.iso_transport.specs.Cm.{cm_of};
-ghost use Rattle.iso_transport.specs.Replies.{reply_bytes, pgn_bytes, as_cm, pgn_told};
+ghost use Rattle.iso_transport.specs.Replies.{reply_bytes, pgn_bytes, as_cm, named_pgn};
 
 use crate::connection::{ABORT, CTS, END_ACK};
 
@@ -19,22 +19,22 @@ pub enum Reply {
 
 /// The data bytes of the reply's frame: `read_cm` reads them as the kind and the numbers of the reply.
 pub fn write_reply(reply: &Reply) -> [u8; 8]
-    requires { pgn_told reply.now < 2 ^ 24 }
+    requires { named_pgn reply.now < 2 ^ 24 }
     ensures bytes { result ≡ reply_bytes reply.now }
     ensures again { cm_of result ≡ Some (as_cm reply.now) }
 {
     match *reply {
-        Reply::Cts { count, next, pgn } => laid_out([CTS, count, next, 255, 255], pgn),
+        Reply::Cts { count, next, pgn } => reply_frame([CTS, count, next, 255, 255], pgn),
         Reply::EndAck { size, packets, pgn } => {
             let [low, high] = size.to_le_bytes();
-            laid_out([END_ACK, low, high, packets, 255], pgn)
+            reply_frame([END_ACK, low, high, packets, 255], pgn)
         }
-        Reply::Abort { reason, pgn } => laid_out([ABORT, reason, 255, 255, 255], pgn),
+        Reply::Abort { reason, pgn } => reply_frame([ABORT, reason, 255, 255, 255], pgn),
     }
 }
 
 // The first five bytes, and the PGN behind them.
-fn laid_out(first: [u8; 5], pgn: u32) -> [u8; 8]
+fn reply_frame(first: [u8; 5], pgn: u32) -> [u8; 8]
     requires { pgn < 2 ^ 24 }
     ensures { result ≡ first ++ pgn_bytes pgn }
 {

@@ -1,11 +1,9 @@
 //! Messages of 223 bytes in 32 pieces.
+use fast_packet::GAP;
 use slot_views::{Grown, Slots};
 
 /// Slots as fast packets have them.
 pub type FastSlots = Slots<u32, 224, 7>;
-
-/// How long the next piece may take, in microseconds.
-const GAP: u32 = 750_000;
 
 /// One piece.
 const PIECE: [u8; 7] = [0x5A; 7];

@@ -26,8 +26,8 @@ returns-clause-answer c =
     let high : IsoKey = record { addressed = true; source = 255 } in
     let found = find (is_between key.TheImpl.ghosts.cmp low high) c.self.inside.slots.entries in
     let same : find is_addressed c.self.inside.slots.entries ≡ found = sym (found_same _ _ c.self.inside.slots.entries (addressed_all c.self.inside.slots.entries c.self.invariant.fit)) in
-    let told : c.match-drop_between.result ≡ option_map ended_of found = elim c.match-drop_between.branch [
+    let answered : c.match-drop_between.result ≡ option_map ended_of found = elim c.match-drop_between.branch [
       | in-Some w ↦ w.result-is ∙ session_ended found w.in-Some.ended w.of.result (sym w.in-Some.is ∙ c.drop_between.ensures.answer) w.of.ensures
       | in-None w ↦ w.result-is ∙ none_ended found (sym w.in-None.is ∙ c.drop_between.ensures.answer)
     ] in
-    rw (← c.self.view_is) (told ∙ ap (option_map ended_of) (sym same))
+    rw (← c.self.view_is) (answered ∙ ap (option_map ended_of) (sym same))

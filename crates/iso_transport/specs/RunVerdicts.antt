@@ -27,17 +27,17 @@ abbrev pub left_of_run : List IsoPiece → ℕ
 left_of_run acc = left_after (session_of acc).size (length acc - 1)
 
 -- a packet is too short, or else a repeat, or the next one, or out of order
-abbrev pub packet_told : Bool → Option (List IsoPiece) → IsoPiece → Verdict
-packet_told addressed None x = Refused refusal.Orphan None
-packet_told addressed (Some acc) x =
+abbrev pub packet_run_verdict : Bool → Option (List IsoPiece) → IsoPiece → Verdict
+packet_run_verdict addressed None x = Refused refusal.Orphan None
+packet_run_verdict addressed (Some acc) x =
     if nat_lt (length x.bytes) (end_of (left_of_run acc)) then Ends refusal.Size (abort_to addressed 2 (pgn_of acc))
     else if is_repeat acc x then Again
     else if is_next acc x then Next (session_of acc) (number_of x.bytes) (end_of (left_of_run acc))
     else Ends refusal.Order (abort_to addressed 2 (pgn_of acc))
 
 -- a frame that is no packet is told by what it says and the message that is open
-abbrev pub told : Bool → Option (List IsoPiece) → IsoPiece → Verdict
-told addressed o x = if x.packet then packet_told addressed o x else management_verdict addressed (not x.admitted) (option_map pgn_of o) x.bytes
+abbrev pub run_verdict : Bool → Option (List IsoPiece) → IsoPiece → Verdict
+run_verdict addressed o x = if x.packet then packet_run_verdict addressed o x else management_verdict addressed (not x.admitted) (option_map pgn_of o) x.bytes
 
 -- the reply to the next packet: the acknowledgement after the last one, and a grant after each multiple of the window
 abbrev pub reply_to_next : Session → ℕ → Option Reply
