@@ -1,9 +1,10 @@
-pub mod Agreed
+pub mod CommonRun
 pub mod Cutting
 pub mod Cuts
 pub mod Datagrams
 pub mod LineBytes
-pub mod Reached
+pub mod LinePlaces
 pub mod Spelled
 pub mod TagPlaces
 pub mod SentencePlaces
+pub mod Items

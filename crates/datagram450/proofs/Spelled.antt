@@ -42,7 +42,7 @@ given parts = Ok parts
 same_parts : (p q : Parts) → given p ≡ given q → p ≡ q
 same_parts p q e = cc
 
-sentence_of : (bytes : List ℕ) (parts : Parts) → sentences.read bytes ≡ Ok parts → IsSentence parts bytes
+pub sentence_of : (bytes : List ℕ) (parts : Parts) → sentences.read bytes ≡ Ok parts → IsSentence parts bytes
 sentence_of bytes parts e = go (sentences.fault_of bytes) refl e
   where
     go : (f : Option SentenceFault) → sentences.fault_of bytes ≡ f → sentences.read_as f (sentences.parts_at bytes) ≡ Ok parts → IsSentence parts bytes

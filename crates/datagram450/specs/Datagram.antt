@@ -1,14 +1,23 @@
 -- What a datagram of IEC 61162-450 is: the header and lines; and what its lines give, in order.
-use Rattle.std.specs.Prelude.{◌≡◌, ℕ, zero, suc, ◌+◌, ◌≤◌, ◌==◌, not, nat_lt, List, [], ◌∷◌, ◌++◌, length, drop, All, IsTrue, Result, Ok, Err, if◌then◌else◌}
+use Rattle.std.specs.Prelude.{◌≡◌, ℕ, zero, suc, ◌+◌, ◌<◌, ◌≤◌, ◌==◌, not, nat_lt, List, [], ◌∷◌, ◌++◌, length, drop, All, IsTrue, Result, Ok, Err, if◌then◌else◌}
 use Rattle.std.specs.List.{common_prefix_len, list_all, flat_map}
 use Rattle.report_rules.specs.Rules.{line_form, too_many_lines}
+use Rattle.sentence_text.specs.Sentence.{Parts, IsSentence}
+use Rattle.tag_block.specs.Tag.{Said, IsSaid}
 use Rattle.datagram450.specs.declared.fault.DatagramFault.{DatagramFault}
 use Rattle.datagram450.specs.declared.fault.DatagramFault.TheVariants.{Header, Long}
-use Rattle.datagram450.specs.Item.{Item, bad, item}
+use Rattle.datagram450.specs.Item.{Item, line, bad, item}
 
 -- `UdPbC` and NUL
 abbrev pub header : List ℕ
 header = 85 ∷ 100 ∷ 80 ∷ 98 ∷ 67 ∷ 0 ∷ []
+
+-- the most bytes of a datagram that is read, and the most of its lines
+abbrev pub longest_datagram : ℕ
+longest_datagram = 1472
+
+abbrev pub most_lines : ℕ
+most_lines = 64
 
 abbrev pub HasNoEnd : List ℕ → Type 0
 HasNoEnd bytes = IsTrue (list_all (λ c. not (c == 10)) bytes)
@@ -52,8 +61,19 @@ pub record DatagramOf (items : List Item) (bytes : List ℕ) : Type 0 where
   pub cut : Cut
   pub is_cut : IsCut cut body
   pub begins : bytes ≡ header ++ body
-  pub most : length bytes ≤ 1472
-  pub gives : items ≡ items_at 64 6 cut.lines cut.rest
+  pub most : length bytes ≤ longest_datagram
+  pub gives : items ≡ items_at most_lines 6 cut.lines cut.rest
+
+-- what holds of an item that is a line
+pub record IsLineItem (at : ℕ) (said : Said) (text : List ℕ) (parts : Parts) : Type 0 where
+  pub place : at < longest_datagram
+  pub ranges : IsSaid said
+  pub sentence : IsSentence parts text
+
+-- and of each item: its place is in the datagram, or behind its end
+abbrev pub IsItem : Item → Type 0
+IsItem (line at said text parts) = IsLineItem at said text parts
+IsItem (bad rule at) = at ≤ longest_datagram
 
 -- ---- the one cut
 
@@ -74,5 +94,5 @@ items_from left at bytes = items_at left at (cut bytes).lines (cut bytes).rest
 abbrev pub read : List ℕ → Result (List Item) DatagramFault
 read bytes = let place = common_prefix_len (λ b c. b == c) header bytes in
     if nat_lt place 6 then Err (Header place)
-    else if nat_lt 1472 (length bytes) then Err Long
-    else Ok (items_from 64 6 (drop 6 bytes))
+    else if nat_lt longest_datagram (length bytes) then Err Long
+    else Ok (items_from most_lines 6 (drop 6 bytes))

@@ -2,7 +2,7 @@ ghost use Rattle.std.specs.Prelude.{◌≡◌, ◌+◌, ◌≤◌, length, IfOk,
 ghost use Rattle.tag_block.specs.Reading as tags;
 ghost use Rattle.sentence_text.specs.Reading as sentences;
 ghost use Rattle.datagram450.specs.Item.{item, item_view, tag_rule as rule_of_tag, sentence_rule as rule_of_sentence};
-ghost use Rattle.datagram450.specs.Datagram.{IsLine};
+ghost use Rattle.datagram450.specs.Datagram.{IsLine, longest_datagram};
 
 use report_rules::{NO_SOURCE, SENTENCE_FORM, SENTENCE_SUM, TAG_FORM, TAG_SUM};
 use sentence_text::{Sentence, SentenceFault, SentenceRule};
@@ -60,7 +60,7 @@ fn sentence_rule(rule: SentenceRule) -> u8
 fn read_tag<'a>(line: &'a [u8]) -> Result<(Tag<'a>, usize), TagFault>
     ensures exact { tags.seen result ≡ tags.read line.now }
     ensures length { IfOk result (λ t. t.1 ≤ length line.now) }
-    ensures place { IfErr result (λ f. f.place ≤ length line.now + 3) }
+    ensures place { IfErr result (λ f. f.place ≤ length line.now) }
 {
     tag_block::read(line)
 }
@@ -68,7 +68,7 @@ fn read_tag<'a>(line: &'a [u8]) -> Result<(Tag<'a>, usize), TagFault>
 #[tactic(auto, using(crate::proofs::SentencePlaces::sentence_place))]
 fn read_sentence<'a>(text: &'a [u8]) -> Result<Sentence<'a>, SentenceFault>
     ensures exact { sentences.seen result ≡ sentences.read text.now }
-    ensures place { IfErr result (λ f. f.place ≤ length text.now + 120) }
+    ensures place { IfErr result (λ f. f.place ≤ length text.now) }
 {
     sentence_text::read(text)
 }
@@ -76,7 +76,7 @@ fn read_sentence<'a>(text: &'a [u8]) -> Result<Sentence<'a>, SentenceFault>
 /// What the line gives that begins at this place.
 #[tactic(auto, unfolding(crate::specs::Item::item))]
 pub(crate) fn read_line<'a>(at: u16, line: &'a [u8]) -> LineItem<'a>
-    requires { at + length line.now ≤ 1472 }
+    requires { at + length line.now ≤ longest_datagram }
     ensures { item_view result ≡ item at line.now }
 {
     let (tag, length) = match read_tag(line) {
@@ -107,7 +107,7 @@ pub(crate) fn read_line<'a>(at: u16, line: &'a [u8]) -> LineItem<'a>
 /// of one line, and its end needn't be looked for.
 #[tactic(auto, using(crate::proofs::LineBytes::line_alone))]
 pub(crate) fn only_line<'a>(at: u16, rest: &'a [u8]) -> Option<LineItem<'a>>
-    requires { at + length rest.now ≤ 1472 }
+    requires { at + length rest.now ≤ longest_datagram }
     ensures { IfSome result (λ i. IsLine rest.now × (item_view i ≡ item at rest.now)) }
 {
     if rest.len() > MOST_ALONE {

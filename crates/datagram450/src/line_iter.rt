@@ -1,9 +1,9 @@
 ghost use Rattle.std.specs.Prelude.{◌≡◌, ◌==◌, ◌+◌, ◌≤◌, ℕ, List, length, Ok, IfOk};
-ghost use Rattle.std.specs.List.{position_or_len, common_prefix_len};
+ghost use Rattle.std.specs.List.{AllByRecursion, position_or_len, common_prefix_len};
 ghost use Rattle.tag_block.specs.Tag.{Said};
 ghost use Rattle.sentence_text.specs.Sentence.{Parts};
 ghost use Rattle.datagram450.specs.Item.{Item, LineOf, item, line};
-ghost use Rattle.datagram450.specs.Datagram.{read, DatagramOf};
+ghost use Rattle.datagram450.specs.Datagram.{read, DatagramOf, IsItem};
 
 use crate::fault::DatagramFault;
 use crate::header::HEADER;
@@ -30,13 +30,13 @@ pub struct LineIter<'a> {
 impl<'a> Model for LineIter<'a> {
     ghost use Rattle.std.specs.Prelude.{◌+◌, ◌≤◌, List, length};
     ghost use Rattle.datagram450.specs.Item.{Item};
-    ghost use Rattle.datagram450.specs.Datagram.{items_from};
+    ghost use Rattle.datagram450.specs.Datagram.{items_from, longest_datagram};
 
     ghost Value = { List Item };
 
     ghost view = { λ s. items_from s.left s.at s.rest.now };
 
-    ghost invariant = { λ s. s.at + length s.rest.now ≤ 1472 };
+    ghost invariant = { λ s. s.at + length s.rest.now ≤ longest_datagram };
 }
 
 impl<'a> Iterator for LineIter<'a> {
@@ -92,8 +92,8 @@ fn text_run(bytes: &[u8]) -> usize
 }
 
 /// How many bytes are the wanted ones, from the first on.
-#[tactic(auto, using(crate::proofs::Agreed::starts, crate::proofs::Agreed::goes_on, crate::proofs::Agreed::wanted_ends, crate::proofs::Agreed::bytes_end, crate::proofs::Agreed::differs))]
-fn agreed(wanted: &[u8], bytes: &[u8]) -> usize
+#[tactic(auto, using(crate::proofs::CommonRun::starts, crate::proofs::CommonRun::goes_on, crate::proofs::CommonRun::wanted_ends, crate::proofs::CommonRun::bytes_end, crate::proofs::CommonRun::differs))]
+fn common_run(wanted: &[u8], bytes: &[u8]) -> usize
     ensures run { result ≡ common_prefix_len (λ b c. b == c) wanted.now bytes.now }
     ensures within { result ≤ length bytes.now }
 {
@@ -107,7 +107,7 @@ fn agreed(wanted: &[u8], bytes: &[u8]) -> usize
 fn start<'a>(bytes: &'a [u8]) -> Result<LineIter<'a>, DatagramFault>
     ensures { result ≡ read bytes.now }
 {
-    let place = agreed(&HEADER, bytes);
+    let place = common_run(&HEADER, bytes);
     if place < HEADER.len() {
         return Err(DatagramFault::Header(place));
     }
@@ -125,6 +125,8 @@ fn start<'a>(bytes: &'a [u8]) -> Result<LineIter<'a>, DatagramFault>
 pub fn lines<'a>(bytes: &'a [u8]) -> Result<LineIter<'a>, DatagramFault>
     // What is read is cut and gives so.
     ensures found { IfOk result (λ items. DatagramOf items bytes.now) }
+    // Of each line the sentence is one, and what its blocks say is in its ranges; each place is in the datagram.
+    ensures each { IfOk result (AllByRecursion IsItem) }
     // What is cut and gives so is read.
     ensures only { (items : List Item) → DatagramOf items bytes.now → result ≡ Ok items }
     // A line that gives a sentence is TAG blocks and a sentence.

@@ -1,11 +1,11 @@
-ghost use Rattle.std.specs.Prelude.{◌≡◌, ◌+◌, ◌<◌, ◌≤◌, ◌↔◌, ℕ, List, [], ◌++◌, All, length, false, IsTrue};
+ghost use Rattle.std.specs.Prelude.{◌≡◌, ◌+◌, ◌≤◌, ◌↔◌, ℕ, List, [], ◌++◌, length, false, IsTrue};
 ghost use Rattle.arrayvec.specs.ArrayVec.{array_vec_len};
 ghost use Rattle.sentence_text.specs.Sentence.{Parts, IsSentence};
 ghost use Rattle.tag_block.specs.Tag.{IsTag, block_text};
-ghost use Rattle.tag_block.specs.Writing.{IsWritable, block_of, said_by};
-ghost use Rattle.datagram450.specs.Datagram.{header, all_of, IsLine, read};
+ghost use Rattle.tag_block.specs.Writing.{IsWritable, block_of, longest_block, longest_packet, said_by};
+ghost use Rattle.datagram450.specs.Datagram.{header, longest_datagram, read};
 ghost use Rattle.datagram450.specs.Item.{line};
-ghost use Rattle.datagram450.specs.Writing.{line_text, GivesAt};
+ghost use Rattle.datagram450.specs.Writing.{line_text, GivesAt, IsBehind};
 
 use crate::header::HEADER;
 use tag_block::{Packet, TagParts};
@@ -18,10 +18,11 @@ pub fn begin(out: &mut Packet)
     let _fits = out.try_extend_from_slice(&HEADER);
 }
 
-fn put_line(tag: &TagParts, sentence: &[u8], out: &mut Packet) -> bool
+fn append_line(tag: &TagParts, sentence: &[u8], out: &mut Packet) -> bool
     requires { IsWritable tag.now }
-    ensures fits { IsTrue result ↔ (array_vec_len out.old + length (line_text tag.now sentence.now) ≤ 512) }
+    ensures fits { IsTrue result ↔ (array_vec_len out.old + length (line_text tag.now sentence.now) ≤ longest_packet) }
     ensures written { IsTrue result → out.new.items ≡ out.old.items ++ line_text tag.now sentence.now }
+    ensures room { array_vec_len out.old + longest_block + length sentence.now ≤ longest_packet → IsTrue result }
     ensures unchanged { result ≡ false → out.new ≡ out.old }
     ensures grammar { IsTag (said_by tag.now) (block_text (block_of tag.now)) }
 {
@@ -39,11 +40,15 @@ fn put_line(tag: &TagParts, sentence: &[u8], out: &mut Packet) -> bool
 /// Appends a line: a TAG block and a sentence. Says whether it fitted; if not, nothing is appended.
 pub fn push_line(tag: &TagParts, sentence: &[u8], out: &mut Packet) -> bool
     requires { IsWritable tag.now }
-    ensures fits { IsTrue result ↔ (array_vec_len out.old + length (line_text tag.now sentence.now) ≤ 512) }
+    ensures fits { IsTrue result ↔ (array_vec_len out.old + length (line_text tag.now sentence.now) ≤ longest_packet) }
     ensures written { IsTrue result → out.new.items ≡ out.old.items ++ line_text tag.now sentence.now }
+    // A line takes the sentence's bytes and at most 32 more.
+    ensures room { array_vec_len out.old + longest_block + length sentence.now ≤ longest_packet → IsTrue result }
     // Among the first 64 lines behind the header a sentence is read back in its place, whatever follows.
-    ensures again { (lines : List (List ℕ)) (tail : List ℕ) (parts : Parts) → IsTrue result → IsSentence parts sentence.now → out.old.items ≡ header ++ all_of lines → All IsLine lines → length lines < 64 → length (out.new.items ++ tail) ≤ 1472 → GivesAt (read (out.new.items ++ tail)) (length lines) (line (length out.old.items) (said_by tag.now) sentence.now parts) }
+    ensures again { (lines : List (List ℕ)) (tail : List ℕ) (parts : Parts)
+        → IsTrue result → IsSentence parts sentence.now → IsBehind lines out.old.items → length (out.new.items ++ tail) ≤ longest_datagram
+        → GivesAt (read (out.new.items ++ tail)) (length lines) (line (length out.old.items) (said_by tag.now) sentence.now parts) }
     ensures unchanged { result ≡ false → out.new ≡ out.old }
 {
-    put_line(tag, sentence, out)
+    append_line(tag, sentence, out)
 }

@@ -12,7 +12,8 @@ use Rattle.hex.proofs.OnLiterals.{hex_on_literals}
 use Rattle.capture_text.specs.Reading.{seconds_at, micros_at, time_at, bytes_before_end, bytes_at, number_of, frame_at, seen_behind, read}
 use Rattle.unit_fraction.specs.Reading as decimals
 use Rattle.fast_packet.specs.Splitting.{frames_to}
-use Rattle.sentence_text.specs.Reading.{front_fault, sum_fault, end_fault}
+use Rattle.sentence_text.specs.Reading.{front_fault, end_fault}
+use Rattle.sentence_text.specs.Sum.{sum_fault}
 use Rattle.tag_block.specs.Reading.{parameter_at, parameters_at, block_end_at, block_at, blocks_at, group_in, settle}
 use Rattle.tag_block.specs.Reading as tags
 use Rattle.datagram450.specs.Datagram.{items_from}

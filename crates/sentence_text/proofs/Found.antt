@@ -12,9 +12,12 @@ use Rattle.std.proofs.lemmas.List.Elements.{All-nil}
 use Rattle.sentence_text.specs.declared.fault.SentenceFault.{SentenceFault}
 use Rattle.sentence_text.specs.declared.fault.SentenceRule.TheVariants as rules
 use Rattle.sentence_text.specs.Text.{is_address_byte, is_body_byte, is_field_byte}
-use Rattle.sentence_text.specs.Sentence.{Parts, xor_of, IsAddress, IsBody, IsSentence}
-use Rattle.sentence_text.specs.Reading.{is_start, ends_address, address_len, has_address, front_fault, content_at, behind_content, star_fault, sum_fault, end_fault, tail_fault, fault_of, parts_at, read_as, read, parts, seen}
+use Rattle.sentence_text.specs.Sentence.{Parts, xor_of, longest_line, IsAddress, IsBody, IsSentence}
+use Rattle.sentence_text.specs.Reading.{is_start, ends_address, address_len, has_address, front_fault, content_at, behind_content, star_fault, sum_fault_from, sum_fault_at, end_fault, tail_fault, fault_of, parts_at, read_as, read, parts, seen}
 use Rattle.sentence_text.proofs.Bytes.{front_passes, all_parts}
+use Rattle.sentence_text.specs.declared.sum.SumFault.{SumFault}
+use Rattle.sentence_text.specs.Sum.{sum_fault}
+use Rattle.sentence_text.proofs.Sums.{sum_found}
 use Rattle.sentence_text.proofs.Fields.{is_body}
 use Rattle.sentence_text.proofs.Run.{address_within}
 
@@ -33,39 +36,28 @@ some_fault true f g e = cc
 some_fault false f g e = cc
 
 record Front (line : List ℕ) : Type 0 where
-  short : length line ≤ 120
+  short : length line ≤ longest_line
   starts : is_start (slice_index line 0) ≡ true
   address : has_address line ≡ true
 
 front_none : (line : List ℕ) → front_fault line ≡ None → Front line
 unfolding front_fault
 front_none line e =
-    let a = guard (ltb 120 (length line)) _ _ e in
+    let a = guard (ltb longest_line (length line)) _ _ e in
     let b = guard (not (is_start (slice_index line 0))) _ _ a.1 in
     let c = guard (not (has_address line)) _ _ b.1 in
-    record { short = ltb-false 120 (length line) a.0; starts = not-false (is_start (slice_index line 0)) b.0; address = not-false (has_address line) c.0 }
+    record { short = ltb-false longest_line (length line) a.0; starts = not-false (is_start (slice_index line 0)) b.0; address = not-false (has_address line) c.0 }
 
-star_none : (tail : List ℕ) (place : ℕ) → star_fault tail place ≡ None → (rest : List ℕ) × (tail ≡ 42 ∷ rest)
+pub star_none : (tail : List ℕ) (place : ℕ) → star_fault tail place ≡ None → (rest : List ℕ) × (tail ≡ 42 ∷ rest)
 star_none [] place e = absurd cc
 star_none (c ∷ cs) place e = elim (cases_Bool (c == 42)) [
   | inl star ↦ (cs, ap (λ (x : ℕ). x ∷ cs) (eqb-true c 42 star))
   | inr other ↦ absurd (some_fault (c == 13 || c == 10) (record { rule = rules.NoSum; place = place }) (record { rule = rules.Byte; place = place }) (rw other at e))
 ]
 
-record Sum (sum : ℕ) (tail : List ℕ) : Type 0 where
-  high : digit_value (slice_index tail 1) < 16
-  low : digit_value (slice_index tail 2) < 16
-  is : digit_value (slice_index tail 1) * 16 + digit_value (slice_index tail 2) ≡ sum
-
-sum_none : (sum : ℕ) (tail : List ℕ) (place : ℕ) → sum_fault sum tail place ≡ None → Sum sum tail
-unfolding sum_fault
-sum_none sum tail place e =
-    let high = digit_value (slice_index tail 1) in
-    let low = digit_value (slice_index tail 2) in
-    let a = guard (leb 16 high) _ _ e in
-    let b = guard (leb 16 low) _ _ a.1 in
-    let c = guard (not (high * 16 + low == sum)) _ _ b.1 in
-    record { high = leb-false 16 high a.0; low = leb-false 16 low b.0; is = eqb-true (high * 16 + low) sum (not-false (high * 16 + low == sum) c.0) }
+pub sum_none : (place : ℕ) (f : Option SumFault) → sum_fault_from place f ≡ None → f ≡ None
+sum_none place None e = refl
+sum_none place (Some f) e = absurd cc
 
 record End (tail : List ℕ) : Type 0 where
   cr : slice_index tail 3 ≡ 13
@@ -153,11 +145,11 @@ found line e =
     let place = 1 + length (content_at line) in
     let sum = xor_of (content_at line) in
     let outer = both_none (front_fault line) (tail_fault sum tail place) e in
-    let inner = both_none (star_fault tail place) (option_or (sum_fault sum tail place) (end_fault tail place)) outer.1 in
-    let last = both_none (sum_fault sum tail place) (end_fault tail place) inner.1 in
+    let inner = both_none (star_fault tail place) (option_or (sum_fault_at sum tail place) (end_fault tail place)) outer.1 in
+    let last = both_none (sum_fault_at sum tail place) (end_fault tail place) inner.1 in
     let front = front_none line outer.0 in
     let star = star_none tail place inner.0 in
-    let sums = sum_none sum tail place last.0 in
+    let sums = sum_found sum (slice_index tail 1) (slice_index tail 2) (sum_none place (sum_fault sum (slice_index tail 1) (slice_index tail 2)) last.0) in
     let ends = end_none tail place last.1 in
     let p = pieces line in
     let a = address_len line in
@@ -184,8 +176,8 @@ found line e =
       body = subst (λ (x : List ℕ). IsBody x) (sym p.body_is) (body_from p.body star.0 p.body_bytes follows);
       high = slice_index tail 1;
       low = slice_index tail 2;
-      high_digit = sums.high;
-      low_digit = sums.low;
+      high_digit = sums.high_digit;
+      low_digit = sums.low_digit;
       sum = sums.is ∙ ap xor_of (sym same);
       spelled = line_front line front.starts ∙ ap (λ (x : List ℕ). slice_index line 0 ∷ x) behind;
       most = front.short;

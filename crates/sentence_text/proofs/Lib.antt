@@ -5,3 +5,4 @@ pub mod Bytes
 pub mod Found
 pub mod Only
 pub mod FieldLaws
+pub mod Sums

@@ -10,9 +10,11 @@ use Rattle.std.proofs.lemmas.List.Elements.{All-head, All-tail}
 use Rattle.std.proofs.lemmas.List.Concat.{flat_map-cons}
 use Rattle.sentence_text.specs.declared.fault.SentenceFault.{SentenceFault}
 use Rattle.sentence_text.specs.Text.{is_address_byte, is_body_byte, is_field_byte}
-use Rattle.sentence_text.specs.Sentence.{Parts, body_of, content, xor_of, IsAddress, IsBody, IsSentence, spelling}
-use Rattle.sentence_text.specs.Reading.{is_start, ends_address, address_len, has_address, front_fault, content_at, behind_content, sum_fault, end_fault, tail_fault, fault_of, parts_at, read_as, read}
+use Rattle.sentence_text.specs.Sentence.{Parts, longest_line, body_of, content, xor_of, IsAddress, IsBody, IsSentence, spelling}
+use Rattle.sentence_text.specs.Reading.{is_start, ends_address, address_len, has_address, front_fault, content_at, behind_content, end_fault, tail_fault, fault_of, parts_at, read_as, read}
 use Rattle.sentence_text.proofs.Bytes.{Splits, splits, all_append, all_weaker}
+use Rattle.sentence_text.specs.Sum.{sum_fault}
+use Rattle.sentence_text.proofs.Sums.{sum_again}
 use Rattle.sentence_text.proofs.Run.{is_body}
 
 abbrev ending : ℕ → ℕ → List ℕ
@@ -55,25 +57,17 @@ body_stops body tail h = subst (λ (x : List ℕ). Stops (x ++ 42 ∷ tail)) (sy
 
 -- ---- no rule is broken
 
-front_again : (line : List ℕ) → length line ≤ 120 → is_start (slice_index line 0) ≡ true → has_address line ≡ true → front_fault line ≡ None
+front_again : (line : List ℕ) → length line ≤ longest_line → is_start (slice_index line 0) ≡ true → has_address line ≡ true → front_fault line ≡ None
 unfolding front_fault
 front_again line short starts address =
-    let a : ltb 120 (length line) ≡ false = le-ltb 120 (length line) short in
+    let a : ltb longest_line (length line) ≡ false = le-ltb longest_line (length line) short in
     rw (a, starts, address) refl
-
-sum_again : (sum high low place : ℕ) → digit_value high < 16 → digit_value low < 16 → digit_value high * 16 + digit_value low ≡ sum → sum_fault sum (ending high low) place ≡ None
-unfolding sum_fault
-sum_again sum high low place h l e =
-    let a : leb 16 (digit_value high) ≡ false = lt-leb 16 (digit_value high) h in
-    let b : leb 16 (digit_value low) ≡ false = lt-leb 16 (digit_value low) l in
-    let c : (digit_value high * 16 + digit_value low == sum) ≡ true = eq-eqb (digit_value high * 16 + digit_value low) sum e in
-    rw (a, b, c) refl
 
 end_again : (high low place : ℕ) → end_fault (ending high low) place ≡ None
 unfolding end_fault
 end_again high low place = refl
 
-tail_again : (sum high low place : ℕ) → sum_fault sum (ending high low) place ≡ None → tail_fault sum (ending high low) place ≡ None
+tail_again : (sum high low place : ℕ) → sum_fault sum high low ≡ None → tail_fault sum (ending high low) place ≡ None
 tail_again sum high low place e = rw e (end_again high low place)
 
 starts_again : (c : ℕ) → (c ≡ 36) ⊎ (c ≡ 33) → is_start c ≡ true
@@ -109,8 +103,7 @@ again p high low h hd ld e =
     let ends : ends_address (drop n (drop 1 line)) ≡ true = subst (λ (x : List ℕ). ends_address x ≡ true) (sym a.tail_is) stops.ends in
     let has : has_address line ≡ true = and_from (leb 3 n && leb n 12) (ends_address (drop n (drop 1 line))) (and_from (leb 3 n) (leb n 12) least most) ends in
     let front = front_again line h.most (starts_again p.start h.starts) has in
-    let sum : sum_fault (xor_of (content_at line)) (ending high low) (1 + length (content_at line)) ≡ None =
-    sum_again (xor_of (content_at line)) high low (1 + length (content_at line)) hd ld (e ∙ ap xor_of (sym c.front_is)) in
+    let sum : sum_fault (xor_of (content_at line)) high low ≡ None = sum_again (xor_of (content_at line)) high low hd ld (e ∙ ap xor_of (sym c.front_is)) in
     let tail : tail_fault (xor_of (content_at line)) (behind_content line) (1 + length (content_at line)) ≡ None =
     subst (λ (t : List ℕ). tail_fault (xor_of (content_at line)) t (1 + length (content_at line)) ≡ None) (sym c.tail_is) (tail_again (xor_of (content_at line)) high low (1 + length (content_at line)) sum) in
     let taken : take n (content_at line) ≡ address =

@@ -6,7 +6,7 @@ use Rattle.std.specs.Char.{digit_value}
 use Rattle.std.proofs.lemmas.Bool.{and_from}
 use Rattle.std.proofs.lemmas.List.Folds.{list_all-append}
 use Rattle.sentence_text.specs.Text.{is_address_byte, is_body_byte}
-use Rattle.sentence_text.specs.Sentence.{content, xor_of, capital_digit, sentence, parts_of, IsAddress, IsSentence}
+use Rattle.sentence_text.specs.Sentence.{content, xor_of, capital_digit, longest_written, sentence, parts_of, IsAddress, IsSentence}
 use Rattle.sentence_text.proofs.Fields.{is_body}
 
 pub digit_value-capital_digit : (n : ℕ) → n < 16 → digit_value (capital_digit n) ≡ n
@@ -28,7 +28,7 @@ pub record IsWritten (talker formatter body : List ℕ) : Type 0 where
   pub body_bytes : IsTrue (list_all is_body_byte body)
 
 pub is_sentence : (talker formatter body text : List ℕ) → IsWritten talker formatter body → xor_of (content (parts_of talker formatter body)) < 256
-    → text ≡ sentence (parts_of talker formatter body) → length text ≤ 82 → IsSentence (parts_of talker formatter body) text
+    → text ≡ sentence (parts_of talker formatter body) → length text ≤ longest_written → IsSentence (parts_of talker formatter body) text
 is_sentence talker formatter body text w byte spelled short =
     let sum = xor_of (content (parts_of talker formatter body)) in
     let high : digit_value (capital_digit (sum / 16)) ≡ sum / 16 = digit_value-capital_digit (sum / 16) (omega arith) in

@@ -1,5 +1,6 @@
 pub mod Text
 pub mod Names
 pub mod Sentence
+pub mod Sum
 pub mod Fields
 pub mod Reading

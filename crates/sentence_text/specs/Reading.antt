@@ -1,6 +1,5 @@
 -- What a line reads as: the parts of its sentence, or the first rule that it breaks, with its place.
-use Rattle.std.specs.Prelude.{ℕ, ◌+◌, ◌*◌, min, Bool, true, ◌&&◌, ◌||◌, ◌==◌, not, nat_le, nat_lt, List, [], ◌∷◌, length, take, drop, slice_index, Option, Some, None, Result, Ok, Err, if◌then◌else◌}
-use Rattle.std.specs.Char.{digit_value}
+use Rattle.std.specs.Prelude.{ℕ, ◌+◌, min, Bool, true, ◌&&◌, ◌||◌, ◌==◌, not, nat_le, nat_lt, List, [], ◌∷◌, length, take, drop, slice_index, Option, Some, None, Result, Ok, Err, if◌then◌else◌}
 use Rattle.std.specs.List.{prefix_len, take_while}
 use Rattle.std.specs.Option.{option_or}
 use Rattle.sentence_text.specs.declared.fault.SentenceFault.{SentenceFault}
@@ -8,7 +7,9 @@ use Rattle.sentence_text.specs.declared.fault.SentenceRule.{SentenceRule}
 use Rattle.sentence_text.specs.declared.fault.SentenceRule.TheVariants as rules
 use Rattle.sentence_text.specs.declared.sentence.Sentence.{Sentence}
 use Rattle.sentence_text.specs.Text.{is_address_byte, is_body_byte}
-use Rattle.sentence_text.specs.Sentence.{Parts, xor_of}
+use Rattle.sentence_text.specs.Sentence.{Parts, longest_line, shortest_address, longest_address, xor_of}
+use Rattle.sentence_text.specs.declared.sum.SumFault.{SumFault}
+use Rattle.sentence_text.specs.Sum.{sum_fault, digit_place}
 
 abbrev pub fault : SentenceRule → ℕ → Option SentenceFault
 fault rule place = Some (record { rule = rule; place = place })
@@ -25,13 +26,13 @@ abbrev pub address_len : List ℕ → ℕ
 address_len line = prefix_len is_address_byte (drop 1 line)
 
 abbrev pub has_address : List ℕ → Bool
-has_address line = nat_le 3 (address_len line) && nat_le (address_len line) 12 && ends_address (drop (address_len line) (drop 1 line))
+has_address line = nat_le shortest_address (address_len line) && nat_le (address_len line) longest_address && ends_address (drop (address_len line) (drop 1 line))
 
 -- Long, Start and Address
 unfoldable pub front_fault : List ℕ → Option SentenceFault
-front_fault line = if nat_lt 120 (length line) then fault rules.Long 120
+front_fault line = if nat_lt longest_line (length line) then fault rules.Long longest_line
     else if not (is_start (slice_index line 0)) then fault rules.Start 0
-    else if not (has_address line) then fault rules.Address (1 + min (address_len line) 12)
+    else if not (has_address line) then fault rules.Address (1 + min (address_len line) longest_address)
     else None
 
 -- the bytes behind the start up to the first that no field may hold, and what follows them
@@ -49,11 +50,12 @@ star_fault (c ∷ cs) place = if c == 42 then None
     else fault rules.Byte place
 
 -- Sum: a byte that isn't there is 0, which is no digit
-unfoldable pub sum_fault : ℕ → List ℕ → ℕ → Option SentenceFault
-sum_fault sum tail place = if nat_le 16 (digit_value (slice_index tail 1)) then fault rules.Sum (place + 1)
-    else if nat_le 16 (digit_value (slice_index tail 2)) then fault rules.Sum (place + 2)
-    else if not (digit_value (slice_index tail 1) * 16 + digit_value (slice_index tail 2) == sum) then fault rules.Sum (place + 1)
-    else None
+abbrev pub sum_fault_from : ℕ → Option SumFault → Option SentenceFault
+sum_fault_from place None = None
+sum_fault_from place (Some f) = fault rules.Sum (place + digit_place f)
+
+abbrev pub sum_fault_at : ℕ → List ℕ → ℕ → Option SentenceFault
+sum_fault_at sum tail place = sum_fault_from place (sum_fault sum (slice_index tail 1) (slice_index tail 2))
 
 -- End: a byte that isn't there is neither CR nor LF
 unfoldable pub end_fault : List ℕ → ℕ → Option SentenceFault
@@ -63,7 +65,7 @@ end_fault tail place = if not (slice_index tail 3 == 13) then fault rules.End (p
     else None
 
 abbrev pub tail_fault : ℕ → List ℕ → ℕ → Option SentenceFault
-tail_fault sum tail place = option_or (star_fault tail place) (option_or (sum_fault sum tail place) (end_fault tail place))
+tail_fault sum tail place = option_or (star_fault tail place) (option_or (sum_fault_at sum tail place) (end_fault tail place))
 
 -- the first rule that the line breaks
 abbrev pub fault_of : List ℕ → Option SentenceFault

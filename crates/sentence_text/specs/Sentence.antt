@@ -15,9 +15,16 @@ pub record Parts : Type 0 where
   -- the fields, each behind its comma
   pub body : List ℕ
 
+-- the least and the most characters of an address
+abbrev pub shortest_address : ℕ
+shortest_address = 3
+
+abbrev pub longest_address : ℕ
+longest_address = 12
+
 pub record IsAddress (address : List ℕ) : Type 0 where
-  pub least : 3 ≤ length address
-  pub most : length address ≤ 12
+  pub least : shortest_address ≤ length address
+  pub most : length address ≤ longest_address
   pub bytes : IsTrue (list_all is_address_byte address)
 
 abbrev pub body_of : List (List ℕ) → List ℕ
@@ -41,6 +48,13 @@ xor_of bytes = fold bit_xor 0 bytes
 abbrev pub spelling : Parts → ℕ → ℕ → List ℕ
 spelling parts high low = parts.start ∷ (content parts ++ 42 ∷ high ∷ low ∷ 13 ∷ 10 ∷ [])
 
+-- the most bytes of a line that is read as a sentence, and of a sentence that is written (IEC 61162-1), CR and LF included
+abbrev pub longest_line : ℕ
+longest_line = 120
+
+abbrev pub longest_written : ℕ
+longest_written = 82
+
 -- bytes is a sentence of these parts; its sum is two hexadecimal digits of either case
 pub record IsSentence (parts : Parts) (bytes : List ℕ) : Type 0 where
   pub starts : (parts.start ≡ 36) ⊎ (parts.start ≡ 33)
@@ -53,7 +67,7 @@ pub record IsSentence (parts : Parts) (bytes : List ℕ) : Type 0 where
   pub low_digit : digit_value low < 16
   pub sum : digit_value high * 16 + digit_value low ≡ xor_of (content parts)
   pub spelled : bytes ≡ spelling parts high low
-  pub most : length bytes ≤ 120
+  pub most : length bytes ≤ longest_line
 
 -- a hexadecimal digit, with capital letters
 abbrev pub capital_digit : ℕ → ℕ

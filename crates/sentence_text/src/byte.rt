@@ -1,4 +1,4 @@
-ghost use Rattle.std.specs.Prelude.{◌≡◌};
+ghost use Rattle.std.specs.Prelude.{◌≡◌, slice_index};
 ghost use Rattle.std.specs.List.{list_all};
 ghost use Rattle.sentence_text.specs.Text as text;
 
@@ -32,7 +32,8 @@ pub(crate) fn all_capital(bytes: &[u8]) -> bool
     bytes.iter().all(|byte| is_capital(*byte))
 }
 
-pub(crate) fn all_digits(bytes: &[u8]) -> bool
+/// Whether all are decimal digits.
+pub fn all_digits(bytes: &[u8]) -> bool
     ensures { result ≡ list_all text.is_digit bytes.now }
 {
     bytes.iter().all(|byte| is_digit(*byte))
@@ -42,4 +43,11 @@ pub(crate) fn all_address(bytes: &[u8]) -> bool
     ensures { result ≡ list_all text.is_address_byte bytes.now }
 {
     bytes.iter().all(|byte| is_address_byte(*byte))
+}
+
+/// The byte at a place; 0, which stands nowhere in a sentence or a TAG block, past the end.
+pub fn byte_at(bytes: &[u8], place: usize) -> u8
+    ensures { result ≡ slice_index bytes.now place }
+{
+    if place < bytes.len() { bytes[place] } else { 0 }
 }

@@ -22,6 +22,10 @@ impl Model for Group {
 }
 
 impl Default for Group {
+    ghost use Rattle.std.specs.Prelude.{codes};
+
+    ghost is_default = { λ name. name ≡ codes "NAVD" };
+
     /// Navigational data, the group of all that has no other.
     fn default() -> Group {
         Group(*b"NAVD")

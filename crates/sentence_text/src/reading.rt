@@ -1,13 +1,13 @@
 ghost use Rattle.std.specs.Prelude.{◌≡◌, ◌+◌, ◌≤◌, ◌<◌, drop, take, length, IfOk, MatchResult, None, Ok, Some, slice_index, bit_xor};
-ghost use Rattle.std.specs.Char.{digit_value};
 ghost use Rattle.std.specs.List.{fold, prefix_len};
 ghost use Rattle.sentence_text.specs.Text as text;
 ghost use Rattle.sentence_text.specs.Sentence.{Parts, IsSentence, xor_of};
 ghost use Rattle.sentence_text.specs.Reading as spec;
 
-use crate::byte::{is_address_byte, is_body_byte};
+use crate::byte::{byte_at, is_address_byte, is_body_byte};
 use crate::fault::{SentenceFault, SentenceRule};
 use crate::sentence::Sentence;
+use crate::sum::sum_fault;
 
 /// The longest line that is read as a sentence.
 const LONGEST: usize = 120;
@@ -82,41 +82,15 @@ fn check_star(tail: &[u8], place: usize) -> Result<(), SentenceFault>
     }
 }
 
-/// The byte at a place; 0, which stands nowhere in a sentence, past the end.
-fn byte_at(bytes: &[u8], place: usize) -> u8
-    ensures { result ≡ slice_index bytes.now place }
-{
-    if place < bytes.len() { bytes[place] } else { 0 }
-}
-
-/// The value of a hexadecimal digit, or 16 and more.
-fn value_of(digit: u8) -> u8
-    ensures { result ≡ digit_value digit }
-{
-    match (digit as char).to_digit(36) {
-        Some(value) => value as u8,
-        None => 36,
-    }
-}
-
 /// Sum: two digits, which give the sum.
-#[tactic(auto, unfolding(crate::specs::Reading::sum_fault))]
 fn check_sum(sum: u8, tail: &[u8], place: usize) -> Result<(), SentenceFault>
     requires { place + 5 < usize.MAX }
-    ensures { spec.fault_in result ≡ spec.sum_fault sum tail.now place }
+    ensures { spec.fault_in result ≡ spec.sum_fault_at sum tail.now place }
 {
-    let high = value_of(byte_at(tail, 1));
-    if high >= 16 {
-        return Err(SentenceRule::Sum.at(place + 1));
+    match sum_fault(sum, byte_at(tail, 1), byte_at(tail, 2)) {
+        Some(fault) => Err(SentenceRule::Sum.at(place + fault.digit_place())),
+        None => Ok(()),
     }
-    let low = value_of(byte_at(tail, 2));
-    if low >= 16 {
-        return Err(SentenceRule::Sum.at(place + 2));
-    }
-    if high * 16 + low != sum {
-        return Err(SentenceRule::Sum.at(place + 1));
-    }
-    Ok(())
 }
 
 /// End: CR and LF, and nothing more.
@@ -151,18 +125,12 @@ fn check_tail(sum: u8, tail: &[u8], place: usize) -> Result<(), SentenceFault>
 fn parse<'a>(line: &'a [u8]) -> Result<Sentence<'a>, SentenceFault>
     ensures { spec.seen result ≡ spec.read line.now }
 {
-    let address = match check_front(line) {
-        Ok(address) => address,
-        Err(fault) => return Err(fault),
-    };
+    let address = check_front(line)?;
     let (_, rest) = line.split_at(1);
     let (length, sum) = body_run(rest);
     let (content, tail) = rest.split_at(length);
     let place = 1 + length;
-    match check_tail(sum, tail, place) {
-        Ok(()) => {}
-        Err(fault) => return Err(fault),
-    }
+    check_tail(sum, tail, place)?;
     let (address, body) = content.split_at(address);
     let (talker, formatter) = address.split_at(2);
     Ok(Sentence {

@@ -22,6 +22,10 @@ impl Model for Sfi {
 }
 
 impl Default for Sfi {
+    ghost use Rattle.std.specs.Prelude.{codes};
+
+    ghost is_default = { λ name. name ≡ codes "AA0000" };
+
     /// The first of all, which stands where no other was put.
     fn default() -> Sfi {
         Sfi(*b"AA0000")

@@ -9,6 +9,7 @@ use Rattle.std.proofs.lemmas.List.Elements.{All-head, All-tail}
 use Rattle.std.proofs.lemmas.List.Sums.{fold-append}
 use Rattle.std.proofs.lemmas.List.Concat.{flat_map-cons}
 use Rattle.sentence_text.proofs.Bytes.{Splits, splits}
+use Rattle.sentence_text.proofs.Sums.{sum_again}
 use Rattle.tag_block.specs.declared.fault.TagFault.{TagFault}
 use Rattle.tag_block.specs.Bytes.{is_code_byte, is_value_byte}
 use Rattle.tag_block.specs.Tag.{Parameter, IsParameter, parameter_text, content, Block, IsBlock, block_text, Standing, stands, parameters, xor_of}
@@ -118,11 +119,7 @@ ending high low tail = 42 ∷ high ∷ low ∷ 92 ∷ tail
 end_again : (total sum high low : ℕ) (values : Values) (tail : List ℕ) → digit_value high < 16 → digit_value low < 16 → digit_value high * 16 + digit_value low ≡ sum
     → block_end_at total sum (at_rest values (ending high low tail)) ≡ Ok (at_rest values tail)
 unfolding block_end_at
-end_again total sum high low values tail h l e =
-    let a : leb 16 (digit_value high) ≡ false = lt-leb 16 (digit_value high) h in
-    let b : leb 16 (digit_value low) ≡ false = lt-leb 16 (digit_value low) l in
-    let c : (digit_value high * 16 + digit_value low == sum) ≡ true = eq-eqb (digit_value high * 16 + digit_value low) sum e in
-    rw (a, b, c) refl
+end_again total sum high low values tail h l e = rw (sum_again sum high low h l e) refl
 
 block_by : (total : ℕ) (s t u : Scan) → parameters_at (length s.rest + 1) total s ≡ Ok t → block_end_at total (xor_of (take (length s.rest - length t.rest) s.rest)) t ≡ Ok u → block_at total s ≡ Ok u
 unfolding block_at

@@ -1,5 +1,5 @@
 -- What is read is TAG blocks.
-use Rattle.std.proofs.Common.{◌≡◌, ℕ, zero, suc, ◌+◌, ◌-◌, ◌*◌, ◌<◌, Bool, true, false, cond, leb, List, [], ◌∷◌, ◌++◌, length, take, drop, drop-cons, All, Some, Result, Ok, Err, refl, sym, ap, subst, ◌∙◌, append_assoc, length-append, add-one, arith, inl, inr}
+use Rattle.std.proofs.Common.{◌≡◌, ℕ, zero, suc, ◌+◌, ◌-◌, ◌*◌, ◌<◌, Bool, true, false, cond, leb, List, [], ◌∷◌, ◌++◌, length, take, drop, drop-cons, All, Some, Result, Ok, Err, refl, sym, ap, subst, ◌∙◌, append_assoc, length-append, add-one, arith, inl, inr, Option, None}
 use Rattle.std.specs.Prelude.{◌==◌, not, slice_index}
 use Rattle.std.specs.Char.{digit_value}
 use Rattle.std.specs.List.{prefix_len, fold, flat_map}
@@ -13,7 +13,10 @@ use Rattle.sentence_text.proofs.Bytes.{front_passes}
 use Rattle.tag_block.specs.declared.fault.TagFault.{TagFault}
 use Rattle.tag_block.specs.Bytes.{is_code_byte, is_value_byte}
 use Rattle.tag_block.specs.Tag.{Parameter, IsParameter, parameter_text, content, Block, IsBlock, block_text, Standing, stands, is_code, parameters, xor_of}
-use Rattle.tag_block.specs.Reading.{Placed, Values, keep, Scan, parameter_at, parameters_at, block_end_at, block_at, blocks_at, text_of, ◌>>=◌}
+use Rattle.sentence_text.specs.declared.sum.SumFault.{SumFault}
+use Rattle.sentence_text.specs.Sum.{sum_fault}
+use Rattle.sentence_text.proofs.Sums.{sum_found}
+use Rattle.tag_block.specs.Reading.{Placed, Values, keep, Scan, parameter_at, parameters_at, behind_sum, block_end_at, block_at, blocks_at, text_of, ◌>>=◌}
 
 abbrev pub standing_of : Values → Standing
 standing_of v = record { source = text_of v.source; destination = text_of v.destination; group = text_of v.group; count = text_of v.count }
@@ -161,23 +164,24 @@ four_bytes (a ∷ b ∷ []) star close = absurd (omega arith)
 four_bytes (a ∷ b ∷ c ∷ []) star close = absurd (omega arith)
 four_bytes (a ∷ b ∷ c ∷ d ∷ more) star close = rw (star, close) refl
 
+sum_right : (place : ℕ) (f : Option SumFault) (next : Result Scan TagFault) (t : Scan) → behind_sum place f next ≡ Ok t → (f ≡ None) × (next ≡ Ok t)
+sum_right place None next t e = (refl, e)
+sum_right place (Some f) next t e = absurd cc
+
 end_found : (total sum : ℕ) (s t : Scan) → block_end_at total sum s ≡ Ok t → EndRead sum s t
 unfolding block_end_at
 end_found total sum s t e =
-    let high = slice_index s.rest 1 in
-    let low = slice_index s.rest 2 in
     let made : Scan = record { values = s.values; rest = drop 4 s.rest } in
     let a = guard (not (slice_index s.rest 0 == 42)) _ _ t e in
-    let b = guard (leb 16 (digit_value high)) _ _ t a.1 in
-    let c = guard (leb 16 (digit_value low)) _ _ t b.1 in
-    let d = guard (not (digit_value high * 16 + digit_value low == sum)) _ _ t c.1 in
-    let f = guard (not (slice_index s.rest 3 == 92)) _ _ t d.1 in
+    let b = sum_right (total - length s.rest) (sum_fault sum (slice_index s.rest 1) (slice_index s.rest 2)) _ t a.1 in
+    let f = guard (not (slice_index s.rest 3 == 92)) _ _ t b.1 in
+    let digits = sum_found sum (slice_index s.rest 1) (slice_index s.rest 2) b.0 in
     let one : EndRead sum s made = record {
-      high = high;
-      low = low;
-      high_digit = leb-false 16 (digit_value high) b.0;
-      low_digit = leb-false 16 (digit_value low) c.0;
-      is = eqb-true (digit_value high * 16 + digit_value low) sum (not-false _ d.0);
+      high = slice_index s.rest 1;
+      low = slice_index s.rest 2;
+      high_digit = digits.high_digit;
+      low_digit = digits.low_digit;
+      is = digits.is;
       spelled = four_bytes s.rest (eqb-true (slice_index s.rest 0) 42 (not-false _ a.0)) (eqb-true (slice_index s.rest 3) 92 (not-false _ f.0));
       same = refl;
     } in

@@ -17,7 +17,7 @@ use Rattle.tag_block.specs.declared.group_verdict.GroupVerdict.TheVariants.{Open
 use Rattle.tag_block.specs.declared.group_answers.GroupFed.{GroupFed}
 use Rattle.tag_block.specs.declared.group_answers.GroupOutcome.{GroupOutcome}
 use Rattle.tag_block.specs.declared.group_answers.GroupOutcome.TheVariants.{Held, Complete, Order, Full}
-use Rattle.tag_block.specs.Groups.{IsGroupPart, VerdictFits, follows, verdict, opening, fed_by}
+use Rattle.tag_block.specs.Groups.{IsGroupPart, VerdictFits, follows, verdict, opening, fed_by, group_gap}
 use Rattle.tag_block.specs.GroupAnswers.{OpensGives, FollowsGives, FeedGivesBy}
 use Rattle.tag_block.specs.GroupRuns.{GroupLine, is_next, group_rules}
 use Rattle.tag_block.specs.GroupLaws.{group_at, grown_by, left_by, filling, extends, is_taken, OutcomeIs, AnswerIs, is_open_at, AreFed, fed_one, groups, FollowsRuns, AnswersRuns}
@@ -29,7 +29,7 @@ module _ {cmp : GroupKey → GroupKey → Ordering} (o : IsTotalOrder cmp) where
   module _ (s : SlotMap GroupKey) (k : GroupKey) (x : GroupLine) (sorted : IsOrdered cmp s.entries) where
     keeps_by : (v : GroupVerdict) → Keeps cmp s k (fed_by cmp s k x.part x.sentence x.moment v)
     keeps_by Opens = begun_keeps o s k sorted (opening x.part x.sentence x.moment)
-    keeps_by Follows = grown_keeps o s k sorted (x.part.number - 1) x.sentence x.moment 750000
+    keeps_by Follows = grown_keeps o s k sorted (x.part.number - 1) x.sentence x.moment group_gap
     keeps_by Breaks = released_keeps o s k sorted
 
     keeps : Keeps cmp s k (fed_one cmp 0 s k x)
@@ -40,9 +40,9 @@ module _ {cmp : GroupKey → GroupKey → Ordering} (o : IsTotalOrder cmp) where
       here_by Opens fits = begun_here o s k sorted (opening x.part x.sentence x.moment) ∙ ap (λ b. if b then if_incomplete (opening x.part x.sentence x.moment) else None) (sym admitted)
       here_by Follows fits =
           let same : fits.entry.next ≡ x.part.number - 1 = omega (arith, fits.number) in
-          let grows : grown_entry (x.part.number - 1) x.sentence x.moment 750000 (Some fits.entry) ≡ grown_by x (Some fits.entry) = rw (eq-eqb fits.entry.next (x.part.number - 1) same) refl in
-          grown_here o s k sorted (x.part.number - 1) x.sentence x.moment 750000
-          ∙ (ap (grown_entry (x.part.number - 1) x.sentence x.moment 750000) fits.held ∙ (grows ∙ ap (grown_by x) (sym fits.held)))
+          let grows : grown_entry (x.part.number - 1) x.sentence x.moment group_gap (Some fits.entry) ≡ grown_by x (Some fits.entry) = rw (eq-eqb fits.entry.next (x.part.number - 1) same) refl in
+          grown_here o s k sorted (x.part.number - 1) x.sentence x.moment group_gap
+          ∙ (ap (grown_entry (x.part.number - 1) x.sentence x.moment group_gap) fits.held ∙ (grows ∙ ap (grown_by x) (sym fits.held)))
       here_by Breaks fits = released_here o s k sorted
 
       here : entry_at cmp (fed_one cmp 0 s k x) k ≡ left_by (verdict (entry_at cmp s k) x.part) x (entry_at cmp s k)
@@ -107,7 +107,7 @@ module _ (cmp : GroupKey → GroupKey → Ordering) (s : SlotMap GroupKey) (k : 
   -- a later line where one is open
   module _ (y : GroupLine) (ys : List GroupLine) (is : q ≡ Some (y ∷ ys)) (other : (x.part.number == 1) ≡ false) (more : length (y ∷ ys) < (opener_of y ys).part.total) (room : is_admitted group_rules (y ∷ ys) ≡ true) where
     abbrev grows : Entry → Entry
-    grows e = grown e x.sentence x.moment 750000
+    grows e = grown e x.sentence x.moment group_gap
 
     done_is : is_next (y ∷ ys) x ≡ true → d ≡ if_whole group_rules (Some (x ∷ y ∷ ys))
     done_is next = done ∙ rw (is, other, next) refl

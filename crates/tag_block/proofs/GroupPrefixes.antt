@@ -8,7 +8,7 @@ use Rattle.runs.proofs.Suffixes.{one_suffix_of}
 use Rattle.slot_views.specs.Slots.{Entry, grown}
 use Rattle.slot_views.specs.Traces.{left_at, entry_after}
 use Rattle.tag_block.specs.declared.group_verdict.GroupVerdict.TheVariants.{Follows, Breaks}
-use Rattle.tag_block.specs.Groups.{IsGroupPart, follows, verdict}
+use Rattle.tag_block.specs.Groups.{IsGroupPart, follows, verdict, group_gap}
 use Rattle.tag_block.specs.GroupRuns.{GroupLine, is_next, group_rules, sentences_of}
 use Rattle.tag_block.specs.GroupLaws.{group_of, group_at, left_by, group_after}
 
@@ -39,14 +39,14 @@ lawful = record { opener_is_new = λ acc x opens. (first_is_new acc x opens, ref
         (simp (past, and_false), refl)
 
 -- a later moment
-kept_by : (y : GroupLine) (ys : List GroupLine) (m : ℕ) (b : Bool) → nat_le m (y.moment + 750000) ≡ b → left_at (group_of (y ∷ ys)) m ≡ group_at (kept_at group_rules (Some (y ∷ ys)) m)
+kept_by : (y : GroupLine) (ys : List GroupLine) (m : ℕ) (b : Bool) → nat_le m (y.moment + group_gap) ≡ b → left_at (group_of (y ∷ ys)) m ≡ group_at (kept_at group_rules (Some (y ∷ ys)) m)
 kept_by y ys m true timely =
-    let reach = leb-true m (y.moment + 750000) timely in
-    let fresh : nat_lt 750000 (m - y.moment) ≡ false = le-ltb 750000 (m - y.moment) (omega (arith, reach)) in
+    let reach = leb-true m (y.moment + group_gap) timely in
+    let fresh : nat_lt group_gap (m - y.moment) ≡ false = le-ltb group_gap (m - y.moment) (omega (arith, reach)) in
     simp (timely, fresh)
 kept_by y ys m false late =
-    let past = leb-false m (y.moment + 750000) late in
-    let gone : nat_lt 750000 (m - y.moment) ≡ true = lt-ltb 750000 (m - y.moment) (omega (arith, past)) in
+    let past = leb-false m (y.moment + group_gap) late in
+    let gone : nat_lt group_gap (m - y.moment) ≡ true = lt-ltb group_gap (m - y.moment) (omega (arith, past)) in
     simp (late, gone)
 
 pub kept_is : (o : Option (List GroupLine)) (m : ℕ) → left_at (group_at o) m ≡ group_at (kept_at group_rules o m)
@@ -98,7 +98,7 @@ within y (z ∷ zs) far =
     omega (arith, fewer)
 
 abbrev pub entry : GroupLine → List GroupLine → Entry
-entry y ys = record { bytes = sentences_of (y ∷ ys); next = length (y ∷ ys); need = (opener_of y ys).part.total; last = y.moment; gap = 750000; mark = 0 }
+entry y ys = record { bytes = sentences_of (y ∷ ys); next = length (y ∷ ys); need = (opener_of y ys).part.total; last = y.moment; gap = group_gap; mark = 0 }
 
 eq_turned : (a b : ℕ) (r : Bool) → (a == b) ≡ r → (b == a) ≡ r
 eq_turned a b true e = eq-eqb b a (sym (eqb-true a b e))
@@ -118,7 +118,7 @@ tests_next y ys x more =
     let total = eq_turned x.part.total (opener_of y ys).part.total _ refl in
     rw (fewer, number, total) (sym (and_turned (x.part.number == length (y ∷ ys) + 1) (x.part.total == (opener_of y ys).part.total)))
 
-pub grown_is : (y : GroupLine) (ys : List GroupLine) (x : GroupLine) → Some (grown (entry y ys) x.sentence x.moment 750000) ≡ group_of (x ∷ y ∷ ys)
+pub grown_is : (y : GroupLine) (ys : List GroupLine) (x : GroupLine) → Some (grown (entry y ys) x.sentence x.moment group_gap) ≡ group_of (x ∷ y ∷ ys)
 grown_is y ys x = rw (add-one (length (y ∷ ys))) refl
 
 opens_by : (o : Option Entry) (x : GroupLine) (a w : Bool) → (x.part.number == 1) ≡ true → x.admitted ≡ a → (1 == x.part.total) ≡ w → left_by (verdict o x.part) x o ≡ group_at (if_open group_rules (Some (x ∷ [])))
@@ -133,7 +133,7 @@ add_by y ys x admitted true ew =
     simp (complete, admitted, ew)
 add_by y ys x admitted false ew =
     let complete : ((length (y ∷ ys) + 1) == (opener_of y ys).part.total) ≡ false = rw (add-one (length (y ∷ ys))) ew in
-    let left : left_by Follows x (Some (entry y ys)) ≡ Some (grown (entry y ys) x.sentence x.moment 750000) = rw complete refl in
+    let left : left_by Follows x (Some (entry y ys)) ≡ Some (grown (entry y ys) x.sentence x.moment group_gap) = rw complete refl in
     let right : group_at (if_open group_rules (Some (x ∷ y ∷ ys))) ≡ group_of (x ∷ y ∷ ys) = simp (admitted, ew) in
     left ∙ (grown_is y ys x ∙ sym right)
 

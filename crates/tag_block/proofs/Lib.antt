@@ -10,3 +10,4 @@ pub mod Written
 pub mod GroupVerdicts
 pub mod GroupPrefixes
 pub mod GroupKeys
+pub mod Ranges

@@ -23,14 +23,14 @@ ok x = Ok x
 ok_is : {A : Type 0} (x y : A) → ok x ≡ ok y → x ≡ y
 ok_is x y e = cc
 
--- a test that passed
-passed : {A : Type 0} (b : Bool) (x : Option A) (y : A) → cond b x None ≡ Some y → (b ≡ true) × (x ≡ Some y)
-passed true x y e = (refl, e)
-passed false x y e = absurd cc
+-- a test that gave something
+holds_where : {A : Type 0} (b : Bool) (x : Option A) (y : A) → cond b x None ≡ Some y → (b ≡ true) × (x ≡ Some y)
+holds_where true x y e = (refl, e)
+holds_where false x y e = absurd cc
 
 pub number_found : (most n : ℕ) (text : List ℕ) → number_in most text ≡ Some n → IsNumber most n text
 number_found most n text e =
-    let p = passed (leb 1 (length text) && leb (length text) most && list_all is_digit text) (Some (number text)) n e in
+    let p = holds_where (leb 1 (length text) && leb (length text) most && list_all is_digit text) (Some (number text)) n e in
     let q = and_parts (leb 1 (length text) && leb (length text) most) (list_all is_digit text) p.0 in
     let r = and_parts (leb 1 (length text)) (leb (length text) most) q.0 in
     record { some = leb-true 1 (length text) r.0; few = leb-true (length text) most r.1; digits = q.1; value = sym (some_is (number text) n p.1) }
@@ -85,7 +85,7 @@ from_1 c e =
 pub group_found : (text : List ℕ) (part : GroupPart) → group_in text ≡ Some part → IsGroupText part text
 unfolding group_in
 group_found text part e =
-    let p = passed (has_group_form text) (group_with (slice_index text 0 - 48) (slice_index text 2 - 48) (number_in 4 (drop 4 text))) part e in
+    let p = holds_where (has_group_form text) (group_with (slice_index text 0 - 48) (slice_index text 2 - 48) (number_in 4 (drop 4 text))) part e in
     let f = group_form text p.0 in
     let w = group_with_found (slice_index text 0 - 48) (slice_index text 2 - 48) (number_in 4 (drop 4 text)) part p.1 in
     let a = from_1 (slice_index text 0) f.first in

@@ -5,7 +5,7 @@ use Rattle.std.specs.List.{fold}
 use Rattle.std.proofs.lemmas.List.{take-append-drop}
 use Rattle.std.proofs.lemmas.List.Sums.{fold-append}
 use Rattle.tag_block.specs.Reading.{Scan, parameter_at}
-use Rattle.tag_block.specs.Sums.{passed}
+use Rattle.tag_block.specs.Content.{bytes_between}
 use Rattle.tag_block.specs.Tag.{parameter_text, xor_of}
 use Rattle.tag_block.proofs.Found.{split_at_byte, content_taken, parameter_found}
 
@@ -15,8 +15,8 @@ pub record Summed (start here : List ℕ) (sum : ℕ) : Type 0 where
   pub whole : start ≡ front ++ here
   pub sum_is : sum ≡ xor_of front
 
-pub summed_passed : (start here : List ℕ) (sum : ℕ) → Summed start here sum → sum ≡ xor_of (passed start here)
-summed_passed start here sum s = s.sum_is ∙ ap xor_of (sym (content_taken s.front here start s.whole))
+pub summed_between : (start here : List ℕ) (sum : ℕ) → Summed start here sum → sum ≡ xor_of (bytes_between start here)
+summed_between start here sum s = s.sum_is ∙ ap xor_of (sym (content_taken s.front here start s.whole))
 
 summed_more : (start here bytes next : List ℕ) (sum after : ℕ) → here ≡ bytes ++ next → after ≡ fold bit_xor sum bytes → Summed start here sum → Summed start next after
 summed_more start here bytes next sum after whole e s = record {
@@ -28,7 +28,7 @@ summed_more start here bytes next sum after whole e s = record {
 pub summed_byte : (start here : List ℕ) (c sum : ℕ) → slice_index here 0 ≡ suc c → Summed start here sum → Summed start (drop 1 here) (bit_xor sum (suc c))
 summed_byte start here c sum e s = summed_more start here (suc c ∷ []) (drop 1 here) sum (bit_xor sum (suc c)) (split_at_byte here 0 c e) refl s
 
-pub summed_parameter : (total : ℕ) (start : List ℕ) (here t : Scan) (sum after : ℕ) → Ok t ≡ parameter_at total here → after ≡ fold bit_xor sum (passed here.rest t.rest)
+pub summed_parameter : (total : ℕ) (start : List ℕ) (here t : Scan) (sum after : ℕ) → Ok t ≡ parameter_at total here → after ≡ fold bit_xor sum (bytes_between here.rest t.rest)
     → Summed start here.rest sum → Summed start t.rest after
 summed_parameter total start here t sum after e f s =
     let one = parameter_found total here t (sym e) in
@@ -37,7 +37,7 @@ summed_parameter total start here t sum after e f s =
 
 -- a code of n bytes, `:`, and a value of v bytes
 pub parameter_sum : (rest : List ℕ) (sum n v : ℕ) → slice_index rest n ≡ 58
-    → fold bit_xor (bit_xor (fold bit_xor sum (take n rest)) 58) (take v (drop (n + 1) rest)) ≡ fold bit_xor sum (passed rest (drop v (drop (n + 1) rest)))
+    → fold bit_xor (bit_xor (fold bit_xor sum (take n rest)) 58) (take v (drop (n + 1) rest)) ≡ fold bit_xor sum (bytes_between rest (drop v (drop (n + 1) rest)))
 parameter_sum rest sum n v colon =
     let text = drop (n + 1) rest in
     let bytes = take n rest ++ 58 ∷ take v text in

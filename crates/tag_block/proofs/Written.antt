@@ -20,7 +20,7 @@ use Rattle.sentence_text.proofs.Spelling.{digit_value-capital_digit}
 use Rattle.tag_block.specs.Tag.{Parameter, IsParameter, content, xor_of, IsBlock, block_text, parameters, Standing, stands, nothing, standing, IsTag, IsGroupOf, IsCountOf}
 use Rattle.tag_block.specs.Writing.{IsWritable, IsWritableGroup, group_parameter, source_parameter, count_parameter, summed, block_with, block_of, said_by}
 
-own : IsNumeralModel (λ ds. list_all is_digit ds ≡ true) number
+pub own : IsNumeralModel (λ ds. list_all is_digit ds ≡ true) number
 own = numerals_by_fold (λ ds. list_all is_digit ds ≡ true) (search rules) (λ n ds. fold (λ m c. m * 10 + (c - 48)) n ds) (search rules)
 
 number_is : (n most : ℕ) → n ≤ 999 → 3 ≤ most → IsNumber most n (decimal n)

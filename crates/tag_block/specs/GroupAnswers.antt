@@ -1,5 +1,5 @@
 -- What the answers say of the groups before the line.
-use Rattle.std.specs.Prelude.{◌≡◌, ℕ, true, false, List, IsSomeAnd}
+use Rattle.std.specs.Prelude.{◌≡◌, ℕ, Bool, true, false, List, IsSomeAnd}
 use Rattle.std.specs.declared.cmp.Ordering.{Ordering}
 use Rattle.slot_views.specs.Slots.{Entry, SlotMap, grown, entry_at, is_held, is_full, is_complete}
 use Rattle.slot_views.specs.Answers.{Shows}
@@ -10,7 +10,7 @@ use Rattle.tag_block.specs.declared.group_verdict.GroupVerdict.TheVariants.{Open
 use Rattle.tag_block.specs.declared.group_answers.GroupFed.{GroupFed}
 use Rattle.tag_block.specs.declared.group_answers.GroupOutcome.{GroupOutcome}
 use Rattle.tag_block.specs.declared.group_answers.GroupOutcome.TheVariants.{Held, Complete, Order, Full}
-use Rattle.tag_block.specs.Groups.{verdict, opening}
+use Rattle.tag_block.specs.Groups.{verdict, opening, group_gap}
 
 module _ (cmp : GroupKey → GroupKey → Ordering) (s : SlotMap GroupKey) (k : GroupKey) where
   -- the answer to a first line, with the group that it opens
@@ -27,12 +27,21 @@ module _ (cmp : GroupKey → GroupKey → Ordering) (s : SlotMap GroupKey) (k : 
   FollowsGives more Order = ⊥
   FollowsGives more Full = ⊥
 
+  -- a first line gives up the group that is open
+  abbrev pub restarted_by : GroupVerdict → Bool
+  restarted_by Opens = is_held cmp s k
+  restarted_by Follows = false
+  restarted_by Breaks = false
+
   module _ (part : GroupPart) (sentence : List ℕ) (moment : ℕ) where
     -- the answer to a line, by what it is
+    abbrev pub OutcomeBy : GroupVerdict → GroupOutcome → Type 0
+    OutcomeBy Opens outcome = OpensGives (opening part sentence moment) outcome
+    OutcomeBy Follows outcome = FollowsGives (λ e. grown e sentence moment group_gap) outcome
+    OutcomeBy Breaks outcome = outcome ≡ Order
+
     abbrev pub FeedGivesBy : GroupVerdict → GroupFed → Type 0
-    FeedGivesBy Opens fed = (fed.restarted ≡ is_held cmp s k) × OpensGives (opening part sentence moment) fed.outcome
-    FeedGivesBy Follows fed = (fed.restarted ≡ false) × FollowsGives (λ e. grown e sentence moment 750000) fed.outcome
-    FeedGivesBy Breaks fed = (fed.restarted ≡ false) × (fed.outcome ≡ Order)
+    FeedGivesBy v fed = (fed.restarted ≡ restarted_by v) × OutcomeBy v fed.outcome
 
     abbrev pub FeedGives : GroupFed → Type 0
     FeedGives fed = FeedGivesBy (verdict (entry_at cmp s k) part) fed

@@ -11,14 +11,14 @@ use Rattle.tag_block.specs.declared.group_verdict.GroupVerdict.TheVariants.{Open
 use Rattle.tag_block.specs.declared.group_answers.GroupFed.{GroupFed}
 use Rattle.tag_block.specs.declared.group_answers.GroupOutcome.{GroupOutcome}
 use Rattle.tag_block.specs.declared.group_answers.GroupOutcome.TheVariants.{Held, Complete, Order, Full}
-use Rattle.tag_block.specs.Groups.{IsGroupPart, verdict, opening, fed_after}
+use Rattle.tag_block.specs.Groups.{IsGroupPart, verdict, opening, fed_after, group_gap}
 use Rattle.tag_block.specs.GroupAnswers.{FeedGives}
 use Rattle.tag_block.specs.GroupRuns.{GroupLine, is_next, group_rules, sentences_of}
 
 -- the group that the lines accepted so far make
 abbrev pub group_of : List GroupLine → Option Entry
 group_of [] = None
-group_of (x ∷ xs) = Some (record { bytes = sentences_of (x ∷ xs); next = length (x ∷ xs); need = (opener_of x xs).part.total; last = x.moment; gap = 750000; mark = 0 })
+group_of (x ∷ xs) = Some (record { bytes = sentences_of (x ∷ xs); next = length (x ∷ xs); need = (opener_of x xs).part.total; last = x.moment; gap = group_gap; mark = 0 })
 
 abbrev pub group_at : Option (List GroupLine) → Option Entry
 group_at None = None
@@ -27,7 +27,7 @@ group_at (Some acc) = group_of acc
 -- what a line leaves of the group of its key
 abbrev pub grown_by : GroupLine → Option Entry → Option Entry
 grown_by x None = None
-grown_by x (Some e) = if_incomplete (grown e x.sentence x.moment 750000)
+grown_by x (Some e) = if_incomplete (grown e x.sentence x.moment group_gap)
 
 abbrev pub left_by : GroupVerdict → GroupLine → Option Entry → Option Entry
 left_by Opens x o = if x.admitted then if_incomplete (opening x.part x.sentence x.moment) else None

@@ -2,6 +2,7 @@
 use Rattle.std.specs.Prelude.{ℕ, ◌+◌, Bool, false, ◌&&◌, ◌==◌, nat_lt, List, [], ◌∷◌, ◌++◌, length}
 use Rattle.runs.specs.Runs.{Rules, opener_of}
 use Rattle.tag_block.specs.declared.group_part.GroupPart.{GroupPart}
+use Rattle.tag_block.specs.Groups.{group_gap}
 
 -- a line, as it is to its group
 pub record GroupLine : Type 0 where
@@ -27,7 +28,7 @@ group_rules = record {
   need = λ x. x.part.total;
   is_next = is_next;
   is_repeat = λ acc x. false;
-  gap = λ acc. 750000;
+  gap = λ acc. group_gap;
 }
 
 -- the sentences of some lines, one after the other

@@ -5,15 +5,24 @@ use Rattle.std.specs.declared.cmp.Ordering.{Ordering}
 use Rattle.slot_views.specs.Slots.{Entry, SlotMap, opened, entry_at, released, begun_after, grown_after}
 use Rattle.tag_block.specs.declared.group_key.GroupKey.{GroupKey}
 use Rattle.tag_block.specs.declared.group_part.GroupPart.{GroupPart}
+use Rattle.tag_block.specs.Numbers.{most_lines}
 use Rattle.tag_block.specs.declared.group_verdict.GroupVerdict.{GroupVerdict}
 use Rattle.tag_block.specs.declared.group_verdict.GroupVerdict.TheVariants.{Opens, Follows, Breaks}
 
 -- a place in a group of 2 to 9 lines
 pub record IsGroupPart (part : GroupPart) : Type 0 where
   pub several : 2 ≤ part.total
-  pub most : part.total ≤ 9
+  pub most : part.total ≤ most_lines
   pub first : 1 ≤ part.number
   pub last : part.number ≤ part.total
+
+-- which group a line belongs to
+abbrev pub key_of : List ℕ → GroupPart → GroupKey
+key_of sfi part = record { sfi = sfi; code = part.code }
+
+-- how long the next line of a group may take, in microseconds
+abbrev pub group_gap : ℕ
+group_gap = 750000
 
 -- the line has the group's total, and the number after those of its lines so far
 abbrev pub follows : Entry → GroupPart → Bool
@@ -40,13 +49,13 @@ VerdictFits o part Breaks = Unit {0}
 
 -- the group that a first line opens
 abbrev pub opening : GroupPart → List ℕ → ℕ → Entry
-opening part sentence moment = opened sentence part.total moment 750000 0
+opening part sentence moment = opened sentence part.total moment group_gap 0
 
 module _ (cmp : GroupKey → GroupKey → Ordering) (s : SlotMap GroupKey) (k : GroupKey) (part : GroupPart) (sentence : List ℕ) (moment : ℕ) where
   -- the groups after a line, by what it is
   abbrev pub fed_by : GroupVerdict → SlotMap GroupKey
   fed_by Opens = begun_after cmp s k (opening part sentence moment)
-  fed_by Follows = grown_after cmp s k (part.number - 1) sentence moment 750000
+  fed_by Follows = grown_after cmp s k (part.number - 1) sentence moment group_gap
   fed_by Breaks = released cmp s k
 
   abbrev pub fed_after : SlotMap GroupKey

@@ -2,7 +2,7 @@ pub mod Bytes
 pub mod Numbers
 pub mod Tag
 pub mod Reading
-pub mod Sums
+pub mod Content
 pub mod Writing
 pub mod Groups
 pub mod GroupAnswers

@@ -1,8 +1,10 @@
 -- What the front of a line reads as: what its TAG blocks say and where they end, or the first rule that it breaks.
-use Rattle.std.specs.Prelude.{ℕ, zero, suc, ◌+◌, ◌-◌, ◌*◌, Bool, ◌&&◌, ◌==◌, not, nat_le, List, length, take, drop, slice_index, Option, Some, None, option_map, Result, Ok, Err, if◌then◌else◌}
-use Rattle.std.specs.Char.{digit_value}
+use Rattle.std.specs.Prelude.{ℕ, zero, suc, ◌+◌, ◌-◌, Bool, ◌&&◌, ◌==◌, not, nat_le, List, length, take, drop, slice_index, Option, Some, None, option_map, Result, Ok, Err, if◌then◌else◌}
 use Rattle.std.specs.List.{prefix_len, list_all}
 use Rattle.sentence_text.specs.Text.{is_capital, is_digit}
+use Rattle.sentence_text.specs.declared.sum.SumFault.{SumFault}
+use Rattle.sentence_text.specs.declared.sum.SumFault.TheVariants.{First, Second, Differs}
+use Rattle.sentence_text.specs.Sum.{sum_fault, digit_place}
 use Rattle.tag_block.specs.declared.fault.TagFault.{TagFault}
 use Rattle.tag_block.specs.declared.fault.TagRule.{TagRule}
 use Rattle.tag_block.specs.declared.fault.TagRule.TheVariants as rules
@@ -63,15 +65,23 @@ parameters_at zero total s = fault rules.Form (total - length s.rest)
 parameters_at (suc n) total s = parameter_at total s >>= λ t.
     if slice_index t.rest 0 == 44 then parameters_at n total (record { values = t.values; rest = drop 1 t.rest }) else Ok t
 
+-- the rule that the digits of a sum break
+abbrev pub sum_rule : SumFault → TagRule
+sum_rule First = rules.Form
+sum_rule Second = rules.Form
+sum_rule Differs = rules.Sum
+
+-- what follows the digits, which stand behind the `*` at this place, unless they are at fault
+abbrev pub behind_sum : ℕ → Option SumFault → Result Scan TagFault → Result Scan TagFault
+behind_sum place None next = next
+behind_sum place (Some f) next = fault (sum_rule f) (place + digit_place f)
+
 -- `*`, the two digits of this sum, and `\`
 unfoldable pub block_end_at : ℕ → ℕ → Scan → Result Scan TagFault
 block_end_at total sum s = let place = total - length s.rest in
     if not (slice_index s.rest 0 == 42) then fault rules.Form place
-    else if nat_le 16 (digit_value (slice_index s.rest 1)) then fault rules.Form (place + 1)
-    else if nat_le 16 (digit_value (slice_index s.rest 2)) then fault rules.Form (place + 2)
-    else if not (digit_value (slice_index s.rest 1) * 16 + digit_value (slice_index s.rest 2) == sum) then fault rules.Sum (place + 1)
-    else if not (slice_index s.rest 3 == 92) then fault rules.Form (place + 3)
-    else Ok (record { values = s.values; rest = drop 4 s.rest })
+    else behind_sum place (sum_fault sum (slice_index s.rest 1) (slice_index s.rest 2))
+    (if not (slice_index s.rest 3 == 92) then fault rules.Form (place + 3) else Ok (record { values = s.values; rest = drop 4 s.rest }))
 
 -- one block, behind its first `\`
 unfoldable pub block_at : ℕ → Scan → Result Scan TagFault

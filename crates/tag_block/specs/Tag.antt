@@ -1,12 +1,12 @@
 -- What TAG blocks of IEC 61162-450 are, as a relation between what they say and all of their bytes.
-use Rattle.std.specs.Prelude.{◌≡◌, ℕ, ◌+◌, ◌*◌, ◌<◌, ◌≤◌, ◌≢◌, Bool, ◌&&◌, ◌==◌, List, [], ◌∷◌, ◌++◌, length, take, drop, slice_index, All, Option, Some, None, IsTrue, if◌then◌else◌}
+use Rattle.std.specs.Prelude.{◌≡◌, ℕ, ◌+◌, ◌*◌, ◌<◌, ◌≤◌, ◌≢◌, Bool, ◌&&◌, ◌==◌, List, [], ◌∷◌, ◌++◌, length, take, drop, slice_index, All, Option, Some, None, IsTrue, IfSome, if◌then◌else◌}
 use Rattle.std.specs.List.{fold, flat_map, list_all}
 use Rattle.std.specs.Char.{digit_value}
 use Rattle.sentence_text.specs.Names.{IsSfi}
 pub use Rattle.sentence_text.specs.Sentence.{xor_of}
 use Rattle.tag_block.specs.declared.group_part.GroupPart.{GroupPart}
 use Rattle.tag_block.specs.Bytes.{is_code_byte, is_value_byte}
-use Rattle.tag_block.specs.Numbers.{IsNumber, IsGroupText}
+use Rattle.tag_block.specs.Numbers.{IsNumber, IsGroupText, IsGroupRead, most_count}
 
 -- a code, `:` and a value
 pub record Parameter : Type 0 where
@@ -106,3 +106,9 @@ pub record Fronts (line : List ℕ) (said : Said) (n : ℕ) : Type 0 where
   pub within : n ≤ length line
   pub is : IsTag said (take n line)
   pub stops : BeginsNoBlock (drop n line)
+
+-- what holds of all that blocks can say
+pub record IsSaid (said : Said) : Type 0 where
+  pub source : IsSfi said.source
+  pub group : IfSome said.group IsGroupRead
+  pub count : IfSome said.count (λ n. n ≤ most_count)

@@ -4,22 +4,34 @@ use Rattle.std.specs.Fmt.{decimal}
 pub use Rattle.sentence_text.specs.Sentence.{capital_digit}
 use Rattle.tag_block.specs.declared.group_part.GroupPart.{GroupPart}
 use Rattle.tag_block.specs.declared.writing.TagParts.{TagParts}
+use Rattle.tag_block.specs.Numbers.{most_lines, most_count}
 use Rattle.tag_block.specs.Tag.{Parameter, Block, content, xor_of, Said}
+
+-- the most bytes of a block that is written, and of a datagram that is sent
+abbrev pub longest_block : ℕ
+longest_block = 32
+
+abbrev pub longest_packet : ℕ
+longest_packet = 512
+
+-- the greatest code of a group that is written
+abbrev pub most_written_code : ℕ
+most_written_code = 99
 
 -- a line of a group is written with a total of 2 to 9 and a code of 1 to 99
 pub record IsWritableGroup (part : GroupPart) : Type 0 where
   pub first : 1 ≤ part.number
   pub within : part.number ≤ part.total
   pub several : 2 ≤ part.total
-  pub most : part.total ≤ 9
+  pub most : part.total ≤ most_lines
   pub code : 1 ≤ part.code
-  pub small : part.code ≤ 99
+  pub small : part.code ≤ most_written_code
 
 -- and a line with a count of 1 to 999
 pub record IsWritable (parts : TagParts) : Type 0 where
   pub group : IfSome parts.group IsWritableGroup
   pub count : 1 ≤ parts.count
-  pub small : parts.count ≤ 999
+  pub small : parts.count ≤ most_count
 
 abbrev pub group_parameter : GroupPart → Parameter
 group_parameter part = record { code = 103 ∷ []; value = (48 + part.number) ∷ 45 ∷ (48 + part.total) ∷ 45 ∷ decimal part.code }

@@ -1,9 +1,10 @@
 //! The assembler of groups of lines.
-ghost use Rattle.std.specs.Prelude.{◌≡◌, ◌≤◌, [], IfOk, length, option_map};
+ghost use Rattle.std.specs.Prelude.{◌≡◌, ◌≤◌, ◌-◌, [], IfOk, length, option_map};
 ghost use Rattle.std.specs.List.{find};
 ghost use Rattle.std.specs.Borrow.{sem};
-ghost use Rattle.slot_views.specs.Slots.{SlotMap, IsOrdered, entry_at, without, has_expired};
-ghost use Rattle.tag_block.specs.Groups.{IsGroupPart, VerdictFits, verdict, fed_after};
+ghost use Rattle.sentence_text.specs.Sentence.{longest_line};
+ghost use Rattle.slot_views.specs.Slots.{SlotMap, IsOrdered, grown, entry_at, without, begun_after, grown_after, has_expired};
+ghost use Rattle.tag_block.specs.Groups.{IsGroupPart, IsNext, VerdictFits, group_gap, key_of, verdict, opening, fed_by, fed_after};
 
 use crate::group_answers::{GroupFed, GroupOutcome};
 use crate::group_key::GroupKey;
@@ -43,7 +44,7 @@ impl Model for GroupAssembler {
 
 impl GroupAssembler {
     ghost use Rattle.tag_block.specs.GroupRows.{ends_as};
-    ghost use Rattle.tag_block.specs.GroupAnswers.{FeedGives};
+    ghost use Rattle.tag_block.specs.GroupAnswers.{OpensGives, FollowsGives, OutcomeBy, FeedGives, restarted_by};
 
     /// No group, with the memory for `limit` of them.
     pub fn new(alloc: Global, limit: u16) -> Result<Self, AllocError>
@@ -65,72 +66,108 @@ impl GroupAssembler {
         moment: u64,
     ) -> GroupFed<'a>
         requires place { IsGroupPart part }
-        requires fits { length sentence.now ≤ 120 }
-        ensures* after { sem 𝓛 (ends_as self.entry (fed_after ⟦<GroupKey as Ord>⟧.cmp self.old (record { sfi = sfi; code = part.code }) part sentence.now moment)) }
-        ensures answer { FeedGives ⟦<GroupKey as Ord>⟧.cmp self.old (record { sfi = sfi; code = part.code }) part sentence.now moment result }
+        requires fits { length sentence.now ≤ longest_line }
+        ensures* after { sem 𝓛 (ends_as self.entry (fed_after ⟦<GroupKey as Ord>⟧.cmp self.old (key_of sfi part) part sentence.now moment)) }
+        ensures answer { FeedGives ⟦<GroupKey as Ord>⟧.cmp self.old (key_of sfi part) part sentence.now moment result }
     {
-        match self.verdict(sfi, part) {
-            GroupVerdict::Opens => {
-                let total = u16::from(part.total);
-                match self
-                    .slots
-                    .begin(key_of(sfi, part), sentence, total, moment, GAP, 0)
-                {
-                    Begun::Full => GroupFed {
-                        restarted: false,
-                        outcome: GroupOutcome::Full,
-                    },
-                    Begun::Held { replaced } => GroupFed {
-                        restarted: replaced,
-                        outcome: GroupOutcome::Held,
-                    },
-                    Begun::Complete { replaced, view } => GroupFed {
-                        restarted: replaced,
-                        outcome: GroupOutcome::Complete(view),
-                    },
-                }
-            }
-            GroupVerdict::Follows => {
-                let before = u16::from(part.number - 1);
-                match self
-                    .slots
-                    .grow(key_of(sfi, part), before, sentence, moment, GAP)
-                {
-                    Grown::Held => GroupFed {
-                        restarted: false,
-                        outcome: GroupOutcome::Held,
-                    },
-                    Grown::Complete(view) => GroupFed {
-                        restarted: false,
-                        outcome: GroupOutcome::Complete(view),
-                    },
-                    Grown::Absent => GroupFed {
-                        restarted: false,
-                        outcome: GroupOutcome::Order,
-                    },
-                    Grown::NotNext(_) => GroupFed {
-                        restarted: false,
-                        outcome: GroupOutcome::Order,
-                    },
-                }
-            }
+        let verdict = self.verdict(sfi, part);
+        let restarted = self.restarts(sfi, part, verdict);
+        let outcome = self.take(sfi, part, sentence, moment, verdict);
+        GroupFed { restarted, outcome }
+    }
+
+    // Does what the line of the key asks for.
+    fn take<'a>(
+        &'a mut self,
+        sfi: Sfi,
+        part: GroupPart,
+        sentence: &[u8],
+        moment: u64,
+        verdict: GroupVerdict,
+    ) -> GroupOutcome<'a>
+        requires place { IsGroupPart part }
+        requires fits { length sentence.now ≤ longest_line }
+        requires awaited { VerdictFits (entry_at ⟦<GroupKey as Ord>⟧.cmp self.old (key_of sfi part)) part verdict }
+        ensures* after { sem 𝓛 (ends_as self.entry (fed_by ⟦<GroupKey as Ord>⟧.cmp self.old (key_of sfi part) part sentence.now moment verdict)) }
+        ensures answer { OutcomeBy ⟦<GroupKey as Ord>⟧.cmp self.old (key_of sfi part) part sentence.now moment verdict result }
+    {
+        match verdict {
+            GroupVerdict::Opens => self.begin(sfi, part, sentence, moment),
+            GroupVerdict::Follows => self.grow(sfi, part, sentence, moment),
             GroupVerdict::Breaks => {
                 let _ = self.slots.give_up(key_of(sfi, part));
-                GroupFed {
-                    restarted: false,
-                    outcome: GroupOutcome::Order,
-                }
+                GroupOutcome::Order
             }
+        }
+    }
+
+    // Opens the group, in the place of the one that is open.
+    fn begin<'a>(
+        &'a mut self,
+        sfi: Sfi,
+        part: GroupPart,
+        sentence: &[u8],
+        moment: u64,
+    ) -> GroupOutcome<'a>
+        requires place { IsGroupPart part }
+        requires fits { length sentence.now ≤ longest_line }
+        ensures* after { sem 𝓛 (ends_as self.entry (begun_after ⟦<GroupKey as Ord>⟧.cmp self.old (key_of sfi part) (opening part sentence.now moment))) }
+        ensures answer { OpensGives ⟦<GroupKey as Ord>⟧.cmp self.old (key_of sfi part) (opening part sentence.now moment) result }
+    {
+        let total = u16::from(part.total);
+        match self
+            .slots
+            .begin(key_of(sfi, part), sentence, total, moment, GAP, 0)
+        {
+            Begun::Full => GroupOutcome::Full,
+            Begun::Held { .. } => GroupOutcome::Held,
+            Begun::Complete { view, .. } => GroupOutcome::Complete(view),
+        }
+    }
+
+    // Adds the next line to the group.
+    fn grow<'a>(
+        &'a mut self,
+        sfi: Sfi,
+        part: GroupPart,
+        sentence: &[u8],
+        moment: u64,
+    ) -> GroupOutcome<'a>
+        requires place { IsGroupPart part }
+        requires fits { length sentence.now ≤ longest_line }
+        requires awaited { IsNext (entry_at ⟦<GroupKey as Ord>⟧.cmp self.old (key_of sfi part)) part }
+        ensures* after { sem 𝓛 (ends_as self.entry (grown_after ⟦<GroupKey as Ord>⟧.cmp self.old (key_of sfi part) (part.number - 1) sentence.now moment group_gap)) }
+        ensures answer { FollowsGives ⟦<GroupKey as Ord>⟧.cmp self.old (key_of sfi part) (λ e. grown e sentence.now moment group_gap) result }
+    {
+        let before = u16::from(part.number - 1);
+        match self
+            .slots
+            .grow(key_of(sfi, part), before, sentence, moment, GAP)
+        {
+            Grown::Held => GroupOutcome::Held,
+            Grown::Complete(view) => GroupOutcome::Complete(view),
+            // can't be: the verdict says that the group waits for this line.
+            Grown::Absent | Grown::NotNext(_) => GroupOutcome::Order,
         }
     }
 
     // What the line is to the open group of its key.
     #[tactic(auto, using(crate::proofs::GroupVerdicts::fits_from))]
     fn verdict(&self, sfi: Sfi, part: GroupPart) -> GroupVerdict
-        ensures value { result ≡ verdict (entry_at ⟦<GroupKey as Ord>⟧.cmp self.now (record { sfi = sfi; code = part.code })) part }
-        ensures fits { VerdictFits (entry_at ⟦<GroupKey as Ord>⟧.cmp self.now (record { sfi = sfi; code = part.code })) part result }
+        ensures value { result ≡ verdict (entry_at ⟦<GroupKey as Ord>⟧.cmp self.now (key_of sfi part)) part }
+        ensures fits { VerdictFits (entry_at ⟦<GroupKey as Ord>⟧.cmp self.now (key_of sfi part)) part result }
     {
         verdict_of(self.slots.kept(key_of(sfi, part)), part)
+    }
+
+    // Whether the line gives up the open group of its key for another one.
+    fn restarts(&self, sfi: Sfi, part: GroupPart, verdict: GroupVerdict) -> bool
+        ensures { result ≡ restarted_by ⟦<GroupKey as Ord>⟧.cmp self.now (key_of sfi part) verdict }
+    {
+        match verdict {
+            GroupVerdict::Opens => self.slots.kept(key_of(sfi, part)).is_some(),
+            GroupVerdict::Follows | GroupVerdict::Breaks => false,
+        }
     }
 
     /// Ends the group of the least key whose next line is overdue at the moment.
@@ -138,10 +175,7 @@ impl GroupAssembler {
         ensures after { self.new ≡ without self.old (has_expired moment) }
         ensures answer { result ≡ option_map (λ e. e.0) (find (has_expired moment) self.old.entries) }
     {
-        match self.slots.expire_one(moment) {
-            Some(ended) => Some(ended.key),
-            None => None,
-        }
+        Some(self.slots.expire_one(moment)?.key)
     }
 
     /// How many groups are open.
@@ -156,7 +190,7 @@ impl GroupAssembler {
 
 // Which group the line belongs to.
 fn key_of(sfi: Sfi, part: GroupPart) -> GroupKey
-    ensures { result ≡ record { sfi = sfi; code = part.code } }
+    ensures { result ≡ key_of sfi part }
 {
     GroupKey {
         sfi,

@@ -118,3 +118,20 @@ fn a_group_waits_for_750_ms(rt: HostRuntime) -> Result<(), Fail> {
     assert!(rt; groups.expire_one(5_750_001).is_none());
     Ok(())
 }
+
+#[test]
+fn an_assembler_of_32_groups_holds_as_many(rt: HostRuntime) -> Result<(), Fail> {
+    let mut groups = GroupAssembler::new(rt.alloc(), 32)?;
+    for code in 1..33 {
+        assert_eq!(rt;
+            fed(&mut groups, 1, (1, 9, code), &[b'x'; 120], 0, b""),
+            Told::Held
+        );
+    }
+    assert_eq!(rt; groups.count(), 32);
+    assert_eq!(rt;
+        fed(&mut groups, 1, (1, 2, 33), b"$A1\r\n", 0, b""),
+        Told::Full
+    );
+    Ok(())
+}

@@ -1,8 +1,8 @@
 ghost use Rattle.std.specs.Prelude.{◌≡◌, ◌-◌, ◌≤◌, length};
 ghost use Rattle.tag_block.specs.Reading.{number_in, group_in, is_from_1 as spec_from_1, has_group_form as has_form};
 
-use crate::byte::{all_digits, byte_at};
 use crate::group_part::GroupPart;
+use sentence_text::{all_digits, byte_at};
 
 fn digit(byte: u8) -> u16
     ensures { result ≡ byte - 48 }

@@ -1,16 +1,16 @@
 ghost use Rattle.std.specs.Prelude.{◌≡◌, ℕ, List, Ok, ◌++◌, ◌+◌, ◌-◌, ◌<◌, ◌≤◌, length, option_map, IfOk, bit_xor};
 ghost use Rattle.std.specs.List.{fold};
-ghost use Rattle.tag_block.specs.Tag.{Said, IsTag, BeginsNoBlock, Fronts, xor_of};
-ghost use Rattle.tag_block.specs.Sums.{passed, seen_content};
+ghost use Rattle.tag_block.specs.Tag.{Said, IsSaid, IsTag, BeginsNoBlock, Fronts, xor_of};
+ghost use Rattle.tag_block.specs.Content.{bytes_between, seen_content};
 ghost use Rattle.tag_block.specs.Reading as spec;
 
-use crate::byte::{byte_at, code_run, value_of, value_run};
+use crate::byte::{code_run, value_run};
 use crate::fault::{TagFault, TagRule};
 use crate::group_part::GroupPart;
 use crate::number::{group, number};
 use crate::tag::Tag;
 use crate::values::{Content, Scan, Value, Values, keep};
-use sentence_text::Sfi;
+use sentence_text::{Sfi, SumFault, byte_at, sum_fault};
 
 /// One parameter, whose bytes the sum takes in.
 #[tactic(auto, using(crate::proofs::Sum::parameter_sum), unfolding(crate::specs::Reading::parameter_at))]
@@ -18,7 +18,7 @@ fn parameter<'a>(total: usize, content: Content<'a>) -> Result<Content<'a>, TagF
     requires { length content.scan.rest.now ≤ total }
     ensures reads { seen_content result ≡ spec.parameter_at total (spec.scan content.entry.scan) }
     ensures shorter { IfOk result (λ c. length c.scan.rest.now < length content.entry.scan.rest.now) }
-    ensures sum { IfOk result (λ c. c.sum ≡ fold bit_xor content.entry.sum (passed content.entry.scan.rest.now c.scan.rest.now)) }
+    ensures sum { IfOk result (λ c. c.sum ≡ fold bit_xor content.entry.sum (bytes_between content.entry.scan.rest.now c.scan.rest.now)) }
 {
     let rest = content.scan.rest;
     let (code, sum) = code_run(rest, content.sum);
@@ -47,7 +47,7 @@ fn parameters<'a>(total: usize, scan: Scan<'a>) -> Result<Content<'a>, TagFault>
     requires { length scan.rest.now ≤ total }
     ensures reads { seen_content result ≡ spec.parameters_at (length scan.entry.rest.now + 1) total (spec.scan scan.entry) }
     ensures shorter { IfOk result (λ c. length c.scan.rest.now ≤ length scan.entry.rest.now) }
-    ensures sum { IfOk result (λ c. c.sum ≡ xor_of (passed scan.entry.rest.now c.scan.rest.now)) }
+    ensures sum { IfOk result (λ c. c.sum ≡ xor_of (bytes_between scan.entry.rest.now c.scan.rest.now)) }
 {
     let mut content = Content { scan, sum: 0 };
     loop {
@@ -68,10 +68,21 @@ fn parameters<'a>(total: usize, scan: Scan<'a>) -> Result<Content<'a>, TagFault>
     }
 }
 
+/// The rule that the digits of a sum break.
+fn sum_rule(fault: SumFault) -> TagRule
+    ensures { result ≡ spec.sum_rule fault }
+{
+    match fault {
+        SumFault::First | SumFault::Second => TagRule::Form,
+        SumFault::Differs => TagRule::Sum,
+    }
+}
+
 /// `*`, the two digits of this sum, and `\`.
 #[tactic(auto, unfolding(crate::specs::Reading::block_end_at))]
 fn block_end<'a>(total: usize, sum: u8, scan: Scan<'a>) -> Result<Scan<'a>, TagFault>
-    requires { length scan.rest.now ≤ total }
+    requires within { length scan.rest.now ≤ total }
+    requires short { total + 3 < usize.MAX }
     ensures reads { spec.seen_scan result ≡ spec.block_end_at total sum (spec.scan scan.entry) }
     ensures shorter { IfOk result (λ s. length s.rest.now < length scan.entry.rest.now) }
 {
@@ -80,16 +91,8 @@ fn block_end<'a>(total: usize, sum: u8, scan: Scan<'a>) -> Result<Scan<'a>, TagF
     if byte_at(rest, 0) != b'*' {
         return Err(TagRule::Form.at(place));
     }
-    let high = value_of(byte_at(rest, 1));
-    if high >= 16 {
-        return Err(TagRule::Form.at(place + 1));
-    }
-    let low = value_of(byte_at(rest, 2));
-    if low >= 16 {
-        return Err(TagRule::Form.at(place + 2));
-    }
-    if high * 16 + low != sum {
-        return Err(TagRule::Sum.at(place + 1));
+    if let Some(fault) = sum_fault(sum, byte_at(rest, 1), byte_at(rest, 2)) {
+        return Err(sum_rule(fault).at(place + fault.digit_place()));
     }
     if byte_at(rest, 3) != b'\\' {
         return Err(TagRule::Form.at(place + 3));
@@ -103,19 +106,19 @@ fn block_end<'a>(total: usize, sum: u8, scan: Scan<'a>) -> Result<Scan<'a>, TagF
 /// One block, behind its first `\`.
 #[tactic(auto, unfolding(crate::specs::Reading::block_at))]
 fn block<'a>(total: usize, scan: Scan<'a>) -> Result<Scan<'a>, TagFault>
-    requires { length scan.rest.now ≤ total }
+    requires within { length scan.rest.now ≤ total }
+    requires short { total + 3 < usize.MAX }
     ensures reads { spec.seen_scan result ≡ spec.block_at total (spec.scan scan.entry) }
     ensures shorter { IfOk result (λ s. length s.rest.now < length scan.entry.rest.now) }
 {
-    match parameters(total, scan) {
-        Ok(content) => block_end(total, content.sum, content.scan),
-        Err(fault) => Err(fault),
-    }
+    let content = parameters(total, scan)?;
+    block_end(total, content.sum, content.scan)
 }
 
 /// Blocks while the next byte is `\`.
 fn blocks<'a>(total: usize, scan: Scan<'a>) -> Result<Scan<'a>, TagFault>
-    requires { length scan.rest.now ≤ total }
+    requires within { length scan.rest.now ≤ total }
+    requires short { total + 3 < usize.MAX }
     ensures reads { spec.seen_scan result ≡ spec.blocks_at (length scan.entry.rest.now + 1) total (spec.scan scan.entry) }
     ensures shorter { IfOk result (λ s. length s.rest.now ≤ length scan.entry.rest.now) }
 {
@@ -179,18 +182,9 @@ fn settle<'a>(total: usize, scan: Scan<'a>) -> Result<(Tag<'a>, usize), TagFault
     ensures { spec.seen result ≡ spec.settle total (spec.scan scan.entry) }
 {
     let end = total - scan.rest.len();
-    let group = match group_of(scan.values.group) {
-        Ok(group) => group,
-        Err(fault) => return Err(fault),
-    };
-    let count = match count_of(scan.values.count) {
-        Ok(count) => count,
-        Err(fault) => return Err(fault),
-    };
-    let source = match source_of(end, scan.values.source) {
-        Ok(source) => source,
-        Err(fault) => return Err(fault),
-    };
+    let group = group_of(scan.values.group)?;
+    let count = count_of(scan.values.count)?;
+    let source = source_of(end, scan.values.source)?;
     let destination = scan.values.destination.map(|value| value.text);
     Ok((
         Tag {
@@ -216,10 +210,8 @@ fn parse<'a>(line: &'a [u8]) -> Result<(Tag<'a>, usize), TagFault>
         group: None,
         count: None,
     };
-    match blocks(line.len(), Scan { values, rest: line }) {
-        Ok(scan) => settle(line.len(), scan),
-        Err(fault) => Err(fault),
-    }
+    let scan = blocks(line.len(), Scan { values, rest: line })?;
+    settle(line.len(), scan)
 }
 
 /// What the TAG blocks at the front of the line say, and how many bytes they have. Blocks are read while the next
@@ -227,6 +219,8 @@ fn parse<'a>(line: &'a [u8]) -> Result<(Tag<'a>, usize), TagFault>
 pub fn read<'a>(line: &'a [u8]) -> Result<(Tag<'a>, usize), TagFault>
     // What is read is spelled so, and no block follows.
     ensures found { IfOk result (λ t. Fronts line.now (spec.said t.0) t.1) }
+    // What it says is in its ranges.
+    ensures ranges { IfOk result (λ t. IsSaid (spec.said t.0)) }
     // What is spelled so is read, where no block follows.
     ensures only { (said : Said) (bytes rest : List ℕ) → IsTag said bytes → BeginsNoBlock rest → line.now ≡ bytes ++ rest → spec.seen result ≡ Ok (said, length bytes) }
     // Which fault it is.

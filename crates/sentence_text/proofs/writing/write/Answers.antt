@@ -5,9 +5,9 @@ use Rattle.sentence_text.proofs.Spelling.{is_sentence}
 use Rattle.sentence_text.proofs.writing.write.Goals as goal
 
 pub returns-clause-grammar : goal.returns-clause-grammar
-returns-clause-grammar c = λ yes. is_sentence c.args.talker c.args.formatter c.args.body.now c.put_sentence.new.out.items
+returns-clause-grammar c = λ yes. is_sentence c.args.talker c.args.formatter c.args.body.now c.append_sentence.new.out.items
     (record { two = search rules; three = search rules; talker_bytes = c.requires.talker; formatter_bytes = c.requires.formatter; body_bytes = c.requires.body })
-    c.put_sentence.ensures.sum c.put_sentence.ensures.text (omega (arith, c.put_sentence.ensures.len))
+    c.append_sentence.ensures.sum c.append_sentence.ensures.text (omega (arith, c.append_sentence.ensures.len))
 
 pub returns-clause-again : goal.returns-clause-again
-returns-clause-again c = λ yes. only c.put_sentence.new.out.items (parts_of c.args.talker c.args.formatter c.args.body.now) (returns-clause-grammar c yes)
+returns-clause-again c = λ yes. only c.append_sentence.new.out.items (parts_of c.args.talker c.args.formatter c.args.body.now) (returns-clause-grammar c yes)

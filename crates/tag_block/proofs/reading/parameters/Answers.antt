@@ -1,7 +1,7 @@
 use Rattle.std.proofs.Common.{◌≡◌, arith, slice_index}
 use Rattle.tag_block.specs.Reading.{scan}
 use Rattle.tag_block.proofs.Loops.{parameters_go_on, parameters_fail, parameters_end}
-use Rattle.tag_block.proofs.Sum.{summed_passed, summed_byte, summed_parameter}
+use Rattle.tag_block.proofs.Sum.{summed_between, summed_byte, summed_parameter}
 use Rattle.tag_block.proofs.reading.parameters.Goals as goal
 
 pub returns-in-Err-clause-reads : goal.returns-in-Err-clause-reads
@@ -15,7 +15,7 @@ returns-then-byte_at-ne44-clause-reads c =
 pub returns-then-byte_at-ne44-clause-sum : goal.returns-then-byte_at-ne44-clause-sum
 returns-then-byte_at-ne44-clause-sum c =
     let summed = summed_parameter c.args.total c.args.scan.rest.now (scan c.loop-next.content.scan) (scan c.in-Ok.next.scan) c.loop-next.content.sum c.in-Ok.next.sum c.in-Ok.ensures.reads c.in-Ok.ensures.sum c.loop-next.invariant.sum in
-    summed_passed c.args.scan.rest.now c.in-Ok.next.scan.rest.now c.in-Ok.next.sum summed
+    summed_between c.args.scan.rest.now c.in-Ok.next.scan.rest.now c.in-Ok.next.sum summed
 
 pub loop-next-preserved : goal.loop-next-preserved
 loop-next-preserved c =

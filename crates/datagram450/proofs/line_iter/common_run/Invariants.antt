@@ -1,6 +1,6 @@
 use Rattle.std.proofs.Common.{length, ◌-◌}
-use Rattle.datagram450.proofs.Agreed.{Run}
-use Rattle.datagram450.proofs.line_iter.agreed.Given as goal
+use Rattle.datagram450.proofs.CommonRun.{Run}
+use Rattle.datagram450.proofs.line_iter.common_run.Given as goal
 
 abbrev pub invariant-loop-place : goal.invariant-loop-place
 invariant-loop-place l = Run l.wanted l.bytes l.place

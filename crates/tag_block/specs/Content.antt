@@ -1,12 +1,12 @@
--- The sum of a block's content, while the content is read.
+-- A block's content and its sum, while the content is read.
 use Rattle.std.specs.Prelude.{ℕ, ◌-◌, List, length, take, Result, Ok, Err}
 use Rattle.tag_block.specs.declared.fault.TagFault.{TagFault}
 use Rattle.tag_block.specs.declared.values.Content.{Content}
 use Rattle.tag_block.specs.Reading.{Scan, scan}
 
--- the bytes that were passed, where these were still to be read and those are now
-abbrev pub passed : List ℕ → List ℕ → List ℕ
-passed before after = take (length before - length after) before
+-- the bytes read since these were still to be read, where those are now
+abbrev pub bytes_between : List ℕ → List ℕ → List ℕ
+bytes_between before after = take (length before - length after) before
 
 -- what was read, without its sum
 abbrev pub seen_content : Result Content TagFault → Result Scan TagFault
