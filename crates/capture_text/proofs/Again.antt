@@ -21,7 +21,7 @@ use Rattle.capture_text.specs.Capture.{frame, datagram, IsTime, IsInterface, Beg
 use Rattle.capture_text.specs.Reading.{read}
 use Rattle.capture_text.specs.declared.emit.Emit.{Emit}
 use Rattle.capture_text.specs.declared.emit.Emit.TheVariants as emit
-use Rattle.capture_text.specs.Writing.{CanWrite, time_text, frame_text, datagram_text, said}
+use Rattle.capture_text.specs.Writing.{CanWrite, time_text, frame_text, datagram_text, said, most_written}
 use Rattle.capture_text.proofs.Data.{written_digits}
 use Rattle.capture_text.proofs.Laws.{again}
 use Rattle.capture_text.proofs.Numbers.{all_digits, length-decimals}
@@ -101,7 +101,7 @@ frame_again moment f early valid fit =
     } in
     (line, again (time_text moment ++ frame_text (bus_frame f)) (frame moment (bus_frame f)) line)
 
-pub datagram_again : (moment : ℕ) (group bytes : List ℕ) → moment < 10 ^ 16 → length bytes ≤ 512 → IsGroup group × IsBytes bytes
+pub datagram_again : (moment : ℕ) (group bytes : List ℕ) → moment < 10 ^ 16 → length bytes ≤ most_written → IsGroup group × IsBytes bytes
     → IsLine (datagram moment bytes) (time_text moment ++ datagram_text group bytes) × (read (time_text moment ++ datagram_text group bytes) ≡ Ok (datagram moment bytes))
 datagram_again moment group bytes early few fit =
     let digits = encode_upper bytes in

@@ -7,7 +7,7 @@ use Rattle.n2k_id.specs.Frame.{BusFrame}
 use Rattle.capture_text.specs.declared.event.Event.{Event}
 use Rattle.capture_text.specs.declared.event.LineRule.{LineRule}
 use Rattle.capture_text.specs.declared.event.LineRule.TheVariants.{Form, NotExtended, Long}
-use Rattle.capture_text.specs.Capture.{Seen, frame, datagram, tick, Begins, is_end, IsDatagram, IsOnBus, IsFrame, IsLine, IsNotExtended, IsNoLine}
+use Rattle.capture_text.specs.Capture.{Seen, frame, datagram, tick, Begins, is_end, IsDatagram, IsOnBus, IsFrame, IsLine, IsNotExtended, IsNoLine, longest_line}
 use Rattle.capture_text.specs.Reading.{bytes_at, frame_at, seen_tick, seen_datagram, seen_frame, is_name, seen_behind, read, view, seen}
 use Rattle.capture_text.proofs.Frames.{Layout, frame_found, frame_again, other_found, other_again, frame_never_long}
 use Rattle.capture_text.proofs.Lines.{Answer, given, refused, given_is, datagram_found, datagram_again, too_long, LineKind, long, formless, laid, line_kind, read_begins, on_bus_gives, end_no_name}
@@ -142,7 +142,7 @@ refusal moment name tail r e = elim (name_kind moment name tail) [
   | is_bus a b g ↦ of_frame a b (frame_refuses moment (frame_at tail) r (sym g ∙ e))
 ]
 
-pub long_found : (line : List ℕ) → read line ≡ Err Long → 4096 < length line
+pub long_found : (line : List ℕ) → read line ≡ Err Long → longest_line < length line
 long_found line e = elim (line_kind line) [
   | long more g ↦ more
   | formless le g ↦ absurd (let f : refused Form ≡ Err Long = sym g ∙ e in cc)
@@ -182,7 +182,7 @@ no_line_found line e = record {
   no_frame = λ h. (let f : refused NotExtended ≡ Err Form = sym (not_extended_again line h) ∙ e in cc);
 }
   where
-    not_long : LineKind line → length line ≤ 4096
+    not_long : LineKind line → length line ≤ longest_line
     not_long (long more g) = absurd (let f : refused Long ≡ Err Form = sym g ∙ e in cc)
     not_long (formless le g) = le
     not_long (laid r) = r.begins.most
@@ -203,7 +203,7 @@ refused_by : (result : Result Event LineRule) (r : LineRule) → seen result ≡
 refused_by (Ok event) r e = absurd (let f : given (view event) ≡ Err r = e in cc)
 refused_by (Err x) r e = cc
 
-pub is_long : (line : List ℕ) (result : Result Event LineRule) → seen result ≡ read line → (result ≡ Err Long → 4096 < length line) × (4096 < length line → result ≡ Err Long)
+pub is_long : (line : List ℕ) (result : Result Event LineRule) → seen result ≡ read line → (result ≡ Err Long → longest_line < length line) × (longest_line < length line → result ≡ Err Long)
 is_long line result e = (λ r. long_found line (sym e ∙ ap seen r), λ h. refused_by result Long (e ∙ too_long line h))
 
 pub is_not_extended : (line : List ℕ) (result : Result Event LineRule) → seen result ≡ read line → (result ≡ Err NotExtended → IsNotExtended line) × (IsNotExtended line → result ≡ Err NotExtended)

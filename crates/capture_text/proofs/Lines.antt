@@ -1,5 +1,5 @@
 -- The laws of a line: what is read is spelled so, what is spelled so is read, and which rule is broken.
-use Rattle.std.proofs.Common.{◌≡◌, ◌≢◌, ℕ, ◌<◌, ◌≤◌, Bool, true, false, cond, ltb, leb, ◌&&◌, List, [], ◌∷◌, ◌++◌, length, get_or, take, drop, Option, Some, None, Result, Ok, Err, refl, sym, ap, subst, ◌∙◌, arith, inl, inr}
+use Rattle.std.proofs.Common.{◌≡◌, ◌*◌, ◌≢◌, ℕ, ◌<◌, ◌≤◌, Bool, true, false, cond, ltb, leb, ◌&&◌, List, [], ◌∷◌, ◌++◌, length, get_or, take, drop, Option, Some, None, Result, Ok, Err, refl, sym, ap, subst, ◌∙◌, arith, inl, inr}
 use Rattle.std.specs.Prelude.{◌==◌, codes}
 use Rattle.std.specs.Char.{is_ascii_graphic}
 use Rattle.std.specs.List.{prefix_len, list_all}
@@ -13,7 +13,7 @@ use Rattle.sentence_text.specs.Text.{is_address_byte}
 use Rattle.sentence_text.proofs.Bytes.{front_passes, splits}
 use Rattle.capture_text.specs.declared.event.LineRule.{LineRule}
 use Rattle.capture_text.specs.declared.event.LineRule.TheVariants.{Form, Long}
-use Rattle.capture_text.specs.Capture.{Seen, IsInterface, Begins, is_end}
+use Rattle.capture_text.specs.Capture.{Seen, IsInterface, Begins, is_end, longest_line, most_bytes}
 use Rattle.capture_text.specs.Reading.{Timed, time_at, Named, interface_at, is_group, bytes_before_end, bytes_at, frame_at, seen_frame, is_name, seen_behind, seen_named, seen_at, read}
 use Rattle.capture_text.proofs.Cuts.{cut_by_test, cut_found, if_some, some_is, four}
 use Rattle.capture_text.proofs.Times.{time_found, time_again}
@@ -69,7 +69,7 @@ pub record DatagramRead (tail bytes : List ℕ) : Type 0 where
   pub is_group : IsGroup group
   pub behind : List ℕ
   pub spelled : tail ≡ 32 ∷ (group ++ 35 ∷ behind)
-  pub found : BytesFound 2048 behind bytes
+  pub found : BytesFound most_bytes behind bytes
 
 group_found : (group : List ℕ) → is_group group ≡ true → IsGroup group
 group_found group e =
@@ -86,7 +86,7 @@ datagram_found tail bytes e =
     let behind = drop 6 tail in
     let p0 = get_or tail 0 0 == 32 in
     let p2 = get_or tail 5 0 == 35 in
-    let h = if_some (p0 && is_group group && p2) (bytes_before_end 2048 behind) bytes e in
+    let h = if_some (p0 && is_group group && p2) (bytes_before_end most_bytes behind) bytes e in
     let h2 = and_parts (p0 && is_group group) p2 h.0 in
     let h1 = and_parts p0 (is_group group) h2.0 in
     let a : tail ≡ 32 ∷ drop 1 tail = cut_by_test tail 0 31 h1.0 in
@@ -98,18 +98,18 @@ datagram_found tail bytes e =
       is_group = group_found group h1.1;
       behind = behind;
       spelled = a ∙ ap (λ (x : List ℕ). 32 ∷ x) (b ∙ ap (λ (x : List ℕ). group ++ 35 ∷ x) same);
-      found = bytes_found 2048 behind bytes h.1;
+      found = bytes_found most_bytes behind bytes h.1;
     }
 
-datagram_laid_out : (a b c d : ℕ) (behind : List ℕ) → bytes_at (32 ∷ a ∷ b ∷ c ∷ d ∷ 35 ∷ behind) ≡ cond (is_group (a ∷ b ∷ c ∷ d ∷ [])) (bytes_before_end 2048 behind) None
+datagram_laid_out : (a b c d : ℕ) (behind : List ℕ) → bytes_at (32 ∷ a ∷ b ∷ c ∷ d ∷ 35 ∷ behind) ≡ cond (is_group (a ∷ b ∷ c ∷ d ∷ [])) (bytes_before_end most_bytes behind) None
 unfolding bytes_at
-datagram_laid_out a b c d behind = by_test (is_group (a ∷ b ∷ c ∷ d ∷ [])) (bytes_before_end 2048 behind)
+datagram_laid_out a b c d behind = by_test (is_group (a ∷ b ∷ c ∷ d ∷ [])) (bytes_before_end most_bytes behind)
   where
     by_test : (p : Bool) (x : Option (List ℕ)) → cond (true && p && true) x None ≡ cond p x None
     by_test true x = refl
     by_test false x = refl
 
-pub datagram_again : (group digits rest bytes : List ℕ) → IsGroup group → length digits ≤ 4096 → decode_of digits ≡ Ok bytes → is_end rest ≡ true
+pub datagram_again : (group digits rest bytes : List ℕ) → IsGroup group → length digits ≤ 2 * most_bytes → decode_of digits ≡ Ok bytes → is_end rest ≡ true
     → bytes_at (32 ∷ (group ++ 35 ∷ (digits ++ rest))) ≡ Some bytes
 datagram_again group digits rest bytes g few written ends =
     let f = four group g.len in
@@ -117,7 +117,7 @@ datagram_again group digits rest bytes g few written ends =
     let behind = digits ++ rest in
     ap (λ (x : List ℕ). bytes_at (32 ∷ (x ++ 35 ∷ behind))) f.4
     ∙ datagram_laid_out f.0 f.1 f.2 f.3 behind
-    ∙ rw is (bytes_again 2048 digits rest bytes few written ends)
+    ∙ rw is (bytes_again most_bytes digits rest bytes few written ends)
 
 -- ---- the whole line, up to its interface
 
@@ -128,31 +128,31 @@ pub record LineRead (line : List ℕ) : Type 0 where
   pub begins : Begins moment name tail line
   pub gives : read line ≡ seen_behind moment name tail
 
-pub too_long : (line : List ℕ) → 4096 < length line → read line ≡ Err Long
+pub too_long : (line : List ℕ) → longest_line < length line → read line ≡ Err Long
 unfolding read
 too_long line more =
-    let e : ltb 4096 (length line) ≡ true = lt-ltb 4096 (length line) more in
+    let e : ltb longest_line (length line) ≡ true = lt-ltb longest_line (length line) more in
     rw e refl
 
-short : (line : List ℕ) → length line ≤ 4096 → read line ≡ seen_at (time_at line)
+short : (line : List ℕ) → length line ≤ longest_line → read line ≡ seen_at (time_at line)
 unfolding read
 short line le =
-    let e : ltb 4096 (length line) ≡ false = le-ltb 4096 (length line) le in
+    let e : ltb longest_line (length line) ≡ false = le-ltb longest_line (length line) le in
     rw e refl
 
 -- a line is too long, has no time and interface, or has them and gives what its interface says
 pub data LineKind (line : List ℕ) : Type 0 where
-  long : 4096 < length line → read line ≡ Err Long → LineKind line
-  formless : length line ≤ 4096 → read line ≡ Err Form → LineKind line
+  long : longest_line < length line → read line ≡ Err Long → LineKind line
+  formless : length line ≤ longest_line → read line ≡ Err Form → LineKind line
   laid : LineRead line → LineKind line
 
 pub line_kind : (line : List ℕ) → LineKind line
-line_kind line = elim (cases_lt 4096 (length line)) [
+line_kind line = elim (cases_lt longest_line (length line)) [
   | inl more ↦ long more (too_long line more)
   | inr le ↦ timed (time_at line) refl le
 ]
   where
-    named : (t : Timed) (i : Option Named) → time_at line ≡ Some t → interface_at t.rest ≡ i → length line ≤ 4096 → LineKind line
+    named : (t : Timed) (i : Option Named) → time_at line ≡ Some t → interface_at t.rest ≡ i → length line ≤ longest_line → LineKind line
     named t None e f le = formless le (short line le ∙ ap seen_at e ∙ ap (seen_named t.moment) f)
     named t (Some i) e f le =
         let time = time_found line t e in
@@ -165,7 +165,7 @@ line_kind line = elim (cases_lt 4096 (length line)) [
           gives = short line le ∙ ap seen_at e ∙ ap (seen_named t.moment) f;
         })
 
-    timed : (t : Option Timed) → time_at line ≡ t → length line ≤ 4096 → LineKind line
+    timed : (t : Option Timed) → time_at line ≡ t → length line ≤ longest_line → LineKind line
     timed None e le = formless le (short line le ∙ ap seen_at e)
     timed (Some t) e le = named t (interface_at t.rest) e refl le
 

@@ -1,6 +1,6 @@
 -- A line of a capture, as a relation between what it says and all of its bytes: a time, an interface, and what follows
 -- by the interface.
-use Rattle.std.specs.Prelude.{◌≡◌, ◌≢◌, ℕ, ◌^◌, ◌<◌, ◌≤◌, ◌⊎◌, ◌==◌, Bool, true, List, [], ◌∷◌, ◌++◌, length, codes, IsTrue, Ok}
+use Rattle.std.specs.Prelude.{◌≡◌, ◌≢◌, ℕ, ◌*◌, ◌^◌, ◌<◌, ◌≤◌, ◌⊎◌, ◌==◌, Bool, true, List, [], ◌∷◌, ◌++◌, length, codes, IsTrue, Ok}
 use Rattle.std.specs.List.{list_all}
 use Rattle.std.specs.Char.{is_ascii_digit, is_ascii_graphic, is_ascii_hexdigit}
 use Rattle.std.specs.Int.{w32, from_be_bytes}
@@ -8,6 +8,13 @@ use Rattle.hex.specs.Hex.{decode_of}
 use Rattle.unit_fraction.specs.Digits.{number}
 use Rattle.n2k_id.specs.Frame.{BusFrame}
 use Rattle.sentence_text.specs.Names.{IsGroup}
+
+-- the most bytes of a line, and of the datagram that a line can hold
+abbrev pub longest_line : ℕ
+longest_line = 4096
+
+abbrev pub most_bytes : ℕ
+most_bytes = 2048
 
 -- what a line says: a frame on the bus, a datagram on the network, or that time passes, each with its moment
 pub data Seen : Type 0 where
@@ -39,7 +46,7 @@ pub record Begins (moment : ℕ) (name tail line : List ℕ) : Type 0 where
   pub is_time : IsTime moment time
   pub is_interface : IsInterface name
   pub spelled : line ≡ time ++ 32 ∷ (name ++ tail)
-  pub most : length line ≤ 4096
+  pub most : length line ≤ longest_line
 
 -- the end of the line, or a space and any bytes
 abbrev pub is_end : List ℕ → Bool
@@ -58,7 +65,7 @@ pub record IsDatagram (moment : ℕ) (bytes line : List ℕ) : Type 0 where
   pub rest : List ℕ
   pub begins : Begins moment (codes "udp0") (32 ∷ (group ++ 35 ∷ (digits ++ rest))) line
   pub is_group : IsGroup group
-  pub few : length digits ≤ 4096
+  pub few : length digits ≤ 2 * most_bytes
   pub written : decode_of digits ≡ Ok bytes
   pub ends : IsTrue (is_end rest)
 
@@ -130,6 +137,6 @@ pub record IsNotExtended (line : List ℕ) : Type 0 where
 
 -- not too long, and neither spelled as a line that says something nor as such a frame
 pub record IsNoLine (line : List ℕ) : Type 0 where
-  pub most : length line ≤ 4096
+  pub most : length line ≤ longest_line
   pub says_nothing : (seen : Seen) → IsLine seen line → ⊥
   pub no_frame : IsNotExtended line → ⊥

@@ -15,7 +15,7 @@ use Rattle.capture_text.specs.declared.event.Event.{Event}
 use Rattle.capture_text.specs.declared.event.Event.TheVariants as event
 use Rattle.capture_text.specs.declared.event.LineRule.{LineRule}
 use Rattle.capture_text.specs.declared.event.LineRule.TheVariants.{Form, NotExtended, Long}
-use Rattle.capture_text.specs.Capture.{Seen, frame, datagram, tick, is_end}
+use Rattle.capture_text.specs.Capture.{Seen, frame, datagram, tick, is_end, longest_line, most_bytes}
 
 -- a moment, and what follows the space behind its time
 pub record Timed : Type 0 where
@@ -64,7 +64,7 @@ abbrev pub data_at : List ℕ → Option (List ℕ)
 data_at behind = bytes_before_end 8 behind
 
 unfoldable pub bytes_at : List ℕ → Option (List ℕ)
-bytes_at tail = if slice_index tail 0 == 32 && is_group (take 4 (drop 1 tail)) && slice_index tail 5 == 35 then bytes_before_end 2048 (drop 6 tail) else None
+bytes_at tail = if slice_index tail 0 == 32 && is_group (take 4 (drop 1 tail)) && slice_index tail 5 == 35 then bytes_before_end most_bytes (drop 6 tail) else None
 
 unfoldable pub number_of : List ℕ → Option ℕ
 number_of digits = option_map (from_be_bytes w32) (result_ok (decode_of digits))
@@ -133,7 +133,7 @@ seen_at None = Err Form
 seen_at (Some t) = seen_named t.moment (interface_at t.rest)
 
 unfoldable pub read : List ℕ → Result Seen LineRule
-read line = if nat_lt 4096 (length line) then Err Long else seen_at (time_at line)
+read line = if nat_lt longest_line (length line) then Err Long else seen_at (time_at line)
 
 -- ---- what the calls answer, in these terms
 

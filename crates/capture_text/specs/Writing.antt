@@ -12,10 +12,14 @@ use Rattle.capture_text.specs.declared.emit.Emit.{Emit}
 use Rattle.capture_text.specs.declared.emit.Emit.TheVariants as emit
 use Rattle.capture_text.specs.Capture.{Seen, frame, datagram}
 
--- a frame is valid, and a datagram has at most 512 bytes
+-- the most bytes of a datagram that is written
+abbrev pub most_written : ℕ
+most_written = 512
+
+-- a frame is valid, and a datagram isn't too long
 abbrev pub CanWrite : Emit → Type 0
 CanWrite (emit.Can f) = IsFrame f
-CanWrite (emit.Net group bytes) = length bytes.now ≤ 512
+CanWrite (emit.Net group bytes) = length bytes.now ≤ most_written
 CanWrite (emit.Report report) = Unit {0}
 
 -- the seconds and six digits of microseconds in parentheses, and a space

@@ -1,4 +1,4 @@
-ghost use Rattle.std.specs.Prelude.{◌≡◌, ◌≤◌, length, slice_index};
+ghost use Rattle.std.specs.Prelude.{◌≡◌, ◌≤◌, length};
 ghost use Rattle.std.specs.Char.{is_ascii_graphic, is_ascii_hexdigit};
 ghost use Rattle.std.specs.List.{list_all, prefix_len};
 ghost use Rattle.capture_text.specs.Capture as capture;
@@ -35,13 +35,6 @@ pub(crate) fn name_run(text: &[u8]) -> usize
     text.iter()
         .take_while(|byte| byte.is_ascii_graphic())
         .count()
-}
-
-/// The byte at a place; 0, which stands nowhere in the layout of a line, past the end.
-pub(crate) fn byte_at(text: &[u8], place: usize) -> u8
-    ensures { result ≡ slice_index text.now place }
-{
-    if place < text.len() { text[place] } else { 0 }
 }
 
 /// Whether a line ends here, or a space and any text follow.

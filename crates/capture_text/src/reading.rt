@@ -5,12 +5,13 @@ ghost use Rattle.std.specs.Result.{result_ok};
 ghost use Rattle.hex.specs.Hex.{decode_of};
 ghost use Rattle.unit_fraction.specs.Digits.{number_after};
 ghost use Rattle.n2k_id.specs.Frame.{IsFrame};
-ghost use Rattle.capture_text.specs.Capture.{Seen, IsLine, IsNotExtended, IsNoLine};
+ghost use Rattle.capture_text.specs.Capture.{Seen, IsLine, IsNotExtended, IsNoLine, longest_line};
 ghost use Rattle.capture_text.specs.Reading as spec;
 
-use crate::byte::{all_hexadecimal, byte_at, is_end, is_group, name_run, up_to_space};
+use crate::byte::{all_hexadecimal, is_end, is_group, name_run, up_to_space};
 use crate::event::{Event, LineRule};
 use n2k_id::Frame;
+use sentence_text::byte_at;
 
 /// The most bytes of a line.
 const LONGEST: usize = 4096;
@@ -74,10 +75,8 @@ fn time(line: &[u8]) -> Option<(u64, &[u8])>
     if byte_at(line, 0) != b'(' {
         return None;
     }
-    match seconds(line.split_at(1).1) {
-        Some((seconds, rest)) => moment(seconds, rest),
-        None => None,
-    }
+    let (seconds, rest) = seconds(line.split_at(1).1)?;
+    moment(seconds, rest)
 }
 
 /// Puts the bytes that the digits write into the room, and says how many there are.
@@ -250,10 +249,8 @@ fn event<'a>(
             None => Err(LineRule::Form),
         };
     }
-    match frame(tail) {
-        Ok(frame) => Ok(Event::Frame { moment, frame }),
-        Err(rule) => Err(rule),
-    }
+    let frame = frame(tail)?;
+    Ok(Event::Frame { moment, frame })
 }
 
 #[tactic(auto, unfolding(crate::specs::Reading::read))]
@@ -264,13 +261,11 @@ fn parse<'a>(line: &[u8], room: &'a mut [u8; 2048]) -> Result<Event<'a>, LineRul
     if line.len() > LONGEST {
         return Err(LineRule::Long);
     }
-    let (moment, rest) = match time(line) {
-        Some((moment, rest)) => (moment, rest),
-        None => return Err(LineRule::Form),
+    let Some((moment, rest)) = time(line) else {
+        return Err(LineRule::Form);
     };
-    let (name, tail) = match interface(rest) {
-        Some((name, tail)) => (name, tail),
-        None => return Err(LineRule::Form),
+    let Some((name, tail)) = interface(rest) else {
+        return Err(LineRule::Form);
     };
     event(moment, name, tail, room)
 }
@@ -282,7 +277,7 @@ pub fn read_line<'a>(line: &[u8], room: &'a mut [u8; 2048]) -> Result<Event<'a>,
     // What is spelled so is read.
     ensures only { (event : Seen) → IsLine event line.now → spec.seen result ≡ Ok event }
     // Which rule it is.
-    ensures long { (result ≡ Err LineRule.Long) ↔ (4096 < length line.now) }
+    ensures long { (result ≡ Err LineRule.Long) ↔ (longest_line < length line.now) }
     ensures not_extended { (result ≡ Err LineRule.NotExtended) ↔ IsNotExtended line.now }
     ensures form { (result ≡ Err LineRule.Form) ↔ IsNoLine line.now }
     ensures exact { spec.seen result ≡ spec.read line.now }

@@ -6,9 +6,9 @@ ghost use Rattle.n2k_id.specs.Frame.{IsFrame, bus_frame, held_bytes};
 ghost use Rattle.std.specs.Int.{w32, to_be_bytes};
 ghost use Rattle.sentence_text.specs.Names.{IsGroup};
 ghost use Rattle.unit_fraction.specs.Text.{decimal_text};
-ghost use Rattle.capture_text.specs.Capture.{IsLine};
+ghost use Rattle.capture_text.specs.Capture.{IsLine, longest_line};
 ghost use Rattle.capture_text.specs.Reading.{read};
-ghost use Rattle.capture_text.specs.Writing.{CanWrite, time_text, part, detail_text, report_text, frame_text, datagram_text, line_text, said};
+ghost use Rattle.capture_text.specs.Writing.{CanWrite, most_written, time_text, part, detail_text, report_text, frame_text, datagram_text, line_text, said};
 
 use crate::emit::{Detail, Emit, Report};
 use arrayvec::ArrayVec;
@@ -21,8 +21,8 @@ type Line = ArrayVec<u8, 4096>;
 /// Hexadecimal digits with capital letters, by their value.
 const DIGITS: [u8; 16] = *b"0123456789ABCDEF";
 
-fn put(piece: &[u8], out: &mut Line)
-    requires { array_vec_len out.old + length piece.now ≤ 4096 }
+fn append(piece: &[u8], out: &mut Line)
+    requires { array_vec_len out.old + length piece.now ≤ longest_line }
     ensures text { out.new.items ≡ out.old.items ++ piece.now }
     ensures len { array_vec_len out.new ≡ array_vec_len out.old + length piece.now }
 {
@@ -31,7 +31,7 @@ fn put(piece: &[u8], out: &mut Line)
 
 /// The number with so many decimals.
 #[tactic(auto, using(crate::proofs::Numbers::decimal_len))]
-fn put_decimal(number: u64, places: u8, out: &mut Line)
+fn append_decimal(number: u64, places: u8, out: &mut Line)
     requires places { places ≤ 6 }
     requires room { array_vec_len out.old ≤ 4000 }
     ensures text { out.new.items ≡ out.old.items ++ decimal_text false number places }
@@ -39,18 +39,18 @@ fn put_decimal(number: u64, places: u8, out: &mut Line)
 {
     let mut text = ArrayVec::new();
     write_decimal(false, number, places, &mut text);
-    put(text.as_slice(), out);
+    append(text.as_slice(), out);
 }
 
 #[tactic(auto, using(crate::proofs::Hex::hex_starts, crate::proofs::Hex::hex_goes_on))]
-fn put_hex(bytes: &[u8], out: &mut Line)
-    requires { array_vec_len out.old + 2 * length bytes.now ≤ 4096 }
+fn append_hex(bytes: &[u8], out: &mut Line)
+    requires { array_vec_len out.old + 2 * length bytes.now ≤ longest_line }
     ensures text { out.new.items ≡ out.old.items ++ encode_upper bytes.now }
     ensures len { array_vec_len out.new ≡ array_vec_len out.old + 2 * length bytes.now }
     ensures fit { IsBytes bytes.now }
 {
     for byte in bytes {
-        put(
+        append(
             &[
                 DIGITS[usize::from(*byte / 16)],
                 DIGITS[usize::from(*byte % 16)],
@@ -61,89 +61,89 @@ fn put_hex(bytes: &[u8], out: &mut Line)
 }
 
 /// The time of a line, and a space.
-fn put_time(moment: u64, out: &mut Line)
+fn append_time(moment: u64, out: &mut Line)
     requires { out.old.items ≡ [] }
     ensures text { out.new.items ≡ time_text moment }
     ensures len { array_vec_len out.new ≤ 30 }
 {
-    put(b"(", out);
-    put_decimal(moment, 6, out);
-    put(b") ", out);
+    append(b"(", out);
+    append_decimal(moment, 6, out);
+    append(b") ", out);
 }
 
 /// A key and its number.
 #[tactic(auto, using(crate::proofs::Numbers::plain_decimal))]
-fn put_part(key: &[u8], number: u64, out: &mut Line)
+fn append_part(key: &[u8], number: u64, out: &mut Line)
     requires key { length key.now ≤ 5 }
     requires room { array_vec_len out.old ≤ 3000 }
     ensures text { out.new.items ≡ out.old.items ++ part key.now number }
     ensures len { array_vec_len out.new ≤ array_vec_len out.old + 40 }
 {
-    put(b" ", out);
-    put(key, out);
-    put(b"=", out);
-    put_decimal(number, 0, out);
+    append(b" ", out);
+    append(key, out);
+    append(b"=", out);
+    append_decimal(number, 0, out);
 }
 
-fn put_detail(detail: &Detail, out: &mut Line)
+fn append_detail(detail: &Detail, out: &mut Line)
     requires { array_vec_len out.old ≤ 2000 }
     ensures { out.new.items ≡ out.old.items ++ detail_text detail.now }
 {
     match detail {
         Detail::Nothing => {}
         Detail::Source { address, pgn } => {
-            put_part(b"src", u64::from(*address), out);
-            put_part(b"pgn", u64::from(*pgn), out);
+            append_part(b"src", u64::from(*address), out);
+            append_part(b"pgn", u64::from(*pgn), out);
         }
-        Detail::Address(address) => put_part(b"addr", u64::from(*address), out),
-        Detail::At(at) => put_part(b"at", u64::from(*at), out),
+        Detail::Address(address) => append_part(b"addr", u64::from(*address), out),
+        Detail::At(at) => append_part(b"at", u64::from(*at), out),
         Detail::AtField { at, field } => {
-            put_part(b"at", u64::from(*at), out);
-            put_part(b"field", u64::from(*field), out);
+            append_part(b"at", u64::from(*at), out);
+            append_part(b"field", u64::from(*field), out);
         }
         Detail::GroupKey { sfi, code } => {
-            put(b" sfi=", out);
-            put(sfi.as_bytes(), out);
-            put_part(b"group", u64::from(*code), out);
+            append(b" sfi=", out);
+            append(sfi.as_bytes(), out);
+            append_part(b"group", u64::from(*code), out);
         }
-        Detail::Line(line) => put_part(b"line", *line, out),
-        Detail::Bus => put(b" link=bus", out),
-        Detail::Net => put(b" link=net", out),
+        Detail::Line(line) => append_part(b"line", *line, out),
+        Detail::Bus => append(b" link=bus", out),
+        Detail::Net => append(b" link=net", out),
     }
 }
 
 #[tactic(auto, using(crate::proofs::Numbers::plain_decimal))]
-fn put_report(report: &Report, out: &mut Line)
+fn append_report(report: &Report, out: &mut Line)
     requires { array_vec_len out.old ≤ 1000 }
     ensures { out.new.items ≡ out.old.items ++ report_text report.now }
 {
-    put(b"rule ", out);
-    put_decimal(u64::from(report.rule), 0, out);
-    put_detail(&report.detail, out);
+    append(b"rule ", out);
+    append_decimal(u64::from(report.rule), 0, out);
+    append_detail(&report.detail, out);
 }
 
-fn put_frame(frame: &Frame, out: &mut Line)
+fn append_frame(frame: &Frame, out: &mut Line)
     requires valid { IsFrame frame.now }
     requires room { array_vec_len out.old ≤ 1000 }
     ensures text { out.new.items ≡ out.old.items ++ frame_text (bus_frame frame.now) }
     ensures fit { IsBytes (to_be_bytes w32 frame.now.id) × IsBytes (held_bytes frame.now) }
 {
-    put(b"can0 ", out);
-    put_hex(&frame.id.to_be_bytes(), out);
-    put(b"#", out);
-    put_hex(frame.held(), out);
+    append(b"can0 ", out);
+    append_hex(&frame.id.to_be_bytes(), out);
+    append(b"#", out);
+    append_hex(frame.held(), out);
 }
 
-fn put_datagram(group: &Group, bytes: &[u8], out: &mut Line)
-    requires few { length bytes.now ≤ 512 }
+fn append_datagram(group: &Group, bytes: &[u8], out: &mut Line)
+    requires few { length bytes.now ≤ most_written }
     requires room { array_vec_len out.old ≤ 1000 }
     ensures text { out.new.items ≡ out.old.items ++ datagram_text group.now bytes.now }
     ensures fit { IsGroup group.now × IsBytes bytes.now }
 {
-    put(b"udp0 ", out);
-    put(group.as_bytes(), out);
-    put(b"#", out);
-    put_hex(bytes, out);
+    append(b"udp0 ", out);
+    append(group.as_bytes(), out);
+    append(b"#", out);
+    append_hex(bytes, out);
 }
 
 /// Leaves the line of an emit at a moment in microseconds, without a line end.
@@ -154,10 +154,10 @@ pub fn write_emit(emit: &Emit<'_>, moment: u64, out: &mut ArrayVec<u8, 4096>)
     // Below 10^16 microseconds the line of a frame or of a datagram is read back.
     ensures again { moment < 10 ^ 16 → IfSome (said emit.now moment) (λ event. IsLine event out.new.items × (read out.new.items ≡ Ok event)) }
 {
-    put_time(moment, out);
+    append_time(moment, out);
     match emit {
-        Emit::Can(frame) => put_frame(frame, out),
-        Emit::Net(group, bytes) => put_datagram(group, bytes, out),
-        Emit::Report(report) => put_report(report, out),
+        Emit::Can(frame) => append_frame(frame, out),
+        Emit::Net(group, bytes) => append_datagram(group, bytes, out),
+        Emit::Report(report) => append_report(report, out),
     }
 }

@@ -1,7 +1,7 @@
 use Rattle.std.proofs.Common.{◌≡◌, ◌++◌, ◌+◌, ◌*◌, take}
 use Rattle.arrayvec.specs.ArrayVec.{array_vec_len}
 use Rattle.hex.specs.Hex.{encode_upper}
-use Rattle.capture_text.proofs.writing.put_hex.Given as goal
+use Rattle.capture_text.proofs.writing.append_hex.Given as goal
 
 abbrev pub invariant-loop-byte : goal.invariant-loop-byte
 invariant-loop-byte l = record {
