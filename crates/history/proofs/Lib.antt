@@ -34,3 +34,12 @@ mod TransportCases
 mod NetCases
 mod ReplayCases
 mod IsolationCases
+pub mod NetChoiceCases
+pub mod GroupCases
+pub mod CounterCases
+pub mod RankCases
+pub mod WindowCases
+pub mod SessionCases
+pub mod OwnCases
+pub mod EndingCases
+pub mod LineCases

@@ -37,3 +37,12 @@ pub mod TransportCases
 pub mod NetCases
 pub mod ReplayCases
 pub mod IsolationCases
+pub mod NetChoiceCases
+pub mod GroupCases
+pub mod CounterCases
+pub mod RankCases
+pub mod WindowCases
+pub mod SessionCases
+pub mod OwnCases
+pub mod EndingCases
+pub mod LineCases

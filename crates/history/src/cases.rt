@@ -7,6 +7,15 @@ ghost use Rattle.history.specs.TransportCases as transport_cases;
 ghost use Rattle.history.specs.NetCases as net_cases;
 ghost use Rattle.history.specs.ReplayCases as replay_cases;
 ghost use Rattle.history.specs.IsolationCases as isolation_cases;
+ghost use Rattle.history.specs.NetChoiceCases as net_choice_cases;
+ghost use Rattle.history.specs.GroupCases as group_cases;
+ghost use Rattle.history.specs.CounterCases as counter_cases;
+ghost use Rattle.history.specs.RankCases as rank_cases;
+ghost use Rattle.history.specs.WindowCases as window_cases;
+ghost use Rattle.history.specs.SessionCases as session_cases;
+ghost use Rattle.history.specs.OwnCases as own_cases;
+ghost use Rattle.history.specs.EndingCases as ending_cases;
+ghost use Rattle.history.specs.LineCases as line_cases;
 
 /// What is emitted while addresses change hands.
 pub fn addresses_change_hands()
@@ -81,4 +90,79 @@ pub fn devices_are_apart()
     ensures one_done { isolation_cases.OneDone }
     ensures unheard { isolation_cases.Unheard }
     ensures not_refused { isolation_cases.NotRefused }
+{}
+
+/// Which source of the network is sent on.
+pub fn sources_of_the_network_are_chosen()
+    ensures first_listed { net_choice_cases.FirstListed }
+    ensures heard_while_silent { net_choice_cases.HeardWhileSilent }
+    ensures heard_before_ready { net_choice_cases.HeardBeforeReady }
+    ensures nothing_to_say { net_choice_cases.NothingToSay }
+    ensures same_datagram { net_choice_cases.SameDatagram }
+{}
+
+/// What lines of groups hand over.
+pub fn lines_are_joined()
+    ensures nine_lines { group_cases.NineLines }
+    ensures alone_in_its_group { group_cases.AloneInItsGroup }
+    ensures another_total { group_cases.AnotherTotal }
+    ensures sources_apart { group_cases.SourcesApart }
+    ensures first_again { group_cases.FirstAgain }
+{}
+
+/// How lines, groups of lines and fast packets are counted.
+pub fn what_goes_out_is_counted()
+    ensures each_group_its_lines { counter_cases.EachGroupItsLines }
+    ensures each_message_its_sequence { counter_cases.EachMessageItsSequence }
+{}
+
+/// Whose messages are said where the list of sources doesn't decide.
+pub fn names_decide()
+    ensures by_smaller_name { rank_cases.BySmallerName }
+    ensures not_listed { rank_cases.NotListed }
+    ensures others_by_name { rank_cases.OthersByName }
+{}
+
+/// How many packets a sender may send before it waits, and for how long.
+pub fn windows_are_granted()
+    ensures each_window { window_cases.EachWindow }
+    ensures within_a_window { window_cases.WithinAWindow }
+{}
+
+/// Which rules end a session of the transport protocol.
+pub fn sessions_break_off()
+    ensures out_of_order { session_cases.OutOfOrder }
+    ensures short_and_out_of_order { session_cases.ShortAndOutOfOrder }
+    ensures given_up { session_cases.GivenUp }
+    ensures begun_too_early { session_cases.BegunTooEarly }
+    ensures begun_again { session_cases.BegunAgain }
+{}
+
+/// What is for the gateway, and when it is ready, while its own address changes.
+pub fn the_own_address_moves()
+    ensures commanded_away { own_cases.CommandedAway }
+    ensures there_and_back { own_cases.ThereAndBack }
+    ensures by_way_of_none { own_cases.ByWayOfNone }
+    ensures asked_after_a_move { own_cases.AskedAfterAMove }
+    ensures asked_without_address { own_cases.AskedWithoutAddress }
+    ensures ready_after_a_command { own_cases.ReadyAfterACommand }
+    ensures defended_ready { own_cases.DefendedReady }
+    ensures own_name_elsewhere { own_cases.OwnNameElsewhere }
+    ensures malformed { own_cases.Malformed }
+{}
+
+/// How messages end that don't complete.
+pub fn messages_end()
+    ensures all_at_once { ending_cases.AllAtOnce }
+    ensures left_before_won { ending_cases.LeftBeforeWon }
+    ensures taken_at_once { ending_cases.TakenAtOnce }
+    ensures again_at_the_limit { ending_cases.AgainAtTheLimit }
+{}
+
+/// Which rules lines of datagrams break.
+pub fn lines_break_rules()
+    ensures bad_lines { line_cases.BadLines }
+    ensures bad_fields { line_cases.BadFields }
+    ensures own_line_elsewhere { line_cases.OwnLineElsewhere }
+    ensures one_line_too_many { line_cases.OneLineTooMany }
 {}
