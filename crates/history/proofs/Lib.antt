@@ -43,3 +43,4 @@ pub mod SessionCases
 pub mod OwnCases
 pub mod EndingCases
 pub mod LineCases
+pub mod Lengths

@@ -1,6 +1,6 @@
 -- Computed: the text of captures.
 use Rattle.std.proofs.Common.{refl}
-use Rattle.history.specs.ReplayCases.{OneLine, Backwards, CutOffInData, CutOffInIdentifier}
+use Rattle.history.specs.ReplayCases.{OneLine, Backwards, CutOffInData, CutOffInIdentifier, NotExtended}
 use Rattle.history.proofs.Computed.{cases}
 
 pub one_line : OneLine
@@ -18,3 +18,7 @@ cut_off_in_data = refl
 pub cut_off_in_identifier : CutOffInIdentifier
 unfolding cases
 cut_off_in_identifier = refl
+
+pub not_extended : NotExtended
+unfolding cases
+not_extended = refl

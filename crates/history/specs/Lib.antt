@@ -46,3 +46,4 @@ pub mod SessionCases
 pub mod OwnCases
 pub mod EndingCases
 pub mod LineCases
+pub mod LengthLaws

@@ -35,3 +35,7 @@ CutOffInData =
 
 abbrev pub CutOffInIdentifier : Type 0
 CutOffInIdentifier = replay_text two_devices (text (codes "(5.000000) can0 09F112" ∷ [])) ≡ text (codes "(0.000000) rule 1 line=1" ∷ [])
+
+-- a frame with an identifier of 11 bits
+abbrev pub NotExtended : Type 0
+NotExtended = replay_text two_devices (text (codes "(1.000000) can0 123#00" ∷ [])) ≡ text (codes "(0.000000) rule 4 line=1" ∷ [])

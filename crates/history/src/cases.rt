@@ -82,6 +82,7 @@ pub fn captures_are_replayed()
     ensures backwards { replay_cases.Backwards }
     ensures cut_off_in_data { replay_cases.CutOffInData }
     ensures cut_off_in_identifier { replay_cases.CutOffInIdentifier }
+    ensures not_extended { replay_cases.NotExtended }
 {}
 
 /// A device's messages, with and without another device between them.

@@ -16,5 +16,5 @@ pub use laws::{
     devices_are_isolated_in_two, fast_frames_step_their_key, fast_refusals_break,
     freshness_is_kept, gateways_receive, group_lines_step_their_group, open_keys_keep_the_limits,
     slots_count_open_keys, tables_say_the_refusals, transport_frames_step_their_session,
-    transport_refusals_break,
+    transport_refusals_break, what_is_too_long_is_told,
 };
