@@ -1,7 +1,8 @@
 -- What is given for datagrams and lines of captures that are too long: of any such one, since none of them computes as a case.
 use Rattle.std.specs.Prelude.{◌≡◌, ℕ, ◌<◌, List, [], ◌∷◌, ◌++◌, length, Option}
 use Rattle.capture_text.specs.declared.emit.Detail.TheVariants as detail
-use Rattle.datagram450.specs.Datagram.{header}
+use Rattle.capture_text.specs.Capture.{longest_line}
+use Rattle.datagram450.specs.Datagram.{header, longest_datagram}
 use Rattle.report_rules.specs.Rules.{datagram_long, line_long}
 use Rattle.history.specs.Entries.{History, datagram}
 use Rattle.history.specs.Settings.{Settings}
@@ -11,10 +12,10 @@ use Rattle.history.specs.Replay.{Running, moment_in, with_line}
 
 abbrev pub LongDatagrams : Type 0
 LongDatagrams =
-    (c : Settings) (s : ℕ) (h : History) (m : ℕ) (body : List ℕ) → 1472 < length (header ++ body)
-    → handled c s h (datagram m (header ++ body)) ≡ broken datagram_long (detail.At 1472) ∷ []
+    (c : Settings) (s : ℕ) (h : History) (m : ℕ) (body : List ℕ) → longest_datagram < length (header ++ body)
+    → handled c s h (datagram m (header ++ body)) ≡ broken datagram_long (detail.At longest_datagram) ∷ []
 
 abbrev pub LongLines : Type 0
 LongLines =
-    (c : Settings) (number : ℕ) (g : Option Running) (line : List ℕ) → 4096 < length line
+    (c : Settings) (number : ℕ) (g : Option Running) (line : List ℕ) → longest_line < length line
     → with_line c number g line ≡ record { emits = at (moment_in g) (broken line_long (detail.Line number) ∷ []); after = g }
