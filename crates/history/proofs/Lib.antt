@@ -23,6 +23,8 @@ pub mod IsoLimits
 pub mod GroupSteps
 pub mod GroupLimits
 pub mod Refusals
+pub mod HeardSteps
+pub mod Noted
 pub mod FastTable
 pub mod SessionTable
 mod Computed

@@ -28,6 +28,8 @@ pub mod IsolationLaws
 pub mod GroupLaws
 pub mod RefusalLaws
 pub mod RuleLaws
+pub mod HeardLaws
+pub mod NoteLaws
 pub mod Cases
 pub mod ClaimCases
 pub mod FastCases

@@ -8,6 +8,8 @@ ghost use Rattle.history.specs.LimitLaws.{FastWithinLimit, IsoWithinLimit, Group
 ghost use Rattle.history.specs.GroupLaws.{LinesStepGroup, LinesStandAlone, TimeEndsGroup};
 ghost use Rattle.history.specs.KeyLaws.{FramesStepFast, FramesKeepFast, TimeEndsFast, FramesStepIso, FramesCompleteIso, TimeEndsIso};
 ghost use Rattle.history.specs.RefusalLaws.{FastRefusalsBreak, TransportRefusalsBreak};
+ghost use Rattle.history.specs.HeardLaws.{DatagramsGiveInOrder, ReadingsCountFast};
+ghost use Rattle.history.specs.NoteLaws.{FramesAreNoted};
 ghost use Rattle.history.specs.RuleLaws.{FastRulesAreRefusals, SessionRulesAreVerdicts, EarlyBreaksNotReady};
 ghost use Rattle.history.specs.TraceLaws.{ClaimsMoveTraces, CommandsMoveTraces};
 
@@ -71,6 +73,19 @@ pub fn group_lines_step_their_group()
     ensures step { LinesStepGroup }
     ensures alone { LinesStandAlone }
     ensures later { TimeEndsGroup }
+{}
+
+/// A datagram gives what its items give, one after another, each by what was heard before it; so do the sentences of a line and the
+/// readings of a sentence. One more reading adds its PGN to the fast packets that were sent exactly where it is sent on as one.
+pub fn items_give_in_order()
+    ensures order { DatagramsGiveInOrder }
+    ensures fast { ReadingsCountFast }
+{}
+
+/// What is noted of a frame, whether the receiver was ready and whether there was room for a message that it opens, is what the history
+/// before it says.
+pub fn frames_are_noted()
+    ensures { FramesAreNoted }
 {}
 
 /// Whether a source is fresh in a row is known by its last message of that row since it holds its address: the next one takes its place,
