@@ -32,7 +32,7 @@ fresh_by_last rule k row source m older = by (since_of k source)
     by (Some since) = refl
 
 -- each message has the index of an entry of the history
-abbrev AreBelow : ℕ → List Message → Type 0
+abbrev pub AreBelow : ℕ → List Message → Type 0
 AreBelow n older = AllByRecursion (λ d. d.index < n) older
 
 later : (n : ℕ) (older : List Message) → AreBelow n older → AreBelow (suc n) older
@@ -44,7 +44,7 @@ added n m source None what older h = later n older h
 added n m source (Some x) None older h = later n older h
 added n m source (Some x) (Some w) older h = (omega arith, later n older h)
 
-below : (c : Receiver) (s : ℕ) (h : History) → AreBelow (length h) (messages_of c s h)
+pub below : (c : Receiver) (s : ℕ) (h : History) → AreBelow (length h) (messages_of c s h)
 below c s [] = tt
 below c s (frame m f ∷ h) =
     added (length h) m (parts_of f.id).source (holder_at (known c s h).claims.holders (parts_of f.id).source)

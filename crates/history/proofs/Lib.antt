@@ -24,6 +24,7 @@ pub mod GroupSteps
 pub mod GroupLimits
 pub mod Refusals
 pub mod HeardSteps
+pub mod ChoiceSteps
 pub mod Noted
 pub mod FastTable
 pub mod SessionTable

@@ -192,7 +192,7 @@ same_holders : (t : Bool) (c : Claims) (a m : ℕ) → (moved_if t c a m).holder
 same_holders true c a m = refl
 same_holders false c a m = refl
 
-commanded_holders : (c : Claims) (a m : ℕ) → (command c a m).holders ≡ c.holders
+pub commanded_holders : (c : Claims) (a m : ℕ) → (command c a m).holders ≡ c.holders
 unfolding command
 commanded_holders c a m = same_holders (is_obeyed c a) c a m
 

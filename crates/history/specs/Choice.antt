@@ -81,13 +81,13 @@ abbrev pub is_better : Rank → Option Rank → Bool
 is_better rank None = false
 is_better rank (Some other) = is_smaller other rank
 
+abbrev pub holder_rank : RowRule → Option Holder → Option Rank
+holder_rank rule None = None
+holder_rank rule (Some holder) = rank_of rule holder.name.0
+
 -- the holder of the address by its NAME has a smaller rank, and is fresh
 abbrev pub outranks : RowRule → Known → Row → Rank → ℕ → List Message → ℕ → Bool
-outranks rule k row rank m older source = is_better rank (rank_at rule (holder_at k.claims.holders source)) && is_fresh rule k row source m older
-  where
-    rank_at : RowRule → Option Holder → Option Rank
-    rank_at rule None = None
-    rank_at rule (Some holder) = rank_of rule holder.name.0
+outranks rule k row rank m older source = is_better rank (holder_rank rule (holder_at k.claims.holders source)) && is_fresh rule k row source m older
 
 -- a message with a reading is selected where its NAME has a rank in the row, and no source of a smaller rank is fresh just before;
 -- only one that has sent a message can be

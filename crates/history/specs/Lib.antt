@@ -28,6 +28,7 @@ pub mod IsolationLaws
 pub mod GroupLaws
 pub mod RefusalLaws
 pub mod RuleLaws
+pub mod ChoiceLaws
 pub mod HeardLaws
 pub mod NoteLaws
 pub mod Cases

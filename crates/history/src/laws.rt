@@ -8,6 +8,7 @@ ghost use Rattle.history.specs.LimitLaws.{FastWithinLimit, IsoWithinLimit, Group
 ghost use Rattle.history.specs.GroupLaws.{LinesStepGroup, LinesStandAlone, TimeEndsGroup};
 ghost use Rattle.history.specs.KeyLaws.{FramesStepFast, FramesKeepFast, TimeEndsFast, FramesStepIso, FramesCompleteIso, TimeEndsIso};
 ghost use Rattle.history.specs.RefusalLaws.{FastRefusalsBreak, TransportRefusalsBreak};
+ghost use Rattle.history.specs.ChoiceLaws.{FirstByAddresses, MessagesAreOfHolders};
 ghost use Rattle.history.specs.HeardLaws.{DatagramsGiveInOrder, ReadingsCountFast};
 ghost use Rattle.history.specs.NoteLaws.{FramesAreNoted};
 ghost use Rattle.history.specs.RuleLaws.{FastRulesAreRefusals, SessionRulesAreVerdicts, EarlyBreaksNotReady};
@@ -96,6 +97,13 @@ pub fn freshness_is_kept()
     ensures claims { ClaimsForget }
     ensures commands { CommandsForgetNone }
     ensures readings { ReadingsAreKept }
+{}
+
+/// A rank is the first in its row exactly where no address that can be held beats it, by its holder and its last message of the row. Each
+/// message from an address since its holder has it is of the holder's NAME.
+pub fn choice_is_by_address()
+    ensures first { FirstByAddresses }
+    ensures names { MessagesAreOfHolders }
 {}
 
 /// A map that holds what is open of a kind has as many places taken as keys of that kind are open, and is full for an opener exactly

@@ -1,0 +1,156 @@
+-- Who is first in a row, and whose NAME a message is of.
+use Rattle.std.proofs.Common.{◌≡◌, ℕ, zero, suc, ◌<◌, ◌≤◌, Bool, true, false, ◌&&◌, ◌||◌, not, List, [], ◌∷◌, ◌⊎◌, inl, inr, length, refl, sym, ap, subst, ◌∙◌, ◌==◌, arith}
+use Rattle.std.specs.Prelude.{Option, Some, None, find, if◌then◌else◌}
+use Rattle.std.specs.List.{AllByRecursion, list_any}
+use Rattle.std.proofs.lemmas.Bool.{and_parts, eqb-true, eq-eqb, cases_Bool, eqb-false, false≢true}
+use Rattle.n2k_id.specs.Frame.{BusFrame}
+use Rattle.n2k_id.specs.Identifier.{parts_of}
+use Rattle.readings.specs.declared.rows.Row.{Row}
+use Rattle.claim_table.specs.declared.answer.Holder.{Holder}
+use Rattle.claim_table.specs.Claims.{holder_at, holder_by, claim}
+use Rattle.claim_table.proofs.SoundLemmas.{held_within}
+use Rattle.history.specs.AddressLaws.{IsReceiver}
+use Rattle.history.specs.Entries.{History, frame, datagram, tick, command}
+use Rattle.history.specs.Settings.{RowRule}
+use Rattle.history.specs.Receiver.{Receiver}
+use Rattle.history.specs.Known.{Known, known, since_of, is_claim, claim_by}
+use Rattle.history.specs.Messages.{Message, Carried, messages_of, said_by, with_message, completed_by}
+use Rattle.history.specs.Opens.{note_of, notes_of}
+use Rattle.history.specs.Choice.{Rank, is_better, holder_rank, still_counts, outranks, is_of}
+use Rattle.history.specs.FreshLaws.{last_since, last_of}
+use Rattle.history.specs.ChoiceLaws.{addresses, beats, FirstByAddresses, IsOfHolder, MessagesAreOfHolders}
+use Rattle.history.proofs.Addresses.{addresses_are_sound}
+use Rattle.history.proofs.Fates.{fate, Fate}
+use Rattle.history.proofs.Fates as fates
+use Rattle.history.proofs.FreshSteps.{fresh_by_last, AreBelow, below, claim_says_none}
+use Rattle.history.proofs.KeySteps.{known_same}
+use Rattle.history.proofs.TraceMoves.{known_after_claim, commanded_holders}
+
+-- ---- two lists of which something passes a test
+
+both_ways : (a b : Bool) → (a ≡ true → b ≡ true) → (b ≡ true → a ≡ true) → a ≡ b
+both_ways true b f g = sym (f refl)
+both_ways false true f g = g refl
+both_ways false false f g = refl
+
+or_right : (a b : Bool) → b ≡ true → (a || b) ≡ true
+or_right true b e = refl
+or_right false b e = e
+
+-- one that passes
+pub some_one : {A : Type 0} (p : A → Bool) (xs : List A) → list_any p xs ≡ true → (x : A) × (p x ≡ true)
+some_one p [] e = absurd (false≢true e)
+some_one {A = A} p (x ∷ xs) e = by (p x) refl e (λ rest. some_one p xs rest)
+  where
+    by : (b : Bool) → p x ≡ b → (b || list_any p xs) ≡ true → (list_any p xs ≡ true → (y : A) × (p y ≡ true)) → (y : A) × (p y ≡ true)
+    by true ep e more = (x, ep)
+    by false ep e more = more e
+
+below_any : (p : ℕ → Bool) (n a : ℕ) → a < n → p a ≡ true → list_any p (addresses n) ≡ true
+below_any p zero a less e = absurd (omega (arith, less))
+below_any p (suc n) a less e = by (a == n) refl (λ le. below_any p n a le e)
+  where
+    by : (b : Bool) → (a == n) ≡ b → (a < n → list_any p (addresses n) ≡ true) → list_any p (addresses (suc n)) ≡ true
+    by true same more = let here : p n ≡ true = subst (λ (x : ℕ). p x ≡ true) (eqb-true a n same) e in rw here refl
+    by false other more = let apart = eqb-false a n other in or_right (p n) (list_any p (addresses n)) (more (omega (arith, less, apart)))
+
+-- what is found passes, and so does each that agrees with it
+found_any : (q p : Message → Bool) (older : List Message) (d : Message) → find q older ≡ Some d → ((x : Message) → q x ≡ true → p x ≡ true) → list_any p older ≡ true
+found_any q p [] d e agrees = cc
+found_any q p (x ∷ older) d e agrees = by (q x) refl e (λ f. found_any q p older d f agrees)
+  where
+    by : (b : Bool) → q x ≡ b → (if b then Some x else find q older) ≡ Some d → (find q older ≡ Some d → list_any p older ≡ true) → list_any p (x ∷ older) ≡ true
+    by true eq e more = rw (agrees x eq) refl
+    by false eq e more = or_right (p x) (list_any p older) (more e)
+
+module _ (rule : RowRule) (k : Known) (row : Row) (rank : Rank) (m : ℕ) (older : List Message) where
+  same_test : (a : ℕ) → outranks rule k row rank m older a ≡ beats rule k row rank m older a
+  same_test a = ap (λ (b : Bool). is_better rank (holder_rank rule (holder_at k.claims.holders a)) && b) (fresh_by_last rule k row a m older)
+
+  held : (a : ℕ) → beats rule k row rank m older a ≡ true → a < length k.claims.holders
+  held a e = by (holder_at k.claims.holders a) refl (and_parts (is_better rank (holder_rank rule (holder_at k.claims.holders a))) (still_counts rule.timeout m (last_of k row a older)) e).0
+    where
+      by : (x : Option Holder) → holder_at k.claims.holders a ≡ x → is_better rank (holder_rank rule x) ≡ true → a < length k.claims.holders
+      by None e better = absurd (false≢true better)
+      by (Some x) e better = held_within k.claims.holders a x e
+
+  -- an address that beats the rank has sent a message
+  has_sent : (a : ℕ) → beats rule k row rank m older a ≡ true → list_any (λ d. outranks rule k row rank m older d.source) older ≡ true
+  has_sent a e =
+      by (since_of k a) refl (and_parts (is_better rank (holder_rank rule (holder_at k.claims.holders a))) (still_counts rule.timeout m (last_of k row a older)) e).1
+    where
+      from_it : (x : Message) (since : ℕ) → is_of row a since x ≡ true → outranks rule k row rank m older x.source ≡ true
+      from_it x since is =
+          let same = eqb-true x.source a (and_parts (x.source == a) _ is).0 in
+          subst (λ (y : ℕ). outranks rule k row rank m older y ≡ true) (sym same) (same_test a ∙ e)
+
+      last : (since : ℕ) (o : Option Message) → find (is_of row a since) older ≡ o → still_counts rule.timeout m o ≡ true
+          → list_any (λ d. outranks rule k row rank m older d.source) older ≡ true
+      last since None e counts = absurd (false≢true counts)
+      last since (Some d) e counts = found_any (is_of row a since) (λ x. outranks rule k row rank m older x.source) older d e (λ x is. from_it x since is)
+
+      by : (since : Option ℕ) → since_of k a ≡ since → still_counts rule.timeout m (last_since row a older since) ≡ true
+          → list_any (λ d. outranks rule k row rank m older d.source) older ≡ true
+      by None e counts = absurd (false≢true counts)
+      by (Some since) e counts = last since (find (is_of row a since) older) refl counts
+
+pub first_by_addresses : FirstByAddresses
+first_by_addresses rule k row rank m older n enough = ap not (both_ways _ _ there back)
+  where
+    there : list_any (λ d. outranks rule k row rank m older d.source) older ≡ true → list_any (beats rule k row rank m older) (addresses n) ≡ true
+    there e =
+        let one = some_one (λ d. outranks rule k row rank m older d.source) older e in
+        let beaten : beats rule k row rank m older one.0.source ≡ true = sym (same_test rule k row rank m older one.0.source) ∙ one.1 in
+        let within = held rule k row rank m older one.0.source beaten in
+        below_any (beats rule k row rank m older) n one.0.source (omega (arith, within, enough)) beaten
+
+    back : list_any (beats rule k row rank m older) (addresses n) ≡ true → list_any (λ d. outranks rule k row rank m older d.source) older ≡ true
+    back e = let one = some_one (beats rule k row rank m older) (addresses n) e in has_sent rule k row rank m older one.0 one.1
+
+-- ---- the NAME of a message
+
+module _ (a : ℕ) where
+  -- a message that comes is of the holder of its source
+  said_held : (n m from : ℕ) (x : Option Holder) (holder : Holder) (what : Option Carried) (older : List Message) → ((from == a) ≡ true → x ≡ Some holder)
+      → AllByRecursion (IsOfHolder a holder) older → AllByRecursion (IsOfHolder a holder) (with_message (said_by n m from x what) older)
+  said_held n m from None holder what older same all = all
+  said_held n m from (Some x) holder None older same all = all
+  said_held n m from (Some x) holder (Some w) older same all = ((λ own le. named (same own)), all)
+    where
+      named : Some x ≡ Some holder → x.name.0 ≡ holder.name.0
+      named e = let one : x ≡ holder = cc in ap (λ (y : Holder). y.name.0) one
+
+  -- none is since an entry that comes after all
+  none_since : (i : ℕ) (holder : Holder) (older : List Message) → holder.since ≡ i → AreBelow i older → AllByRecursion (IsOfHolder a holder) older
+  none_since i holder [] e all = tt
+  none_since i holder (d ∷ older) e all = ((λ own le. absurd (omega (arith, e, le, all.0))), none_since i holder older e all.1)
+
+pub messages_are_of_holders : MessagesAreOfHolders
+messages_are_of_holders r s [] a holder are holds = tt
+messages_are_of_holders r s (frame m f ∷ h) a holder are holds = by (is_claim f) refl (λ x e. messages_are_of_holders r s h a x are e)
+  where
+    by : (b : Bool) → is_claim f ≡ b → ((x : Holder) → holder_at (known r s h).claims.holders a ≡ Some x → AllByRecursion (IsOfHolder a x) (messages_of r s h))
+        → AllByRecursion (IsOfHolder a holder) (messages_of r s (frame m f ∷ h))
+    by false other before =
+        let held : holder_at (known r s h).claims.holders a ≡ Some holder = ap (λ (k : Known). holder_at k.claims.holders a) (sym (known_same r s h m f other)) ∙ holds in
+        said_held a (length h) m (parts_of f.id).source (holder_at (known r s h).claims.holders (parts_of f.id).source) holder
+        (completed_by r.kinds (known r s h) (note_of r (length h) (known r s h) (notes_of r s h) m f) (notes_of r s h)) (messages_of r s h)
+        (λ own. ap (holder_at (known r s h).claims.holders) (eqb-true (parts_of f.id).source a own) ∙ held) (before holder held)
+    by true claims before =
+        let now : holder_at (claim (known r s h).claims (claim_by (length h) m f)).after.holders a ≡ Some holder =
+            ap (λ (k : Known). holder_at k.claims.holders a) (sym (known_after_claim r s h m f claims)) ∙ holds in
+        subst (AllByRecursion (IsOfHolder a holder)) (sym (claim_says_none r s h m f are claims))
+        (fated (fate (known r s h).claims (claim_by (length h) m f) (addresses_are_sound r s h are).sound a) now)
+      where
+        fated : Fate (known r s h).claims (claim_by (length h) m f) (claim (known r s h).claims (claim_by (length h) m f)) a
+            → holder_at (claim (known r s h).claims (claim_by (length h) m f)).after.holders a ≡ Some holder → AllByRecursion (IsOfHolder a holder) (messages_of r s h)
+        fated (fates.stays kept same) now = before holder (sym same ∙ now)
+        fated (fates.begins (inl new) old) now =
+            let one : Some (holder_by (claim_by (length h) m f)) ≡ Some holder = sym new ∙ now in
+            let is : holder_by (claim_by (length h) m f) ≡ holder = cc in
+            none_since a (length h) holder (messages_of r s h) (ap (λ (x : Holder). x.since) (sym is)) (below r s h)
+        fated (fates.begins (inr gone) old) now = let no : None ≡ Some holder = sym gone ∙ now in cc
+messages_are_of_holders r s (datagram m bytes ∷ h) a holder are holds = messages_are_of_holders r s h a holder are holds
+messages_are_of_holders r s (tick m ∷ h) a holder are holds = messages_are_of_holders r s h a holder are holds
+messages_are_of_holders r s (command m source address ∷ h) a holder are holds =
+    messages_are_of_holders r s h a holder are (ap (λ (x : List (Option Holder)). holder_at x a) (sym (commanded_holders (known r s h).claims address m)) ∙ holds)

@@ -1,0 +1,8 @@
+use Rattle.history.proofs.ChoiceSteps.{first_by_addresses, messages_are_of_holders}
+use Rattle.history.proofs.laws.choice_is_by_address.Goals as goal
+
+pub returns-clause-first : goal.returns-clause-first
+returns-clause-first c = first_by_addresses
+
+pub returns-clause-names : goal.returns-clause-names
+returns-clause-names c = messages_are_of_holders

@@ -1,0 +1,38 @@
+-- Who is first in a row, by what is kept of each address, and whose NAME a message is of.
+use Rattle.std.specs.Prelude.{◌≡◌, ℕ, zero, suc, ◌≤◌, Bool, true, ◌&&◌, not, ◌==◌, List, [], ◌∷◌, length, Some}
+use Rattle.std.specs.List.{AllByRecursion, list_any}
+use Rattle.readings.specs.declared.rows.Row.{Row}
+use Rattle.claim_table.specs.Claims.{holder_at}
+use Rattle.claim_table.specs.declared.answer.Holder.{Holder}
+use Rattle.history.specs.AddressLaws.{IsReceiver}
+use Rattle.history.specs.Entries.{History}
+use Rattle.history.specs.Settings.{RowRule}
+use Rattle.history.specs.Receiver.{Receiver}
+use Rattle.history.specs.Known.{Known, known}
+use Rattle.history.specs.Messages.{Message, messages_of}
+use Rattle.history.specs.Choice.{Rank, is_better, holder_rank, still_counts, is_first}
+use Rattle.history.specs.FreshLaws.{last_of}
+
+-- the addresses below a number
+abbrev pub addresses : ℕ → List ℕ
+addresses zero = []
+addresses (suc n) = n ∷ addresses n
+
+-- the holder of the address has a smaller rank, and its last message of the row counts still
+abbrev pub beats : RowRule → Known → Row → Rank → ℕ → List Message → ℕ → Bool
+beats rule k row rank m older a = is_better rank (holder_rank rule (holder_at k.claims.holders a)) && still_counts rule.timeout m (last_of k row a older)
+
+-- a rank is the first exactly where none of the addresses that can be held beats it
+abbrev pub FirstByAddresses : Type 0
+FirstByAddresses =
+    (rule : RowRule) (k : Known) (row : Row) (rank : Rank) (m : ℕ) (older : List Message) (n : ℕ) → length k.claims.holders ≤ n
+    → is_first rule k row m older (Some rank) ≡ not (list_any (beats rule k row rank m older) (addresses n))
+
+-- each message from an address since its holder has it is of the holder's NAME
+abbrev pub IsOfHolder : ℕ → Holder → Message → Type 0
+IsOfHolder a holder d = (d.source == a) ≡ true → holder.since ≤ d.index → d.name ≡ holder.name.0
+
+abbrev pub MessagesAreOfHolders : Type 0
+MessagesAreOfHolders =
+    (r : Receiver) (s : ℕ) (h : History) (a : ℕ) (holder : Holder) → IsReceiver r → holder_at (known r s h).claims.holders a ≡ Some holder
+    → AllByRecursion (IsOfHolder a holder) (messages_of r s h)
