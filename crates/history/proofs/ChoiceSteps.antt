@@ -138,7 +138,7 @@ messages_are_of_holders r s (frame m f ∷ h) a holder are holds = by (is_claim 
         (λ own. ap (holder_at (known r s h).claims.holders) (eqb-true (parts_of f.id).source a own) ∙ held) (before holder held)
     by true claims before =
         let now : holder_at (claim (known r s h).claims (claim_by (length h) m f)).after.holders a ≡ Some holder =
-            ap (λ (k : Known). holder_at k.claims.holders a) (sym (known_after_claim r s h m f claims)) ∙ holds in
+        ap (λ (k : Known). holder_at k.claims.holders a) (sym (known_after_claim r s h m f claims)) ∙ holds in
         subst (AllByRecursion (IsOfHolder a holder)) (sym (claim_says_none r s h m f are claims))
         (fated (fate (known r s h).claims (claim_by (length h) m f) (addresses_are_sound r s h are).sound a) now)
       where

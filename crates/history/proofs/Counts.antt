@@ -46,7 +46,7 @@ any_inserted p before k (x ∷ ks) = by (before k x) (any_inserted p before k ks
     by false rest = ap (λ b. p x || b) rest ∙ turn (p x) (p k) (list_any p ks)
 
 module _ {K : Type 0} {cmp : K → K → Ordering} (o : IsTotalOrder cmp) (same before : K → K → Bool) (tells : (a b : K) → is_at (cmp a) b ≡ same a b) where
-  any_tells : (k : K) (ks : List K) → list_any (is_at (cmp k)) ks ≡ list_any (same k) ks
+  pub any_tells : (k : K) (ks : List K) → list_any (is_at (cmp k)) ks ≡ list_any (same k) ks
   any_tells k [] = refl
   any_tells k (x ∷ ks) = rw (tells k x, any_tells k ks) refl
 
@@ -72,7 +72,7 @@ module _ {K : Type 0} {cmp : K → K → Ordering} (o : IsTotalOrder cmp) (same 
       by true e = distinct
       by false e = distinct_inserted k ks (any_tells k ks ∙ e) distinct
 
-filter_twice : {K : Type 0} (p q : K → Bool) (ks : List K) → filter p (filter q ks) ≡ filter (λ j. p j && q j) ks
+pub filter_twice : {K : Type 0} (p q : K → Bool) (ks : List K) → filter p (filter q ks) ≡ filter (λ j. p j && q j) ks
 filter_twice p q [] = refl
 filter_twice p q (k ∷ ks) = by (q k) refl (p k) refl (filter_twice p q ks)
   where

@@ -90,7 +90,7 @@ module _ (kinds : ℕ → Kind) (cmp : FastKey → FastKey → Ordering) (k : Kn
           let closed : is_some (fast_open k notes key m) ≡ false = ap (λ (t : List FastPiece). is_some (open_at fast_rules t m)) nothing in
           absurd (false≢true (sym closed ∙ is_open))
 
-  held : Held cmp same_fast before_fast (fast_keys kinds notes) (λ key. is_fast (kinds key.pgn)) (λ key. is_some (fast_open k notes key m)) slots
+  pub held : Held cmp same_fast before_fast (fast_keys kinds notes) (λ key. is_fast (kinds key.pgn)) (λ key. is_some (fast_open k notes key m)) slots
   held = record {
     order = h.order;
     tells = h.tells;
@@ -109,4 +109,4 @@ module _ (kinds : ℕ → Kind) (cmp : FastKey → FastKey → Ordering) (k : Kn
   counts = record { count = counted held; room = room held }
 
 pub slots_count_fast : SlotsCountFast
-slots_count_fast cmp k notes m slots h = counts cmp k notes m slots h
+slots_count_fast kinds cmp k notes m slots h = counts kinds cmp k notes m slots h

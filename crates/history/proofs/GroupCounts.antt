@@ -81,7 +81,7 @@ module _ (cmp : GroupKey → GroupKey → Ordering) (taken : List Taken) (m : �
           let closed : is_some (group_open taken key m) ≡ false = ap (λ (t : List GroupLine). is_some (open_at group_rules t m)) (no_lines key taken e) in
           absurd (false≢true (sym closed ∙ is_open))
 
-  held : Held cmp same_group before_group (group_keys taken) (λ key. true) (λ key. is_some (group_open taken key m)) slots
+  pub held : Held cmp same_group before_group (group_keys taken) (λ key. true) (λ key. is_some (group_open taken key m)) slots
   held = record {
     order = h.order;
     tells = h.tells;

@@ -156,7 +156,7 @@ module _ (cmp : IsoKey → IsoKey → Ordering) (k : Known) (notes : List Note) 
           let closed : is_some (iso_open k notes key m) ≡ false = ap (λ (t : List IsoPiece). is_some (open_at (iso_rules key.addressed) t m)) (no_frames k h.sound key notes e) in
           absurd (false≢true (sym closed ∙ is_open))
 
-  held : Held cmp same_iso before_iso (iso_keys notes) (λ key. true) (λ key. is_some (iso_open k notes key m)) slots
+  pub held : Held cmp same_iso before_iso (iso_keys notes) (λ key. true) (λ key. is_some (iso_open k notes key m)) slots
   held = record {
     order = h.order;
     tells = h.tells;

@@ -7,9 +7,11 @@ pub mod KeySteps
 pub mod SessionSteps
 pub mod FreshSteps
 pub mod Counts
+pub mod KeyLists
 pub mod FastCounts
 pub mod IsoCounts
 pub mod GroupCounts
+pub mod SlotLists
 pub mod Erased
 pub mod Normal
 pub mod Unseen

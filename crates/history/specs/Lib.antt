@@ -23,6 +23,7 @@ pub mod TraceLaws
 pub mod KeyLaws
 pub mod FreshLaws
 pub mod CountLaws
+pub mod ListLaws
 pub mod LimitLaws
 pub mod IsolationLaws
 pub mod GroupLaws

@@ -9,6 +9,7 @@ ghost use Rattle.history.specs.GroupLaws.{LinesStepGroup, LinesStandAlone, TimeE
 ghost use Rattle.history.specs.KeyLaws.{FramesStepFast, FramesKeepFast, TimeEndsFast, FramesStepIso, FramesCompleteIso, TimeEndsIso};
 ghost use Rattle.history.specs.RefusalLaws.{FastRefusalsBreak, TransportRefusalsBreak};
 ghost use Rattle.history.specs.ChoiceLaws.{FirstByAddresses, MessagesAreOfHolders};
+ghost use Rattle.history.specs.ListLaws.{SlotsListFast, SlotsListIso, SlotsListGroups};
 ghost use Rattle.history.specs.HeardLaws.{DatagramsGiveInOrder, ReadingsCountFast};
 ghost use Rattle.history.specs.NoteLaws.{FramesAreNoted};
 ghost use Rattle.history.specs.RuleLaws.{FastRulesAreRefusals, SessionRulesAreVerdicts, EarlyBreaksNotReady};
@@ -112,6 +113,14 @@ pub fn slots_count_open_keys()
     ensures fast { SlotsCountFast }
     ensures iso { SlotsCountIso }
     ensures groups { SlotsCountGroups }
+{}
+
+/// Where such a map is in the order of the reports, the keys of its entries that pass a test are the open ones that pass it, and those of
+/// its entries that end, by time or after a claim or a command, are the ones whose endings are reported, in that order.
+pub fn slots_list_open_keys()
+    ensures fast { SlotsListFast }
+    ensures iso { SlotsListIso }
+    ensures groups { SlotsListGroups }
 {}
 
 /// Which messages of a device are complete is decided by the claims, the commands and its own frames alone, as long as none of its
