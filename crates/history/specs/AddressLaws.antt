@@ -1,8 +1,9 @@
 -- What holds of the addresses after every history.
 use Rattle.std.specs.Prelude.{◌≡◌, ℕ, ◌<◌, ◌≤◌, false, length, All}
-use Rattle.claim_table.specs.Claims.{IsSinceBy}
+use Rattle.claim_table.specs.Claims.{IsSinceBy, move_places}
 use Rattle.claim_table.specs.Laws.{IsSound}
 use Rattle.claim_table.specs.Presets.{repeats, takes}
+use Rattle.history.specs.Pgns as pgns
 use Rattle.history.specs.Entries.{History}
 use Rattle.pgn_profile.specs.declared.kinds.Kind.TheVariants.{Outside}
 use Rattle.history.specs.Settings.{Settings}
@@ -12,18 +13,18 @@ use Rattle.history.specs.Known.{Known, known}
 -- settings of which a gateway can be made: it begins with an address that a device may move to, no two presets share an address
 -- or a NAME, and none has the gateway's own
 pub record AreSettings (c : Settings) : Type 0 where
-  pub address : c.address < 252
+  pub address : c.address < move_places
   pub apart : repeats c.presets ≡ false
   pub others : takes c.name c.address c.presets ≡ false
 
 -- a receiver that can be: so are its address and presets, and no PGN of claims or of the transport protocol is a message by itself
 pub record IsReceiver (r : Receiver) : Type 0 where
-  pub address : r.address < 252
+  pub address : r.address < move_places
   pub apart : repeats r.presets ≡ false
   pub others : takes r.name r.address r.presets ≡ false
-  pub claims : r.kinds 60928 ≡ Outside
-  pub management : r.kinds 60416 ≡ Outside
-  pub data_packets : r.kinds 60160 ≡ Outside
+  pub claims : r.kinds pgns.address_claimed ≡ Outside
+  pub management : r.kinds pgns.connection_management ≡ Outside
+  pub data_packets : r.kinds pgns.data_transfer ≡ Outside
 
 -- a gateway of such settings is one
 abbrev pub GatewaysReceive : Type 0

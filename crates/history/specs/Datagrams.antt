@@ -1,7 +1,9 @@
--- The datagram in which a selected message is said.
+-- The datagram in which a selected message is said (IEC 61162-450), and the counters of what was said.
 use Rattle.std.specs.Prelude.{ℕ, ◌+◌, ◌%◌, nat_le, nat_eq, Bool, List, [], ◌∷◌, ◌++◌, length, Option, Some, None, if◌then◌else◌}
 use Rattle.std.specs.Cmp.Lexicographic.{pointwise}
 use Rattle.tag_block.specs.declared.group_part.GroupPart.{GroupPart}
+use Rattle.tag_block.specs.Numbers.{most_count}
+use Rattle.tag_block.specs.Writing.{most_written_code}
 use Rattle.datagram450.specs.Datagram.{header}
 use Rattle.datagram450.specs.Writing.{line_text}
 
@@ -27,7 +29,7 @@ line_groups (x ∷ xs) = if nat_le 2 x.lines then line_groups xs + 1 else line_g
 -- the code of a line group is from 1 to 99, in turn
 
 abbrev pub next_code : List Spoken → ℕ
-next_code before = line_groups before % 99 + 1
+next_code before = line_groups before % most_written_code + 1
 
 -- ---- the datagram
 
@@ -35,11 +37,11 @@ next_code before = line_groups before % 99 + 1
 abbrev pub part_of : ℕ → ℕ → ℕ → Option GroupPart
 part_of total code number = if nat_le 2 total then Some (record { number = number; total = total; code = code }) else None
 
--- so many lines were said before on the transmission group, modulo 999
+-- so many lines were said before on the transmission group, modulo the greatest count
 abbrev pub lines_from : List ℕ → ℕ → ℕ → ℕ → ℕ → List (List ℕ) → List ℕ
 lines_from sfi total code before number [] = []
 lines_from sfi total code before number (x ∷ xs) =
-    line_text (record { group = part_of total code number; source = sfi; count = before % 999 + 1 }) x ++ lines_from sfi total code (before + 1) (number + 1) xs
+    line_text (record { group = part_of total code number; source = sfi; count = before % most_count + 1 }) x ++ lines_from sfi total code (before + 1) (number + 1) xs
 
 abbrev pub datagram_of : List ℕ → List Spoken → List ℕ → List (List ℕ) → List ℕ
 datagram_of sfi before group sentences = header ++ lines_from sfi (length sentences) (next_code before) (lines_on group before) 1 sentences

@@ -8,6 +8,7 @@ use Rattle.capture_text.specs.declared.emit.Detail.TheVariants as detail
 use Rattle.capture_text.specs.declared.emit.Report.{Report}
 use Rattle.iso_transport.specs.declared.reply.Reply.{Reply}
 use Rattle.iso_transport.specs.Replies.{reply_bytes}
+use Rattle.history.specs.Pgns as pgns
 
 pub data Emit : Type 0 where
   -- a frame for the bus
@@ -52,11 +53,12 @@ abbrev pub of_source : ℕ → ℕ → ℕ → Emit
 of_source rule source pgn = broken rule (detail.Source source pgn)
 
 abbrev pub sent : ℕ → ℕ → ℕ → ℕ → List ℕ → Emit
-sent priority pgn destination source held = can (record { id = identifier_of (record { priority = priority; pgn = pgn; destination = destination; source = source }); held = held })
+sent priority pgn destination source held =
+    can (record { id = identifier_of (record { priority = priority; pgn = pgn; destination = destination; source = source }); held = held })
 
--- the claim of an address by a NAME; a device that can claim none says so from address 254
+-- the claim of an address by a NAME (ISO 11783-5); a device that can claim none says so from address 254
 abbrev pub claim_frame : ℕ → ℕ → Emit
-claim_frame name address = sent 6 60928 255 address (name_bytes name)
+claim_frame name address = sent 6 pgns.address_claimed 255 address (name_bytes name)
 
 abbrev pub own_claim : ℕ → Option ℕ → Emit
 own_claim name None = claim_frame name 254
@@ -64,12 +66,12 @@ own_claim name (Some address) = claim_frame name address
 
 -- the request for the claims of all
 abbrev pub request_for_claims : ℕ → Emit
-request_for_claims address = sent 6 59904 255 address (0x00 ∷ 0xEE ∷ 0x00 ∷ [])
+request_for_claims address = sent 6 pgns.request 255 address (0x00 ∷ 0xEE ∷ 0x00 ∷ [])
 
--- a reply of the transport protocol; without an own address there is none
+-- a reply of the transport protocol (ISO 11783-3); without an own address there is none
 abbrev pub reply_from : Option ℕ → ℕ → Reply → List Emit
 reply_from None destination reply = []
-reply_from (Some own) destination reply = sent 7 60416 destination own (reply_bytes reply) ∷ []
+reply_from (Some own) destination reply = sent 7 pgns.connection_management destination own (reply_bytes reply) ∷ []
 
 abbrev pub replied : Option ℕ → ℕ → Option Reply → List Emit
 replied own destination None = []

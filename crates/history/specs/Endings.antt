@@ -1,6 +1,7 @@
--- The messages that end before they are complete: by time, or since an address changes hands.
+-- The messages that end before they are complete: by time, or since an address changes hands (ISO 11783-5).
 use Rattle.std.specs.Prelude.{ℕ, Bool, false, ◌&&◌, ◌||◌, not, ◌==◌, List, [], ◌∷◌, ◌++◌, filter, Option, Some, None, is_some, is_none, if◌then◌else◌}
 use Rattle.std.specs.List.{flat_map}
+use Rattle.claim_table.specs.Claims.{is_at}
 use Rattle.iso_transport.specs.declared.reply.Reply.{Reply}
 use Rattle.iso_transport.specs.declared.reply.Reply.TheVariants.{Abort}
 use Rattle.iso_transport.specs.IsoRuns.{IsoPiece, session_of}
@@ -33,38 +34,45 @@ pgn_of (Some acc) = (session_of acc).pgn
 abbrev pub session_pgn : Known → List Note → IsoKey → ℕ → ℕ
 session_pgn k notes key m = pgn_of (iso_open k notes key m)
 
--- ---- by time (rule 16), in the order of the keys; the sender of an addressed session is told so with reason 3
+-- ---- by time (rule 16), in the order of the keys; the sender of an addressed session gets an abort
+-- with reason 3 (ISO 11783-3)
 
 abbrev pub abort_reply : Bool → ℕ → Option Reply
 abort_reply addressed pgn = if addressed then Some (Abort 3 pgn) else None
 
-module _ (k : Known) (notes : List Note) (before m : ℕ) where
+module _ (k : Known) (notes : List Note) (earlier m : ℕ) where
   abbrev pub fast_expired : (ℕ → Kind) → List Emit
-  fast_expired kinds = flat_map (λ key. of_source rules.expired key.source key.pgn ∷ []) (filter (fast_ended k before k m notes) (fast_keys kinds notes))
+  fast_expired kinds =
+      flat_map (λ key. of_source rules.expired key.source key.pgn ∷ []) (filter (fast_ended k earlier k m notes) (fast_keys kinds notes))
 
   abbrev pub iso_expired : List Emit
   iso_expired =
       flat_map
-      (λ key. let pgn = session_pgn k notes key before in of_source rules.expired key.source pgn ∷ replied k.claims.own key.source (abort_reply key.addressed pgn))
-      (filter (iso_ended k before k m notes) (iso_keys notes))
+      (λ key.
+      let pgn = session_pgn k notes key earlier in
+      of_source rules.expired key.source pgn ∷ replied k.claims.own key.source (abort_reply key.addressed pgn))
+      (filter (iso_ended k earlier k m notes) (iso_keys notes))
 
 -- groups of lines that are overdue (rule 42), in the order of their keys
 abbrev pub group_ended : List Taken → ℕ → ℕ → GroupKey → Bool
-group_ended taken before m key = is_some (group_open taken key before) && is_none (group_open taken key m)
+group_ended lines earlier m key = is_some (group_open lines key earlier) && is_none (group_open lines key m)
 
 abbrev pub groups_expired : List Taken → ℕ → ℕ → List Emit
-groups_expired taken before m =
-    flat_map (λ key. broken rules.group_expired (detail.GroupKey key.sfi key.code) ∷ []) (filter (group_ended taken before m) (group_keys taken))
+groups_expired lines earlier m =
+    flat_map (λ key. broken rules.group_expired (detail.GroupKey key.sfi key.code) ∷ []) (filter (group_ended lines earlier m) (group_keys lines))
 
 -- ---- by a claim or a command (rule 17), all at one moment
 
 module _ (k after : Known) (notes : List Note) (m : ℕ) where
   abbrev pub fast_lost : (ℕ → Kind) → (FastKey → Bool) → List Emit
-  fast_lost kinds is_meant = flat_map (λ key. of_source rules.claim_lost key.source key.pgn ∷ []) (filter (λ key. is_meant key && fast_ended k m after m notes key) (fast_keys kinds notes))
+  fast_lost kinds is_meant =
+      flat_map (λ key. of_source rules.claim_lost key.source key.pgn ∷ [])
+      (filter (λ key. is_meant key && fast_ended k m after m notes key) (fast_keys kinds notes))
 
   abbrev pub iso_lost : (IsoKey → Bool) → List Emit
   iso_lost is_meant =
-      flat_map (λ key. of_source rules.claim_lost key.source (session_pgn k notes key m) ∷ []) (filter (λ key. is_meant key && iso_ended k m after m notes key) (iso_keys notes))
+      flat_map (λ key. of_source rules.claim_lost key.source (session_pgn k notes key m) ∷ [])
+      (filter (λ key. is_meant key && iso_ended k m after m notes key) (iso_keys notes))
 
   -- of one address: fast packets by PGN, then the broadcast session, then the addressed one
   abbrev pub lost_at : (ℕ → Kind) → Option ℕ → List Emit
@@ -73,8 +81,4 @@ module _ (k after : Known) (notes : List Note) (m : ℕ) where
 
   -- the other addressed sessions, by source
   abbrev pub lost_elsewhere : Option ℕ → Option ℕ → List Emit
-  lost_elsewhere left won = iso_lost (λ key. key.addressed && not (is_at left key.source || is_at won key.source))
-    where
-      is_at : Option ℕ → ℕ → Bool
-      is_at None a = false
-      is_at (Some b) a = b == a
+  lost_elsewhere left won = iso_lost (λ key. key.addressed && not (is_at key.source left || is_at key.source won))

@@ -29,7 +29,9 @@ tells row source (Some d) = (d.source == source) && is_row row (reading_of d)
 
 -- whether a source is fresh depends on that message alone
 abbrev pub FreshByLast : Type 0
-FreshByLast = (rule : RowRule) (k : Known) (row : Row) (source m : ℕ) (older : List Message) → is_fresh rule k row source m older ≡ still_counts rule.timeout m (last_of k row source older)
+FreshByLast =
+    (rule : RowRule) (k : Known) (row : Row) (source m : ℕ) (older : List Message)
+    → is_fresh rule k row source m older ≡ still_counts rule.timeout m (last_of k row source older)
 
 -- a message takes the place of the one before, of its row and its source
 abbrev pub MessagesAreKept : Type 0
@@ -49,7 +51,8 @@ ClaimsForget =
 abbrev pub CommandsForgetNone : Type 0
 CommandsForgetNone =
     (c : Receiver) (s : ℕ) (h : History) (m from address : ℕ) (row : Row) (source : ℕ)
-    → last_of (known c s (command m from address ∷ h)) row source (messages_of c s (command m from address ∷ h)) ≡ last_of (known c s h) row source (messages_of c s h)
+    → last_of (known c s (command m from address ∷ h)) row source (messages_of c s (command m from address ∷ h))
+    ≡ last_of (known c s h) row source (messages_of c s h)
 
 -- on the network there are no claims: a reading takes the place of the one before, of its row and its source, and none is forgotten
 abbrev pub ReadingsAreKept : Type 0

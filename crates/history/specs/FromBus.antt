@@ -19,6 +19,7 @@ use Rattle.iso_transport.specs.IsoRuns.{IsoPiece}
 use Rattle.iso_transport.specs.RunVerdicts.{reply_to}
 use Rattle.capture_text.specs.declared.emit.Report.{Report}
 use Rattle.capture_text.specs.declared.emit.Detail.TheVariants as detail
+use Rattle.history.specs.Pgns as pgns
 use Rattle.history.specs.Entries as entry
 use Rattle.history.specs.Entries.{Entry, History}
 use Rattle.pgn_profile.specs.Profiled.{kind_of}
@@ -63,7 +64,7 @@ abbrev pub asked : List ℕ → ℕ
 asked held = slice_index held 0 + 256 * slice_index held 1 + 65536 * slice_index held 2
 
 abbrev pub request_gives : ℕ → Option ℕ → List ℕ → List Emit
-request_gives name own held = if not (nat_lt (length held) 3) && (asked held == 60928) then own_claim name own ∷ [] else []
+request_gives name own held = if not (nat_lt (length held) 3) && (asked held == pgns.address_claimed) then own_claim name own ∷ [] else []
 
 -- ---- a frame of the transport protocol (ISO 11783-3): the reply to its sender, by the frames of its session that are open
 
@@ -125,7 +126,7 @@ module _ (c : Settings) (s : ℕ) (h : History) (m : ℕ) (f : BusFrame) where
 -- ---- a command to go to an address (ISO 11783-5), which is obeyed or is rule 26
 
 abbrev pub command_breaks : Claims → ℕ → ℕ → List Report
-command_breaks claims source address = broken_of (breaks (not (is_obeyed claims address)) rules.command_not_obeyed (detail.Source source 65240) ∷ [])
+command_breaks claims source address = broken_of (breaks (not (is_obeyed claims address)) rules.command_not_obeyed (detail.Source source pgns.commanded_address) ∷ [])
 
 abbrev pub command_gives : ℕ → ℕ → Known → List Note → ℕ → ℕ → ℕ → List Emit
 command_gives name index k notes m source address =

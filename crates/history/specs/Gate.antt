@@ -11,6 +11,7 @@ use Rattle.datagram450.specs.Item.{Item}
 use Rattle.capture_text.specs.declared.emit.Report.{Report}
 use Rattle.capture_text.specs.declared.emit.Detail.TheVariants as detail
 use Rattle.report_rules.specs.Rules as rules
+use Rattle.history.specs.Pgns as pgns
 use Rattle.history.specs.Entries as entry
 use Rattle.history.specs.Entries.{Entry, History, now, moment_of, is_accepted}
 use Rattle.pgn_profile.specs.Profiled.{kind_of}
@@ -85,10 +86,10 @@ module _ (c : Settings) (s : ℕ) where
   abbrev pub out : History → Entry → List Emit
   out h e = expired h (moment_of e) ++ handled h e
 
-  -- the command that an entry completes: a message of PGN 65240 whose first 8 bytes are the own NAME; the ninth is the address
+  -- the command that an entry completes: a commanded address, whose first 8 bytes are the own NAME; the ninth is the address
   abbrev pub command_in : Option Message → ℕ → Option Entry
   command_in None m = None
-  command_in (Some d) m = if (d.pgn == 65240) && (nat_le 9 (length d.payload) && (name_at d.payload == c.name))
+  command_in (Some d) m = if (d.pgn == pgns.commanded_address) && (nat_le 9 (length d.payload) && (name_at d.payload == c.name))
       then Some (entry.command m d.source (slice_index d.payload 8)) else None
 
   -- ---- an event that is offered

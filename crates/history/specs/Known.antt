@@ -1,11 +1,12 @@
--- Who holds which address of the bus (ISO 11783-5), as a fold over the history.
+-- Who holds which address of the bus (ISO 11783-5, address claims and the commanded address), as a fold over the history.
 use Rattle.std.specs.Prelude.{ℕ, Bool, false, ◌&&◌, not, ◌==◌, nat_le, [], ◌∷◌, length, Option, Some, None, option_map, if◌then◌else◌}
 use Rattle.n2k_id.specs.Frame.{BusFrame}
 use Rattle.n2k_id.specs.Identifier.{parts_of}
 use Rattle.n2k_id.specs.Name.{name_at}
 use Rattle.claim_table.specs.Presets.{opened}
 use Rattle.claim_table.specs.declared.answer.ClaimStep.{ClaimStep}
-use Rattle.claim_table.specs.Claims.{Claims, Claim, claim_of, started, claim, command, holder_at}
+use Rattle.claim_table.specs.Claims.{Claims, Claim, claim_of, started, claim, command, holder_at, is_at}
+use Rattle.history.specs.Pgns as pgns
 use Rattle.history.specs.Entries as entry
 use Rattle.history.specs.Entries.{Entry, History}
 use Rattle.history.specs.Receiver.{Receiver}
@@ -16,19 +17,15 @@ pub record Known : Type 0 where
   pub own_since : ℕ
 
 abbrev pub is_own : Known → ℕ → Bool
-is_own k a = is_at k.claims.own
-  where
-    is_at : Option ℕ → Bool
-    is_at None = false
-    is_at (Some own) = own == a
+is_own k a = is_at a k.claims.own
 
 -- since which entry the holder of an address has it
 abbrev pub since_of : Known → ℕ → Option ℕ
-since_of k a = option_map (λ h. h.since) (holder_at k.claims.holders a)
+since_of k a = option_map (λ holder. holder.since) (holder_at k.claims.holders a)
 
 -- a claim is a frame of PGN 60928 with the 8 bytes of a NAME, from an address other than 255
 abbrev pub is_claim : BusFrame → Bool
-is_claim f = let p = parts_of f.id in (p.pgn == 60928) && (nat_le 8 (length f.held) && not (p.source == 255))
+is_claim f = let p = parts_of f.id in (p.pgn == pgns.address_claimed) && (nat_le 8 (length f.held) && not (p.source == 255))
 
 abbrev pub claim_by : ℕ → ℕ → BusFrame → Claim
 claim_by index moment f = claim_of (parts_of f.id).source (name_at f.held) index moment
@@ -45,11 +42,7 @@ abbrev pub address_left : ClaimStep → Option ℕ
 address_left step = step.released
 
 abbrev pub address_won : ClaimStep → Option ℕ
-address_won step = address_in step.lost
-  where
-    address_in : {A : Type 0} → Option (ℕ × A) → Option ℕ
-    address_in None = None
-    address_in (Some x) = Some x.0
+address_won step = option_map (λ lost. lost.0) step.lost
 
 abbrev pub followed_by : ℕ → Known → Claims → Known
 followed_by index k after = record { claims = after; own_since = since_own index k.own_since k.claims.own after.own }

@@ -1,4 +1,5 @@
 pub mod Entries
+pub mod Pgns
 pub mod Settings
 pub mod Receiver
 pub mod Known

@@ -6,6 +6,7 @@ use Rattle.claim_table.specs.declared.answer.Holder.{Holder}
 use Rattle.pgn_profile.specs.declared.kinds.Kind.{Kind}
 use Rattle.pgn_profile.specs.declared.kinds.Kind.TheVariants.{Single, Fast, Outside}
 use Rattle.iso_transport.specs.Audience.{is_own, is_to}
+use Rattle.history.specs.Pgns as pgns
 use Rattle.history.specs.Traces.{is_transport}
 
 -- the first of these
@@ -38,9 +39,9 @@ by_kind Outside held = passed
 abbrev pub meaning_of : (ℕ → Kind) → Option ℕ → List (Option Holder) → Parts → Meaning
 meaning_of kinds own holders p =
     let held = is_some (holder_at holders p.source) in
-    if p.pgn == 60928 then address_claim
+    if p.pgn == pgns.address_claimed then address_claim
     else if is_own own p.source then own_source
-    else if p.pgn == 59904 then (if is_to own p.destination then request else passed)
+    else if p.pgn == pgns.request then (if is_to own p.destination then request else passed)
     else if is_transport p then (if is_to own p.destination then if_held held transport else passed)
     else by_kind (kinds p.pgn) held
 

@@ -1,4 +1,4 @@
--- The messages that were complete.
+-- The messages that were complete: single frames, fast packets (canboat) and sessions of the transport protocol (ISO 11783-3).
 use Rattle.std.specs.Prelude.{ℕ, ◌&&◌, ◌||◌, not, List, [], ◌∷◌, length, Option, Some, None, option_map, if◌then◌else◌}
 use Rattle.claim_table.specs.Claims.{holder_at}
 use Rattle.claim_table.specs.declared.answer.Holder.{Holder}
@@ -59,8 +59,8 @@ completed_by kinds k n older = if is_transport n.parts then by_session k n older
 
 abbrev pub said_by : ℕ → ℕ → ℕ → Option Holder → Option Carried → Option Message
 said_by index moment source None what = None
-said_by index moment source (Some h) what =
-    option_map (λ x. record { index = index; moment = moment; source = source; name = h.name.0; pgn = x.pgn; payload = x.payload }) what
+said_by index moment source (Some holder) what =
+    option_map (λ x. record { index = index; moment = moment; source = source; name = holder.name.0; pgn = x.pgn; payload = x.payload }) what
 
 -- the message that an entry completes, of a source that holds its address
 abbrev pub done : Receiver → ℕ → History → Entry → Option Message

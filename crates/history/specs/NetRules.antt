@@ -1,4 +1,5 @@
--- Which rules a datagram breaks, and its items, sentences and readings: each part in the order of the rules' numbers.
+-- Which rules a datagram breaks (IEC 61162-450), and its items, sentences (IEC 61162-1) and readings: each part in the order of the
+-- rules' numbers.
 use Rattle.std.specs.Prelude.{ℕ, Bool, true, false, ◌&&◌, not, ◌==◌, List, [], ◌∷◌, Option, Some, None, is_some, is_none, Result, Ok, Err, if◌then◌else◌}
 use Rattle.report_rules.specs.Rules as rules
 use Rattle.sentence_rows.specs.declared.fault.FieldFault.{FieldFault}
@@ -9,6 +10,7 @@ use Rattle.tag_block.specs.Tag.{Said}
 use Rattle.tag_block.specs.GroupRuns.{GroupLine, is_next}
 use Rattle.datagram450.specs.declared.fault.DatagramFault.{DatagramFault}
 use Rattle.datagram450.specs.declared.fault.DatagramFault.TheVariants.{Header, Long}
+use Rattle.datagram450.specs.Datagram.{longest_datagram}
 use Rattle.datagram450.specs.Item.{Item, line, bad}
 use Rattle.capture_text.specs.declared.emit.Report.{Report}
 use Rattle.capture_text.specs.declared.emit.Detail.TheVariants as detail
@@ -22,7 +24,7 @@ use Rattle.history.specs.NetReadings.{NetReading}
 abbrev pub datagram_breaks : {A : Type 0} → Result A DatagramFault → List Report
 datagram_breaks (Ok items) = []
 datagram_breaks (Err (Header place)) = report_of rules.datagram_header (detail.At place) ∷ []
-datagram_breaks (Err Long) = report_of rules.datagram_long (detail.At 1472) ∷ []
+datagram_breaks (Err Long) = report_of rules.datagram_long (detail.At longest_datagram) ∷ []
 
 -- ---- a line that isn't taken: of the gateway itself; for another device; or of a source that isn't listed
 

@@ -7,7 +7,7 @@ use Rattle.history.specs.Entries.{History, frame}
 use Rattle.history.specs.Receiver.{Receiver}
 use Rattle.history.specs.Known.{known}
 use Rattle.history.specs.Traces.{Note}
-use Rattle.history.specs.Opens.{is_admitted, notes_of}
+use Rattle.history.specs.Opens.{is_frame_admitted, notes_of}
 
 -- of a frame among the entries of a history, the notes hold one of its index, whatever came later: whether the receiver was ready, and
 -- whether the frame found room, by the history before it
@@ -18,7 +18,7 @@ pub record IsNoted (r : Receiver) (s : ℕ) (newer older : History) (m : ℕ) (f
   pub parts : note.parts ≡ parts_of f.id
   pub bytes : note.bytes ≡ f.held
   pub ready : note.ready ≡ is_ready (known r s older).claims m
-  pub admitted : note.admitted ≡ is_admitted r (known r s older) (notes_of r s older) (parts_of f.id) m
+  pub admitted : note.admitted ≡ is_frame_admitted r (known r s older) (notes_of r s older) (parts_of f.id) m
 
 abbrev pub FramesAreNoted : Type 0
 FramesAreNoted = (r : Receiver) (s : ℕ) (newer older : History) (m : ℕ) (f : BusFrame) → IsNoted r s newer older m f

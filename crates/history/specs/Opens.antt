@@ -1,4 +1,6 @@
--- Which messages are open, and which openers find room.
+-- Which messages are open, fast packets (canboat) and sessions of the transport protocol (ISO 11783-3), and which openers find room.
+-- Whether an opener finds room hangs on what is open just before it, and that on which openers found room: so it is noted of each frame
+-- by the history before it, and a note says no more than that history does.
 use Rattle.std.specs.Prelude.{ℕ, Bool, true, false, ◌&&◌, ◌||◌, not, ◌==◌, nat_lt, List, [], ◌∷◌, length, filter, Option, is_some, if◌then◌else◌}
 use Rattle.std.specs.Bool.{beq}
 use Rattle.std.specs.List.{list_any}
@@ -44,11 +46,11 @@ before_iso a b = (not a.addressed && b.addressed) || (beq a.addressed b.addresse
 
 -- a key among others in their order, once
 abbrev pub inserted : {K : Type 0} → (K → K → Bool) → K → List K → List K
-inserted before k [] = k ∷ []
-inserted before k (x ∷ xs) = if before k x then k ∷ x ∷ xs else x ∷ inserted before k xs
+inserted precedes key [] = key ∷ []
+inserted precedes key (x ∷ xs) = if precedes key x then key ∷ x ∷ xs else x ∷ inserted precedes key xs
 
 abbrev pub placed : {K : Type 0} → (K → K → Bool) → (K → K → Bool) → K → List K → List K
-placed same before k xs = if list_any (same k) xs then xs else inserted before k xs
+placed same precedes key xs = if list_any (same key) xs then xs else inserted precedes key xs
 
 abbrev pub fast_keys : (ℕ → Kind) → List Note → List FastKey
 fast_keys kinds [] = []
@@ -84,8 +86,8 @@ is_fast_admitted kinds limit k notes key m = nat_lt (length (filter (λ other. n
 abbrev pub is_iso_admitted : ℕ → Known → List Note → IsoKey → ℕ → Bool
 is_iso_admitted limit k notes key m = nat_lt (length (filter (λ other. not (same_iso other key)) (open_iso_keys k notes m))) limit
 
-abbrev pub is_admitted : Receiver → Known → List Note → Parts → ℕ → Bool
-is_admitted r k notes p m =
+abbrev pub is_frame_admitted : Receiver → Known → List Note → Parts → ℕ → Bool
+is_frame_admitted r k notes p m =
     if is_transport p then is_iso_admitted r.iso_slots k notes (key_of p) m
     else is_fast_admitted r.kinds r.fast_slots k notes (record { source = p.source; pgn = p.pgn }) m
 
@@ -96,7 +98,7 @@ note_of r index k notes m f = let p = parts_of f.id in record {
   parts = p;
   bytes = f.held;
   ready = is_ready k.claims m;
-  admitted = is_admitted r k notes p m;
+  admitted = is_frame_admitted r k notes p m;
 }
 
 abbrev pub noted : Receiver → ℕ → Known → List Note → Entry → List Note

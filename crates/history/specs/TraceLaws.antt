@@ -3,6 +3,7 @@ use Rattle.std.specs.Prelude.{◌≡◌, ◌≢◌, ℕ, Bool, ◌||◌, not, �
 use Rattle.n2k_id.specs.Frame.{BusFrame}
 use Rattle.claim_table.specs.Claims.{claim, is_at}
 use Rattle.claim_table.specs.declared.answer.ClaimStep.{ClaimStep}
+use Rattle.history.specs.Pgns as pgns
 use Rattle.history.specs.AddressLaws.{IsReceiver}
 use Rattle.history.specs.Entries.{Entry, History, frame, command}
 use Rattle.history.specs.Receiver.{Receiver}
@@ -23,8 +24,10 @@ same_own (Some a) (Some b) = a == b
 -- after an entry, nothing counts any more for the addresses that were lost, nor in sessions to an own address that changed; for all
 -- others the same frames count
 pub record LeavesTraces (c : Receiver) (s : ℕ) (h : History) (e : Entry) (lost : ℕ → Bool) : Type 0 where
-  pub fast : (a p : ℕ) → p ≢ 60928 → fast_trace (known c s (e ∷ h)) a p (notes_of c s (e ∷ h)) ≡ (if lost a then [] else fast_trace (known c s h) a p (notes_of c s h))
-  pub broadcast : (a : ℕ) → iso_trace (known c s (e ∷ h)) false a (notes_of c s (e ∷ h)) ≡ (if lost a then [] else iso_trace (known c s h) false a (notes_of c s h))
+  pub fast : (a p : ℕ) → p ≢ pgns.address_claimed
+      → fast_trace (known c s (e ∷ h)) a p (notes_of c s (e ∷ h)) ≡ (if lost a then [] else fast_trace (known c s h) a p (notes_of c s h))
+  pub broadcast : (a : ℕ)
+      → iso_trace (known c s (e ∷ h)) false a (notes_of c s (e ∷ h)) ≡ (if lost a then [] else iso_trace (known c s h) false a (notes_of c s h))
   pub addressed : (a : ℕ) → iso_trace (known c s (e ∷ h)) true a (notes_of c s (e ∷ h))
       ≡ (if lost a || not (same_own (known c s h).claims.own (known c s (e ∷ h)).claims.own) then [] else iso_trace (known c s h) true a (notes_of c s h))
 

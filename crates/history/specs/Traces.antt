@@ -1,4 +1,5 @@
--- The frames of one sender that belong together: those since it holds its address.
+-- The frames of one sender that belong together, those since it holds its address: of fast packets, as canboat describes them, and of
+-- the transport protocol (ISO 11783-3, 5.10).
 use Rattle.std.specs.Prelude.{ℕ, Bool, true, false, ◌&&◌, ◌||◌, not, ◌==◌, nat_le, List, [], map, filter, Option, Some, None}
 use Rattle.n2k_id.specs.declared.identifier_parts.Parts.{Parts}
 use Rattle.fast_packet.specs.FastRuns.{FastPiece}
