@@ -32,6 +32,7 @@ pub mod RefusalLaws
 pub mod RuleLaws
 pub mod ChoiceLaws
 pub mod HeardLaws
+pub mod EntryLaws
 pub mod NoteLaws
 pub mod Cases
 pub mod ClaimCases

@@ -9,6 +9,7 @@ ghost use Rattle.history.specs.GroupLaws.{LinesStepGroup, LinesStandAlone, TimeE
 ghost use Rattle.history.specs.KeyLaws.{FramesStepFast, FramesKeepFast, TimeEndsFast, FramesStepIso, FramesCompleteIso, TimeEndsIso};
 ghost use Rattle.history.specs.RefusalLaws.{FastRefusalsBreak, TransportRefusalsBreak};
 ghost use Rattle.history.specs.ChoiceLaws.{FirstByAddresses, MessagesAreOfHolders};
+ghost use Rattle.history.specs.EntryLaws.{StepsKeepHistory, EntriesSayOne};
 ghost use Rattle.history.specs.ListLaws.{SlotsListFast, SlotsListIso, SlotsListGroups};
 ghost use Rattle.history.specs.HeardLaws.{DatagramsGiveInOrder, ReadingsCountFast};
 ghost use Rattle.history.specs.NoteLaws.{FramesAreNoted};
@@ -82,6 +83,17 @@ pub fn group_lines_step_their_group()
 pub fn items_give_in_order()
     ensures order { DatagramsGiveInOrder }
     ensures fast { ReadingsCountFast }
+{}
+
+/// An event that is accepted, with the command that it completes, keeps a history one; one that is too early changes nothing.
+pub fn steps_keep_history()
+    ensures { StepsKeepHistory }
+{}
+
+/// An entry says nothing on the network; or it says one reading, in one datagram by all that was said before, whose sentences are counted
+/// from then on.
+pub fn entries_say_one()
+    ensures { EntriesSayOne }
 {}
 
 /// What is noted of a frame, whether the receiver was ready and whether there was room for a message that it opens, is what the history
