@@ -27,7 +27,7 @@ fn copy_of(address: &[u8]) -> Address
     ensures { result.items ≡ address.now }
 {
     let mut copy = ArrayVec::new();
-    let _ = copy.try_extend_from_slice(address);
+    let _fits = copy.try_extend_from_slice(address);
     copy
 }
 
@@ -38,7 +38,7 @@ fn routes_like(list: &ArrayVec<Route, 8>) -> ArrayVec<Route, 8>
     let mut copy = ArrayVec::new();
     for route in list.as_slice() {
         let address = copy_of(route.address.as_slice());
-        let _ = copy.try_push(Route {
+        let _fits = copy.try_push(Route {
             group: route.group,
             address,
         });

@@ -61,7 +61,7 @@ fn store(bytes: &mut Vec<u8>, parcels: &mut Vec<Parcel>, group: Group, piece: &[
     ensures parcels_len { vec_len parcels.new ≡ vec_len parcels.old + 1 }
     ensures parcels_room { vec_capacity parcels.old ≤ vec_capacity parcels.new }
 {
-    let _ = bytes.extend_from_slice(piece);
+    let _fits = bytes.extend_from_slice(piece);
     parcels.push_reserved(Parcel {
         group,
         len: piece.len(),

@@ -1,10 +1,10 @@
 pub mod Lines
 pub mod LineReader
-pub mod Writing
+pub mod Writer
 pub mod Says
 pub mod Convert
 pub mod Show
-pub mod Filter
+pub mod LineCommand
 pub mod Progress
 pub mod Words
 pub mod Run

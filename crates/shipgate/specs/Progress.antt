@@ -8,14 +8,14 @@ use Rattle.shipgate.specs.declared.ending.Ending.TheVariants as ending
 use Rattle.capture_text.specs.Lines.{without_cr, lines_of, complete_lines}
 use Rattle.shipgate.specs.Lines.{AreTexts}
 use Rattle.shipgate.specs.LineReader.{Held, HasNoLf}
-use Rattle.shipgate.specs.Writing.{Sends}
+use Rattle.shipgate.specs.Writer.{Sends}
 
-abbrev pub ended : List ℕ → List ℕ
-ended line = line ++ 10 ∷ []
+abbrev pub with_lf : List ℕ → List ℕ
+with_lf line = line ++ 10 ∷ []
 
 -- The bytes are these lines, each with its LF, and a rest.
 pub record Cut (bytes : List ℕ) (lines : List (List ℕ)) (rest : List ℕ) : Type 0 where
-  pub whole : bytes ≡ flat_map ended lines ++ rest
+  pub whole : bytes ≡ flat_map with_lf lines ++ rest
   pub no_lf : AllByRecursion HasNoLf lines
 
 -- What the reader holds stands for this rest: it is the rest, or what comes in it behind bytes of a line that is too long.

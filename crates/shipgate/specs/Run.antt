@@ -5,9 +5,9 @@ use Rattle.gate_outside.specs.Told.{Joins}
 use Rattle.shipgate.specs.declared.ending.Ending.{Ending}
 use Rattle.shipgate.specs.declared.ending.Ending.TheVariants.{Done, SinkFailed, SourceFailed, TooLong}
 use Rattle.shipgate.specs.declared.words.Command.TheVariants.{Lines}
-use Rattle.shipgate.specs.declared.words.Filter.{Filter}
+use Rattle.shipgate.specs.declared.words.LineCommand.{LineCommand}
 use Rattle.shipgate.specs.Words.{IsForm, IsNoForm}
-use Rattle.shipgate.specs.Filter.{Gives}
+use Rattle.shipgate.specs.LineCommand.{Gives}
 use Rattle.shipgate.specs.Progress.{input_limit, Finishes, StopsReading, StopsWriting, PassesLimit}
 
 abbrev pub status_of : Ending → ℕ
@@ -47,4 +47,4 @@ pub record IsUnhindered (left : Option (List ℕ)) (source source' sink sink' : 
 pub record RunsOver (words : List (List ℕ)) (left : Option (List ℕ)) (status : ℕ) : Type 0 where
   pub known : IsStatus status
   pub usage : (status ≡ 2) ↔ IsNoForm words
-  pub ends : (filter : Filter) → IsForm words (Lines filter) → (left' : Option (List ℕ)) × EndsBy (Gives filter) left left' None None status
+  pub ends : (command : LineCommand) → IsForm words (Lines command) → (left' : Option (List ℕ)) × EndsBy (Gives command) left left' None None status

@@ -12,9 +12,9 @@ use Rattle.datagram450.specs.Item.{Item, line, bad}
 use Rattle.datagram450.specs.Datagram as datagrams
 use Rattle.capture_text.specs.declared.event.LineRule.{LineRule}
 use Rattle.capture_text.specs.Event.{rule_number}
+use Rattle.report_rules.specs.Rules.{datagram_header, datagram_long}
 use Rattle.capture_text.specs.Capture.{Seen, frame, datagram, tick}
 use Rattle.capture_text.specs.Writing.{part}
-use Rattle.shipgate.specs.Says.{Says}
 
 abbrev pub start : ℕ → List ℕ
 start number = codes "line=" ++ decimal number
@@ -56,8 +56,8 @@ count_or_dash None = 45 ∷ []
 count_or_dash (Some count) = decimal count
 
 -- a sentence without its CR and LF
-abbrev pub bare : List ℕ → List ℕ
-bare sentence = take (length sentence - 2) sentence
+abbrev pub without_end : List ℕ → List ℕ
+without_end sentence = take (length sentence - 2) sentence
 
 -- up to the destination
 abbrev pub front_text : ℕ → ℕ → List ℕ → List ℕ
@@ -69,7 +69,7 @@ middle_text group count = codes " g=" ++ group_or_dash group ++ codes " n=" ++ c
 
 abbrev pub line_text : ℕ → ℕ → Said → List ℕ → List ℕ
 line_text number at said sentence = front_text number at said.source
-    ++ (text_or_dash said.destination ++ (middle_text said.group said.count ++ (bare sentence ++ 10 ∷ [])))
+    ++ (text_or_dash said.destination ++ (middle_text said.group said.count ++ (without_end sentence ++ 10 ∷ [])))
 
 abbrev pub item_text : ℕ → Item → List ℕ
 item_text number (line at said sentence parts) = line_text number at said sentence
@@ -78,8 +78,8 @@ item_text number (bad rule at) = place_text number at rule
 -- one line for each item of a datagram, or one where it has no header or is too long
 abbrev pub items_text : ℕ → Result (List Item) DatagramFault → List ℕ
 items_text number (Ok items) = flat_map (item_text number) items
-items_text number (Err (faults.Header place)) = place_text number place 30
-items_text number (Err faults.Long) = place_text number 1472 47
+items_text number (Err (faults.Header place)) = place_text number place datagram_header
+items_text number (Err faults.Long) = place_text number 1472 datagram_long
 
 -- ---- the line
 
@@ -91,8 +91,3 @@ seen_text number (tick moment) = tick_text number
 abbrev pub said_text : ℕ → Result Seen LineRule → List ℕ
 said_text number (Ok seen) = seen_text number seen
 said_text number (Err rule) = rule_text number (rule_number rule)
-
--- What a line gives by its number: nothing where it is empty, else by what it says.
-unfoldable pub IsShown : ℕ → List ℕ → List ℕ → Type 0
-IsShown number [] text = text ≡ []
-IsShown number (b ∷ bytes) text = (said : Result Seen LineRule) × Says (b ∷ bytes) said × (text ≡ said_text number said)

@@ -2,16 +2,16 @@
 use Rattle.std.specs.Prelude.{◌≡◌, ℕ, List, [], ◌∷◌, codes}
 use Rattle.shipgate.specs.declared.words.Command.{Command}
 use Rattle.shipgate.specs.declared.words.Command.TheVariants.{Lines}
-use Rattle.shipgate.specs.declared.words.Filter.{Filter}
-use Rattle.shipgate.specs.declared.words.Filter.TheVariants.{Convert, Show}
+use Rattle.shipgate.specs.declared.words.LineCommand.{LineCommand}
+use Rattle.shipgate.specs.declared.words.LineCommand.TheVariants.{Convert, Show}
 
-abbrev pub name_of : Filter → List ℕ
+abbrev pub name_of : LineCommand → List ℕ
 name_of Convert = codes "convert"
 name_of Show = codes "show"
 
 -- the words, each as its bytes, are this command
 abbrev pub IsForm : List (List ℕ) → Command → Type 0
-IsForm words (Lines filter) = words ≡ name_of filter ∷ []
+IsForm words (Lines command) = words ≡ name_of command ∷ []
 
 abbrev pub IsNoForm : List (List ℕ) → Type 0
 IsNoForm words = (command : Command) → IsForm words command → ⊥

@@ -8,43 +8,37 @@ ghost use Rattle.readings.specs.Rows.{row_of};
 ghost use Rattle.pgn_profile.specs.Profiled.{kind_of, GivesValid};
 ghost use Rattle.sentence_rows.specs.Lines.{lines_of};
 ghost use Rattle.sentence_rows.specs.Writing.{IsText};
-ghost use Rattle.capture_text.specs.Reading.{read as read_as, view, IsValid};
+ghost use Rattle.capture_text.specs.Reading.{view, IsValid};
 ghost use Rattle.gate_outside.specs.Faults.{HasCause};
 ghost use Rattle.shipgate.specs.Talker.{talker_of};
 ghost use Rattle.capture_text.specs.Event.{rule_number};
-ghost use Rattle.shipgate.specs.Convert.{refusal, IsPayloadText, IsMessageText, IsSaidText, IsConverted};
-ghost use Rattle.shipgate.specs.Filter.{PutsLine};
-ghost use Rattle.shipgate.specs.Writing.{Writes};
+ghost use Rattle.shipgate.specs.Convert.{refusal, IsPayloadText, IsMessageText, IsSaidText};
+ghost use Rattle.shipgate.specs.Writer.{SendsText, Writes};
 
+use crate::line_text::{LineText, append, append_part};
 use crate::talker::talker_of;
-use crate::text::{Text, put, put_part};
 use crate::writer::Writer;
 use arrayvec::ArrayVec;
-use capture_text::{Event, LineRule, read_line};
+use capture_text::{Event, LineRule};
 use gate_outside::{Failed, Sink};
 use n2k_id::{Frame, parts};
 use pgn_profile::{Kind, Profiled, kind, read};
 use readings::{Reading, row};
+use report_rules::{NOT_CONVERTED, SHORT_MESSAGE};
 use sentence_rows::{Lines, sentences};
-
-/// The rule of a line that isn't converted.
-const NOT_CONVERTED: u8 = 5;
-
-/// The rule of a payload that is too short for its message.
-const SHORT_MESSAGE: u8 = 22;
 
 /// What a line gives: at most two sentences.
 type Answer = ArrayVec<u8, 164>;
 
 // The report of a rule about a line.
 #[tactic(auto, using(crate::proofs::Numbers::digits_of_a_byte, crate::proofs::Numbers::digits_of_a_long), unfolding(crate::specs::Convert::refusal))]
-fn refusal_of(rule: u8, number: u64) -> Text
+fn refusal_of(rule: u8, number: u64) -> LineText
     ensures { result.items ≡ refusal rule number }
 {
     let mut text = ArrayVec::new();
-    put_part(b"rule ", u64::from(rule), &mut text);
-    put_part(b" line=", number, &mut text);
-    put(b"\n", &mut text);
+    append_part(b"rule ", u64::from(rule), &mut text);
+    append_part(b" line=", number, &mut text);
+    append(b"\n", &mut text);
     text
 }
 
@@ -57,12 +51,12 @@ fn write_refusal(rule: u8, number: u64, answer: &mut Answer)
 }
 
 // The sentences behind one another.
-fn put_lines(lines: &Lines, answer: &mut Answer)
+fn append_lines(lines: &Lines, answer: &mut Answer)
     requires { answer.old.items ≡ [] }
     ensures { answer.new.items ≡ flat_map (λ line. line) (lines_of lines.now) }
 {
     for line in lines.as_slice() {
-        let _ = answer.try_extend_from_slice(line.bytes.as_slice());
+        let _fits = answer.try_extend_from_slice(line.bytes.as_slice());
     }
 }
 
@@ -74,7 +68,7 @@ fn write_reading(reading: &Reading, answer: &mut Answer)
 {
     let mut lines = ArrayVec::new();
     sentences(reading, talker_of(row(reading)), false, &mut lines);
-    put_lines(&lines, answer);
+    append_lines(&lines, answer);
 }
 
 fn write_payload(number: u64, profiled: &Profiled, answer: &mut Answer)
@@ -124,45 +118,24 @@ fn write_event(number: u64, event: &Event<'_>, answer: &mut Answer)
     }
 }
 
-// What a line gives that isn't empty.
-fn write_said(number: u64, line: &[u8], room: &mut [u8; 2048], answer: &mut Answer)
-    requires { answer.old.items ≡ [] }
-    ensures { IsSaidText number (read_as line.now) answer.new.items }
-{
-    match read_line(line, room) {
-        Ok(event) => write_event(number, &event, answer),
-        Err(rule) => write_refusal(rule.number(), number, answer),
-    }
-}
-
-#[tactic(auto, using(crate::proofs::SaidLaws::converted_empty, crate::proofs::SaidLaws::converted_line))]
-fn write_line(number: u64, line: &[u8], room: &mut [u8; 2048], answer: &mut Answer)
-    requires { answer.old.items ≡ [] }
-    ensures { IsConverted number line.now answer.new.items }
-{
-    if !line.is_empty() {
-        write_said(number, line, room, answer);
-    }
-}
-
-/// Writes the sentences of a line, or its report.
-pub(crate) fn put_line<K: Sink>(
+/// Sends what a line gives that says something.
+pub(crate) fn send_event<K: Sink>(
     number: u64,
-    line: &[u8],
-    room: &mut [u8; 2048],
+    event: &Event<'_>,
     writer: &mut Writer,
     out: &mut K,
 ) -> Result<(), Failed>
-    ensures sent { PutsLine IsConverted (K.taken out.old) (K.taken out.new) number line.now writer.old writer.new result }
+    requires { IsValid event.now }
+    ensures sent { SendsText (IsSaidText number (Ok (view event.now))) (K.taken out.old) (K.taken out.new) writer.old writer.new result }
     ensures cause { HasCause (K.fault_count out.old) (K.fault_count out.new) result }
 {
     let mut answer = ArrayVec::new();
-    write_line(number, line, room, &mut answer);
-    writer.put(answer.as_slice(), out)
+    write_event(number, event, &mut answer);
+    writer.send(answer.as_slice(), out)
 }
 
-/// Writes the report of a rule about a line.
-pub(crate) fn put_refusal<K: Sink>(
+/// Sends the report of a rule about a line.
+pub(crate) fn send_refusal<K: Sink>(
     rule: LineRule,
     number: u64,
     writer: &mut Writer,
@@ -172,5 +145,5 @@ pub(crate) fn put_refusal<K: Sink>(
     ensures cause { HasCause (K.fault_count out.old) (K.fault_count out.new) result }
 {
     let text = refusal_of(rule.number(), number);
-    writer.put(text.as_slice(), out)
+    writer.send(text.as_slice(), out)
 }

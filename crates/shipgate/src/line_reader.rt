@@ -47,7 +47,7 @@ fn has_lf(block: &[u8]) -> bool
 
 // How many bytes come first in whole blocks without an LF.
 #[tactic(auto, using(crate::proofs::Blocks::no_lf_more))]
-fn passed(bytes: &[u8]) -> usize
+fn bytes_without_lf(bytes: &[u8]) -> usize
     ensures within { result ≤ length bytes.now }
     ensures no_lf { HasNoLf (take result bytes.now) }
 {
@@ -63,7 +63,7 @@ fn first_lf(bytes: &[u8]) -> Option<usize>
     ensures { MatchOption result (HasNoLf bytes.now) (λ at.
         (at < length bytes.now) × (slice_index bytes.now at ≡ 10) × HasNoLf (take at bytes.now)) }
 {
-    let at = passed(bytes);
+    let at = bytes_without_lf(bytes);
     match lf_in(bytes.split_at(at).1) {
         Some(count) => Some(at + count),
         None => None,

@@ -12,12 +12,12 @@ ghost use Rattle.shipgate.specs.Run.{RunsOver};
 
 mod convert;
 mod ending;
-mod filter;
+mod line_command;
 mod line_reader;
+mod line_text;
 mod run;
 mod show;
 mod talker;
-mod text;
 mod words;
 mod writer;
 
@@ -28,7 +28,7 @@ use std::env::Args;
 use std::io::{ErrorKind, Read, Write};
 use std::process::ExitCode;
 use std::{env, io};
-pub use words::{Command, Filter};
+pub use words::{Command, LineCommand};
 
 /// Want of memory before the program began.
 const NO_MEMORY: u8 = 7;

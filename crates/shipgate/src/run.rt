@@ -1,15 +1,15 @@
 //! The top call: words in, a status out.
 ghost use Rattle.std.specs.Prelude.{◌≡◌, ◌↔◌, map, string_bytes};
 ghost use Rattle.gate_outside.specs.Faults.{Rose};
-ghost use Rattle.shipgate.specs.Filter.{Gives};
+ghost use Rattle.shipgate.specs.LineCommand.{Gives};
 ghost use Rattle.shipgate.specs.Progress.{Ends};
 ghost use Rattle.shipgate.specs.Words.{IsForm, IsNoForm, usage_line};
 ghost use Rattle.shipgate.specs.Run.{Offers, IsStatus, EndsBy, IsUnhindered, status_of};
 
 use crate::ending::Ending;
-use crate::filter::filter_input;
-use crate::words::{Command, Filter, USAGE, command_of};
-use crate::writer::send;
+use crate::line_command::answer_input;
+use crate::words::{Command, LineCommand, USAGE, command_of};
+use crate::writer::send_now;
 use gate_outside::{Clock, Files, Link, Sink, Source};
 use std::alloc::Global;
 
@@ -50,8 +50,8 @@ pub fn run<F: Files, S: Source, K: Sink, B: Link, E: Link, C: Clock>(
     ensures usage { (result ≡ 2) ↔ IsNoForm (map string_bytes words.now) }
     ensures offers { result ≡ 2
         → Offers (K.taken out.old) (K.taken out.new) (K.fault_count out.old) (K.fault_count out.new) usage_line }
-    ensures ends { (filter : Filter) → IsForm (map string_bytes words.now) (Command.Lines filter)
-        → EndsBy (Gives filter) (S.left input.old) (S.left input.new) (K.taken out.old) (K.taken out.new) result }
+    ensures ends { (command : LineCommand) → IsForm (map string_bytes words.now) (Command.Lines command)
+        → EndsBy (Gives command) (S.left input.old) (S.left input.new) (K.taken out.old) (K.taken out.new) result }
 
     // A failure has its cause in a count of faults.
     ensures sink_cause { result ≡ 4 → Rose (K.fault_count out.old) (K.fault_count out.new) }
@@ -66,16 +66,16 @@ pub fn run<F: Files, S: Source, K: Sink, B: Link, E: Link, C: Clock>(
     ensures clock_unused { _clock.new ≡ _clock.old }
 
     // Where nothing fails and the input isn't too long, the work is done.
-    ensures complete { (filter : Filter) → IsForm (map string_bytes words.now) (Command.Lines filter)
+    ensures complete { (command : LineCommand) → IsForm (map string_bytes words.now) (Command.Lines command)
         → IsUnhindered (S.left input.old) (S.fault_count input.old) (S.fault_count input.new) (K.fault_count out.old) (K.fault_count out.new)
         → result ≡ 0 }
 {
     match command_of(words) {
         None => {
             // The words decide the status, whatever becomes of the line.
-            let _ = send(USAGE, out);
+            let _ = send_now(USAGE, out);
             2
         }
-        Some(Command::Lines(filter)) => status_of(filter_input(filter, input, out)),
+        Some(Command::Lines(command)) => status_of(answer_input(command, input, out)),
     }
 }

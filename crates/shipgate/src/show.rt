@@ -6,155 +6,150 @@ ghost use Rattle.n2k_id.specs.Frame.{IsFrame, bus_frame};
 ghost use Rattle.sentence_text.specs.Names.{IsSfi};
 ghost use Rattle.datagram450.specs.Item.{item_view};
 ghost use Rattle.datagram450.specs.Datagram.{read as items_of};
-ghost use Rattle.capture_text.specs.Reading.{read as read_as, view, IsValid};
+ghost use Rattle.capture_text.specs.Reading.{view, IsValid};
 ghost use Rattle.gate_outside.specs.Faults.{HasCause};
 ghost use Rattle.capture_text.specs.Event.{rule_number};
 ghost use Rattle.shipgate.specs.Show as spec;
-ghost use Rattle.shipgate.specs.Filter.{PutsLine};
-ghost use Rattle.shipgate.specs.Writing.{Writes};
+ghost use Rattle.shipgate.specs.Writer.{Writes};
 
-use crate::text::{Text, put, put_number, put_part};
+use crate::line_text::{LineText, append, append_number, append_part};
 use crate::writer::Writer;
 use arrayvec::ArrayVec;
-use capture_text::{Event, LineRule, read_line};
+use capture_text::{Event, LineRule};
 use datagram450::{DatagramFault, LineItem, LineIter, lines};
 use gate_outside::{Failed, Sink};
 use n2k_id::{Frame, parts};
+use report_rules::{DATAGRAM_HEADER, DATAGRAM_LONG};
 use sentence_text::Sfi;
 use tag_block::GroupPart;
 
-/// The rule of a datagram without its header.
-const NO_HEADER: u8 = 30;
-
-/// The rule of a datagram that is too long, and the first place that it may not have.
-const DATAGRAM_LONG: u8 = 47;
-
+/// How many bytes a datagram may have, and so the first place that it may not have.
 const LONGEST: u16 = 1472;
 
 #[tactic(auto, using(crate::proofs::Numbers::digits_of_a_long))]
-fn write_start(number: u64, text: &mut Text)
+fn write_start(number: u64, text: &mut LineText)
     requires { text.old.items ≡ [] }
     ensures text { text.new.items ≡ spec.start number }
     ensures len { array_vec_len text.new ≤ 25 }
 {
-    put_part(b"line=", number, text);
+    append_part(b"line=", number, text);
 }
 
-fn write_tick(number: u64, text: &mut Text)
+fn write_tick(number: u64, text: &mut LineText)
     requires { text.old.items ≡ [] }
     ensures { text.new.items ≡ spec.tick_text number }
 {
     write_start(number, text);
-    put(b" tick\n", text);
+    append(b" tick\n", text);
 }
 
 #[tactic(auto, using(crate::proofs::Numbers::digits_of_a_byte))]
-fn put_rule(rule: u8, text: &mut Text)
+fn append_rule(rule: u8, text: &mut LineText)
     requires { array_vec_len text.old ≤ 50 }
     ensures { text.new.items ≡ text.old.items ++ spec.rule_end rule }
 {
-    put_part(b" rule ", u64::from(rule), text);
-    put(b"\n", text);
+    append_part(b" rule ", u64::from(rule), text);
+    append(b"\n", text);
 }
 
-fn write_rule(number: u64, rule: u8, text: &mut Text)
+fn write_rule(number: u64, rule: u8, text: &mut LineText)
     requires { text.old.items ≡ [] }
     ensures { text.new.items ≡ spec.rule_text number rule }
 {
     write_start(number, text);
-    put_rule(rule, text);
+    append_rule(rule, text);
 }
 
 #[tactic(auto, using(crate::proofs::Numbers::digits_of_a_short))]
-fn write_place(number: u64, at: u16, rule: u8, text: &mut Text)
+fn write_place(number: u64, at: u16, rule: u8, text: &mut LineText)
     requires { text.old.items ≡ [] }
     ensures { text.new.items ≡ spec.place_text number at rule }
 {
     write_start(number, text);
-    put_part(b" at=", u64::from(at), text);
-    put_rule(rule, text);
+    append_part(b" at=", u64::from(at), text);
+    append_rule(rule, text);
 }
 
 // The parts of the identifier, and how many data bytes there are.
 #[tactic(auto, using(crate::proofs::Numbers::digits_of_a_byte, crate::proofs::Numbers::digits_of_a_word))]
-fn write_frame(number: u64, frame: &Frame, text: &mut Text)
+fn write_frame(number: u64, frame: &Frame, text: &mut LineText)
     requires empty { text.old.items ≡ [] }
     requires valid { IsFrame frame.now }
     ensures { text.new.items ≡ spec.frame_text number (bus_frame frame.now) }
 {
     write_start(number, text);
     if let Some(parts) = parts(frame.id) {
-        put_part(b" prio=", u64::from(parts.priority), text);
-        put_part(b" pgn=", u64::from(parts.pgn), text);
-        put_part(b" src=", u64::from(parts.source), text);
-        put_part(b" dst=", u64::from(parts.destination), text);
+        append_part(b" prio=", u64::from(parts.priority), text);
+        append_part(b" pgn=", u64::from(parts.pgn), text);
+        append_part(b" src=", u64::from(parts.source), text);
+        append_part(b" dst=", u64::from(parts.destination), text);
     }
-    put_part(b" len=", u64::from(frame.len), text);
-    put(b"\n", text);
+    append_part(b" len=", u64::from(frame.len), text);
+    append(b"\n", text);
 }
 
 #[tactic(auto, using(crate::proofs::Numbers::digits_of_a_byte, crate::proofs::Numbers::digits_of_a_short))]
-fn put_group_part(number: u8, total: u8, code: u16, text: &mut Text)
+fn append_group_part(number: u8, total: u8, code: u16, text: &mut LineText)
     requires { array_vec_len text.old ≤ 20 }
     ensures text { text.new.items ≡ text.old.items ++ spec.group_text number total code }
     ensures len { array_vec_len text.new ≤ array_vec_len text.old + 13 }
 {
-    put_number(u64::from(number), text);
-    put_part(b"-", u64::from(total), text);
-    put_part(b"-", u64::from(code), text);
+    append_number(u64::from(number), text);
+    append_part(b"-", u64::from(total), text);
+    append_part(b"-", u64::from(code), text);
 }
 
-fn put_group(group: &Option<GroupPart>, text: &mut Text)
+fn append_group(group: &Option<GroupPart>, text: &mut LineText)
     requires { array_vec_len text.old ≤ 20 }
     ensures text { text.new.items ≡ text.old.items ++ spec.group_or_dash group.now }
     ensures len { array_vec_len text.new ≤ array_vec_len text.old + 13 }
 {
     match group {
-        None => put(b"-", text),
-        Some(group) => put_group_part(group.number, group.total, group.code, text),
+        None => append(b"-", text),
+        Some(group) => append_group_part(group.number, group.total, group.code, text),
     }
 }
 
 #[tactic(auto, using(crate::proofs::Numbers::digits_of_a_short))]
-fn put_count(count: &Option<u16>, text: &mut Text)
+fn append_count(count: &Option<u16>, text: &mut LineText)
     requires { array_vec_len text.old ≤ 50 }
     ensures text { text.new.items ≡ text.old.items ++ spec.count_or_dash count.now }
     ensures len { array_vec_len text.new ≤ array_vec_len text.old + 5 }
 {
     match count {
-        None => put(b"-", text),
-        Some(count) => put_number(u64::from(*count), text),
+        None => append(b"-", text),
+        Some(count) => append_number(u64::from(*count), text),
     }
 }
 
 // A line of a datagram up to its destination.
 #[tactic(auto, using(crate::proofs::Numbers::digits_of_a_short))]
-fn write_front(number: u64, at: u16, source: &Sfi, text: &mut Text)
+fn write_front(number: u64, at: u16, source: &Sfi, text: &mut LineText)
     requires { text.old.items ≡ [] }
     ensures { text.new.items ≡ spec.front_text number at source.now }
 {
     write_start(number, text);
-    put_part(b" at=", u64::from(at), text);
-    put(b" s=", text);
-    put(source.as_bytes(), text);
-    put(b" d=", text);
+    append_part(b" at=", u64::from(at), text);
+    append(b" s=", text);
+    append(source.as_bytes(), text);
+    append(b" d=", text);
 }
 
 // What stands between the destination and the sentence.
-fn write_middle(group: &Option<GroupPart>, count: &Option<u16>, text: &mut Text)
+fn write_middle(group: &Option<GroupPart>, count: &Option<u16>, text: &mut LineText)
     requires { text.old.items ≡ [] }
     ensures { text.new.items ≡ spec.middle_text group.now count.now }
 {
-    put(b" g=", text);
-    put_group(group, text);
-    put(b" n=", text);
-    put_count(count, text);
-    put(b" ", text);
+    append(b" g=", text);
+    append_group(group, text);
+    append(b" n=", text);
+    append_count(count, text);
+    append(b" ", text);
 }
 
 // A sentence without its CR and LF.
-fn bare(sentence: &[u8]) -> &[u8]
-    ensures { result.now ≡ spec.bare sentence.now }
+fn without_end(sentence: &[u8]) -> &[u8]
+    ensures { result.now ≡ spec.without_end sentence.now }
 {
     sentence.split_at(sentence.len().saturating_sub(2)).0
 }
@@ -168,8 +163,8 @@ fn text_or_dash<'a>(text: &Option<&'a [u8]>) -> &'a [u8]
     }
 }
 
-// Writes the line of an item.
-fn put_item<K: Sink>(
+// Sends the line of an item.
+fn send_item<K: Sink>(
     number: u64,
     item: &LineItem<'_>,
     writer: &mut Writer,
@@ -184,12 +179,12 @@ fn put_item<K: Sink>(
             write_front(number, *at, &tag.source, &mut front);
             let mut middle = ArrayVec::new();
             write_middle(&tag.group, &tag.count, &mut middle);
-            writer.put_all(
+            writer.send_all(
                 &[
                     front.as_slice(),
                     text_or_dash(&tag.destination),
                     middle.as_slice(),
-                    bare(text),
+                    without_end(text),
                     b"\n",
                 ],
                 out,
@@ -198,13 +193,13 @@ fn put_item<K: Sink>(
         LineItem::Bad { rule, at } => {
             let mut text = ArrayVec::new();
             write_place(number, *at, *rule, &mut text);
-            writer.put(text.as_slice(), out)
+            writer.send(text.as_slice(), out)
         }
     }
 }
 
-// Writes the lines of the items.
-fn put_items<K: Sink>(
+// Sends the lines of the items.
+fn send_items<K: Sink>(
     number: u64,
     items: LineIter<'_>,
     writer: &mut Writer,
@@ -215,7 +210,7 @@ fn put_items<K: Sink>(
 {
     let mut items = items;
     'items: while let Some(item) = items.next() {
-        match put_item(number, &item, writer, out) {
+        match send_item(number, &item, writer, out) {
             Ok(()) => {}
             Err(Failed) => return Err(Failed),
         }
@@ -223,8 +218,8 @@ fn put_items<K: Sink>(
     Ok(())
 }
 
-// Writes the report of a rule about a place in a datagram.
-fn put_place<K: Sink>(
+// Sends the report of a rule about a place in a datagram.
+fn send_place<K: Sink>(
     number: u64,
     at: u16,
     rule: u8,
@@ -236,11 +231,11 @@ fn put_place<K: Sink>(
 {
     let mut text = ArrayVec::new();
     write_place(number, at, rule, &mut text);
-    writer.put(text.as_slice(), out)
+    writer.send(text.as_slice(), out)
 }
 
-// Writes what a datagram gives.
-fn put_datagram<K: Sink>(
+// Sends what a datagram gives.
+fn send_datagram<K: Sink>(
     number: u64,
     bytes: &[u8],
     writer: &mut Writer,
@@ -250,16 +245,16 @@ fn put_datagram<K: Sink>(
     ensures cause { HasCause (K.fault_count out.old) (K.fault_count out.new) result }
 {
     match lines(bytes) {
-        Ok(items) => put_items(number, items, writer, out),
+        Ok(items) => send_items(number, items, writer, out),
         Err(DatagramFault::Header(place)) => {
-            put_place(number, place as u16, NO_HEADER, writer, out)
+            send_place(number, place as u16, DATAGRAM_HEADER, writer, out)
         }
-        Err(DatagramFault::Long) => put_place(number, LONGEST, DATAGRAM_LONG, writer, out),
+        Err(DatagramFault::Long) => send_place(number, LONGEST, DATAGRAM_LONG, writer, out),
     }
 }
 
-/// Writes the report of a rule about a line.
-pub(crate) fn put_refusal<K: Sink>(
+/// Sends the report of a rule about a line.
+pub(crate) fn send_refusal<K: Sink>(
     rule: LineRule,
     number: u64,
     writer: &mut Writer,
@@ -270,11 +265,11 @@ pub(crate) fn put_refusal<K: Sink>(
 {
     let mut text = ArrayVec::new();
     write_rule(number, rule.number(), &mut text);
-    writer.put(text.as_slice(), out)
+    writer.send(text.as_slice(), out)
 }
 
-// Writes what is said.
-fn put_event<K: Sink>(
+/// Sends what a line says.
+pub(crate) fn send_event<K: Sink>(
     number: u64,
     event: &Event<'_>,
     writer: &mut Writer,
@@ -288,47 +283,13 @@ fn put_event<K: Sink>(
         Event::Frame { frame, .. } => {
             let mut text = ArrayVec::new();
             write_frame(number, frame, &mut text);
-            writer.put(text.as_slice(), out)
+            writer.send(text.as_slice(), out)
         }
-        Event::Datagram { bytes, .. } => put_datagram(number, bytes, writer, out),
+        Event::Datagram { bytes, .. } => send_datagram(number, bytes, writer, out),
         Event::Tick { .. } => {
             let mut text = ArrayVec::new();
             write_tick(number, &mut text);
-            writer.put(text.as_slice(), out)
+            writer.send(text.as_slice(), out)
         }
     }
-}
-
-// Writes what a line says, or the rule that it breaks.
-fn put_said<K: Sink>(
-    number: u64,
-    line: &[u8],
-    room: &mut [u8; 2048],
-    writer: &mut Writer,
-    out: &mut K,
-) -> Result<(), Failed>
-    ensures sent { Writes (K.taken out.old) (K.taken out.new) (writer.old ++ spec.said_text number (read_as line.now)) writer.new result }
-    ensures cause { HasCause (K.fault_count out.old) (K.fault_count out.new) result }
-{
-    match read_line(line, room) {
-        Ok(event) => put_event(number, &event, writer, out),
-        Err(rule) => put_refusal(rule, number, writer, out),
-    }
-}
-
-/// Writes what a line says, or its rule; nothing where it is empty.
-pub(crate) fn put_line<K: Sink>(
-    number: u64,
-    line: &[u8],
-    room: &mut [u8; 2048],
-    writer: &mut Writer,
-    out: &mut K,
-) -> Result<(), Failed>
-    ensures sent { PutsLine spec.IsShown (K.taken out.old) (K.taken out.new) number line.now writer.old writer.new result }
-    ensures cause { HasCause (K.fault_count out.old) (K.fault_count out.new) result }
-{
-    if line.is_empty() {
-        return Ok(());
-    }
-    put_said(number, line, room, writer, out)
 }

@@ -2,9 +2,9 @@
 ghost use Rattle.std.specs.Prelude.{map, MatchOption, string_bytes};
 ghost use Rattle.shipgate.specs.Words.{IsForm, IsNoForm};
 
-/// A command that writes a text for each line of a capture by itself.
+/// A command that answers each line of a capture by itself.
 #[derive(Clone, Copy, Debug, PartialEq, Eq)]
-pub enum Filter {
+pub enum LineCommand {
     /// The sentences of each frame.
     Convert,
     /// What each line says, in plain numbers.
@@ -15,7 +15,7 @@ pub enum Filter {
 #[derive(Clone, Copy, Debug, PartialEq, Eq)]
 pub enum Command {
     /// Reads a capture and writes a text for each of its lines.
-    Lines(Filter),
+    Lines(LineCommand),
 }
 
 /// What is written where the words are no command.
@@ -29,9 +29,9 @@ pub(crate) fn command_of(words: &[String]) -> Option<Command>
     match words {
         [word] => {
             if word.as_str() == "convert" {
-                Some(Command::Lines(Filter::Convert))
+                Some(Command::Lines(LineCommand::Convert))
             } else if word.as_str() == "show" {
-                Some(Command::Lines(Filter::Show))
+                Some(Command::Lines(LineCommand::Show))
             } else {
                 None
             }

@@ -1,7 +1,7 @@
 //! Gathers what is written, so that many short texts cost one call.
 ghost use Rattle.std.specs.Prelude.{[]};
 ghost use Rattle.gate_outside.specs.Faults.{HasCause};
-ghost use Rattle.shipgate.specs.Writing.{Writes};
+ghost use Rattle.shipgate.specs.Writer.{Writes};
 
 use arrayvec::ArrayVec;
 use gate_outside::{Failed, Sink};
@@ -25,7 +25,7 @@ impl Model for Writer {
 }
 
 /// Writes the whole piece.
-pub(crate) fn send<K: Sink>(piece: &[u8], out: &mut K) -> Result<(), Failed>
+pub(crate) fn send_now<K: Sink>(piece: &[u8], out: &mut K) -> Result<(), Failed>
     ensures sent { Writes (K.taken out.old) (K.taken out.new) piece.now [] result }
     ensures cause { HasCause (K.fault_count out.old) (K.fault_count out.new) result }
 {
@@ -43,7 +43,7 @@ impl Writer {
     ghost use Rattle.std.specs.Prelude.{◌≡◌, [], ◌++◌, OnOk};
     ghost use Rattle.std.specs.List.{flat_map};
     ghost use Rattle.gate_outside.specs.Faults.{HasCause};
-    ghost use Rattle.shipgate.specs.Writing.{Writes};
+    ghost use Rattle.shipgate.specs.Writer.{Writes};
 
     pub(crate) fn new() -> Self
         ensures { result ≡ [] }
@@ -59,7 +59,7 @@ impl Writer {
         ensures none { OnOk result (self.new ≡ []) }
         ensures cause { HasCause (K.fault_count out.old) (K.fault_count out.new) result }
     {
-        match send(self.waiting.as_slice(), out) {
+        match send_now(self.waiting.as_slice(), out) {
             Ok(()) => {
                 self.waiting.clear();
                 Ok(())
@@ -69,7 +69,7 @@ impl Writer {
     }
 
     // Writes all that waits, and lets a text wait. One that is longer than may wait is written at once.
-    fn put_anew<K: Sink>(&mut self, text: &[u8], out: &mut K) -> Result<(), Failed>
+    fn send_anew<K: Sink>(&mut self, text: &[u8], out: &mut K) -> Result<(), Failed>
         ensures sent { Writes (K.taken out.old) (K.taken out.new) (self.old ++ text.now) self.new result }
         ensures cause { HasCause (K.fault_count out.old) (K.fault_count out.new) result }
     {
@@ -78,31 +78,31 @@ impl Writer {
             Err(Failed) => return Err(Failed),
         }
         if text.len() > ROOM {
-            return send(text, out);
+            return send_now(text, out);
         }
         let _fits = self.waiting.try_extend_from_slice(text);
         Ok(())
     }
 
     /// Lets a text wait behind what waits, which is written first where there is no room for both.
-    pub(crate) fn put<K: Sink>(&mut self, text: &[u8], out: &mut K) -> Result<(), Failed>
+    pub(crate) fn send<K: Sink>(&mut self, text: &[u8], out: &mut K) -> Result<(), Failed>
         ensures sent { Writes (K.taken out.old) (K.taken out.new) (self.old ++ text.now) self.new result }
         ensures cause { HasCause (K.fault_count out.old) (K.fault_count out.new) result }
     {
         if text.len() > self.waiting.remaining_capacity() {
-            return self.put_anew(text, out);
+            return self.send_anew(text, out);
         }
         let _fits = self.waiting.try_extend_from_slice(text);
         Ok(())
     }
 
     /// Lets these pieces wait, one behind the other.
-    pub(crate) fn put_all<K: Sink>(&mut self, pieces: &[&[u8]], out: &mut K) -> Result<(), Failed>
+    pub(crate) fn send_all<K: Sink>(&mut self, pieces: &[&[u8]], out: &mut K) -> Result<(), Failed>
         ensures sent { Writes (K.taken out.old) (K.taken out.new) (self.old ++ flat_map (λ piece. piece.now) pieces.now) self.new result }
         ensures cause { HasCause (K.fault_count out.old) (K.fault_count out.new) result }
     {
         for piece in pieces {
-            match self.put(piece, out) {
+            match self.send(piece, out) {
                 Ok(()) => {}
                 Err(Failed) => return Err(Failed),
             }

@@ -1,7 +1,7 @@
 use Rattle.std.proofs.Common.{ℕ, List, sym, ap, subst}
 use Rattle.std.specs.Prelude.{Option, None}
 use Rattle.gate_outside.specs.Streams.{Stream}
-use Rattle.shipgate.specs.Filter.{Gives}
+use Rattle.shipgate.specs.LineCommand.{Gives}
 use Rattle.shipgate.specs.Run.{RunsOver, EndsBy}
 use Rattle.shipgate.proofs.run_over.Goals as goal
 
@@ -10,9 +10,9 @@ returns g c =
     record {
       known = c.run.ensures.status;
       usage = c.run.ensures.usage;
-      ends = λ filter form. (
+      ends = λ command form. (
         g.R.Read.remaining c.run.new.input.stream,
-        subst (λ (l : Option (List ℕ)). EndsBy (Gives filter) l (g.R.Read.remaining c.run.new.input.stream) None None c.run.result)
-            (ap (λ s. g.R.Read.remaining s.stream) c.new-input.ensures) (c.run.ensures.ends filter form),
+        subst (λ (l : Option (List ℕ)). EndsBy (Gives command) l (g.R.Read.remaining c.run.new.input.stream) None None c.run.result)
+            (ap (λ s. g.R.Read.remaining s.stream) c.new-input.ensures) (c.run.ensures.ends command form),
       );
     }

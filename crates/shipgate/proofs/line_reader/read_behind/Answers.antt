@@ -1,5 +1,5 @@
 use Rattle.std.proofs.Common.{arith}
-use Rattle.shipgate.proofs.LineReaderLaws.{reads_behind}
+use Rattle.shipgate.proofs.LineReaderLemmas.{reads_behind}
 use Rattle.shipgate.proofs.line_reader.read_behind.Goals as goal
 
 pub returns-clause-bytes : goal.returns-clause-bytes

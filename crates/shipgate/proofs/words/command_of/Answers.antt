@@ -1,6 +1,6 @@
 use Rattle.std.proofs.Common.{sym, ◌∙◌, arith}
 use Rattle.std.specs.Prelude.{string_bytes, codes}
-use Rattle.shipgate.proofs.WordLaws.{map_one, same_bytes}
+use Rattle.shipgate.proofs.WordLemmas.{map_one, same_bytes}
 use Rattle.shipgate.proofs.words.command_of.Goals as goal
 
 pub returns-then-eq : goal.returns-then-eq

@@ -1,4 +1,4 @@
-use Rattle.shipgate.proofs.LineReaderLaws.{advances}
+use Rattle.shipgate.proofs.LineReaderLemmas.{advances}
 use Rattle.shipgate.proofs.line_reader.LineReader.advance.Goals as goal
 
 pub returns-in-Some : goal.returns-in-Some

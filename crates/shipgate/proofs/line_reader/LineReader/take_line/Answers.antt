@@ -1,7 +1,7 @@
 use Rattle.std.proofs.Common.{◌-◌, ◌+◌, ◌≤◌, length, drop, ap, ◌∙◌, arith}
 use Rattle.std.proofs.lemmas.List.{length-take}
 use Rattle.shipgate.specs.LineReader.{Held}
-use Rattle.shipgate.proofs.LineReaderLaws.{part_behind}
+use Rattle.shipgate.proofs.LineReaderLemmas.{part_behind}
 use Rattle.shipgate.proofs.line_reader.LineReader.take_line.Goals as goal
 
 pub returns-clause-rest : goal.returns-clause-rest
