@@ -7,7 +7,7 @@ use Rattle.capture_text.specs.Lines.{lines_of, complete_lines}
 use Rattle.shipgate.specs.Lines.{AreTexts}
 use Rattle.shipgate.specs.LineReader.{Held, IsEnd, Came}
 use Rattle.shipgate.specs.Writer.{Sends}
-use Rattle.shipgate.specs.Progress.{StandsFor, Stand, Rested, AreAll, WritesSome, Finishes, StopsReading, StopsWriting, PassesLimit, WritesAll}
+use Rattle.shipgate.specs.Progress.{input_limit, StandsFor, Stand, Rested, AreAll, WritesSome, Finishes, StopsReading, StopsWriting, PassesLimit, WritesAll}
 use Rattle.shipgate.proofs.WriterLemmas.{Sends-none}
 use Rattle.shipgate.proofs.ProgressLemmas.{cut_none, complete_of_cut}
 use Rattle.shipgate.proofs.StandLemmas.{Leaves-then, stand_sent, stands_filled, stopped, all_sent}
@@ -47,14 +47,14 @@ rested_sent Gives left left' told told' told'' held waiting number size r sends 
 
 -- a write of what waited failed
 pub flush_failed : (Gives : ℕ → List ℕ → List ℕ → Type 0) (left left' told told' told'' : Option (List ℕ)) (held : Held) (waiting some : List ℕ) (number size : ℕ)
-    → Rested Gives left left' told told' held waiting number size → Sends told' told'' waiting some → size ≤ 2 ^ 40 → StopsWriting Gives left left' told told''
+    → Rested Gives left left' told told' held waiting number size → Sends told' told'' waiting some → size ≤ input_limit → StopsWriting Gives left left' told told''
 flush_failed Gives left left' told told' told'' held waiting some number size r sends within =
     let s : Stand Gives left left' told told'' held some number size = stand_sent Gives left left' told told' told'' held waiting some number size r.stand sends in
     record { read = s.read; leaves = s.leaves; within = omega (arith, s.sized); writes = inl (stopped Gives left left' told told'' held some number size s) }
 
 -- a read failed, when nothing waited
 pub read_failed : (Gives : ℕ → List ℕ → List ℕ → Type 0) (left left' left'' told told' : Option (List ℕ)) (held : Held) (number size : ℕ)
-    → Rested Gives left left' told told' held [] number size → Leaves left' left'' [] → size ≤ 2 ^ 40 → StopsReading Gives left left'' told told'
+    → Rested Gives left left' told told' held [] number size → Leaves left' left'' [] → size ≤ input_limit → StopsReading Gives left left'' told told'
 read_failed Gives left left' left'' told told' held number size r leaves within =
     let s = r.stand in
     record {
@@ -70,7 +70,7 @@ read_failed Gives left left' left'' told told' held number size r leaves within 
 
 -- more came than an input may have
 pub limit_passed : (Gives : ℕ → List ℕ → List ℕ → Type 0) (left left' told told' : Option (List ℕ)) (held : Held) (waiting : List ℕ) (number size : ℕ)
-    → Stand Gives left left' told told' held waiting number size → 2 ^ 40 < size → PassesLimit Gives left left' told told'
+    → Stand Gives left left' told told' held waiting number size → input_limit < size → PassesLimit Gives left left' told told'
 limit_passed Gives left left' told told' held waiting number size s beyond = record {
   read = s.read;
   leaves = s.leaves;
@@ -80,7 +80,7 @@ limit_passed Gives left left' told told' held waiting number size s beyond = rec
 
 -- the text of a line was written in part
 pub lines_failed : (Gives : ℕ → List ℕ → List ℕ → Type 0) (left left' told told' told'' : Option (List ℕ)) (held : Held) (waiting : List ℕ) (number size : ℕ)
-    → (s : Stand Gives left left' told told' held waiting number size) → size ≤ 2 ^ 40 → WritesSome Gives told told'' (complete_lines s.read) → StopsWriting Gives left left' told told''
+    → (s : Stand Gives left left' told told' held waiting number size) → size ≤ input_limit → WritesSome Gives told told'' (complete_lines s.read) → StopsWriting Gives left left' told told''
 lines_failed Gives left left' told told' told'' held waiting number size s within writes = record { read = s.read; leaves = s.leaves; within = omega (arith, s.sized); writes = inl writes }
 
 are_all : (left left' : Option (List ℕ)) (read : List ℕ) → Leaves left left' read → IsEnd left' → AreAll left read
@@ -126,14 +126,14 @@ rested_end Gives left left' left'' told told' old new waiting piece number size 
 
 -- all was read, and its text written
 pub finished : (Gives : ℕ → List ℕ → List ℕ → Type 0) (left left' told told' told'' : Option (List ℕ)) (held : Held) (waiting : List ℕ) (number size : ℕ)
-    → (e : Ended Gives left left' told told' held waiting number size) → size ≤ 2 ^ 40 → WritesAll Gives told told'' (lines_of e.rested.stand.read) → Finishes Gives left left' told told''
+    → (e : Ended Gives left left' told told' held waiting number size) → size ≤ input_limit → WritesAll Gives told told'' (lines_of e.rested.stand.read) → Finishes Gives left left' told told''
 finished Gives left left' told told' told'' held waiting number size e within writes =
     let s = e.rested.stand in
     record { read = s.read; leaves = s.leaves; all = e.all; within = omega (arith, s.sized); writes = writes }
 
 -- all was read, and its text was written in part
 pub last_failed : (Gives : ℕ → List ℕ → List ℕ → Type 0) (left left' told told' told'' : Option (List ℕ)) (held : Held) (waiting : List ℕ) (number size : ℕ)
-    → (e : Ended Gives left left' told told' held waiting number size) → size ≤ 2 ^ 40 → WritesSome Gives told told'' (lines_of e.rested.stand.read) → StopsWriting Gives left left' told told''
+    → (e : Ended Gives left left' told told' held waiting number size) → size ≤ input_limit → WritesSome Gives told told'' (lines_of e.rested.stand.read) → StopsWriting Gives left left' told told''
 last_failed Gives left left' told told' told'' held waiting number size e within writes =
     let s = e.rested.stand in
     record { read = s.read; leaves = s.leaves; within = omega (arith, s.sized); writes = inr (e.all, writes) }

@@ -11,7 +11,7 @@ use borrow.Rule.Slice.PartMut.{put_mid, post_of}
 use Rattle.gate_outside.specs.declared.Failed.{Failed}
 use Rattle.gate_outside.specs.Source.{Reads, TellsEnd}
 use Rattle.capture_text.specs.Lines.{without_cr}
-use Rattle.shipgate.specs.LineReader.{Held, HasNoLf, Takes, IsLine, EndsLongLine, Advances, Finishes, Came, ReadsBehind}
+use Rattle.shipgate.specs.LineReader.{longest_line, Held, HasNoLf, Takes, IsLine, EndsLongLine, Advances, Finishes, Came, ReadsBehind}
 
 -- what is left of a part of the buffer behind so many bytes of it
 pub part_behind : (buffer : List ℕ) (start end count : ℕ) → start + count ≤ end → take (end - (start + count)) (drop (start + count) buffer) ≡ drop count (take (end - start) (drop start buffer))
@@ -33,29 +33,29 @@ or_false false b h = (refl, h)
 line_length : (raw : List ℕ) (len : ℕ) → len ≤ length raw → take len raw ≡ without_cr raw → length (without_cr raw) ≡ len
 line_length raw len le line = ap length (sym line) ∙ omega (arith, length-take len raw)
 
-is_long : (old : Held) (raw : List ℕ) (len : ℕ) → len ≤ length raw → take len raw ≡ without_cr raw → (old.skipping || ltb 4096 len) ≡ true → EndsLongLine old raw
+is_long : (old : Held) (raw : List ℕ) (len : ℕ) → len ≤ length raw → take len raw ≡ without_cr raw → (old.skipping || ltb longest_line len) ≡ true → EndsLongLine old raw
 is_long old raw len le line h =
-    elim (or_true old.skipping (ltb 4096 len) h) [
+    elim (or_true old.skipping (ltb longest_line len) h) [
       | inl skipping ↦ inl skipping
-      | inr more ↦ inr (let m : 4096 < len = ltb-true 4096 len more in omega (arith, line_length raw len le line))
+      | inr more ↦ inr (let m : longest_line < len = ltb-true longest_line len more in omega (arith, line_length raw len le line))
     ]
 
-is_line : (old new : Held) (raw : List ℕ) (len : ℕ) → len ≤ length raw → take len raw ≡ without_cr raw → new.line ≡ take len raw → (old.skipping || ltb 4096 len) ≡ false → IsLine old new raw
+is_line : (old new : Held) (raw : List ℕ) (len : ℕ) → len ≤ length raw → take len raw ≡ without_cr raw → new.line ≡ take len raw → (old.skipping || ltb longest_line len) ≡ false → IsLine old new raw
 is_line old new raw len le line taken h =
-    let b = or_false old.skipping (ltb 4096 len) h in
-    let m : len ≤ 4096 = ltb-false 4096 len b.1 in
+    let b = or_false old.skipping (ltb longest_line len) h in
+    let m : len ≤ longest_line = ltb-false longest_line len b.1 in
     record { whole = b.0; line = taken ∙ line; fits = omega (arith, ap length taken, length-take len raw) }
 
 -- the bytes up to an LF are taken as a line or passed over
 answered : (old new : Held) (raw : List ℕ) (len : ℕ) (b : Bool) (next : Next) → Takes old new raw → len ≤ length raw → take len raw ≡ without_cr raw → new.line ≡ take len raw
-    → (old.skipping || ltb 4096 len) ≡ b → next ≡ cond b Long Line → Advances old new next
+    → (old.skipping || ltb longest_line len) ≡ b → next ≡ cond b Long Line → Advances old new next
 answered old new raw len true next takes le line taken h e = subst (Advances old new) (sym e) (raw, takes, is_long old raw len le line h)
 answered old new raw len false next takes le line taken h e = subst (Advances old new) (sym e) (raw, takes, is_line old new raw len le line taken h)
 
 -- the bytes in which the LF was found are those that were unread
 pub advances : (old new : Held) (bytes : List ℕ) (at len : ℕ) (next : Next) → bytes ≡ old.unread → at < length bytes → get_or bytes at 0 ≡ 10 → HasNoLf (take at bytes) → len ≤ length (take at bytes)
     → take len (take at bytes) ≡ without_cr (take at bytes) → new.line ≡ take len old.unread → new.unread ≡ drop (at + 1) old.unread → new.skipping ≡ false
-    → next ≡ cond (old.skipping || ltb 4096 len) Long Line → Advances old new next
+    → next ≡ cond (old.skipping || ltb longest_line len) Long Line → Advances old new next
 advances old new bytes at len next is lt lf no_lf le line taken rest starts answer =
     let raw : List ℕ = take at bytes in
     let behind : drop at bytes ≡ 10 ∷ drop (at + 1) bytes = grind (arith, common_steps, lf) in
@@ -64,16 +64,16 @@ advances old new bytes at len next is lt lf no_lf le line taken rest starts answ
     let takes : Takes old new raw = record { whole = sym is ∙ split; no_lf = no_lf; starts = starts } in
     let short : len ≤ at = omega (arith, length-take at bytes) in
     let front : take len bytes ≡ take len raw = grind (arith, common_steps) in
-    answered old new raw len (old.skipping || ltb 4096 len) next takes le line (taken ∙ (ap (λ (xs : List ℕ). take len xs) (sym is) ∙ front)) refl answer
+    answered old new raw len (old.skipping || ltb longest_line len) next takes le line (taken ∙ (ap (λ (xs : List ℕ). take len xs) (sym is) ∙ front)) refl answer
 
 finished : (old new : Held) (len : ℕ) (b : Bool) (next : Next) → len ≤ length old.unread → take len old.unread ≡ without_cr old.unread → new.line ≡ take len old.unread
-    → (old.skipping || ltb 4096 len) ≡ b → next ≡ cond b Long Line → Finishes old new next
+    → (old.skipping || ltb longest_line len) ≡ b → next ≡ cond b Long Line → Finishes old new next
 finished old new len true next le line taken h e = subst (Finishes old new) (sym e) (is_long old old.unread len le line h)
 finished old new len false next le line taken h e = subst (Finishes old new) (sym e) (is_line old new old.unread len le line taken h)
 
 pub finishes : (old new : Held) (len : ℕ) (next : Next) → len ≤ length old.unread → take len old.unread ≡ without_cr old.unread → new.line ≡ take len old.unread
-    → next ≡ cond (old.skipping || ltb 4096 len) Long Line → Finishes old new next
-finishes old new len next le line taken answer = finished old new len (old.skipping || ltb 4096 len) next le line taken refl answer
+    → next ≡ cond (old.skipping || ltb longest_line len) Long Line → Finishes old new next
+finishes old new len next le line taken answer = finished old new len (old.skipping || ltb longest_line len) next le line taken refl answer
 
 -- the bytes that were read stand behind those that were kept
 pub read_behind : (count read : ℕ) (kept part rest : List ℕ) → count ≤ length kept → read ≤ length part → take (count + read) (take count kept ++ (part ++ rest)) ≡ take count kept ++ take read part

@@ -8,6 +8,7 @@ use Rattle.capture_text.proofs.Laws.{found, long_found, not_extended_found, is_f
 use Rattle.shipgate.specs.Says.{Says}
 use Rattle.shipgate.specs.declared.words.LineCommand.{LineCommand}
 use Rattle.shipgate.specs.LineCommand.{IsTextOf, Gives}
+use Rattle.shipgate.specs.LineReader.{longest_line}
 
 says_by : (line : List ℕ) (r : Result Seen LineRule) → read line ≡ r → Says line r
 says_by line (Ok seen) e = found line seen e
@@ -31,7 +32,7 @@ unfolding Gives
 gives_line command number [] text some is = absurd (some refl)
 gives_line command number (b ∷ bytes) text some is = (read (b ∷ bytes), says (b ∷ bytes), is)
 
-pub gives_long : (command : LineCommand) (number : ℕ) (line text : List ℕ) → 4096 < length line → IsTextOf command number (Err Long) text
+pub gives_long : (command : LineCommand) (number : ℕ) (line text : List ℕ) → longest_line < length line → IsTextOf command number (Err Long) text
     → Gives command number line text
 unfolding Gives
 gives_long command number [] text long is = absurd (omega arith)

@@ -7,7 +7,7 @@ use Rattle.gate_outside.specs.Told.{Leaves, Joins}
 use Rattle.capture_text.specs.Lines.{is_lf, without_cr, lines_of, complete_lines}
 use Rattle.capture_text.proofs.LineEnds.{without_cr-len}
 use Rattle.shipgate.specs.Lines.{AreTexts}
-use Rattle.shipgate.specs.LineReader.{Held, HasNoLf, Takes, EndsLongLine, Waits}
+use Rattle.shipgate.specs.LineReader.{longest_line, most_unread, Held, HasNoLf, Takes, EndsLongLine, Waits}
 use Rattle.shipgate.specs.Writer.{Sends}
 use Rattle.std.specs.List.{flat_map}
 use Rattle.shipgate.specs.Progress.{with_lf, StandsFor, Stand, Rested, WritesSome, WritesAll}
@@ -30,7 +30,7 @@ begins_with_line old new rest raw (inr s) takes held = absurd (let e : true ≡ 
 pub record BeginsLong (rest : List ℕ) (new : Held) : Type 0 where
   pub raw : List ℕ
   pub begins : Begins rest new raw
-  pub long : 4096 < length (without_cr raw)
+  pub long : longest_line < length (without_cr raw)
 
 pub begins_with_long : (old new : Held) (rest raw : List ℕ) → StandsFor old rest → Takes old new raw → EndsLongLine old raw → BeginsLong rest new
 begins_with_long old new rest raw (inl s) takes (inl skipping) = absurd (let e : true ≡ false = sym skipping ∙ s.0 in cc)
@@ -49,7 +49,7 @@ pub no_lf_waiting : (old new : Held) (rest : List ℕ) → StandsFor old rest �
 no_lf_waiting old new rest (inl s) waits = subst HasNoLf s.1 waits.no_lf
 no_lf_waiting old new rest (inr s) waits = subst HasNoLf (sym s.2) (All-append (λ b. is_lf b ≡ false) s.1 old.unread s.4 waits.no_lf)
 
-waits_on : (old new : Held) (rest : List ℕ) → StandsFor old rest → HasNoLf old.unread → ((new.unread ≡ old.unread) × (new.skipping ≡ old.skipping)) ⊎ ((new.unread ≡ []) × (new.skipping ≡ true) × (4097 < length old.unread)) → StandsFor new rest
+waits_on : (old new : Held) (rest : List ℕ) → StandsFor old rest → HasNoLf old.unread → ((new.unread ≡ old.unread) × (new.skipping ≡ old.skipping)) ⊎ ((new.unread ≡ []) × (new.skipping ≡ true) × (most_unread < length old.unread)) → StandsFor new rest
 waits_on old new rest (inl s) no_lf (inl k) = inl (k.1 ∙ s.0, k.0 ∙ s.1)
 waits_on old new rest (inr s) no_lf (inl k) = inr (k.1 ∙ s.0, s.1, s.2 ∙ ap (λ (xs : List ℕ). s.1 ++ xs) (sym k.0), s.3, s.4)
 waits_on old new rest (inl s) no_lf (inr k) = inr (k.1, old.unread, sym s.1 ∙ (sym (append-nil old.unread) ∙ ap (λ (xs : List ℕ). old.unread ++ xs) (sym k.0)), k.2, no_lf)
@@ -242,9 +242,9 @@ last_put Gives left left' told told' told'' held waiting some text number size r
     }
 
 -- a line that is too long, at the end of the input
-pub ends_long : (held : Held) (rest : List ℕ) → StandsFor held rest → EndsLongLine held held.unread → 4096 < length (without_cr rest)
+pub ends_long : (held : Held) (rest : List ℕ) → StandsFor held rest → EndsLongLine held held.unread → longest_line < length (without_cr rest)
 ends_long held rest (inl s) (inl skipping) = absurd (let e : true ≡ false = sym skipping ∙ s.0 in cc)
-ends_long held rest (inl s) (inr long) = subst (λ (xs : List ℕ). 4096 < length (without_cr xs)) s.1 long
+ends_long held rest (inl s) (inr long) = subst (λ (xs : List ℕ). longest_line < length (without_cr xs)) s.1 long
 ends_long held rest (inr s) ends = omega (arith, without_cr-len rest, ap length s.2, length-append s.1 held.unread, s.3)
 
 pub ends_line : (held : Held) (rest : List ℕ) → StandsFor held rest → held.skipping ≡ false → held.unread ≡ rest

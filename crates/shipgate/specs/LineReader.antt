@@ -5,6 +5,18 @@ use Rattle.shipgate.specs.declared.line_reader.Next.{Next}
 use Rattle.shipgate.specs.declared.line_reader.Next.TheVariants.{Line, Long, Unfinished}
 use Rattle.capture_text.specs.Lines.{is_lf, without_cr}
 
+-- how many bytes a reader holds at most
+abbrev pub buffer_size : ℕ
+buffer_size = 65536
+
+-- how many bytes a line may have
+abbrev pub longest_line : ℕ
+longest_line = 4096
+
+-- how many bytes of a line are kept while its end hasn't come: those of the longest line, and a CR
+abbrev pub most_unread : ℕ
+most_unread = 4097
+
 pub record Held : Type 0 where
   -- the line that was taken last
   pub line : List ℕ
@@ -26,17 +38,17 @@ pub record Takes (old new : Held) (raw : List ℕ) : Type 0 where
 pub record IsLine (old new : Held) (raw : List ℕ) : Type 0 where
   pub whole : old.skipping ≡ false
   pub line : new.line ≡ without_cr raw
-  pub fits : length new.line ≤ 4096
+  pub fits : length new.line ≤ longest_line
 
 -- These bytes end a line that is too long.
 abbrev pub EndsLongLine : Held → List ℕ → Type 0
-EndsLongLine old raw = (old.skipping ≡ true) ⊎ (4096 < length (without_cr raw))
+EndsLongLine old raw = (old.skipping ≡ true) ⊎ (longest_line < length (without_cr raw))
 
 -- No LF has come yet. Of a line that is too long already nothing is kept.
 pub record Waits (old new : Held) : Type 0 where
   pub no_lf : HasNoLf old.unread
-  pub room : length new.unread ≤ 4097
-  pub keeps : ((new.unread ≡ old.unread) × (new.skipping ≡ old.skipping)) ⊎ ((new.unread ≡ []) × (new.skipping ≡ true) × (4097 < length old.unread))
+  pub room : length new.unread ≤ most_unread
+  pub keeps : ((new.unread ≡ old.unread) × (new.skipping ≡ old.skipping)) ⊎ ((new.unread ≡ []) × (new.skipping ≡ true) × (most_unread < length old.unread))
 
 -- what the next line is
 abbrev pub Advances : Held → Held → Next → Type 0

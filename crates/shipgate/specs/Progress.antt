@@ -7,7 +7,7 @@ use Rattle.shipgate.specs.declared.ending.Ending.{Ending}
 use Rattle.shipgate.specs.declared.ending.Ending.TheVariants as ending
 use Rattle.capture_text.specs.Lines.{without_cr, lines_of, complete_lines}
 use Rattle.shipgate.specs.Lines.{AreTexts}
-use Rattle.shipgate.specs.LineReader.{Held, HasNoLf}
+use Rattle.shipgate.specs.LineReader.{most_unread, Held, HasNoLf}
 use Rattle.shipgate.specs.Writer.{Sends}
 
 abbrev pub with_lf : List ℕ → List ℕ
@@ -21,7 +21,7 @@ pub record Cut (bytes : List ℕ) (lines : List (List ℕ)) (rest : List ℕ) : 
 -- What the reader holds stands for this rest: it is the rest, or what comes in it behind bytes of a line that is too long.
 abbrev pub StandsFor : Held → List ℕ → Type 0
 StandsFor held rest = ((held.skipping ≡ false) × (held.unread ≡ rest))
-    ⊎ ((held.skipping ≡ true) × (passed : List ℕ) × (rest ≡ passed ++ held.unread) × (4097 < length passed) × HasNoLf passed)
+    ⊎ ((held.skipping ≡ true) × (passed : List ℕ) × (rest ≡ passed ++ held.unread) × (most_unread < length passed) × HasNoLf passed)
 
 -- Where a command stands: of the bytes that left the source so far, so many, each whole line has had its text, which was
 -- sent or waits.
@@ -42,7 +42,7 @@ pub record Stand (Gives : ℕ → List ℕ → List ℕ → Type 0) (left left' 
 pub record Rested (Gives : ℕ → List ℕ → List ℕ → Type 0) (left left' told told' : Option (List ℕ)) (held : Held) (waiting : List ℕ) (number size : ℕ) : Type 0 where
   pub stand : Stand Gives left left' told told' held waiting number size
   pub no_lf : HasNoLf stand.rest
-  pub room : length held.unread ≤ 4097
+  pub room : length held.unread ≤ most_unread
 
 -- how many bytes an input may have
 abbrev pub input_limit : ℕ

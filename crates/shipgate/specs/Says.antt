@@ -3,9 +3,10 @@ use Rattle.std.specs.Prelude.{ℕ, ◌<◌, List, length, Result, Ok, Err}
 use Rattle.capture_text.specs.declared.event.LineRule.{LineRule}
 use Rattle.capture_text.specs.declared.event.LineRule.TheVariants.{Form, NotExtended, Long}
 use Rattle.capture_text.specs.Capture.{Seen, IsLine, IsNotExtended, IsNoLine}
+use Rattle.shipgate.specs.LineReader.{longest_line}
 
 abbrev pub Says : List ℕ → Result Seen LineRule → Type 0
 Says line (Ok seen) = IsLine seen line
 Says line (Err Form) = IsNoLine line
 Says line (Err NotExtended) = IsNotExtended line
-Says line (Err Long) = 4096 < length line
+Says line (Err Long) = longest_line < length line

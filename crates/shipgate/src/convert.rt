@@ -101,7 +101,7 @@ fn pgn_of(frame: &Frame) -> u32
 {
     match parts(frame.id) {
         Some(parts) => parts.pgn,
-        None => 0,
+        None => unreachable!(),
     }
 }
 

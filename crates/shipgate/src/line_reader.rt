@@ -11,7 +11,7 @@ use std::marker::Model;
 /// The length of the longest line. A longer one is refused unread.
 const LONGEST: usize = 4096;
 
-/// How many bytes are read at once at most.
+/// How many bytes are held, and so read at once, at most.
 const PIECE: usize = 65536;
 
 /// How many bytes are compared with LF at once.
@@ -118,7 +118,7 @@ pub(crate) struct LineReader {
 
 impl Model for LineReader {
     ghost use Rattle.std.specs.Prelude.{◌-◌, ◌≤◌, take, drop};
-    ghost use Rattle.shipgate.specs.LineReader.{Held};
+    ghost use Rattle.shipgate.specs.LineReader.{buffer_size, Held};
 
     ghost Value = { Held };
 
@@ -128,13 +128,13 @@ impl Model for LineReader {
       skipping = r.skipping;
     } };
 
-    ghost invariant = { λ r. (r.line_start ≤ r.line_end) × (r.line_end ≤ 65536) × (r.start ≤ r.end) × (r.end ≤ 65536) };
+    ghost invariant = { λ r. (r.line_start ≤ r.line_end) × (r.line_end ≤ buffer_size) × (r.start ≤ r.end) × (r.end ≤ buffer_size) };
 }
 
 impl LineReader {
     ghost use Rattle.std.specs.Prelude.{◌≡◌, ◌<◌, ◌≤◌, [], true, false, ◌||◌, nat_lt, if◌then◌else◌, length, take, drop, IfOk};
     ghost use Rattle.gate_outside.specs.Faults.{HasCause};
-    ghost use Rattle.shipgate.specs.LineReader.{Advances, Finishes, Fills};
+    ghost use Rattle.shipgate.specs.LineReader.{buffer_size, longest_line, most_unread, Advances, Finishes, Fills};
 
     pub(crate) fn new() -> Self
         ensures { result ≡ record { line = []; unread = []; skipping = false } }
@@ -196,7 +196,7 @@ impl LineReader {
         ensures line { self.new.line ≡ take len self.old.unread }
         ensures rest { self.new.unread ≡ drop count self.old.unread }
         ensures starts { self.new.skipping ≡ false }
-        ensures answer { result ≡ (if self.old.skipping || nat_lt 4096 len then Next.Long else Next.Line) }
+        ensures answer { result ≡ (if self.old.skipping || nat_lt longest_line len then Next.Long else Next.Line) }
     {
         let long = self.skipping || len > LONGEST;
         self.line_start = self.start;
@@ -208,8 +208,8 @@ impl LineReader {
 
     // Passes over the bytes of a line that is too long already.
     fn drop_excess(&mut self)
-        ensures kept { length self.old.unread ≤ 4097 → self.new ≡ self.old }
-        ensures dropped { 4097 < length self.old.unread → (self.new.unread ≡ []) × (self.new.skipping ≡ true) }
+        ensures kept { length self.old.unread ≤ most_unread → self.new ≡ self.old }
+        ensures dropped { most_unread < length self.old.unread → (self.new.unread ≡ []) × (self.new.skipping ≡ true) }
     {
         if self.end - self.start > LONGEST + 1 {
             self.start = self.end;
@@ -219,9 +219,9 @@ impl LineReader {
 
     /// Reads more of the input, and answers how many bytes came: none at its end.
     pub(crate) fn fill<S: Source>(&mut self, input: &mut S) -> Result<usize, Failed>
-        requires { length self.old.unread ≤ 4097 }
+        requires { length self.old.unread ≤ most_unread }
         ensures bytes { Fills (S.left input.old) (S.left input.new) self.old self.new result }
-        ensures bound { IfOk result (λ count. count ≤ 65536) }
+        ensures bound { IfOk result (λ count. count ≤ buffer_size) }
         ensures cause { HasCause (S.fault_count input.old) (S.fault_count input.new) result }
     {
         let count = self.end - self.start;

@@ -112,8 +112,24 @@ fn exit_code(status: Result<u8, AllocError>) -> ExitCode
     }
 }
 
+// Says on standard error why a run didn't do its work.
+fn explain(rt: &impl Eprint, status: &Result<u8, AllocError>) {
+    let why = match status {
+        Ok(2) => "these words are no command: the commands are convert and show",
+        Ok(4) => "the output can't be written",
+        Ok(5) => "the input can't be read",
+        Ok(8) => "the input has more than 2^40 bytes",
+        Ok(_) => return,
+        Err(AllocError) => "there is no memory to begin with",
+    };
+    // Where standard error is closed too, the status says it.
+    let _ = eprintln!(rt; "shipgate: {why}");
+}
+
 fn main(rt: HostRuntime) -> ExitCode {
-    exit_code(run_with(rt.alloc(), env::args(&rt), rt.stdin(), rt.stdout()))
+    let status = run_with(rt.alloc(), env::args(&rt), rt.stdin(), rt.stdout());
+    explain(&rt, &status);
+    exit_code(status)
 }
 
 #[cfg(test)]

@@ -1,7 +1,7 @@
 //! The program over objects in memory, with the bytes and statuses worked out by hand.
 ghost use Rattle.std.specs.Prelude.{◌<◌};
 
-use crate::run;
+use crate::{run, run_over};
 use gate_outside::{MemClock, MemSink, MemSource, QuietFiles, QuietLink, Sink};
 use std::alloc::Global;
 use std::test::Fail;
@@ -52,6 +52,25 @@ fn outcome(alloc: Global, word: &str, given: &Given, room: &Room) -> Result<(u8,
         &mut clock,
     );
     Ok((status, out.taken().to_vec(alloc)?))
+}
+
+#[test]
+fn readers_and_writers_of_std_are_run_over(rt: HostRuntime) -> Result<(), Fail> {
+    let alloc = rt.alloc();
+    for (word, status, text) in [
+        ("convert", 0, b"$HEHDT,90.0,T*16\r\n".as_slice()),
+        (
+            "show",
+            0,
+            b"line=1 prio=2 pgn=127250 src=23 dst=255 len=8\n".as_slice(),
+        ),
+    ] {
+        let words = [String::from_str(alloc, word)?];
+        let mut kept = Vec::new(alloc);
+        assert_eq!(rt; run_over(alloc, &words, HEADING, &mut kept), Ok(status));
+        assert_eq!(rt; kept.as_slice(), text);
+    }
+    Ok(())
 }
 
 #[test]

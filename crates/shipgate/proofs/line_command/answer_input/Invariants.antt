@@ -1,15 +1,15 @@
 use Rattle.std.proofs.Common.{◌≡◌, ◌-◌, ◌≤◌, ◌^◌}
 use Rattle.shipgate.specs.LineCommand.{Gives}
-use Rattle.shipgate.specs.Progress.{Rested}
+use Rattle.shipgate.specs.Progress.{input_limit, Rested}
 use Rattle.shipgate.proofs.line_command.answer_input.Given as goal
 
 abbrev pub invariant-pieces : goal.invariant-pieces
 invariant-pieces g l = record {
   rested : Rested (Gives l.command) (g.S.Source.left l.fn.input) (g.S.Source.left l.input) (g.K.Sink.taken l.fn.out) (g.K.Sink.taken l.out) l.reader l.writer l.number l.total;
-  within : l.total ≤ 2 ^ 40;
+  within : l.total ≤ input_limit;
   source : g.S.Source.fault_count l.input ≡ g.S.Source.fault_count l.fn.input;
   sink : g.K.Sink.fault_count l.out ≡ g.K.Sink.fault_count l.fn.out;
 }
 
 abbrev pub decreases-pieces : goal.decreases-pieces
-decreases-pieces g l = 2 ^ 40 - l.total
+decreases-pieces g l = input_limit - l.total
