@@ -7,8 +7,8 @@ abbrev pub last_count : ℕ
 last_count = 2 ^ 64 - 1
 
 -- a count one higher, up to its last value
-abbrev pub raised : ℕ → ℕ
-raised count = min (count + 1) last_count
+abbrev pub one_more : ℕ → ℕ
+one_more count = min (count + 1) last_count
 
 -- The count rose in a call. At its last value it counts as one that rose.
 abbrev pub Rose : ℕ → ℕ → Type 0
@@ -34,6 +34,6 @@ fails_next s = list_any (λ number. number == s.calls + 1) s.failing
 abbrev pub after_call : Script → Bool → Script
 after_call s failed = record {
   failing = s.failing;
-  calls = raised s.calls;
-  faults = if failed then raised s.faults else s.faults;
+  calls = one_more s.calls;
+  faults = if failed then one_more s.faults else s.faults;
 }

@@ -29,7 +29,8 @@ bytes_in (pair ∷ pairs) = length pair.1 + bytes_in pairs
 -- what is told once this pair was handed over: nothing, where there are more pairs or bytes than the room
 abbrev pub told_after : Option (List Handed) → ℕ → ℕ → Handed → Option (List Handed)
 told_after None room most pair = None
-told_after (Some pairs) room most pair = if nat_le (length pairs + 1) most && nat_le (bytes_in pairs + length pair.1) room then Some (pairs ++ pair ∷ []) else None
+told_after (Some pairs) room most pair =
+    if nat_le (length pairs + 1) most && nat_le (bytes_in pairs + length pair.1) room then Some (pairs ++ pair ∷ []) else None
 
 -- the pair at a place, where it is told
 abbrev pub pair_at : Option (List Handed) → ℕ → Option Handed

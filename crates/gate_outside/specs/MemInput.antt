@@ -13,7 +13,8 @@ pub record MemInput : Type 0 where
 -- what a call that fails or doesn't moves
 abbrev pub Moves : {E : Type 0} → MemInput → MemInput → List ℕ → Bool → Result ℕ E → Type 0
 Moves old new buffer true (Err e) = new.left ≡ old.left
-Moves old new buffer false (Ok count) = (count ≡ min (min old.most (length buffer)) (length old.left)) × (take count buffer ≡ take count old.left) × (new.left ≡ drop count old.left)
+Moves old new buffer false (Ok count) = (count ≡ min (min old.most (length buffer)) (length old.left))
+    × (take count buffer ≡ take count old.left) × (new.left ≡ drop count old.left)
 Moves old new buffer true (Ok count) = ⊥
 Moves old new buffer false (Err e) = ⊥
 

@@ -10,4 +10,5 @@ pub record QuietInput : Type 0 where
 -- A read moves the least of what it moves at most, the room and what is left.
 pub record ReadsQuietly {E : Type 0} (old new : QuietInput) (buffer : List ℕ) (result : Result ℕ E) : Type 0 where
   pub most : new.most ≡ old.most
-  pub moves : IsOkAnd result (λ count. (count ≡ min (min old.most (length buffer)) (length old.left)) × (take count buffer ≡ take count old.left) × (new.left ≡ drop count old.left))
+  pub moves : IsOkAnd result (λ count. (count ≡ min (min old.most (length buffer)) (length old.left))
+      × (take count buffer ≡ take count old.left) × (new.left ≡ drop count old.left))

@@ -11,7 +11,8 @@ use borrow.Rule.Slice.PartMut.{put_mid, post_of}
 use Rattle.gate_outside.specs.declared.Failed.{Failed}
 use Rattle.gate_outside.specs.Source.{Reads, TellsEnd}
 use Rattle.capture_text.specs.Lines.{without_cr}
-use Rattle.shipgate.specs.LineReader.{longest_line, Held, HasNoLf, Takes, IsLine, EndsLongLine, Advances, Finishes, Came, ReadsBehind}
+use Rattle.shipgate.specs.LineReader.{Held, HasNoLf, Takes, IsLine, EndsLongLine, Advances, Finishes, Came, ReadsBehind}
+use Rattle.capture_text.specs.Capture.{longest_line}
 
 -- what is left of a part of the buffer behind so many bytes of it
 pub part_behind : (buffer : List ℕ) (start end count : ℕ) → start + count ≤ end → take (end - (start + count)) (drop (start + count) buffer) ≡ drop count (take (end - start) (drop start buffer))

@@ -2,13 +2,12 @@
 use Rattle.std.proofs.Common.{◌≡◌, ℕ, ◌<◌, List, [], ◌∷◌, length, Result, Ok, Err, refl, sym, arith}
 use Rattle.capture_text.specs.declared.event.LineRule.{LineRule}
 use Rattle.capture_text.specs.declared.event.LineRule.TheVariants.{Form, NotExtended, Long}
-use Rattle.capture_text.specs.Capture.{Seen}
+use Rattle.capture_text.specs.Capture.{longest_line, Seen}
 use Rattle.capture_text.specs.Reading.{read}
 use Rattle.capture_text.proofs.Laws.{found, long_found, not_extended_found, is_form}
 use Rattle.shipgate.specs.Says.{Says}
 use Rattle.shipgate.specs.declared.words.LineCommand.{LineCommand}
 use Rattle.shipgate.specs.LineCommand.{IsTextOf, Gives}
-use Rattle.shipgate.specs.LineReader.{longest_line}
 
 says_by : (line : List ℕ) (r : Result Seen LineRule) → read line ≡ r → Says line r
 says_by line (Ok seen) e = found line seen e

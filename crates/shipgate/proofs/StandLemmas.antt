@@ -7,12 +7,13 @@ use Rattle.gate_outside.specs.Told.{Leaves, Joins}
 use Rattle.capture_text.specs.Lines.{is_lf, without_cr, lines_of, complete_lines}
 use Rattle.capture_text.proofs.LineEnds.{without_cr-len}
 use Rattle.shipgate.specs.Lines.{AreTexts}
-use Rattle.shipgate.specs.LineReader.{longest_line, most_unread, Held, HasNoLf, Takes, EndsLongLine, Waits}
+use Rattle.shipgate.specs.LineReader.{most_unread, Held, HasNoLf, Takes, EndsLongLine, Waits}
 use Rattle.shipgate.specs.Writer.{Sends}
 use Rattle.std.specs.List.{flat_map}
 use Rattle.shipgate.specs.Progress.{with_lf, StandsFor, Stand, Rested, WritesSome, WritesAll}
 use Rattle.shipgate.proofs.WriterLemmas.{Joins-then, Sends-then}
 use Rattle.shipgate.proofs.ProgressLemmas.{cut_more, cut_line, whole_of_cut, front_of_cut, AreTexts-push}
+use Rattle.capture_text.specs.Capture.{longest_line}
 
 -- ---- what the reader holds
 

@@ -3,19 +3,16 @@ use Rattle.std.specs.Prelude.{◌≡◌, ◌+◌, ◌<◌, ◌≤◌, ◌⊎◌,
 use Rattle.gate_outside.specs.Told.{Leaves}
 use Rattle.shipgate.specs.declared.line_reader.Next.{Next}
 use Rattle.shipgate.specs.declared.line_reader.Next.TheVariants.{Line, Long, Unfinished}
+use Rattle.capture_text.specs.Capture.{longest_line}
 use Rattle.capture_text.specs.Lines.{is_lf, without_cr}
 
 -- how many bytes a reader holds at most
 abbrev pub buffer_size : ℕ
 buffer_size = 65536
 
--- how many bytes a line may have
-abbrev pub longest_line : ℕ
-longest_line = 4096
-
 -- how many bytes of a line are kept while its end hasn't come: those of the longest line, and a CR
 abbrev pub most_unread : ℕ
-most_unread = 4097
+most_unread = longest_line + 1
 
 pub record Held : Type 0 where
   -- the line that was taken last
@@ -74,7 +71,8 @@ pub record Came (left left' : Option (List ℕ)) (count : ℕ) (piece : List ℕ
 
 -- what a read behind so many kept bytes of a buffer does
 abbrev pub ReadsBehind : {E : Type 0} → Option (List ℕ) → Option (List ℕ) → List ℕ → List ℕ → ℕ → Result ℕ E → Type 0
-ReadsBehind left left' kept buffer count (Ok read) = (piece : List ℕ) × Came left left' read piece × (take (count + read) buffer ≡ kept ++ piece) × (count + read ≤ length buffer)
+ReadsBehind left left' kept buffer count (Ok read) = (piece : List ℕ) × Came left left' read piece
+    × (take (count + read) buffer ≡ kept ++ piece) × (count + read ≤ length buffer)
 ReadsBehind left left' kept buffer count (Err e) = Leaves left left' []
 
 -- what a read does: the bytes that came stand behind the unread ones

@@ -25,7 +25,8 @@ StandsFor held rest = ((held.skipping ≡ false) × (held.unread ≡ rest))
 
 -- Where a command stands: of the bytes that left the source so far, so many, each whole line has had its text, which was
 -- sent or waits.
-pub record Stand (Gives : ℕ → List ℕ → List ℕ → Type 0) (left left' told told' : Option (List ℕ)) (held : Held) (waiting : List ℕ) (number size : ℕ) : Type 0 where
+pub record Stand (Gives : ℕ → List ℕ → List ℕ → Type 0) (left left' told told' : Option (List ℕ))
+    (held : Held) (waiting : List ℕ) (number size : ℕ) : Type 0 where
   pub read : List ℕ
   pub lines : List (List ℕ)
   pub rest : List ℕ
@@ -39,7 +40,8 @@ pub record Stand (Gives : ℕ → List ℕ → List ℕ → Type 0) (left left' 
   pub sends : Sends told told' done waiting
 
 -- The same, where no whole line is left.
-pub record Rested (Gives : ℕ → List ℕ → List ℕ → Type 0) (left left' told told' : Option (List ℕ)) (held : Held) (waiting : List ℕ) (number size : ℕ) : Type 0 where
+pub record Rested (Gives : ℕ → List ℕ → List ℕ → Type 0) (left left' told told' : Option (List ℕ))
+    (held : Held) (waiting : List ℕ) (number size : ℕ) : Type 0 where
   pub stand : Stand Gives left left' told told' held waiting number size
   pub no_lf : HasNoLf stand.rest
   pub room : length held.unread ≤ most_unread
@@ -107,18 +109,23 @@ Ends Gives left left' told told' ending.TooLong = PassesLimit Gives left left' t
 -- Wherever the command stood, it stands here now: the same bytes were read, and more lines have had their text.
 abbrev pub Reaches : (ℕ → List ℕ → List ℕ → Type 0) → Option (List ℕ) → Option (List ℕ) → Held → Held → List ℕ → List ℕ → ℕ → ℕ → Type 0
 Reaches Gives told' told'' old new waiting waiting' number count =
-    (left left' told : Option (List ℕ)) (size : ℕ) → (s : Stand Gives left left' told told' old waiting number size) → (t : Stand Gives left left' told told'' new waiting' count size) × (t.read ≡ s.read)
+    (left left' told : Option (List ℕ)) (size : ℕ) → (s : Stand Gives left left' told told' old waiting number size)
+    → (t : Stand Gives left left' told told'' new waiting' count size) × (t.read ≡ s.read)
 
 -- Whatever was done before, all whole lines have their text afterwards, or some of the text was written.
 abbrev pub TakesLines : (ℕ → List ℕ → List ℕ → Type 0) → Option (List ℕ) → Option (List ℕ) → Held → Held → List ℕ → List ℕ → ℕ → Result ℕ Failed → Type 0
 TakesLines Gives told' told'' old new waiting waiting' number (Ok count) =
-    (left left' told : Option (List ℕ)) (size : ℕ) → Stand Gives left left' told told' old waiting number size → Rested Gives left left' told told'' new waiting' count size
+    (left left' told : Option (List ℕ)) (size : ℕ) → Stand Gives left left' told told' old waiting number size
+    → Rested Gives left left' told told'' new waiting' count size
 TakesLines Gives told' told'' old new waiting waiting' number (Err e) =
-    (left left' told : Option (List ℕ)) (size : ℕ) → (s : Stand Gives left left' told told' old waiting number size) → WritesSome Gives told told'' (complete_lines s.read)
+    (left left' told : Option (List ℕ)) (size : ℕ) → (s : Stand Gives left left' told told' old waiting number size)
+    → WritesSome Gives told told'' (complete_lines s.read)
 
 -- At the end of the input what is left is the last line: its text is written too, or some of the text was.
 abbrev pub TakesLast : (ℕ → List ℕ → List ℕ → Type 0) → Option (List ℕ) → Option (List ℕ) → Held → List ℕ → ℕ → Result (Unit {0}) Failed → Type 0
 TakesLast Gives told' told'' old waiting number (Ok done) =
-    (left left' told : Option (List ℕ)) (size : ℕ) → (r : Rested Gives left left' told told' old waiting number size) → WritesAll Gives told told'' (lines_of r.stand.read)
+    (left left' told : Option (List ℕ)) (size : ℕ) → (r : Rested Gives left left' told told' old waiting number size)
+    → WritesAll Gives told told'' (lines_of r.stand.read)
 TakesLast Gives told' told'' old waiting number (Err e) =
-    (left left' told : Option (List ℕ)) (size : ℕ) → (r : Rested Gives left left' told told' old waiting number size) → WritesSome Gives told told'' (lines_of r.stand.read)
+    (left left' told : Option (List ℕ)) (size : ℕ) → (r : Rested Gives left left' told told' old waiting number size)
+    → WritesSome Gives told told'' (lines_of r.stand.read)

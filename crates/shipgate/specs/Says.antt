@@ -2,8 +2,7 @@
 use Rattle.std.specs.Prelude.{ℕ, ◌<◌, List, length, Result, Ok, Err}
 use Rattle.capture_text.specs.declared.event.LineRule.{LineRule}
 use Rattle.capture_text.specs.declared.event.LineRule.TheVariants.{Form, NotExtended, Long}
-use Rattle.capture_text.specs.Capture.{Seen, IsLine, IsNotExtended, IsNoLine}
-use Rattle.shipgate.specs.LineReader.{longest_line}
+use Rattle.capture_text.specs.Capture.{longest_line, Seen, IsLine, IsNotExtended, IsNoLine}
 
 abbrev pub Says : List ℕ → Result Seen LineRule → Type 0
 Says line (Ok seen) = IsLine seen line

@@ -10,6 +10,7 @@ use Rattle.datagram450.specs.declared.fault.DatagramFault.{DatagramFault}
 use Rattle.datagram450.specs.declared.fault.DatagramFault.TheVariants as faults
 use Rattle.datagram450.specs.Item.{Item, line, bad}
 use Rattle.datagram450.specs.Datagram as datagrams
+use Rattle.datagram450.specs.Datagram.{longest_datagram}
 use Rattle.capture_text.specs.declared.event.LineRule.{LineRule}
 use Rattle.capture_text.specs.Event.{rule_number}
 use Rattle.report_rules.specs.Rules.{datagram_header, datagram_long}
@@ -79,7 +80,7 @@ item_text number (bad rule at) = place_text number at rule
 abbrev pub items_text : ℕ → Result (List Item) DatagramFault → List ℕ
 items_text number (Ok items) = flat_map (item_text number) items
 items_text number (Err (faults.Header place)) = place_text number place datagram_header
-items_text number (Err faults.Long) = place_text number 1472 datagram_long
+items_text number (Err faults.Long) = place_text number longest_datagram datagram_long
 
 -- ---- the line
 

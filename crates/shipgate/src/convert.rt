@@ -64,7 +64,8 @@ fn append_lines(lines: &Lines, answer: &mut Answer)
 fn write_reading(reading: &Reading, answer: &mut Answer)
     requires empty { answer.old.items ≡ [] }
     requires valid { IsValidReading reading.now }
-    ensures { (lines : List (List ℕ)) × IsText reading.now (talker_of (row_of reading.now)) false lines × (answer.new.items ≡ flat_map (λ line. line) lines) }
+    ensures { (lines : List (List ℕ)) × IsText reading.now (talker_of (row_of reading.now)) false lines
+        × (answer.new.items ≡ flat_map (λ line. line) lines) }
 {
     let mut lines = ArrayVec::new();
     sentences(reading, talker_of(row(reading)), false, &mut lines);

@@ -17,6 +17,9 @@ use gate_outside::{Failed, Sink, Source};
 /// How many bytes an input may have.
 const LIMIT: u64 = 1 << 40;
 
+/// Room for the bytes of the datagram that a line holds.
+type Room = [u8; 2048];
+
 // Sends what a line gives that says something.
 fn send_event<K: Sink>(
     command: LineCommand,
@@ -57,7 +60,7 @@ fn send_said<K: Sink>(
     command: LineCommand,
     number: u64,
     line: &[u8],
-    room: &mut [u8; 2048],
+    room: &mut Room,
     writer: &mut Writer,
     out: &mut K,
 ) -> Result<(), Failed>
@@ -75,7 +78,7 @@ fn send_line<K: Sink>(
     command: LineCommand,
     number: u64,
     line: &[u8],
-    room: &mut [u8; 2048],
+    room: &mut Room,
     writer: &mut Writer,
     out: &mut K,
 ) -> Result<(), Failed>
@@ -94,7 +97,7 @@ fn send_next<K: Sink>(
     next: Next,
     number: u64,
     reader: &LineReader,
-    room: &mut [u8; 2048],
+    room: &mut Room,
     writer: &mut Writer,
     out: &mut K,
 ) -> Result<(), Failed>
@@ -113,7 +116,7 @@ fn answer_lines<K: Sink>(
     command: LineCommand,
     number: u64,
     reader: &mut LineReader,
-    room: &mut [u8; 2048],
+    room: &mut Room,
     writer: &mut Writer,
     out: &mut K,
 ) -> Result<u64, Failed>
@@ -140,7 +143,7 @@ fn answer_last<K: Sink>(
     command: LineCommand,
     number: u64,
     reader: &mut LineReader,
-    room: &mut [u8; 2048],
+    room: &mut Room,
     writer: &mut Writer,
     out: &mut K,
 ) -> Result<(), Failed>
@@ -170,7 +173,7 @@ pub(crate) fn answer_input<S: Source, K: Sink>(
 {
     let mut reader = LineReader::new();
     let mut writer = Writer::new();
-    let mut room = [0; 2048];
+    let mut room: Room = [0; 2048];
     let mut number = 0;
     let mut total = 0;
     'pieces: loop {

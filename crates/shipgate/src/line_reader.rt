@@ -134,7 +134,8 @@ impl Model for LineReader {
 impl LineReader {
     ghost use Rattle.std.specs.Prelude.{◌≡◌, ◌<◌, ◌≤◌, [], true, false, ◌||◌, nat_lt, if◌then◌else◌, length, take, drop, IfOk};
     ghost use Rattle.gate_outside.specs.Faults.{HasCause};
-    ghost use Rattle.shipgate.specs.LineReader.{buffer_size, longest_line, most_unread, Advances, Finishes, Fills};
+    ghost use Rattle.capture_text.specs.Capture.{longest_line};
+    ghost use Rattle.shipgate.specs.LineReader.{buffer_size, most_unread, Advances, Finishes, Fills};
 
     pub(crate) fn new() -> Self
         ensures { result ≡ record { line = []; unread = []; skipping = false } }
@@ -230,12 +231,8 @@ impl LineReader {
         self.line_end = 0;
         self.start = 0;
         self.end = count;
-        match read_behind(&mut self.buffer, count, input) {
-            Ok(read) => {
-                self.end = count + read;
-                Ok(read)
-            }
-            Err(Failed) => Err(Failed),
-        }
+        let read = read_behind(&mut self.buffer, count, input)?;
+        self.end = count + read;
+        Ok(read)
     }
 }

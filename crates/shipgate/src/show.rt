@@ -78,12 +78,14 @@ fn write_frame(number: u64, frame: &Frame, text: &mut LineText)
     ensures { text.new.items ≡ spec.frame_text number (bus_frame frame.now) }
 {
     write_start(number, text);
-    if let Some(parts) = parts(frame.id) {
-        append_part(b" prio=", u64::from(parts.priority), text);
-        append_part(b" pgn=", u64::from(parts.pgn), text);
-        append_part(b" src=", u64::from(parts.source), text);
-        append_part(b" dst=", u64::from(parts.destination), text);
-    }
+    let parts = match parts(frame.id) {
+        Some(parts) => parts,
+        None => unreachable!(),
+    };
+    append_part(b" prio=", u64::from(parts.priority), text);
+    append_part(b" pgn=", u64::from(parts.pgn), text);
+    append_part(b" src=", u64::from(parts.source), text);
+    append_part(b" dst=", u64::from(parts.destination), text);
     append_part(b" len=", u64::from(frame.len), text);
     append(b"\n", text);
 }

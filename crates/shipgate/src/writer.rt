@@ -59,13 +59,9 @@ impl Writer {
         ensures none { OnOk result (self.new ≡ []) }
         ensures cause { HasCause (K.fault_count out.old) (K.fault_count out.new) result }
     {
-        match send_now(self.waiting.as_slice(), out) {
-            Ok(()) => {
-                self.waiting.clear();
-                Ok(())
-            }
-            Err(Failed) => Err(Failed),
-        }
+        send_now(self.waiting.as_slice(), out)?;
+        self.waiting.clear();
+        Ok(())
     }
 
     // Writes all that waits, and lets a text wait. One that is longer than may wait is written at once.
