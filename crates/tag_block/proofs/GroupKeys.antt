@@ -4,12 +4,16 @@ use Rattle.std.proofs.lemmas.Bool.{eq-eqb}
 use Rattle.std.specs.List.{AllByRecursion}
 use Rattle.std.specs.Cmp.{IsTotalOrder}
 use Rattle.std.specs.declared.cmp.Ordering.{Ordering}
-use Rattle.runs.specs.Runs.{opener_of, is_admitted, if_whole, open_of, open_at, run_of, finished}
+use Rattle.std.specs.declared.cmp.Ordering.TheVariants.{Less, Equal, Greater}
+use Rattle.std.specs.Ordering.{nat_cmp, is_eq, ordering_then}
+use Rattle.std.specs.Cmp.Lexicographic.{slice_cmp}
+use Rattle.std.proofs.lemmas.Map.Lookups.{exact_unsigned, exact_bytes}
+use Rattle.runs.specs.Runs.{opener_of, is_admitted, if_whole, open_of, open_at, run_of, fed, finished}
 use Rattle.runs.proofs.Steps.{one_step_of}
-use Rattle.slot_views.specs.Slots.{Entry, SlotMap, IsOrdered, grown, is_complete, is_held, is_full, entry_at}
+use Rattle.slot_views.specs.Slots.{Entry, SlotMap, IsOrdered, IsMap, Changes, grown, is_complete, is_held, is_full, entry_at}
 use Rattle.slot_views.specs.Traces.{left_at, entry_after, if_incomplete, grown_entry, pieces_at, IsStep}
 use Rattle.slot_views.specs.Answers.{Shows}
-use Rattle.slot_views.proofs.Keeping.{Keeps, released_keeps, released_here, begun_keeps, begun_here, grown_keeps, grown_here}
+use Rattle.slot_views.proofs.Keeping.{Keeps, changes_of, released_keeps, released_here, begun_keeps, begun_here, grown_keeps, grown_here}
 use Rattle.slot_views.proofs.Traces.{all_at, joined, joined_before, noted_room}
 use Rattle.tag_block.specs.declared.group_key.GroupKey.{GroupKey}
 use Rattle.tag_block.specs.declared.group_verdict.GroupVerdict.{GroupVerdict}
@@ -17,12 +21,15 @@ use Rattle.tag_block.specs.declared.group_verdict.GroupVerdict.TheVariants.{Open
 use Rattle.tag_block.specs.declared.group_answers.GroupFed.{GroupFed}
 use Rattle.tag_block.specs.declared.group_answers.GroupOutcome.{GroupOutcome}
 use Rattle.tag_block.specs.declared.group_answers.GroupOutcome.TheVariants.{Held, Complete, Order, Full}
-use Rattle.tag_block.specs.Groups.{IsGroupPart, VerdictFits, follows, verdict, opening, fed_by, group_gap}
-use Rattle.tag_block.specs.GroupAnswers.{OpensGives, FollowsGives, FeedGivesBy}
+use Rattle.tag_block.specs.Groups.{IsGroupPart, VerdictFits, follows, verdict, opening, fed_by, fed_after, group_gap}
+use Rattle.tag_block.specs.GroupAnswers.{OpensGives, FollowsGives, FeedGivesBy, FeedGives}
 use Rattle.tag_block.specs.GroupRuns.{GroupLine, is_next, group_rules}
+use Rattle.slot_views.specs.Laws.{TellsApart}
+use Rattle.tag_block.specs.contracts.group_key.GroupKeyOrd as key
+use Rattle.tag_block.specs.GroupJoining.{FeedsItsKey, StepsWithRuns}
 use Rattle.tag_block.specs.GroupLaws.{group_at, grown_by, left_by, filling, extends, is_taken, OutcomeIs, AnswerIs, is_open_at, AreFed, fed_one, groups, FollowsRuns, AnswersRuns}
 use Rattle.tag_block.proofs.GroupVerdicts.{fits_from}
-use Rattle.tag_block.proofs.GroupPrefixes.{lawful, entry, tests_next, far_by, more_of, kept_is, kept_open}
+use Rattle.tag_block.proofs.GroupPrefixes.{lawful, step_by, entry, tests_next, far_by, more_of, kept_is, kept_open}
 
 module _ {cmp : GroupKey → GroupKey → Ordering} (o : IsTotalOrder cmp) where
   -- one line does to the map what it does to its key's group
@@ -145,6 +152,42 @@ module _ (cmp : GroupKey → GroupKey → Ordering) (s : SlotMap GroupKey) (k : 
         let next : is_next (y ∷ ys) x ≡ false = sym (tests_next y ys x more) ∙ ef in
         breaks_fed fed other (rw is next) (done ∙ rw (is, other, next) refl) (subst (λ v. Gives v fed) told gives)
 
+-- the answer to one more line of a key whose group is that of the lines that are open
+module _ (cmp : GroupKey → GroupKey → Ordering) (s : SlotMap GroupKey) (k : GroupKey) (h : List GroupLine) (x : GroupLine) (valid : AllByRecursion (λ x. IsGroupPart x.part) h) (admitted : x.admitted ≡ not (is_full cmp s k)) where
+  open_fed : (q d : Option (List GroupLine)) → open_at group_rules h x.moment ≡ q → entry_at cmp s k ≡ group_at q → d ≡ finished group_rules q x → (b : Bool) → (x.part.number == 1) ≡ b
+      → (answer : GroupFed) → FeedGivesBy cmp s k x.part x.sentence x.moment (verdict (group_at q) x.part) answer → AnswerIs q x d answer
+  open_fed q d is found done true opens answer gives =
+      let told : verdict (group_at q) x.part ≡ Opens = rw opens refl in
+      opens_fed cmp s k x q d found admitted done (some_by h valid x.moment q is) opens answer (subst (λ v. FeedGivesBy cmp s k x.part x.sentence x.moment v answer) told gives)
+  open_fed None d is found done false other answer gives = none_fed cmp s k x None d found admitted done refl refl other answer gives
+  open_fed (Some []) d is found done false other answer gives = absurd (far_by h valid x.moment [] is).0
+  open_fed (Some (y ∷ ys)) d is found done false other answer gives =
+      let (far, room, awaits) = far_by h valid x.moment (y ∷ ys) is in
+      later_fed cmp s k x (Some (y ∷ ys)) d found admitted done refl y ys refl other (more_of y ys far awaits) room _ refl answer gives
+
+  pub answered : entry_at cmp s k ≡ group_at (open_at group_rules h x.moment) → (d : Option (List GroupLine)) → d ≡ finished group_rules (open_at group_rules h x.moment) x
+      → (answer : GroupFed) → FeedGives cmp s k x.part x.sentence x.moment answer → AnswerIs (open_at group_rules h x.moment) x d answer
+  answered found d done answer gives =
+      open_fed (open_at group_rules h x.moment) d refl found done _ refl answer (subst (λ e. FeedGivesBy cmp s k x.part x.sentence x.moment (verdict e x.part) answer) found gives)
+
+-- one more line of any key
+module _ {cmp : GroupKey → GroupKey → Ordering} (o : IsTotalOrder cmp) where
+  changed : (s : SlotMap GroupKey) (k : GroupKey) (x : GroupLine) → IsMap cmp s → x.admitted ≡ not (is_full cmp s k)
+      → Changes cmp s (fed_after cmp s k x.part x.sentence x.moment) k (left_by (verdict (entry_at cmp s k) x.part) x (entry_at cmp s k))
+  changed s k x map admitted = changes_of s (fed_after cmp s k x.part x.sentence x.moment) k _ map (keeps o s k x map.ordered) (here o s k x map.ordered admitted)
+
+  pub feeds_its_key : FeedsItsKey cmp
+  feeds_its_key = record { changes = changed }
+
+  pub steps_with_runs : StepsWithRuns cmp
+  steps_with_runs = record {
+    answer = λ s k h x answer valid found admitted gives. answered cmp s k h x valid.1 admitted found (finished group_rules (open_at group_rules h x.moment) x) refl answer gives;
+    changes = λ s k h x valid found admitted map.
+        let leaves : left_by (verdict (entry_at cmp s k) x.part) x (entry_at cmp s k) ≡ group_at (fed group_rules (open_at group_rules h x.moment) x) =
+        ap (λ e. left_by (verdict e x.part) x e) found ∙ step_by h x (open_at group_rules h x.moment) (x.part.number == 1) valid.1 refl refl in
+        subst (λ e. Changes cmp s (fed_after cmp s k x.part x.sentence x.moment) k e) leaves (changed s k x map admitted);
+  }
+
 module _ {cmp : GroupKey → GroupKey → Ordering} (o : IsTotalOrder cmp) (limit : ℕ) where
   runs_agree : (p : List GroupLine) (m : ℕ) → AllByRecursion (λ x. IsGroupPart x.part) p → is_open_at p m ≡ is_some (left_at (entry_after filling p) m)
   runs_agree p m valid = agrees p valid m
@@ -172,23 +215,28 @@ module _ {cmp : GroupKey → GroupKey → Ordering} (o : IsTotalOrder cmp) (limi
     admitted_p : x.admitted ≡ not (is_full cmp (groups cmp limit h x.moment) k)
     admitted_p = noted_room o filling (fed_one cmp limit) (step_is o limit) (λ x. IsGroupPart x.part) is_open_at runs_agree limit fits.some (k, x) h fits.valid fits.noted
 
-    abbrev Given : Option (List GroupLine) → GroupFed → Type 0
-    Given q fed = FeedGivesBy cmp (groups cmp limit h x.moment) k x.part x.sentence x.moment (verdict (group_at q) x.part) fed
-
-    open_fed : (q : Option (List GroupLine)) → open_at group_rules p x.moment ≡ q → entry_at cmp (groups cmp limit h x.moment) k ≡ group_at q → run_of group_rules (x ∷ p) ≡ finished group_rules q x → (b : Bool) → (x.part.number == 1) ≡ b
-        → (fed : GroupFed) → Given q fed → AnswerIs q x (run_of group_rules (x ∷ p)) fed
-    open_fed q is found done true opens fed gives =
-        let told : verdict (group_at q) x.part ≡ Opens = rw opens refl in
-        opens_fed cmp (groups cmp limit h x.moment) k x q (run_of group_rules (x ∷ p)) found admitted_p done (some_by p valid_p x.moment q is) opens fed
-        (subst (λ v. FeedGivesBy cmp (groups cmp limit h x.moment) k x.part x.sentence x.moment v fed) told gives)
-    open_fed None is found done false other fed gives =
-        none_fed cmp (groups cmp limit h x.moment) k x None (run_of group_rules (x ∷ p)) found admitted_p done refl refl other fed gives
-    open_fed (Some []) is found done false other fed gives = absurd (far_by p valid_p x.moment [] is).0
-    open_fed (Some (y ∷ ys)) is found done false other fed gives =
-        let (far, room, awaits) = far_by p valid_p x.moment (y ∷ ys) is in
-        later_fed cmp (groups cmp limit h x.moment) k x (Some (y ∷ ys)) (run_of group_rules (x ∷ p)) found admitted_p done refl y ys refl other (more_of y ys far awaits) room _ refl fed gives
-
     pub answers_runs : (fed : GroupFed) → AnswersRuns cmp limit k x h fed
-    answers_runs fed gives =
-        open_fed (open_at group_rules p x.moment) refl found_p ((one_step_of group_rules lawful).whole p x) _ refl fed
-        (subst (λ e. FeedGivesBy cmp (groups cmp limit h x.moment) k x.part x.sentence x.moment (verdict e x.part) fed) found_p gives)
+    answers_runs fed gives = answered cmp (groups cmp limit h x.moment) k p x valid_p admitted_p found_p (run_of group_rules (x ∷ p)) ((one_step_of group_rules lawful).whole p x) fed gives
+
+-- ---- keys at one place are one key
+
+numbers_by : (n m : ℕ) (r : Ordering) → nat_cmp n m ≡ r → is_eq r ≡ true → m ≡ n
+numbers_by n m Less is equal = cc
+numbers_by n m Equal is equal = sym (exact_unsigned n m is)
+numbers_by n m Greater is equal = cc
+
+fields_by : (a b : List ℕ) (n m : ℕ) (r : Ordering) → slice_cmp nat_cmp a b ≡ r → is_eq (ordering_then r (nat_cmp n m)) ≡ true → (b ≡ a) × (m ≡ n)
+fields_by a b n m Less is equal = cc
+fields_by a b n m Equal is equal = (sym (exact_bytes a b is), numbers_by n m (nat_cmp n m) refl equal)
+fields_by a b n m Greater is equal = cc
+
+abbrev key_from : List ℕ → ℕ → GroupKey
+key_from sfi code = record { sfi = sfi; code = code }
+
+key_same : (a b : List ℕ) (n m : ℕ) → b ≡ a → m ≡ n → key_from b m ≡ key_from a n
+key_same a b n m e f = rw (e, f) refl
+
+pub keys_apart : TellsApart key.TheImpl.ghosts.cmp
+keys_apart = record {
+  same = λ k j here. let fields = fields_by k.sfi j.sfi k.code j.code _ refl here in key_same k.sfi j.sfi k.code j.code fields.0 fields.1;
+}

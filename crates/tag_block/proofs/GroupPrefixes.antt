@@ -163,7 +163,7 @@ more_of y ys far awaits =
     let most = within y ys far in
     omega (arith, apart, most)
 
-step_by : (h : List GroupLine) (x : GroupLine) (q : Option (List GroupLine)) (b : Bool) → AllByRecursion (λ x. IsGroupPart x.part) h → open_at group_rules h x.moment ≡ q → (x.part.number == 1) ≡ b
+pub step_by : (h : List GroupLine) (x : GroupLine) (q : Option (List GroupLine)) (b : Bool) → AllByRecursion (λ x. IsGroupPart x.part) h → open_at group_rules h x.moment ≡ q → (x.part.number == 1) ≡ b
     → left_by (verdict (group_at q) x.part) x (group_at q) ≡ group_at (fed group_rules q x)
 step_by h x q true valid is opens =
     let right : group_at (fed group_rules q x) ≡ group_at (if_open group_rules (Some (x ∷ []))) = rw opens refl in

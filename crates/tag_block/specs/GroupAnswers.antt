@@ -12,6 +12,10 @@ use Rattle.tag_block.specs.declared.group_answers.GroupOutcome.{GroupOutcome}
 use Rattle.tag_block.specs.declared.group_answers.GroupOutcome.TheVariants.{Held, Complete, Order, Full}
 use Rattle.tag_block.specs.Groups.{verdict, opening, group_gap}
 
+-- the group that was taken out
+abbrev pub ended_of : GroupKey × Entry → GroupKey
+ended_of e = e.0
+
 module _ (cmp : GroupKey → GroupKey → Ordering) (s : SlotMap GroupKey) (k : GroupKey) where
   -- the answer to a first line, with the group that it opens
   abbrev pub OpensGives : Entry → GroupOutcome → Type 0

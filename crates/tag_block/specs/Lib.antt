@@ -9,3 +9,4 @@ pub mod GroupAnswers
 pub mod GroupRows
 pub mod GroupRuns
 pub mod GroupLaws
+pub mod GroupJoining

@@ -3,7 +3,7 @@ ghost use Rattle.std.specs.Prelude.{◌≡◌, ◌≤◌, ◌-◌, [], IfOk, len
 ghost use Rattle.std.specs.List.{find};
 ghost use Rattle.std.specs.Borrow.{sem};
 ghost use Rattle.sentence_text.specs.Sentence.{longest_line};
-ghost use Rattle.slot_views.specs.Slots.{SlotMap, IsOrdered, grown, entry_at, without, begun_after, grown_after, has_expired};
+ghost use Rattle.slot_views.specs.Slots.{SlotMap, IsMap, grown, entry_at, without, begun_after, grown_after, has_expired};
 ghost use Rattle.tag_block.specs.Groups.{IsGroupPart, IsNext, VerdictFits, group_gap, key_of, verdict, opening, fed_by, fed_after};
 
 use crate::group_answers::{GroupFed, GroupOutcome};
@@ -44,7 +44,7 @@ impl Model for GroupAssembler {
 
 impl GroupAssembler {
     ghost use Rattle.tag_block.specs.GroupRows.{ends_as};
-    ghost use Rattle.tag_block.specs.GroupAnswers.{OpensGives, FollowsGives, OutcomeBy, FeedGives, restarted_by};
+    ghost use Rattle.tag_block.specs.GroupAnswers.{OpensGives, FollowsGives, OutcomeBy, FeedGives, restarted_by, ended_of};
 
     /// No group, with the memory for `limit` of them.
     pub fn new(alloc: Global, limit: u16) -> Result<Self, AllocError>
@@ -67,6 +67,7 @@ impl GroupAssembler {
     ) -> GroupFed<'a>
         requires place { IsGroupPart part }
         requires fits { length sentence.now ≤ longest_line }
+        ensures map { IsMap ⟦<GroupKey as Ord>⟧.cmp self.old }
         ensures* after { sem 𝓛 (ends_as self.entry (fed_after ⟦<GroupKey as Ord>⟧.cmp self.old (key_of sfi part) part sentence.now moment)) }
         ensures answer { FeedGives ⟦<GroupKey as Ord>⟧.cmp self.old (key_of sfi part) part sentence.now moment result }
     {
@@ -154,6 +155,7 @@ impl GroupAssembler {
     // What the line is to the open group of its key.
     #[tactic(auto, using(crate::proofs::GroupVerdicts::fits_from))]
     fn verdict(&self, sfi: Sfi, part: GroupPart) -> GroupVerdict
+        ensures map { IsMap ⟦<GroupKey as Ord>⟧.cmp self.now }
         ensures value { result ≡ verdict (entry_at ⟦<GroupKey as Ord>⟧.cmp self.now (key_of sfi part)) part }
         ensures fits { VerdictFits (entry_at ⟦<GroupKey as Ord>⟧.cmp self.now (key_of sfi part)) part result }
     {
@@ -172,8 +174,9 @@ impl GroupAssembler {
 
     /// Ends the group of the least key whose next line is overdue at the moment.
     pub fn expire_one(&mut self, moment: u64) -> Option<GroupKey>
+        ensures map { IsMap ⟦<GroupKey as Ord>⟧.cmp self.old }
         ensures after { self.new ≡ without self.old (has_expired moment) }
-        ensures answer { result ≡ option_map (λ e. e.0) (find (has_expired moment) self.old.entries) }
+        ensures answer { result ≡ option_map ended_of (find (has_expired moment) self.old.entries) }
     {
         Some(self.slots.expire_one(moment)?.key)
     }
@@ -181,8 +184,7 @@ impl GroupAssembler {
     /// How many groups are open.
     pub fn count(&self) -> u16
         ensures count { result ≡ length self.now.entries }
-        ensures within { result ≤ self.now.limit }
-        ensures ordered { IsOrdered ⟦<GroupKey as Ord>⟧.cmp self.now.entries }
+        ensures map { IsMap ⟦<GroupKey as Ord>⟧.cmp self.now }
     {
         self.slots.count()
     }

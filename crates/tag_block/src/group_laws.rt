@@ -7,6 +7,8 @@ ghost use Rattle.tag_block.specs.declared.group_key.GroupKey.{GroupKey};
 ghost use Rattle.tag_block.specs.declared.group_answers.GroupFed.{GroupFed};
 ghost use Rattle.tag_block.specs.Groups.{IsGroupPart};
 ghost use Rattle.tag_block.specs.GroupRuns.{GroupLine, group_rules};
+ghost use Rattle.slot_views.specs.Laws.{TellsApart, EndsTheFirst};
+ghost use Rattle.tag_block.specs.GroupJoining.{FeedsItsKey, StepsWithRuns};
 ghost use Rattle.tag_block.specs.GroupLaws.{AreFed, FollowsRuns, AnswersRuns, group_after, group_at};
 
 use crate::group_key::GroupKey;
@@ -22,6 +24,20 @@ pub fn groups_are_runs()
 /// far.
 pub fn group_is_open_prefix()
     ensures { (h : List GroupLine) → AllByRecursion (λ x. IsGroupPart x.part) h → group_after h ≡ group_at (open_of group_rules h) }
+{}
+
+/// A line changes the group of its key alone, the first group that passes a test is the one that is taken out, and keys that stand
+/// at one place are one key.
+pub fn lines_change_their_key_alone()
+    ensures feed { FeedsItsKey ⟦<GroupKey as Ord>⟧.cmp }
+    ensures ends { EndsTheFirst ⟦<GroupKey as Ord>⟧.cmp }
+    ensures keys { TellsApart ⟦<GroupKey as Ord>⟧.cmp }
+{}
+
+/// One line does to the group of its key what it does to the lines of the key that are open, whatever the other keys hold: the
+/// answer is what those lines and this one say, and it leaves what they leave.
+pub fn lines_step_with_groups()
+    ensures { StepsWithRuns ⟦<GroupKey as Ord>⟧.cmp }
 {}
 
 /// Whatever lines of all keys come, the groups are those of the open prefixes among the lines of each key, and each line is

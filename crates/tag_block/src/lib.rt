@@ -25,7 +25,10 @@ pub use fault::{TagFault, TagRule};
 pub use group_answers::{GroupFed, GroupOutcome};
 pub use group_assembler::GroupAssembler;
 pub use group_key::GroupKey;
-pub use group_laws::{group_is_open_prefix, groups_are_runs, keys_follow_groups};
+pub use group_laws::{
+    group_is_open_prefix, groups_are_runs, keys_follow_groups, lines_change_their_key_alone,
+    lines_step_with_groups,
+};
 pub use group_part::GroupPart;
 pub use reading::read;
 pub use slot_views::View;
