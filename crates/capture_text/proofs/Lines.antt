@@ -9,7 +9,7 @@ use Rattle.std.proofs.lemmas.List.{take-append-drop}
 use Rattle.std.proofs.lemmas.List.Folds.{length-prefix_len}
 use Rattle.hex.specs.Hex.{decode_of}
 use Rattle.sentence_text.specs.Names.{IsGroup}
-use Rattle.sentence_text.specs.Text.{is_address_byte}
+use Rattle.sentence_text.specs.Byte.{is_address_byte}
 use Rattle.sentence_text.proofs.Bytes.{front_passes, splits}
 use Rattle.capture_text.specs.declared.event.LineRule.{LineRule}
 use Rattle.capture_text.specs.declared.event.LineRule.TheVariants.{Form, Long}

@@ -10,7 +10,7 @@ use Rattle.unit_fraction.specs.Digits.{number, number_after}
 use Rattle.n2k_id.specs.declared.frame.Frame.{Frame}
 use Rattle.n2k_id.specs.Frame.{BusFrame, bus_frame}
 use Rattle.n2k_id.specs.Frame as valid
-use Rattle.sentence_text.specs.Text.{is_address_byte}
+use Rattle.sentence_text.specs.Byte.{is_address_byte}
 use Rattle.capture_text.specs.declared.event.Event.{Event}
 use Rattle.capture_text.specs.declared.event.Event.TheVariants as event
 use Rattle.capture_text.specs.declared.event.LineRule.{LineRule}

@@ -9,7 +9,7 @@ use Rattle.tag_block.specs.Reading as tags
 use Rattle.tag_block.proofs.Laws.{fronts}
 use Rattle.tag_block.proofs.Ranges.{said_ranges}
 use Rattle.sentence_text.specs.declared.fault.SentenceFault.{SentenceFault}
-use Rattle.sentence_text.specs.Sentence.{Parts}
+use Rattle.sentence_text.specs.Sentence.{SentenceParts}
 use Rattle.sentence_text.specs.Reading as sentences
 use Rattle.datagram450.specs.declared.fault.DatagramFault.{DatagramFault}
 use Rattle.datagram450.specs.Item.{Item, with_sentence, with_tag, item}
@@ -26,7 +26,7 @@ item_is : (at : ℕ) (bytes : List ℕ) → at + length bytes ≤ longest_datagr
 unfolding item
 item_is at bytes le = by_tag (tags.read bytes) refl
   where
-    by_sentence : (said : Said) (n : ℕ) → tags.read bytes ≡ Ok (said, n) → (r : Result Parts SentenceFault) → sentences.read (drop n bytes) ≡ r → IsItem (with_sentence at n said (drop n bytes) r)
+    by_sentence : (said : Said) (n : ℕ) → tags.read bytes ≡ Ok (said, n) → (r : Result SentenceParts SentenceFault) → sentences.read (drop n bytes) ≡ r → IsItem (with_sentence at n said (drop n bytes) r)
     by_sentence said n t (Ok p) f =
         let front = fronts bytes said n t in
         let sentence = sentence_of (drop n bytes) p f in

@@ -7,10 +7,10 @@ use Rattle.std.proofs.lemmas.Bool.{cases_Bool, and_from, eqb-true}
 use Rattle.std.proofs.lemmas.List.{append_assoc}
 use Rattle.std.proofs.lemmas.List.Concat.{flat_map-cons}
 use Rattle.std.proofs.lemmas.List.Elements.{All-head, All-tail}
-use Rattle.sentence_text.specs.Text.{is_address_byte, is_field_byte}
-use Rattle.sentence_text.specs.Sentence.{Parts, IsSentence, body_of}
+use Rattle.sentence_text.specs.Byte.{is_address_byte, is_field_byte}
+use Rattle.sentence_text.specs.Sentence.{SentenceParts, IsSentence, body_of}
 use Rattle.sentence_text.proofs.Bytes.{all_append, all_weaker, all_parts}
-use Rattle.tag_block.specs.Bytes.{is_code_byte, is_value_byte}
+use Rattle.tag_block.specs.Byte.{is_code_byte, is_value_byte}
 use Rattle.tag_block.specs.Tag.{Parameter, IsParameter, parameter_text, Block, IsBlock, block_text, content, Said, IsTag}
 use Rattle.datagram450.specs.Datagram.{IsLine, HasNoEnd}
 use Rattle.datagram450.specs.Item.{LineOf, line, item}
@@ -75,29 +75,29 @@ fields_inner (f ∷ fs) h =
     ap (list_all inner) (flat_map-cons (λ (x : List ℕ). 44 ∷ x) f fs)
     ∙ (all_append inner (44 ∷ f) (body_of fs) (then 44 f refl (all_weaker is_field_byte inner field_inner f (All-head IsField f fs h))) (fields_inner fs (All-tail IsField f fs h)))
 
-start_inner : (parts : Parts) (text : List ℕ) → IsSentence parts text → inner parts.start ≡ true
+start_inner : (parts : SentenceParts) (text : List ℕ) → IsSentence parts text → inner parts.start ≡ true
 start_inner parts text h = elim h.starts [
   | inl e ↦ rw e refl
   | inr e ↦ rw e refl
 ]
 
-abbrev sentence_content : Parts → List ℕ
+abbrev sentence_content : SentenceParts → List ℕ
 sentence_content parts = parts.talker ++ (parts.formatter ++ parts.body)
 
-content_inner : (parts : Parts) (text : List ℕ) → IsSentence parts text → HasNoEnd (sentence_content parts)
+content_inner : (parts : SentenceParts) (text : List ℕ) → IsSentence parts text → HasNoEnd (sentence_content parts)
 content_inner parts text h =
     let address = all_parts is_address_byte parts.talker parts.formatter h.address.bytes in
     let body : HasNoEnd parts.body = ap (list_all inner) h.body.spelled ∙ fields_inner h.body.fields h.body.bytes in
     all_append inner parts.talker (parts.formatter ++ parts.body) (all_weaker is_address_byte inner address_inner parts.talker address.0)
     (all_append inner parts.formatter parts.body (all_weaker is_address_byte inner address_inner parts.formatter address.1) body)
 
-abbrev before_end : Parts → ℕ → ℕ → List ℕ
+abbrev before_end : SentenceParts → ℕ → ℕ → List ℕ
 before_end parts high low = parts.start ∷ (sentence_content parts ++ 42 ∷ high ∷ low ∷ 13 ∷ [])
 
-ends : (parts : Parts) (high low : ℕ) → parts.start ∷ (sentence_content parts ++ 42 ∷ high ∷ low ∷ 13 ∷ 10 ∷ []) ≡ before_end parts high low ++ 10 ∷ []
+ends : (parts : SentenceParts) (high low : ℕ) → parts.start ∷ (sentence_content parts ++ 42 ∷ high ∷ low ∷ 13 ∷ 10 ∷ []) ≡ before_end parts high low ++ 10 ∷ []
 ends parts high low = ap (λ (x : List ℕ). parts.start ∷ x) (sym (append_assoc (sentence_content parts) (42 ∷ high ∷ low ∷ 13 ∷ []) (10 ∷ [])))
 
-pub is_line : (said : Said) (text : List ℕ) (parts : Parts) (bytes : List ℕ) → LineOf said text parts bytes → IsLine bytes
+pub is_line : (said : Said) (text : List ℕ) (parts : SentenceParts) (bytes : List ℕ) → LineOf said text parts bytes → IsLine bytes
 is_line said text parts bytes h =
     let s = h.sentence in
     let end = then 42 (s.high ∷ s.low ∷ 13 ∷ []) refl (then s.high (s.low ∷ 13 ∷ []) (digit_inner s.high s.high_digit) (then s.low (13 ∷ []) (digit_inner s.low s.low_digit) refl)) in
@@ -109,5 +109,5 @@ is_line said text parts bytes h =
     }
 
 -- bytes that give a sentence are one line
-pub line_alone : (at by : ℕ) (bytes text : List ℕ) (said : Said) (parts : Parts) → line at said text parts ≡ item by bytes → IsLine bytes
+pub line_alone : (at by : ℕ) (bytes text : List ℕ) (said : Said) (parts : SentenceParts) → line at said text parts ≡ item by bytes → IsLine bytes
 line_alone at by bytes text said parts e = is_line said text parts bytes (line_found by at bytes said text parts (sym e))

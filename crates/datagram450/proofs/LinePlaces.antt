@@ -5,7 +5,7 @@ use Rattle.std.proofs.lemmas.List.{append_assoc}
 use Rattle.std.proofs.lemmas.List.Concat.{flat_map-cons}
 use Rattle.std.proofs.lemmas.List.Elements.{All-head, All-tail}
 use Rattle.tag_block.specs.Tag.{Said}
-use Rattle.sentence_text.specs.Sentence.{Parts}
+use Rattle.sentence_text.specs.Sentence.{SentenceParts}
 use Rattle.datagram450.specs.Item.{Item, line, LineOf, item}
 use Rattle.datagram450.specs.Datagram.{header, Cut, IsLine, all_of, items_at, items_from, read, longest_datagram, most_lines}
 use Rattle.datagram450.specs.Writing.{GivesAt}
@@ -34,7 +34,7 @@ line_there (suc left) at (m ∷ ms) l tail each h lt =
     ∙ line_there left (at + length m) ms l tail (All-tail IsLine m ms each) h (omega (arith, lt))
     ∙ ap (λ (n : ℕ). Some (item n l)) far
 
-gives_at : (said : Said) (text : List ℕ) (parts : Parts) (l : List ℕ) (lines : List (List ℕ)) (tail : List ℕ) → LineOf said text parts l → All IsLine lines → length lines < most_lines
+gives_at : (said : Said) (text : List ℕ) (parts : SentenceParts) (l : List ℕ) (lines : List (List ℕ)) (tail : List ℕ) → LineOf said text parts l → All IsLine lines → length lines < most_lines
     → length ((header ++ all_of lines) ++ (l ++ tail)) ≤ longest_datagram → GivesAt (read ((header ++ all_of lines) ++ (l ++ tail))) (length lines) (line (length (header ++ all_of lines)) said text parts)
 gives_at said text parts l lines tail h each few short =
     let body = all_of lines ++ (l ++ tail) in
@@ -46,7 +46,7 @@ gives_at said text parts l lines tail h each few short =
       there = line_there most_lines 6 lines l tail each (is_line said text parts l h) few ∙ ap (λ (n : ℕ). Some (item n l)) at ∙ ap Some (line_read (length (header ++ all_of lines)) said text parts l h);
     }
 
-pub appended : (said : Said) (text : List ℕ) (parts : Parts) (l : List ℕ) (lines : List (List ℕ)) (tail old new : List ℕ) → LineOf said text parts l → new ≡ old ++ l → old ≡ header ++ all_of lines → All IsLine lines → length lines < most_lines
+pub appended : (said : Said) (text : List ℕ) (parts : SentenceParts) (l : List ℕ) (lines : List (List ℕ)) (tail old new : List ℕ) → LineOf said text parts l → new ≡ old ++ l → old ≡ header ++ all_of lines → All IsLine lines → length lines < most_lines
     → length (new ++ tail) ≤ longest_datagram → GivesAt (read (new ++ tail)) (length lines) (line (length old) said text parts)
 appended said text parts l lines tail old new h e before each few short =
     let front = header ++ all_of lines in

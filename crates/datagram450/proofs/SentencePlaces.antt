@@ -13,8 +13,8 @@ use Rattle.sentence_text.proofs.Sums.{sum_found, first_digit, is_there, digit_th
 use Rattle.sentence_text.proofs.Found.{star_none, sum_none}
 use Rattle.sentence_text.specs.declared.fault.SentenceFault.{SentenceFault}
 use Rattle.sentence_text.specs.declared.sentence.Sentence.{Sentence}
-use Rattle.sentence_text.specs.Text.{is_address_byte, is_body_byte}
-use Rattle.sentence_text.specs.Sentence.{Parts, longest_line, xor_of}
+use Rattle.sentence_text.specs.Byte.{is_address_byte, is_body_byte}
+use Rattle.sentence_text.specs.Sentence.{SentenceParts, longest_line, xor_of}
 use Rattle.sentence_text.specs.Reading.{is_start, address_len, has_address, front_fault, star_fault, sum_fault_from, sum_fault_at, end_fault, tail_fault, content_at, behind_content, fault_of, parts_at, read_as, read, seen}
 
 abbrev IsIn : ℕ → Option SentenceFault → Type 0
@@ -99,12 +99,12 @@ fault_in bytes = first_in (length bytes) (front_fault bytes) (tail_fault (xor_of
         tail_in (length (c ∷ cs)) (xor_of (content_at (c ∷ cs))) (behind_content (c ∷ cs)) (1 + length (content_at (c ∷ cs)))
         (omega (arith, prefix_len-le-length is_body_byte cs, length-take n cs, length-drop n cs))
 
-read_in : (most : ℕ) (f : Option SentenceFault) (p : Parts) (r : Result Sentence SentenceFault) → IsIn most f → seen r ≡ read_as f p → IfErr r (λ x. x.place ≤ most)
+read_in : (most : ℕ) (f : Option SentenceFault) (p : SentenceParts) (r : Result Sentence SentenceFault) → IsIn most f → seen r ≡ read_as f p → IfErr r (λ x. x.place ≤ most)
 read_in most f p (Ok s) h e = tt
 read_in most None p (Err x) h e = absurd cc
 read_in most (Some f) p (Err x) h e = rw (fault_same p x f e) h
   where
-    fault_same : (p : Parts) (x f : SentenceFault) → read_as (Some x) p ≡ read_as (Some f) p → x ≡ f
+    fault_same : (p : SentenceParts) (x f : SentenceFault) → read_as (Some x) p ≡ read_as (Some f) p → x ≡ f
     fault_same p x f e = cc
 
 pub sentence_place : (bytes : List ℕ) (r : Result Sentence SentenceFault) → seen r ≡ read bytes → IfErr r (λ x. x.place ≤ length bytes)

@@ -2,7 +2,7 @@
 use Rattle.std.specs.Prelude.{◌≡◌, ℕ, zero, suc, ◌+◌, ◌<◌, ◌≤◌, ◌==◌, not, nat_lt, List, [], ◌∷◌, ◌++◌, length, drop, All, IsTrue, Result, Ok, Err, if◌then◌else◌}
 use Rattle.std.specs.List.{common_prefix_len, list_all, flat_map}
 use Rattle.report_rules.specs.Rules.{line_form, too_many_lines}
-use Rattle.sentence_text.specs.Sentence.{Parts, IsSentence}
+use Rattle.sentence_text.specs.Sentence.{SentenceParts, IsSentence}
 use Rattle.tag_block.specs.Tag.{Said, IsSaid}
 use Rattle.datagram450.specs.declared.fault.DatagramFault.{DatagramFault}
 use Rattle.datagram450.specs.declared.fault.DatagramFault.TheVariants.{Header, Long}
@@ -65,7 +65,7 @@ pub record DatagramOf (items : List Item) (bytes : List ℕ) : Type 0 where
   pub gives : items ≡ items_at most_lines 6 cut.lines cut.rest
 
 -- what holds of an item that is a line
-pub record IsLineItem (at : ℕ) (said : Said) (text : List ℕ) (parts : Parts) : Type 0 where
+pub record IsLineItem (at : ℕ) (said : Said) (text : List ℕ) (parts : SentenceParts) : Type 0 where
   pub place : at < longest_datagram
   pub ranges : IsSaid said
   pub sentence : IsSentence parts text

@@ -9,7 +9,7 @@ use Rattle.tag_block.specs.Reading as tags
 use Rattle.sentence_text.specs.declared.fault.SentenceFault.{SentenceFault}
 use Rattle.sentence_text.specs.declared.fault.SentenceRule.{SentenceRule}
 use Rattle.sentence_text.specs.declared.fault.SentenceRule.TheVariants as sentence_rules
-use Rattle.sentence_text.specs.Sentence.{Parts, IsSentence}
+use Rattle.sentence_text.specs.Sentence.{SentenceParts, IsSentence}
 use Rattle.sentence_text.specs.Reading as sentences
 use Rattle.datagram450.specs.declared.item.LineItem.{LineItem}
 use Rattle.datagram450.specs.declared.item.LineItem.TheVariants.{Line, Bad}
@@ -17,11 +17,11 @@ use Rattle.datagram450.specs.declared.item.LineItem.TheVariants.{Line, Bad}
 -- a line's start, what its TAG blocks say, the bytes of its sentence and the sentence's parts; or a rule and the place
 -- where it is broken
 pub data Item : Type 0 where
-  line : ℕ → Said → List ℕ → Parts → Item
+  line : ℕ → Said → List ℕ → SentenceParts → Item
   bad : ℕ → ℕ → Item
 
 -- line is TAG blocks that say this, and then text, a sentence of these parts
-pub record LineOf (said : Said) (text : List ℕ) (parts : Parts) (line : List ℕ) : Type 0 where
+pub record LineOf (said : Said) (text : List ℕ) (parts : SentenceParts) (line : List ℕ) : Type 0 where
   pub front : List ℕ
   pub tag : IsTag said front
   pub sentence : IsSentence parts text
@@ -42,7 +42,7 @@ sentence_rule sentence_rules.Sum = sentence_sum
 sentence_rule sentence_rules.End = sentence_form
 
 -- the sentence behind n bytes of TAG blocks of the line that begins at this place
-abbrev pub with_sentence : ℕ → ℕ → Said → List ℕ → Result Parts SentenceFault → Item
+abbrev pub with_sentence : ℕ → ℕ → Said → List ℕ → Result SentenceParts SentenceFault → Item
 with_sentence at n said text (Ok parts) = line at said text parts
 with_sentence at n said text (Err f) = bad (sentence_rule f.rule) (at + n + f.place)
 

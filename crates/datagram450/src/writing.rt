@@ -1,6 +1,6 @@
 ghost use Rattle.std.specs.Prelude.{◌≡◌, ◌+◌, ◌≤◌, ◌↔◌, ℕ, List, [], ◌++◌, length, false, IsTrue};
 ghost use Rattle.arrayvec.specs.ArrayVec.{array_vec_len};
-ghost use Rattle.sentence_text.specs.Sentence.{Parts, IsSentence};
+ghost use Rattle.sentence_text.specs.Sentence.{SentenceParts, IsSentence};
 ghost use Rattle.tag_block.specs.Tag.{IsTag, block_text};
 ghost use Rattle.tag_block.specs.Writing.{IsWritable, block_of, longest_block, longest_packet, said_by};
 ghost use Rattle.datagram450.specs.Datagram.{header, longest_datagram, read};
@@ -45,7 +45,7 @@ pub fn push_line(tag: &TagParts, sentence: &[u8], out: &mut Packet) -> bool
     // A line takes the sentence's bytes and at most 32 more.
     ensures room { array_vec_len out.old + longest_block + length sentence.now ≤ longest_packet → IsTrue result }
     // Among the first 64 lines behind the header a sentence is read back in its place, whatever follows.
-    ensures again { (lines : List (List ℕ)) (tail : List ℕ) (parts : Parts)
+    ensures again { (lines : List (List ℕ)) (tail : List ℕ) (parts : SentenceParts)
         → IsTrue result → IsSentence parts sentence.now → IsBehind lines out.old.items → length (out.new.items ++ tail) ≤ longest_datagram
         → GivesAt (read (out.new.items ++ tail)) (length lines) (line (length out.old.items) (said_by tag.now) sentence.now parts) }
     ensures unchanged { result ≡ false → out.new ≡ out.old }

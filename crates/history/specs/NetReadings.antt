@@ -7,7 +7,7 @@ use Rattle.readings.specs.Rows.{row_of}
 use Rattle.pgn_profile.specs.Payload.{pgn_of}
 use Rattle.pgn_profile.specs.Profiled.{kind_of}
 use Rattle.sentence_text.specs.declared.fault.SentenceFault.{SentenceFault}
-use Rattle.sentence_text.specs.Sentence.{Parts}
+use Rattle.sentence_text.specs.Sentence.{SentenceParts}
 use Rattle.sentence_text.specs.Reading as sentences
 use Rattle.sentence_rows.specs.declared.fault.FieldFault.{FieldFault}
 use Rattle.sentence_rows.specs.declared.fault.FieldFault.TheVariants.{Outside}
@@ -24,7 +24,7 @@ pub record NetReading : Type 0 where
 
 -- ---- what a sentence says: its readings, or its first fault; one that can't be read is outside the profile
 
-abbrev pub read_parts : Result Parts SentenceFault → Result (List Reading) FieldFault
+abbrev pub read_parts : Result SentenceParts SentenceFault → Result (List Reading) FieldFault
 read_parts (Ok parts) = read_row parts
 read_parts (Err f) = Err Outside
 

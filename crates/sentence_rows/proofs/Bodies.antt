@@ -12,11 +12,11 @@ use Rattle.std.proofs.lemmas.Bool.Decides.{nat_tests}
 use Rattle.std.proofs.lemmas.Fmt.{digits_decimal}
 use Rattle.std.proofs.lemmas.List.Folds.{list_all-append}
 use Rattle.readings.proofs.Ranges.{by_place}
-use Rattle.sentence_text.specs.Text.{is_address_byte, is_body_byte, is_capital, is_field_byte}
+use Rattle.sentence_text.specs.Byte.{is_address_byte, is_body_byte, is_capital, is_field_byte}
 use Rattle.sentence_text.specs.declared.fault.SentenceFault.{SentenceFault}
 use Rattle.sentence_text.specs.Fields.{field_at_front, fields_of}
 use Rattle.sentence_text.specs.Reading.{read}
-use Rattle.sentence_text.specs.Sentence.{Parts, parts_of, sentence}
+use Rattle.sentence_text.specs.Sentence.{SentenceParts, parts_of, sentence}
 use Rattle.sentence_text.proofs.Fields.{fields_before_comma}
 use Rattle.unit_fraction.specs.Digits.{spelling}
 use Rattle.unit_fraction.specs.Text.{behind_point, decimal_text, decimals, shows_minus}
@@ -246,7 +246,7 @@ fields_text (f ∷ fs) h =
     ap (λ (x : List ℕ). x ∷ fields_of (t ++ body_text fs)) (front_again t (body_text fs) b (starts fs))
     ∙ ap (λ (x : List (List ℕ)). t ∷ x) (fields_behind t (body_text fs) b ∙ fields_text fs h.1)
 
-abbrev said_by : List ℕ → List ℕ → List ℕ → Result Parts SentenceFault
+abbrev said_by : List ℕ → List ℕ → List ℕ → Result SentenceParts SentenceFault
 said_by talker formatter body = Ok (record { start = 36; talker = talker; formatter = formatter; body = body })
 
 -- a sentence that is written is read back

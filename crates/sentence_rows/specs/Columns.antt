@@ -13,7 +13,7 @@ use Rattle.unit_fraction.specs.declared.decimal.DecimalFault.TheVariants.{Empty,
 use Rattle.unit_fraction.specs.Digits.{number as number_of_digits}
 use Rattle.unit_fraction.specs.Reading.{read}
 use Rattle.unit_fraction.specs.Round.{round, signed}
-use Rattle.sentence_text.specs.Text.{is_capital}
+use Rattle.sentence_text.specs.Byte.{is_capital}
 use Rattle.sentence_text.specs.Fields.{fields_of}
 use Rattle.sentence_text.specs.declared.sentence.Sentence.{Sentence}
 use Rattle.sentence_rows.specs.declared.fault.FieldFault.{FieldFault}

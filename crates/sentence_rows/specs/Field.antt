@@ -3,7 +3,7 @@ use Rattle.std.specs.Prelude.{ℕ, ◌+◌, ◌*◌, ◌/◌, ◌%◌, ◌^◌, 
 use Rattle.std.specs.Fmt.{decimal}
 use Rattle.unit_fraction.specs.Round.{round}
 use Rattle.unit_fraction.specs.Text.{decimal_text, decimals}
-use Rattle.sentence_text.specs.Text.{is_field_byte}
+use Rattle.sentence_text.specs.Byte.{is_field_byte}
 use Rattle.sentence_rows.specs.declared.written_unit.WrittenUnit.{WrittenUnit}
 use Rattle.sentence_rows.specs.WrittenUnits.{degrees}
 use Rattle.sentence_rows.specs.declared.field.Field.{Field}

@@ -2,7 +2,7 @@
 use Rattle.std.specs.Prelude.{◌≡◌, ℕ, ℤ, pos, ◌+ℤ◌, Bool, false, not, ◌&&◌, ◌==◌, nat_lt, List, [], ◌∷◌, length, Option, Some, None, is_none, IfSome, Result, Ok, Err, if◌then◌else◌}
 use Rattle.std.specs.Option.{option_to_list}
 use Rattle.std.specs.Result.{result_unwrap_or}
-use Rattle.sentence_text.specs.Sentence.{Parts}
+use Rattle.sentence_text.specs.Sentence.{SentenceParts}
 use Rattle.sentence_text.specs.Fields.{fields_of}
 use Rattle.readings.specs.Ranges.{IsValid}
 use Rattle.readings.specs.declared.reading.Reading.{Reading}
@@ -209,7 +209,7 @@ read_behind None f = Err Outside
 read_behind (Some formatter) f = read_as formatter f
 
 -- a sentence begins with `$` and has one of these formatters
-unfoldable pub read_sentence : Parts → Result Found FieldFault
+unfoldable pub read_sentence : SentenceParts → Result Found FieldFault
 read_sentence parts = if parts.start == 36 then read_behind (formatter_of parts.formatter) (fields_of parts.body) else Err Outside
 
 abbrev pub listed : Result Found FieldFault → Result (List Reading) FieldFault
@@ -217,11 +217,11 @@ listed (Ok found) = Ok (found.0 ∷ option_to_list found.1)
 listed (Err f) = Err f
 
 -- the readings of a sentence, or its first fault
-abbrev pub read_row : Parts → Result (List Reading) FieldFault
+abbrev pub read_row : SentenceParts → Result (List Reading) FieldFault
 read_row parts = listed (read_sentence parts)
 
 -- the list holds the readings that are read; or the answer is the fault, and the list is empty
-abbrev pub IsReadRow : Result (Unit {0}) FieldFault → List Reading → Parts → Type 0
+abbrev pub IsReadRow : Result (Unit {0}) FieldFault → List Reading → SentenceParts → Type 0
 IsReadRow (Ok done) readings parts = read_row parts ≡ Ok readings
 IsReadRow (Err f) readings parts = (read_row parts ≡ Err f) × (readings ≡ [])
 

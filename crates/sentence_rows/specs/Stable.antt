@@ -4,7 +4,7 @@ use Rattle.std.specs.List.{AllByRecursion}
 use Rattle.readings.specs.declared.reading.Reading.{Reading}
 use Rattle.sentence_text.specs.Fields.{fields_of}
 use Rattle.sentence_text.specs.Reading.{read}
-use Rattle.sentence_text.specs.Sentence.{Parts}
+use Rattle.sentence_text.specs.Sentence.{SentenceParts}
 use Rattle.sentence_rows.specs.declared.field.Field.{Field}
 use Rattle.sentence_rows.specs.Field.{body_text, text_of}
 use Rattle.sentence_rows.specs.Lines.{sentence_by}
@@ -13,7 +13,7 @@ use Rattle.sentence_rows.specs.Writing.{Dated, IsText, day_said, said}
 
 -- the line is read as a sentence with one reading, and it is among the sentences in which the talker says that reading
 pub record IsStable (talker : List ℕ) (with_ths : Bool) (line : List ℕ) : Type 0 where
-  pub parts : Parts
+  pub parts : SentenceParts
   pub is_sentence : read line ≡ Ok parts
   pub reading : Reading
   pub is_read : read_row parts ≡ Ok (reading ∷ [])
@@ -22,7 +22,7 @@ pub record IsStable (talker : List ℕ) (with_ths : Bool) (line : List ℕ) : Ty
   pub among : Contains lines line
 
 -- the parts of a sentence of fields
-abbrev pub parts_by : List ℕ → List ℕ → List Field → Parts
+abbrev pub parts_by : List ℕ → List ℕ → List Field → SentenceParts
 parts_by talker formatter fields = record { start = 36; talker = talker; formatter = formatter; body = body_text fields }
 
 -- a sentence of fields is read as its parts, and its body as the texts of the fields

@@ -1,5 +1,5 @@
 ghost use Rattle.std.specs.Prelude.{◌≡◌, IsTrue, Some, None, is_some};
-ghost use Rattle.sentence_text.specs.Text.{is_field_byte};
+ghost use Rattle.sentence_text.specs.Byte.{is_field_byte};
 ghost use Rattle.sentence_rows.specs.Writing as text;
 
 /// The letter of a status or mode: `first` where something is there, `second` where nothing is.

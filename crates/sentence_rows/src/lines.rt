@@ -1,6 +1,6 @@
 ghost use Rattle.std.specs.Prelude.{◌≡◌, ◌≤◌, ◌<◌, [], ◌∷◌, ◌++◌, length, drop, IsTrue};
 ghost use Rattle.std.specs.List.{AllByRecursion, list_all};
-ghost use Rattle.sentence_text.specs.Text.{is_address_byte, is_capital};
+ghost use Rattle.sentence_text.specs.Byte.{is_address_byte, is_capital};
 ghost use Rattle.sentence_rows.specs.Field.{IsPrintable, body_text, body_width};
 ghost use Rattle.sentence_rows.specs.Lines.{lines_of, sentence_by};
 ghost use Rattle.sentence_rows.specs.Stable.{IsReadBack};

@@ -1,7 +1,7 @@
 ghost use Rattle.std.specs.Prelude.{◌≡◌, [], All, IsTrue};
 ghost use Rattle.std.specs.List.{list_all};
 ghost use Rattle.readings.specs.Ranges.{IsValid};
-ghost use Rattle.sentence_text.specs.Text.{is_capital};
+ghost use Rattle.sentence_text.specs.Byte.{is_capital};
 ghost use Rattle.sentence_rows.specs.Lines.{lines_of};
 ghost use Rattle.sentence_rows.specs.Stable.{IsSaid, IsStable};
 ghost use Rattle.sentence_rows.specs.Writing.{IsText};

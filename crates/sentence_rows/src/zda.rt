@@ -6,7 +6,7 @@ ghost use Rattle.std.specs.Prelude.{◌≡◌, ◌<◌, ◌≤◌, ◌+ℤ◌, [
 ghost use Rattle.std.specs.List.{list_all};
 ghost use Rattle.jiff.specs.Words.{IsEpochDay, epoch_day};
 ghost use Rattle.readings.specs.Ranges.{Admits, Holds, date as date_range};
-ghost use Rattle.sentence_text.specs.Text.{is_capital};
+ghost use Rattle.sentence_text.specs.Byte.{is_capital};
 ghost use Rattle.sentence_rows.specs.Lines.{lines_of, sentence_by};
 ghost use Rattle.sentence_rows.specs.Stable.{IsReadBack};
 ghost use Rattle.sentence_rows.specs.Writing as text;

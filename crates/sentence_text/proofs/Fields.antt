@@ -5,7 +5,7 @@ use Rattle.std.specs.List.{list_all, position_or_len}
 use Rattle.std.proofs.lemmas.Bool.{eqb-true, cases_Bool, and_parts, and_from}
 use Rattle.std.proofs.lemmas.List.Elements.{All-nil, All-cons}
 use Rattle.std.proofs.lemmas.List.Concat.{flat_map-cons}
-use Rattle.sentence_text.specs.Text.{is_body_byte, is_field_byte}
+use Rattle.sentence_text.specs.Byte.{is_body_byte, is_field_byte}
 use Rattle.sentence_text.specs.Sentence.{body_of, IsBody}
 use Rattle.sentence_text.specs.Fields.{field_at_front, fields_of}
 

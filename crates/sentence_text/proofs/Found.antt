@@ -11,8 +11,8 @@ use Rattle.std.proofs.lemmas.List.Folds.{length-prefix_len}
 use Rattle.std.proofs.lemmas.List.Elements.{All-nil}
 use Rattle.sentence_text.specs.declared.fault.SentenceFault.{SentenceFault}
 use Rattle.sentence_text.specs.declared.fault.SentenceRule.TheVariants as rules
-use Rattle.sentence_text.specs.Text.{is_address_byte, is_body_byte, is_field_byte}
-use Rattle.sentence_text.specs.Sentence.{Parts, xor_of, longest_line, IsAddress, IsBody, IsSentence}
+use Rattle.sentence_text.specs.Byte.{is_address_byte, is_body_byte, is_field_byte}
+use Rattle.sentence_text.specs.Sentence.{SentenceParts, xor_of, longest_line, IsAddress, IsBody, IsSentence}
 use Rattle.sentence_text.specs.Reading.{is_start, ends_address, address_len, has_address, front_fault, content_at, behind_content, star_fault, sum_fault_from, sum_fault_at, end_fault, tail_fault, fault_of, parts_at, read_as, read, parts, seen}
 use Rattle.sentence_text.proofs.Bytes.{front_passes, all_parts}
 use Rattle.sentence_text.specs.declared.sum.SumFault.{SumFault}
@@ -183,18 +183,18 @@ found line e =
       most = front.short;
     }
 
-abbrev said : Parts → Result Parts SentenceFault
+abbrev said : SentenceParts → Result SentenceParts SentenceFault
 said p = Ok p
 
-parts_is : (p q : Parts) → said p ≡ said q → p ≡ q
+parts_is : (p q : SentenceParts) → said p ≡ said q → p ≡ q
 parts_is p q e = cc
 
-read_ok : (f : Option SentenceFault) (p q : Parts) → read_as f p ≡ Ok q → (f ≡ None) × (p ≡ q)
+read_ok : (f : Option SentenceFault) (p q : SentenceParts) → read_as f p ≡ Ok q → (f ≡ None) × (p ≡ q)
 read_ok None p q e = (refl, parts_is p q e)
 read_ok (Some f) p q e = absurd cc
 
 pub is_found : (line : List ℕ) (result : Result Sentence SentenceFault) → seen result ≡ read line → IfOk result (λ s. IsSentence (parts s) line)
 is_found line (Ok s) e =
     let k = read_ok (fault_of line) (parts_at line) (parts s) (sym e) in
-    subst (λ (p : Parts). IsSentence p line) k.1 (found line k.0)
+    subst (λ (p : SentenceParts). IsSentence p line) k.1 (found line k.0)
 is_found line (Err f) e = tt

@@ -9,8 +9,8 @@ use Rattle.std.proofs.lemmas.List.{take_at, drop_at}
 use Rattle.std.proofs.lemmas.List.Elements.{All-head, All-tail}
 use Rattle.std.proofs.lemmas.List.Concat.{flat_map-cons}
 use Rattle.sentence_text.specs.declared.fault.SentenceFault.{SentenceFault}
-use Rattle.sentence_text.specs.Text.{is_address_byte, is_body_byte, is_field_byte}
-use Rattle.sentence_text.specs.Sentence.{Parts, longest_line, body_of, content, xor_of, IsAddress, IsBody, IsSentence, spelling}
+use Rattle.sentence_text.specs.Byte.{is_address_byte, is_body_byte, is_field_byte}
+use Rattle.sentence_text.specs.Sentence.{SentenceParts, longest_line, body_of, content, xor_of, IsAddress, IsBody, IsSentence, spelling}
 use Rattle.sentence_text.specs.Reading.{is_start, ends_address, address_len, has_address, front_fault, content_at, behind_content, end_fault, tail_fault, fault_of, parts_at, read_as, read}
 use Rattle.sentence_text.proofs.Bytes.{Splits, splits, all_append, all_weaker}
 use Rattle.sentence_text.specs.Sum.{sum_fault}
@@ -37,7 +37,7 @@ fields_pass (f ∷ fs) h =
 body_passes : (body : List ℕ) → IsBody body → list_all is_body_byte body ≡ true
 body_passes body h = subst (λ (x : List ℕ). list_all is_body_byte x ≡ true) (sym h.spelled) (fields_pass h.fields h.bytes)
 
-content_passes : (p : Parts) → IsAddress (p.talker ++ p.formatter) → IsBody p.body → list_all is_body_byte (content p) ≡ true
+content_passes : (p : SentenceParts) → IsAddress (p.talker ++ p.formatter) → IsBody p.body → list_all is_body_byte (content p) ≡ true
 content_passes p address body =
     let front = all_weaker is_address_byte is_body_byte is_body (p.talker ++ p.formatter) address.bytes in
     subst (λ (x : List ℕ). list_all is_body_byte x ≡ true) (append_assoc p.talker p.formatter p.body) (all_append is_body_byte (p.talker ++ p.formatter) p.body front (body_passes p.body body))
@@ -78,14 +78,14 @@ starts_again c h = elim h [
 
 -- ---- the parts again
 
-record Again (p : Parts) (line : List ℕ) : Type 0 where
+record Again (p : SentenceParts) (line : List ℕ) : Type 0 where
   fine : fault_of line ≡ None
   same : parts_at line ≡ p
 
-abbrev of_parts : ℕ → List ℕ → List ℕ → List ℕ → Parts
+abbrev of_parts : ℕ → List ℕ → List ℕ → List ℕ → SentenceParts
 of_parts start talker formatter body = record { start = start; talker = talker; formatter = formatter; body = body }
 
-again : (p : Parts) (high low : ℕ) → IsSentence p (spelling p high low) → digit_value high < 16 → digit_value low < 16
+again : (p : SentenceParts) (high low : ℕ) → IsSentence p (spelling p high low) → digit_value high < 16 → digit_value low < 16
     → digit_value high * 16 + digit_value low ≡ xor_of (content p) → Again p (spelling p high low)
 again p high low h hd ld e =
     let line = spelling p high low in
@@ -119,8 +119,8 @@ again p high low h hd ld e =
           ∙ ap (λ (x : List ℕ). of_parts p.start p.talker p.formatter x) left;
     }
 
-pub only : (line : List ℕ) (p : Parts) → IsSentence p line → read line ≡ Ok p
+pub only : (line : List ℕ) (p : SentenceParts) → IsSentence p line → read line ≡ Ok p
 only line p h =
     let spelled = subst (λ (x : List ℕ). IsSentence p x) h.spelled h in
     let a = again p h.high h.low spelled h.high_digit h.low_digit h.sum in
-    ap read h.spelled ∙ ap (λ (f : Option SentenceFault). read_as f (parts_at (spelling p h.high h.low))) a.fine ∙ ap (λ (x : Parts). read_as None x) a.same
+    ap read h.spelled ∙ ap (λ (f : Option SentenceFault). read_as f (parts_at (spelling p h.high h.low))) a.fine ∙ ap (λ (x : SentenceParts). read_as None x) a.same

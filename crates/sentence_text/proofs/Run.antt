@@ -4,7 +4,7 @@ use Rattle.std.specs.Prelude.{bit_xor}
 use Rattle.std.specs.List.{prefix_len}
 use Rattle.std.proofs.lemmas.List.Sums.{fold_more, prefix_len-drop_all}
 use Rattle.std.proofs.lemmas.Bool.{cases_Bool}
-use Rattle.sentence_text.specs.Text.{is_address_byte, is_body_byte}
+use Rattle.sentence_text.specs.Byte.{is_address_byte, is_body_byte}
 use Rattle.sentence_text.specs.Sentence.{xor_of}
 
 -- so many bytes are passed, and their sum is known

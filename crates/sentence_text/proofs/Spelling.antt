@@ -5,7 +5,7 @@ use Rattle.std.specs.List.{list_all}
 use Rattle.std.specs.Char.{digit_value}
 use Rattle.std.proofs.lemmas.Bool.{and_from}
 use Rattle.std.proofs.lemmas.List.Folds.{list_all-append}
-use Rattle.sentence_text.specs.Text.{is_address_byte, is_body_byte}
+use Rattle.sentence_text.specs.Byte.{is_address_byte, is_body_byte}
 use Rattle.sentence_text.specs.Sentence.{content, xor_of, capital_digit, longest_written, sentence, parts_of, IsAddress, IsSentence}
 use Rattle.sentence_text.proofs.Fields.{is_body}
 

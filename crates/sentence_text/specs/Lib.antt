@@ -1,4 +1,4 @@
-pub mod Text
+pub mod Byte
 pub mod Names
 pub mod Sentence
 pub mod Sum

@@ -1,7 +1,7 @@
 -- The two names of IEC 61162-450: who speaks, and to which transmission group.
 use Rattle.std.specs.Prelude.{◌≡◌, ℕ, List, length, take, drop, IsTrue}
 use Rattle.std.specs.List.{list_all}
-use Rattle.sentence_text.specs.Text.{is_capital, is_digit, is_address_byte}
+use Rattle.sentence_text.specs.Byte.{is_capital, is_digit, is_address_byte}
 
 -- a system function identifier: two capital letters and four digits
 pub record IsSfi (text : List ℕ) : Type 0 where

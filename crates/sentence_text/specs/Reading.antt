@@ -6,8 +6,8 @@ use Rattle.sentence_text.specs.declared.fault.SentenceFault.{SentenceFault}
 use Rattle.sentence_text.specs.declared.fault.SentenceRule.{SentenceRule}
 use Rattle.sentence_text.specs.declared.fault.SentenceRule.TheVariants as rules
 use Rattle.sentence_text.specs.declared.sentence.Sentence.{Sentence}
-use Rattle.sentence_text.specs.Text.{is_address_byte, is_body_byte}
-use Rattle.sentence_text.specs.Sentence.{Parts, longest_line, shortest_address, longest_address, xor_of}
+use Rattle.sentence_text.specs.Byte.{is_address_byte, is_body_byte}
+use Rattle.sentence_text.specs.Sentence.{SentenceParts, longest_line, shortest_address, longest_address, xor_of}
 use Rattle.sentence_text.specs.declared.sum.SumFault.{SumFault}
 use Rattle.sentence_text.specs.Sum.{sum_fault, digit_place}
 
@@ -71,7 +71,7 @@ tail_fault sum tail place = option_or (star_fault tail place) (option_or (sum_fa
 abbrev pub fault_of : List ℕ → Option SentenceFault
 fault_of line = option_or (front_fault line) (tail_fault (xor_of (content_at line)) (behind_content line) (1 + length (content_at line)))
 
-abbrev pub parts_at : List ℕ → Parts
+abbrev pub parts_at : List ℕ → SentenceParts
 parts_at line = let address = take (address_len line) (content_at line) in record {
   start = slice_index line 0;
   talker = take 2 address;
@@ -79,19 +79,19 @@ parts_at line = let address = take (address_len line) (content_at line) in recor
   body = drop (address_len line) (content_at line);
 }
 
-abbrev pub read_as : Option SentenceFault → Parts → Result Parts SentenceFault
+abbrev pub read_as : Option SentenceFault → SentenceParts → Result SentenceParts SentenceFault
 read_as None parts = Ok parts
 read_as (Some f) parts = Err f
 
-abbrev pub read : List ℕ → Result Parts SentenceFault
+abbrev pub read : List ℕ → Result SentenceParts SentenceFault
 read line = read_as (fault_of line) (parts_at line)
 
 -- ---- what the calls answer, in these terms
 
-abbrev pub parts : Sentence → Parts
+abbrev pub parts : Sentence → SentenceParts
 parts s = record { start = s.start; talker = s.talker; formatter = s.formatter.now; body = s.body.now }
 
-abbrev pub seen : Result Sentence SentenceFault → Result Parts SentenceFault
+abbrev pub seen : Result Sentence SentenceFault → Result SentenceParts SentenceFault
 seen (Ok s) = Ok (parts s)
 seen (Err f) = Err f
 

@@ -2,10 +2,10 @@
 use Rattle.std.specs.Prelude.{◌≡◌, ℕ, ◌+◌, ◌*◌, ◌/◌, ◌%◌, ◌<◌, ◌≤◌, ◌⊎◌, List, [], ◌∷◌, ◌++◌, length, All, IsTrue, bit_xor, nat_lt, if◌then◌else◌}
 use Rattle.std.specs.List.{flat_map, fold, list_all}
 use Rattle.std.specs.Char.{digit_value}
-use Rattle.sentence_text.specs.Text.{is_address_byte, is_field_byte}
+use Rattle.sentence_text.specs.Byte.{is_address_byte, is_field_byte}
 
 -- what a sentence says
-pub record Parts : Type 0 where
+pub record SentenceParts : Type 0 where
   -- `$` or `!`
   pub start : ℕ
   -- the first two characters of the address
@@ -37,7 +37,7 @@ pub record IsBody (body : List ℕ) : Type 0 where
   pub spelled : body ≡ body_of fields
 
 -- the bytes between the start and `*`, over which the sum goes
-abbrev pub content : Parts → List ℕ
+abbrev pub content : SentenceParts → List ℕ
 content parts = parts.talker ++ (parts.formatter ++ parts.body)
 
 -- the bitwise exclusive or of all of them
@@ -45,7 +45,7 @@ abbrev pub xor_of : List ℕ → ℕ
 xor_of bytes = fold bit_xor 0 bytes
 
 -- the start, the content, `*`, two digits, CR and LF
-abbrev pub spelling : Parts → ℕ → ℕ → List ℕ
+abbrev pub spelling : SentenceParts → ℕ → ℕ → List ℕ
 spelling parts high low = parts.start ∷ (content parts ++ 42 ∷ high ∷ low ∷ 13 ∷ 10 ∷ [])
 
 -- the most bytes of a line that is read as a sentence, and of a sentence that is written (IEC 61162-1), CR and LF included
@@ -56,7 +56,7 @@ abbrev pub longest_written : ℕ
 longest_written = 82
 
 -- bytes is a sentence of these parts; its sum is two hexadecimal digits of either case
-pub record IsSentence (parts : Parts) (bytes : List ℕ) : Type 0 where
+pub record IsSentence (parts : SentenceParts) (bytes : List ℕ) : Type 0 where
   pub starts : (parts.start ≡ 36) ⊎ (parts.start ≡ 33)
   pub talker : length parts.talker ≡ 2
   pub address : IsAddress (parts.talker ++ parts.formatter)
@@ -74,9 +74,9 @@ abbrev pub capital_digit : ℕ → ℕ
 capital_digit n = if nat_lt n 10 then 48 + n else 55 + n
 
 -- the one sentence that is written of these parts
-abbrev pub sentence : Parts → List ℕ
+abbrev pub sentence : SentenceParts → List ℕ
 sentence parts = let sum = xor_of (content parts) in spelling parts (capital_digit (sum / 16)) (capital_digit (sum % 16))
 
 -- the parts of a sentence that is written: a body of fields divided by commas comes behind a comma
-abbrev pub parts_of : List ℕ → List ℕ → List ℕ → Parts
+abbrev pub parts_of : List ℕ → List ℕ → List ℕ → SentenceParts
 parts_of talker formatter body = record { start = 36; talker = talker; formatter = formatter; body = 44 ∷ body }

@@ -1,46 +1,46 @@
 ghost use Rattle.std.specs.Prelude.{◌≡◌, slice_index};
 ghost use Rattle.std.specs.List.{list_all};
-ghost use Rattle.sentence_text.specs.Text as text;
+ghost use Rattle.sentence_text.specs.Byte as class;
 
 pub(crate) fn is_capital(byte: u8) -> bool
-    ensures { result ≡ text.is_capital byte }
+    ensures { result ≡ class.is_capital byte }
 {
     byte.is_ascii_uppercase()
 }
 
 pub(crate) fn is_digit(byte: u8) -> bool
-    ensures { result ≡ text.is_digit byte }
+    ensures { result ≡ class.is_digit byte }
 {
     byte.is_ascii_digit()
 }
 
 pub(crate) fn is_address_byte(byte: u8) -> bool
-    ensures { result ≡ text.is_address_byte byte }
+    ensures { result ≡ class.is_address_byte byte }
 {
     is_capital(byte) || is_digit(byte)
 }
 
 pub(crate) fn is_body_byte(byte: u8) -> bool
-    ensures { result ≡ text.is_body_byte byte }
+    ensures { result ≡ class.is_body_byte byte }
 {
     matches!(byte, b' '..=b'~') && !matches!(byte, b'$' | b'!' | b'\\' | b'*')
 }
 
 pub(crate) fn all_capital(bytes: &[u8]) -> bool
-    ensures { result ≡ list_all text.is_capital bytes.now }
+    ensures { result ≡ list_all class.is_capital bytes.now }
 {
     bytes.iter().all(|byte| is_capital(*byte))
 }
 
 /// Whether all are decimal digits.
 pub fn all_digits(bytes: &[u8]) -> bool
-    ensures { result ≡ list_all text.is_digit bytes.now }
+    ensures { result ≡ list_all class.is_digit bytes.now }
 {
     bytes.iter().all(|byte| is_digit(*byte))
 }
 
 pub(crate) fn all_address(bytes: &[u8]) -> bool
-    ensures { result ≡ list_all text.is_address_byte bytes.now }
+    ensures { result ≡ list_all class.is_address_byte bytes.now }
 {
     bytes.iter().all(|byte| is_address_byte(*byte))
 }

@@ -1,7 +1,7 @@
 ghost use Rattle.std.specs.Prelude.{◌≡◌, ◌+◌, ◌≤◌, ◌<◌, drop, take, length, IfOk, MatchResult, None, Ok, Some, slice_index, bit_xor};
 ghost use Rattle.std.specs.List.{fold, prefix_len};
-ghost use Rattle.sentence_text.specs.Text as text;
-ghost use Rattle.sentence_text.specs.Sentence.{Parts, IsSentence, xor_of};
+ghost use Rattle.sentence_text.specs.Byte as class;
+ghost use Rattle.sentence_text.specs.Sentence.{SentenceParts, IsSentence, xor_of};
 ghost use Rattle.sentence_text.specs.Reading as spec;
 
 use crate::byte::{byte_at, is_address_byte, is_body_byte};
@@ -17,7 +17,7 @@ const LONGEST_ADDRESS: usize = 12;
 
 /// How many address bytes come first.
 fn address_run(bytes: &[u8]) -> usize
-    ensures run { result ≡ prefix_len text.is_address_byte bytes.now }
+    ensures run { result ≡ prefix_len class.is_address_byte bytes.now }
     ensures within { result ≤ length bytes.now }
 {
     bytes
@@ -29,7 +29,7 @@ fn address_run(bytes: &[u8]) -> usize
 /// How many bytes of fields come first, and their exclusive or.
 #[tactic(auto, using(crate::proofs::Run::run_starts, crate::proofs::Run::run_goes_on, crate::proofs::Run::run_stops, crate::proofs::Run::run_ends))]
 fn body_run(bytes: &[u8]) -> (usize, u8)
-    ensures run { result.0 ≡ prefix_len text.is_body_byte bytes.now }
+    ensures run { result.0 ≡ prefix_len class.is_body_byte bytes.now }
     ensures within { result.0 ≤ length bytes.now }
     ensures sum { result.1 ≡ xor_of (take result.0 bytes.now) }
 {
@@ -147,7 +147,7 @@ pub fn read<'a>(line: &'a [u8]) -> Result<Sentence<'a>, SentenceFault>
     // What is read is spelled so.
     ensures found { IfOk result (λ s. IsSentence (spec.parts s) line.now) }
     // What is spelled so is read.
-    ensures only { (p : Parts) → IsSentence p line.now → spec.seen result ≡ Ok p }
+    ensures only { (p : SentenceParts) → IsSentence p line.now → spec.seen result ≡ Ok p }
     // Which fault it is.
     ensures exact { spec.seen result ≡ spec.read line.now }
 {

@@ -1,7 +1,7 @@
 ghost use Rattle.std.specs.Prelude.{◌≡◌, ◌+◌, ◌<◌, ◌≤◌, [], ◌∷◌, ◌++◌, length, IsTrue, ◌↔◌, false, ◌/◌, ◌%◌, Ok};
 ghost use Rattle.std.specs.List.{list_all};
 ghost use Rattle.arrayvec.specs.ArrayVec.{array_vec_len};
-ghost use Rattle.sentence_text.specs.Text.{is_address_byte, is_body_byte};
+ghost use Rattle.sentence_text.specs.Byte.{is_address_byte, is_body_byte};
 ghost use Rattle.sentence_text.specs.Sentence.{IsSentence, capital_digit, content, longest_written, parts_of, sentence, xor_of};
 ghost use Rattle.sentence_text.specs.Reading.{read};
 

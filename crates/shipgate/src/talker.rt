@@ -1,7 +1,7 @@
 //! Who speaks a sentence.
 ghost use Rattle.std.specs.Prelude.{◌≡◌, IsTrue};
 ghost use Rattle.std.specs.List.{list_all};
-ghost use Rattle.sentence_text.specs.Text.{is_capital};
+ghost use Rattle.sentence_text.specs.Byte.{is_capital};
 ghost use Rattle.shipgate.specs.Talker.{talker_of};
 
 use readings::Row;

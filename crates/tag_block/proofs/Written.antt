@@ -10,11 +10,11 @@ use Rattle.std.proofs.lemmas.List.Concat.{flat_map-cons}
 use Rattle.std.proofs.lemmas.List.Elements.{All-nil, All-cons}
 use Rattle.std.proofs.lemmas.Str.Parse.{IsNumeralModel, numerals_by_fold}
 use Rattle.sentence_text.specs.Names.{IsSfi}
-use Rattle.sentence_text.specs.Text.{is_capital, is_digit}
+use Rattle.sentence_text.specs.Byte.{is_capital, is_digit}
 use Rattle.sentence_text.proofs.Bytes.{all_weaker, all_append}
 use Rattle.tag_block.specs.declared.group_part.GroupPart.{GroupPart}
 use Rattle.tag_block.specs.declared.writing.TagParts.{TagParts}
-use Rattle.tag_block.specs.Bytes.{is_value_byte}
+use Rattle.tag_block.specs.Byte.{is_value_byte}
 use Rattle.tag_block.specs.Numbers.{number, IsNumber}
 use Rattle.sentence_text.proofs.Spelling.{digit_value-capital_digit}
 use Rattle.tag_block.specs.Tag.{Parameter, IsParameter, content, xor_of, IsBlock, block_text, parameters, Standing, stands, nothing, standing, IsTag, IsGroupOf, IsCountOf}

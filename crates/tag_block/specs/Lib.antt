@@ -1,4 +1,4 @@
-pub mod Bytes
+pub mod Byte
 pub mod Numbers
 pub mod Tag
 pub mod Reading

@@ -2,7 +2,7 @@
 use Rattle.std.specs.Prelude.{◌≡◌, ℕ, ◌+◌, ◌-◌, ◌*◌, ◌≤◌, List, ◌∷◌, length, IsTrue}
 use Rattle.std.specs.List.{fold, list_all}
 use Rattle.tag_block.specs.declared.group_part.GroupPart.{GroupPart}
-use Rattle.sentence_text.specs.Text.{is_digit}
+use Rattle.sentence_text.specs.Byte.{is_digit}
 
 -- the number that decimal digits write
 abbrev pub number : List ℕ → ℕ

@@ -1,7 +1,7 @@
 -- What the front of a line reads as: what its TAG blocks say and where they end, or the first rule that it breaks.
 use Rattle.std.specs.Prelude.{ℕ, zero, suc, ◌+◌, ◌-◌, Bool, ◌&&◌, ◌==◌, not, nat_le, List, length, take, drop, slice_index, Option, Some, None, option_map, Result, Ok, Err, if◌then◌else◌}
 use Rattle.std.specs.List.{prefix_len, list_all}
-use Rattle.sentence_text.specs.Text.{is_capital, is_digit}
+use Rattle.sentence_text.specs.Byte.{is_capital, is_digit}
 use Rattle.sentence_text.specs.declared.sum.SumFault.{SumFault}
 use Rattle.sentence_text.specs.declared.sum.SumFault.TheVariants.{First, Second, Differs}
 use Rattle.sentence_text.specs.Sum.{sum_fault, digit_place}
@@ -13,7 +13,7 @@ use Rattle.tag_block.specs.declared.tag.Tag.{Tag}
 use Rattle.tag_block.specs.declared.values.Value.{Value}
 use Rattle.tag_block.specs.declared.values.Values.{Values as TheValues}
 use Rattle.tag_block.specs.declared.values.Scan.{Scan as TheScan}
-use Rattle.tag_block.specs.Bytes.{is_code_byte, is_value_byte}
+use Rattle.tag_block.specs.Byte.{is_code_byte, is_value_byte}
 use Rattle.tag_block.specs.Numbers.{number}
 use Rattle.tag_block.specs.Tag.{Said, is_code, xor_of}
 

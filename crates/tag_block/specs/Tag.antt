@@ -5,7 +5,7 @@ use Rattle.std.specs.Char.{digit_value}
 use Rattle.sentence_text.specs.Names.{IsSfi}
 pub use Rattle.sentence_text.specs.Sentence.{xor_of}
 use Rattle.tag_block.specs.declared.group_part.GroupPart.{GroupPart}
-use Rattle.tag_block.specs.Bytes.{is_code_byte, is_value_byte}
+use Rattle.tag_block.specs.Byte.{is_code_byte, is_value_byte}
 use Rattle.tag_block.specs.Numbers.{IsNumber, IsGroupText, IsGroupRead, most_count}
 
 -- a code, `:` and a value

@@ -1,6 +1,6 @@
 -- The bytes of a TAG block.
 use Rattle.std.specs.Prelude.{ℕ, Bool, ◌&&◌, ◌||◌, ◌==◌, not, nat_le}
-use Rattle.sentence_text.specs.Text.{is_digit}
+use Rattle.sentence_text.specs.Byte.{is_digit}
 
 -- a letter of either case, or a digit
 abbrev pub is_code_byte : ℕ → Bool
