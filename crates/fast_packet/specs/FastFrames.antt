@@ -30,7 +30,8 @@ left_after len k = (len - 6) - 7 * (k - 1)
 
 -- a frame 0 with a length from 1 to the longest that holds what it owes
 abbrev pub is_opener : List ℕ → Bool
-is_opener bytes = (counter_of bytes == 0) && (nat_le 1 (length_of bytes) && (nat_le (length_of bytes) longest && nat_le (2 + min 6 (length_of bytes)) (length bytes)))
+is_opener bytes = (counter_of bytes == 0) && (nat_le 1 (length_of bytes) && (nat_le (length_of bytes) longest
+    && nat_le (2 + min 6 (length_of bytes)) (length bytes)))
 
 -- no later frame: it has no byte, or the counter 0
 abbrev pub is_no_later : List ℕ → Bool

@@ -16,14 +16,16 @@ is_next [] x = false
 is_next (y ∷ ys) x =
     let first = (opener_of y ys).bytes in
     let k = length (y ∷ ys) in
-    (counter_of x.bytes == k) && ((sequence_of x.bytes == sequence_of first) && (nat_lt k (need_of (length_of first)) && nat_le (1 + min 7 (left_after (length_of first) k)) (length x.bytes)))
+    (counter_of x.bytes == k) && ((sequence_of x.bytes == sequence_of first) && (nat_lt k (need_of (length_of first))
+    && nat_le (1 + min 7 (left_after (length_of first) k)) (length x.bytes)))
 
 -- a repeat is the last frame again, of 8 bytes, where that is neither frame 0 nor the last frame of the message
 abbrev pub is_repeat : List FastPiece → FastPiece → Bool
 is_repeat [] x = false
 is_repeat (y ∷ ys) x =
     let k = length (y ∷ ys) in
-    (counter_of x.bytes == (k - 1)) && ((length x.bytes == 8) && (nat_le 2 k && (nat_lt k (need_of (length_of (opener_of y ys).bytes)) && pointwise nat_eq x.bytes y.bytes)))
+    (counter_of x.bytes == (k - 1)) && ((length x.bytes == 8) && (nat_le 2 k && (nat_lt k (need_of (length_of (opener_of y ys).bytes))
+    && pointwise nat_eq x.bytes y.bytes)))
 
 abbrev pub fast_rules : Rules FastPiece
 fast_rules = record {

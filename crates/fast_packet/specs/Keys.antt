@@ -74,7 +74,8 @@ module _ (cmp : FastKey → FastKey → Ordering) (limit : ℕ) where
 
   pub record FollowsRuns (h : List (FastKey × FastPiece)) : Type 0 where
     -- the assembly of each key is that of the frames that are open among its own, and there are as many as keys that are open
-    pub entries : (k : FastKey) (m : ℕ) → now_of (λ x. x.moment) h ≤ m → entry_at cmp (assemblies h m) k ≡ assembly_at (open_at fast_rules (pieces_at cmp k h) m)
+    pub entries : (k : FastKey) (m : ℕ) → now_of (λ x. x.moment) h ≤ m
+        → entry_at cmp (assemblies h m) k ≡ assembly_at (open_at fast_rules (pieces_at cmp k h) m)
     pub count : (m : ℕ) → now_of (λ x. x.moment) h ≤ m → length (assemblies h m).entries ≡ length (open_keys cmp (λ p. is_open_at p m) h)
 
   -- the answer to one more frame is what the frames of its key say

@@ -63,7 +63,8 @@ impl FastAssembler {
     pub fn feed<'a>(&'a mut self, source: u8, pgn: u32, frame: &Frame, moment: u64) -> FastFed<'a>
         requires { IsFrame frame.now }
         ensures map { IsMap ⟦<FastKey as Ord>⟧.cmp self.old }
-        ensures* after { sem 𝓛 (ends_as self.entry (fed_after ⟦<FastKey as Ord>⟧.cmp self.old (record { source = source; pgn = pgn }) (held_bytes frame.now) moment)) }
+        ensures* after { sem 𝓛 (ends_as self.entry
+            (fed_after ⟦<FastKey as Ord>⟧.cmp self.old (record { source = source; pgn = pgn }) (held_bytes frame.now) moment)) }
         ensures answer { FeedGives ⟦<FastKey as Ord>⟧.cmp self.old (record { source = source; pgn = pgn }) (held_bytes frame.now) moment result }
     {
         let key = FastKey { source, pgn };
@@ -130,7 +131,8 @@ impl FastAssembler {
         moment: u64,
     ) -> FastOutcome<'a>
         requires { IsNext (entry_at ⟦<FastKey as Ord>⟧.cmp self.old key) bytes.now end }
-        ensures* after { sem 𝓛 (ends_as self.entry (grown_after ⟦<FastKey as Ord>⟧.cmp self.old key (counter_of bytes.now) (part_to end bytes.now) moment gap)) }
+        ensures* after { sem 𝓛 (ends_as self.entry
+            (grown_after ⟦<FastKey as Ord>⟧.cmp self.old key (counter_of bytes.now) (part_to end bytes.now) moment gap)) }
         ensures answer { NextGives ⟦<FastKey as Ord>⟧.cmp self.old key (λ e. extended end bytes.now moment e) result }
     {
         let counter = u16::from(bytes[0] % 32);

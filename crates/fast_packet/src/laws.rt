@@ -52,5 +52,6 @@ pub fn frames_step_with_runs()
 /// answered as those say: a message completes exactly where the frames of its key end with a run, and is that run's payload.
 pub fn keys_follow_runs()
     ensures follows { (limit : ℕ) (h : List (FastKey × FastPiece)) → AreFed ⟦<FastKey as Ord>⟧.cmp limit h → FollowsRuns ⟦<FastKey as Ord>⟧.cmp limit h }
-    ensures answers { (limit : ℕ) (h : List (FastKey × FastPiece)) (k : FastKey) (x : FastPiece) (fed : FastFed) → AreFed ⟦<FastKey as Ord>⟧.cmp limit ((k, x) ∷ h) → AnswersRuns ⟦<FastKey as Ord>⟧.cmp limit k x h fed }
+    ensures answers { (limit : ℕ) (h : List (FastKey × FastPiece)) (k : FastKey) (x : FastPiece) (fed : FastFed)
+        → AreFed ⟦<FastKey as Ord>⟧.cmp limit ((k, x) ∷ h) → AnswersRuns ⟦<FastKey as Ord>⟧.cmp limit k x h fed }
 {}

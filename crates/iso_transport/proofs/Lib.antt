@@ -6,3 +6,4 @@ pub mod Following
 pub mod Joining
 pub mod Keys
 pub mod Sources
+pub mod Heard

@@ -25,7 +25,8 @@ is_data parts = parts.pgn == 60160
 
 -- a frame can open, extend or end a session of its kind: a packet; to all a BAM, and to this node an RTS or an abort, of 8 bytes
 abbrev pub bears : Bool → Bool → List ℕ → Bool
-bears addressed packet bytes = packet || (nat_le 8 (length bytes) && ((not addressed && (control_at bytes == 32)) || (addressed && ((control_at bytes == 16) || (control_at bytes == 255)))))
+bears addressed packet bytes = packet
+    || (nat_le 8 (length bytes) && ((not addressed && (control_at bytes == 32)) || (addressed && ((control_at bytes == 16) || (control_at bytes == 255)))))
 
 -- a frame of the transport protocol to this node or to all
 abbrev pub concerns : Option ℕ → Parts → Bool

@@ -44,7 +44,8 @@ abbrev pub is_next : List IsoPiece → IsoPiece → Bool
 is_next [] x = false
 is_next (y ∷ ys) x =
     let k = length (y ∷ ys) in
-    x.packet && ((number_of x.bytes == k) && (nat_lt k (need_of (opener_of y ys)) && nat_le (end_of (left_after (session_of (y ∷ ys)).size (k - 1))) (length x.bytes)))
+    x.packet && ((number_of x.bytes == k) && (nat_lt k (need_of (opener_of y ys))
+    && nat_le (end_of (left_after (session_of (y ∷ ys)).size (k - 1))) (length x.bytes)))
 
 -- a repeat is the last packet again, of 8 bytes, where that isn't the last one of the message
 abbrev pub is_repeat : List IsoPiece → IsoPiece → Bool

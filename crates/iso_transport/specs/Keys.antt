@@ -105,7 +105,8 @@ module _ (cmp : IsoKey → IsoKey → Ordering) where
 
     pub record AllFollow (h : List (IsoKey × IsoPiece)) : Type 0 where
       -- the session of each key is that of the frames that are open among its own, and there are as many as keys that are open
-      pub entries : (k : IsoKey) (m : ℕ) → now_of (λ x. x.moment) h ≤ m → entry_at cmp (sessions h m) k ≡ assembly_at k.addressed (open_at (iso_rules k.addressed) (pieces_at cmp k h) m)
+      pub entries : (k : IsoKey) (m : ℕ) → now_of (λ x. x.moment) h ≤ m
+          → entry_at cmp (sessions h m) k ≡ assembly_at k.addressed (open_at (iso_rules k.addressed) (pieces_at cmp k h) m)
       pub count : (m : ℕ) → now_of (λ x. x.moment) h ≤ m → length (sessions h m).entries ≡ length (open_keys h m)
 
     -- one more frame, with these parts

@@ -41,7 +41,8 @@ pub record FollowsRuns (addressed : Bool) : Type 0 where
   pub completed : (h : List IsoPiece) (x : IsoPiece) → IsTrace addressed (x ∷ h) → let o = assembly_at addressed (open_at (iso_rules addressed) h x.moment) in
       completed_by addressed (verdict_on addressed o x) x o ≡ message_of (run_of (iso_rules addressed) (x ∷ h))
   -- what a later moment leaves, to the microsecond
-  pub later : (h : List IsoPiece) (m : ℕ) → left_at (assembly_at addressed (open_of (iso_rules addressed) h)) m ≡ assembly_at addressed (open_at (iso_rules addressed) h m)
+  pub later : (h : List IsoPiece) (m : ℕ)
+      → left_at (assembly_at addressed (open_of (iso_rules addressed) h)) m ≡ assembly_at addressed (open_at (iso_rules addressed) h m)
   -- so after all frames
   pub all : (h : List IsoPiece) → IsTrace addressed h → assembly_after addressed h ≡ assembly_at addressed (open_of (iso_rules addressed) h)
 

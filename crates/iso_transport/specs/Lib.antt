@@ -12,3 +12,4 @@ pub mod RunVerdicts
 pub mod Laws
 pub mod Joining
 pub mod Keys
+pub mod Heard

@@ -47,7 +47,8 @@ reply_to_next s number = if number == packets_of s.size then Some (reply.EndAck 
 -- to any packet of an open session: nothing to a repeat, and an abort to one that is short or out of order
 abbrev pub reply_to_packet : Option (List IsoPiece) → IsoPiece → Option Reply
 reply_to_packet None x = None
-reply_to_packet (Some acc) x = if is_next acc x then reply_to_next (session_of acc) (number_of x.bytes) else if is_repeat acc x then None else Some (reply.Abort 2 (pgn_of acc))
+reply_to_packet (Some acc) x = if is_next acc x then reply_to_next (session_of acc) (number_of x.bytes)
+    else if is_repeat acc x then None else Some (reply.Abort 2 (pgn_of acc))
 
 -- to an opener: the first grant, or an abort where there is no room
 abbrev pub reply_to_opener : Session → Bool → Reply

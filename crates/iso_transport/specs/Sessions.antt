@@ -83,4 +83,5 @@ abbrev pub mark_of : Session → ℕ
 mark_of s = (s.pgn * (longest + 1) + s.size) * greatest_window + (s.window - 1)
 
 abbrev pub session_at : ℕ → Session
-session_at mark = record { pgn = mark / (greatest_window * (longest + 1)) % 2 ^ 24; size = mark / greatest_window % (longest + 1); window = mark % greatest_window + 1 }
+session_at mark =
+    record { pgn = mark / (greatest_window * (longest + 1)) % 2 ^ 24; size = mark / greatest_window % (longest + 1); window = mark % greatest_window + 1 }

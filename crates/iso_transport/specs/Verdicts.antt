@@ -1,6 +1,6 @@
 -- What a frame is to the session of its key.
 use Rattle.std.specs.Cmp.Lexicographic.{pointwise}
-use Rattle.std.specs.Prelude.{◌≡◌, ℕ, ◌-◌, ◌≤◌, Bool, false, ◌&&◌, ◌||◌, ◌==◌, nat_eq, nat_le, nat_lt, if◌then◌else◌, List, ◌∷◌, length, drop, Option, Some, None, option_map}
+use Rattle.std.specs.Prelude.{◌≡◌, ℕ, ◌-◌, ◌≤◌, Bool, false, ◌&&◌, ◌==◌, nat_eq, nat_le, nat_lt, if◌then◌else◌, List, ◌∷◌, length, drop, Option, Some, None, option_map}
 use Rattle.slot_views.specs.Slots.{Entry}
 use Rattle.n2k_id.specs.declared.identifier_parts.Parts.{Parts}
 use Rattle.iso_transport.specs.declared.connection.Cm.{Cm}

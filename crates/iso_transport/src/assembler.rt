@@ -154,8 +154,10 @@ impl IsoAssembler {
         requires window { 1 ≤ session.window }
         requires fits { length part.now ≤ 7 }
         requires awaited { IsSomeAnd (entry_at ⟦<IsoKey as Ord>⟧.cmp self.old key) (λ e. number ≡ e.next) }
-        ensures* after { sem 𝓛 (ends_as self.entry (grown_after ⟦<IsoKey as Ord>⟧.cmp self.old key number part.now moment (gap_after key.addressed session number))) }
-        ensures answer { NextGives (entry_at ⟦<IsoKey as Ord>⟧.cmp self.old key) session (λ e. grown e part.now moment (gap_after key.addressed session number)) result }
+        ensures* after { sem 𝓛 (ends_as self.entry
+            (grown_after ⟦<IsoKey as Ord>⟧.cmp self.old key number part.now moment (gap_after key.addressed session number))) }
+        ensures answer { NextGives (entry_at ⟦<IsoKey as Ord>⟧.cmp self.old key) session
+            (λ e. grown e part.now moment (gap_after key.addressed session number)) result }
     {
         let gap = session.gap_after(key.addressed, number);
         match self.slots.grow(key, u16::from(number), part, moment, gap) {
@@ -175,7 +177,8 @@ impl IsoAssembler {
     fn verdict(&self, own: Option<u8>, parts: &Parts, bytes: &[u8]) -> Verdict
         ensures map { IsMap ⟦<IsoKey as Ord>⟧.cmp self.now }
         ensures value { result ≡ verdict_of ⟦<IsoKey as Ord>⟧.cmp self.now own parts.now bytes.now }
-        ensures fits { VerdictFits (is_full ⟦<IsoKey as Ord>⟧.cmp self.now (key_of parts.now)) (entry_at ⟦<IsoKey as Ord>⟧.cmp self.now (key_of parts.now)) bytes.now result }
+        ensures fits { VerdictFits (is_full ⟦<IsoKey as Ord>⟧.cmp self.now (key_of parts.now))
+            (entry_at ⟦<IsoKey as Ord>⟧.cmp self.now (key_of parts.now)) bytes.now result }
     {
         let crowded = self.is_crowded();
         if !is_to(own, parts.destination) {

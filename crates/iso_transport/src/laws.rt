@@ -8,6 +8,7 @@ ghost use Rattle.iso_transport.specs.IsoRuns.{IsoPiece, iso_rules};
 ghost use Rattle.slot_views.specs.Laws.{TellsApart, EndsTheFirst};
 ghost use Rattle.iso_transport.specs.Joining.{FeedsItsKey, StepsWithRuns, OrdersKeys};
 ghost use Rattle.iso_transport.specs.Keys.{AreFed, AllFollow, AllAnswered};
+ghost use Rattle.iso_transport.specs.Heard.{HeardFrame, AreInOrder, HearsWhatBears};
 ghost use Rattle.iso_transport.specs.Laws.{FollowsRuns, HasItsSize};
 
 use crate::key::IsoKey;
@@ -52,8 +53,12 @@ pub fn frames_step_with_runs()
 /// Whatever frames of all keys come, the sessions are those of the open prefixes among the frames of each key, and as many as the
 /// keys that are open. Each frame is answered as the frames of its key say: a message completes exactly where they end with a run,
 /// and is that run's payload; its sender is told what the rules of the run say; and an opener finds no room exactly where as many
-/// of the other keys as the limit are open.
+/// of the other keys as the limit are open. Frames that concern nobody here, or can neither open, extend nor end a session, leave no
+/// trace, wherever they stand among the others.
 pub fn all_sessions_follow_runs()
     ensures follows { (limit : ℕ) (h : List (IsoKey × IsoPiece)) → AreFed ⟦<IsoKey as Ord>⟧.cmp limit h → AllFollow ⟦<IsoKey as Ord>⟧.cmp limit h }
-    ensures answers { (limit : ℕ) (h : List (IsoKey × IsoPiece)) (own : Option ℕ) (parts : Parts) (x : IsoPiece) → AreFed ⟦<IsoKey as Ord>⟧.cmp limit ((key_of parts, x) ∷ h) → concerns own parts ≡ true → x.packet ≡ is_data parts → AllAnswered ⟦<IsoKey as Ord>⟧.cmp limit own parts x h }
+    ensures answers { (limit : ℕ) (h : List (IsoKey × IsoPiece)) (own : Option ℕ) (parts : Parts) (x : IsoPiece)
+        → AreFed ⟦<IsoKey as Ord>⟧.cmp limit ((key_of parts, x) ∷ h) → concerns own parts ≡ true → x.packet ≡ is_data parts
+        → AllAnswered ⟦<IsoKey as Ord>⟧.cmp limit own parts x h }
+    ensures heard { (own : Option ℕ) (limit : ℕ) (h : List HeardFrame) → AreInOrder h → HearsWhatBears ⟦<IsoKey as Ord>⟧.cmp own limit h }
 {}

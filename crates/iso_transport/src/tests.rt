@@ -451,3 +451,21 @@ fn sessions_end_in_the_order_of_their_keys(rt: HostRuntime) -> Result<(), Fail> 
     assert_eq!(rt; assembler.drop_addressed(), None);
     Ok(())
 }
+
+#[test]
+fn as_many_sessions_are_open_as_the_greatest_limit(rt: HostRuntime) -> Result<(), Fail> {
+    let bam = [0x20, 0xF9, 0x06, 0xFF, 0xFF, 0x05, 0xF8, 0x01];
+    let mut assembler = IsoAssembler::new(rt.alloc(), 32)?;
+    for from in 0..32 {
+        let sent = Sent {
+            pgn: MANAGEMENT,
+            to: ALL,
+            from,
+            bytes: &bam,
+            at: 0,
+        };
+        assert_eq!(rt; fed(&mut assembler, sent, b""), quiet(Told::Held));
+    }
+    assert_eq!(rt; assembler.count(), 32);
+    Ok(())
+}

@@ -111,4 +111,5 @@ module _ {K : Type 0} (cmp : K → K → Ordering) (s : SlotMap K) (k : K) {cap 
   GrowsAs next more GrowthAbsent = entry_at cmp s k ≡ None
   GrowsAs next more (GrowthNotNext n) = IsSomeAnd (entry_at cmp s k) (λ e. (n ≡ e.next) × (e.next ≢ next))
   GrowsAs next more GrowthHeld = IsSomeAnd (entry_at cmp s k) (λ e. (e.next ≡ next) × (is_complete (more e) ≡ false))
-  GrowsAs next more (GrowthComplete mark) = IsSomeAnd (entry_at cmp s k) (λ e. (e.next ≡ next) × (is_complete (more e) ≡ true) × HasFinished after (more e).bytes × (mark ≡ e.mark))
+  GrowsAs next more (GrowthComplete mark) = IsSomeAnd (entry_at cmp s k)
+      (λ e. (e.next ≡ next) × (is_complete (more e) ≡ true) × HasFinished after (more e).bytes × (mark ≡ e.mark))

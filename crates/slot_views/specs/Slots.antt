@@ -34,7 +34,8 @@ entry_code =
 
 abbrev pub slot_map_code : {K : Type 0} → Coded K → Coded (SlotMap K)
 slot_map_code {K} key =
-    code_by (ℕ × List (K × Entry)) (coded× coded_ℕ (coded_list (coded× key entry_code))) (λ s. (s.limit, s.entries)) (λ p. record { limit = p.0; entries = p.1 }) (λ _. refl)
+    code_by (ℕ × List (K × Entry)) (coded× coded_ℕ (coded_list (coded× key entry_code))) (λ s. (s.limit, s.entries))
+    (λ p. record { limit = p.0; entries = p.1 }) (λ _. refl)
 
 -- an entry as it opens with its first piece
 abbrev pub opened : List ℕ → ℕ → ℕ → ℕ → ℕ → Entry

@@ -74,7 +74,8 @@ entry_after f (x ∷ h) = f.step (left_at (entry_after f h) (f.moment x)) x
 module _ {K X : Type 0} (cmp : K → K → Ordering) (f : Filling X) (after : SlotMap K → K → X → SlotMap K) where
   -- one piece does to the map what the step does to its key's entry, and leaves every other entry as it is
   pub record IsStep : Type 0 where
-    pub here : (s : SlotMap K) (k : K) (x : X) → IsOrdered cmp s.entries → f.admitted x ≡ not (is_full cmp s k) → entry_at cmp (after s k x) k ≡ f.step (entry_at cmp s k) x
+    pub here : (s : SlotMap K) (k : K) (x : X) → IsOrdered cmp s.entries → f.admitted x ≡ not (is_full cmp s k)
+        → entry_at cmp (after s k x) k ≡ f.step (entry_at cmp s k) x
     pub others : (s : SlotMap K) (k j : K) (x : X) → IsOrdered cmp s.entries → is_at (cmp k) j ≡ false → entry_at cmp (after s k x) j ≡ entry_at cmp s j
     pub ordered : (s : SlotMap K) (k : K) (x : X) → IsOrdered cmp s.entries → IsOrdered cmp (after s k x).entries
     pub limit : (s : SlotMap K) (k : K) (x : X) → IsOrdered cmp s.entries → (after s k x).limit ≡ s.limit

@@ -50,7 +50,8 @@ impl<K: Copy + Ord, const CAP: usize, const PIECE: usize> Shelf<K, CAP, PIECE> {
         ensures sound { IsSound K.cmp self.new }
         ensures limit { self.new.limit ≡ self.old.limit }
         ensures quiet { self.new.quiet_until ≡ min self.old.quiet_until (moment + gap) }
-        ensures entries { (d : _) → Extends self.old.slots.items self.new.slots.items at (grown (entry_of (slice_index_or self.old.slots.items at d)).1 piece.now moment gap) }
+        ensures entries { (d : _) → Extends self.old.slots.items self.new.slots.items at
+            (grown (entry_of (slice_index_or self.old.slots.items at d)).1 piece.now moment gap) }
     {
         let slot = &mut self.slots[at];
         join(slot, piece, moment, gap);

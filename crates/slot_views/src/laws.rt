@@ -8,7 +8,10 @@ ghost use Rattle.slot_views.specs.Traces.{Filling, IsStep, IsNoted, Joins, entry
 /// Where one piece does to the map what a step says of its key's entry alone, all pieces leave of each key's entry what that
 /// key's own pieces leave, and the map holds as many keys as are open.
 pub fn keys_stand_apart<K: Copy + Ord, P>(_pieces: &[(K, P)])
-    ensures { (f : Filling P) (after : SlotMap K → K → P → SlotMap K) (fits : P → Bool) (is_open : List P → ℕ → Bool) → IsStep K.cmp f after → ((p : List P) (m : ℕ) → AllByRecursion (λ x. fits x ≡ true) p → is_open p m ≡ is_some (left_at (entry_after f p) m)) → (limit : ℕ) (h : List (K × P)) → 1 ≤ limit → AllByRecursion (λ n. fits n.1 ≡ true) h → IsNoted K.cmp f.moment f.admitted is_open limit h → Joins K.cmp f after is_open limit h }
+    ensures { (f : Filling P) (after : SlotMap K → K → P → SlotMap K) (fits : P → Bool) (is_open : List P → ℕ → Bool) → IsStep K.cmp f after
+        → ((p : List P) (m : ℕ) → AllByRecursion (λ x. fits x ≡ true) p → is_open p m ≡ is_some (left_at (entry_after f p) m))
+        → (limit : ℕ) (h : List (K × P)) → 1 ≤ limit → AllByRecursion (λ n. fits n.1 ≡ true) h
+        → IsNoted K.cmp f.moment f.admitted is_open limit h → Joins K.cmp f after is_open limit h }
 {}
 
 /// The first entry that passes a test ends alone; where none passes, nothing changes. So it is with every test, where keys that

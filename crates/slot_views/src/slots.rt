@@ -3,7 +3,8 @@ ghost use Rattle.std.specs.Prelude.{◌≡◌, ◌≤◌, ◌<◌, ◌*◌, ◌^
 ghost use Rattle.std.specs.Option.{option_copied};
 ghost use Rattle.std.specs.Borrow.{sem};
 ghost use Rattle.std.specs.List.{find};
-ghost use Rattle.slot_views.specs.Slots.{SlotMap, opened, grown, released, without, entry_at, is_held, begun_after, grown_after, has_expired, is_between, IsMap};
+ghost use Rattle.slot_views.specs.Slots.{SlotMap, IsMap, opened, grown, released, without, entry_at, is_held};
+ghost use Rattle.slot_views.specs.Slots.{begun_after, grown_after, has_expired, is_between};
 
 use crate::answers::{Begun, Ended, Grown, Kept, View};
 use crate::growth::Growth;

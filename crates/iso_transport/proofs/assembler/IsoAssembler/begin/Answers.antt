@@ -1,4 +1,4 @@
-use Rattle.std.proofs.Common.{◌≡◌, ◌≤◌, true, sym, subst, arith}
+use Rattle.std.proofs.Common.{◌≡◌, true, sym, subst, arith}
 use Rattle.std.proofs.lemmas.Bool.{le-leb}
 use Rattle.iso_transport.specs.contracts.key.IsoKeyOrd as key
 use Rattle.iso_transport.specs.Assembly.{AreSessions, key_fits}
