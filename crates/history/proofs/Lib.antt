@@ -26,6 +26,7 @@ pub mod GroupSteps
 pub mod GroupLimits
 pub mod Refusals
 pub mod HeardSteps
+pub mod FullReports
 pub mod EntrySteps
 pub mod ChoiceSteps
 pub mod Noted

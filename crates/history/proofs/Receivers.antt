@@ -4,17 +4,21 @@ use Rattle.pgn_profile.specs.Profiled.{kind_of, messages}
 use Rattle.pgn_profile.specs.declared.kinds.Kind.TheVariants.{Outside}
 use Rattle.history.specs.AddressLaws.{GatewaysReceive}
 
-claims : kind_of 60928 ≡ Outside
+pub claims : kind_of 60928 ≡ Outside
 unfolding messages
 claims = refl
 
-management : kind_of 60416 ≡ Outside
+pub management : kind_of 60416 ≡ Outside
 unfolding messages
 management = refl
 
-data_packets : kind_of 60160 ≡ Outside
+pub data_packets : kind_of 60160 ≡ Outside
 unfolding messages
 data_packets = refl
+
+pub requests : kind_of 59904 ≡ Outside
+unfolding messages
+requests = refl
 
 pub gateways_receive : GatewaysReceive
 gateways_receive c are = record {

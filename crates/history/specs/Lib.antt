@@ -33,6 +33,7 @@ pub mod RuleLaws
 pub mod ChoiceLaws
 pub mod HeardLaws
 pub mod EntryLaws
+pub mod RoomLaws
 pub mod NoteLaws
 pub mod Cases
 pub mod ClaimCases

@@ -10,6 +10,7 @@ ghost use Rattle.history.specs.KeyLaws.{FramesStepFast, FramesKeepFast, TimeEnds
 ghost use Rattle.history.specs.RefusalLaws.{FastRefusalsBreak, TransportRefusalsBreak};
 ghost use Rattle.history.specs.ChoiceLaws.{FirstByAddresses, MessagesAreOfHolders};
 ghost use Rattle.history.specs.EntryLaws.{StepsKeepHistory, EntriesSayOne};
+ghost use Rattle.history.specs.RoomLaws.{FullIsReported, RefusalsAreReported};
 ghost use Rattle.history.specs.ListLaws.{SlotsListFast, SlotsListIso, SlotsListGroups};
 ghost use Rattle.history.specs.HeardLaws.{DatagramsGiveInOrder, ReadingsCountFast};
 ghost use Rattle.history.specs.NoteLaws.{FramesAreNoted};
@@ -146,6 +147,13 @@ pub fn devices_are_isolated()
 /// else each of them hears.
 pub fn devices_are_isolated_in_two()
     ensures { IsolationOfTwo }
+{}
+
+/// A frame breaks rule 15 exactly where it opens a message and finds no room. So no opener of a device was refused for want of room in a
+/// history exactly where no frame from its address broke that rule.
+pub fn refusals_are_reported()
+    ensures frame { FullIsReported }
+    ensures history { RefusalsAreReported }
 {}
 
 /// From the last entry of a history on, whose moments don't go back, no more messages of fast packets, sessions of the transport

@@ -1,0 +1,326 @@
+-- Rule 15 is reported exactly where an opener finds no room.
+use Rattle.std.proofs.Common.{◌≡◌, ℕ, ◌<◌, ◌≤◌, Bool, true, false, ◌&&◌, ◌||◌, not, ◌==◌, nat_le, nat_lt, List, [], ◌∷◌, ◌++◌, length, is_some, refl, sym, ap, subst, ◌∙◌, arith}
+use Rattle.std.specs.Prelude.{Option, Some, None, if◌then◌else◌, option_map}
+use Rattle.std.specs.List.{list_any}
+use Rattle.std.proofs.lemmas.Bool.{and_parts, eqb-true, eq-eqb, ltb-false, le-leb, false≢true}
+use Rattle.n2k_id.specs.declared.identifier_parts.Parts.{Parts}
+use Rattle.n2k_id.specs.Frame.{BusFrame}
+use Rattle.n2k_id.specs.Identifier.{parts_of}
+use Rattle.report_rules.specs.Rules as rules
+use Rattle.claim_table.specs.Claims.{Claims, holder_at}
+use Rattle.claim_table.specs.declared.answer.Holder.{Holder}
+use Rattle.claim_table.specs.Laws.{IsSound}
+use Rattle.pgn_profile.specs.Profiled.{kind_of, messages}
+use Rattle.pgn_profile.specs.declared.kinds.Kind.{Kind}
+use Rattle.pgn_profile.specs.declared.kinds.Kind.TheVariants.{Single, Fast, Outside}
+use Rattle.fast_packet.specs.FastFrames as fast
+use Rattle.fast_packet.specs.FastRuns.{FastPiece}
+use Rattle.iso_transport.specs.Audience as audience
+use Rattle.iso_transport.specs.Audience.{key_of, is_to, is_data, bears}
+use Rattle.iso_transport.specs.Connection.{control_at}
+use Rattle.iso_transport.specs.Cm.{cm_by, cm_of}
+use Rattle.iso_transport.specs.Sessions as sessions
+use Rattle.iso_transport.specs.IsoRuns.{IsoPiece, is_opener}
+use Rattle.capture_text.specs.declared.emit.Report.{Report}
+use Rattle.history.specs.AddressLaws.{AreSettings}
+use Rattle.history.specs.Entries.{History, frame, datagram, tick, command}
+use Rattle.history.specs.Settings.{Settings}
+use Rattle.history.specs.Receiver.{receiver_of}
+use Rattle.history.specs.Known.{Known, known, is_own, since_of}
+use Rattle.history.specs.Emits.{Rule, broken_of}
+use Rattle.history.specs.Meanings.{Meaning, address_claim, own_source, request, from_nobody, transport, single, fast_packet, passed, if_held, by_kind, meaning_of, is_of_session, is_of_fast_packet}
+use Rattle.history.specs.Messages.{Message, done}
+use Rattle.history.specs.Opens.{is_fast, notes_of}
+use Rattle.history.specs.Traces.{Note, iso_piece, is_transport, is_bearing}
+use Rattle.history.specs.BusRules.{is_early, is_rts, opens_session, message_rule, frame_table, frame_breaks}
+use Rattle.history.specs.FromBus.{meaning_after, frames_before, packets_before, frame_refused}
+use Rattle.history.specs.KeyLaws.{the_note, is_meant, concerns}
+use Rattle.history.specs.IsolationLaws.{opens, FindsRoom, NoneRefused}
+use Rattle.history.specs.RoomLaws.{says_full, FullIsReported, NoneFull, RefusalsAreReported}
+use Rattle.history.proofs.Addresses.{addresses_are_sound}
+use Rattle.history.proofs.KeySteps.{eqb-sym}
+use Rattle.history.proofs.Receivers.{claims, management, data_packets, requests, gateways_receive}
+
+-- ---- the rows of rule 15
+
+is_full : Rule → Bool
+is_full x = (x.report.rule == rules.slots_full) && x.broken
+
+full_rows : (table : List Rule) → says_full (broken_of table) ≡ list_any is_full table
+unfolding is_full
+full_rows [] = refl
+full_rows (x ∷ table) = by x.broken refl (full_rows table)
+  where
+    turn : (a : Bool) → (a && true) ≡ a
+    turn true = refl
+    turn false = refl
+
+    none : (a : Bool) → (a && false) ≡ false
+    none true = refl
+    none false = refl
+
+    by : (b : Bool) → x.broken ≡ b → says_full (broken_of table) ≡ list_any is_full table → says_full (broken_of (x ∷ table)) ≡ list_any is_full (x ∷ table)
+    by true e rest = rw (e, turn (x.report.rule == rules.slots_full), rest) refl
+    by false e rest = rw (e, none (x.report.rule == rules.slots_full)) rest
+
+module _ (name : ℕ) (meaning : Meaning) (n : Note) (frames : Option (List FastPiece)) (packets : Option (List IsoPiece)) where
+  full_breaks : (message : Option Message)
+      → says_full (frame_breaks name meaning n frames packets message)
+      ≡ ((is_of_fast_packet meaning && (fast.is_opener n.bytes && not n.admitted))
+      || (is_of_session meaning && (opens_session (key_of n.parts).addressed n.ready (iso_piece n) && not n.admitted)))
+  unfolding is_full
+  full_breaks None = full_rows (frame_table name meaning n frames packets None) ∙ ap (λ (b : Bool). (is_of_fast_packet meaning && (fast.is_opener n.bytes && not n.admitted)) || b) (or_none _)
+    where
+      or_none : (b : Bool) → (b || false) ≡ b
+      or_none true = refl
+      or_none false = refl
+  full_breaks (Some d) = full_rows (frame_table name meaning n frames packets (Some d)) ∙ ap (λ (b : Bool). (is_of_fast_packet meaning && (fast.is_opener n.bytes && not n.admitted)) || b) (or_none _)
+    where
+      or_none : (b : Bool) → (b || false) ≡ b
+      or_none true = refl
+      or_none false = refl
+
+-- ---- what a frame is to the gateway
+
+and_no : (b : Bool) → (b && false) ≡ false
+and_no true = refl
+and_no false = refl
+
+held_fast : (held : Bool) → is_of_fast_packet (if_held held fast_packet) ≡ held
+held_fast true = refl
+held_fast false = refl
+
+held_other : (held : Bool) → is_of_fast_packet (if_held held single) ≡ false
+held_other true = refl
+held_other false = refl
+
+held_transport : (held : Bool) → is_of_fast_packet (if_held held transport) ≡ false
+held_transport true = refl
+held_transport false = refl
+
+fast_of : (claims own asks moves to held : Bool) (kind : Kind) → (claims ≡ true → kind ≡ Outside) → (own ≡ true → held ≡ false) → (asks ≡ true → kind ≡ Outside)
+    → (moves ≡ true → kind ≡ Outside)
+    → is_of_fast_packet (if claims then address_claim else if own then own_source else if asks then (if to then request else passed) else if moves then (if to then if_held held transport else passed) else by_kind kind held)
+    ≡ (held && is_fast kind)
+fast_of true own asks moves to held kind c o a m = rw (c refl, and_no held) refl
+fast_of false true asks moves to held kind c o a m = rw (o refl) refl
+fast_of false false true moves true held kind c o a m = rw (a refl, and_no held) refl
+fast_of false false true moves false held kind c o a m = rw (a refl, and_no held) refl
+fast_of false false false true true held kind c o a m = rw (m refl, and_no held) (held_transport held)
+fast_of false false false true false held kind c o a m = rw (m refl, and_no held) refl
+fast_of false false false false to held Single c o a m = rw (and_no held) (held_other held)
+fast_of false false false false to true Fast c o a m = refl
+fast_of false false false false to false Fast c o a m = refl
+fast_of false false false false to held Outside c o a m = rw (and_no held) refl
+
+session_of_kind : (kind : Kind) (held : Bool) → is_of_session (by_kind kind held) ≡ false
+session_of_kind Single true = refl
+session_of_kind Single false = refl
+session_of_kind Fast true = refl
+session_of_kind Fast false = refl
+session_of_kind Outside held = refl
+
+session_of : (claims own asks moves to held : Bool) (kind : Kind) → (claims ≡ true → moves ≡ false) → (own ≡ true → held ≡ false) → (asks ≡ true → moves ≡ false)
+    → is_of_session (if claims then address_claim else if own then own_source else if asks then (if to then request else passed) else if moves then (if to then if_held held transport else passed) else by_kind kind held)
+    ≡ (held && (to && moves))
+session_of true own asks moves to held kind c o a = rw (c refl, and_no to, and_no held) refl
+session_of false true asks moves to held kind c o a = rw (o refl) refl
+session_of false false true moves true held kind c o a = rw (a refl, and_no held) refl
+session_of false false true moves false held kind c o a = rw (and_no held) refl
+session_of false false false true true true kind c o a = refl
+session_of false false false true true false kind c o a = refl
+session_of false false false true false held kind c o a = rw (and_no held) refl
+session_of false false false false to held kind c o a = rw (and_no to, and_no held) (session_of_kind kind held)
+
+-- ---- an opener of a session, by its control byte
+
+-- an RTS to this node, or a BAM to all
+abbrev kind_test : Bool → ℕ → Bool
+kind_test true control = control == 16
+kind_test false control = control == 32
+
+opens_by : (addressed : Bool) (control : ℕ) (bytes : List ℕ) (a b c d g : Bool) → (control == 16) ≡ a → (control == 17) ≡ b → (control == 19) ≡ c → (control == 32) ≡ d
+    → (control == 255) ≡ g → sessions.opens addressed (cm_by control bytes) ≡ true → kind_test addressed control ≡ true
+opens_by true control bytes true b c d g ea eb ec ed eg e = ea
+opens_by true control bytes false true c d g ea eb ec ed eg e = absurd (false≢true (rw (ea, eb) at e))
+opens_by true control bytes false false true d g ea eb ec ed eg e = absurd (false≢true (rw (ea, eb, ec) at e))
+opens_by true control bytes false false false true g ea eb ec ed eg e = absurd (false≢true (rw (ea, eb, ec, ed) at e))
+opens_by true control bytes false false false false true ea eb ec ed eg e = absurd (false≢true (rw (ea, eb, ec, ed, eg) at e))
+opens_by true control bytes false false false false false ea eb ec ed eg e = absurd (false≢true (rw (ea, eb, ec, ed, eg) at e))
+opens_by false control bytes true b c d g ea eb ec ed eg e = absurd (false≢true (rw ea at e))
+opens_by false control bytes false true c d g ea eb ec ed eg e = absurd (false≢true (rw (ea, eb) at e))
+opens_by false control bytes false false true d g ea eb ec ed eg e = absurd (false≢true (rw (ea, eb, ec) at e))
+opens_by false control bytes false false false true g ea eb ec ed eg e = ed
+opens_by false control bytes false false false false true ea eb ec ed eg e = absurd (false≢true (rw (ea, eb, ec, ed, eg) at e))
+opens_by false control bytes false false false false false ea eb ec ed eg e = absurd (false≢true (rw (ea, eb, ec, ed, eg) at e))
+
+not_so : (b : Bool) → not b ≡ true → b ≡ false
+not_so true e = cc
+not_so false e = refl
+
+pub record OpenerFacts (addressed : Bool) (y : IsoPiece) : Type 0 where
+  pub managed : y.packet ≡ false
+  pub enough : nat_le 8 (length y.bytes) ≡ true
+  pub kind : kind_test addressed (control_at y.bytes) ≡ true
+
+opener_facts : (addressed : Bool) (y : IsoPiece) → is_opener addressed y ≡ true → OpenerFacts addressed y
+opener_facts addressed y e =
+    let parts = and_parts (not y.packet) (sessions.opens addressed (cm_of y.bytes)) e in
+    by (nat_lt (length y.bytes) 8) refl parts.1 (not_so y.packet parts.0)
+  where
+    by : (b : Bool) → nat_lt (length y.bytes) 8 ≡ b → sessions.opens addressed (if b then None else cm_by (control_at y.bytes) y.bytes) ≡ true → y.packet ≡ false → OpenerFacts addressed y
+    by true el opens ep = absurd (false≢true opens)
+    by false el opens ep = record {
+      managed = ep;
+      enough = le-leb 8 (length y.bytes) (ltb-false (length y.bytes) 8 el);
+      kind = opens_by addressed (control_at y.bytes) y.bytes _ _ _ _ _ refl refl refl refl refl opens;
+    }
+
+-- an opener that isn't too early bears on its session
+bears_where : (addressed ready : Bool) (y : IsoPiece) → OpenerFacts addressed y
+    → (bears addressed y.packet y.bytes && (y.packet || (not (control_at y.bytes == 16) || ready))) ≡ not (is_early addressed ready y)
+bears_where true ready y f = let control = eqb-true (control_at y.bytes) 16 f.kind in rw (f.managed, f.enough, control) (twice ready)
+  where
+    twice : (b : Bool) → b ≡ not (not b)
+    twice true = refl
+    twice false = refl
+bears_where false ready y f = let control = eqb-true (control_at y.bytes) 32 f.kind in rw (f.managed, f.enough, control) refl
+
+-- ---- the same said of a frame
+
+gathered : (a b c d e : Bool) → ((a && (b && c)) && (d && e)) ≡ ((a && (b && (c && d))) && e)
+gathered true true true d e = refl
+gathered true true false d e = refl
+gathered true false c d e = refl
+gathered false b c d e = refl
+
+spread : (a b c d e : Bool) → (((a && b) && (c && e)) || (d && e)) ≡ (((a && (b && c)) || d) && e)
+spread true true true d true = refl
+spread true true true true false = refl
+spread true true true false false = refl
+spread true true false d e = refl
+spread true false c d e = refl
+spread false b c d e = refl
+
+module _ (k : Known) (sound : IsSound k.claims) (n : Note) where
+  since_held : (x : Option Holder) → is_some (option_map (λ (y : Holder). y.since) x) ≡ is_some x
+  since_held None = refl
+  since_held (Some x) = refl
+
+  held : Bool
+  held = is_some (holder_at k.claims.holders n.parts.source)
+
+  own_nobody : (own : Option ℕ) → k.claims.own ≡ own → audience.is_own own n.parts.source ≡ true → is_some (holder_at k.claims.holders n.parts.source) ≡ false
+  own_nobody None e is = absurd (false≢true is)
+  own_nobody (Some x) e is =
+      let same = eqb-true n.parts.source x is in
+      ap is_some (ap (holder_at k.claims.holders) same ∙ sound.own_free x e)
+
+  own_turn : (own : Option ℕ) (d : ℕ) → k.claims.own ≡ own → is_own k d ≡ audience.is_own own d
+  own_turn None d e = rw e refl
+  own_turn (Some x) d e = rw e (eqb-sym x d)
+
+  meant_by : (b : Bool) → (n.parts.destination == 255) ≡ b → is_meant k n (not b) ≡ is_to k.claims.own n.parts.destination
+  meant_by true e = rw e refl
+  meant_by false e = rw e (own_turn k.claims.own n.parts.destination refl)
+
+  meant : is_meant k n (key_of n.parts).addressed ≡ is_to k.claims.own n.parts.destination
+  meant = meant_by (n.parts.destination == 255) refl
+
+  outside_of : (q : ℕ) → kind_of q ≡ Outside → (n.parts.pgn == q) ≡ true → kind_of n.parts.pgn ≡ Outside
+  outside_of q outside e = ap kind_of (eqb-true n.parts.pgn q e) ∙ outside
+
+  moved : is_transport n.parts ≡ true → kind_of n.parts.pgn ≡ Outside
+  moved e = by (n.parts.pgn == 60416) refl e
+    where
+      by : (b : Bool) → (n.parts.pgn == 60416) ≡ b → (b || (n.parts.pgn == 60160)) ≡ true → kind_of n.parts.pgn ≡ Outside
+      by true em e = outside_of 60416 management em
+      by false em e = outside_of 60160 data_packets e
+
+  still : (q : ℕ) → (q == 60416) ≡ false → (q == 60160) ≡ false → (n.parts.pgn == q) ≡ true → is_transport n.parts ≡ false
+  still q a b e = ap (λ (x : ℕ). (x == 60416) || (x == 60160)) (eqb-true n.parts.pgn q e) ∙ rw (a, b) refl
+
+  fast_is : is_of_fast_packet (meaning_of kind_of k.claims.own k.claims.holders n.parts) ≡ (is_some (since_of k n.parts.source) && is_fast (kind_of n.parts.pgn))
+  fast_is =
+      fast_of (n.parts.pgn == 60928) (audience.is_own k.claims.own n.parts.source) (n.parts.pgn == 59904) (is_transport n.parts) (is_to k.claims.own n.parts.destination)
+      (is_some (holder_at k.claims.holders n.parts.source)) (kind_of n.parts.pgn)
+      (outside_of 60928 claims) (own_nobody k.claims.own refl) (outside_of 59904 requests) moved
+      ∙ ap (λ (b : Bool). b && is_fast (kind_of n.parts.pgn)) (sym (since_held (holder_at k.claims.holders n.parts.source)))
+
+  session_is : is_of_session (meaning_of kind_of k.claims.own k.claims.holders n.parts) ≡ (is_some (since_of k n.parts.source) && (is_meant k n (key_of n.parts).addressed && is_transport n.parts))
+  session_is =
+      session_of (n.parts.pgn == 60928) (audience.is_own k.claims.own n.parts.source) (n.parts.pgn == 59904) (is_transport n.parts) (is_to k.claims.own n.parts.destination)
+      (is_some (holder_at k.claims.holders n.parts.source)) (kind_of n.parts.pgn)
+      (still 60928 refl refl) (own_nobody k.claims.own refl) (still 59904 refl refl)
+      ∙ ap (λ (b : Bool). b && (is_to k.claims.own n.parts.destination && is_transport n.parts)) (sym (since_held (holder_at k.claims.holders n.parts.source)))
+      ∙ ap (λ (b : Bool). is_some (since_of k n.parts.source) && (b && is_transport n.parts)) (sym meant)
+
+  -- what opens a session concerns the gateway
+  opens_is : (o : Bool) → is_opener (key_of n.parts).addressed (iso_piece n) ≡ o
+      → ((is_some (since_of k n.parts.source) && (is_meant k n (key_of n.parts).addressed && is_transport n.parts))
+      && ((o && not (is_early (key_of n.parts).addressed n.ready (iso_piece n))) && not n.admitted))
+      ≡ ((concerns k n (key_of n.parts) && o) && not n.admitted)
+  opens_is false e = rw (and_no (is_some (since_of k n.parts.source) && (is_meant k n (key_of n.parts).addressed && is_transport n.parts)), and_no (concerns k n (key_of n.parts))) refl
+  opens_is true e =
+      let facts = opener_facts (key_of n.parts).addressed (iso_piece n) e in
+      gathered (is_some (since_of k n.parts.source)) (is_meant k n (key_of n.parts).addressed) (is_transport n.parts) (not (is_early (key_of n.parts).addressed n.ready (iso_piece n))) (not n.admitted)
+      ∙ ap (λ (b : Bool). (is_some (since_of k n.parts.source) && (is_meant k n (key_of n.parts).addressed && (is_transport n.parts && b))) && not n.admitted)
+      (sym (bears_where (key_of n.parts).addressed n.ready (iso_piece n) facts))
+      ∙ ap (λ (b : Bool). (is_some (since_of k n.parts.source) && (b && (is_meant k n (key_of n.parts).addressed && is_bearing (key_of n.parts).addressed n))) && not n.admitted)
+      (sym (eq-eqb n.parts.source n.parts.source refl))
+      ∙ ap (λ (b : Bool). b && not n.admitted) (sym (and_yes (concerns k n (key_of n.parts))))
+    where
+      and_yes : (b : Bool) → (b && true) ≡ b
+      and_yes true = refl
+      and_yes false = refl
+
+pub full_is_reported : FullIsReported
+full_is_reported c s h m f are =
+    let k = known (receiver_of c) s h in
+    let n = the_note (receiver_of c) s h m f in
+    let sound = (addresses_are_sound (receiver_of c) s h (gateways_receive c are)).sound in
+    full_breaks c.name (meaning_after c s h m f) n (frames_before (meaning_after c s h m f) k (notes_of (receiver_of c) s h) m n.parts)
+    (packets_before (meaning_after c s h m f) k (notes_of (receiver_of c) s h) m n.parts) (done (receiver_of c) s h (frame m f))
+    ∙ ap (λ (b : Bool). (b && (fast.is_opener n.bytes && not n.admitted))
+    || (is_of_session (meaning_after c s h m f) && (opens_session (key_of n.parts).addressed n.ready (iso_piece n) && not n.admitted))) (fast_is k sound n)
+    ∙ ap (λ (b : Bool). ((is_some (since_of k n.parts.source) && is_fast (kind_of n.parts.pgn)) && (fast.is_opener n.bytes && not n.admitted))
+    || (b && (opens_session (key_of n.parts).addressed n.ready (iso_piece n) && not n.admitted))) (session_is k sound n)
+    ∙ ap (λ (b : Bool). ((is_some (since_of k n.parts.source) && is_fast (kind_of n.parts.pgn)) && (fast.is_opener n.bytes && not n.admitted)) || b)
+    (opens_is k sound n (is_opener (key_of n.parts).addressed (iso_piece n)) refl)
+    ∙ spread (is_some (since_of k n.parts.source)) (is_fast (kind_of n.parts.pgn)) (fast.is_opener n.bytes) (concerns k n (key_of n.parts) && is_opener (key_of n.parts).addressed (iso_piece n)) (not n.admitted)
+
+-- ---- of a whole history
+
+there_is_room : (full opens admitted : Bool) → full ≡ (opens && not admitted) → full ≡ false → opens ≡ true → admitted ≡ true
+there_is_room full true true e none o = refl
+there_is_room full true false e none o = absurd (false≢true (sym none ∙ e))
+there_is_room full false admitted e none o = absurd (false≢true o)
+
+none_is_full : (full opens admitted : Bool) → full ≡ (opens && not admitted) → (opens ≡ true → admitted ≡ true) → full ≡ false
+none_is_full full true admitted e room = e ∙ rw (room refl) refl
+none_is_full full false admitted e room = e
+
+pub refusals_are_reported : RefusalsAreReported
+refusals_are_reported c s h a are = (to h, from h)
+  where
+    to : (h : History) → NoneRefused (receiver_of c) s h a → NoneFull c s h a
+    to [] rooms = tt
+    to (frame m f ∷ h) rooms = (
+      (λ own. none_is_full (says_full (frame_refused c s h m f)) (opens kind_of (known (receiver_of c) s h) (the_note (receiver_of c) s h m f)) (the_note (receiver_of c) s h m f).admitted
+          (full_is_reported c s h m f are) (rooms.0 own)),
+      to h rooms.1,
+    )
+    to (datagram m bytes ∷ h) rooms = to h rooms
+    to (tick m ∷ h) rooms = to h rooms
+    to (command m source address ∷ h) rooms = to h rooms
+
+    from : (h : History) → NoneFull c s h a → NoneRefused (receiver_of c) s h a
+    from [] none = tt
+    from (frame m f ∷ h) none = (
+      (λ own opening. there_is_room (says_full (frame_refused c s h m f)) (opens kind_of (known (receiver_of c) s h) (the_note (receiver_of c) s h m f)) (the_note (receiver_of c) s h m f).admitted
+          (full_is_reported c s h m f are) (none.0 own) opening),
+      from h none.1,
+    )
+    from (datagram m bytes ∷ h) none = from h none
+    from (tick m ∷ h) none = from h none
+    from (command m source address ∷ h) none = from h none
