@@ -171,9 +171,13 @@ fn other_lines_are_reported_by_number(rt: HostRuntime) -> Result<(), Fail> {
     bytes.extend_from_slice(&HEADING[..HEADING.len() - 1])?;
     bytes.push(b'\r')?;
     let converted: &[u8] =
-        b"rule 1 line=3\n$HEHDT,90.0,T*16\r\nrule 22 line=5\nrule 5 line=6\nrule 5 line=7\nrule 2 line=8\nrule 1 line=9\n$HEHDT,90.0,T*16\r\n";
-    let shown: &[u8] =
-        b"line=3 rule 1\nline=4 prio=2 pgn=127250 src=23 dst=255 len=8\nline=5 prio=2 pgn=127250 src=23 dst=255 len=1\nline=6 prio=3 pgn=129029 src=23 dst=255 len=8\nline=7 prio=6 pgn=60928 src=23 dst=255 len=8\nline=8 rule 2\nline=9 rule 1\nline=10 prio=2 pgn=127250 src=23 dst=255 len=8\n";
+        b"rule 1 line=3\n$HEHDT,90.0,T*16\r\nrule 22 line=5\nrule 5 line=6\nrule 5 line=7\nrule 2 line=8\n\
+          rule 1 line=9\n$HEHDT,90.0,T*16\r\n";
+    let shown: &[u8] = b"line=3 rule 1\nline=4 prio=2 pgn=127250 src=23 dst=255 len=8\n\
+          line=5 prio=2 pgn=127250 src=23 dst=255 len=1\n\
+          line=6 prio=3 pgn=129029 src=23 dst=255 len=8\n\
+          line=7 prio=6 pgn=60928 src=23 dst=255 len=8\n\
+          line=8 rule 2\nline=9 rule 1\nline=10 prio=2 pgn=127250 src=23 dst=255 len=8\n";
     for (word, expected) in [("convert", converted), ("show", shown)] {
         for most in [1, 7, 70_000] {
             let given = Given {
@@ -218,7 +222,8 @@ fn datagrams_and_other_lines_are_shown(rt: HostRuntime) -> Result<(), Fail> {
         ),
         // A group with an empty destination, a line without a source, and a rest.
         (
-            b"\n(1.000000) udp0 NAVD#5564506243005C673A312D322D303030372C733A4949303030322C643A2C6E3A3030372A30335C2448454844542C39302E302C542A31360D0A780A79\n",
+            b"\n(1.000000) udp0 NAVD#5564506243005C673A312D322D303030372C733A4949303030322C643A2C6E3A\
+              3030372A30335C2448454844542C39302E302C542A31360D0A780A79\n",
             b"line=2 at=6 s=II0002 d= g=1-2-7 n=7 $HEHDT,90.0,T*16\nline=2 at=57 rule 34\nline=2 at=59 rule 31\n",
             b"rule 5 line=2\n",
         ),
