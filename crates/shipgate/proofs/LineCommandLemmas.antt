@@ -1,5 +1,5 @@
 -- The text that is due for the line that the reader took.
-use Rattle.std.proofs.Common.{◌≡◌, ℕ, ◌+◌, ◌<◌, ◌≤◌, List, [], ◌∷◌, ◌++◌, length, refl, ap, ◌∙◌, subst, arith}
+use Rattle.std.proofs.Common.{◌≡◌, ℕ, ◌+◌, ◌≤◌, List, [], ◌∷◌, ◌++◌, length, refl, ap, ◌∙◌, subst, arith}
 use Rattle.std.specs.Prelude.{Option, Result, Ok, Err}
 use Rattle.gate_outside.specs.declared.Failed.{Failed}
 use Rattle.std.proofs.lemmas.List.{length-append}

@@ -1,8 +1,7 @@
-use Rattle.std.proofs.Common.{ℕ, List, sym, ap, subst}
+use Rattle.std.proofs.Common.{ℕ, List, ap, subst}
 use Rattle.std.specs.Prelude.{Option, None}
-use Rattle.gate_outside.specs.Streams.{Stream}
 use Rattle.shipgate.specs.LineCommand.{Gives}
-use Rattle.shipgate.specs.Run.{RunsOver, EndsBy}
+use Rattle.shipgate.specs.Run.{EndsBy}
 use Rattle.shipgate.proofs.run_over.Goals as goal
 
 pub returns : goal.returns

@@ -1,4 +1,4 @@
-use Rattle.std.proofs.Common.{◌≡◌, ◌-◌, ◌≤◌, ◌^◌}
+use Rattle.std.proofs.Common.{◌≡◌, ◌-◌, ◌≤◌}
 use Rattle.shipgate.specs.LineCommand.{Gives}
 use Rattle.shipgate.specs.Progress.{input_limit, Rested}
 use Rattle.shipgate.proofs.line_command.answer_input.Given as goal
