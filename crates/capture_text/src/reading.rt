@@ -58,7 +58,8 @@ fn seconds(text: &[u8]) -> Option<(u64, &[u8])>
 #[tactic(auto, using(crate::proofs::Digits::micros_fit, crate::proofs::Digits::six_are_front), unfolding(crate::specs::Reading::micros_at))]
 fn moment(seconds: u64, text: &[u8]) -> Option<(u64, &[u8])>
     requires { seconds < 10 ^ 10 }
-    ensures reads { MatchOption result (spec.micros_at seconds text.now ≡ None) (λ t. spec.micros_at seconds text.now ≡ Some (record { moment = t.0; rest = t.1.now })) }
+    ensures reads { MatchOption result (spec.micros_at seconds text.now ≡ None)
+        (λ t. spec.micros_at seconds text.now ≡ Some (record { moment = t.0; rest = t.1.now })) }
 {
     let (count, moment) = digit_run(seconds, front(text, 6));
     if count != 6 || byte_at(text, 6) != b')' || byte_at(text, 7) != b' ' {
@@ -214,7 +215,8 @@ fn frame(tail: &[u8]) -> Result<Frame, LineRule>
 
 /// The interface at the front, and what follows it.
 fn interface(rest: &[u8]) -> Option<(&[u8], &[u8])>
-    ensures reads { MatchOption result (spec.interface_at rest.now ≡ None) (λ t. spec.interface_at rest.now ≡ Some (record { name = t.0.now; tail = t.1.now })) }
+    ensures reads { MatchOption result (spec.interface_at rest.now ≡ None)
+        (λ t. spec.interface_at rest.now ≡ Some (record { name = t.0.now; tail = t.1.now })) }
 {
     let count = name_run(rest);
     if count < 1 || count > 16 {

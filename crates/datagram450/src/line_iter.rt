@@ -130,9 +130,11 @@ pub fn lines<'a>(bytes: &'a [u8]) -> Result<LineIter<'a>, DatagramFault>
     // What is cut and gives so is read.
     ensures only { (items : List Item) → DatagramOf items bytes.now → result ≡ Ok items }
     // A line that gives a sentence is TAG blocks and a sentence.
-    ensures line_found { (at : ℕ) (bytes text : List ℕ) (said : Said) (parts : SentenceParts) → item at bytes ≡ line at said text parts → LineOf said text parts bytes }
+    ensures line_found { (at : ℕ) (bytes text : List ℕ) (said : Said) (parts : SentenceParts)
+        → item at bytes ≡ line at said text parts → LineOf said text parts bytes }
     // TAG blocks and a sentence give it.
-    ensures line_only { (at : ℕ) (bytes text : List ℕ) (said : Said) (parts : SentenceParts) → LineOf said text parts bytes → item at bytes ≡ line at said text parts }
+    ensures line_only { (at : ℕ) (bytes text : List ℕ) (said : Said) (parts : SentenceParts)
+        → LineOf said text parts bytes → item at bytes ≡ line at said text parts }
     // Which fault it is.
     ensures exact { result ≡ read bytes.now }
 {

@@ -137,7 +137,8 @@ impl GroupAssembler {
         requires place { IsGroupPart part }
         requires fits { length sentence.now ≤ longest_line }
         requires awaited { IsNext (entry_at ⟦<GroupKey as Ord>⟧.cmp self.old (key_of sfi part)) part }
-        ensures* after { sem 𝓛 (ends_as self.entry (grown_after ⟦<GroupKey as Ord>⟧.cmp self.old (key_of sfi part) (part.number - 1) sentence.now moment group_gap)) }
+        ensures* after { sem 𝓛 (ends_as self.entry
+            (grown_after ⟦<GroupKey as Ord>⟧.cmp self.old (key_of sfi part) (part.number - 1) sentence.now moment group_gap)) }
         ensures answer { FollowsGives ⟦<GroupKey as Ord>⟧.cmp self.old (key_of sfi part) (λ e. grown e sentence.now moment group_gap) result }
     {
         let before = u16::from(part.number - 1);

@@ -45,5 +45,6 @@ pub fn lines_step_with_groups()
 /// sentences one after the other.
 pub fn keys_follow_groups()
     ensures follows { (limit : ℕ) (h : List (GroupKey × GroupLine)) → AreFed ⟦<GroupKey as Ord>⟧.cmp limit h → FollowsRuns ⟦<GroupKey as Ord>⟧.cmp limit h }
-    ensures answers { (limit : ℕ) (h : List (GroupKey × GroupLine)) (k : GroupKey) (x : GroupLine) (fed : GroupFed) → AreFed ⟦<GroupKey as Ord>⟧.cmp limit ((k, x) ∷ h) → AnswersRuns ⟦<GroupKey as Ord>⟧.cmp limit k x h fed }
+    ensures answers { (limit : ℕ) (h : List (GroupKey × GroupLine)) (k : GroupKey) (x : GroupLine) (fed : GroupFed)
+        → AreFed ⟦<GroupKey as Ord>⟧.cmp limit ((k, x) ∷ h) → AnswersRuns ⟦<GroupKey as Ord>⟧.cmp limit k x h fed }
 {}

@@ -222,7 +222,8 @@ pub fn read<'a>(line: &'a [u8]) -> Result<(Tag<'a>, usize), TagFault>
     // What it says is in its ranges.
     ensures ranges { IfOk result (λ t. IsSaid (spec.said t.0)) }
     // What is spelled so is read, where no block follows.
-    ensures only { (said : Said) (bytes rest : List ℕ) → IsTag said bytes → BeginsNoBlock rest → line.now ≡ bytes ++ rest → spec.seen result ≡ Ok (said, length bytes) }
+    ensures only { (said : Said) (bytes rest : List ℕ) → IsTag said bytes → BeginsNoBlock rest → line.now ≡ bytes ++ rest
+        → spec.seen result ≡ Ok (said, length bytes) }
     // Which fault it is.
     ensures exact { spec.seen result ≡ spec.read line.now }
 {

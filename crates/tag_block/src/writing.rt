@@ -143,7 +143,8 @@ pub fn write(parts: &TagParts, out: &mut Packet) -> bool
     ensures room { array_vec_len out.old + longest_block ≤ longest_packet → IsTrue result }
     ensures written { IsTrue result → out.new.items ≡ out.old.items ++ block_text (block_of parts.now) }
     ensures grammar { IsTag (said_by parts.now) (block_text (block_of parts.now)) }
-    ensures again { (rest : List ℕ) → BeginsNoBlock rest → read (block_text (block_of parts.now) ++ rest) ≡ Ok (said_by parts.now, length (block_text (block_of parts.now))) }
+    ensures again { (rest : List ℕ) → BeginsNoBlock rest
+        → read (block_text (block_of parts.now) ++ rest) ≡ Ok (said_by parts.now, length (block_text (block_of parts.now))) }
     ensures unchanged { result ≡ false → out.new ≡ out.old }
 {
     out.try_extend_from_slice(&block(parts)).is_ok()
