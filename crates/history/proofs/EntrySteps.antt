@@ -190,7 +190,7 @@ no_step kinds name k after notes m step =
     (no_own_answer name step.own after.claims.own)
 
 module _ (c : Settings) (s : ℕ) (h : History) (m : ℕ) where
-  no_answers : (f : BusFrame) (meaning : Meaning) → nets_in (answers_by c s h m f meaning) ≡ []
+  no_answers : (f : BusFrame) (meaning : Meaning) → nets_in (answers_by (receiver_of c) s h m f meaning) ≡ []
   no_answers f address_claim =
       let k = known (receiver_of c) s h in
       let gives = step_gives kind_of c.name k (known_after (length h) k (frame m f)) (notes_of (receiver_of c) s h) m (claim k.claims (claim_by (length h) m f)).step in
@@ -278,16 +278,16 @@ module _ (c : Settings) (s : ℕ) (h : History) where
 
 pub entries_say_one : EntriesSayOne
 entries_say_one c s h (frame m f) =
-    let breaks = reported (frame_refused c s h m f) in
-    let answers = answers_by c s h m f (meaning_after c s h m f) in
+    let breaks = reported (frame_refused (receiver_of c) s h m f) in
+    let answers = answers_by (receiver_of c) s h m f (meaning_after (receiver_of c) s h m f) in
     let o = chosen c (known (receiver_of c) s h) (messages_of (receiver_of c) s h) (done (receiver_of c) s h (frame m f)) in
     let said = said_in c (spoken_of c s h) o in
     let quiet : nets_in (expired c s h m ++ (breaks ++ answers)) ≡ [] =
     none (expired c s h m) (breaks ++ answers) (no_expired c s h m)
-    (none breaks answers (no_reports (frame_refused c s h m f)) (no_answers c s h m f (meaning_after c s h m f))) in
+    (none breaks answers (no_reports (frame_refused (receiver_of c) s h m f)) (no_answers c s h m f (meaning_after (receiver_of c) s h m f))) in
     says c s h (frame m f) (expired c s h m ++ (breaks ++ answers)) o
     (nets_append (expired c s h m) (breaks ++ answers ++ said) ∙ rw (no_expired c s h m)
-    (nets_append (breaks ++ answers) said ∙ ap (λ (l : List (List ℕ × List ℕ)). l ++ nets_in said) (none breaks answers (no_reports (frame_refused c s h m f)) (no_answers c s h m f (meaning_after c s h m f)) ∙ sym quiet)))
+    (nets_append (breaks ++ answers) said ∙ ap (λ (l : List (List ℕ × List ℕ)). l ++ nets_in said) (none breaks answers (no_reports (frame_refused (receiver_of c) s h m f)) (no_answers c s h m f (meaning_after (receiver_of c) s h m f)) ∙ sym quiet)))
     quiet refl
 entries_say_one c s h (datagram m bytes) =
     let own = (known (receiver_of c) s h).claims.own in

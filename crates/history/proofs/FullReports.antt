@@ -10,7 +10,6 @@ use Rattle.report_rules.specs.Rules as rules
 use Rattle.claim_table.specs.Claims.{Claims, holder_at}
 use Rattle.claim_table.specs.declared.answer.Holder.{Holder}
 use Rattle.claim_table.specs.Laws.{IsSound}
-use Rattle.pgn_profile.specs.Profiled.{kind_of, messages}
 use Rattle.pgn_profile.specs.declared.kinds.Kind.{Kind}
 use Rattle.pgn_profile.specs.declared.kinds.Kind.TheVariants.{Single, Fast, Outside}
 use Rattle.fast_packet.specs.FastFrames as fast
@@ -22,10 +21,9 @@ use Rattle.iso_transport.specs.Cm.{cm_by, cm_of}
 use Rattle.iso_transport.specs.Sessions as sessions
 use Rattle.iso_transport.specs.IsoRuns.{IsoPiece, is_opener}
 use Rattle.capture_text.specs.declared.emit.Report.{Report}
-use Rattle.history.specs.AddressLaws.{AreSettings}
+use Rattle.history.specs.AddressLaws.{IsReceiver}
 use Rattle.history.specs.Entries.{History, frame, datagram, tick, command}
-use Rattle.history.specs.Settings.{Settings}
-use Rattle.history.specs.Receiver.{receiver_of}
+use Rattle.history.specs.Receiver.{Receiver}
 use Rattle.history.specs.Known.{Known, known, is_own, since_of}
 use Rattle.history.specs.Emits.{Rule, broken_of}
 use Rattle.history.specs.Meanings.{Meaning, address_claim, own_source, request, from_nobody, transport, single, fast_packet, passed, if_held, by_kind, meaning_of, is_of_session, is_of_fast_packet}
@@ -39,7 +37,6 @@ use Rattle.history.specs.IsolationLaws.{opens, FindsRoom, NoneRefused}
 use Rattle.history.specs.RoomLaws.{says_full, FullIsReported, NoneFull, RefusalsAreReported}
 use Rattle.history.proofs.Addresses.{addresses_are_sound}
 use Rattle.history.proofs.KeySteps.{eqb-sym}
-use Rattle.history.proofs.Receivers.{claims, management, data_packets, requests, gateways_receive}
 
 -- ---- the rows of rule 15
 
@@ -202,7 +199,7 @@ spread true true false d e = refl
 spread true false c d e = refl
 spread false b c d e = refl
 
-module _ (k : Known) (sound : IsSound k.claims) (n : Note) where
+module _ (r : Receiver) (are : IsReceiver r) (k : Known) (sound : IsSound k.claims) (n : Note) where
   since_held : (x : Option Holder) → is_some (option_map (λ (y : Holder). y.since) x) ≡ is_some x
   since_held None = refl
   since_held (Some x) = refl
@@ -227,30 +224,30 @@ module _ (k : Known) (sound : IsSound k.claims) (n : Note) where
   meant : is_meant k n (key_of n.parts).addressed ≡ is_to k.claims.own n.parts.destination
   meant = meant_by (n.parts.destination == 255) refl
 
-  outside_of : (q : ℕ) → kind_of q ≡ Outside → (n.parts.pgn == q) ≡ true → kind_of n.parts.pgn ≡ Outside
-  outside_of q outside e = ap kind_of (eqb-true n.parts.pgn q e) ∙ outside
+  outside_of : (q : ℕ) → r.kinds q ≡ Outside → (n.parts.pgn == q) ≡ true → r.kinds n.parts.pgn ≡ Outside
+  outside_of q outside e = ap r.kinds (eqb-true n.parts.pgn q e) ∙ outside
 
-  moved : is_transport n.parts ≡ true → kind_of n.parts.pgn ≡ Outside
+  moved : is_transport n.parts ≡ true → r.kinds n.parts.pgn ≡ Outside
   moved e = by (n.parts.pgn == 60416) refl e
     where
-      by : (b : Bool) → (n.parts.pgn == 60416) ≡ b → (b || (n.parts.pgn == 60160)) ≡ true → kind_of n.parts.pgn ≡ Outside
-      by true em e = outside_of 60416 management em
-      by false em e = outside_of 60160 data_packets e
+      by : (b : Bool) → (n.parts.pgn == 60416) ≡ b → (b || (n.parts.pgn == 60160)) ≡ true → r.kinds n.parts.pgn ≡ Outside
+      by true em e = outside_of 60416 are.management em
+      by false em e = outside_of 60160 are.data_packets e
 
   still : (q : ℕ) → (q == 60416) ≡ false → (q == 60160) ≡ false → (n.parts.pgn == q) ≡ true → is_transport n.parts ≡ false
   still q a b e = ap (λ (x : ℕ). (x == 60416) || (x == 60160)) (eqb-true n.parts.pgn q e) ∙ rw (a, b) refl
 
-  fast_is : is_of_fast_packet (meaning_of kind_of k.claims.own k.claims.holders n.parts) ≡ (is_some (since_of k n.parts.source) && is_fast (kind_of n.parts.pgn))
+  fast_is : is_of_fast_packet (meaning_of r.kinds k.claims.own k.claims.holders n.parts) ≡ (is_some (since_of k n.parts.source) && is_fast (r.kinds n.parts.pgn))
   fast_is =
       fast_of (n.parts.pgn == 60928) (audience.is_own k.claims.own n.parts.source) (n.parts.pgn == 59904) (is_transport n.parts) (is_to k.claims.own n.parts.destination)
-      (is_some (holder_at k.claims.holders n.parts.source)) (kind_of n.parts.pgn)
-      (outside_of 60928 claims) (own_nobody k.claims.own refl) (outside_of 59904 requests) moved
-      ∙ ap (λ (b : Bool). b && is_fast (kind_of n.parts.pgn)) (sym (since_held (holder_at k.claims.holders n.parts.source)))
+      (is_some (holder_at k.claims.holders n.parts.source)) (r.kinds n.parts.pgn)
+      (outside_of 60928 are.claims) (own_nobody k.claims.own refl) (outside_of 59904 are.requests) moved
+      ∙ ap (λ (b : Bool). b && is_fast (r.kinds n.parts.pgn)) (sym (since_held (holder_at k.claims.holders n.parts.source)))
 
-  session_is : is_of_session (meaning_of kind_of k.claims.own k.claims.holders n.parts) ≡ (is_some (since_of k n.parts.source) && (is_meant k n (key_of n.parts).addressed && is_transport n.parts))
+  session_is : is_of_session (meaning_of r.kinds k.claims.own k.claims.holders n.parts) ≡ (is_some (since_of k n.parts.source) && (is_meant k n (key_of n.parts).addressed && is_transport n.parts))
   session_is =
       session_of (n.parts.pgn == 60928) (audience.is_own k.claims.own n.parts.source) (n.parts.pgn == 59904) (is_transport n.parts) (is_to k.claims.own n.parts.destination)
-      (is_some (holder_at k.claims.holders n.parts.source)) (kind_of n.parts.pgn)
+      (is_some (holder_at k.claims.holders n.parts.source)) (r.kinds n.parts.pgn)
       (still 60928 refl refl) (own_nobody k.claims.own refl) (still 59904 refl refl)
       ∙ ap (λ (b : Bool). b && (is_to k.claims.own n.parts.destination && is_transport n.parts)) (sym (since_held (holder_at k.claims.holders n.parts.source)))
       ∙ ap (λ (b : Bool). is_some (since_of k n.parts.source) && (b && is_transport n.parts)) (sym meant)
@@ -275,19 +272,19 @@ module _ (k : Known) (sound : IsSound k.claims) (n : Note) where
       and_yes false = refl
 
 pub full_is_reported : FullIsReported
-full_is_reported c s h m f are =
-    let k = known (receiver_of c) s h in
-    let n = the_note (receiver_of c) s h m f in
-    let sound = (addresses_are_sound (receiver_of c) s h (gateways_receive c are)).sound in
-    full_breaks c.name (meaning_after c s h m f) n (frames_before (meaning_after c s h m f) k (notes_of (receiver_of c) s h) m n.parts)
-    (packets_before (meaning_after c s h m f) k (notes_of (receiver_of c) s h) m n.parts) (done (receiver_of c) s h (frame m f))
+full_is_reported r s h m f are =
+    let k = known r s h in
+    let n = the_note r s h m f in
+    let sound = (addresses_are_sound r s h are).sound in
+    full_breaks r.name (meaning_after r s h m f) n (frames_before (meaning_after r s h m f) k (notes_of r s h) m n.parts)
+    (packets_before (meaning_after r s h m f) k (notes_of r s h) m n.parts) (done r s h (frame m f))
     ∙ ap (λ (b : Bool). (b && (fast.is_opener n.bytes && not n.admitted))
-    || (is_of_session (meaning_after c s h m f) && (opens_session (key_of n.parts).addressed n.ready (iso_piece n) && not n.admitted))) (fast_is k sound n)
-    ∙ ap (λ (b : Bool). ((is_some (since_of k n.parts.source) && is_fast (kind_of n.parts.pgn)) && (fast.is_opener n.bytes && not n.admitted))
-    || (b && (opens_session (key_of n.parts).addressed n.ready (iso_piece n) && not n.admitted))) (session_is k sound n)
-    ∙ ap (λ (b : Bool). ((is_some (since_of k n.parts.source) && is_fast (kind_of n.parts.pgn)) && (fast.is_opener n.bytes && not n.admitted)) || b)
-    (opens_is k sound n (is_opener (key_of n.parts).addressed (iso_piece n)) refl)
-    ∙ spread (is_some (since_of k n.parts.source)) (is_fast (kind_of n.parts.pgn)) (fast.is_opener n.bytes) (concerns k n (key_of n.parts) && is_opener (key_of n.parts).addressed (iso_piece n)) (not n.admitted)
+    || (is_of_session (meaning_after r s h m f) && (opens_session (key_of n.parts).addressed n.ready (iso_piece n) && not n.admitted))) (fast_is r are k sound n)
+    ∙ ap (λ (b : Bool). ((is_some (since_of k n.parts.source) && is_fast (r.kinds n.parts.pgn)) && (fast.is_opener n.bytes && not n.admitted))
+    || (b && (opens_session (key_of n.parts).addressed n.ready (iso_piece n) && not n.admitted))) (session_is r are k sound n)
+    ∙ ap (λ (b : Bool). ((is_some (since_of k n.parts.source) && is_fast (r.kinds n.parts.pgn)) && (fast.is_opener n.bytes && not n.admitted)) || b)
+    (opens_is r are k sound n (is_opener (key_of n.parts).addressed (iso_piece n)) refl)
+    ∙ spread (is_some (since_of k n.parts.source)) (is_fast (r.kinds n.parts.pgn)) (fast.is_opener n.bytes) (concerns k n (key_of n.parts) && is_opener (key_of n.parts).addressed (iso_piece n)) (not n.admitted)
 
 -- ---- of a whole history
 
@@ -301,24 +298,24 @@ none_is_full full true admitted e room = e ∙ rw (room refl) refl
 none_is_full full false admitted e room = e
 
 pub refusals_are_reported : RefusalsAreReported
-refusals_are_reported c s h a are = (to h, from h)
+refusals_are_reported r s h a are = (to h, from h)
   where
-    to : (h : History) → NoneRefused (receiver_of c) s h a → NoneFull c s h a
+    to : (h : History) → NoneRefused r s h a → NoneFull r s h a
     to [] rooms = tt
     to (frame m f ∷ h) rooms = (
-      (λ own. none_is_full (says_full (frame_refused c s h m f)) (opens kind_of (known (receiver_of c) s h) (the_note (receiver_of c) s h m f)) (the_note (receiver_of c) s h m f).admitted
-          (full_is_reported c s h m f are) (rooms.0 own)),
+      (λ own. none_is_full (says_full (frame_refused r s h m f)) (opens r.kinds (known r s h) (the_note r s h m f)) (the_note r s h m f).admitted
+          (full_is_reported r s h m f are) (rooms.0 own)),
       to h rooms.1,
     )
     to (datagram m bytes ∷ h) rooms = to h rooms
     to (tick m ∷ h) rooms = to h rooms
     to (command m source address ∷ h) rooms = to h rooms
 
-    from : (h : History) → NoneFull c s h a → NoneRefused (receiver_of c) s h a
+    from : (h : History) → NoneFull r s h a → NoneRefused r s h a
     from [] none = tt
     from (frame m f ∷ h) none = (
-      (λ own opening. there_is_room (says_full (frame_refused c s h m f)) (opens kind_of (known (receiver_of c) s h) (the_note (receiver_of c) s h m f)) (the_note (receiver_of c) s h m f).admitted
-          (full_is_reported c s h m f are) (none.0 own) opening),
+      (λ own opening. there_is_room (says_full (frame_refused r s h m f)) (opens r.kinds (known r s h) (the_note r s h m f)) (the_note r s h m f).admitted
+          (full_is_reported r s h m f are) (none.0 own) opening),
       from h none.1,
     )
     from (datagram m bytes ∷ h) none = from h none

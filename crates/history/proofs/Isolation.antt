@@ -530,6 +530,7 @@ isolation c s h a are rooms = (alike_all c c s a are are (λ p. refl) refl h roo
 alike_settings : (c d : Receiver) → d.name ≡ c.name → d.address ≡ c.address → d.presets ≡ c.presets → ((p : ℕ) → d.kinds p ≡ c.kinds p) → IsReceiver c → IsReceiver d
 alike_settings c d name address presets kinds are = record {
   claims = kinds 60928 ∙ are.claims;
+  requests = kinds 59904 ∙ are.requests;
   management = kinds 60416 ∙ are.management;
   data_packets = kinds 60160 ∙ are.data_packets;
   address = subst (λ (x : ℕ). x < 252) (sym address) are.address;

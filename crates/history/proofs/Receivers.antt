@@ -4,19 +4,19 @@ use Rattle.pgn_profile.specs.Profiled.{kind_of, messages}
 use Rattle.pgn_profile.specs.declared.kinds.Kind.TheVariants.{Outside}
 use Rattle.history.specs.AddressLaws.{GatewaysReceive}
 
-pub claims : kind_of 60928 ≡ Outside
+claims : kind_of 60928 ≡ Outside
 unfolding messages
 claims = refl
 
-pub management : kind_of 60416 ≡ Outside
+management : kind_of 60416 ≡ Outside
 unfolding messages
 management = refl
 
-pub data_packets : kind_of 60160 ≡ Outside
+data_packets : kind_of 60160 ≡ Outside
 unfolding messages
 data_packets = refl
 
-pub requests : kind_of 59904 ≡ Outside
+requests : kind_of 59904 ≡ Outside
 unfolding messages
 requests = refl
 
@@ -26,6 +26,7 @@ gateways_receive c are = record {
   apart = are.apart;
   others = are.others;
   claims = claims;
+  requests = requests;
   management = management;
   data_packets = data_packets;
 }

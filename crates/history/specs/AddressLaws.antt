@@ -17,12 +17,14 @@ pub record AreSettings (c : Settings) : Type 0 where
   pub apart : repeats c.presets ≡ false
   pub others : takes c.name c.address c.presets ≡ false
 
--- a receiver that can be: so are its address and presets, and no PGN of claims or of the transport protocol is a message by itself
+-- a receiver that can be: so are its address and presets, and no PGN of claims, of requests or of the transport protocol is that of a
+-- message
 pub record IsReceiver (r : Receiver) : Type 0 where
   pub address : r.address < move_places
   pub apart : repeats r.presets ≡ false
   pub others : takes r.name r.address r.presets ≡ false
   pub claims : r.kinds pgns.address_claimed ≡ Outside
+  pub requests : r.kinds pgns.request ≡ Outside
   pub management : r.kinds pgns.connection_management ≡ Outside
   pub data_packets : r.kinds pgns.data_transfer ≡ Outside
 

@@ -22,10 +22,9 @@ use Rattle.capture_text.specs.declared.emit.Detail.TheVariants as detail
 use Rattle.history.specs.Pgns as pgns
 use Rattle.history.specs.Entries as entry
 use Rattle.history.specs.Entries.{Entry, History}
-use Rattle.pgn_profile.specs.Profiled.{kind_of}
 use Rattle.pgn_profile.specs.declared.kinds.Kind.{Kind}
 use Rattle.history.specs.Settings.{Settings, rule_of}
-use Rattle.history.specs.Receiver.{receiver_of}
+use Rattle.history.specs.Receiver.{Receiver, receiver_of}
 use Rattle.history.specs.Known.{Known, known, known_after, is_claim, claim_by, address_left, address_won}
 use Rattle.history.specs.Meanings.{Meaning, address_claim, request, transport, meaning_of, is_of_session, is_of_fast_packet}
 use Rattle.history.specs.Traces.{Note, iso_piece}
@@ -94,34 +93,35 @@ frames_before meaning k notes m p = if is_of_fast_packet meaning then fast_open 
 abbrev pub packets_before : Meaning → Known → List Note → ℕ → Parts → Option (List IsoPiece)
 packets_before meaning k notes m p = if is_of_session meaning then iso_open k notes (key_of p) m else None
 
-module _ (c : Settings) (s : ℕ) (h : History) (m : ℕ) (f : BusFrame) where
+module _ (r : Receiver) (s : ℕ) (h : History) (m : ℕ) (f : BusFrame) where
   abbrev pub meaning_after : Meaning
-  meaning_after = meaning_of kind_of (known (receiver_of c) s h).claims.own (known (receiver_of c) s h).claims.holders (parts_of f.id)
+  meaning_after = meaning_of r.kinds (known r s h).claims.own (known r s h).claims.holders (parts_of f.id)
 
   -- the rules that it breaks
   abbrev pub frame_refused : List Report
   frame_refused =
-      let k = known (receiver_of c) s h in
-      let notes = notes_of (receiver_of c) s h in
-      let n = note_of (receiver_of c) (length h) k notes m f in
-      frame_breaks c.name meaning_after n (frames_before meaning_after k notes m n.parts) (packets_before meaning_after k notes m n.parts)
-      (done (receiver_of c) s h (entry.frame m f))
+      let k = known r s h in
+      let notes = notes_of r s h in
+      let n = note_of r (length h) k notes m f in
+      frame_breaks r.name meaning_after n (frames_before meaning_after k notes m n.parts) (packets_before meaning_after k notes m n.parts)
+      (done r s h (entry.frame m f))
 
-  -- what it makes the gateway send on the bus
+  -- what it makes the receiver send on the bus
   abbrev pub answers_by : Meaning → List Emit
-  answers_by address_claim = claim_gives kind_of c.name (length h) (known (receiver_of c) s h) (notes_of (receiver_of c) s h) m f
-  answers_by request = request_gives c.name (known (receiver_of c) s h).claims.own f.held
+  answers_by address_claim = claim_gives r.kinds r.name (length h) (known r s h) (notes_of r s h) m f
+  answers_by request = request_gives r.name (known r s h).claims.own f.held
   answers_by transport =
-      let k = known (receiver_of c) s h in
-      let notes = notes_of (receiver_of c) s h in
-      session_gives k.claims.own (packets_before transport k notes m (parts_of f.id)) (note_of (receiver_of c) (length h) k notes m f)
+      let k = known r s h in
+      let notes = notes_of r s h in
+      session_gives k.claims.own (packets_before transport k notes m (parts_of f.id)) (note_of r (length h) k notes m f)
   answers_by _ = []
 
-  -- its reports stand before its replies, and these before the datagram of the message that it completes
-  abbrev pub from_frame : List Spoken → List Emit
-  from_frame before =
-      reported frame_refused ++ answers_by meaning_after
-      ++ said_in c before (chosen c (known (receiver_of c) s h) (messages_of (receiver_of c) s h) (done (receiver_of c) s h (entry.frame m f)))
+-- its reports stand before its replies, and these before the datagram of the message that it completes
+abbrev pub from_frame : Settings → ℕ → History → ℕ → BusFrame → List Spoken → List Emit
+from_frame c s h m f before =
+    let r = receiver_of c in
+    reported (frame_refused r s h m f) ++ answers_by r s h m f (meaning_after r s h m f)
+    ++ said_in c before (chosen c (known r s h) (messages_of r s h) (done r s h (entry.frame m f)))
 
 -- ---- a command to go to an address (ISO 11783-5), which is obeyed or is rule 26
 

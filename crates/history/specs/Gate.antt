@@ -71,7 +71,7 @@ module _ (c : Settings) (s : ℕ) where
   datagram_after h m bytes = let read = datagrams.read bytes in datagram_gives c (known (receiver_of c) s h).claims.own (heard h) (came h m read) read
 
   abbrev pub broken_by : History → Entry → List Report
-  broken_by h (entry.frame m f) = frame_refused c s h m f
+  broken_by h (entry.frame m f) = frame_refused (receiver_of c) s h m f
   broken_by h (entry.datagram m bytes) = reports_in (datagram_after h m bytes)
   broken_by h (entry.tick m) = []
   broken_by h (entry.command m source address) = command_breaks (known (receiver_of c) s h).claims source address
