@@ -1,18 +1,15 @@
 -- Who is first in a row, and whose NAME a message is of.
-use Rattle.std.proofs.Common.{◌≡◌, ℕ, zero, suc, ◌<◌, ◌≤◌, Bool, true, false, ◌&&◌, ◌||◌, not, List, [], ◌∷◌, ◌⊎◌, inl, inr, length, refl, sym, ap, subst, ◌∙◌, ◌==◌, arith}
+use Rattle.std.proofs.Common.{◌≡◌, ℕ, zero, suc, ◌<◌, Bool, true, false, ◌&&◌, ◌||◌, not, List, [], ◌∷◌, inl, inr, length, refl, sym, ap, subst, ◌∙◌, ◌==◌, arith}
 use Rattle.std.specs.Prelude.{Option, Some, None, find, if◌then◌else◌}
 use Rattle.std.specs.List.{AllByRecursion, list_any}
-use Rattle.std.proofs.lemmas.Bool.{and_parts, eqb-true, eq-eqb, cases_Bool, eqb-false, false≢true}
-use Rattle.n2k_id.specs.Frame.{BusFrame}
+use Rattle.std.proofs.lemmas.Bool.{and_parts, eqb-true, eqb-false, false≢true}
 use Rattle.n2k_id.specs.Identifier.{parts_of}
 use Rattle.readings.specs.declared.rows.Row.{Row}
 use Rattle.claim_table.specs.declared.answer.Holder.{Holder}
 use Rattle.claim_table.specs.Claims.{holder_at, holder_by, claim}
 use Rattle.claim_table.proofs.SoundLemmas.{held_within}
-use Rattle.history.specs.AddressLaws.{IsReceiver}
-use Rattle.history.specs.Entries.{History, frame, datagram, tick, command}
+use Rattle.history.specs.Entries.{frame, datagram, tick, command}
 use Rattle.history.specs.Settings.{RowRule}
-use Rattle.history.specs.Receiver.{Receiver}
 use Rattle.history.specs.Known.{Known, known, since_of, is_claim, claim_by}
 use Rattle.history.specs.Messages.{Message, Carried, messages_of, said_by, with_message, completed_by}
 use Rattle.history.specs.Opens.{note_of, notes_of}

@@ -18,17 +18,15 @@ use Rattle.pgn_profile.specs.Profiled.{kind_of}
 use Rattle.pgn_profile.specs.declared.kinds.Kind.{Kind}
 use Rattle.iso_transport.specs.declared.key.IsoKey.{IsoKey}
 use Rattle.sentence_rows.specs.declared.fault.FieldFault.{FieldFault}
-use Rattle.sentence_rows.specs.Writing.{sentences_of}
 use Rattle.iso_transport.specs.declared.reply.Reply.{Reply}
 use Rattle.report_rules.specs.Rules as rules
 use Rattle.fast_packet.specs.declared.key.FastKey.{FastKey}
 use Rattle.tag_block.specs.declared.group_key.GroupKey.{GroupKey}
 use Rattle.capture_text.specs.declared.emit.Detail.TheVariants as detail
 use Rattle.capture_text.specs.declared.emit.Report.{Report}
-use Rattle.datagram450.specs.declared.fault.DatagramFault.{DatagramFault}
 use Rattle.datagram450.specs.Datagram as datagrams
 use Rattle.datagram450.specs.Item.{Item, line, bad}
-use Rattle.history.specs.Entries.{Entry, History, frame, datagram, tick, command, moment_of, now, is_accepted, IsOffered, IsTimely, IsHistory}
+use Rattle.history.specs.Entries.{Entry, History, frame, datagram, tick, command, moment_of, now, is_accepted, IsTimely, IsHistory}
 use Rattle.history.specs.Settings.{Settings, rule_of}
 use Rattle.history.specs.Receiver.{Receiver, receiver_of}
 use Rattle.history.specs.Known.{Known, known, known_after, is_claim, claim_by, address_left, address_won}
@@ -37,7 +35,7 @@ use Rattle.history.specs.Messages.{Message, Carried, said_by, done, messages_of}
 use Rattle.history.specs.Traces.{Note}
 use Rattle.history.specs.Opens.{fast_keys, iso_keys, notes_of}
 use Rattle.history.specs.Endings.{fast_ended, iso_ended, group_ended, session_pgn, abort_reply, fast_expired, iso_expired, groups_expired, fast_lost, iso_lost, lost_at, lost_elsewhere}
-use Rattle.history.specs.Emits.{Emit, can, net, report, broken, of_source, reported, replied, reply_from, own_claim}
+use Rattle.history.specs.Emits.{Emit, can, net, report, broken, of_source, reported, replied, own_claim}
 use Rattle.history.specs.Heard.{Came, Taken, group_keys, handed_over, is_taken, taken_after, lines_of}
 use Rattle.history.specs.NetRules.{datagram_breaks, item_breaks, sentence_breaks, reading_breaks}
 use Rattle.history.specs.NetReadings.{NetReading, read_sentence, with_said, readings_of, is_net_selected}

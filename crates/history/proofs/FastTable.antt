@@ -1,5 +1,5 @@
 -- The rules of fast packets in the table are the assembler's refusals.
-use Rattle.std.proofs.Common.{◌≡◌, ℕ, ◌-◌, ◌<◌, ◌≤◌, Bool, true, false, ◌&&◌, ◌||◌, not, ◌==◌, nat_le, nat_lt, List, [], ◌∷◌, ◌++◌, length, is_some, is_none, refl, sym, ap, ◌∙◌, arith}
+use Rattle.std.proofs.Common.{◌≡◌, ◌-◌, Bool, true, false, ◌&&◌, ◌||◌, not, ◌==◌, nat_le, List, [], ◌∷◌, ◌++◌, length, is_some, is_none, refl, sym, ap, ◌∙◌, arith}
 use Rattle.std.specs.Prelude.{Option, Some, None}
 use Rattle.std.proofs.lemmas.Bool.{and_parts, eqb-true, eqb-false, eq-eqb, ne_eqb, leb-true, lt-ltb, le-ltb, false≢true}
 use Rattle.report_rules.specs.Rules as rules
@@ -14,8 +14,7 @@ use Rattle.fast_packet.specs.FastRuns.{FastPiece, is_next, is_repeat}
 use Rattle.fast_packet.specs.Keys.{refused, is_awaited}
 use Rattle.fast_packet.proofs.Assemblies.{counter_zero}
 use Rattle.history.specs.Emits.{Rule, breaks, broken_of}
-use Rattle.history.specs.Messages.{Message}
-use Rattle.history.specs.Traces.{Note, fast_piece}
+use Rattle.history.specs.Traces.{fast_piece}
 use Rattle.history.specs.BusRules.{is_later_frame, is_cut_off, is_wrong_length, is_out_of_order, message_rule}
 use Rattle.history.specs.RuleLaws.{fast_refusal_breaks, FastRulesAreRefusals}
 

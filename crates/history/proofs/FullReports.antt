@@ -1,13 +1,10 @@
 -- Rule 15 is reported exactly where an opener finds no room.
-use Rattle.std.proofs.Common.{◌≡◌, ℕ, ◌<◌, ◌≤◌, Bool, true, false, ◌&&◌, ◌||◌, not, ◌==◌, nat_le, nat_lt, List, [], ◌∷◌, ◌++◌, length, is_some, refl, sym, ap, subst, ◌∙◌, arith}
+use Rattle.std.proofs.Common.{◌≡◌, ℕ, Bool, true, false, ◌&&◌, ◌||◌, not, ◌==◌, nat_le, nat_lt, List, [], ◌∷◌, length, is_some, refl, sym, ap, ◌∙◌}
 use Rattle.std.specs.Prelude.{Option, Some, None, if◌then◌else◌, option_map}
 use Rattle.std.specs.List.{list_any}
 use Rattle.std.proofs.lemmas.Bool.{and_parts, eqb-true, eq-eqb, ltb-false, le-leb, false≢true}
-use Rattle.n2k_id.specs.declared.identifier_parts.Parts.{Parts}
-use Rattle.n2k_id.specs.Frame.{BusFrame}
-use Rattle.n2k_id.specs.Identifier.{parts_of}
 use Rattle.report_rules.specs.Rules as rules
-use Rattle.claim_table.specs.Claims.{Claims, holder_at}
+use Rattle.claim_table.specs.Claims.{holder_at}
 use Rattle.claim_table.specs.declared.answer.Holder.{Holder}
 use Rattle.claim_table.specs.Laws.{IsSound}
 use Rattle.pgn_profile.specs.declared.kinds.Kind.{Kind}
@@ -20,20 +17,19 @@ use Rattle.iso_transport.specs.Connection.{control_at}
 use Rattle.iso_transport.specs.Cm.{cm_by, cm_of}
 use Rattle.iso_transport.specs.Sessions as sessions
 use Rattle.iso_transport.specs.IsoRuns.{IsoPiece, is_opener}
-use Rattle.capture_text.specs.declared.emit.Report.{Report}
 use Rattle.history.specs.AddressLaws.{IsReceiver}
 use Rattle.history.specs.Entries.{History, frame, datagram, tick, command}
 use Rattle.history.specs.Receiver.{Receiver}
 use Rattle.history.specs.Known.{Known, known, is_own, since_of}
 use Rattle.history.specs.Emits.{Rule, broken_of}
-use Rattle.history.specs.Meanings.{Meaning, address_claim, own_source, request, from_nobody, transport, single, fast_packet, passed, if_held, by_kind, meaning_of, is_of_session, is_of_fast_packet}
+use Rattle.history.specs.Meanings.{Meaning, address_claim, own_source, request, transport, single, fast_packet, passed, if_held, by_kind, meaning_of, is_of_session, is_of_fast_packet}
 use Rattle.history.specs.Messages.{Message, done}
 use Rattle.history.specs.Opens.{is_fast, notes_of}
 use Rattle.history.specs.Traces.{Note, iso_piece, is_transport, is_bearing}
-use Rattle.history.specs.BusRules.{is_early, is_rts, opens_session, message_rule, frame_table, frame_breaks}
+use Rattle.history.specs.BusRules.{is_early, opens_session, frame_table, frame_breaks}
 use Rattle.history.specs.FromBus.{meaning_after, frames_before, packets_before, frame_refused}
 use Rattle.history.specs.KeyLaws.{the_note, is_meant, concerns}
-use Rattle.history.specs.IsolationLaws.{opens, FindsRoom, NoneRefused}
+use Rattle.history.specs.IsolationLaws.{opens, NoneRefused}
 use Rattle.history.specs.RoomLaws.{says_full, FullIsReported, NoneFull, RefusalsAreReported}
 use Rattle.history.proofs.Addresses.{addresses_are_sound}
 use Rattle.history.proofs.KeySteps.{eqb-sym}

@@ -1,7 +1,7 @@
 -- The open groups of lines are within their limit.
-use Rattle.std.proofs.Common.{◌≡◌, ℕ, ◌≤◌, Bool, true, false, not, List, [], ◌∷◌, length, refl, sym, ap, subst, ◌∙◌, nat_le, arith, is_some}
-use Rattle.std.specs.Prelude.{Option, Some, None, Result, Ok, Err, is_none, if◌then◌else◌}
-use Rattle.std.specs.List.{AllByRecursion, fold, list_any}
+use Rattle.std.proofs.Common.{◌≡◌, ℕ, ◌≤◌, Bool, true, false, List, [], ◌∷◌, length, refl, sym, ap, subst, ◌∙◌, nat_le, arith, is_some}
+use Rattle.std.specs.Prelude.{Option, Some, None, if◌then◌else◌}
+use Rattle.std.specs.List.{AllByRecursion, list_any}
 use Rattle.std.proofs.lemmas.Bool.{eq-eqb, false≢true}
 use Rattle.claim_table.specs.Claims.{is_ready}
 use Rattle.runs.specs.Runs.{fed, open_at}
@@ -14,8 +14,8 @@ use Rattle.history.specs.Entries.{Entry, History, IsHistory, now, frame, datagra
 use Rattle.history.specs.Entries as entry
 use Rattle.history.specs.Settings.{Settings}
 use Rattle.history.specs.Receiver.{receiver_of}
-use Rattle.history.specs.Known.{Known, known}
-use Rattle.history.specs.Heard.{Came, Taken, came_at, with_items, same_text, same_group, before_group, several, group_line, key_with, group_keys, group_open, open_groups, is_group_admitted, is_taken, is_line_admitted, taken_after, with_item, lines_of}
+use Rattle.history.specs.Known.{known}
+use Rattle.history.specs.Heard.{Came, Taken, came_at, with_items, same_group, before_group, several, group_line, key_with, group_keys, group_open, open_groups, is_group_admitted, is_taken, is_line_admitted, taken_after, with_item, lines_of}
 use Rattle.history.specs.FromNet.{items_in}
 use Rattle.history.specs.Gate.{heard}
 use Rattle.history.specs.GroupLaws.{group_key}

@@ -1,18 +1,12 @@
 -- Datagrams and lines of captures that are too long.
-use Rattle.std.proofs.Common.{◌≡◌, ℕ, ◌<◌, nat_lt, Bool, true, false, List, [], ◌∷◌, ◌++◌, length, Option, Result, Ok, Err, refl, ap, arith}
+use Rattle.std.proofs.Common.{◌≡◌, ℕ, ◌<◌, nat_lt, true, List, [], ◌∷◌, ◌++◌, length, Err, refl, ap, arith}
 use Rattle.std.proofs.lemmas.Bool.Decides.{nat_tests}
-use Rattle.capture_text.specs.declared.event.LineRule.{LineRule}
 use Rattle.capture_text.specs.declared.event.LineRule.TheVariants.{Long}
-use Rattle.capture_text.specs.Capture.{Seen, longest_line}
+use Rattle.capture_text.specs.Capture.{longest_line}
 use Rattle.capture_text.specs.Reading.{read}
 use Rattle.datagram450.specs.declared.fault.DatagramFault.TheVariants as fault
 use Rattle.datagram450.specs.Datagram as datagrams
-use Rattle.history.specs.Entries.{History}
-use Rattle.history.specs.Settings.{Settings}
-use Rattle.history.specs.FromNet.{datagram_gives}
-use Rattle.history.specs.Gate.{came, heard}
-use Rattle.history.specs.Known.{known}
-use Rattle.history.specs.Replay.{Running, with_read}
+use Rattle.history.specs.Replay.{with_read}
 use Rattle.history.specs.LengthLaws.{LongDatagrams, LongLines}
 
 lt_true : (a b : ℕ) → a < b → nat_lt a b ≡ true

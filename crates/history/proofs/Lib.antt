@@ -24,6 +24,7 @@ pub mod FastLimits
 pub mod IsoLimits
 pub mod GroupSteps
 pub mod GroupLimits
+pub mod Fits
 pub mod Refusals
 pub mod HeardSteps
 pub mod FullReports

@@ -1,6 +1,6 @@
 -- What is noted of a frame.
-use Rattle.std.proofs.Common.{◌≡◌, ℕ, suc, ◌<◌, ◌≤◌, Bool, true, false, List, [], ◌∷◌, ◌++◌, length, refl, ◌∙◌, ◌==◌, arith}
-use Rattle.std.specs.Prelude.{find, Option, Some}
+use Rattle.std.proofs.Common.{◌≡◌, ℕ, ◌<◌, [], ◌∷◌, ◌++◌, length, refl, ◌==◌, arith}
+use Rattle.std.specs.Prelude.{find, Some}
 use Rattle.std.proofs.lemmas.Bool.{eq-eqb, ne_eqb}
 use Rattle.n2k_id.specs.Frame.{BusFrame}
 use Rattle.history.specs.Entries.{Entry, History, frame, datagram, tick, command}
@@ -8,7 +8,7 @@ use Rattle.history.specs.Receiver.{Receiver}
 use Rattle.history.specs.Known.{known}
 use Rattle.history.specs.Traces.{Note}
 use Rattle.history.specs.Opens.{note_of, notes_of}
-use Rattle.history.specs.NoteLaws.{IsNoted, FramesAreNoted}
+use Rattle.history.specs.NoteLaws.{FramesAreNoted}
 
 longer : (newer : History) (e : Entry) (older : History) → length older < length (newer ++ e ∷ older)
 longer [] e older = omega arith

@@ -1,5 +1,5 @@
 -- The rules of the transport protocol in the table are those that the assembler's verdict says.
-use Rattle.std.proofs.Common.{◌≡◌, ℕ, ◌<◌, ◌≤◌, Bool, true, false, ◌&&◌, ◌||◌, not, ◌==◌, nat_le, nat_lt, List, [], ◌∷◌, ◌++◌, length, is_some, is_none, refl, sym, ap, ◌∙◌, arith}
+use Rattle.std.proofs.Common.{◌≡◌, ℕ, Bool, true, false, ◌&&◌, ◌||◌, not, ◌==◌, nat_le, nat_lt, List, [], ◌∷◌, ◌++◌, length, is_some, is_none, refl, ap, ◌∙◌}
 use Rattle.std.specs.Prelude.{Option, Some, None}
 use Rattle.std.proofs.lemmas.Bool.{and_parts, eqb-true, leb-true, le-ltb, lt-leb, ltb-true, le-leb, ltb-false, false≢true}
 use Rattle.report_rules.specs.Rules as rules
@@ -9,10 +9,9 @@ use Rattle.capture_text.specs.declared.emit.Detail.TheVariants as detail
 use Rattle.iso_transport.specs.Audience.{key_of}
 use Rattle.iso_transport.specs.Connection.{control_at, size_at, packets_at}
 use Rattle.iso_transport.specs.Sessions.{is_size}
-use Rattle.iso_transport.specs.IsoRuns.{IsoPiece, end_of, session_of, is_opener, is_next, is_repeat}
+use Rattle.iso_transport.specs.IsoRuns.{IsoPiece, end_of, session_of, is_next, is_repeat}
 use Rattle.iso_transport.specs.RunVerdicts.{left_of_run, run_verdict}
 use Rattle.history.specs.Emits.{Rule, breaks, broken_of}
-use Rattle.history.specs.Messages.{Message}
 use Rattle.history.specs.Traces.{Note, iso_piece}
 use Rattle.history.specs.BusRules.{is_early, is_rts, is_abort, opens_session, is_wrong_kind, is_wrong_size, is_short_packet, is_packet_out_of_order, is_cut_management, session_pgn, message_rule}
 use Rattle.history.specs.RuleLaws.{verdict_breaks, SessionRulesAreVerdicts, EarlyBreaksNotReady}

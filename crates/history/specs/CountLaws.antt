@@ -49,7 +49,8 @@ module _ (cmp : IsoKey → IsoKey → Ordering) (k : Known) (notes : List Note) 
 
 abbrev pub SlotsCountIso : Type 0
 SlotsCountIso =
-    (cmp : IsoKey → IsoKey → Ordering) (k : Known) (notes : List Note) (m : ℕ) (slots : SlotMap IsoKey) → HoldsIso cmp k notes m slots → CountsIso cmp k notes m slots
+    (cmp : IsoKey → IsoKey → Ordering) (k : Known) (notes : List Note) (m : ℕ) (slots : SlotMap IsoKey)
+    → HoldsIso cmp k notes m slots → CountsIso cmp k notes m slots
 
 -- and of groups of lines
 module _ (cmp : GroupKey → GroupKey → Ordering) (taken : List Taken) (m : ℕ) (slots : SlotMap GroupKey) where
@@ -66,4 +67,5 @@ module _ (cmp : GroupKey → GroupKey → Ordering) (taken : List Taken) (m : �
 
 abbrev pub SlotsCountGroups : Type 0
 SlotsCountGroups =
-    (cmp : GroupKey → GroupKey → Ordering) (taken : List Taken) (m : ℕ) (slots : SlotMap GroupKey) → HoldsGroups cmp taken m slots → CountsGroups cmp taken m slots
+    (cmp : GroupKey → GroupKey → Ordering) (taken : List Taken) (m : ℕ) (slots : SlotMap GroupKey)
+    → HoldsGroups cmp taken m slots → CountsGroups cmp taken m slots

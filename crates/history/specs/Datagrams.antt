@@ -1,11 +1,11 @@
 -- The datagram in which a selected message is said (IEC 61162-450), and the counters of what was said.
-use Rattle.std.specs.Prelude.{ℕ, ◌+◌, ◌%◌, nat_le, nat_eq, Bool, List, [], ◌∷◌, ◌++◌, length, Option, Some, None, if◌then◌else◌}
-use Rattle.std.specs.Cmp.Lexicographic.{pointwise}
+use Rattle.std.specs.Prelude.{ℕ, ◌+◌, ◌%◌, nat_le, List, [], ◌∷◌, ◌++◌, length, Option, Some, None, if◌then◌else◌}
 use Rattle.tag_block.specs.declared.group_part.GroupPart.{GroupPart}
 use Rattle.tag_block.specs.Numbers.{most_count}
 use Rattle.tag_block.specs.Writing.{most_written_code}
 use Rattle.datagram450.specs.Datagram.{header}
 use Rattle.datagram450.specs.Writing.{line_text}
+use Rattle.history.specs.Heard.{same_text}
 
 -- ---- counters (IEC 61162-450): over all that was spoken before
 
@@ -14,13 +14,10 @@ pub record Spoken : Type 0 where
   pub group : List ℕ
   pub lines : ℕ
 
-abbrev pub same_group : List ℕ → List ℕ → Bool
-same_group a b = pointwise nat_eq a b
-
 -- the sentences on a transmission group, and the groups of lines, whichever transmission group they were on
 abbrev pub lines_on : List ℕ → List Spoken → ℕ
 lines_on group [] = 0
-lines_on group (x ∷ xs) = if same_group x.group group then lines_on group xs + x.lines else lines_on group xs
+lines_on group (x ∷ xs) = if same_text x.group group then lines_on group xs + x.lines else lines_on group xs
 
 abbrev pub line_groups : List Spoken → ℕ
 line_groups [] = 0

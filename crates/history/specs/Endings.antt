@@ -1,5 +1,5 @@
 -- The messages that end before they are complete: by time, or since an address changes hands (ISO 11783-5).
-use Rattle.std.specs.Prelude.{ℕ, Bool, false, ◌&&◌, ◌||◌, not, ◌==◌, List, [], ◌∷◌, ◌++◌, filter, Option, Some, None, is_some, is_none, if◌then◌else◌}
+use Rattle.std.specs.Prelude.{ℕ, Bool, ◌&&◌, ◌||◌, not, ◌==◌, List, [], ◌∷◌, ◌++◌, filter, Option, Some, None, is_some, is_none, if◌then◌else◌}
 use Rattle.std.specs.List.{flat_map}
 use Rattle.claim_table.specs.Claims.{is_at}
 use Rattle.iso_transport.specs.declared.reply.Reply.{Reply}

@@ -17,7 +17,7 @@ use Rattle.history.specs.Entries.{Entry, History, now, moment_of, is_accepted}
 use Rattle.pgn_profile.specs.Profiled.{kind_of}
 use Rattle.history.specs.Settings.{Settings, rule_of}
 use Rattle.history.specs.Receiver.{receiver_of}
-use Rattle.history.specs.Known.{Known, known}
+use Rattle.history.specs.Known.{known}
 use Rattle.history.specs.Opens.{notes_of}
 use Rattle.history.specs.Messages.{Message, done, messages_of}
 use Rattle.history.specs.Emits.{Emit, Emitted, can, net, report, at, broken, own_claim, request_for_claims}

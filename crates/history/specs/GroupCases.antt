@@ -1,10 +1,9 @@
 -- Lines of groups (IEC 61162-450).
-use Rattle.std.specs.Prelude.{ℕ, [], ◌∷◌, ◌++◌, codes}
+use Rattle.std.specs.Prelude.{[], ◌∷◌, ◌++◌, codes}
 use Rattle.capture_text.specs.declared.emit.Detail.TheVariants as detail
 use Rattle.datagram450.specs.Datagram.{header}
 use Rattle.report_rules.specs.Rules.{group_order}
 use Rattle.history.specs.Entries.{datagram, tick}
-use Rattle.history.specs.Settings.{Settings}
 use Rattle.history.specs.Emits.{broken}
 use Rattle.history.specs.Cases.{Emits, can_frame, emitted, lined, two_devices}
 use Rattle.history.specs.NetChoiceCases.{listed}

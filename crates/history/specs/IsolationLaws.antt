@@ -61,10 +61,11 @@ Isolation =
     (c : Receiver) (s : ℕ) (h : History) (a : ℕ) → IsReceiver c → NoneRefused c s h a
     → from a (messages_of c s h) ≡ from a (messages_of c s (narrowed a h))
 
--- two receivers of one NAME and address, with the same presets and the same messages, that differ in all else as they like: where the claims, the commands and
--- the frames from an address are the same in their histories, with the same moments, so are the messages from it
+-- two receivers of one NAME and address, with the same presets and the same messages, that differ in all else as they like: where the
+-- claims, the commands and the frames from an address are the same in their histories, with the same moments, so are the messages from it
 abbrev pub IsolationOfTwo : Type 0
 IsolationOfTwo =
-    (c d : Receiver) (s : ℕ) (h g : History) (a : ℕ) → IsReceiver c → d.name ≡ c.name → d.address ≡ c.address → d.presets ≡ c.presets → ((p : ℕ) → d.kinds p ≡ c.kinds p)
+    (c d : Receiver) (s : ℕ) (h g : History) (a : ℕ) → IsReceiver c → d.name ≡ c.name → d.address ≡ c.address
+    → d.presets ≡ c.presets → ((p : ℕ) → d.kinds p ≡ c.kinds p)
     → narrowed a g ≡ narrowed a h → NoneRefused c s h a → NoneRefused d s g a
     → from a (messages_of c s h) ≡ from a (messages_of d s g)

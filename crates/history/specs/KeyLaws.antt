@@ -32,7 +32,9 @@ module _ (c : Receiver) (s : ℕ) (h : History) (m : ℕ) (f : BusFrame) where
     pub left : (n : ℕ) → fast_open (known c s (frame m f ∷ h)) (notes_of c s (frame m f ∷ h)) fast_key n
         ≡ kept_at fast_rules (fed fast_rules (fast_open (known c s h) (notes_of c s h) fast_key m) (fast_piece the_note)) n
     pub completed : done c s h (frame m f)
-        ≡ said_by (length h) m (parts_of f.id).source (Some holder) (fast_carried (parts_of f.id).pgn (finished fast_rules (fast_open (known c s h) (notes_of c s h) fast_key m) (fast_piece the_note)))
+        ≡ said_by (length h) m (parts_of f.id).source (Some holder)
+        (fast_carried (parts_of f.id).pgn
+        (finished fast_rules (fast_open (known c s h) (notes_of c s h) fast_key m) (fast_piece the_note)))
 
   -- what is open of other keys stays open
   pub record KeepsFast : Type 0 where

@@ -1,5 +1,5 @@
 -- Who holds which address of the bus (ISO 11783-5, address claims and the commanded address), as a fold over the history.
-use Rattle.std.specs.Prelude.{ℕ, Bool, false, ◌&&◌, not, ◌==◌, nat_le, [], ◌∷◌, length, Option, Some, None, option_map, if◌then◌else◌}
+use Rattle.std.specs.Prelude.{ℕ, Bool, ◌&&◌, not, ◌==◌, nat_le, [], ◌∷◌, length, Option, Some, None, option_map, if◌then◌else◌}
 use Rattle.n2k_id.specs.Frame.{BusFrame}
 use Rattle.n2k_id.specs.Identifier.{parts_of}
 use Rattle.n2k_id.specs.Name.{name_at}

@@ -26,6 +26,7 @@ pub mod FreshLaws
 pub mod CountLaws
 pub mod ListLaws
 pub mod LimitLaws
+pub mod FitLaws
 pub mod IsolationLaws
 pub mod GroupLaws
 pub mod RefusalLaws

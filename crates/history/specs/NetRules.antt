@@ -1,6 +1,6 @@
 -- Which rules a datagram breaks (IEC 61162-450), and its items, sentences (IEC 61162-1) and readings: each part in the order of the
 -- rules' numbers.
-use Rattle.std.specs.Prelude.{ℕ, Bool, true, false, ◌&&◌, not, ◌==◌, List, [], ◌∷◌, Option, Some, None, is_some, is_none, Result, Ok, Err, if◌then◌else◌}
+use Rattle.std.specs.Prelude.{ℕ, Bool, false, ◌&&◌, not, ◌==◌, List, [], ◌∷◌, Option, Some, None, is_some, is_none, Result, Ok, Err, if◌then◌else◌}
 use Rattle.report_rules.specs.Rules as rules
 use Rattle.sentence_rows.specs.declared.fault.FieldFault.{FieldFault}
 use Rattle.sentence_rows.specs.declared.fault.FieldFault.TheVariants.{Outside, Form, Range}
@@ -40,10 +40,10 @@ line_breaks c place said =
 
 -- ---- a line of a group: it is the first one of an open group, or neither a first one nor the next; or it is a first one without room
 
--- the line goes on the group that is open
-abbrev pub goes_on : Option (List GroupLine) → GroupLine → Bool
-goes_on None x = false
-goes_on (Some acc) x = is_next acc x
+-- the line is the next one of the group that is open
+abbrev pub continues : Option (List GroupLine) → GroupLine → Bool
+continues None x = false
+continues (Some acc) x = is_next acc x
 
 abbrev pub part_breaks : List Taken → Taken → Option GroupPart → List Report
 part_breaks lines t None = []
@@ -52,7 +52,7 @@ part_breaks lines t (Some part) =
     let first = part.number == 1 in
     let open_group = group_open lines key t.moment in
     broken_of
-    (breaks (if first then is_some open_group else not (goes_on open_group (group_line t part))) rules.group_order (detail.GroupKey t.source part.code)
+    (breaks (if first then is_some open_group else not (continues open_group (group_line t part))) rules.group_order (detail.GroupKey t.source part.code)
     ∷ breaks (first && not t.admitted) rules.group_slots_full (detail.GroupKey t.source part.code)
     ∷ [])
 

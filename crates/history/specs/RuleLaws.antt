@@ -1,5 +1,5 @@
 -- What the table of rules says of a frame of a fast packet and of one of the transport protocol, in the words of the assemblers.
-use Rattle.std.specs.Prelude.{◌≡◌, ℕ, Bool, true, false, ◌&&◌, List, [], ◌∷◌, ◌++◌, Option, Some, None, is_some}
+use Rattle.std.specs.Prelude.{◌≡◌, ℕ, true, false, ◌&&◌, List, [], ◌∷◌, ◌++◌, Option, Some, None, is_some}
 use Rattle.report_rules.specs.Rules as rules
 use Rattle.fast_packet.specs.declared.answers.FastRefusal.{FastRefusal}
 use Rattle.fast_packet.specs.declared.answers.FastRefusal.TheVariants as fast_refusal
