@@ -1,4 +1,5 @@
--- What the gateway emits at each entry, over the history before it.
+-- What the gateway emits at each entry, over the history before it: what is overdue ends, then the entry is handled, and then the command
+-- that it completes (ISO 11783-5).
 use Rattle.std.specs.Prelude.{ℕ, ◌&&◌, ◌==◌, nat_le, List, [], ◌∷◌, ◌++◌, length, Option, Some, None, Result, slice_index, if◌then◌else◌}
 use Rattle.n2k_id.specs.Name.{name_at}
 use Rattle.claim_table.specs.Claims.{is_ready}
