@@ -1,0 +1,3 @@
+pub mod Notes
+pub mod Choices
+pub mod Laws

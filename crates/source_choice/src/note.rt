@@ -1,0 +1,38 @@
+ghost use Rattle.std.specs.Prelude.{◌≡◌};
+ghost use Rattle.source_choice.specs.Notes.{is_before, is_fresh, outranks};
+
+use crate::rank::Rank;
+
+/// What a source said last of a row.
+#[derive(Clone, Copy, Debug)]
+pub(crate) struct Note {
+    pub source: u8,
+    pub rank: Rank,
+    /// When, in microseconds.
+    pub moment: u64,
+    /// Whether it says anything of the row.
+    pub usable: bool,
+}
+
+impl Note {
+    /// Whether it keeps back another source of this rank at this moment.
+    pub fn outranks(&self, timeout: u32, source: u8, rank: Rank, moment: u64) -> bool
+        ensures { result ≡ outranks timeout source rank moment self.now }
+    {
+        self.source != source && is_before(self.rank, rank) && self.is_fresh(timeout, moment)
+    }
+
+    /// Whether it is usable, and at most the timeout, in milliseconds, older than the moment.
+    fn is_fresh(&self, timeout: u32, moment: u64) -> bool
+        ensures { result ≡ is_fresh timeout moment self.now }
+    {
+        self.usable && moment.saturating_sub(self.moment) <= 1000 * u64::from(timeout)
+    }
+}
+
+/// Whether the first rank is the smaller one.
+fn is_before(first: Rank, second: Rank) -> bool
+    ensures { result ≡ is_before first second }
+{
+    first.place < second.place || (first.place == second.place && first.name < second.name)
+}
