@@ -12,7 +12,7 @@ use Rattle.fast_packet.specs.FastRuns.{FastPiece, fast_rules}
 use Rattle.pgn_profile.specs.declared.kinds.Kind.{Kind}
 use Rattle.history.specs.Known.{Known, since_of}
 use Rattle.history.specs.Traces.{Note, fast_trace, fast_trace_since}
-use Rattle.history.specs.Opens.{placed, is_fast, same_fast, before_fast, fast_keys, fast_open}
+use Rattle.history.specs.Opens.{placed, is_fast, same_fast, precedes_fast, fast_keys, fast_open}
 use Rattle.history.specs.CountLaws.{HoldsFast, CountsFast, SlotsCountFast}
 use Rattle.history.proofs.KeySteps.{eqb-sym, other_piece}
 use Rattle.history.proofs.Counts.{all_placed, any_placed, distinct_placed, Held, counted, room}
@@ -23,8 +23,8 @@ fast_all kinds [] = tt
 fast_all kinds (n ∷ notes) = by (is_fast (kinds n.parts.pgn)) refl (fast_all kinds notes)
   where
     by : (b : Bool) → is_fast (kinds n.parts.pgn) ≡ b → AllByRecursion (λ key. is_fast (kinds key.pgn) ≡ true) (fast_keys kinds notes)
-        → AllByRecursion (λ key. is_fast (kinds key.pgn) ≡ true) (if b then placed same_fast before_fast (record { source = n.parts.source; pgn = n.parts.pgn }) (fast_keys kinds notes) else fast_keys kinds notes)
-    by true e rest = all_placed (λ key. is_fast (kinds key.pgn) ≡ true) same_fast before_fast (record { source = n.parts.source; pgn = n.parts.pgn }) (fast_keys kinds notes) e rest
+        → AllByRecursion (λ key. is_fast (kinds key.pgn) ≡ true) (if b then placed same_fast precedes_fast (record { source = n.parts.source; pgn = n.parts.pgn }) (fast_keys kinds notes) else fast_keys kinds notes)
+    by true e rest = all_placed (λ key. is_fast (kinds key.pgn) ≡ true) same_fast precedes_fast (record { source = n.parts.source; pgn = n.parts.pgn }) (fast_keys kinds notes) e rest
     by false e rest = rest
 
 -- a key that didn't come has no frames
@@ -61,11 +61,11 @@ no_frames kinds key (Some since) (n ∷ notes) fast none = by (is_fast (kinds n.
     and_no false = refl
 
     by : (b : Bool) → is_fast (kinds n.parts.pgn) ≡ b
-        → list_any (same_fast key) (if b then placed same_fast before_fast (record { source = n.parts.source; pgn = n.parts.pgn }) (fast_keys kinds notes) else fast_keys kinds notes) ≡ false
+        → list_any (same_fast key) (if b then placed same_fast precedes_fast (record { source = n.parts.source; pgn = n.parts.pgn }) (fast_keys kinds notes) else fast_keys kinds notes) ≡ false
         → (list_any (same_fast key) (fast_keys kinds notes) ≡ false → fast_trace_since (Some since) key.source key.pgn notes ≡ [])
         → fast_trace_since (Some since) key.source key.pgn (n ∷ notes) ≡ []
     by true e absent rest =
-        let parts = any_placed same_fast before_fast same_is key (record { source = n.parts.source; pgn = n.parts.pgn }) (fast_keys kinds notes) absent in
+        let parts = any_placed same_fast precedes_fast same_is key (record { source = n.parts.source; pgn = n.parts.pgn }) (fast_keys kinds notes) absent in
         other (sym (same_fast_as key (record { source = n.parts.source; pgn = n.parts.pgn })) ∙ parts.0) (rest parts.1)
     by false e absent rest = other (rw (other_kind e) (and_no (n.parts.source == key.source))) (rest absent)
 
@@ -76,8 +76,8 @@ module _ (kinds : ℕ → Kind) (cmp : FastKey → FastKey → Ordering) (k : Kn
   distinct_keys (n ∷ ns) = by (is_fast (kinds n.parts.pgn)) (distinct_keys ns)
     where
       by : (b : Bool) → IsDistinct (eq_by_cmp cmp) (fast_keys kinds ns)
-          → IsDistinct (eq_by_cmp cmp) (if b then placed same_fast before_fast (record { source = n.parts.source; pgn = n.parts.pgn }) (fast_keys kinds ns) else fast_keys kinds ns)
-      by true rest = distinct_placed h.order same_fast before_fast h.tells (record { source = n.parts.source; pgn = n.parts.pgn }) (fast_keys kinds ns) rest
+          → IsDistinct (eq_by_cmp cmp) (if b then placed same_fast precedes_fast (record { source = n.parts.source; pgn = n.parts.pgn }) (fast_keys kinds ns) else fast_keys kinds ns)
+      by true rest = distinct_placed h.order same_fast precedes_fast h.tells (record { source = n.parts.source; pgn = n.parts.pgn }) (fast_keys kinds ns) rest
       by false rest = rest
 
   among : (key : FastKey) → is_fast (kinds key.pgn) ≡ true → is_some (fast_open k notes key m) ≡ true → list_any (same_fast key) (fast_keys kinds notes) ≡ true
@@ -90,7 +90,7 @@ module _ (kinds : ℕ → Kind) (cmp : FastKey → FastKey → Ordering) (k : Kn
           let closed : is_some (fast_open k notes key m) ≡ false = ap (λ (t : List FastPiece). is_some (open_at fast_rules t m)) nothing in
           absurd (false≢true (sym closed ∙ is_open))
 
-  pub held : Held cmp same_fast before_fast (fast_keys kinds notes) (λ key. is_fast (kinds key.pgn)) (λ key. is_some (fast_open k notes key m)) slots
+  pub held : Held cmp same_fast precedes_fast (fast_keys kinds notes) (λ key. is_fast (kinds key.pgn)) (λ key. is_some (fast_open k notes key m)) slots
   held = record {
     order = h.order;
     tells = h.tells;

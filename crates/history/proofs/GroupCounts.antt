@@ -10,7 +10,7 @@ use Rattle.runs.specs.Runs.{open_at}
 use Rattle.tag_block.specs.declared.group_key.GroupKey.{GroupKey}
 use Rattle.tag_block.specs.declared.group_part.GroupPart.{GroupPart}
 use Rattle.tag_block.specs.GroupRuns.{GroupLine, group_rules}
-use Rattle.history.specs.Heard.{Taken, same_text, same_group, before_group, several, line_in, group_trace, key_with, group_keys, group_open}
+use Rattle.history.specs.Heard.{Taken, same_text, same_group, precedes_group, several, line_in, group_trace, key_with, group_keys, group_open}
 use Rattle.history.specs.CountLaws.{HoldsGroups, CountsGroups, SlotsCountGroups}
 use Rattle.history.proofs.KeySteps.{eqb-sym}
 use Rattle.history.proofs.Counts.{any_placed, distinct_placed, Held, counted, room}
@@ -59,7 +59,7 @@ no_lines key (t ∷ older) none = by (several t.group) refl none (λ absent. no_
         → (list_any (same_group key) (group_keys older) ≡ false → group_trace key older ≡ []) → group_trace key (t ∷ older) ≡ []
     by None e absent rest = trace_past key t older (ap (line_in key t) e) ∙ rest absent
     by (Some part) e absent rest =
-        let parts = any_placed same_group before_group same_is key (record { sfi = t.source; code = part.code }) (group_keys older) absent in
+        let parts = any_placed same_group precedes_group same_is key (record { sfi = t.source; code = part.code }) (group_keys older) absent in
         trace_past key t older (ap (line_in key t) e ∙ line_past key t part parts.0) ∙ rest parts.1
 
 module _ (cmp : GroupKey → GroupKey → Ordering) (taken : List Taken) (m : ℕ) (slots : SlotMap GroupKey) (h : HoldsGroups cmp taken m slots) where
@@ -70,7 +70,7 @@ module _ (cmp : GroupKey → GroupKey → Ordering) (taken : List Taken) (m : �
     where
       by : (part : Option GroupPart) → IsDistinct (eq_by_cmp cmp) (group_keys ts) → IsDistinct (eq_by_cmp cmp) (key_with t.source part (group_keys ts))
       by None rest = rest
-      by (Some part) rest = distinct_placed h.order same_group before_group h.tells (record { sfi = t.source; code = part.code }) (group_keys ts) rest
+      by (Some part) rest = distinct_placed h.order same_group precedes_group h.tells (record { sfi = t.source; code = part.code }) (group_keys ts) rest
 
   among : (key : GroupKey) → true ≡ true → is_some (group_open taken key m) ≡ true → list_any (same_group key) (group_keys taken) ≡ true
   among key kind is_open = by (list_any (same_group key) (group_keys taken)) refl
@@ -81,7 +81,7 @@ module _ (cmp : GroupKey → GroupKey → Ordering) (taken : List Taken) (m : �
           let closed : is_some (group_open taken key m) ≡ false = ap (λ (t : List GroupLine). is_some (open_at group_rules t m)) (no_lines key taken e) in
           absurd (false≢true (sym closed ∙ is_open))
 
-  pub held : Held cmp same_group before_group (group_keys taken) (λ key. true) (λ key. is_some (group_open taken key m)) slots
+  pub held : Held cmp same_group precedes_group (group_keys taken) (λ key. true) (λ key. is_some (group_open taken key m)) slots
   held = record {
     order = h.order;
     tells = h.tells;

@@ -15,7 +15,7 @@ use Rattle.history.specs.Entries as entry
 use Rattle.history.specs.Settings.{Settings}
 use Rattle.history.specs.Receiver.{receiver_of}
 use Rattle.history.specs.Known.{known}
-use Rattle.history.specs.Heard.{Came, Taken, came_at, with_items, same_group, before_group, several, group_line, key_with, group_keys, group_open, open_groups, is_group_admitted, is_taken, is_line_admitted, taken_after, with_item, lines_of}
+use Rattle.history.specs.Heard.{Came, Taken, came_at, with_items, same_group, precedes_group, several, group_line, key_with, group_keys, group_open, open_groups, is_group_admitted, is_taken, is_line_admitted, taken_after, with_item, lines_of}
 use Rattle.history.specs.FromNet.{items_in}
 use Rattle.history.specs.Gate.{heard}
 use Rattle.history.specs.GroupLaws.{group_key}
@@ -38,7 +38,7 @@ apart (t ∷ older) = by (several t.group) (apart older)
   where
     by : (part : Option GroupPart) → Apart same_group same_is turn itself (group_keys older) → Apart same_group same_is turn itself (key_with t.source part (group_keys older))
     by None rest = rest
-    by (Some part) rest = apart_placed same_group same_is turn itself before_group (record { sfi = t.source; code = part.code }) (group_keys older) rest
+    by (Some part) rest = apart_placed same_group same_is turn itself precedes_group (record { sfi = t.source; code = part.code }) (group_keys older) rest
 
 Any : GroupKey → Type 0
 Any key = Unit {0}

@@ -14,7 +14,7 @@ use Rattle.iso_transport.specs.Audience.{key_of}
 use Rattle.claim_table.specs.Laws.{IsSound}
 use Rattle.history.specs.Known.{Known, since_of}
 use Rattle.history.specs.Traces.{Note, iso_trace, broadcast_since, addressed_since, is_transport, is_bearing}
-use Rattle.history.specs.Opens.{placed, same_iso, before_iso, iso_keys, iso_open}
+use Rattle.history.specs.Opens.{placed, same_iso, precedes_iso, iso_keys, iso_open}
 use Rattle.history.specs.CountLaws.{HoldsIso, CountsIso, SlotsCountIso}
 use Rattle.history.proofs.KeySteps.{eqb-sym}
 use Rattle.history.proofs.Counts.{any_placed, distinct_placed, Held, counted, room}
@@ -129,11 +129,11 @@ module _ (k : Known) (sound : IsSound k.claims) where
   no_frames key (n ∷ notes) none = by (is_transport n.parts) refl none (λ absent. no_frames key notes absent)
     where
       by : (b : Bool) → is_transport n.parts ≡ b
-          → list_any (same_iso key) (if b then placed same_iso before_iso (key_of n.parts) (iso_keys notes) else iso_keys notes) ≡ false
+          → list_any (same_iso key) (if b then placed same_iso precedes_iso (key_of n.parts) (iso_keys notes) else iso_keys notes) ≡ false
           → (list_any (same_iso key) (iso_keys notes) ≡ false → iso_trace k key.addressed key.source notes ≡ [])
           → iso_trace k key.addressed key.source (n ∷ notes) ≡ []
       by true e absent rest =
-          let parts = any_placed same_iso before_iso same_is key (key_of n.parts) (iso_keys notes) absent in
+          let parts = any_placed same_iso precedes_iso same_is key (key_of n.parts) (iso_keys notes) absent in
           past key.addressed key.source n notes parts.0 ∙ rest parts.1
       by false e absent rest = past_other key.addressed key.source n notes e ∙ rest absent
 
@@ -143,8 +143,8 @@ module _ (cmp : IsoKey → IsoKey → Ordering) (k : Known) (notes : List Note) 
   distinct_keys [] = tt
   distinct_keys (n ∷ ns) = by (is_transport n.parts) (distinct_keys ns)
     where
-      by : (b : Bool) → IsDistinct (eq_by_cmp cmp) (iso_keys ns) → IsDistinct (eq_by_cmp cmp) (if b then placed same_iso before_iso (key_of n.parts) (iso_keys ns) else iso_keys ns)
-      by true rest = distinct_placed h.order same_iso before_iso h.tells (key_of n.parts) (iso_keys ns) rest
+      by : (b : Bool) → IsDistinct (eq_by_cmp cmp) (iso_keys ns) → IsDistinct (eq_by_cmp cmp) (if b then placed same_iso precedes_iso (key_of n.parts) (iso_keys ns) else iso_keys ns)
+      by true rest = distinct_placed h.order same_iso precedes_iso h.tells (key_of n.parts) (iso_keys ns) rest
       by false rest = rest
 
   among : (key : IsoKey) → true ≡ true → is_some (iso_open k notes key m) ≡ true → list_any (same_iso key) (iso_keys notes) ≡ true
@@ -156,7 +156,7 @@ module _ (cmp : IsoKey → IsoKey → Ordering) (k : Known) (notes : List Note) 
           let closed : is_some (iso_open k notes key m) ≡ false = ap (λ (t : List IsoPiece). is_some (open_at (iso_rules key.addressed) t m)) (no_frames k h.sound key notes e) in
           absurd (false≢true (sym closed ∙ is_open))
 
-  pub held : Held cmp same_iso before_iso (iso_keys notes) (λ key. true) (λ key. is_some (iso_open k notes key m)) slots
+  pub held : Held cmp same_iso precedes_iso (iso_keys notes) (λ key. true) (λ key. is_some (iso_open k notes key m)) slots
   held = record {
     order = h.order;
     tells = h.tells;

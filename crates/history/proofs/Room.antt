@@ -14,7 +14,7 @@ use Rattle.iso_transport.specs.IsoRuns.{IsoPiece, iso_rules}
 use Rattle.claim_table.specs.Laws.{IsSound}
 use Rattle.history.specs.Known.{Known, since_of}
 use Rattle.history.specs.Traces.{Note, fast_trace, is_transport}
-use Rattle.history.specs.Opens.{placed, is_fast, same_fast, before_fast, fast_keys, fast_open, open_fast_keys, is_fast_admitted, same_iso, before_iso, iso_keys, iso_open, open_iso_keys, is_iso_admitted}
+use Rattle.history.specs.Opens.{placed, is_fast, same_fast, precedes_fast, fast_keys, fast_open, open_fast_keys, is_fast_admitted, same_iso, precedes_iso, iso_keys, iso_open, open_iso_keys, is_iso_admitted}
 use Rattle.history.proofs.KeySteps.{eqb-sym}
 use Rattle.history.proofs.Counts.{all_placed}
 use Rattle.history.proofs.FastCounts as fast
@@ -48,8 +48,8 @@ fast_apart kinds [] = tt
 fast_apart kinds (n ∷ notes) = by (is_fast (kinds n.parts.pgn)) (fast_apart kinds notes)
   where
     by : (b : Bool) → Apart same_fast fast.same_is fast_turn fast_itself (fast_keys kinds notes)
-        → Apart same_fast fast.same_is fast_turn fast_itself (if b then placed same_fast before_fast (record { source = n.parts.source; pgn = n.parts.pgn }) (fast_keys kinds notes) else fast_keys kinds notes)
-    by true rest = apart_placed same_fast fast.same_is fast_turn fast_itself before_fast (record { source = n.parts.source; pgn = n.parts.pgn }) (fast_keys kinds notes) rest
+        → Apart same_fast fast.same_is fast_turn fast_itself (if b then placed same_fast precedes_fast (record { source = n.parts.source; pgn = n.parts.pgn }) (fast_keys kinds notes) else fast_keys kinds notes)
+    by true rest = apart_placed same_fast fast.same_is fast_turn fast_itself precedes_fast (record { source = n.parts.source; pgn = n.parts.pgn }) (fast_keys kinds notes) rest
     by false rest = rest
 
 abbrev IsFastOf : (ℕ → Kind) → ℕ → FastKey → Type 0
@@ -60,8 +60,8 @@ fast_own kinds a [] all = tt
 fast_own kinds a (n ∷ notes) all = by (is_fast (kinds n.parts.pgn)) refl (fast_own kinds a notes all.1)
   where
     by : (b : Bool) → is_fast (kinds n.parts.pgn) ≡ b → AllByRecursion (IsFastOf kinds a) (fast_keys kinds notes)
-        → AllByRecursion (IsFastOf kinds a) (if b then placed same_fast before_fast (record { source = n.parts.source; pgn = n.parts.pgn }) (fast_keys kinds notes) else fast_keys kinds notes)
-    by true e rest = all_placed (IsFastOf kinds a) same_fast before_fast (record { source = n.parts.source; pgn = n.parts.pgn }) (fast_keys kinds notes) (all.0 (true_or (is_fast (kinds n.parts.pgn)) (is_transport n.parts) e), e) rest
+        → AllByRecursion (IsFastOf kinds a) (if b then placed same_fast precedes_fast (record { source = n.parts.source; pgn = n.parts.pgn }) (fast_keys kinds notes) else fast_keys kinds notes)
+    by true e rest = all_placed (IsFastOf kinds a) same_fast precedes_fast (record { source = n.parts.source; pgn = n.parts.pgn }) (fast_keys kinds notes) (all.0 (true_or (is_fast (kinds n.parts.pgn)) (is_transport n.parts) e), e) rest
     by false e rest = rest
 
 pub fast_came : (kinds : ℕ → Kind) (k : Known) (notes : List Note) (m : ℕ) (key : FastKey) → is_fast (kinds key.pgn) ≡ true → is_some (fast_open k notes key m) ≡ true → list_any (same_fast key) (fast_keys kinds notes) ≡ true
@@ -121,8 +121,8 @@ pub iso_apart : (notes : List Note) → Apart same_iso iso.same_is iso_turn iso_
 iso_apart [] = tt
 iso_apart (n ∷ notes) = by (is_transport n.parts) (iso_apart notes)
   where
-    by : (b : Bool) → Apart same_iso iso.same_is iso_turn iso_itself (iso_keys notes) → Apart same_iso iso.same_is iso_turn iso_itself (if b then placed same_iso before_iso (key_of n.parts) (iso_keys notes) else iso_keys notes)
-    by true rest = apart_placed same_iso iso.same_is iso_turn iso_itself before_iso (key_of n.parts) (iso_keys notes) rest
+    by : (b : Bool) → Apart same_iso iso.same_is iso_turn iso_itself (iso_keys notes) → Apart same_iso iso.same_is iso_turn iso_itself (if b then placed same_iso precedes_iso (key_of n.parts) (iso_keys notes) else iso_keys notes)
+    by true rest = apart_placed same_iso iso.same_is iso_turn iso_itself precedes_iso (key_of n.parts) (iso_keys notes) rest
     by false rest = rest
 
 abbrev IsIsoOf : ℕ → IsoKey → Type 0
@@ -132,8 +132,8 @@ iso_own : (kinds : ℕ → Kind) (a : ℕ) (notes : List Note) → AllByRecursio
 iso_own kinds a [] all = tt
 iso_own kinds a (n ∷ notes) all = by (is_transport n.parts) refl (iso_own kinds a notes all.1)
   where
-    by : (b : Bool) → is_transport n.parts ≡ b → AllByRecursion (IsIsoOf a) (iso_keys notes) → AllByRecursion (IsIsoOf a) (if b then placed same_iso before_iso (key_of n.parts) (iso_keys notes) else iso_keys notes)
-    by true e rest = all_placed (IsIsoOf a) same_iso before_iso (key_of n.parts) (iso_keys notes) (all.0 (rw e (or_true (is_fast (kinds n.parts.pgn))))) rest
+    by : (b : Bool) → is_transport n.parts ≡ b → AllByRecursion (IsIsoOf a) (iso_keys notes) → AllByRecursion (IsIsoOf a) (if b then placed same_iso precedes_iso (key_of n.parts) (iso_keys notes) else iso_keys notes)
+    by true e rest = all_placed (IsIsoOf a) same_iso precedes_iso (key_of n.parts) (iso_keys notes) (all.0 (rw e (or_true (is_fast (kinds n.parts.pgn))))) rest
     by false e rest = rest
 
 pub iso_came : (k : Known) → IsSound k.claims → (notes : List Note) (m : ℕ) (key : IsoKey) → is_some (iso_open k notes key m) ≡ true → list_any (same_iso key) (iso_keys notes) ≡ true

@@ -38,7 +38,8 @@ part_of total code number = if nat_le 2 total then Some (record { number = numbe
 abbrev pub lines_from : List ℕ → ℕ → ℕ → ℕ → ℕ → List (List ℕ) → List ℕ
 lines_from sfi total code before number [] = []
 lines_from sfi total code before number (x ∷ xs) =
-    line_text (record { group = part_of total code number; source = sfi; count = before % most_count + 1 }) x ++ lines_from sfi total code (before + 1) (number + 1) xs
+    line_text (record { group = part_of total code number; source = sfi; count = before % most_count + 1 }) x
+    ++ lines_from sfi total code (before + 1) (number + 1) xs
 
 abbrev pub datagram_of : List ℕ → List Spoken → List ℕ → List (List ℕ) → List ℕ
 datagram_of sfi before group sentences = header ++ lines_from sfi (length sentences) (next_code before) (lines_on group before) 1 sentences

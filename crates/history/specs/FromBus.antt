@@ -126,7 +126,8 @@ from_frame c s h m f before =
 -- ---- a command to go to an address (ISO 11783-5), which is obeyed or is rule 26
 
 abbrev pub command_breaks : Claims → ℕ → ℕ → List Report
-command_breaks claims source address = broken_of (breaks (not (is_obeyed claims address)) rules.command_not_obeyed (detail.Source source pgns.commanded_address) ∷ [])
+command_breaks claims source address =
+    broken_of (breaks (not (is_obeyed claims address)) rules.command_not_obeyed (detail.Source source pgns.commanded_address) ∷ [])
 
 abbrev pub command_gives : ℕ → ℕ → Known → List Note → ℕ → ℕ → ℕ → List Emit
 command_gives name index k notes m source address =

@@ -15,10 +15,10 @@ abbrev pub same_text : List ℕ → List ℕ → Bool
 same_text a b = pointwise nat_eq a b
 
 -- of two texts of one length, the one whose first byte that differs is smaller
-abbrev pub before_text : List ℕ → List ℕ → Bool
-before_text [] b = false
-before_text (x ∷ xs) [] = false
-before_text (x ∷ xs) (y ∷ ys) = nat_lt x y || ((x == y) && before_text xs ys)
+abbrev pub precedes_text : List ℕ → List ℕ → Bool
+precedes_text [] b = false
+precedes_text (x ∷ xs) [] = false
+precedes_text (x ∷ xs) (y ∷ ys) = nat_lt x y || ((x == y) && precedes_text xs ys)
 
 -- an item of a datagram, its place in it included: when it came, and whether the gateway was ready then
 pub record Came : Type 0 where
@@ -51,8 +51,8 @@ pub record Taken : Type 0 where
 abbrev pub same_group : GroupKey → GroupKey → Bool
 same_group a b = same_text a.sfi b.sfi && (a.code == b.code)
 
-abbrev pub before_group : GroupKey → GroupKey → Bool
-before_group a b = before_text a.sfi b.sfi || (same_text a.sfi b.sfi && nat_lt a.code b.code)
+abbrev pub precedes_group : GroupKey → GroupKey → Bool
+precedes_group a b = precedes_text a.sfi b.sfi || (same_text a.sfi b.sfi && nat_lt a.code b.code)
 
 -- the place in a group of two lines or more
 abbrev pub several : Option GroupPart → Option GroupPart
@@ -73,7 +73,7 @@ group_trace key lines = filter_map (λ t. line_in key t (several t.group)) lines
 
 abbrev pub key_with : List ℕ → Option GroupPart → List GroupKey → List GroupKey
 key_with source None keys = keys
-key_with source (Some part) keys = placed same_group before_group (record { sfi = source; code = part.code }) keys
+key_with source (Some part) keys = placed same_group precedes_group (record { sfi = source; code = part.code }) keys
 
 -- the groups whose lines came, by source and then by code
 abbrev pub group_keys : List Taken → List GroupKey

@@ -9,9 +9,9 @@ use Rattle.pgn_profile.specs.declared.kinds.Kind.{Kind}
 use Rattle.iso_transport.specs.declared.key.IsoKey.{IsoKey}
 use Rattle.tag_block.specs.declared.group_key.GroupKey.{GroupKey}
 use Rattle.history.specs.Known.{Known}
-use Rattle.history.specs.Heard.{Taken, before_group, group_keys, group_open, open_groups}
+use Rattle.history.specs.Heard.{Taken, precedes_group, group_keys, group_open, open_groups}
 use Rattle.history.specs.Traces.{Note}
-use Rattle.history.specs.Opens.{before_fast, before_iso, fast_keys, iso_keys, fast_open, iso_open, open_fast_keys, open_iso_keys}
+use Rattle.history.specs.Opens.{precedes_fast, precedes_iso, fast_keys, iso_keys, fast_open, iso_open, open_fast_keys, open_iso_keys}
 use Rattle.history.specs.Endings.{fast_ended, iso_ended, group_ended}
 use Rattle.history.specs.CountLaws.{HoldsFast, HoldsIso, HoldsGroups}
 
@@ -33,7 +33,7 @@ module _ (kinds : ℕ → Kind) (cmp : FastKey → FastKey → Ordering) (k : Kn
 abbrev pub SlotsListFast : Type 0
 SlotsListFast =
     (kinds : ℕ → Kind) (cmp : FastKey → FastKey → Ordering) (k : Known) (notes : List Note) (m : ℕ) (slots : SlotMap FastKey)
-    → HoldsFast kinds cmp k notes m slots → ((a b : FastKey) → before_fast a b ≡ is_lt (cmp a b)) → ListsFast kinds cmp k notes m slots
+    → HoldsFast kinds cmp k notes m slots → ((a b : FastKey) → precedes_fast a b ≡ is_lt (cmp a b)) → ListsFast kinds cmp k notes m slots
 
 module _ (cmp : IsoKey → IsoKey → Ordering) (k : Known) (notes : List Note) (m : ℕ) (slots : SlotMap IsoKey) where
   pub record ListsIso : Type 0 where
@@ -45,7 +45,7 @@ module _ (cmp : IsoKey → IsoKey → Ordering) (k : Known) (notes : List Note) 
 abbrev pub SlotsListIso : Type 0
 SlotsListIso =
     (cmp : IsoKey → IsoKey → Ordering) (k : Known) (notes : List Note) (m : ℕ) (slots : SlotMap IsoKey)
-    → HoldsIso cmp k notes m slots → ((a b : IsoKey) → before_iso a b ≡ is_lt (cmp a b)) → ListsIso cmp k notes m slots
+    → HoldsIso cmp k notes m slots → ((a b : IsoKey) → precedes_iso a b ≡ is_lt (cmp a b)) → ListsIso cmp k notes m slots
 
 module _ (cmp : GroupKey → GroupKey → Ordering) (lines : List Taken) (m : ℕ) (slots : SlotMap GroupKey) where
   pub record ListsGroups : Type 0 where
@@ -56,4 +56,4 @@ module _ (cmp : GroupKey → GroupKey → Ordering) (lines : List Taken) (m : �
 abbrev pub SlotsListGroups : Type 0
 SlotsListGroups =
     (cmp : GroupKey → GroupKey → Ordering) (lines : List Taken) (m : ℕ) (slots : SlotMap GroupKey)
-    → HoldsGroups cmp lines m slots → ((a b : GroupKey) → before_group a b ≡ is_lt (cmp a b)) → ListsGroups cmp lines m slots
+    → HoldsGroups cmp lines m slots → ((a b : GroupKey) → precedes_group a b ≡ is_lt (cmp a b)) → ListsGroups cmp lines m slots

@@ -34,15 +34,15 @@ abbrev pub same_fast : FastKey → FastKey → Bool
 same_fast a b = (a.source == b.source) && (a.pgn == b.pgn)
 
 -- by source, then by PGN
-abbrev pub before_fast : FastKey → FastKey → Bool
-before_fast a b = nat_lt a.source b.source || ((a.source == b.source) && nat_lt a.pgn b.pgn)
+abbrev pub precedes_fast : FastKey → FastKey → Bool
+precedes_fast a b = nat_lt a.source b.source || ((a.source == b.source) && nat_lt a.pgn b.pgn)
 
 abbrev pub same_iso : IsoKey → IsoKey → Bool
 same_iso a b = beq a.addressed b.addressed && (a.source == b.source)
 
 -- broadcast sessions before addressed ones, each by source
-abbrev pub before_iso : IsoKey → IsoKey → Bool
-before_iso a b = (not a.addressed && b.addressed) || (beq a.addressed b.addressed && nat_lt a.source b.source)
+abbrev pub precedes_iso : IsoKey → IsoKey → Bool
+precedes_iso a b = (not a.addressed && b.addressed) || (beq a.addressed b.addressed && nat_lt a.source b.source)
 
 -- a key among others in their order, once
 abbrev pub inserted : {K : Type 0} → (K → K → Bool) → K → List K → List K
@@ -56,13 +56,13 @@ abbrev pub fast_keys : (ℕ → Kind) → List Note → List FastKey
 fast_keys kinds [] = []
 fast_keys kinds (n ∷ notes) =
     if is_fast (kinds n.parts.pgn)
-    then placed same_fast before_fast (record { source = n.parts.source; pgn = n.parts.pgn }) (fast_keys kinds notes)
+    then placed same_fast precedes_fast (record { source = n.parts.source; pgn = n.parts.pgn }) (fast_keys kinds notes)
     else fast_keys kinds notes
 
 abbrev pub iso_keys : List Note → List IsoKey
 iso_keys [] = []
 iso_keys (n ∷ notes) =
-    if is_transport n.parts then placed same_iso before_iso (key_of n.parts) (iso_keys notes) else iso_keys notes
+    if is_transport n.parts then placed same_iso precedes_iso (key_of n.parts) (iso_keys notes) else iso_keys notes
 
 -- ---- what is open at a moment
 
