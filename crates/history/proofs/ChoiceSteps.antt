@@ -8,12 +8,13 @@ use Rattle.readings.specs.declared.rows.Row.{Row}
 use Rattle.claim_table.specs.declared.answer.Holder.{Holder}
 use Rattle.claim_table.specs.Claims.{holder_at, holder_by, claim}
 use Rattle.claim_table.proofs.SoundLemmas.{held_within}
+use Rattle.source_choice.specs.declared.rank.Rank.{Rank}
 use Rattle.history.specs.Entries.{frame, datagram, tick, command}
 use Rattle.history.specs.Settings.{RowRule}
 use Rattle.history.specs.Known.{Known, known, since_of, is_claim, claim_by}
 use Rattle.history.specs.Messages.{Message, Carried, messages_of, said_by, with_message, completed_by}
 use Rattle.history.specs.Opens.{note_of, notes_of}
-use Rattle.history.specs.Choice.{Rank, is_better, holder_rank, still_counts, outranks, is_of}
+use Rattle.history.specs.Choice.{is_better, holder_rank, still_counts, outranks, is_of}
 use Rattle.history.specs.FreshLaws.{last_since, last_of}
 use Rattle.history.specs.ChoiceLaws.{addresses, beats, FirstByAddresses, IsOfHolder, MessagesAreOfHolders}
 use Rattle.history.proofs.Addresses.{addresses_are_sound}
@@ -25,12 +26,12 @@ use Rattle.history.proofs.TraceMoves.{known_after_claim, commanded_holders}
 
 -- ---- two lists of which something passes a test
 
-both_ways : (a b : Bool) → (a ≡ true → b ≡ true) → (b ≡ true → a ≡ true) → a ≡ b
+pub both_ways : (a b : Bool) → (a ≡ true → b ≡ true) → (b ≡ true → a ≡ true) → a ≡ b
 both_ways true b f g = sym (f refl)
 both_ways false true f g = g refl
 both_ways false false f g = refl
 
-or_right : (a b : Bool) → b ≡ true → (a || b) ≡ true
+pub or_right : (a b : Bool) → b ≡ true → (a || b) ≡ true
 or_right true b e = refl
 or_right false b e = e
 
@@ -61,7 +62,7 @@ found_any q p (x ∷ older) d e agrees = by (q x) refl e (λ f. found_any q p ol
     by false eq e more = or_right (p x) (list_any p older) (more e)
 
 module _ (rule : RowRule) (k : Known) (row : Row) (rank : Rank) (m : ℕ) (older : List Message) where
-  same_test : (a : ℕ) → outranks rule k row rank m older a ≡ beats rule k row rank m older a
+  pub same_test : (a : ℕ) → outranks rule k row rank m older a ≡ beats rule k row rank m older a
   same_test a = ap (λ (b : Bool). is_better rank (holder_rank rule (holder_at k.claims.holders a)) && b) (fresh_by_last rule k row a m older)
 
   held : (a : ℕ) → beats rule k row rank m older a ≡ true → a < length k.claims.holders
@@ -72,7 +73,7 @@ module _ (rule : RowRule) (k : Known) (row : Row) (rank : Rank) (m : ℕ) (older
       by (Some x) e better = held_within k.claims.holders a x e
 
   -- an address that beats the rank has sent a message
-  has_sent : (a : ℕ) → beats rule k row rank m older a ≡ true → list_any (λ d. outranks rule k row rank m older d.source) older ≡ true
+  pub has_sent : (a : ℕ) → beats rule k row rank m older a ≡ true → list_any (λ d. outranks rule k row rank m older d.source) older ≡ true
   has_sent a e =
       by (since_of k a) refl (and_parts (is_better rank (holder_rank rule (holder_at k.claims.holders a))) (still_counts rule.timeout m (last_of k row a older)) e).1
     where

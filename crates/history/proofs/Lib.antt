@@ -30,6 +30,7 @@ pub mod HeardSteps
 pub mod FullReports
 pub mod EntrySteps
 pub mod ChoiceSteps
+pub mod NoteChoice
 pub mod Noted
 pub mod FastTable
 pub mod SessionTable

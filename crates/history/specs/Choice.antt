@@ -9,21 +9,15 @@ use Rattle.readings.specs.Rows.{row_of, principal}
 use Rattle.pgn_profile.specs.Profiled.{profiled}
 use Rattle.pgn_profile.specs.declared.profiled.Profiled.{Profiled}
 use Rattle.pgn_profile.specs.declared.profiled.Profiled.TheVariants as says
+use Rattle.source_choice.specs.declared.rank.Rank.{Rank}
+use Rattle.source_choice.specs.Notes.{is_before}
 use Rattle.claim_table.specs.Claims.{holder_at}
 use Rattle.claim_table.specs.declared.answer.Holder.{Holder}
 use Rattle.history.specs.Settings.{Settings, RowRule, same_row, rule_of}
 use Rattle.history.specs.Known.{Known, since_of}
 use Rattle.history.specs.Messages.{Message}
 
--- a source's place among those that are preferred, and its NAME
-pub record Rank : Type 0 where
-  pub place : ℕ
-  pub name : ℕ
-
-abbrev pub is_smaller : Rank → Rank → Bool
-is_smaller a b = nat_lt a.place b.place || ((a.place == b.place) && nat_lt a.name b.name)
-
--- the first place of the list whose pattern matches the NAME; others come after all listed ones, where they are taken
+-- a rank is the first place of the list whose pattern matches the NAME, and the NAME; others come after all listed ones, where they are taken
 abbrev pub place_in : Bool → ℕ → List Pattern → ℕ → Option ℕ
 place_in others at [] name = if others then Some at else None
 place_in others at (p ∷ ps) name = if matches p name then Some at else place_in others (at + 1) ps name
@@ -79,7 +73,7 @@ is_fresh rule k row source m older = is_fresh_since rule row source m older (sin
 
 abbrev pub is_better : Rank → Option Rank → Bool
 is_better rank None = false
-is_better rank (Some other) = is_smaller other rank
+is_better rank (Some other) = is_before other rank
 
 abbrev pub holder_rank : RowRule → Option Holder → Option Rank
 holder_rank rule None = None

@@ -1,16 +1,19 @@
 -- Who is first in a row, by what is kept of each address, and whose NAME a message is of.
-use Rattle.std.specs.Prelude.{◌≡◌, ℕ, zero, suc, ◌≤◌, Bool, true, ◌&&◌, not, ◌==◌, List, [], ◌∷◌, length, Some}
+use Rattle.std.specs.Prelude.{◌≡◌, ℕ, zero, suc, ◌≤◌, Bool, true, ◌&&◌, not, ◌==◌, List, [], ◌∷◌, length, Option, Some, None}
 use Rattle.std.specs.List.{AllByRecursion, list_any}
 use Rattle.readings.specs.declared.rows.Row.{Row}
 use Rattle.claim_table.specs.Claims.{holder_at}
 use Rattle.claim_table.specs.declared.answer.Holder.{Holder}
+use Rattle.source_choice.specs.declared.note.Note.{Note}
+use Rattle.source_choice.specs.declared.rank.Rank.{Rank}
+use Rattle.source_choice.specs.Notes.{RowNotes, AreFrom, note_of, is_selected}
 use Rattle.history.specs.AddressLaws.{IsReceiver}
 use Rattle.history.specs.Entries.{History}
 use Rattle.history.specs.Settings.{RowRule}
 use Rattle.history.specs.Receiver.{Receiver}
 use Rattle.history.specs.Known.{Known, known}
 use Rattle.history.specs.Messages.{Message, messages_of}
-use Rattle.history.specs.Choice.{Rank, is_better, holder_rank, still_counts, is_first}
+use Rattle.history.specs.Choice.{is_better, is_usable, reading_of, holder_rank, still_counts, is_first}
 use Rattle.history.specs.FreshLaws.{last_of}
 
 -- the addresses below a number
@@ -27,6 +30,26 @@ abbrev pub FirstByAddresses : Type 0
 FirstByAddresses =
     (rule : RowRule) (k : Known) (row : Row) (rank : Rank) (m : ℕ) (older : List Message) (n : ℕ) → length k.claims.holders ≤ n
     → is_first rule k row m older (Some rank) ≡ not (list_any (beats rule k row rank m older) (addresses n))
+
+-- what is noted of an address in a row: its last message since its holder has it, where that NAME has a rank
+abbrev pub noted_with : ℕ → Option Rank → Option Message → Option Note
+noted_with a None last = None
+noted_with a (Some rank) None = None
+noted_with a (Some rank) (Some d) = Some (record { source = a; rank = rank; moment = d.moment; usable = is_usable (reading_of d) })
+
+abbrev pub kept_note : RowRule → Known → Row → List Message → ℕ → Option Note
+kept_note rule k row older a = noted_with a (holder_rank rule (holder_at k.claims.holders a)) (last_of k row a older)
+
+-- notes of a row that hold this of each address select a message exactly where its rank is the first
+pub record HoldsNotes (rule : RowRule) (k : Known) (row : Row) (older : List Message) (r : RowNotes) : Type 0 where
+  pub timeout : r.timeout ≡ rule.timeout
+  pub apart : AreFrom 0 r.sources r.notes
+  pub notes : (a : ℕ) → note_of a r.notes ≡ kept_note rule k row older a
+
+abbrev pub FirstByNotes : Type 0
+FirstByNotes =
+    (rule : RowRule) (k : Known) (row : Row) (older : List Message) (r : RowNotes) (source : ℕ) (rank : Rank) (m : ℕ) → HoldsNotes rule k row older r
+    → holder_rank rule (holder_at k.claims.holders source) ≡ Some rank → is_selected r source rank m ≡ is_first rule k row m older (Some rank)
 
 -- each message from an address since its holder has it is of the holder's NAME
 abbrev pub IsOfHolder : ℕ → Holder → Message → Type 0

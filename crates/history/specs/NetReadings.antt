@@ -12,9 +12,10 @@ use Rattle.sentence_text.specs.Reading as sentences
 use Rattle.sentence_rows.specs.declared.fault.FieldFault.{FieldFault}
 use Rattle.sentence_rows.specs.declared.fault.FieldFault.TheVariants.{Outside}
 use Rattle.sentence_rows.specs.Reading.{read_row}
+use Rattle.source_choice.specs.declared.rank.Rank.{Rank}
 use Rattle.history.specs.Settings.{Settings, RowRule, rule_of}
 use Rattle.history.specs.Opens.{is_fast}
-use Rattle.history.specs.Choice.{Rank, is_better, is_row, is_current}
+use Rattle.history.specs.Choice.{is_better, is_row, is_current}
 use Rattle.history.specs.Heard.{Taken, same_text, place_of, handed_over}
 
 -- a reading that was heard, with its line: of a group, the one that completed it

@@ -3,7 +3,7 @@ use Rattle.std.specs.Prelude.{ℕ, zero, suc, Bool, false, ◌==◌, List, [], �
 use Rattle.n2k_id.specs.declared.pattern.Pattern.{Pattern}
 use Rattle.claim_table.specs.declared.preset.Preset.{Preset}
 use Rattle.readings.specs.declared.rows.Row.{Row}
-use Rattle.readings.specs.declared.rows.Row.TheVariants as row
+use Rattle.source_choice.specs.Choices.{row_number}
 
 -- whom a row is taken from, and to whom it is said
 pub record RowRule : Type 0 where
@@ -33,26 +33,6 @@ pub record Settings : Type 0 where
   pub rows : List RowRule
   -- whom the network is heard from, in order of preference
   pub net_sources : List (List ℕ)
-
--- a row's place in the table of rows
-abbrev pub row_number : Row → ℕ
-row_number row.HeadingTrue = 0
-row_number row.HeadingMagnetic = 1
-row_number row.RateOfTurn = 2
-row_number row.RudderFirst = 3
-row_number row.RudderSecond = 4
-row_number row.WaterSpeed = 5
-row_number row.Depth = 6
-row_number row.DistanceLog = 7
-row_number row.Position = 8
-row_number row.CourseSpeed = 9
-row_number row.Gnss = 10
-row_number row.Time = 11
-row_number row.WindApparent = 12
-row_number row.WindTrue = 13
-row_number row.WindNorth = 14
-row_number row.WaterTemperature = 15
-row_number row.CrossTrack = 16
 
 abbrev pub same_row : Row → Row → Bool
 same_row a b = row_number a == row_number b
