@@ -53,7 +53,7 @@ below_any p (suc n) a less e = by (a == n) refl (λ le. below_any p n a le e)
     by false other more = let apart = eqb-false a n other in or_right (p n) (list_any p (addresses n)) (more (omega (arith, less, apart)))
 
 -- what is found passes, and so does each that agrees with it
-found_any : (q p : Message → Bool) (older : List Message) (d : Message) → find q older ≡ Some d → ((x : Message) → q x ≡ true → p x ≡ true) → list_any p older ≡ true
+pub found_any : {A : Type 0} (q p : A → Bool) (older : List A) (d : A) → find q older ≡ Some d → ((x : A) → q x ≡ true → p x ≡ true) → list_any p older ≡ true
 found_any q p [] d e agrees = cc
 found_any q p (x ∷ older) d e agrees = by (q x) refl e (λ f. found_any q p older d f agrees)
   where

@@ -15,7 +15,7 @@ use Rattle.history.specs.CountLaws.{HoldsGroups, CountsGroups, SlotsCountGroups}
 use Rattle.history.proofs.KeySteps.{eqb-sym}
 use Rattle.history.proofs.Counts.{any_placed, distinct_placed, Held, counted, room}
 
-text_is : (a b : List ℕ) → same_text a b ≡ true → a ≡ b
+pub text_is : (a b : List ℕ) → same_text a b ≡ true → a ≡ b
 text_is [] [] e = refl
 text_is [] (y ∷ b) e = cc
 text_is (x ∷ a) [] e = cc

@@ -1,5 +1,5 @@
 -- Whose message is said: that of the best source that is fresh, by the NAME (ISO 11783-5) of the device that holds its address.
-use Rattle.std.specs.Prelude.{ℕ, ◌+◌, ◌*◌, Bool, false, ◌&&◌, ◌||◌, not, ◌==◌, nat_le, nat_lt, List, [], ◌∷◌, find, Option, Some, None, is_some, if◌then◌else◌}
+use Rattle.std.specs.Prelude.{ℕ, ◌+◌, ◌*◌, Bool, false, ◌&&◌, not, ◌==◌, nat_le, List, [], ◌∷◌, find, Option, Some, None, is_some, if◌then◌else◌}
 use Rattle.std.specs.List.{list_any, list_all}
 use Rattle.n2k_id.specs.declared.pattern.Pattern.{Pattern}
 use Rattle.n2k_id.specs.Pattern.{matches}

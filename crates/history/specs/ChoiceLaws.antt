@@ -2,6 +2,7 @@
 use Rattle.std.specs.Prelude.{◌≡◌, ℕ, zero, suc, ◌≤◌, Bool, true, ◌&&◌, not, ◌==◌, List, [], ◌∷◌, length, Option, Some, None}
 use Rattle.std.specs.List.{AllByRecursion, list_any}
 use Rattle.readings.specs.declared.rows.Row.{Row}
+use Rattle.readings.specs.Rows.{row_of}
 use Rattle.claim_table.specs.Claims.{holder_at}
 use Rattle.claim_table.specs.declared.answer.Holder.{Holder}
 use Rattle.source_choice.specs.declared.note.Note.{Note}
@@ -9,11 +10,13 @@ use Rattle.source_choice.specs.declared.rank.Rank.{Rank}
 use Rattle.source_choice.specs.Notes.{RowNotes, AreFrom, note_of, is_selected}
 use Rattle.history.specs.AddressLaws.{IsReceiver}
 use Rattle.history.specs.Entries.{History}
-use Rattle.history.specs.Settings.{RowRule}
+use Rattle.history.specs.Settings.{Settings, RowRule, rule_of}
 use Rattle.history.specs.Receiver.{Receiver}
 use Rattle.history.specs.Known.{Known, known}
 use Rattle.history.specs.Messages.{Message, messages_of}
 use Rattle.history.specs.Choice.{is_better, is_usable, reading_of, holder_rank, still_counts, is_first}
+use Rattle.history.specs.Heard.{place_of}
+use Rattle.history.specs.NetReadings.{NetReading, last_heard, is_net_selected}
 use Rattle.history.specs.FreshLaws.{last_of}
 
 -- the addresses below a number
@@ -50,6 +53,27 @@ abbrev pub FirstByNotes : Type 0
 FirstByNotes =
     (rule : RowRule) (k : Known) (row : Row) (older : List Message) (r : RowNotes) (source : ℕ) (rank : Rank) (m : ℕ) → HoldsNotes rule k row older r
     → holder_rank rule (holder_at k.claims.holders source) ≡ Some rank → is_selected r source rank m ≡ is_first rule k row m older (Some rank)
+
+-- the same of the network, where a source goes by its place among those that are listed
+abbrev pub net_noted : ℕ → Option NetReading → Option Note
+net_noted place None = None
+net_noted place (Some n) = Some (record {
+  source = place;
+  rank = record { place = place; name = 0 };
+  moment = n.line.moment;
+  usable = is_usable (Some n.reading);
+})
+
+pub record HoldsNetNotes (c : Settings) (row : Row) (older : List NetReading) (r : RowNotes) : Type 0 where
+  pub timeout : r.timeout ≡ (rule_of c row).timeout
+  pub apart : AreFrom 0 r.sources r.notes
+  pub notes : (source : List ℕ) (place : ℕ) → place_of c source ≡ Some place → note_of place r.notes ≡ net_noted place (last_heard row source older)
+  pub listed : (place : ℕ) (x : Note) → note_of place r.notes ≡ Some x → (source : List ℕ) × (place_of c source ≡ Some place)
+
+abbrev pub FirstNetByNotes : Type 0
+FirstNetByNotes =
+    (c : Settings) (older : List NetReading) (n : NetReading) (r : RowNotes) (place : ℕ) → HoldsNetNotes c (row_of n.reading) older r
+    → place_of c n.line.source ≡ Some place → is_selected r place (record { place = place; name = 0 }) n.line.moment ≡ is_net_selected c older n
 
 -- each message from an address since its holder has it is of the holder's NAME
 abbrev pub IsOfHolder : ℕ → Holder → Message → Type 0

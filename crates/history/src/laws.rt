@@ -8,7 +8,7 @@ ghost use Rattle.history.specs.LimitLaws.{FastWithinLimit, IsoWithinLimit, Group
 ghost use Rattle.history.specs.GroupLaws.{LinesStepGroup, LinesStandAlone, TimeEndsGroup};
 ghost use Rattle.history.specs.KeyLaws.{FramesStepFast, FramesKeepFast, TimeEndsFast, FramesStepIso, FramesCompleteIso, TimeEndsIso};
 ghost use Rattle.history.specs.RefusalLaws.{FastRefusalsBreak, TransportRefusalsBreak};
-ghost use Rattle.history.specs.ChoiceLaws.{FirstByAddresses, FirstByNotes, MessagesAreOfHolders};
+ghost use Rattle.history.specs.ChoiceLaws.{FirstByAddresses, FirstByNotes, FirstNetByNotes, MessagesAreOfHolders};
 ghost use Rattle.history.specs.EntryLaws.{StepsKeepHistory, EntriesSayOne};
 ghost use Rattle.history.specs.RoomLaws.{FullIsReported, RefusalsAreReported};
 ghost use Rattle.history.specs.FitLaws.{AllEntriesFit};
@@ -115,11 +115,12 @@ pub fn freshness_is_kept()
 {}
 
 /// A rank is the first in its row exactly where no address that can be held beats it, by its holder and its last message of the row; and
-/// exactly where the notes of the row select it that hold this of each address. Each message from an address since its holder has it is of
-/// the holder's NAME.
+/// exactly where the notes of the row select it that hold this of each address; so it is on the network, with the sources' places among
+/// those that are listed in place of addresses. Each message from an address since its holder has it is of the holder's NAME.
 pub fn choice_is_by_address()
     ensures first { FirstByAddresses }
     ensures notes { FirstByNotes }
+    ensures net_notes { FirstNetByNotes }
     ensures names { MessagesAreOfHolders }
 {}
 
