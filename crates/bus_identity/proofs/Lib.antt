@@ -1,0 +1,5 @@
+mod RequestLemmas
+mod PayloadLemmas
+mod FrameLemmas
+mod AnswerLemmas
+mod HeardLemmas

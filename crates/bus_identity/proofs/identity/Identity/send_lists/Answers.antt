@@ -1,0 +1,5 @@
+use Rattle.bus_identity.proofs.FrameLemmas.{can_send_lists}
+use Rattle.bus_identity.proofs.identity.Identity.send_lists.Goals as goal
+
+pub answer_identifier-id-requires : goal.answer_identifier-id-requires
+answer_identifier-id-requires c = can_send_lists _ _

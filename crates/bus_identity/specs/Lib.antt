@@ -1,0 +1,5 @@
+pub mod Pgns
+pub mod Payloads
+pub mod Requests
+pub mod Answers
+pub mod Laws
