@@ -39,7 +39,7 @@ pub record Claim : Type 0 where
 abbrev pub claim_of : ℕ → ℕ → ℕ → ℕ → Claim
 claim_of address name index moment = record { address = address; name = name; index = index; moment = moment }
 
--- what a claim leaves, and what is by_name of it
+-- what a claim leaves, and what is told of it
 pub record Outcome : Type 0 where
   pub after : Claims
   pub step : ClaimStep
@@ -149,7 +149,7 @@ abbrev pub settled : Claims → Claim → Bool → Outcome
 settled c k true = outcome c None Silent
 settled c k false = at_address c k (is_at k.address c.own)
 
--- the address that the claiming NAME left is by_name as well
+-- the address that the claiming NAME left is told as well
 abbrev pub with_released : Option ℕ → Outcome → Outcome
 with_released left o = record o { step = record o.step { released = left } }
 

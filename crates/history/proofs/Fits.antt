@@ -44,7 +44,7 @@ use Rattle.history.proofs.GroupLimits.{groups_within_limit}
 
 -- ---- lists
 
-fewer_pass : {K : Type 0} (p q : K → Bool) → ((x : K) → p x ≡ true → q x ≡ true) → (ks : List K) → length (filter p ks) ≤ length (filter q ks)
+pub fewer_pass : {K : Type 0} (p q : K → Bool) → ((x : K) → p x ≡ true → q x ≡ true) → (ks : List K) → length (filter p ks) ≤ length (filter q ks)
 fewer_pass p q so [] = omega arith
 fewer_pass p q so (k ∷ ks) = by (p k) refl (q k) refl (fewer_pass p q so ks)
   where
@@ -62,11 +62,11 @@ flat_twice : {A : Type 0} (f : A → List Emit) → ((x : A) → length (f x) �
 flat_twice f each [] = omega arith
 flat_twice f each (x ∷ xs) = rw (length-append (f x) (flat_map f xs)) (omega (arith, each x, flat_twice f each xs))
 
-reported_length : (rs : List Report) → length (reported rs) ≡ length rs
+pub reported_length : (rs : List Report) → length (reported rs) ≡ length rs
 reported_length [] = refl
 reported_length (r ∷ rs) = ap suc (reported_length rs)
 
-broken_length : (table : List Rule) → length (broken_of table) ≤ length table
+pub broken_length : (table : List Rule) → length (broken_of table) ≤ length table
 broken_length [] = omega arith
 broken_length (x ∷ table) = by x.broken (broken_length table)
   where
@@ -84,7 +84,7 @@ if_length : (b : Bool) (x y : List Emit) (n : ℕ) → length x ≤ n → length
 if_length true x y n ex ey = ex
 if_length false x y n ex ey = ey
 
-two_lengths : (a b : List Emit) (n o : ℕ) → length a ≤ n → length b ≤ o → length (a ++ b) ≤ n + o
+pub two_lengths : (a b : List Emit) (n o : ℕ) → length a ≤ n → length b ≤ o → length (a ++ b) ≤ n + o
 two_lengths a b n o ea eb = rw (length-append a b) (omega (arith, ea, eb))
 
 -- ---- what ends

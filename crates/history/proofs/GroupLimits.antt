@@ -26,13 +26,13 @@ use Rattle.history.proofs.GroupSteps.{text_same, group_steps, lines_alone, group
 use Rattle.history.proofs.Fewer.{Apart, apart_placed, among_filtered}
 use Rattle.history.proofs.Limits.{kept_some, fed_some, fewer, one_more}
 
-turn : (a b : GroupKey) → same_group a b ≡ same_group b a
+pub turn : (a b : GroupKey) → same_group a b ≡ same_group b a
 turn a b = rw (text_turn a.sfi b.sfi, eqb-sym a.code b.code) refl
 
-itself : (a : GroupKey) → same_group a a ≡ true
+pub itself : (a : GroupKey) → same_group a a ≡ true
 itself a = rw (text_same a.sfi, eq-eqb a.code a.code refl) refl
 
-apart : (taken : List Taken) → Apart same_group same_is turn itself (group_keys taken)
+pub apart : (taken : List Taken) → Apart same_group same_is turn itself (group_keys taken)
 apart [] = tt
 apart (t ∷ older) = by (several t.group) (apart older)
   where

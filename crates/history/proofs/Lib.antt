@@ -53,3 +53,8 @@ pub mod OwnCases
 pub mod EndingCases
 pub mod LineCases
 pub mod Lengths
+pub mod FitDatagrams
+pub mod FitRoom
+pub mod FitHandedOver
+pub mod FitHeld
+pub mod FitSentences

@@ -1,8 +1,8 @@
--- How much an entry emits at most, but for a datagram.
-use Rattle.std.specs.Prelude.{ℕ, ◌+◌, ◌*◌, ◌≤◌, length}
+-- How much an entry emits at most.
+use Rattle.std.specs.Prelude.{ℕ, ◌+◌, ◌*◌, ◌≤◌, List, length}
 use Rattle.n2k_id.specs.Frame.{BusFrame}
 use Rattle.history.specs.AddressLaws.{AreSettings}
-use Rattle.history.specs.Entries.{History, IsHistory, frame, tick, command, now}
+use Rattle.history.specs.Entries.{Entry, History, IsHistory, frame, datagram, tick, command, moment_of, now}
 use Rattle.history.specs.Settings.{Settings}
 use Rattle.history.specs.Gate.{expired, out}
 
@@ -20,3 +20,22 @@ pub record EntriesFit (c : Settings) (s : ℕ) (h : History) (m : ℕ) : Type 0 
 
 abbrev pub AllEntriesFit : Type 0
 AllEntriesFit = (c : Settings) (s : ℕ) (h : History) (m : ℕ) → AreSettings c → IsHistory h → now h ≤ m → EntriesFit c s h m
+
+-- a datagram has at most 64 lines and a fault behind them; each hands over its own sentence and up to 8 of each open group, and a sentence
+-- gives at most 7 frames
+abbrev pub DatagramsFit : Type 0
+DatagramsFit =
+    (c : Settings) (s : ℕ) (h : History) (m : ℕ) (bytes : List ℕ) → AreSettings c → IsHistory h → now h ≤ m
+    → length (out c s h (datagram m bytes)) ≤ room_of c + 56 * c.group_slots + 651
+
+-- the greatest limits that can be configured
+pub record IsWithinLimits (c : Settings) : Type 0 where
+  pub fast : c.fast_slots ≤ 256
+  pub iso : c.iso_slots ≤ 32
+  pub groups : c.group_slots ≤ 32
+
+-- room for 4096 emits is enough for every entry
+abbrev pub RoomSuffices : Type 0
+RoomSuffices =
+    (c : Settings) (s : ℕ) (h : History) (e : Entry) → AreSettings c → IsWithinLimits c → IsHistory h → now h ≤ moment_of e
+    → length (out c s h e) ≤ 4096

@@ -55,3 +55,4 @@ pub mod OwnCases
 pub mod EndingCases
 pub mod LineCases
 pub mod LengthLaws
+pub mod Held

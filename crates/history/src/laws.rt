@@ -11,7 +11,7 @@ ghost use Rattle.history.specs.RefusalLaws.{FastRefusalsBreak, TransportRefusals
 ghost use Rattle.history.specs.ChoiceLaws.{FirstByAddresses, FirstByNotes, FirstNetByNotes, MessagesAreOfHolders};
 ghost use Rattle.history.specs.EntryLaws.{StepsKeepHistory, EntriesSayOne};
 ghost use Rattle.history.specs.RoomLaws.{FullIsReported, RefusalsAreReported};
-ghost use Rattle.history.specs.FitLaws.{AllEntriesFit};
+ghost use Rattle.history.specs.FitLaws.{AllEntriesFit, DatagramsFit, RoomSuffices};
 ghost use Rattle.history.specs.ListLaws.{SlotsListFast, SlotsListIso, SlotsListGroups};
 ghost use Rattle.history.specs.HeardLaws.{DatagramsGiveInOrder, ReadingsCountFast};
 ghost use Rattle.history.specs.NoteLaws.{FramesAreNoted};
@@ -153,10 +153,12 @@ pub fn devices_are_isolated_in_two()
     ensures { IsolationOfTwo }
 {}
 
-/// What ends by time, and what a tick, a frame and a command give, is no more than the configuration has room for, by the numbers of what
-/// may be open.
+/// What ends by time, and what a tick, a frame, a command and a datagram give, is no more than the configuration has room for, by the
+/// numbers of what may be open; at the greatest numbers room for 4096 emits is enough for every entry.
 pub fn entries_fit()
-    ensures { AllEntriesFit }
+    ensures entries { AllEntriesFit }
+    ensures datagrams { DatagramsFit }
+    ensures room { RoomSuffices }
 {}
 
 /// A frame breaks rule 15 exactly where it opens a message and finds no room. So no opener of a device was refused for want of room in a

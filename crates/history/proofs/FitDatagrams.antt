@@ -1,0 +1,124 @@
+-- How much a datagram makes the gateway emit at most.
+use Rattle.std.proofs.Common.{◌≡◌, ℕ, zero, suc, ◌+◌, ◌*◌, ◌≤◌, Bool, true, false, not, ◌&&◌, ◌==◌, is_some, is_none, List, [], ◌∷◌, ◌++◌, length, length-append, refl, arith}
+use Rattle.std.specs.Prelude.{Option, Some, None, Result, Ok, Err, if◌then◌else◌}
+use Rattle.report_rules.specs.Rules as rules
+use Rattle.capture_text.specs.declared.emit.Detail.TheVariants as detail
+use Rattle.tag_block.specs.declared.group_key.GroupKey.{GroupKey}
+use Rattle.datagram450.specs.declared.fault.DatagramFault.{DatagramFault}
+use Rattle.datagram450.specs.declared.fault.DatagramFault.TheVariants.{Header, Long}
+use Rattle.datagram450.specs.Datagram as datagrams
+use Rattle.datagram450.specs.Item.{Item, line, bad}
+use Rattle.tag_block.specs.declared.group_part.GroupPart.{GroupPart}
+use Rattle.tag_block.specs.Tag.{Said}
+use Rattle.history.specs.Settings.{Settings}
+use Rattle.history.specs.Emits.{breaks, reported}
+use Rattle.history.specs.Heard.{Came, Taken, came_at, group_line, group_open, is_elsewhere, is_own_line, place_of, handed_over, is_taken, lines_of, several, taken_after, with_item, with_items}
+use Rattle.history.specs.Held.{lines_held}
+use Rattle.history.specs.NetReadings.{NetReading, read_sentence, readings_of, with_said}
+use Rattle.history.specs.NetRules.{continues, datagram_breaks, item_breaks_as, line_breaks, part_breaks}
+use Rattle.history.specs.FromNet.{datagram_gives, handed_gives, item_gives, items_give, items_in, said_gives, sentences_give}
+use Rattle.history.proofs.FitHandedOver.{handed_by_lines}
+use Rattle.history.proofs.FitSentences.{sentence_gives_few}
+use Rattle.history.proofs.Fits.{broken_length, reported_length, two_lengths}
+
+-- ---- reports
+
+line_reports : (c : Settings) (place : ℕ) (said : Said) → length (line_breaks c place said) ≤ 3
+line_reports c place said =
+    let own = is_own_line c said in
+    let elsewhere = is_elsewhere c said.destination in
+    broken_length
+    (breaks (not own && (not elsewhere && is_none (place_of c said.source))) rules.unlisted_source (detail.At place)
+    ∷ breaks own rules.own_line (detail.At place)
+    ∷ breaks (not own && elsewhere) rules.other_destination (detail.At place)
+    ∷ [])
+
+part_reports : (lines : List Taken) (t : Taken) (part : Option GroupPart) → length (part_breaks lines t part) ≤ 3
+part_reports lines t None = omega arith
+part_reports lines t (Some part) =
+    let key : GroupKey = record { sfi = t.source; code = part.code } in
+    let first = part.number == 1 in
+    let open_group = group_open lines key t.moment in
+    let few = broken_length
+    (breaks (if first then is_some open_group else not (continues open_group (group_line t part))) rules.group_order (detail.GroupKey t.source part.code)
+    ∷ breaks (first && not t.admitted) rules.group_slots_full (detail.GroupKey t.source part.code)
+    ∷ []) in
+    omega (arith, few)
+
+datagram_reports : {A : Type 0} (read : Result A DatagramFault) → length (datagram_breaks read) ≤ 1
+datagram_reports (Ok items) = omega arith
+datagram_reports (Err (Header place)) = omega arith
+datagram_reports (Err Long) = omega arith
+
+-- ---- items of a datagram: its lines, and one more
+
+items_few : (left at : ℕ) (ls : List (List ℕ)) (rest : List ℕ) → length (datagrams.items_at left at ls rest) ≤ left + 1
+items_few left at [] [] = omega arith
+items_few left at [] (x ∷ rest) = omega arith
+items_few zero at (l ∷ ls) rest = omega arith
+items_few (suc left) at (l ∷ ls) rest = let others = items_few left (at + length l) ls rest in omega (arith, others)
+
+module _ (c : Settings) (own : Option ℕ) where
+  sentences_few : (t : Taken) (older : List NetReading) (texts : List (List ℕ)) → length (sentences_give c own t older texts) ≤ 7 * length texts
+  sentences_few t older [] = omega arith
+  sentences_few t older (text ∷ texts) =
+      let both = two_lengths (said_gives c own t older (read_sentence text)) (sentences_give c own t (with_said t older (read_sentence text)) texts) 7 (7 * length texts) (sentence_gives_few c own t older text) (sentences_few t (with_said t older (read_sentence text)) texts) in
+      omega (arith, both)
+
+  -- an item with what it leaves held gives no more than what was held and ten
+  item_few : (older : List Came) (x : Came) (i : Item) → length (reported (item_breaks_as c (lines_of c older) x i) ++ handed_gives c own (lines_of c older) x i) + 7 * lines_held (with_item c (lines_of c older) x i) x.moment
+      ≤ 7 * lines_held (lines_of c older) x.moment + 10
+  item_few older x (bad rule place) = omega arith
+  item_few older x (line place said sentence parts) = by (is_taken c said) refl
+    where
+      lines : List Taken
+      lines = lines_of c older
+
+      t : Taken
+      t = taken_after c lines x place said sentence
+
+      by : (b : Bool) → is_taken c said ≡ b → length (reported (if b then part_breaks lines t (several said.group) else line_breaks c place said) ++ (if b then sentences_give c own t (readings_of lines) (handed_over t lines) else []))
+          + 7 * lines_held (if b then t ∷ lines else lines) x.moment ≤ 7 * lines_held lines x.moment + 10
+      by true is =
+          let told = part_reports lines t (several said.group) in
+          let same = reported_length (part_breaks lines t (several said.group)) in
+          let given = sentences_few t (readings_of lines) (handed_over t lines) in
+          let step = handed_by_lines t lines in
+          let both = two_lengths (reported (part_breaks lines t (several said.group))) (sentences_give c own t (readings_of lines) (handed_over t lines)) 3 (7 * length (handed_over t lines)) (omega (arith, told, same)) given in
+          omega (arith, both, step)
+      by false isnt =
+          let told = line_reports c place said in
+          let same = reported_length (line_breaks c place said) in
+          let both = two_lengths (reported (line_breaks c place said)) [] 3 0 (omega (arith, told, same)) (omega arith) in
+          omega (arith, both)
+
+  -- items that come at one moment
+  all_few : (older : List Came) (m : ℕ) (ready : Bool) (is : List Item) → length (items_give c own older (came_at m ready is)) + 7 * lines_held (lines_of c (with_items older (came_at m ready is))) m
+      ≤ 7 * lines_held (lines_of c older) m + 10 * length is
+  all_few older m ready [] = omega arith
+  all_few older m ready (i ∷ is) =
+      let x : Came = record { moment = m; ready = ready; item = i } in
+      let one = item_few older x i in
+      let others = all_few (x ∷ older) m ready is in
+      let sum = length-append (item_gives c own older x) (items_give c own (x ∷ older) (came_at m ready is)) in
+      omega (arith, one, others, sum)
+
+  pub datagram_few : (older : List Came) (m : ℕ) (ready : Bool) (read : Result (List Item) DatagramFault) → length (items_in read) ≤ 65
+      → length (datagram_gives c own older (came_at m ready (items_in read)) read) ≤ 7 * lines_held (lines_of c older) m + 651
+  datagram_few older m ready read few =
+      let told = datagram_reports read in
+      let same = reported_length (datagram_breaks read) in
+      let given = all_few older m ready (items_in read) in
+      let both = length-append (reported (datagram_breaks read)) (items_give c own older (came_at m ready (items_in read))) in
+      omega (arith, told, same, given, both, few)
+
+-- ---- the items of a datagram that is read
+
+few_in : (place : ℕ) (long : Bool) (bytes : List ℕ) → (a : Bool) → length (items_in (if a then Err (Header place) else if long then Err Long else Ok (datagrams.items_from datagrams.most_lines 6 bytes))) ≤ 65
+unfolding datagrams.items_from
+few_in place long bytes true = omega arith
+few_in place true bytes false = omega arith
+few_in place false bytes false = items_few datagrams.most_lines 6 (datagrams.cut bytes).lines (datagrams.cut bytes).rest
+
+pub read_few : (bytes : List ℕ) → length (items_in (datagrams.read bytes)) ≤ 65
+read_few bytes = few_in _ _ _ _

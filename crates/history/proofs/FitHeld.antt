@@ -1,0 +1,155 @@
+-- How many lines of open groups wait at most.
+use Rattle.std.proofs.Common.{◌≡◌, ℕ, ◌*◌, ◌≤◌, Bool, true, false, List, [], ◌∷◌, length, refl, sym, ap, subst, ◌∙◌, nat_le, arith, is_some}
+use Rattle.std.specs.Prelude.{Option, Some, None, Result, Ok, Err, IfOk, IfSome, filter, ◌==◌, if◌then◌else◌}
+use Rattle.std.specs.List.{AllByRecursion, sum_by}
+use Rattle.std.proofs.lemmas.Bool.{leb-true}
+use Rattle.std.proofs.lemmas.List.Sums.{sum_by-cons}
+use Rattle.claim_table.specs.Claims.{is_ready}
+use Rattle.runs.specs.Runs.{accepted, accepted_after, in_time, opener_of, since_opener, open_at}
+use Rattle.runs.proofs.Suffixes.{one_suffix_of}
+use Rattle.tag_block.specs.declared.group_key.GroupKey.{GroupKey}
+use Rattle.tag_block.specs.declared.group_part.GroupPart.{GroupPart}
+use Rattle.tag_block.specs.Groups.{IsGroupPart}
+use Rattle.tag_block.specs.GroupRuns.{GroupLine, is_next, group_rules}
+use Rattle.tag_block.specs.Numbers.{IsGroupRead}
+use Rattle.tag_block.proofs.GroupPrefixes.{lawful, all_front, far_by, more_of}
+use Rattle.datagram450.specs.declared.fault.DatagramFault.{DatagramFault}
+use Rattle.datagram450.specs.Datagram as datagrams
+use Rattle.datagram450.specs.Datagram.{IsItem}
+use Rattle.datagram450.specs.Item.{Item, line, bad}
+use Rattle.datagram450.proofs.Datagrams.{is_found}
+use Rattle.datagram450.proofs.Items.{each_is}
+use Rattle.history.specs.Entries.{History, IsHistory, now, frame, datagram, tick}
+use Rattle.history.specs.Entries as entry
+use Rattle.history.specs.Settings.{Settings}
+use Rattle.history.specs.Receiver.{receiver_of}
+use Rattle.history.specs.Known.{known}
+use Rattle.history.specs.Heard.{Came, Taken, came_at, with_items, same_group, several, group_line, line_in, group_trace, group_keys, group_open, open_groups, is_taken, taken_after, with_item, lines_of}
+use Rattle.history.specs.FromNet.{items_in}
+use Rattle.history.specs.Gate.{heard}
+use Rattle.history.specs.Held.{held_in, lines_held}
+use Rattle.history.proofs.GroupLimits.{groups_within_limit}
+
+-- ---- an open group has fewer lines than its total, which is at most 9
+
+abbrev IsValid : GroupLine → Type 0
+IsValid x = IsGroupPart x.part
+
+same_lines : (a b : List GroupLine) → Some a ≡ Some b → b ≡ a
+same_lines a b e = cc
+
+-- no line is a repeat, so all lines of a prefix are accepted
+all_accepted : (p acc : List GroupLine) → accepted group_rules p ≡ Some acc → acc ≡ p
+all_accepted [] acc is = cc
+all_accepted (x ∷ []) acc is = by (x.part.number == 1) is
+  where
+    by : (b : Bool) → (if b then Some (x ∷ []) else None) ≡ Some acc → acc ≡ x ∷ []
+    by true e = same_lines (x ∷ []) acc e
+    by false e = cc
+all_accepted (x ∷ y ∷ ys) acc is = by (accepted group_rules (y ∷ ys)) refl is (λ a was. all_accepted (y ∷ ys) a was)
+  where
+    more : (a : List GroupLine) (t n : Bool) → (if t then (if n then Some (x ∷ a) else if false then Some a else None) else None) ≡ Some acc → acc ≡ x ∷ a
+    more a true true e = same_lines (x ∷ a) acc e
+    more a true false e = cc
+    more a false n e = cc
+
+    by : (o : Option (List GroupLine)) → accepted group_rules (y ∷ ys) ≡ o → accepted_after group_rules o x ≡ Some acc
+        → ((a : List GroupLine) → accepted group_rules (y ∷ ys) ≡ Some a → a ≡ y ∷ ys) → acc ≡ x ∷ y ∷ ys
+    by None was e before = cc
+    by (Some a) was e before = more a (in_time group_rules a x.moment) (is_next a x) e ∙ ap (λ (l : List GroupLine). x ∷ l) (before a was)
+
+opener_valid : (y : GroupLine) (ys : List GroupLine) → AllByRecursion IsValid (y ∷ ys) → IsValid (opener_of y ys)
+opener_valid y [] valid = valid.0
+opener_valid y (z ∷ zs) valid = opener_valid z zs valid.1
+
+held_few : (t : List GroupLine) (m : ℕ) → AllByRecursion IsValid t → (o : Option (List GroupLine)) → open_at group_rules t m ≡ o → held_in o ≤ 8
+held_few t m valid None is = omega arith
+held_few t m valid (Some []) is = omega arith
+held_few t m valid (Some (y ∷ ys)) is =
+    let far = far_by t valid m (y ∷ ys) is in
+    let o = (one_suffix_of group_rules lawful).is_open t (y ∷ ys) m is in
+    let front = all_front IsValid (since_opener group_rules t) o.older (subst (AllByRecursion IsValid) o.suffix valid) in
+    let all : AllByRecursion IsValid (y ∷ ys) = subst (AllByRecursion IsValid) (sym (all_accepted (since_opener group_rules t) (y ∷ ys) o.prefix)) front in
+    omega (arith, more_of y ys far.0 far.2, (opener_valid y ys all).most)
+
+-- ---- the lines that are taken
+
+abbrev IsRead : Taken → Type 0
+IsRead t = IfSome t.group IsGroupRead
+
+trace_valid : (key : GroupKey) (lines : List Taken) → AllByRecursion IsRead lines → AllByRecursion IsValid (group_trace key lines)
+trace_valid key [] read = tt
+trace_valid key (t ∷ older) read = by t.group refl read.0 (trace_valid key older read.1)
+  where
+    put : (part : GroupPart) → IsValid (group_line t part) → (b : Bool) → same_group key (record { sfi = t.source; code = part.code }) ≡ b → line_in key t (several t.group) ≡ line_in key t (Some part)
+        → AllByRecursion IsValid (group_trace key older) → AllByRecursion IsValid (group_trace key (t ∷ older))
+    put part valid true same is rest = rw (is, same) (valid, rest)
+    put part valid false other is rest = rw (is, other) rest
+
+    by : (g : Option GroupPart) → t.group ≡ g → IfSome t.group IsGroupRead → AllByRecursion IsValid (group_trace key older) → AllByRecursion IsValid (group_trace key (t ∷ older))
+    by None e is rest = rw e rest
+    by (Some part) e is rest = two (nat_le 2 part.total) refl
+      where
+        read_part : IsGroupRead part
+        read_part = subst (λ (g : Option GroupPart). IfSome g IsGroupRead) e is
+
+        two : (b : Bool) → nat_le 2 part.total ≡ b → AllByRecursion IsValid (group_trace key (t ∷ older))
+        two true le =
+            put part (record { several = leb-true 2 part.total le; most = read_part.most; first = read_part.first; last = read_part.within })
+            (same_group key (record { sfi = t.source; code = part.code })) refl (rw (e, le) refl) rest
+        two false few = rw (e, few) rest
+
+module _ (c : Settings) where
+  item_read : (lines : List Taken) (x : Came) (i : Item) → IsItem i → AllByRecursion IsRead lines → AllByRecursion IsRead (with_item c lines x i)
+  item_read lines x (line place said sentence parts) is read = by (is_taken c said)
+    where
+      t : Taken
+      t = taken_after c lines x place said sentence
+
+      by : (b : Bool) → AllByRecursion IsRead (if b then t ∷ lines else lines)
+      by true = (is.ranges.group, read)
+      by false = read
+  item_read lines x (bad rule place) is read = read
+
+  all_read : (older : List Came) (m : ℕ) (ready : Bool) (items : List Item) → AllByRecursion IsItem items → AllByRecursion IsRead (lines_of c older)
+      → AllByRecursion IsRead (lines_of c (with_items older (came_at m ready items)))
+  all_read older m ready [] is read = read
+  all_read older m ready (i ∷ items) is read =
+      all_read (record { moment = m; ready = ready; item = i } ∷ older) m ready items is.1
+      (item_read (lines_of c older) (record { moment = m; ready = ready; item = i }) i is.0 read)
+
+items_are : (r : Result (List Item) DatagramFault) → IfOk r (AllByRecursion IsItem) → AllByRecursion IsItem (items_in r)
+items_are (Ok items) is = is
+items_are (Err fault) is = tt
+
+module _ (c : Settings) (s : ℕ) where
+  heard_read : (h : History) → AllByRecursion IsRead (lines_of c (heard c s h))
+  heard_read [] = tt
+  heard_read (frame m f ∷ h) = heard_read h
+  heard_read (datagram m bytes ∷ h) =
+      all_read c (heard c s h) m (is_ready (known (receiver_of c) s h).claims m) (items_in (datagrams.read bytes))
+      (items_are (datagrams.read bytes) (each_is bytes (datagrams.read bytes) (is_found bytes (datagrams.read bytes) refl))) (heard_read h)
+  heard_read (tick m ∷ h) = heard_read h
+  heard_read (entry.command m source address ∷ h) = heard_read h
+
+-- ---- the sum over the keys
+
+sum_few : {K : Type 0} (o : K → Option (List GroupLine)) → ((key : K) → held_in (o key) ≤ 8) → (keys : List K)
+    → sum_by (λ key. held_in (o key)) keys ≤ 8 * length (filter (λ key. is_some (o key)) keys)
+sum_few o few [] = omega arith
+sum_few o few (k ∷ keys) = by (o k) refl (few k) (sum_few o few keys)
+  where
+    by : (q : Option (List GroupLine)) → o k ≡ q → held_in (o k) ≤ 8 → sum_by (λ key. held_in (o key)) keys ≤ 8 * length (filter (λ key. is_some (o key)) keys)
+        → sum_by (λ key. held_in (o key)) (k ∷ keys) ≤ 8 * length (filter (λ key. is_some (o key)) (k ∷ keys))
+    by None e one rest =
+        let none : held_in (o k) ≡ 0 = ap held_in e in
+        rw (ap is_some e) (omega (arith, none, sum_by-cons (λ key. held_in (o key)) k keys, rest))
+    by (Some acc) e one rest = rw (ap is_some e) (omega (arith, one, sum_by-cons (λ key. held_in (o key)) k keys, rest))
+
+-- ---- an open group holds at most 8 lines
+
+held_by_open : (lines : List Taken) (m : ℕ) → AllByRecursion IsRead lines → lines_held lines m ≤ 8 * length (open_groups lines m)
+held_by_open lines m read = sum_few (λ key. group_open lines key m) (λ key. held_few (group_trace key lines) m (trace_valid key lines read) (group_open lines key m) refl) (group_keys lines)
+
+pub held_fits : (c : Settings) (s : ℕ) (h : History) (m : ℕ) → IsHistory h → now h ≤ m → lines_held (lines_of c (heard c s h)) m ≤ 8 * c.group_slots
+held_fits c s h m is le = omega (arith, held_by_open (lines_of c (heard c s h)) m (heard_read c s h), groups_within_limit c s h m is le)
