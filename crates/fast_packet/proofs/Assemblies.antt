@@ -1,8 +1,7 @@
 -- An assembly is what the frames of its open prefix make.
-use Rattle.std.specs.Cmp.Lexicographic.{pointwise}
 use Rattle.std.specs.List.{AllByRecursion}
-use Rattle.std.proofs.lemmas.Bool.{eqb-true, eqb-false, leb-true, leb-false, ltb-true, eq-eqb, ne_eqb, lt-ltb, le-ltb}
-use Rattle.std.proofs.Common.{◌≡◌, ℕ, ◌+◌, ◌-◌, ◌*◌, ◌/◌, ◌%◌, ◌<◌, ◌≤◌, ◌==◌, ◌&&◌, nat_eq, nat_le, nat_lt, min, Bool, true, false, List, [], ◌∷◌, ◌++◌, length, take, drop, slice_index, Option, Some, None, length-take, length-drop, length-append, add-one, refl, sym, ◌∙◌, ap, subst, arith}
+use Rattle.std.proofs.lemmas.Bool.{eqb-true, eqb-false, le-leb, leb-true, leb-false, ltb-true, ne_eqb, lt-ltb, le-ltb}
+use Rattle.std.proofs.Common.{◌≡◌, ℕ, ◌+◌, ◌-◌, ◌*◌, ◌/◌, ◌%◌, ◌<◌, ◌≤◌, ◌==◌, ◌&&◌, nat_le, nat_lt, min, Bool, true, false, List, [], ◌∷◌, ◌++◌, length, take, drop, slice_index, Option, Some, None, length-take, length-drop, length-append, add-one, refl, sym, ◌∙◌, ap, subst, arith}
 use Rattle.std.proofs.lemmas.List.{take_all}
 use Rattle.runs.specs.Runs.{accepted, accepted_after, accepted_more, in_time, is_whole, is_admitted, opener_of, since_opener, if_open, kept_at, open_of, open_at, fed, fed_later}
 use Rattle.runs.proofs.Steps.{one_step_of}
@@ -15,7 +14,7 @@ use Rattle.fast_packet.specs.Assembly.{mark_of, last_frame, is_again, follows, i
 use Rattle.slot_views.specs.Traces.{left_at, entry_after}
 use Rattle.fast_packet.specs.RunAssemblies.{assembly_of, assembly_at, left_by, assembly_after}
 use Rattle.fast_packet.proofs.Counts.{need_is}
-use Rattle.fast_packet.proofs.Lawful.{lawful, both_true, and_false, no_next, no_repeat}
+use Rattle.fast_packet.proofs.Lawful.{lawful, both_true, and_false, no_next, repeat_counter, no_repeat}
 
 -- a later moment
 kept_by : (y : FastPiece) (ys : List FastPiece) (m : ℕ) (b : Bool) → nat_le m (y.moment + gap) ≡ b → left_at (assembly_of (y ∷ ys)) m ≡ assembly_at (kept_at fast_rules (Some (y ∷ ys)) m)
@@ -55,6 +54,7 @@ pub record Facts (y : FastPiece) (ys : List FastPiece) (e : Entry) : Type 0 wher
   pub most : length_of (opener_of y ys).bytes ≤ longest
   pub joined_length : length (y ∷ ys) < need_of (length_of (opener_of y ys).bytes) → length e.bytes ≡ 6 + 7 * (length (y ∷ ys) - 1)
   pub last_is : 2 ≤ length (y ∷ ys) → length (y ∷ ys) < need_of (length_of (opener_of y ys).bytes) → y.bytes ≡ last_frame e
+  pub was_next : nat_le 2 (length (y ∷ ys)) ≡ is_next ys y
 
 abbrev pub entry : FastPiece → List FastPiece → Entry
 entry y ys =
@@ -79,6 +79,7 @@ first_facts y opens valid =
       most = leb-true _ _ three.0;
       joined_length = λ more. omega (arith, length-take (min 6 (length_of y.bytes)) (drop 2 y.bytes), length-drop 2 y.bytes, enough, more, need);
       last_is = λ many. absurd (omega (arith, many));
+      was_next = refl;
     }
 
 -- what the next frame has
@@ -149,6 +150,7 @@ more_facts z zs y next valid f =
           let full : 8 ≤ length y.bytes = omega (arith, n.enough, more, need, n.fewer) in
           omega (arith, before, length-append (joined (length_of (opener_of z zs).bytes) (z ∷ zs)) (later_piece (left_after (length_of (opener_of z zs).bytes) (length (z ∷ zs))) y.bytes), ap length last, length-drop 1 y.bytes, full, valid);
       last_is = λ many more. last_by z zs y next valid f.most (piece_is (omega (arith, more))) (omega (arith, n.enough, more, need, n.fewer));
+      was_next = le-leb 2 (length (y ∷ z ∷ zs)) (omega arith) ∙ sym next;
     }
 
 pub facts_of : (y : FastPiece) (ys : List FastPiece) → IsSoFar (y ∷ ys) → Facts y ys (entry y ys)
@@ -158,16 +160,6 @@ facts_of y (z ∷ zs) so_far = more_facts z zs y so_far.0 so_far.1 (facts_of z z
 and_assoc : (a b c : Bool) → ((a && b) && c) ≡ (a && (b && c))
 and_assoc true b c = refl
 and_assoc false b c = refl
-
-pointwise_eq : (a b : List ℕ) → pointwise nat_eq a b ≡ true → a ≡ b
-pointwise_eq [] [] same = refl
-pointwise_eq [] (y ∷ b) same = cc
-pointwise_eq (x ∷ a) [] same = cc
-pointwise_eq (x ∷ a) (y ∷ b) same =
-    let parts = both_true _ _ same in
-    let head : x ≡ y = eqb-true x y parts.0 in
-    let tail = pointwise_eq a b parts.1 in
-    cc
 
 counter_by : (bytes : List ℕ) (b : Bool) → (length bytes == 0) ≡ b → is_no_later bytes ≡ true → counter_of bytes ≡ 0
 counter_by [] b none first = refl
@@ -197,30 +189,20 @@ module _ (y : FastPiece) (ys : List FastPiece) (x : FastPiece) (f : Facts y ys (
       (and_assoc (counter_of x.bytes == length (y ∷ ys)) (sequence_of x.bytes == sequence_of (opener_of y ys).bytes)
       (nat_le (1 + min 7 (left_after (length_of (opener_of y ys).bytes) (length (y ∷ ys)))) (length x.bytes)))
 
-  small_need : need_of (length_of (opener_of y ys).bytes) ≤ 32
-  small_need = let need = need_is (length_of (opener_of y ys).bytes) in let most = f.most in omega arith
-
-  repeat_by : length (y ∷ ys) < need_of (length_of (opener_of y ys).bytes) → (t b : Bool) → nat_le 2 (length (y ∷ ys)) ≡ t → pointwise nat_eq x.bytes y.bytes ≡ b → is_again (entry y ys) x.bytes ≡ is_repeat (y ∷ ys) x
-  repeat_by more false b two same = simp (two, and_false)
-  repeat_by more true false two same =
-      let last : pointwise nat_eq x.bytes (last_frame (entry y ys)) ≡ false = subst (λ l. pointwise nat_eq x.bytes l ≡ false) (f.last_is (leb-true _ _ two) more) same in
-      simp (two, same, last, and_false)
-  repeat_by more true true two same =
-      let is = f.last_is (leb-true _ _ two) more in
-      let last : pointwise nat_eq x.bytes (last_frame (entry y ys)) ≡ true = subst (λ l. pointwise nat_eq x.bytes l ≡ true) is same in
-      let small = small_need in
-      let turn : counter_of (last_frame (entry y ys)) ≡ length (y ∷ ys) - 1 = omega (arith, small, more) in
-      let counter : (counter_of x.bytes == (length (y ∷ ys) - 1)) ≡ true = eq-eqb _ _ (ap counter_of (pointwise_eq x.bytes (last_frame (entry y ys)) last) ∙ turn) in
-      simp (two, same, last, counter)
+  repeat_by : length (y ∷ ys) < need_of (length_of (opener_of y ys).bytes) → (t : Bool) → nat_le 2 (length (y ∷ ys)) ≡ t → is_again (entry y ys) x.bytes ≡ is_repeat (y ∷ ys) x
+  repeat_by more false two = let first : is_next ys y ≡ false = sym f.was_next ∙ two in simp (two, first, and_false)
+  repeat_by more true two =
+      let later : is_next ys y ≡ true = sym f.was_next ∙ two in
+      rw (two, later, sym (f.last_is (leb-true _ _ two) more)) refl
 
   pub tests_repeat : length (y ∷ ys) < need_of (length_of (opener_of y ys).bytes) → is_again (entry y ys) x.bytes ≡ is_repeat (y ∷ ys) x
-  tests_repeat more = repeat_by more _ _ refl refl
+  tests_repeat more = repeat_by more _ refl
 
   -- a repeat has the counter before the next one's
   pub repeat_apart : is_repeat (y ∷ ys) x ≡ true → is_next (y ∷ ys) x ≡ false
   repeat_apart again =
-      let counter : counter_of x.bytes ≡ length (y ∷ ys) - 1 = eqb-true _ _ (both_true _ _ again).0 in
-      let other : (counter_of x.bytes == length (y ∷ ys)) ≡ false = ne_eqb _ _ (λ e. omega arith) in
+      let counter = (repeat_counter y ys x again).0 in
+      let other : (counter_of x.bytes == length (y ∷ ys)) ≡ false = ne_eqb _ _ (λ e. omega (arith, counter)) in
       simp other
 
   pub grown_is : length (y ∷ ys) < need_of (length_of (opener_of y ys).bytes)

@@ -1,6 +1,7 @@
 -- Fast packets are runs, so what is promised of runs holds of them.
-use Rattle.std.proofs.Common.{◌≡◌, ℕ, ◌-◌, ◌==◌, ◌&&◌, nat_le, nat_lt, Bool, true, false, List, [], ◌∷◌, length, refl, arith}
-use Rattle.std.proofs.lemmas.Bool.{eqb-true, leb-true, ne_eqb, le-ltb}
+use Rattle.std.specs.Cmp.Lexicographic.{pointwise}
+use Rattle.std.proofs.Common.{◌≡◌, ℕ, ◌≤◌, ◌==◌, ◌&&◌, nat_eq, nat_lt, Bool, true, false, List, [], ◌∷◌, length, refl, ◌∙◌, ap, arith}
+use Rattle.std.proofs.lemmas.Bool.{eqb-true, ne_eqb, le-ltb}
 use Rattle.runs.specs.Runs.{IsLawful, is_whole, opener_of}
 use Rattle.fast_packet.specs.FastFrames.{counter_of, length_of, need_of, is_opener}
 use Rattle.fast_packet.specs.FastRuns.{FastPiece, is_next, is_repeat, fast_rules}
@@ -17,15 +18,32 @@ and_false false = refl
 pub no_next : (y : FastPiece) (ys : List FastPiece) (x : FastPiece) → counter_of x.bytes ≡ 0 → is_next (y ∷ ys) x ≡ false
 no_next y ys x none = let other : (counter_of x.bytes == length (y ∷ ys)) ≡ false = ne_eqb _ _ (λ e. omega arith) in simp other
 
-small : (n k : ℕ) → n ≡ 0 → nat_le 2 k ≡ true → (n == k - 1) ≡ false
-small n k none two = let many = leb-true 2 k two in ne_eqb n (k - 1) (λ e. omega arith)
+pointwise_eq : (a b : List ℕ) → pointwise nat_eq a b ≡ true → a ≡ b
+pointwise_eq [] [] same = refl
+pointwise_eq [] (y ∷ b) same = cc
+pointwise_eq (x ∷ a) [] same = cc
+pointwise_eq (x ∷ a) (y ∷ b) same =
+    let parts = both_true _ _ same in
+    let head : x ≡ y = eqb-true x y parts.0 in
+    let tail = pointwise_eq a b parts.1 in
+    cc
 
-no_repeat_by : (y : FastPiece) (ys : List FastPiece) (x : FastPiece) (b : Bool) → nat_le 2 (length (y ∷ ys)) ≡ b → counter_of x.bytes ≡ 0 → is_repeat (y ∷ ys) x ≡ false
-no_repeat_by y ys x true two none = let other = small (counter_of x.bytes) (length (y ∷ ys)) none two in simp other
-no_repeat_by y ys x false two none = simp (two, and_false)
+-- a repeat has the counter of the frame that it repeats, which was a next one
+pub repeat_counter : (y : FastPiece) (ys : List FastPiece) (x : FastPiece) → is_repeat (y ∷ ys) x ≡ true → (counter_of x.bytes ≡ length ys) × (1 ≤ length ys)
+repeat_counter y [] x again = let none : false ≡ true = (both_true (length x.bytes == 8) false again).1 in cc
+repeat_counter y (z ∷ zs) x again =
+    let later = both_true (length x.bytes == 8) _ again in
+    let next = both_true (is_next (z ∷ zs) y) _ later.1 in
+    let counter : counter_of y.bytes ≡ length (z ∷ zs) = eqb-true _ _ (both_true (counter_of y.bytes == length (z ∷ zs)) _ next.0).0 in
+    let same = pointwise_eq x.bytes y.bytes (both_true (nat_lt (length (y ∷ z ∷ zs)) (need_of (length_of (opener_of y (z ∷ zs)).bytes))) _ next.1).1 in
+    (ap counter_of same ∙ counter, omega arith)
 
 pub no_repeat : (y : FastPiece) (ys : List FastPiece) (x : FastPiece) → counter_of x.bytes ≡ 0 → is_repeat (y ∷ ys) x ≡ false
-no_repeat y ys x none = no_repeat_by y ys x _ refl none
+no_repeat y ys x none = by (is_repeat (y ∷ ys) x) refl
+  where
+    by : (b : Bool) → is_repeat (y ∷ ys) x ≡ b → is_repeat (y ∷ ys) x ≡ false
+    by true again = let (counter, some) = repeat_counter y ys x again in absurd (omega (arith, counter, some, none))
+    by false other = other
 
 -- nothing follows what is whole
 none_past : (k n : ℕ) → k ≡ n → nat_lt k n ≡ false
@@ -38,7 +56,7 @@ lawful = record { opener_is_new = new; whole_ends = ends }
     new [] x opens = (refl, refl)
     new (y ∷ ys) x opens =
         let none : counter_of x.bytes ≡ 0 = eqb-true _ _ (both_true _ _ opens).0 in
-        (no_next y ys x none, no_repeat_by y ys x _ refl none)
+        (no_next y ys x none, no_repeat y ys x none)
 
     ends : (acc : List FastPiece) (x : FastPiece) → is_whole fast_rules acc ≡ true → (is_next acc x ≡ false) × (is_repeat acc x ≡ false)
     ends [] x whole = (refl, refl)

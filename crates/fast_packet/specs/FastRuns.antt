@@ -1,6 +1,6 @@
 -- What a fast packet is: a run of frames of one sender and PGN.
 use Rattle.std.specs.Cmp.Lexicographic.{pointwise}
-use Rattle.std.specs.Prelude.{ℕ, ◌+◌, ◌-◌, Bool, false, ◌&&◌, ◌==◌, nat_eq, nat_le, nat_lt, min, List, [], ◌∷◌, ◌++◌, length}
+use Rattle.std.specs.Prelude.{ℕ, ◌+◌, Bool, false, ◌&&◌, ◌==◌, nat_eq, nat_le, nat_lt, min, List, [], ◌∷◌, ◌++◌, length}
 use Rattle.runs.specs.Runs.{Rules, opener_of}
 use Rattle.fast_packet.specs.FastFrames.{gap, counter_of, sequence_of, length_of, need_of, left_after, is_opener, first_piece, later_piece}
 
@@ -19,13 +19,11 @@ is_next (y ∷ ys) x =
     (counter_of x.bytes == k) && ((sequence_of x.bytes == sequence_of first) && (nat_lt k (need_of (length_of first))
     && nat_le (1 + min 7 (left_after (length_of first) k)) (length x.bytes)))
 
--- a repeat is the last frame again, of 8 bytes, where that is neither frame 0 nor the last frame of the message
+-- a repeat is the last frame again, of 8 bytes, where that was a next one, so not frame 0, and isn't the last frame of the message
 abbrev pub is_repeat : List FastPiece → FastPiece → Bool
 is_repeat [] x = false
 is_repeat (y ∷ ys) x =
-    let k = length (y ∷ ys) in
-    (counter_of x.bytes == (k - 1)) && ((length x.bytes == 8) && (nat_le 2 k && (nat_lt k (need_of (length_of (opener_of y ys).bytes))
-    && pointwise nat_eq x.bytes y.bytes)))
+    (length x.bytes == 8) && (is_next ys y && (nat_lt (length (y ∷ ys)) (need_of (length_of (opener_of y ys).bytes)) && pointwise nat_eq x.bytes y.bytes))
 
 abbrev pub fast_rules : Rules FastPiece
 fast_rules = record {

@@ -1,5 +1,5 @@
 -- The rules of fast packets in the table are the assembler's refusals.
-use Rattle.std.proofs.Common.{◌≡◌, ◌-◌, Bool, true, false, ◌&&◌, ◌||◌, not, ◌==◌, nat_le, List, [], ◌∷◌, ◌++◌, length, is_some, is_none, refl, sym, ap, ◌∙◌, arith}
+use Rattle.std.proofs.Common.{◌≡◌, Bool, true, false, ◌&&◌, ◌||◌, not, ◌==◌, nat_le, List, [], ◌∷◌, ◌++◌, length, is_some, is_none, refl, sym, ap, ◌∙◌, arith}
 use Rattle.std.specs.Prelude.{Option, Some, None}
 use Rattle.std.proofs.lemmas.Bool.{and_parts, eqb-true, eqb-false, eq-eqb, ne_eqb, leb-true, lt-ltb, le-ltb, false≢true}
 use Rattle.report_rules.specs.Rules as rules
@@ -13,6 +13,7 @@ use Rattle.fast_packet.specs.FastFrames.{counter_of, sequence_of, length_of, is_
 use Rattle.fast_packet.specs.FastRuns.{FastPiece, is_next, is_repeat}
 use Rattle.fast_packet.specs.Keys.{refused, is_awaited}
 use Rattle.fast_packet.proofs.Assemblies.{counter_zero}
+use Rattle.fast_packet.proofs.Lawful.{repeat_counter}
 use Rattle.history.specs.Emits.{Rule, breaks, broken_of}
 use Rattle.history.specs.Traces.{fast_piece}
 use Rattle.history.specs.BusRules.{is_later_frame, is_cut_off, is_wrong_length, is_out_of_order, message_rule}
@@ -70,8 +71,11 @@ module _ (x : FastPiece) where
   awaited_alone [] e = refl
   awaited_alone (y ∷ ys) e =
       let here = eqb-true (counter_of x.bytes) (length (y ∷ ys)) (and_parts (counter_of x.bytes == length (y ∷ ys)) _ e).0 in
-      let other : (counter_of x.bytes == length (y ∷ ys) - 1) ≡ false = ne_eqb _ _ (λ i. omega arith) in
-      rw other refl
+      by (is_repeat (y ∷ ys) x) refl here
+    where
+      by : (b : Bool) → is_repeat (y ∷ ys) x ≡ b → counter_of x.bytes ≡ length (y ∷ ys) → is_repeat (y ∷ ys) x ≡ false
+      by true again here = let counter = (repeat_counter y ys x again).0 in absurd (omega (arith, counter, here))
+      by false other here = other
 
   next_awaited : (acc : List FastPiece) → is_next acc x ≡ true → is_awaited acc x ≡ true
   next_awaited [] e = absurd (false≢true e)

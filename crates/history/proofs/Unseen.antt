@@ -34,7 +34,7 @@ fast_unseen = record {
 
     again : (acc : List FastPiece) (x : FastPiece) → fast.is_repeat (map fast_norm acc) (fast_norm x) ≡ fast.is_repeat acc x
     again [] x = refl
-    again (y ∷ ys) x = rw (opener_map fast_norm y ys, length-map ys fast_norm) refl
+    again (y ∷ ys) x = rw (next ys y, opener_map fast_norm y ys, length-map ys fast_norm) refl
 
 pub iso_unseen : (addressed : Bool) → IsUnseen (iso_rules addressed) iso_norm
 iso_unseen addressed = record {
