@@ -208,7 +208,10 @@ said_same a i j m src (Some x) (Some y) v (Some w) t u e f same = rw f (by (src 
     by true = ap (λ (z : ℕ). made z ∷ from a t) names ∙ ap (λ (z : List Plain). made y.name.0 ∷ z) same
     by false = same
 
-not_session : (kinds : ℕ → Kind) (k : Known) (n : Note) (older : List Note) → is_transport n.parts ≡ false → completed_by kinds k n older ≡ by_kind (kinds n.parts.pgn) k n older
+abbrev own_trace : Known → Note → List Note → List FastPiece
+own_trace k n older = fast_trace k n.parts.source n.parts.pgn (n ∷ older)
+
+not_session : (kinds : ℕ → Kind) (k : Known) (n : Note) (older : List Note) → is_transport n.parts ≡ false → completed_by kinds k n older ≡ by_kind (kinds n.parts.pgn) n (own_trace k n older)
 not_session kinds k n older e = rw e refl
 
 module _ (c d : Receiver) (s a : ℕ) (h g : History) (m : ℕ) (f : BusFrame) (are : IsReceiver c) (too : IsReceiver d) (alike : Alike c d s a h g) (other : is_claim f ≡ false)
@@ -303,7 +306,8 @@ module _ (c d : Receiver) (s a : ℕ) (h g : History) (m : ℕ) (f : BusFrame) (
         choose : (b d : Bool) → b ≡ d → {x y : Option Carried} → x ≡ y → (if b then x else None) ≡ (if d then y else None)
         choose b d e {x = x} {y = y} same = rw (e, same) refl
 
-    kind_done : (kind : Kind) → c.kinds (parts_of f.id).pgn ≡ kind → by_kind kind (known c s h) (the_note c s h m f) (notes_of c s h) ≡ by_kind kind (known d s g) (the_note d s g m f) (notes_of d s g)
+    kind_done : (kind : Kind) → c.kinds (parts_of f.id).pgn ≡ kind → by_kind kind (the_note c s h m f) (own_trace (known c s h) (the_note c s h m f) (notes_of c s h))
+        ≡ by_kind kind (the_note d s g m f) (own_trace (known d s g) (the_note d s g m f) (notes_of d s g))
     kind_done Single e = refl
     kind_done Fast e =
         subst (λ (x : ℕ). fast_carried (parts_of f.id).pgn (run_of fast_rules (fast_trace (known c s h) x (parts_of f.id).pgn (the_note c s h m f ∷ notes_of c s h)))
@@ -317,7 +321,7 @@ module _ (c d : Receiver) (s a : ℕ) (h g : History) (m : ℕ) (f : BusFrame) (
         by true e = completed_iso c.kinds (known c s h) (the_note c s h m f) (notes_of c s h) e ∙ session_done ∙ sym (completed_iso d.kinds (known d s g) (the_note d s g m f) (notes_of d s g) e)
         by false e =
             not_session c.kinds (known c s h) (the_note c s h m f) (notes_of c s h) e ∙ kind_done (c.kinds (parts_of f.id).pgn) refl
-            ∙ ap (λ (kind : Kind). by_kind kind (known d s g) (the_note d s g m f) (notes_of d s g)) (sym (alike.kinds (parts_of f.id).pgn))
+            ∙ ap (λ (kind : Kind). by_kind kind (the_note d s g m f) (own_trace (known d s g) (the_note d s g m f) (notes_of d s g))) (sym (alike.kinds (parts_of f.id).pgn))
             ∙ sym (not_session d.kinds (known d s g) (the_note d s g m f) (notes_of d s g) e)
 
     pub own_alike : Alike c d s a (frame m f ∷ h) (frame m f ∷ g)

@@ -42,10 +42,10 @@ abbrev pub iso_carried : Option (List IsoPiece) → Option Carried
 iso_carried run = option_map (λ r. carried (session_of r).pgn (iso.payload r)) run
 
 -- what a frame completes that is no transport frame: it is a message, or ends a run
-abbrev pub by_kind : Kind → Known → Note → List Note → Option Carried
-by_kind Single k n older = Some (carried n.parts.pgn n.bytes)
-by_kind Fast k n older = fast_carried n.parts.pgn (run_of fast_rules (fast_trace k n.parts.source n.parts.pgn (n ∷ older)))
-by_kind Outside k n older = None
+abbrev pub by_kind : Kind → Note → List FastPiece → Option Carried
+by_kind Single n trace = Some (carried n.parts.pgn n.bytes)
+by_kind Fast n trace = fast_carried n.parts.pgn (run_of fast_rules trace)
+by_kind Outside n trace = None
 
 -- and what a transport frame to all or to the gateway completes, where it bears on a session
 abbrev pub by_session : Known → Note → List Note → Option Carried
@@ -55,7 +55,9 @@ by_session k n older = let addressed = (key_of n.parts).addressed in
     else None
 
 abbrev pub completed_by : (ℕ → Kind) → Known → Note → List Note → Option Carried
-completed_by kinds k n older = if is_transport n.parts then by_session k n older else by_kind (kinds n.parts.pgn) k n older
+completed_by kinds k n older =
+    if is_transport n.parts then by_session k n older
+    else by_kind (kinds n.parts.pgn) n (fast_trace k n.parts.source n.parts.pgn (n ∷ older))
 
 abbrev pub said_by : ℕ → ℕ → ℕ → Option Holder → Option Carried → Option Message
 said_by index moment source None what = None
