@@ -278,7 +278,7 @@ pub entries_say_one : EntriesSayOne
 entries_say_one c s h (frame m f) =
     let breaks = reported (frame_refused (receiver_of c) s h m f) in
     let answers = answers_by (receiver_of c) s h m f (meaning_after (receiver_of c) s h m f) in
-    let o = chosen c (known (receiver_of c) s h) (messages_of (receiver_of c) s h) (done (receiver_of c) s h (frame m f)) in
+    let o = chosen c (known (receiver_of c) s h).claims.holders (messages_of (receiver_of c) s h) (done (receiver_of c) s h (frame m f)) in
     let said = said_in c (spoken_of c s h) o in
     let quiet : nets_in (expired c s h m ++ (breaks ++ answers)) ≡ [] =
     none (expired c s h m) (breaks ++ answers) (no_expired c s h m)

@@ -233,7 +233,7 @@ module _ (c : Settings) (s : ℕ) (h : History) (m : ℕ) (are : IsReceiver (rec
       let k = r_known in
       let refused = reported (frame_refused (receiver_of c) s h m f) in
       let answers = answers_by (receiver_of c) s h m f (meaning_after (receiver_of c) s h m f) in
-      let o = chosen c k (messages_of (receiver_of c) s h) (done (receiver_of c) s h (frame m f)) in
+      let o = chosen c k.claims.holders (messages_of (receiver_of c) s h) (done (receiver_of c) s h (frame m f)) in
       let said = said_in c (spoken_of c s h) o in
       let both = two_lengths refused answers 17 (2 * c.fast_slots + 3 * c.iso_slots + 1) (refused_length f) (answers_length f (meaning_after (receiver_of c) s h m f)) in
       let all = two_lengths (refused ++ answers) said (17 + (2 * c.fast_slots + 3 * c.iso_slots + 1)) 1 both (said_length c (spoken_of c s h) o) in

@@ -71,7 +71,7 @@ module _ (rule : RowRule) (k : Known) (row : Row) (older : List Message) (r : Ro
       inner : {x y : Note} → Some x ≡ Some y → x ≡ y
       inner e = cc
 
-  to : list_any (outranks r.timeout source rank m) r.notes ≡ true → list_any (λ d. choice.outranks rule k row rank m older d.source) older ≡ true
+  to : list_any (outranks r.timeout source rank m) r.notes ≡ true → list_any (λ d. choice.outranks rule k.claims.holders row rank m older d.source) older ≡ true
   to e =
       let n = found_one (outranks r.timeout source rank m) 0 r.sources r.notes h.apart e in
       let both = and_parts (not (n.0.source == source) && is_before n.0.rank rank) (is_fresh r.timeout m n.0) n.1 in
@@ -94,9 +94,9 @@ module _ (rule : RowRule) (k : Known) (row : Row) (older : List Message) (r : Ro
       inner : {x y : Note} → Some x ≡ Some y → x ≡ y
       inner e = cc
 
-  from : list_any (λ d. choice.outranks rule k row rank m older d.source) older ≡ true → list_any (outranks r.timeout source rank m) r.notes ≡ true
+  from : list_any (λ d. choice.outranks rule k.claims.holders row rank m older d.source) older ≡ true → list_any (outranks r.timeout source rank m) r.notes ≡ true
   from e =
-      let one = some_one (λ d. choice.outranks rule k row rank m older d.source) older e in
+      let one = some_one (λ d. choice.outranks rule k.claims.holders row rank m older d.source) older e in
       let a = one.0.source in
       let beaten : beats rule k row rank m older a ≡ true = sym (same_test rule k row rank m older a) ∙ one.1 in
       let parts = and_parts (is_better rank (holder_rank rule (holder_at k.claims.holders a))) (still_counts rule.timeout m (last_of k row a older)) beaten in

@@ -14,7 +14,7 @@ use Rattle.source_choice.specs.Notes.{is_before}
 use Rattle.claim_table.specs.Claims.{holder_at}
 use Rattle.claim_table.specs.declared.answer.Holder.{Holder}
 use Rattle.history.specs.Settings.{Settings, RowRule, same_row, rule_of}
-use Rattle.history.specs.Known.{Known, since_of}
+use Rattle.history.specs.Known.{held_since}
 use Rattle.history.specs.Messages.{Message}
 
 -- a rank is the first place of the list whose pattern matches the NAME, and the NAME; others come after all listed ones, where they are taken
@@ -66,8 +66,8 @@ abbrev pub is_fresh_since : RowRule → Row → ℕ → ℕ → List Message →
 is_fresh_since rule row source m older None = false
 is_fresh_since rule row source m older (Some since) = still_counts rule.timeout m (find (is_of row source since) older)
 
-abbrev pub is_fresh : RowRule → Known → Row → ℕ → ℕ → List Message → Bool
-is_fresh rule k row source m older = is_fresh_since rule row source m older (since_of k source)
+abbrev pub is_fresh : RowRule → List (Option Holder) → Row → ℕ → ℕ → List Message → Bool
+is_fresh rule holders row source m older = is_fresh_since rule row source m older (held_since holders source)
 
 -- ---- whose message is selected
 
@@ -80,20 +80,20 @@ holder_rank rule None = None
 holder_rank rule (Some holder) = rank_of rule holder.name.0
 
 -- the holder of the address by its NAME has a smaller rank, and is fresh
-abbrev pub outranks : RowRule → Known → Row → Rank → ℕ → List Message → ℕ → Bool
-outranks rule k row rank m older source = is_better rank (holder_rank rule (holder_at k.claims.holders source)) && is_fresh rule k row source m older
+abbrev pub outranks : RowRule → List (Option Holder) → Row → Rank → ℕ → List Message → ℕ → Bool
+outranks rule holders row rank m older source = is_better rank (holder_rank rule (holder_at holders source)) && is_fresh rule holders row source m older
 
 -- a message with a reading is selected where its NAME has a rank in the row, and no source of a smaller rank is fresh just before;
 -- only one that has sent a message can be
-abbrev pub is_first : RowRule → Known → Row → ℕ → List Message → Option Rank → Bool
-is_first rule k row m older None = false
-is_first rule k row m older (Some rank) = not (list_any (λ d. outranks rule k row rank m older d.source) older)
+abbrev pub is_first : RowRule → List (Option Holder) → Row → ℕ → List Message → Option Rank → Bool
+is_first rule holders row m older None = false
+is_first rule holders row m older (Some rank) = not (list_any (λ d. outranks rule holders row rank m older d.source) older)
 
-abbrev pub selected_reading : Settings → Known → List Message → Message → Option Reading → Option Reading
-selected_reading c k older d None = None
-selected_reading c k older d (Some r) = let row = row_of r in let rule = rule_of c row in
-    if is_first rule k row d.moment older (rank_of rule d.name) then Some r else None
+abbrev pub selected_reading : Settings → List (Option Holder) → List Message → Message → Option Reading → Option Reading
+selected_reading c holders older d None = None
+selected_reading c holders older d (Some r) = let row = row_of r in let rule = rule_of c row in
+    if is_first rule holders row d.moment older (rank_of rule d.name) then Some r else None
 
 -- the reading of a message that is selected among those before it
-abbrev pub selected : Settings → Known → List Message → Message → Option Reading
-selected c k older d = selected_reading c k older d (reading_of d)
+abbrev pub selected : Settings → List (Option Holder) → List Message → Message → Option Reading
+selected c holders older d = selected_reading c holders older d (reading_of d)

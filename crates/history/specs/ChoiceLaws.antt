@@ -32,7 +32,7 @@ beats rule k row rank m older a = is_better rank (holder_rank rule (holder_at k.
 abbrev pub FirstByAddresses : Type 0
 FirstByAddresses =
     (rule : RowRule) (k : Known) (row : Row) (rank : Rank) (m : ℕ) (older : List Message) (n : ℕ) → length k.claims.holders ≤ n
-    → is_first rule k row m older (Some rank) ≡ not (list_any (beats rule k row rank m older) (addresses n))
+    → is_first rule k.claims.holders row m older (Some rank) ≡ not (list_any (beats rule k row rank m older) (addresses n))
 
 -- what is noted of an address in a row: its last message since its holder has it, where that NAME has a rank
 abbrev pub noted_with : ℕ → Option Rank → Option Message → Option Note
@@ -52,7 +52,7 @@ pub record HoldsNotes (rule : RowRule) (k : Known) (row : Row) (older : List Mes
 abbrev pub FirstByNotes : Type 0
 FirstByNotes =
     (rule : RowRule) (k : Known) (row : Row) (older : List Message) (r : RowNotes) (source : ℕ) (rank : Rank) (m : ℕ) → HoldsNotes rule k row older r
-    → holder_rank rule (holder_at k.claims.holders source) ≡ Some rank → is_selected r source rank m ≡ is_first rule k row m older (Some rank)
+    → holder_rank rule (holder_at k.claims.holders source) ≡ Some rank → is_selected r source rank m ≡ is_first rule k.claims.holders row m older (Some rank)
 
 -- the same of the network, where a source goes by its place among those that are listed
 abbrev pub net_noted : ℕ → Option NetReading → Option Note

@@ -31,7 +31,7 @@ tells row source (Some d) = (d.source == source) && is_row row (reading_of d)
 abbrev pub FreshByLast : Type 0
 FreshByLast =
     (rule : RowRule) (k : Known) (row : Row) (source m : ℕ) (older : List Message)
-    → is_fresh rule k row source m older ≡ still_counts rule.timeout m (last_of k row source older)
+    → is_fresh rule k.claims.holders row source m older ≡ still_counts rule.timeout m (last_of k row source older)
 
 -- a message takes the place of the one before, of its row and its source
 abbrev pub MessagesAreKept : Type 0

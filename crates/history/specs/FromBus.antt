@@ -7,6 +7,7 @@ use Rattle.n2k_id.specs.Identifier.{parts_of}
 use Rattle.report_rules.specs.Rules as rules
 use Rattle.claim_table.specs.Claims.{Claims, claim, is_obeyed}
 use Rattle.claim_table.specs.declared.answer.ClaimStep.{ClaimStep}
+use Rattle.claim_table.specs.declared.answer.Holder.{Holder}
 use Rattle.claim_table.specs.declared.answer.OwnAnswer.{OwnAnswer}
 use Rattle.claim_table.specs.declared.answer.OwnAnswer.TheVariants.{Silent, Defend, Move, CannotClaim, Duplicate}
 use Rattle.readings.specs.declared.reading.Reading.{Reading}
@@ -75,9 +76,9 @@ session_gives own packets n = replied own n.parts.source (session_reply (key_of 
 
 -- ---- a message that is selected is said in one datagram
 
-abbrev pub chosen : Settings → Known → List Message → Option Message → Option Reading
-chosen c k older None = None
-chosen c k older (Some d) = selected c k older d
+abbrev pub chosen : Settings → List (Option Holder) → List Message → Option Message → Option Reading
+chosen c holders older None = None
+chosen c holders older (Some d) = selected c holders older d
 
 abbrev pub said_in : Settings → List Spoken → Option Reading → List Emit
 said_in c before None = []
@@ -121,7 +122,7 @@ abbrev pub from_frame : Settings → ℕ → History → ℕ → BusFrame → Li
 from_frame c s h m f before =
     let r = receiver_of c in
     reported (frame_refused r s h m f) ++ answers_by r s h m f (meaning_after r s h m f)
-    ++ said_in c before (chosen c (known r s h) (messages_of r s h) (done r s h (entry.frame m f)))
+    ++ said_in c before (chosen c (known r s h).claims.holders (messages_of r s h) (done r s h (entry.frame m f)))
 
 -- ---- a command to go to an address (ISO 11783-5), which is obeyed or is rule 26
 

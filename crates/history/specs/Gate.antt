@@ -37,7 +37,7 @@ module _ (c : Settings) (s : ℕ) where
 
   abbrev pub spoken_of : History → List Spoken
   spoken_of [] = []
-  spoken_of (e ∷ h) = with_spoken (chosen c (known (receiver_of c) s h) (messages_of (receiver_of c) s h) (done (receiver_of c) s h e)) (spoken_of h)
+  spoken_of (e ∷ h) = with_spoken (chosen c (known (receiver_of c) s h).claims.holders (messages_of (receiver_of c) s h) (done (receiver_of c) s h e)) (spoken_of h)
 
   -- the items of a datagram that comes after a history
   abbrev pub came : History → ℕ → Result (List Item) DatagramFault → List Came

@@ -1,11 +1,12 @@
 -- Who holds which address of the bus (ISO 11783-5, address claims and the commanded address), as a fold over the history.
-use Rattle.std.specs.Prelude.{ℕ, Bool, ◌&&◌, not, ◌==◌, nat_le, [], ◌∷◌, length, Option, Some, None, option_map, if◌then◌else◌}
+use Rattle.std.specs.Prelude.{ℕ, Bool, ◌&&◌, not, ◌==◌, nat_le, List, [], ◌∷◌, length, Option, Some, None, option_map, if◌then◌else◌}
 use Rattle.n2k_id.specs.Frame.{BusFrame}
 use Rattle.n2k_id.specs.Identifier.{parts_of}
 use Rattle.n2k_id.specs.Name.{name_at}
 use Rattle.claim_table.specs.Presets.{opened}
 use Rattle.claim_table.specs.declared.answer.ClaimStep.{ClaimStep}
 use Rattle.claim_table.specs.Claims.{Claims, Claim, claim_of, started, claim, command, holder_at, is_at}
+use Rattle.claim_table.specs.declared.answer.Holder.{Holder}
 use Rattle.history.specs.Pgns as pgns
 use Rattle.history.specs.Entries as entry
 use Rattle.history.specs.Entries.{Entry, History}
@@ -20,8 +21,11 @@ abbrev pub is_own : Known → ℕ → Bool
 is_own k a = is_at a k.claims.own
 
 -- since which entry the holder of an address has it
+abbrev pub held_since : List (Option Holder) → ℕ → Option ℕ
+held_since holders a = option_map (λ holder. holder.since) (holder_at holders a)
+
 abbrev pub since_of : Known → ℕ → Option ℕ
-since_of k a = option_map (λ holder. holder.since) (holder_at k.claims.holders a)
+since_of k a = held_since k.claims.holders a
 
 -- a claim is a frame of PGN 60928 with the 8 bytes of a NAME, from an address other than 255
 abbrev pub is_claim : BusFrame → Bool
