@@ -29,7 +29,7 @@ use Rattle.history.specs.Traces.{Note, iso_piece, is_transport, is_bearing}
 use Rattle.history.specs.BusRules.{is_early, opens_session, frame_table, frame_breaks}
 use Rattle.history.specs.FromBus.{meaning_after, frames_before, packets_before, frame_refused}
 use Rattle.history.specs.KeyLaws.{the_note, is_meant, concerns}
-use Rattle.history.specs.IsolationLaws.{opens, NoneRefused}
+use Rattle.history.specs.IsolationLaws.{opens_message, NoneRefused}
 use Rattle.history.specs.RoomLaws.{says_full, FullIsReported, NoneFull, RefusalsAreReported}
 use Rattle.history.proofs.Addresses.{addresses_are_sound}
 use Rattle.history.proofs.KeySteps.{eqb-sym}
@@ -299,7 +299,7 @@ refusals_are_reported r s h a are = (to h, from h)
     to : (h : History) → NoneRefused r s h a → NoneFull r s h a
     to [] rooms = tt
     to (frame m f ∷ h) rooms = (
-      (λ own. none_is_full (says_full (frame_refused r s h m f)) (opens r.kinds (known r s h) (the_note r s h m f)) (the_note r s h m f).admitted
+      (λ own. none_is_full (says_full (frame_refused r s h m f)) (opens_message r.kinds (known r s h) (the_note r s h m f)) (the_note r s h m f).admitted
           (full_is_reported r s h m f are) (rooms.0 own)),
       to h rooms.1,
     )
@@ -310,7 +310,7 @@ refusals_are_reported r s h a are = (to h, from h)
     from : (h : History) → NoneFull r s h a → NoneRefused r s h a
     from [] none = tt
     from (frame m f ∷ h) none = (
-      (λ own opening. there_is_room (says_full (frame_refused r s h m f)) (opens r.kinds (known r s h) (the_note r s h m f)) (the_note r s h m f).admitted
+      (λ own opening. there_is_room (says_full (frame_refused r s h m f)) (opens_message r.kinds (known r s h) (the_note r s h m f)) (the_note r s h m f).admitted
           (full_is_reported r s h m f are) (none.0 own) opening),
       from h none.1,
     )

@@ -30,7 +30,7 @@ use Rattle.history.specs.Messages.{Message, Carried, messages_of, said_by, with_
 use Rattle.history.specs.AddressLaws.{IsReceiver}
 use Rattle.history.specs.TraceLaws.{is_lost, same_own}
 use Rattle.history.specs.KeyLaws.{is_meant, concerns, the_note}
-use Rattle.history.specs.IsolationLaws.{keeps, narrowed, plain, from, opens, FindsRoom, NoneRefused, Isolation, IsolationOfTwo}
+use Rattle.history.specs.IsolationLaws.{keeps, narrowed, plain, from, opens_message, FindsRoom, NoneRefused, Isolation, IsolationOfTwo}
 use Rattle.iso_transport.specs.Connection.{control_at}
 use Rattle.history.specs.IsolationLaws.{Plain}
 use Rattle.history.proofs.KeySteps.{known_same}
@@ -395,7 +395,7 @@ module _ (c : Receiver) (s a : ℕ) (h g : History) (m : ℕ) (f : BusFrame) (ar
       ≡ concerns (known c s g) (the_note c s g m f) (record { addressed = (key_of (parts_of f.id)).addressed; source = x }))
       (sym from_it) (concerns_same c c s a h g m f are are alike other source (key_of (parts_of f.id)).addressed)
 
-  opens_same : opens c.kinds (known c s h) (the_note c s h m f) ≡ opens c.kinds (known c s g) (the_note c s g m f)
+  opens_same : opens_message c.kinds (known c s h) (the_note c s h m f) ≡ opens_message c.kinds (known c s g) (the_note c s g m f)
   opens_same =
       ap (λ (b : Bool). (b && (is_fast (c.kinds (parts_of f.id).pgn) && is_opener f.held)) || (concerns (known c s h) (the_note c s h m f) (key_of (parts_of f.id)) && iso_opener (key_of (parts_of f.id)).addressed (iso_piece (the_note c s h m f)))) held_there
       ∙ ap (λ (b : Bool). (is_some (since_of (known c s g) (parts_of f.id).source) && (is_fast (c.kinds (parts_of f.id).pgn) && is_opener f.held)) || (b && iso_opener (key_of (parts_of f.id)).addressed (iso_piece (the_note c s h m f)))) concerns_there

@@ -24,7 +24,7 @@ use Rattle.history.specs.Traces.{Note, fast_piece, fast_trace, fast_trace_since,
 use Rattle.history.specs.Opens.{is_fast, notes_of}
 use Rattle.history.specs.AddressLaws.{IsReceiver}
 use Rattle.history.specs.KeyLaws.{is_meant, concerns, the_note}
-use Rattle.history.specs.IsolationLaws.{opens, FindsRoom, NoneRefused}
+use Rattle.history.specs.IsolationLaws.{opens_message, FindsRoom, NoneRefused}
 use Rattle.history.proofs.Addresses.{addresses_are_sound}
 use Rattle.history.proofs.KeySteps.{known_same, other_piece}
 use Rattle.history.proofs.SessionSteps.{IsLate, late, trace_is}
@@ -71,7 +71,7 @@ fast_past k a p n notes e = other_piece (since_of k a) a p n notes (rw e refl)
 -- ---- what counts and is an opener of its rules opens a message
 
 fast_opens : (c : Receiver) (k : Known) (n : Note) (a p : ℕ) → (n.parts.source == a) ≡ true → is_fast (c.kinds p) ≡ true → (is_some (since_of k a) && (n.parts.pgn == p)) ≡ true
-    → fast_rules.opens (fast_piece n) ≡ true → opens c.kinds k n ≡ true
+    → fast_rules.opens (fast_piece n) ≡ true → opens_message c.kinds k n ≡ true
 fast_opens c k n a p source kind counts opening =
     let parts = and_parts (is_some (since_of k a)) (n.parts.pgn == p) counts in
     let held : is_some (since_of k n.parts.source) ≡ true = subst (λ (x : ℕ). is_some (since_of k x) ≡ true) (sym (eqb-true n.parts.source a source)) parts.0 in
@@ -113,7 +113,7 @@ key_is k sound n a addressed e =
     to false f = ap not f
 
 iso_opens : (kinds : ℕ → Kind) (k : Known) → IsSound k.claims → (n : Note) (a : ℕ) (addressed : Bool) → concerns k n (record { addressed = addressed; source = a }) ≡ true
-    → (iso_rules addressed).opens (iso_piece n) ≡ true → opens kinds k n ≡ true
+    → (iso_rules addressed).opens (iso_piece n) ≡ true → opens_message kinds k n ≡ true
 iso_opens kinds k sound n a addressed e opening =
     second _ (concerns k n (key_of n.parts) && iso_opener (key_of n.parts).addressed (iso_piece n))
     (subst (λ (x : IsoKey). (concerns k n x && iso_opener x.addressed (iso_piece n)) ≡ true) (sym (key_is k sound n a addressed e))

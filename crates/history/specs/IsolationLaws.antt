@@ -39,14 +39,14 @@ abbrev pub from : ℕ → List Message → List Plain
 from a older = map plain (filter (λ d. d.source == a) older)
 
 -- a frame opens a message: it begins a fast packet of a source that holds its address, or a session that concerns the gateway
-abbrev pub opens : (ℕ → Kind) → Known → Note → Bool
-opens kinds k n =
+abbrev pub opens_message : (ℕ → Kind) → Known → Note → Bool
+opens_message kinds k n =
     (is_some (since_of k n.parts.source) && (is_fast (kinds n.parts.pgn) && fast.is_opener n.bytes))
     || (concerns k n (key_of n.parts) && iso.is_opener (key_of n.parts).addressed (iso_piece n))
 
 -- by what is known when it comes, the frame is no opener from the address, or finds room
 abbrev pub FindsRoom : (ℕ → Kind) → ℕ → Known → Note → Type 0
-FindsRoom kinds a k n = (n.parts.source == a) ≡ true → opens kinds k n ≡ true → n.admitted ≡ true
+FindsRoom kinds a k n = (n.parts.source == a) ≡ true → opens_message kinds k n ≡ true → n.admitted ≡ true
 
 -- no opener from the address was refused for want of room
 abbrev pub NoneRefused : Receiver → ℕ → History → ℕ → Type 0

@@ -11,7 +11,7 @@ use Rattle.history.specs.Receiver.{Receiver}
 use Rattle.history.specs.Known.{known}
 use Rattle.history.specs.FromBus.{frame_refused}
 use Rattle.history.specs.KeyLaws.{the_note}
-use Rattle.history.specs.IsolationLaws.{opens, NoneRefused}
+use Rattle.history.specs.IsolationLaws.{opens_message, NoneRefused}
 
 -- rule 15 is among some reports
 abbrev pub says_full : List Report → Bool
@@ -22,7 +22,7 @@ abbrev pub FullIsReported : Type 0
 FullIsReported =
     (r : Receiver) (s : ℕ) (h : History) (m : ℕ) (f : BusFrame) → IsReceiver r
     → says_full (frame_refused r s h m f)
-    ≡ (opens r.kinds (known r s h) (the_note r s h m f) && not (the_note r s h m f).admitted)
+    ≡ (opens_message r.kinds (known r s h) (the_note r s h m f) && not (the_note r s h m f).admitted)
 
 -- no frame from the address broke it
 abbrev pub NoneFull : Receiver → ℕ → History → ℕ → Type 0
