@@ -11,7 +11,7 @@ use Rattle.claim_table.proofs.SoundLemmas.{held_within}
 use Rattle.source_choice.specs.declared.rank.Rank.{Rank}
 use Rattle.history.specs.Entries.{frame, datagram, tick, command}
 use Rattle.history.specs.Settings.{RowRule}
-use Rattle.history.specs.Known.{Known, known, since_of, is_claim, claim_by}
+use Rattle.history.specs.Known.{Known, known, held_since, is_claim, claim_by}
 use Rattle.history.specs.Messages.{Message, Carried, messages_of, said_by, with_message, completed_by}
 use Rattle.history.specs.Opens.{note_of, notes_of}
 use Rattle.history.specs.Choice.{is_better, holder_rank, still_counts, outranks, is_of}
@@ -61,49 +61,49 @@ found_any q p (x ∷ older) d e agrees = by (q x) refl e (λ f. found_any q p ol
     by true eq e more = rw (agrees x eq) refl
     by false eq e more = or_right (p x) (list_any p older) (more e)
 
-module _ (rule : RowRule) (k : Known) (row : Row) (rank : Rank) (m : ℕ) (older : List Message) where
-  pub same_test : (a : ℕ) → outranks rule k.claims.holders row rank m older a ≡ beats rule k row rank m older a
-  same_test a = ap (λ (b : Bool). is_better rank (holder_rank rule (holder_at k.claims.holders a)) && b) (fresh_by_last rule k row a m older)
+module _ (rule : RowRule) (holders : List (Option Holder)) (row : Row) (rank : Rank) (m : ℕ) (older : List Message) where
+  pub same_test : (a : ℕ) → outranks rule holders row rank m older a ≡ beats rule holders row rank m older a
+  same_test a = ap (λ (b : Bool). is_better rank (holder_rank rule (holder_at holders a)) && b) (fresh_by_last rule holders row a m older)
 
-  held : (a : ℕ) → beats rule k row rank m older a ≡ true → a < length k.claims.holders
-  held a e = by (holder_at k.claims.holders a) refl (and_parts (is_better rank (holder_rank rule (holder_at k.claims.holders a))) (still_counts rule.timeout m (last_of k row a older)) e).0
+  held : (a : ℕ) → beats rule holders row rank m older a ≡ true → a < length holders
+  held a e = by (holder_at holders a) refl (and_parts (is_better rank (holder_rank rule (holder_at holders a))) (still_counts rule.timeout m (last_of holders row a older)) e).0
     where
-      by : (x : Option Holder) → holder_at k.claims.holders a ≡ x → is_better rank (holder_rank rule x) ≡ true → a < length k.claims.holders
+      by : (x : Option Holder) → holder_at holders a ≡ x → is_better rank (holder_rank rule x) ≡ true → a < length holders
       by None e better = absurd (false≢true better)
-      by (Some x) e better = held_within k.claims.holders a x e
+      by (Some x) e better = held_within holders a x e
 
-  -- an address that beats the rank has sent a message
-  pub has_sent : (a : ℕ) → beats rule k row rank m older a ≡ true → list_any (λ d. outranks rule k.claims.holders row rank m older d.source) older ≡ true
+  -- an address that beats the ranholders has sent a message
+  pub has_sent : (a : ℕ) → beats rule holders row rank m older a ≡ true → list_any (λ d. outranks rule holders row rank m older d.source) older ≡ true
   has_sent a e =
-      by (since_of k a) refl (and_parts (is_better rank (holder_rank rule (holder_at k.claims.holders a))) (still_counts rule.timeout m (last_of k row a older)) e).1
+      by (held_since holders a) refl (and_parts (is_better rank (holder_rank rule (holder_at holders a))) (still_counts rule.timeout m (last_of holders row a older)) e).1
     where
-      from_it : (x : Message) (since : ℕ) → is_of row a since x ≡ true → outranks rule k.claims.holders row rank m older x.source ≡ true
+      from_it : (x : Message) (since : ℕ) → is_of row a since x ≡ true → outranks rule holders row rank m older x.source ≡ true
       from_it x since is =
           let same = eqb-true x.source a (and_parts (x.source == a) _ is).0 in
-          subst (λ (y : ℕ). outranks rule k.claims.holders row rank m older y ≡ true) (sym same) (same_test a ∙ e)
+          subst (λ (y : ℕ). outranks rule holders row rank m older y ≡ true) (sym same) (same_test a ∙ e)
 
       last : (since : ℕ) (o : Option Message) → find (is_of row a since) older ≡ o → still_counts rule.timeout m o ≡ true
-          → list_any (λ d. outranks rule k.claims.holders row rank m older d.source) older ≡ true
+          → list_any (λ d. outranks rule holders row rank m older d.source) older ≡ true
       last since None e counts = absurd (false≢true counts)
-      last since (Some d) e counts = found_any (is_of row a since) (λ x. outranks rule k.claims.holders row rank m older x.source) older d e (λ x is. from_it x since is)
+      last since (Some d) e counts = found_any (is_of row a since) (λ x. outranks rule holders row rank m older x.source) older d e (λ x is. from_it x since is)
 
-      by : (since : Option ℕ) → since_of k a ≡ since → still_counts rule.timeout m (last_since row a older since) ≡ true
-          → list_any (λ d. outranks rule k.claims.holders row rank m older d.source) older ≡ true
+      by : (since : Option ℕ) → held_since holders a ≡ since → still_counts rule.timeout m (last_since row a older since) ≡ true
+          → list_any (λ d. outranks rule holders row rank m older d.source) older ≡ true
       by None e counts = absurd (false≢true counts)
       by (Some since) e counts = last since (find (is_of row a since) older) refl counts
 
 pub first_by_addresses : FirstByAddresses
-first_by_addresses rule k row rank m older n enough = ap not (both_ways _ _ there back)
+first_by_addresses rule holders row rank m older n enough = ap not (both_ways _ _ there back)
   where
-    there : list_any (λ d. outranks rule k.claims.holders row rank m older d.source) older ≡ true → list_any (beats rule k row rank m older) (addresses n) ≡ true
+    there : list_any (λ d. outranks rule holders row rank m older d.source) older ≡ true → list_any (beats rule holders row rank m older) (addresses n) ≡ true
     there e =
-        let one = some_one (λ d. outranks rule k.claims.holders row rank m older d.source) older e in
-        let beaten : beats rule k row rank m older one.0.source ≡ true = sym (same_test rule k row rank m older one.0.source) ∙ one.1 in
-        let within = held rule k row rank m older one.0.source beaten in
-        below_any (beats rule k row rank m older) n one.0.source (omega (arith, within, enough)) beaten
+        let one = some_one (λ d. outranks rule holders row rank m older d.source) older e in
+        let beaten : beats rule holders row rank m older one.0.source ≡ true = sym (same_test rule holders row rank m older one.0.source) ∙ one.1 in
+        let within = held rule holders row rank m older one.0.source beaten in
+        below_any (beats rule holders row rank m older) n one.0.source (omega (arith, within, enough)) beaten
 
-    back : list_any (beats rule k row rank m older) (addresses n) ≡ true → list_any (λ d. outranks rule k.claims.holders row rank m older d.source) older ≡ true
-    back e = let one = some_one (beats rule k row rank m older) (addresses n) e in has_sent rule k row rank m older one.0 one.1
+    back : list_any (beats rule holders row rank m older) (addresses n) ≡ true → list_any (λ d. outranks rule holders row rank m older d.source) older ≡ true
+    back e = let one = some_one (beats rule holders row rank m older) (addresses n) e in has_sent rule holders row rank m older one.0 one.1
 
 -- ---- the NAME of a message
 

@@ -136,9 +136,9 @@ if_none false x y ex ey = ey
 
 -- ---- what ends
 
-no_fast_expired : (k : Known) (notes : List Note) (earlier m : ℕ) (kinds : ℕ → Kind) → nets_in (fast_expired k notes earlier m kinds) ≡ []
+no_fast_expired : (k : Known) (notes : List Note) (earlier m : ℕ) (kinds : ℕ → Kind) → nets_in (fast_expired k.claims.holders notes earlier m kinds) ≡ []
 no_fast_expired k notes earlier m kinds =
-    no_flat (λ (key : FastKey). of_source rules.expired key.source key.pgn ∷ []) (λ key. refl) (filter (fast_ended k earlier k m notes) (fast_keys kinds notes))
+    no_flat (λ (key : FastKey). of_source rules.expired key.source key.pgn ∷ []) (λ key. refl) (filter (fast_ended k.claims.holders earlier k.claims.holders m notes) (fast_keys kinds notes))
 
 no_iso_expired : (k : Known) (notes : List Note) (earlier m : ℕ) → nets_in (iso_expired k notes earlier m) ≡ []
 no_iso_expired k notes earlier m = no_flat ends (λ key. no_reply k.claims.own key.source (abort_reply key.addressed (session_pgn k notes key earlier))) (filter (iso_ended k earlier k m notes) (iso_keys notes))
@@ -156,15 +156,15 @@ module _ (k after : Known) (notes : List Note) (m : ℕ) where
       no_flat (λ (key : IsoKey). of_source rules.claim_lost key.source (session_pgn k notes key m) ∷ []) (λ key. refl)
       (filter (λ key. is_meant key && iso_ended k m after m notes key) (iso_keys notes))
 
-  no_fast_lost : (kinds : ℕ → Kind) (is_meant : FastKey → Bool) → nets_in (fast_lost k after notes m kinds is_meant) ≡ []
+  no_fast_lost : (kinds : ℕ → Kind) (is_meant : FastKey → Bool) → nets_in (fast_lost k.claims.holders after.claims.holders notes m kinds is_meant) ≡ []
   no_fast_lost kinds is_meant =
       no_flat (λ (key : FastKey). of_source rules.claim_lost key.source key.pgn ∷ []) (λ key. refl)
-      (filter (λ key. is_meant key && fast_ended k m after m notes key) (fast_keys kinds notes))
+      (filter (λ key. is_meant key && fast_ended k.claims.holders m after.claims.holders m notes key) (fast_keys kinds notes))
 
   no_lost : (kinds : ℕ → Kind) (a : Option ℕ) → nets_in (lost_at k after notes m kinds a) ≡ []
   no_lost kinds None = refl
   no_lost kinds (Some a) =
-      none (fast_lost k after notes m kinds (λ key. key.source == a)) (iso_lost k after notes m (λ key. key.source == a))
+      none (fast_lost k.claims.holders after.claims.holders notes m kinds (λ key. key.source == a)) (iso_lost k after notes m (λ key. key.source == a))
       (no_fast_lost kinds (λ key. key.source == a)) (no_iso_lost (λ key. key.source == a))
 
 -- ---- a frame and a command
@@ -219,8 +219,8 @@ module _ (c : Settings) (s : ℕ) (h : History) (m : ℕ) where
       let k = known (receiver_of c) s h in
       let notes = notes_of (receiver_of c) s h in
       let lines = lines_of c (heard c s h) in
-      none (fast_expired k notes (now h) m kind_of ++ iso_expired k notes (now h) m) (groups_expired lines (now h) m)
-      (none (fast_expired k notes (now h) m kind_of) (iso_expired k notes (now h) m) (no_fast_expired k notes (now h) m kind_of) (no_iso_expired k notes (now h) m))
+      none (fast_expired k.claims.holders notes (now h) m kind_of ++ iso_expired k notes (now h) m) (groups_expired lines (now h) m)
+      (none (fast_expired k.claims.holders notes (now h) m kind_of) (iso_expired k notes (now h) m) (no_fast_expired k notes (now h) m kind_of) (no_iso_expired k notes (now h) m))
       (no_groups_expired lines (now h) m)
 
 -- ---- a datagram

@@ -10,12 +10,13 @@ use Rattle.runs.specs.Runs.{open_at}
 use Rattle.fast_packet.specs.declared.key.FastKey.{FastKey}
 use Rattle.fast_packet.specs.FastRuns.{FastPiece, fast_rules}
 use Rattle.pgn_profile.specs.declared.kinds.Kind.{Kind}
-use Rattle.history.specs.Known.{Known, since_of}
+use Rattle.history.specs.Known.{Known, held_since}
 use Rattle.history.specs.Traces.{Note, fast_trace, fast_trace_since}
 use Rattle.history.specs.Opens.{placed, is_fast, same_fast, precedes_fast, fast_keys, fast_open}
 use Rattle.history.specs.CountLaws.{HoldsFast, CountsFast, SlotsCountFast}
 use Rattle.history.proofs.KeySteps.{eqb-sym, other_piece}
 use Rattle.history.proofs.Counts.{all_placed, any_placed, distinct_placed, Held, counted, room}
+use Rattle.claim_table.specs.declared.answer.Holder.{Holder}
 
 -- each key that came has a PGN of fast packets
 pub fast_all : (kinds : ℕ → Kind) (notes : List Note) → AllByRecursion (λ key. is_fast (kinds key.pgn) ≡ true) (fast_keys kinds notes)
@@ -69,7 +70,7 @@ no_frames kinds key (Some since) (n ∷ notes) fast none = by (is_fast (kinds n.
         other (sym (same_fast_as key (record { source = n.parts.source; pgn = n.parts.pgn })) ∙ parts.0) (rest parts.1)
     by false e absent rest = other (rw (other_kind e) (and_no (n.parts.source == key.source))) (rest absent)
 
-module _ (kinds : ℕ → Kind) (cmp : FastKey → FastKey → Ordering) (k : Known) (notes : List Note) (m : ℕ) (slots : SlotMap FastKey) (h : HoldsFast kinds cmp k notes m slots) where
+module _ (kinds : ℕ → Kind) (cmp : FastKey → FastKey → Ordering) (holders : List (Option Holder)) (notes : List Note) (m : ℕ) (slots : SlotMap FastKey) (h : HoldsFast kinds cmp holders notes m slots) where
   distinct_keys : (ns : List Note) → IsDistinct (eq_by_cmp cmp) (fast_keys kinds ns)
   unfolding IsDistinct
   distinct_keys [] = tt
@@ -80,17 +81,17 @@ module _ (kinds : ℕ → Kind) (cmp : FastKey → FastKey → Ordering) (k : Kn
       by true rest = distinct_placed h.order same_fast precedes_fast h.tells (record { source = n.parts.source; pgn = n.parts.pgn }) (fast_keys kinds ns) rest
       by false rest = rest
 
-  among : (key : FastKey) → is_fast (kinds key.pgn) ≡ true → is_some (fast_open k notes key m) ≡ true → list_any (same_fast key) (fast_keys kinds notes) ≡ true
+  among : (key : FastKey) → is_fast (kinds key.pgn) ≡ true → is_some (fast_open holders notes key m) ≡ true → list_any (same_fast key) (fast_keys kinds notes) ≡ true
   among key fast is_open = by (list_any (same_fast key) (fast_keys kinds notes)) refl
     where
       by : (b : Bool) → list_any (same_fast key) (fast_keys kinds notes) ≡ b → list_any (same_fast key) (fast_keys kinds notes) ≡ true
       by true e = e
       by false e =
-          let nothing : fast_trace k key.source key.pgn notes ≡ [] = no_frames kinds key (since_of k key.source) notes fast e in
-          let closed : is_some (fast_open k notes key m) ≡ false = ap (λ (t : List FastPiece). is_some (open_at fast_rules t m)) nothing in
+          let nothing : fast_trace holders key.source key.pgn notes ≡ [] = no_frames kinds key (held_since holders key.source) notes fast e in
+          let closed : is_some (fast_open holders notes key m) ≡ false = ap (λ (t : List FastPiece). is_some (open_at fast_rules t m)) nothing in
           absurd (false≢true (sym closed ∙ is_open))
 
-  pub held : Held cmp same_fast precedes_fast (fast_keys kinds notes) (λ key. is_fast (kinds key.pgn)) (λ key. is_some (fast_open k notes key m)) slots
+  pub held : Held cmp same_fast precedes_fast (fast_keys kinds notes) (λ key. is_fast (kinds key.pgn)) (λ key. is_some (fast_open holders notes key m)) slots
   held = record {
     order = h.order;
     tells = h.tells;
@@ -104,9 +105,9 @@ module _ (kinds : ℕ → Kind) (cmp : FastKey → FastKey → Ordering) (k : Kn
     among = among;
   }
 
-  pub counts : CountsFast kinds cmp k notes m slots
+  pub counts : CountsFast kinds cmp holders notes m slots
   unfolding held
   counts = record { count = counted held; room = room held }
 
 pub slots_count_fast : SlotsCountFast
-slots_count_fast kinds cmp k notes m slots h = counts kinds cmp k notes m slots h
+slots_count_fast kinds cmp holders notes m slots h = counts kinds cmp holders notes m slots h

@@ -90,10 +90,10 @@ two_lengths a b n o ea eb = rw (length-append a b) (omega (arith, ea, eb))
 -- ---- what ends
 
 module _ (k after : Known) (notes : List Note) (m n : ℕ) where
-  fast_few : (kinds : ℕ → Kind) (is_meant : FastKey → Bool) → length (filter (λ key. is_meant key && fast_ended k m after n notes key) (fast_keys kinds notes)) ≤ length (open_fast_keys kinds k notes m)
+  fast_few : (kinds : ℕ → Kind) (is_meant : FastKey → Bool) → length (filter (λ key. is_meant key && fast_ended k.claims.holders m after.claims.holders n notes key) (fast_keys kinds notes)) ≤ length (open_fast_keys kinds k.claims.holders notes m)
   fast_few kinds is_meant =
-      fewer_pass (λ key. is_meant key && fast_ended k m after n notes key) (λ key. is_some (fast_open k notes key m))
-      (λ key e. (and_parts (is_some (fast_open k notes key m)) _ (and_parts (is_meant key) (fast_ended k m after n notes key) e).1).0) (fast_keys kinds notes)
+      fewer_pass (λ key. is_meant key && fast_ended k.claims.holders m after.claims.holders n notes key) (λ key. is_some (fast_open k.claims.holders notes key m))
+      (λ key e. (and_parts (is_some (fast_open k.claims.holders notes key m)) _ (and_parts (is_meant key) (fast_ended k.claims.holders m after.claims.holders n notes key) e).1).0) (fast_keys kinds notes)
 
   iso_few : (is_meant : IsoKey → Bool) → length (filter (λ key. is_meant key && iso_ended k m after n notes key) (iso_keys notes)) ≤ length (open_iso_keys k notes m)
   iso_few is_meant =
@@ -101,9 +101,9 @@ module _ (k after : Known) (notes : List Note) (m n : ℕ) where
       (λ key e. (and_parts (is_some (iso_open k notes key m)) _ (and_parts (is_meant key) (iso_ended k m after n notes key) e).1).0) (iso_keys notes)
 
 module _ (k : Known) (notes : List Note) (earlier m : ℕ) where
-  fast_expired_length : (kinds : ℕ → Kind) → length (fast_expired k notes earlier m kinds) ≤ length (open_fast_keys kinds k notes earlier)
+  fast_expired_length : (kinds : ℕ → Kind) → length (fast_expired k.claims.holders notes earlier m kinds) ≤ length (open_fast_keys kinds k.claims.holders notes earlier)
   fast_expired_length kinds =
-      let one = flat_once (λ (key : FastKey). of_source rules.expired key.source key.pgn ∷ []) (λ key. omega arith) (filter (fast_ended k earlier k m notes) (fast_keys kinds notes)) in
+      let one = flat_once (λ (key : FastKey). of_source rules.expired key.source key.pgn ∷ []) (λ key. omega arith) (filter (fast_ended k.claims.holders earlier k.claims.holders m notes) (fast_keys kinds notes)) in
       let few = fast_few k k notes earlier m kinds (λ key. true) in
       omega (arith, one, few)
 
@@ -130,18 +130,18 @@ module _ (k after : Known) (notes : List Note) (m : ℕ) where
       let few = iso_few k after notes m m is_meant in
       omega (arith, one, few)
 
-  fast_lost_length : (kinds : ℕ → Kind) (is_meant : FastKey → Bool) → length (fast_lost k after notes m kinds is_meant) ≤ length (open_fast_keys kinds k notes m)
+  fast_lost_length : (kinds : ℕ → Kind) (is_meant : FastKey → Bool) → length (fast_lost k.claims.holders after.claims.holders notes m kinds is_meant) ≤ length (open_fast_keys kinds k.claims.holders notes m)
   fast_lost_length kinds is_meant =
       let one = flat_once (λ (key : FastKey). of_source rules.claim_lost key.source key.pgn ∷ []) (λ key. omega arith)
-      (filter (λ key. is_meant key && fast_ended k m after m notes key) (fast_keys kinds notes)) in
+      (filter (λ key. is_meant key && fast_ended k.claims.holders m after.claims.holders m notes key) (fast_keys kinds notes)) in
       let few = fast_few k after notes m m kinds is_meant in
       omega (arith, one, few)
 
-  lost_length : (kinds : ℕ → Kind) (a : Option ℕ) → length (lost_at k after notes m kinds a) ≤ length (open_fast_keys kinds k notes m) + length (open_iso_keys k notes m)
+  lost_length : (kinds : ℕ → Kind) (a : Option ℕ) → length (lost_at k after notes m kinds a) ≤ length (open_fast_keys kinds k.claims.holders notes m) + length (open_iso_keys k notes m)
   lost_length kinds None = omega arith
   lost_length kinds (Some a) =
-      two_lengths (fast_lost k after notes m kinds (λ key. key.source == a)) (iso_lost k after notes m (λ key. key.source == a))
-      (length (open_fast_keys kinds k notes m)) (length (open_iso_keys k notes m)) (fast_lost_length kinds (λ key. key.source == a)) (iso_lost_length (λ key. key.source == a))
+      two_lengths (fast_lost k.claims.holders after.claims.holders notes m kinds (λ key. key.source == a)) (iso_lost k after notes m (λ key. key.source == a))
+      (length (open_fast_keys kinds k.claims.holders notes m)) (length (open_iso_keys k notes m)) (fast_lost_length kinds (λ key. key.source == a)) (iso_lost_length (λ key. key.source == a))
 
 -- ---- what a frame and a command give
 
@@ -156,7 +156,7 @@ said_length : (c : Settings) (before : List Spoken) (o : Option Reading) → len
 said_length c before None = omega arith
 said_length c before (Some r) = omega arith
 
-step_length : (kinds : ℕ → Kind) (name : ℕ) (k after : Known) (notes : List Note) (m fast iso : ℕ) (step : ClaimStep) → length (open_fast_keys kinds k notes m) ≤ fast
+step_length : (kinds : ℕ → Kind) (name : ℕ) (k after : Known) (notes : List Note) (m fast iso : ℕ) (step : ClaimStep) → length (open_fast_keys kinds k.claims.holders notes m) ≤ fast
     → length (open_iso_keys k notes m) ≤ iso → length (step_gives kinds name k after notes m step) ≤ 2 * fast + 3 * iso + 1
 step_length kinds name k after notes m fast iso step few_fast few_iso =
     let left = lost_at k after notes m kinds (address_left step) in
@@ -179,7 +179,7 @@ module _ (c : Settings) (s : ℕ) (h : History) (m : ℕ) (are : IsReceiver (rec
   abbrev r_notes : List Note
   r_notes = notes_of (receiver_of c) s h
 
-  few_fast : length (open_fast_keys kind_of r_known r_notes m) ≤ c.fast_slots
+  few_fast : length (open_fast_keys kind_of r_known.claims.holders r_notes m) ≤ c.fast_slots
   few_fast = fast_within_limit (receiver_of c) s h m are is le
 
   few_iso : length (open_iso_keys r_known r_notes m) ≤ c.iso_slots
@@ -193,9 +193,9 @@ module _ (c : Settings) (s : ℕ) (h : History) (m : ℕ) (are : IsReceiver (rec
       let fast_limit = fast_within_limit (receiver_of c) s h (now h) are is (omega arith) in
       let iso_limit = iso_within_limit (receiver_of c) s h (now h) are is (omega arith) in
       let group_limit = groups_within_limit c s h (now h) is (omega arith) in
-      two_lengths (fast_expired r_known r_notes (now h) m kind_of ++ iso_expired r_known r_notes (now h) m) (groups_expired (lines_of c (heard c s h)) (now h) m)
+      two_lengths (fast_expired r_known.claims.holders r_notes (now h) m kind_of ++ iso_expired r_known r_notes (now h) m) (groups_expired (lines_of c (heard c s h)) (now h) m)
       (c.fast_slots + 2 * c.iso_slots) c.group_slots
-      (two_lengths (fast_expired r_known r_notes (now h) m kind_of) (iso_expired r_known r_notes (now h) m) c.fast_slots (2 * c.iso_slots)
+      (two_lengths (fast_expired r_known.claims.holders r_notes (now h) m kind_of) (iso_expired r_known r_notes (now h) m) c.fast_slots (2 * c.iso_slots)
       (omega (arith, fast, fast_limit)) (omega (arith, iso, iso_limit)))
       (omega (arith, groups, group_limit))
 
@@ -223,7 +223,7 @@ module _ (c : Settings) (s : ℕ) (h : History) (m : ℕ) (are : IsReceiver (rec
       let p = parts_of f.id in
       let n = note_of (receiver_of c) (length h) r_known r_notes m f in
       let meaning = meaning_after (receiver_of c) s h m f in
-      let table = frame_table c.name meaning n (frames_before meaning r_known r_notes m p) (packets_before meaning r_known r_notes m p) (done (receiver_of c) s h (frame m f)) in
+      let table = frame_table c.name meaning n (frames_before meaning r_known.claims.holders r_notes m p) (packets_before meaning r_known r_notes m p) (done (receiver_of c) s h (frame m f)) in
       let same = reported_length (broken_of table) in
       let few = broken_length table in
       omega (arith, same, few)

@@ -11,7 +11,7 @@ use Rattle.claim_table.specs.declared.answer.Holder.{Holder}
 use Rattle.claim_table.specs.Claims.{holder_at, claim}
 use Rattle.history.specs.Entries.{History, frame, datagram, tick, command}
 use Rattle.history.specs.Receiver.{Receiver}
-use Rattle.history.specs.Known.{Known, known, since_of, is_claim, claim_by, followed_by}
+use Rattle.history.specs.Known.{Known, known, held_since, is_claim, claim_by, followed_by}
 use Rattle.history.specs.Messages.{Message, Carried, done, messages_of, said_by, with_message, completed_by}
 use Rattle.history.specs.Opens.{note_of, notes_of}
 use Rattle.history.specs.Choice.{is_row, reading_of, is_of, is_fresh_since, still_counts}
@@ -25,7 +25,7 @@ use Rattle.history.proofs.Moves.{Moved}
 use Rattle.history.proofs.Moves as moves
 
 pub fresh_by_last : FreshByLast
-fresh_by_last rule k row source m older = by (since_of k source)
+fresh_by_last rule holders row source m older = by (held_since holders source)
   where
     by : (since : Option ℕ) → is_fresh_since rule row source m older since ≡ still_counts rule.timeout m (last_since row source older since)
     by None = refl
@@ -98,11 +98,11 @@ said_index n m from None what = tt
 said_index n m from (Some x) None = tt
 said_index n m from (Some x) (Some w) = refl
 
-said_held : (k : Known) (n m from source : ℕ) (x : Option Holder) (what : Option Carried) → holder_at k.claims.holders from ≡ x → IsHeld source (since_of k source) (said_by n m from x what)
+said_held : (k : Known) (n m from source : ℕ) (x : Option Holder) (what : Option Carried) → holder_at k.claims.holders from ≡ x → IsHeld source (held_since k.claims.holders source) (said_by n m from x what)
 said_held k n m from source None what e = tt
 said_held k n m from source (Some x) None e = tt
 said_held k n m from source (Some x) (Some w) e =
-    λ same. (x.since, ap (λ (a : ℕ). since_of k a) (sym (eqb-true from source same)) ∙ ap (option_map (λ (y : Holder). y.since)) e)
+    λ same. (x.since, ap (λ (a : ℕ). held_since k.claims.holders a) (sym (eqb-true from source same)) ∙ ap (option_map (λ (y : Holder). y.since)) e)
 
 dated : (c : Receiver) (s : ℕ) (h : History) → IsReceiver c → (source : ℕ) (x : Option Holder) → holder_at (known c s h).claims.holders source ≡ x
     → IsDated (option_map (λ (y : Holder). y.since) x) (length h)
@@ -112,7 +112,7 @@ dated c s h are source (Some x) e = dated_at (length h) (known c s h).claims.hol
 pub messages_are_kept : MessagesAreKept
 messages_are_kept c s h m f row source are other =
     rw (known_same c s h m f other)
-    (kept row source (length h) (messages_of c s h) (since_of (known c s h) source) (done c s h (frame m f))
+    (kept row source (length h) (messages_of c s h) (held_since (known c s h).claims.holders source) (done c s h (frame m f))
     (dated c s h are source (holder_at (known c s h).claims.holders source) refl)
     (said_index (length h) m (parts_of f.id).source (holder_at (known c s h).claims.holders (parts_of f.id).source) (completed_by c.kinds (known c s h) (note_of c (length h) (known c s h) (notes_of c s h) m f) (notes_of c s h)))
     (said_held (known c s h) (length h) m (parts_of f.id).source source (holder_at (known c s h).claims.holders (parts_of f.id).source) (completed_by c.kinds (known c s h) (note_of c (length h) (known c s h) (notes_of c s h) m f) (notes_of c s h)) refl))
@@ -150,9 +150,9 @@ module _ (row : Row) (source i : ℕ) (older : List Message) (below_i : AreBelow
 pub claims_forget : ClaimsForget
 claims_forget c s h m f row source are claims =
     rw (known_after_claim c s h m f claims)
-    (ap (λ (x : List Message). last_of (followed_by (length h) (known c s h) (claim (known c s h).claims (claim_by (length h) m f)).after) row source x) (claim_says_none c s h m f are claims)
-    ∙ by_move row source (length h) (messages_of c s h) (below c s h) (is_lost (claim (known c s h).claims (claim_by (length h) m f)).step source) (since_of (known c s h) source)
-    (since_of (followed_by (length h) (known c s h) (claim (known c s h).claims (claim_by (length h) m f)).after) source) (moved_since c s h m f are source))
+    (ap (λ (x : List Message). last_of (followed_by (length h) (known c s h) (claim (known c s h).claims (claim_by (length h) m f)).after).claims.holders row source x) (claim_says_none c s h m f are claims)
+    ∙ by_move row source (length h) (messages_of c s h) (below c s h) (is_lost (claim (known c s h).claims (claim_by (length h) m f)).step source) (held_since (known c s h).claims.holders source)
+    (held_since (followed_by (length h) (known c s h) (claim (known c s h).claims (claim_by (length h) m f)).after).claims.holders source) (moved_since c s h m f are source))
 
 pub commands_forget_none : CommandsForgetNone
 commands_forget_none c s h m from address row source = ap (last_since row source (messages_of c s h)) (same_since (length h) (known c s h) address m source)

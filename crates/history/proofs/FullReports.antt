@@ -4,7 +4,7 @@ use Rattle.std.specs.Prelude.{Option, Some, None, if◌then◌else◌, option_ma
 use Rattle.std.specs.List.{list_any}
 use Rattle.std.proofs.lemmas.Bool.{and_parts, eqb-true, eq-eqb, ltb-false, le-leb, false≢true}
 use Rattle.report_rules.specs.Rules as rules
-use Rattle.claim_table.specs.Claims.{holder_at}
+use Rattle.claim_table.specs.Claims.{is_at, holder_at}
 use Rattle.claim_table.specs.declared.answer.Holder.{Holder}
 use Rattle.claim_table.specs.Laws.{IsSound}
 use Rattle.pgn_profile.specs.declared.kinds.Kind.{Kind}
@@ -20,7 +20,7 @@ use Rattle.iso_transport.specs.IsoRuns.{IsoPiece, is_opener}
 use Rattle.history.specs.AddressLaws.{IsReceiver}
 use Rattle.history.specs.Entries.{History, frame, datagram, tick, command}
 use Rattle.history.specs.Receiver.{Receiver}
-use Rattle.history.specs.Known.{Known, known, is_own, since_of}
+use Rattle.history.specs.Known.{Known, known, held_since}
 use Rattle.history.specs.Emits.{Rule, broken_of}
 use Rattle.history.specs.Meanings.{Meaning, address_claim, own_source, request, transport, single, fast_packet, passed, if_held, by_kind, meaning_of, is_of_session, is_of_fast_packet}
 use Rattle.history.specs.Messages.{Message, done}
@@ -209,15 +209,15 @@ module _ (r : Receiver) (are : IsReceiver r) (k : Known) (sound : IsSound k.clai
       let same = eqb-true n.parts.source x is in
       ap is_some (ap (holder_at k.claims.holders) same ∙ sound.own_free x e)
 
-  own_turn : (own : Option ℕ) (d : ℕ) → k.claims.own ≡ own → is_own k d ≡ audience.is_own own d
+  own_turn : (own : Option ℕ) (d : ℕ) → k.claims.own ≡ own → is_at d k.claims.own ≡ audience.is_own own d
   own_turn None d e = rw e refl
   own_turn (Some x) d e = rw e (eqb-sym x d)
 
-  meant_by : (b : Bool) → (n.parts.destination == 255) ≡ b → is_meant k n (not b) ≡ is_to k.claims.own n.parts.destination
+  meant_by : (b : Bool) → (n.parts.destination == 255) ≡ b → is_meant k.claims.own n (not b) ≡ is_to k.claims.own n.parts.destination
   meant_by true e = rw e refl
   meant_by false e = rw e (own_turn k.claims.own n.parts.destination refl)
 
-  meant : is_meant k n (key_of n.parts).addressed ≡ is_to k.claims.own n.parts.destination
+  meant : is_meant k.claims.own n (key_of n.parts).addressed ≡ is_to k.claims.own n.parts.destination
   meant = meant_by (n.parts.destination == 255) refl
 
   outside_of : (q : ℕ) → r.kinds q ≡ Outside → (n.parts.pgn == q) ≡ true → r.kinds n.parts.pgn ≡ Outside
@@ -233,35 +233,35 @@ module _ (r : Receiver) (are : IsReceiver r) (k : Known) (sound : IsSound k.clai
   still : (q : ℕ) → (q == 60416) ≡ false → (q == 60160) ≡ false → (n.parts.pgn == q) ≡ true → is_transport n.parts ≡ false
   still q a b e = ap (λ (x : ℕ). (x == 60416) || (x == 60160)) (eqb-true n.parts.pgn q e) ∙ rw (a, b) refl
 
-  fast_is : is_of_fast_packet (meaning_of r.kinds k.claims.own k.claims.holders n.parts) ≡ (is_some (since_of k n.parts.source) && is_fast (r.kinds n.parts.pgn))
+  fast_is : is_of_fast_packet (meaning_of r.kinds k.claims.own k.claims.holders n.parts) ≡ (is_some (held_since k.claims.holders n.parts.source) && is_fast (r.kinds n.parts.pgn))
   fast_is =
       fast_of (n.parts.pgn == 60928) (audience.is_own k.claims.own n.parts.source) (n.parts.pgn == 59904) (is_transport n.parts) (is_to k.claims.own n.parts.destination)
       (is_some (holder_at k.claims.holders n.parts.source)) (r.kinds n.parts.pgn)
       (outside_of 60928 are.claims) (own_nobody k.claims.own refl) (outside_of 59904 are.requests) moved
       ∙ ap (λ (b : Bool). b && is_fast (r.kinds n.parts.pgn)) (sym (since_held (holder_at k.claims.holders n.parts.source)))
 
-  session_is : is_of_session (meaning_of r.kinds k.claims.own k.claims.holders n.parts) ≡ (is_some (since_of k n.parts.source) && (is_meant k n (key_of n.parts).addressed && is_transport n.parts))
+  session_is : is_of_session (meaning_of r.kinds k.claims.own k.claims.holders n.parts) ≡ (is_some (held_since k.claims.holders n.parts.source) && (is_meant k.claims.own n (key_of n.parts).addressed && is_transport n.parts))
   session_is =
       session_of (n.parts.pgn == 60928) (audience.is_own k.claims.own n.parts.source) (n.parts.pgn == 59904) (is_transport n.parts) (is_to k.claims.own n.parts.destination)
       (is_some (holder_at k.claims.holders n.parts.source)) (r.kinds n.parts.pgn)
       (still 60928 refl refl) (own_nobody k.claims.own refl) (still 59904 refl refl)
       ∙ ap (λ (b : Bool). b && (is_to k.claims.own n.parts.destination && is_transport n.parts)) (sym (since_held (holder_at k.claims.holders n.parts.source)))
-      ∙ ap (λ (b : Bool). is_some (since_of k n.parts.source) && (b && is_transport n.parts)) (sym meant)
+      ∙ ap (λ (b : Bool). is_some (held_since k.claims.holders n.parts.source) && (b && is_transport n.parts)) (sym meant)
 
-  -- what opens a session concerns the gateway
+  -- what opens a session concerns the.claims gateway
   opens_is : (o : Bool) → is_opener (key_of n.parts).addressed (iso_piece n) ≡ o
-      → ((is_some (since_of k n.parts.source) && (is_meant k n (key_of n.parts).addressed && is_transport n.parts))
+      → ((is_some (held_since k.claims.holders n.parts.source) && (is_meant k.claims.own n (key_of n.parts).addressed && is_transport n.parts))
       && ((o && not (is_early (key_of n.parts).addressed n.ready (iso_piece n))) && not n.admitted))
-      ≡ ((concerns k n (key_of n.parts) && o) && not n.admitted)
-  opens_is false e = rw (and_no (is_some (since_of k n.parts.source) && (is_meant k n (key_of n.parts).addressed && is_transport n.parts)), and_no (concerns k n (key_of n.parts))) refl
+      ≡ ((concerns k.claims n (key_of n.parts) && o) && not n.admitted)
+  opens_is false e = rw (and_no (is_some (held_since k.claims.holders n.parts.source) && (is_meant k.claims.own n (key_of n.parts).addressed && is_transport n.parts)), and_no (concerns k.claims n (key_of n.parts))) refl
   opens_is true e =
       let facts = opener_facts (key_of n.parts).addressed (iso_piece n) e in
-      gathered (is_some (since_of k n.parts.source)) (is_meant k n (key_of n.parts).addressed) (is_transport n.parts) (not (is_early (key_of n.parts).addressed n.ready (iso_piece n))) (not n.admitted)
-      ∙ ap (λ (b : Bool). (is_some (since_of k n.parts.source) && (is_meant k n (key_of n.parts).addressed && (is_transport n.parts && b))) && not n.admitted)
+      gathered (is_some (held_since k.claims.holders n.parts.source)) (is_meant k.claims.own n (key_of n.parts).addressed) (is_transport n.parts) (not (is_early (key_of n.parts).addressed n.ready (iso_piece n))) (not n.admitted)
+      ∙ ap (λ (b : Bool). (is_some (held_since k.claims.holders n.parts.source) && (is_meant k.claims.own n (key_of n.parts).addressed && (is_transport n.parts && b))) && not n.admitted)
       (sym (bears_where (key_of n.parts).addressed n.ready (iso_piece n) facts))
-      ∙ ap (λ (b : Bool). (is_some (since_of k n.parts.source) && (b && (is_meant k n (key_of n.parts).addressed && is_bearing (key_of n.parts).addressed n))) && not n.admitted)
+      ∙ ap (λ (b : Bool). (is_some (held_since k.claims.holders n.parts.source) && (b && (is_meant k.claims.own n (key_of n.parts).addressed && is_bearing (key_of n.parts).addressed n))) && not n.admitted)
       (sym (eq-eqb n.parts.source n.parts.source refl))
-      ∙ ap (λ (b : Bool). b && not n.admitted) (sym (and_yes (concerns k n (key_of n.parts))))
+      ∙ ap (λ (b : Bool). b && not n.admitted) (sym (and_yes (concerns k.claims n (key_of n.parts))))
     where
       and_yes : (b : Bool) → (b && true) ≡ b
       and_yes true = refl
@@ -272,15 +272,15 @@ full_is_reported r s h m f are =
     let k = known r s h in
     let n = the_note r s h m f in
     let sound = (addresses_are_sound r s h are).sound in
-    full_breaks r.name (meaning_after r s h m f) n (frames_before (meaning_after r s h m f) k (notes_of r s h) m n.parts)
+    full_breaks r.name (meaning_after r s h m f) n (frames_before (meaning_after r s h m f) k.claims.holders (notes_of r s h) m n.parts)
     (packets_before (meaning_after r s h m f) k (notes_of r s h) m n.parts) (done r s h (frame m f))
     ∙ ap (λ (b : Bool). (b && (fast.is_opener n.bytes && not n.admitted))
     || (is_of_session (meaning_after r s h m f) && (opens_session (key_of n.parts).addressed n.ready (iso_piece n) && not n.admitted))) (fast_is r are k sound n)
-    ∙ ap (λ (b : Bool). ((is_some (since_of k n.parts.source) && is_fast (r.kinds n.parts.pgn)) && (fast.is_opener n.bytes && not n.admitted))
+    ∙ ap (λ (b : Bool). ((is_some (held_since k.claims.holders n.parts.source) && is_fast (r.kinds n.parts.pgn)) && (fast.is_opener n.bytes && not n.admitted))
     || (b && (opens_session (key_of n.parts).addressed n.ready (iso_piece n) && not n.admitted))) (session_is r are k sound n)
-    ∙ ap (λ (b : Bool). ((is_some (since_of k n.parts.source) && is_fast (r.kinds n.parts.pgn)) && (fast.is_opener n.bytes && not n.admitted)) || b)
+    ∙ ap (λ (b : Bool). ((is_some (held_since k.claims.holders n.parts.source) && is_fast (r.kinds n.parts.pgn)) && (fast.is_opener n.bytes && not n.admitted)) || b)
     (opens_is r are k sound n (is_opener (key_of n.parts).addressed (iso_piece n)) refl)
-    ∙ spread (is_some (since_of k n.parts.source)) (is_fast (r.kinds n.parts.pgn)) (fast.is_opener n.bytes) (concerns k n (key_of n.parts) && is_opener (key_of n.parts).addressed (iso_piece n)) (not n.admitted)
+    ∙ spread (is_some (held_since k.claims.holders n.parts.source)) (is_fast (r.kinds n.parts.pgn)) (fast.is_opener n.bytes) (concerns k.claims n (key_of n.parts) && is_opener (key_of n.parts).addressed (iso_piece n)) (not n.admitted)
 
 -- ---- of a whole history
 
@@ -299,7 +299,7 @@ refusals_are_reported r s h a are = (to h, from h)
     to : (h : History) → NoneRefused r s h a → NoneFull r s h a
     to [] rooms = tt
     to (frame m f ∷ h) rooms = (
-      (λ own. none_is_full (says_full (frame_refused r s h m f)) (opens_message r.kinds (known r s h) (the_note r s h m f)) (the_note r s h m f).admitted
+      (λ own. none_is_full (says_full (frame_refused r s h m f)) (opens_message r.kinds (known r s h).claims (the_note r s h m f)) (the_note r s h m f).admitted
           (full_is_reported r s h m f are) (rooms.0 own)),
       to h rooms.1,
     )
@@ -310,7 +310,7 @@ refusals_are_reported r s h a are = (to h, from h)
     from : (h : History) → NoneFull r s h a → NoneRefused r s h a
     from [] none = tt
     from (frame m f ∷ h) none = (
-      (λ own opening. there_is_room (says_full (frame_refused r s h m f)) (opens_message r.kinds (known r s h) (the_note r s h m f)) (the_note r s h m f).admitted
+      (λ own opening. there_is_room (says_full (frame_refused r s h m f)) (opens_message r.kinds (known r s h).claims (the_note r s h m f)) (the_note r s h m f).admitted
           (full_is_reported r s h m f are) (none.0 own) opening),
       from h none.1,
     )

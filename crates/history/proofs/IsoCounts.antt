@@ -12,7 +12,7 @@ use Rattle.iso_transport.specs.declared.key.IsoKey.{IsoKey}
 use Rattle.iso_transport.specs.IsoRuns.{IsoPiece, iso_rules}
 use Rattle.iso_transport.specs.Audience.{key_of}
 use Rattle.claim_table.specs.Laws.{IsSound}
-use Rattle.history.specs.Known.{Known, since_of}
+use Rattle.history.specs.Known.{Known, held_since}
 use Rattle.history.specs.Traces.{Note, iso_trace, broadcast_since, addressed_since, is_transport, is_bearing}
 use Rattle.history.specs.Opens.{placed, same_iso, precedes_iso, iso_keys, iso_open}
 use Rattle.history.specs.CountLaws.{HoldsIso, CountsIso, SlotsCountIso}
@@ -99,25 +99,25 @@ module _ (k : Known) (sound : IsSound k.claims) where
 
   past : (addressed : Bool) (a : ℕ) (n : Note) (notes : List Note) → same_iso (record { addressed = addressed; source = a }) (key_of n.parts) ≡ false
       → iso_trace k addressed a (n ∷ notes) ≡ iso_trace k addressed a notes
-  past false a n notes other = broadcast_past (since_of k a) a n notes (apart_all a n other)
+  past false a n notes other = broadcast_past (held_since k.claims.holders a) a n notes (apart_all a n other)
   past true a n notes other =
-      addressed_past (since_of k a) k.claims.own k.own_since a n notes
+      addressed_past (held_since k.claims.holders a) k.claims.own k.own_since a n notes
       (λ own is. apart_own a own n (nat_le k.own_since n.index) (sound.own_within own is) other)
 
   past_other : (addressed : Bool) (a : ℕ) (n : Note) (notes : List Note) → is_transport n.parts ≡ false → iso_trace k addressed a (n ∷ notes) ≡ iso_trace k addressed a notes
   past_other false a n notes e =
-      broadcast_past (since_of k a) a n notes (rw (or_no_transport n false e, and_no (n.parts.destination == 255), and_no (n.parts.source == a)) refl)
+      broadcast_past (held_since k.claims.holders a) a n notes (rw (or_no_transport n false e, and_no (n.parts.destination == 255), and_no (n.parts.source == a)) refl)
   past_other true a n notes e =
-      addressed_past (since_of k a) k.claims.own k.own_since a n notes
+      addressed_past (held_since k.claims.holders a) k.claims.own k.own_since a n notes
       (λ own is. rw (or_no_transport n true e, and_no (nat_le k.own_since n.index), and_no (n.parts.destination == own), and_no (n.parts.source == a)) refl)
 
   no_trace : (addressed : Bool) (a : ℕ) → iso_trace k addressed a [] ≡ []
-  no_trace false a = none_to_all (since_of k a)
+  no_trace false a = none_to_all (held_since k.claims.holders a)
     where
       none_to_all : (since : Option ℕ) → broadcast_since since a [] ≡ []
       none_to_all None = refl
       none_to_all (Some since) = refl
-  no_trace true a = none_to_own (since_of k a) k.claims.own
+  no_trace true a = none_to_own (held_since k.claims.holders a) k.claims.own
     where
       none_to_own : (since own : Option ℕ) → addressed_since since own k.own_since a [] ≡ []
       none_to_own None own = refl

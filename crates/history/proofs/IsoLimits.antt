@@ -13,7 +13,7 @@ use Rattle.iso_transport.specs.IsoRuns.{IsoPiece, iso_rules}
 use Rattle.history.specs.Entries.{Entry, History, IsHistory, now, frame, datagram, tick}
 use Rattle.history.specs.Entries as entry
 use Rattle.history.specs.Receiver.{Receiver}
-use Rattle.history.specs.Known.{Known, known, is_claim, since_of}
+use Rattle.history.specs.Known.{Known, known, is_claim, held_since}
 use Rattle.history.specs.Traces.{Note, iso_piece, iso_trace, is_transport, is_bearing}
 use Rattle.history.specs.Opens.{same_iso, iso_keys, iso_open, open_iso_keys, notes_of}
 use Rattle.history.specs.AddressLaws.{IsReceiver}
@@ -53,13 +53,13 @@ no_more k l sound older notes m n limit was few =
           (λ key any is. among_open k sound older m key (was key is)),
     )
 
--- a frame that concerns a session is of the transport protocol
-transports : (k : Known) (n : Note) (key : IsoKey) → concerns k n key ≡ true → is_transport n.parts ≡ true
+-- a frame that concerns a.claims session is of the transport protocol
+transports : (k : Known) (n : Note) (key : IsoKey) → concerns k.claims n key ≡ true → is_transport n.parts ≡ true
 transports k n key e =
     (and_parts (is_transport n.parts) _
-    (and_parts (is_meant k n key.addressed) (is_bearing key.addressed n)
-    (and_parts (n.parts.source == key.source) (is_meant k n key.addressed && is_bearing key.addressed n)
-    (and_parts (is_some (since_of k key.source)) ((n.parts.source == key.source) && (is_meant k n key.addressed && is_bearing key.addressed n)) e).1).1).1).0
+    (and_parts (is_meant k.claims.own n key.addressed) (is_bearing key.addressed n)
+    (and_parts (n.parts.source == key.source) (is_meant k.claims.own n key.addressed && is_bearing key.addressed n)
+    (and_parts (is_some (held_since k.claims.holders key.source)) ((n.parts.source == key.source) && (is_meant k.claims.own n key.addressed && is_bearing key.addressed n)) e).1).1).1).0
 
 module _ (c : Receiver) (s : ℕ) (are : IsReceiver c) where
   sound : (h : History) → IsSound (known c s h).claims
@@ -81,9 +81,9 @@ module _ (c : Receiver) (s : ℕ) (are : IsReceiver c) where
 
     module _ (other : is_claim f ≡ false) where
       -- a frame that doesn't concern a session, or that had no room, leaves nothing of it that wasn't open
-      was : (key : IsoKey) → (concerns (known c s h) (the_note c s h m f) key ≡ true → (the_note c s h m f).admitted ≡ false)
+      was : (key : IsoKey) → (concerns (known c s h).claims (the_note c s h m f) key ≡ true → (the_note c s h m f).admitted ≡ false)
           → is_some (iso_open (known c s (frame m f ∷ h)) (notes_of c s (frame m f ∷ h)) key n) ≡ true → is_some (iso_open (known c s h) (notes_of c s h) key m) ≡ true
-      was key full is = by (concerns (known c s h) (the_note c s h m f) key) full (sym (ap is_some ((iso_steps c s h m f are other).left key n)) ∙ is)
+      was key full is = by (concerns (known c s h).claims (the_note c s h m f) key) full (sym (ap is_some ((iso_steps c s h m f are other).left key n)) ∙ is)
         where
           by : (b : Bool) → (b ≡ true → (the_note c s h m f).admitted ≡ false)
               → is_some (if b then kept_at (iso_rules key.addressed) (fed (iso_rules key.addressed) (iso_open (known c s h) (notes_of c s h) key m) (iso_piece (the_note c s h m f))) n else iso_open (known c s h) (notes_of c s h) key n) ≡ true
@@ -101,7 +101,7 @@ module _ (c : Receiver) (s : ℕ) (are : IsReceiver c) where
           (λ key any it full is. among_open (known c s h) (sound h) (notes_of c s h) m key (was key (λ e. rw (transports (known c s h) (the_note c s h m f) key e) full) is))
           few
         where
-          same : (key : IsoKey) → concerns (known c s h) (the_note c s h m f) key ≡ true → same_iso key (key_of (parts_of f.id)) ≡ true
+          same : (key : IsoKey) → concerns (known c s h).claims (the_note c s h m f) key ≡ true → same_iso key (key_of (parts_of f.id)) ≡ true
           same key e = subst (λ (x : IsoKey). same_iso key x ≡ true) (sym (key_is (known c s h) (sound h) (the_note c s h m f) key.source key.addressed e)) (iso_itself key)
 
   commanded : (h : History) (m source address n : ℕ) (key : IsoKey)

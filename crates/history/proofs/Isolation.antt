@@ -7,7 +7,7 @@ use Rattle.n2k_id.specs.Frame.{BusFrame}
 use Rattle.n2k_id.specs.Identifier.{parts_of}
 use Rattle.claim_table.specs.declared.answer.Holder.{Holder}
 use Rattle.claim_table.specs.declared.answer.ClaimStep.{ClaimStep}
-use Rattle.claim_table.specs.Claims.{Claims, Claim, Outcome, claim, command, holder_at, is_ready, started}
+use Rattle.claim_table.specs.Claims.{is_at, Claims, Claim, Outcome, claim, command, holder_at, is_ready, started}
 use Rattle.claim_table.specs.Presets.{opened, repeats}
 use Rattle.claim_table.specs.declared.preset.Preset.{Preset}
 use Rattle.pgn_profile.specs.declared.kinds.Kind.{Kind}
@@ -21,7 +21,7 @@ use Rattle.iso_transport.specs.declared.key.IsoKey.{IsoKey}
 use Rattle.history.specs.Entries.{Entry, History, frame, datagram, tick}
 use Rattle.history.specs.Entries as entry
 use Rattle.history.specs.Receiver.{Receiver}
-use Rattle.history.specs.Known.{Known, known, is_own, is_claim, claim_by, since_of}
+use Rattle.history.specs.Known.{Known, known, is_claim, claim_by, held_since}
 use Rattle.fast_packet.specs.FastFrames.{is_opener}
 use Rattle.iso_transport.specs.IsoRuns.{is_opener as iso_opener}
 use Rattle.history.specs.Traces.{Note, fast_piece, fast_trace, iso_piece, iso_trace, is_transport, is_bearing}
@@ -50,7 +50,7 @@ use Rattle.history.proofs.Unseen.{fast_norm, iso_norm, fast_unseen, iso_unseen, 
 pub record Alike (c d : Receiver) (s a : ℕ) (h g : History) : Type 0 where
   pub kinds : (p : ℕ) → d.kinds p ≡ c.kinds p
   pub claims : erased (known c s h).claims ≡ erased (known d s g).claims
-  pub fast : (p : ℕ) → c.kinds p ≡ Fast → map fast_norm (fast_trace (known c s h) a p (notes_of c s h)) ≡ map fast_norm (fast_trace (known d s g) a p (notes_of d s g))
+  pub fast : (p : ℕ) → c.kinds p ≡ Fast → map fast_norm (fast_trace (known c s h).claims.holders a p (notes_of c s h)) ≡ map fast_norm (fast_trace (known d s g).claims.holders a p (notes_of d s g))
   pub iso : (addressed : Bool) → map iso_norm (iso_trace (known c s h) addressed a (notes_of c s h)) ≡ map iso_norm (iso_trace (known d s g) addressed a (notes_of d s g))
   pub told : from a (messages_of c s h) ≡ from a (messages_of d s g)
 
@@ -62,10 +62,10 @@ claim_is_neither c are n e = (rw e (ap is_fast are.claims), rw e refl)
 claim_is_no_kind : (c : Receiver) → IsReceiver c → (a : ℕ) (n : Note) → n.parts.pgn ≡ 60928 → IsOwnKind c.kinds a n
 claim_is_no_kind c are a n e = λ kind. let neither = claim_is_neither c are n e in absurd (false≢true (sym (rw (neither.0, neither.1) refl) ∙ kind))
 
-claim_is_no_opener : (c : Receiver) → IsReceiver c → (a : ℕ) (k : Known) (n : Note) → n.parts.pgn ≡ 60928 → FindsRoom c.kinds a k n
+claim_is_no_opener : (c : Receiver) → IsReceiver c → (a : ℕ) (k : Known) (n : Note) → n.parts.pgn ≡ 60928 → FindsRoom c.kinds a k.claims n
 claim_is_no_opener c are a k n e = λ source opening.
     let neither = claim_is_neither c are n e in
-    absurd (false≢true (sym (closed (is_some (since_of k n.parts.source)) (is_fast (c.kinds n.parts.pgn)) (is_opener n.bytes) (n.parts.source == n.parts.source) (is_meant k n (key_of n.parts).addressed) (is_transport n.parts)
+    absurd (false≢true (sym (closed (is_some (held_since k.claims.holders n.parts.source)) (is_fast (c.kinds n.parts.pgn)) (is_opener n.bytes) (n.parts.source == n.parts.source) (is_meant k.claims.own n (key_of n.parts).addressed) (is_transport n.parts)
     (bears (key_of n.parts).addressed (is_data n.parts) n.bytes && (is_data n.parts || (not (control_at n.bytes == 16) || n.ready))) (iso_opener (key_of n.parts).addressed (iso_piece n)) neither.0 neither.1) ∙ opening))
   where
     closed : (held fast first own meant transport bearing opener : Bool) → fast ≡ false → transport ≡ false
@@ -126,7 +126,7 @@ module _ (c d : Receiver) (s a : ℕ) (h g : History) (m : ℕ) (f : BusFrame) (
     claims = after_claim;
     fast = λ p fast.
         ap (map fast_norm) ((claims_move_traces c s h m f are claims).fast a p (not_claims_pgn c are p fast))
-        ∙ cut_same fast_norm _ _ (fast_trace (known c s h) a p (notes_of c s h)) (fast_trace (known d s g) a p (notes_of d s g)) same_lost (alike.fast p fast)
+        ∙ cut_same fast_norm _ _ (fast_trace (known c s h).claims.holders a p (notes_of c s h)) (fast_trace (known d s g).claims.holders a p (notes_of d s g)) same_lost (alike.fast p fast)
         ∙ ap (map fast_norm) (sym ((claims_move_traces d s g m f too claims).fast a p (not_claims_pgn d too p (alike.kinds p ∙ fast))));
     iso = iso_after;
     told = ap (from a) (claim_says_none c s h m f are claims) ∙ alike.told ∙ sym (ap (from a) (claim_says_none d s g m f too claims));
@@ -170,10 +170,10 @@ some_bare : (x : Option Holder) → is_some (option_map (λ (y : Holder). y.sinc
 some_bare None = refl
 some_bare (Some h) = refl
 
-own_same : (k l : Known) (b : ℕ) → k.claims.own ≡ l.claims.own → is_own k b ≡ is_own l b
+own_same : (k l : Known) (b : ℕ) → k.claims.own ≡ l.claims.own → is_at b k.claims.own ≡ is_at b l.claims.own
 own_same k l b e = by l.claims.own refl
   where
-    by : (o : Option ℕ) → l.claims.own ≡ o → is_own k b ≡ is_own l b
+    by : (o : Option ℕ) → l.claims.own ≡ o → is_at b k.claims.own ≡ is_at b l.claims.own
     by None f = rw (e, f) refl
     by (Some x) f = rw (e, f) refl
 
@@ -209,7 +209,7 @@ said_same a i j m src (Some x) (Some y) v (Some w) t u e f same = rw f (by (src 
     by false = same
 
 abbrev own_trace : Known → Note → List Note → List FastPiece
-own_trace k n older = fast_trace k n.parts.source n.parts.pgn (n ∷ older)
+own_trace k n older = fast_trace k.claims.holders n.parts.source n.parts.pgn (n ∷ older)
 
 not_session : (kinds : ℕ → Kind) (k : Known) (n : Note) (older : List Note) → is_transport n.parts ≡ false → completed_by kinds k n older ≡ by_kind (kinds n.parts.pgn) n (own_trace k n older)
 not_session kinds k n older e = rw e refl
@@ -219,7 +219,7 @@ module _ (c d : Receiver) (s a : ℕ) (h g : History) (m : ℕ) (f : BusFrame) (
   holders_same : bare (holder_at (known c s h).claims.holders a) ≡ bare (holder_at (known d s g).claims.holders a)
   holders_same = sym (bare_at (known c s h).claims.holders a) ∙ ap (λ (x : Claims). holder_at x.holders a) alike.claims ∙ bare_at (known d s g).claims.holders a
 
-  held_same : is_some (since_of (known c s h) a) ≡ is_some (since_of (known d s g) a)
+  held_same : is_some (held_since (known c s h).claims.holders a) ≡ is_some (held_since (known d s g).claims.holders a)
   held_same = some_bare (holder_at (known c s h).claims.holders a) ∙ ap is_some holders_same ∙ sym (some_bare (holder_at (known d s g).claims.holders a))
 
   owns_same : (known c s h).claims.own ≡ (known d s g).claims.own
@@ -228,21 +228,21 @@ module _ (c d : Receiver) (s a : ℕ) (h g : History) (m : ℕ) (f : BusFrame) (
   ready_same : (the_note c s h m f).ready ≡ (the_note d s g m f).ready
   ready_same = ap (λ (x : Claims). is_ready x m) alike.claims
 
-  late_h : IsLate (since_of (known c s h) a) (length h)
+  late_h : IsLate (held_since (known c s h).claims.holders a) (length h)
   late_h = late c s h m f are a (holder_at (known c s h).claims.holders a) refl
 
-  late_g : IsLate (since_of (known d s g) a) (length g)
+  late_g : IsLate (held_since (known d s g).claims.holders a) (length g)
   late_g = late d s g m f too a (holder_at (known d s g).claims.holders a) refl
 
   fast_own : (p : ℕ) → c.kinds p ≡ Fast
-      → map fast_norm (fast_trace (known c s h) a p (the_note c s h m f ∷ notes_of c s h)) ≡ map fast_norm (fast_trace (known d s g) a p (the_note d s g m f ∷ notes_of d s g))
+      → map fast_norm (fast_trace (known c s h).claims.holders a p (the_note c s h m f ∷ notes_of c s h)) ≡ map fast_norm (fast_trace (known d s g).claims.holders a p (the_note d s g m f ∷ notes_of d s g))
   fast_own p fast =
       ap (map fast_norm) (fast_head (known c s h) a p (the_note c s h m f) (notes_of c s h) source late_h)
-      ∙ piece_same fast_norm _ _ (fast_piece (the_note c s h m f)) (fast_piece (the_note d s g m f)) (fast_trace (known c s h) a p (notes_of c s h)) (fast_trace (known d s g) a p (notes_of d s g))
+      ∙ piece_same fast_norm _ _ (fast_piece (the_note c s h m f)) (fast_piece (the_note d s g m f)) (fast_trace (known c s h).claims.holders a p (notes_of c s h)) (fast_trace (known d s g).claims.holders a p (notes_of d s g))
       (ap (λ (b : Bool). b && ((parts_of f.id).pgn == p)) held_same) refl (alike.fast p fast)
       ∙ ap (map fast_norm) (sym (fast_head (known d s g) a p (the_note d s g m f) (notes_of d s g) source late_g))
 
-  meant_same : (addressed : Bool) → is_meant (known c s h) (the_note c s h m f) addressed ≡ is_meant (known d s g) (the_note d s g m f) addressed
+  meant_same : (addressed : Bool) → is_meant (known c s h).claims.own (the_note c s h m f) addressed ≡ is_meant (known d s g).claims.own (the_note d s g m f) addressed
   meant_same true = own_same (known c s h) (known d s g) (parts_of f.id).destination owns_same
   meant_same false = refl
 
@@ -250,11 +250,11 @@ module _ (c d : Receiver) (s a : ℕ) (h g : History) (m : ℕ) (f : BusFrame) (
   bearing_same addressed =
       ap (λ (b : Bool). is_transport (parts_of f.id) && (bears addressed (is_data (parts_of f.id)) f.held && (is_data (parts_of f.id) || (not (control_at f.held == 16) || b)))) ready_same
 
-  concerns_same : (addressed : Bool) → concerns (known c s h) (the_note c s h m f) (record { addressed = addressed; source = a }) ≡ concerns (known d s g) (the_note d s g m f) (record { addressed = addressed; source = a })
+  concerns_same : (addressed : Bool) → concerns (known c s h).claims (the_note c s h m f) (record { addressed = addressed; source = a }) ≡ concerns (known d s g).claims (the_note d s g m f) (record { addressed = addressed; source = a })
   concerns_same addressed =
-      ap (λ (b : Bool). b && (((parts_of f.id).source == a) && (is_meant (known c s h) (the_note c s h m f) addressed && is_bearing addressed (the_note c s h m f)))) held_same
-      ∙ ap (λ (b : Bool). is_some (since_of (known d s g) a) && (((parts_of f.id).source == a) && (b && is_bearing addressed (the_note c s h m f)))) (meant_same addressed)
-      ∙ ap (λ (b : Bool). is_some (since_of (known d s g) a) && (((parts_of f.id).source == a) && (is_meant (known d s g) (the_note d s g m f) addressed && b))) (bearing_same addressed)
+      ap (λ (b : Bool). b && (((parts_of f.id).source == a) && (is_meant (known c s h).claims.own (the_note c s h m f) addressed && is_bearing addressed (the_note c s h m f)))) held_same
+      ∙ ap (λ (b : Bool). is_some (held_since (known d s g).claims.holders a) && (((parts_of f.id).source == a) && (b && is_bearing addressed (the_note c s h m f)))) (meant_same addressed)
+      ∙ ap (λ (b : Bool). is_some (held_since (known d s g).claims.holders a) && (((parts_of f.id).source == a) && (is_meant (known d s g).claims.own (the_note d s g m f) addressed && b))) (bearing_same addressed)
 
   iso_own : (addressed : Bool)
       → map iso_norm (iso_trace (known c s h) addressed a (the_note c s h m f ∷ notes_of c s h)) ≡ map iso_norm (iso_trace (known d s g) addressed a (the_note d s g m f ∷ notes_of d s g))
@@ -265,21 +265,21 @@ module _ (c d : Receiver) (s a : ℕ) (h g : History) (m : ℕ) (f : BusFrame) (
       ∙ ap (map iso_norm) (sym (trace_is d s g m f too addressed a))
 
   -- what it completes
-  module _ (room_h : Roomy c s a h) (room_g : Roomy d s a g) (finds_h : FindsRoom c.kinds a (known c s h) (the_note c s h m f)) (finds_g : FindsRoom d.kinds a (known d s g) (the_note d s g m f)) where
+  module _ (room_h : Roomy c s a h) (room_g : Roomy d s a g) (finds_h : FindsRoom c.kinds a (known c s h).claims (the_note c s h m f)) (finds_g : FindsRoom d.kinds a (known d s g).claims (the_note d s g m f)) where
     from_source : (parts_of f.id).source ≡ a
     from_source = eqb-true (parts_of f.id).source a source
 
     fast_done : c.kinds (parts_of f.id).pgn ≡ Fast
-        → fast_carried (parts_of f.id).pgn (run_of fast_rules (fast_trace (known c s h) a (parts_of f.id).pgn (the_note c s h m f ∷ notes_of c s h)))
-        ≡ fast_carried (parts_of f.id).pgn (run_of fast_rules (fast_trace (known d s g) a (parts_of f.id).pgn (the_note d s g m f ∷ notes_of d s g)))
+        → fast_carried (parts_of f.id).pgn (run_of fast_rules (fast_trace (known c s h).claims.holders a (parts_of f.id).pgn (the_note c s h m f ∷ notes_of c s h)))
+        ≡ fast_carried (parts_of f.id).pgn (run_of fast_rules (fast_trace (known d s g).claims.holders a (parts_of f.id).pgn (the_note d s g m f ∷ notes_of d s g)))
     fast_done fast =
-        sym (fast_carries (parts_of f.id).pgn (run_of fast_rules (fast_trace (known c s h) a (parts_of f.id).pgn (the_note c s h m f ∷ notes_of c s h))))
-        ∙ ap (fast_carried (parts_of f.id).pgn) (sym (run_of_map fast_rules fast_norm fast_unseen fast_steps (fast_trace (known c s h) a (parts_of f.id).pgn (the_note c s h m f ∷ notes_of c s h))
+        sym (fast_carries (parts_of f.id).pgn (run_of fast_rules (fast_trace (known c s h).claims.holders a (parts_of f.id).pgn (the_note c s h m f ∷ notes_of c s h))))
+        ∙ ap (fast_carried (parts_of f.id).pgn) (sym (run_of_map fast_rules fast_norm fast_unseen fast_steps (fast_trace (known c s h).claims.holders a (parts_of f.id).pgn (the_note c s h m f ∷ notes_of c s h))
         (fast_with c s a are h m f finds_h room_h (parts_of f.id).pgn fast)))
         ∙ ap (λ (t : List FastPiece). fast_carried (parts_of f.id).pgn (run_of fast_rules t)) (fast_own (parts_of f.id).pgn fast)
-        ∙ ap (fast_carried (parts_of f.id).pgn) (run_of_map fast_rules fast_norm fast_unseen fast_steps (fast_trace (known d s g) a (parts_of f.id).pgn (the_note d s g m f ∷ notes_of d s g))
+        ∙ ap (fast_carried (parts_of f.id).pgn) (run_of_map fast_rules fast_norm fast_unseen fast_steps (fast_trace (known d s g).claims.holders a (parts_of f.id).pgn (the_note d s g m f ∷ notes_of d s g))
         (fast_with d s a too g m f finds_g room_g (parts_of f.id).pgn (alike.kinds (parts_of f.id).pgn ∙ fast)))
-        ∙ fast_carries (parts_of f.id).pgn (run_of fast_rules (fast_trace (known d s g) a (parts_of f.id).pgn (the_note d s g m f ∷ notes_of d s g)))
+        ∙ fast_carries (parts_of f.id).pgn (run_of fast_rules (fast_trace (known d s g).claims.holders a (parts_of f.id).pgn (the_note d s g m f ∷ notes_of d s g)))
 
     iso_done : (addressed : Bool)
         → iso_carried (run_of (iso_rules addressed) (iso_trace (known c s h) addressed a (the_note c s h m f ∷ notes_of c s h)))
@@ -296,9 +296,9 @@ module _ (c d : Receiver) (s a : ℕ) (h g : History) (m : ℕ) (f : BusFrame) (
     session_done : by_session (known c s h) (the_note c s h m f) (notes_of c s h) ≡ by_session (known d s g) (the_note d s g m f) (notes_of d s g)
     session_done =
         session_is (known c s h) (the_note c s h m f) (notes_of c s h) _ refl
-        ∙ choose ((not (key_of (parts_of f.id)).addressed || is_own (known c s h) (parts_of f.id).destination) && is_bearing (key_of (parts_of f.id)).addressed (the_note c s h m f))
-        ((not (key_of (parts_of f.id)).addressed || is_own (known d s g) (parts_of f.id).destination) && is_bearing (key_of (parts_of f.id)).addressed (the_note d s g m f))
-        (rw (own_same (known c s h) (known d s g) (parts_of f.id).destination owns_same) (ap (λ (b : Bool). (not (key_of (parts_of f.id)).addressed || is_own (known d s g) (parts_of f.id).destination) && b) (bearing_same (key_of (parts_of f.id)).addressed)))
+        ∙ choose ((not (key_of (parts_of f.id)).addressed || is_at (parts_of f.id).destination (known c s h).claims.own) && is_bearing (key_of (parts_of f.id)).addressed (the_note c s h m f))
+        ((not (key_of (parts_of f.id)).addressed || is_at (parts_of f.id).destination (known d s g).claims.own) && is_bearing (key_of (parts_of f.id)).addressed (the_note d s g m f))
+        (rw (own_same (known c s h) (known d s g) (parts_of f.id).destination owns_same) (ap (λ (b : Bool). (not (key_of (parts_of f.id)).addressed || is_at (parts_of f.id).destination (known d s g).claims.own) && b) (bearing_same (key_of (parts_of f.id)).addressed)))
         (subst (λ (x : ℕ). iso_carried (run_of (iso_rules (key_of (parts_of f.id)).addressed) (iso_trace (known c s h) (key_of (parts_of f.id)).addressed x (the_note c s h m f ∷ notes_of c s h)))
         ≡ iso_carried (run_of (iso_rules (key_of (parts_of f.id)).addressed) (iso_trace (known d s g) (key_of (parts_of f.id)).addressed x (the_note d s g m f ∷ notes_of d s g)))) (sym from_source) (iso_done (key_of (parts_of f.id)).addressed))
         ∙ sym (session_is (known d s g) (the_note d s g m f) (notes_of d s g) _ refl)
@@ -310,8 +310,8 @@ module _ (c d : Receiver) (s a : ℕ) (h g : History) (m : ℕ) (f : BusFrame) (
         ≡ by_kind kind (the_note d s g m f) (own_trace (known d s g) (the_note d s g m f) (notes_of d s g))
     kind_done Single e = refl
     kind_done Fast e =
-        subst (λ (x : ℕ). fast_carried (parts_of f.id).pgn (run_of fast_rules (fast_trace (known c s h) x (parts_of f.id).pgn (the_note c s h m f ∷ notes_of c s h)))
-        ≡ fast_carried (parts_of f.id).pgn (run_of fast_rules (fast_trace (known d s g) x (parts_of f.id).pgn (the_note d s g m f ∷ notes_of d s g)))) (sym from_source) (fast_done e)
+        subst (λ (x : ℕ). fast_carried (parts_of f.id).pgn (run_of fast_rules (fast_trace (known c s h).claims.holders x (parts_of f.id).pgn (the_note c s h m f ∷ notes_of c s h)))
+        ≡ fast_carried (parts_of f.id).pgn (run_of fast_rules (fast_trace (known d s g).claims.holders x (parts_of f.id).pgn (the_note d s g m f ∷ notes_of d s g)))) (sym from_source) (fast_done e)
     kind_done Outside e = refl
 
     completes : completed_by c.kinds (known c s h) (the_note c s h m f) (notes_of c s h) ≡ completed_by d.kinds (known d s g) (the_note d s g m f) (notes_of d s g)
@@ -348,17 +348,17 @@ module _ (c : Receiver) (s a : ℕ) (h g : History) (m : ℕ) (f : BusFrame) (ar
   fast_is Fast e = refl
   fast_is Outside e = cc
 
-  fast_open_same : (p : ℕ) → is_fast (c.kinds p) ≡ true → is_some (open_at fast_rules (fast_trace (known c s g) a p (notes_of c s g)) m) ≡ is_some (open_at fast_rules (fast_trace (known c s h) a p (notes_of c s h)) m)
+  fast_open_same : (p : ℕ) → is_fast (c.kinds p) ≡ true → is_some (open_at fast_rules (fast_trace (known c s g).claims.holders a p (notes_of c s g)) m) ≡ is_some (open_at fast_rules (fast_trace (known c s h).claims.holders a p (notes_of c s h)) m)
   fast_open_same p kind =
-      sym (some_map (map fast_norm) (open_at fast_rules (fast_trace (known c s g) a p (notes_of c s g)) m))
-      ∙ ap is_some (sym (open_at_map fast_rules fast_norm fast_unseen fast_steps (fast_trace (known c s g) a p (notes_of c s g)) m (room_g.fast p (fast_is (c.kinds p) kind))))
+      sym (some_map (map fast_norm) (open_at fast_rules (fast_trace (known c s g).claims.holders a p (notes_of c s g)) m))
+      ∙ ap is_some (sym (open_at_map fast_rules fast_norm fast_unseen fast_steps (fast_trace (known c s g).claims.holders a p (notes_of c s g)) m (room_g.fast p (fast_is (c.kinds p) kind))))
       ∙ ap (λ (t : List FastPiece). is_some (open_at fast_rules t m)) (sym (alike.fast p (fast_is (c.kinds p) kind)))
-      ∙ ap is_some (open_at_map fast_rules fast_norm fast_unseen fast_steps (fast_trace (known c s h) a p (notes_of c s h)) m (room_h.fast p (fast_is (c.kinds p) kind)))
-      ∙ some_map (map fast_norm) (open_at fast_rules (fast_trace (known c s h) a p (notes_of c s h)) m)
+      ∙ ap is_some (open_at_map fast_rules fast_norm fast_unseen fast_steps (fast_trace (known c s h).claims.holders a p (notes_of c s h)) m (room_h.fast p (fast_is (c.kinds p) kind)))
+      ∙ some_map (map fast_norm) (open_at fast_rules (fast_trace (known c s h).claims.holders a p (notes_of c s h)) m)
 
-  fast_opens : (key : FastKey) → ((key.source == a) ≡ true) × (is_fast (c.kinds key.pgn) ≡ true) → is_some (fast_open (known c s g) (notes_of c s g) key m) ≡ is_some (fast_open (known c s h) (notes_of c s h) key m)
+  fast_opens : (key : FastKey) → ((key.source == a) ≡ true) × (is_fast (c.kinds key.pgn) ≡ true) → is_some (fast_open (known c s g).claims.holders (notes_of c s g) key m) ≡ is_some (fast_open (known c s h).claims.holders (notes_of c s h) key m)
   fast_opens key of =
-      subst (λ (x : ℕ). is_some (open_at fast_rules (fast_trace (known c s g) x key.pgn (notes_of c s g)) m) ≡ is_some (open_at fast_rules (fast_trace (known c s h) x key.pgn (notes_of c s h)) m))
+      subst (λ (x : ℕ). is_some (open_at fast_rules (fast_trace (known c s g).claims.holders x key.pgn (notes_of c s g)) m) ≡ is_some (open_at fast_rules (fast_trace (known c s h).claims.holders x key.pgn (notes_of c s h)) m))
       (sym (eqb-true key.source a of.0)) (fast_open_same key.pgn of.1)
 
   iso_open_same : (addressed : Bool) → is_some (open_at (iso_rules addressed) (iso_trace (known c s g) addressed a (notes_of c s g)) m) ≡ is_some (open_at (iso_rules addressed) (iso_trace (known c s h) addressed a (notes_of c s h)) m)
@@ -381,26 +381,26 @@ module _ (c : Receiver) (s a : ℕ) (h g : History) (m : ℕ) (f : BusFrame) (ar
       by true e was =
           rw e (iso_room c.kinds a (known c s h) (known c s g) (addresses_are_sound c s h are).sound (notes_of c s h) (notes_of c s g) m only iso_opens c.iso_slots (key_of (parts_of f.id)) (rw e at was))
       by false e was =
-          rw e (fast_room c.kinds a (known c s h) (known c s g) (notes_of c s h) (notes_of c s g) m only fast_opens c.fast_slots (record { source = (parts_of f.id).source; pgn = (parts_of f.id).pgn }) (rw e at was))
+          rw e (fast_room c.kinds a (known c s h).claims.holders (known c s g).claims.holders (notes_of c s h) (notes_of c s g) m only fast_opens c.fast_slots (record { source = (parts_of f.id).source; pgn = (parts_of f.id).pgn }) (rw e at was))
 
   from_it : (parts_of f.id).source ≡ a
   from_it = eqb-true (parts_of f.id).source a source
 
-  held_there : is_some (since_of (known c s h) (parts_of f.id).source) ≡ is_some (since_of (known c s g) (parts_of f.id).source)
-  held_there = subst (λ (x : ℕ). is_some (since_of (known c s h) x) ≡ is_some (since_of (known c s g) x)) (sym from_it) (held_same c c s a h g m f are are alike other source)
+  held_there : is_some (held_since (known c s h).claims.holders (parts_of f.id).source) ≡ is_some (held_since (known c s g).claims.holders (parts_of f.id).source)
+  held_there = subst (λ (x : ℕ). is_some (held_since (known c s h).claims.holders x) ≡ is_some (held_since (known c s g).claims.holders x)) (sym from_it) (held_same c c s a h g m f are are alike other source)
 
-  concerns_there : concerns (known c s h) (the_note c s h m f) (key_of (parts_of f.id)) ≡ concerns (known c s g) (the_note c s g m f) (key_of (parts_of f.id))
+  concerns_there : concerns (known c s h).claims (the_note c s h m f) (key_of (parts_of f.id)) ≡ concerns (known c s g).claims (the_note c s g m f) (key_of (parts_of f.id))
   concerns_there =
-      subst (λ (x : ℕ). concerns (known c s h) (the_note c s h m f) (record { addressed = (key_of (parts_of f.id)).addressed; source = x })
-      ≡ concerns (known c s g) (the_note c s g m f) (record { addressed = (key_of (parts_of f.id)).addressed; source = x }))
+      subst (λ (x : ℕ). concerns (known c s h).claims (the_note c s h m f) (record { addressed = (key_of (parts_of f.id)).addressed; source = x })
+      ≡ concerns (known c s g).claims (the_note c s g m f) (record { addressed = (key_of (parts_of f.id)).addressed; source = x }))
       (sym from_it) (concerns_same c c s a h g m f are are alike other source (key_of (parts_of f.id)).addressed)
 
-  opens_same : opens_message c.kinds (known c s h) (the_note c s h m f) ≡ opens_message c.kinds (known c s g) (the_note c s g m f)
+  opens_same : opens_message c.kinds (known c s h).claims (the_note c s h m f) ≡ opens_message c.kinds (known c s g).claims (the_note c s g m f)
   opens_same =
-      ap (λ (b : Bool). (b && (is_fast (c.kinds (parts_of f.id).pgn) && is_opener f.held)) || (concerns (known c s h) (the_note c s h m f) (key_of (parts_of f.id)) && iso_opener (key_of (parts_of f.id)).addressed (iso_piece (the_note c s h m f)))) held_there
-      ∙ ap (λ (b : Bool). (is_some (since_of (known c s g) (parts_of f.id).source) && (is_fast (c.kinds (parts_of f.id).pgn) && is_opener f.held)) || (b && iso_opener (key_of (parts_of f.id)).addressed (iso_piece (the_note c s h m f)))) concerns_there
+      ap (λ (b : Bool). (b && (is_fast (c.kinds (parts_of f.id).pgn) && is_opener f.held)) || (concerns (known c s h).claims (the_note c s h m f) (key_of (parts_of f.id)) && iso_opener (key_of (parts_of f.id)).addressed (iso_piece (the_note c s h m f)))) held_there
+      ∙ ap (λ (b : Bool). (is_some (held_since (known c s g).claims.holders (parts_of f.id).source) && (is_fast (c.kinds (parts_of f.id).pgn) && is_opener f.held)) || (b && iso_opener (key_of (parts_of f.id)).addressed (iso_piece (the_note c s h m f)))) concerns_there
 
-  pub room_kept : FindsRoom c.kinds a (known c s h) (the_note c s h m f) → FindsRoom c.kinds a (known c s g) (the_note c s g m f)
+  pub room_kept : FindsRoom c.kinds a (known c s h).claims (the_note c s h m f) → FindsRoom c.kinds a (known c s g).claims (the_note c s g m f)
   room_kept room = λ own opening. still_admitted (room own (opens_same ∙ opening))
 
 -- ---- a frame of another device
@@ -410,8 +410,8 @@ dropped a i m src None w t e = refl
 dropped a i m src (Some x) None t e = refl
 dropped a i m src (Some x) (Some w) t e = rw e refl
 
-not_concerned : (k : Known) (n : Note) (a : ℕ) (addressed : Bool) → (n.parts.source == a) ≡ false → concerns k n (record { addressed = addressed; source = a }) ≡ false
-not_concerned k n a addressed e = rw e (and_no (is_some (since_of k a)))
+not_concerned : (k : Known) (n : Note) (a : ℕ) (addressed : Bool) → (n.parts.source == a) ≡ false → concerns k.claims n (record { addressed = addressed; source = a }) ≡ false
+not_concerned k n a addressed e = rw e (and_no (is_some (held_since k.claims.holders a)))
   where
     and_no : (x : Bool) → (x && false) ≡ false
     and_no true = refl
@@ -464,7 +464,7 @@ module _ (c d : Receiver) (s a : ℕ) (are : IsReceiver c) (too : IsReceiver d) 
   alike_all [] rooms kept = record {
     kinds = kinds;
     claims = ap (λ (k : Known). erased k.claims) start;
-    fast = λ p fast. ap (λ (k : Known). map fast_norm (fast_trace k a p [])) start;
+    fast = λ p fast. ap (λ (k : Known). map fast_norm (fast_trace k.claims.holders a p [])) start;
     iso = λ addressed. ap (λ (k : Known). map iso_norm (iso_trace k addressed a [])) start;
     told = refl;
   }

@@ -16,7 +16,7 @@ use Rattle.fast_packet.proofs.Lawful.{lawful}
 use Rattle.fast_packet.specs.declared.key.FastKey.{FastKey}
 use Rattle.history.specs.Entries.{History, frame}
 use Rattle.history.specs.Receiver.{Receiver}
-use Rattle.history.specs.Known.{Known, known, is_claim, since_of}
+use Rattle.history.specs.Known.{Known, known, is_claim, held_since}
 use Rattle.history.specs.Traces.{Note, fast_piece, fast_trace, fast_trace_since, is_transport}
 use Rattle.history.specs.Opens.{same_fast, fast_open, notes_of}
 use Rattle.history.specs.Messages.{said_by, completed_by, fast_carried}
@@ -56,34 +56,34 @@ own_piece : (a p since : ℕ) (n : Note) (notes : List Note) → n.parts.source 
 own_piece a p since n notes source pgn le = rw (source, pgn, eq-eqb a a refl, eq-eqb p p refl, le-leb since n.index le) refl
 
 completed_fast : (c : Receiver) → IsReceiver c → (k : Known) (n : Note) (older : List Note) → c.kinds n.parts.pgn ≡ Fast
-    → completed_by c.kinds k n older ≡ fast_carried n.parts.pgn (run_of fast_rules (fast_trace k n.parts.source n.parts.pgn (n ∷ older)))
+    → completed_by c.kinds k n older ≡ fast_carried n.parts.pgn (run_of fast_rules (fast_trace k.claims.holders n.parts.source n.parts.pgn (n ∷ older)))
 completed_fast c are k n older e = rw (no_transport c are n.parts e, e) refl
 
 module _ (c : Receiver) (s : ℕ) (h : History) (m : ℕ) (f : BusFrame) (x : Holder) (are : IsReceiver c) (fast : c.kinds (parts_of f.id).pgn ≡ Fast)
     (holds : holder_at (known c s h).claims.holders (parts_of f.id).source ≡ Some x) where
-  since_is : since_of (known c s h) (parts_of f.id).source ≡ Some x.since
+  since_is : held_since (known c s h).claims.holders (parts_of f.id).source ≡ Some x.since
   since_is = ap (option_map (λ (y : Holder). y.since)) holds
 
-  trace_is : fast_trace (known c s h) (parts_of f.id).source (parts_of f.id).pgn (the_note c s h m f ∷ notes_of c s h)
-      ≡ fast_piece (the_note c s h m f) ∷ fast_trace (known c s h) (parts_of f.id).source (parts_of f.id).pgn (notes_of c s h)
+  trace_is : fast_trace (known c s h).claims.holders (parts_of f.id).source (parts_of f.id).pgn (the_note c s h m f ∷ notes_of c s h)
+      ≡ fast_piece (the_note c s h m f) ∷ fast_trace (known c s h).claims.holders (parts_of f.id).source (parts_of f.id).pgn (notes_of c s h)
   trace_is =
       rw since_is
       (own_piece (parts_of f.id).source (parts_of f.id).pgn x.since (the_note c s h m f) (notes_of c s h) refl refl
       (dated_at (length h) (known c s h).claims.holders (parts_of f.id).source x (addresses_are_sound c s h are).dated holds))
 
-  left : (n : ℕ) → fast_open (known c s (frame m f ∷ h)) (notes_of c s (frame m f ∷ h)) (fast_key c s h m f) n
-      ≡ kept_at fast_rules (fed fast_rules (fast_open (known c s h) (notes_of c s h) (fast_key c s h m f) m) (fast_piece (the_note c s h m f))) n
+  left : (n : ℕ) → fast_open (known c s (frame m f ∷ h)).claims.holders (notes_of c s (frame m f ∷ h)) (fast_key c s h m f) n
+      ≡ kept_at fast_rules (fed fast_rules (fast_open (known c s h).claims.holders (notes_of c s h) (fast_key c s h m f) m) (fast_piece (the_note c s h m f))) n
   left n =
       rw (known_same c s h m f (no_claim c are f fast))
       (ap (λ (t : List FastPiece). open_at fast_rules t n) trace_is
-      ∙ ap (λ (o : Option (List FastPiece)). kept_at fast_rules o n) (steps.prefix (fast_trace (known c s h) (parts_of f.id).source (parts_of f.id).pgn (notes_of c s h)) (fast_piece (the_note c s h m f))))
+      ∙ ap (λ (o : Option (List FastPiece)). kept_at fast_rules o n) (steps.prefix (fast_trace (known c s h).claims.holders (parts_of f.id).source (parts_of f.id).pgn (notes_of c s h)) (fast_piece (the_note c s h m f))))
 
   completes : completed_by c.kinds (known c s h) (the_note c s h m f) (notes_of c s h)
-      ≡ fast_carried (parts_of f.id).pgn (finished fast_rules (fast_open (known c s h) (notes_of c s h) (fast_key c s h m f) m) (fast_piece (the_note c s h m f)))
+      ≡ fast_carried (parts_of f.id).pgn (finished fast_rules (fast_open (known c s h).claims.holders (notes_of c s h) (fast_key c s h m f) m) (fast_piece (the_note c s h m f)))
   completes =
       completed_fast c are (known c s h) (the_note c s h m f) (notes_of c s h) fast
       ∙ ap (λ (t : List FastPiece). fast_carried (parts_of f.id).pgn (run_of fast_rules t)) trace_is
-      ∙ ap (fast_carried (parts_of f.id).pgn) (steps.whole (fast_trace (known c s h) (parts_of f.id).source (parts_of f.id).pgn (notes_of c s h)) (fast_piece (the_note c s h m f)))
+      ∙ ap (fast_carried (parts_of f.id).pgn) (steps.whole (fast_trace (known c s h).claims.holders (parts_of f.id).source (parts_of f.id).pgn (notes_of c s h)) (fast_piece (the_note c s h m f)))
 
   pub step : StepsFast c s h m f x
   step = record {
@@ -122,8 +122,8 @@ fast_keeps c s h m f e = record {
   others = λ key n apart.
       rw (known_same c s h m f e)
       (ap (λ (t : List FastPiece). open_at fast_rules t n)
-      (other_piece (since_of (known c s h) key.source) key.source key.pgn (the_note c s h m f) (notes_of c s h) (not_same key (fast_key c s h m f) apart)));
+      (other_piece (held_since (known c s h).claims.holders key.source) key.source key.pgn (the_note c s h m f) (notes_of c s h) (not_same key (fast_key c s h m f) apart)));
 }
 
 pub fast_ends : TimeEndsFast
-fast_ends k notes key m n le = steps.later (fast_trace k key.source key.pgn notes) m n le
+fast_ends holders notes key m n le = steps.later (fast_trace holders key.source key.pgn notes) m n le

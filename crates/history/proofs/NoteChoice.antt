@@ -20,6 +20,7 @@ use Rattle.history.specs.FreshLaws.{last_of}
 use Rattle.history.specs.ChoiceLaws.{beats, noted_with, HoldsNotes, FirstByNotes, net_noted, HoldsNetNotes, FirstNetByNotes}
 use Rattle.history.proofs.GroupCounts.{text_is}
 use Rattle.history.proofs.ChoiceSteps.{both_ways, or_right, some_one, found_any, same_test, has_sent}
+use Rattle.claim_table.specs.declared.answer.Holder.{Holder}
 
 -- a note of the list is the one of its source
 below_none : (low top a : ℕ) (ns : List Note) → AreFrom low top ns → a < low → note_of a ns ≡ None
@@ -58,8 +59,8 @@ not_before a = let place = le-ltb a.place a.place (omega arith) in let name = le
     and_no true = refl
     and_no false = refl
 
-module _ (rule : RowRule) (k : Known) (row : Row) (older : List Message) (r : RowNotes) (source : ℕ) (rank : Rank) (m : ℕ) (h : HoldsNotes rule k row older r)
-    (own : holder_rank rule (holder_at k.claims.holders source) ≡ Some rank) where
+module _ (rule : RowRule) (holders : List (Option Holder)) (row : Row) (older : List Message) (r : RowNotes) (source : ℕ) (rank : Rank) (m : ℕ) (h : HoldsNotes rule holders row older r)
+    (own : holder_rank rule (holder_at holders source) ≡ Some rank) where
   -- what a note says of its address
   says : (n : Note) (a : ℕ) (other : Option Rank) (last : Option Message) → noted_with a other last ≡ Some n
       → (other ≡ Some n.rank) × (still_counts rule.timeout m last ≡ is_fresh rule.timeout m n)
@@ -71,14 +72,14 @@ module _ (rule : RowRule) (k : Known) (row : Row) (older : List Message) (r : Ro
       inner : {x y : Note} → Some x ≡ Some y → x ≡ y
       inner e = cc
 
-  to : list_any (outranks r.timeout source rank m) r.notes ≡ true → list_any (λ d. choice.outranks rule k.claims.holders row rank m older d.source) older ≡ true
+  to : list_any (outranks r.timeout source rank m) r.notes ≡ true → list_any (λ d. choice.outranks rule holders row rank m older d.source) older ≡ true
   to e =
       let n = found_one (outranks r.timeout source rank m) 0 r.sources r.notes h.apart e in
       let both = and_parts (not (n.0.source == source) && is_before n.0.rank rank) (is_fresh r.timeout m n.0) n.1 in
-      let is = says n.0 n.0.source (holder_rank rule (holder_at k.claims.holders n.0.source)) (last_of k row n.0.source older) (sym (h.notes n.0.source) ∙ n.2) in
-      let better : is_better rank (holder_rank rule (holder_at k.claims.holders n.0.source)) ≡ true = ap (is_better rank) is.0 ∙ (and_parts (not (n.0.source == source)) (is_before n.0.rank rank) both.0).1 in
-      let counts : still_counts rule.timeout m (last_of k row n.0.source older) ≡ true = is.1 ∙ ap (λ (t : ℕ). is_fresh t m n.0) (sym h.timeout) ∙ both.1 in
-      has_sent rule k row rank m older n.0.source (rw (better, counts) refl)
+      let is = says n.0 n.0.source (holder_rank rule (holder_at holders n.0.source)) (last_of holders row n.0.source older) (sym (h.notes n.0.source) ∙ n.2) in
+      let better : is_better rank (holder_rank rule (holder_at holders n.0.source)) ≡ true = ap (is_better rank) is.0 ∙ (and_parts (not (n.0.source == source)) (is_before n.0.rank rank) both.0).1 in
+      let counts : still_counts rule.timeout m (last_of holders row n.0.source older) ≡ true = is.1 ∙ ap (λ (t : ℕ). is_fresh t m n.0) (sym h.timeout) ∙ both.1 in
+      has_sent rule holders row rank m older n.0.source (rw (better, counts) refl)
 
   noted : (a : ℕ) (other : Option Rank) (last : Option Message) → is_better rank other ≡ true → still_counts rule.timeout m last ≡ true
       → (n : Note) × (noted_with a other last ≡ Some n)
@@ -94,30 +95,30 @@ module _ (rule : RowRule) (k : Known) (row : Row) (older : List Message) (r : Ro
       inner : {x y : Note} → Some x ≡ Some y → x ≡ y
       inner e = cc
 
-  from : list_any (λ d. choice.outranks rule k.claims.holders row rank m older d.source) older ≡ true → list_any (outranks r.timeout source rank m) r.notes ≡ true
+  from : list_any (λ d. choice.outranks rule holders row rank m older d.source) older ≡ true → list_any (outranks r.timeout source rank m) r.notes ≡ true
   from e =
-      let one = some_one (λ d. choice.outranks rule k.claims.holders row rank m older d.source) older e in
+      let one = some_one (λ d. choice.outranks rule holders row rank m older d.source) older e in
       let a = one.0.source in
-      let beaten : beats rule k row rank m older a ≡ true = sym (same_test rule k row rank m older a) ∙ one.1 in
-      let parts = and_parts (is_better rank (holder_rank rule (holder_at k.claims.holders a))) (still_counts rule.timeout m (last_of k row a older)) beaten in
-      let n = noted a (holder_rank rule (holder_at k.claims.holders a)) (last_of k row a older) parts.0 parts.1 in
-      let is = says n.0 a (holder_rank rule (holder_at k.claims.holders a)) (last_of k row a older) n.1 in
+      let beaten : beats rule holders row rank m older a ≡ true = sym (same_test rule holders row rank m older a) ∙ one.1 in
+      let parts = and_parts (is_better rank (holder_rank rule (holder_at holders a))) (still_counts rule.timeout m (last_of holders row a older)) beaten in
+      let n = noted a (holder_rank rule (holder_at holders a)) (last_of holders row a older) parts.0 parts.1 in
+      let is = says n.0 a (holder_rank rule (holder_at holders a)) (last_of holders row a older) n.1 in
       let before : is_before n.0.rank rank ≡ true = sym (ap (is_better rank) is.0) ∙ parts.0 in
       let fresh : is_fresh r.timeout m n.0 ≡ true = ap (λ (t : ℕ). is_fresh t m n.0) h.timeout ∙ sym is.1 ∙ parts.1 in
-      let at = of_source n.0 a (holder_rank rule (holder_at k.claims.holders a)) (last_of k row a older) n.1 in
+      let at = of_source n.0 a (holder_rank rule (holder_at holders a)) (last_of holders row a older) n.1 in
       found_passes (outranks r.timeout source rank m) a r.notes n.0 (h.notes a ∙ n.1) (apart n.0 a at is.0 before fresh (n.0.source == source) refl)
     where
-      apart : (n : Note) (a : ℕ) → n.source ≡ a → holder_rank rule (holder_at k.claims.holders a) ≡ Some n.rank → is_before n.rank rank ≡ true → is_fresh r.timeout m n ≡ true
+      apart : (n : Note) (a : ℕ) → n.source ≡ a → holder_rank rule (holder_at holders a) ≡ Some n.rank → is_before n.rank rank ≡ true → is_fresh r.timeout m n ≡ true
           → (b : Bool) → (n.source == source) ≡ b → outranks r.timeout source rank m n ≡ true
       apart n a at held before fresh true same =
           let here : a ≡ source = sym at ∙ eqb-true n.source source same in
-          let both : Some n.rank ≡ Some rank = sym held ∙ ap (λ (x : ℕ). holder_rank rule (holder_at k.claims.holders x)) here ∙ own in
+          let both : Some n.rank ≡ Some rank = sym held ∙ ap (λ (x : ℕ). holder_rank rule (holder_at holders x)) here ∙ own in
           let equal : n.rank ≡ rank = cc in
           absurd (false≢true (sym (not_before rank) ∙ ap (λ (x : Rank). is_before x rank) (sym equal) ∙ before))
       apart n a at held before fresh false same = rw (same, before, fresh) refl
 
 pub first_by_notes : FirstByNotes
-first_by_notes rule k row older r source rank m h own = ap not (both_ways _ _ (to rule k row older r source rank m h own) (from rule k row older r source rank m h own))
+first_by_notes rule holders row older r source rank m h own = ap not (both_ways _ _ (to rule holders row older r source rank m h own) (from rule holders row older r source rank m h own))
 
 -- ---- the same of the network
 

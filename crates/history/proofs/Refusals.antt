@@ -99,9 +99,9 @@ none_of None e = refl
 none_of (Some reason) e = cc
 
 pub fast_breaks : FastRefusalsBreak
-fast_breaks k notes key m x =
-    let free = free_by x (open_at fast_rules (fast_trace k key.source key.pgn notes) m) (is_opener x.bytes) (λ acc e. admitted_of fast_rules lawful (fast_trace k key.source key.pgn notes) acc m e) refl in
-    (λ e. sym free ∙ ap is_none e, λ e. none_of (refused (open_at fast_rules (fast_trace k key.source key.pgn notes) m) x) (free ∙ e))
+fast_breaks holders notes key m x =
+    let free = free_by x (open_at fast_rules (fast_trace holders key.source key.pgn notes) m) (is_opener x.bytes) (λ acc e. admitted_of fast_rules lawful (fast_trace holders key.source key.pgn notes) acc m e) refl in
+    (λ e. sym free ∙ ap is_none e, λ e. none_of (refused (open_at fast_rules (fast_trace holders key.source key.pgn notes) m) x) (free ∙ e))
 
 -- ---- the transport protocol
 

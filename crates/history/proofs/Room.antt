@@ -1,6 +1,6 @@
 -- Where only a device's frames are kept, no more keys are open than were, so its openers find room that found it.
 use Rattle.std.proofs.Common.{◌≡◌, ℕ, ◌≤◌, Bool, true, false, ◌||◌, not, List, [], ◌∷◌, length, refl, sym, ap, ◌∙◌, ◌==◌, nat_lt, arith, is_some}
-use Rattle.std.specs.Prelude.{filter, if◌then◌else◌}
+use Rattle.std.specs.Prelude.{Option, filter, if◌then◌else◌}
 use Rattle.std.specs.List.{AllByRecursion, list_any}
 use Rattle.std.specs.Bool.{beq}
 use Rattle.std.proofs.lemmas.Bool.{eq-eqb, false≢true, lt-ltb, ltb-true}
@@ -12,7 +12,7 @@ use Rattle.iso_transport.specs.declared.key.IsoKey.{IsoKey}
 use Rattle.iso_transport.specs.Audience.{key_of}
 use Rattle.iso_transport.specs.IsoRuns.{IsoPiece, iso_rules}
 use Rattle.claim_table.specs.Laws.{IsSound}
-use Rattle.history.specs.Known.{Known, since_of}
+use Rattle.history.specs.Known.{Known, held_since}
 use Rattle.history.specs.Traces.{Note, fast_trace, is_transport}
 use Rattle.history.specs.Opens.{placed, is_fast, same_fast, precedes_fast, fast_keys, fast_open, open_fast_keys, is_fast_admitted, same_iso, precedes_iso, iso_keys, iso_open, open_iso_keys, is_iso_admitted}
 use Rattle.history.proofs.KeySteps.{eqb-sym}
@@ -20,6 +20,7 @@ use Rattle.history.proofs.Counts.{all_placed}
 use Rattle.history.proofs.FastCounts as fast
 use Rattle.history.proofs.IsoCounts as iso
 use Rattle.history.proofs.Fewer.{Apart, apart_placed, apart_filtered, among_filtered, no_longer}
+use Rattle.claim_table.specs.declared.answer.Holder.{Holder}
 
 -- a frame of a fast packet or of the transport protocol is the device's
 abbrev pub IsOwnKind : (ℕ → Kind) → ℕ → Note → Type 0
@@ -64,44 +65,44 @@ fast_own kinds a (n ∷ notes) all = by (is_fast (kinds n.parts.pgn)) refl (fast
     by true e rest = all_placed (IsFastOf kinds a) same_fast precedes_fast (record { source = n.parts.source; pgn = n.parts.pgn }) (fast_keys kinds notes) (all.0 (true_or (is_fast (kinds n.parts.pgn)) (is_transport n.parts) e), e) rest
     by false e rest = rest
 
-pub fast_came : (kinds : ℕ → Kind) (k : Known) (notes : List Note) (m : ℕ) (key : FastKey) → is_fast (kinds key.pgn) ≡ true → is_some (fast_open k notes key m) ≡ true → list_any (same_fast key) (fast_keys kinds notes) ≡ true
-fast_came kinds k notes m key kind is_open = by (list_any (same_fast key) (fast_keys kinds notes)) refl
+pub fast_came : (kinds : ℕ → Kind) (holders : List (Option Holder)) (notes : List Note) (m : ℕ) (key : FastKey) → is_fast (kinds key.pgn) ≡ true → is_some (fast_open holders notes key m) ≡ true → list_any (same_fast key) (fast_keys kinds notes) ≡ true
+fast_came kinds holders notes m key kind is_open = by (list_any (same_fast key) (fast_keys kinds notes)) refl
   where
     by : (b : Bool) → list_any (same_fast key) (fast_keys kinds notes) ≡ b → list_any (same_fast key) (fast_keys kinds notes) ≡ true
     by true e = e
     by false e =
-        let nothing : fast_trace k key.source key.pgn notes ≡ [] = fast.no_frames kinds key (since_of k key.source) notes kind e in
-        let closed : is_some (fast_open k notes key m) ≡ false = ap (λ (t : List FastPiece). is_some (open_at fast_rules t m)) nothing in
+        let nothing : fast_trace holders key.source key.pgn notes ≡ [] = fast.no_frames kinds key (held_since holders key.source) notes kind e in
+        let closed : is_some (fast_open holders notes key m) ≡ false = ap (λ (t : List FastPiece). is_some (open_at fast_rules t m)) nothing in
         absurd (false≢true (sym closed ∙ is_open))
 
 -- what is open of the device in one is open in the other
-module _ (kinds : ℕ → Kind) (a : ℕ) (k l : Known) (notes kept : List Note) (m : ℕ) (own : AllByRecursion (IsOwnKind kinds a) kept)
-    (opens : (key : FastKey) → IsFastOf kinds a key → is_some (fast_open l kept key m) ≡ is_some (fast_open k notes key m)) where
+module _ (kinds : ℕ → Kind) (a : ℕ) (holders others : List (Option Holder)) (notes kept : List Note) (m : ℕ) (own : AllByRecursion (IsOwnKind kinds a) kept)
+    (opens : (key : FastKey) → IsFastOf kinds a key → is_some (fast_open others kept key m) ≡ is_some (fast_open holders notes key m)) where
   fast_among : (key : FastKey) (ks : List FastKey) → AllByRecursion (IsFastOf kinds a) ks
-      → AllByRecursion (λ x. list_any (same_fast x) (filter (λ other. not (same_fast other key)) (open_fast_keys kinds k notes m)) ≡ true)
-      (filter (λ other. not (same_fast other key)) (filter (λ x. is_some (fast_open l kept x m)) ks))
+      → AllByRecursion (λ x. list_any (same_fast x) (filter (λ other. not (same_fast other key)) (open_fast_keys kinds holders notes m)) ≡ true)
+      (filter (λ other. not (same_fast other key)) (filter (λ x. is_some (fast_open others kept x m)) ks))
   fast_among key [] all = tt
-  fast_among key (x ∷ ks) all = by (is_some (fast_open l kept x m)) refl (not (same_fast x key)) refl (fast_among key ks all.1)
+  fast_among key (x ∷ ks) all = by (is_some (fast_open others kept x m)) refl (not (same_fast x key)) refl (fast_among key ks all.1)
     where
-      there : is_some (fast_open l kept x m) ≡ true → not (same_fast x key) ≡ true → list_any (same_fast x) (filter (λ other. not (same_fast other key)) (open_fast_keys kinds k notes m)) ≡ true
+      there : is_some (fast_open others kept x m) ≡ true → not (same_fast x key) ≡ true → list_any (same_fast x) (filter (λ other. not (same_fast other key)) (open_fast_keys kinds holders notes m)) ≡ true
       there e f =
-          let is_open : is_some (fast_open k notes x m) ≡ true = sym (opens x all.0) ∙ e in
-          among_filtered same_fast fast.same_is fast_turn fast_itself (λ other. not (same_fast other key)) x (open_fast_keys kinds k notes m) f
-          (among_filtered same_fast fast.same_is fast_turn fast_itself (λ other. is_some (fast_open k notes other m)) x (fast_keys kinds notes) is_open (fast_came kinds k notes m x all.0.1 is_open))
+          let is_open : is_some (fast_open holders notes x m) ≡ true = sym (opens x all.0) ∙ e in
+          among_filtered same_fast fast.same_is fast_turn fast_itself (λ other. not (same_fast other key)) x (open_fast_keys kinds holders notes m) f
+          (among_filtered same_fast fast.same_is fast_turn fast_itself (λ other. is_some (fast_open holders notes other m)) x (fast_keys kinds notes) is_open (fast_came kinds holders notes m x all.0.1 is_open))
 
-      by : (b : Bool) → is_some (fast_open l kept x m) ≡ b → (d : Bool) → not (same_fast x key) ≡ d
-          → AllByRecursion (λ y. list_any (same_fast y) (filter (λ other. not (same_fast other key)) (open_fast_keys kinds k notes m)) ≡ true) (filter (λ other. not (same_fast other key)) (filter (λ y. is_some (fast_open l kept y m)) ks))
-          → AllByRecursion (λ y. list_any (same_fast y) (filter (λ other. not (same_fast other key)) (open_fast_keys kinds k notes m)) ≡ true) (filter (λ other. not (same_fast other key)) (filter (λ y. is_some (fast_open l kept y m)) (x ∷ ks)))
+      by : (b : Bool) → is_some (fast_open others kept x m) ≡ b → (d : Bool) → not (same_fast x key) ≡ d
+          → AllByRecursion (λ y. list_any (same_fast y) (filter (λ other. not (same_fast other key)) (open_fast_keys kinds holders notes m)) ≡ true) (filter (λ other. not (same_fast other key)) (filter (λ y. is_some (fast_open others kept y m)) ks))
+          → AllByRecursion (λ y. list_any (same_fast y) (filter (λ other. not (same_fast other key)) (open_fast_keys kinds holders notes m)) ≡ true) (filter (λ other. not (same_fast other key)) (filter (λ y. is_some (fast_open others kept y m)) (x ∷ ks)))
       by true e true f rest = rw e (rw f (there e f, rest))
       by true e false f rest = rw e (rw f rest)
       by false e d f rest = rw e rest
 
-  pub fast_room : (limit : ℕ) (key : FastKey) → is_fast_admitted kinds limit k notes key m ≡ true → is_fast_admitted kinds limit l kept key m ≡ true
+  pub fast_room : (limit : ℕ) (key : FastKey) → is_fast_admitted kinds limit holders notes key m ≡ true → is_fast_admitted kinds limit others kept key m ≡ true
   fast_room limit key room =
-      smaller (length (filter (λ other. not (same_fast other key)) (open_fast_keys kinds l kept m))) (length (filter (λ other. not (same_fast other key)) (open_fast_keys kinds k notes m))) limit
-      (no_longer same_fast fast.same_is fast_turn fast_itself (filter (λ other. not (same_fast other key)) (open_fast_keys kinds l kept m)) (filter (λ other. not (same_fast other key)) (open_fast_keys kinds k notes m))
-      (apart_filtered same_fast fast.same_is fast_turn fast_itself (λ other. not (same_fast other key)) (open_fast_keys kinds l kept m)
-      (apart_filtered same_fast fast.same_is fast_turn fast_itself (λ x. is_some (fast_open l kept x m)) (fast_keys kinds kept) (fast_apart kinds kept)))
+      smaller (length (filter (λ other. not (same_fast other key)) (open_fast_keys kinds others kept m))) (length (filter (λ other. not (same_fast other key)) (open_fast_keys kinds holders notes m))) limit
+      (no_longer same_fast fast.same_is fast_turn fast_itself (filter (λ other. not (same_fast other key)) (open_fast_keys kinds others kept m)) (filter (λ other. not (same_fast other key)) (open_fast_keys kinds holders notes m))
+      (apart_filtered same_fast fast.same_is fast_turn fast_itself (λ other. not (same_fast other key)) (open_fast_keys kinds others kept m)
+      (apart_filtered same_fast fast.same_is fast_turn fast_itself (λ x. is_some (fast_open others kept x m)) (fast_keys kinds kept) (fast_apart kinds kept)))
       (fast_among key (fast_keys kinds kept) (fast_own kinds a kept own)))
       room
 

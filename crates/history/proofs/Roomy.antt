@@ -5,7 +5,7 @@ use Rattle.std.specs.List.{AllByRecursion}
 use Rattle.std.proofs.lemmas.Bool.{eqb-true, ne_eqb, and_parts, false≢true, le-leb}
 use Rattle.n2k_id.specs.Frame.{BusFrame}
 use Rattle.n2k_id.specs.Identifier.{parts_of}
-use Rattle.claim_table.specs.Claims.{holder_at}
+use Rattle.claim_table.specs.Claims.{is_at, holder_at}
 use Rattle.claim_table.specs.Laws.{IsSound}
 use Rattle.pgn_profile.specs.declared.kinds.Kind.{Kind}
 use Rattle.pgn_profile.specs.declared.kinds.Kind.TheVariants.{Fast, Outside}
@@ -19,7 +19,7 @@ use Rattle.iso_transport.specs.declared.key.IsoKey.{IsoKey}
 use Rattle.history.specs.Entries.{Entry, History, frame, datagram, tick}
 use Rattle.history.specs.Entries as entry
 use Rattle.history.specs.Receiver.{Receiver}
-use Rattle.history.specs.Known.{Known, known, is_own, is_claim, since_of}
+use Rattle.history.specs.Known.{Known, known, is_claim, held_since}
 use Rattle.history.specs.Traces.{Note, fast_piece, fast_trace, fast_trace_since, iso_piece, iso_trace, broadcast_since, addressed_since, is_bearing}
 use Rattle.history.specs.Opens.{is_fast, notes_of}
 use Rattle.history.specs.AddressLaws.{IsReceiver}
@@ -35,7 +35,7 @@ abbrev pub FoundRoom : {X : Type 0} → Rules X → List X → Type 0
 FoundRoom r t = AllByRecursion (λ x. r.opens x ≡ true → r.admitted x ≡ true) t
 
 pub record Roomy (c : Receiver) (s a : ℕ) (h : History) : Type 0 where
-  pub fast : (p : ℕ) → c.kinds p ≡ Fast → FoundRoom fast_rules (fast_trace (known c s h) a p (notes_of c s h))
+  pub fast : (p : ℕ) → c.kinds p ≡ Fast → FoundRoom fast_rules (fast_trace (known c s h).claims.holders a p (notes_of c s h))
   pub iso : (addressed : Bool) → FoundRoom (iso_rules addressed) (iso_trace (known c s h) addressed a (notes_of c s h))
 
 cut_room : {X : Type 0} (r : Rules X) (b : Bool) (t : List X) → FoundRoom r t → FoundRoom r (if b then [] else t)
@@ -51,9 +51,9 @@ not_claims_pgn c are p fast e = let two : Outside ≡ Fast = sym are.claims ∙ 
 
 -- ---- the fast frames of a source, with one more
 
-pub fast_head : (k : Known) (a p : ℕ) (n : Note) (notes : List Note) → (n.parts.source == a) ≡ true → IsLate (since_of k a) n.index
-    → fast_trace k a p (n ∷ notes) ≡ (if is_some (since_of k a) && (n.parts.pgn == p) then fast_piece n ∷ fast_trace k a p notes else fast_trace k a p notes)
-fast_head k a p n notes source late = by (since_of k a) late
+pub fast_head : (k : Known) (a p : ℕ) (n : Note) (notes : List Note) → (n.parts.source == a) ≡ true → IsLate (held_since k.claims.holders a) n.index
+    → fast_trace k.claims.holders a p (n ∷ notes) ≡ (if is_some (held_since k.claims.holders a) && (n.parts.pgn == p) then fast_piece n ∷ fast_trace k.claims.holders a p notes else fast_trace k.claims.holders a p notes)
+fast_head k a p n notes source late = by (held_since k.claims.holders a) late
   where
     with_pgn : (since : ℕ) → since ≤ n.index → (b : Bool) → (n.parts.pgn == p) ≡ b
         → fast_trace_since (Some since) a p (n ∷ notes) ≡ (if b then fast_piece n ∷ fast_trace_since (Some since) a p notes else fast_trace_since (Some since) a p notes)
@@ -65,18 +65,18 @@ fast_head k a p n notes source late = by (since_of k a) late
     by None le = refl
     by (Some since) le = with_pgn since le (n.parts.pgn == p) refl
 
-pub fast_past : (k : Known) (a p : ℕ) (n : Note) (notes : List Note) → (n.parts.source == a) ≡ false → fast_trace k a p (n ∷ notes) ≡ fast_trace k a p notes
-fast_past k a p n notes e = other_piece (since_of k a) a p n notes (rw e refl)
+pub fast_past : (k : Known) (a p : ℕ) (n : Note) (notes : List Note) → (n.parts.source == a) ≡ false → fast_trace k.claims.holders a p (n ∷ notes) ≡ fast_trace k.claims.holders a p notes
+fast_past k a p n notes e = other_piece (held_since k.claims.holders a) a p n notes (rw e refl)
 
 -- ---- what counts and is an opener of its rules opens a message
 
-fast_opens : (c : Receiver) (k : Known) (n : Note) (a p : ℕ) → (n.parts.source == a) ≡ true → is_fast (c.kinds p) ≡ true → (is_some (since_of k a) && (n.parts.pgn == p)) ≡ true
-    → fast_rules.opens (fast_piece n) ≡ true → opens_message c.kinds k n ≡ true
+fast_opens : (c : Receiver) (k : Known) (n : Note) (a p : ℕ) → (n.parts.source == a) ≡ true → is_fast (c.kinds p) ≡ true → (is_some (held_since k.claims.holders a) && (n.parts.pgn == p)) ≡ true
+    → fast_rules.opens (fast_piece n) ≡ true → opens_message c.kinds k.claims n ≡ true
 fast_opens c k n a p source kind counts opening =
-    let parts = and_parts (is_some (since_of k a)) (n.parts.pgn == p) counts in
-    let held : is_some (since_of k n.parts.source) ≡ true = subst (λ (x : ℕ). is_some (since_of k x) ≡ true) (sym (eqb-true n.parts.source a source)) parts.0 in
+    let parts = and_parts (is_some (held_since k.claims.holders a)) (n.parts.pgn == p) counts in
+    let held : is_some (held_since k.claims.holders n.parts.source) ≡ true = subst (λ (x : ℕ). is_some (held_since k.claims.holders x) ≡ true) (sym (eqb-true n.parts.source a source)) parts.0 in
     let fast : is_fast (c.kinds n.parts.pgn) ≡ true = subst (λ (x : ℕ). is_fast (c.kinds x) ≡ true) (sym (eqb-true n.parts.pgn p parts.1)) kind in
-    first (is_some (since_of k n.parts.source)) (is_fast (c.kinds n.parts.pgn)) (is_opener n.bytes) _ held fast opening
+    first (is_some (held_since k.claims.holders n.parts.source)) (is_fast (c.kinds n.parts.pgn)) (is_opener n.bytes) _ held fast opening
   where
     first : (x y z u : Bool) → x ≡ true → y ≡ true → z ≡ true → ((x && (y && z)) || u) ≡ true
     first true true true u e f g = refl
@@ -85,39 +85,39 @@ fast_opens c k n a p source kind counts opening =
     first true true false u e f g = cc
 
 -- the gateway's own address is none to all
-own_small : (k : Known) → IsSound k.claims → (d : ℕ) (own : Option ℕ) → k.claims.own ≡ own → is_own k d ≡ true → (d == 255) ≡ false
+own_small : (k : Known) → IsSound k.claims → (d : ℕ) (own : Option ℕ) → k.claims.own ≡ own → is_at d k.claims.own ≡ true → (d == 255) ≡ false
 own_small k sound d None e is = absurd (false≢true (rw e at is))
 own_small k sound d (Some x) e is =
     let small : x < 252 = sound.own_within x e in
     let same : x ≡ d = eqb-true x d (rw e at is) in
     ne_eqb d 255 (λ f. omega (arith, small, same, f))
 
-concerned_source : (k : Known) (n : Note) (a : ℕ) (addressed : Bool) → concerns k n (record { addressed = addressed; source = a }) ≡ true → (n.parts.source == a) ≡ true
+concerned_source : (k : Known) (n : Note) (a : ℕ) (addressed : Bool) → concerns k.claims n (record { addressed = addressed; source = a }) ≡ true → (n.parts.source == a) ≡ true
 concerned_source k n a addressed e =
-    (and_parts (n.parts.source == a) (is_meant k n addressed && is_bearing addressed n)
-    (and_parts (is_some (since_of k a)) ((n.parts.source == a) && (is_meant k n addressed && is_bearing addressed n)) e).1).0
+    (and_parts (n.parts.source == a) (is_meant k.claims.own n addressed && is_bearing addressed n)
+    (and_parts (is_some (held_since k.claims.holders a)) ((n.parts.source == a) && (is_meant k.claims.own n addressed && is_bearing addressed n)) e).1).0
 
-pub key_is : (k : Known) → IsSound k.claims → (n : Note) (a : ℕ) (addressed : Bool) → concerns k n (record { addressed = addressed; source = a }) ≡ true
+pub key_is : (k : Known) → IsSound k.claims → (n : Note) (a : ℕ) (addressed : Bool) → concerns k.claims n (record { addressed = addressed; source = a }) ≡ true
     → key_of n.parts ≡ record { addressed = addressed; source = a }
 key_is k sound n a addressed e =
-    let meant = (and_parts (is_meant k n addressed) (is_bearing addressed n)
-    (and_parts (n.parts.source == a) (is_meant k n addressed && is_bearing addressed n)
-    (and_parts (is_some (since_of k a)) ((n.parts.source == a) && (is_meant k n addressed && is_bearing addressed n)) e).1).1).0 in
+    let meant = (and_parts (is_meant k.claims.own n addressed) (is_bearing addressed n)
+    (and_parts (n.parts.source == a) (is_meant k.claims.own n addressed && is_bearing addressed n)
+    (and_parts (is_some (held_since k.claims.holders a)) ((n.parts.source == a) && (is_meant k.claims.own n addressed && is_bearing addressed n)) e).1).1).0 in
     ap (λ (x : Bool). made x n.parts.source) (to addressed meant) ∙ ap (λ (x : ℕ). made addressed x) (eqb-true n.parts.source a (concerned_source k n a addressed e))
   where
     made : Bool → ℕ → IsoKey
     made addressed source = record { addressed = addressed; source = source }
 
-    to : (b : Bool) → is_meant k n b ≡ true → not (n.parts.destination == 255) ≡ b
+    to : (b : Bool) → is_meant k.claims.own n b ≡ true → not (n.parts.destination == 255) ≡ b
     to true f = ap not (own_small k sound n.parts.destination k.claims.own refl f)
     to false f = ap not f
 
-iso_opens : (kinds : ℕ → Kind) (k : Known) → IsSound k.claims → (n : Note) (a : ℕ) (addressed : Bool) → concerns k n (record { addressed = addressed; source = a }) ≡ true
-    → (iso_rules addressed).opens (iso_piece n) ≡ true → opens_message kinds k n ≡ true
+iso_opens : (kinds : ℕ → Kind) (k : Known) → IsSound k.claims → (n : Note) (a : ℕ) (addressed : Bool) → concerns k.claims n (record { addressed = addressed; source = a }) ≡ true
+    → (iso_rules addressed).opens (iso_piece n) ≡ true → opens_message kinds k.claims n ≡ true
 iso_opens kinds k sound n a addressed e opening =
-    second _ (concerns k n (key_of n.parts) && iso_opener (key_of n.parts).addressed (iso_piece n))
-    (subst (λ (x : IsoKey). (concerns k n x && iso_opener x.addressed (iso_piece n)) ≡ true) (sym (key_is k sound n a addressed e))
-    (both (concerns k n (record { addressed = addressed; source = a })) (iso_opener addressed (iso_piece n)) e opening))
+    second _ (concerns k.claims n (key_of n.parts) && iso_opener (key_of n.parts).addressed (iso_piece n))
+    (subst (λ (x : IsoKey). (concerns k.claims n x && iso_opener x.addressed (iso_piece n)) ≡ true) (sym (key_is k sound n a addressed e))
+    (both (concerns k.claims n (record { addressed = addressed; source = a })) (iso_opener addressed (iso_piece n)) e opening))
   where
     second : (x y : Bool) → y ≡ true → (x || y) ≡ true
     second true y f = refl
@@ -130,26 +130,26 @@ iso_opens kinds k sound n a addressed e opening =
 -- ---- a whole history
 
 module _ (c : Receiver) (s a : ℕ) (are : IsReceiver c) where
-  module _ (h : History) (m : ℕ) (f : BusFrame) (finds : FindsRoom c.kinds a (known c s h) (the_note c s h m f)) (room : Roomy c s a h) where
-    pub fast_with : (p : ℕ) → c.kinds p ≡ Fast → FoundRoom fast_rules (fast_trace (known c s h) a p (the_note c s h m f ∷ notes_of c s h))
+  module _ (h : History) (m : ℕ) (f : BusFrame) (finds : FindsRoom c.kinds a (known c s h).claims (the_note c s h m f)) (room : Roomy c s a h) where
+    pub fast_with : (p : ℕ) → c.kinds p ≡ Fast → FoundRoom fast_rules (fast_trace (known c s h).claims.holders a p (the_note c s h m f ∷ notes_of c s h))
     fast_with p kind = by ((parts_of f.id).source == a) refl
       where
-        by : (b : Bool) → ((parts_of f.id).source == a) ≡ b → FoundRoom fast_rules (fast_trace (known c s h) a p (the_note c s h m f ∷ notes_of c s h))
+        by : (b : Bool) → ((parts_of f.id).source == a) ≡ b → FoundRoom fast_rules (fast_trace (known c s h).claims.holders a p (the_note c s h m f ∷ notes_of c s h))
         by true e =
             subst (FoundRoom fast_rules) (sym (fast_head (known c s h) a p (the_note c s h m f) (notes_of c s h) e (late c s h m f are a (holder_at (known c s h).claims.holders a) refl)))
-            (added_room fast_rules (is_some (since_of (known c s h) a) && ((parts_of f.id).pgn == p)) (fast_piece (the_note c s h m f)) (fast_trace (known c s h) a p (notes_of c s h))
+            (added_room fast_rules (is_some (held_since (known c s h).claims.holders a) && ((parts_of f.id).pgn == p)) (fast_piece (the_note c s h m f)) (fast_trace (known c s h).claims.holders a p (notes_of c s h))
             (λ counts opening. finds e (fast_opens c (known c s h) (the_note c s h m f) a p e (ap is_fast kind) counts opening)) (room.fast p kind))
         by false e = subst (FoundRoom fast_rules) (sym (fast_past (known c s h) a p (the_note c s h m f) (notes_of c s h) e)) (room.fast p kind)
 
     pub iso_with : (addressed : Bool) → FoundRoom (iso_rules addressed) (iso_trace (known c s h) addressed a (the_note c s h m f ∷ notes_of c s h))
     iso_with addressed =
         subst (FoundRoom (iso_rules addressed)) (sym (trace_is c s h m f are addressed a))
-        (added_room (iso_rules addressed) (concerns (known c s h) (the_note c s h m f) (record { addressed = addressed; source = a })) (iso_piece (the_note c s h m f)) (iso_trace (known c s h) addressed a (notes_of c s h))
+        (added_room (iso_rules addressed) (concerns (known c s h).claims (the_note c s h m f) (record { addressed = addressed; source = a })) (iso_piece (the_note c s h m f)) (iso_trace (known c s h) addressed a (notes_of c s h))
         (λ counts opening. finds (concerned_source (known c s h) (the_note c s h m f) a addressed counts)
         (iso_opens c.kinds (known c s h) (addresses_are_sound c s h are).sound (the_note c s h m f) a addressed counts opening)) (room.iso addressed))
 
   start_room : Roomy c s a []
-  start_room = record { fast = λ p kind. no_fast p (since_of (known c s []) a); iso = no_iso }
+  start_room = record { fast = λ p kind. no_fast p (held_since (known c s []).claims.holders a); iso = no_iso }
     where
       no_fast : (p : ℕ) (since : Option ℕ) → FoundRoom fast_rules (fast_trace_since since a p [])
       no_fast p None = tt
@@ -165,14 +165,14 @@ module _ (c : Receiver) (s a : ℕ) (are : IsReceiver c) where
       none_own (Some since) (Some own) = tt
 
       no_iso : (addressed : Bool) → FoundRoom (iso_rules addressed) (iso_trace (known c s []) addressed a [])
-      no_iso false = none_all (since_of (known c s []) a)
-      no_iso true = none_own (since_of (known c s []) a) (known c s []).claims.own
+      no_iso false = none_all (held_since (known c s []).claims.holders a)
+      no_iso true = none_own (held_since (known c s []).claims.holders a) (known c s []).claims.own
 
   claim_room : (h : History) (m : ℕ) (f : BusFrame) → is_claim f ≡ true → Roomy c s a h → Roomy c s a (frame m f ∷ h)
   claim_room h m f claims room = record {
     fast = λ p kind.
         subst (FoundRoom fast_rules) (sym ((claims_move_traces c s h m f are claims).fast a p (not_claims_pgn c are p kind)))
-        (cut_room fast_rules _ (fast_trace (known c s h) a p (notes_of c s h)) (room.fast p kind));
+        (cut_room fast_rules _ (fast_trace (known c s h).claims.holders a p (notes_of c s h)) (room.fast p kind));
     iso = cut;
   }
     where
@@ -184,9 +184,9 @@ module _ (c : Receiver) (s a : ℕ) (are : IsReceiver c) where
           subst (FoundRoom (iso_rules true)) (sym ((claims_move_traces c s h m f are claims).addressed a))
           (cut_room (iso_rules true) _ (iso_trace (known c s h) true a (notes_of c s h)) (room.iso true))
 
-  frame_room : (h : History) (m : ℕ) (f : BusFrame) → is_claim f ≡ false → FindsRoom c.kinds a (known c s h) (the_note c s h m f) → Roomy c s a h → Roomy c s a (frame m f ∷ h)
+  frame_room : (h : History) (m : ℕ) (f : BusFrame) → is_claim f ≡ false → FindsRoom c.kinds a (known c s h).claims (the_note c s h m f) → Roomy c s a h → Roomy c s a (frame m f ∷ h)
   frame_room h m f other finds room = record {
-    fast = λ p kind. subst (λ (k : Known). FoundRoom fast_rules (fast_trace k a p (the_note c s h m f ∷ notes_of c s h))) (sym (known_same c s h m f other)) (fast_with h m f finds room p kind);
+    fast = λ p kind. subst (λ (k : Known). FoundRoom fast_rules (fast_trace k.claims.holders a p (the_note c s h m f ∷ notes_of c s h))) (sym (known_same c s h m f other)) (fast_with h m f finds room p kind);
     iso = λ addressed.
         subst (λ (k : Known). FoundRoom (iso_rules addressed) (iso_trace k addressed a (the_note c s h m f ∷ notes_of c s h))) (sym (known_same c s h m f other)) (iso_with h m f finds room addressed);
   }

@@ -5,7 +5,7 @@ use Rattle.std.proofs.lemmas.Bool.{eq-eqb, le-leb}
 use Rattle.n2k_id.specs.Frame.{BusFrame}
 use Rattle.n2k_id.specs.Identifier.{parts_of}
 use Rattle.claim_table.specs.declared.answer.Holder.{Holder}
-use Rattle.claim_table.specs.Claims.{holder_at}
+use Rattle.claim_table.specs.Claims.{is_at, holder_at}
 use Rattle.runs.specs.Runs.{fed, finished, kept_at, open_at, run_of}
 use Rattle.runs.specs.Laws.{OneStep}
 use Rattle.runs.proofs.Steps.{one_step_of}
@@ -15,7 +15,7 @@ use Rattle.iso_transport.specs.Audience.{key_of}
 use Rattle.pgn_profile.specs.declared.kinds.Kind.{Kind}
 use Rattle.history.specs.Entries.{History}
 use Rattle.history.specs.Receiver.{Receiver}
-use Rattle.history.specs.Known.{Known, known, is_own, is_claim, since_of}
+use Rattle.history.specs.Known.{Known, known, is_claim, held_since}
 use Rattle.history.specs.Traces.{Note, is_since, iso_piece, iso_trace, broadcast_since, addressed_since, is_transport, is_bearing}
 use Rattle.history.specs.Opens.{iso_open, notes_of}
 use Rattle.history.specs.Messages.{said_by, completed_by, by_session, iso_carried}
@@ -55,7 +55,7 @@ addressed_head since own own_since a n notes le late =
 -- ---- the trace of a key with the newest frame
 
 piece_if : (k : Known) (since : Option ℕ) (a : ℕ) (addressed : Bool) (n : Note) → Bool
-piece_if k since a addressed n = is_some since && ((n.parts.source == a) && (is_meant k n addressed && is_bearing addressed n))
+piece_if k since a addressed n = is_some since && ((n.parts.source == a) && (is_meant k.claims.own n addressed && is_bearing addressed n))
 
 abbrev pub IsLate : Option ℕ → ℕ → Type 0
 IsLate None i = Unit {0}
@@ -84,11 +84,11 @@ module _ (c : Receiver) (s : ℕ) (h : History) (m : ℕ) (f : BusFrame) (are : 
   late a (Some x) e = dated_at (length h) (known c s h).claims.holders a x (addresses_are_sound c s h are).dated e
 
   pub trace_is : (addressed : Bool) (a : ℕ) → iso_trace (known c s h) addressed a (the_note c s h m f ∷ notes_of c s h)
-      ≡ with_piece (concerns (known c s h) (the_note c s h m f) (record { addressed = addressed; source = a })) (the_note c s h m f) (iso_trace (known c s h) addressed a (notes_of c s h))
+      ≡ with_piece (concerns (known c s h).claims (the_note c s h m f) (record { addressed = addressed; source = a })) (the_note c s h m f) (iso_trace (known c s h) addressed a (notes_of c s h))
   unfolding piece_if
-  trace_is false a = broadcast_trace (known c s h) (since_of (known c s h) a) a (the_note c s h m f) (notes_of c s h) (late a (holder_at (known c s h).claims.holders a) refl)
+  trace_is false a = broadcast_trace (known c s h) (held_since (known c s h).claims.holders a) a (the_note c s h m f) (notes_of c s h) (late a (holder_at (known c s h).claims.holders a) refl)
   trace_is true a =
-      addressed_trace (known c s h) (since_of (known c s h) a) (known c s h).claims.own (known c s h).own_since a (the_note c s h m f) (notes_of c s h) refl
+      addressed_trace (known c s h) (held_since (known c s h).claims.holders a) (known c s h).claims.own (known c s h).own_since a (the_note c s h m f) (notes_of c s h) refl
       (late a (holder_at (known c s h).claims.holders a) refl) (addresses_are_sound c s h are).own_dated
 
   -- what is open with the frame or without it
@@ -103,7 +103,7 @@ module _ (c : Receiver) (s : ℕ) (h : History) (m : ℕ) (f : BusFrame) (are : 
     left = λ key n.
         rw (known_same c s h m f other)
         (ap (λ (t : List IsoPiece). open_at (iso_rules key.addressed) t n) (trace_is key.addressed key.source)
-        ∙ opens key.addressed (iso_trace (known c s h) key.addressed key.source (notes_of c s h)) n (concerns (known c s h) (the_note c s h m f) key));
+        ∙ opens key.addressed (iso_trace (known c s h) key.addressed key.source (notes_of c s h)) n (concerns (known c s h).claims (the_note c s h m f) key));
   }
 
 pub iso_steps : FramesStepIso
@@ -115,18 +115,18 @@ iso_ends k notes key m n le = (steps key.addressed).later (iso_trace k key.addre
 -- ---- what it completes
 
 -- the frame bears on the session of its own key where it is to all or to the gateway
-meant_is : (k : Known) (n : Note) → (not (key_of n.parts).addressed || is_own k n.parts.destination) ≡ is_meant k n (key_of n.parts).addressed
+meant_is : (k : Known) (n : Note) → (not (key_of n.parts).addressed || is_at n.parts.destination k.claims.own) ≡ is_meant k.claims.own n (key_of n.parts).addressed
 meant_is k n = by (n.parts.destination == 255) refl
   where
-    by : (b : Bool) → (n.parts.destination == 255) ≡ b → (not (not (n.parts.destination == 255)) || is_own k n.parts.destination) ≡ is_meant k n (not (n.parts.destination == 255))
+    by : (b : Bool) → (n.parts.destination == 255) ≡ b → (not (not (n.parts.destination == 255)) || is_at n.parts.destination k.claims.own) ≡ is_meant k.claims.own n (not (n.parts.destination == 255))
     by true e = rw e refl
     by false e = rw e refl
 
-held_and_own : (k : Known) (n : Note) (x : ℕ) → since_of k n.parts.source ≡ Some x → (addressed : Bool)
-    → concerns k n (record { addressed = addressed; source = n.parts.source }) ≡ (is_meant k n addressed && is_bearing addressed n)
+held_and_own : (k : Known) (n : Note) (x : ℕ) → held_since k.claims.holders n.parts.source ≡ Some x → (addressed : Bool)
+    → concerns k.claims n (record { addressed = addressed; source = n.parts.source }) ≡ (is_meant k.claims.own n addressed && is_bearing addressed n)
 held_and_own k n x e addressed = rw (e, eq-eqb n.parts.source n.parts.source refl) refl
 
-pub session_is : (k : Known) (n : Note) (older : List Note) (b : Bool) → ((not (key_of n.parts).addressed || is_own k n.parts.destination) && is_bearing (key_of n.parts).addressed n) ≡ b
+pub session_is : (k : Known) (n : Note) (older : List Note) (b : Bool) → ((not (key_of n.parts).addressed || is_at n.parts.destination k.claims.own) && is_bearing (key_of n.parts).addressed n) ≡ b
     → by_session k n older ≡ (if b then iso_carried (run_of (iso_rules (key_of n.parts).addressed) (iso_trace k (key_of n.parts).addressed n.parts.source (n ∷ older))) else None)
 session_is k n older true e = rw e refl
 session_is k n older false e = rw e refl
@@ -136,17 +136,17 @@ completed_iso kinds k n older e = rw e refl
 
 module _ (c : Receiver) (s : ℕ) (h : History) (m : ℕ) (f : BusFrame) (x : Holder) (are : IsReceiver c) (transport : is_transport (parts_of f.id) ≡ true)
     (holds : holder_at (known c s h).claims.holders (parts_of f.id).source ≡ Some x) where
-  since_is : since_of (known c s h) (parts_of f.id).source ≡ Some x.since
+  since_is : held_since (known c s h).claims.holders (parts_of f.id).source ≡ Some x.since
   since_is = ap (option_map (λ (y : Holder). y.since)) holds
 
-  concerns_is : concerns (known c s h) (the_note c s h m f) (key_of (parts_of f.id))
-      ≡ ((not (key_of (parts_of f.id)).addressed || is_own (known c s h) (parts_of f.id).destination) && is_bearing (key_of (parts_of f.id)).addressed (the_note c s h m f))
+  concerns_is : concerns (known c s h).claims (the_note c s h m f) (key_of (parts_of f.id))
+      ≡ ((not (key_of (parts_of f.id)).addressed || is_at (parts_of f.id).destination (known c s h).claims.own) && is_bearing (key_of (parts_of f.id)).addressed (the_note c s h m f))
   concerns_is =
       held_and_own (known c s h) (the_note c s h m f) x.since since_is (key_of (parts_of f.id)).addressed
       ∙ ap (λ (b : Bool). b && is_bearing (key_of (parts_of f.id)).addressed (the_note c s h m f)) (sym (meant_is (known c s h) (the_note c s h m f)))
 
   -- the run that it ends, or none
-  ends : (addressed : Bool) (b : Bool) → concerns (known c s h) (the_note c s h m f) (record { addressed = addressed; source = (parts_of f.id).source }) ≡ b
+  ends : (addressed : Bool) (b : Bool) → concerns (known c s h).claims (the_note c s h m f) (record { addressed = addressed; source = (parts_of f.id).source }) ≡ b
       → (if b then iso_carried (run_of (iso_rules addressed) (iso_trace (known c s h) addressed (parts_of f.id).source (the_note c s h m f ∷ notes_of c s h))) else None)
       ≡ (if b then iso_carried (finished (iso_rules addressed) (iso_open (known c s h) (notes_of c s h) (record { addressed = addressed; source = (parts_of f.id).source }) m) (iso_piece (the_note c s h m f))) else None)
   ends addressed true e =
@@ -156,13 +156,13 @@ module _ (c : Receiver) (s : ℕ) (h : History) (m : ℕ) (f : BusFrame) (x : Ho
   ends addressed false e = refl
 
   completes : completed_by c.kinds (known c s h) (the_note c s h m f) (notes_of c s h)
-      ≡ (if concerns (known c s h) (the_note c s h m f) (key_of (parts_of f.id))
+      ≡ (if concerns (known c s h).claims (the_note c s h m f) (key_of (parts_of f.id))
       then iso_carried (finished (iso_rules (key_of (parts_of f.id)).addressed) (iso_open (known c s h) (notes_of c s h) (key_of (parts_of f.id)) m) (iso_piece (the_note c s h m f)))
       else None)
   completes =
       completed_iso c.kinds (known c s h) (the_note c s h m f) (notes_of c s h) transport
-      ∙ session_is (known c s h) (the_note c s h m f) (notes_of c s h) (concerns (known c s h) (the_note c s h m f) (key_of (parts_of f.id))) (sym concerns_is)
-      ∙ ends (key_of (parts_of f.id)).addressed (concerns (known c s h) (the_note c s h m f) (key_of (parts_of f.id))) refl
+      ∙ session_is (known c s h) (the_note c s h m f) (notes_of c s h) (concerns (known c s h).claims (the_note c s h m f) (key_of (parts_of f.id))) (sym concerns_is)
+      ∙ ends (key_of (parts_of f.id)).addressed (concerns (known c s h).claims (the_note c s h m f) (key_of (parts_of f.id))) refl
 
   pub complete : CompletesIso c s h m f x
   complete = record {

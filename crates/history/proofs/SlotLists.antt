@@ -20,8 +20,9 @@ use Rattle.history.proofs.KeyLists.{IsSorted, sorted_placed, listed, ended}
 use Rattle.history.proofs.FastCounts as fast
 use Rattle.history.proofs.IsoCounts as iso
 use Rattle.history.proofs.GroupCounts as groups
+use Rattle.claim_table.specs.declared.answer.Holder.{Holder}
 
-module _ (kinds : ℕ → Kind) (cmp : FastKey → FastKey → Ordering) (k : Known) (notes : List Note) (m : ℕ) (slots : SlotMap FastKey) (h : HoldsFast kinds cmp k notes m slots)
+module _ (kinds : ℕ → Kind) (cmp : FastKey → FastKey → Ordering) (holders : List (Option Holder)) (notes : List Note) (m : ℕ) (slots : SlotMap FastKey) (h : HoldsFast kinds cmp holders notes m slots)
     (sorts : (a b : FastKey) → precedes_fast a b ≡ is_lt (cmp a b)) where
   fast_sorted : (ns : List Note) → IsSorted cmp h.order (fast_keys kinds ns)
   fast_sorted [] = tt
@@ -33,10 +34,10 @@ module _ (kinds : ℕ → Kind) (cmp : FastKey → FastKey → Ordering) (k : Kn
       by false rest = rest
 
 pub slots_list_fast : SlotsListFast
-slots_list_fast kinds cmp k notes m slots h sorts = record {
-  passing = λ p q tests. listed (fast.held kinds cmp k notes m slots h) (fast_sorted kinds cmp k notes m slots h sorts notes) p q tests;
-  ending = λ is_meant after n q tests.
-      ended (fast.held kinds cmp k notes m slots h) (fast_sorted kinds cmp k notes m slots h sorts notes) is_meant (λ key. is_none (fast_open after notes key n)) q tests;
+slots_list_fast kinds cmp holders notes m slots h sorts = record {
+  passing = λ p q tests. listed (fast.held kinds cmp holders notes m slots h) (fast_sorted kinds cmp holders notes m slots h sorts notes) p q tests;
+  ending = λ is_meant later n q tests.
+      ended (fast.held kinds cmp holders notes m slots h) (fast_sorted kinds cmp holders notes m slots h sorts notes) is_meant (λ key. is_none (fast_open later notes key n)) q tests;
 }
 
 module _ (cmp : IsoKey → IsoKey → Ordering) (k : Known) (notes : List Note) (m : ℕ) (slots : SlotMap IsoKey) (h : HoldsIso cmp k notes m slots)

@@ -11,7 +11,7 @@ use Rattle.fast_packet.specs.FastRuns.{FastPiece}
 use Rattle.iso_transport.specs.IsoRuns.{IsoPiece}
 use Rattle.history.specs.Entries.{History, frame}
 use Rattle.history.specs.Receiver.{Receiver}
-use Rattle.history.specs.Known.{Known, known, is_claim, claim_by, followed_by, since_of, since_own}
+use Rattle.history.specs.Known.{Known, known, is_claim, claim_by, followed_by, held_since, since_own}
 use Rattle.history.specs.Traces.{Note, is_since, fast_piece, fast_trace_since, iso_piece, broadcast_since, addressed_since, is_transport, is_bearing}
 use Rattle.history.specs.Opens.{note_of, notes_of}
 use Rattle.history.specs.AddressLaws.{IsReceiver}
@@ -144,8 +144,8 @@ module _ (c : Receiver) (s : ℕ) (h : History) (m : ℕ) (f : BusFrame) (are : 
   pgn_is : (parts_of f.id).pgn ≡ 60928
   pgn_is = eqb-true (parts_of f.id).pgn 60928 (and_parts _ _ claims).0
 
-  moved : (a : ℕ) → Moved (is_lost (claim (known c s h).claims (claim_by (length h) m f)).step a) (length h) (since_of (known c s h) a)
-      (since_of (followed_by (length h) (known c s h) (claim (known c s h).claims (claim_by (length h) m f)).after) a)
+  moved : (a : ℕ) → Moved (is_lost (claim (known c s h).claims (claim_by (length h) m f)).step a) (length h) (held_since (known c s h).claims.holders a)
+      (held_since (followed_by (length h) (known c s h) (claim (known c s h).claims (claim_by (length h) m f)).after).claims.holders a)
   unfolding since_in
   moved a =
       moved_of (known c s h).claims (claim_by (length h) m f) (claim (known c s h).claims (claim_by (length h) m f)) a
@@ -155,13 +155,13 @@ module _ (c : Receiver) (s : ℕ) (h : History) (m : ℕ) (f : BusFrame) (are : 
   unfolding n
   claim_moves = record {
     fast = λ a p other. rw known_is (
-        fast_as (since_of (followed_by (length h) (known c s h) (claim (known c s h).claims (claim_by (length h) m f)).after) a) a p (n ∷ notes_of c s h)
+        fast_as (held_since (followed_by (length h) (known c s h) (claim (known c s h).claims (claim_by (length h) m f)).after).claims.holders a) a p (n ∷ notes_of c s h)
         ∙ moved_trace fast_piece (λ x. x.parts.pgn == p) a (length h) n (notes_of c s h) (notes_below c s h) (not_it p other) _ _ _ (moved a)
-        ∙ ap (λ (x : List FastPiece). if is_lost (claim (known c s h).claims (claim_by (length h) m f)).step a then [] else x) (sym (fast_as (since_of (known c s h) a) a p (notes_of c s h))));
+        ∙ ap (λ (x : List FastPiece). if is_lost (claim (known c s h).claims (claim_by (length h) m f)).step a then [] else x) (sym (fast_as (held_since (known c s h).claims.holders a) a p (notes_of c s h))));
     broadcast = λ a. rw known_is (
-        broadcast_as (since_of (followed_by (length h) (known c s h) (claim (known c s h).claims (claim_by (length h) m f)).after) a) a (n ∷ notes_of c s h)
+        broadcast_as (held_since (followed_by (length h) (known c s h) (claim (known c s h).claims (claim_by (length h) m f)).after).claims.holders a) a (n ∷ notes_of c s h)
         ∙ moved_trace iso_piece (λ x. (x.parts.destination == 255) && is_bearing false x) a (length h) n (notes_of c s h) (notes_below c s h) (to_all_not n pgn_is) _ _ _ (moved a)
-        ∙ ap (λ (x : List IsoPiece). if is_lost (claim (known c s h).claims (claim_by (length h) m f)).step a then [] else x) (sym (broadcast_as (since_of (known c s h) a) a (notes_of c s h))));
+        ∙ ap (λ (x : List IsoPiece). if is_lost (claim (known c s h).claims (claim_by (length h) m f)).step a then [] else x) (sym (broadcast_as (held_since (known c s h).claims.holders a) a (notes_of c s h))));
     addressed = λ a. rw known_is (
         by_own a (length h) (known c s h).own_since n (notes_of c s h) (notes_below c s h) pgn_is _ _ _ (moved a) (known c s h).claims.own
         (claim (known c s h).claims (claim_by (length h) m f)).after.own);
@@ -176,8 +176,8 @@ pub known_after_claim : (c : Receiver) (s : ℕ) (h : History) (m : ℕ) (f : Bu
 known_after_claim c s h m f claims = rw claims refl
 
 pub moved_since : (c : Receiver) (s : ℕ) (h : History) (m : ℕ) (f : BusFrame) → IsReceiver c → (a : ℕ)
-    → Moved (is_lost (claim (known c s h).claims (claim_by (length h) m f)).step a) (length h) (since_of (known c s h) a)
-    (since_of (followed_by (length h) (known c s h) (claim (known c s h).claims (claim_by (length h) m f)).after) a)
+    → Moved (is_lost (claim (known c s h).claims (claim_by (length h) m f)).step a) (length h) (held_since (known c s h).claims.holders a)
+    (held_since (followed_by (length h) (known c s h) (claim (known c s h).claims (claim_by (length h) m f)).after).claims.holders a)
 unfolding since_in
 moved_since c s h m f are a =
     moved_of (known c s h).claims (claim_by (length h) m f) (claim (known c s h).claims (claim_by (length h) m f)) a
@@ -196,7 +196,7 @@ pub commanded_holders : (c : Claims) (a m : ℕ) → (command c a m).holders ≡
 unfolding command
 commanded_holders c a m = same_holders (is_obeyed c a) c a m
 
-pub same_since : (index : ℕ) (k : Known) (a m source : ℕ) → since_of (followed_by index k (command k.claims a m)) source ≡ since_of k source
+pub same_since : (index : ℕ) (k : Known) (a m source : ℕ) → held_since (followed_by index k (command k.claims a m)).claims.holders source ≡ held_since k.claims.holders source
 same_since index k a m source = ap (λ (x : List (Option Holder)). option_map (λ (h : Holder). h.since) (holder_at x source)) (commanded_holders k.claims a m)
 
 module _ (a i own_since : ℕ) (notes : List Note) (below : AreBelow i notes) where
@@ -223,5 +223,5 @@ commands_move_traces c s h m source address = record {
   addressed = λ a.
       ap (λ (x : Option ℕ). addressed_since x (command (known c s h).claims address m).own (since_own (length h) (known c s h).own_since (known c s h).claims.own (command (known c s h).claims address m).own) a (notes_of c s h))
       (same_since (length h) (known c s h) address m a)
-      ∙ by_command a (length h) (known c s h).own_since (notes_of c s h) (notes_below c s h) (since_of (known c s h) a) (known c s h).claims.own (command (known c s h).claims address m).own;
+      ∙ by_command a (length h) (known c s h).own_since (notes_of c s h) (notes_below c s h) (held_since (known c s h).claims.holders a) (known c s h).claims.own (command (known c s h).claims address m).own;
 }

@@ -25,14 +25,14 @@ addresses zero = []
 addresses (suc n) = n ∷ addresses n
 
 -- the holder of the address has a smaller rank, and its last message of the row counts still
-abbrev pub beats : RowRule → Known → Row → Rank → ℕ → List Message → ℕ → Bool
-beats rule k row rank m older a = is_better rank (holder_rank rule (holder_at k.claims.holders a)) && still_counts rule.timeout m (last_of k row a older)
+abbrev pub beats : RowRule → List (Option Holder) → Row → Rank → ℕ → List Message → ℕ → Bool
+beats rule holders row rank m older a = is_better rank (holder_rank rule (holder_at holders a)) && still_counts rule.timeout m (last_of holders row a older)
 
 -- a rank is the first exactly where none of the addresses that can be held beats it
 abbrev pub FirstByAddresses : Type 0
 FirstByAddresses =
-    (rule : RowRule) (k : Known) (row : Row) (rank : Rank) (m : ℕ) (older : List Message) (n : ℕ) → length k.claims.holders ≤ n
-    → is_first rule k.claims.holders row m older (Some rank) ≡ not (list_any (beats rule k row rank m older) (addresses n))
+    (rule : RowRule) (holders : List (Option Holder)) (row : Row) (rank : Rank) (m : ℕ) (older : List Message) (n : ℕ) → length holders ≤ n
+    → is_first rule holders row m older (Some rank) ≡ not (list_any (beats rule holders row rank m older) (addresses n))
 
 -- what is noted of an address in a row: its last message since its holder has it, where that NAME has a rank
 abbrev pub noted_with : ℕ → Option Rank → Option Message → Option Note
@@ -40,19 +40,20 @@ noted_with a None last = None
 noted_with a (Some rank) None = None
 noted_with a (Some rank) (Some d) = Some (record { source = a; rank = rank; moment = d.moment; usable = is_usable (reading_of d) })
 
-abbrev pub kept_note : RowRule → Known → Row → List Message → ℕ → Option Note
-kept_note rule k row older a = noted_with a (holder_rank rule (holder_at k.claims.holders a)) (last_of k row a older)
+abbrev pub kept_note : RowRule → List (Option Holder) → Row → List Message → ℕ → Option Note
+kept_note rule holders row older a = noted_with a (holder_rank rule (holder_at holders a)) (last_of holders row a older)
 
 -- notes of a row that hold this of each address select a message exactly where its rank is the first
-pub record HoldsNotes (rule : RowRule) (k : Known) (row : Row) (older : List Message) (r : RowNotes) : Type 0 where
+pub record HoldsNotes (rule : RowRule) (holders : List (Option Holder)) (row : Row) (older : List Message) (r : RowNotes) : Type 0 where
   pub timeout : r.timeout ≡ rule.timeout
   pub apart : AreFrom 0 r.sources r.notes
-  pub notes : (a : ℕ) → note_of a r.notes ≡ kept_note rule k row older a
+  pub notes : (a : ℕ) → note_of a r.notes ≡ kept_note rule holders row older a
 
 abbrev pub FirstByNotes : Type 0
 FirstByNotes =
-    (rule : RowRule) (k : Known) (row : Row) (older : List Message) (r : RowNotes) (source : ℕ) (rank : Rank) (m : ℕ) → HoldsNotes rule k row older r
-    → holder_rank rule (holder_at k.claims.holders source) ≡ Some rank → is_selected r source rank m ≡ is_first rule k.claims.holders row m older (Some rank)
+    (rule : RowRule) (holders : List (Option Holder)) (row : Row) (older : List Message) (r : RowNotes) (source : ℕ) (rank : Rank) (m : ℕ)
+    → HoldsNotes rule holders row older r
+    → holder_rank rule (holder_at holders source) ≡ Some rank → is_selected r source rank m ≡ is_first rule holders row m older (Some rank)
 
 -- the same of the network, where a source goes by its place among those that are listed
 abbrev pub net_noted : ℕ → Option NetReading → Option Note

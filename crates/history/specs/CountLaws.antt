@@ -1,5 +1,5 @@
 -- How many keys are open is how many places of a map are taken that holds what is open.
-use Rattle.std.specs.Prelude.{◌≡◌, ℕ, ◌≤◌, ◌&&◌, not, List, length, is_some}
+use Rattle.std.specs.Prelude.{Option, ◌≡◌, ℕ, ◌≤◌, ◌&&◌, not, List, length, is_some}
 use Rattle.std.specs.Cmp.{IsTotalOrder}
 use Rattle.std.specs.BTreeMap.{is_at}
 use Rattle.std.specs.declared.cmp.Ordering.{Ordering}
@@ -13,25 +13,26 @@ use Rattle.history.specs.Known.{Known}
 use Rattle.history.specs.Heard.{Taken, same_group, group_open, open_groups, is_group_admitted}
 use Rattle.history.specs.Traces.{Note}
 use Rattle.history.specs.Opens.{is_fast, same_fast, same_iso, fast_open, iso_open, open_fast_keys, open_iso_keys, is_fast_admitted, is_iso_admitted}
+use Rattle.claim_table.specs.declared.answer.Holder.{Holder}
 
 -- the map holds a key exactly where it is one of fast packets and is open
-module _ (kinds : ℕ → Kind) (cmp : FastKey → FastKey → Ordering) (k : Known) (notes : List Note) (m : ℕ) (slots : SlotMap FastKey) where
+module _ (kinds : ℕ → Kind) (cmp : FastKey → FastKey → Ordering) (holders : List (Option Holder)) (notes : List Note) (m : ℕ) (slots : SlotMap FastKey) where
   pub record HoldsFast : Type 0 where
     pub order : IsTotalOrder cmp
     pub tells : (a b : FastKey) → is_at (cmp a) b ≡ same_fast a b
     pub ordered : IsOrdered cmp slots.entries
     pub within : length slots.entries ≤ slots.limit
-    pub holds : (key : FastKey) → is_some (entry_at cmp slots key) ≡ (is_fast (kinds key.pgn) && is_some (fast_open k notes key m))
+    pub holds : (key : FastKey) → is_some (entry_at cmp slots key) ≡ (is_fast (kinds key.pgn) && is_some (fast_open holders notes key m))
 
   -- as many places are taken as keys are open, and an opener finds room exactly where the map isn't full for its key
   pub record CountsFast : Type 0 where
-    pub count : length slots.entries ≡ length (open_fast_keys kinds k notes m)
-    pub room : (key : FastKey) → is_fast_admitted kinds slots.limit k notes key m ≡ not (is_full cmp slots key)
+    pub count : length slots.entries ≡ length (open_fast_keys kinds holders notes m)
+    pub room : (key : FastKey) → is_fast_admitted kinds slots.limit holders notes key m ≡ not (is_full cmp slots key)
 
 abbrev pub SlotsCountFast : Type 0
 SlotsCountFast =
-    (kinds : ℕ → Kind) (cmp : FastKey → FastKey → Ordering) (k : Known) (notes : List Note) (m : ℕ) (slots : SlotMap FastKey)
-    → HoldsFast kinds cmp k notes m slots → CountsFast kinds cmp k notes m slots
+    (kinds : ℕ → Kind) (cmp : FastKey → FastKey → Ordering) (holders : List (Option Holder)) (notes : List Note) (m : ℕ) (slots : SlotMap FastKey)
+    → HoldsFast kinds cmp holders notes m slots → CountsFast kinds cmp holders notes m slots
 
 -- the same of sessions of the transport protocol, of a gateway whose addresses are sound
 module _ (cmp : IsoKey → IsoKey → Ordering) (k : Known) (notes : List Note) (m : ℕ) (slots : SlotMap IsoKey) where

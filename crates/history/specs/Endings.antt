@@ -16,12 +16,13 @@ use Rattle.history.specs.Traces.{Note}
 use Rattle.history.specs.Opens.{fast_keys, iso_keys, fast_open, iso_open}
 use Rattle.history.specs.Heard.{Taken, group_keys, group_open}
 use Rattle.history.specs.Emits.{Emit, broken, of_source, replied}
+use Rattle.claim_table.specs.declared.answer.Holder.{Holder}
 
 -- ---- what is open after an entry no more
 
 -- a key is open in one state at a moment, and not in another at another moment
-abbrev pub fast_ended : Known → ℕ → Known → ℕ → List Note → FastKey → Bool
-fast_ended k m after n notes key = is_some (fast_open k notes key m) && is_none (fast_open after notes key n)
+abbrev pub fast_ended : List (Option Holder) → ℕ → List (Option Holder) → ℕ → List Note → FastKey → Bool
+fast_ended holders m later n notes key = is_some (fast_open holders notes key m) && is_none (fast_open later notes key n)
 
 abbrev pub iso_ended : Known → ℕ → Known → ℕ → List Note → IsoKey → Bool
 iso_ended k m after n notes key = is_some (iso_open k notes key m) && is_none (iso_open after notes key n)
@@ -40,11 +41,12 @@ session_pgn k notes key m = pgn_of (iso_open k notes key m)
 abbrev pub abort_reply : Bool → ℕ → Option Reply
 abort_reply addressed pgn = if addressed then Some (Abort 3 pgn) else None
 
-module _ (k : Known) (notes : List Note) (earlier m : ℕ) where
+module _ (holders : List (Option Holder)) (notes : List Note) (earlier m : ℕ) where
   abbrev pub fast_expired : (ℕ → Kind) → List Emit
   fast_expired kinds =
-      flat_map (λ key. of_source rules.expired key.source key.pgn ∷ []) (filter (fast_ended k earlier k m notes) (fast_keys kinds notes))
+      flat_map (λ key. of_source rules.expired key.source key.pgn ∷ []) (filter (fast_ended holders earlier holders m notes) (fast_keys kinds notes))
 
+module _ (k : Known) (notes : List Note) (earlier m : ℕ) where
   abbrev pub iso_expired : List Emit
   iso_expired =
       flat_map
@@ -63,12 +65,13 @@ groups_expired lines earlier m =
 
 -- ---- by a claim or a command (rule 17), all at one moment
 
-module _ (k after : Known) (notes : List Note) (m : ℕ) where
+module _ (holders later : List (Option Holder)) (notes : List Note) (m : ℕ) where
   abbrev pub fast_lost : (ℕ → Kind) → (FastKey → Bool) → List Emit
   fast_lost kinds is_meant =
       flat_map (λ key. of_source rules.claim_lost key.source key.pgn ∷ [])
-      (filter (λ key. is_meant key && fast_ended k m after m notes key) (fast_keys kinds notes))
+      (filter (λ key. is_meant key && fast_ended holders m later m notes key) (fast_keys kinds notes))
 
+module _ (k after : Known) (notes : List Note) (m : ℕ) where
   abbrev pub iso_lost : (IsoKey → Bool) → List Emit
   iso_lost is_meant =
       flat_map (λ key. of_source rules.claim_lost key.source (session_pgn k notes key m) ∷ [])
@@ -77,7 +80,7 @@ module _ (k after : Known) (notes : List Note) (m : ℕ) where
   -- of one address: fast packets by PGN, then the broadcast session, then the addressed one
   abbrev pub lost_at : (ℕ → Kind) → Option ℕ → List Emit
   lost_at kinds None = []
-  lost_at kinds (Some a) = fast_lost kinds (λ key. key.source == a) ++ iso_lost (λ key. key.source == a)
+  lost_at kinds (Some a) = fast_lost k.claims.holders after.claims.holders notes m kinds (λ key. key.source == a) ++ iso_lost (λ key. key.source == a)
 
   -- the other addressed sessions, by source
   abbrev pub lost_elsewhere : Option ℕ → Option ℕ → List Emit

@@ -88,8 +88,8 @@ said_in c before (Some r) = let rule = rule_of c (row_of r) in
 -- ---- a frame, over the history before it
 
 -- what is open of its fast packet, and of its session
-abbrev pub frames_before : Meaning → Known → List Note → ℕ → Parts → Option (List FastPiece)
-frames_before meaning k notes m p = if is_of_fast_packet meaning then fast_open k notes (record { source = p.source; pgn = p.pgn }) m else None
+abbrev pub frames_before : Meaning → List (Option Holder) → List Note → ℕ → Parts → Option (List FastPiece)
+frames_before meaning holders notes m p = if is_of_fast_packet meaning then fast_open holders notes (record { source = p.source; pgn = p.pgn }) m else None
 
 abbrev pub packets_before : Meaning → Known → List Note → ℕ → Parts → Option (List IsoPiece)
 packets_before meaning k notes m p = if is_of_session meaning then iso_open k notes (key_of p) m else None
@@ -104,7 +104,7 @@ module _ (r : Receiver) (s : ℕ) (h : History) (m : ℕ) (f : BusFrame) where
       let k = known r s h in
       let notes = notes_of r s h in
       let n = note_of r (length h) k notes m f in
-      frame_breaks r.name meaning_after n (frames_before meaning_after k notes m n.parts) (packets_before meaning_after k notes m n.parts)
+      frame_breaks r.name meaning_after n (frames_before meaning_after k.claims.holders notes m n.parts) (packets_before meaning_after k notes m n.parts)
       (done r s h (entry.frame m f))
 
   -- what it makes the receiver send on the bus

@@ -59,7 +59,7 @@ module _ (c : Settings) (s : ℕ) where
   expired h m =
       let k = known (receiver_of c) s h in
       let notes = notes_of (receiver_of c) s h in
-      fast_expired k notes (now h) m kind_of ++ iso_expired k notes (now h) m ++ groups_expired (lines_of c (heard h)) (now h) m
+      fast_expired k.claims.holders notes (now h) m kind_of ++ iso_expired k notes (now h) m ++ groups_expired (lines_of c (heard h)) (now h) m
 
   -- the rules that an entry breaks; of a datagram, the reports among what it gives
   abbrev pub reports_in : List Emit → List Report

@@ -14,9 +14,10 @@ use Rattle.history.specs.Opens.{placed}
 abbrev pub same_text : List ℕ → List ℕ → Bool
 same_text a b = pointwise nat_eq a b
 
--- of two texts of one length, the one whose first byte that differs is smaller
+-- of two texts the one whose first byte that differs is smaller, or that ends first
 abbrev pub precedes_text : List ℕ → List ℕ → Bool
-precedes_text [] b = false
+precedes_text [] [] = false
+precedes_text [] (y ∷ ys) = true
 precedes_text (x ∷ xs) [] = false
 precedes_text (x ∷ xs) (y ∷ ys) = nat_lt x y || ((x == y) && precedes_text xs ys)
 

@@ -8,11 +8,12 @@ use Rattle.iso_transport.specs.IsoRuns as iso
 use Rattle.history.specs.AddressLaws.{IsReceiver}
 use Rattle.history.specs.Entries.{Entry, History, frame, datagram, tick, command}
 use Rattle.history.specs.Receiver.{Receiver}
-use Rattle.history.specs.Known.{Known, known, is_claim, since_of}
+use Rattle.history.specs.Known.{Known, known, is_claim, held_since}
 use Rattle.history.specs.Traces.{Note, iso_piece}
 use Rattle.history.specs.Opens.{is_fast}
 use Rattle.history.specs.KeyLaws.{concerns, the_note}
 use Rattle.history.specs.Messages.{Message, messages_of}
+use Rattle.claim_table.specs.Claims.{Claims}
 
 -- the claims, the commands and the frames from an address
 abbrev pub keeps : ℕ → Entry → Bool
@@ -39,19 +40,19 @@ abbrev pub from : ℕ → List Message → List Plain
 from a older = map plain (filter (λ d. d.source == a) older)
 
 -- a frame opens a message: it begins a fast packet of a source that holds its address, or a session that concerns the gateway
-abbrev pub opens_message : (ℕ → Kind) → Known → Note → Bool
-opens_message kinds k n =
-    (is_some (since_of k n.parts.source) && (is_fast (kinds n.parts.pgn) && fast.is_opener n.bytes))
-    || (concerns k n (key_of n.parts) && iso.is_opener (key_of n.parts).addressed (iso_piece n))
+abbrev pub opens_message : (ℕ → Kind) → Claims → Note → Bool
+opens_message kinds claims n =
+    (is_some (held_since claims.holders n.parts.source) && (is_fast (kinds n.parts.pgn) && fast.is_opener n.bytes))
+    || (concerns claims n (key_of n.parts) && iso.is_opener (key_of n.parts).addressed (iso_piece n))
 
 -- by what is known when it comes, the frame is no opener from the address, or finds room
-abbrev pub FindsRoom : (ℕ → Kind) → ℕ → Known → Note → Type 0
-FindsRoom kinds a k n = (n.parts.source == a) ≡ true → opens_message kinds k n ≡ true → n.admitted ≡ true
+abbrev pub FindsRoom : (ℕ → Kind) → ℕ → Claims → Note → Type 0
+FindsRoom kinds a claims n = (n.parts.source == a) ≡ true → opens_message kinds claims n ≡ true → n.admitted ≡ true
 
 -- no opener from the address was refused for want of room
 abbrev pub NoneRefused : Receiver → ℕ → History → ℕ → Type 0
 NoneRefused c s [] a = Unit {0}
-NoneRefused c s (frame m f ∷ h) a = FindsRoom c.kinds a (known c s h) (the_note c s h m f) × NoneRefused c s h a
+NoneRefused c s (frame m f ∷ h) a = FindsRoom c.kinds a (known c s h).claims (the_note c s h m f) × NoneRefused c s h a
 NoneRefused c s (datagram m bytes ∷ h) a = NoneRefused c s h a
 NoneRefused c s (tick m ∷ h) a = NoneRefused c s h a
 NoneRefused c s (command m source address ∷ h) a = NoneRefused c s h a

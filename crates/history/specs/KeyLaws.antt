@@ -1,8 +1,8 @@
 -- What one more frame does to what is open of its key.
-use Rattle.std.specs.Prelude.{◌≡◌, ℕ, ◌≤◌, Bool, true, false, ◌&&◌, ◌==◌, List, ◌∷◌, length, Some, None, is_some, if◌then◌else◌}
+use Rattle.std.specs.Prelude.{Option, ◌≡◌, ℕ, ◌≤◌, Bool, true, false, ◌&&◌, ◌==◌, List, ◌∷◌, length, Some, None, is_some, if◌then◌else◌}
 use Rattle.n2k_id.specs.Frame.{BusFrame}
 use Rattle.n2k_id.specs.Identifier.{parts_of}
-use Rattle.claim_table.specs.Claims.{holder_at}
+use Rattle.claim_table.specs.Claims.{Claims, is_at, holder_at}
 use Rattle.claim_table.specs.declared.answer.Holder.{Holder}
 use Rattle.pgn_profile.specs.declared.kinds.Kind.TheVariants.{Fast}
 use Rattle.runs.specs.Runs.{fed, finished, kept_at}
@@ -14,7 +14,7 @@ use Rattle.iso_transport.specs.Audience.{key_of}
 use Rattle.history.specs.AddressLaws.{IsReceiver}
 use Rattle.history.specs.Entries.{History, frame}
 use Rattle.history.specs.Receiver.{Receiver}
-use Rattle.history.specs.Known.{Known, known, is_own, is_claim, since_of}
+use Rattle.history.specs.Known.{Known, known, is_claim, held_since}
 use Rattle.history.specs.Traces.{Note, fast_piece, iso_piece, is_transport, is_bearing}
 use Rattle.history.specs.Opens.{same_fast, fast_open, iso_open, note_of, notes_of}
 use Rattle.history.specs.Messages.{done, said_by, fast_carried, iso_carried}
@@ -29,17 +29,18 @@ module _ (c : Receiver) (s : ℕ) (h : History) (m : ℕ) (f : BusFrame) where
 
   pub record StepsFast (holder : Holder) : Type 0 where
     -- of its key the frame leaves what the rules of fast packets say of the frames that were open, and completes what they say
-    pub left : (n : ℕ) → fast_open (known c s (frame m f ∷ h)) (notes_of c s (frame m f ∷ h)) fast_key n
-        ≡ kept_at fast_rules (fed fast_rules (fast_open (known c s h) (notes_of c s h) fast_key m) (fast_piece the_note)) n
+    pub left : (n : ℕ) → fast_open (known c s (frame m f ∷ h)).claims.holders (notes_of c s (frame m f ∷ h)) fast_key n
+        ≡ kept_at fast_rules (fed fast_rules (fast_open (known c s h).claims.holders (notes_of c s h) fast_key m) (fast_piece the_note)) n
     pub completed : done c s h (frame m f)
         ≡ said_by (length h) m (parts_of f.id).source (Some holder)
         (fast_carried (parts_of f.id).pgn
-        (finished fast_rules (fast_open (known c s h) (notes_of c s h) fast_key m) (fast_piece the_note)))
+        (finished fast_rules (fast_open (known c s h).claims.holders (notes_of c s h) fast_key m) (fast_piece the_note)))
 
   -- what is open of other keys stays open
   pub record KeepsFast : Type 0 where
     pub others : (key : FastKey) (n : ℕ) → same_fast key fast_key ≡ false
-        → fast_open (known c s (frame m f ∷ h)) (notes_of c s (frame m f ∷ h)) key n ≡ fast_open (known c s h) (notes_of c s h) key n
+        → fast_open (known c s (frame m f ∷ h)).claims.holders (notes_of c s (frame m f ∷ h)) key n
+        ≡ fast_open (known c s h).claims.holders (notes_of c s h) key n
 
 abbrev pub FramesStepFast : Type 0
 FramesStepFast =
@@ -52,21 +53,24 @@ FramesKeepFast = (c : Receiver) (s : ℕ) (h : History) (m : ℕ) (f : BusFrame)
 -- what is open at a moment is what was open at an earlier one, but for what is overdue
 abbrev pub TimeEndsFast : Type 0
 TimeEndsFast =
-    (k : Known) (notes : List Note) (key : FastKey) (m n : ℕ) → m ≤ n → fast_open k notes key n ≡ kept_at fast_rules (fast_open k notes key m) n
+    (holders : List (Option Holder)) (notes : List Note) (key : FastKey) (m n : ℕ) → m ≤ n
+    → fast_open holders notes key n ≡ kept_at fast_rules (fast_open holders notes key m) n
 
 -- ---- the transport protocol
 
 -- the frame bears on the session of this key: it is from the key's source, which holds its address, and to all or to the gateway
-abbrev pub is_meant : Known → Note → Bool → Bool
-is_meant k n addressed = if addressed then is_own k n.parts.destination else n.parts.destination == 255
+abbrev pub is_meant : Option ℕ → Note → Bool → Bool
+is_meant own n addressed = if addressed then is_at n.parts.destination own else n.parts.destination == 255
 
-abbrev pub concerns : Known → Note → IsoKey → Bool
-concerns k n key = is_some (since_of k key.source) && ((n.parts.source == key.source) && (is_meant k n key.addressed && is_bearing key.addressed n))
+abbrev pub concerns : Claims → Note → IsoKey → Bool
+concerns claims n key =
+    is_some (held_since claims.holders key.source)
+    && ((n.parts.source == key.source) && (is_meant claims.own n key.addressed && is_bearing key.addressed n))
 
 pub record StepsIso (c : Receiver) (s : ℕ) (h : History) (m : ℕ) (f : BusFrame) : Type 0 where
   -- of each key on whose session it bears, the frame leaves what the rules say of the frames that were open; all others stay open
   pub left : (key : IsoKey) (n : ℕ) → iso_open (known c s (frame m f ∷ h)) (notes_of c s (frame m f ∷ h)) key n
-      ≡ (if concerns (known c s h) (the_note c s h m f) key
+      ≡ (if concerns (known c s h).claims (the_note c s h m f) key
       then kept_at (iso_rules key.addressed) (fed (iso_rules key.addressed) (iso_open (known c s h) (notes_of c s h) key m) (iso_piece (the_note c s h m f))) n
       else iso_open (known c s h) (notes_of c s h) key n)
 
@@ -74,7 +78,7 @@ pub record StepsIso (c : Receiver) (s : ℕ) (h : History) (m : ℕ) (f : BusFra
 pub record CompletesIso (c : Receiver) (s : ℕ) (h : History) (m : ℕ) (f : BusFrame) (holder : Holder) : Type 0 where
   pub completed : let key = key_of (parts_of f.id) in done c s h (frame m f)
       ≡ said_by (length h) m (parts_of f.id).source (Some holder)
-      (if concerns (known c s h) (the_note c s h m f) key
+      (if concerns (known c s h).claims (the_note c s h m f) key
       then iso_carried (finished (iso_rules key.addressed) (iso_open (known c s h) (notes_of c s h) key m) (iso_piece (the_note c s h m f)))
       else None)
 

@@ -17,15 +17,9 @@ pub record Known : Type 0 where
   pub claims : Claims
   pub own_since : ℕ
 
-abbrev pub is_own : Known → ℕ → Bool
-is_own k a = is_at a k.claims.own
-
 -- since which entry the holder of an address has it
 abbrev pub held_since : List (Option Holder) → ℕ → Option ℕ
 held_since holders a = option_map (λ holder. holder.since) (holder_at holders a)
-
-abbrev pub since_of : Known → ℕ → Option ℕ
-since_of k a = held_since k.claims.holders a
 
 -- a claim is a frame of PGN 60928 with the 8 bytes of a NAME, from an address other than 255
 abbrev pub is_claim : BusFrame → Bool

@@ -12,7 +12,7 @@ use Rattle.history.specs.Gate.{heard}
 abbrev pub FastWithinLimit : Type 0
 FastWithinLimit =
     (c : Receiver) (s : ℕ) (h : History) (m : ℕ) → IsReceiver c → IsHistory h → now h ≤ m
-    → length (open_fast_keys c.kinds (known c s h) (notes_of c s h) m) ≤ c.fast_slots
+    → length (open_fast_keys c.kinds (known c s h).claims.holders (notes_of c s h) m) ≤ c.fast_slots
 
 abbrev pub IsoWithinLimit : Type 0
 IsoWithinLimit =

@@ -1,6 +1,6 @@
 -- A map that holds what is open of a kind, in the order of the reports, lists it in that order: its keys that pass a test, and those that
 -- end, by time or after a claim or a command.
-use Rattle.std.specs.Prelude.{◌≡◌, ℕ, Bool, ◌&&◌, List, map, filter, is_none, Some}
+use Rattle.std.specs.Prelude.{Option, ◌≡◌, ℕ, Bool, ◌&&◌, List, map, filter, is_none, Some}
 use Rattle.std.specs.Ordering.{is_lt}
 use Rattle.std.specs.declared.cmp.Ordering.{Ordering}
 use Rattle.slot_views.specs.Slots.{Entry, SlotMap, entry_at}
@@ -14,6 +14,7 @@ use Rattle.history.specs.Traces.{Note}
 use Rattle.history.specs.Opens.{precedes_fast, precedes_iso, fast_keys, iso_keys, fast_open, iso_open, open_fast_keys, open_iso_keys}
 use Rattle.history.specs.Endings.{fast_ended, iso_ended, group_ended}
 use Rattle.history.specs.CountLaws.{HoldsFast, HoldsIso, HoldsGroups}
+use Rattle.claim_table.specs.declared.answer.Holder.{Holder}
 
 -- a test of entries says of each entry of the map what one of keys says
 abbrev pub Tests : {K : Type 0} → (K → K → Ordering) → SlotMap K → (K × Entry → Bool) → (K → Bool) → Type 0
@@ -23,17 +24,17 @@ Tests {K = K} cmp slots q p = (key : K) (e : Entry) → entry_at cmp slots key �
 abbrev pub keys_that : {K : Type 0} → (K × Entry → Bool) → SlotMap K → List K
 keys_that q slots = map (λ e. e.0) (filter q slots.entries)
 
-module _ (kinds : ℕ → Kind) (cmp : FastKey → FastKey → Ordering) (k : Known) (notes : List Note) (m : ℕ) (slots : SlotMap FastKey) where
+module _ (kinds : ℕ → Kind) (cmp : FastKey → FastKey → Ordering) (holders : List (Option Holder)) (notes : List Note) (m : ℕ) (slots : SlotMap FastKey) where
   pub record ListsFast : Type 0 where
-    pub passing : (p : FastKey → Bool) (q : FastKey × Entry → Bool) → Tests cmp slots q p → keys_that q slots ≡ filter p (open_fast_keys kinds k notes m)
-    pub ending : (is_meant : FastKey → Bool) (after : Known) (n : ℕ) (q : FastKey × Entry → Bool)
-        → Tests cmp slots q (λ key. is_meant key && is_none (fast_open after notes key n))
-        → keys_that q slots ≡ filter (λ key. is_meant key && fast_ended k m after n notes key) (fast_keys kinds notes)
+    pub passing : (p : FastKey → Bool) (q : FastKey × Entry → Bool) → Tests cmp slots q p → keys_that q slots ≡ filter p (open_fast_keys kinds holders notes m)
+    pub ending : (is_meant : FastKey → Bool) (later : List (Option Holder)) (n : ℕ) (q : FastKey × Entry → Bool)
+        → Tests cmp slots q (λ key. is_meant key && is_none (fast_open later notes key n))
+        → keys_that q slots ≡ filter (λ key. is_meant key && fast_ended holders m later n notes key) (fast_keys kinds notes)
 
 abbrev pub SlotsListFast : Type 0
 SlotsListFast =
-    (kinds : ℕ → Kind) (cmp : FastKey → FastKey → Ordering) (k : Known) (notes : List Note) (m : ℕ) (slots : SlotMap FastKey)
-    → HoldsFast kinds cmp k notes m slots → ((a b : FastKey) → precedes_fast a b ≡ is_lt (cmp a b)) → ListsFast kinds cmp k notes m slots
+    (kinds : ℕ → Kind) (cmp : FastKey → FastKey → Ordering) (holders : List (Option Holder)) (notes : List Note) (m : ℕ) (slots : SlotMap FastKey)
+    → HoldsFast kinds cmp holders notes m slots → ((a b : FastKey) → precedes_fast a b ≡ is_lt (cmp a b)) → ListsFast kinds cmp holders notes m slots
 
 module _ (cmp : IsoKey → IsoKey → Ordering) (k : Known) (notes : List Note) (m : ℕ) (slots : SlotMap IsoKey) where
   pub record ListsIso : Type 0 where

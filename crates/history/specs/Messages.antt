@@ -1,6 +1,6 @@
 -- The messages that were complete: single frames, fast packets (canboat) and sessions of the transport protocol (ISO 11783-3).
 use Rattle.std.specs.Prelude.{ℕ, ◌&&◌, ◌||◌, not, List, [], ◌∷◌, length, Option, Some, None, option_map, if◌then◌else◌}
-use Rattle.claim_table.specs.Claims.{holder_at}
+use Rattle.claim_table.specs.Claims.{is_at, holder_at}
 use Rattle.claim_table.specs.declared.answer.Holder.{Holder}
 use Rattle.pgn_profile.specs.declared.kinds.Kind.{Kind}
 use Rattle.pgn_profile.specs.declared.kinds.Kind.TheVariants.{Single, Fast, Outside}
@@ -14,7 +14,7 @@ use Rattle.iso_transport.specs.Audience.{key_of}
 use Rattle.history.specs.Entries as entry
 use Rattle.history.specs.Entries.{Entry, History}
 use Rattle.history.specs.Receiver.{Receiver}
-use Rattle.history.specs.Known.{Known, known, is_own}
+use Rattle.history.specs.Known.{Known, known}
 use Rattle.history.specs.Traces.{Note, fast_trace, iso_trace, is_transport, is_bearing}
 use Rattle.history.specs.Opens.{note_of, notes_of}
 
@@ -50,14 +50,14 @@ by_kind Outside n trace = None
 -- and what a transport frame to all or to the gateway completes, where it bears on a session
 abbrev pub by_session : Known → Note → List Note → Option Carried
 by_session k n older = let addressed = (key_of n.parts).addressed in
-    if (not addressed || is_own k n.parts.destination) && is_bearing addressed n
+    if (not addressed || is_at n.parts.destination k.claims.own) && is_bearing addressed n
     then iso_carried (run_of (iso_rules addressed) (iso_trace k addressed n.parts.source (n ∷ older)))
     else None
 
 abbrev pub completed_by : (ℕ → Kind) → Known → Note → List Note → Option Carried
 completed_by kinds k n older =
     if is_transport n.parts then by_session k n older
-    else by_kind (kinds n.parts.pgn) n (fast_trace k n.parts.source n.parts.pgn (n ∷ older))
+    else by_kind (kinds n.parts.pgn) n (fast_trace k.claims.holders n.parts.source n.parts.pgn (n ∷ older))
 
 abbrev pub said_by : ℕ → ℕ → ℕ → Option Holder → Option Carried → Option Message
 said_by index moment source None what = None

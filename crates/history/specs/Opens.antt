@@ -21,6 +21,7 @@ use Rattle.history.specs.Entries.{Entry, History}
 use Rattle.history.specs.Receiver.{Receiver}
 use Rattle.history.specs.Known.{Known, known}
 use Rattle.history.specs.Traces.{Note, fast_trace, iso_trace, is_transport}
+use Rattle.claim_table.specs.declared.answer.Holder.{Holder}
 
 -- the message comes as a fast packet
 abbrev pub is_fast : Kind → Bool
@@ -66,22 +67,22 @@ iso_keys (n ∷ notes) =
 
 -- ---- what is open at a moment
 
-abbrev pub fast_open : Known → List Note → FastKey → ℕ → Option (List FastPiece)
-fast_open k notes key m = open_at fast_rules (fast_trace k key.source key.pgn notes) m
+abbrev pub fast_open : List (Option Holder) → List Note → FastKey → ℕ → Option (List FastPiece)
+fast_open holders notes key m = open_at fast_rules (fast_trace holders key.source key.pgn notes) m
 
 abbrev pub iso_open : Known → List Note → IsoKey → ℕ → Option (List IsoPiece)
 iso_open k notes key m = open_at (iso_rules key.addressed) (iso_trace k key.addressed key.source notes) m
 
-abbrev pub open_fast_keys : (ℕ → Kind) → Known → List Note → ℕ → List FastKey
-open_fast_keys kinds k notes m = filter (λ key. is_some (fast_open k notes key m)) (fast_keys kinds notes)
+abbrev pub open_fast_keys : (ℕ → Kind) → List (Option Holder) → List Note → ℕ → List FastKey
+open_fast_keys kinds holders notes m = filter (λ key. is_some (fast_open holders notes key m)) (fast_keys kinds notes)
 
 abbrev pub open_iso_keys : Known → List Note → ℕ → List IsoKey
 open_iso_keys k notes m = filter (λ key. is_some (iso_open k notes key m)) (iso_keys notes)
 
 -- ---- which openers find room: fewer of the other keys of the kind are open than the limit
 
-abbrev pub is_fast_admitted : (ℕ → Kind) → ℕ → Known → List Note → FastKey → ℕ → Bool
-is_fast_admitted kinds limit k notes key m = nat_lt (length (filter (λ other. not (same_fast other key)) (open_fast_keys kinds k notes m))) limit
+abbrev pub is_fast_admitted : (ℕ → Kind) → ℕ → List (Option Holder) → List Note → FastKey → ℕ → Bool
+is_fast_admitted kinds limit holders notes key m = nat_lt (length (filter (λ other. not (same_fast other key)) (open_fast_keys kinds holders notes m))) limit
 
 abbrev pub is_iso_admitted : ℕ → Known → List Note → IsoKey → ℕ → Bool
 is_iso_admitted limit k notes key m = nat_lt (length (filter (λ other. not (same_iso other key)) (open_iso_keys k notes m))) limit
@@ -89,7 +90,7 @@ is_iso_admitted limit k notes key m = nat_lt (length (filter (λ other. not (sam
 abbrev pub is_frame_admitted : Receiver → Known → List Note → Parts → ℕ → Bool
 is_frame_admitted r k notes p m =
     if is_transport p then is_iso_admitted r.iso_slots k notes (key_of p) m
-    else is_fast_admitted r.kinds r.fast_slots k notes (record { source = p.source; pgn = p.pgn }) m
+    else is_fast_admitted r.kinds r.fast_slots k.claims.holders notes (record { source = p.source; pgn = p.pgn }) m
 
 abbrev pub note_of : Receiver → ℕ → Known → List Note → ℕ → BusFrame → Note
 note_of r index k notes m f = let p = parts_of f.id in record {

@@ -13,6 +13,7 @@ use Rattle.iso_transport.specs.declared.verdict.Verdict.TheVariants.{Ignored, Ag
 use Rattle.history.specs.Known.{Known}
 use Rattle.history.specs.Traces.{Note}
 use Rattle.history.specs.Opens.{fast_open, iso_open}
+use Rattle.claim_table.specs.declared.answer.Holder.{Holder}
 
 -- one more piece leaves something open, or makes something whole
 abbrev pub goes_on : {X : Type 0} → Rules X → Option (List X) → X → Bool
@@ -21,8 +22,8 @@ goes_on r o x = is_some (fed r o x) || is_some (finished r o x)
 -- a frame isn't refused exactly where it does so
 abbrev pub FastRefusalsBreak : Type 0
 FastRefusalsBreak =
-    (k : Known) (notes : List Note) (key : FastKey) (m : ℕ) (x : FastPiece)
-    → (refused (fast_open k notes key m) x ≡ None) ↔ (goes_on fast_rules (fast_open k notes key m) x ≡ true)
+    (holders : List (Option Holder)) (notes : List Note) (key : FastKey) (m : ℕ) (x : FastPiece)
+    → (refused (fast_open holders notes key m) x ≡ None) ↔ (goes_on fast_rules (fast_open holders notes key m) x ≡ true)
 
 -- ---- the transport protocol
 

@@ -22,7 +22,7 @@ abbrev pub FullIsReported : Type 0
 FullIsReported =
     (r : Receiver) (s : ℕ) (h : History) (m : ℕ) (f : BusFrame) → IsReceiver r
     → says_full (frame_refused r s h m f)
-    ≡ (opens_message r.kinds (known r s h) (the_note r s h m f) && not (the_note r s h m f).admitted)
+    ≡ (opens_message r.kinds (known r s h).claims (the_note r s h m f) && not (the_note r s h m f).admitted)
 
 -- no frame from the address broke it
 abbrev pub NoneFull : Receiver → ℕ → History → ℕ → Type 0

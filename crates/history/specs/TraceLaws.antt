@@ -25,7 +25,8 @@ same_own (Some a) (Some b) = a == b
 -- others the same frames count
 pub record LeavesTraces (c : Receiver) (s : ℕ) (h : History) (e : Entry) (lost : ℕ → Bool) : Type 0 where
   pub fast : (a p : ℕ) → p ≢ pgns.address_claimed
-      → fast_trace (known c s (e ∷ h)) a p (notes_of c s (e ∷ h)) ≡ (if lost a then [] else fast_trace (known c s h) a p (notes_of c s h))
+      → fast_trace (known c s (e ∷ h)).claims.holders a p (notes_of c s (e ∷ h))
+      ≡ (if lost a then [] else fast_trace (known c s h).claims.holders a p (notes_of c s h))
   pub broadcast : (a : ℕ)
       → iso_trace (known c s (e ∷ h)) false a (notes_of c s (e ∷ h)) ≡ (if lost a then [] else iso_trace (known c s h) false a (notes_of c s h))
   pub addressed : (a : ℕ) → iso_trace (known c s (e ∷ h)) true a (notes_of c s (e ∷ h))

@@ -6,7 +6,8 @@ use Rattle.fast_packet.specs.FastRuns.{FastPiece}
 use Rattle.iso_transport.specs.IsoRuns.{IsoPiece}
 use Rattle.iso_transport.specs.Audience.{is_data, is_management, bears}
 use Rattle.iso_transport.specs.Connection.{control_at}
-use Rattle.history.specs.Known.{Known, since_of}
+use Rattle.history.specs.Known.{Known, held_since}
+use Rattle.claim_table.specs.declared.answer.Holder.{Holder}
 
 -- a frame, with what the history before it says of it
 pub record Note : Type 0 where
@@ -32,8 +33,8 @@ abbrev pub fast_trace_since : Option ℕ → ℕ → ℕ → List Note → List 
 fast_trace_since None source pgn notes = []
 fast_trace_since (Some since) source pgn notes = map fast_piece (filter (λ n. is_since source since n && (n.parts.pgn == pgn)) notes)
 
-abbrev pub fast_trace : Known → ℕ → ℕ → List Note → List FastPiece
-fast_trace k source pgn notes = fast_trace_since (since_of k source) source pgn notes
+abbrev pub fast_trace : List (Option Holder) → ℕ → ℕ → List Note → List FastPiece
+fast_trace holders source pgn notes = fast_trace_since (held_since holders source) source pgn notes
 
 -- ---- the transport protocol: by source, to all or to the gateway
 
@@ -60,5 +61,5 @@ addressed_since (Some since) (Some own) own_since source notes =
     map iso_piece (filter (λ n. is_since source since n && ((n.parts.destination == own) && (nat_le own_since n.index && is_bearing true n))) notes)
 
 abbrev pub iso_trace : Known → Bool → ℕ → List Note → List IsoPiece
-iso_trace k false source notes = broadcast_since (since_of k source) source notes
-iso_trace k true source notes = addressed_since (since_of k source) k.claims.own k.own_since source notes
+iso_trace k false source notes = broadcast_since (held_since k.claims.holders source) source notes
+iso_trace k true source notes = addressed_since (held_since k.claims.holders source) k.claims.own k.own_since source notes
