@@ -36,8 +36,8 @@ module _ (kinds : ℕ → Kind) (cmp : FastKey → FastKey → Ordering) (holder
 pub slots_list_fast : SlotsListFast
 slots_list_fast kinds cmp holders notes m slots h sorts = record {
   passing = λ p q tests. listed (fast.held kinds cmp holders notes m slots h) (fast_sorted kinds cmp holders notes m slots h sorts notes) p q tests;
-  ending = λ is_meant later n q tests.
-      ended (fast.held kinds cmp holders notes m slots h) (fast_sorted kinds cmp holders notes m slots h sorts notes) is_meant (λ key. is_none (fast_open later notes key n)) q tests;
+  ending = λ is_meant after n q tests.
+      ended (fast.held kinds cmp holders notes m slots h) (fast_sorted kinds cmp holders notes m slots h sorts notes) is_meant (λ key. is_none (fast_open after notes key n)) q tests;
 }
 
 module _ (cmp : IsoKey → IsoKey → Ordering) (k : Known) (notes : List Note) (m : ℕ) (slots : SlotMap IsoKey) (h : HoldsIso cmp k notes m slots)

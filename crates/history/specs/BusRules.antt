@@ -1,5 +1,6 @@
 -- Which rules a frame from the bus breaks: one table, in the order of the rules' numbers. Each row is a condition on the frame and on
--- what is open of its key just before it. A repeat breaks none.
+-- what is open of its key just before it. A repeat breaks none. What a frame leaves of the message that is open is no part of the table:
+-- the rules of its run say that.
 use Rattle.std.specs.Prelude.{ℕ, Bool, true, false, ◌&&◌, ◌||◌, not, ◌==◌, nat_le, nat_lt, List, [], ◌∷◌, length, Option, Some, None, is_some, is_none}
 use Rattle.n2k_id.specs.Name.{name_at}
 use Rattle.report_rules.specs.Rules as rules

@@ -69,8 +69,9 @@ is_fresh_since rule row source m older (Some since) = still_counts rule.timeout 
 abbrev pub is_fresh : RowRule → List (Option Holder) → Row → ℕ → ℕ → List Message → Bool
 is_fresh rule holders row source m older = is_fresh_since rule row source m older (held_since holders source)
 
--- ---- whose message is selected
+-- ---- whose message is selected: a message that lacks its values is selected like any other, but its source is no longer fresh then
 
+-- another rank is the smaller one
 abbrev pub is_better : Rank → Option Rank → Bool
 is_better rank None = false
 is_better rank (Some other) = is_before other rank

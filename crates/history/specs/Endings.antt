@@ -22,7 +22,7 @@ use Rattle.claim_table.specs.declared.answer.Holder.{Holder}
 
 -- a key is open in one state at a moment, and not in another at another moment
 abbrev pub fast_ended : List (Option Holder) → ℕ → List (Option Holder) → ℕ → List Note → FastKey → Bool
-fast_ended holders m later n notes key = is_some (fast_open holders notes key m) && is_none (fast_open later notes key n)
+fast_ended holders m after n notes key = is_some (fast_open holders notes key m) && is_none (fast_open after notes key n)
 
 abbrev pub iso_ended : Known → ℕ → Known → ℕ → List Note → IsoKey → Bool
 iso_ended k m after n notes key = is_some (iso_open k notes key m) && is_none (iso_open after notes key n)
@@ -65,11 +65,11 @@ groups_expired lines earlier m =
 
 -- ---- by a claim or a command (rule 17), all at one moment
 
-module _ (holders later : List (Option Holder)) (notes : List Note) (m : ℕ) where
+module _ (holders after : List (Option Holder)) (notes : List Note) (m : ℕ) where
   abbrev pub fast_lost : (ℕ → Kind) → (FastKey → Bool) → List Emit
   fast_lost kinds is_meant =
       flat_map (λ key. of_source rules.claim_lost key.source key.pgn ∷ [])
-      (filter (λ key. is_meant key && fast_ended holders m later m notes key) (fast_keys kinds notes))
+      (filter (λ key. is_meant key && fast_ended holders m after m notes key) (fast_keys kinds notes))
 
 module _ (k after : Known) (notes : List Note) (m : ℕ) where
   abbrev pub iso_lost : (IsoKey → Bool) → List Emit
@@ -82,6 +82,6 @@ module _ (k after : Known) (notes : List Note) (m : ℕ) where
   lost_at kinds None = []
   lost_at kinds (Some a) = fast_lost k.claims.holders after.claims.holders notes m kinds (λ key. key.source == a) ++ iso_lost (λ key. key.source == a)
 
-  -- the other addressed sessions, by source
+  -- the other addressed sessions, by source: those that end since the own address is another one
   abbrev pub lost_elsewhere : Option ℕ → Option ℕ → List Emit
   lost_elsewhere left won = iso_lost (λ key. key.addressed && not (is_at key.source left || is_at key.source won))

@@ -28,7 +28,8 @@ is_claim f = let p = parts_of f.id in (p.pgn == pgns.address_claimed) && (nat_le
 abbrev pub claim_by : ℕ → ℕ → BusFrame → Claim
 claim_by index moment f = claim_of (parts_of f.id).source (name_at f.held) index moment
 
--- the own address is another one after an entry
+-- since which entry the own address is what it is after one more: since that one, where it is another address or there was none before;
+-- where there is none now, no frame is to it, whatever the index
 abbrev pub since_own : ℕ → ℕ → Option ℕ → Option ℕ → ℕ
 since_own index since (Some before) (Some after) = if before == after then since else index
 since_own index since None after = index

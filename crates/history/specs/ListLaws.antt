@@ -27,9 +27,9 @@ keys_that q slots = map (λ e. e.0) (filter q slots.entries)
 module _ (kinds : ℕ → Kind) (cmp : FastKey → FastKey → Ordering) (holders : List (Option Holder)) (notes : List Note) (m : ℕ) (slots : SlotMap FastKey) where
   pub record ListsFast : Type 0 where
     pub passing : (p : FastKey → Bool) (q : FastKey × Entry → Bool) → Tests cmp slots q p → keys_that q slots ≡ filter p (open_fast_keys kinds holders notes m)
-    pub ending : (is_meant : FastKey → Bool) (later : List (Option Holder)) (n : ℕ) (q : FastKey × Entry → Bool)
-        → Tests cmp slots q (λ key. is_meant key && is_none (fast_open later notes key n))
-        → keys_that q slots ≡ filter (λ key. is_meant key && fast_ended holders m later n notes key) (fast_keys kinds notes)
+    pub ending : (is_meant : FastKey → Bool) (after : List (Option Holder)) (n : ℕ) (q : FastKey × Entry → Bool)
+        → Tests cmp slots q (λ key. is_meant key && is_none (fast_open after notes key n))
+        → keys_that q slots ≡ filter (λ key. is_meant key && fast_ended holders m after n notes key) (fast_keys kinds notes)
 
 abbrev pub SlotsListFast : Type 0
 SlotsListFast =

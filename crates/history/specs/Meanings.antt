@@ -17,7 +17,7 @@ pub data Meaning : Type 0 where
   own_source : Meaning
   -- a request to all or to the gateway
   request : Meaning
-  -- of these three kinds, from an address that nobody holds
+  -- of one of the three kinds that follow, from an address that nobody holds
   from_nobody : Meaning
   -- of the transport protocol (ISO 11783-3), to all or to the gateway
   transport : Meaning
