@@ -6,7 +6,7 @@ use sentence_text::Group;
 pub type Address = ArrayVec<u8, 64>;
 
 /// The address of a transmission group.
-#[derive(Drop)]
+#[derive(Clone, Drop)]
 pub struct Route {
     pub group: Group,
     pub address: Address,
@@ -22,7 +22,7 @@ impl Default for Route {
 }
 
 /// Where what is sent to a group goes.
-#[derive(Drop)]
+#[derive(Clone, Drop)]
 pub struct Routes {
     /// The groups that have an address of their own.
     pub list: ArrayVec<Route, 8>,

@@ -1,0 +1,18 @@
+//! How a gateway is configured, as values, and exactly when such a configuration is valid.
+//!
+//! No call takes memory.
+#![tactic(auto)]
+
+mod config;
+mod endpoint;
+mod ends;
+pub mod laws;
+mod lists;
+mod patterns;
+mod presets;
+mod row_config;
+#[cfg(test)]
+mod tests;
+
+pub use config::{Config, Ends};
+pub use row_config::RowConfig;

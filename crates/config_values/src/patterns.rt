@@ -1,0 +1,44 @@
+//! The patterns by which devices are chosen.
+ghost use Rattle.std.specs.Prelude.{◌≤◌, ◌↔◌, IsTrue};
+ghost use Rattle.config_values.specs.Patterns.{Fits};
+
+use crate::lists::{Apart, Valid};
+use n2k_id::Pattern;
+
+impl Apart for Pattern {
+    ghost use Rattle.std.specs.Prelude.{◌≢◌};
+
+    ghost are_apart = { λ p q. p ≢ q };
+
+    fn is_apart(&self, other: &Pattern) -> bool {
+        self != other
+    }
+}
+
+impl Valid for Pattern {
+    ghost use Rattle.config_values.specs.Patterns.{IsPattern};
+
+    ghost is_valid = { IsPattern };
+
+    fn is_valid(&self) -> bool {
+        fits(21, self.unique)
+            && fits(11, self.manufacturer.map(u32::from))
+            && fits(3, self.instance_lower.map(u32::from))
+            && fits(5, self.instance_upper.map(u32::from))
+            && fits(1, self.reserved.map(u32::from))
+            && fits(7, self.class.map(u32::from))
+            && fits(4, self.system_instance.map(u32::from))
+            && fits(3, self.industry.map(u32::from))
+    }
+}
+
+/// Whether the value isn't stated, or has no more than so many bits.
+fn fits(width: u32, stated: Option<u32>) -> bool
+    requires { width ≤ 21 }
+    ensures { IsTrue result ↔ Fits width stated }
+{
+    match stated {
+        None => true,
+        Some(value) => value < 1 << width,
+    }
+}
