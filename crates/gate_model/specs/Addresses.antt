@@ -1,0 +1,93 @@
+-- What a gateway keeps of the addresses of the bus (ISO 11783-5, address claims and the commanded address), as plain values, and what a
+-- frame and a command make of it and give. Nothing here speaks of what came before.
+use Rattle.std.specs.Prelude.{ℕ, ◌+◌, ◌-◌, ◌^◌, min, Bool, ◌&&◌, ◌||◌, not, ◌==◌, nat_lt, List, [], ◌∷◌, length, Option, Some, None, if◌then◌else◌}
+use Rattle.report_rules.specs.Rules as rules
+use Rattle.capture_text.specs.declared.emit.Report.{Report}
+use Rattle.capture_text.specs.declared.emit.Detail.TheVariants as detail
+use Rattle.n2k_id.specs.declared.identifier_parts.Parts.{Parts}
+use Rattle.n2k_id.specs.Frame.{BusFrame}
+use Rattle.n2k_id.specs.Name.{name_at}
+use Rattle.claim_table.specs.Claims.{Claims, Outcome, started, claim, command}
+use Rattle.claim_table.specs.Presets.{opened}
+use Rattle.history.specs.Entries as entry
+use Rattle.history.specs.Entries.{Entry}
+use Rattle.history.specs.Receiver.{Receiver}
+use Rattle.history.specs.Known.{is_claim, claim_by}
+use Rattle.history.specs.Meanings.{Meaning, address_claim, own_source, request, from_nobody, transport, single, fast_packet, passed}
+use Rattle.history.specs.Messages.{Carried, carried}
+use Rattle.history.specs.Emits.{Emit, breaks, broken_of, report_of}
+use Rattle.history.specs.FromBus.{own_answer}
+use Rattle.gate_model.specs.FastPackets.{sender_of}
+use Rattle.gate_model.specs.Said.{short_reports}
+
+-- ---- what is kept
+
+-- entries are counted up to the greatest number of 64 bits
+unfoldable pub last_index : ℕ
+last_index = 2 ^ 64 - 1
+
+pub record AddressesKept : Type 0 where
+  -- who holds which address and since which entry, and the own address
+  pub claims : Claims
+  -- how many entries there were, as far as they are counted: the index of the next one
+  pub count : ℕ
+
+-- at the start, before any entry
+abbrev pub addresses_at_start : Receiver → ℕ → AddressesKept
+addresses_at_start r s = record { claims = started (opened r.name r.address r.presets) s; count = 0 }
+
+abbrev pub counted : ℕ → ℕ
+counted count = min last_index (count + 1)
+
+-- ---- an entry: only claims and commands change who holds an address
+
+abbrev pub claimed : AddressesKept → ℕ → BusFrame → Outcome
+claimed k m f = claim k.claims (claim_by k.count m f)
+
+abbrev pub claims_after : AddressesKept → Entry → Claims
+claims_after k (entry.frame m f) = if is_claim f then (claimed k m f).after else k.claims
+claims_after k (entry.datagram m bytes) = k.claims
+claims_after k (entry.tick m) = k.claims
+claims_after k (entry.command m source address) = command k.claims address m
+
+abbrev pub addresses_after : AddressesKept → Entry → AddressesKept
+addresses_after k e = record { claims = claims_after k e; count = counted k.count }
+
+-- what the gateway says of its own address after a claim
+abbrev pub claim_emits : ℕ → AddressesKept → ℕ → BusFrame → List Emit
+claim_emits name k m f = own_answer name (claimed k m f).step.own (claimed k m f).after.own
+
+-- ---- the rules that a frame breaks that is neither of a fast packet nor of the transport protocol, by what it is
+
+-- a claim whose bytes are no NAME, or of an address that can't be claimed
+abbrev pub is_malformed : Parts → List ℕ → Bool
+is_malformed parts bytes = nat_lt (length bytes) 8 || (parts.source == 255)
+
+-- a claim with the gateway's own NAME
+abbrev pub has_own_name : ℕ → Parts → List ℕ → Bool
+has_own_name name parts bytes = not (is_malformed parts bytes) && (name_at bytes == name)
+
+abbrev pub plain_reports : ℕ → Meaning → Parts → List ℕ → List Report
+plain_reports name address_claim parts bytes =
+    broken_of
+    (breaks (has_own_name name parts bytes) rules.duplicate_name (detail.Address parts.source)
+    ∷ breaks (is_malformed parts bytes) rules.claim_or_request_malformed (sender_of parts)
+    ∷ [])
+plain_reports name own_source parts bytes = report_of rules.own_address_used (sender_of parts) ∷ []
+plain_reports name request parts bytes = broken_of (breaks (nat_lt (length bytes) 3) rules.claim_or_request_malformed (sender_of parts) ∷ [])
+plain_reports name from_nobody parts bytes = report_of rules.unclaimed (sender_of parts) ∷ []
+plain_reports name transport parts bytes = []
+plain_reports name single parts bytes = short_reports parts.source (Some (carried parts.pgn bytes))
+plain_reports name fast_packet parts bytes = []
+plain_reports name passed parts bytes = []
+
+-- and the message that it completes: a single frame is one
+abbrev pub plain_done : Meaning → Parts → List ℕ → Option Carried
+plain_done address_claim parts bytes = None
+plain_done own_source parts bytes = None
+plain_done request parts bytes = None
+plain_done from_nobody parts bytes = None
+plain_done transport parts bytes = None
+plain_done single parts bytes = Some (carried parts.pgn bytes)
+plain_done fast_packet parts bytes = None
+plain_done passed parts bytes = None
