@@ -1,0 +1,69 @@
+-- A message that was read while its payload was lent leaves what the message with its payload leaves.
+use Rattle.std.proofs.Common.{◌≡◌, ℕ, Bool, true, false, ◌&&◌, ◌==◌, List, Option, Some, None, option_map, refl, ap, if◌then◌else◌}
+use Rattle.std.specs.Prelude.{slice_index}
+use Rattle.claim_table.specs.declared.answer.Holder.{Holder}
+use Rattle.readings.specs.declared.reading.Reading.{Reading}
+use Rattle.source_choice.specs.declared.rank.Rank.{Rank}
+use Rattle.history.specs.Messages.{Carried}
+use Rattle.history.specs.Settings.{Settings}
+use Rattle.gate_model.specs.Said.{SaidKept, Complete, Ordered, complete_by, reading_by, message_after, message_emits, profiled_after, profiled_emits, ranked_after, ranked_emits, rank_by, ordered_by, orders}
+use Rattle.gate_core.specs.Contents.{content_in}
+use Rattle.gate_core.specs.declared.done.Command.{Command}
+use Rattle.gate_core.specs.Saying.{message_from}
+use Rattle.gate_core.specs.Steps.{done_of, command_of}
+use Rattle.gate_core.specs.Completing.{sender_by, said_after, said_emits, done_by, command_by}
+
+module _ (c : Settings) (k : SaidKept) (m source name : ℕ) where
+  -- a message of the holder, with the payload or without
+  abbrev whole : Holder → Carried → Complete
+  whole holder x = record { moment = m; source = source; name = holder.name.0; pgn = x.pgn; payload = x.payload }
+
+  ranked_same : (holder : Holder) (x : Carried) (r : Reading) (rank : Option Rank)
+      → ranked_after c k (message_from (sender_by m source holder)) r rank ≡ ranked_after c k (whole holder x) r rank
+  ranked_same holder x r None = refl
+  ranked_same holder x r (Some rank) = refl
+
+  ranked_tells_same : (holder : Holder) (x : Carried) (r : Reading) (rank : Option Rank)
+      → ranked_emits c k (message_from (sender_by m source holder)) r rank ≡ ranked_emits c k (whole holder x) r rank
+  ranked_tells_same holder x r None = refl
+  ranked_tells_same holder x r (Some rank) = refl
+
+  profiled_same : (holder : Holder) (x : Carried) (r : Option Reading)
+      → profiled_after c k (message_from (sender_by m source holder)) r ≡ profiled_after c k (whole holder x) r
+  profiled_same holder x None = refl
+  profiled_same holder x (Some r) = ranked_same holder x r (rank_by c (whole holder x) r)
+
+  profiled_tells_same : (holder : Holder) (x : Carried) (r : Option Reading)
+      → profiled_emits c k (message_from (sender_by m source holder)) r ≡ profiled_emits c k (whole holder x) r
+  profiled_tells_same holder x None = refl
+  profiled_tells_same holder x (Some r) = ranked_tells_same holder x r (rank_by c (whole holder x) r)
+
+  pub after_same : (holder : Option Holder) (what : Option Carried)
+      → said_after c k m source holder (option_map (content_in name) what) ≡ message_after c k (complete_by m source holder what)
+  after_same None what = refl
+  after_same (Some holder) None = refl
+  after_same (Some holder) (Some x) = profiled_same holder x (reading_by (whole holder x))
+
+  pub emits_same : (holder : Option Holder) (what : Option Carried)
+      → said_emits c k m source holder (option_map (content_in name) what) ≡ message_emits c k (complete_by m source holder what)
+  emits_same None what = refl
+  emits_same (Some holder) None = refl
+  emits_same (Some holder) (Some x) = profiled_tells_same holder x (reading_by (whole holder x))
+
+  pub done_same : (holder : Option Holder) (what : Option Carried)
+      → done_by source holder (option_map (content_in name) what) ≡ option_map done_of (complete_by m source holder what)
+  done_same None what = refl
+  done_same (Some holder) None = refl
+  done_same (Some holder) (Some x) = refl
+
+  if_ordered : (b : Bool) (address : ℕ)
+      → option_map {U = Command} (λ a. record { source = source; address = a }) (if b then Some address else None)
+      ≡ option_map command_of (if b then Some (record { source = source; address = address }) else None)
+  if_ordered true address = refl
+  if_ordered false address = refl
+
+  pub command_same : (holder : Option Holder) (what : Option Carried)
+      → command_by source holder (option_map (content_in name) what) ≡ option_map command_of (ordered_by name (complete_by m source holder what))
+  command_same None what = refl
+  command_same (Some holder) None = refl
+  command_same (Some holder) (Some x) = if_ordered (orders name (whole holder x)) (slice_index x.payload 8)

@@ -1,0 +1,135 @@
+-- A step of the gateway gives what the definition over the whole history says, and finds room.
+use Rattle.std.proofs.Common.{◌≡◌, ℕ, ◌<◌, ◌≤◌, Bool, true, false, [], ◌∷◌, Option, Some, None, option_map, length, refl, sym, ap, subst, ◌∙◌, arith}
+use Rattle.std.specs.Prelude.{if◌then◌else◌}
+use Rattle.std.proofs.lemmas.Bool.{leb-true}
+use Rattle.std.proofs.lemmas.List.{length-take}
+use Rattle.n2k_id.specs.declared.frame.Frame.{Frame}
+use Rattle.n2k_id.specs.Frame.{IsFrame, held_bytes}
+use Rattle.capture_text.specs.declared.event.Event.{Event}
+use Rattle.capture_text.specs.declared.event.Event.TheVariants as event
+use Rattle.report_rules.specs.Rules as rules
+use Rattle.capture_text.specs.declared.emit.Detail.TheVariants as detail
+use Rattle.history.specs.Entries as entry
+use Rattle.history.specs.Entries.{Entry, History, IsHistory, IsOffered, is_accepted, moment_of, now}
+use Rattle.history.specs.EntryLaws.{IsEvent}
+use Rattle.history.specs.Settings.{Settings}
+use Rattle.history.specs.Receiver.{receiver_of}
+use Rattle.history.specs.Messages.{Message, done}
+use Rattle.history.specs.Emits.{broken}
+use Rattle.history.specs.Gate.{command_in}
+use Rattle.gate_model.specs.Said.{Complete, Ordered, complete_of, ordered_by}
+use Rattle.gate_model.specs.Machine.{Machine, Step, opened_machine, started_at}
+use Rattle.gate_model.specs.MachineSteps.{stepped, entered, commanded}
+use Rattle.gate_model.specs.Stands.{AreOrders, Stands, IsReached}
+use Rattle.gate_model.specs.StandsLaws.{IsStepOf, StepFits, CommandFits}
+use Rattle.gate_model.proofs.KeyOrders.{fast_in_order, iso_in_order, groups_in_order}
+use Rattle.gate_model.proofs.SaidTold.{messages_are_told}
+use Rattle.gate_model.proofs.StandsTimes.{opening_stands}
+use Rattle.gate_model.proofs.StandsEntries.{entries_stand, commands_stand, too_early_is_told}
+use Rattle.gate_model.proofs.StandsRoom.{timely, opening_is_reached, steps_fit, commands_fit}
+use Rattle.gate_model.proofs.StandsReached.{all_reached_fits}
+use Rattle.config_values.specs.declared.config.Config.{Config}
+use Rattle.config_values.specs.Configs.{IsConfig}
+use Rattle.config_values.specs.Settings.{settings_of}
+use Rattle.config_values.proofs.SettingsLemmas.{are_settings}
+use Rattle.gate_core.specs.declared.done.Done.{Done}
+use Rattle.gate_core.specs.Output.{most_emits}
+use Rattle.gate_core.specs.Steps.{by_keys, entry_of, IsEventValid, Stays, done_of, command_of, output_of}
+use Rattle.gate_core.specs.Promises.{done_told, entry_by, IsTaken, IsTooEarly, IsStep, IsCommandStep}
+
+pub orders : AreOrders by_keys
+orders = record { fast = fast_in_order; sessions = iso_in_order; groups = groups_in_order }
+
+-- ---- what was reached
+
+pub stays_of : (g : Machine) → IsReached by_keys g → Stays g
+stays_of g it =
+    let fits = all_reached_fits by_keys g it in
+    record { holders = fits.sound.room; listed = fits.net.sources }
+
+is_event : (e : Event) → IsEvent (entry_of e)
+is_event (event.Frame moment frame) = tt
+is_event (event.Datagram moment bytes) = tt
+is_event (event.Tick moment) = tt
+
+held_few : (frame : Frame) → IsFrame frame → length (held_bytes frame) ≤ 8
+held_few frame valid = omega (arith, length-take frame.len frame.bytes, valid.fits)
+
+is_offered : (e : Event) → IsEventValid e → IsOffered (entry_of e)
+is_offered (event.Frame moment frame) valid = (valid.identifier, held_few frame valid)
+is_offered (event.Datagram moment bytes) valid = tt
+is_offered (event.Tick moment) valid = tt
+
+pub step_fits : (g : Machine) (e : Event) → IsReached by_keys g → IsEventValid e → StepFits by_keys g (entry_of e)
+step_fits g e it valid = steps_fit by_keys g (entry_of e) orders it (is_event e) (is_offered e valid)
+
+pub command_fits : (g : Machine) (source address : ℕ) → IsReached by_keys g → source < 256 → CommandFits by_keys g source address
+command_fits g source address it from = commands_fit by_keys g source address orders it from
+
+pub opened_reached : (config : Config) → IsConfig config → IsReached by_keys (opened_machine (settings_of config))
+opened_reached config valid = let are = are_settings config valid in (opening_is_reached by_keys (settings_of config) are.settings are.limits).opened
+
+pub started_reached : (g : Machine) (moment : ℕ) → IsReached by_keys g → g ≡ opened_machine g.settings → IsReached by_keys (started_at moment g)
+started_reached g moment it is =
+    subst (λ z. IsReached by_keys (started_at moment z)) (sym is) ((opening_is_reached by_keys g.settings it.settings it.limits).started moment)
+
+pub start_stands : (g : Machine) (moment : ℕ) → IsReached by_keys g → g ≡ opened_machine g.settings → Stands by_keys g.settings moment [] (started_at moment g)
+start_stands g moment it is =
+    subst (λ z. Stands by_keys g.settings moment [] (started_at moment z)) (sym is) (opening_stands by_keys g.settings moment it.settings)
+
+-- ---- what is left
+
+told_same : (d : Option Message) → option_map done_of (option_map complete_of d) ≡ option_map done_told d
+told_same None = refl
+told_same (Some d) = refl
+
+entries_same : (m : ℕ) (d : Option Ordered) → option_map (entry_by m) (option_map command_of d) ≡ option_map (λ o. entry.command m o.source o.address) d
+entries_same m None = refl
+entries_same m (Some d) = refl
+
+module _ (g : Machine) (s : ℕ) (h : History) where
+  taken_by : (e : Entry) (x : Step) → IsStepOf by_keys g.settings s h e x → IsTaken g.settings s h e x.after (output_of g.settings.name x)
+  taken_by e x is = record {
+    stands = is.stands;
+    emits = is.emits;
+    told = ap (option_map done_of) is.complete ∙ told_same (done (receiver_of g.settings) s h e);
+    ordered =
+        ap (λ (d : Option Complete). option_map (entry_by (moment_of e)) (option_map command_of (ordered_by g.settings.name d))) is.complete
+        ∙ entries_same (moment_of e) (ordered_by g.settings.name (option_map complete_of (done (receiver_of g.settings) s h e)))
+        ∙ sym ((messages_are_told g.settings s).ordered (done (receiver_of g.settings) s h e) (moment_of e));
+  }
+
+  in_time : (e : Entry) → is_accepted h e ≡ true → now h ≤ moment_of e
+  in_time e accepted = leb-true (now h) (moment_of e) accepted
+
+pub is_step : (g : Machine) (e : Event) → IsReached by_keys g → IsEventValid e
+    → IsStep (entry_of e) g (stepped by_keys g (entry_of e)).after (output_of g.settings.name (stepped by_keys g (entry_of e)))
+is_step g e it valid s h could stands = (taken, early)
+  where
+    next : Entry
+    next = entry_of e
+
+    told : stepped by_keys g next
+        ≡ (if is_accepted h next then entered by_keys g next
+        else record { after = g; emits = broken rules.moment_back detail.Nothing ∷ []; complete = None })
+    told = too_early_is_told by_keys g.settings s h next g stands
+
+    taken : is_accepted h next ≡ true
+        → IsTaken g.settings s h next (stepped by_keys g next).after (output_of g.settings.name (stepped by_keys g next))
+    taken accepted =
+        let all : IsHistory (next ∷ h) = (is_offered e valid, timely h next (is_event e) (in_time g s h next accepted), could) in
+        let is = entries_stand by_keys g.settings s h next g orders it.settings all stands in
+        let so : stepped by_keys g next ≡ entered by_keys g next = told ∙ rw accepted refl in
+        subst (λ x. IsTaken g.settings s h next x.after (output_of g.settings.name x)) (sym so) (taken_by g s h next (entered by_keys g next) is)
+
+    early : is_accepted h next ≡ false → IsTooEarly g (stepped by_keys g next).after (output_of g.settings.name (stepped by_keys g next))
+    early refused =
+        let x : Step = record { after = g; emits = broken rules.moment_back detail.Nothing ∷ []; complete = None } in
+        let so : stepped by_keys g next ≡ x = told ∙ rw refused refl in
+        subst (λ y. IsTooEarly g y.after (output_of g.settings.name y)) (sym so) (record { unchanged = refl; reported = refl })
+
+pub is_command_step : (g : Machine) (source address : ℕ) → IsReached by_keys g → source < 256
+    → IsCommandStep source address g (commanded g source address).after (output_of g.settings.name (commanded g source address))
+is_command_step g source address it from s h could stands =
+    let e : Entry = entry.command (now h) source address in
+    taken_by g s h e (commanded g source address) (commands_stand by_keys g.settings s h source address g orders it.settings (from, refl, could) stands)

@@ -1,0 +1,62 @@
+-- What a step of the gateway takes, and what it leaves (the bus: ISO 11783-3; the network: IEC 61162-450).
+use Rattle.std.specs.Prelude.{◌≡◌, ℕ, ◌++◌, length, Option, Some, None, option_map}
+use Rattle.n2k_id.specs.Frame.{IsFrame, bus_frame}
+use Rattle.capture_text.specs.declared.event.Event.{Event}
+use Rattle.capture_text.specs.declared.event.Event.TheVariants as event
+use Rattle.fast_packet.specs.contracts.key.FastKeyOrd as fast_key
+use Rattle.iso_transport.specs.contracts.key.IsoKeyOrd as iso_key
+use Rattle.tag_block.specs.contracts.group_key.GroupKeyOrd as group_key
+use Rattle.claim_table.specs.Claims.{places}
+use Rattle.history.specs.Entries as entry
+use Rattle.history.specs.Entries.{Entry}
+use Rattle.gate_model.specs.Said.{Complete, Ordered, reading_by, ordered_by}
+use Rattle.gate_model.specs.Machine.{Compared, Machine, Step}
+use Rattle.gate_core.specs.Output.{Output}
+use Rattle.gate_core.specs.declared.done.Done.{Done}
+use Rattle.gate_core.specs.declared.done.Command.{Command}
+
+-- the keys of what is in the making are compared as the code compares them
+abbrev pub by_keys : Compared
+by_keys = record { fast = fast_key.TheImpl.ghosts.cmp; sessions = iso_key.TheImpl.ghosts.cmp; groups = group_key.TheImpl.ghosts.cmp }
+
+-- an event as an entry of a history
+abbrev pub entry_of : Event → Entry
+entry_of (event.Frame moment frame) = entry.frame moment (bus_frame frame)
+entry_of (event.Datagram moment bytes) = entry.datagram moment bytes.now
+entry_of (event.Tick moment) = entry.tick moment
+
+-- its frame is valid
+abbrev pub IsEventValid : Event → Type 0
+IsEventValid (event.Frame moment frame) = IsFrame frame
+IsEventValid (event.Datagram moment bytes) = Unit {0}
+IsEventValid (event.Tick moment) = Unit {0}
+
+-- what stays so from one entry to the next: each address that a device can have has its place, and of the network each source that is listed
+pub record Stays (g : Machine) : Type 0 where
+  pub holders : length g.addresses.claims.holders ≡ places
+  pub listed : g.network.readings.choices.sources ≡ length g.settings.net_sources
+
+-- ---- what is left in the outbox
+
+abbrev pub done_of : Complete → Done
+done_of d = record { source = d.source; name = record { 0 = d.name }; pgn = d.pgn; reading = reading_by d }
+
+abbrev pub command_of : Ordered → Command
+command_of o = record { source = o.source; address = o.address }
+
+-- the first of the two that is there
+abbrev pub first_there : {T : Type 0} → Option T → Option T → Option T
+first_there None before = before
+first_there (Some there) before = Some there
+
+-- an outbox with all that a step leaves behind what was in it
+abbrev pub and_step : ℕ → Output → Step → Output
+and_step name o x = record {
+  emits = o.emits ++ x.emits;
+  done = first_there (option_map done_of x.complete) o.done;
+  command = first_there (option_map command_of (ordered_by name x.complete)) o.command;
+}
+
+-- by the NAME of the gateway
+abbrev pub output_of : ℕ → Step → Output
+output_of name x = record { emits = x.emits; done = option_map done_of x.complete; command = option_map command_of (ordered_by name x.complete) }

@@ -1,0 +1,85 @@
+//! Who holds which address of the bus, and how many entries there were.
+ghost use Rattle.std.specs.Prelude.{◌≡◌, ◌<◌, All, IfOk};
+ghost use Rattle.claim_table.specs.Claims.{claim, claim_of, command, is_obeyed, is_ready, started};
+ghost use Rattle.claim_table.specs.Presets.{opened};
+ghost use Rattle.gate_model.specs.Addresses.{counted};
+
+use claim_table::{ClaimFault, ClaimStep, ClaimTable, Preset};
+use n2k_id::Name;
+use std::alloc::Global;
+use std::marker::Model;
+
+/// The addresses of the bus, with the index of the next entry.
+#[derive(Debug, Drop)]
+pub(crate) struct Addresses {
+    claims: ClaimTable,
+    count: u64,
+}
+
+impl Model for Addresses {
+    ghost use Rattle.std.specs.Prelude.{All};
+    ghost use Rattle.claim_table.specs.Claims.{IsSinceBy};
+    ghost use Rattle.gate_model.specs.Addresses.{AddressesKept};
+
+    ghost Value = { AddressesKept };
+
+    ghost view = { λ a. record { claims = a.claims; count = a.count } };
+
+    ghost invariant = { λ a. All (IsSinceBy a.count) a.claims.holders };
+}
+
+impl Addresses {
+    /// The addresses before the first entry: each preset holds its own, and the gateway has the preferred one.
+    pub(crate) fn new(
+        alloc: Global,
+        name: Name,
+        preferred: u8,
+        presets: &[Preset],
+    ) -> Result<Addresses, ClaimFault>
+        requires preferred { preferred < 252 }
+        requires presets { All (λ p. p.address < 254) presets.now }
+        ensures { IfOk result (λ a. a ≡ record { claims = opened name.0 preferred presets.now; count = 0 }) }
+    {
+        let claims = ClaimTable::new(alloc, name, preferred, presets)?;
+        Ok(Addresses { claims, count: 0 })
+    }
+
+    /// Sets the moment from which readiness is counted.
+    pub(crate) fn start(&mut self, moment: u64)
+        ensures { self.new ≡ record self.old { claims = started self.old.claims moment } }
+    {
+        self.claims.start(moment);
+    }
+
+    /// One more entry has come.
+    #[tactic(auto, using(crate::proofs::Dates::later), unfolding(gate_model::specs::Addresses::last_index))]
+    pub(crate) fn count_entry(&mut self)
+        ensures { self.new ≡ record self.old { count = counted self.old.count } }
+    {
+        self.count = self.count.saturating_add(1);
+    }
+
+    /// The claim of an address, or of none (254), by a NAME at a moment.
+    pub(crate) fn claim(&mut self, address: u8, name: Name, moment: u64) -> ClaimStep
+        requires { address < 255 }
+        ensures after { self.new ≡ record self.old { claims = (claim self.old.claims (claim_of address name.0 self.old.count moment)).after } }
+        ensures step { result ≡ (claim self.old.claims (claim_of address name.0 self.old.count moment)).step }
+    {
+        self.claims.claim(address, name, self.count, moment)
+    }
+
+    /// A command to go to an address: whether it is obeyed.
+    pub(crate) fn command(&mut self, address: u8, moment: u64) -> bool
+        ensures after { self.new ≡ record self.old { claims = command self.old.claims address moment } }
+        ensures obeyed { result ≡ is_obeyed self.old.claims address }
+    {
+        self.claims.command(address, moment)
+    }
+
+    /// Who holds which address.
+    pub(crate) fn claims(&self) -> &ClaimTable
+        ensures { result.now ≡ self.now.claims }
+    {
+        &self.claims
+    }
+}

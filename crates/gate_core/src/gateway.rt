@@ -1,0 +1,158 @@
+//! The gateway.
+ghost use Rattle.std.specs.Prelude.{◌≡◌, ℕ, ◌∷◌, [], IfOk, Some};
+ghost use Rattle.claim_table.specs.Claims.{is_ready};
+ghost use Rattle.history.specs.Emits.{own_claim, request_for_claims};
+ghost use Rattle.history.specs.Entries.{History, now};
+ghost use Rattle.history.specs.Known.{known};
+ghost use Rattle.history.specs.Receiver.{receiver_of};
+ghost use Rattle.gate_model.specs.AddressStands.{name_held};
+ghost use Rattle.gate_model.specs.Machine.{opened_machine, started_at};
+ghost use Rattle.gate_model.specs.MachineSteps.{stepped, commanded};
+ghost use Rattle.gate_model.specs.Stands.{Stands};
+ghost use Rattle.config_values.specs.Configs.{IsConfig};
+ghost use Rattle.config_values.specs.Settings.{settings_of};
+ghost use Rattle.gate_core.specs.Output.{nothing, and_emits};
+ghost use Rattle.gate_core.specs.Steps.{IsEventValid, by_keys, entry_of, output_of};
+ghost use Rattle.gate_core.specs.Holding.{IsHeld, IsWithin};
+ghost use Rattle.gate_core.specs.Promises.{IsStep, IsCommandStep};
+
+use crate::done::Command;
+use crate::outbox::Outbox;
+use crate::state::State;
+use capture_text::Event;
+use config_values::Config;
+use n2k_id::Name;
+use std::alloc::{AllocError, Global};
+use std::marker::Model;
+
+/// How many messages of each kind are in the making.
+#[derive(Clone, Copy, Debug, PartialEq, Eq)]
+pub struct HeldCounts {
+    /// Fast packets.
+    pub fast: u16,
+    /// Sessions of the transport protocol.
+    pub iso: u16,
+    /// Groups of lines.
+    pub group: u16,
+}
+
+/// A gateway between the bus and the network.
+#[derive(Drop)]
+pub struct Gateway {
+    state: State,
+}
+
+impl Model for Gateway {
+    ghost use Rattle.gate_model.specs.Machine.{Machine};
+    ghost use Rattle.gate_model.specs.Stands.{IsReached};
+    ghost use Rattle.gate_core.specs.Steps.{by_keys};
+
+    ghost Value = { Machine };
+
+    ghost view = { λ g. g.state };
+
+    ghost invariant = { λ g. IsReached by_keys g.state };
+}
+
+impl Gateway {
+    /// A gateway of this configuration, before it starts.
+    pub fn new(alloc: Global, config: &Config) -> Result<Gateway, AllocError>
+        requires { IsConfig config.now }
+        ensures { IfOk result (λ g. g ≡ opened_machine (settings_of config.now)) }
+    {
+        let state = State::new(alloc, config)?;
+        Ok(Gateway { state })
+    }
+
+    /// Starts at a moment, once, before the first step: it claims the gateway's address, and asks all for theirs.
+    pub fn start(&mut self, moment: u64, out: &mut Outbox)
+        requires first { self.old ≡ opened_machine self.old.settings }
+        requires empty { out.old ≡ nothing }
+        ensures after { self.new ≡ started_at moment self.old }
+        ensures stands { Stands by_keys self.new.settings moment [] self.new }
+        ensures emits { out.new ≡ and_emits nothing
+            (own_claim self.old.settings.name (Some self.old.settings.address) ∷ request_for_claims self.old.settings.address ∷ []) }
+    {
+        self.state.start(moment, out);
+    }
+
+    /// Takes an event: where it isn't earlier than the last entry, all that the history says is emitted, told and noted; else it is
+    /// reported, and changes nothing.
+    pub fn step(&mut self, event: &Event<'_>, out: &mut Outbox)
+        requires valid { IsEventValid event.now }
+        requires empty { out.old ≡ nothing }
+        ensures after { self.new ≡ (stepped by_keys self.old (entry_of event.now)).after }
+        ensures output { out.new ≡ output_of self.old.settings.name (stepped by_keys self.old (entry_of event.now)) }
+        ensures history { IsStep (entry_of event.now) self.old self.new out.new }
+    {
+        self.state.step(event, out);
+    }
+
+    /// Takes a command to go to an address, at the moment of the last entry.
+    pub fn command(&mut self, command: Command, out: &mut Outbox)
+        requires empty { out.old ≡ nothing }
+        ensures after { self.new ≡ (commanded self.old command.source command.address).after }
+        ensures output { out.new ≡ output_of self.old.settings.name (commanded self.old command.source command.address) }
+        ensures history { IsCommandStep command.source command.address self.old self.new out.new }
+    {
+        self.order(command.source, command.address, out);
+    }
+
+    /// Takes a command from this source to go to an address.
+    fn order(&mut self, source: u8, address: u8, out: &mut Outbox)
+        requires empty { out.old ≡ nothing }
+        ensures after { self.new ≡ (commanded self.old source address).after }
+        ensures output { out.new ≡ output_of self.old.settings.name (commanded self.old source address) }
+        ensures history { IsCommandStep source address self.old self.new out.new }
+    {
+        self.state.obey(Command { source, address }, out);
+    }
+
+    /// The moment of the last entry, in microseconds; 0 before any.
+    pub fn moment(&self) -> u64
+        ensures moment { result ≡ self.now.moment }
+        ensures history { (s : ℕ) (h : History) → Stands by_keys self.now.settings s h self.now → result ≡ now h }
+    {
+        self.state.moment()
+    }
+
+    /// How many messages of each kind are in the making: no more than are configured, and as many as are open of all that came.
+    pub fn held(&self) -> HeldCounts
+        ensures limits { IsWithin self.now.settings result }
+        ensures history { (s : ℕ) (h : History) → Stands by_keys self.now.settings s h self.now
+            → IsHeld self.now.settings s h result }
+    {
+        HeldCounts {
+            fast: self.state.fast_held(),
+            iso: self.state.iso_held(),
+            group: self.state.groups_held(),
+        }
+    }
+
+    /// The gateway's own address.
+    pub fn own(&self) -> Option<u8>
+        ensures own { result ≡ self.now.addresses.claims.own }
+        ensures history { (s : ℕ) (h : History) → Stands by_keys self.now.settings s h self.now
+            → result ≡ (known (receiver_of self.now.settings) s h).claims.own }
+    {
+        self.state.own()
+    }
+
+    /// Whether the gateway may send, at the moment of the last entry.
+    pub fn ready(&self) -> bool
+        ensures ready { result ≡ is_ready self.now.addresses.claims self.now.moment }
+        ensures history { (s : ℕ) (h : History) → Stands by_keys self.now.settings s h self.now
+            → result ≡ is_ready (known (receiver_of self.now.settings) s h).claims (now h) }
+    {
+        self.state.is_ready(self.state.moment())
+    }
+
+    /// The NAME that holds an address.
+    pub fn holder(&self, address: u8) -> Option<Name>
+        ensures holder { result ≡ name_held self.now.addresses.claims.holders address }
+        ensures history { (s : ℕ) (h : History) → Stands by_keys self.now.settings s h self.now
+            → result ≡ name_held (known (receiver_of self.now.settings) s h).claims.holders address }
+    {
+        self.state.holder(address)
+    }
+}

@@ -1,0 +1,301 @@
+//! All that the gateway keeps, and what each entry makes of it.
+ghost use Rattle.std.specs.Prelude.{◌≡◌, ◌+◌, ◌≤◌, [], ◌∷◌, false, length, IfOk, Some};
+ghost use Rattle.slot_views.specs.Traces.{unexpired};
+ghost use Rattle.claim_table.specs.Claims.{is_ready};
+ghost use Rattle.history.specs.Emits.{own_claim, request_for_claims};
+ghost use Rattle.history.specs.Entries.{moment_of};
+ghost use Rattle.gate_model.specs.AddressStands.{name_held};
+ghost use Rattle.gate_model.specs.Endings.{fast_overdue, sessions_overdue, groups_overdue};
+ghost use Rattle.gate_model.specs.NetLines.{kept_until};
+ghost use Rattle.gate_model.specs.Machine.{counted_in, later, opened_machine, overdue, started_at};
+ghost use Rattle.gate_model.specs.MachineSteps.{stepped, entered, handled, commanded};
+ghost use Rattle.config_values.specs.Configs.{IsConfig};
+ghost use Rattle.config_values.specs.Settings.{settings_of};
+ghost use Rattle.gate_core.specs.Output.{nothing, and_emits, most_emits, has_datagram};
+ghost use Rattle.gate_core.specs.Steps.{IsEventValid, Stays, by_keys, and_step, entry_of, output_of};
+
+use crate::addresses::Addresses;
+use crate::done::Command;
+use crate::endings::{end_fast, end_sessions};
+use crate::frames::{own_claim, request_for_claims};
+use crate::network::Network;
+use crate::outbox::Outbox;
+use crate::said::Said;
+use crate::state::opening::{addresses_of, copy_of, fast_of, network_of, said_of, sessions_of};
+use capture_text::{Detail, Event, Report};
+use config_values::Config;
+use fast_packet::FastAssembler;
+use iso_transport::IsoAssembler;
+use n2k_id::Name;
+use report_rules::MOMENT_BACK;
+use std::alloc::{AllocError, Global};
+use std::marker::Model;
+
+mod changing;
+mod completing;
+mod frames;
+mod hearing;
+mod opening;
+
+/// All that the gateway keeps.
+#[derive(Drop)]
+pub(crate) struct State {
+    pub(crate) config: Config,
+    pub(crate) addresses: Addresses,
+    /// The moment of the last entry, in microseconds.
+    pub(crate) moment: u64,
+    pub(crate) fast: FastAssembler,
+    pub(crate) sessions: IsoAssembler,
+    pub(crate) said: Said,
+    pub(crate) network: Network,
+}
+
+impl Model for State {
+    ghost use Rattle.config_values.specs.Configs.{IsConfig};
+    ghost use Rattle.config_values.specs.Settings.{settings_of};
+    ghost use Rattle.gate_model.specs.Machine.{Machine};
+
+    ghost Value = { Machine };
+
+    ghost view = { λ s. record {
+      settings = settings_of s.config;
+      addresses = s.addresses;
+      moment = s.moment;
+      fast = s.fast;
+      sessions = s.sessions;
+      said = s.said;
+      network = s.network;
+    } };
+
+    ghost invariant = { λ s. IsConfig s.config };
+}
+
+impl State {
+    /// What a gateway of this configuration keeps before it starts.
+    pub(crate) fn new(alloc: Global, config: &Config) -> Result<State, AllocError>
+        requires { IsConfig config.now }
+        ensures { IfOk result (λ s. s ≡ opened_machine (settings_of config.now)) }
+    {
+        Ok(State {
+            config: copy_of(config)?,
+            addresses: addresses_of(alloc, config)?,
+            moment: 0,
+            fast: fast_of(alloc, config)?,
+            sessions: sessions_of(alloc, config)?,
+            said: said_of(alloc, config)?,
+            network: network_of(alloc, config)?,
+        })
+    }
+
+    /// Counts readiness from the moment, claims the gateway's address and asks all for theirs.
+    pub(crate) fn start(&mut self, moment: u64, out: &mut Outbox)
+        requires room { length out.old.emits + 2 ≤ most_emits }
+        requires before { has_datagram out.old.emits ≡ false }
+        ensures after { self.new ≡ started_at moment self.old }
+        ensures emits { out.new ≡ and_emits out.old
+            (own_claim self.old.settings.name (Some self.old.settings.address) ∷ request_for_claims self.old.settings.address ∷ []) }
+    {
+        self.addresses.start(moment);
+        let address = self.address();
+        out.send(own_claim(self.name(), Some(address)));
+        out.send(request_for_claims(address));
+    }
+
+    /// The NAME of the gateway.
+    #[tactic(auto, unfolding(config_values::specs::Settings::settings_of))]
+    pub(crate) fn name(&self) -> Name
+        ensures { result.0 ≡ self.now.settings.name }
+    {
+        self.config.name
+    }
+
+    /// The gateway's own address.
+    pub(crate) fn own(&self) -> Option<u8>
+        ensures { result ≡ self.now.addresses.claims.own }
+    {
+        self.addresses.claims().own()
+    }
+
+    /// Whether the gateway may send at this moment.
+    pub(crate) fn is_ready(&self, moment: u64) -> bool
+        ensures { result ≡ is_ready self.now.addresses.claims moment }
+    {
+        self.addresses.claims().ready(moment)
+    }
+
+    /// The address that the gateway begins with.
+    #[tactic(auto, unfolding(config_values::specs::Settings::settings_of))]
+    fn address(&self) -> u8
+        ensures { result ≡ self.now.settings.address }
+    {
+        self.config.address
+    }
+
+    /// Takes an event: where it is earlier than the last entry it is reported, and changes nothing.
+    pub(crate) fn step(&mut self, event: &Event<'_>, out: &mut Outbox)
+        requires valid { IsEventValid event.now }
+        requires stays { Stays self.old }
+        requires empty { out.old ≡ nothing }
+        requires room { length (stepped by_keys self.old (entry_of event.now)).emits ≤ most_emits }
+        ensures after { self.new ≡ (stepped by_keys self.old (entry_of event.now)).after }
+        ensures output { out.new ≡ output_of self.old.settings.name (stepped by_keys self.old (entry_of event.now)) }
+    {
+        let moment = moment_of(event);
+        if self.moment <= moment {
+            self.enter(event, moment, out);
+        } else {
+            out.tell(Report {
+                rule: MOMENT_BACK,
+                detail: Detail::Nothing,
+            });
+        }
+    }
+
+    /// Takes an event that isn't earlier than the last entry: what is overdue ends first.
+    fn enter(&mut self, event: &Event<'_>, moment: u64, out: &mut Outbox)
+        requires valid { IsEventValid event.now }
+        requires stays { Stays self.old }
+        requires moment { moment ≡ moment_of (entry_of event.now) }
+        requires empty { out.old ≡ nothing }
+        requires room { length (entered by_keys self.old (entry_of event.now)).emits ≤ most_emits }
+        ensures after { self.new ≡ (entered by_keys self.old (entry_of event.now)).after }
+        ensures output { out.new ≡ output_of self.old.settings.name (entered by_keys self.old (entry_of event.now)) }
+    {
+        self.pass_time(moment, out);
+        self.handle(event, moment, out);
+        self.count_entry();
+    }
+
+    /// Ends what is overdue at a later moment, and tells it.
+    fn pass_time(&mut self, moment: u64, out: &mut Outbox)
+        requires room { length out.old.emits + length (overdue moment self.old) ≤ most_emits }
+        requires before { has_datagram out.old.emits ≡ false }
+        ensures after { self.new ≡ later moment self.old }
+        ensures emits { out.new ≡ and_emits out.old (overdue moment self.old) }
+        ensures before { has_datagram out.new.emits ≡ false }
+    {
+        self.end_fast(moment, out);
+        self.end_sessions(moment, out);
+        self.end_groups(moment, out);
+    }
+
+    /// Ends the fast packets that are overdue.
+    fn end_fast(&mut self, moment: u64, out: &mut Outbox)
+        requires room { length out.old.emits + length (fast_overdue self.old.fast moment) ≤ most_emits }
+        requires before { has_datagram out.old.emits ≡ false }
+        ensures after { self.new ≡ record self.old { fast = unexpired moment self.old.fast } }
+        ensures emits { out.new ≡ and_emits out.old (fast_overdue self.old.fast moment) }
+        ensures before { has_datagram out.new.emits ≡ false }
+    {
+        end_fast(&mut self.fast, moment, out);
+    }
+
+    /// Ends the sessions of the transport protocol that are overdue.
+    fn end_sessions(&mut self, moment: u64, out: &mut Outbox)
+        requires room { length out.old.emits + length (sessions_overdue self.old.addresses.claims.own self.old.sessions moment) ≤ most_emits }
+        requires before { has_datagram out.old.emits ≡ false }
+        ensures after { self.new ≡ record self.old { sessions = unexpired moment self.old.sessions } }
+        ensures emits { out.new ≡ and_emits out.old (sessions_overdue self.old.addresses.claims.own self.old.sessions moment) }
+        ensures before { has_datagram out.new.emits ≡ false }
+    {
+        let own = self.own();
+        end_sessions(&mut self.sessions, own, moment, out);
+    }
+
+    /// Ends the groups of lines that are overdue, the last of what can be.
+    fn end_groups(&mut self, moment: u64, out: &mut Outbox)
+        requires room { length out.old.emits + length (groups_overdue self.old.network.groups moment) ≤ most_emits }
+        requires before { has_datagram out.old.emits ≡ false }
+        ensures after { self.new ≡ record self.old { moment = moment; network = kept_until moment self.old.network } }
+        ensures emits { out.new ≡ and_emits out.old (groups_overdue self.old.network.groups moment) }
+        ensures before { has_datagram out.new.emits ≡ false }
+    {
+        self.network.end_overdue(moment, out);
+        self.moment = moment;
+    }
+
+    /// Takes an event when nothing is overdue.
+    fn handle(&mut self, event: &Event<'_>, moment: u64, out: &mut Outbox)
+        requires valid { IsEventValid event.now }
+        requires stays { Stays self.old }
+        requires moment { moment ≡ moment_of (entry_of event.now) }
+        requires room { length out.old.emits + length (handled by_keys self.old (entry_of event.now)).emits ≤ most_emits }
+        requires before { has_datagram out.old.emits ≡ false }
+        ensures after { self.new ≡ (handled by_keys self.old (entry_of event.now)).after }
+        ensures output { out.new ≡ and_step self.old.settings.name out.old (handled by_keys self.old (entry_of event.now)) }
+    {
+        match event {
+            Event::Frame { frame, .. } => self.frame(frame, moment, out),
+            Event::Datagram { bytes, .. } => self.datagram(bytes, moment, out),
+            Event::Tick { .. } => {}
+        }
+    }
+
+    /// Takes a command to go to an address, at the moment of the last entry.
+    pub(crate) fn obey(&mut self, command: Command, out: &mut Outbox)
+        requires empty { out.old ≡ nothing }
+        requires room { length (commanded self.old command.source command.address).emits ≤ most_emits }
+        ensures after { self.new ≡ (commanded self.old command.source command.address).after }
+        ensures output { out.new ≡ output_of self.old.settings.name (commanded self.old command.source command.address) }
+    {
+        let moment = self.moment();
+        self.command(command, moment, out);
+        self.count_entry();
+    }
+
+    /// The moment of the last entry.
+    pub(crate) fn moment(&self) -> u64
+        ensures { result ≡ self.now.moment }
+    {
+        self.moment
+    }
+
+    /// The NAME that holds an address.
+    pub(crate) fn holder(&self, address: u8) -> Option<Name>
+        ensures { result ≡ name_held self.now.addresses.claims.holders address }
+    {
+        match self.addresses.claims().holder(address) {
+            Some(holder) => Some(holder.name),
+            None => None,
+        }
+    }
+
+    /// How many fast packets are in the making.
+    pub(crate) fn fast_held(&self) -> u16
+        ensures { result ≡ length self.now.fast.entries }
+    {
+        self.fast.count()
+    }
+
+    /// How many sessions of the transport protocol are open.
+    pub(crate) fn iso_held(&self) -> u16
+        ensures { result ≡ length self.now.sessions.entries }
+    {
+        self.sessions.count()
+    }
+
+    /// How many groups of lines are open.
+    pub(crate) fn groups_held(&self) -> u16
+        ensures { result ≡ length self.now.network.groups.entries }
+    {
+        self.network.count()
+    }
+
+    /// One more entry has come.
+    fn count_entry(&mut self)
+        ensures { self.new ≡ counted_in self.old }
+    {
+        self.addresses.count_entry();
+    }
+}
+
+/// The moment of an event.
+fn moment_of(event: &Event<'_>) -> u64
+    ensures { result ≡ moment_of (entry_of event.now) }
+{
+    match event {
+        Event::Frame { moment, .. } => *moment,
+        Event::Datagram { moment, .. } => *moment,
+        Event::Tick { moment } => *moment,
+    }
+}

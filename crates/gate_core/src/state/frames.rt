@@ -1,0 +1,237 @@
+//! A frame of the bus, by what it is to the gateway.
+ghost use Rattle.std.specs.Prelude.{◌≡◌, ◌+◌, ◌≤◌, ◌&&◌, ◌==◌, not, nat_lt, [], false, length, option_map, IfSome};
+ghost use Rattle.history.specs.Pgns as pgns;
+ghost use Rattle.n2k_id.specs.Frame.{IsFrame, bus_frame, held_bytes};
+ghost use Rattle.n2k_id.specs.Identifier.{parts_of};
+ghost use Rattle.pgn_profile.specs.Profiled.{GivesValid};
+ghost use Rattle.claim_table.specs.Claims.{is_ready};
+ghost use Rattle.history.specs.Emits.{reported};
+ghost use Rattle.history.specs.FromBus.{asked, request_gives};
+ghost use Rattle.history.specs.Meanings as meanings;
+ghost use Rattle.gate_model.specs.FastPackets.{fast_step};
+ghost use Rattle.gate_model.specs.Sessions.{session_step};
+ghost use Rattle.gate_model.specs.MachineSteps.{claim_frame, plain_frame, session_frame, fast_frame, frame_step, frame_here};
+ghost use Rattle.gate_core.specs.Contents.{content_in};
+ghost use Rattle.gate_core.specs.MeaningOf.{meant};
+ghost use Rattle.gate_core.specs.SessionTold.{step_emits};
+ghost use Rattle.gate_core.specs.Steps.{Stays, by_keys, and_step};
+ghost use Rattle.gate_core.specs.Output.{and_emits, most_emits, has_datagram};
+
+use crate::frames::own_claim;
+use crate::meanings::{Meaning, meaning_of, tell_plain};
+use crate::messages::Content;
+use crate::outbox::Outbox;
+use crate::pgn::ADDRESS_CLAIMED;
+use crate::sessions::Node;
+use crate::state::State;
+use crate::{fast, sessions};
+use fast_packet::FastKey;
+use iso_transport::IsoKey;
+use n2k_id::{Frame, Name, Parts, parts};
+
+/// How many bytes a request has that says for what.
+const REQUEST_BYTES: usize = 3;
+
+impl State {
+    /// Takes a frame.
+    pub(crate) fn frame(&mut self, frame: &Frame, moment: u64, out: &mut Outbox)
+        requires valid { IsFrame frame.now }
+        requires stays { Stays self.old }
+        requires room { length out.old.emits + length (frame_here by_keys self.old moment (bus_frame frame.now)).emits ≤ most_emits }
+        requires before { has_datagram out.old.emits ≡ false }
+        ensures after { self.new ≡ (frame_here by_keys self.old moment (bus_frame frame.now)).after }
+        ensures output { out.new ≡ and_step self.old.settings.name out.old (frame_here by_keys self.old moment (bus_frame frame.now)) }
+    {
+        let parts = parts(frame.id).unwrap();
+        let meaning = meaning_of(self.addresses.claims(), &parts);
+        self.meant_frame(meaning, &parts, frame, moment, out);
+    }
+
+    /// Takes a frame with this meaning.
+    fn meant_frame(
+        &mut self,
+        meaning: Meaning,
+        parts: &Parts,
+        frame: &Frame,
+        moment: u64,
+        out: &mut Outbox,
+    )
+        requires valid { IsFrame frame.now }
+        requires parts { parts.now ≡ parts_of frame.now.id }
+        requires stays { Stays self.old }
+        requires room { length out.old.emits + length (frame_step by_keys self.old moment (bus_frame frame.now) (meant meaning)).emits ≤ most_emits }
+        requires before { has_datagram out.old.emits ≡ false }
+        ensures after { self.new ≡ (frame_step by_keys self.old moment (bus_frame frame.now) (meant meaning)).after }
+        ensures output { out.new ≡ and_step self.old.settings.name out.old
+            (frame_step by_keys self.old moment (bus_frame frame.now) (meant meaning)) }
+    {
+        match meaning {
+            Meaning::AddressClaim => self.claim_frame(parts, frame, moment, out),
+            Meaning::Request => self.request(parts, frame, moment, out),
+            Meaning::Transport => self.session_frame(parts, frame, moment, out),
+            Meaning::FastPacket => self.fast_frame(parts, frame, moment, out),
+            Meaning::OwnSource | Meaning::FromNobody | Meaning::Single | Meaning::Passed => {
+                self.plain_frame(meaning, parts, frame, moment, out)
+            }
+        }
+    }
+
+    /// Takes a frame that is neither of a fast packet nor of the transport protocol, and that nothing answers.
+    pub(crate) fn plain_frame(
+        &mut self,
+        meaning: Meaning,
+        parts: &Parts,
+        frame: &Frame,
+        moment: u64,
+        out: &mut Outbox,
+    )
+        requires valid { IsFrame frame.now }
+        requires parts { parts.now ≡ parts_of frame.now.id }
+        requires stays { Stays self.old }
+        requires room { length out.old.emits
+            + length (plain_frame by_keys self.old moment (bus_frame frame.now) (meant meaning) []).emits ≤ most_emits }
+        requires before { has_datagram out.old.emits ≡ false }
+        ensures after { self.new ≡ (plain_frame by_keys self.old moment (bus_frame frame.now) (meant meaning) []).after }
+        ensures output { out.new ≡ and_step self.old.settings.name out.old
+            (plain_frame by_keys self.old moment (bus_frame frame.now) (meant meaning) []) }
+    {
+        let message = tell_plain(self.name(), meaning, parts, frame.held(), out);
+        self.complete(parts.source, message, moment, out);
+    }
+
+    /// Takes a request (ISO 11783-5).
+    fn request(&mut self, parts: &Parts, frame: &Frame, moment: u64, out: &mut Outbox)
+        requires valid { IsFrame frame.now }
+        requires parts { parts.now ≡ parts_of frame.now.id }
+        requires stays { Stays self.old }
+        requires room { length out.old.emits
+            + length (frame_step by_keys self.old moment (bus_frame frame.now) meanings.request).emits ≤ most_emits }
+        requires before { has_datagram out.old.emits ≡ false }
+        ensures after { self.new ≡ (frame_step by_keys self.old moment (bus_frame frame.now) meanings.request).after }
+        ensures output { out.new ≡ and_step self.old.settings.name out.old
+            (frame_step by_keys self.old moment (bus_frame frame.now) meanings.request) }
+    {
+        let name = self.name();
+        let message = tell_plain(name, Meaning::Request, parts, frame.held(), out);
+        answer_request(name, self.addresses.claims().own(), frame.held(), out);
+        self.complete(parts.source, message, moment, out);
+    }
+
+    /// Takes a frame of the transport protocol (ISO 11783-3).
+    fn session_frame(&mut self, parts: &Parts, frame: &Frame, moment: u64, out: &mut Outbox)
+        requires valid { IsFrame frame.now }
+        requires parts { parts.now ≡ parts_of frame.now.id }
+        requires stays { Stays self.old }
+        requires room { length out.old.emits + length (session_frame by_keys self.old moment (bus_frame frame.now)).emits ≤ most_emits }
+        requires before { has_datagram out.old.emits ≡ false }
+        ensures after { self.new ≡ (session_frame by_keys self.old moment (bus_frame frame.now)).after }
+        ensures output { out.new ≡ and_step self.old.settings.name out.old (session_frame by_keys self.old moment (bus_frame frame.now)) }
+    {
+        let message = self.feed_session(parts, frame, moment, out);
+        self.complete(parts.source, message, moment, out);
+    }
+
+    /// Takes a frame of the transport protocol, and reads the message that it completes.
+    fn feed_session(
+        &mut self,
+        parts: &Parts,
+        frame: &Frame,
+        moment: u64,
+        out: &mut Outbox,
+    ) -> Option<Content>
+        requires valid { IsFrame frame.now }
+        requires room { length out.old.emits + length (step_emits self.old.addresses.claims.own parts.now.source
+            (session_step ⟦<IsoKey as Ord>⟧.cmp self.old.sessions self.old.addresses.claims.own parts.now (held_bytes frame.now) moment
+            (is_ready self.old.addresses.claims moment))) ≤ most_emits }
+        requires before { has_datagram out.old.emits ≡ false }
+        ensures after { self.new ≡ record self.old {
+          sessions =
+              (session_step ⟦<IsoKey as Ord>⟧.cmp self.old.sessions self.old.addresses.claims.own parts.now (held_bytes frame.now) moment
+              (is_ready self.old.addresses.claims moment)).slots;
+        } }
+        ensures emits { out.new ≡ and_emits out.old (step_emits self.old.addresses.claims.own parts.now.source
+            (session_step ⟦<IsoKey as Ord>⟧.cmp self.old.sessions self.old.addresses.claims.own parts.now (held_bytes frame.now) moment
+            (is_ready self.old.addresses.claims moment))) }
+        ensures message { result ≡ option_map (content_in self.old.settings.name)
+            (session_step ⟦<IsoKey as Ord>⟧.cmp self.old.sessions self.old.addresses.claims.own parts.now (held_bytes frame.now) moment
+            (is_ready self.old.addresses.claims moment)).done }
+        ensures says { IfSome result (λ message. GivesValid message.profiled) }
+        ensures before { has_datagram out.new.emits ≡ false }
+    {
+        let node = self.node(moment);
+        sessions::feed(&mut self.sessions, node, parts, frame, moment, out)
+    }
+
+    /// The gateway as a node of the bus.
+    fn node(&self, moment: u64) -> Node
+        ensures name { result.name.0 ≡ self.now.settings.name }
+        ensures own { result.own ≡ self.now.addresses.claims.own }
+        ensures ready { result.ready ≡ is_ready self.now.addresses.claims moment }
+    {
+        Node {
+            name: self.name(),
+            own: self.own(),
+            ready: self.is_ready(moment),
+        }
+    }
+
+    /// Takes a frame of a fast packet.
+    fn fast_frame(&mut self, parts: &Parts, frame: &Frame, moment: u64, out: &mut Outbox)
+        requires valid { IsFrame frame.now }
+        requires parts { parts.now ≡ parts_of frame.now.id }
+        requires stays { Stays self.old }
+        requires room { length out.old.emits + length (fast_frame by_keys self.old moment (bus_frame frame.now)).emits ≤ most_emits }
+        requires before { has_datagram out.old.emits ≡ false }
+        ensures after { self.new ≡ (fast_frame by_keys self.old moment (bus_frame frame.now)).after }
+        ensures output { out.new ≡ and_step self.old.settings.name out.old (fast_frame by_keys self.old moment (bus_frame frame.now)) }
+    {
+        let message = self.feed_fast(parts, frame, moment, out);
+        self.complete(parts.source, message, moment, out);
+    }
+
+    /// Takes a frame of a fast packet, and reads the message that it completes.
+    fn feed_fast(
+        &mut self,
+        parts: &Parts,
+        frame: &Frame,
+        moment: u64,
+        out: &mut Outbox,
+    ) -> Option<Content>
+        requires valid { IsFrame frame.now }
+        requires room { length out.old.emits
+            + length (fast_step ⟦<FastKey as Ord>⟧.cmp self.old.fast parts.now (held_bytes frame.now) moment).reports ≤ most_emits }
+        requires before { has_datagram out.old.emits ≡ false }
+        ensures after { self.new
+            ≡ record self.old { fast = (fast_step ⟦<FastKey as Ord>⟧.cmp self.old.fast parts.now (held_bytes frame.now) moment).slots } }
+        ensures emits { out.new ≡ and_emits out.old
+            (reported (fast_step ⟦<FastKey as Ord>⟧.cmp self.old.fast parts.now (held_bytes frame.now) moment).reports) }
+        ensures message { result ≡ option_map (content_in self.old.settings.name)
+            (fast_step ⟦<FastKey as Ord>⟧.cmp self.old.fast parts.now (held_bytes frame.now) moment).done }
+        ensures says { IfSome result (λ message. GivesValid message.profiled) }
+        ensures before { has_datagram out.new.emits ≡ false }
+    {
+        let name = self.name();
+        fast::feed(&mut self.fast, name, parts, frame, moment, out)
+    }
+}
+
+/// Answers a request for the gateway's claim.
+fn answer_request(name: Name, own: Option<u8>, bytes: &[u8], out: &mut Outbox)
+    requires room { length out.old.emits + length (request_gives name.0 own bytes.now) ≤ most_emits }
+    requires before { has_datagram out.old.emits ≡ false }
+    ensures emits { out.new ≡ and_emits out.old (request_gives name.0 own bytes.now) }
+    ensures before { has_datagram out.new.emits ≡ false }
+{
+    if asks_for_claim(bytes) {
+        out.send(own_claim(name, own));
+    }
+}
+
+/// Whether a request is for the claim of an address.
+fn asks_for_claim(bytes: &[u8]) -> bool
+    ensures { result ≡ (not (nat_lt (length bytes.now) 3) && (asked bytes.now == pgns.address_claimed)) }
+{
+    bytes.len() >= REQUEST_BYTES
+        && u32::from(bytes[0]) + 256 * u32::from(bytes[1]) + 65536 * u32::from(bytes[2])
+            == ADDRESS_CLAIMED
+}

@@ -1,0 +1,71 @@
+//! A datagram of the network (IEC 61162-450).
+ghost use Rattle.std.specs.Prelude.{◌≡◌, ◌+◌, ◌≤◌, false, length};
+ghost use Rattle.claim_table.specs.Claims.{is_ready};
+ghost use Rattle.datagram450.specs.Datagram.{read};
+ghost use Rattle.gate_model.specs.NetLines.{datagram_after, datagram_emits};
+ghost use Rattle.gate_model.specs.MachineSteps.{datagram_here};
+ghost use Rattle.config_values.specs.Settings.{settings_of};
+ghost use Rattle.gate_core.specs.NetCalls.{IsHeardBy};
+ghost use Rattle.gate_core.specs.Steps.{Stays, by_keys};
+ghost use Rattle.gate_core.specs.Output.{and_emits, most_emits, has_datagram};
+
+use crate::network::{Came, Hearing};
+use crate::outbox::Outbox;
+use crate::state::State;
+use config_values::Config;
+
+impl State {
+    /// Takes a datagram.
+    pub(crate) fn datagram(&mut self, bytes: &[u8], moment: u64, out: &mut Outbox)
+        requires stays { Stays self.old }
+        requires room { length out.old.emits + length (datagram_here by_keys self.old moment bytes.now).emits ≤ most_emits }
+        requires before { has_datagram out.old.emits ≡ false }
+        ensures after { self.new ≡ (datagram_here by_keys self.old moment bytes.now).after }
+        ensures emits { out.new ≡ and_emits out.old (datagram_here by_keys self.old moment bytes.now).emits }
+    {
+        let came = self.came(moment);
+        self.hear(came, bytes, out);
+    }
+
+    /// A datagram that comes at this moment.
+    fn came(&self, moment: u64) -> Came
+        ensures { result ≡ record { moment = moment; ready = is_ready self.now.addresses.claims moment; own = self.now.addresses.claims.own } }
+    {
+        Came {
+            moment,
+            ready: self.is_ready(moment),
+            own: self.own(),
+        }
+    }
+
+    /// Hears a datagram that came so.
+    fn hear(&mut self, came: Came, bytes: &[u8], out: &mut Outbox)
+        requires stays { Stays self.old }
+        requires room { length out.old.emits
+            + length (datagram_emits by_keys.groups self.old.settings came.moment came.ready came.own self.old.network (read bytes.now)) ≤ most_emits }
+        requires before { has_datagram out.old.emits ≡ false }
+        ensures after { self.new ≡ record self.old {
+          network =
+              datagram_after by_keys.groups self.old.settings came.moment came.ready self.old.network (read bytes.now);
+        } }
+        ensures emits { out.new ≡ and_emits out.old
+            (datagram_emits by_keys.groups self.old.settings came.moment came.ready came.own self.old.network (read bytes.now)) }
+    {
+        let hearing = hearing_of(&self.config, came);
+        self.network.datagram(&hearing, bytes, out);
+    }
+}
+
+/// Whom the gateway hears, as it is configured.
+#[tactic(auto, unfolding(config_values::specs::Settings::settings_of))]
+fn hearing_of(config: &Config, came: Came) -> Hearing<'_>
+    ensures heard { IsHeardBy (settings_of config.now) result }
+    ensures few { length result.sources.now ≤ 254 }
+    ensures came { result.came ≡ came }
+{
+    Hearing {
+        sfi: config.sfi,
+        sources: config.net_sources.as_slice(),
+        came,
+    }
+}
