@@ -1,0 +1,12 @@
+//! All that one file configures, as values: the gateway, and the parts beside it.
+//!
+//! No call takes memory.
+#![tactic(auto)]
+
+mod ais;
+mod rmc;
+mod settings;
+
+pub use ais::AisConfig;
+pub use rmc::RmcConfig;
+pub use settings::Settings;
