@@ -8,7 +8,7 @@ use Rattle.history.specs.Known.{address_left, address_won}
 use Rattle.history.specs.TraceLaws.{same_own}
 use Rattle.gate_model.specs.Sessions.{lost_addressed}
 use Rattle.gate_model.specs.Machine.{Machine}
-use Rattle.gate_model.specs.MachineSteps.{claim_takes, lost_at, without}
+use Rattle.gate_model.specs.MachineSteps.{claim_tells, lost_at, without}
 use Rattle.gate_core.specs.Output.{Output, and_emits, most_emits}
 
 room_of_second : (o a b c d : List Emit) → length o + length (a ++ b ++ c ++ d) ≤ most_emits → length (o ++ a) + length b ≤ most_emits
@@ -23,7 +23,8 @@ room_of_second o a b c d room =
 pub second_room : (name : ℕ) (g g₁ g₂ : Machine) (x : Outcome) (step : ClaimStep) (won : Option ℕ) (o o₁ : Output)
     → g₁ ≡ record g { addresses = record g.addresses { claims = x.after } } → step ≡ x.step → won ≡ address_won step
     → o₁ ≡ and_emits o (lost_at step.released g₁) → g₂ ≡ without step.released g₁
-    → length o.emits + length (claim_takes name g x).emits ≤ most_emits → length o₁.emits + length (lost_at won g₂) ≤ most_emits
+    → length o.emits + length (claim_tells name g x) ≤ most_emits → length o₁.emits + length (lost_at won g₂) ≤ most_emits
+unfolding claim_tells
 second_room name g g₁ g₂ x step won o o₁ claimed told is emits after room =
     let left = address_left x.step in
     let lost = address_won x.step in

@@ -5,14 +5,13 @@ ghost use Rattle.slot_views.specs.Slots.{remaining};
 ghost use Rattle.slot_views.specs.Traces.{unexpired};
 ghost use Rattle.fast_packet.specs.Assembly.{is_from as is_fast_from};
 ghost use Rattle.iso_transport.specs.Assembly.{is_from, is_addressed};
-ghost use Rattle.history.specs.Emits.{of_source, report};
 ghost use Rattle.gate_model.specs.Endings.{fast_overdue, sessions_overdue, groups_overdue, fast_lost, sessions_lost};
 ghost use Rattle.gate_core.specs.Output.{and_emits, most_emits, has_datagram};
 ghost use Rattle.gate_core.specs.Overdue.{overdue_session, lost_of};
 
 use crate::frames::reply_from;
 use crate::outbox::Outbox;
-use capture_text::{Detail, Report};
+use crate::reports::{of_group, of_source};
 use fast_packet::FastAssembler;
 use iso_transport::{IsoAssembler, IsoEnded, Reply};
 use report_rules::{CLAIM_LOST, EXPIRED, GROUP_EXPIRED};
@@ -83,13 +82,7 @@ pub(crate) fn end_groups(groups: &mut GroupAssembler, moment: u64, out: &mut Out
     ensures before { has_datagram out.new.emits ≡ false }
 {
     while let Some(key) = groups.expire_one(moment) {
-        out.tell(Report {
-            rule: GROUP_EXPIRED,
-            detail: Detail::GroupKey {
-                sfi: key.sfi,
-                code: key.code,
-            },
-        });
+        out.tell(of_group(GROUP_EXPIRED, &key));
     }
 }
 
@@ -147,18 +140,5 @@ pub(crate) fn drop_addressed(sessions: &mut IsoAssembler, out: &mut Outbox)
 {
     while let Some(ended) = sessions.drop_addressed() {
         out.tell(of_source(CLAIM_LOST, ended.source, ended.pgn));
-    }
-}
-
-/// The report that names the source and the PGN.
-pub(crate) fn of_source(rule: u8, source: u8, pgn: u32) -> Report
-    ensures { report result ≡ of_source rule source pgn }
-{
-    Report {
-        rule,
-        detail: Detail::Source {
-            address: source,
-            pgn,
-        },
     }
 }

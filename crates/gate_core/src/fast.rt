@@ -11,7 +11,7 @@ ghost use Rattle.gate_core.specs.Output.{and_emits, most_emits, has_datagram};
 
 use crate::messages::{Content, read_content, tell_short};
 use crate::outbox::Outbox;
-use capture_text::{Detail, Report};
+use crate::reports::of_source;
 use fast_packet::{FastAssembler, FastFed, FastKey, FastOutcome, FastRefusal};
 use n2k_id::{Frame, Name, Parts};
 use report_rules::{FAST_LENGTH, FAST_ORDER, FAST_ORPHAN, RESTARTED, SLOTS_FULL};
@@ -99,10 +99,7 @@ fn tell_restarted(parts: &Parts, restarted: bool, out: &mut Outbox)
     ensures before { has_datagram out.new.emits ≡ false }
 {
     if restarted {
-        out.tell(Report {
-            rule: RESTARTED,
-            detail: sender_of(parts),
-        });
+        out.tell(of_source(RESTARTED, parts.source, parts.pgn));
     }
 }
 
@@ -113,10 +110,7 @@ fn tell_refused(parts: &Parts, refused: Option<FastRefusal>, out: &mut Outbox)
     ensures before { has_datagram out.new.emits ≡ false }
 {
     match refused {
-        Some(refusal) => out.tell(Report {
-            rule: rule_of(refusal),
-            detail: sender_of(parts),
-        }),
+        Some(refusal) => out.tell(of_source(rule_of(refusal), parts.source, parts.pgn)),
         None => {}
     }
 }
@@ -129,15 +123,5 @@ fn rule_of(refusal: FastRefusal) -> u8
         FastRefusal::Orphan => FAST_ORPHAN,
         FastRefusal::Length => FAST_LENGTH,
         FastRefusal::Full => SLOTS_FULL,
-    }
-}
-
-/// Who sends the frame, and its PGN.
-pub(crate) fn sender_of(parts: &Parts) -> Detail
-    ensures { result ≡ sender_of parts.now }
-{
-    Detail::Source {
-        address: parts.source,
-        pgn: parts.pgn,
     }
 }

@@ -17,6 +17,8 @@ mod messages;
 mod network;
 mod outbox;
 mod pgn;
+mod reports;
+mod rows;
 mod said;
 mod sending;
 mod sessions;

@@ -11,11 +11,11 @@ ghost use Rattle.gate_core.specs.Contents.{content_in};
 ghost use Rattle.gate_core.specs.MeaningOf.{meant};
 ghost use Rattle.gate_core.specs.Output.{and_emits, most_emits, has_datagram};
 
-use crate::endings::of_source;
 use crate::frames::ALL;
 use crate::messages::{Content, read_content, tell_short};
 use crate::outbox::Outbox;
 use crate::pgn::{ADDRESS_CLAIMED, CONNECTION_MANAGEMENT, DATA_TRANSFER, REQUEST};
+use crate::reports::of_source;
 use capture_text::{Detail, Report};
 use claim_table::ClaimTable;
 use n2k_id::{Name, Parts, read_name};
@@ -44,7 +44,7 @@ pub(crate) enum Meaning {
 }
 
 /// How many bytes a request has that says for what.
-const REQUEST_BYTES: usize = 3;
+pub(crate) const REQUEST_BYTES: usize = 3;
 
 /// What a frame with these parts is.
 pub(crate) fn meaning_of(claims: &ClaimTable, parts: &Parts) -> Meaning

@@ -8,7 +8,7 @@ ghost use Rattle.gate_core.specs.Output.{and_emits, most_emits, has_datagram};
 
 use crate::outbox::Outbox;
 use crate::pgn::COMMANDED_ADDRESS;
-use capture_text::{Detail, Report};
+use crate::reports::of_source;
 use n2k_id::{Name, read_name};
 use pgn_profile::{Profiled, read};
 use report_rules::SHORT_MESSAGE;
@@ -73,13 +73,9 @@ pub(crate) fn tell_short(source: u8, message: Option<Content>, out: &mut Outbox)
     ensures before { has_datagram out.new.emits ≡ false }
 {
     match message {
-        Some(content) if is_short(content.profiled) => out.tell(Report {
-            rule: SHORT_MESSAGE,
-            detail: Detail::Source {
-                address: source,
-                pgn: content.pgn,
-            },
-        }),
+        Some(content) if is_short(content.profiled) => {
+            out.tell(of_source(SHORT_MESSAGE, source, content.pgn));
+        }
         _ => {}
     }
 }

@@ -5,7 +5,6 @@ ghost use Rattle.sentence_text.specs.Reading.{parts};
 ghost use Rattle.tag_block.specs.Reading.{said};
 ghost use Rattle.datagram450.specs.Item.{item_view, line};
 ghost use Rattle.datagram450.specs.Datagram.{IsItem, read};
-ghost use Rattle.history.specs.Emits.{report_of};
 ghost use Rattle.history.specs.Heard.{several};
 ghost use Rattle.history.specs.Settings.{Settings};
 ghost use Rattle.gate_model.specs.Endings.{groups_overdue};
@@ -29,7 +28,7 @@ use crate::network::heard::Heard;
 use crate::network::rows::Readings;
 use crate::network::sentences::take_sentence;
 use crate::outbox::Outbox;
-use capture_text::{Detail, Report};
+use crate::reports::at_place;
 use datagram450::{DatagramFault, LineItem, LineIter, lines};
 pub(crate) use heard::Came;
 pub(crate) use hearing::Hearing;
@@ -108,8 +107,8 @@ impl Network {
     {
         match lines(bytes) {
             Ok(items) => self.items(hearing, items, out),
-            Err(DatagramFault::Header(place)) => out.tell(at(DATAGRAM_HEADER, place as u16)),
-            Err(DatagramFault::Long) => out.tell(at(DATAGRAM_LONG, LONGEST)),
+            Err(DatagramFault::Header(place)) => out.tell(at_place(DATAGRAM_HEADER, place as u16)),
+            Err(DatagramFault::Long) => out.tell(at_place(DATAGRAM_LONG, LONGEST)),
         }
     }
 
@@ -147,7 +146,7 @@ impl Network {
                 text,
                 sentence,
             } => self.line(hearing, *at, tag, text, sentence, out),
-            LineItem::Bad { rule, at: place } => out.tell(at(*rule, *place)),
+            LineItem::Bad { rule, at: place } => out.tell(at_place(*rule, *place)),
         }
     }
 
@@ -212,20 +211,10 @@ fn tell_untaken(own: bool, elsewhere: bool, unlisted: bool, place: u16, out: &mu
     ensures before { has_datagram out.new.emits ≡ false }
 {
     if own {
-        out.tell(at(OWN_LINE, place));
+        out.tell(at_place(OWN_LINE, place));
     } else if elsewhere {
-        out.tell(at(OTHER_DESTINATION, place));
+        out.tell(at_place(OTHER_DESTINATION, place));
     } else if unlisted {
-        out.tell(at(UNLISTED_SOURCE, place));
-    }
-}
-
-/// The report that names a place in the datagram.
-fn at(rule: u8, place: u16) -> Report
-    ensures { result ≡ report_of rule (Detail.At place) }
-{
-    Report {
-        rule,
-        detail: Detail::At(place),
+        out.tell(at_place(UNLISTED_SOURCE, place));
     }
 }

@@ -18,12 +18,12 @@ ghost use Rattle.gate_core.specs.Saying.{message_from, texts};
 ghost use Rattle.gate_core.specs.Output.{and_emits, most_emits, has_datagram};
 
 use crate::outbox::Outbox;
+use crate::rows::{number, row_at, row_config, says_something};
 use crate::said::ranks::rank_in;
-use crate::said::rows::{number, row_at, row_config};
 use crate::said::writing::{sentences_in, speaker, write_datagram};
 use config_values::Config;
 use n2k_id::Name;
-use readings::{Reading, Row, row, usable};
+use readings::{Reading, Row, row};
 use sentence_rows::Lines;
 use sentence_text::Group;
 use source_choice::{Choice, Rank};
@@ -31,7 +31,6 @@ use std::alloc::{AllocError, Global};
 use std::marker::Model;
 
 mod ranks;
-pub(crate) mod rows;
 mod writing;
 
 /// How many addresses a device can hold: 0 to 253.
@@ -267,11 +266,4 @@ impl Said {
     {
         self.choice.forget(source);
     }
-}
-
-/// Whether the reading says something of its row.
-fn says_something(reading: &Reading) -> bool
-    ensures { result ≡ is_usable (Some reading.now) }
-{
-    usable(reading)
 }

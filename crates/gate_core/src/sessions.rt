@@ -10,11 +10,11 @@ ghost use Rattle.gate_core.specs.Contents.{content_in};
 ghost use Rattle.gate_core.specs.SessionTold.{told_of, told_reports, step_emits, comes_early};
 ghost use Rattle.gate_core.specs.Output.{and_emits, most_emits, has_datagram};
 
-use crate::endings::of_source;
 use crate::frames::{ALL, reply_from};
 use crate::messages::{Content, read_content, tell_short};
 use crate::outbox::Outbox;
 use crate::pgn::DATA_TRANSFER;
+use crate::reports::of_source;
 use capture_text::Report;
 use iso_transport::{IsoAssembler, IsoFed, IsoKey, IsoOutcome, IsoRefusal, Reply};
 use n2k_id::{Frame, Name, Parts};

@@ -34,7 +34,7 @@ use Rattle.gate_model.specs.Said.{complete_of, claimed_after}
 use Rattle.gate_model.specs.SaidLaws.{ClaimStandsSaid}
 use Rattle.gate_model.specs.SaidStands.{SaidStandsFor}
 use Rattle.gate_model.specs.Machine.{Compared, Machine, Step}
-use Rattle.gate_model.specs.MachineSteps.{lost_at, without, claim_takes}
+use Rattle.gate_model.specs.MachineSteps.{lost_at, without, claim_takes, claim_tells}
 use Rattle.gate_model.specs.Stands.{AreOrders, StandsAt}
 use Rattle.gate_model.proofs.AddressSteps.{claimed_is}
 use Rattle.gate_model.proofs.AddressTells.{standing_tells_alike}
@@ -142,14 +142,20 @@ module _ (o : Compared) (s : ℕ) (h : History) (m : ℕ) (f : BusFrame) (g : Ma
       (joined fast_ends.won_told sessions_end.won_told ∙ lost_cut k after notes m r.kinds (address_won step))
       sessions_end.elsewhere_told
 
-  gives : given x.step moved x.after.own ≡ answers_by r s h m f (meaning_after r s h m f)
+  -- in the order of the model
+  tells : claim_tells g.settings.name g x ≡ given x.step moved x.after.own
+  unfolding claim_tells
+  tells = refl
+
+  gives : claim_tells g.settings.name g x ≡ answers_by r s h m f (meaning_after r s h m f)
   gives =
-      ap (λ (st : ClaimStep). given st moved x.after.own) step_is
+      tells
+      ∙ (ap (λ (st : ClaimStep). given st moved x.after.own) step_is
       ∙ (ap (λ (b : Bool). given step b x.after.own) moved_is
       ∙ (ap (given step (is_moved r s h (frame m f))) own_is
       ∙ (given_so
       ∙ sym (ap (answers_by r s h m f) (claims_meant r s h m f claims)
-      ∙ ap (λ (b : Bool). if b then step_gives r.kinds r.name k after notes m step else []) claims))))
+      ∙ ap (λ (b : Bool). if b then step_gives r.kinds r.name k after notes m step else []) claims)))))
 
   -- ---- the rules that it breaks
 

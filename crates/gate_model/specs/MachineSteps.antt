@@ -1,5 +1,5 @@
 -- What each entry makes of what a gateway keeps, and gives, as plain values. Nothing here speaks of what came before.
-use Rattle.std.specs.Prelude.{ℕ, not, nat_le, List, [], ◌∷◌, ◌++◌, Option, None, if◌then◌else◌}
+use Rattle.std.specs.Prelude.{ℕ, Bool, not, nat_le, List, [], ◌∷◌, ◌++◌, Option, None, if◌then◌else◌}
 use Rattle.n2k_id.specs.declared.identifier_parts.Parts.{Parts}
 use Rattle.n2k_id.specs.Frame.{BusFrame}
 use Rattle.n2k_id.specs.Identifier.{parts_of}
@@ -43,20 +43,29 @@ lost_at a g = fast.lost_of_source a g.fast ++ sessions.lost_of_source a g.sessio
 abbrev pub without : Option ℕ → Machine → Machine
 without a g = record g { fast = fast.without_source a g.fast; sessions = sessions.without_source a g.sessions }
 
-abbrev pub claim_takes : ℕ → Machine → Outcome → Step
-claim_takes name g x =
+-- whether the gateway's own address is another one after it
+abbrev pub moved_by : Machine → Outcome → Bool
+moved_by g x = not (same_own g.addresses.claims.own x.after.own)
+
+-- what it tells, in this order
+unfoldable pub claim_tells : ℕ → Machine → Outcome → List Emit
+claim_tells name g x =
     let left = address_left x.step in
     let won = address_won x.step in
-    let moved = not (same_own g.addresses.claims.own x.after.own) in
-    let rest = without won (without left g) in
+    lost_at left g ++ lost_at won (without left g) ++ lost_addressed (moved_by g x) (without won (without left g)).sessions
+    ++ own_answer name x.step.own x.after.own
+
+abbrev pub claim_takes : ℕ → Machine → Outcome → Step
+claim_takes name g x =
+    let rest = without (address_won x.step) (without (address_left x.step) g) in
     record {
       after = record g {
         addresses = record g.addresses { claims = x.after };
         fast = rest.fast;
-        sessions = without_addressed moved rest.sessions;
+        sessions = without_addressed (moved_by g x) rest.sessions;
         said = claimed_after x.step g.said;
       };
-      emits = lost_at left g ++ lost_at won (without left g) ++ lost_addressed moved rest.sessions ++ own_answer name x.step.own x.after.own;
+      emits = claim_tells name g x;
       complete = None;
     }
 

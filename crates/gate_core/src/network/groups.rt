@@ -12,7 +12,7 @@ use crate::network::heard::Heard;
 use crate::network::rows::Readings;
 use crate::network::sentences::take_joined;
 use crate::outbox::Outbox;
-use capture_text::{Detail, Report};
+use crate::reports::of_group;
 use report_rules::{GROUP_ORDER, GROUP_SLOTS_FULL};
 use sentence_text::Sfi;
 use tag_block::{GroupAssembler, GroupKey, GroupOutcome, GroupPart};
@@ -75,12 +75,6 @@ fn tell_if(broken: bool, rule: u8, key: &GroupKey, out: &mut Outbox)
     ensures before { has_datagram out.new.emits ≡ false }
 {
     if broken {
-        out.tell(Report {
-            rule,
-            detail: Detail::GroupKey {
-                sfi: key.sfi,
-                code: key.code,
-            },
-        });
+        out.tell(of_group(rule, key));
     }
 }

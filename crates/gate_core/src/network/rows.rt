@@ -11,9 +11,10 @@ ghost use Rattle.gate_core.specs.Output.{Output, and_emits, most_emits, has_data
 
 use crate::network::heard::Heard;
 use crate::outbox::Outbox;
+use crate::reports::at_place;
+use crate::rows::{number, says_something};
 use crate::sending::send_reading;
-use capture_text::{Detail, Report};
-use readings::{Reading, Row, row, usable};
+use readings::{Reading, Row, row};
 use report_rules::NOT_READY;
 use source_choice::{Choice, Rank};
 use std::alloc::{AllocError, Global};
@@ -110,10 +111,7 @@ impl Readings {
         if line.came.ready {
             self.send(line.came.own, reading, out);
         } else {
-            out.tell(Report {
-                rule: NOT_READY,
-                detail: Detail::At(line.place),
-            });
+            out.tell(at_place(NOT_READY, line.place));
         }
     }
 
@@ -162,27 +160,12 @@ impl Readings {
     }
 }
 
-/// The place of the row among the rows.
-fn number(row: Row) -> usize
-    ensures number { result ≡ row_number row }
-    ensures within { result < 17 }
-{
-    row as usize
-}
-
 /// Whether messages of the row are sent as fast packets.
 #[tactic(auto, unfolding(pgn_profile::specs::Profiled::messages))]
 fn is_fast(row: Row) -> bool
     ensures { result ≡ is_fast_row row }
 {
     matches!(row, Row::DistanceLog | Row::Gnss)
-}
-
-/// Whether the reading says something of its row.
-fn says_something(reading: &Reading) -> bool
-    ensures { result ≡ is_usable (Some reading.now) }
-{
-    usable(reading)
 }
 
 /// The rank of a source is its place among those that are listed.

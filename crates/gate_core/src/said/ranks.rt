@@ -6,7 +6,7 @@ ghost use Rattle.history.specs.Settings.{rule_of};
 ghost use Rattle.config_values.specs.Settings.{settings_of};
 ghost use Rattle.gate_core.specs.Saying.{or_last};
 
-use crate::said::rows::row_config;
+use crate::rows::row_config;
 use config_values::Config;
 use n2k_id::{Name, Pattern};
 use readings::Row;

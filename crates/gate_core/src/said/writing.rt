@@ -12,8 +12,8 @@ ghost use Rattle.config_values.specs.Configs.{IsConfig};
 ghost use Rattle.config_values.specs.Settings.{settings_of};
 ghost use Rattle.gate_core.specs.Saying.{texts};
 
+use crate::rows::talker_of;
 use crate::said::MOST_COUNT;
-use crate::said::rows::talker_of;
 use config_values::Config;
 use datagram450::{begin, push_line};
 use readings::{Reading, row};

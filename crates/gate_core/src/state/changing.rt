@@ -15,11 +15,12 @@ ghost use Rattle.gate_core.specs.Steps.{Stays, by_keys, and_step};
 ghost use Rattle.gate_core.specs.Output.{and_emits, most_emits, has_datagram};
 
 use crate::done::Command;
-use crate::endings::{drop_addressed, drop_source, of_source};
+use crate::endings::{drop_addressed, drop_source};
 use crate::frames::{ALL, own_claim};
 use crate::meanings::{Meaning, tell_plain};
 use crate::outbox::Outbox;
 use crate::pgn::{ADDRESS_CLAIMED, COMMANDED_ADDRESS};
+use crate::reports::of_source;
 use crate::state::State;
 use claim_table::{ClaimStep, OwnAnswer};
 use n2k_id::{Frame, Name, Parts, read_name};
@@ -58,6 +59,7 @@ impl State {
     }
 
     /// Takes a claim of an address, or of none, by a NAME.
+    #[tactic(auto, unfolding(gate_model::specs::MachineSteps::claim_tells))]
     fn claim(&mut self, address: u8, name: Name, moment: u64, out: &mut Outbox)
         requires address { address < 255 }
         requires stays { Stays self.old }

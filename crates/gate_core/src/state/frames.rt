@@ -18,7 +18,7 @@ ghost use Rattle.gate_core.specs.Steps.{Stays, by_keys, and_step};
 ghost use Rattle.gate_core.specs.Output.{and_emits, most_emits, has_datagram};
 
 use crate::frames::own_claim;
-use crate::meanings::{Meaning, meaning_of, tell_plain};
+use crate::meanings::{Meaning, REQUEST_BYTES, meaning_of, tell_plain};
 use crate::messages::Content;
 use crate::outbox::Outbox;
 use crate::pgn::ADDRESS_CLAIMED;
@@ -28,9 +28,6 @@ use crate::{fast, sessions};
 use fast_packet::FastKey;
 use iso_transport::IsoKey;
 use n2k_id::{Frame, Name, Parts, parts};
-
-/// How many bytes a request has that says for what.
-const REQUEST_BYTES: usize = 3;
 
 impl State {
     /// Takes a frame.

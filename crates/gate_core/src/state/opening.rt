@@ -8,8 +8,8 @@ ghost use Rattle.config_values.specs.Settings.{settings_of};
 
 use crate::addresses::Addresses;
 use crate::network::Network;
+use crate::rows::row_at;
 use crate::said::Said;
-use crate::said::rows::row_at;
 use claim_table::ClaimFault;
 use config_values::Config;
 use fast_packet::FastAssembler;

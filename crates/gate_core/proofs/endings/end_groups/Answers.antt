@@ -1,4 +1,6 @@
-use Rattle.std.proofs.Common.{sym, ◌∙◌, arith}
+use Rattle.std.proofs.Common.{[], ◌∷◌, ap, sym, ◌∙◌, arith}
+use Rattle.history.specs.Emits.{report}
+use Rattle.gate_core.specs.Output.{and_emits}
 use Rattle.gate_core.proofs.Telling.{has_room, fewer, one_told, ends_slots, ends_emits}
 use Rattle.gate_core.proofs.endings.end_groups.Goals as goal
 
@@ -10,7 +12,8 @@ loop-key-smaller c = fewer c.loop-key.invariant (sym c.expire_one.ensures.answer
 
 pub loop-key-preserved : goal.loop-key-preserved
 loop-key-preserved c =
-    one_told c.loop-key.invariant (sym c.expire_one.ensures.answer ∙ c.in-Some.is) c.expire_one.ensures.after c.tell.ensures.emits c.tell.ensures.before
+    let emits = c.tell.ensures.emits ∙ ap (λ r. and_emits c.loop-key.out (report r ∷ [])) c.of_group.ensures in
+    one_told c.loop-key.invariant (sym c.expire_one.ensures.answer ∙ c.in-Some.is) c.expire_one.ensures.after emits c.tell.ensures.before
 
 pub returns-clause-groups : goal.returns-clause-groups
 returns-clause-groups c = ends_slots c.loop-key.invariant (sym c.expire_one.ensures.answer ∙ c.in_default.is) c.expire_one.ensures.after

@@ -1,15 +1,16 @@
-//! How the rows are configured, by their numbers.
-ghost use Rattle.std.specs.Prelude.{◌≡◌, ◌<◌, IsTrue};
+//! The rows by their numbers, how they are configured, and when a reading says something of one.
+ghost use Rattle.std.specs.Prelude.{◌≡◌, ◌<◌, IsTrue, Some};
 ghost use Rattle.std.specs.List.{list_all};
 ghost use Rattle.sentence_text.specs.Byte.{is_capital};
 ghost use Rattle.source_choice.specs.Choices.{row_number};
+ghost use Rattle.history.specs.Choice.{is_usable};
 ghost use Rattle.history.specs.Settings.{rule_at, rule_of};
 ghost use Rattle.config_values.specs.Configs.{IsConfig};
 ghost use Rattle.config_values.specs.Rows.{IsRow};
 ghost use Rattle.config_values.specs.Settings.{settings_of, rule_of_row};
 
 use config_values::{Config, RowConfig};
-use readings::Row;
+use readings::{Reading, Row, usable};
 
 /// The place of the row among the rows.
 pub(crate) fn number(row: Row) -> usize
@@ -44,4 +45,11 @@ pub(crate) fn talker_of(config: &Config, row: Row) -> [u8; 2]
     ensures capitals { IsTrue (list_all is_capital result) }
 {
     row_config(config, row).talker
+}
+
+/// Whether the reading says something of its row.
+pub(crate) fn says_something(reading: &Reading) -> bool
+    ensures { result ≡ is_usable (Some reading.now) }
+{
+    usable(reading)
 }

@@ -1,6 +1,6 @@
 use Rattle.std.proofs.lemmas.List.Sums.{list_all-from_AllPass}
 use Rattle.sentence_text.specs.Byte.{is_capital}
-use Rattle.gate_core.proofs.said.rows.talker_of.Goals as goal
+use Rattle.gate_core.proofs.rows.talker_of.Goals as goal
 
 pub returns-clause-capitals : goal.returns-clause-capitals
 returns-clause-capitals c =
