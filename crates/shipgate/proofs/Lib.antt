@@ -1,12 +1,4 @@
-pub mod Blocks
-pub mod Moves
-pub mod LineReaderLemmas
-pub mod WriterLemmas
-pub mod Numbers
-pub mod ProgressLemmas
-pub mod StandLemmas
-pub mod SaidLemmas
-pub mod ShowLemmas
 pub mod LineCommandLemmas
-pub mod EndLemmas
+pub mod Numbers
+pub mod ShowLemmas
 pub mod WordLemmas

@@ -1,11 +1,6 @@
-pub mod Lines
-pub mod LineReader
-pub mod Writer
-pub mod Says
 pub mod Convert
-pub mod Show
 pub mod LineCommand
-pub mod Progress
-pub mod Words
 pub mod Run
+pub mod Show
 pub mod Talker
+pub mod Words

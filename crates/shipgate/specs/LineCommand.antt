@@ -1,13 +1,10 @@
 -- What a command writes that answers each line of a capture by itself.
-use Rattle.std.specs.Prelude.{◌≡◌, ℕ, List, [], ◌∷◌, Result, Err}
+use Rattle.std.specs.Prelude.{◌≡◌, ◌+◌, ℕ, List, [], ◌∷◌, ◌++◌, Result}
 use Rattle.capture_text.specs.declared.event.LineRule.{LineRule}
-use Rattle.capture_text.specs.declared.event.LineRule.TheVariants as rules
 use Rattle.capture_text.specs.Capture.{Seen}
+use Rattle.capture_stream.specs.Says.{Says}
 use Rattle.shipgate.specs.declared.words.LineCommand.{LineCommand}
 use Rattle.shipgate.specs.declared.words.LineCommand.TheVariants.{Convert, Show}
-use Rattle.shipgate.specs.declared.line_reader.Next.{Next}
-use Rattle.shipgate.specs.declared.line_reader.Next.TheVariants.{Line, Long, Unfinished}
-use Rattle.shipgate.specs.Says.{Says}
 use Rattle.shipgate.specs.Convert.{IsSaidText}
 use Rattle.shipgate.specs.Show.{said_text}
 
@@ -16,13 +13,20 @@ abbrev pub IsTextOf : LineCommand → ℕ → Result Seen LineRule → List ℕ 
 IsTextOf Convert number said text = IsSaidText number said text
 IsTextOf Show number said text = text ≡ said_text number said
 
+-- the same, and the command stays what it is
+abbrev pub IsAnswer : LineCommand → ℕ → Result Seen LineRule → List ℕ → LineCommand → Type 0
+IsAnswer command number said text after = IsTextOf command number said text × (after ≡ command)
+
 -- What the line of this number gives: nothing where it is empty, else by what it says.
 unfoldable pub Gives : LineCommand → ℕ → List ℕ → List ℕ → Type 0
 Gives command number [] text = text ≡ []
 Gives command number (b ∷ bytes) text = (said : Result Seen LineRule) × Says (b ∷ bytes) said × IsTextOf command number said text
 
--- what the next line of a reader gives; one that is too long isn't held
-abbrev pub IsNextText : LineCommand → Next → ℕ → List ℕ → List ℕ → Type 0
-IsNextText command Line number line text = Gives command number line text
-IsNextText command Long number line text = IsTextOf command number (Err rules.Long) text
-IsNextText command Unfinished number line text = text ≡ []
+-- Each line, numbered from n, gives its text, and the bytes are these texts behind one another.
+abbrev pub AreTexts : LineCommand → ℕ → List (List ℕ) → List ℕ → Type 0
+AreTexts command n [] bytes = bytes ≡ []
+AreTexts command n (line ∷ lines) bytes = (text rest : List ℕ) × Gives command n line text × AreTexts command (n + 1) lines rest × (bytes ≡ text ++ rest)
+
+-- lines are counted from 1
+abbrev pub AreTextsOf : LineCommand → List (List ℕ) → List ℕ → Type 0
+AreTextsOf command = AreTexts command 1

@@ -2,13 +2,13 @@
 use Rattle.std.specs.Prelude.{◌≡◌, ◌≤◌, ◌⊎◌, ◌↔◌, ℕ, List, [], ◌++◌, length, Option, Some, None}
 use Rattle.gate_outside.specs.Faults.{Rose}
 use Rattle.gate_outside.specs.Told.{Joins}
-use Rattle.shipgate.specs.declared.ending.Ending.{Ending}
-use Rattle.shipgate.specs.declared.ending.Ending.TheVariants.{Done, SinkFailed, SourceFailed, TooLong}
+use Rattle.capture_stream.specs.declared.ending.Ending.{Ending}
+use Rattle.capture_stream.specs.declared.ending.Ending.TheVariants.{Done, SinkFailed, SourceFailed, TooLong}
 use Rattle.shipgate.specs.declared.words.Command.TheVariants.{Lines}
 use Rattle.shipgate.specs.declared.words.LineCommand.{LineCommand}
 use Rattle.shipgate.specs.Words.{IsForm, IsNoForm}
-use Rattle.shipgate.specs.LineCommand.{Gives}
-use Rattle.shipgate.specs.Progress.{input_limit, Finishes, StopsReading, StopsWriting, PassesLimit}
+use Rattle.shipgate.specs.LineCommand.{AreTextsOf}
+use Rattle.capture_stream.specs.Progress.{input_limit, Finishes, StopsReading, StopsWriting, PassesLimit}
 
 abbrev pub status_of : Ending → ℕ
 status_of Done = 0
@@ -28,11 +28,11 @@ pub record Offers (told told' : Option (List ℕ)) (before after : ℕ) (line : 
   pub whole : (unwritten ≡ []) ⊎ Rose before after
 
 -- What each status of a command over lines says of the bytes that were read and written.
-pub record EndsBy (Gives : ℕ → List ℕ → List ℕ → Type 0) (left left' told told' : Option (List ℕ)) (status : ℕ) : Type 0 where
-  pub done : status ≡ 0 → Finishes Gives left left' told told'
-  pub sink_failed : status ≡ 4 → StopsWriting Gives left left' told told'
-  pub source_failed : status ≡ 5 → StopsReading Gives left left' told told'
-  pub too_long : status ≡ 8 → PassesLimit Gives left left' told told'
+pub record EndsBy (IsText : List (List ℕ) → List ℕ → Type 0) (left left' told told' : Option (List ℕ)) (status : ℕ) : Type 0 where
+  pub done : status ≡ 0 → Finishes IsText left left' told told'
+  pub sink_failed : status ≡ 4 → StopsWriting IsText left left' told told'
+  pub source_failed : status ≡ 5 → StopsReading IsText left left' told told'
+  pub too_long : status ≡ 8 → PassesLimit IsText left left' told told'
 
 -- Nothing stops a command over lines: the source tells its bytes, they are no more than an input may have, and neither count
 -- of faults rose.
@@ -47,4 +47,4 @@ pub record IsUnhindered (left : Option (List ℕ)) (source source' sink sink' : 
 pub record RunsOver (words : List (List ℕ)) (left : Option (List ℕ)) (status : ℕ) : Type 0 where
   pub known : IsStatus status
   pub usage : (status ≡ 2) ↔ IsNoForm words
-  pub ends : (command : LineCommand) → IsForm words (Lines command) → (left' : Option (List ℕ)) × EndsBy (Gives command) left left' None None status
+  pub ends : (command : LineCommand) → IsForm words (Lines command) → (left' : Option (List ℕ)) × EndsBy (AreTextsOf command) left left' None None status

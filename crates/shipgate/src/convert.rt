@@ -13,12 +13,12 @@ ghost use Rattle.gate_outside.specs.Faults.{HasCause};
 ghost use Rattle.shipgate.specs.Talker.{talker_of};
 ghost use Rattle.capture_text.specs.Event.{rule_number};
 ghost use Rattle.shipgate.specs.Convert.{refusal, IsPayloadText, IsMessageText, IsSaidText};
-ghost use Rattle.shipgate.specs.Writer.{SendsText, Writes};
+ghost use Rattle.capture_stream.specs.Writer.{SendsText, Writes};
 
 use crate::line_text::{LineText, append, append_part};
 use crate::talker::talker_of;
-use crate::writer::Writer;
 use arrayvec::ArrayVec;
+use capture_stream::Writer;
 use capture_text::{Event, LineRule};
 use gate_outside::{Failed, Sink};
 use n2k_id::{Frame, parts};

@@ -11,15 +11,12 @@ ghost use Rattle.std.specs.Vec.Iter.{into_iter_items};
 ghost use Rattle.shipgate.specs.Run.{RunsOver};
 
 mod convert;
-mod ending;
 mod line_command;
-mod line_reader;
 mod line_text;
 mod run;
 mod show;
 mod talker;
 mod words;
-mod writer;
 
 use gate_outside::{MemClock, QuietFiles, QuietLink, ReaderSource, WriterSink};
 pub use run::run;

@@ -1,15 +1,13 @@
 //! The top call: words in, a status out.
 ghost use Rattle.std.specs.Prelude.{◌≡◌, ◌↔◌, map, string_bytes};
 ghost use Rattle.gate_outside.specs.Faults.{Rose};
-ghost use Rattle.shipgate.specs.LineCommand.{Gives};
-ghost use Rattle.shipgate.specs.Progress.{Ends};
+ghost use Rattle.shipgate.specs.LineCommand.{AreTextsOf};
 ghost use Rattle.shipgate.specs.Words.{IsForm, IsNoForm, usage_line};
 ghost use Rattle.shipgate.specs.Run.{Offers, IsStatus, EndsBy, IsUnhindered, status_of};
 
-use crate::ending::Ending;
-use crate::line_command::answer_input;
+use crate::line_command::answer_lines;
 use crate::words::{Command, LineCommand, USAGE, command_of};
-use crate::writer::send_now;
+use capture_stream::{Ending, send_now};
 use gate_outside::{Clock, Files, Link, Sink, Source};
 use std::alloc::Global;
 
@@ -51,7 +49,7 @@ pub fn run<F: Files, S: Source, K: Sink, B: Link, E: Link, C: Clock>(
     ensures offers { result ≡ 2
         → Offers (K.taken out.old) (K.taken out.new) (K.fault_count out.old) (K.fault_count out.new) usage_line }
     ensures ends { (command : LineCommand) → IsForm (map string_bytes words.now) (Command.Lines command)
-        → EndsBy (Gives command) (S.left input.old) (S.left input.new) (K.taken out.old) (K.taken out.new) result }
+        → EndsBy (AreTextsOf command) (S.left input.old) (S.left input.new) (K.taken out.old) (K.taken out.new) result }
 
     // A failure has its cause in a count of faults.
     ensures sink_cause { result ≡ 4 → Rose (K.fault_count out.old) (K.fault_count out.new) }
@@ -76,6 +74,6 @@ pub fn run<F: Files, S: Source, K: Sink, B: Link, E: Link, C: Clock>(
             let _ = send_now(USAGE, out);
             2
         }
-        Some(Command::Lines(command)) => status_of(answer_input(command, input, out)),
+        Some(Command::Lines(command)) => status_of(answer_lines(command, input, out)),
     }
 }

@@ -10,11 +10,11 @@ ghost use Rattle.capture_text.specs.Reading.{view, IsValid};
 ghost use Rattle.gate_outside.specs.Faults.{HasCause};
 ghost use Rattle.capture_text.specs.Event.{rule_number};
 ghost use Rattle.shipgate.specs.Show as spec;
-ghost use Rattle.shipgate.specs.Writer.{Writes};
+ghost use Rattle.capture_stream.specs.Writer.{Writes};
 
 use crate::line_text::{LineText, append, append_number, append_part};
-use crate::writer::Writer;
 use arrayvec::ArrayVec;
+use capture_stream::Writer;
 use capture_text::{Event, LineRule};
 use datagram450::{DatagramFault, LineItem, LineIter, lines};
 use gate_outside::{Failed, Sink};

@@ -1,54 +1,11 @@
-use Rattle.std.proofs.Common.{ℕ, ◌+◌, ◌≤◌, List, length, refl, subst, ◌∙◌, arith}
-use Rattle.shipgate.specs.LineCommand.{Gives}
-use Rattle.capture_text.specs.Lines.{complete_lines}
-use Rattle.shipgate.specs.Progress.{WritesSome}
-use Rattle.gate_outside.specs.Faults.{Rose}
-use Rattle.shipgate.proofs.StandLemmas.{stand_waiting}
-use Rattle.shipgate.proofs.LineCommandLemmas.{line_done, line_stopped, fewer_unread, is_taken}
+use Rattle.capture_stream.specs.Answering.{LineGives}
+use Rattle.capture_stream.specs.Lines.{IsTextFrom}
+use Rattle.capture_stream.proofs.EndLemmas.{ends_as}
+use Rattle.shipgate.specs.LineCommand.{IsAnswer, AreTextsOf}
+use Rattle.shipgate.proofs.LineCommandLemmas.{are_texts_of}
 use Rattle.shipgate.proofs.line_command.answer_lines.Goals as goal
 
-pub lines-init : goal.lines-init
-lines-init g c = record {
-  fits = omega arith;
-  reaches = λ left left' told size s. (s, refl);
-  steady = refl;
-}
-
-pub lines-preserved : goal.lines-preserved
-lines-preserved g c =
-    let next = c.advance-next in
-    let taken = is_taken next.result c.in_default.not-Unfinished in
-    let fewer : length next.new.self.unread + 1 ≤ length c.lines.reader.unread = fewer_unread c.lines.reader next.new.self next.result next.ensures taken in
-    record {
-      fits = omega (arith, c.lines.invariant.fits, fewer);
-      reaches = λ left left' told size s.
-          let put = c.in-Ok.ensures.sent in
-          let t = c.lines.invariant.reaches left left' told size s in
-          let u = line_done c.args.command left left' told (g.K.Sink.taken c.lines.out) (g.K.Sink.taken c.send_next.new.out) c.lines.reader next.new.self c.lines.writer c.send_next.new.writer put.0 c.lines.count size next.result t.0 next.ensures taken put.1 put.2 in
-          (u.0, u.1 ∙ t.1);
-      steady = c.in-Ok.ensures.cause.steady ∙ c.lines.invariant.steady;
-    }
-
-pub lines-smaller : goal.lines-smaller
-lines-smaller g c = let fewer : length c.advance-next.new.self.unread + 1 ≤ length c.lines.reader.unread = fewer_unread c.lines.reader c.advance-next.new.self c.advance-next.result c.advance-next.ensures (is_taken c.advance-next.result c.in_default.not-Unfinished) in omega arith
-
-pub returns-in-Unfinished-clause-sent : goal.returns-in-Unfinished-clause-sent
-returns-in-Unfinished-clause-sent g c = λ left left' told size s.
-    let t = c.lines.invariant.reaches left left' told size s in
-    stand_waiting (Gives c.args.command) left left' told (g.K.Sink.taken c.lines.out) c.lines.reader c.advance-next.new.self c.lines.writer c.lines.count size t.0 c.in-Unfinished.ensures
-
-pub returns-in-Err : goal.returns-in-Err
-returns-in-Err g c = record {
-  sent = λ left left' told size s.
-      let t = c.lines.invariant.reaches left left' told size s in
-      let put = c.in-Err.ensures.sent in
-      let next = c.advance-next in
-      let taken = is_taken next.result c.in_default.not-Unfinished in
-      subst (λ (r : List ℕ). WritesSome (Gives c.args.command) told (g.K.Sink.taken c.send_next.new.out) (complete_lines r)) t.1
-      (line_stopped c.args.command left left' told (g.K.Sink.taken c.lines.out) (g.K.Sink.taken c.send_next.new.out) c.lines.reader next.new.self c.lines.writer put.2.0 put.0 c.lines.count size next.result t.0 next.ensures taken put.1 put.2.1);
-  cause = record {
-    never_falls = omega (arith, c.lines.invariant.steady, c.in-Err.ensures.cause.never_falls);
-    rose = subst (λ (n : ℕ). Rose n (g.K.Sink.fault_count c.send_next.new.out)) c.lines.invariant.steady c.in-Err.ensures.cause.rose;
-    steady = tt;
-  };
-}
+pub returns-clause-ends : goal.returns-clause-ends
+returns-clause-ends g c =
+    ends_as (IsTextFrom (LineGives IsAnswer) c.args.command) (AreTextsOf c.args.command) (g.S.Source.left c.args.input.now) (g.S.Source.left c.answer_capture.new.input)
+    (g.K.Sink.taken c.args.out.now) (g.K.Sink.taken c.answer_capture.new.out) c.answer_capture.result (are_texts_of c.args.command) c.answer_capture.ensures.ends

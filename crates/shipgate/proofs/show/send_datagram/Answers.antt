@@ -3,7 +3,7 @@ use Rattle.std.specs.List.{flat_map}
 use Rattle.datagram450.specs.declared.fault.DatagramFault.{DatagramFault}
 use Rattle.datagram450.specs.Datagram.{read}
 use Rattle.shipgate.specs.Show.{item_text, items_text, place_text}
-use Rattle.shipgate.proofs.WriterLemmas.{writes_as}
+use Rattle.capture_stream.proofs.WriterLemmas.{writes_as}
 use Rattle.shipgate.proofs.show.send_datagram.Goals as goal
 
 pub returns-in-Ok-clause-sent : goal.returns-in-Ok-clause-sent

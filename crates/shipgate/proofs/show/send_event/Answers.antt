@@ -2,7 +2,7 @@ use Rattle.std.proofs.Common.{sym, ap, ◌∙◌}
 use Rattle.capture_text.specs.declared.event.Event.{Event}
 use Rattle.capture_text.specs.Reading.{view}
 use Rattle.shipgate.specs.Show.{seen_text}
-use Rattle.shipgate.proofs.WriterLemmas.{writes_as}
+use Rattle.capture_stream.proofs.WriterLemmas.{writes_as}
 use Rattle.shipgate.proofs.show.send_event.Goals as goal
 
 pub returns-in-Frame-clause-sent : goal.returns-in-Frame-clause-sent

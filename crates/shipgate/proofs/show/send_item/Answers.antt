@@ -1,5 +1,5 @@
 use Rattle.std.proofs.Common.{ℕ, List, ◌++◌, subst, ◌∙◌}
-use Rattle.shipgate.specs.Writer.{Writes}
+use Rattle.capture_stream.specs.Writer.{Writes}
 use Rattle.shipgate.proofs.ShowLemmas.{line_is, bad_is}
 use Rattle.shipgate.proofs.show.send_item.Goals as goal
 

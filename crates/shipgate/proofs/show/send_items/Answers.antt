@@ -3,7 +3,7 @@ use Rattle.std.specs.List.{flat_map}
 use Rattle.std.proofs.lemmas.List.Concat.{flat_map-cons}
 use Rattle.datagram450.specs.Item.{item_view}
 use Rattle.shipgate.specs.Show.{item_text}
-use Rattle.shipgate.proofs.WriterLemmas.{partly_more, partly_stopped}
+use Rattle.capture_stream.proofs.WriterLemmas.{partly_more, partly_stopped}
 use Rattle.shipgate.proofs.show.send_items.Goals as goal
 
 pub items-preserved : goal.items-preserved

@@ -1,7 +1,7 @@
 use Rattle.std.proofs.Common.{◌≡◌, length}
 use Rattle.std.specs.List.{flat_map}
 use Rattle.shipgate.specs.Show.{item_text}
-use Rattle.shipgate.proofs.WriterLemmas.{Partly}
+use Rattle.capture_stream.proofs.WriterLemmas.{Partly}
 use Rattle.shipgate.proofs.show.send_items.Given as goal
 
 abbrev pub invariant-items : goal.invariant-items

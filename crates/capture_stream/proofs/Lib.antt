@@ -1,0 +1,9 @@
+pub mod Blocks
+pub mod DueLemmas
+pub mod EndLemmas
+pub mod LineReaderLemmas
+pub mod Moves
+pub mod ProgressLemmas
+pub mod SaidLemmas
+pub mod StandLemmas
+pub mod WriterLemmas

@@ -1,7 +1,0 @@
-use Rattle.std.proofs.Common.{arith}
-use Rattle.shipgate.proofs.LineReaderLemmas.{reads_behind}
-use Rattle.shipgate.proofs.line_reader.read_behind.Goals as goal
-
-pub returns-clause-bytes : goal.returns-clause-bytes
-returns-clause-bytes g c =
-    reads_behind (g.S.Source.left c.args.input.now) (g.S.Source.left c.read.new.self) c.args.buffer.now c.read.new.buf c.args.count c.read.result c.requires (omega arith) c.read.ensures.bound c.read.ensures.bytes c.read.ensures.end

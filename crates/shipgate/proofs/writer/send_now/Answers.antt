@@ -1,9 +1,0 @@
-use Rattle.std.proofs.Common.{◌∙◌}
-use Rattle.shipgate.proofs.WriterLemmas.{Sends-write}
-use Rattle.shipgate.proofs.writer.send_now.Goals as goal
-
-pub loop-rest-preserved : goal.loop-rest-preserved
-loop-rest-preserved g c = record {
-  sent = Sends-write (g.K.Sink.taken c.args.out.now) (g.K.Sink.taken c.loop-rest.out) (g.K.Sink.taken c.write.new.self) c.args.piece.now c.loop-rest.rest.now c.in-Ok.count c.loop-rest.invariant.sent c.in-Ok.ensures.bytes;
-  steady = c.in-Ok.ensures.cause.steady ∙ c.loop-rest.invariant.steady;
-}
