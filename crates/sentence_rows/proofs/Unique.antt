@@ -1,5 +1,5 @@
 -- A reading is said in one way.
-use Rattle.std.proofs.Common.{◌≡◌, ◌↔◌, ℕ, ℤ, Bool, Option, None, Some, List, [], ◌∷◌, map, refl, sym, ◌∙◌, ap}
+use Rattle.std.proofs.Common.{◌≡◌, ◌↔◌, ℕ, ◌+◌, ◌*◌, ◌%◌, ℤ, Bool, Option, None, Some, List, [], ◌∷◌, map, refl, sym, ◌∙◌, ap}
 use Rattle.std.specs.Prelude.{codes, unsigned_abs}
 use Rattle.jiff.specs.Types.{Date}
 use Rattle.jiff.specs.Words.{epoch_day}
@@ -10,12 +10,21 @@ use Rattle.readings.specs.Ranges.{Holds, IsValid, date as date_range}
 use Rattle.sentence_rows.specs.Calendar.{CivilDate, IsDateOf, civil_date}
 use Rattle.sentence_rows.specs.Laws.{SaidInOneWay}
 use Rattle.sentence_rows.specs.Lines.{sentence_by}
+use Rattle.sentence_rows.specs.Rmc.{date_number}
 use Rattle.sentence_rows.specs.Writing.{Dated, IsText, said, said_on, sentences_of, zda, zda_on}
 use Rattle.sentence_rows.proofs.CivilDates.{dates_are_the_calendars}
 
 -- a date of the same day is said in the same fields
 same_fields : (t : Option ℤ) (day : ℤ) (d : Date) → Holds date_range day → epoch_day d ≡ day → zda t (Some d) ≡ zda_on t (civil_date day)
 same_fields t day d held e =
+    let is = dates_are_the_calendars day held in
+    let same = epoch_day_injective d is.0 (e ∙ sym is.2) in
+    rw (same.0, same.1, same.2, is.1.0, is.1.1, is.1.2) refl
+
+-- and by the same number
+pub same_number : (day : ℤ) (d : Date) → Holds date_range day → epoch_day d ≡ day
+    → d.day % 100 * 10000 + d.month % 100 * 100 + unsigned_abs d.year % 100 ≡ date_number (civil_date day)
+same_number day d held e =
     let is = dates_are_the_calendars day held in
     let same = epoch_day_injective d is.0 (e ∙ sym is.2) in
     rw (same.0, same.1, same.2, is.1.0, is.1.1, is.1.2) refl

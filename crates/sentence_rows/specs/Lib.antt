@@ -8,5 +8,6 @@ pub mod Calendar
 pub mod Columns
 pub mod Formatters
 pub mod Reading
+pub mod Rmc
 pub mod Stable
 pub mod Laws

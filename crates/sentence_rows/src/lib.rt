@@ -27,6 +27,7 @@ mod number;
 mod position;
 mod read_unit;
 mod reading;
+mod rmc;
 mod rot;
 mod rsa;
 #[cfg(test)]
@@ -43,4 +44,5 @@ mod zda;
 pub use fault::FieldFault;
 pub use lines::{Lines, SentenceText};
 pub use reading::{Readings, read_rows};
+pub use rmc::{Minimum, write_rmc};
 pub use writing::sentences;

@@ -24,7 +24,7 @@ use readings::Reading;
 use sentence_text::Sentence;
 
 /// The date of a day, counted from 1970-01-01.
-fn civil_date(day: i64) -> Date
+pub(crate) fn civil_date(day: i64) -> Date
     requires { Holds date_range day }
     ensures { epoch_day result ≡ day }
 {
@@ -40,19 +40,19 @@ fn days_after(first: Date, days: i64) -> Date
     first + days.days()
 }
 
-fn day_of(date: Date) -> u64
+pub(crate) fn day_of(date: Date) -> u64
     ensures { result ≡ date.day }
 {
     date.day() as u64
 }
 
-fn month_of(date: Date) -> u64
+pub(crate) fn month_of(date: Date) -> u64
     ensures { result ≡ date.month }
 {
     date.month() as u64
 }
 
-fn year_of(date: Date) -> u64
+pub(crate) fn year_of(date: Date) -> u64
     ensures { result ≡ unsigned_abs date.year }
 {
     u64::from(date.year().unsigned_abs())
