@@ -52,7 +52,12 @@ fn behind_first(bytes: &[u8]) -> &[u8]
 }
 
 /// Leaves the sentence of the fields.
-pub(crate) fn write_sentence(talker: [u8; 2], formatter: [u8; 3], fields: &[Field], text: &mut SentenceText)
+pub(crate) fn write_sentence(
+    talker: [u8; 2],
+    formatter: [u8; 3],
+    fields: &[Field],
+    text: &mut SentenceText,
+)
     requires empty { text.old.bytes.items ≡ [] }
     requires talker { IsTrue (list_all is_capital talker) }
     requires formatter { IsTrue (list_all is_address_byte formatter) }

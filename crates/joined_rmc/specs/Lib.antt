@@ -1,0 +1,4 @@
+pub mod Chosen
+pub mod Kept
+pub mod RmcOut
+pub mod JoinStands

@@ -1,0 +1,17 @@
+//! RMC (IEC 61162-1), one sentence that joins what several rows say: time and date, position, speed and course, and variation. It is
+//! said at each message that says the position and is selected.
+//!
+//! No call takes memory.
+#![tactic(auto)]
+
+mod kept;
+pub mod laws;
+mod minimum;
+mod rmc_join;
+mod selected;
+mod slot;
+#[cfg(test)]
+mod tests;
+
+pub use rmc_join::RmcJoin;
+pub use settings::RmcConfig;

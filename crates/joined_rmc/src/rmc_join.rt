@@ -1,0 +1,181 @@
+//! RMC, joined from what was said last of each row.
+ghost use Rattle.std.specs.Prelude.{◌≡◌, ◌<◌, ℕ, [], length, IsTrue};
+ghost use Rattle.std.specs.List.{list_all};
+ghost use Rattle.sentence_text.specs.Byte.{is_capital};
+ghost use Rattle.sentence_text.specs.Names.{IsSfi};
+ghost use Rattle.sentence_rows.specs.Rmc.{IsMinimum};
+ghost use Rattle.history.specs.Settings.{Settings};
+ghost use Rattle.gate_model.specs.AddressStands.{name_held};
+ghost use Rattle.joined_rmc.specs.JoinStands.{IsJoinStep, JoinStands};
+ghost use Rattle.joined_rmc.specs.Kept.{IsDoneValid, IsKeptValid, Join, bytes_in, counted, datagram_in, is_due_kept, join_after, join_says, minimum_in, opened, picked, slots_after};
+ghost use Rattle.joined_rmc.specs.RmcOut.{datagram_by, rule_by};
+
+use crate::kept::Kept;
+use crate::minimum::minimum;
+use crate::selected::selected;
+use crate::slot::Slot;
+use datagram450::{begin, push_line};
+use gate_core::{Gateway, Outbox};
+use readings::Row;
+use sentence_rows::{Minimum, SentenceText, write_rmc};
+use sentence_text::Sfi;
+use settings::RmcConfig;
+use std::marker::Model;
+use tag_block::{Packet, TagParts};
+
+/// The greatest count of a line, behind which counts begin again with 1.
+const MOST_COUNT: u16 = 999;
+
+/// What is kept of the messages that RMC is made from.
+#[derive(Drop)]
+pub struct RmcJoin {
+    talker: [u8; 2],
+    /// The system function identifier by which the gateway speaks.
+    sfi: Sfi,
+    time: Slot,
+    position: Slot,
+    /// Course and speed over ground.
+    motion: Slot,
+    /// The magnetic heading, with the variation.
+    heading: Slot,
+    /// How many lines were said, from 0 to 998.
+    count: u16,
+}
+
+impl Model for RmcJoin {
+    ghost use Rattle.std.specs.Prelude.{◌<◌, IsTrue};
+    ghost use Rattle.std.specs.List.{list_all};
+    ghost use Rattle.sentence_text.specs.Byte.{is_capital};
+    ghost use Rattle.joined_rmc.specs.Kept.{IsKeptValid, Join};
+
+    ghost Value = { Join };
+
+    ghost view = { λ j. record {
+      talker = j.talker;
+      sfi = j.sfi;
+      time = j.time;
+      position = j.position;
+      motion = j.motion;
+      heading = j.heading;
+      count = j.count;
+    } };
+
+    ghost invariant = { λ j. IsTrue (list_all is_capital j.talker) × IsKeptValid j.time.kept × IsKeptValid j.position.kept
+        × IsKeptValid j.motion.kept × IsKeptValid j.heading.kept × (j.count < 999) };
+}
+
+impl RmcJoin {
+    /// With nothing kept, of a gateway that speaks by this system function identifier. A timeout is how long a message of the row
+    /// counts, in milliseconds, by the row's number.
+    pub fn new(config: &RmcConfig, sfi: Sfi, timeouts: &[u32; 17]) -> RmcJoin
+        requires { IsTrue (list_all is_capital config.now.talker) }
+        ensures kept { result ≡ opened config.now.talker sfi timeouts.now }
+        ensures stands { (c : Settings) (s : ℕ) → JoinStands (rule_by config.now sfi timeouts.now) c s [] result }
+    {
+        RmcJoin {
+            talker: config.talker,
+            sfi,
+            time: Slot::new(timeouts[Row::Time as usize]),
+            position: Slot::new(timeouts[Row::Position as usize]),
+            motion: Slot::new(timeouts[Row::CourseSpeed as usize]),
+            heading: Slot::new(timeouts[Row::HeadingMagnetic as usize]),
+            count: 0,
+        }
+    }
+
+    /// Takes what a step of the gateway left that accepted its event. Says whether it gives RMC, whose datagram the packet then holds.
+    pub fn after(&mut self, gateway: &Gateway, emits: &Outbox, packet: &mut Packet) -> bool
+        requires empty { packet.old.items ≡ [] }
+        requires valid { IsDoneValid emits.now.done }
+        ensures history { IsJoinStep gateway.now emits.now self.old self.new result packet.new.items }
+    {
+        let moment = gateway.moment();
+        let new = selected(moment, emits);
+        self.take(moment, gateway, new, packet)
+    }
+
+    /// Takes the message that the step at this moment selected, or none.
+    fn take(
+        &mut self,
+        moment: u64,
+        gateway: &Gateway,
+        new: Option<Kept>,
+        packet: &mut Packet,
+    ) -> bool
+        requires empty { packet.old.items ≡ [] }
+        requires valid { IsKeptValid new }
+        ensures after { self.new ≡ join_after (name_held gateway.now.addresses.claims.holders) new self.old }
+        ensures says { result ≡ is_due_kept new }
+        ensures packet { packet.new.items ≡ bytes_in (join_says moment (name_held gateway.now.addresses.claims.holders) new self.old) }
+    {
+        self.keep(gateway, new);
+        let due = is_due(new);
+        if due {
+            self.say(moment, packet);
+        }
+        due
+    }
+
+    /// Keeps the newer message of each row, and no message whose sender lost its address.
+    fn keep(&mut self, gateway: &Gateway, new: Option<Kept>)
+        requires { IsKeptValid new }
+        ensures { self.new ≡ slots_after (name_held gateway.now.addresses.claims.holders) new self.old }
+    {
+        self.time = self.time.after(gateway, Row::Time, new);
+        self.position = self.position.after(gateway, Row::Position, new);
+        self.motion = self.motion.after(gateway, Row::CourseSpeed, new);
+        self.heading = self.heading.after(gateway, Row::HeadingMagnetic, new);
+    }
+
+    /// Writes the datagram, and counts its line.
+    fn say(&mut self, moment: u64, packet: &mut Packet)
+        requires { packet.old.items ≡ [] }
+        ensures count { self.new ≡ counted self.old }
+        ensures packet { packet.new.items ≡ datagram_in moment self.old }
+    {
+        let says = self.minimum(moment);
+        write_datagram(self.talker, self.sfi, self.count, &says, packet);
+        self.count = (self.count + 1) % MOST_COUNT;
+    }
+
+    /// What is said at a moment.
+    fn minimum(&self, moment: u64) -> Minimum
+        ensures value { result ≡ minimum_in moment self.now }
+        ensures valid { IsMinimum result }
+    {
+        minimum(
+            self.time.says(moment),
+            self.position.says(moment),
+            self.motion.says(moment),
+            self.heading.says(moment),
+        )
+    }
+}
+
+fn is_due(new: Option<Kept>) -> bool
+    ensures { result ≡ is_due_kept new }
+{
+    match new {
+        None => false,
+        Some(kept) => kept.says_position(),
+    }
+}
+
+/// Writes the datagram of these values. So many lines were said before.
+fn write_datagram(talker: [u8; 2], source: Sfi, before: u16, says: &Minimum, packet: &mut Packet)
+    requires empty { packet.old.items ≡ [] }
+    requires talker { IsTrue (list_all is_capital talker) }
+    requires values { IsMinimum says.now }
+    requires count { before < 999 }
+    ensures { packet.new.items ≡ datagram_by source talker before says.now }
+{
+    let mut sentence = SentenceText::default();
+    write_rmc(talker, says, &mut sentence);
+    begin(packet);
+    let tag = TagParts {
+        group: None,
+        source,
+        count: before % MOST_COUNT + 1,
+    };
+    let _fits = push_line(&tag, &sentence.bytes, packet);
+}

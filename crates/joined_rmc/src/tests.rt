@@ -1,0 +1,244 @@
+//! A few events, with exactly what RMC says at each. A frame stands as its identifier and its bytes, the first one highest.
+ghost use Rattle.std.specs.Prelude.{◌≡◌, ℕ, [], true};
+ghost use Rattle.history.specs.AddressLaws.{AreSettings};
+ghost use Rattle.history.specs.Entries.{History, IsHistory, is_accepted};
+ghost use Rattle.gate_model.specs.Stands.{Stands};
+ghost use Rattle.gate_core.specs.Output.{nothing};
+ghost use Rattle.gate_core.specs.Promises.{IsTaken};
+ghost use Rattle.gate_core.specs.Steps.{IsEventValid, by_keys, entry_of};
+ghost use Rattle.joined_rmc.specs.JoinStands.{IsJoined, JoinStands};
+ghost use Rattle.joined_rmc.specs.RmcOut.{RmcRule};
+
+use crate::{RmcConfig, RmcJoin};
+use arrayvec::ArrayVec;
+use capture_text::Event;
+use claim_table::Preset;
+use gate_core::{Config, Ends, Gateway, Outbox, RowConfig};
+use gate_outside::{Address, Routes};
+use n2k_id::{Frame, Name};
+use sentence_text::{Group, Sfi};
+use std::alloc::Global;
+use std::test::Fail;
+use tag_block::Packet;
+
+/// Frames, each with its moment in microseconds, and the datagram with RMC.
+type Turns = &'static [(u64, u32, u64, Option<&'static [u8]>)];
+
+/// A time with its date, a true course with the speed, and a position.
+const TIME: u64 = 0x00F0_DB4C_0008_AF2F;
+
+const MOTION: u64 = 0x00FC_5C3D_0202_FFFF;
+
+const POSITION: u64 = 0x79A4_BF07_002E_B694;
+
+const FIRST: &[u8] =
+    b"UdPbC\0\\s:II0001,n:1*01\\$GPRMC,221320.00,A,1300.0000,N,18000.0000,W,9.99,90.0,141123,,,A*43\r\n";
+
+const SECOND: &[u8] =
+    b"UdPbC\0\\s:II0001,n:2*02\\$GPRMC,221320.00,A,1300.0000,N,18000.0000,W,9.99,90.0,141123,,,A*43\r\n";
+
+const POSITION_ALONE: &[u8] =
+    b"UdPbC\0\\s:II0001,n:1*01\\$GPRMC,,A,1300.0000,N,18000.0000,W,,,,,,A*69\r\n";
+
+const WITHOUT_TIME: &[u8] =
+    b"UdPbC\0\\s:II0001,n:1*01\\$GPRMC,,A,1300.0000,N,18000.0000,W,9.99,90.0,,,,A*69\r\n";
+
+/// What each case is about, and what comes.
+const CASES: [(&str, Turns); 9] = [
+    (
+        "time, date, course and speed are joined to the position",
+        &[
+            (1_000_000, 0x0DF0_1017, TIME, None),
+            (1_001_000, 0x09F8_0217, MOTION, None),
+            (1_002_000, 0x09F8_0117, POSITION, Some(FIRST)),
+        ],
+    ),
+    (
+        "a position stands alone where nothing else was said",
+        &[(1_000_000, 0x09F8_0117, POSITION, Some(POSITION_ALONE))],
+    ),
+    (
+        "what a device said is gone with its address",
+        &[
+            (1_000_000, 0x0DF0_1017, TIME, None),
+            (1_001_000, 0x09F8_0217, MOTION, None),
+            (1_002_000, 0x18EE_FF17, 0x0200_C0FF_0082_3280, None),
+            (1_003_000, 0x09F8_0118, POSITION, Some(POSITION_ALONE)),
+        ],
+    ),
+    (
+        "lines are counted",
+        &[
+            (1_000_000, 0x0DF0_1017, TIME, None),
+            (1_001_000, 0x09F8_0217, MOTION, None),
+            (1_002_000, 0x09F8_0117, POSITION, Some(FIRST)),
+            (1_003_000, 0x09F8_0117, POSITION, Some(SECOND)),
+        ],
+    ),
+    (
+        "a message counts until its timeout",
+        &[
+            (1_000_000, 0x0DF0_1017, TIME, None),
+            (1_001_000, 0x09F8_0217, MOTION, None),
+            (6_000_000, 0x09F8_0117, POSITION, Some(FIRST)),
+        ],
+    ),
+    (
+        "a message that is older than its timeout is left out",
+        &[
+            (1_000_000, 0x0DF0_1017, TIME, None),
+            (1_001_000, 0x09F8_0217, MOTION, None),
+            (6_000_001, 0x09F8_0117, POSITION, Some(WITHOUT_TIME)),
+        ],
+    ),
+    (
+        "a message of another device is left out while it isn't selected",
+        &[
+            (1_000_000, 0x0DF0_1017, TIME, None),
+            (1_001_000, 0x09F8_0217, MOTION, None),
+            (1_002_000, 0x09F8_0218, 0x00FC_0000_0000_FFFF, None),
+            (1_003_000, 0x09F8_0117, POSITION, Some(FIRST)),
+            (1_004_000, 0x09F8_0118, 0x0000_0000_0000_0000, None),
+        ],
+    ),
+    (
+        "a position without a coordinate gives nothing",
+        &[(1_000_000, 0x09F8_0117, 0xFFFF_FF7F_002E_B694, None)],
+    ),
+    (
+        "a magnetic course is left out, and a sign is a letter",
+        &[
+            (1_000_000, 0x09F8_0217, 0x00FD_5C3D_0202_FFFF, None),
+            (1_001_000, 0x09F1_1217, 0x005C_3DFF_7F5D_01FD, None),
+            (
+                1_002_000,
+                0x09F8_0117,
+                POSITION,
+                Some(
+                    b"UdPbC\0\\s:II0001,n:1*01\\$GPRMC,,A,1300.0000,N,18000.0000,W,9.99,,,2.0,E,A*17\r\n",
+                ),
+            ),
+            (1_003_000, 0x09F1_1217, 0x005C_3DFF_7FA3_FEFD, None),
+            (
+                1_004_000,
+                0x09F8_0117,
+                0x805B_40F8_C086_FD6A,
+                Some(
+                    b"UdPbC\0\\s:II0001,n:2*02\\$GPRMC,,A,1300.0000,S,17930.0000,E,9.99,,,2.0,W,A*0F\r\n",
+                ),
+            ),
+        ],
+    ),
+];
+
+fn endpoint(text: &[u8]) -> Address {
+    let mut address = ArrayVec::new();
+    let _fits = address.try_extend_from_slice(text);
+    address
+}
+
+/// Two devices are known.
+fn config() -> Config {
+    let mut presets = ArrayVec::new();
+    for (address, name) in [(23, 0xC078_8C00_FFC0_0005), (24, 0xC078_8C00_FFC0_0006)] {
+        let _fits = presets.try_push(Preset {
+            address,
+            name: Name(name),
+        });
+    }
+    Config {
+        name: Name(0xC032_8200_FFC0_0001),
+        address: 251,
+        sfi: Sfi::of(b"II0001").unwrap_or_default(),
+        fast_slots: 64,
+        iso_slots: 8,
+        group_slots: 8,
+        ths: false,
+        presets,
+        rows: std::array::from_fn(|_| RowConfig::default()),
+        net_sources: ArrayVec::new(),
+        ends: Ends {
+            bus_listen: endpoint(b"127.0.0.1:60101"),
+            bus_send: endpoint(b"127.0.0.1:60102"),
+            net_listen: endpoint(b"127.0.0.1:60001"),
+            net: Routes {
+                list: ArrayVec::new(),
+                other: endpoint(b"127.0.0.1:60002"),
+            },
+        },
+    }
+}
+
+/// A gateway that started at this moment.
+fn started(alloc: Global, config: &Config, moment: u64) -> Result<Gateway, Fail> {
+    if !config.valid() {
+        return Err("no configuration".into());
+    }
+    let mut gateway = Gateway::new(alloc, config)?;
+    let mut out = Outbox::new();
+    gateway.start(moment, &mut out);
+    Ok(gateway)
+}
+
+fn join() -> RmcJoin {
+    RmcJoin::new(
+        &RmcConfig {
+            group: Group::of(b"RCOM").unwrap_or_default(),
+            talker: *b"GP",
+        },
+        Sfi::of(b"II0001").unwrap_or_default(),
+        &[5_000; 17],
+    )
+}
+
+/// A step of the gateway, and RMC after it. Where both stand for a history, and the event is accepted, both stand for it with the event.
+#[tactic(auto, using(crate::proofs::Chaining::left_valid))]
+fn step(
+    gateway: &mut Gateway,
+    join: &mut RmcJoin,
+    event: &Event<'_>,
+    out: &mut Outbox,
+    packet: &mut Packet,
+) -> bool
+    requires valid { IsEventValid event.now }
+    requires out { out.old ≡ nothing }
+    requires packet { packet.old.items ≡ [] }
+    ensures taken { (s : ℕ) (h : History) → IsHistory h → Stands by_keys gateway.old.settings s h gateway.old
+        → is_accepted h (entry_of event.now) ≡ true → IsTaken gateway.old.settings s h (entry_of event.now) gateway.new out.new }
+    ensures joined { (r : RmcRule) (s : ℕ) (h : History) → AreSettings gateway.old.settings → IsHistory h
+        → Stands by_keys gateway.old.settings s h gateway.old → JoinStands r gateway.old.settings s h join.old
+        → is_accepted h (entry_of event.now) ≡ true
+        → IsJoined r gateway.old.settings s h (entry_of event.now) join.new result packet.new.items }
+{
+    gateway.step(event, out);
+    join.after(gateway, out, packet)
+}
+
+#[test]
+fn rmc_joins_what_was_said(rt: HostRuntime) -> Result<(), Fail> {
+    let config = config();
+    for (name, turns) in CASES {
+        let mut gateway = started(rt.alloc(), &config, 1_000_000)?;
+        let mut join = join();
+        for (moment, id, bytes, says) in turns {
+            let mut out = Outbox::new();
+            let mut packet = Packet::new();
+            let frame = match Frame::of(*id, &bytes.to_be_bytes()) {
+                Some(frame) => frame,
+                None => return Err("no frame".into()),
+            };
+            let event = Event::Frame {
+                moment: *moment,
+                frame,
+            };
+            let said = step(&mut gateway, &mut join, &event, &mut out, &mut packet);
+            assert_eq!(rt; said, says.is_some(), "{name} at {moment}");
+            assert_eq!(rt;
+                packet.as_slice(),
+                says.unwrap_or_default(),
+                "{name} at {moment}"
+            );
+        }
+    }
+    Ok(())
+}
