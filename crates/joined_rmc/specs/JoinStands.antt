@@ -41,8 +41,7 @@ pub record IsJoined (r : RmcRule) (c : Settings) (s : ℕ) (h : History) (e : En
   pub said_is : said ≡ is_some (rmc_datagram r c s h e)
   pub packet_is : packet ≡ bytes_in (rmc_datagram r c s h e)
 
--- for every history and entry that the gateway took as it says (of any entry that it accepts, so of each event that isn't too early), and
--- for which the join stood before
+-- for every valid configuration, start moment, history and entry that the gateway took, where the join stood for that history
 abbrev pub IsJoinStep : Machine → Output → Join → Join → Bool → List ℕ → Type 0
 IsJoinStep gateway left before after said packet =
     (r : RmcRule) (c : Settings) (s : ℕ) (h : History) (e : Entry) → AreSettings c → IsTaken c s h e gateway left
