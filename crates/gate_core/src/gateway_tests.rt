@@ -1,89 +1,87 @@
-//! A few events, with exactly what the gateway emits at each. A frame stands as its identifier and its bytes, the first one highest.
+//! Events, with exactly what the gateway emits at each.
+ghost use Rattle.std.specs.Prelude.{◌≡◌, ◌≤◌};
+ghost use Rattle.gate_core.specs.Output.{nothing};
+
+mod cases;
+mod setup;
+
 use crate::gateway::Gateway;
+use crate::gateway_tests::cases::{addresses, limits, messages, sessions, sources};
+use crate::gateway_tests::setup::{Limits, Setup, USUAL, config_of};
 use crate::outbox::Outbox;
 use arrayvec::ArrayVec;
-use capture_text::{Emit, Event};
-use claim_table::Preset;
-use config_values::{Config, Ends, RowConfig};
-use gate_outside::{Address, Routes};
+use capture_text::{Detail, Emit, Event, Report};
+use datagram450::{begin, push_line};
 use n2k_id::{Frame, Name};
 use sentence_text::Sfi;
 use std::alloc::Global;
 use std::test::Fail;
+use tag_block::{GroupPart, Packet, TagParts};
 
-/// What comes to the gateway.
+/// What comes to the gateway. A frame stands as its identifier and its bytes, the first one highest.
 #[derive(Clone, Copy)]
 enum Comes {
     Frame(u32, u64),
+    /// A frame of fewer bytes.
+    Short(u32, &'static [u8]),
     Datagram(&'static [u8]),
     Tick,
 }
 
-/// What the gateway emits.
+/// What the gateway emits. A report begins with its rule.
 #[derive(Clone, Copy, Debug, PartialEq, Eq)]
 enum Seen<'a> {
     Frame(u32, u64),
     Datagram(&'a [u8]),
+    /// The source and the PGN.
+    Source(u8, u8, u32),
+    /// An address of the bus.
+    Address(u8, u8),
+    /// A place in the datagram.
+    At(u8, u16),
+    /// A place in the datagram, and a field there.
+    Field(u8, u16, u8),
+    /// The source and the code of a group.
+    Group(u8, [u8; 6], u16),
     Report(u8),
 }
 
 /// Events, each with its moment in microseconds, and what is emitted at it.
 type Turns = &'static [(u64, Comes, &'static [Seen<'static>])];
 
-fn endpoint(text: &[u8]) -> Address {
-    let mut address = ArrayVec::new();
-    let _fits = address.try_extend_from_slice(text);
-    address
+/// What a case shows, how the gateway is configured, when it starts, and what comes then.
+#[derive(Clone, Copy)]
+struct Case {
+    shows: &'static str,
+    setup: Setup,
+    start: u64,
+    turns: Turns,
 }
 
-/// Two devices are known, and the network is heard from one source.
-fn config() -> Config {
-    let mut presets = ArrayVec::new();
-    for (address, name) in [(23, 0xC078_8C00_FFC0_0005), (24, 0xC078_8C00_FFC0_0006)] {
-        let _fits = presets.try_push(Preset {
-            address,
-            name: Name(name),
-        });
+/// Steps through an event.
+fn step(gateway: &mut Gateway, moment: u64, comes: Comes) -> Outbox {
+    let mut out = Outbox::new();
+    match comes {
+        Comes::Frame(id, bytes) => step_frame(gateway, moment, id, &bytes.to_be_bytes(), &mut out),
+        Comes::Short(id, bytes) => step_frame(gateway, moment, id, bytes, &mut out),
+        Comes::Datagram(bytes) => gateway.step(&Event::Datagram { moment, bytes }, &mut out),
+        Comes::Tick => gateway.step(&Event::Tick { moment }, &mut out),
     }
-    let mut net_sources = ArrayVec::new();
-    let _fits = net_sources.try_push(Sfi::of(b"II0002").unwrap_or_default());
-    let mut rows = std::array::from_fn(|_| RowConfig::default());
-    rows[0].talker = *b"HE";
-    rows[10].talker = *b"GP";
-    Config {
-        name: Name(0xC032_8200_FFC0_0001),
-        address: 251,
-        sfi: Sfi::of(b"II0001").unwrap_or_default(),
-        fast_slots: 64,
-        iso_slots: 8,
-        group_slots: 8,
-        ths: false,
-        presets,
-        rows,
-        net_sources,
-        ends: Ends {
-            bus_listen: endpoint(b"127.0.0.1:60101"),
-            bus_send: endpoint(b"127.0.0.1:60102"),
-            net_listen: endpoint(b"127.0.0.1:60001"),
-            net: Routes {
-                list: ArrayVec::new(),
-                other: endpoint(b"127.0.0.1:60002"),
-            },
-        },
+    out
+}
+
+fn step_frame(gateway: &mut Gateway, moment: u64, id: u32, bytes: &[u8], out: &mut Outbox)
+    requires { out.old ≡ nothing }
+{
+    match Frame::of(id, bytes) {
+        Some(frame) => gateway.step(&Event::Frame { moment, frame }, out),
+        None => {}
     }
 }
 
 /// Takes what comes, and then the command that it gives.
 fn take(gateway: &mut Gateway, moment: u64, comes: Comes) -> Outbox {
-    let mut out = Outbox::new();
-    match comes {
-        Comes::Frame(id, bytes) => match Frame::of(id, &bytes.to_be_bytes()) {
-            Some(frame) => gateway.step(&Event::Frame { moment, frame }, &mut out),
-            None => {}
-        },
-        Comes::Datagram(bytes) => gateway.step(&Event::Datagram { moment, bytes }, &mut out),
-        Comes::Tick => gateway.step(&Event::Tick { moment }, &mut out),
-    }
+    let out = step(gateway, moment, comes);
     match out.command() {
         Some(command) => {
             let mut then = Outbox::new();
@@ -94,149 +92,141 @@ fn take(gateway: &mut Gateway, moment: u64, comes: Comes) -> Outbox {
     }
 }
 
-/// Whether this is the emit at the place.
-fn is_at(out: &Outbox, place: usize, seen: Seen<'_>) -> bool {
+/// The emit at the place.
+fn seen_at(out: &Outbox, place: usize) -> Option<Seen<'_>> {
     match out.item(place) {
-        Some(Emit::Can(frame)) => { seen == Seen::Frame(frame.id, u64::from_be_bytes(frame.bytes)) }
-        Some(Emit::Net(_, bytes)) => seen == Seen::Datagram(bytes),
-        Some(Emit::Report(report)) => seen == Seen::Report(report.rule),
-        None => false,
+        Some(Emit::Can(frame)) => Some(Seen::Frame(frame.id, u64::from_be_bytes(frame.bytes))),
+        Some(Emit::Net(_, bytes)) => Some(Seen::Datagram(bytes)),
+        Some(Emit::Report(report)) => Some(told(&report)),
+        None => None,
     }
 }
 
+fn told(report: &Report) -> Seen<'static> {
+    match &report.detail {
+        Detail::Source { address, pgn } => Seen::Source(report.rule, *address, *pgn),
+        Detail::Address(address) => Seen::Address(report.rule, *address),
+        Detail::At(at) => Seen::At(report.rule, *at),
+        Detail::AtField { at, field } => Seen::Field(report.rule, *at, *field),
+        Detail::GroupKey { sfi, code } => Seen::Group(report.rule, letters_of(sfi), *code),
+        Detail::Nothing | Detail::Line(_) | Detail::Bus | Detail::Net => Seen::Report(report.rule),
+    }
+}
+
+fn letters_of(sfi: &Sfi) -> [u8; 6] {
+    *sfi.as_bytes()
+}
+
 /// A gateway that started at this moment.
-fn started(alloc: Global, config: &Config, moment: u64) -> Result<Gateway, Fail> {
+fn started(alloc: Global, setup: Setup, moment: u64) -> Result<Gateway, Fail> {
+    let config = config_of(setup);
     if !config.valid() {
         return Err("no configuration".into());
     }
-    let mut gateway = Gateway::new(alloc, config)?;
+    let mut gateway = Gateway::new(alloc, &config)?;
     let mut out = Outbox::new();
     gateway.start(moment, &mut out);
     Ok(gateway)
 }
 
-/// What each case is about, when the gateway starts, and what comes then.
-const CASES: [(&str, u64, Turns); 6] = [
-    (
-        "a heading is said, and is refused of an address that nobody holds",
-        1_000_000,
-        &[
-            (
-                1_000_000,
-                Comes::Frame(0x09F11217, 0x005C3DFF7FFF7FFC),
-                &[Seen::Datagram(b"UdPbC\0\\s:II0001,n:1*01\\$HEHDT,90.0,T*16\r\n")],
-            ),
-            (
-                1_000_000,
-                Comes::Frame(0x09F11219, 0x005C3DFF7FFF7FFC),
-                &[Seen::Report(10)],
-            ),
-        ],
-    ),
-    (
-        "a position fix is said once its fast packet is complete",
-        1_000_000,
-        &[
-            (1_000_000, Comes::Frame(0x0DF80517, 0x002B00DB4C0008AF), &[]),
-            (1_001_000, Comes::Frame(0x0DF80517, 0x012F000000000000), &[]),
-            (1_002_000, Comes::Frame(0x0DF80517, 0x0200080000000000), &[]),
-            (1_003_000, Comes::Frame(0x0DF80517, 0x03000002E0AEBB00), &[]),
-            (1_004_000, Comes::Frame(0x0DF80517, 0x040000000010FC09), &[]),
-            (1_005_000, Comes::Frame(0x0DF80517, 0x056900FF7FF40600), &[]),
-            (
-                1_006_000,
-                Comes::Frame(0x0DF80517, 0x060000FFFFFFFFFF),
-                &[Seen::Datagram(
-                    b"UdPbC\0\\s:II0001,n:1*01\\$GPGGA,221320.00,5738.7645,N,01424.6911,E,1,09,1.05,12.3,M,17.8,M,,*6A\r\n",
-                )],
-            ),
-        ],
-    ),
-    (
-        "a request to send is answered",
-        10_000_000,
-        &[
-            (10_000_000, Comes::Tick, &[]),
-            (
-                10_250_000,
-                Comes::Frame(0x1CECFB17, 0x10F906FFFF05F801),
-                &[Seen::Frame(0x1CEC17FB, 0x110801FFFF05F801)],
-            ),
-        ],
-    ),
-    (
-        "a command is obeyed",
-        10_000_000,
-        &[
-            (10_000_000, Comes::Tick, &[]),
-            (
-                10_100_000,
-                Comes::Frame(0x1CECFF17, 0x20090002FFD8FE00),
-                &[],
-            ),
-            (
-                10_200_000,
-                Comes::Frame(0x1CEBFF17, 0x010100C0FF008232),
-                &[],
-            ),
-            (
-                10_300_000,
-                Comes::Frame(0x1CEBFF17, 0x02C064FFFFFFFFFF),
-                &[Seen::Frame(0x18EEFF64, 0x0100C0FF008232C0)],
-            ),
-        ],
-    ),
-    (
-        "the headings of a datagram are sent, and its wrong line is reported",
-        10_000_000,
-        &[
-            (10_000_000, Comes::Tick, &[]),
-            (
-                10_250_000,
-                Comes::Datagram(
-                    b"UdPbC\0\\s:II0002,n:1*02\\$HEHDT,90.0,T*16\r\n\\s:II0002,n:2*00\\$HEHDT,90.0,T*16\r\n\\s:II0002,n:3*00\\$HEHDT,90.1,T*17\r\n",
-                ),
-                &[
-                    Seen::Frame(0x09F112FB, 0xFF5C3DFF7FFF7FFC),
-                    Seen::Report(33),
-                    Seen::Frame(0x09F112FB, 0xFF6D3DFF7FFF7FFC),
-                ],
-            ),
-        ],
-    ),
-    (
-        "an event that is too early is reported, and changes nothing",
-        5_000_000,
-        &[
-            (5_000_000, Comes::Tick, &[]),
-            (4_999_999, Comes::Tick, &[Seen::Report(3)]),
-            (5_000_000, Comes::Tick, &[]),
-        ],
-    ),
-];
+/// The first place at which other emits stand than these.
+fn difference(out: &Outbox, seen: &[Seen<'_>]) -> Option<usize> {
+    for place in 0..seen.len() {
+        if seen_at(out, place) != Some(seen[place]) {
+            return Some(place);
+        }
+    }
+    if out.len() == seen.len() {
+        None
+    } else {
+        Some(seen.len())
+    }
+}
+
+/// The first moment, with the place there, at which something else is emitted than what is meant.
+fn first_difference(gateway: &mut Gateway, turns: Turns) -> Option<(u64, usize)> {
+    for (moment, comes, seen) in turns {
+        let out = take(gateway, *moment, *comes);
+        if let Some(place) = difference(&out, seen) {
+            return Some((*moment, place));
+        }
+    }
+    None
+}
 
 #[test]
-fn events_give_exactly_what_is_meant(rt: HostRuntime) -> Result<(), Fail> {
-    let config = config();
-    for (name, start, turns) in CASES {
-        let mut gateway = started(rt.alloc(), &config, start)?;
-        for (moment, comes, seen) in turns {
-            let out = take(&mut gateway, *moment, *comes);
-            assert_eq!(rt; out.len(), seen.len(), "{name} at {moment}");
-            for place in 0..seen.len() {
-                assert!(rt;
-                    is_at(&out, place, seen[place]),
-                    "{name} at {moment}: {place}"
-                );
-            }
-        }
+fn messages_of_the_bus_are_said_and_their_faults_reported(rt: HostRuntime) -> Result<(), Fail> {
+    for case in messages::CASES {
+        let mut gateway = started(rt.alloc(), case.setup, case.start)?;
+        assert_eq!(rt;
+            first_difference(&mut gateway, case.turns),
+            None,
+            "{}",
+            case.shows
+        );
+    }
+    Ok(())
+}
+
+#[test]
+fn addresses_change_hands_with_all_that_hangs_on_them(rt: HostRuntime) -> Result<(), Fail> {
+    for case in addresses::CASES {
+        let mut gateway = started(rt.alloc(), case.setup, case.start)?;
+        assert_eq!(rt;
+            first_difference(&mut gateway, case.turns),
+            None,
+            "{}",
+            case.shows
+        );
+    }
+    Ok(())
+}
+
+#[test]
+fn sessions_are_answered_and_commands_obeyed(rt: HostRuntime) -> Result<(), Fail> {
+    for case in sessions::CASES {
+        let mut gateway = started(rt.alloc(), case.setup, case.start)?;
+        assert_eq!(rt;
+            first_difference(&mut gateway, case.turns),
+            None,
+            "{}",
+            case.shows
+        );
+    }
+    Ok(())
+}
+
+#[test]
+fn limits_and_moments_are_kept(rt: HostRuntime) -> Result<(), Fail> {
+    for case in limits::CASES {
+        let mut gateway = started(rt.alloc(), case.setup, case.start)?;
+        assert_eq!(rt;
+            first_difference(&mut gateway, case.turns),
+            None,
+            "{}",
+            case.shows
+        );
+    }
+    Ok(())
+}
+
+#[test]
+fn those_are_heard_who_count(rt: HostRuntime) -> Result<(), Fail> {
+    for case in sources::CASES {
+        let mut gateway = started(rt.alloc(), case.setup, case.start)?;
+        assert_eq!(rt;
+            first_difference(&mut gateway, case.turns),
+            None,
+            "{}",
+            case.shows
+        );
     }
     Ok(())
 }
 
 #[test]
 fn the_gateway_tells_how_it_stands(rt: HostRuntime) -> Result<(), Fail> {
-    let mut gateway = started(rt.alloc(), &config(), 10_000_000)?;
+    let mut gateway = started(rt.alloc(), USUAL, 10_000_000)?;
     let _nothing = take(&mut gateway, 10_250_000, Comes::Tick);
     assert_eq!(rt; gateway.own(), Some(251));
     assert_eq!(rt; gateway.moment(), 10_250_000);
@@ -250,5 +240,189 @@ fn the_gateway_tells_how_it_stands(rt: HostRuntime) -> Result<(), Fail> {
     );
     assert_eq!(rt; gateway.held().iso, 1);
     assert_eq!(rt; gateway.held().fast, 0);
+    let heading = step(
+        &mut gateway,
+        10_250_000,
+        Comes::Frame(0x09F1_1217, 0x005C_3DFF_7FFF_7FFC),
+    );
+    assert_eq!(rt;
+        heading.done().map(|done| (done.source, done.pgn)),
+        Some((23, 127_250))
+    );
+    Ok(())
+}
+
+/// The greatest numbers of messages in the making.
+const GREATEST: Setup = Setup {
+    limits: Limits {
+        fast: 256,
+        iso: 32,
+        group: 32,
+    },
+    address: 251,
+    prefers: false,
+};
+
+/// The claim of each address from 0 to 128 by a NAME of its own.
+fn claim_all(gateway: &mut Gateway, moment: u64) {
+    for address in 0..129_u8 {
+        let bytes = 0x0000_0000_008C_78C0 | (u64::from(address) << 56);
+        let _out = step(
+            gateway,
+            moment,
+            Comes::Frame(0x18EE_FF00 | u32::from(address), bytes),
+        );
+    }
+}
+
+#[test]
+fn one_more_than_the_greatest_limits_is_refused(rt: HostRuntime) -> Result<(), Fail> {
+    let mut gateway = started(rt.alloc(), GREATEST, 1_000_000)?;
+    claim_all(&mut gateway, 1_000_000);
+    for address in 0..128_u32 {
+        for (id, bytes) in [
+            (0x0DF8_0500, 0x002B_00DB_4C00_08AF),
+            (0x19F5_1300, 0x000E_0000_0000_0000),
+        ] {
+            let out = step(&mut gateway, 1_000_000, Comes::Frame(id | address, bytes));
+            assert_eq!(rt; out.len(), 0, "{address}");
+        }
+    }
+    assert_eq!(rt; gateway.held().fast, 256);
+    let full = step(
+        &mut gateway,
+        1_000_000,
+        Comes::Frame(0x0DF8_0580, 0x002B_00DB_4C00_08AF),
+    );
+    assert_eq!(rt; seen_at(&full, 0), Some(Seen::Source(15, 128, 129_029)));
+    for address in 0..32_u32 {
+        let out = step(
+            &mut gateway,
+            1_000_000,
+            Comes::Frame(0x1CEC_FF00 | address, 0x2009_0002_FFD8_FE00),
+        );
+        assert_eq!(rt; out.len(), 0, "{address}");
+    }
+    assert_eq!(rt; gateway.held().iso, 32);
+    let full = step(
+        &mut gateway,
+        1_000_000,
+        Comes::Frame(0x1CEC_FF20, 0x2009_0002_FFD8_FE00),
+    );
+    assert_eq!(rt; seen_at(&full, 0), Some(Seen::Source(15, 32, 65_240)));
+    Ok(())
+}
+
+/// The datagram of the first line of two of the group with this code.
+fn first_line_of(code: u16, packet: &mut Packet) -> Result<(), Fail>
+    requires least { 1 ≤ code }
+    requires most { code ≤ 99 }
+{
+    packet.clear();
+    begin(packet);
+    let tag = TagParts {
+        group: Some(GroupPart {
+            number: 1,
+            total: 2,
+            code,
+        }),
+        source: Sfi::of(b"II0002").ok_or("no identifier")?,
+        count: 1,
+    };
+    let _fits = push_line(&tag, b"$HEHDT,90.0,T*16\r\n", packet);
+    Ok(())
+}
+
+#[test]
+fn one_more_group_than_the_greatest_limit_is_refused(rt: HostRuntime) -> Result<(), Fail> {
+    let mut gateway = started(rt.alloc(), GREATEST, 1_000_000)?;
+    let mut packet = Packet::new();
+    for code in 1..34_u16 {
+        let mut out = Outbox::new();
+        first_line_of(code, &mut packet)?;
+        gateway.step(
+            &Event::Datagram {
+                moment: 1_000_000,
+                bytes: &packet,
+            },
+            &mut out,
+        );
+        let seen = if code <= 32 {
+            None
+        } else {
+            Some(Seen::Group(41, *b"II0002", 33))
+        };
+        assert_eq!(rt; seen_at(&out, 0), seen, "{code}");
+    }
+    assert_eq!(rt; gateway.held().group, 32);
+    Ok(())
+}
+
+/// Two groups of lines from two senders, one within the other, and 61 lines more.
+fn many_lines(bytes: &mut ArrayVec<u8, 512>) {
+    let _fits = bytes.try_extend_from_slice(
+        b"UdPbC\0\\g:1-2-7,s:II0002,n:1*47\\$HEHDT,90.0,T*16\r\n\\g:1-2-7,s:II0003,n:1*46\\$HEHDT,90.1,T*17\r\n",
+    );
+    let _fits = bytes.try_extend_from_slice(
+        b"\\g:2-2-7,s:II0003,n:2*46\\$HEHDT,90.1,T*17\r\n\\g:2-2-7,s:II0002,n:2*47\\$HEHDT,90.0,T*16\r\n",
+    );
+    for _ in 0..61_u8 {
+        let _fits = bytes.try_extend_from_slice(b"x\n");
+    }
+}
+
+#[test]
+fn of_a_datagram_64_lines_are_read(rt: HostRuntime) -> Result<(), Fail> {
+    let mut gateway = started(rt.alloc(), USUAL, 10_000_000)?;
+    let mut bytes = ArrayVec::new();
+    many_lines(&mut bytes);
+    let mut out = Outbox::new();
+    gateway.step(
+        &Event::Datagram {
+            moment: 10_250_000,
+            bytes: &bytes,
+        },
+        &mut out,
+    );
+    // the group that is complete first is sent first.
+    for (place, bytes) in [
+        (0, 0xFF6D_3DFF_7FFF_7FFC),
+        (1, 0xFF6D_3DFF_7FFF_7FFC),
+        (2, 0xFF5C_3DFF_7FFF_7FFC),
+        (3, 0xFF5C_3DFF_7FFF_7FFC),
+    ] {
+        assert_eq!(rt;
+            seen_at(&out, place),
+            Some(Seen::Frame(0x09F1_12FB, bytes)),
+            "{place}"
+        );
+    }
+    for line in 0..60_u16 {
+        assert_eq!(rt;
+            seen_at(&out, 4 + usize::from(line)),
+            Some(Seen::At(34, 178 + 2 * line)),
+            "{line}"
+        );
+    }
+    assert_eq!(rt; seen_at(&out, 64), Some(Seen::At(46, 298)));
+    assert_eq!(rt; out.len(), 65);
+    Ok(())
+}
+
+#[test]
+fn a_datagram_of_more_than_1472_bytes_is_not_read(rt: HostRuntime) -> Result<(), Fail> {
+    let mut gateway = started(rt.alloc(), USUAL, 10_000_000)?;
+    let mut bytes = [0; 1473];
+    bytes[..6].copy_from_slice(b"UdPbC\0");
+    let mut out = Outbox::new();
+    gateway.step(
+        &Event::Datagram {
+            moment: 10_250_000,
+            bytes: &bytes,
+        },
+        &mut out,
+    );
+    assert_eq!(rt; seen_at(&out, 0), Some(Seen::At(47, 1472)));
+    assert_eq!(rt; out.len(), 1);
     Ok(())
 }
