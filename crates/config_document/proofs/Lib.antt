@@ -1,0 +1,5 @@
+pub mod Cutting
+pub mod Lists
+pub mod Names
+pub mod Numbers
+pub mod Words
