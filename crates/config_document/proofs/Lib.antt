@@ -1,3 +1,4 @@
+pub mod Apart
 pub mod Cutting
 pub mod Lists
 pub mod Names

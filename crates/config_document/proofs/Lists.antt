@@ -1,7 +1,6 @@
 -- The values of a list, one after another.
-use Rattle.std.proofs.Common.{◌≡◌, ℕ, suc, ◌<◌, ◌≤◌, List, [], ◌∷◌, length, Option, Some, None, Ok, Err, true, false, map, refl, ap, rules, arith, le-leb}
+use Rattle.std.proofs.Common.{◌≡◌, ℕ, suc, ◌<◌, ◌≤◌, List, [], ◌∷◌, length, Option, Some, None, Ok, Err, true, false, map, refl, ap, le-leb}
 use Rattle.std.proofs.lemmas.Bool.{lt-leb}
-use Rattle.arrayvec.specs.ArrayVec.{ArrayVec}
 use Rattle.toml.specs.View.{items_view}
 use Rattle.toml.specs.declared.value.Value.{Value}
 use Rattle.config_document.specs.Kinds.{are_tables, count, each_members, each_said, said_in, tables_in}

@@ -1,5 +1,5 @@
 -- Names of the network, by a test of their texts.
-use Rattle.std.proofs.Common.{◌≡◌, ℕ, Bool, true, false, ◌&&◌, ◌==◌, IsTrue, List, length, take, drop, Option, Some, None, IsSome, IfSome, refl, ap, sym, ◌∙◌, inl, inr, eqb-true, eq-eqb}
+use Rattle.std.proofs.Common.{◌≡◌, ℕ, Bool, true, false, ◌&&◌, ◌==◌, IsTrue, List, length, take, drop, Option, Some, None, IsSome, IfSome, refl, ap, eqb-true, eq-eqb}
 use Rattle.std.specs.Prelude.{◌↔◌, if◌then◌else◌}
 use Rattle.std.specs.List.{list_all}
 use Rattle.std.proofs.lemmas.Bool.{and_from, and_parts, false≢true}

@@ -1,12 +1,11 @@
 -- What the keys of a table hold: a value of a kind or none, or the fault with the key's path.
-use Rattle.std.specs.Prelude.{◌≡◌, ℕ, Bool, true, false, ◌&&◌, nat_le, List, [], ◌∷◌, ◌++◌, Option, Some, None, Result, Ok, Err, if◌then◌else◌}
+use Rattle.std.specs.Prelude.{◌≡◌, ℕ, Bool, List, [], Option, Some, None, Result, Ok, Err}
 use Rattle.arrayvec.specs.ArrayVec.{ArrayVec}
-use Rattle.toml.specs.Data.{Data, Items, no_items, item, Members, no_members, table, array, as_table, get_member}
+use Rattle.toml.specs.Data.{Data, Members, as_table, get_member}
 use Rattle.config_document.specs.declared.fault.Flaw.{Flaw}
-use Rattle.config_document.specs.declared.fault.Flaw.TheVariants as flaw
 use Rattle.config_document.specs.declared.fault.ConfigFault.{ConfigFault}
 use Rattle.config_document.specs.Faults.{fault_at, missing}
-use Rattle.config_document.specs.Kinds.{count, kind, list_in, number_in, tables_in, text_in, truth_in}
+use Rattle.config_document.specs.Kinds.{kind, list_in, number_in, tables_in, text_in, truth_in}
 use Rattle.config_document.specs.Places.{Place, path_of}
 
 -- What a function returned, seen by view, is what the definition gives.

@@ -1,5 +1,5 @@
 -- The kinds of values: what a value of TOML says, or what is wrong with it.
-use Rattle.std.specs.Prelude.{ℕ, suc, ℤ, pos, negsuc, Bool, true, false, ◌&&◌, nat_le, List, [], ◌∷◌, length, Option, Some, None, is_some, option_and_then, ok_or, Result, Ok, Err, if◌then◌else◌}
+use Rattle.std.specs.Prelude.{ℕ, suc, ℤ, pos, negsuc, Bool, true, ◌&&◌, nat_le, List, [], ◌∷◌, Option, Some, None, is_some, ok_or, Result, Ok, Err, if◌then◌else◌}
 use Rattle.arrayvec.specs.ArrayVec.{ArrayVec}
 use Rattle.toml.specs.Data.{Data, Items, no_items, item, as_array, as_bool, as_integer, as_str, as_table, table, Members, no_members}
 use Rattle.config_document.specs.declared.fault.Flaw.{Flaw}

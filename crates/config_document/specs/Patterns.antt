@@ -1,5 +1,5 @@
 -- A choice of devices by the fields of their NAMEs (ISO 11783-5), as a text.
-use Rattle.std.specs.Prelude.{ℕ, ◌+◌, ◌^◌, ◌<◌, Bool, not, ◌&&◌, ◌==◌, nat_eq, nat_le, nat_lt, List, length, take, drop, codes, Option, Some, None, option_map, if◌then◌else◌}
+use Rattle.std.specs.Prelude.{ℕ, ◌+◌, ◌^◌, ◌<◌, Bool, ◌&&◌, ◌==◌, nat_eq, nat_le, nat_lt, List, length, take, drop, codes, Option, Some, None, option_map, if◌then◌else◌}
 use Rattle.std.specs.Cmp.Lexicographic.{pointwise}
 use Rattle.std.specs.List.{list_all, position, position_or_len}
 use Rattle.std.specs.Option.{ForSome}
