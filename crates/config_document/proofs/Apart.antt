@@ -5,15 +5,15 @@ use Rattle.std.specs.List.{list_any}
 use Rattle.std.proofs.lemmas.Bool.{false≢true}
 use Rattle.config_document.specs.Twice.{repeats}
 
-or_left : (a b : Bool) → (a || b) ≡ false → a ≡ false
+pub or_left : (a b : Bool) → (a || b) ≡ false → a ≡ false
 or_left true b h = absurd (false≢true (sym h))
 or_left false b h = refl
 
-or_right : (a b : Bool) → (a || b) ≡ false → b ≡ false
+pub or_right : (a b : Bool) → (a || b) ≡ false → b ≡ false
 or_right true b h = absurd (false≢true (sym h))
 or_right false b h = h
 
-none_of : {A : Type 0} (test : A → Bool) (xs : List A) (j : ℕ) (d : A) → list_any test xs ≡ false → j < length xs → test (get_or xs j d) ≡ false
+pub none_of : {A : Type 0} (test : A → Bool) (xs : List A) (j : ℕ) (d : A) → list_any test xs ≡ false → j < length xs → test (get_or xs j d) ≡ false
 none_of test [] j d h within = absurd (omega arith)
 none_of test (x ∷ xs) zero d h within = or_left (test x) (list_any test xs) h
 none_of test (x ∷ xs) (suc j) d h within = none_of test xs j d (or_right (test x) (list_any test xs) h) (omega arith)

@@ -16,7 +16,7 @@ pub struct Section<'a> {
 }
 
 impl<'a> Section<'a> {
-    ghost use Rattle.std.specs.Prelude.{◌≡◌, All, IfOk, map, option_map};
+    ghost use Rattle.std.specs.Prelude.{◌≡◌, ◌≤◌, All, IfOk, length, map, option_map};
     ghost use Rattle.config_document.specs.Places.{members_seen};
     ghost use Rattle.std.specs.Option.{ForSome};
     ghost use Rattle.std.specs.Int.{IsInRange};
@@ -126,7 +126,8 @@ impl<'a> Section<'a> {
 
     /// The tables at a key, at most so many; none where there is no list. A value of another type comes before too many of them.
     pub fn tables_at(&self, name: &str, most: usize) -> Result<&'a [Value], ConfigFault>
-        ensures { Sees (λ values. map members_seen values.now) result (tables_at most (place_of self.now) name.now) }
+        ensures said { Sees (λ values. map members_seen values.now) result (tables_at most (place_of self.now) name.now) }
+        ensures few { IfOk result (λ values. length values.now ≤ most) }
     {
         match self.member(name) {
             None => Ok(&[]),

@@ -1,5 +1,5 @@
 //! The kinds of values.
-ghost use Rattle.std.specs.Prelude.{◌≡◌, ◌++◌, All, IfOk, IfSome, option_map, length};
+ghost use Rattle.std.specs.Prelude.{◌≡◌, ◌≤◌, All, IfOk, IfSome, option_map, length};
 ghost use Rattle.std.specs.Int.{IsInRange};
 ghost use Rattle.toml.specs.View.{items_view, view};
 ghost use Rattle.config_document.specs.Kinds.{are_tables, are_texts, list_in, number_in, said_in, tables_in, text_in, truth_in};
@@ -103,7 +103,8 @@ fn said<T: Written + Default + Drop, const MOST: usize>(
 /// The values of a list of tables, at most so many.
 #[tactic(auto, using(crate::proofs::Lists::tables_few, crate::proofs::Lists::tables_many, crate::proofs::Lists::tables_other))]
 pub(crate) fn tables(value: &Value, most: usize) -> Result<&[Value], Flaw>
-    ensures { SeesTables result (tables_in most (view value.now)) }
+    ensures said { SeesTables result (tables_in most (view value.now)) }
+    ensures few { IfOk result (λ values. length values.now ≤ most) }
 {
     match value.as_array() {
         None => Err(Flaw::Kind),

@@ -1,0 +1,5 @@
+pub mod ConfigOf
+pub mod Keys
+pub mod Reading
+pub mod Texts
+pub mod Unknown
