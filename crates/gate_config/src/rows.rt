@@ -12,7 +12,14 @@ use sentence_text::Group;
 
 type Five = (RowConfig, RowConfig, RowConfig, RowConfig, RowConfig);
 
-type Six = (RowConfig, RowConfig, RowConfig, RowConfig, RowConfig, RowConfig);
+type Six = (
+    RowConfig,
+    RowConfig,
+    RowConfig,
+    RowConfig,
+    RowConfig,
+    RowConfig,
+);
 
 /// What each row is taken from and how it is said, in the order of the rows, each with the talker that it has where none is configured
 /// (IEC 61162-1).
@@ -20,10 +27,12 @@ type Six = (RowConfig, RowConfig, RowConfig, RowConfig, RowConfig, RowConfig);
 pub(crate) fn row_keys(rows: &Section, group: Group) -> Result<[RowConfig; 17], ConfigFault>
     ensures said { result ≡ rows_in group (place_of rows.now) }
 {
-    let (heading_true, heading_magnetic, rate_of_turn, rudder_first, rudder_second) =
-        steering_rows(rows, group)?;
-    let (water_speed, depth, distance_log, position, course_speed, gnss) =
-        passage_rows(rows, group)?;
+    let (heading_true, heading_magnetic, rate_of_turn, rudder_first, rudder_second) = steering_rows(
+        rows, group,
+    )?;
+    let (water_speed, depth, distance_log, position, course_speed, gnss) = passage_rows(
+        rows, group,
+    )?;
     let (time, wind_apparent, wind_true, wind_north, water_temperature, cross_track) =
         surrounding_rows(rows, group)?;
     Ok([
@@ -53,11 +62,23 @@ fn steering_rows(rows: &Section, group: Group) -> Result<Five, ConfigFault>
     ensures said { result ≡ steering_rows group (place_of rows.now) }
 {
     let heading_true = row(rows, "heading_true", b"row.heading_true.", *b"HE", group)?;
-    let heading_magnetic = row(rows, "heading_magnetic", b"row.heading_magnetic.", *b"HC", group)?;
+    let heading_magnetic = row(
+        rows,
+        "heading_magnetic",
+        b"row.heading_magnetic.",
+        *b"HC",
+        group,
+    )?;
     let rate_of_turn = row(rows, "rate_of_turn", b"row.rate_of_turn.", *b"TI", group)?;
     let rudder_first = row(rows, "rudder_first", b"row.rudder_first.", *b"II", group)?;
     let rudder_second = row(rows, "rudder_second", b"row.rudder_second.", *b"II", group)?;
-    Ok((heading_true, heading_magnetic, rate_of_turn, rudder_first, rudder_second))
+    Ok((
+        heading_true,
+        heading_magnetic,
+        rate_of_turn,
+        rudder_first,
+        rudder_second,
+    ))
 }
 
 /// The rows of how deep, how far and where it goes.
@@ -71,7 +92,14 @@ fn passage_rows(rows: &Section, group: Group) -> Result<Six, ConfigFault>
     let position = row(rows, "position", b"row.position.", *b"GP", group)?;
     let course_speed = row(rows, "course_speed", b"row.course_speed.", *b"GP", group)?;
     let gnss = row(rows, "gnss", b"row.gnss.", *b"GP", group)?;
-    Ok((water_speed, depth, distance_log, position, course_speed, gnss))
+    Ok((
+        water_speed,
+        depth,
+        distance_log,
+        position,
+        course_speed,
+        gnss,
+    ))
 }
 
 /// The rows of time, wind, water, and how far it is off its track.
@@ -83,9 +111,22 @@ fn surrounding_rows(rows: &Section, group: Group) -> Result<Six, ConfigFault>
     let wind_apparent = row(rows, "wind_apparent", b"row.wind_apparent.", *b"WI", group)?;
     let wind_true = row(rows, "wind_true", b"row.wind_true.", *b"WI", group)?;
     let wind_north = row(rows, "wind_north", b"row.wind_north.", *b"WI", group)?;
-    let water_temperature = row(rows, "water_temperature", b"row.water_temperature.", *b"YX", group)?;
+    let water_temperature = row(
+        rows,
+        "water_temperature",
+        b"row.water_temperature.",
+        *b"YX",
+        group,
+    )?;
     let cross_track = row(rows, "cross_track", b"row.cross_track.", *b"II", group)?;
-    Ok((time, wind_apparent, wind_true, wind_north, water_temperature, cross_track))
+    Ok((
+        time,
+        wind_apparent,
+        wind_true,
+        wind_north,
+        water_temperature,
+        cross_track,
+    ))
 }
 
 /// The row of this name, and of this talker and group where none is configured.
@@ -105,11 +146,7 @@ fn row(
 }
 
 #[tactic(auto, unfolding(crate::specs::Keys::row_in))]
-fn keys_of_row(
-    section: &Section,
-    talker: [u8; 2],
-    group: Group,
-) -> Result<RowConfig, ConfigFault>
+fn keys_of_row(section: &Section, talker: [u8; 2], group: Group) -> Result<RowConfig, ConfigFault>
     requires { IsTalker talker }
     ensures said { result ≡ row_in talker group (place_of section.now) }
 {

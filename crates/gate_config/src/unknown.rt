@@ -19,16 +19,88 @@ pub(crate) fn first_unknown(
 ) -> Result<Option<Vec<u8>>, AllocError>
     ensures { IfOk result (λ path. path_seen path ≡ first_unknown (place_of document.now)) }
 {
-    let least = least_unknown(alloc, document, &["gateway", "preset", "row", "net", "bus", "route", "identity", "rmc", "ais"], None)?;
-    let least = under(alloc, document, "gateway", b"gateway.", &["name", "address", "sfi", "group", "fast_slots", "iso_slots", "group_slots", "ths"], least)?;
-    let least = in_items(alloc, items(document, "preset"), b"preset.", &["address", "name"], least)?;
+    let least = least_unknown(
+        alloc,
+        document,
+        &[
+            "gateway", "preset", "row", "net", "bus", "route", "identity", "rmc", "ais",
+        ],
+        None,
+    )?;
+    let least = under(
+        alloc,
+        document,
+        "gateway",
+        b"gateway.",
+        &[
+            "name",
+            "address",
+            "sfi",
+            "group",
+            "fast_slots",
+            "iso_slots",
+            "group_slots",
+            "ths",
+        ],
+        least,
+    )?;
+    let least = in_items(
+        alloc,
+        items(document, "preset"),
+        b"preset.",
+        &["address", "name"],
+        least,
+    )?;
     let rows = table_under(document, "row", b"row.");
-    let least = least_unknown(alloc, &rows, &["heading_true", "heading_magnetic", "rate_of_turn", "rudder_first", "rudder_second", "water_speed", "depth", "distance_log", "position", "course_speed", "gnss", "time", "wind_apparent", "wind_true", "wind_north", "water_temperature", "cross_track"], least)?;
+    let least = least_unknown(
+        alloc,
+        &rows,
+        &[
+            "heading_true",
+            "heading_magnetic",
+            "rate_of_turn",
+            "rudder_first",
+            "rudder_second",
+            "water_speed",
+            "depth",
+            "distance_log",
+            "position",
+            "course_speed",
+            "gnss",
+            "time",
+            "wind_apparent",
+            "wind_true",
+            "wind_north",
+            "water_temperature",
+            "cross_track",
+        ],
+        least,
+    )?;
     let least = in_rows(alloc, &rows, least)?;
-    let least = under(alloc, document, "net", b"net.", &["sources", "listen", "send"], least)?;
+    let least = under(
+        alloc,
+        document,
+        "net",
+        b"net.",
+        &["sources", "listen", "send"],
+        least,
+    )?;
     let least = under(alloc, document, "bus", b"bus.", &["listen", "send"], least)?;
-    let least = in_items(alloc, items(document, "route"), b"route.", &["group", "address"], least)?;
-    let least = under(alloc, document, "identity", b"identity.", &["code", "model", "software", "version", "serial", "load"], least)?;
+    let least = in_items(
+        alloc,
+        items(document, "route"),
+        b"route.",
+        &["group", "address"],
+        least,
+    )?;
+    let least = under(
+        alloc,
+        document,
+        "identity",
+        b"identity.",
+        &["code", "model", "software", "version", "serial", "load"],
+        least,
+    )?;
     let least = under(alloc, document, "rmc", b"rmc.", &["group", "talker"], least)?;
     under(alloc, document, "ais", b"ais.", &["group", "slots"], least)
 }
@@ -43,7 +115,13 @@ fn in_rows(
     ensures { IfOk result (λ path. path_seen path ≡ rows_noted (place_of rows.now) (path_seen least)) }
 {
     let least = in_row(alloc, rows, "heading_true", b"row.heading_true.", least)?;
-    let least = in_row(alloc, rows, "heading_magnetic", b"row.heading_magnetic.", least)?;
+    let least = in_row(
+        alloc,
+        rows,
+        "heading_magnetic",
+        b"row.heading_magnetic.",
+        least,
+    )?;
     let least = in_row(alloc, rows, "rate_of_turn", b"row.rate_of_turn.", least)?;
     let least = in_row(alloc, rows, "rudder_first", b"row.rudder_first.", least)?;
     let least = in_row(alloc, rows, "rudder_second", b"row.rudder_second.", least)?;
@@ -57,7 +135,13 @@ fn in_rows(
     let least = in_row(alloc, rows, "wind_apparent", b"row.wind_apparent.", least)?;
     let least = in_row(alloc, rows, "wind_true", b"row.wind_true.", least)?;
     let least = in_row(alloc, rows, "wind_north", b"row.wind_north.", least)?;
-    let least = in_row(alloc, rows, "water_temperature", b"row.water_temperature.", least)?;
+    let least = in_row(
+        alloc,
+        rows,
+        "water_temperature",
+        b"row.water_temperature.",
+        least,
+    )?;
     in_row(alloc, rows, "cross_track", b"row.cross_track.", least)
 }
 
@@ -70,7 +154,14 @@ fn in_row(
 ) -> Result<Option<Vec<u8>>, AllocError>
     ensures { IfOk result (λ path. path_seen path ≡ noted row_known (place_under (place_of rows.now) name.now prefix.now) (path_seen least)) }
 {
-    under(alloc, rows, name, prefix, &["sources", "others", "timeout_ms", "talker", "group"], least)
+    under(
+        alloc,
+        rows,
+        name,
+        prefix,
+        &["sources", "others", "timeout_ms", "talker", "group"],
+        least,
+    )
 }
 
 /// The same of the table at a key.
