@@ -1,5 +1,0 @@
-pub mod ConfigOf
-pub mod Keys
-pub mod Reading
-pub mod Texts
-pub mod Unknown
