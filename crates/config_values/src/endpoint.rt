@@ -7,7 +7,7 @@ use std::net::Ipv4Addr;
 use std::str;
 
 /// Whether the text is an IPv4 address, a colon and a port.
-pub(crate) fn is_endpoint(text: &[u8]) -> bool
+pub fn is_endpoint(text: &[u8]) -> bool
     ensures { IsTrue result ↔ IsEndpoint text.now }
 {
     match first_colon(text) {

@@ -15,4 +15,5 @@ mod row_config;
 mod tests;
 
 pub use config::{Config, Ends};
+pub use endpoint::is_endpoint;
 pub use row_config::RowConfig;

@@ -1,0 +1,7 @@
+-- What is left makes the number whole.
+use Rattle.std.proofs.Common.{◌≡◌, drop}
+use Rattle.unit_fraction.specs.Digits.{number_after}
+use Rattle.config_document.proofs.pattern.number.Given as goal
+
+abbrev pub invariant-loop-digit : goal.invariant-loop-digit
+invariant-loop-digit l = number_after l.number (drop l.digit-index l.digits) ≡ number_after 0 l.digits
