@@ -1,0 +1,14 @@
+-- What was told and what is still to be told make up the whole.
+use Rattle.std.proofs.Common.{length}
+use Rattle.report_rules.specs.Rules as rules
+use Rattle.fast_packet.specs.Assembly.{is_from}
+use Rattle.fast_packet.specs.Answers.{ended_of}
+use Rattle.gate_core.proofs.Telling.{IsEnding, said_fast}
+use Rattle.ais_bridge.proofs.TellingLemmas.{plain}
+use Rattle.ais_bridge.proofs.claims.drop_source.Given as goal
+
+abbrev pub decreases-loop-key : goal.decreases-loop-key
+decreases-loop-key l = length l.reports.entries
+
+abbrev pub invariant-loop-key : goal.invariant-loop-key
+invariant-loop-key l = IsEnding (is_from l.source) ended_of (said_fast rules.claim_lost) l.initial.reports (plain l.initial.emits) l.reports (plain l.emits)

@@ -1,0 +1,24 @@
+use Rattle.std.proofs.Common.{ap, sym, ◌∙◌}
+use Rattle.report_rules.specs.Rules as rules
+use Rattle.slot_views.specs.Slots.{has_expired}
+use Rattle.gate_core.proofs.Telling.{fewer, one_told, ends_slots, ends_emits}
+use Rattle.ais_bridge.proofs.TellingLemmas.{plain, room_for_one}
+use Rattle.ais_bridge.proofs.feeding.end_overdue.Goals as goal
+
+pub tell-requires-clause-room : goal.tell-requires-clause-room
+tell-requires-clause-room c =
+    room_for_one (has_expired c.args.moment) rules.expired _ _ _ _ _ c.loop-key.invariant (sym c.expire_one.ensures.answer ∙ c.in-Some.is) c.requires.room
+
+pub loop-key-smaller : goal.loop-key-smaller
+loop-key-smaller c = fewer c.loop-key.invariant (sym c.expire_one.ensures.answer ∙ c.in-Some.is) c.expire_one.ensures.after
+
+pub loop-key-preserved : goal.loop-key-preserved
+loop-key-preserved c =
+    one_told c.loop-key.invariant (sym c.expire_one.ensures.answer ∙ c.in-Some.is) c.expire_one.ensures.after (ap plain c.tell.ensures.emits)
+    c.tell.ensures.before
+
+pub returns-clause-reports : goal.returns-clause-reports
+returns-clause-reports c = ends_slots c.loop-key.invariant (sym c.expire_one.ensures.answer ∙ c.in_default.is) c.expire_one.ensures.after
+
+pub returns-clause-emits : goal.returns-clause-emits
+returns-clause-emits c = ap (λ o. o.emits) (ends_emits c.loop-key.invariant (sym c.expire_one.ensures.answer ∙ c.in_default.is))

@@ -1,0 +1,55 @@
+-- What the bridge gives, in the words of the history: of all that ever came.
+use Rattle.std.specs.Prelude.{◌≡◌, ℕ, ◌%◌, List, [], ◌∷◌}
+use Rattle.claim_table.specs.declared.preset.Preset.{Preset}
+use Rattle.tag_block.specs.Numbers.{most_count}
+use Rattle.settings.specs.declared.ais.AisConfig.{AisConfig}
+use Rattle.history.specs.Entries as entry
+use Rattle.history.specs.Entries.{Entry, History, IsHistory, now}
+use Rattle.history.specs.AddressLaws.{AreSettings}
+use Rattle.history.specs.Settings.{Settings}
+use Rattle.history.specs.Known.{known}
+use Rattle.history.specs.Emits.{Emit}
+use Rattle.gate_model.specs.FastLaws.{StandsFastFor}
+use Rattle.gate_model.specs.Machine.{Machine}
+use Rattle.gate_model.specs.Stands.{Stands}
+use Rattle.gate_core.specs.Steps.{by_keys}
+use Rattle.ais_bridge.specs.AisOut.{ais_receiver, ais_out, lines_said}
+use Rattle.gate_model.specs.AddressStands.{name_held}
+use Rattle.ais_bridge.specs.AisKept.{AisKept, AisStep, ais_step, names_of}
+
+-- what the bridge keeps stands for a history of the gateway with these settings
+pub record StandsAis (a : AisConfig) (c : Settings) (s : ℕ) (h : History) (k : AisKept) : Type 0 where
+  pub group : k.group ≡ a.group
+  pub sfi : k.sfi ≡ c.sfi
+  -- the reports in the making are those that are open at the moment of the last entry, each with the frames of it that came
+  pub slots : StandsFastFor by_keys.fast (ais_receiver a c) s h (now h) k.slots
+  pub names : k.names ≡ names_of (known (ais_receiver a c) s h).claims.holders
+  pub lines : k.lines ≡ lines_said a c s h % most_count
+
+-- what an event makes of it and gives, after the gateway has taken it
+abbrev pub step_by : Machine → AisKept → Entry → AisStep
+step_by gateway k e = ais_step by_keys.fast gateway.addresses.claims.own (name_held gateway.addresses.claims.holders) k e
+
+-- ---- the start
+
+abbrev pub IsAisOpening : AisConfig → List ℕ → List Preset → AisKept → Type 0
+IsAisOpening a sfi presets k = (c : Settings) (s : ℕ) → c.sfi ≡ sfi → c.presets ≡ presets → StandsAis a c s [] k
+
+-- ---- an event that the gateway has taken: it leaves what stands for the history with it, and all that the history says is emitted
+
+pub record IsAisTaken (a : AisConfig) (c : Settings) (s : ℕ) (h : History) (e : Entry) (after : AisKept) (left : List Emit) : Type 0 where
+  pub stands : StandsAis a c s (e ∷ h) after
+  pub emits : left ≡ ais_out a c s h e
+
+-- for every history for which the bridge stands before the event, where the gateway stands for it with the event
+abbrev pub IsAisStep : Machine → Entry → AisKept → AisKept → List Emit → Type 0
+IsAisStep gateway e before after left =
+    (a : AisConfig) (s : ℕ) (h : History) → AreSettings gateway.settings → IsHistory (e ∷ h) → Stands by_keys gateway.settings s (e ∷ h) gateway
+    → StandsAis a gateway.settings s h before → IsAisTaken a gateway.settings s h e after left
+
+-- ---- a command, for which the bridge isn't called: it stands for the history with it as well
+
+abbrev pub CommandsLeaveAis : Type 0
+CommandsLeaveAis =
+    (a : AisConfig) (c : Settings) (s : ℕ) (h : History) (source address : ℕ) (k : AisKept) → AreSettings c → StandsAis a c s h k
+    → StandsAis a c s (entry.command (now h) source address ∷ h) k

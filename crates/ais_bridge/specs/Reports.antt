@@ -1,0 +1,60 @@
+-- How a position report of a ship (NMEA 2000 PGN 129038; ITU-R M.1371) is told to the network: the rules that it can break, and the datagram
+-- in which it is passed on (IEC 61162-1, VDM; IEC 61162-450).
+use Rattle.std.specs.Prelude.{ℕ, ◌+◌, ◌%◌, Bool, true, false, List, [], ◌∷◌, ◌++◌, Option, Some, None, Result, Ok, Err}
+use Rattle.report_rules.specs.Rules as rules
+use Rattle.sentence_text.specs.Sentence.{SentenceParts, sentence}
+use Rattle.tag_block.specs.Numbers.{most_count}
+use Rattle.datagram450.specs.Datagram.{header}
+use Rattle.datagram450.specs.Writing.{line_text}
+use Rattle.ais_report.specs.declared.report.AisReport.{AisReport}
+use Rattle.ais_report.specs.declared.report.AisFault.{AisFault}
+use Rattle.ais_report.specs.declared.report.AisFault.TheVariants.{Short, Outside}
+use Rattle.ais_report.specs.Armour.{armour_of}
+use Rattle.ais_report.specs.Converted.{converted}
+use Rattle.history.specs.Emits.{Emit, net, of_source}
+use Rattle.history.specs.Messages.{Carried}
+
+-- a message of reports whose values can't be passed on
+abbrev pub report_outside : ℕ
+report_outside = 27
+
+-- ---- the sentence: one of one, without a number of its own; the channel's letter, the report, and no bit that fills it up
+
+abbrev pub report_parts : AisReport × ℕ → SentenceParts
+report_parts x = record {
+  start = 33;
+  talker = 65 ∷ 73 ∷ [];
+  formatter = 86 ∷ 68 ∷ 77 ∷ [];
+  body = 44 ∷ 49 ∷ 44 ∷ 49 ∷ 44 ∷ 44 ∷ x.1 ∷ 44 ∷ (armour_of x.0 ++ 44 ∷ 48 ∷ []);
+}
+
+abbrev pub report_sentence : AisReport × ℕ → List ℕ
+report_sentence x = sentence (report_parts x)
+
+-- ---- the datagram: one line, with its count on the transmission group, of which so many were sent before
+
+unfoldable pub report_datagram : List ℕ → ℕ → AisReport × ℕ → List ℕ
+report_datagram sfi before x = header ++ line_text (record { group = None; source = sfi; count = before % most_count + 1 }) (report_sentence x)
+
+-- ---- a payload: a datagram, or the rule that it breaks
+
+module _ (group sfi : List ℕ) (before source pgn : ℕ) where
+  abbrev pub converted_gives : Result (AisReport × ℕ) AisFault → List Emit
+  converted_gives (Ok x) = net group (report_datagram sfi before x) ∷ []
+  converted_gives (Err Short) = of_source rules.short_message source pgn ∷ []
+  converted_gives (Err Outside) = of_source report_outside source pgn ∷ []
+
+  -- where there is a message
+  abbrev pub carried_gives : Option (List ℕ) → List Emit
+  carried_gives None = []
+  carried_gives (Some payload) = converted_gives (converted payload)
+
+-- ---- how many lines it is told in
+
+abbrev pub lines_of_converted : Result (AisReport × ℕ) AisFault → ℕ
+lines_of_converted (Ok x) = 1
+lines_of_converted (Err fault) = 0
+
+abbrev pub lines_of : Option (List ℕ) → ℕ
+lines_of None = 0
+lines_of (Some payload) = lines_of_converted (converted payload)

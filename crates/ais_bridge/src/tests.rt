@@ -1,0 +1,232 @@
+//! A gateway and its bridge, with exactly what the bridge emits at each event. A frame stands as its identifier and its bytes, the first one
+//! highest.
+use crate::{AisBridge, AisConfig, AisEmits};
+use arrayvec::ArrayVec;
+use capture_text::{Detail, Emit, Event};
+use claim_table::Preset;
+use config_values::{Config, Ends, RowConfig};
+use gate_core::{Gateway, Outbox};
+use gate_outside::{Address, Routes};
+use n2k_id::{Frame, Name};
+use sentence_text::{Group, Sfi};
+use std::alloc::Global;
+use std::test::Fail;
+
+/// What the bridge emits.
+#[derive(Clone, Copy)]
+enum Seen {
+    Datagram(&'static [u8]),
+    /// A rule that was broken, and the sender's address.
+    Report(u8, u8),
+}
+
+/// A moment in microseconds, a frame, and what is emitted at it.
+type Turn = (u64, u32, u64, &'static [Seen]);
+
+const REPORT: u32 = 0x11F8_0E17;
+
+/// The same from another address.
+const OTHER: u32 = 0x11F8_0E18;
+
+const SAID: Seen = Seen::Datagram(
+    b"UdPbC\0\\s:II0001,n:1*01\\!AIVDM,1,1,,A,12vg200P1T04Tv000003Q2l00000,0*29\r\n",
+);
+
+const SAID_AGAIN: Seen = Seen::Datagram(
+    b"UdPbC\0\\s:II0001,n:2*02\\!AIVDM,1,1,,A,12vg200P1T04Tv000003Q2l00000,0*29\r\n",
+);
+
+/// A report in five frames.
+const FRAMES: [u64; 5] = [
+    0x001C_0100_C2EB_0B80,
+    0x0196_9800_0000_0000,
+    0x0200_5C3D_0202_0000,
+    0x0300_5C3D_FF7F_0000,
+    0x04FF_FFFF_FFFF_FFFF,
+];
+
+fn endpoint(text: &[u8]) -> Address {
+    let mut address = ArrayVec::new();
+    let _fits = address.try_extend_from_slice(text);
+    address
+}
+
+/// Two devices are known.
+fn config() -> Config {
+    let mut presets = ArrayVec::new();
+    for (address, name) in [(23, 0xC078_8C00_FFC0_0005), (24, 0xC078_8C00_FFC0_0006)] {
+        let _fits = presets.try_push(Preset {
+            address,
+            name: Name(name),
+        });
+    }
+    let mut rows = std::array::from_fn(|_| RowConfig::default());
+    rows[0].talker = *b"HE";
+    Config {
+        name: Name(0xC032_8200_FFC0_0001),
+        address: 251,
+        sfi: Sfi::of(b"II0001").unwrap_or_default(),
+        fast_slots: 64,
+        iso_slots: 8,
+        group_slots: 8,
+        ths: false,
+        presets,
+        rows,
+        net_sources: ArrayVec::new(),
+        ends: Ends {
+            bus_listen: endpoint(b"127.0.0.1:60101"),
+            bus_send: endpoint(b"127.0.0.1:60102"),
+            net_listen: endpoint(b"127.0.0.1:60001"),
+            net: Routes {
+                list: ArrayVec::new(),
+                other: endpoint(b"127.0.0.1:60002"),
+            },
+        },
+    }
+}
+
+fn is_seen(emit: Option<Emit<'_>>, seen: Seen) -> bool {
+    match (emit, seen) {
+        (Some(Emit::Net(_, bytes)), Seen::Datagram(wanted)) => bytes == wanted,
+        (Some(Emit::Report(report)), Seen::Report(rule, source)) => {
+            report.rule == rule
+                && report.detail
+                    == Detail::Source {
+                        address: source,
+                        pgn: 129_038,
+                    }
+        }
+        _ => false,
+    }
+}
+
+/// Whether the emits are these, in their order.
+fn are_seen(emits: &AisEmits, seen: &[Seen]) -> bool {
+    emits.len() == seen.len()
+        && seen
+            .iter()
+            .enumerate()
+            .all(|(place, seen)| is_seen(emits.item(place), *seen))
+}
+
+/// Whether a gateway and a bridge of so many slots give at each frame what stands beside it.
+fn gives(alloc: Global, slots: u16, turns: &[Turn]) -> Result<bool, Fail> {
+    let config = config();
+    if !config.valid() {
+        return Err("no configuration".into());
+    }
+    let mut gateway = Gateway::new(alloc, &config)?;
+    let ais = AisConfig {
+        group: Group::of(b"TGTD").unwrap_or_default(),
+        slots,
+    };
+    let mut bridge = AisBridge::new(alloc, &ais, config.sfi, &config.presets)?;
+    let mut out = Outbox::new();
+    gateway.start(0, &mut out);
+    let mut emits = AisEmits::new();
+    for (moment, id, bytes, seen) in turns {
+        out.clear();
+        emits.clear();
+        if let Some(frame) = Frame::of(*id, &bytes.to_be_bytes()) {
+            let event = Event::Frame {
+                moment: *moment,
+                frame,
+            };
+            gateway.step(&event, &mut out);
+            bridge.after(&gateway, &event, &mut emits);
+        }
+        if !are_seen(&emits, seen) {
+            return Ok(false);
+        }
+    }
+    Ok(true)
+}
+
+#[test]
+fn each_complete_report_is_said_once_with_its_count(rt: HostRuntime) -> Result<(), Fail> {
+    let [first, second, third, fourth, fifth] = FRAMES;
+    let turns: [Turn; 10] = [
+        (0, REPORT, first, &[]),
+        (1_000, REPORT, second, &[]),
+        (2_000, REPORT, third, &[]),
+        (3_000, REPORT, fourth, &[]),
+        (4_000, REPORT, fifth, &[SAID]),
+        (5_000, REPORT, first, &[]),
+        (6_000, REPORT, second, &[]),
+        (7_000, REPORT, third, &[]),
+        (8_000, REPORT, fourth, &[]),
+        (9_000, REPORT, fifth, &[SAID_AGAIN]),
+    ];
+    assert!(rt; gives(rt.alloc(), 8, &turns)?);
+    Ok(())
+}
+
+#[test]
+fn what_cannot_be_said_is_reported(rt: HostRuntime) -> Result<(), Fail> {
+    let [_, second, third, fourth, fifth] = FRAMES;
+    let turns: [Turn; 11] = [
+        // a message of other kind
+        (0, REPORT, 0x001C_0400_C2EB_0B80, &[]),
+        (1_000, REPORT, second, &[]),
+        (2_000, REPORT, third, &[]),
+        (3_000, REPORT, fourth, &[]),
+        (4_000, REPORT, fifth, &[Seen::Report(27, 23)]),
+        // a later frame alone, and six bytes
+        (5_000, REPORT, third, &[Seen::Report(12, 23)]),
+        (
+            6_000,
+            REPORT,
+            0x0006_0102_0304_0506,
+            &[Seen::Report(22, 23)],
+        ),
+        // from nobody, and from the gateway itself
+        (7_000, 0x11F8_0E19, FRAMES[0], &[Seen::Report(10, 25)]),
+        (8_000, 0x11F8_0EFB, FRAMES[0], &[]),
+        // another message, and one in a single frame
+        (9_000, 0x0DF8_0517, FRAMES[0], &[]),
+        (10_000, 0x09F1_1217, 0x005C_3DFF_7FFF_7FFC, &[]),
+    ];
+    assert!(rt; gives(rt.alloc(), 8, &turns)?);
+    Ok(())
+}
+
+#[test]
+fn a_report_ends_in_time_and_where_its_address_changes_hands(rt: HostRuntime) -> Result<(), Fail> {
+    let [first, second, ..] = FRAMES;
+    let turns: [Turn; 9] = [
+        (0, REPORT, first, &[]),
+        (750_000, REPORT, second, &[]),
+        (
+            1_500_001,
+            0x09F1_1217,
+            0x005C_3DFF_7FFF_7FFC,
+            &[Seen::Report(16, 23)],
+        ),
+        // 24 is claimed by the NAME that holds 23: what was left ends before what was won
+        (1_600_000, REPORT, first, &[]),
+        (1_600_000, OTHER, first, &[]),
+        (
+            1_600_000,
+            0x18EE_FF18,
+            0x0500_C0FF_008C_78C0,
+            &[Seen::Report(17, 23), Seen::Report(17, 24)],
+        ),
+        (1_600_000, REPORT, first, &[Seen::Report(10, 23)]),
+        (1_600_000, OTHER, first, &[]),
+        // begun anew
+        (1_600_001, OTHER, first, &[Seen::Report(14, 24)]),
+    ];
+    assert!(rt; gives(rt.alloc(), 8, &turns)?);
+    Ok(())
+}
+
+#[test]
+fn no_more_reports_are_open_than_there_are_slots(rt: HostRuntime) -> Result<(), Fail> {
+    let [first, ..] = FRAMES;
+    let turns: [Turn; 2] = [
+        (0, REPORT, first, &[]),
+        (1, OTHER, first, &[Seen::Report(15, 24)]),
+    ];
+    assert!(rt; gives(rt.alloc(), 1, &turns)?);
+    Ok(())
+}

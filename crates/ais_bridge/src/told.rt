@@ -1,0 +1,32 @@
+//! A rule that was broken, with who broke it.
+ghost use Rattle.std.specs.Prelude.{◌≡◌};
+ghost use Rattle.history.specs.Emits.{of_source, report};
+ghost use Rattle.ais_bridge.specs.Emitted.{told_emit};
+
+use capture_text::{Detail, Report};
+
+/// The number of the rule that a report's values can't be passed on: another kind of message, no number of a ship, or a transceiver that
+/// isn't known.
+pub(crate) const REPORT_OUTSIDE: u8 = 27;
+
+/// A rule that was broken, by the sender of a message of this PGN.
+#[derive(Clone, Copy, Default)]
+pub(crate) struct Told {
+    pub(crate) rule: u8,
+    pub(crate) source: u8,
+    pub(crate) pgn: u32,
+}
+
+impl Told {
+    pub(crate) fn report(self) -> Report
+        ensures { report result ≡ told_emit self }
+    {
+        Report {
+            rule: self.rule,
+            detail: Detail::Source {
+                address: self.source,
+                pgn: self.pgn,
+            },
+        }
+    }
+}

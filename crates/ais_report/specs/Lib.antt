@@ -1,0 +1,5 @@
+pub mod Bits
+pub mod Fields
+pub mod Armour
+pub mod Converted
+pub mod Read
