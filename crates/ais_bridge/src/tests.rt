@@ -13,26 +13,26 @@ use std::alloc::Global;
 use std::test::Fail;
 
 /// What the bridge emits.
-#[derive(Clone, Copy)]
-enum Seen {
-    Datagram(&'static [u8]),
+#[derive(Clone, Copy, Debug, PartialEq, Eq)]
+enum Seen<'a> {
+    Datagram(&'a [u8]),
     /// A rule that was broken, and the sender's address.
     Report(u8, u8),
 }
 
 /// A moment in microseconds, a frame, and what is emitted at it.
-type Turn = (u64, u32, u64, &'static [Seen]);
+type Turn = (u64, u32, u64, &'static [Seen<'static>]);
 
 const REPORT: u32 = 0x11F8_0E17;
 
 /// The same from another address.
 const OTHER: u32 = 0x11F8_0E18;
 
-const SAID: Seen = Seen::Datagram(
+const SAID: Seen<'static> = Seen::Datagram(
     b"UdPbC\0\\s:II0001,n:1*01\\!AIVDM,1,1,,A,12vg200P1T04Tv000003Q2l00000,0*29\r\n",
 );
 
-const SAID_AGAIN: Seen = Seen::Datagram(
+const SAID_AGAIN: Seen<'static> = Seen::Datagram(
     b"UdPbC\0\\s:II0001,n:2*02\\!AIVDM,1,1,,A,12vg200P1T04Tv000003Q2l00000,0*29\r\n",
 );
 
@@ -85,28 +85,27 @@ fn config() -> Config {
     }
 }
 
-fn is_seen(emit: Option<Emit<'_>>, seen: Seen) -> bool {
-    match (emit, seen) {
-        (Some(Emit::Net(_, bytes)), Seen::Datagram(wanted)) => bytes == wanted,
-        (Some(Emit::Report(report)), Seen::Report(rule, source)) => {
-            report.rule == rule
-                && report.detail
-                    == Detail::Source {
-                        address: source,
-                        pgn: 129_038,
-                    }
-        }
+/// Whether this is the emit at the place.
+fn is_at(emits: &AisEmits, place: usize, seen: Seen<'_>) -> bool {
+    match emits.item(place) {
+        Some(Emit::Net(_, bytes)) => seen == Seen::Datagram(bytes),
+        Some(Emit::Report(report)) => match report.detail {
+            Detail::Source { address, pgn } => {
+                pgn == 129_038 && seen == Seen::Report(report.rule, address)
+            }
+            _ => false,
+        },
         _ => false,
     }
 }
 
 /// Whether the emits are these, in their order.
-fn are_seen(emits: &AisEmits, seen: &[Seen]) -> bool {
+fn are_seen(emits: &AisEmits, seen: &[Seen<'_>]) -> bool {
     emits.len() == seen.len()
         && seen
             .iter()
             .enumerate()
-            .all(|(place, seen)| is_seen(emits.item(place), *seen))
+            .all(|(place, seen)| is_at(emits, place, *seen))
 }
 
 /// Whether a gateway and a bridge of so many slots give at each frame what stands beside it.

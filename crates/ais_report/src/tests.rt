@@ -1,3 +1,5 @@
+ghost use Rattle.std.specs.Prelude.{◌+◌, ◌≤◌, length};
+
 use crate::{AisFault, AisReport, armour, convert, read_armour};
 
 /// Message 1 of ship 200000000 under way: one degree east on the equator, to the east at 10.0 knots, heading east.
@@ -20,11 +22,11 @@ const ENDS: [u8; 26] = [
 ];
 
 /// The payload with other bytes from a place on.
-fn with(place: usize, bytes: &[u8]) -> [u8; 28] {
+fn with(place: usize, bytes: &[u8]) -> [u8; 28]
+    requires { place + length bytes.now ≤ 28 }
+{
     let mut payload = UNDER_WAY;
-    for (offset, byte) in bytes.iter().enumerate() {
-        payload[place + offset] = *byte;
-    }
+    payload[place..place + bytes.len()].copy_from_slice(bytes);
     payload
 }
 

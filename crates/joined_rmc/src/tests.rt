@@ -234,11 +234,7 @@ fn rmc_joins_what_was_said(rt: HostRuntime) -> Result<(), Fail> {
             };
             let said = step(&mut gateway, &mut join, &event, &mut out, &mut packet);
             assert_eq!(rt; said, !says.is_empty(), "{name} at {moment}");
-            assert_eq!(rt;
-                packet.as_slice(),
-                *says,
-                "{name} at {moment}"
-            );
+            assert_eq!(rt; packet.as_slice(), *says, "{name} at {moment}");
         }
     }
     Ok(())
