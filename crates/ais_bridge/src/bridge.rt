@@ -1,7 +1,6 @@
 //! The bridge.
-ghost use Rattle.std.specs.Prelude.{◌≡◌, ◌+◌, ◌<◌, ◌≤◌, [], length, replicate, IfOk, None};
+ghost use Rattle.std.specs.Prelude.{◌≡◌, ◌+◌, ◌<◌, ◌≤◌, [], length, replicate, All, IfOk, None};
 ghost use Rattle.std.specs.Int.{IsInRange};
-ghost use Rattle.std.specs.List.{AllByRecursion};
 ghost use Rattle.claim_table.specs.Claims.{places};
 ghost use Rattle.gate_core.specs.Steps.{IsEventValid, entry_of};
 ghost use Rattle.ais_bridge.specs.AisKept.{ais_opened, named};
@@ -57,7 +56,7 @@ impl AisBridge {
         presets: &[Preset],
     ) -> Result<AisBridge, AllocError>
         requires slots { IsInRange 1 256 config.now.slots }
-        requires presets { AllByRecursion (λ p. p.address < places) presets.now }
+        requires presets { All (λ p. p.address < places) presets.now }
         ensures value { IfOk result (λ b. b ≡ ais_opened config.now sfi presets.now) }
         ensures history { IfOk result (IsAisOpening config.now sfi presets.now) }
     {
@@ -86,7 +85,7 @@ impl AisBridge {
 
 /// The NAMEs of the presets by their addresses.
 fn names_of(presets: &[Preset]) -> Names
-    requires { AllByRecursion (λ p. p.address < places) presets.now }
+    requires { All (λ p. p.address < places) presets.now }
     ensures { result ≡ named (replicate places None) presets.now }
 {
     let mut names = [None; PLACES];

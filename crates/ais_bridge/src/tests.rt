@@ -111,7 +111,7 @@ fn are_seen(emits: &AisEmits, seen: &[Seen<'_>]) -> bool {
 /// Whether a gateway and a bridge of so many slots give at each frame what stands beside it.
 fn gives(alloc: Global, slots: u16, turns: &[Turn]) -> Result<bool, Fail> {
     let config = config();
-    if !config.valid() {
+    if !config.valid() || slots < 1 || slots > 256 {
         return Err("no configuration".into());
     }
     let mut gateway = Gateway::new(alloc, &config)?;
@@ -141,91 +141,93 @@ fn gives(alloc: Global, slots: u16, turns: &[Turn]) -> Result<bool, Fail> {
     Ok(true)
 }
 
-#[test]
-fn each_complete_report_is_said_once_with_its_count(rt: HostRuntime) -> Result<(), Fail> {
-    let [first, second, third, fourth, fifth] = FRAMES;
-    let turns: [Turn; 10] = [
-        (0, REPORT, first, &[]),
-        (1_000, REPORT, second, &[]),
-        (2_000, REPORT, third, &[]),
-        (3_000, REPORT, fourth, &[]),
-        (4_000, REPORT, fifth, &[SAID]),
-        (5_000, REPORT, first, &[]),
-        (6_000, REPORT, second, &[]),
-        (7_000, REPORT, third, &[]),
-        (8_000, REPORT, fourth, &[]),
-        (9_000, REPORT, fifth, &[SAID_AGAIN]),
-    ];
-    assert!(rt; gives(rt.alloc(), 8, &turns)?);
-    Ok(())
-}
+/// What each case is about, how many slots the bridge has, and what comes.
+const CASES: [(&str, u16, &[Turn]); 4] = [
+    (
+        "each complete report is said once, with its count",
+        8,
+        &[
+            (0, REPORT, FRAMES[0], &[]),
+            (1_000, REPORT, FRAMES[1], &[]),
+            (2_000, REPORT, FRAMES[2], &[]),
+            (3_000, REPORT, FRAMES[3], &[]),
+            (4_000, REPORT, FRAMES[4], &[SAID]),
+            (5_000, REPORT, FRAMES[0], &[]),
+            (6_000, REPORT, FRAMES[1], &[]),
+            (7_000, REPORT, FRAMES[2], &[]),
+            (8_000, REPORT, FRAMES[3], &[]),
+            (9_000, REPORT, FRAMES[4], &[SAID_AGAIN]),
+        ],
+    ),
+    (
+        "what can't be said is reported",
+        8,
+        &[
+            // a message of other kind
+            (0, REPORT, 0x001C_0400_C2EB_0B80, &[]),
+            (1_000, REPORT, FRAMES[1], &[]),
+            (2_000, REPORT, FRAMES[2], &[]),
+            (3_000, REPORT, FRAMES[3], &[]),
+            (4_000, REPORT, FRAMES[4], &[Seen::Report(27, 23)]),
+            // a later frame alone, and six bytes
+            (5_000, REPORT, FRAMES[2], &[Seen::Report(12, 23)]),
+            (
+                6_000,
+                REPORT,
+                0x0006_0102_0304_0506,
+                &[Seen::Report(22, 23)],
+            ),
+            // from nobody, and from the gateway itself
+            (7_000, 0x11F8_0E19, FRAMES[0], &[Seen::Report(10, 25)]),
+            (8_000, 0x11F8_0EFB, FRAMES[0], &[]),
+            // another message, and one in a single frame
+            (9_000, 0x0DF8_0517, FRAMES[0], &[]),
+            (10_000, 0x09F1_1217, 0x005C_3DFF_7FFF_7FFC, &[]),
+        ],
+    ),
+    (
+        "a report ends in time, and where its address changes hands",
+        8,
+        &[
+            (0, REPORT, FRAMES[0], &[]),
+            (750_000, REPORT, FRAMES[1], &[]),
+            (
+                1_500_001,
+                0x09F1_1217,
+                0x005C_3DFF_7FFF_7FFC,
+                &[Seen::Report(16, 23)],
+            ),
+            // 24 is claimed by the NAME that holds 23: what was left ends before what was won
+            (1_600_000, REPORT, FRAMES[0], &[]),
+            (1_600_000, OTHER, FRAMES[0], &[]),
+            (
+                1_600_000,
+                0x18EE_FF18,
+                0x0500_C0FF_008C_78C0,
+                &[Seen::Report(17, 23), Seen::Report(17, 24)],
+            ),
+            (1_600_000, REPORT, FRAMES[0], &[Seen::Report(10, 23)]),
+            (1_600_000, OTHER, FRAMES[0], &[]),
+            // begun anew
+            (1_600_001, OTHER, FRAMES[0], &[Seen::Report(14, 24)]),
+        ],
+    ),
+    (
+        "no more reports are open than there are slots",
+        1,
+        &[
+            (0, REPORT, FRAMES[0], &[]),
+            (1, OTHER, FRAMES[0], &[Seen::Report(15, 24)]),
+        ],
+    ),
+];
 
 #[test]
-fn what_cannot_be_said_is_reported(rt: HostRuntime) -> Result<(), Fail> {
-    let [_, second, third, fourth, fifth] = FRAMES;
-    let turns: [Turn; 11] = [
-        // a message of other kind
-        (0, REPORT, 0x001C_0400_C2EB_0B80, &[]),
-        (1_000, REPORT, second, &[]),
-        (2_000, REPORT, third, &[]),
-        (3_000, REPORT, fourth, &[]),
-        (4_000, REPORT, fifth, &[Seen::Report(27, 23)]),
-        // a later frame alone, and six bytes
-        (5_000, REPORT, third, &[Seen::Report(12, 23)]),
-        (
-            6_000,
-            REPORT,
-            0x0006_0102_0304_0506,
-            &[Seen::Report(22, 23)],
-        ),
-        // from nobody, and from the gateway itself
-        (7_000, 0x11F8_0E19, FRAMES[0], &[Seen::Report(10, 25)]),
-        (8_000, 0x11F8_0EFB, FRAMES[0], &[]),
-        // another message, and one in a single frame
-        (9_000, 0x0DF8_0517, FRAMES[0], &[]),
-        (10_000, 0x09F1_1217, 0x005C_3DFF_7FFF_7FFC, &[]),
-    ];
-    assert!(rt; gives(rt.alloc(), 8, &turns)?);
-    Ok(())
-}
-
-#[test]
-fn a_report_ends_in_time_and_where_its_address_changes_hands(rt: HostRuntime) -> Result<(), Fail> {
-    let [first, second, ..] = FRAMES;
-    let turns: [Turn; 9] = [
-        (0, REPORT, first, &[]),
-        (750_000, REPORT, second, &[]),
-        (
-            1_500_001,
-            0x09F1_1217,
-            0x005C_3DFF_7FFF_7FFC,
-            &[Seen::Report(16, 23)],
-        ),
-        // 24 is claimed by the NAME that holds 23: what was left ends before what was won
-        (1_600_000, REPORT, first, &[]),
-        (1_600_000, OTHER, first, &[]),
-        (
-            1_600_000,
-            0x18EE_FF18,
-            0x0500_C0FF_008C_78C0,
-            &[Seen::Report(17, 23), Seen::Report(17, 24)],
-        ),
-        (1_600_000, REPORT, first, &[Seen::Report(10, 23)]),
-        (1_600_000, OTHER, first, &[]),
-        // begun anew
-        (1_600_001, OTHER, first, &[Seen::Report(14, 24)]),
-    ];
-    assert!(rt; gives(rt.alloc(), 8, &turns)?);
-    Ok(())
-}
-
-#[test]
-fn no_more_reports_are_open_than_there_are_slots(rt: HostRuntime) -> Result<(), Fail> {
-    let [first, ..] = FRAMES;
-    let turns: [Turn; 2] = [
-        (0, REPORT, first, &[]),
-        (1, OTHER, first, &[Seen::Report(15, 24)]),
-    ];
-    assert!(rt; gives(rt.alloc(), 1, &turns)?);
+fn reports_are_said_exactly_as_is_meant(rt: HostRuntime) -> Result<(), Fail> {
+    for (name, slots, turns) in CASES {
+        if !gives(rt.alloc(), slots, turns)? {
+            return Err(name.into());
+        }
+    }
     Ok(())
 }
