@@ -14,10 +14,6 @@ use Rattle.ais_report.specs.Converted.{converted}
 use Rattle.history.specs.Emits.{Emit, net, of_source}
 use Rattle.history.specs.Messages.{Carried}
 
--- a message of reports whose values can't be passed on
-abbrev pub report_outside : ℕ
-report_outside = 27
-
 -- ---- the sentence: one of one, without a number of its own; the channel's letter, the report, and no bit that fills it up
 
 abbrev pub report_parts : AisReport × ℕ → SentenceParts
@@ -42,7 +38,7 @@ module _ (group sfi : List ℕ) (before source pgn : ℕ) where
   abbrev pub converted_gives : Result (AisReport × ℕ) AisFault → List Emit
   converted_gives (Ok x) = net group (report_datagram sfi before x) ∷ []
   converted_gives (Err Short) = of_source rules.short_message source pgn ∷ []
-  converted_gives (Err Outside) = of_source report_outside source pgn ∷ []
+  converted_gives (Err Outside) = of_source rules.ais_report_outside source pgn ∷ []
 
   -- where there is a message
   abbrev pub carried_gives : Option (List ℕ) → List Emit

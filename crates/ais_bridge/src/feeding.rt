@@ -21,7 +21,7 @@ ghost use Rattle.ais_bridge.specs.Promises.{step_by};
 
 use crate::bridge::AisBridge;
 use crate::emits::AisEmits;
-use crate::told::{REPORT_OUTSIDE, Told};
+use crate::told::Told;
 use crate::writing::MOST_COUNT;
 use ais_report::{AisFault, AisReport, convert};
 use capture_text::Event;
@@ -29,7 +29,8 @@ use fast_packet::{FastAssembler, FastFed, FastOutcome, FastRefusal};
 use gate_core::Gateway;
 use n2k_id::{Frame, Name, Parts, parts, read_name};
 use report_rules::{
-    EXPIRED, FAST_LENGTH, FAST_ORDER, FAST_ORPHAN, RESTARTED, SHORT_MESSAGE, SLOTS_FULL, UNCLAIMED,
+    AIS_REPORT_OUTSIDE, EXPIRED, FAST_LENGTH, FAST_ORDER, FAST_ORPHAN, RESTARTED, SHORT_MESSAGE,
+    SLOTS_FULL, UNCLAIMED,
 };
 
 /// AIS class A position report.
@@ -160,7 +161,7 @@ impl AisBridge {
                 self.lines = (self.lines + 1) % MOST_COUNT;
             }
             Some(Err(AisFault::Short)) => emits.tell(told(SHORT_MESSAGE, parts)),
-            Some(Err(AisFault::Outside)) => emits.tell(told(REPORT_OUTSIDE, parts)),
+            Some(Err(AisFault::Outside)) => emits.tell(told(AIS_REPORT_OUTSIDE, parts)),
             None => {}
         }
     }

@@ -5,10 +5,6 @@ ghost use Rattle.ais_bridge.specs.Emitted.{told_emit};
 
 use capture_text::{Detail, Report};
 
-/// The number of the rule that a report's values can't be passed on: another kind of message, no number of a ship, or a transceiver that
-/// isn't known.
-pub(crate) const REPORT_OUTSIDE: u8 = 27;
-
 /// A rule that was broken, by the sender of a message of this PGN.
 #[derive(Clone, Copy, Default)]
 pub(crate) struct Told {

@@ -25,7 +25,7 @@ whole_arrival bytes rest count arrival is len =
 pub no_arrival : (buffer : List ℕ) (arrival : Option (List ℕ)) → arrival ≡ None → IsArrivalThere buffer arrival Nothing
 no_arrival buffer arrival is = subst (λ (a : Option (List ℕ)). IsArrivalThere buffer a Nothing) (sym is) tt
 
-outcome_is : (buffer : List ℕ) (there : Option (List ℕ)) (arrival : Arrival) → IsArrivalThere buffer there arrival → outcome_of buffer (Ok arrival) ≡ Ok there
+pub outcome_is : (buffer : List ℕ) (there : Option (List ℕ)) (arrival : Arrival) → IsArrivalThere buffer there arrival → outcome_of buffer (Ok arrival) ≡ Ok there
 outcome_is buffer None (Bytes count) h = absurd h
 outcome_is buffer None Nothing h = refl
 outcome_is buffer (Some bytes) (Bytes count) h = ap (λ (bs : List ℕ). Ok (Some bs)) h.1

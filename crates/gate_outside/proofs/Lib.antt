@@ -1,3 +1,4 @@
 pub mod Pairs
 pub mod Arrivals
+pub mod Numbered
 pub mod StreamLemmas

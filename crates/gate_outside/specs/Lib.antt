@@ -7,7 +7,9 @@ pub mod QuietInput
 pub mod MemOutput
 pub mod QuietOutput
 pub mod Files
+pub mod MemFile
 pub mod MemTime
 pub mod Link
 pub mod LinkMemory
+pub mod MemLink
 pub mod Streams

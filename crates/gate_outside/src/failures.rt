@@ -21,8 +21,8 @@ impl Model for Failures {
 }
 
 impl Failures {
-    ghost use Rattle.std.specs.Prelude.{◌≡◌, ◌≤◌, IsTrue};
-    ghost use Rattle.gate_outside.specs.Faults.{fails_next, after_call, Rose};
+    ghost use Rattle.std.specs.Prelude.{◌≡◌, ◌≤◌, ◌-◌, IsTrue, nat_le};
+    ghost use Rattle.gate_outside.specs.Faults.{last_count, fails_next, after_call, Rose};
 
     pub(crate) fn at(failing: Vec<u32>) -> Self
         ensures { result ≡ record { failing = failing.items; calls = 0; faults = 0 } }
@@ -38,6 +38,20 @@ impl Failures {
         ensures { result ≡ self.now.faults }
     {
         self.faults
+    }
+
+    /// Whether one more call is more than can be counted.
+    pub(crate) fn is_last(&self) -> bool
+        ensures { result ≡ nat_le last_count self.now.calls }
+    {
+        self.calls == u64::MAX
+    }
+
+    /// How many calls didn't fail.
+    pub(crate) fn passed(&self) -> u64
+        ensures { result ≡ self.now.calls - self.now.faults }
+    {
+        self.calls.saturating_sub(self.faults)
     }
 
     /// Whether the next call is one that fails.

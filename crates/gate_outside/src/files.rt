@@ -7,7 +7,7 @@ use crate::LoadFault;
 use std::alloc::Global;
 
 /// The most bytes of a file that is loaded: 1 MiB.
-pub(crate) const LARGEST: usize = 1 << 20;
+pub const LARGEST_FILE: usize = 1 << 20;
 
 /// The files of a system, by name.
 pub trait Files {

@@ -97,7 +97,7 @@ fn pair_in<'a>(parcels: &[Parcel], bytes: &'a [u8], place: usize) -> Option<(Gro
 }
 
 impl Handover {
-    ghost use Rattle.std.specs.Prelude.{◌≡◌, [], Some, None, IfOk, IsOk, is_some, option_map};
+    ghost use Rattle.std.specs.Prelude.{◌≡◌, [], Some, None, IfOk, IsOk, is_some, option_map, if◌then◌else◌};
     ghost use Rattle.gate_outside.specs.LinkMemory.{told_after, pair_at};
 
     /// Nothing yet, with room for so many bytes in so many pairs. With none of either it takes no
@@ -128,6 +128,13 @@ impl Handover {
         ensures { self.new ≡ record self.old { handed = None } }
     {
         self.told = false;
+    }
+
+    /// Tells nothing any more, where so.
+    pub(crate) fn stop_if(&mut self, so: bool)
+        ensures { self.new ≡ record self.old { handed = if so then None else self.old.handed } }
+    {
+        self.told = self.told && !so;
     }
 
     pub(crate) fn add(&mut self, group: Group, piece: &[u8])

@@ -1,6 +1,5 @@
 //! Files in memory that never fail.
-use crate::files::LARGEST;
-use crate::{Files, LoadFault};
+use crate::{Files, LARGEST_FILE, LoadFault};
 use std::alloc::Global;
 use std::marker::Model;
 
@@ -37,7 +36,9 @@ impl QuietFiles {
 }
 
 impl Files for QuietFiles {
-    ghost use Rattle.std.specs.Prelude.{Some};
+    ghost use Rattle.std.specs.Prelude.{◌≡◌, Some, false};
+    ghost use Rattle.gate_outside.specs.Files.{Loads, HasLoadCause};
+    ghost use Rattle.gate_outside.specs.MemFile.{Gives};
 
     ghost content = { λ f _. Some f };
 
@@ -47,8 +48,13 @@ impl Files for QuietFiles {
         0
     }
 
-    fn load(&mut self, alloc: Global, _name: &str) -> Result<Vec<u8>, LoadFault> {
-        if self.content.len() > LARGEST {
+    fn load(&mut self, alloc: Global, _name: &str) -> Result<Vec<u8>, LoadFault>
+        ensures bytes { Loads (Some self.old) result }
+        ensures kept { self.new ≡ self.old }
+        ensures cause { HasLoadCause 0 0 result }
+        ensures exact { Gives self.old false result }
+    {
+        if self.content.len() > LARGEST_FILE {
             return Err(LoadFault::TooLong);
         }
         match Vec::from_slice(alloc, &self.content) {

@@ -109,6 +109,66 @@ fn links_and_files_give_what_they_hold(rt: HostRuntime) -> Result<(), Fail> {
 }
 
 #[test]
+fn a_load_fails_by_its_number(rt: HostRuntime) -> Result<(), Fail> {
+    let alloc = rt.alloc();
+    let mut files = MemFiles::of(b"turns".to_vec(alloc)?, [1].to_vec(alloc)?);
+    assert!(rt; matches!(&files.load(alloc, "any"), Err(LoadFault::Failed)));
+    assert_eq!(rt; files.faults(), 1);
+    assert_eq!(rt;
+        files
+            .load(alloc, "any")
+            .expect(&rt, "the second load")
+            .as_slice(),
+        b"turns".as_slice()
+    );
+    Ok(())
+}
+
+#[test]
+fn a_failed_receive_takes_nothing_from_the_script(rt: HostRuntime) -> Result<(), Fail> {
+    let alloc = rt.alloc();
+    let script = vec![in alloc; Some(b"one".to_vec(alloc)?)]?;
+    let failing = [1].to_vec(alloc)?;
+    let mut link = MemLink::of(alloc, 0, 0, script, false, failing, Vec::new(alloc))?;
+    let mut buf = [0; 1500];
+    assert_eq!(rt; link.receive(&mut buf), Err(Failed));
+    assert_eq!(rt; link.receive(&mut buf), Ok(Arrival::Bytes(3)));
+    assert_eq!(rt; &buf[..3], b"one".as_slice());
+    assert_eq!(rt; link.receive(&mut buf), Ok(Arrival::Nothing));
+    Ok(())
+}
+
+#[test]
+fn a_failed_send_hands_nothing_over(rt: HostRuntime) -> Result<(), Fail> {
+    let alloc = rt.alloc();
+    let none = Vec::new(alloc);
+    let failing = [1].to_vec(alloc)?;
+    let mut link = MemLink::of(alloc, 8, 2, Vec::new(alloc), false, none, failing)?;
+    assert_eq!(rt; link.send(Group::default(), b"lost"), Err(Failed));
+    assert_eq!(rt; link.send(Group::default(), b"kept"), Ok(()));
+    match link.handed(0) {
+        Some((_, told)) => assert_eq!(rt; told, b"kept".as_slice()),
+        None => panic!(rt; "no pair"),
+    }
+    assert!(rt; link.handed(1).is_none());
+    Ok(())
+}
+
+#[test]
+fn an_attach_fails_where_it_is_told_to(rt: HostRuntime) -> Result<(), Fail> {
+    let alloc = rt.alloc();
+    let routes = Routes {
+        list: arrayvec::ArrayVec::new(),
+        other: Address::new(),
+    };
+    let none = Vec::new(alloc);
+    let mut link = MemLink::of(alloc, 0, 0, Vec::new(alloc), true, none, Vec::new(alloc))?;
+    assert_eq!(rt; link.attach(b"127.0.0.1:60001", &routes), Err(Failed));
+    assert_eq!(rt; link.faults(), 1);
+    Ok(())
+}
+
+#[test]
 fn the_greatest_forms_find_their_memory(rt: HostRuntime) -> Result<(), Fail> {
     let alloc = rt.alloc();
     let sink = MemSink::of(alloc, u32::MAX, usize::MAX, Vec::new(alloc))?;

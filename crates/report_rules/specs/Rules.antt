@@ -90,6 +90,10 @@ claim_or_request_malformed = 25
 abbrev pub command_not_obeyed : ℕ
 command_not_obeyed = 26
 
+-- a report of a ship around says what can't be passed on: another kind of message, no number of a ship, or a transceiver that isn't known
+abbrev pub ais_report_outside : ℕ
+ais_report_outside = 27
+
 -- a datagram doesn't begin with its header
 abbrev pub datagram_header : ℕ
 datagram_header = 30
@@ -162,6 +166,14 @@ too_many_lines = 46
 abbrev pub datagram_long : ℕ
 datagram_long = 47
 
+-- a frame or a datagram couldn't be sent
+abbrev pub send_failed : ℕ
+send_failed = 50
+
+-- what came over a link couldn't be received
+abbrev pub receive_failed : ℕ
+receive_failed = 51
+
 -- of the lines of a capture, and of events
 abbrev pub capture_rules : List ℕ
 capture_rules = capture_form ∷ line_long ∷ moment_back ∷ not_extended ∷ not_converted ∷ []
@@ -170,10 +182,14 @@ capture_rules = capture_form ∷ line_long ∷ moment_back ∷ not_extended ∷ 
 abbrev pub bus_rules : List ℕ
 bus_rules = unclaimed ∷ fast_order ∷ fast_orphan ∷ fast_length ∷ restarted ∷ slots_full ∷ expired ∷ claim_lost ∷ iso_size ∷
     iso_order ∷ iso_orphan ∷ iso_aborted ∷ short_message ∷ duplicate_name ∷ own_address_used ∷ claim_or_request_malformed ∷
-    command_not_obeyed ∷ []
+    command_not_obeyed ∷ ais_report_outside ∷ []
 
 -- of datagrams from the network
 abbrev pub network_rules : List ℕ
 network_rules = datagram_header ∷ line_form ∷ tag_form ∷ tag_sum ∷ no_source ∷ sentence_form ∷ sentence_sum ∷ unlisted_source ∷ own_line
     ∷ other_destination ∷ group_order ∷ group_slots_full ∷ group_expired ∷ field_form ∷ field_range ∷ not_ready ∷
     too_many_lines ∷ datagram_long ∷ []
+
+-- of the two links
+abbrev pub link_rules : List ℕ
+link_rules = send_failed ∷ receive_failed ∷ []

@@ -1,8 +1,8 @@
 //! The rules that a report can name, by their numbers.
 //!
 //! A report says which rule a piece of the input broke. The numbers are shipgate's own, and they stand in its output: what
-//! causes each and what to do about it is in `docs/reports.md`. Rules 1 to 5 speak of captures and events, 10 to 26 of the
-//! bus, 30 to 47 of datagrams.
+//! causes each and what to do about it is in `docs/reports.md`. Rules 1 to 5 speak of captures and events, 10 to 27 of the
+//! bus, 30 to 47 of datagrams, 50 and 51 of the two links.
 #![tactic(auto)]
 
 mod laws;
@@ -75,6 +75,9 @@ pub const CLAIM_OR_REQUEST_MALFORMED: u8 = 25;
 /// A command to go to an address can't be obeyed.
 pub const COMMAND_NOT_OBEYED: u8 = 26;
 
+/// A report of a ship around says what can't be passed on.
+pub const AIS_REPORT_OUTSIDE: u8 = 27;
+
 /// A datagram doesn't begin with its header.
 pub const DATAGRAM_HEADER: u8 = 30;
 
@@ -128,3 +131,9 @@ pub const TOO_MANY_LINES: u8 = 46;
 
 /// A datagram has more bytes than a datagram may have.
 pub const DATAGRAM_LONG: u8 = 47;
+
+/// A frame or a datagram couldn't be sent.
+pub const SEND_FAILED: u8 = 50;
+
+/// What came over a link couldn't be received.
+pub const RECEIVE_FAILED: u8 = 51;

@@ -2,7 +2,7 @@ use Rattle.std.proofs.Common.{◌∙◌, List, ℕ, length, sym, ap, arith}
 use Rattle.std.specs.Prelude.{Some}
 use Rattle.gate_outside.specs.LinkMemory.{arrival_of}
 use Rattle.gate_outside.proofs.Arrivals.{arrival_past, arrival_here, whole_arrival, no_arrival}
-use Rattle.gate_outside.proofs.quiet_link.arrival_at.Goals as goal
+use Rattle.gate_outside.proofs.incoming.arrival_at.Goals as goal
 
 pub returns-then-place-script : goal.returns-then-place-script
 returns-then-place-script c = no_arrival c.args.buf.now _ (arrival_past c.args.script.now c.args.place (omega arith))
