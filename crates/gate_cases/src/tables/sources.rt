@@ -1,7 +1,7 @@
 //! Who is heard: of the bus by preference, of the network line by line.
-use crate::gateway_tests::cases::{HEADING, HEADING_OF_23, HEADING_OF_24};
-use crate::gateway_tests::setup::{PREFERRING, USUAL};
-use crate::gateway_tests::{Case, Comes, Seen};
+use crate::case::{Case, Comes, Seen};
+use crate::setup::{PREFERRING, USUAL};
+use crate::tables::{HEADING, HEADING_OF_23, HEADING_OF_24};
 
 pub(crate) const CASES: [Case; 3] = [
     Case {
@@ -51,6 +51,7 @@ pub(crate) const CASES: [Case; 3] = [
                 ],
             ),
             (10_251_000, Comes::Datagram(b"UdPbC"), &[Seen::At(30, 5)]),
+            (10_251_000, Comes::Datagram(b"UdPbX"), &[Seen::At(30, 4)]),
         ],
     },
     Case {

@@ -1,10 +1,10 @@
 //! Addresses that change hands, and what becomes of what is in the making and of what was said.
-use crate::gateway_tests::cases::{
+use crate::case::{Case, Comes, Seen};
+use crate::setup::{AT_ZERO, PREFERRING, USUAL};
+use crate::tables::{
     CLEAR_TO_SEND, FIX_0, FIX_1, FIX_2, FIX_3, FIX_4, FIX_5, FIX_6, FIX_SAID, HEADING,
     HEADING_OF_23, HEADING_OF_24, REQUEST_TO_SEND,
 };
-use crate::gateway_tests::setup::{AT_ZERO, PREFERRING, USUAL};
-use crate::gateway_tests::{Case, Comes, Seen};
 
 pub(crate) const CASES: [Case; 7] = [
     Case {

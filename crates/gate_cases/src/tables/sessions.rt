@@ -1,9 +1,9 @@
 //! Sessions of the transport protocol, and commands.
-use crate::gateway_tests::cases::{CLEAR_TO_SEND, REQUEST_TO_SEND};
-use crate::gateway_tests::setup::USUAL;
-use crate::gateway_tests::{Case, Comes, Seen};
+use crate::case::{Case, Comes, Seen};
+use crate::setup::USUAL;
+use crate::tables::{CLEAR_TO_SEND, FIX_OF_24, FIX_SAID, REQUEST_TO_SEND};
 
-pub(crate) const CASES: [Case; 3] = [
+pub(crate) const CASES: [Case; 4] = [
     Case {
         shows: "a command is obeyed",
         setup: USUAL,
@@ -82,6 +82,58 @@ pub(crate) const CASES: [Case; 3] = [
                 1_250_000,
                 Comes::Frame(0x1CECFB17, 0xFF01FFFFFF05F801),
                 &[Seen::Source(21, 23, 129029)],
+            ),
+        ],
+    },
+    Case {
+        shows: "what is overdue is reported first, then comes the acknowledgement, and the datagram last",
+        setup: USUAL,
+        start: 10_000_000,
+        turns: &[
+            (10_250_000, FIX_OF_24, &[]),
+            (
+                10_250_000,
+                Comes::Frame(0x1CECFB17, 0x102B0007FF05F801),
+                &[Seen::Frame(0x1CEC17FB, 0x110701FFFF05F801)],
+            ),
+            (
+                10_300_000,
+                Comes::Frame(0x1CEBFB17, 0x0100DB4C0008AF2F),
+                &[],
+            ),
+            (
+                10_300_000,
+                Comes::Frame(0x1CEBFB17, 0x0200000000000000),
+                &[],
+            ),
+            (
+                10_300_000,
+                Comes::Frame(0x1CEBFB17, 0x0308000000000000),
+                &[],
+            ),
+            (
+                10_300_000,
+                Comes::Frame(0x1CEBFB17, 0x040002E0AEBB0000),
+                &[],
+            ),
+            (
+                10_300_000,
+                Comes::Frame(0x1CEBFB17, 0x0500000010FC0969),
+                &[],
+            ),
+            (
+                10_900_000,
+                Comes::Frame(0x1CEBFB17, 0x0600FF7FF4060000),
+                &[],
+            ),
+            (
+                11_000_001,
+                Comes::Frame(0x1CEBFB17, 0x0700FFFFFFFFFFFF),
+                &[
+                    Seen::Source(16, 24, 129029),
+                    Seen::Frame(0x1CEC17FB, 0x132B0007FF05F801),
+                    FIX_SAID,
+                ],
             ),
         ],
     },

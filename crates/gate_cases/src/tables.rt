@@ -5,7 +5,7 @@ pub(crate) mod messages;
 pub(crate) mod sessions;
 pub(crate) mod sources;
 
-use crate::gateway_tests::{Comes, Seen};
+use crate::case::{Comes, Seen};
 
 /// The sentence of the heading 90.0, for all, as it comes from the first source of the network.
 pub(crate) const HEADING: Comes = Comes::Datagram(

@@ -1,9 +1,7 @@
 //! Messages of the bus, and what is wrong with them.
-use crate::gateway_tests::cases::{
-    FIX_0, FIX_1, FIX_2, FIX_3, FIX_4, FIX_5, FIX_6, FIX_SAID, HEADING_OF_23,
-};
-use crate::gateway_tests::setup::USUAL;
-use crate::gateway_tests::{Case, Comes, Seen};
+use crate::case::{Case, Comes, Seen};
+use crate::setup::USUAL;
+use crate::tables::{FIX_0, FIX_1, FIX_2, FIX_3, FIX_4, FIX_5, FIX_6, FIX_SAID, HEADING_OF_23};
 
 pub(crate) const CASES: [Case; 5] = [
     Case {

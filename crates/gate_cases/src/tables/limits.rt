@@ -1,9 +1,7 @@
 //! How much may be in the making, and the moments.
-use crate::gateway_tests::cases::{
-    CLEAR_TO_SEND, FIX_0, FIX_1, FIX_OF_24, HEADING_OF_23, REQUEST_TO_SEND,
-};
-use crate::gateway_tests::setup::{ONE_EACH, USUAL};
-use crate::gateway_tests::{Case, Comes, Seen};
+use crate::case::{Case, Comes, Seen};
+use crate::setup::{ONE_EACH, USUAL};
+use crate::tables::{CLEAR_TO_SEND, FIX_0, FIX_1, FIX_OF_24, HEADING_OF_23, REQUEST_TO_SEND};
 
 pub(crate) const CASES: [Case; 4] = [
     Case {
