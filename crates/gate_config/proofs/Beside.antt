@@ -1,6 +1,6 @@
 -- What tests against what stands already tell, and what lists become by one more item that can stand there.
-use Rattle.std.proofs.Common.{◌≡◌, ◌≢◌, ℕ, ◌<◌, ◌==◌, Bool, true, false, List, [], ◌∷◌, ◌++◌, length, get_or, Option, Some, None, All, refl, sym, ap, ◌∙◌, subst, arith}
-use Rattle.std.specs.Prelude.{◌||◌, option_map}
+use Rattle.std.proofs.Common.{◌≡◌, ◌≢◌, ℕ, ◌<◌, ◌==◌, false, List, [], ◌∷◌, ◌++◌, get_or, Option, Some, None, sym, ap, ◌∙◌, subst, arith}
+use Rattle.std.specs.Prelude.{option_map}
 use Rattle.std.specs.Option.{ForSome}
 use Rattle.std.specs.List.{AllPairs, list_any}
 use Rattle.std.proofs.lemmas.Bool.{eqb-false, false≢true, or_parts}
@@ -16,7 +16,7 @@ use Rattle.config_values.specs.Endpoints.{IsEndpoint}
 use Rattle.config_values.specs.Presets.{AreApart, ArePresets}
 use Rattle.config_values.specs.declared.row_config.RowConfig.{RowConfig}
 use Rattle.gate_outside.specs.declared.address.Route.{Route}
-use Rattle.settings.specs.Settings.{IsAis, IsOwnGroup}
+use Rattle.settings.specs.Settings.{IsAis}
 use Rattle.settings.specs.declared.ais.AisConfig.{AisConfig}
 use Rattle.settings.specs.declared.rmc.RmcConfig.{RmcConfig}
 use Rattle.gate_config.specs.Beside.{AreSourcesBeside, IsAisBeside, IsGroupBeside, IsPresetBeside, IsRouteBeside}

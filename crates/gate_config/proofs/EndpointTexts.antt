@@ -1,7 +1,6 @@
 -- The test of an endpoint tells what an endpoint is.
-use Rattle.std.proofs.Common.{◌≡◌, ℕ, zero, suc, ◌+◌, ◌^◌, ◌<◌, ◌≤◌, ◌==◌, Bool, true, false, ◌&&◌, IsTrue, List, [], ◌∷◌, ◌++◌, length, get_or, take, drop, decimal, Option, Some, None, nat_eq, refl, sym, ap, ◌∙◌, subst, arith, inl, inr, eqb-true, eq-eqb, le-leb, lt-ltb, lit≤}
-use Rattle.std.specs.Prelude.{◌↔◌, nat_le, nat_lt, codes}
-use Rattle.std.specs.Cmp.Lexicographic.{pointwise}
+use Rattle.std.proofs.Common.{◌≡◌, ℕ, ◌^◌, ◌==◌, Bool, true, false, ◌&&◌, IsTrue, List, [], ◌∷◌, take, decimal, Option, Some, None, nat_eq, refl, sym, ap, ◌∙◌, subst, arith, inl, inr, eqb-true, eq-eqb, le-leb, lt-ltb, lit≤}
+use Rattle.std.specs.Prelude.{◌↔◌, nat_le, nat_lt}
 use Rattle.std.specs.List.{position}
 use Rattle.std.specs.Str.Parse.{digits_value}
 use Rattle.std.specs.Net.Reader.{read_ipv4}

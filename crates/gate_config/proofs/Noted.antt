@@ -1,7 +1,7 @@
 -- Paths that are noted table by table.
-use Rattle.std.proofs.Common.{◌≡◌, ℕ, List, Option, None, Vec, Global, Result, Ok, Err, IfOk, refl, ap, ◌∙◌}
+use Rattle.std.proofs.Common.{◌≡◌, ℕ, List, Option, None, Vec, Global, Result, Ok, Err, IfOk, ap, ◌∙◌}
 use Rattle.std.specs.Prelude.{codes}
-use Rattle.toml.specs.Data.{Items, get_member}
+use Rattle.toml.specs.Data.{get_member}
 use Rattle.config_document.specs.Places.{Place}
 use Rattle.config_document.specs.Unknown.{path_seen}
 use Rattle.gate_config.specs.Unknown

@@ -1,7 +1,6 @@
 -- What is read of a value is valid where it is configured.
-use Rattle.std.proofs.Common.{◌≡◌, ℕ, ◌≤◌, ◌&&◌, nat_le, IsTrue, List, length, get_or, All, arith}
+use Rattle.std.proofs.Common.{ℕ, nat_le, IsTrue, List, get_or, All}
 use Rattle.std.specs.Int.{IsInRange}
-use Rattle.std.specs.List.{list_all}
 use Rattle.std.proofs.lemmas.Bool.{and_parts, leb-true}
 use Rattle.sentence_text.specs.Byte.{is_capital}
 use Rattle.n2k_id.specs.declared.pattern.Pattern.{Pattern}

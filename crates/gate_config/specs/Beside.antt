@@ -1,6 +1,6 @@
 -- What can stand beside what stands already: presets of the bus (ISO 11783-5), routes of transmission groups and the groups of parts
 -- (IEC 61162-450).
-use Rattle.std.specs.Prelude.{◌≡◌, ◌≢◌, ◌<◌, ℕ, List, All, Option}
+use Rattle.std.specs.Prelude.{◌≢◌, ◌<◌, ℕ, List, All, Option}
 use Rattle.std.specs.Int.{IsInRange}
 use Rattle.std.specs.List.{AllPairs}
 use Rattle.std.specs.Option.{ForSome}

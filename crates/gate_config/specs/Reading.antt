@@ -1,6 +1,6 @@
 -- One key after another: what is read is kept, and the first fault ends it.
-use Rattle.std.specs.Prelude.{ℕ, Bool, List, ◌++◌, codes, Option, Some, None, unwrap_or, Result, Ok, Err, if◌then◌else◌}
-use Rattle.toml.specs.Data.{Members, no_members}
+use Rattle.std.specs.Prelude.{ℕ, Bool, List, Option, unwrap_or, Result, Ok, Err, if◌then◌else◌}
+use Rattle.toml.specs.Data.{no_members}
 use Rattle.config_document.specs.declared.fault.Flaw.TheVariants as flaw
 use Rattle.config_document.specs.declared.fault.ConfigFault.{ConfigFault}
 use Rattle.config_document.specs.Faults.{fault_at}

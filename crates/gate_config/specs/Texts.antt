@@ -6,7 +6,6 @@ use Rattle.std.specs.List.{position}
 use Rattle.std.specs.Net.Reader.{read_ipv4}
 use Rattle.std.specs.Option.{option_eq}
 use Rattle.std.specs.Str.Parse.{digits_value}
-use Rattle.arrayvec.specs.ArrayVec.{ArrayVec}
 use Rattle.n2k_id.specs.declared.pattern.Pattern.{Pattern}
 use Rattle.gate_config.specs.declared.endpoint.Endpoint.{Endpoint}
 

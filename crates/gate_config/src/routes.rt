@@ -1,6 +1,5 @@
 //! The keys of each `route`: transmission groups that are sent to an address of their own.
 ghost use Rattle.std.specs.Prelude.{◌≡◌, IfOk};
-ghost use Rattle.std.specs.List.{list_any};
 ghost use Rattle.config_document.specs.Places.{place_of};
 ghost use Rattle.config_values.specs.Configs.{AreRoutes};
 ghost use Rattle.gate_config.specs.Beside.{IsRouteBeside};

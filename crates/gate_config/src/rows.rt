@@ -1,11 +1,11 @@
 //! The keys of each row: whom it is taken from, and how it is said.
-ghost use Rattle.std.specs.Prelude.{◌≡◌, ◌≤◌, [], All, IfOk, IsTrue, length, map};
+ghost use Rattle.std.specs.Prelude.{◌≡◌, [], All, IfOk, IsTrue, map};
 ghost use Rattle.std.specs.List.{list_all};
 ghost use Rattle.config_document.specs.Places.{place_of};
 ghost use Rattle.config_document.specs.Texts.{IsTalker};
 ghost use Rattle.config_values.specs.Rows.{AreSources, IsRow};
 ghost use Rattle.gate_config.specs.Keys.{row_at, row_in, row_sources_in, rows_from, rows_in};
-ghost use Rattle.gate_config.specs.Listed.{IsListed, is_listed, listed_seen};
+ghost use Rattle.gate_config.specs.Listed.{is_listed, listed_seen};
 
 use crate::items::row_prefix;
 use crate::keys::{number_or, section, text_or, truth_or};

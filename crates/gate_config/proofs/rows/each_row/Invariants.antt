@@ -1,4 +1,4 @@
-use Rattle.std.proofs.Common.{◌≡◌, ◌≤◌, [], All, length, map, drop}
+use Rattle.std.proofs.Common.{◌≡◌, [], All, length, map, drop}
 use Rattle.config_document.specs.Places.{place_of}
 use Rattle.config_values.specs.Rows.{IsRow}
 use Rattle.gate_config.specs.Keys.{rows_from}
