@@ -1,3 +1,4 @@
+pub mod ConfigLemmas
 pub mod LineCommandLemmas
 pub mod Numbers
 pub mod ReplayLemmas

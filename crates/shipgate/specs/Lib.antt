@@ -1,5 +1,9 @@
+pub mod Check
+pub mod Configuring
 pub mod Convert
 pub mod LineCommand
+pub mod Program
+pub mod ReplayCommand
 pub mod Run
 pub mod Says
 pub mod Show

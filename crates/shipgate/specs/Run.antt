@@ -1,13 +1,9 @@
 -- What the statuses of the program say.
-use Rattle.std.specs.Prelude.{◌≡◌, ◌≤◌, ◌⊎◌, ◌↔◌, ℕ, List, [], ◌++◌, length, Option, Some, None}
+use Rattle.std.specs.Prelude.{◌≡◌, ◌≤◌, ◌⊎◌, ℕ, List, [], ◌++◌, length, Option, Some}
 use Rattle.gate_outside.specs.Faults.{Rose}
 use Rattle.gate_outside.specs.Told.{Joins}
 use Rattle.capture_stream.specs.declared.ending.Ending.{Ending}
 use Rattle.capture_stream.specs.declared.ending.Ending.TheVariants.{Done, SinkFailed, SourceFailed, TooLong}
-use Rattle.shipgate.specs.declared.words.Command.TheVariants.{Lines}
-use Rattle.shipgate.specs.declared.words.LineCommand.{LineCommand}
-use Rattle.shipgate.specs.Words.{IsForm, IsNoForm}
-use Rattle.shipgate.specs.LineCommand.{AreTextsOf}
 use Rattle.capture_stream.specs.Progress.{input_limit, Finishes, StopsReading, StopsWriting, PassesLimit}
 
 abbrev pub status_of : Ending → ℕ
@@ -16,15 +12,21 @@ status_of SinkFailed = 4
 status_of SourceFailed = 5
 status_of TooLong = 8
 
-abbrev pub IsStatus : ℕ → Type 0
-IsStatus status = (status ≡ 0) ⊎ ((status ≡ 2) ⊎ ((status ≡ 4) ⊎ ((status ≡ 5) ⊎ (status ≡ 8))))
-
--- the statuses of a replay; 7 is want of memory before it
+-- the statuses of a command over the lines of a capture
 abbrev pub IsStreamStatus : ℕ → Type 0
 IsStreamStatus status = (status ≡ 0) ⊎ ((status ≡ 4) ⊎ ((status ≡ 5) ⊎ (status ≡ 8)))
 
+-- those of a replay; 7 is want of memory before it
 abbrev pub IsReplayStatus : ℕ → Type 0
 IsReplayStatus status = (status ≡ 7) ⊎ IsStreamStatus status
+
+-- the statuses of the program
+abbrev pub IsStatus : ℕ → Type 0
+IsStatus status = (status ≡ 2) ⊎ ((status ≡ 3) ⊎ ((status ≡ 6) ⊎ IsReplayStatus status))
+
+-- what comes before the first event, of a file that can't be read and for want of memory
+abbrev pub IsEarly : ℕ → Type 0
+IsEarly status = (status ≡ 6) ⊎ (status ≡ 7)
 
 -- This line was offered to the sink: all of it was taken, or some front of it where the count of faults rose.
 pub record Offers (told told' : Option (List ℕ)) (before after : ℕ) (line : List ℕ) : Type 0 where
@@ -49,9 +51,3 @@ pub record IsUnhindered (left : Option (List ℕ)) (source source' sink sink' : 
   pub within : length bytes ≤ input_limit
   pub source_held : Rose source source' → ⊥
   pub sink_held : Rose sink sink' → ⊥
-
--- What the program says by its status of its words and of what its reader had left, whatever its writer tells.
-pub record RunsOver (words : List (List ℕ)) (left : Option (List ℕ)) (status : ℕ) : Type 0 where
-  pub known : IsStatus status
-  pub usage : (status ≡ 2) ↔ IsNoForm words
-  pub ends : (command : LineCommand) → IsForm words (Lines command) → (left' : Option (List ℕ)) × EndsBy (AreTextsOf command) left left' None None status

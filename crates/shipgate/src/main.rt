@@ -8,19 +8,23 @@
 ghost use Rattle.std.specs.Prelude.{◌≡◌, ◌⊎◌, [], drop, map, string_bytes, Ok, IfOk, OnErr};
 ghost use Rattle.std.specs.Process.{exit_status};
 ghost use Rattle.std.specs.Vec.Iter.{into_iter_items};
-ghost use Rattle.shipgate.specs.Run.{RunsOver};
+ghost use Rattle.shipgate.specs.Program.{RunsOver};
 
+mod check;
+mod configuring;
 mod convert;
 mod line_command;
 mod line_text;
 mod replay;
+mod replay_command;
 mod run;
 mod show;
 mod talker;
 mod words;
 
 pub use bridge::{Bridge, Settings};
-use gate_outside::{MemClock, QuietFiles, QuietLink, ReaderSource, WriterSink};
+use gate_outside::{Files, MemClock, QuietLink, ReaderSource, WriterSink};
+use live_outside::DiskFiles;
 pub use replay::{replay_with, stream};
 pub use run::run;
 use std::alloc::{AllocError, Global};
@@ -67,38 +71,40 @@ fn behind_name(words: &[String]) -> &[String]
     words.get(1..).unwrap_or(&[])
 }
 
-// The program over a reader and a writer. Its commands use no files, links or clock, so these are
+// The program over files, a reader and a writer. Its commands use no links or clock, so these are
 // empty ones.
-fn run_over<R: Read + Drop, W: Write + Drop>(
+fn run_over<F: Files, R: Read + Drop, W: Write + Drop>(
     alloc: Global,
     words: &[String],
+    files: &mut F,
     reader: R,
     writer: W,
 ) -> Result<u8, AllocError>
-    ensures { IfOk result (RunsOver (map string_bytes words.now) (R.remaining reader)) }
+    ensures { IfOk result (RunsOver (map string_bytes words.now) (F.content files.old) (F.fault_count files.old) (F.fault_count files.new) (R.remaining reader)) }
 {
-    let mut files = QuietFiles::of(Vec::new(alloc));
     let mut bus = QuietLink::of(alloc, 0, 0, Vec::new(alloc))?;
     let mut net = QuietLink::of(alloc, 0, 0, Vec::new(alloc))?;
     let mut clock = MemClock::of(Vec::new(alloc));
     let mut input = ReaderSource::new(reader);
     let mut out = WriterSink::new(writer);
     Ok(run(
-        alloc, words, &mut files, &mut input, &mut out, &mut bus, &mut net, &mut clock,
+        alloc, words, files, &mut input, &mut out, &mut bus, &mut net, &mut clock,
     ))
 }
 
 // The program over the arguments of a process.
-fn run_with<R: Read + Drop, W: Write + Drop>(
+fn run_with<F: Files, R: Read + Drop, W: Write + Drop>(
     alloc: Global,
     args: io::Result<Args>,
+    files: &mut F,
     reader: R,
     writer: W,
 ) -> Result<u8, AllocError>
-    ensures { IfOk args (λ args. IfOk result (RunsOver (drop 1 (map string_bytes (into_iter_items args))) (R.remaining reader))) }
+    ensures { IfOk args (λ args. IfOk result (RunsOver (drop 1 (map string_bytes (into_iter_items args)))
+        (F.content files.old) (F.fault_count files.old) (F.fault_count files.new) (R.remaining reader))) }
 {
     let words = words_of(alloc, args)?;
-    run_over(alloc, behind_name(words.as_slice()), reader, writer)
+    run_over(alloc, behind_name(words.as_slice()), files, reader, writer)
 }
 
 // The exit code of a status, or of want of memory before the program began.
@@ -115,9 +121,12 @@ fn exit_code(status: Result<u8, AllocError>) -> ExitCode
 // Says on standard error why a run didn't do its work.
 fn explain(rt: &impl Eprint, status: &Result<u8, AllocError>) {
     let why = match status {
-        Ok(2) => "these words are no command: the commands are convert and show",
+        Ok(2) => "these words are no command: the commands are convert, show, check and replay",
+        Ok(3) => "the configuration is refused",
         Ok(4) => "the output can't be written",
         Ok(5) => "the input can't be read",
+        Ok(6) => "the configuration can't be read, or has more than 1 MiB",
+        Ok(7) => "there is no memory for the configuration or its gateway",
         Ok(8) => "the input has more than 2^40 bytes",
         Ok(_) => return,
         Err(AllocError) => "there is no memory to begin with",
@@ -127,7 +136,14 @@ fn explain(rt: &impl Eprint, status: &Result<u8, AllocError>) {
 }
 
 fn main(rt: HostRuntime) -> ExitCode {
-    let status = run_with(rt.alloc(), env::args(&rt), rt.stdin(), rt.stdout());
+    let mut files = DiskFiles::new(&rt);
+    let status = run_with(
+        rt.alloc(),
+        env::args(&rt),
+        &mut files,
+        rt.stdin(),
+        rt.stdout(),
+    );
     explain(&rt, &status);
     exit_code(status)
 }

@@ -13,8 +13,8 @@ use capture_stream::answer_capture;
 use gate_outside::{Sink, Source};
 use std::alloc::Global;
 
-/// Want of memory before the first byte was read.
-const NO_MEMORY: u8 = 7;
+/// Want of memory before the first event.
+pub(crate) const NO_MEMORY: u8 = 7;
 
 /// Runs a new bridge over a capture, whose first event starts it, and answers a status.
 ///

@@ -2,7 +2,7 @@
 ghost use Rattle.std.specs.Prelude.{◌<◌};
 
 use crate::{run, run_over};
-use gate_outside::{MemClock, MemSink, MemSource, QuietFiles, QuietLink, Sink};
+use gate_outside::{MemClock, MemFiles, MemSink, MemSource, QuietFiles, QuietLink, Sink};
 use std::alloc::Global;
 use std::test::Fail;
 
@@ -25,25 +25,44 @@ struct Room<'a> {
     failing: &'a [u32],
 }
 
-/// The status of a run, and what the sink took in it.
-fn outcome(alloc: Global, word: &str, given: &Given, room: &Room) -> Result<(u8, Vec<u8>), Fail> {
-    let mut words = Vec::new(alloc);
-    if !word.is_empty() {
-        words.push(String::from_str(alloc, word)?)?;
+/// What stands in every file, and which loads fail.
+#[derive(Clone, Copy)]
+struct Stored<'a> {
+    text: &'a [u8],
+    failing: &'a [u32],
+}
+
+/// No file that a command would use.
+const UNUSED: Stored<'static> = Stored {
+    text: b"",
+    failing: &[],
+};
+
+/// The status of a run over these files, and what the sink took in it.
+fn outcome_over(
+    alloc: Global,
+    words: &[&str],
+    stored: &Stored,
+    given: &Given,
+    room: &Room,
+) -> Result<(u8, Vec<u8>), Fail> {
+    let mut list = Vec::new(alloc);
+    for word in words {
+        list.push(String::from_str(alloc, word)?)?;
     }
+    let mut files = MemFiles::of(stored.text.to_vec(alloc)?, stored.failing.to_vec(alloc)?);
     let mut input = MemSource::of(
         given.bytes.to_vec(alloc)?,
         given.most,
         given.failing.to_vec(alloc)?,
     );
     let mut out = MemSink::of(alloc, 20_000, room.most, room.failing.to_vec(alloc)?)?;
-    let mut files = QuietFiles::of(Vec::new(alloc));
     let mut bus = QuietLink::of(alloc, 0, 0, Vec::new(alloc))?;
     let mut net = QuietLink::of(alloc, 0, 0, Vec::new(alloc))?;
     let mut clock = MemClock::of(Vec::new(alloc));
     let status = run(
         alloc,
-        words.as_slice(),
+        list.as_slice(),
         &mut files,
         &mut input,
         &mut out,
@@ -52,6 +71,14 @@ fn outcome(alloc: Global, word: &str, given: &Given, room: &Room) -> Result<(u8,
         &mut clock,
     );
     Ok((status, out.taken().to_vec(alloc)?))
+}
+
+/// The status of a run of at most one word, and what the sink took in it.
+fn outcome(alloc: Global, word: &str, given: &Given, room: &Room) -> Result<(u8, Vec<u8>), Fail> {
+    if word.is_empty() {
+        return outcome_over(alloc, &[], &UNUSED, given, room);
+    }
+    outcome_over(alloc, &[word], &UNUSED, given, room)
 }
 
 #[test]
@@ -66,8 +93,12 @@ fn readers_and_writers_of_std_are_run_over(rt: HostRuntime) -> Result<(), Fail> 
         ),
     ] {
         let words = [String::from_str(alloc, word)?];
+        let mut files = QuietFiles::of(Vec::new(alloc));
         let mut kept = Vec::new(alloc);
-        assert_eq!(rt; run_over(alloc, &words, HEADING, &mut kept), Ok(status));
+        assert_eq!(rt;
+            run_over(alloc, &words, &mut files, HEADING, &mut kept),
+            Ok(status)
+        );
         assert_eq!(rt; kept.as_slice(), text);
     }
     Ok(())
@@ -255,8 +286,7 @@ fn failures_have_their_status_and_lose_no_complete_line(rt: HostRuntime) -> Resu
     let all: &[u8] = b"$HEHDT,90.0,T*16\r\n";
     let shown: &[u8] = b"line=1 prio=2 pgn=127250 src=23 dst=255 len=8\n";
     let none: &[u8] = b"";
-    let usage: &[u8] =
-        b"usage: shipgate convert | show | check CONFIG | replay CONFIG | serve CONFIG TURNS | demo SEED COUNT\n";
+    let usage: &[u8] = b"usage: shipgate convert | show | check CONFIG | replay CONFIG\n";
     // The word, which reads fail, how much a write moves and which writes fail; the status and what was taken.
     let rows = [
         ("convert", NONE, 3, NONE, 0, all),

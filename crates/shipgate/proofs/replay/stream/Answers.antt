@@ -10,5 +10,5 @@ returns-clause-ends g c = λ p new.
     let left' = g.S.Source.left c.answer_capture.new.input in
     let told = g.K.Sink.taken c.args.out.now in
     let told' = g.K.Sink.taken c.answer_capture.new.out in
-    subst (λ (s : ℕ). EndsBy (IsReplay p) left left' told told' s) (sym c.status_of.ensures)
+    subst (λ (s : ℕ). EndsBy (IsReplay p) left left' told told' s) (sym c.status_of.ensures.status)
     (replay_ends p c.args.bridge.now left left' told told' c.answer_capture.result new c.answer_capture.ensures.ends)

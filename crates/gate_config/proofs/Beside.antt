@@ -1,0 +1,102 @@
+-- What tests against what stands already tell, and what lists become by one more item that can stand there.
+use Rattle.std.proofs.Common.{◌≡◌, ◌≢◌, ℕ, ◌<◌, ◌==◌, false, List, [], ◌∷◌, ◌++◌, get_or, Option, Some, None, sym, ap, ◌∙◌, subst, arith}
+use Rattle.std.specs.Prelude.{option_map}
+use Rattle.std.specs.Option.{ForSome}
+use Rattle.std.specs.List.{AllPairs, list_any}
+use Rattle.std.proofs.lemmas.Bool.{eqb-false, false≢true, or_parts}
+use Rattle.std.proofs.lemmas.List.Elements.{All-push}
+use Rattle.std.proofs.lemmas.Option.{none-some, same_Some}
+use Rattle.std.proofs.lemmas.List.Quantifiers.{all_pairs_push}
+use Rattle.config_document.proofs.Apart.{none_of}
+use Rattle.claim_table.specs.Claims.{places}
+use Rattle.claim_table.specs.declared.preset.Preset.{Preset}
+use Rattle.n2k_id.specs.declared.name.Name.{Name}
+use Rattle.config_values.specs.Configs.{AreRoutes}
+use Rattle.config_values.specs.Endpoints.{IsEndpoint}
+use Rattle.config_values.specs.Presets.{AreApart, ArePresets}
+use Rattle.config_values.specs.declared.row_config.RowConfig.{RowConfig}
+use Rattle.gate_outside.specs.declared.address.Route.{Route}
+use Rattle.settings.specs.Settings.{IsAis}
+use Rattle.settings.specs.declared.ais.AisConfig.{AisConfig}
+use Rattle.settings.specs.declared.rmc.RmcConfig.{RmcConfig}
+use Rattle.gate_config.specs.Beside.{AreSourcesBeside, IsAisBeside, IsGroupBeside, IsPresetBeside, IsRouteBeside}
+use Rattle.gate_config.specs.Keys.{address_stands, group_stands, is_taken, name_stands}
+use Rattle.gate_config.specs.Texts.{same_text}
+use Rattle.gate_config.proofs.EndpointTexts.{same_itself}
+
+-- texts that a test tells apart differ
+pub other_text : (s t : List ℕ) → same_text s t ≡ false → s ≢ t
+other_text s t test equal = false≢true (sym test ∙ ap (λ u. same_text u t) equal ∙ same_itself t)
+
+other_name : (n m : Name) → (n.0 == m.0) ≡ false → n ≢ m
+other_name n m test equal = eqb-false n.0 m.0 test (ap (λ (name : Name). name.0) equal)
+
+pub preset_beside : (own : Preset) (earlier : List Preset) (address : ℕ) (name : Name) → address < places → address_stands own earlier address ≡ false → name_stands own earlier name ≡ false
+    → IsPresetBeside own earlier (record { address = address; name = name })
+preset_beside own earlier address name fits by_address by_name =
+    let addresses = or_parts (own.address == address) (list_any (λ p. p.address == address) earlier) by_address in
+    let names = or_parts (own.name.0 == name.0) (list_any (λ p. p.name.0 == name.0) earlier) by_name in
+    record {
+      place = fits;
+      from_own = record { address = eqb-false own.address address addresses.0; name = other_name own.name name names.0 };
+      from_earlier = λ k d within. record {
+        address = eqb-false (get_or earlier k d).address address (none_of (λ p. p.address == address) earlier k d addresses.1 within);
+        name = other_name (get_or earlier k d).name name (none_of (λ p. p.name.0 == name.0) earlier k d names.1 within);
+      };
+    }
+
+pub no_presets : (own : Preset) → ArePresets own.name own.address []
+no_presets own = record {
+  addresses = λ k d within. absurd (omega arith);
+  apart = λ i j d before within. absurd (omega arith);
+  others = λ k d within. absurd (omega arith);
+}
+
+pub one_more_preset : (own : Preset) (earlier : List Preset) (preset : Preset) → ArePresets own.name own.address earlier → IsPresetBeside own earlier preset
+    → ArePresets own.name own.address (earlier ++ preset ∷ [])
+one_more_preset own earlier preset are beside = record {
+  addresses = All-push (λ p. p.address < places) earlier preset are.addresses beside.place;
+  apart = all_pairs_push AreApart earlier preset are.apart (λ k d within. beside.from_earlier k d within);
+  others = All-push (λ p. AreApart own p) earlier preset are.others beside.from_own;
+}
+
+pub route_beside : (earlier : List Route) (route : Route) → group_stands earlier route.group ≡ false → IsEndpoint route.address.items → IsRouteBeside earlier route
+route_beside earlier route by_group end = record {
+  from_earlier = λ k d within. other_text (get_or earlier k d).group route.group (none_of (λ r. same_text r.group route.group) earlier k d by_group within);
+  end = end;
+}
+
+pub no_routes : AreRoutes []
+no_routes = record { groups = λ i j d before within. absurd (omega arith); addresses = λ k d within. absurd (omega arith) }
+
+pub one_more_route : (earlier : List Route) (route : Route) → AreRoutes earlier → IsRouteBeside earlier route → AreRoutes (earlier ++ route ∷ [])
+one_more_route earlier route are beside = record {
+  groups = all_pairs_push (λ r q. r.group ≢ q.group) earlier route are.groups (λ k d within. beside.from_earlier k d within);
+  addresses = All-push (λ r. IsEndpoint r.address.items) earlier route are.addresses beside.end;
+}
+
+not_taken : (taken : Option (List ℕ)) (group : List ℕ) → is_taken taken group ≡ false → ForSome taken (λ other. other ≢ group)
+not_taken None group test other is = absurd (none-some other is)
+not_taken (Some text) group test other is =
+    subst (λ (t : List ℕ). t ≢ group) (same_Some text other is) (other_text text group test)
+
+pub group_beside : (rows : List RowConfig) (taken : Option (List ℕ)) (group : List ℕ) → list_any (λ row. same_text row.group group) rows ≡ false → is_taken taken group ≡ false
+    → IsGroupBeside rows taken group
+group_beside rows taken group by_rows by_part = record {
+  from_rows = λ k d within. other_text (get_or rows k d).group group (none_of (λ row. same_text row.group group) rows k d by_rows within);
+  from_part = not_taken taken group by_part;
+}
+
+pub sources_beside : (own : List ℕ) (sources : List (List ℕ)) → list_any (λ s. same_text s own) sources ≡ false → AllPairs (λ s t. s ≢ t) sources → AreSourcesBeside own sources
+sources_beside own sources by_own apart = record {
+  apart = apart;
+  from_own = λ k d within equal. other_text (get_or sources k d) own (none_of (λ s. same_text s own) sources k d by_own within) (sym equal);
+}
+
+-- reports of ships around beside the rows and joined sentences, where there are such
+pub ais_beside : (rows : List RowConfig) (rmc : Option RmcConfig) (ais : AisConfig) → IsAisBeside rows (option_map (λ r. r.group) rmc) ais → IsAis rows rmc ais
+ais_beside rows rmc ais beside = record {
+  group = beside.beside.from_rows;
+  other = λ r is. beside.beside.from_part r.group (ap (option_map (λ (r : RmcConfig). r.group)) is);
+  slots = beside.most;
+}

@@ -1,0 +1,24 @@
+//! The configuration of a boat, read from one TOML file: valid settings, or the first thing that is wrong.
+#![tactic(auto)]
+
+mod all;
+mod endpoint;
+mod gateway;
+mod identity;
+mod items;
+mod keys;
+mod links;
+mod parts;
+mod presets;
+mod reading;
+mod routes;
+mod rows;
+#[cfg(test)]
+mod tests;
+mod unknown;
+
+pub use bus_identity::Product;
+pub use config_document::{ConfigFault, FaultLine, Key};
+pub use config_values::{Config, Ends, RowConfig};
+pub use reading::{read, read_all};
+pub use settings::{AisConfig, RmcConfig, Settings};

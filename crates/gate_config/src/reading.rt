@@ -1,0 +1,74 @@
+//! A configuration, read from the bytes of its file.
+ghost use Rattle.std.specs.Prelude.{◌≡◌, ◌⊎◌, Err, IfOk};
+ghost use Rattle.config_document.specs.Places.{place_of};
+ghost use Rattle.config_values.specs.Configs.{IsConfig};
+ghost use Rattle.gate_config.specs.ConfigOf.{IsConfigAlone, IsConfigOf, config_in};
+ghost use Rattle.config_document.specs.declared.fault.ConfigFault.TheVariants.{Memory};
+ghost use Rattle.settings.specs.Settings.{IsSettings};
+
+use crate::all::all_keys;
+use crate::unknown::first_unknown;
+use config_document::{ConfigFault, Section, key_of};
+use config_values::Config;
+use settings::Settings;
+use std::alloc::Global;
+use std::str;
+
+/// The settings that a configuration file says, or the first thing that is wrong with it: keys are read in their order, for each is tried
+/// whether it is missing, of another type, out of range or a repeat, and keys that aren't known come last.
+pub fn read_all(alloc: Global, bytes: &[u8]) -> Result<Settings, ConfigFault>
+    // exactly the settings or the fault that the definition gives, unless memory ran out
+    ensures exact { (result ≡ Err Memory) ⊎ IsConfigOf bytes.now result }
+    // each value of them is in its range, and nothing stands twice that may stand only once
+    ensures valid { IfOk result IsSettings }
+{
+    let text = match str::from_utf8(bytes) {
+        Err(_) => return Err(ConfigFault::NotToml),
+        Ok(text) => text,
+    };
+    match toml::table_from_str(alloc, text) {
+        Err(error) => {
+            if error.is_memory() {
+                Err(ConfigFault::Memory)
+            } else {
+                Err(ConfigFault::NotToml)
+            }
+        }
+        Ok(table) => accepted(
+            alloc,
+            &Section {
+                prefix: b"",
+                table: Some(&table),
+            },
+        ),
+    }
+}
+
+/// The configuration of the gateway alone, which the same file says.
+pub fn read(alloc: Global, bytes: &[u8]) -> Result<Config, ConfigFault>
+    // exactly the configuration or the fault that the definition gives, unless memory ran out
+    ensures exact { (result ≡ Err Memory) ⊎ IsConfigAlone bytes.now result }
+    ensures valid { IfOk result IsConfig }
+{
+    match read_all(alloc, bytes) {
+        Ok(settings) => Ok(settings.config),
+        Err(fault) => Err(fault),
+    }
+}
+
+/// The settings of a document of which every key is known.
+#[tactic(auto, unfolding(crate::specs::ConfigOf::config_in))]
+fn accepted(alloc: Global, document: &Section) -> Result<Settings, ConfigFault>
+    ensures exact { (result ≡ Err Memory) ⊎ (result ≡ config_in (place_of document.now)) }
+    ensures valid { IfOk result IsSettings }
+{
+    let settings = match all_keys(document) {
+        Err(fault) => return Err(fault),
+        Ok(settings) => settings,
+    };
+    match first_unknown(alloc, document) {
+        Err(_) => Err(ConfigFault::Memory),
+        Ok(None) => Ok(settings),
+        Ok(Some(path)) => Err(ConfigFault::Unknown(key_of(path.as_slice(), b""))),
+    }
+}

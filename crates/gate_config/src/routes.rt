@@ -1,0 +1,56 @@
+//! The keys of each `route`: transmission groups that are sent to an address of their own.
+ghost use Rattle.std.specs.Prelude.{◌≡◌, IfOk};
+ghost use Rattle.config_document.specs.Places.{place_of};
+ghost use Rattle.config_values.specs.Configs.{AreRoutes};
+ghost use Rattle.gate_config.specs.Beside.{IsRouteBeside};
+ghost use Rattle.gate_config.specs.Keys.{group_stands, route_in, routes_in};
+
+use crate::endpoint::Endpoint;
+use crate::items::item_prefix;
+use crate::keys::needed_text;
+use arrayvec::ArrayVec;
+use config_document::{ConfigFault, Flaw, Section};
+use gate_outside::Route;
+use sentence_text::Group;
+
+/// How many routes there may be.
+const MOST_ROUTES: usize = 8;
+
+#[tactic(auto, using(crate::proofs::Beside::no_routes, crate::proofs::Beside::one_more_route), unfolding(crate::specs::Keys::routes_in))]
+pub(crate) fn route_keys(document: &Section) -> Result<ArrayVec<Route, 8>, ConfigFault>
+    ensures said { result ≡ routes_in (place_of document.now) }
+    ensures valid { IfOk result (λ routes. AreRoutes routes.items) }
+{
+    let values = document.tables_at("route", MOST_ROUTES)?;
+    let mut routes = ArrayVec::new();
+    for value in values {
+        let prefix = item_prefix(b"route.", routes.len() + 1);
+        let section = Section {
+            prefix: prefix.as_slice(),
+            table: value.as_table(),
+        };
+        let route = route(&section, routes.as_slice())?;
+        routes.push(route);
+    }
+    Ok(routes)
+}
+
+/// A route beside those before it.
+#[tactic(auto, using(crate::proofs::Beside::route_beside), unfolding(crate::specs::Keys::route_in))]
+fn route(section: &Section, earlier: &[Route]) -> Result<Route, ConfigFault>
+    ensures said { result ≡ route_in earlier.now (place_of section.now) }
+    ensures valid { IfOk result (IsRouteBeside earlier.now) }
+{
+    let group = needed_text(section, "group")?;
+    if have_group(earlier, group) {
+        return Err(section.fault("group", Flaw::Twice));
+    }
+    let Endpoint(address) = needed_text(section, "address")?;
+    Ok(Route { group, address })
+}
+
+fn have_group(routes: &[Route], group: Group) -> bool
+    ensures { result ≡ group_stands routes.now group }
+{
+    routes.iter().any(|route| route.group == group)
+}

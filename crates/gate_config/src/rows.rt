@@ -1,0 +1,123 @@
+//! The keys of each row: whom it is taken from, and how it is said.
+ghost use Rattle.std.specs.Prelude.{◌≡◌, [], All, IfOk, IsTrue, map};
+ghost use Rattle.std.specs.List.{list_all};
+ghost use Rattle.config_document.specs.Places.{place_of};
+ghost use Rattle.config_document.specs.Texts.{IsTalker};
+ghost use Rattle.config_values.specs.Rows.{AreSources, IsRow};
+ghost use Rattle.gate_config.specs.Keys.{row_at, row_in, row_sources_in, rows_from, rows_in};
+ghost use Rattle.gate_config.specs.Listed.{is_listed, listed_seen};
+
+use crate::items::row_prefix;
+use crate::keys::{number_or, section, text_or, truth_or};
+use arrayvec::ArrayVec;
+use config_document::{ConfigFault, Flaw, Section, Talker, repeats};
+use config_values::RowConfig;
+use n2k_id::Pattern;
+use sentence_text::Group;
+
+/// How many rows there are.
+const ROWS: usize = 17;
+
+/// What each row is taken from and how it is said, in the order of the rows, each with the talker that it has where none is configured
+/// (IEC 61162-1).
+#[tactic(auto, unfolding(crate::specs::Keys::rows_in, crate::specs::Keys::listed_rows))]
+pub(crate) fn row_keys(rows: &Section, group: Group) -> Result<[RowConfig; ROWS], ConfigFault>
+    ensures said { result ≡ rows_in group (place_of rows.now) }
+    ensures valid { IfOk result (All IsRow) }
+{
+    each_row(
+        rows,
+        group,
+        &[
+            ("heading_true", *b"HE"),
+            ("heading_magnetic", *b"HC"),
+            ("rate_of_turn", *b"TI"),
+            ("rudder_first", *b"II"),
+            ("rudder_second", *b"II"),
+            ("water_speed", *b"VW"),
+            ("depth", *b"SD"),
+            ("distance_log", *b"VW"),
+            ("position", *b"GP"),
+            ("course_speed", *b"GP"),
+            ("gnss", *b"GP"),
+            ("time", *b"GP"),
+            ("wind_apparent", *b"WI"),
+            ("wind_true", *b"WI"),
+            ("wind_north", *b"WI"),
+            ("water_temperature", *b"YX"),
+            ("cross_track", *b"II"),
+        ],
+    )
+}
+
+/// The rows of these names, each with its own talker where none is configured.
+fn each_row(
+    rows: &Section,
+    group: Group,
+    listed: &[(&str, [u8; 2]); ROWS],
+) -> Result<[RowConfig; ROWS], ConfigFault>
+    requires { IsTrue (list_all is_listed (map listed_seen listed.now)) }
+    ensures said { result ≡ rows_from group (place_of rows.now) [] (map listed_seen listed.now) }
+    ensures valid { IfOk result (All IsRow) }
+{
+    let mut read = ArrayVec::new();
+    for (name, talker) in listed {
+        let prefix = row_prefix(name);
+        let row = row(rows, name, prefix.as_slice(), *talker, group)?;
+        read.push(row);
+    }
+    match read.into_inner() {
+        Ok(rows) => Ok(rows),
+        Err(_) => unreachable!(),
+    }
+}
+
+/// The row of this name, and of this talker and group where none is configured.
+#[tactic(auto, unfolding(crate::specs::Keys::row_at))]
+fn row(
+    rows: &Section,
+    name: &str,
+    prefix: &[u8],
+    talker: [u8; 2],
+    group: Group,
+) -> Result<RowConfig, ConfigFault>
+    requires { IsTalker talker }
+    ensures said { result ≡ row_at talker group (place_of rows.now) name.now prefix.now }
+    ensures valid { IfOk result IsRow }
+{
+    let section = section(rows, name, prefix)?;
+    keys_of_row(&section, talker, group)
+}
+
+#[tactic(auto, unfolding(crate::specs::Keys::row_in))]
+fn keys_of_row(section: &Section, talker: [u8; 2], group: Group) -> Result<RowConfig, ConfigFault>
+    requires { IsTalker talker }
+    ensures said { result ≡ row_in talker group (place_of section.now) }
+    ensures valid { IfOk result IsRow }
+{
+    let sources = row_sources(section)?;
+    let others = truth_or(section, "others", true)?;
+    let timeout_ms = number_or(section, "timeout_ms", 100, 60_000, 5_000)?;
+    let Talker(talker) = text_or(section, "talker", Talker(talker))?;
+    let group = text_or(section, "group", group)?;
+    Ok(RowConfig {
+        sources,
+        others,
+        timeout_ms,
+        talker,
+        group,
+    })
+}
+
+/// The devices that a row is taken from, none of them twice.
+#[tactic(auto, unfolding(crate::specs::Keys::row_sources_in))]
+fn row_sources(section: &Section) -> Result<ArrayVec<Pattern, 16>, ConfigFault>
+    ensures said { result ≡ row_sources_in (place_of section.now) }
+    ensures valid { IfOk result (λ sources. AreSources sources.items) }
+{
+    let sources = section.list::<Pattern, 16>("sources")?;
+    if repeats(sources.as_slice()) {
+        return Err(section.fault("sources", Flaw::Twice));
+    }
+    Ok(sources)
+}

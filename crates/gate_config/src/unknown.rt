@@ -1,0 +1,215 @@
+//! Keys that aren't known, in every table.
+ghost use Rattle.std.specs.Prelude.{◌≡◌, ◌≤◌, IfOk, IsTrue, length, map};
+ghost use Rattle.std.specs.List.{list_all};
+ghost use Rattle.toml.specs.Data.{get_member};
+ghost use Rattle.toml.specs.View.{items_view};
+ghost use Rattle.config_document.specs.Places.{place_of};
+ghost use Rattle.config_document.specs.Unknown.{path_seen};
+ghost use Rattle.gate_config.specs.Keys.{row_prefix};
+ghost use Rattle.gate_config.specs.Listed.{is_short};
+ghost use Rattle.gate_config.specs.Unknown.{each_row_noted, first_unknown, items_of, noted, noted_items, place_under, row_known, rows_noted};
+
+use crate::items::{item_prefix, row_prefix};
+use config_document::{Section, least_unknown};
+use std::alloc::{AllocError, Global};
+use toml::Value;
+
+/// The path of the key that isn't known, and that comes first of all such in the order of bytes.
+#[tactic(auto, unfolding(crate::specs::Unknown::first_unknown))]
+pub(crate) fn first_unknown(
+    alloc: Global,
+    document: &Section,
+) -> Result<Option<Vec<u8>>, AllocError>
+    ensures { IfOk result (λ path. path_seen path ≡ first_unknown (place_of document.now)) }
+{
+    let least = least_unknown(
+        alloc,
+        document,
+        &[
+            "gateway", "preset", "row", "net", "bus", "route", "identity", "rmc", "ais",
+        ],
+        None,
+    )?;
+    let least = under(
+        alloc,
+        document,
+        "gateway",
+        b"gateway.",
+        &[
+            "name",
+            "address",
+            "sfi",
+            "group",
+            "fast_slots",
+            "iso_slots",
+            "group_slots",
+            "ths",
+        ],
+        least,
+    )?;
+    let least = in_items(
+        alloc,
+        items(document, "preset"),
+        b"preset.",
+        &["address", "name"],
+        least,
+    )?;
+    let least = in_row_table(alloc, &table_under(document, "row", b"row."), least)?;
+    let least = under(
+        alloc,
+        document,
+        "net",
+        b"net.",
+        &["sources", "listen", "send"],
+        least,
+    )?;
+    let least = under(alloc, document, "bus", b"bus.", &["listen", "send"], least)?;
+    let least = in_items(
+        alloc,
+        items(document, "route"),
+        b"route.",
+        &["group", "address"],
+        least,
+    )?;
+    let least = under(
+        alloc,
+        document,
+        "identity",
+        b"identity.",
+        &["code", "model", "software", "version", "serial", "load"],
+        least,
+    )?;
+    let least = under(alloc, document, "rmc", b"rmc.", &["group", "talker"], least)?;
+    under(alloc, document, "ais", b"ais.", &["group", "slots"], least)
+}
+
+/// The same of the table of rows, and of each row's table.
+#[tactic(auto, unfolding(crate::specs::Unknown::rows_noted))]
+fn in_row_table(
+    alloc: Global,
+    rows: &Section,
+    least: Option<Vec<u8>>,
+) -> Result<Option<Vec<u8>>, AllocError>
+    ensures { IfOk result (λ path. path_seen path ≡ rows_noted (place_of rows.now) (path_seen least)) }
+{
+    let names = [
+        "heading_true",
+        "heading_magnetic",
+        "rate_of_turn",
+        "rudder_first",
+        "rudder_second",
+        "water_speed",
+        "depth",
+        "distance_log",
+        "position",
+        "course_speed",
+        "gnss",
+        "time",
+        "wind_apparent",
+        "wind_true",
+        "wind_north",
+        "water_temperature",
+        "cross_track",
+    ];
+    let least = least_unknown(alloc, rows, &names, least)?;
+    in_rows(alloc, rows, &names, least)
+}
+
+/// The same of the tables of the rows of these names.
+fn in_rows(
+    alloc: Global,
+    rows: &Section,
+    names: &[&str],
+    least: Option<Vec<u8>>,
+) -> Result<Option<Vec<u8>>, AllocError>
+    requires { IsTrue (list_all is_short (map (λ name. name.now) names.now)) }
+    ensures { IfOk result (λ path. path_seen path ≡ each_row_noted (place_of rows.now) (map (λ name. name.now) names.now) (path_seen least)) }
+{
+    let mut least = least;
+    for name in names {
+        least = in_row(alloc, rows, name, least)?;
+    }
+    Ok(least)
+}
+
+/// The same of the table of the row of this name.
+fn in_row(
+    alloc: Global,
+    rows: &Section,
+    name: &str,
+    least: Option<Vec<u8>>,
+) -> Result<Option<Vec<u8>>, AllocError>
+    requires { length name.now ≤ 60 }
+    ensures { IfOk result (λ path. path_seen path ≡ noted row_known (place_under (place_of rows.now) name.now (row_prefix name.now)) (path_seen least)) }
+{
+    let prefix = row_prefix(name);
+    under(
+        alloc,
+        rows,
+        name,
+        prefix.as_slice(),
+        &["sources", "others", "timeout_ms", "talker", "group"],
+        least,
+    )
+}
+
+/// The same of the table at a key.
+fn under(
+    alloc: Global,
+    section: &Section,
+    name: &str,
+    prefix: &[u8],
+    known: &[&str],
+    least: Option<Vec<u8>>,
+) -> Result<Option<Vec<u8>>, AllocError>
+    ensures { IfOk result (λ path. path_seen path ≡ noted (map (λ word. word.now) known.now) (place_under (place_of section.now) name.now prefix.now) (path_seen least)) }
+{
+    least_unknown(alloc, &table_under(section, name, prefix), known, least)
+}
+
+/// The same of the items at a key.
+fn in_items(
+    alloc: Global,
+    values: &[Value],
+    word: &[u8],
+    known: &[&str],
+    least: Option<Vec<u8>>,
+) -> Result<Option<Vec<u8>>, AllocError>
+    requires { length word.now ≤ 8 }
+    ensures { IfOk result (λ path. path_seen path ≡ noted_items (map (λ key. key.now) known.now) word.now 1 (items_view values.now) (path_seen least)) }
+{
+    let mut least = least;
+    for (place, value) in values.iter().enumerate() {
+        let prefix = item_prefix(word, place + 1);
+        let section = Section {
+            prefix: prefix.as_slice(),
+            table: value.as_table(),
+        };
+        least = least_unknown(alloc, &section, known, least)?;
+    }
+    Ok(least)
+}
+
+/// The table at a key.
+fn table_under<'a>(section: &Section<'a>, name: &str, prefix: &'a [u8]) -> Section<'a>
+    ensures { place_of result ≡ place_under (place_of section.now) name.now prefix.now }
+{
+    let table = match section.member(name) {
+        None => None,
+        Some(value) => value.as_table(),
+    };
+    Section { prefix, table }
+}
+
+/// The items at a key.
+fn items<'a>(section: &Section<'a>, name: &str) -> &'a [Value]
+    ensures { items_view result.now ≡ items_of (get_member name.now (place_of section.now).members) }
+{
+    match section.member(name) {
+        None => &[],
+        Some(value) => match value.as_array() {
+            None => &[],
+            Some(items) => items.as_slice(),
+        },
+    }
+}
