@@ -1,5 +1,5 @@
 -- What the bridge gives, in the words of the history: of all that ever came.
-use Rattle.std.specs.Prelude.{◌≡◌, ℕ, ◌%◌, List, [], ◌∷◌}
+use Rattle.std.specs.Prelude.{◌≡◌, ℕ, ◌%◌, ◌≤◌, List, [], ◌∷◌, length}
 use Rattle.claim_table.specs.declared.preset.Preset.{Preset}
 use Rattle.tag_block.specs.Numbers.{most_count}
 use Rattle.settings.specs.declared.ais.AisConfig.{AisConfig}
@@ -8,6 +8,7 @@ use Rattle.history.specs.Entries.{Entry, History, IsHistory, now}
 use Rattle.history.specs.AddressLaws.{AreSettings}
 use Rattle.history.specs.Settings.{Settings}
 use Rattle.history.specs.Known.{known}
+use Rattle.history.specs.Opens.{notes_of, open_fast_keys}
 use Rattle.history.specs.Emits.{Emit}
 use Rattle.gate_model.specs.FastLaws.{StandsFastFor}
 use Rattle.gate_model.specs.Machine.{Machine}
@@ -53,3 +54,10 @@ abbrev pub CommandsLeaveAis : Type 0
 CommandsLeaveAis =
     (a : AisConfig) (c : Settings) (s : ℕ) (h : History) (source address : ℕ) (k : AisKept) → AreSettings c → StandsAis a c s h k
     → StandsAis a c s (entry.command (now h) source address ∷ h) k
+
+-- ---- no more reports are open than there is room for
+
+abbrev pub ReportsKeepTheLimit : Type 0
+ReportsKeepTheLimit =
+    (a : AisConfig) (c : Settings) (s : ℕ) (h : History) (m : ℕ) → AreSettings c → IsHistory h → now h ≤ m
+    → length (open_fast_keys (ais_receiver a c).kinds (known (ais_receiver a c) s h).claims.holders (notes_of (ais_receiver a c) s h) m) ≤ a.slots

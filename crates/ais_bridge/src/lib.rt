@@ -17,5 +17,5 @@ mod writing;
 pub use ais_report::{AisFault, AisReport, armour, convert, read_armour};
 pub use bridge::AisBridge;
 pub use emits::AisEmits;
-pub use laws::commands_leave_the_bridge;
+pub use laws::{commands_leave_the_bridge, open_reports_keep_the_limit};
 pub use settings::AisConfig;

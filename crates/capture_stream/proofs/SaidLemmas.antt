@@ -1,22 +1,12 @@
--- What a line says by its grammar is what it reads as.
-use Rattle.std.proofs.Common.{◌≡◌, ℕ, ◌<◌, List, [], ◌∷◌, length, Result, Ok, Err, refl, sym, arith}
+-- What a line gives by what it reads as, and what was sent of it.
+use Rattle.std.proofs.Common.{◌≡◌, ℕ, ◌<◌, List, [], ◌∷◌, length, Result, Ok, Err, refl, sym, subst, arith}
 use Rattle.capture_text.specs.declared.event.LineRule.{LineRule}
-use Rattle.capture_text.specs.declared.event.LineRule.TheVariants.{Form, NotExtended, Long}
+use Rattle.capture_text.specs.declared.event.LineRule.TheVariants.{Long}
 use Rattle.capture_text.specs.Capture.{longest_line, Seen}
 use Rattle.capture_text.specs.Reading.{read}
-use Rattle.capture_text.proofs.Laws.{found, long_found, not_extended_found, is_form}
-use Rattle.capture_stream.specs.Says.{Says}
+use Rattle.capture_text.proofs.Lines.{too_long}
 use Rattle.std.specs.Prelude.{Option}
 use Rattle.capture_stream.specs.Answering.{LineGives, Sent}
-
-says_by : (line : List ℕ) (r : Result Seen LineRule) → read line ≡ r → Says line r
-says_by line (Ok seen) e = found line seen e
-says_by line (Err Form) e = (is_form line (Err Form) (sym e)).0 refl
-says_by line (Err NotExtended) e = not_extended_found line e
-says_by line (Err Long) e = long_found line e
-
-pub says : (line : List ℕ) → Says line (read line)
-says line = says_by line (read line) refl
 
 -- ---- what a line gives
 
@@ -30,13 +20,14 @@ pub gives_line : {A : Type 0} (Gives : A → ℕ → Result Seen LineRule → Li
     → (length line ≡ 0 → ⊥) → Gives before number (read line) text after → LineGives Gives before number line text after
 unfolding LineGives
 gives_line Gives before after number [] text some is = absurd (some refl)
-gives_line Gives before after number (b ∷ bytes) text some is = (read (b ∷ bytes), says (b ∷ bytes), is)
+gives_line Gives before after number (b ∷ bytes) text some is = is
 
 pub gives_long : {A : Type 0} (Gives : A → ℕ → Result Seen LineRule → List ℕ → A → Type 0) (before after : A) (number : ℕ) (line text : List ℕ)
     → longest_line < length line → Gives before number (Err Long) text after → LineGives Gives before number line text after
 unfolding LineGives
 gives_long Gives before after number [] text long is = absurd (omega arith)
-gives_long Gives before after number (b ∷ bytes) text long is = (Err Long, long, is)
+gives_long Gives before after number (b ∷ bytes) text long is =
+    subst (λ (said : Result Seen LineRule). Gives before number said text after) (sym (too_long (b ∷ bytes) long)) is
 
 -- what was sent is also what this says
 pub sent_as : {A E : Type 0} (Gives More : List ℕ → A → Type 0) (told told' : Option (List ℕ)) (waiting waiting' : List ℕ) (after : A) (result : Result (Unit {0}) E)

@@ -3,15 +3,15 @@ use Rattle.std.specs.Prelude.{◌≡◌, ℕ, List, [], ◌∷◌, ◌++◌, Opt
 use Rattle.capture_text.specs.declared.event.LineRule.{LineRule}
 use Rattle.capture_text.specs.declared.event.LineRule.TheVariants as rules
 use Rattle.capture_text.specs.Capture.{Seen}
+use Rattle.capture_text.specs.Reading.{read}
 use Rattle.capture_stream.specs.declared.line_reader.Next.{Next}
 use Rattle.capture_stream.specs.declared.line_reader.Next.TheVariants.{Line, Long, Unfinished}
-use Rattle.capture_stream.specs.Says.{Says}
 use Rattle.capture_stream.specs.Writer.{Sends}
 
 -- What the line of this number gives: nothing where it is empty, else what is given by what it says, or by the rule that it breaks.
 unfoldable pub LineGives : {A : Type 0} → (A → ℕ → Result Seen LineRule → List ℕ → A → Type 0) → A → ℕ → List ℕ → List ℕ → A → Type 0
 LineGives Gives before number [] text after = (text ≡ []) × (after ≡ before)
-LineGives Gives before number (b ∷ bytes) text after = (said : Result Seen LineRule) × Says (b ∷ bytes) said × Gives before number said text after
+LineGives Gives before number (b ∷ bytes) text after = Gives before number (read (b ∷ bytes)) text after
 
 -- what the next line of a reader gives; one that is too long isn't held
 abbrev pub NextGives : {A : Type 0} → (A → ℕ → Result Seen LineRule → List ℕ → A → Type 0) → A → Next → ℕ → List ℕ → List ℕ → A → Type 0

@@ -8,8 +8,6 @@ mod endings;
 mod fast;
 mod frames;
 mod gateway;
-#[cfg(test)]
-mod gateway_tests;
 mod kept;
 pub mod laws;
 mod meanings;
@@ -23,8 +21,6 @@ mod said;
 mod sending;
 mod sessions;
 mod state;
-#[cfg(test)]
-mod tests;
 
 pub use config_values::{Config, Ends, RowConfig};
 pub use done::{Command, Done};

@@ -19,8 +19,6 @@ mod heard;
 mod hearing;
 mod rows;
 mod sentences;
-#[cfg(test)]
-mod tests;
 
 use crate::endings::end_groups;
 use crate::network::groups::take_part;

@@ -1,4 +1,5 @@
 pub mod LineCommandLemmas
 pub mod Numbers
+pub mod ReplayLemmas
 pub mod ShowLemmas
 pub mod WordLemmas

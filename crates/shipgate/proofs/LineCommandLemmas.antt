@@ -1,8 +1,12 @@
 -- A command that keeps nothing gives each line its text.
-use Rattle.std.proofs.Common.{◌≡◌, ◌+◌, ℕ, List, [], ◌∷◌, Result, Ok, Err, refl, subst}
+use Rattle.std.proofs.Common.{◌≡◌, ◌+◌, ℕ, List, [], ◌∷◌, Result, Ok, Err, refl, sym, subst}
 use Rattle.std.specs.Prelude.{Option}
 use Rattle.capture_text.specs.declared.event.LineRule.{LineRule}
+use Rattle.capture_text.specs.declared.event.LineRule.TheVariants.{Form, NotExtended, Long}
 use Rattle.capture_text.specs.Capture.{Seen}
+use Rattle.capture_text.specs.Reading.{read}
+use Rattle.capture_text.proofs.Laws.{found, long_found, not_extended_found, is_form}
+use Rattle.shipgate.specs.Says.{Says}
 use Rattle.capture_stream.specs.Answering.{LineGives, Sent}
 use Rattle.capture_stream.specs.Lines.{AreTexts as AreAnswers, IsTextFrom}
 use Rattle.capture_stream.specs.Writer.{SendsText}
@@ -14,6 +18,13 @@ pub is_sent : {E : Type 0} (command : LineCommand) (number : ℕ) (said : Result
 is_sent command number said told told' waiting waiting' (Ok done) s = (s.0, (s.1, refl), s.2)
 is_sent command number said told told' waiting waiting' (Err e) s = (s.0, command, (s.1, refl), s.2.0, s.2.1)
 
+-- a line says by its grammar what it reads as
+says_by : (line : List ℕ) (r : Result Seen LineRule) → read line ≡ r → Says line r
+says_by line (Ok seen) e = found line seen e
+says_by line (Err Form) e = (is_form line (Err Form) (sym e)).0 refl
+says_by line (Err NotExtended) e = not_extended_found line e
+says_by line (Err Long) e = long_found line e
+
 -- a line gives what is said of it, and the command stays
 pub record Line (command : LineCommand) (number : ℕ) (line text : List ℕ) (after : LineCommand) : Type 0 where
   pub gives : Gives command number line text
@@ -22,7 +33,7 @@ pub record Line (command : LineCommand) (number : ℕ) (line text : List ℕ) (a
 is_line : (command after : LineCommand) (number : ℕ) (line text : List ℕ) → LineGives IsAnswer command number line text after → Line command number line text after
 unfolding LineGives Gives
 is_line command after number [] text g = record { gives = g.0; same = g.1 }
-is_line command after number (b ∷ bytes) text g = record { gives = (g.0, g.1, g.2.0); same = g.2.1 }
+is_line command after number (b ∷ bytes) text g = record { gives = (read (b ∷ bytes), says_by (b ∷ bytes) (read (b ∷ bytes)) refl, g.0); same = g.1 }
 
 are_texts : (command after : LineCommand) (n : ℕ) (lines : List (List ℕ)) (bytes : List ℕ) → AreAnswers (LineGives IsAnswer) command n lines bytes after → AreTexts command n lines bytes
 are_texts command after n [] bytes a = a.0

@@ -2,7 +2,7 @@
 use Rattle.std.specs.Prelude.{◌≡◌, ◌+◌, ℕ, List, [], ◌∷◌, ◌++◌, Result}
 use Rattle.capture_text.specs.declared.event.LineRule.{LineRule}
 use Rattle.capture_text.specs.Capture.{Seen}
-use Rattle.capture_stream.specs.Says.{Says}
+use Rattle.shipgate.specs.Says.{Says}
 use Rattle.shipgate.specs.declared.words.LineCommand.{LineCommand}
 use Rattle.shipgate.specs.declared.words.LineCommand.TheVariants.{Convert, Show}
 use Rattle.shipgate.specs.Convert.{IsSaidText}

@@ -19,6 +19,13 @@ status_of TooLong = 8
 abbrev pub IsStatus : ℕ → Type 0
 IsStatus status = (status ≡ 0) ⊎ ((status ≡ 2) ⊎ ((status ≡ 4) ⊎ ((status ≡ 5) ⊎ (status ≡ 8))))
 
+-- the statuses of a replay; 7 is want of memory before it
+abbrev pub IsStreamStatus : ℕ → Type 0
+IsStreamStatus status = (status ≡ 0) ⊎ ((status ≡ 4) ⊎ ((status ≡ 5) ⊎ (status ≡ 8)))
+
+abbrev pub IsReplayStatus : ℕ → Type 0
+IsReplayStatus status = (status ≡ 7) ⊎ IsStreamStatus status
+
 -- This line was offered to the sink: all of it was taken, or some front of it where the count of faults rose.
 pub record Offers (told told' : Option (List ℕ)) (before after : ℕ) (line : List ℕ) : Type 0 where
   pub written : List ℕ

@@ -13,12 +13,15 @@ ghost use Rattle.shipgate.specs.Run.{RunsOver};
 mod convert;
 mod line_command;
 mod line_text;
+mod replay;
 mod run;
 mod show;
 mod talker;
 mod words;
 
+pub use bridge::{Bridge, Settings};
 use gate_outside::{MemClock, QuietFiles, QuietLink, ReaderSource, WriterSink};
+pub use replay::{replay_with, stream};
 pub use run::run;
 use std::alloc::{AllocError, Global};
 use std::env::Args;

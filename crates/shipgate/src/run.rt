@@ -12,7 +12,7 @@ use gate_outside::{Clock, Files, Link, Sink, Source};
 use std::alloc::Global;
 
 // The status of a command that ended so.
-fn status_of(ending: Ending) -> u8
+pub(crate) fn status_of(ending: Ending) -> u8
     ensures { result ≡ status_of ending }
 {
     match ending {

@@ -1,0 +1,207 @@
+-- What each call of the bridge makes of what stands, put together from the gateway's call and those of the parts beside it.
+use Rattle.std.proofs.Common.{◌≡◌, ℕ, ◌<◌, Bool, true, false, List, [], ◌∷◌, ◌++◌, refl, sym, ap, subst, ◌∙◌, arith}
+use Rattle.std.specs.Prelude.{nat_le, option_map}
+use Rattle.std.proofs.lemmas.Bool.{leb-true}
+use Rattle.std.proofs.lemmas.List.{append-nil, length-take}
+use Rattle.capture_text.specs.Reading as lines
+use Rattle.capture_text.specs.declared.event.Event.{Event}
+use Rattle.capture_text.specs.declared.event.Event.TheVariants as event
+use Rattle.history.specs.Emits.{Emit}
+use Rattle.history.specs.Entries.{Entry, History, IsHistory, IsOffered, IsTimely, is_accepted, moment_of, now}
+use Rattle.history.specs.Gate.{out}
+use Rattle.history.specs.Settings.{Settings}
+use Rattle.gate_model.specs.Machine.{Machine}
+use Rattle.gate_model.specs.Stands.{Stands}
+use Rattle.gate_core.specs.declared.done.Command.{Command}
+use Rattle.gate_core.specs.Output.{Output, and_emits, nothing}
+use Rattle.gate_core.specs.Promises.{IsTaken, IsTooEarly, IsStep, IsCommandStep, entry_by}
+use Rattle.gate_core.specs.Steps.{by_keys, entry_of, IsEventValid}
+use Rattle.bridge.specs.Beside.{IsStepped}
+use Rattle.bridge.specs.BridgeStands.{BridgeStands, IsBesideStep, IsBridged, IsBridgeStep, IsCommanded, IsObeyed, IsRefused, IsStart}
+use Rattle.bridge.specs.Answered.{answers}
+use Rattle.bridge.specs.Gate.{opening_emits, rmc_of}
+use Rattle.bridge.specs.Kept.{Answering, Bridged, joined_left, left_beside, left_of, quiet, quiet_joining, quiet_watching, watched_left}
+use Rattle.bridge.specs.Parts.{Parts}
+use Rattle.bridge.proofs.Joins.{commanded_joins, joined_quiet, quiet_joins}
+use Rattle.bridge.proofs.Ships.{commanded_ships, quiet_ships, watched_quiet}
+
+-- ---- an event may follow
+
+offered : (e : Event) → IsEventValid e → IsOffered (entry_of e)
+offered (event.Frame moment frame) valid = (valid.identifier, omega (arith, length-take frame.len frame.bytes, valid.fits))
+offered (event.Datagram moment bytes) valid = tt
+offered (event.Tick moment) valid = tt
+
+in_time : (e : Event) (h : History) → is_accepted h (entry_of e) ≡ true → IsTimely h (entry_of e)
+in_time (event.Frame moment frame) h accepted = leb-true (now h) moment accepted
+in_time (event.Datagram moment bytes) h accepted = leb-true (now h) moment accepted
+in_time (event.Tick moment) h accepted = leb-true (now h) moment accepted
+
+pub goes_on : (e : Event) (h : History) → IsEventValid e → IsHistory h → is_accepted h (entry_of e) ≡ true → IsHistory (entry_of e ∷ h)
+goes_on e h valid could accepted = (offered e valid, in_time e h accepted, could)
+
+-- ---- with nothing left beside the gateway
+
+pub quiet_left : (b : Bridged) → left_of (quiet b) ≡ b.out.emits
+quiet_left b =
+    ap (λ (es : List Emit). b.out.emits ++ es)
+    (ap (λ (es : List Emit). es ++ watched_left (quiet_watching b.watching)) (joined_quiet b.joining) ∙ watched_quiet b.watching)
+    ∙ append-nil b.out.emits
+
+-- ---- the gateway was called
+
+abbrev pub with_gateway : Bool → Machine → Output → Bridged → Bridged
+with_gateway started g o b = record {
+  started = started;
+  gateway = g;
+  out = o;
+  answering = b.answering;
+  joining = b.joining;
+  watching = b.watching;
+}
+
+-- ---- the start
+
+pub is_start : (s : ℕ) (before : Bridged) (g : Machine) (o : Output) → Stands by_keys g.settings s [] g → g.settings ≡ before.gateway.settings
+    → o ≡ and_emits nothing (opening_emits before.gateway.settings) → IsStart s before (with_gateway true g o before)
+is_start s before g o stands settings is p new =
+    let here : before.gateway.settings ≡ p.gateway = ap (λ (x : Machine). x.settings) new.gateway in
+    let emits : o.emits ≡ opening_emits p.gateway = ap (λ (x : Output). x.emits) is ∙ ap opening_emits here in
+    record {
+      stands = record {
+        settings = new.settings;
+        started = refl;
+        gateway = subst (λ (z : Settings). Stands by_keys z s [] g) (settings ∙ here) stands;
+        answering = ap (λ (a : Answering). a.kept) new.answering;
+        joining = new.joining.1 p.gateway s;
+        watching = new.watching.1 s;
+      };
+      emits =
+          ap (λ (es : List Emit). es ++ left_beside before) emits
+          ∙ ap (λ (es : List Emit). opening_emits p.gateway ++ (es ++ (joined_left before.joining ++ watched_left before.watching)))
+          (ap (λ (a : Answering). a.left) new.answering)
+          ∙ ap (λ (es : List Emit). opening_emits p.gateway ++ (es ++ watched_left before.watching)) new.joining.0
+          ∙ ap (λ (es : List Emit). opening_emits p.gateway ++ es) new.watching.0;
+    }
+
+-- ---- one more entry
+
+module _ (p : Parts) (s : ℕ) (h : History) (before : Bridged) (stands : BridgeStands p s h before) where
+  pub bridged : (e : Entry) (g : Machine) (o : Output) (after : Bridged) → IsHistory (e ∷ h) → IsTaken p.gateway s h e g o
+      → IsBesideStep e (with_gateway before.started g o before) after → IsBridged p s h e after
+  bridged e g o after could taken step =
+      let stepped : IsStepped p.gateway s h e g o = record { settings = stands.settings; could = could; taken = taken } in
+      let answered = step.answering p.information p.gateway s h stepped stands.answering in
+      let joined = step.joining p.rmc p.gateway s h stepped stands.joining in
+      let watched = step.watching p.ais p.gateway s h stepped stands.watching in
+      record {
+        could = could;
+        stands = record {
+          settings = stands.settings;
+          started = step.started ∙ stands.started;
+          gateway = subst (λ (z : Machine). Stands by_keys p.gateway s (e ∷ h) z) (sym step.gateway) taken.stands;
+          answering = answered.stands;
+          joining = joined.stands;
+          watching = watched.stands;
+        };
+        emits =
+            ap (λ (es : List Emit). es ++ left_beside after) (ap (λ (x : Output). x.emits) step.out ∙ taken.emits)
+            ∙ ap (λ (es : List Emit). out p.gateway s h e ++ (es ++ (joined_left after.joining ++ watched_left after.watching))) answered.emits
+            ∙ ap (λ (es : List Emit). out p.gateway s h e ++ (answers p.gateway s p.information h e ++ (es ++ watched_left after.watching))) joined.emits
+            ∙ ap (λ (es : List Emit). out p.gateway s h e
+            ++ (answers p.gateway s p.information h e ++ (rmc_of p.rmc p.gateway s h e ++ es))) watched.emits;
+        ordered = ap (λ (x : Output). option_map (entry_by (moment_of e)) x.command) step.out ∙ taken.ordered;
+      }
+
+  quiet_stands : (g : Machine) (o : Output) → Stands by_keys p.gateway s h g → BridgeStands p s h (quiet (with_gateway before.started g o before))
+  quiet_stands g o standing = record {
+    settings = stands.settings;
+    started = stands.started;
+    gateway = standing;
+    answering = stands.answering;
+    joining = quiet_joins p.rmc p.gateway s h before.joining stands.joining;
+    watching = quiet_ships p.ais p.gateway s h before.watching stands.watching;
+  }
+
+  pub refused : (g : Machine) (o : Output) → IsTooEarly before.gateway g o → IsRefused p s h (quiet (with_gateway before.started g o before))
+  refused g o early =
+      let same : before.gateway ≡ g = sym early.unchanged in
+      record {
+        stands = quiet_stands g o (subst (λ (z : Machine). Stands by_keys p.gateway s h z) same stands.gateway);
+        emits = quiet_left (with_gateway before.started g o before) ∙ ap (λ (x : Output). x.emits) early.reported;
+        unordered = ap (λ (x : Output). x.command) early.reported;
+      }
+
+  pub obeyed : (c : Command) (g : Machine) (o : Output) → IsHistory (entry_by (now h) c ∷ h) → IsTaken p.gateway s h (entry_by (now h) c) g o
+      → IsObeyed p s h (entry_by (now h) c) (quiet (with_gateway before.started g o before))
+  obeyed c g o could taken = record {
+    could = could;
+    stands = record {
+      settings = stands.settings;
+      started = stands.started;
+      gateway = taken.stands;
+      answering = stands.answering;
+      joining = commanded_joins p.rmc p.gateway s h (now h) c.source c.address (quiet_joining before.joining)
+          (quiet_joins p.rmc p.gateway s h before.joining stands.joining);
+      watching = commanded_ships p.ais p.gateway s h c.source c.address (quiet_watching before.watching) stands.settings
+          (quiet_ships p.ais p.gateway s h before.watching stands.watching);
+    };
+    emits = quiet_left (with_gateway before.started g o before) ∙ taken.emits;
+  }
+
+pub accepted_step : (e : Event) (before : Bridged) (g : Machine) (o : Output) (after : Bridged) → IsEventValid e → IsStep (entry_of e) before.gateway g o
+    → nat_le before.gateway.moment (moment_of (entry_of e)) ≡ true
+    → IsBesideStep (entry_of e) (with_gateway before.started g o before) after → IsBridgeStep (entry_of e) before after
+accepted_step e before g o after valid step accepted beside p s h could stands = (taken, declines)
+  where
+    next : Entry
+    next = entry_of e
+
+    settings : before.gateway.settings ≡ p.gateway
+    settings = stands.gateway.settings
+
+    here : Stands by_keys before.gateway.settings s h before.gateway
+    here = subst (λ (z : Settings). Stands by_keys z s h before.gateway) (sym settings) stands.gateway
+
+    is : is_accepted h next ≡ true
+    is = subst (λ (m : ℕ). nat_le m (moment_of next) ≡ true) stands.gateway.moment accepted
+
+    taken : is_accepted h next ≡ true → IsBridged p s h next after
+    taken accepts =
+        bridged p s h before stands next g o after (goes_on e h valid could accepts)
+        (subst (λ (z : Settings). IsTaken z s h next g o) settings ((step s h could here).0 accepts)) beside
+
+    declines : is_accepted h next ≡ false → IsRefused p s h after
+    declines refuses = let never : true ≡ false = sym is ∙ refuses in absurd cc
+
+pub refused_step : (e : Event) (before : Bridged) (g : Machine) (o : Output) → IsStep (entry_of e) before.gateway g o
+    → nat_le before.gateway.moment (moment_of (entry_of e)) ≡ false → IsBridgeStep (entry_of e) before (quiet (with_gateway before.started g o before))
+refused_step e before g o step early p s h could stands = (takes, declines)
+  where
+    next : Entry
+    next = entry_of e
+
+    here : Stands by_keys before.gateway.settings s h before.gateway
+    here = subst (λ (z : Settings). Stands by_keys z s h before.gateway) (sym stands.gateway.settings) stands.gateway
+
+    is : is_accepted h next ≡ false
+    is = subst (λ (m : ℕ). nat_le m (moment_of next) ≡ false) stands.gateway.moment early
+
+    takes : is_accepted h next ≡ true → IsBridged p s h next (quiet (with_gateway before.started g o before))
+    takes accepts = let never : true ≡ false = sym accepts ∙ is in absurd cc
+
+    declines : is_accepted h next ≡ false → IsRefused p s h (quiet (with_gateway before.started g o before))
+    declines refuses = refused p s h before stands g o ((step s h could here).1 refuses)
+
+pub commanded : (c : Command) (before : Bridged) (g : Machine) (o : Output) → c.source < 256 → IsCommandStep c.source c.address before.gateway g o
+    → IsCommanded c before (quiet (with_gateway before.started g o before))
+commanded c before g o from step p s h could stands =
+    let here : Stands by_keys before.gateway.settings s h before.gateway =
+    subst (λ (z : Settings). Stands by_keys z s h before.gateway) (sym stands.gateway.settings) stands.gateway in
+    obeyed p s h before stands c g o (from, refl, could)
+    (subst (λ (z : Settings). IsTaken z s h (entry_by (now h) c) g o) stands.gateway.settings (step s h could here))
+
+pub event_valid : (e : Event) → lines.IsValid e → IsEventValid e
+event_valid (event.Frame moment frame) valid = valid
+event_valid (event.Datagram moment bytes) valid = tt
+event_valid (event.Tick moment) valid = tt

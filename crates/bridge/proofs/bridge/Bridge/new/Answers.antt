@@ -1,0 +1,15 @@
+use Rattle.std.proofs.Common.{refl}
+use Rattle.config_values.proofs.SettingsLemmas.{are_settings}
+use Rattle.bridge.specs.Parts.{parts_of}
+use Rattle.bridge.proofs.bridge.Bridge.new.Goals as goal
+
+pub returns : goal.returns
+unfolding parts_of
+returns c = record {
+  settings = (are_settings c.args.settings.now.config c.requires.config).settings;
+  waits = refl;
+  gateway = c.in_ok-gateway.ensures;
+  answering = c.new-answering.ensures;
+  joining = c.joining_of-joining.ensures;
+  watching = c.in_ok-watching.ensures;
+}

@@ -1,0 +1,34 @@
+use Rattle.std.proofs.Common.{ℕ, ◌++◌, Ok, subst, sym}
+use Rattle.capture_text.specs.Reading.{view}
+use Rattle.bridge.specs.Replayed.{GivesReplay}
+use Rattle.bridge.specs.Replaying.{IsOpening, left_text}
+use Rattle.bridge.proofs.Replays.{gives_event}
+use Rattle.bridge.proofs.Sending.{is_sent}
+use Rattle.bridge.proofs.Steps.{event_valid}
+use Rattle.bridge.proofs.replaying.BridgeAnswers.answer_event.Goals as goal
+
+pub take-requires-clause-valid : goal.take-requires-clause-valid
+take-requires-clause-valid g c = event_valid c.args.event.now c.requires
+
+pub returns : goal.returns
+returns g c =
+    let e = c.args.event.now in
+    let n = c.args.number in
+    let t = g.K.Sink.taken c.args.out.now in
+    let f = g.K.Sink.fault_count c.args.out.now in
+    let w = c.args.writer.now in
+    let before = c.args.self.now in
+    let b = c.take.new.self in
+    let first = c.open-opened.ensures in
+    let next = c.send_ordered.ensures in
+    let after = c.send_ordered.new.bridge in
+    let s = next.2 t f w (first.0 ++ left_text c.moment.result b) (c.send_left-taken.ensures t f w first.0 first.2) in
+    let opens = subst (λ (m : ℕ). IsOpening m before first.0 c.open-opened.new.bridge) c.moment_of.ensures first.1 in
+    let gives = gives_event e n before c.open-opened.new.bridge b after first.0 next.0 opens c.take.ensures.step next.1 in
+    record {
+      sent = is_sent (GivesReplay before n (Ok (view e))) t (g.K.Sink.taken c.send_ordered.new.out) w ((first.0 ++ left_text c.moment.result b) ++ next.0)
+          c.send_ordered.new.writer after c.send_ordered.result
+          (subst (λ (m : ℕ). GivesReplay before n (Ok (view e)) ((first.0 ++ left_text m b) ++ next.0) after) (sym c.moment.ensures) gives)
+          s.writes;
+      cause = s.cause;
+    }

@@ -1,0 +1,10 @@
+use Rattle.std.proofs.Common.{subst, sym}
+use Rattle.std.specs.Prelude.{Option, Some}
+use Rattle.config_values.specs.Settings.{settings_of}
+use Rattle.settings.specs.declared.ais.AisConfig.{AisConfig}
+use Rattle.bridge.specs.BridgeStands.{IsOpenedWatching}
+use Rattle.bridge.proofs.watching.watching_of.Goals as goal
+
+pub returns-in_ok-new-in-Some : goal.returns-in_ok-new-in-Some
+returns-in_ok-new-in-Some c =
+    subst (λ (a : Option AisConfig). IsOpenedWatching (settings_of c.args.config.now) a (Some c.in_ok-new-in-Some.field-0)) (sym c.in-Some.is) c.in_ok-new-in-Some.ensures

@@ -1,0 +1,98 @@
+-- When what the bridge keeps stands for everything that ever came, and what each call makes of it and leaves.
+use Rattle.std.specs.Prelude.{◌≡◌, ℕ, true, false, [], ◌∷◌, Option, Some, None, option_map}
+use Rattle.report_rules.specs.Rules as rules
+use Rattle.capture_text.specs.declared.emit.Detail.TheVariants as detail
+use Rattle.history.specs.AddressLaws.{AreSettings}
+use Rattle.history.specs.Emits.{broken}
+use Rattle.history.specs.Entries.{Entry, History, IsHistory, is_accepted, moment_of, now}
+use Rattle.history.specs.Gate.{out, command_in}
+use Rattle.history.specs.Messages.{done}
+use Rattle.history.specs.Receiver.{receiver_of}
+use Rattle.history.specs.Settings.{Settings}
+use Rattle.settings.specs.declared.ais.AisConfig.{AisConfig}
+use Rattle.gate_model.specs.Machine.{opened_machine}
+use Rattle.gate_model.specs.Stands.{Stands}
+use Rattle.gate_core.specs.declared.done.Command.{Command}
+use Rattle.gate_core.specs.Promises.{entry_by}
+use Rattle.gate_core.specs.Steps.{by_keys}
+use Rattle.joined_rmc.specs.RmcOut.{RmcRule}
+use Rattle.bridge.specs.Beside.{AnsweringStands, JoiningStands, WatchingStands, IsAnswering, IsJoining, IsWatching}
+use Rattle.bridge.specs.Gate.{all_out, opening_emits}
+use Rattle.bridge.specs.Kept.{Bridged, Joining, Watching, joined_left, left_of, unanswered, watched_left}
+use Rattle.bridge.specs.Parts.{Parts}
+
+pub record BridgeStands (p : Parts) (s : ℕ) (h : History) (b : Bridged) : Type 0 where
+  pub settings : AreSettings p.gateway
+  pub started : b.started ≡ true
+  pub gateway : Stands by_keys p.gateway s h b.gateway
+  pub answering : AnsweringStands p.information p.gateway s h b.answering
+  pub joining : JoiningStands p.rmc p.gateway s h b.joining
+  pub watching : WatchingStands p.ais p.gateway s h b.watching
+
+-- ---- a bridge that wasn't started, whenever it will be
+
+abbrev pub IsOpenedJoining : Option RmcRule → Option Joining → Type 0
+IsOpenedJoining rmc joining = (joined_left joining ≡ []) × ((c : Settings) (s : ℕ) → JoiningStands rmc c s [] joining)
+
+abbrev pub IsOpenedWatching : Settings → Option AisConfig → Option Watching → Type 0
+IsOpenedWatching c ais watching = (watched_left watching ≡ []) × ((s : ℕ) → WatchingStands ais c s [] watching)
+
+pub record IsNew (p : Parts) (b : Bridged) : Type 0 where
+  pub settings : AreSettings p.gateway
+  pub waits : b.started ≡ false
+  pub gateway : b.gateway ≡ opened_machine p.gateway
+  pub answering : b.answering ≡ unanswered p.information
+  pub joining : IsOpenedJoining p.rmc b.joining
+  pub watching : IsOpenedWatching p.gateway p.ais b.watching
+
+-- the start: the gateway claims its address, and asks all for theirs
+pub record IsStarted (p : Parts) (s : ℕ) (after : Bridged) : Type 0 where
+  pub stands : BridgeStands p s [] after
+  pub emits : left_of after ≡ opening_emits p.gateway
+
+abbrev pub IsStart : ℕ → Bridged → Bridged → Type 0
+IsStart s before after = (p : Parts) → IsNew p before → IsStarted p s after
+
+-- ---- one more entry
+
+pub record IsBridged (p : Parts) (s : ℕ) (h : History) (e : Entry) (after : Bridged) : Type 0 where
+  pub could : IsHistory (e ∷ h)
+  pub stands : BridgeStands p s (e ∷ h) after
+  pub emits : left_of after ≡ all_out p s h e
+  pub ordered : option_map (entry_by (moment_of e)) after.out.command ≡ command_in p.gateway s (done (receiver_of p.gateway) s h e) (moment_of e)
+
+-- an event that is earlier than the last entry changes nothing, and is reported (rule 3)
+pub record IsRefused (p : Parts) (s : ℕ) (h : History) (after : Bridged) : Type 0 where
+  pub stands : BridgeStands p s h after
+  pub emits : left_of after ≡ broken rules.moment_back detail.Nothing ∷ []
+  pub unordered : after.out.command ≡ None
+
+-- for every history for which the bridge stands before
+abbrev pub IsBridgeStep : Entry → Bridged → Bridged → Type 0
+IsBridgeStep e before after =
+    (p : Parts) (s : ℕ) (h : History) → IsHistory h → BridgeStands p s h before
+    → (is_accepted h e ≡ true → IsBridged p s h e after) × (is_accepted h e ≡ false → IsRefused p s h after)
+
+-- the parts beside the gateway take the entry that it has taken
+pub record IsBesideStep (e : Entry) (before after : Bridged) : Type 0 where
+  pub started : after.started ≡ before.started
+  pub gateway : after.gateway ≡ before.gateway
+  pub out : after.out ≡ before.out
+  pub answering : IsAnswering before.gateway before.out e before.answering after.answering
+  pub joining : IsJoining before.gateway before.out e before.joining after.joining
+  pub watching : IsWatching before.gateway before.out e before.watching after.watching
+
+-- ---- the command that the last event left
+
+pub record IsObeyed (p : Parts) (s : ℕ) (h : History) (e : Entry) (after : Bridged) : Type 0 where
+  pub could : IsHistory (e ∷ h)
+  pub stands : BridgeStands p s (e ∷ h) after
+  pub emits : left_of after ≡ out p.gateway s h e
+
+abbrev pub IsCommanded : Command → Bridged → Bridged → Type 0
+IsCommanded c before after =
+    (p : Parts) (s : ℕ) (h : History) → IsHistory h → BridgeStands p s h before → IsObeyed p s h (entry_by (now h) c) after
+
+abbrev pub IsOrder : Option Command → Bridged → Bridged → Type 0
+IsOrder None before after = after ≡ before
+IsOrder (Some c) before after = IsCommanded c before after

@@ -1,0 +1,44 @@
+-- What the calls that answer a line of a capture send, and what they make of the bridge.
+use Rattle.std.specs.Prelude.{◌≡◌, ℕ, true, false, List, [], ◌++◌, take, drop, Option, Some, None, Result}
+use Rattle.gate_core.specs.declared.done.Command.{Command}
+use Rattle.gate_outside.specs.Faults.{HasCause}
+use Rattle.capture_stream.specs.Writer.{Writes}
+use Rattle.history.specs.Emits.{at}
+use Rattle.bridge.specs.BridgeStands.{IsOrder, IsStart}
+use Rattle.bridge.specs.Kept.{Bridged, left_of}
+use Rattle.bridge.specs.Replayed.{lines_of}
+
+-- a text waits behind what waited, or some of both was written and the count of faults says why not all
+pub record IsSent {E : Type 0} (told : Option (List ℕ)) (faults : ℕ) (waiting text : List ℕ) (told' : Option (List ℕ)) (faults' : ℕ) (waiting' : List ℕ)
+    (result : Result (Unit {0}) E) : Type 0 where
+  pub writes : Writes told told' (waiting ++ text) waiting' result
+  pub cause : HasCause faults faults' result
+
+-- behind whatever was sent before, this is sent too; where that failed, nothing is
+abbrev pub SendsThen : {E : Type 0} → List ℕ → Option (List ℕ) → ℕ → List ℕ → Result (Unit {0}) E → Option (List ℕ) → ℕ → List ℕ → Result (Unit {0}) E → Type 0
+SendsThen text told' faults' waiting' sent told'' faults'' waiting'' result =
+    (told : Option (List ℕ)) (faults : ℕ) (waiting before : List ℕ) → IsSent told faults waiting before told' faults' waiting' sent
+    → IsSent told faults waiting (before ++ text) told'' faults'' waiting'' result
+
+-- the lines of all that a call left
+abbrev pub left_text : ℕ → Bridged → List ℕ
+left_text m b = lines_of (at m (left_of b))
+
+-- the line of the emit at a place, and nothing beyond the list
+abbrev pub line_at : ℕ → ℕ → Bridged → List ℕ
+line_at m place b = lines_of (at m (take 1 (drop place (left_of b))))
+
+-- the first event starts the gateway
+pub record IsOpening (m : ℕ) (before : Bridged) (text : List ℕ) (after : Bridged) : Type 0 where
+  pub started : after.started ≡ true
+  pub later : before.started ≡ true → (text ≡ []) × (after ≡ before)
+  pub first : before.started ≡ false → (text ≡ left_text m after) × IsStart m before after
+
+-- the command is obeyed that the last event left
+abbrev pub ordered_text : Option Command → Bridged → List ℕ
+ordered_text None after = []
+ordered_text (Some c) after = left_text after.gateway.moment after
+
+pub record IsOrdered (before : Bridged) (text : List ℕ) (after : Bridged) : Type 0 where
+  pub order : IsOrder before.out.command before after
+  pub text_is : text ≡ ordered_text before.out.command after

@@ -1,0 +1,14 @@
+//! What is promised of the bridge besides. Each law is a function that does nothing, and whose clause is the law.
+ghost use Rattle.bridge.specs.Replayed.{EventsAreReplayed, LinesAreReplayed};
+
+/// What a new bridge gives of the lines of a capture, line by line, is the text of the definition over all of them.
+pub fn lines_are_replayed()
+    ensures { LinesAreReplayed }
+{}
+
+/// The text of a capture of which no line is refused is all that the gateway with the parts beside it emits at its events, a line each: at
+/// each event what the gateway itself emits, its answers, RMC and the reports of ships around, and then what it emits at the command that
+/// the event completes.
+pub fn events_are_replayed()
+    ensures { EventsAreReplayed }
+{}

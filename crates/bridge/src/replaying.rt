@@ -1,0 +1,168 @@
+//! What the bridge writes of the lines of a capture: the line of each emit at its moment, and a report for each line that breaks a rule.
+ghost use Rattle.std.specs.Prelude.{◌≡◌, ◌++◌, ◌∷◌, [], ℕ, List, true};
+ghost use Rattle.capture_text.specs.Writing.{CanWrite};
+ghost use Rattle.capture_stream.specs.Writer.{Writes};
+ghost use Rattle.gate_core.specs.Output.{emit_of};
+ghost use Rattle.gate_outside.specs.Faults.{HasCause};
+ghost use Rattle.history.specs.Replay.{line_of};
+ghost use Rattle.bridge.specs.Replaying.{IsOpening, IsOrdered, IsSent, SendsThen, left_text, line_at};
+
+use crate::bridge::{Bridge, moment_of};
+use arrayvec::ArrayVec;
+use capture_stream::{Answers, Writer};
+use capture_text::{Detail, Emit, Event, LineRule, Report, write_emit};
+use gate_outside::{Failed, Sink};
+
+type Line = ArrayVec<u8, 4096>;
+
+/// Each line is answered by what the bridge leaves at its event; the first event starts it.
+impl Answers for Bridge {
+    ghost use Rattle.bridge.specs.Replayed.{GivesReplay};
+
+    ghost gives = { GivesReplay };
+
+    // What is kept goes on as the events say, whatever becomes of the text.
+    fn answer_event<K: Sink>(
+        &mut self,
+        number: u64,
+        event: &Event<'_>,
+        writer: &mut Writer,
+        out: &mut K,
+    ) -> Result<(), Failed> {
+        let _number = number;
+        let opened = open(self, moment_of(event), writer, out);
+        self.take(event);
+        let taken = send_left(opened, self, self.moment(), writer, out);
+        send_ordered(taken, self, writer, out)
+    }
+
+    fn answer_refusal<K: Sink>(
+        &mut self,
+        number: u64,
+        rule: LineRule,
+        writer: &mut Writer,
+        out: &mut K,
+    ) -> Result<(), Failed> {
+        let report = Report {
+            rule: rule.number(),
+            detail: Detail::Line(number),
+        };
+        let mut line = Line::new();
+        send_line(&Emit::Report(report), self.moment(), &mut line, writer, out)
+    }
+}
+
+/// Starts the bridge at a moment and sends what that leaves, where it wasn't started.
+fn open<K: Sink>(
+    bridge: &mut Bridge,
+    moment: u64,
+    writer: &mut Writer,
+    out: &mut K,
+) -> Result<(), Failed>
+    ensures { (text : List ℕ) × IsOpening moment bridge.old text bridge.new
+        × IsSent (K.taken out.old) (K.fault_count out.old) writer.old text (K.taken out.new) (K.fault_count out.new) writer.new result }
+{
+    if bridge.started() {
+        return Ok(());
+    }
+    bridge.start(moment);
+    send_lines(bridge, moment, writer, out)
+}
+
+/// Takes the command that the last event left, and sends what it leaves, where all before was sent.
+fn send_ordered<K: Sink>(
+    sent: Result<(), Failed>,
+    bridge: &mut Bridge,
+    writer: &mut Writer,
+    out: &mut K,
+) -> Result<(), Failed>
+    requires { bridge.old.started ≡ true }
+    ensures { (text : List ℕ) × IsOrdered bridge.old text bridge.new
+        × SendsThen text (K.taken out.old) (K.fault_count out.old) writer.old sent (K.taken out.new) (K.fault_count out.new) writer.new result }
+{
+    if bridge.obey() {
+        send_left(sent, bridge, bridge.moment(), writer, out)
+    } else {
+        sent
+    }
+}
+
+/// Sends what the last call left, where all before was sent.
+fn send_left<K: Sink>(
+    sent: Result<(), Failed>,
+    bridge: &Bridge,
+    moment: u64,
+    writer: &mut Writer,
+    out: &mut K,
+) -> Result<(), Failed>
+    ensures { SendsThen (left_text moment bridge.now) (K.taken out.old) (K.fault_count out.old) writer.old sent
+        (K.taken out.new) (K.fault_count out.new) writer.new result }
+{
+    match sent {
+        Ok(()) => send_lines(bridge, moment, writer, out),
+        Err(Failed) => Err(Failed),
+    }
+}
+
+/// Sends the lines of what the last call left, at this moment.
+fn send_lines<K: Sink>(
+    bridge: &Bridge,
+    moment: u64,
+    writer: &mut Writer,
+    out: &mut K,
+) -> Result<(), Failed>
+    ensures sent { Writes (K.taken out.old) (K.taken out.new) (writer.old ++ left_text moment bridge.now) writer.new result }
+    ensures cause { HasCause (K.fault_count out.old) (K.fault_count out.new) result }
+{
+    let count = bridge.len();
+    if count == 0 {
+        return Ok(());
+    }
+    let mut line = Line::new();
+    for place in 0..count {
+        match send_at(bridge, place, moment, &mut line, writer, out) {
+            Ok(()) => {}
+            Err(Failed) => return Err(Failed),
+        }
+    }
+    Ok(())
+}
+
+/// Sends the line of the emit at a place, at this moment: nothing beyond the list.
+fn send_at<K: Sink>(
+    bridge: &Bridge,
+    place: usize,
+    moment: u64,
+    line: &mut Line,
+    writer: &mut Writer,
+    out: &mut K,
+) -> Result<(), Failed>
+    ensures sent { Writes (K.taken out.old) (K.taken out.new) (writer.old ++ line_at moment place bridge.now) writer.new result }
+    ensures cause { HasCause (K.fault_count out.old) (K.fault_count out.new) result }
+{
+    match bridge.emit(place) {
+        Some(emit) => send_line(&emit, moment, line, writer, out),
+        None => Ok(()),
+    }
+}
+
+/// Sends the line of an emit at this moment, which is written into a room for it.
+fn send_line<K: Sink>(
+    emit: &Emit<'_>,
+    moment: u64,
+    line: &mut Line,
+    writer: &mut Writer,
+    out: &mut K,
+) -> Result<(), Failed>
+    requires { CanWrite emit.now }
+    ensures sent { Writes (K.taken out.old) (K.taken out.new)
+        (writer.old ++ line_of (record { moment = moment; emit = emit_of emit.now })) writer.new result }
+    ensures cause { HasCause (K.fault_count out.old) (K.fault_count out.new) result }
+{
+    line.clear();
+    write_emit(emit, moment, line);
+    match writer.send(line.as_slice(), out) {
+        Ok(()) => writer.send(b"\n", out),
+        Err(Failed) => Err(Failed),
+    }
+}

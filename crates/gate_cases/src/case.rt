@@ -1,0 +1,42 @@
+//! What a case is: events, with what is emitted at each.
+use crate::setup::Setup;
+
+/// What comes to the gateway. A frame stands as its identifier and its bytes, the first one highest.
+#[derive(Clone, Copy)]
+pub(crate) enum Comes {
+    Frame(u32, u64),
+    /// A frame of fewer bytes.
+    Short(u32, &'static [u8]),
+    Datagram(&'static [u8]),
+    Tick,
+}
+
+/// What the gateway emits. A report begins with its rule.
+#[derive(Clone, Copy, PartialEq, Eq)]
+pub(crate) enum Seen<'a> {
+    Frame(u32, u64),
+    Datagram(&'a [u8]),
+    /// The source and the PGN.
+    Source(u8, u8, u32),
+    /// An address of the bus.
+    Address(u8, u8),
+    /// A place in the datagram.
+    At(u8, u16),
+    /// A place in the datagram, and a field there.
+    Field(u8, u16, u8),
+    /// The source and the code of a group.
+    Group(u8, [u8; 6], u16),
+    Report(u8),
+}
+
+/// A moment in microseconds, what comes then, and what is emitted at it.
+pub(crate) type Turn = (u64, Comes, &'static [Seen<'static>]);
+
+/// What a case shows, how the gateway is configured, when it starts, and what comes then.
+#[derive(Clone, Copy)]
+pub(crate) struct Case {
+    pub(crate) shows: &'static str,
+    pub(crate) setup: Setup,
+    pub(crate) start: u64,
+    pub(crate) turns: &'static [Turn],
+}

@@ -1,0 +1,16 @@
+//! The gateway on tables of events, with exactly what it emits at each. All of it is tests: they stand apart from `gate_core`, which is
+//! proved but once without them.
+#![tactic(auto)]
+
+#[cfg(test)]
+mod case;
+#[cfg(test)]
+mod following;
+#[cfg(test)]
+mod many;
+#[cfg(test)]
+mod setup;
+#[cfg(test)]
+mod standing;
+#[cfg(test)]
+mod tables;

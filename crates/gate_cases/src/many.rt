@@ -1,0 +1,225 @@
+//! As much as there is room for, and one more.
+ghost use Rattle.std.specs.Prelude.{◌≤◌};
+
+use crate::case::{Comes, Seen, Turn};
+use crate::following::{are_seen, follows, seen_at, started, step};
+use crate::setup::{Limits, Setup, USUAL};
+use crate::standing::holds;
+use arrayvec::ArrayVec;
+use capture_text::Event;
+use datagram450::{begin, push_line};
+use gate_core::{Gateway, Outbox};
+use sentence_text::Sfi;
+use std::test::Fail;
+use tag_block::{GroupPart, Packet, TagParts};
+
+/// The greatest numbers of messages in the making.
+const GREATEST: Setup = Setup {
+    limits: Limits {
+        fast: 256,
+        iso: 32,
+        group: 32,
+    },
+    address: 251,
+    prefers: false,
+};
+
+/// When all comes.
+const MOMENT: u64 = 1_000_000;
+
+/// The first frame of a position fix, and that of a distance log, from the address 0.
+const FIX: u32 = 0x0DF8_0500;
+
+const FIX_BEGINS: u64 = 0x002B_00DB_4C00_08AF;
+
+const LOG: u32 = 0x19F5_1300;
+
+const LOG_BEGINS: u64 = 0x000E_0000_0000_0000;
+
+/// The announcement of a message to all in a session, from the address 0.
+const SESSION: u32 = 0x1CEC_FF00;
+
+const SESSION_BEGINS: u64 = 0x2009_0002_FFD8_FE00;
+
+/// The claim of each address from 0 to 128 by a NAME of its own.
+fn claim_all(gateway: &mut Gateway) {
+    let mut out = Outbox::new();
+    for address in 0..129_u8 {
+        let bytes = 0x0000_0000_008C_78C0 | (u64::from(address) << 56);
+        let claim = Comes::Frame(0x18EE_FF00 | u32::from(address), bytes);
+        step(gateway, MOMENT, claim, &mut out);
+    }
+}
+
+/// Whether nothing is told where each of so many addresses begins a message with this frame.
+fn all_begin(gateway: &mut Gateway, addresses: u32, id: u32, bytes: u64) -> bool {
+    let mut out = Outbox::new();
+    for address in 0..addresses {
+        step(gateway, MOMENT, Comes::Frame(id | address, bytes), &mut out);
+        if out.len() != 0 {
+            return false;
+        }
+    }
+    true
+}
+
+/// One more fast packet, and one more session.
+const TOO_MANY: [Turn; 2] = [
+    (
+        MOMENT,
+        Comes::Frame(0x0DF8_0580, FIX_BEGINS),
+        &[Seen::Source(15, 128, 129_029)],
+    ),
+    (
+        MOMENT,
+        Comes::Frame(0x1CEC_FF20, SESSION_BEGINS),
+        &[Seen::Source(15, 32, 65_240)],
+    ),
+];
+
+fn are_too_many_refused(gateway: &mut Gateway) -> bool {
+    follows(gateway, &TOO_MANY)
+}
+
+#[test]
+fn one_more_than_the_greatest_limits_is_refused(rt: HostRuntime) -> Result<(), Fail> {
+    let mut gateway = started(rt.alloc(), GREATEST, MOMENT)?;
+    claim_all(&mut gateway);
+    assert!(rt; all_begin(&mut gateway, 128, FIX, FIX_BEGINS));
+    assert!(rt; all_begin(&mut gateway, 128, LOG, LOG_BEGINS));
+    assert!(rt; all_begin(&mut gateway, 32, SESSION, SESSION_BEGINS));
+    assert!(rt; holds(&gateway, 256, 32, 0));
+    assert!(rt; are_too_many_refused(&mut gateway));
+    Ok(())
+}
+
+/// Takes a datagram, and leaves in the outbox what is emitted then, and nothing else.
+fn hear(gateway: &mut Gateway, moment: u64, bytes: &[u8], out: &mut Outbox) {
+    out.clear();
+    gateway.step(&Event::Datagram { moment, bytes }, out);
+}
+
+/// Takes the first line of two of the group with this code.
+fn begin_group(gateway: &mut Gateway, code: u16, out: &mut Outbox)
+    requires least { 1 ≤ code }
+    requires most { code ≤ 99 }
+{
+    let mut packet = Packet::new();
+    begin(&mut packet);
+    let tag = TagParts {
+        group: Some(GroupPart {
+            number: 1,
+            total: 2,
+            code,
+        }),
+        source: Sfi::of(b"II0002").unwrap_or_default(),
+        count: 1,
+    };
+    let _fits = push_line(&tag, b"$HEHDT,90.0,T*16\r\n", &mut packet);
+    hear(gateway, MOMENT, &packet, out);
+}
+
+/// Whether nothing is told where a group of each code from 1 to 32 begins.
+fn all_groups_begin(gateway: &mut Gateway) -> bool {
+    let mut out = Outbox::new();
+    for code in 1..33_u16 {
+        begin_group(gateway, code, &mut out);
+        if out.len() != 0 {
+            return false;
+        }
+    }
+    true
+}
+
+/// Whether the group with the code 33 is refused.
+fn is_next_refused(gateway: &mut Gateway) -> bool {
+    let mut out = Outbox::new();
+    begin_group(gateway, 33, &mut out);
+    are_seen(&out, &[Seen::Group(41, *b"II0002", 33)])
+}
+
+#[test]
+fn one_more_group_than_the_greatest_limit_is_refused(rt: HostRuntime) -> Result<(), Fail> {
+    let mut gateway = started(rt.alloc(), GREATEST, MOMENT)?;
+    assert!(rt; all_groups_begin(&mut gateway));
+    assert!(rt; is_next_refused(&mut gateway));
+    assert!(rt; holds(&gateway, 0, 0, 32));
+    Ok(())
+}
+
+/// Two groups of lines from two senders, one within the other, and 61 lines more.
+fn many_lines() -> ArrayVec<u8, 512> {
+    let mut bytes = ArrayVec::new();
+    let _fits = bytes.try_extend_from_slice(
+        b"UdPbC\0\\g:1-2-7,s:II0002,n:1*47\\$HEHDT,90.0,T*16\r\n\\g:1-2-7,s:II0003,n:1*46\\$HEHDT,90.1,T*17\r\n",
+    );
+    let _fits = bytes.try_extend_from_slice(
+        b"\\g:2-2-7,s:II0003,n:2*46\\$HEHDT,90.1,T*17\r\n\\g:2-2-7,s:II0002,n:2*47\\$HEHDT,90.0,T*16\r\n",
+    );
+    for _ in 0..61_u8 {
+        let _fits = bytes.try_extend_from_slice(b"x\n");
+    }
+    bytes
+}
+
+/// The headings of both groups, that of the one which is complete first before that of the other.
+const HEADINGS: [u64; 4] = [
+    0xFF6D_3DFF_7FFF_7FFC,
+    0xFF6D_3DFF_7FFF_7FFC,
+    0xFF5C_3DFF_7FFF_7FFC,
+    0xFF5C_3DFF_7FFF_7FFC,
+];
+
+fn are_headings_first(out: &Outbox) -> bool {
+    for place in 0..HEADINGS.len() {
+        if seen_at(out, place) != Some(Seen::Frame(0x09F1_12FB, HEADINGS[place])) {
+            return false;
+        }
+    }
+    true
+}
+
+/// Whether behind the headings each of 60 lines is reported, and that there is one more.
+fn are_faults_behind(out: &Outbox) -> bool {
+    for line in 0..60_u16 {
+        if seen_at(out, 4 + usize::from(line)) != Some(Seen::At(34, 178 + 2 * line)) {
+            return false;
+        }
+    }
+    out.len() == 65 && seen_at(out, 64) == Some(Seen::At(46, 298))
+}
+
+/// Whether of a datagram of 65 lines 64 are read.
+fn reads_64_lines(gateway: &mut Gateway) -> bool {
+    let mut out = Outbox::new();
+    hear(gateway, 10_250_000, &many_lines(), &mut out);
+    are_headings_first(&out) && are_faults_behind(&out)
+}
+
+#[test]
+fn of_a_datagram_64_lines_are_read(rt: HostRuntime) -> Result<(), Fail> {
+    let mut gateway = started(rt.alloc(), USUAL, 10_000_000)?;
+    assert!(rt; reads_64_lines(&mut gateway));
+    Ok(())
+}
+
+/// A datagram of 1473 bytes that begins with the header.
+fn long_datagram() -> [u8; 1473] {
+    let mut bytes = [0; 1473];
+    bytes[..6].copy_from_slice(b"UdPbC\0");
+    bytes
+}
+
+/// Whether it is refused, at the first byte that is too many.
+fn refuses_long_datagram(gateway: &mut Gateway) -> bool {
+    let mut out = Outbox::new();
+    hear(gateway, 10_250_000, &long_datagram(), &mut out);
+    are_seen(&out, &[Seen::At(47, 1472)])
+}
+
+#[test]
+fn a_datagram_of_more_than_1472_bytes_is_not_read(rt: HostRuntime) -> Result<(), Fail> {
+    let mut gateway = started(rt.alloc(), USUAL, 10_000_000)?;
+    assert!(rt; refuses_long_datagram(&mut gateway));
+    Ok(())
+}

@@ -1,0 +1,85 @@
+//! The files of the system.
+ghost use Rattle.std.specs.Prelude.{None};
+ghost use Rattle.gate_outside.specs.Files.{Loads};
+
+use gate_outside::{Files, LARGEST_FILE, LoadFault};
+use std::alloc::Global;
+use std::fs::File;
+use std::io;
+use std::io::{ErrorKind, Read};
+use std::marker::Model;
+
+/// The files of the system. They tell nothing of their content.
+#[derive(Drop)]
+pub struct DiskFiles<'a, R> {
+    rt: &'a R,
+    faults: u64,
+}
+
+impl<'a, R> Model for DiskFiles<'a, R> {
+    ghost use Rattle.std.specs.Prelude.{ℕ};
+
+    ghost Value = { ℕ };
+
+    ghost view = { λ f. f.faults };
+}
+
+impl<'a, R: std::fs::Files> DiskFiles<'a, R> {
+    ghost use Rattle.std.specs.Prelude.{◌≡◌};
+
+    /// The files of a system, with no fault yet.
+    pub fn new(rt: &'a R) -> Self
+        ensures { result ≡ 0 }
+    {
+        DiskFiles { rt, faults: 0 }
+    }
+}
+
+// Whether an error is for want of memory.
+fn is_memory(error: &io::Error) -> bool {
+    error.kind() == ErrorKind::OutOfMemory
+}
+
+// All bytes of a reader, where there are at most 1 MiB. Of more, one byte more is read.
+fn read_whole<R: Read + Drop>(alloc: Global, reader: R) -> Result<Vec<u8>, LoadFault>
+    ensures { Loads (R.remaining reader) result }
+{
+    let mut bytes = Vec::new(alloc);
+    match reader.take(LARGEST_FILE as u64 + 1).read_to_end(&mut bytes) {
+        Ok(_) if bytes.len() > LARGEST_FILE => Err(LoadFault::TooLong),
+        Ok(_) => Ok(bytes),
+        Err(error) if is_memory(&error) => Err(LoadFault::Memory),
+        Err(_) => Err(LoadFault::Failed),
+    }
+}
+
+// The bytes of the file of a name.
+fn read_file<R: std::fs::Files>(rt: &R, alloc: Global, name: &str) -> Result<Vec<u8>, LoadFault>
+    ensures { Loads None result }
+{
+    match File::open(rt, name) {
+        Ok(file) => read_whole(alloc, file),
+        Err(error) if is_memory(&error) => Err(LoadFault::Memory),
+        Err(_) => Err(LoadFault::Failed),
+    }
+}
+
+impl<'a, R: std::fs::Files> Files for DiskFiles<'a, R> {
+    ghost use Rattle.std.specs.Prelude.{None};
+
+    ghost content = { λ _ _. None };
+
+    ghost fault_count = { λ f. f };
+
+    fn faults(&self) -> u64 {
+        self.faults
+    }
+
+    fn load(&mut self, alloc: Global, name: &str) -> Result<Vec<u8>, LoadFault> {
+        let loaded = read_file(self.rt, alloc, name);
+        if matches!(&loaded, Err(LoadFault::Failed)) {
+            self.faults = self.faults.saturating_add(1);
+        }
+        loaded
+    }
+}

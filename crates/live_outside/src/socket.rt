@@ -1,0 +1,94 @@
+//! A UDP socket as a link uses it.
+ghost use Rattle.gate_outside.specs.Link.{Fits};
+
+use crate::destinations::Destinations;
+use gate_outside::{Arrival, Failed, Routes};
+use sentence_text::Group;
+use std::io;
+use std::io::ErrorKind;
+use std::net::{Net, SocketAddrV4, UdpSocket};
+use std::time::Duration;
+
+/// How long a receive waits at most, in milliseconds.
+pub(crate) const LONGEST_WAIT_MS: u64 = 10;
+
+/// How many networks a multicast datagram crosses: none but the ship's own.
+const MULTICAST_TTL: u32 = 1;
+
+/// A socket that listens, and where it sends.
+#[derive(Drop)]
+pub(crate) struct Socket {
+    socket: UdpSocket,
+    destinations: Destinations,
+    waits: bool,
+}
+
+// A socket that listens at an address, and whose receives wait.
+fn bound<R: Net>(rt: &R, listen: SocketAddrV4) -> io::Result<UdpSocket> {
+    let socket = UdpSocket::bind(rt, listen)?;
+    socket.set_read_timeout(Some(Duration::from_millis(LONGEST_WAIT_MS)))?;
+    socket.set_broadcast(true)?;
+    socket.set_multicast_ttl_v4(MULTICAST_TTL)?;
+    socket.set_multicast_loop_v4(true)?;
+    Ok(socket)
+}
+
+impl Socket {
+    /// A socket that listens at an address and sends by these routes, where each address is an IPv4
+    /// address and a port and the system lends the one to listen at.
+    pub(crate) fn open<R: Net>(rt: &R, listen: &[u8], routes: &Routes) -> Option<Self> {
+        let destinations = Destinations::of(routes)?;
+        let listen = match SocketAddrV4::parse_ascii(listen) {
+            Ok(listen) => listen,
+            Err(_) => return None,
+        };
+        match bound(rt, listen) {
+            Ok(socket) => Some(Socket {
+                socket,
+                destinations,
+                waits: true,
+            }),
+            Err(_) => None,
+        }
+    }
+
+    // Makes the next call wait or not. A socket keeps its way, so that a busy one isn't set each turn.
+    fn set_waiting(&mut self, waits: bool) -> Result<(), Failed> {
+        if self.waits != waits {
+            if self.socket.set_nonblocking(!waits).is_err() {
+                return Err(Failed);
+            }
+            self.waits = waits;
+        }
+        Ok(())
+    }
+
+    /// The next datagram, of which the first 1500 bytes are taken.
+    pub(crate) fn receive(&mut self, buf: &mut [u8; 1500], waits: bool) -> Result<Arrival, Failed>
+        ensures { Fits buf.new result }
+    {
+        if self.set_waiting(waits).is_err() {
+            return Err(Failed);
+        }
+        match self.socket.recv_from(buf) {
+            Ok((count, _)) => Ok(Arrival::Bytes(count)),
+            Err(error) => match error.kind() {
+                ErrorKind::WouldBlock | ErrorKind::TimedOut | ErrorKind::Interrupted => {
+                    Ok(Arrival::Nothing)
+                }
+                _ => Err(Failed),
+            },
+        }
+    }
+
+    /// Sends a datagram to the address of a group. A send that would wait fails.
+    pub(crate) fn send(&mut self, group: Group, bytes: &[u8]) -> Result<(), Failed> {
+        if self.set_waiting(false).is_err() {
+            return Err(Failed);
+        }
+        match self.socket.send_to(bytes, self.destinations.address(group)) {
+            Ok(count) if count == bytes.len() => Ok(()),
+            _ => Err(Failed),
+        }
+    }
+}

@@ -1,0 +1,49 @@
+-- How a replay ends, by its status.
+use Rattle.std.proofs.Common.{ℕ, List, arith}
+use Rattle.std.specs.Prelude.{Option}
+use Rattle.capture_stream.specs.declared.ending.Ending.{Ending}
+use Rattle.capture_stream.specs.declared.ending.Ending.TheVariants.{Done, SinkFailed, SourceFailed, TooLong}
+use Rattle.capture_stream.specs.Answering.{LineGives}
+use Rattle.capture_stream.specs.Lines.{IsTextFrom}
+use Rattle.capture_stream.specs.Progress.{Ends}
+use Rattle.capture_stream.proofs.EndLemmas.{ends_as}
+use Rattle.bridge.specs.BridgeStands.{IsNew}
+use Rattle.bridge.specs.Kept.{Bridged}
+use Rattle.bridge.specs.Parts.{Parts}
+use Rattle.bridge.specs.Replayed.{GivesReplay, IsReplay}
+use Rattle.bridge.proofs.Replays.{replays}
+use Rattle.shipgate.specs.Run.{EndsBy, status_of}
+
+ends_by : (IsText : List (List ℕ) → List ℕ → Type 0) (left left' told told' : Option (List ℕ)) (ending : Ending) → Ends IsText left left' told told' ending
+    → EndsBy IsText left left' told told' (status_of ending)
+ends_by IsText left left' told told' Done e = record {
+  done = λ is. e;
+  sink_failed = λ is. absurd (omega (arith, is));
+  source_failed = λ is. absurd (omega (arith, is));
+  too_long = λ is. absurd (omega (arith, is));
+}
+ends_by IsText left left' told told' SinkFailed e = record {
+  done = λ is. absurd (omega (arith, is));
+  sink_failed = λ is. e;
+  source_failed = λ is. absurd (omega (arith, is));
+  too_long = λ is. absurd (omega (arith, is));
+}
+ends_by IsText left left' told told' SourceFailed e = record {
+  done = λ is. absurd (omega (arith, is));
+  sink_failed = λ is. absurd (omega (arith, is));
+  source_failed = λ is. e;
+  too_long = λ is. absurd (omega (arith, is));
+}
+ends_by IsText left left' told told' TooLong e = record {
+  done = λ is. absurd (omega (arith, is));
+  sink_failed = λ is. absurd (omega (arith, is));
+  source_failed = λ is. absurd (omega (arith, is));
+  too_long = λ is. e;
+}
+
+-- a capture that a new bridge answered
+pub replay_ends : (p : Parts) (b : Bridged) (left left' told told' : Option (List ℕ)) (ending : Ending) → IsNew p b
+    → Ends (IsTextFrom (LineGives GivesReplay) b) left left' told told' ending → EndsBy (IsReplay p) left left' told told' (status_of ending)
+replay_ends p b left left' told told' ending new ends =
+    ends_by (IsReplay p) left left' told told' ending
+    (ends_as (IsTextFrom (LineGives GivesReplay) b) (IsReplay p) left left' told told' ending (replays p b new) ends)

@@ -1,0 +1,14 @@
+use Rattle.std.proofs.Common.{ℕ, subst, sym}
+use Rattle.bridge.specs.Replayed.{IsReplay}
+use Rattle.shipgate.specs.Run.{EndsBy}
+use Rattle.shipgate.proofs.ReplayLemmas.{replay_ends}
+use Rattle.shipgate.proofs.replay.stream.Goals as goal
+
+pub returns-clause-ends : goal.returns-clause-ends
+returns-clause-ends g c = λ p new.
+    let left = g.S.Source.left c.args.input.now in
+    let left' = g.S.Source.left c.answer_capture.new.input in
+    let told = g.K.Sink.taken c.args.out.now in
+    let told' = g.K.Sink.taken c.answer_capture.new.out in
+    subst (λ (s : ℕ). EndsBy (IsReplay p) left left' told told' s) (sym c.status_of.ensures)
+    (replay_ends p c.args.bridge.now left left' told told' c.answer_capture.result new c.answer_capture.ensures.ends)
