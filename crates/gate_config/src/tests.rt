@@ -1,804 +1,504 @@
 //! What files say, and what is wrong with them: each line worked out by hand from the table of keys.
 use crate::{Settings, read, read_all};
-use arrayvec::ArrayVec;
+use config_document::FaultLine;
 use n2k_id::{Name, Pattern};
 use std::alloc::Global;
 use std::test::*;
 
 /// A gateway with an address, a NAME and an identifier, and nothing else.
-const OWN: &str = "[gateway]\nname = \"C0328200FFC00001\"\naddress = 251\nsfi = \"II0001\"\n";
+const OWN: &str = r#"gateway.name = "C0328200FFC00001"
+gateway.address = 251
+gateway.sfi = "II0001"
+"#;
 
 /// The same with two presets and a source of the network.
-const USUAL: &str = "[gateway]
-name = \"C0328200FFC00001\"
+const USUAL: &str = r#"[gateway]
+name = "C0328200FFC00001"
 address = 251
-sfi = \"II0001\"
+sfi = "II0001"
 [[preset]]
 address = 23
-name = \"C0788C00FFC00005\"
+name = "C0788C00FFC00005"
 [[preset]]
 address = 24
-name = \"C0788C00FFC00006\"
+name = "C0788C00FFC00006"
 [net]
-sources = [\"II0002\"]
-";
+sources = ["II0002"]
+"#;
 
-type Text = ArrayVec<u8, 16384>;
+/// The gateway's own keys: each at both ends of its range and just beyond, and each fault of theirs.
+const OWN_KEYS: &str =
+    r#"gateway = { name = "0000000000000000", address = 251, sfi = "II0001" } => ok
+gateway = { name = "FFFFFFFFFFFFFFFF", address = 251, sfi = "II0001" } => ok
+gateway = { name = "c0328200ffc00001", address = 251, sfi = "II0001" } => ok
+gateway = { name = "C0328200FFC0000", address = 251, sfi = "II0001" } => config: range gateway.name
+gateway = { name = "C0328200FFC000011", address = 251, sfi = "II0001" } => config: range gateway.name
+gateway = { name = "G0328200FFC00001", address = 251, sfi = "II0001" } => config: range gateway.name
+gateway = { name = "+0328200FFC00001", address = 251, sfi = "II0001" } => config: range gateway.name
+gateway = { name = "C0328200FFC00001", address = 0, sfi = "II0001" } => ok
+gateway = { name = "C0328200FFC00001", address = 251, sfi = "II0001" } => ok
+gateway = { name = "C0328200FFC00001", address = -1, sfi = "II0001" } => config: range gateway.address
+gateway = { name = "C0328200FFC00001", address = 252, sfi = "II0001" } => config: range gateway.address
+gateway = { name = "C0328200FFC00001", address = 9223372036854775807, sfi = "II0001" } => config: range gateway.address
+gateway = { name = "C0328200FFC00001", address = 251, sfi = "AA0000" } => ok
+gateway = { name = "C0328200FFC00001", address = 251, sfi = "ZZ9999" } => ok
+gateway = { name = "C0328200FFC00001", address = 251, sfi = "II001" } => config: range gateway.sfi
+gateway = { name = "C0328200FFC00001", address = 251, sfi = "II00001" } => config: range gateway.sfi
+gateway = { name = "C0328200FFC00001", address = 251, sfi = "I10001" } => config: range gateway.sfi
+gateway = { name = "C0328200FFC00001", address = 251, sfi = "ii0001" } => config: range gateway.sfi
+gateway = { name = "C0328200FFC00001", address = 251, sfi = "II000A" } => config: range gateway.sfi
+gateway = { address = 251, sfi = "II0001" } => config: missing gateway.name
+gateway = { name = "C0328200FFC00001", sfi = "II0001" } => config: missing gateway.address
+gateway = { name = "C0328200FFC00001", address = 251 } => config: missing gateway.sfi
+gateway = { name = 1, address = 251, sfi = "II0001" } => config: kind gateway.name
+gateway = { name = "C0328200FFC00001", address = "251", sfi = "II0001" } => config: kind gateway.address
+gateway = { name = "C0328200FFC00001", address = 251.0, sfi = "II0001" } => config: kind gateway.address
+gateway = { name = "C0328200FFC00001", address = 251, sfi = 1 } => config: kind gateway.sfi
+gateway = { address = 999, sfi = 1 } => config: missing gateway.name
+gateway = { name = "C0328200FFC00001", address = 999 } => config: range gateway.address
+gateway = { name = "C0328200FFC00001", address = 999, sfi = 1 } => config: range gateway.address
+gateway = { name = true } => config: kind gateway.name
+gateway = 1 => config: kind gateway
+[[gateway]] => config: kind gateway
+gateway = [] => config: kind gateway
+[gateway] => config: missing gateway.name
+other = 1 => config: missing gateway.name"#;
 
-/// These texts one after another.
-fn joined(pieces: &[&str]) -> Text {
-    let mut text = Text::new();
-    for piece in pieces {
-        let _fits = text.try_extend_from_slice(piece.as_bytes());
-    }
-    text
+/// Each other key at both ends of its range, and just beyond.
+const ENDS: &str = r#"gateway.group = "0000" => ok
+gateway.group = "ZZZZ" => ok
+gateway.group = "NAV" => config: range gateway.group
+gateway.group = "NAVDA" => config: range gateway.group
+gateway.fast_slots = 1 => ok
+gateway.fast_slots = 256 => ok
+gateway.fast_slots = 0 => config: range gateway.fast_slots
+gateway.fast_slots = 257 => config: range gateway.fast_slots
+gateway.iso_slots = 1 => ok
+gateway.iso_slots = 32 => ok
+gateway.iso_slots = 0 => config: range gateway.iso_slots
+gateway.iso_slots = 33 => config: range gateway.iso_slots
+gateway.group_slots = 1 => ok
+gateway.group_slots = 32 => ok
+gateway.group_slots = 0 => config: range gateway.group_slots
+gateway.group_slots = 33 => config: range gateway.group_slots
+gateway.ths = true => ok
+gateway.ths = false => ok
+preset = [{ address = 0, name = "C0788C00FFC00005" }] => ok
+preset = [{ address = 253, name = "C0788C00FFC00005" }] => ok
+preset = [{ address = -1, name = "C0788C00FFC00005" }] => config: range preset.1.address
+preset = [{ address = 254, name = "C0788C00FFC00005" }] => config: range preset.1.address
+preset = [{ address = 1, name = "0000000000000000" }] => ok
+preset = [{ address = 1, name = "FFFFFFFFFFFFFFFF" }] => ok
+preset = [{ address = 1, name = "000000000000000" }] => config: range preset.1.name
+preset = [{ address = 1, name = "00000000000000000" }] => config: range preset.1.name
+row.heading_true.sources = ["unique=0", "unique=2097151"] => ok
+row.heading_true.sources = ["unique=2097152"] => config: range row.heading_true.sources
+row.heading_true.sources = ["manufacturer=0", "manufacturer=2047"] => ok
+row.heading_true.sources = ["manufacturer=2048"] => config: range row.heading_true.sources
+row.heading_true.sources = ["instance_lower=0", "instance_lower=7"] => ok
+row.heading_true.sources = ["instance_lower=8"] => config: range row.heading_true.sources
+row.heading_true.sources = ["instance_upper=0", "instance_upper=31"] => ok
+row.heading_true.sources = ["instance_upper=32"] => config: range row.heading_true.sources
+row.heading_true.sources = ["function=0", "function=255"] => ok
+row.heading_true.sources = ["function=256"] => config: range row.heading_true.sources
+row.heading_true.sources = ["reserved=0", "reserved=1"] => ok
+row.heading_true.sources = ["reserved=2"] => config: range row.heading_true.sources
+row.heading_true.sources = ["class=0", "class=127"] => ok
+row.heading_true.sources = ["class=128"] => config: range row.heading_true.sources
+row.heading_true.sources = ["system_instance=0", "system_instance=15"] => ok
+row.heading_true.sources = ["system_instance=16"] => config: range row.heading_true.sources
+row.heading_true.sources = ["industry=0", "industry=7"] => ok
+row.heading_true.sources = ["industry=8"] => config: range row.heading_true.sources
+row.heading_true.sources = ["arbitrary=0", "arbitrary=1"] => ok
+row.heading_true.sources = ["arbitrary=2"] => config: range row.heading_true.sources
+row.heading_true.sources = ["unique=0000001"] => ok
+row.heading_true.sources = ["unique=00000001"] => config: range row.heading_true.sources
+row.heading_true.sources = [] => ok
+row.heading_true.sources = ["unique=0", "unique=1", "unique=2", "unique=3", "unique=4", "unique=5", "unique=6", "unique=7", "unique=8", "unique=9", "unique=10", "unique=11", "unique=12", "unique=13", "unique=14", "unique=15"] => ok
+row.heading_true.sources = ["unique=0", "unique=1", "unique=2", "unique=3", "unique=4", "unique=5", "unique=6", "unique=7", "unique=8", "unique=9", "unique=10", "unique=11", "unique=12", "unique=13", "unique=14", "unique=15", "unique=16"] => config: range row.heading_true.sources
+row.heading_true = { timeout_ms = 100, others = true, talker = "AA", group = "0000" } => ok
+row.heading_true.timeout_ms = 99 => config: range row.heading_true.timeout_ms
+row.heading_magnetic = { timeout_ms = 100, others = true, talker = "AA", group = "0000" } => ok
+row.heading_magnetic.timeout_ms = 99 => config: range row.heading_magnetic.timeout_ms
+row.rate_of_turn = { timeout_ms = 100, others = true, talker = "AA", group = "0000" } => ok
+row.rate_of_turn.timeout_ms = 99 => config: range row.rate_of_turn.timeout_ms
+row.rudder_first = { timeout_ms = 100, others = true, talker = "AA", group = "0000" } => ok
+row.rudder_first.timeout_ms = 99 => config: range row.rudder_first.timeout_ms
+row.rudder_second = { timeout_ms = 100, others = true, talker = "AA", group = "0000" } => ok
+row.rudder_second.timeout_ms = 99 => config: range row.rudder_second.timeout_ms
+row.water_speed = { timeout_ms = 100, others = true, talker = "AA", group = "0000" } => ok
+row.water_speed.timeout_ms = 99 => config: range row.water_speed.timeout_ms
+row.depth = { timeout_ms = 100, others = true, talker = "AA", group = "0000" } => ok
+row.depth.timeout_ms = 99 => config: range row.depth.timeout_ms
+row.distance_log = { timeout_ms = 100, others = true, talker = "AA", group = "0000" } => ok
+row.distance_log.timeout_ms = 99 => config: range row.distance_log.timeout_ms
+row.position = { timeout_ms = 100, others = true, talker = "AA", group = "0000" } => ok
+row.position.timeout_ms = 99 => config: range row.position.timeout_ms
+row.course_speed = { timeout_ms = 100, others = true, talker = "AA", group = "0000" } => ok
+row.course_speed.timeout_ms = 99 => config: range row.course_speed.timeout_ms
+row.gnss = { timeout_ms = 100, others = true, talker = "AA", group = "0000" } => ok
+row.gnss.timeout_ms = 99 => config: range row.gnss.timeout_ms
+row.time = { timeout_ms = 100, others = true, talker = "AA", group = "0000" } => ok
+row.time.timeout_ms = 99 => config: range row.time.timeout_ms
+row.wind_apparent = { timeout_ms = 100, others = true, talker = "AA", group = "0000" } => ok
+row.wind_apparent.timeout_ms = 99 => config: range row.wind_apparent.timeout_ms
+row.wind_true = { timeout_ms = 100, others = true, talker = "AA", group = "0000" } => ok
+row.wind_true.timeout_ms = 99 => config: range row.wind_true.timeout_ms
+row.wind_north = { timeout_ms = 100, others = true, talker = "AA", group = "0000" } => ok
+row.wind_north.timeout_ms = 99 => config: range row.wind_north.timeout_ms
+row.water_temperature = { timeout_ms = 100, others = true, talker = "AA", group = "0000" } => ok
+row.water_temperature.timeout_ms = 99 => config: range row.water_temperature.timeout_ms
+row.cross_track = { timeout_ms = 100, others = true, talker = "AA", group = "0000" } => ok
+row.cross_track.timeout_ms = 99 => config: range row.cross_track.timeout_ms
+row.depth.timeout_ms = 60000 => ok
+row.depth.timeout_ms = 60001 => config: range row.depth.timeout_ms
+row.depth.others = false => ok
+row.gnss.talker = "ZZ" => ok
+row.gnss.talker = "G" => config: range row.gnss.talker
+row.gnss.talker = "GPS" => config: range row.gnss.talker
+row.time.group = "ZZZZ" => ok
+row.time.group = "NAV" => config: range row.time.group
+row.time.group = "NAVDA" => config: range row.time.group
+net.sources = [] => ok
+net.sources = ["AA0000", "ZZ9999"] => ok
+net.sources = ["II002"] => config: range net.sources
+net.sources = ["II00002"] => config: range net.sources
+net.sources = ["AA0000", "AA0001", "AA0002", "AA0003", "AA0004", "AA0005", "AA0006", "AA0007", "AA0008", "AA0009", "AA0010", "AA0011", "AA0012", "AA0013", "AA0014", "AA0015", "AA0016", "AA0017", "AA0018", "AA0019", "AA0020", "AA0021", "AA0022", "AA0023", "AA0024", "AA0025", "AA0026", "AA0027", "AA0028", "AA0029", "AA0030", "AA0031"] => ok
+net.sources = ["AA0000", "AA0001", "AA0002", "AA0003", "AA0004", "AA0005", "AA0006", "AA0007", "AA0008", "AA0009", "AA0010", "AA0011", "AA0012", "AA0013", "AA0014", "AA0015", "AA0016", "AA0017", "AA0018", "AA0019", "AA0020", "AA0021", "AA0022", "AA0023", "AA0024", "AA0025", "AA0026", "AA0027", "AA0028", "AA0029", "AA0030", "AA0031", "AA0032"] => config: range net.sources
+net.listen = "0.0.0.0:1" => ok
+net.listen = "255.255.255.255:65535" => ok
+net.listen = "0.0.0.0:0" => config: range net.listen
+net.listen = "255.255.255.256:65535" => config: range net.listen
+net.listen = "255.255.255.255:65536" => config: range net.listen
+net.send = "0.0.0.0:1" => ok
+net.send = "255.255.255.255:65535" => ok
+net.send = "0.0.0.0:0" => config: range net.send
+net.send = "255.255.255.256:65535" => config: range net.send
+net.send = "255.255.255.255:65536" => config: range net.send
+bus.listen = "0.0.0.0:1" => ok
+bus.listen = "255.255.255.255:65535" => ok
+bus.listen = "0.0.0.0:0" => config: range bus.listen
+bus.listen = "255.255.255.256:65535" => config: range bus.listen
+bus.listen = "255.255.255.255:65536" => config: range bus.listen
+bus.send = "0.0.0.0:1" => ok
+bus.send = "255.255.255.255:65535" => ok
+bus.send = "0.0.0.0:0" => config: range bus.send
+bus.send = "255.255.255.256:65535" => config: range bus.send
+bus.send = "255.255.255.255:65536" => config: range bus.send
+route = [{ group = "0000", address = "239.192.0.1:60001" }] => ok
+route = [{ group = "ZZZZ", address = "239.192.0.1:60001" }] => ok
+route = [{ group = "NAV", address = "239.192.0.1:60001" }] => config: range route.1.group
+route = [{ group = "NAVDA", address = "239.192.0.1:60001" }] => config: range route.1.group
+route = [{ group = "NAVD", address = "0.0.0.0:1" }] => ok
+route = [{ group = "NAVD", address = "255.255.255.255:65535" }] => ok
+route = [{ group = "NAVD", address = "0.0.0.0:0" }] => config: range route.1.address
+route = [{ group = "NAVD", address = "255.255.255.255:65536" }] => config: range route.1.address
+route = [{ group = "AAA0", address = "239.192.0.1:60001" }, { group = "AAA1", address = "239.192.0.1:60001" }, { group = "AAA2", address = "239.192.0.1:60001" }, { group = "AAA3", address = "239.192.0.1:60001" }, { group = "AAA4", address = "239.192.0.1:60001" }, { group = "AAA5", address = "239.192.0.1:60001" }, { group = "AAA6", address = "239.192.0.1:60001" }, { group = "AAA7", address = "239.192.0.1:60001" }] => ok
+route = [{ group = "AAA0", address = "239.192.0.1:60001" }, { group = "AAA1", address = "239.192.0.1:60001" }, { group = "AAA2", address = "239.192.0.1:60001" }, { group = "AAA3", address = "239.192.0.1:60001" }, { group = "AAA4", address = "239.192.0.1:60001" }, { group = "AAA5", address = "239.192.0.1:60001" }, { group = "AAA6", address = "239.192.0.1:60001" }, { group = "AAA7", address = "239.192.0.1:60001" }, { group = "AAA8", address = "239.192.0.1:60001" }] => config: range route
+identity.code = 0 => ok
+identity.code = 65535 => ok
+identity.code = -1 => config: range identity.code
+identity.code = 65536 => config: range identity.code
+identity.model = "" => ok
+identity.model = "xxxxxxxxxxxxxxxxxxxxxxxxxxxxxxxx" => ok
+identity.model = " ~" => ok
+identity.model = "xxxxxxxxxxxxxxxxxxxxxxxxxxxxxxxxx" => config: range identity.model
+identity.model = "\u001F" => config: range identity.model
+identity.model = "\u007F" => config: range identity.model
+identity.software = "" => ok
+identity.software = "xxxxxxxxxxxxxxxxxxxxxxxxxxxxxxxx" => ok
+identity.software = " ~" => ok
+identity.software = "xxxxxxxxxxxxxxxxxxxxxxxxxxxxxxxxx" => config: range identity.software
+identity.software = "\u001F" => config: range identity.software
+identity.software = "\u007F" => config: range identity.software
+identity.version = "" => ok
+identity.version = "xxxxxxxxxxxxxxxxxxxxxxxxxxxxxxxx" => ok
+identity.version = " ~" => ok
+identity.version = "xxxxxxxxxxxxxxxxxxxxxxxxxxxxxxxxx" => config: range identity.version
+identity.version = "\u001F" => config: range identity.version
+identity.version = "\u007F" => config: range identity.version
+identity.serial = "" => ok
+identity.serial = "xxxxxxxxxxxxxxxxxxxxxxxxxxxxxxxx" => ok
+identity.serial = " ~" => ok
+identity.serial = "xxxxxxxxxxxxxxxxxxxxxxxxxxxxxxxxx" => config: range identity.serial
+identity.serial = "\u001F" => config: range identity.serial
+identity.serial = "\u007F" => config: range identity.serial
+identity.load = 0 => ok
+identity.load = 252 => ok
+identity.load = -1 => config: range identity.load
+identity.load = 253 => config: range identity.load
+rmc.group = "0000" => ok
+rmc.group = "ZZZZ" => ok
+rmc.group = "RMC" => config: range rmc.group
+rmc.group = "RMCDA" => config: range rmc.group
+rmc = { group = "RMCD", talker = "AA" } => ok
+rmc = { group = "RMCD", talker = "ZZ" } => ok
+rmc = { group = "RMCD", talker = "G" } => config: range rmc.talker
+rmc = { group = "RMCD", talker = "GPS" } => config: range rmc.talker
+ais.group = "0000" => ok
+ais.group = "ZZZZ" => ok
+ais.group = "TGT" => config: range ais.group
+ais.group = "TGTDA" => config: range ais.group
+ais = { group = "TGTD", slots = 1 } => ok
+ais = { group = "TGTD", slots = 256 } => ok
+ais = { group = "TGTD", slots = 0 } => config: range ais.slots
+ais = { group = "TGTD", slots = 257 } => config: range ais.slots"#;
+
+/// Each fault of each kind of key, and the order of faults.
+const FAULTS: &str = r#"preset = [{ name = "C0788C00FFC00005" }] => config: missing preset.1.address
+preset = [{ address = 1 }] => config: missing preset.1.name
+preset = [{ address = 1, name = "C0788C00FFC00005" }, { address = 2 }] => config: missing preset.2.name
+route = [{ address = "239.192.0.1:60001" }] => config: missing route.1.group
+route = [{ group = "NAVD" }] => config: missing route.1.address
+rmc.talker = "GP" => config: missing rmc.group
+rmc.talker = 1 => config: missing rmc.group
+ais.slots = 16 => config: missing ais.group
+ais.slots = 0 => config: missing ais.group
+gateway.group = 1 => config: kind gateway.group
+gateway.group = ["NAVD"] => config: kind gateway.group
+gateway.group = 1979-05-27 => config: kind gateway.group
+gateway.fast_slots = "64" => config: kind gateway.fast_slots
+gateway.fast_slots = 64.0 => config: kind gateway.fast_slots
+gateway.iso_slots = true => config: kind gateway.iso_slots
+gateway.group_slots = [8] => config: kind gateway.group_slots
+gateway.ths = 1 => config: kind gateway.ths
+gateway.ths = "true" => config: kind gateway.ths
+preset = [{ address = "1", name = "C0788C00FFC00005" }] => config: kind preset.1.address
+preset = [{ address = 1, name = 5 }] => config: kind preset.1.name
+row.heading_true.sources = "class=40" => config: kind row.heading_true.sources
+row.heading_true.sources = [1] => config: kind row.heading_true.sources
+row.heading_true.sources = ["class=128", 1] => config: kind row.heading_true.sources
+row.depth.others = 0 => config: kind row.depth.others
+row.depth.timeout_ms = "5000" => config: kind row.depth.timeout_ms
+row.depth.talker = true => config: kind row.depth.talker
+row.depth.group = [] => config: kind row.depth.group
+net.sources = "II0002" => config: kind net.sources
+net.sources = ["II0002", 2] => config: kind net.sources
+net.sources = {} => config: kind net.sources
+net.listen = 60001 => config: kind net.listen
+net.send = 60001 => config: kind net.send
+bus.listen = 60001 => config: kind bus.listen
+bus.send = 60001 => config: kind bus.send
+route = [{ group = 1, address = "239.192.0.1:60001" }] => config: kind route.1.group
+route = [{ group = "NAVD", address = 1 }] => config: kind route.1.address
+identity.code = "0" => config: kind identity.code
+identity.model = 1 => config: kind identity.model
+identity.software = 1.0 => config: kind identity.software
+identity.version = true => config: kind identity.version
+identity.serial = [] => config: kind identity.serial
+identity.load = 1.0 => config: kind identity.load
+rmc.group = 1 => config: kind rmc.group
+rmc = { group = "RMCD", talker = 1 } => config: kind rmc.talker
+ais.group = 1 => config: kind ais.group
+ais = { group = "TGTD", slots = "1" } => config: kind ais.slots
+[preset] => config: kind preset
+preset = 1 => config: kind preset
+preset = [1] => config: kind preset
+[route] => config: kind route
+route = 1 => config: kind route
+route = [1] => config: kind route
+[[row]] => config: kind row
+[[net]] => config: kind net
+[[bus]] => config: kind bus
+[[identity]] => config: kind identity
+[[rmc]] => config: kind rmc
+[[ais]] => config: kind ais
+row = 1 => config: kind row
+[[row.depth]] => config: kind row.depth
+row.depth = 1 => config: kind row.depth
+preset = [] => ok
+route = [] => ok
+[row];[row.depth];[net];[bus];[identity];[rmc];[ais] => ok
+gateway.group = "navd" => config: range gateway.group
+gateway.group = "NAV-" => config: range gateway.group
+gateway.group = "NAV " => config: range gateway.group
+preset = [{ address = 1, name = "C0788C00FFC0000G" }] => config: range preset.1.name
+preset = [{ address = 1, name = "+0788C00FFC00005" }] => config: range preset.1.name
+preset = [{ address = 1, name = " 0788C00FFC00005" }] => config: range preset.1.name
+row.depth.sources = ["class=40 industry=4"] => ok
+row.depth.sources = ["unique=0 manufacturer=0 instance_lower=0 instance_upper=0 function=0 reserved=0 class=0 system_instance=0 industry=0 arbitrary=0"] => ok
+row.depth.sources = ["c0788c00ffc00005"] => ok
+row.depth.sources = [""] => config: range row.depth.sources
+row.depth.sources = ["class"] => config: range row.depth.sources
+row.depth.sources = ["class="] => config: range row.depth.sources
+row.depth.sources = ["=40"] => config: range row.depth.sources
+row.depth.sources = ["class=+4"] => config: range row.depth.sources
+row.depth.sources = ["class=-4"] => config: range row.depth.sources
+row.depth.sources = ["class=4x"] => config: range row.depth.sources
+row.depth.sources = ["classes=4"] => config: range row.depth.sources
+row.depth.sources = ["Class=4"] => config: range row.depth.sources
+row.depth.sources = ["class =40"] => config: range row.depth.sources
+row.depth.sources = [" class=40"] => config: range row.depth.sources
+row.depth.sources = ["class=40 "] => config: range row.depth.sources
+row.depth.sources = ["class=40  industry=4"] => config: range row.depth.sources
+row.depth.sources = ["class=40,industry=4"] => config: range row.depth.sources
+row.depth.sources = ["industry=4 class=40"] => config: range row.depth.sources
+row.depth.sources = ["class=40 class=40"] => config: range row.depth.sources
+row.depth.sources = ["C0788C00FFC0000"] => config: range row.depth.sources
+row.depth.sources = ["C0788C00FFC000055"] => config: range row.depth.sources
+row.depth.sources = ["C0788C00FFC00005 class=40"] => config: range row.depth.sources
+row.depth.talker = "gp" => config: range row.depth.talker
+row.depth.talker = "G1" => config: range row.depth.talker
+net.sources = ["ii0002"] => config: range net.sources
+net.sources = ["I20002"] => config: range net.sources
+net.sources = ["II000A"] => config: range net.sources
+net.listen = "" => config: range net.listen
+net.listen = "127.0.0.1" => config: range net.listen
+net.listen = "localhost:1" => config: range net.listen
+net.listen = "127.0.0.01:1" => config: range net.listen
+net.listen = "127.0.0.1:01" => config: range net.listen
+net.listen = "127.0.1:1" => config: range net.listen
+net.listen = "127.0.0.0.1:1" => config: range net.listen
+net.listen = "127.0.0.:1" => config: range net.listen
+net.listen = "127.0.0.1:" => config: range net.listen
+net.listen = "127.0.0.1:+1" => config: range net.listen
+net.listen = "127.0.0.1 :1" => config: range net.listen
+net.listen = "-1.0.0.1:1" => config: range net.listen
+net.listen = "127.0.0.1:1 " => config: range net.listen
+identity.model = "\u00E9" => config: range identity.model
+rmc = { group = "RMCD", talker = "gp" } => config: range rmc.talker
+preset = [{ address = 251, name = "C0788C00FFC00005" }] => config: twice preset.1.address
+preset = [{ address = 1, name = "C0328200FFC00001" }] => config: twice preset.1.name
+preset = [{ address = 1, name = "c0328200ffc00001" }] => config: twice preset.1.name
+preset = [{ address = 1, name = "C0788C00FFC00005" }, { address = 1, name = "C0788C00FFC00005" }] => config: twice preset.2.address
+preset = [{ address = 1, name = "C0788C00FFC00005" }, { address = 2, name = "C0788C00FFC00005" }] => config: twice preset.2.name
+row.depth.sources = ["class=40", "class=40"] => config: twice row.depth.sources
+row.depth.sources = ["unique=1", "class=1", "unique=0000001"] => config: twice row.depth.sources
+row.depth.sources = ["C0788C00FFC00005", "c0788c00ffc00005"] => config: twice row.depth.sources
+row = { depth = { sources = ["C0788C00FFC00005"] }, gnss = { sources = ["C0788C00FFC00005"] } } => ok
+net.sources = ["II0001"] => config: twice net.sources
+net.sources = ["II0002", "II0003", "II0002"] => config: twice net.sources
+route = [{ group = "NAVD", address = "239.192.0.1:60001" }, { group = "NAVD", address = "239.192.0.2:60002" }] => config: twice route.2.group
+route = [{ group = "NAVD", address = "239.192.0.1:60001" }, { group = "TGTD", address = "239.192.0.1:60001" }] => ok
+rmc.group = "NAVD" => config: twice rmc.group
+row.gnss.group = "RMCD";rmc.group = "RMCD" => config: twice rmc.group
+gateway.group = "TGTD";rmc.group = "NAVD" => ok
+gateway.group = "TGTD";row.cross_track.group = "NAVD";rmc.group = "NAVD" => config: twice rmc.group
+ais.group = "NAVD" => config: twice ais.group
+ais.group = "RMCD";rmc.group = "RMCD" => config: twice ais.group
+other = 1 => config: unknown other
+[other.one] => config: unknown other
+[[other]] => config: unknown other
+gateway.other = 1 => config: unknown gateway.other
+net.other = 1 => config: unknown net.other
+bus.other = 1 => config: unknown bus.other
+identity.other = 1 => config: unknown identity.other
+rmc.other = 1 => config: unknown rmc.other
+ais.other = 1 => config: unknown ais.other
+preset = [{ address = 1, name = "C0788C00FFC00005", other = 1 }] => config: unknown preset.1.other
+row.heading = { timeout_ms = 1 } => config: unknown row.heading
+row.other = 1 => config: unknown row.other
+row.cross_track.other = 1 => config: unknown row.cross_track.other
+route = [{ group = "NAVD", address = "239.192.0.1:60001", other = 1 }] => config: unknown route.1.other
+"a.b" = 1 => config: unknown a.b
+net." sources" = [] => config: unknown net. sources
+'gateway.name' = 1 => config: unknown gateway.name
+net."" = 1 => config: unknown net.
+"net".sources = ["II0002"] => ok
+kkkkkkkkkkkkkkkkkkkkkkkkkkkkkkkkkkkkkkkkkkkkkkkkkkkkkkkkkkkkkkkkkkkkkkkkkkkkkkkkkkkkkkkkkkkkkkkkkkkkkkkkkkkkkkkkkkkkkkkkkkkkkkkk = 1 => config: unknown kkkkkkkkkkkkkkkkkkkkkkkkkkkkkkkkkkkkkkkkkkkkkkkkkkkkkkkkkkkkkkkkkkkkkkkkkkkkkkkkkkkkkkkkkkkkkkkkkkkkkkkkkkkkkkkkkkkkkkkkkkkkkkkk
+kkkkkkkkkkkkkkkkkkkkkkkkkkkkkkkkkkkkkkkkkkkkkkkkkkkkkkkkkkkkkkkkkkkkkkkkkkkkkkkkkkkkkkkkkkkkkkkkkkkkkkkkkkkkkkkkkkkkkkkkkkkkkkkkk = 1 => config: unknown kkkkkkkkkkkkkkkkkkkkkkkkkkkkkkkkkkkkkkkkkkkkkkkkkkkkkkkkkkkkkkkkkkkkkkkkkkkkkkkkkkkkkkkkkkkkkkkkkkkkkkkkkkkkkkkkkkkkkkkkkkkkkkkk
+bus.kkkkkkkkkkkkkkkkkkkkkkkkkkkkkkkkkkkkkkkkkkkkkkkkkkkkkkkkkkkkkkkkkkkkkkkkkkkkkkkkkkkkkkkkkkkkkkkkkkkkkkkkkkkkkkkkkkkkkkkkkkkk = 1 => config: unknown bus.kkkkkkkkkkkkkkkkkkkkkkkkkkkkkkkkkkkkkkkkkkkkkkkkkkkkkkkkkkkkkkkkkkkkkkkkkkkkkkkkkkkkkkkkkkkkkkkkkkkkkkkkkkkkkkkkkkkkkkkkkkkk
+bus.kkkkkkkkkkkkkkkkkkkkkkkkkkkkkkkkkkkkkkkkkkkkkkkkkkkkkkkkkkkkkkkkkkkkkkkkkkkkkkkkkkkkkkkkkkkkkkkkkkkkkkkkkkkkkkkkkkkkkkkkkkkkk = 1 => config: unknown bus.kkkkkkkkkkkkkkkkkkkkkkkkkkkkkkkkkkkkkkkkkkkkkkkkkkkkkkkkkkkkkkkkkkkkkkkkkkkkkkkkkkkkkkkkkkkkkkkkkkkkkkkkkkkkkkkkkkkkkkkkkkkk
+row.time.kkkkkkkkkkkkkkkkkkkkkkkkkkkkkkkkkkkkkkkkkkkkkkkkkkkkkkkkkkkkkkkkkkkkkkkkkkkkkkkkkkkkkkkkkkkkkkkkkkkkkkkkkkkkkkkkkkkkkkkkkkkkkkkkkkkkkkkkkkkkkkkkkkkkkkkkkkkkkkkkkkkkkkkkkkkkkkkkkkkkkkkkkkkkkkkkkkkkkkkk = 1 => config: unknown row.time.kkkkkkkkkkkkkkkkkkkkkkkkkkkkkkkkkkkkkkkkkkkkkkkkkkkkkkkkkkkkkkkkkkkkkkkkkkkkkkkkkkkkkkkkkkkkkkkkkkkkkkkkkkkkkkkkkkkkkkk
+gateway.fast_slots = 0;gateway.iso_slots = "x" => config: range gateway.fast_slots
+preset = 1;gateway.ths = 1 => config: kind gateway.ths
+preset = 1;row = 1 => config: kind preset
+row = 1;net = 1 => config: kind row
+row.time.timeout_ms = 1;row.depth.group = 1 => config: kind row.depth.group
+bus.send = 1;net.send = 1 => config: kind net.send
+net.listen = 1;net.sources = 1 => config: kind net.sources
+route = 1;bus.send = 1 => config: kind bus.send
+identity = 1;route = 1 => config: kind route
+rmc = 1;identity.load = 1.0 => config: kind identity.load
+ais = 1;rmc.group = 1 => config: kind rmc.group
+net.sources = ["II0001", "II0001", 1] => config: kind net.sources
+net.sources = ["II0001", "II01"] => config: range net.sources
+preset = [{ address = 254, name = 1 }, 1] => config: kind preset
+other = 1;ais.slots = 1 => config: missing ais.group
+zone = 1;gateway.zone = 1;area = 1 => config: unknown area
+gateway.b = 1;gateway.a = 1 => config: unknown gateway.a
+net.z = 1;bus.z = 1 => config: unknown bus.z
+preset = [{ address = 1, name = "0000000000000001" }, { address = 2, name = "0000000000000002", other = 1 }, { address = 3, name = "0000000000000003" }, { address = 4, name = "0000000000000004" }, { address = 5, name = "0000000000000005" }, { address = 6, name = "0000000000000006" }, { address = 7, name = "0000000000000007" }, { address = 8, name = "0000000000000008" }, { address = 9, name = "0000000000000009" }, { address = 10, name = "0000000000000010", other = 1 }] => config: unknown preset.10.other"#;
+
+/// The line of what is wrong with a file, `ok` where nothing is, and `memory` where there was none.
+fn said(alloc: Global, file: &[u8]) -> FaultLine {
+    let mut line = FaultLine::new();
+    let _fits = match read_all(alloc, file) {
+        Ok(_) => line.try_extend_from_slice(b"ok"),
+        Err(fault) => match fault.line() {
+            Some(wrong) => line.try_extend_from_slice(wrong.as_slice()),
+            None => line.try_extend_from_slice(b"memory"),
+        },
+    };
+    line
 }
 
-/// The line of what is wrong, `ok` where nothing is, and `memory` where there was none.
-fn said(alloc: Global, bytes: &[u8]) -> Text {
-    match read_all(alloc, bytes) {
-        Ok(_) => joined(&["ok"]),
-        Err(fault) => {
-            let mut text = Text::new();
-            match fault.line() {
-                Some(line) => {
-                    let _fits = text.try_extend_from_slice(line.as_slice());
-                }
-                None => {
-                    let _fits = text.try_extend_from_slice(b"memory");
-                }
-            }
-            text
+/// Whether what the case says of its file is said. A case is what the file holds after these keys, ` => `, and what is said of it; `;` is
+/// the end of a line of the file.
+fn holds(alloc: Global, keys: &str, case: &str) -> Result<bool, Fail> {
+    let (more, expected) = case.split_once(" => ").ok_or("a case has two parts")?;
+    let mut file = Vec::new(alloc);
+    file.extend_from_slice(keys.as_bytes())?;
+    for &byte in more.as_bytes() {
+        file.push(if byte == b';' { b'\n' } else { byte })?;
+    }
+    Ok(said(alloc, file.as_slice()).as_slice() == expected.as_bytes())
+}
+
+/// The first case of a table that doesn't hold, or nothing. Each line of the table is one.
+fn first_that_fails<'a>(alloc: Global, keys: &str, table: &'a str) -> Result<&'a str, Fail> {
+    for case in table.lines() {
+        if !holds(alloc, keys, case)? {
+            return Ok(case);
         }
     }
+    Ok("")
 }
 
 #[test]
-fn whole_files(rt: HostRuntime) {
-    let third = "[[preset]]\naddress = 23\nname = \"C0788C00FFC00007\"\n";
-    let cases = [
-        ("own keys alone", OWN, "", "ok"),
-        ("two presets and a source", USUAL, "", "ok"),
-        (
-            "an address of two presets",
-            USUAL,
-            third,
-            "config: twice preset.3.address",
-        ),
-        ("a key without a value", "x =", "", "config: not toml"),
-        ("nothing", "", "", "config: missing gateway.name"),
-        ("a comment", "# nothing", "", "config: missing gateway.name"),
-    ];
-    for (what, text, more, expected) in cases {
-        let bytes = joined(&[text, more]);
-        assert_eq!(rt;
-            said(rt.alloc(), bytes.as_slice()).as_slice(),
-            expected.as_bytes(),
-            "{what}"
-        );
-    }
+fn whole_files(rt: HostRuntime) -> Result<(), Fail> {
+    let usual = r#" => ok
+[[preset]];address = 23;name = "C0788C00FFC00007" => config: twice preset.3.address
+[row.heading_true];sources = ["unique=2097152"] => config: range row.heading_true.sources"#;
+    let others = r#" => config: missing gateway.name
+# a comment => config: missing gateway.name
+x = => config: not toml
+x => config: not toml
+x = 1;x = 1 => config: not toml
+[gateway];[gateway] => config: not toml"#;
+    assert_eq!(rt; first_that_fails(rt.alloc(), USUAL, usual)?, "");
+    assert_eq!(rt; first_that_fails(rt.alloc(), "", others)?, "");
+    assert_eq!(rt; first_that_fails(rt.alloc(), OWN, " => ok")?, "");
+    Ok(())
 }
 
 #[test]
 fn bytes_that_are_no_text(rt: HostRuntime) {
-    assert_eq!(rt;
-        said(rt.alloc(), b"\xff").as_slice(),
-        b"config: not toml".as_slice()
-    );
-    assert_eq!(rt;
-        said(rt.alloc(), b"# \xc3").as_slice(),
-        b"config: not toml".as_slice()
-    );
-}
-
-/// What stands behind the own keys, and what is said of it.
-#[test]
-fn each_key_at_its_ends_and_beyond(rt: HostRuntime) {
-    let cases = [
-        ("fast_slots = 1\n", "ok"),
-        ("fast_slots = 256\n", "ok"),
-        ("fast_slots = 0\n", "config: range gateway.fast_slots"),
-        ("fast_slots = 257\n", "config: range gateway.fast_slots"),
-        ("fast_slots = \"8\"\n", "config: kind gateway.fast_slots"),
-        ("fast_slots = 8.0\n", "config: kind gateway.fast_slots"),
-        ("fast_slots = -1\n", "config: range gateway.fast_slots"),
-        ("iso_slots = 1\n", "ok"),
-        ("iso_slots = 32\n", "ok"),
-        ("iso_slots = 0\n", "config: range gateway.iso_slots"),
-        ("iso_slots = 33\n", "config: range gateway.iso_slots"),
-        ("iso_slots = \"8\"\n", "config: kind gateway.iso_slots"),
-        ("iso_slots = 8.0\n", "config: kind gateway.iso_slots"),
-        ("iso_slots = -1\n", "config: range gateway.iso_slots"),
-        ("group_slots = 1\n", "ok"),
-        ("group_slots = 32\n", "ok"),
-        ("group_slots = 0\n", "config: range gateway.group_slots"),
-        ("group_slots = 33\n", "config: range gateway.group_slots"),
-        ("group_slots = \"8\"\n", "config: kind gateway.group_slots"),
-        ("group_slots = 8.0\n", "config: kind gateway.group_slots"),
-        ("group_slots = -1\n", "config: range gateway.group_slots"),
-        (
-            "fast_slots = 9223372036854775807\n",
-            "config: range gateway.fast_slots",
-        ),
-        ("ths = true\n", "ok"),
-        ("ths = false\n", "ok"),
-        ("ths = 1\n", "config: kind gateway.ths"),
-        ("ths = \"true\"\n", "config: kind gateway.ths"),
-        ("group = \"TGTD\"\n", "ok"),
-        ("group = \"0000\"\n", "ok"),
-        ("group = \"navd\"\n", "config: range gateway.group"),
-        ("group = \"NAV\"\n", "config: range gateway.group"),
-        ("group = \"NAVDA\"\n", "config: range gateway.group"),
-        ("group = 1979-05-27\n", "config: kind gateway.group"),
-        (
-            "[[preset]]\nname = \"C0788C00FFC00005\"\naddress = 0\n",
-            "ok",
-        ),
-        (
-            "[[preset]]\nname = \"C0788C00FFC00005\"\naddress = 253\n",
-            "ok",
-        ),
-        (
-            "[[preset]]\nname = \"C0788C00FFC00005\"\naddress = 254\n",
-            "config: range preset.1.address",
-        ),
-        (
-            "[[preset]]\nname = \"C0788C00FFC00005\"\naddress = -1\n",
-            "config: range preset.1.address",
-        ),
-        (
-            "[[preset]]\nname = \"C0788C00FFC00005\"\naddress = 251\n",
-            "config: twice preset.1.address",
-        ),
-        (
-            "[[preset]]\nname = \"C0788C00FFC00005\"\naddress = \"1\"\n",
-            "config: kind preset.1.address",
-        ),
-        ("[[preset]]\naddress = 1\n", "config: missing preset.1.name"),
-        (
-            "[[preset]]\nname = \"C0788C00FFC00005\"\n",
-            "config: missing preset.1.address",
-        ),
-        (
-            "[[preset]]\naddress = 1\nname = \"C0328200FFC00001\"\n",
-            "config: twice preset.1.name",
-        ),
-        (
-            "[[preset]]\naddress = 1\nname = \"c0328200ffc00001\"\n",
-            "config: twice preset.1.name",
-        ),
-        (
-            "[[preset]]\naddress = 1\nname = \"C0788C00FFC0000\"\n",
-            "config: range preset.1.name",
-        ),
-        (
-            "[[preset]]\naddress = 1\nname = \"C0788C00FFC0000G\"\n",
-            "config: range preset.1.name",
-        ),
-        (
-            "[[preset]]\naddress = 1\nname = 5\n",
-            "config: kind preset.1.name",
-        ),
-        (
-            "[[preset]]\naddress = 1\nname = \"C0788C00FFC00005\"\n[[preset]]\naddress = 2\nname = \"C0788C00FFC00005\"\n",
-            "config: twice preset.2.name",
-        ),
-        ("[preset]\n", "config: kind preset"),
-        ("ths = 1\n", "config: kind gateway.ths"),
-        ("[row.heading_true]\nsources = []\n", "ok"),
-        ("[row.heading_true]\nsources = [\"unique=2097151\"]\n", "ok"),
-        (
-            "[row.heading_true]\nsources = [\"unique=2097152\"]\n",
-            "config: range row.heading_true.sources",
-        ),
-        (
-            "[row.heading_true]\nsources = [\"manufacturer=2047\"]\n",
-            "ok",
-        ),
-        (
-            "[row.heading_true]\nsources = [\"manufacturer=2048\"]\n",
-            "config: range row.heading_true.sources",
-        ),
-        (
-            "[row.heading_true]\nsources = [\"instance_lower=7\"]\n",
-            "ok",
-        ),
-        (
-            "[row.heading_true]\nsources = [\"instance_lower=8\"]\n",
-            "config: range row.heading_true.sources",
-        ),
-        (
-            "[row.heading_true]\nsources = [\"instance_upper=31\"]\n",
-            "ok",
-        ),
-        (
-            "[row.heading_true]\nsources = [\"instance_upper=32\"]\n",
-            "config: range row.heading_true.sources",
-        ),
-        ("[row.heading_true]\nsources = [\"function=255\"]\n", "ok"),
-        (
-            "[row.heading_true]\nsources = [\"function=256\"]\n",
-            "config: range row.heading_true.sources",
-        ),
-        ("[row.heading_true]\nsources = [\"reserved=1\"]\n", "ok"),
-        (
-            "[row.heading_true]\nsources = [\"reserved=2\"]\n",
-            "config: range row.heading_true.sources",
-        ),
-        ("[row.heading_true]\nsources = [\"class=127\"]\n", "ok"),
-        (
-            "[row.heading_true]\nsources = [\"class=128\"]\n",
-            "config: range row.heading_true.sources",
-        ),
-        (
-            "[row.heading_true]\nsources = [\"system_instance=15\"]\n",
-            "ok",
-        ),
-        (
-            "[row.heading_true]\nsources = [\"system_instance=16\"]\n",
-            "config: range row.heading_true.sources",
-        ),
-        ("[row.heading_true]\nsources = [\"industry=7\"]\n", "ok"),
-        (
-            "[row.heading_true]\nsources = [\"industry=8\"]\n",
-            "config: range row.heading_true.sources",
-        ),
-        ("[row.heading_true]\nsources = [\"arbitrary=1\"]\n", "ok"),
-        (
-            "[row.heading_true]\nsources = [\"arbitrary=2\"]\n",
-            "config: range row.heading_true.sources",
-        ),
-        ("[row.heading_true]\nsources = [\"unique=0000005\"]\n", "ok"),
-        (
-            "[row.heading_true]\nsources = [\"unique=00000005\"]\n",
-            "config: range row.heading_true.sources",
-        ),
-        (
-            "[row.heading_true]\nsources = [\"unique=\"]\n",
-            "config: range row.heading_true.sources",
-        ),
-        (
-            "[row.heading_true]\nsources = [\"unique\"]\n",
-            "config: range row.heading_true.sources",
-        ),
-        (
-            "[row.heading_true]\nsources = [\"\"]\n",
-            "config: range row.heading_true.sources",
-        ),
-        (
-            "[row.heading_true]\nsources = [\"class=40 industry=4\"]\n",
-            "ok",
-        ),
-        (
-            "[row.heading_true]\nsources = [\"industry=4 class=40\"]\n",
-            "config: range row.heading_true.sources",
-        ),
-        (
-            "[row.heading_true]\nsources = [\"class=40  industry=4\"]\n",
-            "config: range row.heading_true.sources",
-        ),
-        (
-            "[row.heading_true]\nsources = [\"class=40 \"]\n",
-            "config: range row.heading_true.sources",
-        ),
-        (
-            "[row.heading_true]\nsources = [\" class=40\"]\n",
-            "config: range row.heading_true.sources",
-        ),
-        (
-            "[row.heading_true]\nsources = [\"class=40 class=40\"]\n",
-            "config: range row.heading_true.sources",
-        ),
-        (
-            "[row.heading_true]\nsources = [\"class=+4\"]\n",
-            "config: range row.heading_true.sources",
-        ),
-        (
-            "[row.heading_true]\nsources = [\"unique=0000005\", \"unique=5\"]\n",
-            "config: twice row.heading_true.sources",
-        ),
-        (
-            "[row.heading_true]\nsources = [\"C0788C00FFC00005\", \"c0788c00ffc00005\"]\n",
-            "config: twice row.heading_true.sources",
-        ),
-        (
-            "[row.heading_true]\nsources = [\"x\", 1]\n",
-            "config: kind row.heading_true.sources",
-        ),
-        (
-            "[row.heading_true]\nsources = \"class=40\"\n",
-            "config: kind row.heading_true.sources",
-        ),
-        (
-            "[row.heading_true]\nsources = [\"unique=0\", \"unique=1\", \"unique=2\", \"unique=3\", \"unique=4\", \"unique=5\", \"unique=6\", \"unique=7\", \"unique=8\", \"unique=9\", \"unique=10\", \"unique=11\", \"unique=12\", \"unique=13\", \"unique=14\", \"unique=15\"]\n",
-            "ok",
-        ),
-        (
-            "[row.heading_true]\nsources = [\"unique=0\", \"unique=1\", \"unique=2\", \"unique=3\", \"unique=4\", \"unique=5\", \"unique=6\", \"unique=7\", \"unique=8\", \"unique=9\", \"unique=10\", \"unique=11\", \"unique=12\", \"unique=13\", \"unique=14\", \"unique=15\", \"unique=16\"]\n",
-            "config: range row.heading_true.sources",
-        ),
-        ("[row.depth]\ntimeout_ms = 100\n", "ok"),
-        ("[row.depth]\ntimeout_ms = 60000\n", "ok"),
-        (
-            "[row.depth]\ntimeout_ms = 99\n",
-            "config: range row.depth.timeout_ms",
-        ),
-        (
-            "[row.depth]\ntimeout_ms = 60001\n",
-            "config: range row.depth.timeout_ms",
-        ),
-        ("[row.gnss]\ntalker = \"AZ\"\n", "ok"),
-        (
-            "[row.gnss]\ntalker = \"Az\"\n",
-            "config: range row.gnss.talker",
-        ),
-        (
-            "[row.gnss]\ntalker = \"A\"\n",
-            "config: range row.gnss.talker",
-        ),
-        (
-            "[row.gnss]\ntalker = \"AAA\"\n",
-            "config: range row.gnss.talker",
-        ),
-        (
-            "[row.gnss]\ntalker = true\n",
-            "config: kind row.gnss.talker",
-        ),
-        ("[row.time]\ngroup = \"TGTD\"\n", "ok"),
-        (
-            "[row.time]\ngroup = \"TGT\"\n",
-            "config: range row.time.group",
-        ),
-        ("[row.time]\ngroup = []\n", "config: kind row.time.group"),
-        ("[row.time]\nothers = 0\n", "config: kind row.time.others"),
-        ("[net]\n", "ok"),
-        ("[[row]]\n", "config: kind row"),
-        ("[row]\ntime = 1\n", "config: kind row.time"),
-        ("[[row.time]]\n", "config: kind row.time"),
-        ("[row.foo]\nx = 1\n", "config: unknown row.foo"),
-        ("[row.time]\nfoo = 1\n", "config: unknown row.time.foo"),
-        ("[net]\nsources = [\"II0002\", \"II0003\"]\n", "ok"),
-        (
-            "[net]\nsources = [\"II0002\", \"II0002\"]\n",
-            "config: twice net.sources",
-        ),
-        (
-            "[net]\nsources = [\"II0001\"]\n",
-            "config: twice net.sources",
-        ),
-        (
-            "[net]\nsources = [\"II002\"]\n",
-            "config: range net.sources",
-        ),
-        (
-            "[net]\nsources = [\"ii0002\"]\n",
-            "config: range net.sources",
-        ),
-        (
-            "[net]\nsources = [\"II0002\", 2]\n",
-            "config: kind net.sources",
-        ),
-        ("[net]\nsources = {}\n", "config: kind net.sources"),
-        (
-            "[net]\nsources = [\"AA0000\", \"AA0001\", \"AA0002\", \"AA0003\", \"AA0004\", \"AA0005\", \"AA0006\", \"AA0007\", \"AA0008\", \"AA0009\", \"AA0010\", \"AA0011\", \"AA0012\", \"AA0013\", \"AA0014\", \"AA0015\", \"AA0016\", \"AA0017\", \"AA0018\", \"AA0019\", \"AA0020\", \"AA0021\", \"AA0022\", \"AA0023\", \"AA0024\", \"AA0025\", \"AA0026\", \"AA0027\", \"AA0028\", \"AA0029\", \"AA0030\", \"AA0031\"]\n",
-            "ok",
-        ),
-        (
-            "[net]\nsources = [\"AA0000\", \"AA0001\", \"AA0002\", \"AA0003\", \"AA0004\", \"AA0005\", \"AA0006\", \"AA0007\", \"AA0008\", \"AA0009\", \"AA0010\", \"AA0011\", \"AA0012\", \"AA0013\", \"AA0014\", \"AA0015\", \"AA0016\", \"AA0017\", \"AA0018\", \"AA0019\", \"AA0020\", \"AA0021\", \"AA0022\", \"AA0023\", \"AA0024\", \"AA0025\", \"AA0026\", \"AA0027\", \"AA0028\", \"AA0029\", \"AA0030\", \"AA0031\", \"AA0032\"]\n",
-            "config: range net.sources",
-        ),
-        ("[net]\nlisten = \"0.0.0.0:1\"\n", "ok"),
-        ("[net]\nlisten = \"255.255.255.255:65535\"\n", "ok"),
-        (
-            "[net]\nlisten = \"127.0.0.1:0\"\n",
-            "config: range net.listen",
-        ),
-        (
-            "[net]\nlisten = \"127.0.0.1:65536\"\n",
-            "config: range net.listen",
-        ),
-        (
-            "[net]\nlisten = \"127.0.0.1:01\"\n",
-            "config: range net.listen",
-        ),
-        (
-            "[net]\nlisten = \"127.0.0.01:1\"\n",
-            "config: range net.listen",
-        ),
-        (
-            "[net]\nlisten = \"127.0.0.256:1\"\n",
-            "config: range net.listen",
-        ),
-        (
-            "[net]\nlisten = \"127.0.0.1\"\n",
-            "config: range net.listen",
-        ),
-        (
-            "[net]\nlisten = \"localhost:1\"\n",
-            "config: range net.listen",
-        ),
-        ("[net]\nlisten = \"\"\n", "config: range net.listen"),
-        ("[net]\nlisten = 60001\n", "config: kind net.listen"),
-        ("[net]\nsend = \"0.0.0.0:1\"\n", "ok"),
-        ("[net]\nsend = \"255.255.255.255:65535\"\n", "ok"),
-        ("[net]\nsend = \"127.0.0.1:0\"\n", "config: range net.send"),
-        (
-            "[net]\nsend = \"127.0.0.1:65536\"\n",
-            "config: range net.send",
-        ),
-        ("[net]\nsend = \"127.0.0.1:01\"\n", "config: range net.send"),
-        ("[net]\nsend = \"127.0.0.01:1\"\n", "config: range net.send"),
-        (
-            "[net]\nsend = \"127.0.0.256:1\"\n",
-            "config: range net.send",
-        ),
-        ("[net]\nsend = \"127.0.0.1\"\n", "config: range net.send"),
-        ("[net]\nsend = \"localhost:1\"\n", "config: range net.send"),
-        ("[net]\nsend = \"\"\n", "config: range net.send"),
-        ("[net]\nsend = 60001\n", "config: kind net.send"),
-        ("[bus]\nlisten = \"0.0.0.0:1\"\n", "ok"),
-        ("[bus]\nlisten = \"255.255.255.255:65535\"\n", "ok"),
-        (
-            "[bus]\nlisten = \"127.0.0.1:0\"\n",
-            "config: range bus.listen",
-        ),
-        (
-            "[bus]\nlisten = \"127.0.0.1:65536\"\n",
-            "config: range bus.listen",
-        ),
-        (
-            "[bus]\nlisten = \"127.0.0.1:01\"\n",
-            "config: range bus.listen",
-        ),
-        (
-            "[bus]\nlisten = \"127.0.0.01:1\"\n",
-            "config: range bus.listen",
-        ),
-        (
-            "[bus]\nlisten = \"127.0.0.256:1\"\n",
-            "config: range bus.listen",
-        ),
-        (
-            "[bus]\nlisten = \"127.0.0.1\"\n",
-            "config: range bus.listen",
-        ),
-        (
-            "[bus]\nlisten = \"localhost:1\"\n",
-            "config: range bus.listen",
-        ),
-        ("[bus]\nlisten = \"\"\n", "config: range bus.listen"),
-        ("[bus]\nlisten = 60001\n", "config: kind bus.listen"),
-        ("[bus]\nsend = \"0.0.0.0:1\"\n", "ok"),
-        ("[bus]\nsend = \"255.255.255.255:65535\"\n", "ok"),
-        ("[bus]\nsend = \"127.0.0.1:0\"\n", "config: range bus.send"),
-        (
-            "[bus]\nsend = \"127.0.0.1:65536\"\n",
-            "config: range bus.send",
-        ),
-        ("[bus]\nsend = \"127.0.0.1:01\"\n", "config: range bus.send"),
-        ("[bus]\nsend = \"127.0.0.01:1\"\n", "config: range bus.send"),
-        (
-            "[bus]\nsend = \"127.0.0.256:1\"\n",
-            "config: range bus.send",
-        ),
-        ("[bus]\nsend = \"127.0.0.1\"\n", "config: range bus.send"),
-        ("[bus]\nsend = \"localhost:1\"\n", "config: range bus.send"),
-        ("[bus]\nsend = \"\"\n", "config: range bus.send"),
-        ("[bus]\nsend = 60001\n", "config: kind bus.send"),
-        ("[[net]]\n", "config: kind net"),
-        ("[[bus]]\n", "config: kind bus"),
-        (
-            "[[route]]\ngroup = \"NAVD\"\naddress = \"239.192.0.1:60001\"\n",
-            "ok",
-        ),
-        (
-            "[[route]]\ngroup = \"NAVD\"\naddress = \"239.192.0.1:60001\"\n[[route]]\ngroup = \"NAVD\"\naddress = \"239.192.0.1:60001\"\n",
-            "config: twice route.2.group",
-        ),
-        (
-            "[[route]]\naddress = \"239.192.0.1:60001\"\n",
-            "config: missing route.1.group",
-        ),
-        (
-            "[[route]]\ngroup = \"NAVD\"\n",
-            "config: missing route.1.address",
-        ),
-        (
-            "[[route]]\ngroup = \"NAVD\"\naddress = \"239.192.0.1\"\n",
-            "config: range route.1.address",
-        ),
-        ("[route]\n", "config: kind route"),
-        (
-            "[[route]]\ngroup = \"AAA0\"\naddress = \"239.192.0.1:60001\"\n[[route]]\ngroup = \"AAA1\"\naddress = \"239.192.0.1:60001\"\n[[route]]\ngroup = \"AAA2\"\naddress = \"239.192.0.1:60001\"\n[[route]]\ngroup = \"AAA3\"\naddress = \"239.192.0.1:60001\"\n[[route]]\ngroup = \"AAA4\"\naddress = \"239.192.0.1:60001\"\n[[route]]\ngroup = \"AAA5\"\naddress = \"239.192.0.1:60001\"\n[[route]]\ngroup = \"AAA6\"\naddress = \"239.192.0.1:60001\"\n[[route]]\ngroup = \"AAA7\"\naddress = \"239.192.0.1:60001\"\n",
-            "ok",
-        ),
-        (
-            "[[route]]\ngroup = \"AAA0\"\naddress = \"239.192.0.1:60001\"\n[[route]]\ngroup = \"AAA1\"\naddress = \"239.192.0.1:60001\"\n[[route]]\ngroup = \"AAA2\"\naddress = \"239.192.0.1:60001\"\n[[route]]\ngroup = \"AAA3\"\naddress = \"239.192.0.1:60001\"\n[[route]]\ngroup = \"AAA4\"\naddress = \"239.192.0.1:60001\"\n[[route]]\ngroup = \"AAA5\"\naddress = \"239.192.0.1:60001\"\n[[route]]\ngroup = \"AAA6\"\naddress = \"239.192.0.1:60001\"\n[[route]]\ngroup = \"AAA7\"\naddress = \"239.192.0.1:60001\"\n[[route]]\ngroup = \"NAVD\"\naddress = \"239.192.0.1:60001\"\n",
-            "config: range route",
-        ),
-        ("[identity]\ncode = 0\n", "ok"),
-        ("[identity]\ncode = 65535\n", "ok"),
-        ("[identity]\ncode = 65536\n", "config: range identity.code"),
-        ("[identity]\ncode = -1\n", "config: range identity.code"),
-        ("[identity]\nload = 0\n", "ok"),
-        ("[identity]\nload = 252\n", "ok"),
-        ("[identity]\nload = 253\n", "config: range identity.load"),
-        ("[identity]\nmodel = \"\"\n", "ok"),
-        ("[identity]\nmodel = \" ~\"\n", "ok"),
-        (
-            "[identity]\nmodel = \"xxxxxxxxxxxxxxxxxxxxxxxxxxxxxxxx\"\n",
-            "ok",
-        ),
-        (
-            "[identity]\nmodel = \"xxxxxxxxxxxxxxxxxxxxxxxxxxxxxxxxx\"\n",
-            "config: range identity.model",
-        ),
-        (
-            "[identity]\nmodel = \"é\"\n",
-            "config: range identity.model",
-        ),
-        (
-            "[identity]\nmodel = \"\\t\"\n",
-            "config: range identity.model",
-        ),
-        ("[identity]\nmodel = 1\n", "config: kind identity.model"),
-        ("[identity]\nsoftware = \"\"\n", "ok"),
-        ("[identity]\nsoftware = \" ~\"\n", "ok"),
-        (
-            "[identity]\nsoftware = \"xxxxxxxxxxxxxxxxxxxxxxxxxxxxxxxx\"\n",
-            "ok",
-        ),
-        (
-            "[identity]\nsoftware = \"xxxxxxxxxxxxxxxxxxxxxxxxxxxxxxxxx\"\n",
-            "config: range identity.software",
-        ),
-        (
-            "[identity]\nsoftware = \"é\"\n",
-            "config: range identity.software",
-        ),
-        (
-            "[identity]\nsoftware = \"\\t\"\n",
-            "config: range identity.software",
-        ),
-        (
-            "[identity]\nsoftware = 1\n",
-            "config: kind identity.software",
-        ),
-        ("[identity]\nversion = \"\"\n", "ok"),
-        ("[identity]\nversion = \" ~\"\n", "ok"),
-        (
-            "[identity]\nversion = \"xxxxxxxxxxxxxxxxxxxxxxxxxxxxxxxx\"\n",
-            "ok",
-        ),
-        (
-            "[identity]\nversion = \"xxxxxxxxxxxxxxxxxxxxxxxxxxxxxxxxx\"\n",
-            "config: range identity.version",
-        ),
-        (
-            "[identity]\nversion = \"é\"\n",
-            "config: range identity.version",
-        ),
-        (
-            "[identity]\nversion = \"\\t\"\n",
-            "config: range identity.version",
-        ),
-        ("[identity]\nversion = 1\n", "config: kind identity.version"),
-        ("[identity]\nserial = \"\"\n", "ok"),
-        ("[identity]\nserial = \" ~\"\n", "ok"),
-        (
-            "[identity]\nserial = \"xxxxxxxxxxxxxxxxxxxxxxxxxxxxxxxx\"\n",
-            "ok",
-        ),
-        (
-            "[identity]\nserial = \"xxxxxxxxxxxxxxxxxxxxxxxxxxxxxxxxx\"\n",
-            "config: range identity.serial",
-        ),
-        (
-            "[identity]\nserial = \"é\"\n",
-            "config: range identity.serial",
-        ),
-        (
-            "[identity]\nserial = \"\\t\"\n",
-            "config: range identity.serial",
-        ),
-        ("[identity]\nserial = 1\n", "config: kind identity.serial"),
-        ("[[identity]]\n", "config: kind identity"),
-        ("[rmc]\n", "ok"),
-        ("[rmc]\ngroup = \"RMCD\"\n", "ok"),
-        ("[rmc]\ngroup = \"NAVD\"\n", "config: twice rmc.group"),
-        ("[rmc]\ntalker = \"GP\"\n", "config: missing rmc.group"),
-        ("[rmc]\ntalker = 1\n", "config: missing rmc.group"),
-        (
-            "[rmc]\ngroup = \"RMCD\"\ntalker = \"gp\"\n",
-            "config: range rmc.talker",
-        ),
-        ("[[rmc]]\n", "config: kind rmc"),
-        ("[ais]\n", "ok"),
-        ("[ais]\nslots = 1\n", "config: missing ais.group"),
-        ("[ais]\ngroup = \"TGTD\"\nslots = 256\n", "ok"),
-        (
-            "[ais]\ngroup = \"TGTD\"\nslots = 0\n",
-            "config: range ais.slots",
-        ),
-        (
-            "[ais]\ngroup = \"TGTD\"\nslots = 257\n",
-            "config: range ais.slots",
-        ),
-        ("[ais]\ngroup = \"NAVD\"\n", "config: twice ais.group"),
-        (
-            "[ais]\ngroup = \"RMCD\"\n[rmc]\ngroup = \"RMCD\"\n",
-            "config: twice ais.group",
-        ),
-        ("[[ais]]\n", "config: kind ais"),
-        (
-            "[row.gnss]\ngroup = \"RMCD\"\n[rmc]\ngroup = \"RMCD\"\n",
-            "config: twice rmc.group",
-        ),
-        ("foo = 1\n", "config: unknown gateway.foo"),
-        ("[foo]\nbar = 1\n", "config: unknown foo"),
-        ("[a.b]\n", "config: unknown a"),
-        ("[\"a.b\"]\n", "config: unknown a.b"),
-        ("[rmc]\nfoo = 1\n", "config: unknown rmc.foo"),
-        ("[ais]\nfoo = 1\n", "config: unknown ais.foo"),
-        ("[net]\nfoo = 1\n", "config: unknown net.foo"),
-        ("[bus]\nfoo = 1\n", "config: unknown bus.foo"),
-        ("[identity]\nfoo = 1\n", "config: unknown identity.foo"),
-        (
-            "[[route]]\ngroup = \"NAVD\"\naddress = \"239.192.0.1:60001\"\nfoo = 1\n",
-            "config: unknown route.1.foo",
-        ),
-        ("[z]\n[gateway.y]\n[b]\n", "config: unknown b"),
-        ("[foo]\n[net]\nlisten = 1\n", "config: kind net.listen"),
-        (
-            "[[preset]]\naddress = 1\nname = \"0000000000000001\"\n[[preset]]\naddress = 2\nname = \"0000000000000002\"\nfoo = 1\n[[preset]]\naddress = 3\nname = \"0000000000000003\"\n[[preset]]\naddress = 4\nname = \"0000000000000004\"\n[[preset]]\naddress = 5\nname = \"0000000000000005\"\n[[preset]]\naddress = 6\nname = \"0000000000000006\"\n[[preset]]\naddress = 7\nname = \"0000000000000007\"\n[[preset]]\naddress = 8\nname = \"0000000000000008\"\n[[preset]]\naddress = 9\nname = \"0000000000000009\"\n[[preset]]\naddress = 10\nname = \"0000000000000010\"\nfoo = 1\n",
-            "config: unknown preset.10.foo",
-        ),
-        (
-            "[aaaaaaaaaaaaaaaaaaaaaaaaaaaaaaaaaaaaaaaaaaaaaaaaaaaaaaaaaaaaaaaaaaaaaaaaaaaaaaaaaaaaaaaaaaaaaaaaaaaaaaaaaaaaaaaaaaaaaaaaaaaaaaaa]\n",
-            "config: unknown aaaaaaaaaaaaaaaaaaaaaaaaaaaaaaaaaaaaaaaaaaaaaaaaaaaaaaaaaaaaaaaaaaaaaaaaaaaaaaaaaaaaaaaaaaaaaaaaaaaaaaaaaaaaaaaaaaaaaaaaaaaaaaaa",
-        ),
-        (
-            "[aaaaaaaaaaaaaaaaaaaaaaaaaaaaaaaaaaaaaaaaaaaaaaaaaaaaaaaaaaaaaaaaaaaaaaaaaaaaaaaaaaaaaaaaaaaaaaaaaaaaaaaaaaaaaaaaaaaaaaaaaaaaaaaaa]\n",
-            "config: unknown aaaaaaaaaaaaaaaaaaaaaaaaaaaaaaaaaaaaaaaaaaaaaaaaaaaaaaaaaaaaaaaaaaaaaaaaaaaaaaaaaaaaaaaaaaaaaaaaaaaaaaaaaaaaaaaaaaaaaaaaaaaaaaaa",
-        ),
-        (
-            "[bus]\nbbbbbbbbbbbbbbbbbbbbbbbbbbbbbbbbbbbbbbbbbbbbbbbbbbbbbbbbbbbbbbbbbbbbbbbbbbbbbbbbbbbbbbbbbbbbbbbbbbbbbbbbbbbbbbbbbbbbbbbbbbbbbbbbbb = 1\n",
-            "config: unknown bus.bbbbbbbbbbbbbbbbbbbbbbbbbbbbbbbbbbbbbbbbbbbbbbbbbbbbbbbbbbbbbbbbbbbbbbbbbbbbbbbbbbbbbbbbbbbbbbbbbbbbbbbbbbbbbbbbbbbbbbbbbbbb",
-        ),
-        (
-            "fast_slots = 0\niso_slots = \"x\"\n",
-            "config: range gateway.fast_slots",
-        ),
-        (
-            "[net]\nlisten = 1\n[bus]\nsend = 1\n",
-            "config: kind net.listen",
-        ),
-        (
-            "[bus]\nsend = 1\n[net]\nsend = 1\n",
-            "config: kind net.send",
-        ),
-        (
-            "[row.time]\ntimeout_ms = 1\n[row.depth]\ngroup = 1\n",
-            "config: kind row.depth.group",
-        ),
-    ];
-    for (more, expected) in cases {
-        let bytes = joined(&[OWN, more]);
+    let files = [b"\xff".as_slice(), b"# \xc3", b"# \xed\xa0\x80"];
+    for file in files {
         assert_eq!(rt;
-            said(rt.alloc(), bytes.as_slice()).as_slice(),
-            expected.as_bytes(),
-            "{more}"
+            said(rt.alloc(), file).as_slice(),
+            b"config: not toml".as_slice()
         );
     }
 }
 
-/// Files that say the own keys in another way.
 #[test]
-fn own_keys(rt: HostRuntime) {
-    let cases = [
-        (
-            "[gateway]\nname = \"C0328200FFC00001\"\naddress = 251\nsfi = \"II0001\"\n",
-            "ok",
-        ),
-        (
-            "[gateway]\naddress = 251\nsfi = \"II0001\"\n",
-            "config: missing gateway.name",
-        ),
-        (
-            "[gateway]\nname = \"C0328200FFC00001\"\nsfi = \"II0001\"\n",
-            "config: missing gateway.address",
-        ),
-        (
-            "[gateway]\nname = \"C0328200FFC00001\"\naddress = 251\n",
-            "config: missing gateway.sfi",
-        ),
-        (
-            "[gateway]\nname = 1\naddress = 251\nsfi = \"II0001\"\n",
-            "config: kind gateway.name",
-        ),
-        (
-            "[gateway]\nname = \"C0328200FFC0000\"\naddress = 251\nsfi = \"II0001\"\n",
-            "config: range gateway.name",
-        ),
-        (
-            "[gateway]\nname = \"C0328200FFC000011\"\naddress = 251\nsfi = \"II0001\"\n",
-            "config: range gateway.name",
-        ),
-        (
-            "[gateway]\nname = \"+328200FFC000011\"\naddress = 251\nsfi = \"II0001\"\n",
-            "config: range gateway.name",
-        ),
-        (
-            "[gateway]\nname = \"c0328200ffc00001\"\naddress = 251\nsfi = \"II0001\"\n",
-            "ok",
-        ),
-        (
-            "[gateway]\nname = \"C0328200FFC00001\"\naddress = 0\nsfi = \"II0001\"\n",
-            "ok",
-        ),
-        (
-            "[gateway]\nname = \"C0328200FFC00001\"\naddress = 252\nsfi = \"II0001\"\n",
-            "config: range gateway.address",
-        ),
-        (
-            "[gateway]\nname = \"C0328200FFC00001\"\naddress = -1\nsfi = \"II0001\"\n",
-            "config: range gateway.address",
-        ),
-        (
-            "[gateway]\nname = \"C0328200FFC00001\"\naddress = \"251\"\nsfi = \"II0001\"\n",
-            "config: kind gateway.address",
-        ),
-        (
-            "[gateway]\nname = \"C0328200FFC00001\"\naddress = 251.0\nsfi = \"II0001\"\n",
-            "config: kind gateway.address",
-        ),
-        (
-            "[gateway]\nname = \"C0328200FFC00001\"\naddress = 251\nsfi = \"I10001\"\n",
-            "config: range gateway.sfi",
-        ),
-        (
-            "[gateway]\nname = \"C0328200FFC00001\"\naddress = 251\nsfi = \"II001\"\n",
-            "config: range gateway.sfi",
-        ),
-        (
-            "[gateway]\nname = \"C0328200FFC00001\"\naddress = 251\nsfi = 1\n",
-            "config: kind gateway.sfi",
-        ),
-        (
-            "[gateway]\naddress = 999\nsfi = \"II0001\"\n",
-            "config: missing gateway.name",
-        ),
-        (
-            "[gateway]\nname = \"C0328200FFC00001\"\naddress = 999\n",
-            "config: range gateway.address",
-        ),
-        ("gateway = 1\n", "config: kind gateway"),
-        ("[[gateway]]\n", "config: kind gateway"),
-        ("gateway = []\n", "config: kind gateway"),
-        (
-            "gateway = { name = \"C0328200FFC00001\", address = 251, sfi = \"II0001\" }\n",
-            "ok",
-        ),
-        (
-            "gateway.name = \"C0328200FFC00001\"\ngateway.address = 251\ngateway.sfi = \"II0001\"\npreset = []\nroute = []\n",
-            "ok",
-        ),
-        (
-            "preset = [1]\n[gateway]\nname = \"C0328200FFC00001\"\naddress = 251\nsfi = \"II0001\"\n",
-            "config: kind preset",
-        ),
-        (
-            "preset = [{ address = 1, name = \"0000000000000001\" }]\n[gateway]\nname = \"C0328200FFC00001\"\naddress = 251\nsfi = \"II0001\"\n",
-            "ok",
-        ),
-    ];
-    for (text, expected) in cases {
-        assert_eq!(rt;
-            said(rt.alloc(), text.as_bytes()).as_slice(),
-            expected.as_bytes(),
-            "{text}"
-        );
-    }
+fn own_keys(rt: HostRuntime) -> Result<(), Fail> {
+    assert_eq!(rt; first_that_fails(rt.alloc(), "", OWN_KEYS)?, "");
+    Ok(())
+}
+
+#[test]
+fn each_key_at_its_ends_and_beyond(rt: HostRuntime) -> Result<(), Fail> {
+    assert_eq!(rt; first_that_fails(rt.alloc(), OWN, ENDS)?, "");
+    Ok(())
+}
+
+#[test]
+fn each_fault_of_each_kind_of_key(rt: HostRuntime) -> Result<(), Fail> {
+    assert_eq!(rt; first_that_fails(rt.alloc(), OWN, FAULTS)?, "");
+    Ok(())
 }
 
 /// The settings of the own keys alone are the defaults.
@@ -844,6 +544,8 @@ fn defaults(rt: HostRuntime) -> Result<(), Fail> {
     assert_eq!(rt; settings.product.code, 0);
     assert_eq!(rt; settings.product.model.as_slice(), b"shipgate".as_slice());
     assert_eq!(rt; settings.product.software.as_slice(), b"1".as_slice());
+    assert_eq!(rt; settings.product.version.as_slice(), b"1".as_slice());
+    assert_eq!(rt; settings.product.serial.as_slice(), b"1".as_slice());
     assert_eq!(rt; settings.product.load, 1);
     assert!(rt; settings.rmc.is_none());
     assert!(rt; settings.ais.is_none());
@@ -855,8 +557,8 @@ fn defaults(rt: HostRuntime) -> Result<(), Fail> {
 fn patterns_state_fields(rt: HostRuntime) -> Result<(), Fail> {
     let more =
         "[row.rudder_first]\nsources = [\"manufacturer=137 class=40 industry=4 arbitrary=1\", \"C0788C00FFC00005\"]\n";
-    let bytes = joined(&[OWN, more]);
-    let config = read(rt.alloc(), bytes.as_slice())
+    let file = format!(in rt.alloc(); "{OWN}{more}")?;
+    let config = read(rt.alloc(), file.as_bytes())
         .ok()
         .ok_or("both are patterns")?;
     let mut stated = Pattern::default();
@@ -875,34 +577,36 @@ fn patterns_state_fields(rt: HostRuntime) -> Result<(), Fail> {
 /// As many presets as addresses, but for the own: one more is too many.
 #[test]
 fn presets_up_to_the_most(rt: HostRuntime) -> Result<(), Fail> {
-    for (count, expected) in [(253, "ok"), (254, "config: range preset")] {
-        let mut text = Text::new();
-        let _fits = text.try_extend_from_slice(OWN.as_bytes());
-        for number in 0..count {
-            let address = if number < 251 { number } else { number + 1 };
-            let item = format!(in rt.alloc();
-                "[[preset]]\naddress = {address}\nname = \"{number:016}\"\n"
-            )?;
-            let _fits = text.try_extend_from_slice(item.as_bytes());
-        }
-        assert_eq!(rt;
-            said(rt.alloc(), text.as_slice()).as_slice(),
-            expected.as_bytes()
-        );
+    let mut file = format!(in rt.alloc(); "{OWN}")?;
+    for number in 0..253 {
+        let address = if number < 251 { number } else { number + 1 };
+        let item = format!(in rt.alloc();
+            "[[preset]]\naddress = {address}\nname = \"{number:016}\"\n"
+        )?;
+        file.push_str(&item)?;
     }
+    assert_eq!(rt;
+        said(rt.alloc(), file.as_bytes()).as_slice(),
+        b"ok".as_slice()
+    );
+    file.push_str("[[preset]]\n")?;
+    assert_eq!(rt;
+        said(rt.alloc(), file.as_bytes()).as_slice(),
+        b"config: range preset".as_slice()
+    );
     Ok(())
 }
 
 /// A file of the greatest length that has nothing in it.
 #[test]
 fn a_mebibyte_of_empty_lines(rt: HostRuntime) -> Result<(), Fail> {
-    let mut text = Vec::new(rt.alloc());
+    let mut file = Vec::new(rt.alloc());
     for _ in 0..16_384 {
-        text.extend_from_slice(&[b'\n'; 64])?;
+        file.extend_from_slice(&[b'\n'; 64])?;
     }
-    assert_eq!(rt; text.len(), 1_048_576);
+    assert_eq!(rt; file.len(), 1_048_576);
     assert_eq!(rt;
-        said(rt.alloc(), text.as_slice()).as_slice(),
+        said(rt.alloc(), file.as_slice()).as_slice(),
         b"config: missing gateway.name".as_slice()
     );
     Ok(())
