@@ -130,6 +130,7 @@ impl Bridge {
         requires { self.old.started ≡ true }
         ensures order { IsOrder self.old.out.command self.old self.new }
         ensures was { result ≡ is_some self.old.out.command }
+        ensures started { self.new.started ≡ true }
     {
         match self.outbox.command() {
             Some(command) => {
@@ -143,7 +144,8 @@ impl Bridge {
     /// Takes a command from this source to go to an address, which concerns the gateway alone.
     fn order(&mut self, source: u8, address: u8)
         requires { self.old.started ≡ true }
-        ensures { IsCommanded (record { source = source; address = address }) self.old self.new }
+        ensures order { IsCommanded (record { source = source; address = address }) self.old self.new }
+        ensures started { self.new.started ≡ true }
     {
         self.clear_beside();
         self.outbox.clear();

@@ -7,8 +7,8 @@ use Rattle.bridge.specs.Kept.{Bridged}
 use Rattle.bridge.proofs.Steps.{commanded, with_gateway}
 use Rattle.bridge.proofs.bridge.Bridge.order.Goals as goal
 
-pub returns : goal.returns
-returns c =
+pub returns-clause-order : goal.returns-clause-order
+returns-clause-order c =
     let before = c.args.self.now in
     let g = c.command.new.self in
     let o = c.command.new.out in

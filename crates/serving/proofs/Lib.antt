@@ -1,0 +1,6 @@
+pub mod Doing
+pub mod Entries
+pub mod Items
+pub mod Passing
+pub mod Turning
+pub mod Runs

@@ -1,0 +1,174 @@
+-- What goes out of a gateway between two links: all that its turns make, in order, where what couldn't be sent is reported in its place.
+use Rattle.std.specs.Prelude.{◌≡◌, ◌≢◌, ◌≤◌, ℕ, ◌+◌, Bool, true, false, List, [], ◌∷◌, ◌++◌, length, map, codes, Option}
+use Rattle.std.specs.List.{flat_map}
+use Rattle.report_rules.specs.Rules as rules
+use Rattle.capture_text.specs.declared.emit.Detail.TheVariants as detail
+use Rattle.capture_text.specs.declared.emit.Report.{Report}
+use Rattle.capture_text.specs.Writing.{time_text, frame_text}
+use Rattle.gate_outside.specs.Faults.{Rose}
+use Rattle.gate_outside.specs.Link.{GoesOn, Handed, Outcome, Traffic}
+use Rattle.gate_outside.specs.Told.{Joins}
+use Rattle.history.specs.Emits as emits
+use Rattle.history.specs.Emits.{Emit, Emitted, broken}
+use Rattle.history.specs.Replay.{line_of}
+use Rattle.bridge.specs.Parts.{Parts}
+use Rattle.serving.specs.Turns.{due_of}
+
+-- ---- an item, and what became of it
+
+-- what was to go out, and whether its send failed; a report is written and never sent
+pub record Tried : Type 0 where
+  pub due : Emitted
+  pub failed : Bool
+
+abbrev pub in_place : Bool → Emit → Emit
+in_place false e = e
+in_place true (emits.can f) = broken rules.send_failed detail.Bus
+in_place true (emits.net group bytes) = broken rules.send_failed detail.Net
+in_place true (emits.report r) = emits.report r
+
+-- the item that it is: itself, or the report in its place, at its moment
+abbrev pub item_of : Tried → Emitted
+item_of t = record { moment = t.due.moment; emit = in_place t.failed t.due.emit }
+
+abbrev pub all_due : List Tried → List Emitted
+all_due tried = map (λ t. t.due) tried
+
+-- ---- where an item goes
+
+-- a frame goes to the bus as its line of a capture, under the group CAN0
+abbrev pub on_bus : ℕ → Emit → List Handed
+on_bus m (emits.can f) = (codes "CAN0", time_text m ++ frame_text f) ∷ []
+on_bus m (emits.net group bytes) = []
+on_bus m (emits.report r) = []
+
+-- a datagram goes to the network under its group
+abbrev pub on_net : Emit → List Handed
+on_net (emits.can f) = []
+on_net (emits.net group bytes) = (group, bytes) ∷ []
+on_net (emits.report r) = []
+
+-- a report is a line of text
+abbrev pub as_text : ℕ → Emit → List ℕ
+as_text m (emits.can f) = []
+as_text m (emits.net group bytes) = []
+as_text m (emits.report r) = line_of (record { moment = m; emit = emits.report r })
+
+abbrev pub to_bus : Tried → List Handed
+to_bus t = let x = item_of t in on_bus x.moment x.emit
+
+abbrev pub to_net : Tried → List Handed
+to_net t = on_net (item_of t).emit
+
+abbrev pub to_text : Tried → List ℕ
+to_text t = let x = item_of t in as_text x.moment x.emit
+
+-- ---- whether each send of a link failed
+
+abbrev pub bus_sent : Bool → Emit → List Bool
+bus_sent failed (emits.can f) = failed ∷ []
+bus_sent failed (emits.net group bytes) = []
+bus_sent failed (emits.report r) = []
+
+abbrev pub net_sent : Bool → Emit → List Bool
+net_sent failed (emits.can f) = []
+net_sent failed (emits.net group bytes) = failed ∷ []
+net_sent failed (emits.report r) = []
+
+abbrev pub bus_sends : Tried → List Bool
+bus_sends t = bus_sent t.failed t.due.emit
+
+abbrev pub net_sends : Tried → List Bool
+net_sends t = net_sent t.failed t.due.emit
+
+-- ---- what is told of the links and of the sink
+
+-- what each link tells, what the sink took, and how often a write failed
+pub record Outside : Type 0 where
+  pub bus : Option Traffic
+  pub net : Option Traffic
+  pub taken : Option (List ℕ)
+  pub faults : ℕ
+
+abbrev pub outside : Option Traffic → Option Traffic → Option (List ℕ) → ℕ → Outside
+outside bus net taken faults = record { bus = bus; net = net; taken = taken; faults = faults }
+
+-- what each receive gave, and what was tried
+pub record Passed : Type 0 where
+  pub from_bus : List Outcome
+  pub from_net : List Outcome
+  pub tried : List Tried
+
+abbrev pub over_bus : Passed → Traffic → Traffic
+over_bus x t = record {
+  received = t.received ++ x.from_bus;
+  handed = t.handed ++ flat_map to_bus x.tried;
+  sends = t.sends ++ flat_map bus_sends x.tried;
+  attached = t.attached;
+}
+
+abbrev pub over_net : Passed → Traffic → Traffic
+over_net x t = record {
+  received = t.received ++ x.from_net;
+  handed = t.handed ++ flat_map to_net x.tried;
+  sends = t.sends ++ flat_map net_sends x.tried;
+  attached = t.attached;
+}
+
+-- All of this passed: each link that tells was handed its items, the text of the reports was taken, and no write failed.
+pub record Passes (old new : Outside) (x : Passed) : Type 0 where
+  pub bus : GoesOn (over_bus x) old.bus new.bus
+  pub net : GoesOn (over_net x) old.net new.net
+  pub text : Joins old.taken new.taken (flat_map to_text x.tried)
+  pub steady : new.faults ≡ old.faults
+
+abbrev pub with_last : Passed → Tried → Passed
+with_last x last = record { from_bus = x.from_bus; from_net = x.from_net; tried = x.tried ++ last ∷ [] }
+
+-- This passed, and last a report of which only a part was taken, since a write failed.
+pub record Stops (old new : Outside) (x : Passed) (last : Tried) : Type 0 where
+  pub bus : GoesOn (over_bus (with_last x last)) old.bus new.bus
+  pub net : GoesOn (over_net (with_last x last)) old.net new.net
+  pub is_report : (r : Report) × ((item_of last).emit ≡ emits.report r)
+  pub part : List ℕ
+  pub untaken : List ℕ
+  pub text : Joins old.taken new.taken (flat_map to_text x.tried ++ part)
+  pub front : part ++ untaken ≡ to_text last
+  pub some : untaken ≢ []
+  pub rose : Rose old.faults new.faults
+
+-- ---- a run of turns
+
+abbrev pub IsFront : List Emitted → List Emitted → Type 0
+IsFront front all = (rest : List Emitted) × (all ≡ front ++ rest)
+
+-- All turns were taken: each read the clock once and received once from each link, and all that they make went out.
+pub record Serves (p : Parts) (turns : ℕ) (clock clock' : Option (List ℕ)) (old new : Outside) : Type 0 where
+  pub readings : List ℕ
+  pub passed : Passed
+  pub reads : Joins clock clock' readings
+  pub passes : Passes old new passed
+  pub is_run : all_due passed.tried ≡ due_of p readings passed.from_bus passed.from_net
+  pub each_reading : length readings ≡ turns
+  pub each_bus : length passed.from_bus ≡ turns
+  pub each_net : length passed.from_net ≡ turns
+
+-- Each turn received from both links, but for the last one, which may have been cut off: so many readings and outcomes there were.
+abbrev pub IsCut : ℕ → ℕ → ℕ → Type 0
+IsCut readings bus net = (net ≤ bus) × (bus ≤ readings) × (readings ≤ net + 1)
+
+-- A write failed: of what the turns make by what was read and received so far the first items went out, the last of them a report, in part.
+pub record Breaks (p : Parts) (turns : ℕ) (clock clock' : Option (List ℕ)) (old new : Outside) : Type 0 where
+  pub readings : List ℕ
+  pub passed : Passed
+  pub last : Tried
+  pub reads : Joins clock clock' readings
+  pub stops : Stops old new passed last
+  pub is_front : IsFront (all_due (passed.tried ++ last ∷ [])) (due_of p readings passed.from_bus passed.from_net)
+  pub within : length readings ≤ turns
+  pub cut : IsCut (length readings) (length passed.from_bus) (length passed.from_net)
+
+-- what each status of a run says
+pub record EndsBy (p : Parts) (turns : ℕ) (clock clock' : Option (List ℕ)) (old new : Outside) (status : ℕ) : Type 0 where
+  pub done : status ≡ 0 → Serves p turns clock clock' old new
+  pub sink_failed : status ≡ 4 → Breaks p turns clock clock' old new

@@ -1,0 +1,13 @@
+//! The gateway between two links that live: turn by turn it takes what has come by each, and hands on all that goes out.
+//!
+//! No call takes memory.
+#![tactic(auto)]
+
+mod arrival;
+mod handing;
+mod turns;
+
+pub use turns::serve_turns;
+
+#[cfg(test)]
+mod tests;
