@@ -40,7 +40,7 @@ not_too_long told said f bytes is long = not_both largest_file (length bytes) lo
 abbrev pub IsDone : ℕ → Type 0
 IsDone status = (status ≡ 3 → ⊥) × (status ≡ 6 → ⊥)
 
-configures : (content : Option (List ℕ)) (files files' : ℕ) (told told' : Option (List ℕ)) (sink sink' status : ℕ) (settings : Settings)
+pub configures : (content : Option (List ℕ)) (files files' : ℕ) (told told' : Option (List ℕ)) (sink sink' status : ℕ) (settings : Settings)
     → FileSays content (Ok settings) → IsDone status → ConfiguresBy content files files' told told' sink sink' status
 configures content files files' told told' sink sink' status settings f done = record {
   refused = λ is. absurd (done.0 is);

@@ -2,5 +2,6 @@ pub mod ConfigLemmas
 pub mod LineCommandLemmas
 pub mod Numbers
 pub mod ReplayLemmas
+pub mod ServeLemmas
 pub mod ShowLemmas
 pub mod WordLemmas

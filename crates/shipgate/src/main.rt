@@ -8,25 +8,30 @@
 ghost use Rattle.std.specs.Prelude.{◌≡◌, ◌⊎◌, [], drop, map, string_bytes, Ok, IfOk, OnErr};
 ghost use Rattle.std.specs.Process.{exit_status};
 ghost use Rattle.std.specs.Vec.Iter.{into_iter_items};
-ghost use Rattle.shipgate.specs.Program.{RunsOver};
+ghost use Rattle.shipgate.specs.Program.{RunsOver, live};
 
 mod check;
 mod configuring;
 mod convert;
+mod demo_command;
 mod line_command;
 mod line_text;
+mod numerals;
 mod replay;
 mod replay_command;
 mod run;
+mod serve_command;
 mod show;
 mod talker;
 mod words;
 
 pub use bridge::{Bridge, Settings};
-use gate_outside::{Files, MemClock, QuietLink, ReaderSource, WriterSink};
-use live_outside::DiskFiles;
+pub use demo_command::demo_with;
+use gate_outside::{Clock, Files, Link, ReaderSource, WriterSink};
+use live_outside::{Activity, DiskFiles, SystemClock, UdpLink};
 pub use replay::{replay_with, stream};
 pub use run::run;
+pub use serving::serve_turns;
 use std::alloc::{AllocError, Global};
 use std::env::Args;
 use std::io::{ErrorKind, Read, Write};
@@ -71,40 +76,53 @@ fn behind_name(words: &[String]) -> &[String]
     words.get(1..).unwrap_or(&[])
 }
 
-// The program over files, a reader and a writer. Its commands use no links or clock, so these are
-// empty ones.
-fn run_over<F: Files, R: Read + Drop, W: Write + Drop>(
+// The program over files, a reader, a writer, links and a clock.
+fn run_over<F: Files, R: Read + Drop, W: Write + Drop, B: Link, E: Link, C: Clock>(
     alloc: Global,
     words: &[String],
     files: &mut F,
     reader: R,
     writer: W,
-) -> Result<u8, AllocError>
-    ensures { IfOk result (RunsOver (map string_bytes words.now) (F.content files.old) (F.fault_count files.old) (F.fault_count files.new) (R.remaining reader)) }
+    bus: &mut B,
+    net: &mut E,
+    clock: &mut C,
+) -> u8
+    ensures { RunsOver (map string_bytes words.now) (F.content files.old) (F.fault_count files.old) (F.fault_count files.new) (R.remaining reader)
+        (live (B.traffic bus.old) (B.fault_count bus.old) (E.traffic net.old) (E.fault_count net.old) (C.readings clock.old))
+        (live (B.traffic bus.new) (B.fault_count bus.new) (E.traffic net.new) (E.fault_count net.new) (C.readings clock.new)) result }
 {
-    let mut bus = QuietLink::of(alloc, 0, 0, Vec::new(alloc))?;
-    let mut net = QuietLink::of(alloc, 0, 0, Vec::new(alloc))?;
-    let mut clock = MemClock::of(Vec::new(alloc));
     let mut input = ReaderSource::new(reader);
     let mut out = WriterSink::new(writer);
-    Ok(run(
-        alloc, words, files, &mut input, &mut out, &mut bus, &mut net, &mut clock,
-    ))
+    run(alloc, words, files, &mut input, &mut out, bus, net, clock)
 }
 
 // The program over the arguments of a process.
-fn run_with<F: Files, R: Read + Drop, W: Write + Drop>(
+fn run_with<F: Files, R: Read + Drop, W: Write + Drop, B: Link, E: Link, C: Clock>(
     alloc: Global,
     args: io::Result<Args>,
     files: &mut F,
     reader: R,
     writer: W,
+    bus: &mut B,
+    net: &mut E,
+    clock: &mut C,
 ) -> Result<u8, AllocError>
     ensures { IfOk args (λ args. IfOk result (RunsOver (drop 1 (map string_bytes (into_iter_items args)))
-        (F.content files.old) (F.fault_count files.old) (F.fault_count files.new) (R.remaining reader))) }
+        (F.content files.old) (F.fault_count files.old) (F.fault_count files.new) (R.remaining reader)
+        (live (B.traffic bus.old) (B.fault_count bus.old) (E.traffic net.old) (E.fault_count net.old) (C.readings clock.old))
+        (live (B.traffic bus.new) (B.fault_count bus.new) (E.traffic net.new) (E.fault_count net.new) (C.readings clock.new)))) }
 {
     let words = words_of(alloc, args)?;
-    run_over(alloc, behind_name(words.as_slice()), files, reader, writer)
+    Ok(run_over(
+        alloc,
+        behind_name(words.as_slice()),
+        files,
+        reader,
+        writer,
+        bus,
+        net,
+        clock,
+    ))
 }
 
 // The exit code of a status, or of want of memory before the program began.
@@ -121,13 +139,15 @@ fn exit_code(status: Result<u8, AllocError>) -> ExitCode
 // Says on standard error why a run didn't do its work.
 fn explain(rt: &impl Eprint, status: &Result<u8, AllocError>) {
     let why = match status {
-        Ok(2) => "these words are no command: the commands are convert, show, check and replay",
+        Ok(2) =>
+            "these words are no command: the commands are convert, show, check, replay, serve and demo",
         Ok(3) => "the configuration is refused",
         Ok(4) => "the output can't be written",
         Ok(5) => "the input can't be read",
         Ok(6) => "the configuration can't be read, or has more than 1 MiB",
-        Ok(7) => "there is no memory for the configuration or its gateway",
+        Ok(7) => "there is no memory for the configuration or the gateway",
         Ok(8) => "the input has more than 2^40 bytes",
+        Ok(9) => "a link can't listen or send where the configuration says",
         Ok(_) => return,
         Err(AllocError) => "there is no memory to begin with",
     };
@@ -137,16 +157,26 @@ fn explain(rt: &impl Eprint, status: &Result<u8, AllocError>) {
 
 fn main(rt: HostRuntime) -> ExitCode {
     let mut files = DiskFiles::new(&rt);
+    let activity = Activity::new();
+    let (bus, net) = UdpLink::pair(&rt, &activity);
+    let mut bus = bus;
+    let mut net = net;
+    let mut clock = SystemClock::new(&rt);
     let status = run_with(
         rt.alloc(),
         env::args(&rt),
         &mut files,
         rt.stdin(),
         rt.stdout(),
+        &mut bus,
+        &mut net,
+        &mut clock,
     );
     explain(&rt, &status);
     exit_code(status)
 }
 
+#[cfg(test)]
+mod live_tests;
 #[cfg(test)]
 mod tests;

@@ -1,9 +1,14 @@
 //! The program over objects in memory, with the bytes and statuses worked out by hand.
 ghost use Rattle.std.specs.Prelude.{◌<◌};
 
+mod configured;
+
 use crate::{run, run_over};
-use gate_outside::{MemClock, MemFiles, MemSink, MemSource, QuietFiles, QuietLink, Sink};
+use gate_outside::{
+    Files, MemClock, MemFiles, MemSink, MemSource, QuietFiles, QuietLink, Sink, Source,
+};
 use std::alloc::Global;
+use std::io::{Read, Write};
 use std::test::Fail;
 
 /// The true heading of 90 degrees, from address 23.
@@ -38,18 +43,55 @@ const UNUSED: Stored<'static> = Stored {
     failing: &[],
 };
 
-/// The status of a run over these files, and what the sink took in it.
-fn outcome_over(
-    alloc: Global,
-    words: &[&str],
-    stored: &Stored,
-    given: &Given,
-    room: &Room,
-) -> Result<(u8, Vec<u8>), Fail> {
+/// The words of a command line.
+fn listed(alloc: Global, words: &[&str]) -> Result<Vec<String>, Fail> {
     let mut list = Vec::new(alloc);
     for word in words {
         list.push(String::from_str(alloc, word)?)?;
     }
+    Ok(list)
+}
+
+/// The status of a run over these files, with no link and no clock.
+fn status_over<F: Files, S: Source, K: Sink>(
+    alloc: Global,
+    words: &[String],
+    files: &mut F,
+    input: &mut S,
+    out: &mut K,
+) -> Result<u8, Fail> {
+    let mut bus = QuietLink::of(alloc, 0, 0, Vec::new(alloc))?;
+    let mut net = QuietLink::of(alloc, 0, 0, Vec::new(alloc))?;
+    let mut clock = MemClock::of(Vec::new(alloc));
+    Ok(run(
+        alloc, words, files, input, out, &mut bus, &mut net, &mut clock,
+    ))
+}
+
+/// The status of a run over a reader and a writer of std, with no link and no clock.
+fn status_with<F: Files, R: Read + Drop, W: Write + Drop>(
+    alloc: Global,
+    words: &[String],
+    files: &mut F,
+    reader: R,
+    writer: W,
+) -> Result<u8, Fail> {
+    let mut bus = QuietLink::of(alloc, 0, 0, Vec::new(alloc))?;
+    let mut net = QuietLink::of(alloc, 0, 0, Vec::new(alloc))?;
+    let mut clock = MemClock::of(Vec::new(alloc));
+    Ok(run_over(
+        alloc, words, files, reader, writer, &mut bus, &mut net, &mut clock,
+    ))
+}
+
+/// The status of a run over what is stored and given, and what the sink took in it.
+fn outcome_over(
+    alloc: Global,
+    words: &[String],
+    stored: &Stored,
+    given: &Given,
+    room: &Room,
+) -> Result<(u8, Vec<u8>), Fail> {
     let mut files = MemFiles::of(stored.text.to_vec(alloc)?, stored.failing.to_vec(alloc)?);
     let mut input = MemSource::of(
         given.bytes.to_vec(alloc)?,
@@ -57,28 +99,16 @@ fn outcome_over(
         given.failing.to_vec(alloc)?,
     );
     let mut out = MemSink::of(alloc, 20_000, room.most, room.failing.to_vec(alloc)?)?;
-    let mut bus = QuietLink::of(alloc, 0, 0, Vec::new(alloc))?;
-    let mut net = QuietLink::of(alloc, 0, 0, Vec::new(alloc))?;
-    let mut clock = MemClock::of(Vec::new(alloc));
-    let status = run(
-        alloc,
-        list.as_slice(),
-        &mut files,
-        &mut input,
-        &mut out,
-        &mut bus,
-        &mut net,
-        &mut clock,
-    );
+    let status = status_over(alloc, words, &mut files, &mut input, &mut out)?;
     Ok((status, out.taken().to_vec(alloc)?))
 }
 
 /// The status of a run of at most one word, and what the sink took in it.
 fn outcome(alloc: Global, word: &str, given: &Given, room: &Room) -> Result<(u8, Vec<u8>), Fail> {
-    if word.is_empty() {
-        return outcome_over(alloc, &[], &UNUSED, given, room);
-    }
-    outcome_over(alloc, &[word], &UNUSED, given, room)
+    let named = [word];
+    let count = if word.is_empty() { 0 } else { 1 };
+    let words = listed(alloc, &named[..count])?;
+    outcome_over(alloc, words.as_slice(), &UNUSED, given, room)
 }
 
 #[test]
@@ -95,10 +125,8 @@ fn readers_and_writers_of_std_are_run_over(rt: HostRuntime) -> Result<(), Fail> 
         let words = [String::from_str(alloc, word)?];
         let mut files = QuietFiles::of(Vec::new(alloc));
         let mut kept = Vec::new(alloc);
-        assert_eq!(rt;
-            run_over(alloc, &words, &mut files, HEADING, &mut kept),
-            Ok(status)
-        );
+        let found = status_with(alloc, &words, &mut files, HEADING, &mut kept)?;
+        assert_eq!(rt; found, status);
         assert_eq!(rt; kept.as_slice(), text);
     }
     Ok(())
@@ -286,7 +314,8 @@ fn failures_have_their_status_and_lose_no_complete_line(rt: HostRuntime) -> Resu
     let all: &[u8] = b"$HEHDT,90.0,T*16\r\n";
     let shown: &[u8] = b"line=1 prio=2 pgn=127250 src=23 dst=255 len=8\n";
     let none: &[u8] = b"";
-    let usage: &[u8] = b"usage: shipgate convert | show | check CONFIG | replay CONFIG\n";
+    let usage: &[u8] =
+        b"usage: shipgate convert | show | check CONFIG | replay CONFIG | serve CONFIG TURNS | demo SEED COUNT\n";
     // The word, which reads fail, how much a write moves and which writes fail; the status and what was taken.
     let rows = [
         ("convert", NONE, 3, NONE, 0, all),

@@ -1,6 +1,17 @@
 //! The words of the command line.
 ghost use Rattle.std.specs.Prelude.{map, MatchOption, string_bytes};
-ghost use Rattle.shipgate.specs.Words.{IsForm, IsNoForm};
+ghost use Rattle.shipgate.specs.Words.{AreTurnsOf, IsForm, IsNoDemo, IsNoForm, IsNoServe, IsSaid};
+
+use crate::numerals::number_between;
+
+/// The greatest seed of a demonstration.
+const MOST_SEED: u64 = 999_999_999_999_999_999;
+
+/// How many events a demonstration has at most.
+const MOST_EVENTS: u64 = 1_000_000;
+
+/// How many turns a gateway between two links takes at most.
+const MOST_TURNS: u64 = 999_999_999;
 
 /// A command that answers each line of a capture by itself.
 #[derive(Clone, Copy, Debug, PartialEq, Eq)]
@@ -20,10 +31,25 @@ pub enum Command<'a> {
     Check(&'a str),
     /// Runs a gateway of the configuration in the file of this name over a capture.
     Replay(&'a str),
+    /// Runs a gateway of a configuration between two links, for so many turns.
+    Serve {
+        /// The name of the file that the configuration stands in.
+        file: &'a str,
+        /// From 1 to 999,999,999.
+        turns: u32,
+    },
+    /// Runs a gateway over so many events of the made-up input of a seed, and writes a line that sums up what it emits.
+    Demo {
+        /// At most 999,999,999,999,999,999.
+        seed: u64,
+        /// From 1 to 1,000,000.
+        count: u32,
+    },
 }
 
 /// What is written where the words are no command.
-pub(crate) const USAGE: &[u8] = b"usage: shipgate convert | show | check CONFIG | replay CONFIG\n";
+pub(crate) const USAGE: &[u8] =
+    b"usage: shipgate convert | show | check CONFIG | replay CONFIG | serve CONFIG TURNS | demo SEED COUNT\n";
 
 /// The command that the words name.
 pub(crate) fn command_of(words: &[String]) -> Option<Command<'_>>
@@ -48,6 +74,43 @@ pub(crate) fn command_of(words: &[String]) -> Option<Command<'_>>
                 None
             }
         }
+        [word, first, second] => {
+            if word.as_str() == "demo" {
+                demo_of(first.as_str(), second.as_str())
+            } else if word.as_str() == "serve" {
+                serve_of(first.as_str(), second.as_str())
+            } else {
+                None
+            }
+        }
         _ => None,
+    }
+}
+
+/// The demonstration of which these words are the seed and the number of events.
+fn demo_of(seed: &str, count: &str) -> Option<Command<'static>>
+    ensures { MatchOption result (IsNoDemo seed.now count.now) (IsSaid seed.now count.now) }
+{
+    let seed = number_between(seed, 0, MOST_SEED);
+    let count = number_between(count, 1, MOST_EVENTS);
+    match (seed, count) {
+        (Some(seed), Some(count)) => Some(Command::Demo {
+            seed,
+            count: count as u32,
+        }),
+        _ => None,
+    }
+}
+
+/// The gateway between two links of which these words are the configuration's file and the number of turns.
+fn serve_of<'a>(file: &'a str, turns: &str) -> Option<Command<'a>>
+    ensures { MatchOption result (IsNoServe turns.now) (AreTurnsOf file.now turns.now) }
+{
+    match number_between(turns, 1, MOST_TURNS) {
+        Some(turns) => Some(Command::Serve {
+            file,
+            turns: turns as u32,
+        }),
+        None => None,
     }
 }

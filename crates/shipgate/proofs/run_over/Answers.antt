@@ -27,4 +27,6 @@ returns g c =
             c.new-input.result.faults c.run.new.input.faults None None c.new-out.result.faults c.run.new.out.faults c.run.result)
             (ap (λ s. g.R.Read.remaining s.stream) c.new-input.ensures) (c.run.ensures.replays file form),
       );
+      serves = λ turns file second form number. (c.new-out.result.faults, c.run.new.out.faults, c.run.ensures.serves turns file second form number);
+      demos = λ seed count first second form numbers. (c.new-out.result.faults, c.run.new.out.faults, c.run.ensures.demos seed count first second form numbers);
     }

@@ -1,0 +1,39 @@
+-- What follows of the statuses of a gateway between two links.
+use Rattle.std.proofs.Common.{◌≡◌, ◌≢◌, ℕ, ◌⊎◌, List, inl, inr, arith}
+use Rattle.std.specs.Prelude.{Option, Ok}
+use Rattle.settings.specs.declared.settings.Settings.{Settings}
+use Rattle.serving.specs.Served.{Outside}
+use Rattle.shipgate.specs.Configuring.{FileSays}
+use Rattle.shipgate.specs.ServeCommand.{IsServeStatus, IsTurnsStatus, ServesBy, ServesWith}
+use Rattle.shipgate.proofs.ConfigLemmas.{IsDone, configures}
+
+abbrev Known : ℕ → Type 0
+Known status = (status ≡ 7) ⊎ ((status ≡ 9) ⊎ IsTurnsStatus status)
+
+is_done : (status : ℕ) → Known status → IsDone status
+is_done status (inl is) = (λ e. absurd (omega (arith, is, e)), λ e. absurd (omega (arith, is, e)))
+is_done status (inr (inl is)) = (λ e. absurd (omega (arith, is, e)), λ e. absurd (omega (arith, is, e)))
+is_done status (inr (inr (inl is))) = (λ e. absurd (omega (arith, is, e)), λ e. absurd (omega (arith, is, e)))
+is_done status (inr (inr (inr is))) = (λ e. absurd (omega (arith, is, e)), λ e. absurd (omega (arith, is, e)))
+
+is_known : (status : ℕ) → Known status → IsServeStatus status
+is_known status (inl is) = inr (inr (inl is))
+is_known status (inr rest) = inr (inr (inr rest))
+
+is_complete : (status : ℕ) → Known status → (status ≢ 7 → status ≡ 0) → (status ≡ 0) ⊎ (status ≡ 7)
+is_complete status (inl is) complete = inr is
+is_complete status (inr (inl is)) complete = inl (complete (λ e. omega (arith, is, e)))
+is_complete status (inr (inr (inl is))) complete = inl is
+is_complete status (inr (inr (inr is))) complete = inl (complete (λ e. omega (arith, is, e)))
+
+pub served : (turns : ℕ) (content : Option (List ℕ)) (files files' : ℕ) (clock clock' : Option (List ℕ)) (bus bus' net net' : ℕ) (old new : Outside) (status : ℕ)
+    (settings : Settings) → FileSays content (Ok settings) → ServesWith settings turns clock clock' bus bus' net net' old new status
+    → ServesBy turns content files files' clock clock' bus bus' net net' old new status
+served turns content files files' clock clock' bus bus' net net' old new status settings f s = record {
+  known = is_known status s.known;
+  configures = configures content files files' old.taken new.taken old.faults new.faults status settings f (is_done status s.known);
+  serves = λ is. (settings, f, s.serves is);
+  unattached = λ is. (settings, f, s.unattached is);
+  sink_cause = s.sink_cause;
+  complete = λ other told files_held bus_held net_held sink_held. is_complete status s.known (λ no. s.complete no bus_held net_held sink_held);
+}
