@@ -108,7 +108,7 @@ const FILES: [Case; 10] = [
         loads: &[],
         capture: b"(1700000000.000000) can0 09F11217#005C3DFF7FFF7FFC",
         status: 2,
-        text: b"usage: shipgate convert | show | check CONFIG | replay CONFIG\n",
+        text: b"usage: shipgate convert | show | check CONFIG | replay CONFIG | serve CONFIG TURNS | demo SEED COUNT\n",
     },
     Case {
         name: "a replay of no TOML",
