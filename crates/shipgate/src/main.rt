@@ -42,6 +42,16 @@ pub use words::{Command, LineCommand};
 /// Want of memory before the program began.
 const NO_MEMORY: u8 = 7;
 
+/// What the commands are, for who gave words that are none.
+const COMMANDS: &str =
+    "  convert             a capture from standard input; its single-frame messages as sentences
+  show                a capture from standard input; what each of its lines holds
+  check CONFIG        a configuration; whether it is accepted, or what is wrong with it
+  replay CONFIG       a configuration, and a capture from standard input; all that the gateway would have sent and reported
+  serve CONFIG TURNS  a configuration, and two links over UDP; the gateway's reports, each at once
+  demo SEED COUNT     nothing; a line that sums up a run of the gateway over a made-up input
+Each writes to standard output. Statuses: 0 done, 2 no command, 3 the configuration is refused, 4 a write failed, 5 a read failed, 6 the configuration can't be read, 7 no memory to begin with, 8 more than 2^40 bytes of input, 9 a link can't be attached. The manual is shipgate.1.";
+
 // All arguments of the process.
 fn all_words(alloc: Global, args: Args) -> Result<Vec<String>, AllocError>
     ensures { IfOk result (λ words. words.items ≡ into_iter_items args) }
@@ -139,8 +149,7 @@ fn exit_code(status: Result<u8, AllocError>) -> ExitCode
 // Says on standard error why a run didn't do its work.
 fn explain(rt: &impl Eprint, status: &Result<u8, AllocError>) {
     let why = match status {
-        Ok(2) =>
-            "these words are no command: the commands are convert, show, check, replay, serve and demo",
+        Ok(2) => "these words are no command",
         Ok(3) => "the configuration is refused",
         Ok(4) => "the output can't be written",
         Ok(5) => "the input can't be read",
@@ -153,6 +162,9 @@ fn explain(rt: &impl Eprint, status: &Result<u8, AllocError>) {
     };
     // Where standard error is closed too, the status says it.
     let _ = eprintln!(rt; "shipgate: {why}");
+    if let Ok(2) = status {
+        let _ = eprintln!(rt; "{COMMANDS}");
+    }
 }
 
 fn main(rt: HostRuntime) -> ExitCode {
