@@ -1,6 +1,7 @@
 //! The gateway.
 ghost use Rattle.std.specs.Prelude.{◌≡◌, ℕ, ◌∷◌, [], IfOk, Some};
 ghost use Rattle.claim_table.specs.Claims.{is_ready};
+ghost use Rattle.history.specs.AddressLaws.{AreSettings};
 ghost use Rattle.history.specs.Emits.{own_claim, request_for_claims};
 ghost use Rattle.history.specs.Entries.{History, now};
 ghost use Rattle.history.specs.Known.{known};
@@ -106,6 +107,13 @@ impl Gateway {
         ensures history { IsCommandStep source address self.old self.new out.new }
     {
         self.state.obey(Command { source, address }, out);
+    }
+
+    /// The settings of a gateway are valid, before its start and after all that it took. This does nothing: what it says holds always.
+    pub fn settings_are_valid(&self)
+        ensures { AreSettings self.now.settings }
+    {
+        let _settings = &self.state;
     }
 
     /// The moment of the last entry, in microseconds; 0 before any.

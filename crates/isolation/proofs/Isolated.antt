@@ -4,6 +4,7 @@ use Rattle.std.specs.Prelude.{◌==◌, Option, None, Some, filter, reverse, if�
 use Rattle.std.proofs.lemmas.List.{append_cancel_right, map-append, reverse-append}
 use Rattle.std.proofs.lemmas.List.Elements.{filter-append}
 use Rattle.n2k_id.specs.declared.frame.Frame.{Frame}
+use Rattle.history.specs.AddressLaws.{AreSettings}
 use Rattle.history.specs.Entries.{History, is_accepted}
 use Rattle.history.specs.IsolationLaws.{Plain, plain, from, narrowed, NoneRefused}
 use Rattle.history.specs.Messages.{Message, messages_of}
@@ -62,11 +63,12 @@ from_all a newer older all is =
 
 -- ---- two gateways
 
-module _ (c d : Settings) (s : ℕ) (h g : History) (lefts rights : List FrameEvent) (a : ℕ) (same : HearTheSame c d s h g lefts rights a) where
+module _ (c d : Settings) (s : ℕ) (h g : History) (lefts rights : List FrameEvent) (a : ℕ) (are : AreSettings c)
+    (same : HearTheSame c d s h g lefts rights a) where
   alike_in : (k l : History) → narrowed a l ≡ narrowed a k → NoneRefused (receiver_of c) s k a → NoneRefused (receiver_of d) s l a
       → from a (messages_of (receiver_of c) s k) ≡ from a (messages_of (receiver_of d) s l)
   alike_in k l heard left right =
-      isolation_of_two (receiver_of c) (receiver_of d) s k l a (gateways_receive c same.settings) same.alike.name same.alike.address same.alike.presets
+      isolation_of_two (receiver_of c) (receiver_of d) s k l a (gateways_receive c are) same.alike.name same.alike.address same.alike.presets
       (λ p. refl) heard left right
 
   newer_alike : (newer newer' : List Message)
@@ -88,6 +90,6 @@ module _ (c d : Settings) (s : ℕ) (h g : History) (lefts rights : List FrameEv
       ∙ sym (told_is_of a right.newer) ∙ sym right.told_is
 
 pub tell_the_same : (left right left' right' : Machine) (lefts rights : List FrameEvent) (a : ℕ) (told told' : List Done)
-    → Runs left lefts a left' told → Runs right rights a right' told' → TellTheSame left right lefts rights a told told'
-tell_the_same left right left' right' lefts rights a told told' runs runs' s h g is is' stands stands' same =
-    tell_alike left.settings right.settings s h g lefts rights a same left' right' told told' (runs s h is stands) (runs' s g is' stands')
+    → AreSettings left.settings → Runs left lefts a left' told → Runs right rights a right' told' → TellTheSame left right lefts rights a told told'
+tell_the_same left right left' right' lefts rights a told told' are runs runs' s h g is is' stands stands' same =
+    tell_alike left.settings right.settings s h g lefts rights a are same left' right' told told' (runs s h is stands) (runs' s g is' stands')

@@ -1,6 +1,5 @@
 -- When two gateways complete the same messages of a device, whatever else each of them hears.
 use Rattle.std.specs.Prelude.{◌≡◌, ℕ, List}
-use Rattle.history.specs.AddressLaws.{AreSettings}
 use Rattle.history.specs.Entries.{History, IsHistory}
 use Rattle.history.specs.IsolationLaws.{narrowed, NoneRefused}
 use Rattle.history.specs.Receiver.{receiver_of}
@@ -18,10 +17,9 @@ pub record AreAlike (c d : Settings) : Type 0 where
   pub address : d.address ≡ c.address
   pub presets : d.presets ≡ c.presets
 
--- two gateways of valid settings, started at one moment, one with this history before and the other with that; the claims, the commands and the frames from the
--- address are the same, at the same moments, before and with the events; and no opener from the address was refused for want of room
+-- two gateways, started at one moment, one with this history before and the other with that; the claims, the commands and the frames from
+-- the address are the same, at the same moments, before and with the events; and no opener from the address was refused for want of room
 pub record HearTheSame (c d : Settings) (s : ℕ) (h g : History) (lefts rights : List FrameEvent) (address : ℕ) : Type 0 where
-  pub settings : AreSettings c
   pub alike : AreAlike c d
   pub before : narrowed address g ≡ narrowed address h
   pub since : narrowed address (and_events g rights) ≡ narrowed address (and_events h lefts)
