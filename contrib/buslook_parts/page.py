@@ -1,0 +1,345 @@
+"""The page of a recording, section by section."""
+
+import math
+import os
+import re
+import time
+
+from .drawing import COLOURS, LEFT, NOT_READY_COLOUR, OWN_COLOUR, RIGHT, SHAPES, WIDTH, Palette, Scale, bar, clock, columns, drawing, key_of, label, mark, table, text
+from .gathering import MANY
+from .recording import CURVES, RATES
+
+RULES_PAGE = os.path.join(os.path.dirname(os.path.realpath(__file__)), "..", "..", "docs", "reports.md")
+MOST_ROWS = 40
+MOST_SPANS_SHOWN = 300
+# the rules by which messages, and groups of lines, end before they are whole
+ENDS = (
+    ("messages that ended unfinished (rules 11, 14, 16, 17, 19, 21)", (11, 14, 16, 17, 19, 21)),
+    ("frames of a wrong length, which end an open message (rules 13, 18)", (13, 18)),
+    ("lines and groups of lines out of order or too late (rules 40, 42)", (40, 42)),
+)
+
+
+def section(title, words, body):
+    return f"<section><h2>{title}</h2><p>{words}</p>{body}</section>"
+
+
+def folded(summary, body):
+    return f"<details><summary>{summary}</summary>{body}</details>"
+
+
+# ---- who was there
+
+
+def shown_name(name):
+    return name if isinstance(name, str) else f"{name:016X}"
+
+
+def bar_of_holder(addresses, span, scale, end, y, palette):
+    is_own = span.value == addresses.own_name
+    words = f"{shown_name(span.value)}, from {scale.since(span.begin)}" + ("" if span.end is None else f" to {scale.since(span.end)}")
+    colour = NOT_READY_COLOUR if is_own else palette.colour(span.value)
+    return bar(scale, span.begin, end if span.end is None else span.end, y, colour, words, "" if is_own else shown_name(span.value))
+
+
+def bar_of_readiness(span, scale, end, y):
+    words = f"the gateway is ready to send, from {scale.since(span.begin)}"
+    return bar(scale, span.begin, end if span.end is None else span.end, y, OWN_COLOUR, words, "the gateway, ready to send")
+
+
+def marks_of(what, series, scale, y):
+    return "".join(mark(scale.x(one.moment), y + 8, what, title_of(what, one, scale)) for one in series.in_order())
+
+
+def title_of(what, one, scale):
+    return f"{what} at {scale.since(one.moment)}: {shown_name(one.name)}" + (f", {one.times} times soon after each other" if one.times > 1 else "")
+
+
+def row_of_address(addresses, address, scale, end, y, palette):
+    """The name of an address, its bars and its marks."""
+    bars = [bar_of_holder(addresses, span, scale, end, y, palette) for span in addresses.spans[address].list]
+    bars += [bar_of_readiness(span, scale, end, y) for span in addresses.ready.list if span.value == address]
+    marks = [marks_of(what, addresses.marks[address, what], scale, y) for what in SHAPES if (address, what) in addresses.marks]
+    return label(y + 12, f"address {address}") + "".join(bars) + "".join(marks)
+
+
+def who_was_there(recording, scale):
+    addresses, palette = recording.addresses, Palette()
+    rows = [address for address in sorted(addresses.spans) if addresses.spans[address].list]
+    drawn = "".join(row_of_address(addresses, address, scale, recording.end, 20 + 27 * place, palette) for place, address in enumerate(rows))
+    key = "".join(key_of(what) for what in SHAPES if any(kind == what and address in rows for address, kind in addresses.marks))
+    events = [(scale.since(moment), address, text(what), f"<code>{shown_name(name)}</code>") for moment, address, what, name in addresses.events]
+    more = f"<p>and {addresses.more_events} more</p>" if addresses.more_events else ""
+    return section(
+        "Who was there",
+        "For each address the NAME that held it, worked out from the claims. The gateway's own is light until it may send, and dark from then on.",
+        drawing("who held each address", 20 + 27 * len(rows), scale, drawn) + f'<p class="keys">{key}</p>'
+        + folded("As a table", table(("After", "Address", "What", "NAME"), events) + more),
+    )
+
+
+# ---- who was heard
+
+
+def bar_of_device(words, span, scale, y, palette):
+    device = span.value
+    if device == MANY:
+        return bar(scale, span.begin, span.end, y, palette.colour(MANY), MANY, MANY)
+    inside = device.label.removeprefix("address ") + (f", {device.rank_text}" if device.rank_text else "")
+    title = f"{words}: {device.label} {device.name} {device.rank_text}, from {scale.since(span.begin)} to {scale.since(span.end)}"
+    return bar(scale, span.begin, span.end, y, palette.colour((device.label, device.name)), title, inside)
+
+
+def mark_of_change(change, scale, y):
+    moment, better, last = change
+    title = f"taken at {scale.since(moment)}: {better} was said last at {scale.since(last)}, and fell silent or lost its address"
+    return mark(scale.x(moment), y + 8, "taken over", title)
+
+
+def strip_drawn(words, strip, scale, y, palette):
+    bars = [bar_of_device(words, span, scale, y, palette) for span in strip.spans.list]
+    return label(y + 12, words) + "".join(bars) + "".join(mark_of_change(change, scale, y) for change in strip.worse.in_order())
+
+
+def rows_of_strip(words, strip, scale):
+    return [
+        (text(words), text(span.value.label), f"<code>{span.value.name}</code>", text(span.value.rank_text), scale.since(span.begin), scale.since(span.end))
+        for span in strip.spans.list
+        if span.value != MANY
+    ]
+
+
+def who_was_heard(recording, scale):
+    palette, strips = Palette(), sorted(recording.strips.items())
+    if not strips:
+        return section("Who was heard", "Nothing was said of any row.", "")
+    drawn = "".join(strip_drawn(words, strip, scale, 16 + 26 * place, palette) for place, (words, strip) in enumerate(strips))
+    rows = [row for words, strip in strips for row in rows_of_strip(words, strip, scale)]
+    return section(
+        "Who was heard",
+        "For each row the device that was said, with its rank where the configuration lists devices for it; of others the smaller NAME comes first. "
+        "No bar where nothing was said for the row's timeout. A triangle stands where a worse device was taken, since the better one had fallen silent "
+        "or lost its address.",
+        drawing("which device was said in each row", 16 + 26 * len(strips), scale, drawn)
+        + folded("As a table", table(("Row", "Device", "NAME", "Rank", "First said", "Last said"), rows[:MOST_SPANS_SHOWN])),
+    )
+
+
+# ---- what was said
+
+
+def lines_between(points, gap_us, turns):
+    """Points in runs: nothing was missing, and no angle went round, between two of one run."""
+    runs = []
+    for point in points:
+        before = runs[-1][-1] if runs else None
+        if before is None or point.is_apart or point.begin - before.end > gap_us or (turns and abs(point.first - before.last) > 180):
+            runs.append([])
+        runs[-1].append(point)
+    return runs
+
+
+def path_of(run, scale, height_of):
+    """One run as a path: from point to point, and within each its least and its most."""
+    parts = []
+    for point in run:
+        parts.append((scale.x(point.begin), height_of(point.first)))
+        if (point.least, point.most) not in ((point.first, point.last), (point.last, point.first)):
+            middle = scale.x((point.begin + point.end) // 2)
+            parts.extend([(middle, height_of(point.least)), (middle, height_of(point.most))])
+        if point.end > point.begin:
+            parts.append((scale.x(point.end), height_of(point.last)))
+    if len(parts) == 1:
+        parts.append((parts[0][0] + 0.1, parts[0][1]))
+    return "M" + "L".join(f"{x:.1f} {y:.1f}" for x, y in parts)
+
+
+def curve_drawn(recording, scale, curve):
+    points = recording.curves[curve.title].in_order()
+    least, most = min(point.least for point in points), max(point.most for point in points)
+    span = (most - least) or 1
+
+    def height_of(value):
+        part = (value - least) / span
+        return 10 + 70 * (part if curve.downwards else 1 - part)
+
+    runs = lines_between(points, recording.ranks.timeout_us(curve.row), curve.turns)
+    path = "".join(path_of(run, scale, height_of) for run in runs)
+    ends = (least, most) if curve.downwards else (most, least)
+    words = label(43, curve.title, "label strong") + label(58, curve.unit) + label(15, f"{ends[0]:g}", "small") + label(84, f"{ends[1]:g}", "small")
+    frame = f'<rect class="frame" x="{LEFT}" y="4" width="{RIGHT - LEFT}" height="82"/>'
+    return drawing(curve.title, 90, scale, frame + words + f'<path class="curve" d="{path}"/>')
+
+
+def track_drawn(recording, row):
+    """Where the boat was, north above; a line only from one place to the next one said."""
+    points = recording.tracks[row].in_order()
+    north, east = [place[0] for _, place, _ in points], [place[1] for _, place, _ in points]
+    shrink = max(0.01, math.cos(math.radians(sum(north) / len(north))))
+    span = max(max(north) - min(north), (max(east) - min(east)) * shrink) or 0.0001
+    middle = (max(north) + min(north)) / 2, (max(east) + min(east)) / 2
+    parts, before, gap = [], None, recording.ranks.timeout_us(row)
+    for moment, (latitude, longitude), is_apart in points:
+        x, y = 587 + 240 * (longitude - middle[1]) * shrink / span, 140 - 240 * (latitude - middle[0]) / span
+        is_gap = before is None or is_apart or moment - before[0] > max(gap, 2 * recording.tracks[row].width) or abs(longitude - before[1]) > 180
+        parts.append(f"{'M' if is_gap else 'L'}{x:.1f} {y:.1f}" + ("h.1" if is_gap else ""))
+        before = (moment, longitude)
+    words = label(140, "position", "label strong") + label(155, "north above")
+    words += label(25, f"{degrees(max(north), 'N', 'S')}", "small") + label(262, f"{degrees(min(north), 'N', 'S')}", "small")
+    foot = f'<text class="small" x="{LEFT}" y="286">{degrees(min(east), "E", "W")} to {degrees(max(east), "E", "W")}</text>'
+    foot += f'<text class="small" x="{RIGHT}" y="286" text-anchor="end">{60 * span:.3g} nautical miles from the least to the most; a ring at the first place</text>'
+    start = re.match(r"M([\d.-]+) ([\d.-]+)", parts[0])
+    ring = f'<circle class="ring" cx="{start.group(1)}" cy="{start.group(2)}" r="5"/>'
+    frame = f'<rect class="frame" x="{LEFT}" y="4" width="{RIGHT - LEFT}" height="266"/>'
+    return f'<svg viewBox="0 0 {WIDTH} 292" role="img" aria-label="position">{frame}{words}{foot}<path class="curve" d="{"".join(parts)}"/>{ring}</svg>'
+
+
+def degrees(value, positive, negative):
+    tenths = round(abs(value) * 600_000)
+    return f"{tenths // 600_000}° {tenths % 600_000 / 10_000:07.4f}' {positive if value >= 0 else negative}"
+
+
+def what_was_said(recording, scale):
+    drawn = [curve_drawn(recording, scale, curve) for curve in CURVES if curve.title in recording.curves]
+    drawn += [track_drawn(recording, row) for row in ("position", "gnss") if row in recording.tracks][:1]
+    if not drawn:
+        return section("What was said", "No sentence with a value that can be drawn went out.", "")
+    return section("What was said", "Values of the sentences that went out. Where none was said for the row's timeout, or one without a value, the line is broken.", "".join(drawn))
+
+
+# ---- what was refused
+
+
+def causes():
+    """Name, cause and cure of each rule, as the page of reports has them; what stands there by reference is written out."""
+    found, above = {}, ""
+    try:
+        with open(RULES_PAGE, encoding="utf-8") as page_of_rules:
+            lines = list(page_of_rules)
+    except OSError:
+        return {}
+    for line in lines:
+        cells = [re.sub(r"\[([^]]*)\]\([^)]*\)", r"\1", cell.strip()).replace("`", "") for cell in line.strip().strip("|").split(" | ")]
+        rule = re.fullmatch(r"(\d+), (.+)", cells[0])
+        if len(cells) == 3 and rule is not None:
+            cure = re.sub("^the same", above, cells[2])
+            above = cure if cells[2] == cure else above
+            found[int(rule.group(1))] = (rule.group(2), cells[1], cure)
+    return {rule: (name, cause, re.sub(r"as for rule (\d+)", lambda match: found[int(match.group(1))][2], cure)) for rule, (name, cause, cure) in found.items()}
+
+
+def rules_drawn(recording, scale, known):
+    parts, y = [], 8
+    for rule, _ in recording.rules.most_common():
+        if rule in recording.rule_series:
+            parts.append(label(y + 16, f"{rule}, {known[rule][0]}" if rule in known else f"rule {rule}"))
+            parts.append(columns(scale, recording.rule_series[rule], y + 20, 18, COLOURS[5]))
+            y += 27
+    return drawing("reports of each rule over time", y, scale, "".join(parts)) if parts else ""
+
+
+def rule_row(recording, rule, count, known):
+    name, cause, cure = known.get(rule, ("", "docs/reports.md tells", ""))
+    devices = "<br>".join(f"{text(device)}: {times}" for device, times in recording.rule_devices[rule].most(5))
+    lines = ", ".join(f'<a href="#line-{number}">{number}</a>' for number in recording.rule_lines[rule])
+    return (rule, text(name), count, devices, text(cause), text(cure), lines)
+
+
+def what_was_refused(recording, scale):
+    if not recording.rules:
+        return section("What was refused", "Nothing.", "")
+    known = causes()
+    drawn = rules_drawn(recording, scale, known) if scale is not None else ""
+    worst = table(("Device", "Reports"), [(text(device), count) for device, count in recording.devices.most(10)], "devices")
+    rows = [rule_row(recording, rule, count, known) for rule, count in recording.rules.most_common()]
+    lines = "".join(f'<li id="line-{number}" value="{number}"><code>{text(line)}</code></li>' for number, line in sorted(recording.excerpt.items()))
+    return section(
+        "What was refused",
+        "Reports of each rule over time, the most frequent first; then who they are about, the worst first.",
+        drawn + worst + table(("Rule", "Name", "Times", "About", "Cause", "What to do", "First at lines"), rows, "rules")
+        + f'<h3>These lines of the recording</h3><ol class="lines">{lines}</ol>',
+    )
+
+
+# ---- how much
+
+
+def rates_drawn(recording, scale):
+    parts, y = [], 6
+    for what in RATES:
+        series = recording.rates.get(what)
+        if series is not None:
+            most = max(series.cells.values()) * 1_000_000 / series.width
+            parts.append(label(y + 22, what))
+            parts.append(label(y + 36, f"at most {most:.4g} a second", "small"))
+            parts.append(columns(scale, series, y + 40, 36, COLOURS[0]))
+            y += 50
+    return drawing("frames, datagrams and reports over time", y, scale, "".join(parts)) if parts else ""
+
+
+def how_much(recording, scale):
+    names = ("lines of the recording", "frames from the bus", "datagrams from the network", "sentences from the network", "ticks", "lines that were refused", "empty lines",
+             "frames to the bus", "datagrams to the network", "sentences to the network", "messages said to the network")
+    counts = [(name, recording.counts[name]) for name in names]
+    counts.append(("reports", sum(recording.rules.values())))
+    counts += [(name, sum(recording.rules[rule] for rule in rules)) for name, rules in ENDS]
+    sentences = [(f"<code>{text(name)}</code>", count) for name, count in recording.sentences.most(MOST_ROWS)]
+    heard = [(text(sfi), text(destination), f"<code>{text(name)}</code>", count) for (sfi, destination, name), count in pairs(recording.heard_sources)]
+    frames = [(pgn, f"address {source}", count) for (pgn, source), count in pairs(recording.by_pgn)]
+    body = rates_drawn(recording, scale) if scale is not None else ""
+    body += table(("What", "How many"), counts, "counts")
+    body += folded("Sentences that went out", table(("Sentence", "How many"), sentences)) if sentences else ""
+    body += folded("Sentences that came from the network", table(("Source", "Destination", "Sentence", "How many"), heard)) if heard else ""
+    body += folded("Frames from the bus by their PGN", table(("PGN", "From", "How many"), frames)) if frames else ""
+    return section("How much", "Frames, datagrams and reports, by the second or longer.", body)
+
+
+def pairs(tally):
+    return [(key, count) for key, count in tally.most(MOST_ROWS) if isinstance(key, tuple)]
+
+
+# ---- all of it
+
+STYLE = """
+:root{color-scheme:light}body{font:15px/1.5 system-ui,'DejaVu Sans',sans-serif;max-width:1040px;margin:1.5em auto;padding:0 1em;color:#111;background:#fff}
+h1{font-size:1.5em;margin-bottom:.2em;overflow-wrap:anywhere}h2{font-size:1.2em;border-bottom:1px solid #bbb;margin-top:1.8em}h3{font-size:1em}
+svg{display:block;width:100%;height:auto;font:12px system-ui,'DejaVu Sans',sans-serif}text{fill:#111}.strong{font-weight:600}text.small{font-size:11px;fill:#444}
+.grid{stroke:#e4e4e4}.axis{stroke:#777}.frame{fill:none;stroke:#999}.bar{stroke:#fff;stroke-width:.5}text.inside{font-size:11px;fill:#fff}text.dark,text.on-hatch{fill:#111}
+.mark{stroke:#000;stroke-width:1.3}.curve{fill:none;stroke:#0072b2;stroke-width:1.6;stroke-linecap:round;stroke-linejoin:round}.ring{fill:none;stroke:#d55e00;stroke-width:2}
+.cursor{stroke:#d55e00;pointer-events:none}.key{margin-right:1.2em;white-space:nowrap}.key svg{display:inline;width:14px;height:14px;vertical-align:-2px}
+table{border-collapse:collapse;margin:.8em 0;font-size:.9em}td,th{border:1px solid #ccc;padding:.2em .5em;text-align:left;vertical-align:top;overflow-wrap:break-word}
+th{background:#f2f2f2;white-space:nowrap}.counts td:last-child,.devices td:last-child{text-align:right}.rules td:nth-child(4){min-width:7em}code{font-size:.9em;overflow-wrap:anywhere}.rules{font-size:.85em}.rules td:nth-child(2){min-width:6em}.lines{overflow-wrap:anywhere;padding-left:5em}
+:target{background:#fff3bf}#moment{position:fixed;top:0;right:0;background:#111;color:#fff;padding:.1em .6em}#moment:empty{display:none}
+@media print{*{print-color-adjust:exact;-webkit-print-color-adjust:exact}body{margin:0;max-width:none;font-size:11px}details,#moment,.cursor{display:none}svg,tr,h2{break-inside:avoid}h2{break-after:avoid}}
+"""
+# a line through all drawings at the moment that is pointed to
+SCRIPT = f"""
+const drawings = document.querySelectorAll('svg.time'), told = document.getElementById('moment'), seconds = Number(document.body.dataset.seconds);
+for (const drawing of drawings) drawing.addEventListener('pointermove', event => {{
+  const box = drawing.getBoundingClientRect(), x = (event.clientX - box.left) / box.width * {WIDTH}, part = (x - {LEFT}) / {RIGHT - LEFT};
+  if (part < 0 || part > 1) return;
+  for (const line of document.querySelectorAll('.cursor')) for (const end of ['x1', 'x2']) line.setAttribute(end, x);
+  told.textContent = (part * seconds).toFixed(3) + ' s';
+}});
+"""
+
+
+def summary(recording):
+    if recording.begin is None:
+        return "Nothing happened: the recording has no frame, no datagram and no tick."
+    begin, length = recording.begin // 1_000_000, (recording.end - recording.begin) / 1_000_000
+    stamp = time.strftime("%Y-%m-%d %H:%M:%S", time.gmtime(begin))
+    return f"{recording.counts['lines of the recording']} lines over {clock(round(length, 1))}, from {stamp} by the recording's own clock (UTC)."
+
+
+def page(recording, capture, config):
+    scale = None if recording.begin is None else Scale(recording.begin, recording.end)
+    parts = (who_was_there, who_was_heard, what_was_said) if scale is not None else ()
+    body = "".join(part(recording, scale) for part in (*parts, what_was_refused, how_much))
+    seconds = 0 if scale is None else scale.length / 1_000_000
+    title = f"{text(os.path.basename(capture))}, by {text(os.path.basename(config))}"
+    hatch = '<svg width="0" height="0" style="position:absolute;width:0" aria-hidden="true"><pattern id="hatch" width="6" height="6" patternUnits="userSpaceOnUse" patternTransform="rotate(45)"><rect width="6" height="6" fill="#ddd"/><rect width="2" height="6" fill="#777"/></pattern></svg>'
+    return (
+        f'<!DOCTYPE html>\n<html lang="en">\n<head>\n<meta charset="utf-8">\n<meta name="viewport" content="width=device-width">\n<link rel="icon" href="data:,">\n<title>{title}</title>\n'
+        f'<style>{STYLE}</style>\n</head>\n<body data-seconds="{seconds}">\n{hatch}<h1>{title}</h1>\n<p>{summary(recording)}</p>\n{body}\n<output id="moment"></output>\n<script>{SCRIPT}</script>\n</body>\n</html>\n'
+    )
