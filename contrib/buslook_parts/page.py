@@ -340,6 +340,6 @@ def page(recording, capture, config):
     title = f"{text(os.path.basename(capture))}, by {text(os.path.basename(config))}"
     hatch = '<svg width="0" height="0" style="position:absolute;width:0" aria-hidden="true"><pattern id="hatch" width="6" height="6" patternUnits="userSpaceOnUse" patternTransform="rotate(45)"><rect width="6" height="6" fill="#ddd"/><rect width="2" height="6" fill="#777"/></pattern></svg>'
     return (
-        f'<!DOCTYPE html>\n<html lang="en">\n<head>\n<meta charset="utf-8">\n<meta name="viewport" content="width=device-width">\n<link rel="icon" href="data:,">\n<title>{title}</title>\n'
+        f'<!DOCTYPE html>\n<html lang="en">\n<head>\n<meta charset="utf-8">\n<meta name="viewport" content="width=1040">\n<link rel="icon" href="data:,">\n<title>{title}</title>\n'
         f'<style>{STYLE}</style>\n</head>\n<body data-seconds="{seconds}">\n{hatch}<h1>{title}</h1>\n<p>{summary(recording)}</p>\n{body}\n<output id="moment"></output>\n<script>{SCRIPT}</script>\n</body>\n</html>\n'
     )
