@@ -91,7 +91,7 @@ impl RmcJoin {
     {
         let moment = gateway.moment();
         let new = selected(moment, emits);
-        self.take(moment, gateway, new, packet)
+        self.take(moment, gateway, &new, packet)
     }
 
     /// Takes the message that the step at this moment selected, or none.
@@ -99,14 +99,14 @@ impl RmcJoin {
         &mut self,
         moment: u64,
         gateway: &Gateway,
-        new: Option<Kept>,
+        new: &Option<Kept>,
         packet: &mut Packet,
     ) -> bool
         requires empty { packet.old.items ≡ [] }
-        requires valid { IsKeptValid new }
-        ensures after { self.new ≡ join_after (name_held gateway.now.addresses.claims.holders) new self.old }
-        ensures says { result ≡ is_due_kept new }
-        ensures packet { packet.new.items ≡ bytes_in (join_says moment (name_held gateway.now.addresses.claims.holders) new self.old) }
+        requires valid { IsKeptValid new.now }
+        ensures after { self.new ≡ join_after (name_held gateway.now.addresses.claims.holders) new.now self.old }
+        ensures says { result ≡ is_due_kept new.now }
+        ensures packet { packet.new.items ≡ bytes_in (join_says moment (name_held gateway.now.addresses.claims.holders) new.now self.old) }
     {
         self.keep(gateway, new);
         let due = is_due(new);
@@ -117,14 +117,14 @@ impl RmcJoin {
     }
 
     /// Keeps the newer message of each row, and no message whose sender lost its address.
-    fn keep(&mut self, gateway: &Gateway, new: Option<Kept>)
-        requires { IsKeptValid new }
-        ensures { self.new ≡ slots_after (name_held gateway.now.addresses.claims.holders) new self.old }
+    fn keep(&mut self, gateway: &Gateway, new: &Option<Kept>)
+        requires { IsKeptValid new.now }
+        ensures { self.new ≡ slots_after (name_held gateway.now.addresses.claims.holders) new.now self.old }
     {
-        self.time = self.time.after(gateway, Row::Time, new);
-        self.position = self.position.after(gateway, Row::Position, new);
-        self.motion = self.motion.after(gateway, Row::CourseSpeed, new);
-        self.heading = self.heading.after(gateway, Row::HeadingMagnetic, new);
+        self.time.keep(gateway, Row::Time, new);
+        self.position.keep(gateway, Row::Position, new);
+        self.motion.keep(gateway, Row::CourseSpeed, new);
+        self.heading.keep(gateway, Row::HeadingMagnetic, new);
     }
 
     /// Writes the datagram, and counts its line.
@@ -152,8 +152,8 @@ impl RmcJoin {
     }
 }
 
-fn is_due(new: Option<Kept>) -> bool
-    ensures { result ≡ is_due_kept new }
+fn is_due(new: &Option<Kept>) -> bool
+    ensures { result ≡ is_due_kept new.now }
 {
     match new {
         None => false,

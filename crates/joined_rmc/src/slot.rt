@@ -1,5 +1,5 @@
 //! What is kept of one row.
-ghost use Rattle.std.specs.Prelude.{◌≡◌, IfSome};
+ghost use Rattle.std.specs.Prelude.{◌≡◌, None, IfSome, if◌then◌else◌};
 ghost use Rattle.readings.specs.Ranges.{IsValid};
 ghost use Rattle.history.specs.Settings.{same_row};
 ghost use Rattle.gate_model.specs.AddressStands.{name_held};
@@ -30,16 +30,40 @@ impl Slot {
         }
     }
 
-    /// After a step of the gateway, which selected this message or none.
-    pub(crate) fn after(self, gateway: &Gateway, row: Row, new: Option<Kept>) -> Slot
-        requires kept { IsKeptValid self.kept }
-        requires new { IsKeptValid new }
-        ensures after { result ≡ slot_after (name_held gateway.now.addresses.claims.holders) row new self }
-        ensures valid { IsKeptValid result.kept }
+    /// Takes what a step of the gateway selected, a message or none: no message stays whose sender lost its address.
+    pub(crate) fn keep(&mut self, gateway: &Gateway, row: Row, new: &Option<Kept>)
+        requires kept { IsKeptValid self.old.kept }
+        requires new { IsKeptValid new.now }
+        ensures after { self.new ≡ slot_after (name_held gateway.now.addresses.claims.holders) row new.now self.old }
+        ensures valid { IsKeptValid self.new.kept }
     {
-        Slot {
-            timeout: self.timeout,
-            kept: newer(row, new, held(self.kept, gateway)),
+        self.forget_lost(gateway);
+        self.keep_newer(row, new);
+    }
+
+    /// Forgets a message whose sender lost its address.
+    fn forget_lost(&mut self, gateway: &Gateway)
+        requires { IsKeptValid self.old.kept }
+        ensures after { self.new ≡ record self.old { kept = held_in (name_held gateway.now.addresses.claims.holders) self.old.kept } }
+        ensures valid { IsKeptValid self.new.kept }
+    {
+        if is_lost(&self.kept, gateway) {
+            self.kept = None;
+        }
+    }
+
+    /// Keeps a newer message of the row.
+    fn keep_newer(&mut self, row: Row, new: &Option<Kept>)
+        requires kept { IsKeptValid self.old.kept }
+        requires new { IsKeptValid new.now }
+        ensures after { self.new ≡ record self.old { kept = newer_kept row new.now self.old.kept } }
+        ensures valid { IsKeptValid self.new.kept }
+    {
+        match new {
+            Some(kept) if kept.is_of(row) => {
+                self.kept = Some(*kept);
+            }
+            _ => {}
         }
     }
 
@@ -69,22 +93,14 @@ fn unless_old(timeout: u32, moment: u64, kept: Kept) -> Option<Reading>
     }
 }
 
-/// The message, where its sender holds its address still.
-fn held(kept: Option<Kept>, gateway: &Gateway) -> Option<Kept>
-    requires { IsKeptValid kept }
-    ensures held { result ≡ held_in (name_held gateway.now.addresses.claims.holders) kept }
-    ensures valid { IsKeptValid result }
+/// Whether a message is kept whose sender lost its address.
+fn is_lost(kept: &Option<Kept>, gateway: &Gateway) -> bool
+    ensures { held_in (name_held gateway.now.addresses.claims.holders) kept.now ≡ (if result then None else kept.now) }
 {
-    match kept {
-        None => None,
-        Some(kept) => {
-            if is_named(kept.name, gateway.holder(kept.source)) {
-                Some(kept)
-            } else {
-                None
-            }
-        }
-    }
+    let Some(kept) = kept else {
+        return false;
+    };
+    !is_named(kept.name, gateway.holder(kept.source))
 }
 
 fn is_named(name: Name, holder: Option<Name>) -> bool
@@ -93,18 +109,5 @@ fn is_named(name: Name, holder: Option<Name>) -> bool
     match holder {
         None => false,
         Some(other) => other == name,
-    }
-}
-
-/// The newer message of the row.
-fn newer(row: Row, new: Option<Kept>, before: Option<Kept>) -> Option<Kept>
-    requires new { IsKeptValid new }
-    requires before { IsKeptValid before }
-    ensures newer { result ≡ newer_kept row new before }
-    ensures valid { IsKeptValid result }
-{
-    match new {
-        None => before,
-        Some(kept) => { if kept.is_of(row) { Some(kept) } else { before } }
     }
 }
