@@ -46,6 +46,26 @@ static int hex_bytes(const char *digits, size_t count, uint8_t *out) {
     return 1;
 }
 
+/* The frame behind a time, of which at least 16 bytes are there. */
+static int read_behind_time(const char *text, size_t len, uint32_t *id, uint8_t *data) {
+    if (memcmp(text, ") can0 ", 7) != 0 || text[15] != '#') return -1;
+    uint8_t bytes[4];
+    if (!hex_bytes(text + 7, 4, bytes)) return -1;
+    *id = (uint32_t)bytes[0] << 24 | (uint32_t)bytes[1] << 16 | (uint32_t)bytes[2] << 8 | bytes[3];
+    size_t digits = len - 16;
+    if (digits > 16 || digits % 2 || *id >= 1u << 29) return -1;
+    if (!hex_bytes(text + 16, digits / 2, data)) return -1;
+    return (int)(digits / 2);
+}
+
+/* Takes the digits from a place, at most so many, behind those of the number so far. Answers where they end. */
+static size_t take_digits(const char *line, size_t at, size_t end, uint64_t *number) {
+    uint64_t value = *number;
+    for (; at < end && is_digit(line[at]); at++) value = value * 10 + (uint64_t)(line[at] - '0');
+    *number = value;
+    return at;
+}
+
 int read_frame(const char *line, size_t len, uint32_t *id, uint8_t *data) {
     size_t at = 0;
     if (len == 0 || line[at++] != '(') return -1;
@@ -54,14 +74,16 @@ int read_frame(const char *line, size_t len, uint32_t *id, uint8_t *data) {
     if (seconds < 1 || seconds > 10 || len - at < 23 || line[at] != '.') return -1;
     for (size_t i = 1; i < 7; i++)
         if (!is_digit(line[at + i])) return -1;
-    if (memcmp(line + at + 7, ") can0 ", 7) != 0 || line[at + 22] != '#') return -1;
-    uint8_t bytes[4];
-    if (!hex_bytes(line + at + 14, 4, bytes)) return -1;
-    *id = (uint32_t)bytes[0] << 24 | (uint32_t)bytes[1] << 16 | (uint32_t)bytes[2] << 8 | bytes[3];
-    size_t digits = len - at - 23;
-    if (digits > 16 || digits % 2 || *id >= 1u << 29) return -1;
-    if (!hex_bytes(line + at + 23, digits / 2, data)) return -1;
-    return (int)(digits / 2);
+    return read_behind_time(line + at + 7, len - at - 7, id, data);
+}
+
+int read_moment_and_frame(const char *line, size_t len, uint64_t *moment, uint32_t *id, uint8_t *data) {
+    *moment = 0;
+    if (len == 0 || line[0] != '(') return -1;
+    size_t point = take_digits(line, 1, len < 11 ? len : 11, moment);
+    if (point < 2 || len - point < 23 || line[point] != '.') return -1;
+    if (take_digits(line, point + 1, point + 7, moment) != point + 7) return -1;
+    return read_behind_time(line + point + 7, len - point - 7, id, data);
 }
 
 static size_t without_cr(const char *text, size_t len) {

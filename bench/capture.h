@@ -14,6 +14,9 @@ int each_line(int (*line)(uint64_t number, const char *text, size_t len));
 /* The frame of a line, as (S.UUUUUU) can0 IIIIIIII#DATA: answers the data's length, or -1. */
 int read_frame(const char *line, size_t len, uint32_t *id, uint8_t *data);
 
+/* The same, with the moment in microseconds. */
+int read_moment_and_frame(const char *line, size_t len, uint64_t *moment, uint32_t *id, uint8_t *data);
+
 /* Lets a text be written to standard output. Answers 0, or -1 where a write fails. */
 int put(const char *text, size_t len);
 

@@ -1,14 +1,9 @@
-/* The work of `shipgate convert` on a payload, for the baseline: values out of bytes, raw values into units, and the
-   sentences of true heading, position, course and speed, depth, wind and time. Other messages are not converted. */
+/* The work of shipgate on a payload, for the baselines: values out of bytes, raw values into units, and the sentences of true
+   heading, position, course and speed, depth, wind and time, and of the satellite receiver's message in several frames. Other
+   messages are not converted. */
 #include "sentences.h"
 
 #include <string.h>
-
-/* A raw value, if there is one. */
-struct value {
-    int there;
-    int64_t raw;
-};
 
 static const struct value none = {0, 0};
 
@@ -23,7 +18,14 @@ enum {
     LONGITUDE = 1800000000,
     DATE = 65532,
     TIME = 863999999,
+    HDOP = 9999,
+    SEPARATION = 99990,
 };
+
+/* Those of the satellite receiver's message. */
+#define FINE_LATITUDE INT64_C(900000000000000000)
+#define FINE_LONGITUDE INT64_C(1800000000000000000)
+#define ALTITUDE INT64_C(9999900000)
 
 struct payload {
     const uint8_t *data;
@@ -47,8 +49,8 @@ static struct value unsigned_at(struct payload p, size_t place, size_t width, in
 static struct value signed_at(struct payload p, size_t place, size_t width, int64_t most) {
     uint64_t number;
     if (!number_at(p, place, width, &number)) return none;
-    int64_t end = (int64_t)1 << 8 * width, raw = (int64_t)number;
-    if (raw >= end / 2) raw -= end;
+    uint64_t sign = (uint64_t)1 << (8 * width - 1);
+    int64_t raw = (int64_t)((number ^ sign) - sign);
     if (raw < -most || raw > most) return none;
     return (struct value){1, raw};
 }
@@ -71,6 +73,10 @@ static const struct unit fathoms = {125, 2286, 1};
 static const struct unit offset_metres = {1, 10, 2};
 static const struct unit range_metres = {100, 1, 1};
 static const struct unit minutes = {3, 50, 4};
+static const struct unit fine_minutes = {3, 50000000000, 4};
+static const struct unit altitude_metres = {1, 100000, 1};
+static const struct unit separation_metres = {1, 10, 1};
+static const struct unit hundredths = {1, 1, 2};
 
 /* The count of the unit's last decimals without its sign, rounded once to the nearest, halves up. Each range times
    its fraction's numerator fits 64 bits. */
@@ -79,14 +85,13 @@ static uint64_t size(int64_t raw, struct unit unit) {
     return (magnitude * unit.num + unit.den / 2) / unit.den;
 }
 
-static char *put_text(char *at, const char *text) {
+char *put_text(char *at, const char *text) {
     size_t len = strlen(text);
     memcpy(at, text, len);
     return at + len;
 }
 
-/* The last digits of the number, so many. */
-static char *put_digits(char *at, uint64_t number, int width) {
+char *put_digits(char *at, uint64_t number, int width) {
     for (int i = width; i-- > 0; number /= 10) at[i] = (char)('0' + number % 10);
     return at + width;
 }
@@ -119,9 +124,9 @@ static char *put_angle(char *at, struct value v) {
 }
 
 /* Degrees of so many digits and minutes, a comma, and the letter of the side, which is the first one for zero. */
-static char *put_coordinate(char *at, struct value v, int width, char positive, char negative) {
+static char *put_coordinate(char *at, struct value v, struct unit unit, int width, char positive, char negative) {
     if (!v.there) return put_text(at, ",");
-    uint64_t count = size(v.raw, minutes);
+    uint64_t count = size(v.raw, unit);
     at = put_digits(at, count / 600000, width);
     at = put_digits(at, count % 600000 / 10000, 2);
     *at++ = '.';
@@ -159,16 +164,18 @@ static char *put_date(char *at, struct value v) {
     return put_digits(at, days / 146097 * 400 + year + (month <= 2), 4);
 }
 
-/* The end of the sentence that began at its start: the sum of the bytes between, and the line end. */
-static char *put_sum(const char *start, char *at) {
+char *put_check(const char *start, char *at) {
     static const char digits[] = "0123456789ABCDEF";
     uint8_t sum = 0;
     for (const char *byte = start + 1; byte < at; byte++) sum ^= (uint8_t)*byte;
     *at++ = '*';
     *at++ = digits[sum / 16];
     *at++ = digits[sum % 16];
-    return put_text(at, "\r\n");
+    return at;
 }
+
+/* The end of the sentence that began at its start. */
+static char *put_sum(const char *start, char *at) { return put_text(put_check(start, at), "\r\n"); }
 
 static char *put_hdt(char *start, struct value heading) {
     char *at = put_text(start, "$HEHDT,");
@@ -179,9 +186,9 @@ static char *put_hdt(char *start, struct value heading) {
 static char *put_gll(char *start, struct value latitude, struct value longitude) {
     int there = latitude.there && longitude.there;
     char *at = put_text(start, "$GPGLL,");
-    at = put_coordinate(at, only_if(there, latitude), 2, 'N', 'S');
+    at = put_coordinate(at, only_if(there, latitude), minutes, 2, 'N', 'S');
     *at++ = ',';
-    at = put_coordinate(at, only_if(there, longitude), 3, 'E', 'W');
+    at = put_coordinate(at, only_if(there, longitude), minutes, 3, 'E', 'W');
     return put_sum(start, put_text(at, there ? ",,A,A" : ",,V,N"));
 }
 
@@ -305,4 +312,46 @@ int put_sentences(uint32_t pgn, const uint8_t *data, size_t len, char **end) {
     case 130306: return wind(p, end);
     default: return NOT_CONVERTED;
     }
+}
+
+int read_fix(const uint8_t *data, size_t len, struct fix *fix) {
+    struct payload p = {data, len};
+    if (len < 32) return SHORT_MESSAGE;
+    fix->time = unsigned_at(p, 3, 4, TIME);
+    fix->latitude = signed_at(p, 7, 8, FINE_LATITUDE);
+    fix->longitude = signed_at(p, 15, 8, FINE_LONGITUDE);
+    fix->altitude = signed_at(p, 23, 8, ALTITUDE);
+    fix->method = data[31] / 16 <= 8 ? data[31] / 16 : 0;
+    fix->satellites = unsigned_at(p, 33, 1, RANGE);
+    fix->hdop = unsigned_at(p, 34, 2, HDOP);
+    fix->separation = signed_at(p, 38, 4, SEPARATION);
+    fix->has_position = fix->latitude.there && fix->longitude.there;
+    return 0;
+}
+
+/* A number of at least two digits. */
+static char *put_satellites(char *at, struct value v) {
+    if (!v.there) return at;
+    if (v.raw < 10) *at++ = '0';
+    return put_number(at, (uint64_t)v.raw);
+}
+
+char *put_gga(char *start, const struct fix *fix) {
+    int there = fix->has_position;
+    char *at = put_time(put_text(start, "$GPGGA,"), fix->time);
+    *at++ = ',';
+    at = put_coordinate(at, only_if(there, fix->latitude), fine_minutes, 2, 'N', 'S');
+    *at++ = ',';
+    at = put_coordinate(at, only_if(there, fix->longitude), fine_minutes, 3, 'E', 'W');
+    *at++ = ',';
+    *at++ = (char)('0' + (there ? fix->method : 0));
+    *at++ = ',';
+    at = put_satellites(at, fix->satellites);
+    *at++ = ',';
+    at = put_decimal(at, fix->hdop, hundredths);
+    *at++ = ',';
+    at = put_decimal(at, fix->altitude, altitude_metres);
+    at = put_text(at, ",M,");
+    at = put_decimal(at, fix->separation, separation_metres);
+    return put_sum(start, put_text(at, ",M,,"));
 }
