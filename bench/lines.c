@@ -159,7 +159,7 @@ static void put_openers(uint64_t open) {
     }
 }
 
-/* Frames that come one microsecond after two of them, so that none of the open ones is overdue. */
+/* Two frames a microsecond, so that 1,500,000 of them come before any of the open ones is overdue. */
 static void put_held(uint64_t i) {
     static struct sender sender = {.address = HELD};
     next_frame(&sender);
