@@ -44,7 +44,7 @@ fn step_frame(gateway: &mut Gateway, moment: u64, id: u32, bytes: &[u8], out: &m
 }
 
 /// Takes what comes, and then the command that it gives.
-fn take(gateway: &mut Gateway, moment: u64, comes: Comes, out: &mut Outbox) {
+pub(crate) fn take(gateway: &mut Gateway, moment: u64, comes: Comes, out: &mut Outbox) {
     step(gateway, moment, comes, out);
     match out.command() {
         Some(command) => {

@@ -7,6 +7,10 @@ mod case;
 #[cfg(test)]
 mod following;
 #[cfg(test)]
+mod hostile;
+#[cfg(test)]
+mod hostile_network;
+#[cfg(test)]
 mod many;
 #[cfg(test)]
 mod setup;

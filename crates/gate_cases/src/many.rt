@@ -100,7 +100,7 @@ fn hear(gateway: &mut Gateway, moment: u64, bytes: &[u8], out: &mut Outbox) {
 }
 
 /// Takes the first line of two of the group with this code.
-fn begin_group(gateway: &mut Gateway, code: u16, out: &mut Outbox)
+pub(crate) fn begin_group(gateway: &mut Gateway, moment: u64, code: u16, out: &mut Outbox)
     requires least { 1 ≤ code }
     requires most { code ≤ 99 }
 {
@@ -116,14 +116,14 @@ fn begin_group(gateway: &mut Gateway, code: u16, out: &mut Outbox)
         count: 1,
     };
     let _fits = push_line(&tag, b"$HEHDT,90.0,T*16\r\n", &mut packet);
-    hear(gateway, MOMENT, &packet, out);
+    hear(gateway, moment, &packet, out);
 }
 
 /// Whether nothing is told where a group of each code from 1 to 32 begins.
 fn all_groups_begin(gateway: &mut Gateway) -> bool {
     let mut out = Outbox::new();
     for code in 1..33_u16 {
-        begin_group(gateway, code, &mut out);
+        begin_group(gateway, MOMENT, code, &mut out);
         if out.len() != 0 {
             return false;
         }
@@ -134,7 +134,7 @@ fn all_groups_begin(gateway: &mut Gateway) -> bool {
 /// Whether the group with the code 33 is refused.
 fn is_next_refused(gateway: &mut Gateway) -> bool {
     let mut out = Outbox::new();
-    begin_group(gateway, 33, &mut out);
+    begin_group(gateway, MOMENT, 33, &mut out);
     are_seen(&out, &[Seen::Group(41, *b"II0002", 33)])
 }
 
