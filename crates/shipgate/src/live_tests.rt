@@ -8,10 +8,10 @@ use std::alloc::{AllocError, Global};
 use std::test::Fail;
 
 /// What comes over a link in a turn, if anything does.
-type Coming = Option<&'static [u8]>;
+pub(crate) type Coming = Option<&'static [u8]>;
 
 /// What a link is handed, in order.
-type Handed = &'static [&'static [u8]];
+pub(crate) type Handed = &'static [&'static [u8]];
 
 /// A run of `serve` over two links, of which the bus may fail, and what goes out.
 #[derive(Clone, Copy)]
@@ -30,16 +30,17 @@ struct Case {
 }
 
 /// Two devices are known, and one source of the network.
-const CONFIG: &[u8] = b"[gateway]\nname = \"C0328200FFC00001\"\naddress = 251\nsfi = \"II0001\"\n\
+pub(crate) const CONFIG: &[u8] =
+    b"[gateway]\nname = \"C0328200FFC00001\"\naddress = 251\nsfi = \"II0001\"\n\
       [[preset]]\naddress = 23\nname = \"C0788C00FFC00005\"\n\
       [[preset]]\naddress = 24\nname = \"C0788C00FFC00006\"\n\
       [net]\nsources = [\"II0002\"]\n";
 
-const CLAIM: &[u8] = b"(0.000000) can0 18EEFFFB#0100C0FF008232C0";
+pub(crate) const CLAIM: &[u8] = b"(0.000000) can0 18EEFFFB#0100C0FF008232C0";
 
-const REQUEST: &[u8] = b"(0.000000) can0 18EAFFFB#00EE00";
+pub(crate) const REQUEST: &[u8] = b"(0.000000) can0 18EAFFFB#00EE00";
 
-const HEADING: &[u8] = b"(1700000000.000000) can0 09F11217#005C3DFF7FFF7FFC";
+pub(crate) const HEADING: &[u8] = b"(1700000000.000000) can0 09F11217#005C3DFF7FFF7FFC";
 
 const SENTENCE: &[u8] = b"UdPbC\0\\s:II0001,n:1*01\\$HEHDT,90.0,T*16\r\n";
 
@@ -99,7 +100,7 @@ const CASES: [Case; 6] = [
 ];
 
 /// What comes in a turn, as a link in memory has it.
-fn arrival(alloc: Global, coming: Coming) -> Result<Option<Vec<u8>>, AllocError>
+pub(crate) fn arrival(alloc: Global, coming: Coming) -> Result<Option<Vec<u8>>, AllocError>
     ensures { IfOk result IsArrival }
 {
     match coming {
@@ -128,7 +129,7 @@ fn link(
 }
 
 /// Whether a link was handed these bytes at a place, under a group.
-fn is_handed(link: &MemLink, place: usize, group: &[u8], bytes: &[u8]) -> bool {
+pub(crate) fn is_handed(link: &MemLink, place: usize, group: &[u8], bytes: &[u8]) -> bool {
     match link.handed(place) {
         Some((name, told)) => name.as_bytes().as_slice() == group && told == bytes,
         None => false,
@@ -136,7 +137,7 @@ fn is_handed(link: &MemLink, place: usize, group: &[u8], bytes: &[u8]) -> bool {
 }
 
 /// Whether a link was handed exactly this, under one group.
-fn was_handed(link: &MemLink, group: &[u8], handed: Handed) -> bool {
+pub(crate) fn was_handed(link: &MemLink, group: &[u8], handed: Handed) -> bool {
     for place in 0..handed.len() {
         if !is_handed(link, place, group, handed[place]) {
             return false;
@@ -176,7 +177,7 @@ fn words_of(alloc: Global, case: &Case) -> Result<Vec<String>, Fail> {
 }
 
 /// The status of a run over these files, with nothing to read.
-fn status_over<F: Files, K: Sink, B: Link, E: Link, C: Clock>(
+pub(crate) fn status_over<F: Files, K: Sink, B: Link, E: Link, C: Clock>(
     alloc: Global,
     words: &[String],
     files: &mut F,

@@ -192,3 +192,5 @@ fn main(rt: HostRuntime) -> ExitCode {
 mod live_tests;
 #[cfg(test)]
 mod tests;
+#[cfg(test)]
+mod turns_tests;

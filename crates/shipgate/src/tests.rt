@@ -2,10 +2,12 @@
 ghost use Rattle.std.specs.Prelude.{◌<◌};
 
 mod configured;
+mod failing;
+mod replayed;
 
 use crate::{run, run_over};
 use gate_outside::{
-    Files, MemClock, MemFiles, MemSink, MemSource, QuietFiles, QuietLink, Sink, Source,
+    Files, Link, MemClock, MemFiles, MemSink, MemSource, QuietFiles, QuietLink, Sink, Source,
 };
 use std::alloc::Global;
 use std::io::{Read, Write};
@@ -13,6 +15,21 @@ use std::test::Fail;
 
 /// The true heading of 90 degrees, from address 23.
 const HEADING: &[u8] = b"(1700000000.000000) can0 09F11217#005C3DFF7FFF7FFC\n";
+
+/// Two devices that are known, one source of the network, and a gateway. What stands behind it belongs to the gateway's table.
+const USUAL: &[u8] = b"[[preset]]
+address = 23
+name = \"C0788C00FFC00005\"
+[[preset]]
+address = 24
+name = \"C0788C00FFC00006\"
+[net]
+sources = [\"II0002\"]
+[gateway]
+name = \"C0328200FFC00001\"
+address = 251
+sfi = \"II0001\"
+";
 
 /// An input, how many bytes a read moves at most, and which reads fail.
 #[derive(Drop)]
@@ -52,6 +69,20 @@ fn listed(alloc: Global, words: &[&str]) -> Result<Vec<String>, Fail> {
     Ok(list)
 }
 
+/// The status of a run beside this bus, over these files, with no network and no clock.
+fn status_beside<F: Files, S: Source, K: Sink, B: Link>(
+    alloc: Global,
+    words: &[String],
+    files: &mut F,
+    input: &mut S,
+    out: &mut K,
+    bus: &mut B,
+) -> Result<u8, Fail> {
+    let mut net = QuietLink::of(alloc, 0, 0, Vec::new(alloc))?;
+    let mut clock = MemClock::of(Vec::new(alloc));
+    Ok(run(alloc, words, files, input, out, bus, &mut net, &mut clock))
+}
+
 /// The status of a run over these files, with no link and no clock.
 fn status_over<F: Files, S: Source, K: Sink>(
     alloc: Global,
@@ -61,11 +92,7 @@ fn status_over<F: Files, S: Source, K: Sink>(
     out: &mut K,
 ) -> Result<u8, Fail> {
     let mut bus = QuietLink::of(alloc, 0, 0, Vec::new(alloc))?;
-    let mut net = QuietLink::of(alloc, 0, 0, Vec::new(alloc))?;
-    let mut clock = MemClock::of(Vec::new(alloc));
-    Ok(run(
-        alloc, words, files, input, out, &mut bus, &mut net, &mut clock,
-    ))
+    status_beside(alloc, words, files, input, out, &mut bus)
 }
 
 /// The status of a run over a reader and a writer of std, with no link and no clock.
@@ -147,11 +174,11 @@ fn headings_become_their_sentences(rt: HostRuntime) -> Result<(), Fail> {
         line.extend_from_slice(data)?;
         let given = Given {
             bytes: line.as_slice(),
-            most: 4096,
+            most: 1,
             failing: &[],
         };
         let room = Room {
-            most: 4096,
+            most: 3,
             failing: &[],
         };
         let (status, taken) = outcome(rt.alloc(), "convert", &given, &room)?;

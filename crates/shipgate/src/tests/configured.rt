@@ -1,22 +1,7 @@
-//! `check` and `replay` over files in memory: each fault line, line of a capture and emit worked out by hand.
-use super::{Given, Room, Stored, listed, outcome_over};
+//! `check` and `replay` over files in memory: the first fault of each, as a line.
+use super::{Given, Room, Stored, USUAL, listed, outcome_over};
 use std::alloc::Global;
 use std::test::Fail;
-
-/// A gateway with two devices that are known and one source of the network.
-const USUAL: &[u8] = b"[gateway]
-name = \"C0328200FFC00001\"
-address = 251
-sfi = \"II0001\"
-[[preset]]
-address = 23
-name = \"C0788C00FFC00005\"
-[[preset]]
-address = 24
-name = \"C0788C00FFC00006\"
-[net]
-sources = [\"II0002\"]
-";
 
 const AGAIN: &[u8] = b"[[preset]]
 address = 23
@@ -139,93 +124,6 @@ const FILES: [Case; 10] = [
     },
 ];
 
-/// What comes of a capture.
-const CAPTURES: [Case; 5] = [
-    Case {
-        name: "a heading of a known device",
-        words: REPLAY,
-        config: (USUAL, b""),
-        loads: &[],
-        capture: b"(1700000000.000000) can0 09F11217#005C3DFF7FFF7FFC\n",
-        status: 0,
-        text: b"(1700000000.000000) can0 18EEFFFB#0100C0FF008232C0\n\
-          (1700000000.000000) can0 18EAFFFB#00EE00\n\
-          (1700000000.000000) udp0 NAVD#5564506243005C733A4949303030312C6E3A312A30315C2448454844542C39302E302C542A31360D0A\n",
-    },
-    Case {
-        name: "two messages of many frames, in turn",
-        words: REPLAY,
-        config: (USUAL, b""),
-        loads: &[],
-        capture: b"(1.000000) can0 0DF80518#002B00DB4C0008AF\n\
-          (1.001000) can0 0DF80517#002B00DB4C0008AF\n\
-          (1.002000) can0 0DF80518#012F000000000000\n\
-          (1.003000) can0 0DF80517#012F000000000000\n\
-          (1.004000) can0 0DF80518#0200080000000000\n\
-          (1.005000) can0 0DF80517#0200080000000000\n\
-          (1.006000) can0 0DF80518#03000002E0AEBB00\n\
-          (1.007000) can0 0DF80517#03000002E0AEBB00\n\
-          (1.008000) can0 0DF80518#040000000010FC09\n\
-          (1.009000) can0 0DF80517#040000000010FC09\n\
-          (1.010000) can0 0DF80518#056900FF7FF40600\n\
-          (1.011000) can0 0DF80517#056900FF7FF40600\n\
-          (1.012000) can0 0DF80518#060000FFFFFFFFFF\n\
-          (1.013000) can0 0DF80517#060000FFFFFFFFFF\n\
-          (1.014000) can0 0DF80517#060000FFFFFFFFFF\n",
-        status: 0,
-        text: b"(1.000000) can0 18EEFFFB#0100C0FF008232C0\n\
-          (1.000000) can0 18EAFFFB#00EE00\n\
-          (1.012000) udp0 NAVD#5564506243005C733A4949303030312C6E3A312A30315C2447504747412C3232313332302E30302C353733382E373634352C4E2C30313432342E363931312C452C312C30392C312E30352C31322E332C4D2C31372E382C4D2C2C2A36410D0A\n\
-          (1.013000) udp0 NAVD#5564506243005C733A4949303030312C6E3A322A30325C2447504747412C3232313332302E30302C353733382E373634352C4E2C30313432342E363931312C452C312C30392C312E30352C31322E332C4D2C31372E382C4D2C2C2A36410D0A\n\
-          (1.014000) rule 12 src=23 pgn=129029\n",
-    },
-    Case {
-        name: "an address that goes to a smaller NAME in the middle of a message",
-        words: REPLAY,
-        config: (USUAL, b""),
-        loads: &[],
-        capture: b"(1.000000) can0 0DF80517#002B00DB4C0008AF\n\
-          (1.001000) can0 0DF80517#012F000000000000\n\
-          (1.002000) can0 0DF80517#0200080000000000\n\
-          (1.003000) can0 0DF80517#03000002E0AEBB00\n\
-          (1.004000) can0 18EEFF17#0200C0FF00823280\n\
-          (1.005000) can0 0DF80517#040000000010FC09\n\
-          (1.006000) can0 0DF80517#056900FF7FF40600\n\
-          (1.007000) can0 0DF80517#060000FFFFFFFFFF\n",
-        status: 0,
-        text: b"(1.000000) can0 18EEFFFB#0100C0FF008232C0\n\
-          (1.000000) can0 18EAFFFB#00EE00\n\
-          (1.004000) rule 17 src=23 pgn=129029\n\
-          (1.005000) rule 12 src=23 pgn=129029\n\
-          (1.006000) rule 12 src=23 pgn=129029\n\
-          (1.007000) rule 12 src=23 pgn=129029\n",
-    },
-    Case {
-        name: "a frame that comes in the last moment",
-        words: REPLAY,
-        config: (USUAL, b""),
-        loads: &[],
-        capture: b"(5.000000) can0 0DF80517#002B00DB4C0008AF\n\
-          (5.750000) can0 0DF80517#012F000000000000\n",
-        status: 0,
-        text: b"(5.000000) can0 18EEFFFB#0100C0FF008232C0\n\
-          (5.000000) can0 18EAFFFB#00EE00\n",
-    },
-    Case {
-        name: "a frame that comes too late",
-        words: REPLAY,
-        config: (USUAL, b""),
-        loads: &[],
-        capture: b"(5.000000) can0 0DF80517#002B00DB4C0008AF\n\
-          (5.750001) can0 0DF80517#012F000000000000\n",
-        status: 0,
-        text: b"(5.000000) can0 18EEFFFB#0100C0FF008232C0\n\
-          (5.000000) can0 18EAFFFB#00EE00\n\
-          (5.750001) rule 16 src=23 pgn=129029\n\
-          (5.750001) rule 12 src=23 pgn=129029\n",
-    },
-];
-
 /// Whether a run over these bytes of a file ends so, with this text.
 fn ends_so(alloc: Global, case: &Case, config: &[u8]) -> Result<bool, Fail> {
     let words = listed(alloc, case.words)?;
@@ -270,12 +168,6 @@ fn empty_lines(alloc: Global, count: usize) -> Result<Vec<u8>, Fail> {
 #[test]
 fn files_are_accepted_or_their_first_fault_is_said(rt: HostRuntime) -> Result<(), Fail> {
     assert_eq!(rt; first_otherwise(rt.alloc(), &FILES)?, "none");
-    Ok(())
-}
-
-#[test]
-fn captures_are_replayed(rt: HostRuntime) -> Result<(), Fail> {
-    assert_eq!(rt; first_otherwise(rt.alloc(), &CAPTURES)?, "none");
     Ok(())
 }
 

@@ -1,0 +1,159 @@
+//! Who holds an address, and what becomes of what its holder was heard saying.
+use super::{Case, NO_PRESETS, USUAL};
+
+pub(super) const CASES: [Case; 9] = [
+    Case {
+        shows: "an address that nobody claimed is refused, and its claim makes it heard",
+        config: NO_PRESETS,
+        capture: b"(1700000000.000000) can0 09F11217#005C3DFF7FFF7FFC\n\
+          (1700000000.100000) can0 18EEFF17#0500C0FF008C78C0\n\
+          (1700000000.200000) can0 09F11217#005C3DFF7FFF7FFC\n",
+        text: b"(1700000000.000000) can0 18EEFFFB#0100C0FF008232C0\n\
+          (1700000000.000000) can0 18EAFFFB#00EE00\n\
+          (1700000000.000000) rule 10 src=23 pgn=127250\n\
+          (1700000000.200000) udp0 NAVD#5564506243005C733A4949303030312C6E3A312A30315C2448454844542C39302E302C542A31360D0A\n",
+    },
+    Case {
+        shows: "a heading of a known device is said",
+        config: USUAL,
+        capture: b"(1700000000.000000) can0 09F11217#005C3DFF7FFF7FFC\n",
+        text: b"(1700000000.000000) can0 18EEFFFB#0100C0FF008232C0\n\
+          (1700000000.000000) can0 18EAFFFB#00EE00\n\
+          (1700000000.000000) udp0 NAVD#5564506243005C733A4949303030312C6E3A312A30315C2448454844542C39302E302C542A31360D0A\n",
+    },
+    Case {
+        shows: "who wins an address ends what its holder began",
+        config: USUAL,
+        capture: b"(1.000000) can0 0DF80517#002B00DB4C0008AF\n\
+          (1.001000) can0 0DF80517#012F000000000000\n\
+          (1.002000) can0 0DF80517#0200080000000000\n\
+          (1.003000) can0 0DF80517#03000002E0AEBB00\n\
+          (1.004000) can0 18EEFF17#0200C0FF00823280\n\
+          (1.005000) can0 0DF80517#040000000010FC09\n\
+          (1.006000) can0 0DF80517#056900FF7FF40600\n\
+          (1.007000) can0 0DF80517#060000FFFFFFFFFF\n",
+        text: b"(1.000000) can0 18EEFFFB#0100C0FF008232C0\n\
+          (1.000000) can0 18EAFFFB#00EE00\n\
+          (1.004000) rule 17 src=23 pgn=129029\n\
+          (1.005000) rule 12 src=23 pgn=129029\n\
+          (1.006000) rule 12 src=23 pgn=129029\n\
+          (1.007000) rule 12 src=23 pgn=129029\n",
+    },
+    Case {
+        shows: "the holder's own claim ends nothing",
+        config: USUAL,
+        capture: b"(1.000000) can0 0DF80517#002B00DB4C0008AF\n\
+          (1.001000) can0 0DF80517#012F000000000000\n\
+          (1.002000) can0 0DF80517#0200080000000000\n\
+          (1.003000) can0 0DF80517#03000002E0AEBB00\n\
+          (1.004000) can0 18EEFF17#0500C0FF008C78C0\n\
+          (1.005000) can0 0DF80517#040000000010FC09\n\
+          (1.006000) can0 0DF80517#056900FF7FF40600\n\
+          (1.007000) can0 0DF80517#060000FFFFFFFFFF\n",
+        text: b"(1.000000) can0 18EEFFFB#0100C0FF008232C0\n\
+          (1.000000) can0 18EAFFFB#00EE00\n\
+          (1.007000) udp0 NAVD#5564506243005C733A4949303030312C6E3A312A30315C2447504747412C3232313332302E30302C353733382E373634352C4E2C30313432342E363931312C452C312C30392C312E30352C31322E332C4D2C31372E382C4D2C2C2A36410D0A\n",
+    },
+    Case {
+        shows: "the gateway keeps its address from a greater NAME",
+        config: USUAL,
+        capture: b"(10.000000) tick\n\
+          (10.001000) can0 18EEFFFB#0500C0FF008C78C0\n",
+        text: b"(10.000000) can0 18EEFFFB#0100C0FF008232C0\n\
+          (10.000000) can0 18EAFFFB#00EE00\n\
+          (10.001000) can0 18EEFFFB#0100C0FF008232C0\n",
+    },
+    Case {
+        shows: "the gateway gives way to a lower NAME, and waits for 250 ms",
+        config: USUAL,
+        capture: b"(10.000000) tick\n\
+          (10.250000) can0 1CECFB17#10F906FFFF05F801\n\
+          (10.300000) can0 18EEFFFB#0200C0FF00823280\n\
+          (10.549999) udp0 NAVD#5564506243005C733A4949303030322C6E3A312A30325C2448454844542C39302E302C542A31360D0A\n\
+          (10.550000) udp0 NAVD#5564506243005C733A4949303030322C6E3A312A30325C2448454844542C39302E302C542A31360D0A\n",
+        text: b"(10.000000) can0 18EEFFFB#0100C0FF008232C0\n\
+          (10.000000) can0 18EAFFFB#00EE00\n\
+          (10.250000) can0 1CEC17FB#110801FFFF05F801\n\
+          (10.300000) rule 17 src=23 pgn=129029\n\
+          (10.300000) can0 18EEFF00#0100C0FF008232C0\n\
+          (10.549999) rule 45 at=6\n\
+          (10.550000) can0 09F11200#FF5C3DFF7FFF7FFC\n",
+    },
+    Case {
+        shows: "a device that takes each address after the other finds the next one taken by the gateway",
+        config: USUAL,
+        capture: b"(10.000000) tick\n\
+          (10.001000) can0 18EEFFFB#0000000000000000\n\
+          (10.002000) can0 18EEFF00#0000000000000000\n\
+          (10.003000) can0 18EEFF01#0000000000000000\n\
+          (10.004000) can0 18EEFF02#0000000000000000\n\
+          (10.005000) can0 18EEFF03#0000000000000000\n\
+          (10.006000) can0 18EEFF04#0000000000000000\n\
+          (10.007000) can0 18EEFF05#0000000000000000\n\
+          (10.008000) can0 18EEFF06#0000000000000000\n\
+          (10.009000) can0 18EEFF07#0000000000000000\n\
+          (10.010000) can0 18EEFF08#0000000000000000\n\
+          (10.011000) can0 18EEFF09#0000000000000000\n\
+          (10.012000) can0 18EEFF0A#0000000000000000\n\
+          (10.013000) can0 18EEFF0B#0000000000000000\n\
+          (10.014000) can0 18EEFF0C#0000000000000000\n\
+          (10.015000) can0 18EEFF0D#0000000000000000\n\
+          (10.016000) can0 18EEFF0E#0000000000000000\n\
+          (10.017000) can0 18EEFF0F#0000000000000000\n\
+          (10.018000) can0 18EEFF10#0000000000000000\n\
+          (10.019000) can0 18EEFF11#0000000000000000\n\
+          (10.020000) can0 18EEFF12#0000000000000000\n\
+          (10.021000) can0 18EEFF13#0000000000000000\n\
+          (10.022000) can0 18EEFF14#0000000000000000\n\
+          (10.023000) can0 18EEFF15#0000000000000000\n\
+          (10.024000) can0 18EEFF16#0000000000000000\n",
+        text: b"(10.000000) can0 18EEFFFB#0100C0FF008232C0\n\
+          (10.000000) can0 18EAFFFB#00EE00\n\
+          (10.001000) can0 18EEFF00#0100C0FF008232C0\n\
+          (10.002000) can0 18EEFF01#0100C0FF008232C0\n\
+          (10.003000) can0 18EEFF02#0100C0FF008232C0\n\
+          (10.004000) can0 18EEFF03#0100C0FF008232C0\n\
+          (10.005000) can0 18EEFF04#0100C0FF008232C0\n\
+          (10.006000) can0 18EEFF05#0100C0FF008232C0\n\
+          (10.007000) can0 18EEFF06#0100C0FF008232C0\n\
+          (10.008000) can0 18EEFF07#0100C0FF008232C0\n\
+          (10.009000) can0 18EEFF08#0100C0FF008232C0\n\
+          (10.010000) can0 18EEFF09#0100C0FF008232C0\n\
+          (10.011000) can0 18EEFF0A#0100C0FF008232C0\n\
+          (10.012000) can0 18EEFF0B#0100C0FF008232C0\n\
+          (10.013000) can0 18EEFF0C#0100C0FF008232C0\n\
+          (10.014000) can0 18EEFF0D#0100C0FF008232C0\n\
+          (10.015000) can0 18EEFF0E#0100C0FF008232C0\n\
+          (10.016000) can0 18EEFF0F#0100C0FF008232C0\n\
+          (10.017000) can0 18EEFF10#0100C0FF008232C0\n\
+          (10.018000) can0 18EEFF11#0100C0FF008232C0\n\
+          (10.019000) can0 18EEFF12#0100C0FF008232C0\n\
+          (10.020000) can0 18EEFF13#0100C0FF008232C0\n\
+          (10.021000) can0 18EEFF14#0100C0FF008232C0\n\
+          (10.022000) can0 18EEFF15#0100C0FF008232C0\n\
+          (10.023000) can0 18EEFF16#0100C0FF008232C0\n\
+          (10.024000) can0 18EEFF19#0100C0FF008232C0\n",
+    },
+    Case {
+        shows: "a command moves the gateway",
+        config: USUAL,
+        capture: b"(10.000000) tick\n\
+          (10.100000) can0 1CECFF17#20090002FFD8FE00\n\
+          (10.200000) can0 1CEBFF17#010100C0FF008232\n\
+          (10.300000) can0 1CEBFF17#02C064FFFFFFFFFF\n",
+        text: b"(10.000000) can0 18EEFFFB#0100C0FF008232C0\n\
+          (10.000000) can0 18EAFFFB#00EE00\n\
+          (10.300000) can0 18EEFF64#0100C0FF008232C0\n",
+    },
+    Case {
+        shows: "a command to a taken address isn't obeyed",
+        config: USUAL,
+        capture: b"(10.000000) tick\n\
+          (10.100000) can0 1CECFF17#20090002FFD8FE00\n\
+          (10.200000) can0 1CEBFF17#010100C0FF008232\n\
+          (10.300000) can0 1CEBFF17#02C018FFFFFFFFFF\n",
+        text: b"(10.000000) can0 18EEFFFB#0100C0FF008232C0\n\
+          (10.000000) can0 18EAFFFB#00EE00\n\
+          (10.300000) rule 26 src=23 pgn=65240\n",
+    },
+];

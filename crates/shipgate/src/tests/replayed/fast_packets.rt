@@ -1,0 +1,443 @@
+//! Messages of many frames: which are said, and what is wrong with the others.
+use super::{Case, NO_PRESETS, ONE_FAST_SLOT, USUAL};
+
+pub(super) const CASES: [Case; 9] = [
+    Case {
+        shows: "fast packets of two devices lie one in the other, and each is said",
+        config: USUAL,
+        capture: b"(1.000000) can0 0DF80518#002B00DB4C0008AF\n\
+          (1.001000) can0 0DF80517#002B00DB4C0008AF\n\
+          (1.002000) can0 0DF80518#012F000000000000\n\
+          (1.003000) can0 0DF80517#012F000000000000\n\
+          (1.004000) can0 0DF80518#0200080000000000\n\
+          (1.005000) can0 0DF80517#0200080000000000\n\
+          (1.006000) can0 0DF80518#03000002E0AEBB00\n\
+          (1.007000) can0 0DF80517#03000002E0AEBB00\n\
+          (1.008000) can0 0DF80518#040000000010FC09\n\
+          (1.009000) can0 0DF80517#040000000010FC09\n\
+          (1.010000) can0 0DF80518#056900FF7FF40600\n\
+          (1.011000) can0 0DF80517#056900FF7FF40600\n\
+          (1.012000) can0 0DF80518#060000FFFFFFFFFF\n\
+          (1.013000) can0 0DF80517#060000FFFFFFFFFF\n\
+          (1.014000) can0 0DF80517#060000FFFFFFFFFF\n",
+        text: b"(1.000000) can0 18EEFFFB#0100C0FF008232C0\n\
+          (1.000000) can0 18EAFFFB#00EE00\n\
+          (1.012000) udp0 NAVD#5564506243005C733A4949303030312C6E3A312A30315C2447504747412C3232313332302E30302C353733382E373634352C4E2C30313432342E363931312C452C312C30392C312E30352C31322E332C4D2C31372E382C4D2C2C2A36410D0A\n\
+          (1.013000) udp0 NAVD#5564506243005C733A4949303030312C6E3A322A30325C2447504747412C3232313332302E30302C353733382E373634352C4E2C30313432342E363931312C452C312C30392C312E30352C31322E332C4D2C31372E382C4D2C2C2A36410D0A\n\
+          (1.014000) rule 12 src=23 pgn=129029\n",
+    },
+    Case {
+        shows: "a fast packet waits for 750 ms",
+        config: USUAL,
+        capture: b"(5.000000) can0 0DF80517#002B00DB4C0008AF\n\
+          (5.750000) can0 0DF80517#012F000000000000\n",
+        text: b"(5.000000) can0 18EEFFFB#0100C0FF008232C0\n\
+          (5.000000) can0 18EAFFFB#00EE00\n",
+    },
+    Case {
+        shows: "a fast packet waits no longer than 750 ms",
+        config: USUAL,
+        capture: b"(5.000000) can0 0DF80517#002B00DB4C0008AF\n\
+          (5.750001) can0 0DF80517#012F000000000000\n",
+        text: b"(5.000000) can0 18EEFFFB#0100C0FF008232C0\n\
+          (5.000000) can0 18EAFFFB#00EE00\n\
+          (5.750001) rule 16 src=23 pgn=129029\n\
+          (5.750001) rule 12 src=23 pgn=129029\n",
+    },
+    Case {
+        shows: "where all slots are taken a new fast packet is refused",
+        config: ONE_FAST_SLOT,
+        capture: b"(5.000000) can0 0DF80517#002B00DB4C0008AF\n\
+          (5.100000) can0 0DF80518#002B00DB4C0008AF\n\
+          (5.750001) tick\n\
+          (5.800000) can0 0DF80518#002B00DB4C0008AF\n",
+        text: b"(5.000000) can0 18EEFFFB#0100C0FF008232C0\n\
+          (5.000000) can0 18EAFFFB#00EE00\n\
+          (5.100000) rule 15 src=24 pgn=129029\n\
+          (5.750001) rule 16 src=23 pgn=129029\n",
+    },
+    Case {
+        shows: "a fast packet has 1 to 223 bytes",
+        config: USUAL,
+        capture: b"(1.000000) can0 0DF80517#00E0000000000000\n\
+          (1.001000) can0 0DF80517#0000000000000000\n\
+          (1.002000) can0 0DF80517#00DF00DB4C0008AF\n\
+          (1.003000) can0 0DF80517#012F000000000000\n\
+          (1.004000) can0 0DF80517#0200080000000000\n\
+          (1.005000) can0 0DF80517#03000002E0AEBB00\n\
+          (1.006000) can0 0DF80517#040000000010FC09\n\
+          (1.007000) can0 0DF80517#056900FF7FF40600\n\
+          (1.008000) can0 0DF80517#060000FFFFFFFFFF\n\
+          (1.009000) can0 0DF80517#07FFFFFFFFFFFFFF\n\
+          (1.010000) can0 0DF80517#08FFFFFFFFFFFFFF\n\
+          (1.011000) can0 0DF80517#09FFFFFFFFFFFFFF\n\
+          (1.012000) can0 0DF80517#0AFFFFFFFFFFFFFF\n\
+          (1.013000) can0 0DF80517#0BFFFFFFFFFFFFFF\n\
+          (1.014000) can0 0DF80517#0CFFFFFFFFFFFFFF\n\
+          (1.015000) can0 0DF80517#0DFFFFFFFFFFFFFF\n\
+          (1.016000) can0 0DF80517#0EFFFFFFFFFFFFFF\n\
+          (1.017000) can0 0DF80517#0FFFFFFFFFFFFFFF\n\
+          (1.018000) can0 0DF80517#10FFFFFFFFFFFFFF\n\
+          (1.019000) can0 0DF80517#11FFFFFFFFFFFFFF\n\
+          (1.020000) can0 0DF80517#12FFFFFFFFFFFFFF\n\
+          (1.021000) can0 0DF80517#13FFFFFFFFFFFFFF\n\
+          (1.022000) can0 0DF80517#14FFFFFFFFFFFFFF\n\
+          (1.023000) can0 0DF80517#15FFFFFFFFFFFFFF\n\
+          (1.024000) can0 0DF80517#16FFFFFFFFFFFFFF\n\
+          (1.025000) can0 0DF80517#17FFFFFFFFFFFFFF\n\
+          (1.026000) can0 0DF80517#18FFFFFFFFFFFFFF\n\
+          (1.027000) can0 0DF80517#19FFFFFFFFFFFFFF\n\
+          (1.028000) can0 0DF80517#1AFFFFFFFFFFFFFF\n\
+          (1.029000) can0 0DF80517#1BFFFFFFFFFFFFFF\n\
+          (1.030000) can0 0DF80517#1CFFFFFFFFFFFFFF\n\
+          (1.031000) can0 0DF80517#1DFFFFFFFFFFFFFF\n\
+          (1.032000) can0 0DF80517#1EFFFFFFFFFFFFFF\n\
+          (1.033000) can0 0DF80517#1FFFFFFFFFFFFFFF\n",
+        text: b"(1.000000) can0 18EEFFFB#0100C0FF008232C0\n\
+          (1.000000) can0 18EAFFFB#00EE00\n\
+          (1.000000) rule 13 src=23 pgn=129029\n\
+          (1.001000) rule 13 src=23 pgn=129029\n\
+          (1.033000) udp0 NAVD#5564506243005C733A4949303030312C6E3A312A30315C2447504747412C3232313332302E30302C353733382E373634352C4E2C30313432342E363931312C452C312C30392C312E30352C31322E332C4D2C31372E382C4D2C2C2A36410D0A\n",
+    },
+    Case {
+        shows: "a hundred devices begin a message, and no more than the slots are held",
+        config: NO_PRESETS,
+        capture: b"(1.000000) can0 18EEFF00#00000000008C78C0\n\
+          (1.000000) can0 18EEFF01#01000000008C78C0\n\
+          (1.000000) can0 18EEFF02#02000000008C78C0\n\
+          (1.000000) can0 18EEFF03#03000000008C78C0\n\
+          (1.000000) can0 18EEFF04#04000000008C78C0\n\
+          (1.000000) can0 18EEFF05#05000000008C78C0\n\
+          (1.000000) can0 18EEFF06#06000000008C78C0\n\
+          (1.000000) can0 18EEFF07#07000000008C78C0\n\
+          (1.000000) can0 18EEFF08#08000000008C78C0\n\
+          (1.000000) can0 18EEFF09#09000000008C78C0\n\
+          (1.000000) can0 18EEFF0A#0A000000008C78C0\n\
+          (1.000000) can0 18EEFF0B#0B000000008C78C0\n\
+          (1.000000) can0 18EEFF0C#0C000000008C78C0\n\
+          (1.000000) can0 18EEFF0D#0D000000008C78C0\n\
+          (1.000000) can0 18EEFF0E#0E000000008C78C0\n\
+          (1.000000) can0 18EEFF0F#0F000000008C78C0\n\
+          (1.000000) can0 18EEFF10#10000000008C78C0\n\
+          (1.000000) can0 18EEFF11#11000000008C78C0\n\
+          (1.000000) can0 18EEFF12#12000000008C78C0\n\
+          (1.000000) can0 18EEFF13#13000000008C78C0\n\
+          (1.000000) can0 18EEFF14#14000000008C78C0\n\
+          (1.000000) can0 18EEFF15#15000000008C78C0\n\
+          (1.000000) can0 18EEFF16#16000000008C78C0\n\
+          (1.000000) can0 18EEFF17#17000000008C78C0\n\
+          (1.000000) can0 18EEFF18#18000000008C78C0\n\
+          (1.000000) can0 18EEFF19#19000000008C78C0\n\
+          (1.000000) can0 18EEFF1A#1A000000008C78C0\n\
+          (1.000000) can0 18EEFF1B#1B000000008C78C0\n\
+          (1.000000) can0 18EEFF1C#1C000000008C78C0\n\
+          (1.000000) can0 18EEFF1D#1D000000008C78C0\n\
+          (1.000000) can0 18EEFF1E#1E000000008C78C0\n\
+          (1.000000) can0 18EEFF1F#1F000000008C78C0\n\
+          (1.000000) can0 18EEFF20#20000000008C78C0\n\
+          (1.000000) can0 18EEFF21#21000000008C78C0\n\
+          (1.000000) can0 18EEFF22#22000000008C78C0\n\
+          (1.000000) can0 18EEFF23#23000000008C78C0\n\
+          (1.000000) can0 18EEFF24#24000000008C78C0\n\
+          (1.000000) can0 18EEFF25#25000000008C78C0\n\
+          (1.000000) can0 18EEFF26#26000000008C78C0\n\
+          (1.000000) can0 18EEFF27#27000000008C78C0\n\
+          (1.000000) can0 18EEFF28#28000000008C78C0\n\
+          (1.000000) can0 18EEFF29#29000000008C78C0\n\
+          (1.000000) can0 18EEFF2A#2A000000008C78C0\n\
+          (1.000000) can0 18EEFF2B#2B000000008C78C0\n\
+          (1.000000) can0 18EEFF2C#2C000000008C78C0\n\
+          (1.000000) can0 18EEFF2D#2D000000008C78C0\n\
+          (1.000000) can0 18EEFF2E#2E000000008C78C0\n\
+          (1.000000) can0 18EEFF2F#2F000000008C78C0\n\
+          (1.000000) can0 18EEFF30#30000000008C78C0\n\
+          (1.000000) can0 18EEFF31#31000000008C78C0\n\
+          (1.000000) can0 18EEFF32#32000000008C78C0\n\
+          (1.000000) can0 18EEFF33#33000000008C78C0\n\
+          (1.000000) can0 18EEFF34#34000000008C78C0\n\
+          (1.000000) can0 18EEFF35#35000000008C78C0\n\
+          (1.000000) can0 18EEFF36#36000000008C78C0\n\
+          (1.000000) can0 18EEFF37#37000000008C78C0\n\
+          (1.000000) can0 18EEFF38#38000000008C78C0\n\
+          (1.000000) can0 18EEFF39#39000000008C78C0\n\
+          (1.000000) can0 18EEFF3A#3A000000008C78C0\n\
+          (1.000000) can0 18EEFF3B#3B000000008C78C0\n\
+          (1.000000) can0 18EEFF3C#3C000000008C78C0\n\
+          (1.000000) can0 18EEFF3D#3D000000008C78C0\n\
+          (1.000000) can0 18EEFF3E#3E000000008C78C0\n\
+          (1.000000) can0 18EEFF3F#3F000000008C78C0\n\
+          (1.000000) can0 18EEFF40#40000000008C78C0\n\
+          (1.000000) can0 18EEFF41#41000000008C78C0\n\
+          (1.000000) can0 18EEFF42#42000000008C78C0\n\
+          (1.000000) can0 18EEFF43#43000000008C78C0\n\
+          (1.000000) can0 18EEFF44#44000000008C78C0\n\
+          (1.000000) can0 18EEFF45#45000000008C78C0\n\
+          (1.000000) can0 18EEFF46#46000000008C78C0\n\
+          (1.000000) can0 18EEFF47#47000000008C78C0\n\
+          (1.000000) can0 18EEFF48#48000000008C78C0\n\
+          (1.000000) can0 18EEFF49#49000000008C78C0\n\
+          (1.000000) can0 18EEFF4A#4A000000008C78C0\n\
+          (1.000000) can0 18EEFF4B#4B000000008C78C0\n\
+          (1.000000) can0 18EEFF4C#4C000000008C78C0\n\
+          (1.000000) can0 18EEFF4D#4D000000008C78C0\n\
+          (1.000000) can0 18EEFF4E#4E000000008C78C0\n\
+          (1.000000) can0 18EEFF4F#4F000000008C78C0\n\
+          (1.000000) can0 18EEFF50#50000000008C78C0\n\
+          (1.000000) can0 18EEFF51#51000000008C78C0\n\
+          (1.000000) can0 18EEFF52#52000000008C78C0\n\
+          (1.000000) can0 18EEFF53#53000000008C78C0\n\
+          (1.000000) can0 18EEFF54#54000000008C78C0\n\
+          (1.000000) can0 18EEFF55#55000000008C78C0\n\
+          (1.000000) can0 18EEFF56#56000000008C78C0\n\
+          (1.000000) can0 18EEFF57#57000000008C78C0\n\
+          (1.000000) can0 18EEFF58#58000000008C78C0\n\
+          (1.000000) can0 18EEFF59#59000000008C78C0\n\
+          (1.000000) can0 18EEFF5A#5A000000008C78C0\n\
+          (1.000000) can0 18EEFF5B#5B000000008C78C0\n\
+          (1.000000) can0 18EEFF5C#5C000000008C78C0\n\
+          (1.000000) can0 18EEFF5D#5D000000008C78C0\n\
+          (1.000000) can0 18EEFF5E#5E000000008C78C0\n\
+          (1.000000) can0 18EEFF5F#5F000000008C78C0\n\
+          (1.000000) can0 18EEFF60#60000000008C78C0\n\
+          (1.000000) can0 18EEFF61#61000000008C78C0\n\
+          (1.000000) can0 18EEFF62#62000000008C78C0\n\
+          (1.000000) can0 18EEFF63#63000000008C78C0\n\
+          (1.100000) can0 0DF80500#002B00DB4C0008AF\n\
+          (1.100000) can0 0DF80501#002B00DB4C0008AF\n\
+          (1.100000) can0 0DF80502#002B00DB4C0008AF\n\
+          (1.100000) can0 0DF80503#002B00DB4C0008AF\n\
+          (1.100000) can0 0DF80504#002B00DB4C0008AF\n\
+          (1.100000) can0 0DF80505#002B00DB4C0008AF\n\
+          (1.100000) can0 0DF80506#002B00DB4C0008AF\n\
+          (1.100000) can0 0DF80507#002B00DB4C0008AF\n\
+          (1.100000) can0 0DF80508#002B00DB4C0008AF\n\
+          (1.100000) can0 0DF80509#002B00DB4C0008AF\n\
+          (1.100000) can0 0DF8050A#002B00DB4C0008AF\n\
+          (1.100000) can0 0DF8050B#002B00DB4C0008AF\n\
+          (1.100000) can0 0DF8050C#002B00DB4C0008AF\n\
+          (1.100000) can0 0DF8050D#002B00DB4C0008AF\n\
+          (1.100000) can0 0DF8050E#002B00DB4C0008AF\n\
+          (1.100000) can0 0DF8050F#002B00DB4C0008AF\n\
+          (1.100000) can0 0DF80510#002B00DB4C0008AF\n\
+          (1.100000) can0 0DF80511#002B00DB4C0008AF\n\
+          (1.100000) can0 0DF80512#002B00DB4C0008AF\n\
+          (1.100000) can0 0DF80513#002B00DB4C0008AF\n\
+          (1.100000) can0 0DF80514#002B00DB4C0008AF\n\
+          (1.100000) can0 0DF80515#002B00DB4C0008AF\n\
+          (1.100000) can0 0DF80516#002B00DB4C0008AF\n\
+          (1.100000) can0 0DF80517#002B00DB4C0008AF\n\
+          (1.100000) can0 0DF80518#002B00DB4C0008AF\n\
+          (1.100000) can0 0DF80519#002B00DB4C0008AF\n\
+          (1.100000) can0 0DF8051A#002B00DB4C0008AF\n\
+          (1.100000) can0 0DF8051B#002B00DB4C0008AF\n\
+          (1.100000) can0 0DF8051C#002B00DB4C0008AF\n\
+          (1.100000) can0 0DF8051D#002B00DB4C0008AF\n\
+          (1.100000) can0 0DF8051E#002B00DB4C0008AF\n\
+          (1.100000) can0 0DF8051F#002B00DB4C0008AF\n\
+          (1.100000) can0 0DF80520#002B00DB4C0008AF\n\
+          (1.100000) can0 0DF80521#002B00DB4C0008AF\n\
+          (1.100000) can0 0DF80522#002B00DB4C0008AF\n\
+          (1.100000) can0 0DF80523#002B00DB4C0008AF\n\
+          (1.100000) can0 0DF80524#002B00DB4C0008AF\n\
+          (1.100000) can0 0DF80525#002B00DB4C0008AF\n\
+          (1.100000) can0 0DF80526#002B00DB4C0008AF\n\
+          (1.100000) can0 0DF80527#002B00DB4C0008AF\n\
+          (1.100000) can0 0DF80528#002B00DB4C0008AF\n\
+          (1.100000) can0 0DF80529#002B00DB4C0008AF\n\
+          (1.100000) can0 0DF8052A#002B00DB4C0008AF\n\
+          (1.100000) can0 0DF8052B#002B00DB4C0008AF\n\
+          (1.100000) can0 0DF8052C#002B00DB4C0008AF\n\
+          (1.100000) can0 0DF8052D#002B00DB4C0008AF\n\
+          (1.100000) can0 0DF8052E#002B00DB4C0008AF\n\
+          (1.100000) can0 0DF8052F#002B00DB4C0008AF\n\
+          (1.100000) can0 0DF80530#002B00DB4C0008AF\n\
+          (1.100000) can0 0DF80531#002B00DB4C0008AF\n\
+          (1.100000) can0 0DF80532#002B00DB4C0008AF\n\
+          (1.100000) can0 0DF80533#002B00DB4C0008AF\n\
+          (1.100000) can0 0DF80534#002B00DB4C0008AF\n\
+          (1.100000) can0 0DF80535#002B00DB4C0008AF\n\
+          (1.100000) can0 0DF80536#002B00DB4C0008AF\n\
+          (1.100000) can0 0DF80537#002B00DB4C0008AF\n\
+          (1.100000) can0 0DF80538#002B00DB4C0008AF\n\
+          (1.100000) can0 0DF80539#002B00DB4C0008AF\n\
+          (1.100000) can0 0DF8053A#002B00DB4C0008AF\n\
+          (1.100000) can0 0DF8053B#002B00DB4C0008AF\n\
+          (1.100000) can0 0DF8053C#002B00DB4C0008AF\n\
+          (1.100000) can0 0DF8053D#002B00DB4C0008AF\n\
+          (1.100000) can0 0DF8053E#002B00DB4C0008AF\n\
+          (1.100000) can0 0DF8053F#002B00DB4C0008AF\n\
+          (1.100000) can0 0DF80540#002B00DB4C0008AF\n\
+          (1.100000) can0 0DF80541#002B00DB4C0008AF\n\
+          (1.100000) can0 0DF80542#002B00DB4C0008AF\n\
+          (1.100000) can0 0DF80543#002B00DB4C0008AF\n\
+          (1.100000) can0 0DF80544#002B00DB4C0008AF\n\
+          (1.100000) can0 0DF80545#002B00DB4C0008AF\n\
+          (1.100000) can0 0DF80546#002B00DB4C0008AF\n\
+          (1.100000) can0 0DF80547#002B00DB4C0008AF\n\
+          (1.100000) can0 0DF80548#002B00DB4C0008AF\n\
+          (1.100000) can0 0DF80549#002B00DB4C0008AF\n\
+          (1.100000) can0 0DF8054A#002B00DB4C0008AF\n\
+          (1.100000) can0 0DF8054B#002B00DB4C0008AF\n\
+          (1.100000) can0 0DF8054C#002B00DB4C0008AF\n\
+          (1.100000) can0 0DF8054D#002B00DB4C0008AF\n\
+          (1.100000) can0 0DF8054E#002B00DB4C0008AF\n\
+          (1.100000) can0 0DF8054F#002B00DB4C0008AF\n\
+          (1.100000) can0 0DF80550#002B00DB4C0008AF\n\
+          (1.100000) can0 0DF80551#002B00DB4C0008AF\n\
+          (1.100000) can0 0DF80552#002B00DB4C0008AF\n\
+          (1.100000) can0 0DF80553#002B00DB4C0008AF\n\
+          (1.100000) can0 0DF80554#002B00DB4C0008AF\n\
+          (1.100000) can0 0DF80555#002B00DB4C0008AF\n\
+          (1.100000) can0 0DF80556#002B00DB4C0008AF\n\
+          (1.100000) can0 0DF80557#002B00DB4C0008AF\n\
+          (1.100000) can0 0DF80558#002B00DB4C0008AF\n\
+          (1.100000) can0 0DF80559#002B00DB4C0008AF\n\
+          (1.100000) can0 0DF8055A#002B00DB4C0008AF\n\
+          (1.100000) can0 0DF8055B#002B00DB4C0008AF\n\
+          (1.100000) can0 0DF8055C#002B00DB4C0008AF\n\
+          (1.100000) can0 0DF8055D#002B00DB4C0008AF\n\
+          (1.100000) can0 0DF8055E#002B00DB4C0008AF\n\
+          (1.100000) can0 0DF8055F#002B00DB4C0008AF\n\
+          (1.100000) can0 0DF80560#002B00DB4C0008AF\n\
+          (1.100000) can0 0DF80561#002B00DB4C0008AF\n\
+          (1.100000) can0 0DF80562#002B00DB4C0008AF\n\
+          (1.100000) can0 0DF80563#002B00DB4C0008AF\n\
+          (1.850001) tick\n",
+        text: b"(1.000000) can0 18EEFFFB#0100C0FF008232C0\n\
+          (1.000000) can0 18EAFFFB#00EE00\n\
+          (1.100000) rule 15 src=64 pgn=129029\n\
+          (1.100000) rule 15 src=65 pgn=129029\n\
+          (1.100000) rule 15 src=66 pgn=129029\n\
+          (1.100000) rule 15 src=67 pgn=129029\n\
+          (1.100000) rule 15 src=68 pgn=129029\n\
+          (1.100000) rule 15 src=69 pgn=129029\n\
+          (1.100000) rule 15 src=70 pgn=129029\n\
+          (1.100000) rule 15 src=71 pgn=129029\n\
+          (1.100000) rule 15 src=72 pgn=129029\n\
+          (1.100000) rule 15 src=73 pgn=129029\n\
+          (1.100000) rule 15 src=74 pgn=129029\n\
+          (1.100000) rule 15 src=75 pgn=129029\n\
+          (1.100000) rule 15 src=76 pgn=129029\n\
+          (1.100000) rule 15 src=77 pgn=129029\n\
+          (1.100000) rule 15 src=78 pgn=129029\n\
+          (1.100000) rule 15 src=79 pgn=129029\n\
+          (1.100000) rule 15 src=80 pgn=129029\n\
+          (1.100000) rule 15 src=81 pgn=129029\n\
+          (1.100000) rule 15 src=82 pgn=129029\n\
+          (1.100000) rule 15 src=83 pgn=129029\n\
+          (1.100000) rule 15 src=84 pgn=129029\n\
+          (1.100000) rule 15 src=85 pgn=129029\n\
+          (1.100000) rule 15 src=86 pgn=129029\n\
+          (1.100000) rule 15 src=87 pgn=129029\n\
+          (1.100000) rule 15 src=88 pgn=129029\n\
+          (1.100000) rule 15 src=89 pgn=129029\n\
+          (1.100000) rule 15 src=90 pgn=129029\n\
+          (1.100000) rule 15 src=91 pgn=129029\n\
+          (1.100000) rule 15 src=92 pgn=129029\n\
+          (1.100000) rule 15 src=93 pgn=129029\n\
+          (1.100000) rule 15 src=94 pgn=129029\n\
+          (1.100000) rule 15 src=95 pgn=129029\n\
+          (1.100000) rule 15 src=96 pgn=129029\n\
+          (1.100000) rule 15 src=97 pgn=129029\n\
+          (1.100000) rule 15 src=98 pgn=129029\n\
+          (1.100000) rule 15 src=99 pgn=129029\n\
+          (1.850001) rule 16 src=0 pgn=129029\n\
+          (1.850001) rule 16 src=1 pgn=129029\n\
+          (1.850001) rule 16 src=2 pgn=129029\n\
+          (1.850001) rule 16 src=3 pgn=129029\n\
+          (1.850001) rule 16 src=4 pgn=129029\n\
+          (1.850001) rule 16 src=5 pgn=129029\n\
+          (1.850001) rule 16 src=6 pgn=129029\n\
+          (1.850001) rule 16 src=7 pgn=129029\n\
+          (1.850001) rule 16 src=8 pgn=129029\n\
+          (1.850001) rule 16 src=9 pgn=129029\n\
+          (1.850001) rule 16 src=10 pgn=129029\n\
+          (1.850001) rule 16 src=11 pgn=129029\n\
+          (1.850001) rule 16 src=12 pgn=129029\n\
+          (1.850001) rule 16 src=13 pgn=129029\n\
+          (1.850001) rule 16 src=14 pgn=129029\n\
+          (1.850001) rule 16 src=15 pgn=129029\n\
+          (1.850001) rule 16 src=16 pgn=129029\n\
+          (1.850001) rule 16 src=17 pgn=129029\n\
+          (1.850001) rule 16 src=18 pgn=129029\n\
+          (1.850001) rule 16 src=19 pgn=129029\n\
+          (1.850001) rule 16 src=20 pgn=129029\n\
+          (1.850001) rule 16 src=21 pgn=129029\n\
+          (1.850001) rule 16 src=22 pgn=129029\n\
+          (1.850001) rule 16 src=23 pgn=129029\n\
+          (1.850001) rule 16 src=24 pgn=129029\n\
+          (1.850001) rule 16 src=25 pgn=129029\n\
+          (1.850001) rule 16 src=26 pgn=129029\n\
+          (1.850001) rule 16 src=27 pgn=129029\n\
+          (1.850001) rule 16 src=28 pgn=129029\n\
+          (1.850001) rule 16 src=29 pgn=129029\n\
+          (1.850001) rule 16 src=30 pgn=129029\n\
+          (1.850001) rule 16 src=31 pgn=129029\n\
+          (1.850001) rule 16 src=32 pgn=129029\n\
+          (1.850001) rule 16 src=33 pgn=129029\n\
+          (1.850001) rule 16 src=34 pgn=129029\n\
+          (1.850001) rule 16 src=35 pgn=129029\n\
+          (1.850001) rule 16 src=36 pgn=129029\n\
+          (1.850001) rule 16 src=37 pgn=129029\n\
+          (1.850001) rule 16 src=38 pgn=129029\n\
+          (1.850001) rule 16 src=39 pgn=129029\n\
+          (1.850001) rule 16 src=40 pgn=129029\n\
+          (1.850001) rule 16 src=41 pgn=129029\n\
+          (1.850001) rule 16 src=42 pgn=129029\n\
+          (1.850001) rule 16 src=43 pgn=129029\n\
+          (1.850001) rule 16 src=44 pgn=129029\n\
+          (1.850001) rule 16 src=45 pgn=129029\n\
+          (1.850001) rule 16 src=46 pgn=129029\n\
+          (1.850001) rule 16 src=47 pgn=129029\n\
+          (1.850001) rule 16 src=48 pgn=129029\n\
+          (1.850001) rule 16 src=49 pgn=129029\n\
+          (1.850001) rule 16 src=50 pgn=129029\n\
+          (1.850001) rule 16 src=51 pgn=129029\n\
+          (1.850001) rule 16 src=52 pgn=129029\n\
+          (1.850001) rule 16 src=53 pgn=129029\n\
+          (1.850001) rule 16 src=54 pgn=129029\n\
+          (1.850001) rule 16 src=55 pgn=129029\n\
+          (1.850001) rule 16 src=56 pgn=129029\n\
+          (1.850001) rule 16 src=57 pgn=129029\n\
+          (1.850001) rule 16 src=58 pgn=129029\n\
+          (1.850001) rule 16 src=59 pgn=129029\n\
+          (1.850001) rule 16 src=60 pgn=129029\n\
+          (1.850001) rule 16 src=61 pgn=129029\n\
+          (1.850001) rule 16 src=62 pgn=129029\n\
+          (1.850001) rule 16 src=63 pgn=129029\n",
+    },
+    Case {
+        shows: "a frame that comes twice counts once",
+        config: USUAL,
+        capture: b"(1.000000) can0 0DF80517#002B00DB4C0008AF\n\
+          (1.001000) can0 0DF80517#012F000000000000\n\
+          (1.002000) can0 0DF80517#0200080000000000\n\
+          (1.003000) can0 0DF80517#03000002E0AEBB00\n\
+          (1.004000) can0 0DF80517#03000002E0AEBB00\n\
+          (1.005000) can0 0DF80517#040000000010FC09\n\
+          (1.006000) can0 0DF80517#056900FF7FF40600\n\
+          (1.007000) can0 0DF80517#060000FFFFFFFFFF\n",
+        text: b"(1.000000) can0 18EEFFFB#0100C0FF008232C0\n\
+          (1.000000) can0 18EAFFFB#00EE00\n\
+          (1.007000) udp0 NAVD#5564506243005C733A4949303030312C6E3A312A30315C2447504747412C3232313332302E30302C353733382E373634352C4E2C30313432342E363931312C452C312C30392C312E30352C31322E332C4D2C31372E382C4D2C2C2A36410D0A\n",
+    },
+    Case {
+        shows: "another frame in the place of the last one is out of order",
+        config: USUAL,
+        capture: b"(1.000000) can0 0DF80517#002B00DB4C0008AF\n\
+          (1.001000) can0 0DF80517#012F000000000000\n\
+          (1.002000) can0 0DF80517#012F000000000001\n",
+        text: b"(1.000000) can0 18EEFFFB#0100C0FF008232C0\n\
+          (1.000000) can0 18EAFFFB#00EE00\n\
+          (1.002000) rule 11 src=23 pgn=129029\n",
+    },
+    Case {
+        shows: "a first frame that comes again begins anew",
+        config: USUAL,
+        capture: b"(1.000000) can0 0DF80517#002B00DB4C0008AF\n\
+          (1.001000) can0 0DF80517#002B00DB4C0008AF\n",
+        text: b"(1.000000) can0 18EEFFFB#0100C0FF008232C0\n\
+          (1.000000) can0 18EAFFFB#00EE00\n\
+          (1.001000) rule 14 src=23 pgn=129029\n",
+    },
+];
