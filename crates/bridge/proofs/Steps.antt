@@ -1,6 +1,6 @@
 -- What each call of the bridge makes of what stands, put together from the gateway's call and those of the parts beside it.
 use Rattle.std.proofs.Common.{◌≡◌, ℕ, ◌<◌, Bool, true, false, List, [], ◌∷◌, ◌++◌, refl, sym, ap, subst, ◌∙◌, arith}
-use Rattle.std.specs.Prelude.{nat_le, option_map}
+use Rattle.std.specs.Prelude.{nat_le, Option, None, Some, option_map}
 use Rattle.std.proofs.lemmas.Bool.{leb-true}
 use Rattle.std.proofs.lemmas.List.{append-nil, length-take}
 use Rattle.capture_text.specs.Reading as lines
@@ -60,6 +60,12 @@ with_gateway started g o b = record {
   watching = b.watching;
 }
 
+-- ---- no command is left where none would be an entry
+
+none_mapped : {X Y : Type 0} (f : X → Y) (o : Option X) → option_map f o ≡ None → o ≡ None
+none_mapped f None is = refl
+none_mapped f (Some x) is = cc
+
 -- ---- the start
 
 pub is_start : (s : ℕ) (before : Bridged) (g : Machine) (o : Output) → Stands by_keys g.settings s [] g → g.settings ≡ before.gateway.settings
@@ -82,6 +88,7 @@ is_start s before g o stands settings is p new =
           (ap (λ (a : Answering). a.left) new.answering)
           ∙ ap (λ (es : List Emit). opening_emits p.gateway ++ (es ++ watched_left before.watching)) new.joining.0
           ∙ ap (λ (es : List Emit). opening_emits p.gateway ++ es) new.watching.0;
+      unordered = ap (λ (x : Output). x.command) is;
     }
 
 -- ---- one more entry
@@ -147,6 +154,7 @@ module _ (p : Parts) (s : ℕ) (h : History) (before : Bridged) (stands : Bridge
           (quiet_ships p.ais p.gateway s h before.watching stands.watching);
     };
     emits = quiet_left (with_gateway before.started g o before) ∙ taken.emits;
+    unordered = none_mapped (entry_by (now h)) o.command taken.ordered;
   }
 
 pub accepted_step : (e : Event) (before : Bridged) (g : Machine) (o : Output) (after : Bridged) → IsEventValid e → IsStep (entry_of e) before.gateway g o

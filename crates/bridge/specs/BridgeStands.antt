@@ -45,10 +45,11 @@ pub record IsNew (p : Parts) (b : Bridged) : Type 0 where
   pub joining : IsOpenedJoining p.rmc b.joining
   pub watching : IsOpenedWatching p.gateway p.ais b.watching
 
--- the start: the gateway claims its address, and asks all for theirs
+-- the start: the gateway claims its address, and asks all for theirs; no command is left
 pub record IsStarted (p : Parts) (s : ℕ) (after : Bridged) : Type 0 where
   pub stands : BridgeStands p s [] after
   pub emits : left_of after ≡ opening_emits p.gateway
+  pub unordered : after.out.command ≡ None
 
 abbrev pub IsStart : ℕ → Bridged → Bridged → Type 0
 IsStart s before after = (p : Parts) → IsNew p before → IsStarted p s after
@@ -82,12 +83,13 @@ pub record IsBesideStep (e : Entry) (before after : Bridged) : Type 0 where
   pub joining : IsJoining before.gateway before.out e before.joining after.joining
   pub watching : IsWatching before.gateway before.out e before.watching after.watching
 
--- ---- the command that the last event left
+-- ---- the command that the last event left, which is left no more once it was taken
 
 pub record IsObeyed (p : Parts) (s : ℕ) (h : History) (e : Entry) (after : Bridged) : Type 0 where
   pub could : IsHistory (e ∷ h)
   pub stands : BridgeStands p s (e ∷ h) after
   pub emits : left_of after ≡ out p.gateway s h e
+  pub unordered : after.out.command ≡ None
 
 abbrev pub IsCommanded : Command → Bridged → Bridged → Type 0
 IsCommanded c before after =
