@@ -8,12 +8,9 @@ ghost use Rattle.history.specs.Replay.{line_of};
 ghost use Rattle.bridge.specs.Replaying.{IsOpening, IsOrdered, IsSent, SendsThen, left_text, line_at};
 
 use crate::bridge::{Bridge, moment_of};
-use arrayvec::ArrayVec;
 use capture_stream::{Answers, Writer};
-use capture_text::{Detail, Emit, Event, LineRule, Report, write_emit};
+use capture_text::{Detail, Emit, Event, LineRule, Report};
 use gate_outside::{Failed, Sink};
-
-type Line = ArrayVec<u8, 4096>;
 
 /// Each line is answered by what the bridge leaves at its event; the first event starts it.
 impl Answers for Bridge {
@@ -47,8 +44,7 @@ impl Answers for Bridge {
             rule: rule.number(),
             detail: Detail::Line(number),
         };
-        let mut line = Line::new();
-        send_line(&Emit::Report(report), self.moment(), &mut line, writer, out)
+        send_line(&Emit::Report(report), self.moment(), writer, out)
     }
 }
 
@@ -115,12 +111,8 @@ fn send_lines<K: Sink>(
     ensures cause { HasCause (K.fault_count out.old) (K.fault_count out.new) result }
 {
     let count = bridge.len();
-    if count == 0 {
-        return Ok(());
-    }
-    let mut line = Line::new();
     for place in 0..count {
-        match send_at(bridge, place, moment, &mut line, writer, out) {
+        match send_at(bridge, place, moment, writer, out) {
             Ok(()) => {}
             Err(Failed) => return Err(Failed),
         }
@@ -133,7 +125,6 @@ fn send_at<K: Sink>(
     bridge: &Bridge,
     place: usize,
     moment: u64,
-    line: &mut Line,
     writer: &mut Writer,
     out: &mut K,
 ) -> Result<(), Failed>
@@ -141,16 +132,15 @@ fn send_at<K: Sink>(
     ensures cause { HasCause (K.fault_count out.old) (K.fault_count out.new) result }
 {
     match bridge.emit(place) {
-        Some(emit) => send_line(&emit, moment, line, writer, out),
+        Some(emit) => send_line(&emit, moment, writer, out),
         None => Ok(()),
     }
 }
 
-/// Sends the line of an emit at this moment, which is written into a room for it.
+/// Sends the line of an emit at this moment.
 fn send_line<K: Sink>(
     emit: &Emit<'_>,
     moment: u64,
-    line: &mut Line,
     writer: &mut Writer,
     out: &mut K,
 ) -> Result<(), Failed>
@@ -159,10 +149,5 @@ fn send_line<K: Sink>(
         (writer.old ++ line_of (record { moment = moment; emit = emit_of emit.now })) writer.new result }
     ensures cause { HasCause (K.fault_count out.old) (K.fault_count out.new) result }
 {
-    line.clear();
-    write_emit(emit, moment, line);
-    match writer.send(line.as_slice(), out) {
-        Ok(()) => writer.send(b"\n", out),
-        Err(Failed) => Err(Failed),
-    }
+    writer.send_emit(emit, moment, out)
 }

@@ -4,16 +4,22 @@ ghost use Rattle.gate_outside.specs.Faults.{HasCause};
 ghost use Rattle.capture_stream.specs.Writer.{Writes};
 
 use arrayvec::ArrayVec;
+use capture_text::{Emit, write_emit};
 use gate_outside::{Failed, Sink};
 use std::marker::Model;
 
 /// How many bytes may wait.
 const ROOM: usize = 32768;
 
+/// How many bytes the line of an emit has at most.
+const LONGEST: usize = 4096;
+
 /// Bytes that wait to be written.
 #[derive(Drop)]
 pub struct Writer {
     waiting: ArrayVec<u8, ROOM>,
+    /// Room for the line of an emit, kept so that it isn't made anew for each.
+    line: ArrayVec<u8, LONGEST>,
 }
 
 impl Model for Writer {
@@ -40,8 +46,9 @@ pub fn send_now<K: Sink>(piece: &[u8], out: &mut K) -> Result<(), Failed>
 }
 
 impl Writer {
-    ghost use Rattle.std.specs.Prelude.{◌≡◌, [], ◌++◌, OnOk};
+    ghost use Rattle.std.specs.Prelude.{◌≡◌, ◌+◌, ◌<◌, [], ◌∷◌, ◌++◌, length, OnOk};
     ghost use Rattle.std.specs.List.{flat_map};
+    ghost use Rattle.capture_text.specs.Writing.{CanWrite, line_text};
     ghost use Rattle.gate_outside.specs.Faults.{HasCause};
     ghost use Rattle.capture_stream.specs.Writer.{Writes};
 
@@ -50,6 +57,7 @@ impl Writer {
     {
         Writer {
             waiting: ArrayVec::new(),
+            line: ArrayVec::new(),
         }
     }
 
@@ -89,6 +97,40 @@ impl Writer {
             return self.send_anew(text, out);
         }
         let _fits = self.waiting.try_extend_from_slice(text);
+        Ok(())
+    }
+
+    // Leaves room for the longest line of an emit and its end: what waits is written first where there is none.
+    fn make_room<K: Sink>(&mut self, out: &mut K) -> Result<(), Failed>
+        ensures sent { Writes (K.taken out.old) (K.taken out.new) self.old self.new result }
+        ensures room { OnOk result (length self.new + 4096 < 32768) }
+        ensures cause { HasCause (K.fault_count out.old) (K.fault_count out.new) result }
+    {
+        if self.waiting.remaining_capacity() > LONGEST {
+            return Ok(());
+        }
+        self.flush(out)
+    }
+
+    /// Lets the line of an emit at a moment wait, and its line end.
+    pub fn send_emit<K: Sink>(
+        &mut self,
+        emit: &Emit<'_>,
+        moment: u64,
+        out: &mut K,
+    ) -> Result<(), Failed>
+        requires { CanWrite emit.now }
+        ensures sent { Writes (K.taken out.old) (K.taken out.new) (self.old ++ (line_text emit.now moment ++ 10 ∷ [])) self.new result }
+        ensures cause { HasCause (K.fault_count out.old) (K.fault_count out.new) result }
+    {
+        match self.make_room(out) {
+            Ok(()) => {}
+            Err(Failed) => return Err(Failed),
+        }
+        self.line.clear();
+        write_emit(emit, moment, &mut self.line);
+        let _fits = self.waiting.try_extend_from_slice(self.line.as_slice());
+        let _ended = self.waiting.try_extend_from_slice(b"\n");
         Ok(())
     }
 
