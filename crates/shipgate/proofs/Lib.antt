@@ -1,4 +1,5 @@
 pub mod ConfigLemmas
+pub mod ConvertLemmas
 pub mod LineCommandLemmas
 pub mod Numbers
 pub mod ReplayLemmas

@@ -1,5 +1,5 @@
 //! `convert`: the sentences of a line's frame, or the report of the line.
-ghost use Rattle.std.specs.Prelude.{◌≡◌, [], ◌++◌, false, List, ℕ, Ok};
+ghost use Rattle.std.specs.Prelude.{◌≡◌, ◌++◌, false, List, ℕ, Ok};
 ghost use Rattle.std.specs.List.{flat_map};
 ghost use Rattle.n2k_id.specs.Frame.{IsFrame};
 ghost use Rattle.n2k_id.specs.Identifier.{parts_of};
@@ -27,9 +27,6 @@ use readings::{Reading, row};
 use report_rules::{NOT_CONVERTED, SHORT_MESSAGE};
 use sentence_rows::{Lines, sentences};
 
-/// What a line gives: at most two sentences.
-type Answer = ArrayVec<u8, 164>;
-
 // The report of a rule about a line.
 #[tactic(auto, using(crate::proofs::Numbers::digits_of_a_byte, crate::proofs::Numbers::digits_of_a_long), unfolding(crate::specs::Convert::refusal))]
 fn refusal_of(rule: u8, number: u64) -> LineText
@@ -42,57 +39,77 @@ fn refusal_of(rule: u8, number: u64) -> LineText
     text
 }
 
-fn write_refusal(rule: u8, number: u64, answer: &mut Answer)
-    requires { answer.old.items ≡ [] }
-    ensures { answer.new.items ≡ refusal rule number }
+// Sends the report of a rule about a line.
+fn send_report<K: Sink>(
+    rule: u8,
+    number: u64,
+    writer: &mut Writer,
+    out: &mut K,
+) -> Result<(), Failed>
+    ensures sent { SendsText (λ text. text ≡ refusal rule number) (K.taken out.old) (K.taken out.new) writer.old writer.new result }
+    ensures cause { HasCause (K.fault_count out.old) (K.fault_count out.new) result }
 {
     let text = refusal_of(rule, number);
-    let _fits = answer.try_extend_from_slice(text.as_slice());
+    writer.send(text.as_slice(), out)
 }
 
-// The sentences behind one another.
-fn append_lines(lines: &Lines, answer: &mut Answer)
-    requires { answer.old.items ≡ [] }
-    ensures { answer.new.items ≡ flat_map (λ line. line) (lines_of lines.now) }
+// Sends the sentences behind one another. A reading has one or two.
+fn send_lines<K: Sink>(lines: &Lines, writer: &mut Writer, out: &mut K) -> Result<(), Failed>
+    ensures sent { Writes (K.taken out.old) (K.taken out.new) (writer.old ++ flat_map (λ line. line) (lines_of lines.now)) writer.new result }
+    ensures cause { HasCause (K.fault_count out.old) (K.fault_count out.new) result }
 {
-    for line in lines.as_slice() {
-        let _fits = answer.try_extend_from_slice(line.bytes.as_slice());
+    match lines.as_slice() {
+        [] => Ok(()),
+        [first] => writer.send(first.bytes.as_slice(), out),
+        [first, second, ..] => {
+            writer.send_all(&[first.bytes.as_slice(), second.bytes.as_slice()], out)
+        }
     }
 }
 
-// The sentences of a reading.
-fn write_reading(reading: &Reading, answer: &mut Answer)
-    requires empty { answer.old.items ≡ [] }
-    requires valid { IsValidReading reading.now }
-    ensures { (lines : List (List ℕ)) × IsText reading.now (talker_of (row_of reading.now)) false lines
-        × (answer.new.items ≡ flat_map (λ line. line) lines) }
+// Sends the sentences of a reading.
+fn send_reading<K: Sink>(reading: &Reading, writer: &mut Writer, out: &mut K) -> Result<(), Failed>
+    requires { IsValidReading reading.now }
+    ensures sent { SendsText (λ text. (lines : List (List ℕ)) × IsText reading.now (talker_of (row_of reading.now)) false lines
+        × (text ≡ flat_map (λ line. line) lines)) (K.taken out.old) (K.taken out.new) writer.old writer.new result }
+    ensures cause { HasCause (K.fault_count out.old) (K.fault_count out.new) result }
 {
     let mut lines = ArrayVec::new();
     sentences(reading, talker_of(row(reading)), false, &mut lines);
-    append_lines(&lines, answer);
+    send_lines(&lines, writer, out)
 }
 
-fn write_payload(number: u64, profiled: &Profiled, answer: &mut Answer)
-    requires empty { answer.old.items ≡ [] }
-    requires valid { GivesValid profiled.now }
-    ensures { IsPayloadText number profiled.now answer.new.items }
+fn send_payload<K: Sink>(
+    number: u64,
+    profiled: &Profiled,
+    writer: &mut Writer,
+    out: &mut K,
+) -> Result<(), Failed>
+    requires { GivesValid profiled.now }
+    ensures sent { SendsText (IsPayloadText number profiled.now) (K.taken out.old) (K.taken out.new) writer.old writer.new result }
+    ensures cause { HasCause (K.fault_count out.old) (K.fault_count out.new) result }
 {
     match profiled {
-        Profiled::Reading(reading) => write_reading(reading, answer),
-        Profiled::Outside => write_refusal(NOT_CONVERTED, number, answer),
-        Profiled::Short => write_refusal(SHORT_MESSAGE, number, answer),
+        Profiled::Reading(reading) => send_reading(reading, writer, out),
+        Profiled::Outside => send_report(NOT_CONVERTED, number, writer, out),
+        Profiled::Short => send_report(SHORT_MESSAGE, number, writer, out),
     }
 }
 
-// What a message gives that came in one frame.
-fn write_message(number: u64, pgn: u32, payload: &[u8], answer: &mut Answer)
-    requires { answer.old.items ≡ [] }
-    ensures { IsMessageText number (kind_of pgn) pgn payload.now answer.new.items }
+// Sends what a message gives that came in one frame.
+fn send_message<K: Sink>(
+    number: u64,
+    pgn: u32,
+    payload: &[u8],
+    writer: &mut Writer,
+    out: &mut K,
+) -> Result<(), Failed>
+    ensures sent { SendsText (IsMessageText number (kind_of pgn) pgn payload.now) (K.taken out.old) (K.taken out.new) writer.old writer.new result }
+    ensures cause { HasCause (K.fault_count out.old) (K.fault_count out.new) result }
 {
     match kind(pgn) {
-        Kind::Single => write_payload(number, &read(pgn, payload), answer),
-        Kind::Fast => write_refusal(NOT_CONVERTED, number, answer),
-        Kind::Outside => write_refusal(NOT_CONVERTED, number, answer),
+        Kind::Single => send_payload(number, &read(pgn, payload), writer, out),
+        Kind::Fast | Kind::Outside => send_report(NOT_CONVERTED, number, writer, out),
     }
 }
 
@@ -103,19 +120,6 @@ fn pgn_of(frame: &Frame) -> u32
     match parts(frame.id) {
         Some(parts) => parts.pgn,
         None => unreachable!(),
-    }
-}
-
-// What a line gives that says something.
-fn write_event(number: u64, event: &Event<'_>, answer: &mut Answer)
-    requires empty { answer.old.items ≡ [] }
-    requires valid { IsValid event.now }
-    ensures { IsSaidText number (Ok (view event.now)) answer.new.items }
-{
-    match event {
-        Event::Frame { frame, .. } => write_message(number, pgn_of(frame), frame.held(), answer),
-        Event::Datagram { .. } => write_refusal(NOT_CONVERTED, number, answer),
-        Event::Tick { .. } => write_refusal(NOT_CONVERTED, number, answer),
     }
 }
 
@@ -130,9 +134,14 @@ pub(crate) fn send_event<K: Sink>(
     ensures sent { SendsText (IsSaidText number (Ok (view event.now))) (K.taken out.old) (K.taken out.new) writer.old writer.new result }
     ensures cause { HasCause (K.fault_count out.old) (K.fault_count out.new) result }
 {
-    let mut answer = ArrayVec::new();
-    write_event(number, event, &mut answer);
-    writer.send(answer.as_slice(), out)
+    match event {
+        Event::Frame { frame, .. } => {
+            send_message(number, pgn_of(frame), frame.held(), writer, out)
+        }
+        Event::Datagram { .. } | Event::Tick { .. } => {
+            send_report(NOT_CONVERTED, number, writer, out)
+        }
+    }
 }
 
 /// Sends the report of a rule about a line.
