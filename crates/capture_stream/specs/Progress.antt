@@ -106,6 +106,14 @@ Ends IsText left left' told told' ending.SinkFailed = StopsWriting IsText left l
 Ends IsText left left' told told' ending.SourceFailed = StopsReading IsText left left' told told'
 Ends IsText left left' told told' ending.TooLong = PassesLimit IsText left left' told told'
 
+-- The first call that fails decides how a command ends: by the counts of faults of the source and of the sink, a call failed only of the
+-- kind that the ending names.
+abbrev pub Steady : ℕ → ℕ → ℕ → ℕ → Ending → Type 0
+Steady source source' sink sink' ending.Done = (source' ≡ source) × (sink' ≡ sink)
+Steady source source' sink sink' ending.SinkFailed = source' ≡ source
+Steady source source' sink sink' ending.SourceFailed = sink' ≡ sink
+Steady source source' sink sink' ending.TooLong = (source' ≡ source) × (sink' ≡ sink)
+
 -- Wherever the command stood, it stands here now: the same bytes were read, and more lines have had their text.
 abbrev pub Reaches : {A : Type 0} → (A → ℕ → List ℕ → List ℕ → A → Type 0) → Option (List ℕ) → Option (List ℕ) → Held → Held → List ℕ → List ℕ → ℕ → ℕ → A → A → Type 0
 Reaches {A = A} Gives told' told'' old new waiting waiting' number count before after =

@@ -4,7 +4,7 @@ ghost use Rattle.gate_outside.specs.Faults.{HasCause, Rose};
 ghost use Rattle.capture_text.specs.Reading.{read as read_as};
 ghost use Rattle.capture_stream.specs.Answering.{Sent, LineGives, NextGives};
 ghost use Rattle.capture_stream.specs.Lines.{IsTextFrom};
-ghost use Rattle.capture_stream.specs.Progress.{TakesLines, TakesLast, Ends};
+ghost use Rattle.capture_stream.specs.Progress.{TakesLines, TakesLast, Ends, Steady};
 
 use crate::answering::Answers;
 use crate::ending::Ending;
@@ -122,7 +122,8 @@ fn answer_last<A: Answers, K: Sink>(
     }
 }
 
-/// Goes over the input, line by line, until it ends or a call fails. Lines are counted from 1.
+/// Goes over the input, line by line, until it ends or a call fails: of several that would end it, the first decides. Lines are counted
+/// from 1.
 ///
 /// What waits is written before each read, so that a reader at the other end of a pipe sees at once what there is to
 /// see.
@@ -134,6 +135,7 @@ pub fn answer_capture<A: Answers, S: Source, K: Sink>(
     ensures ends { Ends (IsTextFrom (LineGives A.gives) answers.old) (S.left input.old) (S.left input.new) (K.taken out.old) (K.taken out.new) result }
     ensures source { result ≡ Ending.SourceFailed → Rose (S.fault_count input.old) (S.fault_count input.new) }
     ensures sink { result ≡ Ending.SinkFailed → Rose (K.fault_count out.old) (K.fault_count out.new) }
+    ensures steady { Steady (S.fault_count input.old) (S.fault_count input.new) (K.fault_count out.old) (K.fault_count out.new) result }
 {
     let mut reader = LineReader::new();
     let mut writer = Writer::new();
