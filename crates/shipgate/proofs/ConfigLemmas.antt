@@ -11,7 +11,7 @@ use Rattle.bridge.specs.Replayed.{IsReplay}
 use Rattle.shipgate.specs.Check.{Accepts, ChecksBy, IsCheckStatus}
 use Rattle.shipgate.specs.Configuring.{ConfiguresBy, FileSays, IsToldAs}
 use Rattle.shipgate.specs.ReplayCommand.{ReplaysBy}
-use Rattle.shipgate.specs.Run.{EndsBy, IsReplayStatus, IsStreamStatus, IsUnhindered}
+use Rattle.shipgate.specs.Run.{EndsBy, IsReplayStatus, IsStreamStatus, IsUnhindered, SteadyBy}
 
 same_config : (bytes : List ℕ) (a b : Result Settings ConfigFault) → IsConfigOf bytes a → IsConfigOf bytes b → a ≡ b
 same_config bytes a b (inl none) (inl other) = none.1 ∙ sym other.1
@@ -71,6 +71,7 @@ accepted content files files' told told' sink sink' status settings f a = record
   done = λ is. ((settings, f), a.done is);
   sink_failed = λ is. ((settings, f), a.sink_failed is);
   sink_cause = a.sink_cause;
+  steady = a.steady;
   complete = λ other t files_held sink_held. check_complete status sink sink' a.known a.sink_cause sink_held;
 }
 
@@ -102,6 +103,7 @@ pub record RunsBy (settings : Settings) (left left' : Option (List ℕ)) (source
   pub ends : EndsBy (IsReplay (parts_of settings)) left left' told told' status
   pub sink_cause : status ≡ 4 → Rose sink sink'
   pub source_cause : status ≡ 5 → Rose source source'
+  pub steady : SteadyBy source source' sink sink' status
   pub complete : status ≢ 7 → IsUnhindered left source source' sink sink' → status ≡ 0
 
 pub replayed : (content : Option (List ℕ)) (files files' : ℕ) (left left' : Option (List ℕ)) (source source' : ℕ) (told told' : Option (List ℕ)) (sink sink' status : ℕ) (settings : Settings)
@@ -113,5 +115,6 @@ replayed content files files' left left' source source' told told' sink sink' st
   replays = λ is. record { settings = settings; file = f; ends = r.ends };
   sink_cause = r.sink_cause;
   source_cause = r.source_cause;
+  steady = r.steady;
   complete = λ other t held unhindered. replay_complete status r.known (λ no. r.complete no unhindered);
 }

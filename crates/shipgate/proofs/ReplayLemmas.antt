@@ -1,18 +1,18 @@
 -- How a replay ends, by its status.
-use Rattle.std.proofs.Common.{ℕ, List, arith}
+use Rattle.std.proofs.Common.{◌≡◌, ℕ, List, arith}
 use Rattle.std.specs.Prelude.{Option}
 use Rattle.capture_stream.specs.declared.ending.Ending.{Ending}
 use Rattle.capture_stream.specs.declared.ending.Ending.TheVariants.{Done, SinkFailed, SourceFailed, TooLong}
 use Rattle.capture_stream.specs.Answering.{LineGives}
 use Rattle.capture_stream.specs.Lines.{IsTextFrom}
-use Rattle.capture_stream.specs.Progress.{Ends}
+use Rattle.capture_stream.specs.Progress.{Ends, Steady}
 use Rattle.capture_stream.proofs.EndLemmas.{ends_as}
 use Rattle.bridge.specs.BridgeStands.{IsNew}
 use Rattle.bridge.specs.Kept.{Bridged}
 use Rattle.bridge.specs.Parts.{Parts}
 use Rattle.bridge.specs.Replayed.{GivesReplay, IsReplay}
 use Rattle.bridge.proofs.Replays.{replays}
-use Rattle.shipgate.specs.Run.{EndsBy, status_of}
+use Rattle.shipgate.specs.Run.{EndsBy, SteadyBy, status_of}
 
 ends_by : (IsText : List (List ℕ) → List ℕ → Type 0) (left left' told told' : Option (List ℕ)) (ending : Ending) → Ends IsText left left' told told' ending
     → EndsBy IsText left left' told told' (status_of ending)
@@ -47,3 +47,40 @@ pub replay_ends : (p : Parts) (b : Bridged) (left left' told told' : Option (Lis
 replay_ends p b left left' told told' ending new ends =
     ends_by (IsReplay p) left left' told told' ending
     (ends_as (IsTextFrom (LineGives GivesReplay) b) (IsReplay p) left left' told told' ending (replays p b new) ends)
+
+-- the first call that fails decides the status too
+pub steady_by : (source source' sink sink' : ℕ) (ending : Ending) → Steady source source' sink sink' ending → SteadyBy source source' sink sink' (status_of ending)
+steady_by source source' sink sink' Done s = record {
+  done = λ is. s;
+  sink_failed = λ is. absurd (omega (arith, is));
+  source_failed = λ is. absurd (omega (arith, is));
+  too_long = λ is. absurd (omega (arith, is));
+}
+steady_by source source' sink sink' SinkFailed s = record {
+  done = λ is. absurd (omega (arith, is));
+  sink_failed = λ is. s;
+  source_failed = λ is. absurd (omega (arith, is));
+  too_long = λ is. absurd (omega (arith, is));
+}
+steady_by source source' sink sink' SourceFailed s = record {
+  done = λ is. absurd (omega (arith, is));
+  sink_failed = λ is. absurd (omega (arith, is));
+  source_failed = λ is. s;
+  too_long = λ is. absurd (omega (arith, is));
+}
+steady_by source source' sink sink' TooLong s = record {
+  done = λ is. absurd (omega (arith, is));
+  sink_failed = λ is. absurd (omega (arith, is));
+  source_failed = λ is. absurd (omega (arith, is));
+  too_long = λ is. s;
+}
+
+-- a command that reads nothing, and so has none of the statuses of a read
+pub steady_unread : (source source' sink sink' status : ℕ) → source' ≡ source → (status ≡ 0 → sink' ≡ sink) → (status ≡ 5 → ⊥) → (status ≡ 8 → ⊥)
+    → SteadyBy source source' sink sink' status
+steady_unread source source' sink sink' status unread steady readable short = record {
+  done = λ is. (unread, steady is);
+  sink_failed = λ is. unread;
+  source_failed = λ is. absurd (readable is);
+  too_long = λ is. absurd (short is);
+}

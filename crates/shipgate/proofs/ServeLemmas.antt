@@ -1,11 +1,13 @@
 -- What follows of the statuses of a gateway between two links.
-use Rattle.std.proofs.Common.{◌≡◌, ◌≢◌, ℕ, ◌⊎◌, List, inl, inr, arith}
+use Rattle.std.proofs.Common.{◌≡◌, ◌≢◌, ℕ, ◌⊎◌, List, refl, inl, inr, arith}
 use Rattle.std.specs.Prelude.{Option, Ok}
 use Rattle.settings.specs.declared.settings.Settings.{Settings}
 use Rattle.serving.specs.Served.{Outside}
 use Rattle.shipgate.specs.Configuring.{FileSays}
 use Rattle.shipgate.specs.ServeCommand.{IsServeStatus, IsTurnsStatus, ServesBy, ServesWith}
+use Rattle.shipgate.specs.Run.{SteadyBy}
 use Rattle.shipgate.proofs.ConfigLemmas.{IsDone, configures}
+use Rattle.shipgate.proofs.ReplayLemmas.{steady_unread}
 
 abbrev Known : ℕ → Type 0
 Known status = (status ≡ 7) ⊎ ((status ≡ 9) ⊎ IsTurnsStatus status)
@@ -37,3 +39,19 @@ served turns content files files' clock clock' bus bus' net net' old new status 
   sink_cause = s.sink_cause;
   complete = λ other told files_held bus_held net_held sink_held. is_complete status s.known (λ no. s.complete no bus_held net_held sink_held);
 }
+
+-- no status of a gateway between two links is that of a read
+no_read : (status : ℕ) → IsServeStatus status → (status ≡ 5 → ⊥) × (status ≡ 8 → ⊥)
+no_read status (inl is) = (λ e. omega (arith, is, e), λ e. omega (arith, is, e))
+no_read status (inr (inl is)) = (λ e. omega (arith, is, e), λ e. omega (arith, is, e))
+no_read status (inr (inr (inl is))) = (λ e. omega (arith, is, e), λ e. omega (arith, is, e))
+no_read status (inr (inr (inr (inl is)))) = (λ e. omega (arith, is, e), λ e. omega (arith, is, e))
+no_read status (inr (inr (inr (inr (inl is))))) = (λ e. omega (arith, is, e), λ e. omega (arith, is, e))
+no_read status (inr (inr (inr (inr (inr is))))) = (λ e. omega (arith, is, e), λ e. omega (arith, is, e))
+
+-- where all turns were taken, no write failed
+pub serve_steady : (turns : ℕ) (content : Option (List ℕ)) (files files' : ℕ) (clock clock' : Option (List ℕ)) (bus bus' net net' : ℕ) (old new : Outside)
+    (source status : ℕ) → ServesBy turns content files files' clock clock' bus bus' net net' old new status → SteadyBy source source old.faults new.faults status
+serve_steady turns content files files' clock clock' bus bus' net net' old new source status s =
+    let none = no_read status s.known in
+    steady_unread source source old.faults new.faults status refl (λ is. ((s.serves (inl is)).2.ends.done is).passes.steady) none.0 none.1

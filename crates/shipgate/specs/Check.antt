@@ -22,6 +22,7 @@ pub record Accepts (told told' : Option (List ℕ)) (sink sink' status : ℕ) : 
   pub done : status ≡ 0 → Joins told told' accepted_line
   pub sink_failed : status ≡ 4 → Offers told told' sink sink' accepted_line
   pub sink_cause : status ≡ 4 → Rose sink sink'
+  pub steady : status ≡ 0 → sink' ≡ sink
 
 pub record ChecksBy (content : Option (List ℕ)) (files files' : ℕ) (told told' : Option (List ℕ)) (sink sink' status : ℕ) : Type 0 where
   pub known : IsCheckStatus status
@@ -29,5 +30,6 @@ pub record ChecksBy (content : Option (List ℕ)) (files files' : ℕ) (told tol
   pub done : status ≡ 0 → IsAccepted content × Joins told told' accepted_line
   pub sink_failed : status ≡ 4 → IsAccepted content × Offers told told' sink sink' accepted_line
   pub sink_cause : status ≡ 4 → Rose sink sink'
+  pub steady : status ≡ 0 → sink' ≡ sink
   -- where nothing fails, it is said of an accepted configuration that it is one, unless memory ran out
   pub complete : (settings : Settings) → IsToldAs content (Ok settings) → (Rose files files' → ⊥) → (Rose sink sink' → ⊥) → (status ≡ 0) ⊎ (status ≡ 7)

@@ -8,5 +8,6 @@ pub record DemosBy (seed count : ℕ) (told told' : Option (List ℕ)) (sink sin
   pub known : IsDemoStatus status
   pub writes : WritesBy (demo_text seed count) told told' status
   pub sink_cause : status ≡ 4 → Rose sink sink'
+  pub steady : status ≡ 0 → sink' ≡ sink
   -- where memory was found and nothing fails, the line is written
   pub complete : status ≢ 7 → (Rose sink sink' → ⊥) → status ≡ 0

@@ -5,7 +5,7 @@ use Rattle.settings.specs.declared.settings.Settings.{Settings}
 use Rattle.bridge.specs.Parts.{parts_of}
 use Rattle.bridge.specs.Replayed.{IsReplay}
 use Rattle.shipgate.specs.Configuring.{ConfiguresBy, FileSays, IsToldAs}
-use Rattle.shipgate.specs.Run.{EndsBy, IsReplayStatus, IsStreamStatus, IsUnhindered}
+use Rattle.shipgate.specs.Run.{EndsBy, IsReplayStatus, IsStreamStatus, IsUnhindered, SteadyBy}
 
 -- the statuses of a gateway that runs, and those of a configuration that it can't run with
 abbrev pub IsReplayCommandStatus : ℕ → Type 0
@@ -24,5 +24,6 @@ pub record ReplaysBy (content : Option (List ℕ)) (files files' : ℕ) (left le
   pub replays : IsStreamStatus status → Replays content left left' told told' status
   pub sink_cause : status ≡ 4 → Rose sink sink'
   pub source_cause : status ≡ 5 → Rose source source'
+  pub steady : SteadyBy source source' sink sink' status
   -- where nothing fails, a gateway of an accepted configuration is run over the whole capture, unless memory ran out
   pub complete : (settings : Settings) → IsToldAs content (Ok settings) → (Rose files files' → ⊥) → IsUnhindered left source source' sink sink' → (status ≡ 0) ⊎ (status ≡ 7)

@@ -48,6 +48,14 @@ pub record EndsBy (IsText : List (List ℕ) → List ℕ → Type 0) (left left'
   pub source_failed : status ≡ 5 → StopsReading IsText left left' told told'
   pub too_long : status ≡ 8 → PassesLimit IsText left left' told told'
 
+-- Of 4, 5 and 8 the first call that fails decides: by the counts of faults of the source and of the sink, a call failed only of the kind that
+-- the status names.
+pub record SteadyBy (source source' sink sink' status : ℕ) : Type 0 where
+  pub done : status ≡ 0 → (source' ≡ source) × (sink' ≡ sink)
+  pub sink_failed : status ≡ 4 → source' ≡ source
+  pub source_failed : status ≡ 5 → sink' ≡ sink
+  pub too_long : status ≡ 8 → (source' ≡ source) × (sink' ≡ sink)
+
 -- What each status of a command that writes a text of its own says of the bytes that were written.
 pub record WritesBy (text : List ℕ) (told told' : Option (List ℕ)) (status : ℕ) : Type 0 where
   pub done : status ≡ 0 → Joins told told' text

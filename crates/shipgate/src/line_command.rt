@@ -3,7 +3,7 @@ ghost use Rattle.std.specs.Prelude.{◌≡◌, Ok, Err};
 ghost use Rattle.gate_outside.specs.Faults.{HasCause, Rose};
 ghost use Rattle.capture_text.specs.Reading.{view, IsValid};
 ghost use Rattle.capture_stream.specs.Writer.{SendsText};
-ghost use Rattle.capture_stream.specs.Progress.{Ends};
+ghost use Rattle.capture_stream.specs.Progress.{Ends, Steady};
 ghost use Rattle.shipgate.specs.LineCommand.{IsTextOf, AreTextsOf};
 
 use crate::words::LineCommand;
@@ -83,6 +83,7 @@ pub(crate) fn answer_lines<S: Source, K: Sink>(
     ensures ends { Ends (AreTextsOf command) (S.left input.old) (S.left input.new) (K.taken out.old) (K.taken out.new) result }
     ensures source { result ≡ Ending.SourceFailed → Rose (S.fault_count input.old) (S.fault_count input.new) }
     ensures sink { result ≡ Ending.SinkFailed → Rose (K.fault_count out.old) (K.fault_count out.new) }
+    ensures steady { Steady (S.fault_count input.old) (S.fault_count input.new) (K.fault_count out.old) (K.fault_count out.new) result }
 {
     let mut command = command;
     answer_capture(&mut command, input, out)

@@ -5,7 +5,7 @@ ghost use Rattle.settings.specs.Settings.{IsSettings};
 ghost use Rattle.bridge.specs.BridgeStands.{IsNew};
 ghost use Rattle.bridge.specs.Parts.{Parts, parts_of};
 ghost use Rattle.bridge.specs.Replayed.{IsReplay};
-ghost use Rattle.shipgate.specs.Run.{EndsBy, IsReplayStatus, IsStreamStatus, IsUnhindered};
+ghost use Rattle.shipgate.specs.Run.{EndsBy, IsReplayStatus, IsStreamStatus, IsUnhindered, SteadyBy};
 
 use crate::run::status_of;
 use bridge::{Bridge, Settings};
@@ -24,12 +24,15 @@ pub(crate) const NO_MEMORY: u8 = 7;
 /// | 4 | only where the sink's faults rose; what was written is some front of the text |
 /// | 5 | only where the source's faults rose; the text of the complete lines was written |
 /// | 8 | exactly where more than 2^40 bytes were read, and no call failed before |
+///
+/// Of 4, 5 and 8 the first call that fails decides: with 0 and 8 no call failed, with 4 no read did, and with 5 no write.
 pub fn stream<S: Source, K: Sink>(bridge: &mut Bridge, input: &mut S, out: &mut K) -> u8
     ensures status { IsStreamStatus result }
     ensures ends { (p : Parts) → IsNew p bridge.old
         → EndsBy (IsReplay p) (S.left input.old) (S.left input.new) (K.taken out.old) (K.taken out.new) result }
     ensures sink_cause { result ≡ 4 → Rose (K.fault_count out.old) (K.fault_count out.new) }
     ensures source_cause { result ≡ 5 → Rose (S.fault_count input.old) (S.fault_count input.new) }
+    ensures steady { SteadyBy (S.fault_count input.old) (S.fault_count input.new) (K.fault_count out.old) (K.fault_count out.new) result }
     ensures complete { (p : Parts) → IsNew p bridge.old
         → IsUnhindered (S.left input.old) (S.fault_count input.old) (S.fault_count input.new) (K.fault_count out.old) (K.fault_count out.new)
         → result ≡ 0 }
@@ -55,6 +58,7 @@ pub fn replay_with<S: Source, K: Sink>(
     ensures memory { result ≡ 7 → (input.new ≡ input.old) × (out.new ≡ out.old) }
     ensures sink_cause { result ≡ 4 → Rose (K.fault_count out.old) (K.fault_count out.new) }
     ensures source_cause { result ≡ 5 → Rose (S.fault_count input.old) (S.fault_count input.new) }
+    ensures steady { SteadyBy (S.fault_count input.old) (S.fault_count input.new) (K.fault_count out.old) (K.fault_count out.new) result }
     ensures complete { result ≢ 7
         → IsUnhindered (S.left input.old) (S.fault_count input.old) (S.fault_count input.new) (K.fault_count out.old) (K.fault_count out.new)
         → result ≡ 0 }

@@ -8,7 +8,7 @@ ghost use Rattle.serving.specs.Served.{outside};
 ghost use Rattle.shipgate.specs.ReplayCommand.{ReplaysBy};
 ghost use Rattle.shipgate.specs.ServeCommand.{ServesBy};
 ghost use Rattle.shipgate.specs.Words.{AreNumbers, IsNoForm, IsNotServe, IsTurns, line_words, check_words, replay_words, serve_words, demo_words, usage_line};
-ghost use Rattle.shipgate.specs.Run.{Offers, IsEarly, IsStatus, IsStreamStatus, EndsBy, IsUnhindered, status_of};
+ghost use Rattle.shipgate.specs.Run.{Offers, IsEarly, IsStatus, IsStreamStatus, EndsBy, IsUnhindered, SteadyBy, status_of};
 
 use crate::check::check;
 use crate::demo_command::demo_with;
@@ -46,6 +46,8 @@ pub(crate) fn status_of(ending: Ending) -> u8
 /// | 7 | only in `check`, `replay`, `serve` and `demo`, for want of memory before the first event; nothing was read, received, sent or written |
 /// | 8 | exactly where more than 2^40 bytes were read, and no call failed before |
 /// | 9 | only in `serve`, where a link can't be attached, whose faults rose; nothing was received, sent or written |
+///
+/// Of 4, 5 and 8 the first call that fails decides: with 0 and 8 no read and no write failed, with 4 no read did, and with 5 no write.
 pub fn run<F: Files, S: Source, K: Sink, B: Link, E: Link, C: Clock>(
     alloc: Global,
     words: &[String],
@@ -79,9 +81,10 @@ pub fn run<F: Files, S: Source, K: Sink, B: Link, E: Link, C: Clock>(
     ensures demos { (seed count : ℕ) (first second : List ℕ) → map string_bytes words.now ≡ demo_words first second → AreNumbers seed count first second
         → DemosBy seed count (K.taken out.old) (K.taken out.new) (K.fault_count out.old) (K.fault_count out.new) result }
 
-    // A failure has its cause in a count of faults.
+    // A failure has its cause in a count of faults, and of 4, 5 and 8 the first call that fails decides.
     ensures sink_cause { result ≡ 4 → Rose (K.fault_count out.old) (K.fault_count out.new) }
     ensures source_cause { result ≡ 5 → Rose (S.fault_count input.old) (S.fault_count input.new) }
+    ensures steady { SteadyBy (S.fault_count input.old) (S.fault_count input.new) (K.fault_count out.old) (K.fault_count out.new) result }
     ensures link_cause { result ≡ 9 → Rose (B.fault_count bus.old) (B.fault_count bus.new) ⊎ Rose (E.fault_count net.old) (E.fault_count net.new) }
 
     // What the command doesn't use stands as before: source and files where the words are no command and in `demo`, the source in

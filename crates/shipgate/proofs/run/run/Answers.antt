@@ -1,11 +1,14 @@
-use Rattle.std.proofs.Common.{◌≡◌, ℕ, List, map, subst}
+use Rattle.std.proofs.Common.{◌≡◌, ℕ, List, map, subst, sym}
 use Rattle.std.specs.Prelude.{string_bytes}
 use Rattle.shipgate.specs.declared.words.Command.{Command}
 use Rattle.shipgate.specs.declared.words.Command.TheVariants.{Demo, Serve}
 use Rattle.serving.specs.Served.{outside}
 use Rattle.shipgate.specs.DemoCommand.{DemosBy}
+use Rattle.shipgate.specs.Run.{SteadyBy}
 use Rattle.shipgate.specs.ServeCommand.{ServesBy}
 use Rattle.shipgate.specs.Words.{IsDemo, IsForm, IsServe}
+use Rattle.shipgate.proofs.ReplayLemmas.{steady_by}
+use Rattle.shipgate.proofs.ServeLemmas.{serve_steady}
 use Rattle.shipgate.proofs.WordLemmas.{one_demo, one_serve}
 use Rattle.shipgate.proofs.run.run.Goals as goal
 
@@ -43,3 +46,20 @@ returns-in-Some-Serve-clause-serves g c = λ turns file second form number.
     let same = one_serve words c.in-Some-Serve.turns turns c.in-Some-Serve.file.now file second here form number in
     subst (λ (t : ℕ). ServesBy t (content file) files files' readings readings' bus bus' net net' old new status) same.1
     (subst (λ (f : List ℕ). ServesBy c.in-Some-Serve.turns (content f) files files' readings readings' bus bus' net net' old new status) same.0 c.serve.ensures.serves)
+
+pub returns-in-Some-Lines-clause-steady : goal.returns-in-Some-Lines-clause-steady
+returns-in-Some-Lines-clause-steady g c =
+    let source = g.S.Source.fault_count c.args.input.now in
+    let source' = g.S.Source.fault_count c.answer_lines.new.input in
+    let sink = g.K.Sink.fault_count c.args.out.now in
+    let sink' = g.K.Sink.fault_count c.answer_lines.new.out in
+    subst (λ (s : ℕ). SteadyBy source source' sink sink' s) (sym c.status_of.ensures.status)
+    (steady_by source source' sink sink' c.answer_lines.result c.answer_lines.ensures.steady)
+
+pub returns-in-Some-Serve-clause-steady : goal.returns-in-Some-Serve-clause-steady
+returns-in-Some-Serve-clause-steady g c =
+    let old = outside (g.B.Link.traffic c.args.bus.now) (g.E.Link.traffic c.args.net.now) (g.K.Sink.taken c.args.out.now) (g.K.Sink.fault_count c.args.out.now) in
+    let new = outside (g.B.Link.traffic c.serve.new.bus) (g.E.Link.traffic c.serve.new.net) (g.K.Sink.taken c.serve.new.out) (g.K.Sink.fault_count c.serve.new.out) in
+    serve_steady c.in-Some-Serve.turns (g.F.Files.content c.args.files.now c.in-Some-Serve.file.now) (g.F.Files.fault_count c.args.files.now) (g.F.Files.fault_count c.serve.new.files)
+    (g.C.Clock.readings c.args.clock.now) (g.C.Clock.readings c.serve.new.clock) (g.B.Link.fault_count c.args.bus.now) (g.B.Link.fault_count c.serve.new.bus)
+    (g.E.Link.fault_count c.args.net.now) (g.E.Link.fault_count c.serve.new.net) old new (g.S.Source.fault_count c.args.input.now) c.serve.result c.serve.ensures.serves
