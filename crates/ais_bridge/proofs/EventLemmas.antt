@@ -3,12 +3,12 @@ use Rattle.std.proofs.Common.{◌≡◌, ℕ, ◌+◌, ◌%◌, List, [], ◌∷
 use Rattle.n2k_id.specs.Frame.{bus_frame}
 use Rattle.n2k_id.specs.Identifier.{parts_of}
 use Rattle.n2k_id.specs.declared.name.Name.{Name}
-use Rattle.capture_text.specs.declared.event.Event.{Event}
-use Rattle.capture_text.specs.declared.event.Event.TheVariants as event
+use Rattle.gate_events.specs.declared.event.Event.{Event}
+use Rattle.gate_events.specs.declared.event.Event.TheVariants as event
 use Rattle.settings.specs.declared.ais.AisConfig.{AisConfig}
 use Rattle.tag_block.specs.Numbers.{most_count}
 use Rattle.history.specs.AddressLaws.{AreSettings}
-use Rattle.history.specs.Emits.{Emit}
+use Rattle.gate_events.specs.Emit.{Emit}
 use Rattle.history.specs.Entries.{Entry, History, IsHistory, now}
 use Rattle.history.specs.Known.{known}
 use Rattle.history.specs.Receiver.{receiver_of}

@@ -9,8 +9,9 @@ use Rattle.fast_packet.specs.Answers.{FeedGives}
 use Rattle.fast_packet.specs.Assembly.{fed_after}
 use Rattle.fast_packet.proofs.Keys.{feeds_its_key}
 use Rattle.ais_report.specs.Converted.{converted}
-use Rattle.capture_text.specs.declared.emit.Report.{Report}
-use Rattle.history.specs.Emits.{Emit, report, reported}
+use Rattle.gate_events.specs.declared.emit.Report.{Report}
+use Rattle.gate_events.specs.Emit.{Emit, report}
+use Rattle.history.specs.Emits.{reported}
 use Rattle.gate_model.specs.FastPackets.{FastAnswer, answer_of, fast_answer, key_of}
 use Rattle.gate_model.proofs.FastAnswers.{fast_answers_are_plain}
 use Rattle.gate_model.proofs.KeyOrders.{fast_in_order}

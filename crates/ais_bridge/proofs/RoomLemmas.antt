@@ -6,7 +6,7 @@ use Rattle.n2k_id.specs.Frame.{BusFrame}
 use Rattle.n2k_id.specs.Identifier.{parts_of}
 use Rattle.n2k_id.specs.declared.name.Name.{Name}
 use Rattle.n2k_id.specs.declared.identifier_parts.Parts.{Parts}
-use Rattle.capture_text.specs.declared.emit.Detail.{Detail}
+use Rattle.gate_events.specs.declared.emit.Detail.{Detail}
 use Rattle.slot_views.specs.Slots.{Entry as Slot, SlotMap, IsMap, has_expired}
 use Rattle.slot_views.specs.Traces.{unexpired}
 use Rattle.fast_packet.specs.Assembly.{is_from}
@@ -17,7 +17,8 @@ use Rattle.ais_report.specs.declared.report.AisFault.{AisFault}
 use Rattle.ais_report.specs.declared.report.AisFault.TheVariants.{Short, Outside}
 use Rattle.ais_report.specs.Converted.{converted}
 use Rattle.report_rules.specs.Rules as rules
-use Rattle.history.specs.Emits.{Emit, of_source, reported}
+use Rattle.gate_events.specs.Emit.{Emit}
+use Rattle.history.specs.Emits.{of_source, reported}
 use Rattle.history.specs.Entries as entry
 use Rattle.history.specs.Entries.{Entry, moment_of}
 use Rattle.history.specs.RuleLaws.{fast_refusal_breaks}

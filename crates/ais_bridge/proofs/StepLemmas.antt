@@ -9,7 +9,7 @@ use Rattle.n2k_id.specs.declared.identifier_parts.Parts.{Parts}
 use Rattle.slot_views.specs.Slots.{SlotMap}
 use Rattle.slot_views.specs.Traces.{unexpired}
 use Rattle.report_rules.specs.Rules as rules
-use Rattle.capture_text.specs.declared.emit.Report.{Report}
+use Rattle.gate_events.specs.declared.emit.Report.{Report}
 use Rattle.claim_table.specs.Claims.{claim, holder_at}
 use Rattle.claim_table.specs.declared.answer.Holder.{Holder}
 use Rattle.claim_table.specs.declared.answer.ClaimStep.{ClaimStep}
@@ -19,7 +19,8 @@ use Rattle.settings.specs.declared.ais.AisConfig.{AisConfig}
 use Rattle.history.specs.AddressLaws.{AreSettings, AreSound}
 use Rattle.history.specs.Entries as entry
 use Rattle.history.specs.Entries.{Entry, History, IsHistory, IsTimely, now, moment_of}
-use Rattle.history.specs.Emits.{Emit, net, report_of, reported}
+use Rattle.gate_events.specs.Emit.{Emit, net}
+use Rattle.history.specs.Emits.{report_of, reported}
 use Rattle.history.specs.Known.{Known, known, followed_by, is_claim, claim_by, address_left, address_won}
 use Rattle.history.specs.Meanings.{if_held, fast_packet, from_nobody, is_of_fast_packet}
 use Rattle.history.specs.Messages.{carried, done, said_by}

@@ -2,10 +2,11 @@
 use Rattle.std.proofs.Common.{◌≡◌, ℕ, ◌+◌, ◌<◌, ◌≤◌, Bool, true, false, Option, Some, None, option_map, List, [], ◌∷◌, ◌++◌, length, refl, sym, ap, ◌∙◌, length-append, arith}
 use Rattle.std.specs.List.{find}
 use Rattle.slot_views.specs.Slots.{Entry, SlotMap, without, remaining}
-use Rattle.capture_text.specs.declared.emit.Report.{Report}
+use Rattle.gate_events.specs.declared.emit.Report.{Report}
 use Rattle.fast_packet.specs.declared.key.FastKey.{FastKey}
 use Rattle.fast_packet.specs.Answers.{ended_of}
-use Rattle.history.specs.Emits.{Emit, can, net, report, of_source}
+use Rattle.gate_events.specs.Emit.{Emit, can, net, report}
+use Rattle.history.specs.Emits.{of_source}
 use Rattle.gate_core.specs.Output.{Output, has_datagram}
 use Rattle.gate_core.proofs.Telling.{IsEnding, said_fast, to_tell, one_told}
 use Rattle.ais_bridge.specs.Emitted.{most_reports}

@@ -9,7 +9,7 @@ use Rattle.n2k_id.specs.Name.{name_at}
 use Rattle.report_rules.specs.Rules as rules
 use Rattle.slot_views.specs.Slots.{SlotMap}
 use Rattle.slot_views.specs.Traces.{unexpired}
-use Rattle.capture_text.specs.declared.emit.Report.{Report}
+use Rattle.gate_events.specs.declared.emit.Report.{Report}
 use Rattle.fast_packet.specs.Assembly.{fed_after}
 use Rattle.claim_table.specs.Claims.{other_than, places}
 use Rattle.claim_table.specs.declared.answer.Holder.{Holder}
@@ -21,7 +21,8 @@ use Rattle.history.specs.Pgns as pgns
 use Rattle.history.specs.Entries as entry
 use Rattle.history.specs.Entries.{Entry}
 use Rattle.history.specs.RuleLaws.{fast_refusal_breaks}
-use Rattle.history.specs.Emits.{Emit, of_source, reported}
+use Rattle.gate_events.specs.Emit.{Emit}
+use Rattle.history.specs.Emits.{of_source, reported}
 use Rattle.gate_model.specs.Endings.{fast_overdue}
 use Rattle.gate_model.specs.FastPackets.{FastAnswer, fast_answer, fast_kept, key_of, lost_of_source, restarted_reports, sender_of, without_source}
 use Rattle.ais_bridge.specs.AisOut.{is_heard}

@@ -5,7 +5,7 @@ use Rattle.n2k_id.specs.Frame.{BusFrame}
 use Rattle.n2k_id.specs.Identifier.{parts_of}
 use Rattle.n2k_id.specs.declared.identifier_parts.Parts.{Parts}
 use Rattle.iso_transport.specs.Audience.{is_own}
-use Rattle.capture_text.specs.declared.emit.Report.{Report}
+use Rattle.gate_events.specs.declared.emit.Report.{Report}
 use Rattle.claim_table.specs.Claims.{claim}
 use Rattle.claim_table.specs.declared.answer.ClaimStep.{ClaimStep}
 use Rattle.pgn_profile.specs.declared.kinds.Kind.{Kind}
@@ -18,7 +18,8 @@ use Rattle.history.specs.Receiver.{Receiver}
 use Rattle.history.specs.Known.{known, is_claim, claim_by, address_left, address_won}
 use Rattle.history.specs.Opens.{notes_of}
 use Rattle.history.specs.Messages.{Message, done}
-use Rattle.history.specs.Emits.{Emit, reported}
+use Rattle.gate_events.specs.Emit.{Emit}
+use Rattle.history.specs.Emits.{reported}
 use Rattle.history.specs.Endings.{fast_expired}
 use Rattle.history.specs.FromBus.{frame_refused}
 use Rattle.gate_model.specs.FastLaws.{fast_lost_at}

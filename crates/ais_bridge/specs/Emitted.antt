@@ -1,6 +1,7 @@
 -- What an event leaves: reports, and behind them a datagram.
 use Rattle.std.specs.Prelude.{ℕ, ◌≤◌, Bool, List, [], ◌∷◌, ◌++◌, length, map, filter, if◌then◌else◌}
-use Rattle.history.specs.Emits.{Emit, net, of_source}
+use Rattle.gate_events.specs.Emit.{Emit, net}
+use Rattle.history.specs.Emits.{of_source}
 use Rattle.gate_core.specs.Output.{is_datagram}
 use Rattle.ais_bridge.specs.declared.told.Told.{Told}
 

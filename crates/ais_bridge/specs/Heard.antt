@@ -1,12 +1,12 @@
 -- What the bridge makes of the answer to a frame of a report (canboat, fast packets), once its payload is lent no more.
 use Rattle.std.specs.Prelude.{ℕ, List, [], ◌++◌, Option, Some, None, option_map, Result, Ok, Err}
-use Rattle.capture_text.specs.declared.emit.Report.{Report}
+use Rattle.gate_events.specs.declared.emit.Report.{Report}
 use Rattle.n2k_id.specs.declared.identifier_parts.Parts.{Parts}
 use Rattle.ais_report.specs.declared.report.AisReport.{AisReport}
 use Rattle.ais_report.specs.declared.report.AisFault.{AisFault}
 use Rattle.ais_report.specs.Converted.{converted}
 use Rattle.ais_report.specs.Fields.{IsReport}
-use Rattle.history.specs.Emits.{Emit}
+use Rattle.gate_events.specs.Emit.{Emit}
 use Rattle.history.specs.RuleLaws.{fast_refusal_breaks}
 use Rattle.gate_model.specs.FastPackets.{FastAnswer, restarted_reports, sender_of}
 use Rattle.ais_bridge.specs.declared.feeding.Answer.{Answer}

@@ -9,7 +9,7 @@ use Rattle.history.specs.AddressLaws.{AreSettings}
 use Rattle.history.specs.Settings.{Settings}
 use Rattle.history.specs.Known.{known}
 use Rattle.history.specs.Opens.{notes_of, open_fast_keys}
-use Rattle.history.specs.Emits.{Emit}
+use Rattle.gate_events.specs.Emit.{Emit}
 use Rattle.gate_model.specs.FastLaws.{StandsFastFor}
 use Rattle.gate_model.specs.Machine.{Machine}
 use Rattle.gate_model.specs.Stands.{Stands}

@@ -11,7 +11,8 @@ use Rattle.ais_report.specs.declared.report.AisFault.{AisFault}
 use Rattle.ais_report.specs.declared.report.AisFault.TheVariants.{Short, Outside}
 use Rattle.ais_report.specs.Armour.{armour_of}
 use Rattle.ais_report.specs.Converted.{converted}
-use Rattle.history.specs.Emits.{Emit, net, of_source}
+use Rattle.gate_events.specs.Emit.{Emit, net}
+use Rattle.history.specs.Emits.{of_source}
 use Rattle.history.specs.Messages.{Carried}
 
 -- ---- the sentence: one of one, without a number of its own; the channel's letter, the report, and no bit that fills it up

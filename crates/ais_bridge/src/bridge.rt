@@ -7,10 +7,10 @@ ghost use Rattle.ais_bridge.specs.AisKept.{ais_opened, named};
 ghost use Rattle.ais_bridge.specs.Promises.{IsAisOpening, IsAisStep, step_by};
 
 use crate::emits::AisEmits;
-use capture_text::Event;
 use claim_table::Preset;
 use fast_packet::FastAssembler;
 use gate_core::Gateway;
+use gate_events::Event;
 use n2k_id::Name;
 use sentence_text::{Group, Sfi};
 use settings::AisConfig;

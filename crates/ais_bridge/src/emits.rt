@@ -1,9 +1,8 @@
 //! What an event leaves to be sent and reported.
 ghost use Rattle.std.specs.Prelude.{◌≡◌, ◌+◌, ◌%◌, ◌<◌, ◌≤◌, ◌↔◌, [], ◌∷◌, ◌++◌, false, length, option_map, slice_get, IfSome, IsSome};
-ghost use Rattle.capture_text.specs.Writing.{CanWrite};
+ghost use Rattle.gate_events.specs.Emit.{CanWrite, net};
 ghost use Rattle.sentence_text.specs.Names.{IsSfi};
 ghost use Rattle.ais_report.specs.Fields.{IsReport};
-ghost use Rattle.history.specs.Emits.{net};
 ghost use Rattle.gate_core.specs.Output.{emit_of, has_datagram};
 ghost use Rattle.ais_bridge.specs.Emitted.{AreEmits, most_reports, told_emit};
 ghost use Rattle.ais_bridge.specs.Reports.{report_datagram};
@@ -12,7 +11,7 @@ use crate::told::Told;
 use crate::writing::write_report;
 use ais_report::AisReport;
 use arrayvec::ArrayVec;
-use capture_text::Emit;
+use gate_events::Emit;
 use sentence_text::{Group, Sfi};
 use std::marker::Model;
 use tag_block::Packet;
@@ -32,7 +31,7 @@ pub struct AisEmits {
 
 impl Model for AisEmits {
     ghost use Rattle.std.specs.Prelude.{List, ◌++◌};
-    ghost use Rattle.history.specs.Emits.{Emit};
+    ghost use Rattle.gate_events.specs.Emit.{Emit};
     ghost use Rattle.ais_bridge.specs.Emitted.{told_emits, posted_emits};
 
     ghost Value = { List Emit };

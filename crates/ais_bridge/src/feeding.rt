@@ -24,9 +24,9 @@ use crate::emits::AisEmits;
 use crate::told::Told;
 use crate::writing::MOST_COUNT;
 use ais_report::{AisFault, AisReport, convert};
-use capture_text::Event;
 use fast_packet::{FastAssembler, FastFed, FastOutcome, FastRefusal};
 use gate_core::Gateway;
+use gate_events::Event;
 use n2k_id::{Frame, Name, Parts, parts, read_name};
 use report_rules::{
     AIS_REPORT_OUTSIDE, EXPIRED, FAST_LENGTH, FAST_ORDER, FAST_ORPHAN, RESTARTED, SHORT_MESSAGE,

@@ -2,12 +2,12 @@
 //! highest.
 use crate::{AisBridge, AisConfig, AisEmits};
 use arrayvec::ArrayVec;
-use capture_text::{Detail, Emit, Event};
 use claim_table::Preset;
 use config_values::{Config, Ends, RowConfig};
 use gate_core::{Gateway, Outbox};
-use gate_outside::{Address, Routes};
+use gate_events::{Detail, Emit, Event};
 use n2k_id::{Frame, Name};
+use network_routes::{Address, Routes};
 use sentence_text::{Group, Sfi};
 use std::alloc::Global;
 use std::test::Fail;

@@ -1,9 +1,10 @@
 //! A rule that was broken, with who broke it.
 ghost use Rattle.std.specs.Prelude.{◌≡◌};
-ghost use Rattle.history.specs.Emits.{of_source, report};
+ghost use Rattle.gate_events.specs.Emit.{report};
+ghost use Rattle.history.specs.Emits.{of_source};
 ghost use Rattle.ais_bridge.specs.Emitted.{told_emit};
 
-use capture_text::{Detail, Report};
+use gate_events::{Detail, Report};
 
 /// A rule that was broken, by the sender of a message of this PGN.
 #[derive(Clone, Copy, Default)]

@@ -6,12 +6,13 @@ use Rattle.std.proofs.lemmas.List.{append-nil}
 use Rattle.n2k_id.specs.declared.frame.Frame.{Frame}
 use Rattle.n2k_id.specs.Frame.{BusFrame, bus_frame}
 use Rattle.n2k_id.specs.Identifier.{parts_of}
-use Rattle.capture_text.specs.declared.event.Event.{Event}
-use Rattle.capture_text.specs.declared.event.Event.TheVariants as event
+use Rattle.gate_events.specs.declared.event.Event.{Event}
+use Rattle.gate_events.specs.declared.event.Event.TheVariants as event
 use Rattle.claim_table.specs.Claims.{is_ready}
 use Rattle.report_rules.specs.Rules as rules
 use Rattle.history.specs.Pgns as pgns
-use Rattle.history.specs.Emits.{Emit, can, of_source}
+use Rattle.gate_events.specs.Emit.{Emit, can}
+use Rattle.history.specs.Emits.{of_source}
 use Rattle.history.specs.Entries as entry
 use Rattle.history.specs.Entries.{Entry, History}
 use Rattle.history.specs.Receiver.{receiver_of}

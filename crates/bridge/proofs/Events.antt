@@ -2,14 +2,13 @@
 use Rattle.std.proofs.Common.{◌≡◌, ℕ, ◌+◌, List, [], ◌∷◌, ◌++◌, refl, sym, ap, ◌∙◌}
 use Rattle.std.specs.Prelude.{Some, None, Result}
 use Rattle.std.proofs.lemmas.List.{append_assoc}
-use Rattle.capture_text.specs.declared.event.LineRule.{LineRule}
-use Rattle.capture_text.specs.Capture.{Seen}
-use Rattle.history.specs.Emits.{Emitted}
+use Rattle.capture_text.specs.declared.line_rule.LineRule.{LineRule}
+use Rattle.gate_events.specs.Event.{Seen}
+use Rattle.gate_events.specs.Emit.{Emitted}
 use Rattle.history.specs.Entries.{History, moment_of}
-use Rattle.history.specs.Replay.{entry_of}
+use Rattle.bridge.specs.Replayed.{entry_of, AreRead, EventsAreReplayed, Replayed, event_in, events_in, gate_of, lines_of, replayed_from, with_read}
 use Rattle.bridge.specs.Gate.{from_events, opening, stepped}
 use Rattle.bridge.specs.Parts.{Parts}
-use Rattle.bridge.specs.Replayed.{AreRead, EventsAreReplayed, Replayed, event_in, events_in, gate_of, lines_of, replayed_from, with_read}
 
 module _ (p : Parts) where
   -- of a line that says an event, the same as of the event

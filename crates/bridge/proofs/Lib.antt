@@ -1,8 +1,10 @@
 pub mod Places
 pub mod Answers
 pub mod Joins
+pub mod Lengths
 pub mod Ships
 pub mod Steps
 pub mod Sending
+pub mod ReplayCases
 pub mod Replays
 pub mod Events

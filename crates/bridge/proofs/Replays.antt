@@ -4,30 +4,31 @@ use Rattle.std.specs.Prelude.{Option, Some, None, is_some, option_map, Ok, Err}
 use Rattle.std.proofs.lemmas.Grind.{flat_map-append}
 use Rattle.std.proofs.lemmas.List.{append-nil, map-append}
 use Rattle.report_rules.specs.Rules as rules
-use Rattle.capture_text.specs.declared.emit.Detail.TheVariants as detail
-use Rattle.capture_text.specs.declared.event.Event.{Event}
-use Rattle.capture_text.specs.declared.event.Event.TheVariants as event
-use Rattle.capture_text.specs.declared.event.LineRule.{LineRule}
-use Rattle.capture_text.specs.Event.{rule_number}
-use Rattle.capture_text.specs.Reading.{view}
+use Rattle.gate_events.specs.declared.emit.Detail.TheVariants as detail
+use Rattle.gate_events.specs.declared.event.Event.{Event}
+use Rattle.gate_events.specs.declared.event.Event.TheVariants as event
+use Rattle.capture_text.specs.declared.line_rule.LineRule.{LineRule}
+use Rattle.capture_text.specs.LineRule.{rule_number}
+use Rattle.gate_events.specs.Event.{view}
 use Rattle.capture_stream.specs.Answering.{LineGives}
 use Rattle.capture_stream.specs.Lines.{AreTexts, IsTextFrom}
 use Rattle.gate_core.specs.declared.done.Command.{Command}
 use Rattle.gate_core.specs.Promises.{entry_by}
 use Rattle.gate_core.specs.Steps.{entry_of}
 use Rattle.gate_model.specs.Machine.{Machine}
-use Rattle.history.specs.Emits.{Emit, Emitted, at, broken}
+use Rattle.gate_events.specs.Emit.{Emit, Emitted}
+use Rattle.history.specs.Emits.{at, broken}
 use Rattle.history.specs.Entries.{Entry, History, IsHistory, is_accepted, moment_of, now}
 use Rattle.history.specs.Gate.{Stepped, command_in, out}
 use Rattle.history.specs.Messages.{done}
 use Rattle.history.specs.Receiver.{receiver_of}
-use Rattle.history.specs.Replay.{Running, line_of, moment_in}
-use Rattle.history.specs.Replay as replay
+use Rattle.bridge.specs.Replayed.{Running, moment_in, GivesReplay, IsReplay, IsReplayed, RunningStands, lines_of, replayed_from, with_event, with_line}
+use Rattle.capture_text.specs.Emitted.{line_of}
+use Rattle.bridge.specs.Replayed as replay
 use Rattle.bridge.specs.BridgeStands.{BridgeStands, IsBridged, IsBridgeStep, IsNew, IsOrder, IsRefused}
 use Rattle.bridge.specs.Gate.{all_out, opening, stepped, with_command}
 use Rattle.bridge.specs.Kept.{Bridged, left_of}
 use Rattle.bridge.specs.Parts.{Parts}
-use Rattle.bridge.specs.Replayed.{GivesReplay, IsReplay, IsReplayed, RunningStands, lines_of, replayed_from, with_event, with_line}
 use Rattle.bridge.specs.Replaying.{IsOpening, IsOrdered, left_text, ordered_text}
 
 -- ---- the text of what was left

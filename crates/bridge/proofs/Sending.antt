@@ -3,16 +3,17 @@ use Rattle.std.proofs.Common.{◌≡◌, ℕ, ◌+◌, ◌≤◌, zero, suc, Lis
 use Rattle.std.specs.Prelude.{Option, Some, None, Result, Ok, Err}
 use Rattle.std.specs.List.{slice_get}
 use Rattle.std.proofs.lemmas.List.{append-nil}
-use Rattle.capture_text.specs.declared.emit.Emit.{Emit as Lent}
-use Rattle.capture_text.specs.declared.emit.Emit.TheVariants as lent
+use Rattle.gate_events.specs.declared.emit.Emit.{Emit as Lent}
+use Rattle.gate_events.specs.declared.emit.Emit.TheVariants as lent
 use Rattle.capture_text.specs.Writing.{emit_text, line_text, time_text}
 use Rattle.gate_outside.specs.Faults.{HasCause}
 use Rattle.capture_stream.specs.Answering.{Sent}
 use Rattle.capture_stream.specs.Writer.{Sends, Writes}
 use Rattle.capture_stream.proofs.WriterLemmas.{Sends-behind, Sends-none, Sends-then}
 use Rattle.gate_core.specs.Output.{emit_of}
-use Rattle.history.specs.Emits.{Emit, at}
-use Rattle.history.specs.Replay.{emit_text as text_of, line_of}
+use Rattle.gate_events.specs.Emit.{Emit}
+use Rattle.history.specs.Emits.{at}
+use Rattle.capture_text.specs.Emitted.{emit_text as text_of, line_of}
 use Rattle.bridge.specs.Replayed.{lines_of}
 use Rattle.bridge.specs.Replaying.{IsSent}
 

@@ -3,10 +3,10 @@ use Rattle.std.proofs.Common.{◌≡◌, ℕ, ◌<◌, Bool, true, false, List, 
 use Rattle.std.specs.Prelude.{nat_le, Option, None, Some, option_map}
 use Rattle.std.proofs.lemmas.Bool.{leb-true}
 use Rattle.std.proofs.lemmas.List.{append-nil, length-take}
-use Rattle.capture_text.specs.Reading as lines
-use Rattle.capture_text.specs.declared.event.Event.{Event}
-use Rattle.capture_text.specs.declared.event.Event.TheVariants as event
-use Rattle.history.specs.Emits.{Emit}
+use Rattle.gate_events.specs.Event as lines
+use Rattle.gate_events.specs.declared.event.Event.{Event}
+use Rattle.gate_events.specs.declared.event.Event.TheVariants as event
+use Rattle.gate_events.specs.Emit.{Emit}
 use Rattle.history.specs.Entries.{Entry, History, IsHistory, IsOffered, IsTimely, is_accepted, moment_of, now}
 use Rattle.history.specs.Gate.{out}
 use Rattle.history.specs.Settings.{Settings}

@@ -3,8 +3,9 @@
 -- (ISO 11783-5).
 use Rattle.std.specs.Prelude.{ℕ, List, [], ◌∷◌, ◌++◌, Option, Some, None, if◌then◌else◌}
 use Rattle.report_rules.specs.Rules as rules
-use Rattle.capture_text.specs.declared.emit.Detail.TheVariants as detail
-use Rattle.history.specs.Emits.{Emit, Emitted, at, broken, own_claim, request_for_claims}
+use Rattle.gate_events.specs.declared.emit.Detail.TheVariants as detail
+use Rattle.gate_events.specs.Emit.{Emit, Emitted}
+use Rattle.history.specs.Emits.{at, broken, own_claim, request_for_claims}
 use Rattle.history.specs.Entries.{Entry, History, is_accepted, moment_of, now}
 use Rattle.history.specs.Gate.{Stepped, out, command_in}
 use Rattle.history.specs.Messages.{done}

@@ -4,10 +4,11 @@ use Rattle.n2k_id.specs.declared.frame.Frame.{Frame}
 use Rattle.n2k_id.specs.Frame.{BusFrame, bus_frame}
 use Rattle.n2k_id.specs.Identifier.{parts_of}
 use Rattle.report_rules.specs.Rules as rules
-use Rattle.capture_text.specs.declared.emit.Detail.TheVariants as detail
-use Rattle.capture_text.specs.declared.emit.Report.{Report}
+use Rattle.gate_events.specs.declared.emit.Detail.TheVariants as detail
+use Rattle.gate_events.specs.declared.emit.Report.{Report}
 use Rattle.history.specs.Pgns as pgns
-use Rattle.history.specs.Emits.{Emit, can, net, report, report_of}
+use Rattle.gate_events.specs.Emit.{Emit, can, net, report}
+use Rattle.history.specs.Emits.{report_of}
 use Rattle.gate_model.specs.Machine.{Machine}
 use Rattle.gate_core.specs.Output.{Output}
 use Rattle.bus_identity.specs.Answers.{Kept as Counted}

@@ -3,6 +3,8 @@ pub mod Beside
 pub mod BridgeStands
 pub mod Gate
 pub mod Kept
+pub mod LengthLaws
 pub mod Parts
+pub mod ReplayCases
 pub mod Replayed
 pub mod Replaying

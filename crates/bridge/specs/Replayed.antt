@@ -1,16 +1,19 @@
 -- What the bridge writes of the lines of a capture: the line of each emit at its moment, and a report for each line that breaks a rule.
 use Rattle.std.specs.Prelude.{◌≡◌, ℕ, ◌+◌, List, [], ◌∷◌, ◌++◌, Option, Some, None, Result, Ok, Err}
 use Rattle.std.specs.List.{flat_map}
-use Rattle.capture_text.specs.declared.emit.Detail.TheVariants as detail
-use Rattle.capture_text.specs.declared.event.LineRule.{LineRule}
-use Rattle.capture_text.specs.Capture.{Seen}
-use Rattle.capture_text.specs.Event.{rule_number}
+use Rattle.gate_events.specs.declared.emit.Detail.TheVariants as detail
+use Rattle.capture_text.specs.declared.line_rule.LineRule.{LineRule}
+use Rattle.gate_events.specs.Event as event
+use Rattle.gate_events.specs.Event.{Seen}
+use Rattle.capture_text.specs.LineRule.{rule_number}
+use Rattle.capture_text.specs.Emitted.{line_of}
 use Rattle.capture_text.specs.Reading.{read}
 use Rattle.capture_stream.specs.Answering.{LineGives}
 use Rattle.capture_stream.specs.Lines.{IsTextFrom}
-use Rattle.history.specs.Emits.{Emitted, at, broken}
-use Rattle.history.specs.Entries.{Entry, History, IsHistory, moment_of}
-use Rattle.history.specs.Replay.{Running, entry_of, line_of, moment_in}
+use Rattle.gate_events.specs.Emit.{Emitted}
+use Rattle.history.specs.Emits.{at, broken}
+use Rattle.history.specs.Entries.{Entry, History, IsHistory, moment_of, now}
+use Rattle.history.specs.Entries as entry
 use Rattle.bridge.specs.BridgeStands.{BridgeStands, IsNew}
 use Rattle.bridge.specs.Gate.{gate, opening, stepped}
 use Rattle.bridge.specs.Kept.{Bridged}
@@ -19,6 +22,24 @@ use Rattle.bridge.specs.Parts.{Parts}
 -- the lines of what was emitted
 abbrev pub lines_of : List Emitted → List ℕ
 lines_of emits = flat_map line_of emits
+
+-- ---- the events of a capture
+
+abbrev pub entry_of : Seen → Entry
+entry_of (event.frame m f) = entry.frame m f
+entry_of (event.datagram m bytes) = entry.datagram m bytes
+entry_of (event.tick m) = entry.tick m
+
+-- ---- a gateway that is started by the first event of a capture
+
+pub record Running : Type 0 where
+  pub start : ℕ
+  pub history : History
+
+-- the moment of what it lived through, and 0 before its start
+abbrev pub moment_in : Option Running → ℕ
+moment_in None = 0
+moment_in (Some g) = now g.history
 
 -- what a line emits, and what had come then: nothing yet, or all since the start
 pub record Replayed : Type 0 where

@@ -1,7 +1,7 @@
 //! The gateway's answers to who asks on the bus who it is.
 ghost use Rattle.std.specs.Prelude.{◌≡◌, ◌≤◌, [], length, option_map, slice_get, IfSome};
 ghost use Rattle.n2k_id.specs.Frame.{IsFrame, bus_frame};
-ghost use Rattle.capture_text.specs.Writing.{CanWrite};
+ghost use Rattle.gate_events.specs.Emit.{CanWrite};
 ghost use Rattle.claim_table.specs.Claims.{is_ready};
 ghost use Rattle.bus_identity.specs.Answers.{kept_after};
 ghost use Rattle.bus_identity.specs.Payloads.{information_of};
@@ -12,8 +12,8 @@ ghost use Rattle.bridge.specs.Beside.{IsAnswering};
 ghost use Rattle.bridge.specs.Kept.{early_report, quiet_answering, unanswered};
 
 use bus_identity::{Answered, Frames, Identity, Product};
-use capture_text::{Detail, Emit, Event, Report};
 use gate_core::Gateway;
+use gate_events::{Detail, Emit, Event, Report};
 use n2k_id::{Frame, parts};
 use report_rules::NOT_READY;
 use std::marker::Model;

@@ -1,6 +1,6 @@
 //! The gateway with the parts beside it.
 ghost use Rattle.std.specs.Prelude.{◌≡◌, ◌≤◌, ◌++◌, true, false, length, option_map, slice_get, is_some, nat_le, IfOk, IfSome};
-ghost use Rattle.capture_text.specs.Writing.{CanWrite};
+ghost use Rattle.gate_events.specs.Emit.{CanWrite};
 ghost use Rattle.gate_core.specs.Output.{emit_of};
 ghost use Rattle.gate_core.specs.Steps.{IsEventValid, entry_of};
 ghost use Rattle.history.specs.Entries.{moment_of};
@@ -13,8 +13,8 @@ ghost use Rattle.bridge.specs.Parts.{parts_of};
 use crate::answering::Answering;
 use crate::joining::{self, Joining};
 use crate::watching::{self, Watching};
-use capture_text::{Emit, Event};
 use gate_core::{Command, Gateway, Outbox};
+use gate_events::{Emit, Event};
 use settings::Settings;
 use std::alloc::{AllocError, Global};
 use std::marker::Model;

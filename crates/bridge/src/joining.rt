@@ -1,6 +1,6 @@
 //! RMC beside the gateway, with the datagram that the last event gave.
 ghost use Rattle.std.specs.Prelude.{◌≡◌, ◌≤◌, length, option_map, slice_get, IfSome, Some};
-ghost use Rattle.capture_text.specs.Writing.{CanWrite};
+ghost use Rattle.gate_events.specs.Emit.{CanWrite};
 ghost use Rattle.config_values.specs.Rows.{IsTalker};
 ghost use Rattle.gate_core.specs.Output.{emit_of};
 ghost use Rattle.history.specs.Entries.{Entry};
@@ -10,9 +10,9 @@ ghost use Rattle.bridge.specs.BridgeStands.{IsOpenedJoining};
 ghost use Rattle.bridge.specs.Kept.{joined_left, quiet_joining};
 ghost use Rattle.bridge.specs.Parts.{rmc_rule, timeouts_of};
 
-use capture_text::Emit;
 use config_values::{Config, RowConfig};
 use gate_core::{Gateway, Outbox};
+use gate_events::Emit;
 use joined_rmc::{RmcConfig, RmcJoin};
 use sentence_text::Group;
 use std::marker::Model;

@@ -1,4 +1,5 @@
 //! What is promised of the bridge besides. Each law is a function that does nothing, and whose clause is the law.
+ghost use Rattle.bridge.specs.LengthLaws.{LongLines};
 ghost use Rattle.bridge.specs.Replayed.{EventsAreReplayed, LinesAreReplayed};
 
 /// What a new bridge gives of the lines of a capture, line by line, is the text of the definition over all of them.
@@ -11,4 +12,10 @@ pub fn lines_are_replayed()
 /// the event completes.
 pub fn events_are_replayed()
     ensures { EventsAreReplayed }
+{}
+
+/// A line of a capture of more than 4096 bytes gives rule 2 and nothing else, whatever it holds.
+#[tactic(auto, using(crate::proofs::Lengths::long_lines))]
+pub fn what_is_too_long_is_told()
+    ensures lines { LongLines }
 {}

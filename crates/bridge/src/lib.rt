@@ -6,6 +6,7 @@
 
 mod answering;
 mod bridge;
+pub mod cases;
 mod joining;
 pub mod laws;
 mod replaying;

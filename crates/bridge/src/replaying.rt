@@ -1,15 +1,16 @@
 //! What the bridge writes of the lines of a capture: the line of each emit at its moment, and a report for each line that breaks a rule.
 ghost use Rattle.std.specs.Prelude.{◌≡◌, ◌++◌, ◌∷◌, [], ℕ, List, true};
-ghost use Rattle.capture_text.specs.Writing.{CanWrite};
+ghost use Rattle.gate_events.specs.Emit.{CanWrite};
 ghost use Rattle.capture_stream.specs.Writer.{Writes};
 ghost use Rattle.gate_core.specs.Output.{emit_of};
 ghost use Rattle.gate_outside.specs.Faults.{HasCause};
-ghost use Rattle.history.specs.Replay.{line_of};
+ghost use Rattle.capture_text.specs.Emitted.{line_of};
 ghost use Rattle.bridge.specs.Replaying.{IsOpening, IsOrdered, IsSent, SendsThen, left_text, line_at};
 
 use crate::bridge::{Bridge, moment_of};
 use capture_stream::{Answers, Writer};
-use capture_text::{Detail, Emit, Event, LineRule, Report};
+use capture_text::LineRule;
+use gate_events::{Detail, Emit, Event, Report};
 use gate_outside::{Failed, Sink};
 
 /// Each line is answered by what the bridge leaves at its event; the first event starts it.

@@ -1,7 +1,7 @@
 //! The reports of ships around beside the gateway, with what the last event gave.
 ghost use Rattle.std.specs.Prelude.{◌≡◌, ◌≤◌, length, option_map, slice_get, IfOk, IfSome, Some};
 ghost use Rattle.std.specs.Int.{IsInRange};
-ghost use Rattle.capture_text.specs.Writing.{CanWrite};
+ghost use Rattle.gate_events.specs.Emit.{CanWrite};
 ghost use Rattle.config_values.specs.Configs.{IsConfig};
 ghost use Rattle.config_values.specs.Settings.{settings_of};
 ghost use Rattle.gate_core.specs.Output.{Output, emit_of};
@@ -11,9 +11,9 @@ ghost use Rattle.bridge.specs.BridgeStands.{IsOpenedWatching};
 ghost use Rattle.bridge.specs.Kept.{quiet_watching, watched_left};
 
 use ais_bridge::{AisBridge, AisConfig, AisEmits};
-use capture_text::{Emit, Event};
 use config_values::Config;
 use gate_core::Gateway;
+use gate_events::{Emit, Event};
 use std::alloc::{AllocError, Global};
 use std::marker::Model;
 

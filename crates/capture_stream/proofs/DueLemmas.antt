@@ -7,8 +7,8 @@ use Rattle.capture_stream.specs.declared.line_reader.Next.{Next}
 use Rattle.capture_stream.specs.declared.line_reader.Next.TheVariants.{Line, Long, Unfinished}
 use Rattle.capture_text.specs.Lines.{without_cr, lines_of, complete_lines}
 use Rattle.capture_stream.specs.LineReader.{Held, Advances, Finishes}
-use Rattle.capture_text.specs.declared.event.LineRule.{LineRule}
-use Rattle.capture_text.specs.Capture.{Seen}
+use Rattle.capture_text.specs.declared.line_rule.LineRule.{LineRule}
+use Rattle.gate_events.specs.Event.{Seen}
 use Rattle.capture_stream.specs.Lines.{IsTextFrom}
 use Rattle.capture_stream.specs.Answering.{LineGives, NextGives}
 use Rattle.capture_stream.proofs.SaidLemmas.{gives_long}

@@ -1,8 +1,9 @@
 -- What a line gives by what it reads as, and what was sent of it.
 use Rattle.std.proofs.Common.{◌≡◌, ℕ, ◌<◌, List, [], ◌∷◌, length, Result, Ok, Err, refl, sym, subst, arith}
-use Rattle.capture_text.specs.declared.event.LineRule.{LineRule}
-use Rattle.capture_text.specs.declared.event.LineRule.TheVariants.{Long}
-use Rattle.capture_text.specs.Capture.{longest_line, Seen}
+use Rattle.capture_text.specs.declared.line_rule.LineRule.{LineRule}
+use Rattle.capture_text.specs.declared.line_rule.LineRule.TheVariants.{Long}
+use Rattle.capture_text.specs.Capture.{longest_line}
+use Rattle.gate_events.specs.Event.{Seen}
 use Rattle.capture_text.specs.Reading.{read}
 use Rattle.capture_text.proofs.Lines.{too_long}
 use Rattle.std.specs.Prelude.{Option}

@@ -1,8 +1,8 @@
 -- What a command answers each line of a capture with.
 use Rattle.std.specs.Prelude.{◌≡◌, ℕ, List, [], ◌∷◌, ◌++◌, Option, Result, Ok, Err}
-use Rattle.capture_text.specs.declared.event.LineRule.{LineRule}
-use Rattle.capture_text.specs.declared.event.LineRule.TheVariants as rules
-use Rattle.capture_text.specs.Capture.{Seen}
+use Rattle.capture_text.specs.declared.line_rule.LineRule.{LineRule}
+use Rattle.capture_text.specs.declared.line_rule.LineRule.TheVariants as rules
+use Rattle.gate_events.specs.Event.{Seen}
 use Rattle.capture_text.specs.Reading.{read}
 use Rattle.capture_stream.specs.declared.line_reader.Next.{Next}
 use Rattle.capture_stream.specs.declared.line_reader.Next.TheVariants.{Line, Long, Unfinished}

@@ -1,13 +1,13 @@
 //! What a command answers the lines of a capture with.
 ghost use Rattle.std.specs.Prelude.{ℕ, List, Result, Ok, Err};
-ghost use Rattle.capture_text.specs.declared.event.LineRule.{LineRule};
-ghost use Rattle.capture_text.specs.Capture.{Seen};
-ghost use Rattle.capture_text.specs.Reading.{view, IsValid};
+ghost use Rattle.capture_text.specs.declared.line_rule.LineRule.{LineRule};
+ghost use Rattle.gate_events.specs.Event.{Seen, view, IsValid};
 ghost use Rattle.gate_outside.specs.Faults.{HasCause};
 ghost use Rattle.capture_stream.specs.Answering.{Sent};
 
 use crate::writer::Writer;
-use capture_text::{Event, LineRule};
+use capture_text::LineRule;
+use gate_events::Event;
 use gate_outside::{Failed, Sink};
 
 /// What answers each line of a capture that isn't empty, and keeps what it has to know of those before.

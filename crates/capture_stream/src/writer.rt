@@ -4,7 +4,8 @@ ghost use Rattle.gate_outside.specs.Faults.{HasCause};
 ghost use Rattle.capture_stream.specs.Writer.{Writes};
 
 use arrayvec::ArrayVec;
-use capture_text::{Emit, write_emit};
+use capture_text::write_emit;
+use gate_events::Emit;
 use gate_outside::{Failed, Sink};
 use std::marker::Model;
 
@@ -48,7 +49,8 @@ pub fn send_now<K: Sink>(piece: &[u8], out: &mut K) -> Result<(), Failed>
 impl Writer {
     ghost use Rattle.std.specs.Prelude.{◌≡◌, ◌+◌, ◌<◌, [], ◌∷◌, ◌++◌, length, OnOk};
     ghost use Rattle.std.specs.List.{flat_map};
-    ghost use Rattle.capture_text.specs.Writing.{CanWrite, line_text};
+    ghost use Rattle.capture_text.specs.Writing.{line_text};
+    ghost use Rattle.gate_events.specs.Emit.{CanWrite};
     ghost use Rattle.gate_outside.specs.Faults.{HasCause};
     ghost use Rattle.capture_stream.specs.Writer.{Writes};
 

@@ -17,11 +17,13 @@ use Rattle.unit_fraction.specs.Text.{decimals, decimal_text}
 use Rattle.unit_fraction.proofs.Text.{has_form}
 use Rattle.n2k_id.specs.declared.frame.Frame.{Frame}
 use Rattle.n2k_id.specs.Frame.{IsFrame, bus_frame, held_bytes}
-use Rattle.capture_text.specs.Capture.{frame, datagram, IsTime, IsInterface, Begins, IsLine}
+use Rattle.capture_text.specs.Capture.{IsTime, IsInterface, Begins, IsLine}
+use Rattle.gate_events.specs.Event.{frame, datagram}
 use Rattle.capture_text.specs.Reading.{read}
-use Rattle.capture_text.specs.declared.emit.Emit.{Emit}
-use Rattle.capture_text.specs.declared.emit.Emit.TheVariants as emit
-use Rattle.capture_text.specs.Writing.{CanWrite, time_text, frame_text, datagram_text, said, most_written}
+use Rattle.gate_events.specs.declared.emit.Emit.{Emit}
+use Rattle.gate_events.specs.declared.emit.Emit.TheVariants as emit
+use Rattle.capture_text.specs.Writing.{time_text, frame_text, datagram_text, said}
+use Rattle.gate_events.specs.Emit.{CanWrite, most_written}
 use Rattle.capture_text.proofs.Data.{written_digits}
 use Rattle.capture_text.proofs.Laws.{again}
 use Rattle.capture_text.proofs.Numbers.{all_digits, length-decimals}

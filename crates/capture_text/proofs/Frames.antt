@@ -12,8 +12,8 @@ use Rattle.hex.specs.Hex.{is_hex_digit}
 use Rattle.hex.proofs.HexLemmas.{decode_of-digits}
 use Rattle.sentence_text.proofs.Bytes.{all_weaker}
 use Rattle.n2k_id.specs.Frame.{BusFrame}
-use Rattle.capture_text.specs.declared.event.LineRule.{LineRule}
-use Rattle.capture_text.specs.declared.event.LineRule.TheVariants.{Form, NotExtended, Long}
+use Rattle.capture_text.specs.declared.line_rule.LineRule.{LineRule}
+use Rattle.capture_text.specs.declared.line_rule.LineRule.TheVariants.{Form, NotExtended, Long}
 use Rattle.capture_text.specs.Capture.{IsData, IsNumber, IsShort, IsWide, IsOtherKind, IsOtherFrame}
 use Rattle.capture_text.specs.Reading.{data_at, number_of, is_other_kind, short_frame, frame_with, wide_frame, frame_at}
 use Rattle.capture_text.proofs.Cuts.{within, cut_by_test, cut_at}

@@ -4,11 +4,12 @@ use Rattle.std.specs.Prelude.{codes, IfOk}
 use Rattle.std.specs.Cmp.Lexicographic.{same_text, other_text}
 use Rattle.std.proofs.lemmas.Bool.{cases_Bool}
 use Rattle.n2k_id.specs.Frame.{BusFrame}
-use Rattle.capture_text.specs.declared.event.Event.{Event}
-use Rattle.capture_text.specs.declared.event.LineRule.{LineRule}
-use Rattle.capture_text.specs.declared.event.LineRule.TheVariants.{Form, NotExtended, Long}
-use Rattle.capture_text.specs.Capture.{Seen, frame, datagram, tick, Begins, is_end, IsDatagram, IsOnBus, IsFrame, IsLine, IsNotExtended, IsNoLine, longest_line}
-use Rattle.capture_text.specs.Reading.{bytes_at, frame_at, seen_tick, seen_datagram, seen_frame, is_name, seen_behind, read, view, seen}
+use Rattle.gate_events.specs.declared.event.Event.{Event}
+use Rattle.capture_text.specs.declared.line_rule.LineRule.{LineRule}
+use Rattle.capture_text.specs.declared.line_rule.LineRule.TheVariants.{Form, NotExtended, Long}
+use Rattle.capture_text.specs.Capture.{Begins, is_end, IsDatagram, IsOnBus, IsFrame, IsLine, IsNotExtended, IsNoLine, longest_line}
+use Rattle.gate_events.specs.Event.{Seen, frame, datagram, tick, view}
+use Rattle.capture_text.specs.Reading.{bytes_at, frame_at, seen_tick, seen_datagram, seen_frame, is_name, seen_behind, read, seen}
 use Rattle.capture_text.proofs.Frames.{Layout, frame_found, frame_again, other_found, other_again, frame_never_long}
 use Rattle.capture_text.proofs.Lines.{Answer, given, refused, given_is, datagram_found, datagram_again, too_long, LineKind, long, formless, laid, line_kind, read_begins, on_bus_gives, end_no_name}
 

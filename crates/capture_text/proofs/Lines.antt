@@ -11,9 +11,10 @@ use Rattle.hex.specs.Hex.{decode_of}
 use Rattle.sentence_text.specs.Names.{IsGroup}
 use Rattle.sentence_text.specs.Byte.{is_address_byte}
 use Rattle.sentence_text.proofs.Bytes.{front_passes, splits}
-use Rattle.capture_text.specs.declared.event.LineRule.{LineRule}
-use Rattle.capture_text.specs.declared.event.LineRule.TheVariants.{Form, Long}
-use Rattle.capture_text.specs.Capture.{Seen, IsInterface, Begins, is_end, longest_line, most_bytes}
+use Rattle.capture_text.specs.declared.line_rule.LineRule.{LineRule}
+use Rattle.capture_text.specs.declared.line_rule.LineRule.TheVariants.{Form, Long}
+use Rattle.capture_text.specs.Capture.{IsInterface, Begins, is_end, longest_line, most_bytes}
+use Rattle.gate_events.specs.Event.{Seen}
 use Rattle.capture_text.specs.Reading.{Timed, time_at, Named, interface_at, is_group, bytes_before_end, bytes_at, frame_at, seen_frame, is_name, seen_behind, seen_named, seen_at, read}
 use Rattle.capture_text.proofs.Cuts.{cut_by_test, cut_found, if_some, some_is, four}
 use Rattle.capture_text.proofs.Times.{time_found, time_again}

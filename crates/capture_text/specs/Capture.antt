@@ -7,6 +7,7 @@ use Rattle.std.specs.Int.{w32, from_be_bytes}
 use Rattle.hex.specs.Hex.{decode_of}
 use Rattle.unit_fraction.specs.Digits.{number}
 use Rattle.n2k_id.specs.Frame.{BusFrame}
+use Rattle.gate_events.specs.Event.{Seen, frame, datagram, tick}
 use Rattle.sentence_text.specs.Names.{IsGroup}
 
 -- the most bytes of a line, and of the datagram that a line can hold
@@ -15,12 +16,6 @@ longest_line = 4096
 
 abbrev pub most_bytes : ℕ
 most_bytes = 2048
-
--- what a line says: a frame on the bus, a datagram on the network, or that time passes, each with its moment
-pub data Seen : Type 0 where
-  frame : ℕ → BusFrame → Seen
-  datagram : ℕ → List ℕ → Seen
-  tick : ℕ → Seen
 
 -- seconds, a point and microseconds in parentheses; all their digits together write the moment
 pub record IsTime (moment : ℕ) (text : List ℕ) : Type 0 where

@@ -1,5 +1,6 @@
 pub mod Lines
-pub mod Event
+pub mod LineRule
 pub mod Capture
 pub mod Reading
 pub mod Writing
+pub mod Emitted

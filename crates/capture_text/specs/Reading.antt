@@ -9,13 +9,12 @@ use Rattle.hex.specs.Hex.{decode_of}
 use Rattle.unit_fraction.specs.Digits.{number, number_after}
 use Rattle.n2k_id.specs.declared.frame.Frame.{Frame}
 use Rattle.n2k_id.specs.Frame.{BusFrame, bus_frame}
-use Rattle.n2k_id.specs.Frame as valid
 use Rattle.sentence_text.specs.Byte.{is_address_byte}
-use Rattle.capture_text.specs.declared.event.Event.{Event}
-use Rattle.capture_text.specs.declared.event.Event.TheVariants as event
-use Rattle.capture_text.specs.declared.event.LineRule.{LineRule}
-use Rattle.capture_text.specs.declared.event.LineRule.TheVariants.{Form, NotExtended, Long}
-use Rattle.capture_text.specs.Capture.{Seen, frame, datagram, tick, is_end, longest_line, most_bytes}
+use Rattle.gate_events.specs.declared.event.Event.{Event}
+use Rattle.capture_text.specs.declared.line_rule.LineRule.{LineRule}
+use Rattle.capture_text.specs.declared.line_rule.LineRule.TheVariants.{Form, NotExtended, Long}
+use Rattle.gate_events.specs.Event.{Seen, frame, datagram, tick, view}
+use Rattle.capture_text.specs.Capture.{is_end, longest_line, most_bytes}
 
 -- a moment, and what follows the space behind its time
 pub record Timed : Type 0 where
@@ -137,20 +136,9 @@ read line = if nat_lt longest_line (length line) then Err Long else seen_at (tim
 
 -- ---- what the calls answer, in these terms
 
-abbrev pub view : Event → Seen
-view (event.Frame moment f) = frame moment (bus_frame f)
-view (event.Datagram moment bytes) = datagram moment bytes.now
-view (event.Tick moment) = tick moment
-
 abbrev pub seen : Result Event LineRule → Result Seen LineRule
 seen (Ok e) = Ok (view e)
 seen (Err rule) = Err rule
-
--- a frame in an event is valid
-abbrev pub IsValid : Event → Type 0
-IsValid (event.Frame moment f) = valid.IsFrame f
-IsValid (event.Datagram moment bytes) = Unit {0}
-IsValid (event.Tick moment) = Unit {0}
 
 -- so many bytes of the room were written, or there are none
 abbrev pub IsPut : Option ℕ → List ℕ → Option (List ℕ) → Type 0

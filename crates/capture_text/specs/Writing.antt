@@ -1,26 +1,16 @@
 -- The line that is written of an emit.
-use Rattle.std.specs.Prelude.{ℕ, ◌≤◌, false, List, [], ◌∷◌, ◌++◌, length, codes, Option, Some, None}
+use Rattle.std.specs.Prelude.{ℕ, false, List, [], ◌∷◌, ◌++◌, codes, Option, Some, None}
 use Rattle.std.specs.Fmt.{decimal}
 use Rattle.std.specs.Int.{w32, to_be_bytes}
 use Rattle.hex.specs.Hex.{encode_upper}
 use Rattle.unit_fraction.specs.Text.{decimal_text}
-use Rattle.n2k_id.specs.Frame.{IsFrame, BusFrame, bus_frame}
-use Rattle.capture_text.specs.declared.emit.Detail.{Detail}
-use Rattle.capture_text.specs.declared.emit.Detail.TheVariants as detail
-use Rattle.capture_text.specs.declared.emit.Report.{Report}
-use Rattle.capture_text.specs.declared.emit.Emit.{Emit}
-use Rattle.capture_text.specs.declared.emit.Emit.TheVariants as emit
-use Rattle.capture_text.specs.Capture.{Seen, frame, datagram}
-
--- the most bytes of a datagram that is written
-abbrev pub most_written : ℕ
-most_written = 512
-
--- a frame is valid, and a datagram isn't too long
-abbrev pub CanWrite : Emit → Type 0
-CanWrite (emit.Can f) = IsFrame f
-CanWrite (emit.Net group bytes) = length bytes.now ≤ most_written
-CanWrite (emit.Report report) = Unit {0}
+use Rattle.n2k_id.specs.Frame.{BusFrame, bus_frame}
+use Rattle.gate_events.specs.declared.emit.Detail.{Detail}
+use Rattle.gate_events.specs.declared.emit.Detail.TheVariants as detail
+use Rattle.gate_events.specs.declared.emit.Report.{Report}
+use Rattle.gate_events.specs.declared.emit.Emit.{Emit}
+use Rattle.gate_events.specs.declared.emit.Emit.TheVariants as emit
+use Rattle.gate_events.specs.Event.{Seen, frame, datagram}
 
 -- the seconds and six digits of microseconds in parentheses, and a space
 abbrev pub time_text : ℕ → List ℕ

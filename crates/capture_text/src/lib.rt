@@ -6,13 +6,12 @@
 #![tactic(auto)]
 
 mod byte;
-mod emit;
-mod event;
+mod line_rule;
 mod reading;
 mod writing;
 
-pub use emit::{Detail, Emit, Report};
-pub use event::{Event, LineRule};
+pub use gate_events::{Detail, Emit, Event, Report};
+pub use line_rule::LineRule;
 pub use reading::read_line;
 pub use writing::write_emit;
 

@@ -5,11 +5,13 @@ ghost use Rattle.std.specs.Result.{result_ok};
 ghost use Rattle.hex.specs.Hex.{decode_of};
 ghost use Rattle.unit_fraction.specs.Digits.{number_after};
 ghost use Rattle.n2k_id.specs.Frame.{IsFrame};
-ghost use Rattle.capture_text.specs.Capture.{Seen, IsLine, IsNotExtended, IsNoLine, longest_line};
+ghost use Rattle.capture_text.specs.Capture.{IsLine, IsNotExtended, IsNoLine, longest_line};
+ghost use Rattle.gate_events.specs.Event.{Seen, IsValid, view};
 ghost use Rattle.capture_text.specs.Reading as spec;
 
 use crate::byte::{all_hexadecimal, is_end, is_group, name_run, up_to_space};
-use crate::event::{Event, LineRule};
+use crate::line_rule::LineRule;
+use gate_events::Event;
 use n2k_id::Frame;
 use sentence_text::byte_at;
 
@@ -234,7 +236,7 @@ fn event<'a>(
     room: &'a mut [u8; 2048],
 ) -> Result<Event<'a>, LineRule>
     ensures reads { spec.seen result ≡ spec.seen_behind moment name.now tail.now }
-    ensures valid { IfOk result spec.IsValid }
+    ensures valid { IfOk result IsValid }
 {
     if name == b"tick".as_slice() {
         if !is_end(tail) {
@@ -258,7 +260,7 @@ fn event<'a>(
 #[tactic(auto, unfolding(crate::specs::Reading::read))]
 fn parse<'a>(line: &[u8], room: &'a mut [u8; 2048]) -> Result<Event<'a>, LineRule>
     ensures reads { spec.seen result ≡ spec.read line.now }
-    ensures valid { IfOk result spec.IsValid }
+    ensures valid { IfOk result IsValid }
 {
     if line.len() > LONGEST {
         return Err(LineRule::Long);
@@ -275,7 +277,7 @@ fn parse<'a>(line: &[u8], room: &'a mut [u8; 2048]) -> Result<Event<'a>, LineRul
 /// What a line of a capture says, without its line end. The bytes of a datagram are put into the room.
 pub fn read_line<'a>(line: &[u8], room: &'a mut [u8; 2048]) -> Result<Event<'a>, LineRule>
     // What is read is spelled so.
-    ensures found { IfOk result (λ e. IsLine (spec.view e) line.now) }
+    ensures found { IfOk result (λ e. IsLine (view e) line.now) }
     // What is spelled so is read.
     ensures only { (event : Seen) → IsLine event line.now → spec.seen result ≡ Ok event }
     // Which rule it is.
@@ -284,7 +286,7 @@ pub fn read_line<'a>(line: &[u8], room: &'a mut [u8; 2048]) -> Result<Event<'a>,
     ensures form { (result ≡ Err LineRule.Form) ↔ IsNoLine line.now }
     ensures exact { spec.seen result ≡ spec.read line.now }
     // A frame is valid.
-    ensures valid { IfOk result spec.IsValid }
+    ensures valid { IfOk result IsValid }
 {
     parse(line, room)
 }

@@ -8,10 +8,11 @@ ghost use Rattle.sentence_text.specs.Names.{IsGroup};
 ghost use Rattle.unit_fraction.specs.Text.{decimal_text};
 ghost use Rattle.capture_text.specs.Capture.{IsLine, longest_line};
 ghost use Rattle.capture_text.specs.Reading.{read};
-ghost use Rattle.capture_text.specs.Writing.{CanWrite, most_written, time_text, part, detail_text, report_text, frame_text, datagram_text, line_text, said};
+ghost use Rattle.capture_text.specs.Writing.{time_text, part, detail_text, report_text, frame_text, datagram_text, line_text, said};
+ghost use Rattle.gate_events.specs.Emit.{CanWrite, most_written};
 
-use crate::emit::{Detail, Emit, Report};
 use arrayvec::ArrayVec;
+use gate_events::{Detail, Emit, Report};
 use n2k_id::Frame;
 use sentence_text::Group;
 use unit_fraction::write_decimal;

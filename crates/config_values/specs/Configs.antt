@@ -4,7 +4,7 @@ use Rattle.std.specs.Prelude.{◌≢◌, ◌<◌, List, All}
 use Rattle.std.specs.Int.{IsInRange}
 use Rattle.std.specs.List.{AllPairs}
 use Rattle.claim_table.specs.Claims.{move_places}
-use Rattle.gate_outside.specs.declared.address.Route.{Route}
+use Rattle.network_routes.specs.declared.Route.{Route}
 use Rattle.config_values.specs.declared.config.Config.{Config}
 use Rattle.config_values.specs.declared.config.Ends.{Ends}
 use Rattle.config_values.specs.Endpoints.{IsEndpoint}

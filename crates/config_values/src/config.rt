@@ -9,8 +9,8 @@ use crate::presets::are_presets;
 use crate::row_config::RowConfig;
 use arrayvec::ArrayVec;
 use claim_table::Preset;
-use gate_outside::{Address, Routes};
 use n2k_id::Name;
+use network_routes::{Address, Routes};
 use sentence_text::Sfi;
 
 /// How a gateway is configured.

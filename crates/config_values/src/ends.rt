@@ -5,7 +5,7 @@ ghost use Rattle.config_values.specs.Configs.{AreEnds, AreRoutes};
 use crate::config::Ends;
 use crate::endpoint::is_endpoint;
 use crate::lists::{Apart, Valid, are_apart, are_valid};
-use gate_outside::Route;
+use network_routes::Route;
 
 /// Whether the links can listen and send there.
 pub(crate) fn are_ends(ends: &Ends) -> bool

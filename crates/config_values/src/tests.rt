@@ -2,8 +2,8 @@
 use crate::{Config, Ends, RowConfig};
 use arrayvec::ArrayVec;
 use claim_table::Preset;
-use gate_outside::{Address, Route, Routes};
 use n2k_id::{Name, Pattern};
+use network_routes::{Address, Route, Routes};
 use sentence_text::{Group, Sfi};
 
 const OWN: u64 = 0xC032_8200_FFC0_0001;

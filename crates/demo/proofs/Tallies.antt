@@ -6,8 +6,9 @@ use Rattle.std.proofs.lemmas.Grind.{flat_map-append}
 use Rattle.std.proofs.lemmas.List.{append-nil, length-append, length-map, length-take, map-append}
 use Rattle.std.proofs.lemmas.List.Elements.{filter-append}
 use Rattle.std.proofs.lemmas.List.Sums.{fold-append}
-use Rattle.history.specs.Emits.{Emit, Emitted, at, can, net, report}
-use Rattle.history.specs.Replay.{line_of}
+use Rattle.gate_events.specs.Emit.{Emit, Emitted, can, net, report}
+use Rattle.history.specs.Emits.{at}
+use Rattle.capture_text.specs.Emitted.{line_of}
 use Rattle.demo.specs.declared.tally.Tally.{Tally}
 use Rattle.demo.specs.Tally.{and_all, and_one, counted, folded, how_many, is_datagram, is_frame, is_report, tally_of, total}
 

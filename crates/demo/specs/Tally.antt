@@ -1,8 +1,8 @@
 -- What is counted of what a gateway emits: how many frames, datagrams and reports, and a number that all bytes of their lines are folded into.
 use Rattle.std.specs.Prelude.{ℕ, ◌+◌, ◌*◌, ◌%◌, ◌^◌, Bool, true, false, List, length, filter}
 use Rattle.std.specs.List.{flat_map, fold}
-use Rattle.history.specs.Emits.{Emit, Emitted, can, net, report}
-use Rattle.history.specs.Replay.{line_of}
+use Rattle.gate_events.specs.Emit.{Emit, Emitted, can, net, report}
+use Rattle.capture_text.specs.Emitted.{line_of}
 use Rattle.demo.specs.declared.tally.Tally.{Tally}
 
 abbrev pub is_frame : Emit → Bool

@@ -7,7 +7,7 @@ ghost use Rattle.demo.specs.Turns.{IsTurn};
 use crate::frames::{claim, heading, position};
 use crate::numbers::Numbers;
 use crate::turns::{Turn, next_turn};
-use capture_text::Event;
+use gate_events::Event;
 
 /// How long the events are apart, in microseconds.
 const STEP: u64 = 100;

@@ -11,8 +11,8 @@ ghost use Rattle.demo.specs.Tally.{tally_of, total};
 
 use crate::input::Input;
 use crate::tally::Tally;
-use capture_text::Event;
 use gate_core::{Command, Gateway, Outbox};
+use gate_events::Event;
 
 /// Lets a new gateway take so many events of the input of this seed, and counts what it emits.
 pub(crate) fn run(gateway: &mut Gateway, seed: u64, count: u32) -> Tally

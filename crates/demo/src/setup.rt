@@ -9,8 +9,8 @@ ghost use Rattle.demo.specs.Setup.{demo_settings, row_said_by, talkers};
 
 use arrayvec::ArrayVec;
 use config_values::{Config, Ends, RowConfig};
-use gate_outside::{Address, Routes};
 use n2k_id::Name;
+use network_routes::{Address, Routes};
 use sentence_text::{Group, Sfi};
 
 /// As a configuration of the least keys has it, with room for as many fast packets as there can be.

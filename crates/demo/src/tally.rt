@@ -1,14 +1,15 @@
 //! What is counted of what a gateway emits.
 ghost use Rattle.std.specs.Prelude.{◌≡◌, ◌+◌, ◌<◌, ◌≤◌, ◌^◌, [], drop, take};
 ghost use Rattle.std.specs.List.{fold};
-ghost use Rattle.capture_text.specs.Writing.{CanWrite};
+ghost use Rattle.gate_events.specs.Emit.{CanWrite};
 ghost use Rattle.gate_core.specs.Output.{emit_of};
 ghost use Rattle.history.specs.Emits.{at};
 ghost use Rattle.demo.specs.Tally.{and_all, and_one, counted, folded, tally_of, total};
 
 use arrayvec::ArrayVec;
-use capture_text::{Emit, write_emit};
+use capture_text::write_emit;
 use gate_core::Outbox;
+use gate_events::Emit;
 
 type Line = ArrayVec<u8, 4096>;
 

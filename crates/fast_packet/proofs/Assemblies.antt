@@ -3,9 +3,9 @@ use Rattle.std.specs.List.{AllByRecursion}
 use Rattle.std.proofs.lemmas.Bool.{eqb-true, eqb-false, le-leb, leb-true, leb-false, ltb-true, ne_eqb, lt-ltb, le-ltb}
 use Rattle.std.proofs.Common.{◌≡◌, ℕ, ◌+◌, ◌-◌, ◌*◌, ◌/◌, ◌%◌, ◌<◌, ◌≤◌, ◌==◌, ◌&&◌, nat_le, nat_lt, min, Bool, true, false, List, [], ◌∷◌, ◌++◌, length, take, drop, slice_index, Option, Some, None, length-take, length-drop, length-append, add-one, refl, sym, ◌∙◌, ap, subst, arith}
 use Rattle.std.proofs.lemmas.List.{take_all}
-use Rattle.runs.specs.Runs.{accepted, accepted_after, accepted_more, in_time, is_whole, is_admitted, opener_of, since_opener, if_open, kept_at, open_of, open_at, fed, fed_later}
-use Rattle.runs.proofs.Steps.{one_step_of}
-use Rattle.runs.proofs.Suffixes.{one_suffix_of}
+use Rattle.slot_views.specs.Runs.{accepted, accepted_after, accepted_more, in_time, is_whole, is_admitted, opener_of, since_opener, if_open, kept_at, open_of, open_at, fed, fed_later}
+use Rattle.slot_views.proofs.RunSteps.{one_step_of}
+use Rattle.slot_views.proofs.RunSuffixes.{one_suffix_of}
 use Rattle.fast_packet.specs.declared.verdict.Verdict.TheVariants.{Next}
 use Rattle.slot_views.specs.Slots.{Entry, grown}
 use Rattle.fast_packet.specs.FastFrames.{gap, longest, counter_of, sequence_of, length_of, need_of, left_after, is_opener, is_no_later, later_piece}

@@ -4,9 +4,9 @@ use Rattle.std.proofs.lemmas.Bool.{eqb-true, eqb-false, eq-eqb, leb-true}
 use Rattle.std.specs.List.{AllByRecursion}
 use Rattle.std.specs.Cmp.{IsTotalOrder}
 use Rattle.std.specs.declared.cmp.Ordering.{Ordering}
-use Rattle.runs.specs.Runs.{opener_of, is_whole, is_admitted, since_opener, if_whole, open_of, open_at, run_of, fed, finished}
-use Rattle.runs.proofs.Steps.{one_step_of}
-use Rattle.runs.proofs.Suffixes.{one_suffix_of}
+use Rattle.slot_views.specs.Runs.{opener_of, is_whole, is_admitted, since_opener, if_whole, open_of, open_at, run_of, fed, finished}
+use Rattle.slot_views.proofs.RunSteps.{one_step_of}
+use Rattle.slot_views.proofs.RunSuffixes.{one_suffix_of}
 use Rattle.slot_views.specs.Slots.{Entry, SlotMap, IsOrdered, IsMap, Changes, is_complete, is_held, is_full, entry_at, released, begun_after, grown_after}
 use Rattle.slot_views.specs.Traces.{left_at, entry_after, if_incomplete, grown_entry, pieces_at, IsStep}
 use Rattle.slot_views.specs.Answers.{Shows}

@@ -2,7 +2,7 @@
 use Rattle.std.specs.Cmp.Lexicographic.{pointwise}
 use Rattle.std.proofs.Common.{◌≡◌, ℕ, ◌≤◌, ◌==◌, ◌&&◌, nat_eq, nat_lt, Bool, true, false, List, [], ◌∷◌, length, refl, ◌∙◌, ap, arith}
 use Rattle.std.proofs.lemmas.Bool.{eqb-true, ne_eqb, le-ltb}
-use Rattle.runs.specs.Runs.{IsLawful, is_whole, opener_of}
+use Rattle.slot_views.specs.Runs.{IsLawful, is_whole, opener_of}
 use Rattle.fast_packet.specs.FastFrames.{counter_of, length_of, need_of, is_opener}
 use Rattle.fast_packet.specs.FastRuns.{FastPiece, is_next, is_repeat, fast_rules}
 

@@ -1,7 +1,7 @@
 -- What a fast packet is: a run of frames of one sender and PGN.
 use Rattle.std.specs.Cmp.Lexicographic.{pointwise}
 use Rattle.std.specs.Prelude.{ℕ, ◌+◌, Bool, false, ◌&&◌, ◌==◌, nat_eq, nat_le, nat_lt, min, List, [], ◌∷◌, ◌++◌, length}
-use Rattle.runs.specs.Runs.{Rules, opener_of}
+use Rattle.slot_views.specs.Runs.{Rules, opener_of}
 use Rattle.fast_packet.specs.FastFrames.{gap, counter_of, sequence_of, length_of, need_of, left_after, is_opener, first_piece, later_piece}
 
 -- a frame, as it is to its run

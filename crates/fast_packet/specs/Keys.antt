@@ -2,7 +2,7 @@
 use Rattle.std.specs.Prelude.{◌≡◌, ℕ, ◌≤◌, Bool, true, false, ◌&&◌, ◌||◌, ◌==◌, if◌then◌else◌, is_some, IsSomeAnd, List, [], ◌∷◌, length, Option, Some, None}
 use Rattle.std.specs.List.{AllByRecursion}
 use Rattle.std.specs.declared.cmp.Ordering.{Ordering}
-use Rattle.runs.specs.Runs.{opener_of, open_at, run_of}
+use Rattle.slot_views.specs.Runs.{opener_of, open_at, run_of}
 use Rattle.slot_views.specs.Slots.{SlotMap, entry_at}
 use Rattle.slot_views.specs.Traces.{unexpired, now_of, pieces_at, open_keys, IsNoted, map_after}
 use Rattle.fast_packet.specs.declared.key.FastKey.{FastKey}

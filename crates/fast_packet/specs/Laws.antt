@@ -1,7 +1,7 @@
 -- What is promised of the frames of one message.
 use Rattle.std.specs.Prelude.{◌≡◌, ℕ, true, List, length, map, reverse, Some}
 use Rattle.std.specs.List.{AllByRecursion}
-use Rattle.runs.specs.Runs.{is_whole, accepted}
+use Rattle.slot_views.specs.Runs.{is_whole, accepted}
 use Rattle.fast_packet.specs.FastFrames.{sequence_of}
 use Rattle.fast_packet.specs.FastRuns.{FastPiece, fast_rules, payload}
 

@@ -1,6 +1,6 @@
 -- The assembly that stands for the frames of its key, and what a frame leaves of it.
 use Rattle.std.specs.Prelude.{ℕ, if◌then◌else◌, List, [], ◌∷◌, length, Option, Some, None}
-use Rattle.runs.specs.Runs.{opener_of}
+use Rattle.slot_views.specs.Runs.{opener_of}
 use Rattle.slot_views.specs.Slots.{Entry}
 use Rattle.slot_views.specs.Traces.{Filling, if_incomplete, entry_after}
 use Rattle.fast_packet.specs.declared.verdict.Verdict.{Verdict}

@@ -1,5 +1,5 @@
 //! What is promised of fast packets, whoever assembles them.
-ghost use Rattle.runs.specs.Laws.{OneStep, OneSuffix};
+ghost use Rattle.slot_views.specs.RunLaws.{OneStep, OneSuffix};
 ghost use Rattle.fast_packet.specs.FastRuns.{FastPiece, fast_rules};
 ghost use Rattle.fast_packet.specs.declared.key.FastKey.{FastKey};
 ghost use Rattle.std.specs.Prelude.{◌≡◌, ℕ, List, ◌∷◌, ◌≤◌, length};
@@ -12,7 +12,7 @@ ghost use Rattle.fast_packet.specs.RunAssemblies.{assembly_after, assembly_at};
 ghost use Rattle.fast_packet.specs.Keys.{AreFed, FollowsRuns, AnswersRuns};
 ghost use Rattle.fast_packet.specs.declared.answers.FastFed.{FastFed};
 ghost use Rattle.std.specs.List.{AllByRecursion};
-ghost use Rattle.runs.specs.Runs.{open_of};
+ghost use Rattle.slot_views.specs.Runs.{open_of};
 
 use crate::key::FastKey;
 

@@ -1,8 +1,8 @@
 //! How the gateway is configured that is measured.
 use arrayvec::ArrayVec;
 use config_values::{Config, Ends, RowConfig};
-use gate_outside::{Address, Routes};
 use n2k_id::Name;
+use network_routes::{Address, Routes};
 use sentence_text::Sfi;
 
 /// How many fast packets may be in the making where nothing else is stated.

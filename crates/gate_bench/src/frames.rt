@@ -1,7 +1,7 @@
 //! Fast packets of 223 bytes that stay in the making: of each the first 31 of its 32 frames come, and then it begins anew.
 
-use capture_text::Event;
 use gate_core::{Gateway, Outbox};
+use gate_events::Event;
 use n2k_id::Frame;
 
 /// PGN 129029 and PGN 128275, from the address 0.

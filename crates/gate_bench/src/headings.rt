@@ -3,9 +3,9 @@ ghost use Rattle.std.specs.Prelude.{◌≤◌, ◌<◌};
 ghost use Rattle.n2k_id.specs.Frame.{IsFrame};
 ghost use Rattle.readings.specs.Ranges.{IsValid};
 
-use capture_text::{Emit, Event};
 use datagram450::{begin, push_line};
 use gate_core::{Gateway, Outbox};
+use gate_events::{Emit, Event};
 use n2k_id::Frame;
 use pgn_profile::{Profiled, read};
 use readings::Reading;

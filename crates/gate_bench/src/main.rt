@@ -1,12 +1,16 @@
 //! Measures the gateway: `gate_bench WORK CALLS` does so many calls of a work and prints nanoseconds a call, `gate_bench memory 0` opens
-//! a gateway as it is configured where nothing else is stated and prints bytes. Without two such words there is nothing to do.
+//! a gateway as it is configured where nothing else is stated and prints bytes. `gate_bench slots 0` prints nanoseconds a call of slots
+//! and fast packets. Without two such words there is nothing to do.
 //!
-//! `bench/gate` runs it.
+//! `bench/gate` and `bench/slots` run it.
 #![tactic(auto)]
 
 mod config;
 mod frames;
+mod growing;
 mod headings;
+mod packets;
+mod slots;
 
 use gate_core::{Gateway, Outbox};
 use std::alloc::Global;
@@ -33,6 +37,8 @@ enum Work {
     InTurn,
     /// What is kept, in bytes.
     Memory,
+    /// Slots and fast packets, with one key held and with many.
+    Slots,
 }
 
 fn work_of(word: &str) -> Option<Work> {
@@ -43,6 +49,7 @@ fn work_of(word: &str) -> Option<Work> {
         "among" => Some(Work::AmongMany),
         "turn" => Some(Work::InTurn),
         "memory" => Some(Work::Memory),
+        "slots" => Some(Work::Slots),
         _ => None,
     }
 }
@@ -86,7 +93,7 @@ fn done(
         Work::Bare => headings::say(packet, calls),
         Work::OneKey | Work::AmongMany => frames::one_key(gateway, out, calls),
         Work::InTurn => frames::in_turn(gateway, out, calls),
-        Work::Memory => 0,
+        Work::Memory | Work::Slots => 0,
     }
 }
 
@@ -123,6 +130,7 @@ fn tell_sizes(rt: &HostRuntime) -> io::Result<()> {
 fn main(rt: HostRuntime) -> io::Result<()> {
     match asked(&rt)? {
         Some((Work::Memory, _)) => tell_sizes(&rt),
+        Some((Work::Slots, _)) => slots::measure(&rt),
         Some((work, calls)) => measure(&rt, work, calls),
         None => Ok(()),
     }

@@ -2,8 +2,8 @@
 use arrayvec::ArrayVec;
 use claim_table::Preset;
 use config_values::{Config, Ends, RowConfig};
-use gate_outside::{Address, Routes};
 use n2k_id::{Name, Pattern};
+use network_routes::{Address, Routes};
 use sentence_text::Sfi;
 
 /// How many fast packets, sessions and groups of lines may be in the making.

@@ -15,7 +15,7 @@ use Rattle.config_values.specs.Configs.{AreRoutes}
 use Rattle.config_values.specs.Endpoints.{IsEndpoint}
 use Rattle.config_values.specs.Presets.{AreApart, ArePresets}
 use Rattle.config_values.specs.declared.row_config.RowConfig.{RowConfig}
-use Rattle.gate_outside.specs.declared.address.Route.{Route}
+use Rattle.network_routes.specs.declared.Route.{Route}
 use Rattle.settings.specs.Settings.{IsAis}
 use Rattle.settings.specs.declared.ais.AisConfig.{AisConfig}
 use Rattle.settings.specs.declared.rmc.RmcConfig.{RmcConfig}

@@ -17,7 +17,7 @@ use Rattle.config_document.specs.declared.fault.Flaw.TheVariants as flaw
 use Rattle.bus_identity.specs.declared.product.Product.{Product}
 use Rattle.config_values.specs.declared.config.Ends.{Ends}
 use Rattle.config_values.specs.declared.row_config.RowConfig.{RowConfig}
-use Rattle.gate_outside.specs.declared.address.Route.{Route}
+use Rattle.network_routes.specs.declared.Route.{Route}
 use Rattle.settings.specs.declared.ais.AisConfig.{AisConfig}
 use Rattle.settings.specs.declared.rmc.RmcConfig.{RmcConfig}
 use Rattle.settings.specs.declared.settings.Settings.{Settings}

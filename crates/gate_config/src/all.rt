@@ -18,7 +18,7 @@ use bus_identity::Product;
 use claim_table::Preset;
 use config_document::{ConfigFault, Section};
 use config_values::{Config, Ends, RowConfig};
-use gate_outside::Routes;
+use network_routes::Routes;
 use sentence_text::{Group, Sfi};
 use settings::{AisConfig, RmcConfig, Settings};
 

@@ -6,7 +6,7 @@ ghost use Rattle.gate_config.specs.Texts.{is_endpoint, loopback};
 use arrayvec::ArrayVec;
 use config_document::Written;
 use config_values::is_endpoint;
-use gate_outside::Address;
+use network_routes::Address;
 use unit_fraction::write_decimal;
 
 /// Where a link listens or sends.

@@ -9,7 +9,7 @@ use crate::endpoint::{Endpoint, loopback};
 use crate::keys::text_or;
 use arrayvec::ArrayVec;
 use config_document::{ConfigFault, Flaw, Section, repeats};
-use gate_outside::Address;
+use network_routes::Address;
 use sentence_text::Sfi;
 
 /// Whom the network is heard from, and where the link to it listens and sends.

@@ -10,7 +10,7 @@ use crate::items::item_prefix;
 use crate::keys::needed_text;
 use arrayvec::ArrayVec;
 use config_document::{ConfigFault, Flaw, Section};
-use gate_outside::Route;
+use network_routes::Route;
 use sentence_text::Group;
 
 /// How many routes there may be.

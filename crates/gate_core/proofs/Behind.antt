@@ -1,6 +1,6 @@
 -- Emits behind those that an outbox holds.
 use Rattle.std.proofs.Common.{◌≡◌, ◌+◌, ◌<◌, ◌≤◌, Bool, true, false, Option, List, [], ◌∷◌, ◌++◌, length, filter, refl, sym, ap, ◌∙◌, subst, arith, length-append, append-nil}
-use Rattle.history.specs.Emits.{Emit, net}
+use Rattle.gate_events.specs.Emit.{Emit, net}
 use Rattle.gate_core.specs.declared.kept.Kept.{Kept}
 use Rattle.gate_core.specs.declared.kept.Kept.TheVariants as what
 use Rattle.gate_core.specs.declared.done.Done.{Done}

@@ -7,7 +7,8 @@ use Rattle.claim_table.specs.Claims.{holder_at, is_ready}
 use Rattle.claim_table.specs.declared.answer.Holder.{Holder}
 use Rattle.history.specs.Messages.{Carried}
 use Rattle.history.specs.Settings.{Settings}
-use Rattle.history.specs.Emits.{Emit, reported}
+use Rattle.gate_events.specs.Emit.{Emit}
+use Rattle.history.specs.Emits.{reported}
 use Rattle.gate_model.specs.Said.{SaidKept, complete_by, message_emits, ordered_by}
 use Rattle.gate_model.specs.FastPackets.{fast_step}
 use Rattle.gate_model.specs.Sessions.{session_step}

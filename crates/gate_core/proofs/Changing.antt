@@ -2,7 +2,7 @@
 use Rattle.std.proofs.Common.{◌≡◌, ℕ, ◌+◌, ◌≤◌, List, ◌++◌, Option, length, not, length-append, arith}
 use Rattle.claim_table.specs.Claims.{Outcome}
 use Rattle.claim_table.specs.declared.answer.ClaimStep.{ClaimStep}
-use Rattle.history.specs.Emits.{Emit}
+use Rattle.gate_events.specs.Emit.{Emit}
 use Rattle.history.specs.FromBus.{own_answer}
 use Rattle.history.specs.Known.{address_left, address_won}
 use Rattle.history.specs.TraceLaws.{same_own}

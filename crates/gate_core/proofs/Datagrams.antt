@@ -1,6 +1,6 @@
 -- Which emits are datagrams.
 use Rattle.std.proofs.Common.{◌≡◌, false, List, [], ◌∷◌, ◌++◌, filter, refl}
-use Rattle.history.specs.Emits.{Emit, can, net, report}
+use Rattle.gate_events.specs.Emit.{Emit, can, net, report}
 use Rattle.gate_core.specs.Output.{is_datagram, has_datagram}
 
 -- none is among two lists where none is in either

@@ -10,7 +10,8 @@ use Rattle.iso_transport.specs.Answers.{FeedGives}
 use Rattle.iso_transport.specs.Assembly.{is_crowded}
 use Rattle.iso_transport.specs.Audience.{key_of}
 use Rattle.iso_transport.specs.RunVerdicts.{Message}
-use Rattle.history.specs.Emits.{Emit, reported, replied}
+use Rattle.gate_events.specs.Emit.{Emit}
+use Rattle.history.specs.Emits.{reported, replied}
 use Rattle.gate_model.specs.Sessions.{SessionAnswer, SessionStep, IsAnswer, answer_of, fed_step, restarted_reports, refused_reports, answer_reports, carried_by}
 use Rattle.gate_model.specs.Said as said
 use Rattle.gate_model.proofs.SessionAnswers.{answers_are_told}

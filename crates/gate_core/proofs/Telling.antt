@@ -4,11 +4,12 @@ use Rattle.std.specs.List.{find, flat_map}
 use Rattle.slot_views.specs.Slots.{Entry, SlotMap, without_first, without, remaining}
 use Rattle.slot_views.proofs.Endings.{all_stay, one_fewer}
 use Rattle.report_rules.specs.Rules as rules
-use Rattle.capture_text.specs.declared.emit.Detail.TheVariants as detail
+use Rattle.gate_events.specs.declared.emit.Detail.TheVariants as detail
 use Rattle.fast_packet.specs.declared.key.FastKey.{FastKey}
 use Rattle.iso_transport.specs.declared.answers.IsoEnded.{IsoEnded}
 use Rattle.tag_block.specs.declared.group_key.GroupKey.{GroupKey}
-use Rattle.history.specs.Emits.{Emit, broken, of_source}
+use Rattle.gate_events.specs.Emit.{Emit}
+use Rattle.history.specs.Emits.{broken, of_source}
 use Rattle.gate_core.specs.Output.{Output, and_emits, most_emits, has_datagram}
 
 module _ {X : Type 0} (p : X → Bool) (tell : X → List Emit) where

@@ -2,7 +2,7 @@
 use Rattle.std.specs.Prelude.{ℕ, List, [], ◌++◌, Option, Some, None, option_map}
 use Rattle.claim_table.specs.declared.answer.Holder.{Holder}
 use Rattle.history.specs.Choice.{reading_in}
-use Rattle.history.specs.Emits.{Emit}
+use Rattle.gate_events.specs.Emit.{Emit}
 use Rattle.history.specs.Settings.{Settings}
 use Rattle.gate_model.specs.Said.{SaidKept, profiled_after, profiled_emits}
 use Rattle.gate_core.specs.declared.done.Done.{Done}

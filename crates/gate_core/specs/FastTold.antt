@@ -1,6 +1,6 @@
 -- What the gateway keeps of the answer to a frame of a fast packet (canboat), once the payload is lent no more.
 use Rattle.std.specs.Prelude.{ℕ, List, ◌++◌, option_map}
-use Rattle.capture_text.specs.declared.emit.Report.{Report}
+use Rattle.gate_events.specs.declared.emit.Report.{Report}
 use Rattle.n2k_id.specs.declared.identifier_parts.Parts.{Parts}
 use Rattle.fast_packet.specs.declared.key.FastKey.{FastKey}
 use Rattle.std.specs.declared.cmp.Ordering.{Ordering}

@@ -1,8 +1,9 @@
 -- Frames and reports, as an outbox keeps them.
 use Rattle.std.specs.Prelude.{ℕ, Bool, if◌then◌else◌, List, [], ◌∷◌, map, take}
 use Rattle.n2k_id.specs.Frame.{IsFrame, bus_frame}
-use Rattle.capture_text.specs.declared.emit.Detail.TheVariants as detail
-use Rattle.history.specs.Emits.{Emit, can, net, report, report_of}
+use Rattle.gate_events.specs.declared.emit.Detail.TheVariants as detail
+use Rattle.gate_events.specs.Emit.{Emit, can, net, report}
+use Rattle.history.specs.Emits.{report_of}
 use Rattle.gate_core.specs.declared.datagram.Datagram.{Datagram}
 use Rattle.gate_core.specs.declared.kept.Kept.{Kept}
 use Rattle.gate_core.specs.declared.kept.Kept.TheVariants as kept

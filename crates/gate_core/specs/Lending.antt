@@ -1,7 +1,7 @@
 -- What becomes of the outbox once its datagram was written in place.
 use Rattle.std.specs.Prelude.{[], ◌∷◌}
 use Rattle.std.specs.Borrow.{Fml, Lends, MutBor}
-use Rattle.history.specs.Emits.{net}
+use Rattle.gate_events.specs.Emit.{net}
 use Rattle.gate_core.specs.declared.datagram.Datagram.{Datagram}
 use Rattle.gate_core.specs.contracts.datagram.Datagram.{the_row as datagram_row}
 use Rattle.gate_core.specs.contracts.outbox.Outbox.{the_row}

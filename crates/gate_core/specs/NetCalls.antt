@@ -7,7 +7,7 @@ use Rattle.tag_block.specs.Tag.{Said}
 use Rattle.datagram450.specs.declared.fault.DatagramFault.{DatagramFault}
 use Rattle.datagram450.specs.Item.{Item}
 use Rattle.datagram450.specs.Datagram.{cut}
-use Rattle.history.specs.Emits.{Emit}
+use Rattle.gate_events.specs.Emit.{Emit}
 use Rattle.history.specs.Heard.{place_of}
 use Rattle.history.specs.Settings.{Settings}
 use Rattle.gate_model.specs.Net.{LineHeard}

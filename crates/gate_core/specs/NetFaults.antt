@@ -6,8 +6,9 @@ use Rattle.slot_views.specs.Slots.{SlotMap}
 use Rattle.tag_block.specs.declared.group_key.GroupKey.{GroupKey}
 use Rattle.tag_block.specs.declared.group_part.GroupPart.{GroupPart}
 use Rattle.tag_block.specs.Groups.{key_of}
-use Rattle.capture_text.specs.declared.emit.Detail.TheVariants as detail
-use Rattle.history.specs.Emits.{Emit, breaks, broken_of, reported}
+use Rattle.gate_events.specs.declared.emit.Detail.TheVariants as detail
+use Rattle.gate_events.specs.Emit.{Emit}
+use Rattle.history.specs.Emits.{breaks, broken_of, reported}
 use Rattle.gate_model.specs.Net.{ReadingsKept, sentences_emit}
 use Rattle.gate_model.specs.NetLines.{GroupAnswer, group_answer, group_reports, sentences_within}
 use Rattle.gate_core.specs.declared.network.heard.Heard.{Heard}

@@ -2,9 +2,9 @@
 -- that this message gives (ISO 11783-5, commanded address).
 use Rattle.std.specs.Prelude.{ℕ, ◌≤◌, Bool, true, false, ◌||◌, List, [], ◌∷◌, ◌++◌, length, filter, Option, None}
 use Rattle.n2k_id.specs.Frame.{bus_frame}
-use Rattle.capture_text.specs.declared.emit.Emit.{Emit as Lent}
-use Rattle.capture_text.specs.declared.emit.Emit.TheVariants as lent
-use Rattle.history.specs.Emits.{Emit, can, net, report}
+use Rattle.gate_events.specs.declared.emit.Emit.{Emit as Lent}
+use Rattle.gate_events.specs.declared.emit.Emit.TheVariants as lent
+use Rattle.gate_events.specs.Emit.{Emit, can, net, report}
 use Rattle.gate_core.specs.declared.done.Done.{Done}
 use Rattle.gate_core.specs.declared.done.Command.{Command}
 

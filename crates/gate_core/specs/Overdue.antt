@@ -8,7 +8,8 @@ use Rattle.fast_packet.specs.Assembly.{is_from as is_fast_from}
 use Rattle.iso_transport.specs.declared.key.IsoKey.{IsoKey}
 use Rattle.iso_transport.specs.Assembly.{is_from}
 use Rattle.iso_transport.specs.declared.answers.IsoEnded.{IsoEnded}
-use Rattle.history.specs.Emits.{Emit, of_source, replied}
+use Rattle.gate_events.specs.Emit.{Emit}
+use Rattle.history.specs.Emits.{of_source, replied}
 use Rattle.history.specs.Endings.{abort_reply}
 use Rattle.gate_model.specs.Endings.{fast_lost, sessions_lost}
 

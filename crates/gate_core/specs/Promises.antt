@@ -1,7 +1,7 @@
 -- What each call of the gateway gives, in the words of the history: of everything that ever came.
 use Rattle.std.specs.Prelude.{◌≡◌, ℕ, true, false, [], ◌∷◌, Option, None, option_map}
 use Rattle.report_rules.specs.Rules as rules
-use Rattle.capture_text.specs.declared.emit.Detail.TheVariants as detail
+use Rattle.gate_events.specs.declared.emit.Detail.TheVariants as detail
 use Rattle.history.specs.Entries as entry
 use Rattle.history.specs.Entries.{Entry, History, IsHistory, is_accepted, moment_of, now}
 use Rattle.history.specs.Settings.{Settings}

@@ -6,7 +6,8 @@ use Rattle.readings.specs.declared.rows.Row.{Row}
 use Rattle.readings.specs.Rows.{row_of}
 use Rattle.pgn_profile.specs.Payload.{payload_of, pgn_of, priority_of}
 use Rattle.fast_packet.specs.Splitting.{frames_of}
-use Rattle.history.specs.Emits.{Emit, sent}
+use Rattle.gate_events.specs.Emit.{Emit}
+use Rattle.history.specs.Emits.{sent}
 use Rattle.history.specs.NetReadings.{is_fast_row}
 
 -- a frame with these parts of its identifier

@@ -1,10 +1,11 @@
 -- What the gateway keeps of the answer to a frame of the transport protocol (ISO 11783-3), once the payload is lent no more.
 use Rattle.std.specs.Prelude.{ℕ, Bool, true, List, ◌++◌, Option, option_map}
-use Rattle.capture_text.specs.declared.emit.Report.{Report}
+use Rattle.gate_events.specs.declared.emit.Report.{Report}
 use Rattle.n2k_id.specs.declared.identifier_parts.Parts.{Parts}
 use Rattle.iso_transport.specs.Audience.{is_data, key_of}
 use Rattle.history.specs.BusRules.{is_early}
-use Rattle.history.specs.Emits.{Emit, reported, replied}
+use Rattle.gate_events.specs.Emit.{Emit}
+use Rattle.history.specs.Emits.{reported, replied}
 use Rattle.gate_model.specs.Sessions.{SessionAnswer, SessionStep, restarted_reports, refused_reports}
 use Rattle.gate_core.specs.declared.sessions.Told.{Told}
 use Rattle.gate_core.specs.Contents.{content_of, short_reports}

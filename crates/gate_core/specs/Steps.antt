@@ -1,8 +1,8 @@
 -- What a step of the gateway takes, and what it leaves (the bus: ISO 11783-3; the network: IEC 61162-450).
 use Rattle.std.specs.Prelude.{◌≡◌, ℕ, ◌++◌, length, Option, Some, None, option_map}
 use Rattle.n2k_id.specs.Frame.{IsFrame, bus_frame}
-use Rattle.capture_text.specs.declared.event.Event.{Event}
-use Rattle.capture_text.specs.declared.event.Event.TheVariants as event
+use Rattle.gate_events.specs.declared.event.Event.{Event}
+use Rattle.gate_events.specs.declared.event.Event.TheVariants as event
 use Rattle.fast_packet.specs.contracts.key.FastKeyOrd as fast_key
 use Rattle.iso_transport.specs.contracts.key.IsoKeyOrd as iso_key
 use Rattle.tag_block.specs.contracts.group_key.GroupKeyOrd as group_key

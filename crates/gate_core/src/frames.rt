@@ -3,7 +3,8 @@ ghost use Rattle.std.specs.Prelude.{◌≡◌, ◌^◌, ◌<◌, ◌≤◌, [], 
 ghost use Rattle.n2k_id.specs.Frame.{IsFrame, bus_frame};
 ghost use Rattle.n2k_id.specs.Identifier.{CanJoin};
 ghost use Rattle.iso_transport.specs.Replies.{named_pgn};
-ghost use Rattle.history.specs.Emits.{can, sent, own_claim, request_for_claims, reply_from};
+ghost use Rattle.gate_events.specs.Emit.{can};
+ghost use Rattle.history.specs.Emits.{sent, own_claim, request_for_claims, reply_from};
 
 use crate::pgn::{ADDRESS_CLAIMED, CONNECTION_MANAGEMENT, REQUEST};
 use iso_transport::{Reply, write_reply};

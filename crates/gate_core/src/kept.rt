@@ -3,7 +3,7 @@ ghost use Rattle.std.specs.Prelude.{◌≡◌, ◌<◌, [], ◌∷◌, ◌++◌,
 ghost use Rattle.gate_core.specs.Output.{most_emits};
 ghost use Rattle.gate_core.specs.Kept.{blank};
 
-use capture_text::{Detail, Report};
+use gate_events::{Detail, Report};
 use n2k_id::Frame;
 use std::marker::Model;
 
@@ -40,7 +40,7 @@ pub(crate) struct KeptList {
 impl Model for KeptList {
     ghost use Rattle.std.specs.Prelude.{◌≡◌, ◌≤◌, List, length, take};
     ghost use Rattle.std.specs.List.{AllByRecursion};
-    ghost use Rattle.history.specs.Emits.{Emit};
+    ghost use Rattle.gate_events.specs.Emit.{Emit};
     ghost use Rattle.gate_core.specs.Output.{most_emits};
     ghost use Rattle.gate_core.specs.Kept.{IsKept, first_emits};
 

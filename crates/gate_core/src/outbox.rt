@@ -2,15 +2,14 @@
 ghost use Rattle.std.specs.Prelude.{◌≡◌, ◌<◌, ◌≤◌, ◌↔◌, ◌∷◌, [], false, length, option_map, slice_get, IfSome, IsSome, Some};
 ghost use Rattle.std.specs.Borrow.{sem};
 ghost use Rattle.n2k_id.specs.Frame.{IsFrame, bus_frame};
-ghost use Rattle.capture_text.specs.Writing.{CanWrite};
-ghost use Rattle.history.specs.Emits.{can, net, report};
+ghost use Rattle.gate_events.specs.Emit.{CanWrite, can, net, report};
 ghost use Rattle.gate_core.specs.Kept.{IsKept, kept_emit};
 ghost use Rattle.gate_core.specs.Output.{Output, IsOutput, nothing, and_emits, most_emits, has_datagram, emit_of};
 
 use crate::datagram::Datagram;
 use crate::done::{Command, Done};
 use crate::kept::{Kept, KeptList};
-use capture_text::{Emit, Report};
+use gate_events::{Emit, Report};
 use n2k_id::Frame;
 use sentence_text::Group;
 use std::marker::Model;

@@ -1,8 +1,9 @@
 //! The reports that name a sender on the bus, a place in a datagram, or a group of lines.
 ghost use Rattle.std.specs.Prelude.{◌≡◌};
-ghost use Rattle.history.specs.Emits.{of_source, report, report_of};
+ghost use Rattle.gate_events.specs.Emit.{report};
+ghost use Rattle.history.specs.Emits.{of_source, report_of};
 
-use capture_text::{Detail, Report};
+use gate_events::{Detail, Report};
 use tag_block::GroupKey;
 
 /// The report that names the source and the PGN.

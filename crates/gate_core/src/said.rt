@@ -7,7 +7,7 @@ ghost use Rattle.sentence_text.specs.Byte.{is_capital};
 ghost use Rattle.source_choice.specs.Choices.{opened, forgotten, row_number};
 ghost use Rattle.tag_block.specs.Writing.{longest_packet};
 ghost use Rattle.history.specs.Choice.{is_usable, rank_of};
-ghost use Rattle.history.specs.Emits.{net};
+ghost use Rattle.gate_events.specs.Emit.{net};
 ghost use Rattle.history.specs.Settings.{rule_of};
 ghost use Rattle.gate_model.specs.Net.{row_numbers};
 ghost use Rattle.gate_model.specs.Said.{SaidKept, is_chosen, noted_by, counted, lines_more, groups_more, lines_at, datagram_by, sentences_by, rank_by};

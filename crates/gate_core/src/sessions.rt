@@ -15,7 +15,7 @@ use crate::messages::{Content, read_content, tell_short};
 use crate::outbox::Outbox;
 use crate::pgn::DATA_TRANSFER;
 use crate::reports::of_source;
-use capture_text::Report;
+use gate_events::Report;
 use iso_transport::{IsoAssembler, IsoFed, IsoKey, IsoOutcome, IsoRefusal, Reply};
 use n2k_id::{Frame, Name, Parts};
 use report_rules::{

@@ -5,9 +5,9 @@ use Rattle.std.specs.List.{AllByRecursion}
 use Rattle.std.specs.Cmp.{IsTotalOrder}
 use Rattle.std.specs.declared.cmp.Ordering.{Ordering}
 use Rattle.report_rules.specs.Rules as rules
-use Rattle.capture_text.specs.declared.emit.Detail.TheVariants as detail
+use Rattle.gate_events.specs.declared.emit.Detail.TheVariants as detail
 use Rattle.n2k_id.specs.declared.identifier_parts.Parts.{Parts}
-use Rattle.runs.specs.Runs.{open_at, finished}
+use Rattle.slot_views.specs.Runs.{open_at, finished}
 use Rattle.slot_views.specs.declared.answers.View.{View}
 use Rattle.slot_views.specs.Slots.{Entry, SlotMap, entry_at, is_held, is_full, is_complete}
 use Rattle.slot_views.specs.Answers.{Shows}

@@ -5,7 +5,7 @@ use Rattle.std.specs.List.{flat_map}
 use Rattle.std.specs.declared.cmp.Ordering.{Ordering}
 use Rattle.std.proofs.lemmas.Bool.{eqb-true, ne_eqb, and_parts}
 use Rattle.report_rules.specs.Rules as rules
-use Rattle.runs.specs.Runs.{open_at}
+use Rattle.slot_views.specs.Runs.{open_at}
 use Rattle.n2k_id.specs.Frame.{BusFrame}
 use Rattle.n2k_id.specs.Identifier.{parts_of}
 use Rattle.n2k_id.specs.declared.name.Name.{Name}
@@ -23,7 +23,8 @@ use Rattle.history.specs.Receiver.{Receiver}
 use Rattle.history.specs.Known.{known, is_claim, claim_by, held_since, address_left, address_won}
 use Rattle.history.specs.Traces.{Note, fast_trace}
 use Rattle.history.specs.Opens.{is_fast, fast_open, notes_of}
-use Rattle.history.specs.Emits.{Emit, of_source}
+use Rattle.gate_events.specs.Emit.{Emit}
+use Rattle.history.specs.Emits.{of_source}
 use Rattle.history.specs.Endings as endings
 use Rattle.history.specs.AddressLaws.{IsReceiver}
 use Rattle.history.specs.TraceLaws.{LeavesTraces}

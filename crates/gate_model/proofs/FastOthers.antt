@@ -11,7 +11,7 @@ use Rattle.claim_table.specs.Claims.{holder_at}
 use Rattle.claim_table.specs.Laws.{IsSound}
 use Rattle.pgn_profile.specs.declared.kinds.Kind.{Kind}
 use Rattle.pgn_profile.specs.declared.kinds.Kind.TheVariants.{Single, Fast, Outside}
-use Rattle.runs.specs.Runs.{open_at}
+use Rattle.slot_views.specs.Runs.{open_at}
 use Rattle.slot_views.specs.Slots.{SlotMap}
 use Rattle.iso_transport.specs.Audience.{is_own, is_to}
 use Rattle.fast_packet.specs.declared.key.FastKey.{FastKey}

@@ -4,7 +4,7 @@ use Rattle.std.specs.Prelude.{Option, Some, None, if◌then◌else◌}
 use Rattle.std.specs.List.{flat_map}
 use Rattle.std.specs.declared.cmp.Ordering.{Ordering}
 use Rattle.report_rules.specs.Rules as rules
-use Rattle.runs.specs.Runs.{in_time, kept_at, open_of, open_at}
+use Rattle.slot_views.specs.Runs.{in_time, kept_at, open_of, open_at}
 use Rattle.claim_table.specs.declared.answer.Holder.{Holder}
 use Rattle.pgn_profile.specs.declared.kinds.Kind.{Kind}
 use Rattle.slot_views.specs.Slots.{Entry, SlotMap, entry_at, is_expired, has_expired}
@@ -17,7 +17,8 @@ use Rattle.fast_packet.proofs.Assemblies.{kept_is}
 use Rattle.history.specs.Known.{known, held_since}
 use Rattle.history.specs.Traces.{Note, fast_trace, fast_trace_since}
 use Rattle.history.specs.Opens.{is_fast, fast_open}
-use Rattle.history.specs.Emits.{Emit, of_source}
+use Rattle.gate_events.specs.Emit.{Emit}
+use Rattle.history.specs.Emits.{of_source}
 use Rattle.history.specs.Endings.{fast_expired}
 use Rattle.history.specs.CountLaws.{HoldsFast}
 use Rattle.history.proofs.KeySteps.{fast_ends}

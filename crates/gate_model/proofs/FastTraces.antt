@@ -3,7 +3,7 @@ use Rattle.std.proofs.Common.{◌≡◌, ℕ, ◌+◌, ◌≤◌, Bool, true, fa
 use Rattle.std.specs.Prelude.{Option, Some, None, filter, if◌then◌else◌}
 use Rattle.std.specs.List.{AllByRecursion}
 use Rattle.std.proofs.lemmas.Bool.{le-leb}
-use Rattle.runs.specs.Runs.{in_time, is_admitted, is_whole, if_open, kept_at, open_of, open_at, fed, fed_later}
+use Rattle.slot_views.specs.Runs.{in_time, is_admitted, is_whole, if_open, kept_at, open_of, open_at, fed, fed_later}
 use Rattle.fast_packet.specs.FastFrames.{gap, is_opener}
 use Rattle.fast_packet.specs.FastRuns.{FastPiece, is_next, is_repeat, fast_rules}
 use Rattle.history.specs.Entries.{History, IsHistory, frame, datagram, tick, command}

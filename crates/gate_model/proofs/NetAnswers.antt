@@ -3,11 +3,11 @@ use Rattle.std.proofs.Common.{◌≡◌, ℕ, Bool, true, false, ◌&&◌, ◌||
 use Rattle.std.specs.Prelude.{Option, Some, None, option_map, if◌then◌else◌}
 use Rattle.std.specs.List.{AllByRecursion}
 use Rattle.std.specs.declared.cmp.Ordering.{Ordering}
-use Rattle.capture_text.specs.declared.emit.Detail.TheVariants as detail
+use Rattle.gate_events.specs.declared.emit.Detail.TheVariants as detail
 use Rattle.report_rules.specs.Rules as rules
-use Rattle.runs.specs.Runs.{accepted, accepted_after, in_time, is_admitted, if_whole, since_opener, opener_of, open_at, run_of, finished, finished_later}
-use Rattle.runs.proofs.Steps.{one_step_of}
-use Rattle.runs.proofs.Suffixes.{one_suffix_of}
+use Rattle.slot_views.specs.Runs.{accepted, accepted_after, in_time, is_admitted, if_whole, since_opener, opener_of, open_at, run_of, finished, finished_later}
+use Rattle.slot_views.proofs.RunSteps.{one_step_of}
+use Rattle.slot_views.proofs.RunSuffixes.{one_suffix_of}
 use Rattle.slot_views.specs.Slots.{Entry, SlotMap, grown, entry_at, is_held, is_full, is_complete}
 use Rattle.slot_views.specs.Answers.{Shows}
 use Rattle.tag_block.specs.declared.group_key.GroupKey.{GroupKey}

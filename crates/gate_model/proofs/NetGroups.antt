@@ -5,9 +5,9 @@ use Rattle.std.specs.List.{AllByRecursion, flat_map}
 use Rattle.std.specs.BTreeMap.{is_at}
 use Rattle.std.specs.declared.cmp.Ordering.{Ordering}
 use Rattle.std.proofs.lemmas.Bool.{le-leb}
-use Rattle.capture_text.specs.declared.emit.Detail.TheVariants as detail
+use Rattle.gate_events.specs.declared.emit.Detail.TheVariants as detail
 use Rattle.report_rules.specs.Rules as rules
-use Rattle.runs.specs.Runs.{is_admitted, is_whole, if_open, kept_at, fed, fed_later}
+use Rattle.slot_views.specs.Runs.{is_admitted, is_whole, if_open, kept_at, fed, fed_later}
 use Rattle.slot_views.specs.Slots.{Entry, SlotMap, Changes, entry_at, is_full, has_expired, is_expired}
 use Rattle.slot_views.specs.Traces.{left_at, unexpired}
 use Rattle.slot_views.proofs.Tied.{unexpired_at, ordered_filtered}
@@ -18,7 +18,8 @@ use Rattle.tag_block.specs.GroupRuns.{GroupLine, is_next, group_rules}
 use Rattle.tag_block.specs.GroupLaws.{group_at}
 use Rattle.tag_block.proofs.GroupPrefixes.{kept_is}
 use Rattle.tag_block.proofs.GroupKeys.{steps_with_runs}
-use Rattle.history.specs.Emits.{Emit, broken}
+use Rattle.gate_events.specs.Emit.{Emit}
+use Rattle.history.specs.Emits.{broken}
 use Rattle.history.specs.Endings.{groups_expired}
 use Rattle.history.specs.Heard.{Taken, several, group_line, group_trace, group_open, is_group_admitted}
 use Rattle.history.specs.CountLaws.{HoldsGroups}

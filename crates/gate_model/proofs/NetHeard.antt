@@ -3,7 +3,7 @@ use Rattle.std.proofs.Common.{◌≡◌, ℕ, Bool, true, false, nat_le, List, [
 use Rattle.std.specs.Prelude.{Option, Some, None, IfSome, if◌then◌else◌}
 use Rattle.std.specs.List.{AllByRecursion}
 use Rattle.std.proofs.lemmas.Bool.{leb-true}
-use Rattle.runs.specs.Runs.{open_at}
+use Rattle.slot_views.specs.Runs.{open_at}
 use Rattle.tag_block.specs.declared.group_key.GroupKey.{GroupKey}
 use Rattle.tag_block.specs.declared.group_part.GroupPart.{GroupPart}
 use Rattle.tag_block.specs.Groups.{IsGroupPart}

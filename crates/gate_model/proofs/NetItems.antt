@@ -4,7 +4,7 @@ use Rattle.std.specs.Prelude.{Option, Some, None, Result, Ok, Err, IfOk, if◌th
 use Rattle.std.specs.List.{AllByRecursion}
 use Rattle.std.specs.declared.cmp.Ordering.{Ordering}
 use Rattle.claim_table.specs.Claims.{is_ready}
-use Rattle.capture_text.specs.declared.emit.Report.{Report}
+use Rattle.gate_events.specs.declared.emit.Report.{Report}
 use Rattle.tag_block.specs.declared.group_key.GroupKey.{GroupKey}
 use Rattle.tag_block.specs.declared.group_part.GroupPart.{GroupPart}
 use Rattle.tag_block.specs.Tag.{Said}
@@ -18,7 +18,8 @@ use Rattle.datagram450.proofs.Items.{each_is}
 use Rattle.history.specs.Settings.{Settings}
 use Rattle.history.specs.Receiver.{receiver_of}
 use Rattle.history.specs.Known.{known}
-use Rattle.history.specs.Emits.{Emit, reported}
+use Rattle.gate_events.specs.Emit.{Emit}
+use Rattle.history.specs.Emits.{reported}
 use Rattle.history.specs.Heard as heard_lines
 use Rattle.history.specs.Heard.{Came, Taken, came_at, with_items, several, place_of, is_taken, is_own_line, is_elsewhere, is_line_admitted, handed_over, lines_of}
 use Rattle.history.specs.NetReadings.{with_sentences, readings_of}

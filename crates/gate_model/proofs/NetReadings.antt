@@ -18,8 +18,9 @@ use Rattle.source_choice.specs.Choices.{row_number, row_at, nothing, noted, with
 use Rattle.source_choice.proofs.NoteLemmas.{from_with, noted_here, others_noted}
 use Rattle.history.specs.Settings.{Settings}
 use Rattle.report_rules.specs.Rules.{not_ready}
-use Rattle.capture_text.specs.declared.emit.Detail.TheVariants.{At}
-use Rattle.history.specs.Emits.{Emit, broken, sent, reported}
+use Rattle.gate_events.specs.declared.emit.Detail.TheVariants.{At}
+use Rattle.gate_events.specs.Emit.{Emit}
+use Rattle.history.specs.Emits.{broken, sent, reported}
 use Rattle.history.specs.Choice.{is_row}
 use Rattle.history.specs.Heard.{Taken, same_text, place_of}
 use Rattle.history.specs.NetReadings.{NetReading, read_sentence, with_readings, with_said, with_sentences, last_heard, is_net_selected, is_fast_row, fast_sent, next_sequence}

@@ -21,7 +21,7 @@ use Rattle.history.specs.Messages.{Message, Carried, done, messages_of, said_by,
 use Rattle.history.specs.Opens.{note_of, notes_of}
 use Rattle.history.specs.Choice.{reading_of, rank_of, holder_rank, is_first, selected_reading}
 use Rattle.history.specs.Datagrams.{Spoken}
-use Rattle.history.specs.Emits.{Emit, net}
+use Rattle.gate_events.specs.Emit.{Emit, net}
 use Rattle.history.specs.FromBus.{chosen, said_in}
 use Rattle.history.specs.Gate.{with_spoken, spoken_of}
 use Rattle.history.specs.FreshLaws.{last_since, last_of, tells}

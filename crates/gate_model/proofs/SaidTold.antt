@@ -3,7 +3,7 @@ use Rattle.std.proofs.Common.{◌≡◌, ℕ, Bool, true, false, [], ◌∷◌, 
 use Rattle.std.specs.Prelude.{Option, Some, None, option_map, slice_index, if◌then◌else◌}
 use Rattle.claim_table.specs.declared.answer.Holder.{Holder}
 use Rattle.report_rules.specs.Rules as rules
-use Rattle.capture_text.specs.declared.emit.Detail.TheVariants as detail
+use Rattle.gate_events.specs.declared.emit.Detail.TheVariants as detail
 use Rattle.pgn_profile.specs.Profiled.{profiled}
 use Rattle.history.specs.Entries.{Entry, command}
 use Rattle.history.specs.Settings.{Settings}

@@ -3,8 +3,8 @@ use Rattle.std.proofs.Common.{◌≡◌, ℕ, Bool, true, false, ◌&&◌, ◌||
 use Rattle.std.specs.Prelude.{Option, Some, None, option_map, slice_index, if◌then◌else◌}
 use Rattle.std.proofs.lemmas.Bool.{ltb-false, le-leb}
 use Rattle.report_rules.specs.Rules as rules
-use Rattle.capture_text.specs.declared.emit.Report.{Report}
-use Rattle.capture_text.specs.declared.emit.Detail.TheVariants as detail
+use Rattle.gate_events.specs.declared.emit.Report.{Report}
+use Rattle.gate_events.specs.declared.emit.Detail.TheVariants as detail
 use Rattle.claim_table.specs.declared.answer.Holder.{Holder}
 use Rattle.slot_views.specs.Slots.{Entry, entry_at}
 use Rattle.iso_transport.specs.declared.session.Session.{Session}

@@ -10,7 +10,7 @@ use Rattle.std.specs.declared.cmp.Ordering.{Ordering}
 use Rattle.std.specs.declared.cmp.Ordering.TheVariants.{Less}
 use Rattle.slot_views.specs.Slots.{Entry, SlotMap, IsOrdered, IsMap, entry_at, remaining}
 use Rattle.slot_views.proofs.Tied.{same_itself, ordered_filtered}
-use Rattle.history.specs.Emits.{Emit}
+use Rattle.gate_events.specs.Emit.{Emit}
 use Rattle.history.specs.ListLaws.{keys_that}
 
 filtered_fewer : {X : Type 0} (p : X → Bool) (xs : List X) → length (filter p xs) ≤ length xs

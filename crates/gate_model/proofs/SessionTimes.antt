@@ -4,7 +4,7 @@ use Rattle.std.specs.Prelude.{Option, Some, None, is_none}
 use Rattle.std.specs.List.{flat_map}
 use Rattle.std.specs.declared.cmp.Ordering.{Ordering}
 use Rattle.report_rules.specs.Rules as rules
-use Rattle.runs.specs.Runs.{open_at}
+use Rattle.slot_views.specs.Runs.{open_at}
 use Rattle.slot_views.specs.Slots.{Entry, SlotMap, entry_at, is_expired, has_expired}
 use Rattle.slot_views.specs.Traces.{left_at, unexpired}
 use Rattle.slot_views.proofs.Tied.{unexpired_at}
@@ -18,7 +18,8 @@ use Rattle.history.specs.Receiver.{Receiver}
 use Rattle.history.specs.Known.{Known, known}
 use Rattle.history.specs.Traces.{Note, iso_trace}
 use Rattle.history.specs.Opens.{iso_open, notes_of}
-use Rattle.history.specs.Emits.{Emit, of_source, replied}
+use Rattle.gate_events.specs.Emit.{Emit}
+use Rattle.history.specs.Emits.{of_source, replied}
 use Rattle.history.specs.Endings.{session_pgn, abort_reply, iso_expired}
 use Rattle.history.specs.AddressLaws.{IsReceiver}
 use Rattle.history.specs.CountLaws.{HoldsIso}

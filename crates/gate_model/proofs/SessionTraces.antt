@@ -3,7 +3,7 @@ use Rattle.std.proofs.Common.{◌≡◌, ℕ, ◌≤◌, Bool, true, false, ◌&
 use Rattle.std.specs.Prelude.{Option, Some, None, filter, if◌then◌else◌, option_map}
 use Rattle.std.specs.List.{AllByRecursion}
 use Rattle.std.proofs.lemmas.Bool.{and_parts}
-use Rattle.runs.specs.Runs.{in_time, kept_at, open_of, open_at}
+use Rattle.slot_views.specs.Runs.{in_time, kept_at, open_of, open_at}
 use Rattle.slot_views.specs.Slots.{Entry}
 use Rattle.iso_transport.specs.declared.key.IsoKey.{IsoKey}
 use Rattle.iso_transport.specs.declared.session.Session.{Session}

@@ -16,7 +16,8 @@ use Rattle.history.specs.Opens.{notes_of}
 use Rattle.history.specs.Meanings as meanings
 use Rattle.history.specs.Meanings.{Meaning, is_of_session, is_of_fast_packet}
 use Rattle.history.specs.Messages.{Message, done, messages_of}
-use Rattle.history.specs.Emits.{Emit, reported}
+use Rattle.gate_events.specs.Emit.{Emit}
+use Rattle.history.specs.Emits.{reported}
 use Rattle.history.specs.Endings as endings
 use Rattle.history.specs.Endings.{lost_elsewhere}
 use Rattle.history.specs.FromBus.{meaning_after, frame_refused, answers_by, own_answer, step_gives, chosen, said_in}

@@ -14,7 +14,8 @@ use Rattle.history.specs.Known.{Known, known, is_claim}
 use Rattle.history.specs.Opens.{notes_of}
 use Rattle.history.specs.Meanings as meanings
 use Rattle.history.specs.Meanings.{Meaning}
-use Rattle.history.specs.Emits.{Emit, own_claim, reported}
+use Rattle.gate_events.specs.Emit.{Emit}
+use Rattle.history.specs.Emits.{own_claim, reported}
 use Rattle.history.specs.FromBus.{meaning_after, answers_by, command_gives, request_gives}
 use Rattle.history.specs.Gate as gate
 use Rattle.history.specs.Gate.{heard, expired, out}

@@ -4,7 +4,7 @@ use Rattle.std.specs.Prelude.{Option, option_map, if◌then◌else◌}
 use Rattle.n2k_id.specs.Frame.{BusFrame}
 use Rattle.n2k_id.specs.Identifier.{parts_of}
 use Rattle.n2k_id.specs.declared.identifier_parts.Parts.{Parts}
-use Rattle.capture_text.specs.declared.emit.Report.{Report}
+use Rattle.gate_events.specs.declared.emit.Report.{Report}
 use Rattle.claim_table.specs.Claims.{holder_at, is_ready}
 use Rattle.slot_views.specs.Slots.{SlotMap}
 use Rattle.fast_packet.specs.declared.key.FastKey.{FastKey}
@@ -17,7 +17,8 @@ use Rattle.history.specs.Known.{Known, known, is_claim}
 use Rattle.history.specs.Meanings as meanings
 use Rattle.history.specs.Meanings.{Meaning, meaning_of, is_address_claim, is_of_session, is_of_fast_packet}
 use Rattle.history.specs.Messages.{Carried, done, said_by}
-use Rattle.history.specs.Emits.{Emit, reported, replied}
+use Rattle.gate_events.specs.Emit.{Emit}
+use Rattle.history.specs.Emits.{reported, replied}
 use Rattle.history.specs.FromBus.{meaning_after, frame_refused, answers_by}
 use Rattle.history.specs.Gate as gate
 use Rattle.history.specs.AddressLaws.{IsReceiver, AreSettings}

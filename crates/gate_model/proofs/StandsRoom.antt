@@ -15,7 +15,7 @@ use Rattle.history.specs.FromNet.{items_in}
 use Rattle.history.specs.Meanings.{Meaning}
 use Rattle.history.specs.Meanings as meanings
 use Rattle.history.specs.Known.{is_claim}
-use Rattle.history.specs.Emits.{Emit}
+use Rattle.gate_events.specs.Emit.{Emit}
 use Rattle.history.specs.AddressLaws.{AreSettings}
 use Rattle.history.specs.FitLaws.{IsWithinLimits}
 use Rattle.history.proofs.FitRoom.{room_suffices}

@@ -3,7 +3,7 @@ use Rattle.std.proofs.Common.{◌≡◌, ℕ, Bool, false, ◌&&◌, List, [], �
 use Rattle.std.specs.Prelude.{Option, Some, None, filter}
 use Rattle.std.specs.List.{flat_map}
 use Rattle.report_rules.specs.Rules as rules
-use Rattle.capture_text.specs.declared.emit.Detail.TheVariants as detail
+use Rattle.gate_events.specs.declared.emit.Detail.TheVariants as detail
 use Rattle.fast_packet.specs.declared.key.FastKey.{FastKey}
 use Rattle.iso_transport.specs.declared.key.IsoKey.{IsoKey}
 use Rattle.tag_block.specs.declared.group_key.GroupKey.{GroupKey}
@@ -15,7 +15,8 @@ use Rattle.history.specs.Known.{Known, known}
 use Rattle.history.specs.Traces.{Note}
 use Rattle.history.specs.Opens.{fast_keys, iso_keys, fast_open, iso_open, notes_of}
 use Rattle.history.specs.Heard.{Taken, group_keys, group_open, lines_of}
-use Rattle.history.specs.Emits.{Emit, of_source, broken, replied}
+use Rattle.gate_events.specs.Emit.{Emit}
+use Rattle.history.specs.Emits.{of_source, broken, replied}
 use Rattle.history.specs.Endings.{fast_ended, iso_ended, group_ended, session_pgn, abort_reply}
 use Rattle.history.specs.Gate.{heard, expired}
 use Rattle.history.specs.AddressLaws.{IsReceiver}

@@ -2,8 +2,8 @@
 -- frame and a command make of it and give. Nothing here speaks of what came before.
 use Rattle.std.specs.Prelude.{ℕ, ◌+◌, ◌-◌, ◌^◌, min, Bool, ◌&&◌, ◌||◌, not, ◌==◌, nat_lt, List, [], ◌∷◌, length, Option, Some, None, if◌then◌else◌}
 use Rattle.report_rules.specs.Rules as rules
-use Rattle.capture_text.specs.declared.emit.Report.{Report}
-use Rattle.capture_text.specs.declared.emit.Detail.TheVariants as detail
+use Rattle.gate_events.specs.declared.emit.Report.{Report}
+use Rattle.gate_events.specs.declared.emit.Detail.TheVariants as detail
 use Rattle.n2k_id.specs.declared.identifier_parts.Parts.{Parts}
 use Rattle.n2k_id.specs.Frame.{BusFrame}
 use Rattle.n2k_id.specs.Name.{name_at}
@@ -15,7 +15,8 @@ use Rattle.history.specs.Receiver.{Receiver}
 use Rattle.history.specs.Known.{is_claim, claim_by}
 use Rattle.history.specs.Meanings.{Meaning, address_claim, own_source, request, from_nobody, transport, single, fast_packet, passed}
 use Rattle.history.specs.Messages.{Carried, carried}
-use Rattle.history.specs.Emits.{Emit, breaks, broken_of, report_of}
+use Rattle.gate_events.specs.Emit.{Emit}
+use Rattle.history.specs.Emits.{breaks, broken_of, report_of}
 use Rattle.history.specs.FromBus.{own_answer}
 use Rattle.gate_model.specs.FastPackets.{sender_of}
 use Rattle.gate_model.specs.Said.{short_reports}

@@ -2,13 +2,14 @@
 use Rattle.std.specs.Prelude.{ℕ, Bool, List, [], ◌∷◌, filter, Option}
 use Rattle.std.specs.List.{flat_map}
 use Rattle.report_rules.specs.Rules as rules
-use Rattle.capture_text.specs.declared.emit.Detail.TheVariants as detail
+use Rattle.gate_events.specs.declared.emit.Detail.TheVariants as detail
 use Rattle.slot_views.specs.Slots.{Entry, SlotMap, has_expired}
 use Rattle.fast_packet.specs.declared.key.FastKey.{FastKey}
 use Rattle.iso_transport.specs.declared.key.IsoKey.{IsoKey}
 use Rattle.iso_transport.specs.Verdicts.{pgn_in}
 use Rattle.tag_block.specs.declared.group_key.GroupKey.{GroupKey}
-use Rattle.history.specs.Emits.{Emit, broken, of_source, replied}
+use Rattle.gate_events.specs.Emit.{Emit}
+use Rattle.history.specs.Emits.{broken, of_source, replied}
 use Rattle.history.specs.Endings.{abort_reply}
 
 -- ---- by time

@@ -19,7 +19,7 @@ use Rattle.history.specs.Known.{known, is_claim, claim_by, address_left, address
 use Rattle.history.specs.Traces.{Note}
 use Rattle.history.specs.Opens.{is_fast, fast_open, notes_of}
 use Rattle.history.specs.Meanings.{fast_packet, is_of_fast_packet}
-use Rattle.history.specs.Emits.{Emit}
+use Rattle.gate_events.specs.Emit.{Emit}
 use Rattle.history.specs.Endings as endings
 use Rattle.history.specs.Endings.{fast_expired}
 use Rattle.history.specs.Messages.{done, said_by}

@@ -3,9 +3,9 @@
 use Rattle.std.specs.Prelude.{ℕ, Bool, false, ◌||◌, List, [], ◌∷◌, ◌++◌, Option, Some, None, option_map, if◌then◌else◌}
 use Rattle.std.specs.declared.cmp.Ordering.{Ordering}
 use Rattle.report_rules.specs.Rules as rules
-use Rattle.capture_text.specs.declared.emit.Report.{Report}
-use Rattle.capture_text.specs.declared.emit.Detail.{Detail}
-use Rattle.capture_text.specs.declared.emit.Detail.TheVariants as detail
+use Rattle.gate_events.specs.declared.emit.Report.{Report}
+use Rattle.gate_events.specs.declared.emit.Detail.{Detail}
+use Rattle.gate_events.specs.declared.emit.Detail.TheVariants as detail
 use Rattle.n2k_id.specs.declared.identifier_parts.Parts.{Parts}
 use Rattle.claim_table.specs.Claims.{is_at}
 use Rattle.slot_views.specs.Slots.{Entry, SlotMap, entry_at, is_held, is_full, is_complete, remaining}
@@ -18,7 +18,8 @@ use Rattle.fast_packet.specs.declared.answers.FastOutcome.{FastOutcome}
 use Rattle.fast_packet.specs.declared.answers.FastOutcome.TheVariants.{Held, Complete, Repeat, Refused}
 use Rattle.fast_packet.specs.declared.answers.FastFed.{FastFed}
 use Rattle.fast_packet.specs.Assembly.{verdict, opening, extended, fed_after, is_from}
-use Rattle.history.specs.Emits.{Emit, report_of}
+use Rattle.gate_events.specs.Emit.{Emit}
+use Rattle.history.specs.Emits.{report_of}
 use Rattle.history.specs.Messages.{Carried, carried}
 use Rattle.history.specs.RuleLaws.{fast_refusal_breaks}
 use Rattle.gate_model.specs.Endings.{fast_lost}

@@ -9,7 +9,7 @@ use Rattle.iso_transport.specs.declared.key.IsoKey.{IsoKey}
 use Rattle.tag_block.specs.declared.group_key.GroupKey.{GroupKey}
 use Rattle.history.specs.Settings.{Settings}
 use Rattle.history.specs.Receiver.{receiver_of}
-use Rattle.history.specs.Emits.{Emit}
+use Rattle.gate_events.specs.Emit.{Emit}
 use Rattle.gate_model.specs.Endings.{fast_overdue, sessions_overdue, groups_overdue}
 use Rattle.gate_model.specs.Addresses.{AddressesKept, addresses_at_start, counted}
 use Rattle.gate_model.specs.Said.{SaidKept, Complete, nothing_said}

@@ -4,8 +4,8 @@ use Rattle.n2k_id.specs.declared.identifier_parts.Parts.{Parts}
 use Rattle.n2k_id.specs.Frame.{BusFrame}
 use Rattle.n2k_id.specs.Identifier.{parts_of}
 use Rattle.report_rules.specs.Rules as rules
-use Rattle.capture_text.specs.declared.emit.Detail.TheVariants as detail
-use Rattle.capture_text.specs.declared.emit.Report.{Report}
+use Rattle.gate_events.specs.declared.emit.Detail.TheVariants as detail
+use Rattle.gate_events.specs.declared.emit.Report.{Report}
 use Rattle.claim_table.specs.Claims.{Outcome, command, holder_at, is_obeyed, is_ready}
 use Rattle.pgn_profile.specs.Profiled.{kind_of}
 use Rattle.datagram450.specs.Datagram as datagrams
@@ -15,7 +15,8 @@ use Rattle.history.specs.Known.{is_claim, address_left, address_won}
 use Rattle.history.specs.TraceLaws.{same_own}
 use Rattle.history.specs.Messages.{Carried}
 use Rattle.history.specs.Meanings.{Meaning, address_claim, own_source, request, from_nobody, transport, single, fast_packet, passed, meaning_of}
-use Rattle.history.specs.Emits.{Emit, broken, reported, own_claim, replied}
+use Rattle.gate_events.specs.Emit.{Emit}
+use Rattle.history.specs.Emits.{broken, reported, own_claim, replied}
 use Rattle.history.specs.FromBus.{own_answer, request_gives, command_breaks}
 use Rattle.gate_model.specs.Machine.{Compared, Machine, Step, later, overdue, counted_in}
 use Rattle.gate_model.specs.Addresses.{claimed, plain_reports, plain_done}

@@ -13,9 +13,10 @@ use Rattle.source_choice.specs.declared.rank.Rank.{Rank}
 use Rattle.source_choice.specs.declared.note.Note.{Note}
 use Rattle.source_choice.specs.Notes.{is_selected}
 use Rattle.source_choice.specs.Choices.{Choices, row_number, opened, row_at, with_noted}
-use Rattle.capture_text.specs.declared.emit.Detail.TheVariants as detail
+use Rattle.gate_events.specs.declared.emit.Detail.TheVariants as detail
 use Rattle.history.specs.Settings.{Settings, rule_at}
-use Rattle.history.specs.Emits.{Emit, broken, sent}
+use Rattle.gate_events.specs.Emit.{Emit}
+use Rattle.history.specs.Emits.{broken, sent}
 use Rattle.history.specs.Choice.{is_usable}
 use Rattle.history.specs.NetReadings.{read_sentence, is_fast_row}
 

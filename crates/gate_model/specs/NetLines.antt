@@ -17,10 +17,11 @@ use Rattle.tag_block.specs.Tag.{Said}
 use Rattle.datagram450.specs.declared.fault.DatagramFault.{DatagramFault}
 use Rattle.datagram450.specs.Datagram.{cut}
 use Rattle.datagram450.specs.Item.{Item, line, bad}
-use Rattle.capture_text.specs.declared.emit.Report.{Report}
-use Rattle.capture_text.specs.declared.emit.Detail.TheVariants as detail
+use Rattle.gate_events.specs.declared.emit.Report.{Report}
+use Rattle.gate_events.specs.declared.emit.Detail.TheVariants as detail
 use Rattle.history.specs.Settings.{Settings}
-use Rattle.history.specs.Emits.{Emit, breaks, broken_of, broken, reported}
+use Rattle.gate_events.specs.Emit.{Emit}
+use Rattle.history.specs.Emits.{breaks, broken_of, broken, reported}
 use Rattle.history.specs.Heard.{several, place_of, is_taken}
 use Rattle.history.specs.NetRules.{datagram_breaks, line_breaks}
 use Rattle.history.specs.FromNet.{items_in}

@@ -3,8 +3,8 @@
 use Rattle.std.specs.Prelude.{ℕ, ◌+◌, ◌%◌, Bool, ◌&&◌, ◌==◌, nat_le, List, [], ◌∷◌, ◌++◌, length, map, slice_index, Option, Some, None, option_map, if◌then◌else◌}
 use Rattle.report_rules.specs.Rules as rules
 use Rattle.n2k_id.specs.Name.{name_at}
-use Rattle.capture_text.specs.declared.emit.Report.{Report}
-use Rattle.capture_text.specs.declared.emit.Detail.TheVariants as detail
+use Rattle.gate_events.specs.declared.emit.Report.{Report}
+use Rattle.gate_events.specs.declared.emit.Detail.TheVariants as detail
 use Rattle.claim_table.specs.Claims.{places}
 use Rattle.claim_table.specs.declared.answer.ClaimStep.{ClaimStep}
 use Rattle.claim_table.specs.declared.answer.Holder.{Holder}
@@ -28,7 +28,8 @@ use Rattle.history.specs.Choice.{rank_of, reading_in, is_usable}
 use Rattle.history.specs.Heard.{same_text}
 use Rattle.history.specs.Datagrams.{lines_from}
 use Rattle.history.specs.BusRules.{is_short}
-use Rattle.history.specs.Emits.{Emit, net, report_of}
+use Rattle.gate_events.specs.Emit.{Emit, net}
+use Rattle.history.specs.Emits.{report_of}
 use Rattle.gate_model.specs.Net.{row_numbers, timeouts}
 
 -- ---- what is kept

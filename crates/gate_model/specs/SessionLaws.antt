@@ -19,7 +19,8 @@ use Rattle.history.specs.Known.{Known, known, is_claim, claim_by, address_left, 
 use Rattle.history.specs.Traces.{Note}
 use Rattle.history.specs.Opens.{iso_open, notes_of}
 use Rattle.history.specs.Meanings.{transport, is_of_session}
-use Rattle.history.specs.Emits.{Emit, replied}
+use Rattle.gate_events.specs.Emit.{Emit}
+use Rattle.history.specs.Emits.{replied}
 use Rattle.history.specs.Endings.{iso_expired, iso_lost, lost_elsewhere}
 use Rattle.history.specs.Messages.{done, said_by}
 use Rattle.history.specs.FromBus.{meaning_after, frame_refused, answers_by}

@@ -3,8 +3,8 @@
 use Rattle.std.specs.Prelude.{◌≡◌, ℕ, Bool, true, false, ◌&&◌, ◌||◌, List, [], ◌∷◌, ◌++◌, Option, Some, None, option_map, if◌then◌else◌}
 use Rattle.std.specs.declared.cmp.Ordering.{Ordering}
 use Rattle.report_rules.specs.Rules as rules
-use Rattle.capture_text.specs.declared.emit.Report.{Report}
-use Rattle.capture_text.specs.declared.emit.Detail.TheVariants as detail
+use Rattle.gate_events.specs.declared.emit.Report.{Report}
+use Rattle.gate_events.specs.declared.emit.Detail.TheVariants as detail
 use Rattle.n2k_id.specs.declared.identifier_parts.Parts.{Parts}
 use Rattle.claim_table.specs.Claims.{is_at}
 use Rattle.claim_table.specs.declared.answer.OwnAnswer.{OwnAnswer}
@@ -25,7 +25,8 @@ use Rattle.iso_transport.specs.Answers.{restarted_by, reply_by}
 use Rattle.iso_transport.specs.Keys.{refusal_of}
 use Rattle.iso_transport.specs.RunVerdicts.{Message, completed_by}
 use Rattle.iso_transport.specs.Joining.{piece_of}
-use Rattle.history.specs.Emits.{Emit, report_of}
+use Rattle.gate_events.specs.Emit.{Emit}
+use Rattle.history.specs.Emits.{report_of}
 use Rattle.history.specs.Messages.{Carried, carried}
 use Rattle.history.specs.BusRules.{is_early}
 use Rattle.gate_model.specs.Endings.{sessions_lost}

@@ -8,7 +8,7 @@ use Rattle.history.specs.Entries as entry
 use Rattle.history.specs.Entries.{Entry, History, IsHistory, IsOffered, moment_of, now, is_accepted}
 use Rattle.history.specs.EntryLaws.{IsEvent}
 use Rattle.report_rules.specs.Rules as rules
-use Rattle.capture_text.specs.declared.emit.Detail.TheVariants as detail
+use Rattle.gate_events.specs.declared.emit.Detail.TheVariants as detail
 use Rattle.history.specs.Messages.{done}
 use Rattle.history.specs.Emits.{broken}
 use Rattle.history.specs.Gate.{out, expired}

@@ -5,7 +5,8 @@ use Rattle.std.specs.List.{AllByRecursion}
 use Rattle.history.specs.Settings.{Settings}
 use Rattle.history.specs.Entries.{Entry, History, IsHistory, IsOffered}
 use Rattle.history.specs.EntryLaws.{IsEvent}
-use Rattle.history.specs.Emits.{Emit, Emitted, at}
+use Rattle.gate_events.specs.Emit.{Emit, Emitted}
+use Rattle.history.specs.Emits.{at}
 use Rattle.history.specs.Gate as gate
 use Rattle.history.specs.AddressLaws.{AreSettings}
 use Rattle.gate_model.specs.Said.{Ordered, ordered_by}

@@ -1,8 +1,8 @@
 -- What a link tells, and what its calls do to it.
 use Rattle.std.specs.Prelude.{◌≡◌, ◌≤◌, ℕ, Bool, true, false, List, [], ◌∷◌, ◌++◌, length, take, map, ⊤, Option, Some, None, Result, Ok, Err}
 use Rattle.gate_outside.specs.declared.Failed.{Failed}
-use Rattle.gate_outside.specs.declared.address.Route.{Route}
-use Rattle.gate_outside.specs.declared.address.Routes.{Routes}
+use Rattle.network_routes.specs.declared.Route.{Route}
+use Rattle.network_routes.specs.declared.Routes.{Routes}
 use Rattle.gate_outside.specs.declared.link.Arrival.{Arrival}
 use Rattle.gate_outside.specs.declared.link.Arrival.TheVariants.{Bytes, Nothing}
 

@@ -10,7 +10,6 @@
 //! The adapters over a reader and a writer of std tell what std tells of these.
 #![tactic(auto)]
 
-mod address;
 mod attached;
 mod clock;
 mod failures;
@@ -34,7 +33,6 @@ mod source;
 mod streams;
 mod supply;
 
-pub use address::{Address, Route, Routes};
 pub use clock::Clock;
 pub use files::{Files, LARGEST_FILE};
 pub use link::{Arrival, Link};
@@ -44,6 +42,7 @@ pub use mem_files::MemFiles;
 pub use mem_link::MemLink;
 pub use mem_sink::MemSink;
 pub use mem_source::MemSource;
+pub use network_routes::{Address, Route, Routes};
 pub use quiet_files::QuietFiles;
 pub use quiet_link::QuietLink;
 pub use quiet_sink::QuietSink;

@@ -9,7 +9,6 @@ use Rattle.claim_table.specs.Presets.{opened}
 use Rattle.pgn_profile.specs.Profiled.{messages}
 use Rattle.unit_fraction.specs.Round.{nearest}
 use Rattle.hex.proofs.OnLiterals.{hex_on_literals}
-use Rattle.capture_text.specs.Reading.{seconds_at, micros_at, time_at, bytes_before_end, bytes_at, number_of, frame_at, seen_behind, read}
 use Rattle.unit_fraction.specs.Reading as decimals
 use Rattle.fast_packet.specs.Splitting.{frames_to}
 use Rattle.sentence_text.specs.Reading.{front_fault, end_fault}
@@ -24,5 +23,5 @@ use Rattle.sentence_rows.specs.Reading as rows
 use Rattle.sentence_rows.specs.Calendar.{date_in_year, date_after, civil_date}
 
 unfoldable pub cases : ⊤
-unfolding digits has_destination parts_at parts_of group_of identifier_of bits_at is_arbitrary name_bytes name_at fields_of matches_fields matches stating left_by free_from next_free next_own claim is_obeyed command opened messages hex_on_literals seconds_at micros_at time_at bytes_before_end bytes_at number_of frame_at seen_behind read nearest decimals.read frames_to front_fault sum_fault end_fault parameter_at parameters_at block_end_at block_at blocks_at group_in settle tags.read items_from items.item formatter_of date_in_year date_after civil_date columns.text columns.is_blank columns.unkept columns.is_magnetic columns.unit_letter columns.status columns.reference columns.side columns.heading_mode columns.decimal columns.raw_of columns.number columns.measure columns.either_unit columns.sided columns.speed_unit columns.wind_speed columns.fixed_in columns.degrees columns.coordinate columns.time columns.digits columns.day_number columns.are_blank columns.date columns.quality columns.satellites rows.hdt rows.ths rows.hdg rows.rot rows.rsa rows.vhw rows.depth_range rows.dpt rows.dbt rows.vlw rows.gll rows.is_invalid_mode rows.vtg rows.gga rows.zda rows.mwv rows.mwd rows.mtw rows.xte rows.read_sentence
+unfolding digits has_destination parts_at parts_of group_of identifier_of bits_at is_arbitrary name_bytes name_at fields_of matches_fields matches stating left_by free_from next_free next_own claim is_obeyed command opened messages hex_on_literals nearest decimals.read frames_to front_fault sum_fault end_fault parameter_at parameters_at block_end_at block_at blocks_at group_in settle tags.read items_from items.item formatter_of date_in_year date_after civil_date columns.text columns.is_blank columns.unkept columns.is_magnetic columns.unit_letter columns.status columns.reference columns.side columns.heading_mode columns.decimal columns.raw_of columns.number columns.measure columns.either_unit columns.sided columns.speed_unit columns.wind_speed columns.fixed_in columns.degrees columns.coordinate columns.time columns.digits columns.day_number columns.are_blank columns.date columns.quality columns.satellites rows.hdt rows.ths rows.hdg rows.rot rows.rsa rows.vhw rows.depth_range rows.dpt rows.dbt rows.vlw rows.gll rows.is_invalid_mode rows.vtg rows.gga rows.zda rows.mwv rows.mwd rows.mtw rows.xte rows.read_sentence
 cases = tt

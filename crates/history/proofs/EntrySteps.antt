@@ -22,8 +22,8 @@ use Rattle.iso_transport.specs.declared.reply.Reply.{Reply}
 use Rattle.report_rules.specs.Rules as rules
 use Rattle.fast_packet.specs.declared.key.FastKey.{FastKey}
 use Rattle.tag_block.specs.declared.group_key.GroupKey.{GroupKey}
-use Rattle.capture_text.specs.declared.emit.Detail.TheVariants as detail
-use Rattle.capture_text.specs.declared.emit.Report.{Report}
+use Rattle.gate_events.specs.declared.emit.Detail.TheVariants as detail
+use Rattle.gate_events.specs.declared.emit.Report.{Report}
 use Rattle.datagram450.specs.Datagram as datagrams
 use Rattle.datagram450.specs.Item.{Item, line, bad}
 use Rattle.history.specs.Entries.{Entry, History, frame, datagram, tick, command, moment_of, now, is_accepted, IsTimely, IsHistory}
@@ -35,7 +35,8 @@ use Rattle.history.specs.Messages.{Message, Carried, said_by, done, messages_of}
 use Rattle.history.specs.Traces.{Note}
 use Rattle.history.specs.Opens.{fast_keys, iso_keys, notes_of}
 use Rattle.history.specs.Endings.{fast_ended, iso_ended, group_ended, session_pgn, abort_reply, fast_expired, iso_expired, groups_expired, fast_lost, iso_lost, lost_at, lost_elsewhere}
-use Rattle.history.specs.Emits.{Emit, can, net, report, broken, of_source, reported, replied, own_claim}
+use Rattle.gate_events.specs.Emit.{Emit, can, net, report}
+use Rattle.history.specs.Emits.{broken, of_source, reported, replied, own_claim}
 use Rattle.history.specs.Heard.{Came, Taken, group_keys, handed_over, is_taken, taken_after, lines_of}
 use Rattle.history.specs.NetRules.{datagram_breaks, item_breaks, sentence_breaks, reading_breaks}
 use Rattle.history.specs.NetReadings.{NetReading, read_sentence, with_said, readings_of, is_net_selected}

@@ -9,7 +9,7 @@ use Rattle.claim_table.specs.declared.answer.Holder.{Holder}
 use Rattle.claim_table.specs.Claims.{holder_at}
 use Rattle.pgn_profile.specs.declared.kinds.Kind.{Kind}
 use Rattle.pgn_profile.specs.declared.kinds.Kind.TheVariants.{Single, Fast, Outside}
-use Rattle.runs.specs.Runs.{fed, open_at}
+use Rattle.slot_views.specs.Runs.{fed, open_at}
 use Rattle.fast_packet.specs.declared.key.FastKey.{FastKey}
 use Rattle.fast_packet.specs.FastRuns.{FastPiece, fast_rules}
 use Rattle.history.specs.Entries.{Entry, History, IsHistory, now, frame, datagram, tick}

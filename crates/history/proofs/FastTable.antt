@@ -3,10 +3,10 @@ use Rattle.std.proofs.Common.{◌≡◌, Bool, true, false, ◌&&◌, ◌||◌, 
 use Rattle.std.specs.Prelude.{Option, Some, None}
 use Rattle.std.proofs.lemmas.Bool.{and_parts, eqb-true, eqb-false, eq-eqb, ne_eqb, leb-true, lt-ltb, le-ltb, false≢true}
 use Rattle.report_rules.specs.Rules as rules
-use Rattle.capture_text.specs.declared.emit.Report.{Report}
-use Rattle.capture_text.specs.declared.emit.Detail.{Detail}
-use Rattle.capture_text.specs.declared.emit.Detail.TheVariants as detail
-use Rattle.runs.specs.Runs.{opener_of}
+use Rattle.gate_events.specs.declared.emit.Report.{Report}
+use Rattle.gate_events.specs.declared.emit.Detail.{Detail}
+use Rattle.gate_events.specs.declared.emit.Detail.TheVariants as detail
+use Rattle.slot_views.specs.Runs.{opener_of}
 use Rattle.fast_packet.specs.declared.answers.FastRefusal.{FastRefusal}
 use Rattle.fast_packet.specs.declared.answers.FastRefusal.TheVariants.{Order, Orphan, Length, Full}
 use Rattle.fast_packet.specs.FastFrames.{counter_of, sequence_of, length_of, is_opener, is_no_later}

@@ -4,7 +4,7 @@ use Rattle.std.specs.Prelude.{Option, Some, None, if◌then◌else◌}
 use Rattle.std.specs.List.{AllByRecursion, list_any, sum_by}
 use Rattle.std.proofs.lemmas.List.{length-reverse, length-map}
 use Rattle.std.proofs.lemmas.List.Sums.{sum_by-cons}
-use Rattle.runs.specs.Runs.{Rules, is_admitted, is_whole, in_time, if_open, if_whole, kept_at, fed, fed_later, finished, finished_later, open_at}
+use Rattle.slot_views.specs.Runs.{Rules, is_admitted, is_whole, in_time, if_open, if_whole, kept_at, fed, fed_later, finished, finished_later, open_at}
 use Rattle.tag_block.specs.declared.group_key.GroupKey.{GroupKey}
 use Rattle.tag_block.specs.declared.group_part.GroupPart.{GroupPart}
 use Rattle.tag_block.specs.GroupRuns.{GroupLine, group_rules}

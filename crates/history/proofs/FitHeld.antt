@@ -5,8 +5,8 @@ use Rattle.std.specs.List.{AllByRecursion, sum_by}
 use Rattle.std.proofs.lemmas.Bool.{leb-true}
 use Rattle.std.proofs.lemmas.List.Sums.{sum_by-cons}
 use Rattle.claim_table.specs.Claims.{is_ready}
-use Rattle.runs.specs.Runs.{accepted, accepted_after, in_time, opener_of, since_opener, open_at}
-use Rattle.runs.proofs.Suffixes.{one_suffix_of}
+use Rattle.slot_views.specs.Runs.{accepted, accepted_after, in_time, opener_of, since_opener, open_at}
+use Rattle.slot_views.proofs.RunSuffixes.{one_suffix_of}
 use Rattle.tag_block.specs.declared.group_key.GroupKey.{GroupKey}
 use Rattle.tag_block.specs.declared.group_part.GroupPart.{GroupPart}
 use Rattle.tag_block.specs.Groups.{IsGroupPart}

@@ -18,8 +18,8 @@ use Rattle.iso_transport.specs.declared.key.IsoKey.{IsoKey}
 use Rattle.iso_transport.specs.Audience.{key_of}
 use Rattle.iso_transport.specs.declared.reply.Reply.{Reply}
 use Rattle.tag_block.specs.declared.group_key.GroupKey.{GroupKey}
-use Rattle.capture_text.specs.declared.emit.Report.{Report}
-use Rattle.capture_text.specs.declared.emit.Detail.TheVariants as detail
+use Rattle.gate_events.specs.declared.emit.Report.{Report}
+use Rattle.gate_events.specs.declared.emit.Detail.TheVariants as detail
 use Rattle.history.specs.AddressLaws.{IsReceiver}
 use Rattle.history.specs.Entries.{History, IsHistory, now, frame, tick, command}
 use Rattle.history.specs.Settings.{Settings}
@@ -30,7 +30,8 @@ use Rattle.history.specs.Messages.{done, messages_of}
 use Rattle.history.specs.Traces.{Note}
 use Rattle.history.specs.Opens.{fast_keys, iso_keys, fast_open, iso_open, open_fast_keys, open_iso_keys, note_of, notes_of}
 use Rattle.history.specs.Heard.{Taken, group_keys, group_open, open_groups, lines_of}
-use Rattle.history.specs.Emits.{Emit, Rule, breaks, broken, broken_of, of_source, reported, own_claim, replied}
+use Rattle.gate_events.specs.Emit.{Emit}
+use Rattle.history.specs.Emits.{Rule, breaks, broken, broken_of, of_source, reported, own_claim, replied}
 use Rattle.history.specs.Endings.{fast_ended, iso_ended, group_ended, session_pgn, abort_reply, fast_expired, iso_expired, groups_expired, fast_lost, iso_lost, lost_at, lost_elsewhere}
 use Rattle.history.specs.Datagrams.{Spoken}
 use Rattle.history.specs.BusRules.{frame_table}

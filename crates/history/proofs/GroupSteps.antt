@@ -2,9 +2,9 @@
 use Rattle.std.proofs.Common.{◌≡◌, ℕ, true, List, [], ◌∷◌, refl, ap, ◌∙◌}
 use Rattle.std.specs.Prelude.{Option, Some, None}
 use Rattle.std.proofs.lemmas.Bool.{eq-eqb}
-use Rattle.runs.specs.Runs.{kept_at, open_at, run_of}
-use Rattle.runs.specs.Laws.{OneStep}
-use Rattle.runs.proofs.Steps.{one_step_of}
+use Rattle.slot_views.specs.Runs.{kept_at, open_at, run_of}
+use Rattle.slot_views.specs.RunLaws.{OneStep}
+use Rattle.slot_views.proofs.RunSteps.{one_step_of}
 use Rattle.tag_block.specs.declared.group_part.GroupPart.{GroupPart}
 use Rattle.tag_block.specs.declared.group_key.GroupKey.{GroupKey}
 use Rattle.tag_block.specs.GroupRuns.{GroupLine, group_rules}

@@ -5,7 +5,7 @@ use Rattle.readings.specs.declared.reading.Reading.{Reading}
 use Rattle.readings.specs.Rows.{row_of}
 use Rattle.pgn_profile.specs.Payload.{pgn_of}
 use Rattle.history.specs.Settings.{Settings}
-use Rattle.history.specs.Emits.{Emit}
+use Rattle.gate_events.specs.Emit.{Emit}
 use Rattle.history.specs.Heard.{Came, Taken, with_items}
 use Rattle.history.specs.NetReadings.{NetReading, read_sentence, with_said, with_readings, with_sentences, is_net_selected, is_fast_row, fast_sent}
 use Rattle.history.specs.FromNet.{item_gives, items_give, reading_gives, readings_give, said_gives, sentences_give}

@@ -7,7 +7,7 @@ use Rattle.std.specs.Ordering.{eq_by_cmp}
 use Rattle.std.specs.declared.cmp.Ordering.{Ordering}
 use Rattle.std.proofs.lemmas.Bool.{eqb-true, ne_eqb, and_parts, false≢true}
 use Rattle.slot_views.specs.Slots.{SlotMap}
-use Rattle.runs.specs.Runs.{open_at}
+use Rattle.slot_views.specs.Runs.{open_at}
 use Rattle.iso_transport.specs.declared.key.IsoKey.{IsoKey}
 use Rattle.iso_transport.specs.IsoRuns.{IsoPiece, iso_rules}
 use Rattle.iso_transport.specs.Audience.{key_of}

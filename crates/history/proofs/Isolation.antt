@@ -12,7 +12,7 @@ use Rattle.claim_table.specs.Presets.{opened, repeats}
 use Rattle.claim_table.specs.declared.preset.Preset.{Preset}
 use Rattle.pgn_profile.specs.declared.kinds.Kind.{Kind}
 use Rattle.pgn_profile.specs.declared.kinds.Kind.TheVariants.{Single, Fast, Outside}
-use Rattle.runs.specs.Runs.{run_of, open_at}
+use Rattle.slot_views.specs.Runs.{run_of, open_at}
 use Rattle.fast_packet.specs.declared.key.FastKey.{FastKey}
 use Rattle.fast_packet.specs.FastRuns.{FastPiece, fast_rules}
 use Rattle.iso_transport.specs.Audience.{key_of, bears, is_data}

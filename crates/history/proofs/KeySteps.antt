@@ -8,9 +8,9 @@ use Rattle.n2k_id.specs.Identifier.{parts_of}
 use Rattle.claim_table.specs.declared.answer.Holder.{Holder}
 use Rattle.claim_table.specs.Claims.{IsSinceBy, holder_at}
 use Rattle.pgn_profile.specs.declared.kinds.Kind.TheVariants.{Fast, Outside}
-use Rattle.runs.specs.Runs.{fed, finished, kept_at, open_at, run_of}
-use Rattle.runs.specs.Laws.{OneStep}
-use Rattle.runs.proofs.Steps.{one_step_of}
+use Rattle.slot_views.specs.Runs.{fed, finished, kept_at, open_at, run_of}
+use Rattle.slot_views.specs.RunLaws.{OneStep}
+use Rattle.slot_views.proofs.RunSteps.{one_step_of}
 use Rattle.fast_packet.specs.FastRuns.{FastPiece, fast_rules}
 use Rattle.fast_packet.proofs.Lawful.{lawful}
 use Rattle.fast_packet.specs.declared.key.FastKey.{FastKey}

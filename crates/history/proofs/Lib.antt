@@ -34,14 +34,13 @@ pub mod NoteChoice
 pub mod Noted
 pub mod FastTable
 pub mod SessionTable
-mod Computed
+pub mod Computed
 mod ClaimCases
 mod FastCases
 mod ChoiceCases
 mod RowCases
 mod TransportCases
 mod NetCases
-mod ReplayCases
 mod IsolationCases
 pub mod NetChoiceCases
 pub mod GroupCases

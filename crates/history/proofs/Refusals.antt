@@ -2,8 +2,8 @@
 use Rattle.std.proofs.Common.{◌≡◌, ℕ, Bool, true, false, ◌&&◌, ◌||◌, not, ◌==◌, nat_le, nat_lt, List, [], ◌∷◌, length, is_some, is_none, refl, sym, ap, ◌∙◌, arith}
 use Rattle.std.specs.Prelude.{Option, Some, None, if◌then◌else◌, slice_index}
 use Rattle.std.proofs.lemmas.Bool.{eqb-true, ne_eqb, leb-true, ltb-true, le-ltb, lt-leb, and_parts, false≢true}
-use Rattle.runs.specs.Runs.{Rules, IsLawful, is_admitted, is_whole, if_open, if_whole, open_at}
-use Rattle.runs.proofs.Suffixes.{one_suffix_of}
+use Rattle.slot_views.specs.Runs.{Rules, IsLawful, is_admitted, is_whole, if_open, if_whole, open_at}
+use Rattle.slot_views.proofs.RunSuffixes.{one_suffix_of}
 use Rattle.fast_packet.specs.declared.answers.FastRefusal.{FastRefusal}
 use Rattle.fast_packet.specs.declared.answers.FastRefusal.TheVariants.{Order, Length}
 use Rattle.fast_packet.specs.FastFrames.{counter_of, is_opener, is_no_later}

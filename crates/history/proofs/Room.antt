@@ -4,7 +4,7 @@ use Rattle.std.specs.Prelude.{Option, filter, if◌then◌else◌}
 use Rattle.std.specs.List.{AllByRecursion, list_any}
 use Rattle.std.specs.Bool.{beq}
 use Rattle.std.proofs.lemmas.Bool.{eq-eqb, false≢true, lt-ltb, ltb-true}
-use Rattle.runs.specs.Runs.{open_at}
+use Rattle.slot_views.specs.Runs.{open_at}
 use Rattle.pgn_profile.specs.declared.kinds.Kind.{Kind}
 use Rattle.fast_packet.specs.declared.key.FastKey.{FastKey}
 use Rattle.fast_packet.specs.FastRuns.{FastPiece, fast_rules}

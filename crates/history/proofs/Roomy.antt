@@ -9,7 +9,7 @@ use Rattle.claim_table.specs.Claims.{is_at, holder_at}
 use Rattle.claim_table.specs.Laws.{IsSound}
 use Rattle.pgn_profile.specs.declared.kinds.Kind.{Kind}
 use Rattle.pgn_profile.specs.declared.kinds.Kind.TheVariants.{Fast, Outside}
-use Rattle.runs.specs.Runs.{Rules}
+use Rattle.slot_views.specs.Runs.{Rules}
 use Rattle.fast_packet.specs.FastFrames.{is_opener}
 use Rattle.fast_packet.specs.FastRuns.{fast_rules}
 use Rattle.iso_transport.specs.Audience.{key_of}

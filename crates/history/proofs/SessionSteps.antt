@@ -6,9 +6,9 @@ use Rattle.n2k_id.specs.Frame.{BusFrame}
 use Rattle.n2k_id.specs.Identifier.{parts_of}
 use Rattle.claim_table.specs.declared.answer.Holder.{Holder}
 use Rattle.claim_table.specs.Claims.{is_at, holder_at}
-use Rattle.runs.specs.Runs.{fed, finished, kept_at, open_at, run_of}
-use Rattle.runs.specs.Laws.{OneStep}
-use Rattle.runs.proofs.Steps.{one_step_of}
+use Rattle.slot_views.specs.Runs.{fed, finished, kept_at, open_at, run_of}
+use Rattle.slot_views.specs.RunLaws.{OneStep}
+use Rattle.slot_views.proofs.RunSteps.{one_step_of}
 use Rattle.iso_transport.specs.IsoRuns.{IsoPiece, iso_rules}
 use Rattle.iso_transport.proofs.Lawful.{lawful}
 use Rattle.iso_transport.specs.Audience.{key_of}

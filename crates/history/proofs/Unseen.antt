@@ -2,7 +2,7 @@
 use Rattle.std.proofs.Common.{◌≡◌, ℕ, ◌-◌, Bool, true, List, [], ◌∷◌, ◌++◌, length, map, refl, ap, ◌∙◌}
 use Rattle.std.specs.Prelude.{Option, Some, None, option_map}
 use Rattle.std.proofs.lemmas.List.{length-map}
-use Rattle.runs.specs.Runs.{opener_of}
+use Rattle.slot_views.specs.Runs.{opener_of}
 use Rattle.fast_packet.specs.FastFrames.{length_of, left_after, later_piece}
 use Rattle.fast_packet.specs.FastRuns as fast
 use Rattle.fast_packet.specs.FastRuns.{FastPiece, fast_rules}

@@ -16,9 +16,9 @@ use Rattle.iso_transport.specs.Connection.{control_at}
 use Rattle.iso_transport.specs.IsoRuns as iso_runs
 use Rattle.iso_transport.specs.IsoRuns.{IsoPiece, end_of, session_of}
 use Rattle.iso_transport.specs.RunVerdicts.{left_of_run}
-use Rattle.capture_text.specs.declared.emit.Report.{Report}
-use Rattle.capture_text.specs.declared.emit.Detail.{Detail}
-use Rattle.capture_text.specs.declared.emit.Detail.TheVariants as detail
+use Rattle.gate_events.specs.declared.emit.Report.{Report}
+use Rattle.gate_events.specs.declared.emit.Detail.{Detail}
+use Rattle.gate_events.specs.declared.emit.Detail.TheVariants as detail
 use Rattle.history.specs.Meanings.{Meaning, is_address_claim, is_own_source, is_request, is_from_nobody, is_of_session, is_of_fast_packet}
 use Rattle.history.specs.Traces.{Note, fast_piece, iso_piece}
 use Rattle.history.specs.Messages.{Message}

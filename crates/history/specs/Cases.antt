@@ -7,7 +7,7 @@ use Rattle.readings.specs.declared.rows.Row.TheVariants as row
 use Rattle.datagram450.specs.Datagram.{header}
 use Rattle.history.specs.Entries.{Entry, frame}
 use Rattle.history.specs.Settings.{Settings, RowRule}
-use Rattle.history.specs.Emits.{Emit, Emitted, can, net}
+use Rattle.gate_events.specs.Emit.{Emit, Emitted, can, net}
 use Rattle.history.specs.Gate.{gate}
 
 -- a frame of 8 bytes, the first one highest

@@ -1,6 +1,6 @@
 -- What is emitted while addresses change hands.
 use Rattle.std.specs.Prelude.{List, [], ◌∷◌, ◌++◌, codes}
-use Rattle.capture_text.specs.declared.emit.Detail.TheVariants as detail
+use Rattle.gate_events.specs.declared.emit.Detail.TheVariants as detail
 use Rattle.history.specs.Entries.{Entry, tick}
 use Rattle.history.specs.Emits.{broken, of_source}
 use Rattle.history.specs.Cases.{Emits, full, can_frame, emitted, navd, bare, two_devices, fix, fix_said}

@@ -5,7 +5,7 @@ use Rattle.readings.specs.declared.rows.Row.TheVariants as row
 use Rattle.datagram450.specs.Datagram.{header}
 use Rattle.history.specs.Entries.{datagram, tick}
 use Rattle.history.specs.Settings.{Settings, RowRule}
-use Rattle.history.specs.Emits.{Emit, net}
+use Rattle.gate_events.specs.Emit.{Emit, net}
 use Rattle.history.specs.Cases.{Emits, full, can_frame, emitted, lined, navd, two_devices, all_rows, plain_rule}
 
 -- depths are said on a transmission group of their own

@@ -1,26 +1,14 @@
--- What a gateway emits, as plain values.
+-- What a gateway emits: reports, claims, requests and replies.
 use Rattle.std.specs.Prelude.{ℕ, Bool, List, [], ◌∷◌, ◌++◌, map, Option, Some, None, if◌then◌else◌}
-use Rattle.n2k_id.specs.Frame.{BusFrame}
 use Rattle.n2k_id.specs.Identifier.{identifier_of}
 use Rattle.n2k_id.specs.Name.{name_bytes}
-use Rattle.capture_text.specs.declared.emit.Detail.{Detail}
-use Rattle.capture_text.specs.declared.emit.Detail.TheVariants as detail
-use Rattle.capture_text.specs.declared.emit.Report.{Report}
+use Rattle.gate_events.specs.declared.emit.Detail.{Detail}
+use Rattle.gate_events.specs.declared.emit.Detail.TheVariants as detail
+use Rattle.gate_events.specs.declared.emit.Report.{Report}
+use Rattle.gate_events.specs.Emit.{Emit, Emitted, can, report}
 use Rattle.iso_transport.specs.declared.reply.Reply.{Reply}
 use Rattle.iso_transport.specs.Replies.{reply_bytes}
 use Rattle.history.specs.Pgns as pgns
-
-pub data Emit : Type 0 where
-  -- a frame for the bus
-  can : BusFrame → Emit
-  -- a datagram for a transmission group of the network
-  net : List ℕ → List ℕ → Emit
-  report : Report → Emit
-
--- with its moment
-pub record Emitted : Type 0 where
-  pub moment : ℕ
-  pub emit : Emit
 
 abbrev pub at : ℕ → List Emit → List Emitted
 at m emits = map (λ e. record { moment = m; emit = e }) emits

@@ -1,6 +1,6 @@
 -- How messages end that don't complete.
 use Rattle.std.specs.Prelude.{ℕ, ◌+◌, [], ◌∷◌, ◌++◌, codes}
-use Rattle.capture_text.specs.declared.emit.Detail.TheVariants as detail
+use Rattle.gate_events.specs.declared.emit.Detail.TheVariants as detail
 use Rattle.datagram450.specs.Datagram.{header}
 use Rattle.report_rules.specs.Rules.{expired, group_expired, claim_lost, fast_orphan, restarted, slots_full}
 use Rattle.history.specs.Entries.{Entry, datagram, tick}

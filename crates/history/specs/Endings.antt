@@ -6,7 +6,7 @@ use Rattle.iso_transport.specs.declared.reply.Reply.{Reply}
 use Rattle.iso_transport.specs.declared.reply.Reply.TheVariants.{Abort}
 use Rattle.iso_transport.specs.IsoRuns.{IsoPiece, session_of}
 use Rattle.report_rules.specs.Rules as rules
-use Rattle.capture_text.specs.declared.emit.Detail.TheVariants as detail
+use Rattle.gate_events.specs.declared.emit.Detail.TheVariants as detail
 use Rattle.pgn_profile.specs.declared.kinds.Kind.{Kind}
 use Rattle.fast_packet.specs.declared.key.FastKey.{FastKey}
 use Rattle.iso_transport.specs.declared.key.IsoKey.{IsoKey}
@@ -15,7 +15,8 @@ use Rattle.history.specs.Known.{Known}
 use Rattle.history.specs.Traces.{Note}
 use Rattle.history.specs.Opens.{fast_keys, iso_keys, fast_open, iso_open}
 use Rattle.history.specs.Heard.{Taken, group_keys, group_open}
-use Rattle.history.specs.Emits.{Emit, broken, of_source, replied}
+use Rattle.gate_events.specs.Emit.{Emit}
+use Rattle.history.specs.Emits.{broken, of_source, replied}
 use Rattle.claim_table.specs.declared.answer.Holder.{Holder}
 
 -- ---- what is open after an entry no more

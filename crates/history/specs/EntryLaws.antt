@@ -6,7 +6,7 @@ use Rattle.readings.specs.Rows.{row_of}
 use Rattle.sentence_rows.specs.Writing.{sentences_of}
 use Rattle.history.specs.Entries.{Entry, History, frame, datagram, tick, command, IsOffered, IsHistory}
 use Rattle.history.specs.Settings.{Settings, RowRule, rule_of}
-use Rattle.history.specs.Emits.{Emit, can, net, report}
+use Rattle.gate_events.specs.Emit.{Emit, can, net, report}
 use Rattle.history.specs.Datagrams.{datagram_of}
 use Rattle.history.specs.Gate.{out, spoken_of, stepped}
 

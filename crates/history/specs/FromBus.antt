@@ -18,8 +18,8 @@ use Rattle.iso_transport.specs.declared.reply.Reply.{Reply}
 use Rattle.iso_transport.specs.Audience.{key_of}
 use Rattle.iso_transport.specs.IsoRuns.{IsoPiece}
 use Rattle.iso_transport.specs.RunVerdicts.{reply_to}
-use Rattle.capture_text.specs.declared.emit.Report.{Report}
-use Rattle.capture_text.specs.declared.emit.Detail.TheVariants as detail
+use Rattle.gate_events.specs.declared.emit.Report.{Report}
+use Rattle.gate_events.specs.declared.emit.Detail.TheVariants as detail
 use Rattle.history.specs.Pgns as pgns
 use Rattle.history.specs.Entries as entry
 use Rattle.history.specs.Entries.{Entry, History}
@@ -32,7 +32,8 @@ use Rattle.history.specs.Traces.{Note, iso_piece}
 use Rattle.history.specs.Opens.{fast_open, iso_open, note_of, notes_of}
 use Rattle.history.specs.Messages.{Message, done, messages_of}
 use Rattle.history.specs.Choice.{selected}
-use Rattle.history.specs.Emits.{Emit, net, breaks, broken_of, reported, own_claim, replied}
+use Rattle.gate_events.specs.Emit.{Emit, net}
+use Rattle.history.specs.Emits.{breaks, broken_of, reported, own_claim, replied}
 use Rattle.history.specs.Endings.{lost_at, lost_elsewhere}
 use Rattle.history.specs.Datagrams.{Spoken, datagram_of}
 use Rattle.history.specs.BusRules.{is_early, frame_breaks}

@@ -8,7 +8,8 @@ use Rattle.sentence_rows.specs.declared.fault.FieldFault.{FieldFault}
 use Rattle.datagram450.specs.declared.fault.DatagramFault.{DatagramFault}
 use Rattle.datagram450.specs.Item.{Item, line, bad}
 use Rattle.history.specs.Settings.{Settings}
-use Rattle.history.specs.Emits.{Emit, sent, reported}
+use Rattle.gate_events.specs.Emit.{Emit}
+use Rattle.history.specs.Emits.{sent, reported}
 use Rattle.history.specs.Heard.{Came, Taken, is_taken, taken_after, lines_of, handed_over}
 use Rattle.history.specs.NetReadings.{NetReading, read_sentence, with_said, readings_of, is_net_selected, is_fast_row, next_sequence}
 use Rattle.history.specs.NetRules.{datagram_breaks, item_breaks, sentence_breaks, reading_breaks}

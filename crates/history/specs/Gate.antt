@@ -9,8 +9,8 @@ use Rattle.sentence_rows.specs.Writing.{sentences_of}
 use Rattle.datagram450.specs.declared.fault.DatagramFault.{DatagramFault}
 use Rattle.datagram450.specs.Datagram as datagrams
 use Rattle.datagram450.specs.Item.{Item}
-use Rattle.capture_text.specs.declared.emit.Report.{Report}
-use Rattle.capture_text.specs.declared.emit.Detail.TheVariants as detail
+use Rattle.gate_events.specs.declared.emit.Report.{Report}
+use Rattle.gate_events.specs.declared.emit.Detail.TheVariants as detail
 use Rattle.report_rules.specs.Rules as rules
 use Rattle.history.specs.Pgns as pgns
 use Rattle.history.specs.Entries as entry
@@ -21,7 +21,8 @@ use Rattle.history.specs.Receiver.{receiver_of}
 use Rattle.history.specs.Known.{known}
 use Rattle.history.specs.Opens.{notes_of}
 use Rattle.history.specs.Messages.{Message, done, messages_of}
-use Rattle.history.specs.Emits.{Emit, Emitted, can, net, report, at, broken, own_claim, request_for_claims}
+use Rattle.gate_events.specs.Emit.{Emit, Emitted, can, net, report}
+use Rattle.history.specs.Emits.{at, broken, own_claim, request_for_claims}
 use Rattle.history.specs.Endings.{fast_expired, iso_expired, groups_expired}
 use Rattle.history.specs.Datagrams.{Spoken}
 use Rattle.history.specs.Heard.{Came, came_at, with_items, lines_of}

@@ -1,6 +1,6 @@
 -- Lines of groups (IEC 61162-450).
 use Rattle.std.specs.Prelude.{[], ◌∷◌, ◌++◌, codes}
-use Rattle.capture_text.specs.declared.emit.Detail.TheVariants as detail
+use Rattle.gate_events.specs.declared.emit.Detail.TheVariants as detail
 use Rattle.datagram450.specs.Datagram.{header}
 use Rattle.report_rules.specs.Rules.{group_order}
 use Rattle.history.specs.Entries.{datagram, tick}

@@ -5,7 +5,7 @@ use Rattle.n2k_id.specs.Identifier.{parts_of}
 use Rattle.claim_table.specs.Claims.{Claims, is_at, holder_at}
 use Rattle.claim_table.specs.declared.answer.Holder.{Holder}
 use Rattle.pgn_profile.specs.declared.kinds.Kind.TheVariants.{Fast}
-use Rattle.runs.specs.Runs.{fed, finished, kept_at}
+use Rattle.slot_views.specs.Runs.{fed, finished, kept_at}
 use Rattle.fast_packet.specs.FastRuns.{fast_rules}
 use Rattle.iso_transport.specs.IsoRuns.{iso_rules}
 use Rattle.fast_packet.specs.declared.key.FastKey.{FastKey}

@@ -18,7 +18,6 @@ pub mod NetReadings
 pub mod NetRules
 pub mod FromNet
 pub mod Gate
-pub mod Replay
 pub mod AddressLaws
 pub mod TraceLaws
 pub mod KeyLaws
@@ -43,7 +42,6 @@ pub mod ChoiceCases
 pub mod RowCases
 pub mod TransportCases
 pub mod NetCases
-pub mod ReplayCases
 pub mod IsolationCases
 pub mod NetChoiceCases
 pub mod GroupCases

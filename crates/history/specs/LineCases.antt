@@ -1,10 +1,11 @@
 -- Lines of datagrams that break a rule (IEC 61162-450; IEC 61162-1).
 use Rattle.std.specs.Prelude.{ℕ, zero, suc, ◌+◌, List, [], ◌∷◌, ◌++◌, codes}
-use Rattle.capture_text.specs.declared.emit.Detail.TheVariants as detail
+use Rattle.gate_events.specs.declared.emit.Detail.TheVariants as detail
 use Rattle.datagram450.specs.Datagram.{header}
 use Rattle.report_rules.specs.Rules.{line_form, tag_form, no_source, sentence_form, sentence_sum, field_form, field_range, own_line, too_many_lines}
 use Rattle.history.specs.Entries.{datagram, tick}
-use Rattle.history.specs.Emits.{Emitted, broken}
+use Rattle.gate_events.specs.Emit.{Emitted}
+use Rattle.history.specs.Emits.{broken}
 use Rattle.history.specs.Cases.{Emits, emitted, lined, two_devices}
 
 -- a rest without its LF; a TAG block without its sum; a line without a TAG block; no sentence; a wrong sum

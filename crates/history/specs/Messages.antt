@@ -4,7 +4,7 @@ use Rattle.claim_table.specs.Claims.{is_at, holder_at}
 use Rattle.claim_table.specs.declared.answer.Holder.{Holder}
 use Rattle.pgn_profile.specs.declared.kinds.Kind.{Kind}
 use Rattle.pgn_profile.specs.declared.kinds.Kind.TheVariants.{Single, Fast, Outside}
-use Rattle.runs.specs.Runs.{run_of}
+use Rattle.slot_views.specs.Runs.{run_of}
 use Rattle.fast_packet.specs.FastRuns as fast
 use Rattle.fast_packet.specs.FastRuns.{FastPiece, fast_rules}
 use Rattle.iso_transport.specs.IsoRuns as iso

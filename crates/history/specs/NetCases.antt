@@ -1,6 +1,6 @@
 -- What datagrams from the network give.
 use Rattle.std.specs.Prelude.{ℕ, List, [], ◌∷◌, ◌++◌, codes}
-use Rattle.capture_text.specs.declared.emit.Detail.TheVariants as detail
+use Rattle.gate_events.specs.declared.emit.Detail.TheVariants as detail
 use Rattle.datagram450.specs.Datagram.{header}
 use Rattle.history.specs.Entries.{datagram, tick}
 use Rattle.history.specs.Emits.{broken, of_source}

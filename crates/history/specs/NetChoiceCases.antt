@@ -1,6 +1,6 @@
 -- Which source of the network is sent on (each reading counts, sent on or not).
 use Rattle.std.specs.Prelude.{[], ◌∷◌, ◌++◌, codes}
-use Rattle.capture_text.specs.declared.emit.Detail.TheVariants as detail
+use Rattle.gate_events.specs.declared.emit.Detail.TheVariants as detail
 use Rattle.datagram450.specs.Datagram.{header}
 use Rattle.report_rules.specs.Rules.{not_ready}
 use Rattle.history.specs.Entries.{datagram, tick}

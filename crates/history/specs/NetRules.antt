@@ -12,8 +12,8 @@ use Rattle.datagram450.specs.declared.fault.DatagramFault.{DatagramFault}
 use Rattle.datagram450.specs.declared.fault.DatagramFault.TheVariants.{Header, Long}
 use Rattle.datagram450.specs.Datagram.{longest_datagram}
 use Rattle.datagram450.specs.Item.{Item, line, bad}
-use Rattle.capture_text.specs.declared.emit.Report.{Report}
-use Rattle.capture_text.specs.declared.emit.Detail.TheVariants as detail
+use Rattle.gate_events.specs.declared.emit.Report.{Report}
+use Rattle.gate_events.specs.declared.emit.Detail.TheVariants as detail
 use Rattle.history.specs.Settings.{Settings}
 use Rattle.history.specs.Emits.{breaks, broken_of, report_of}
 use Rattle.history.specs.Heard.{Came, Taken, several, group_line, group_open, place_of, is_own_line, is_elsewhere, is_taken, taken_after}

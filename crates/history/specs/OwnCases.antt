@@ -1,11 +1,12 @@
 -- The gateway's own address (ISO 11783-5), and what is for it.
 use Rattle.std.specs.Prelude.{◌≡◌, List, [], ◌∷◌, ◌++◌, codes}
-use Rattle.capture_text.specs.declared.emit.Detail.TheVariants as detail
+use Rattle.gate_events.specs.declared.emit.Detail.TheVariants as detail
 use Rattle.datagram450.specs.Datagram.{header}
 use Rattle.report_rules.specs.Rules.{claim_lost, iso_orphan, not_ready, duplicate_name, own_address_used, claim_or_request_malformed}
 use Rattle.history.specs.Entries.{Entry, frame, datagram, tick}
 use Rattle.history.specs.Settings.{Settings}
-use Rattle.history.specs.Emits.{Emitted, can, broken, of_source}
+use Rattle.gate_events.specs.Emit.{Emitted, can}
+use Rattle.history.specs.Emits.{broken, of_source}
 use Rattle.history.specs.Gate.{gate}
 use Rattle.history.specs.Cases.{Emits, full, can_frame, emitted, lined, two_devices}
 

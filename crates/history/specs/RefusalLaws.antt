@@ -1,6 +1,6 @@
 -- Which frames of a key break what is open of it: those that leave nothing open and complete nothing.
 use Rattle.std.specs.Prelude.{◌≡◌, ℕ, Bool, true, false, ◌||◌, not, ◌↔◌, List, Option, None, is_some}
-use Rattle.runs.specs.Runs.{Rules, fed, finished}
+use Rattle.slot_views.specs.Runs.{Rules, fed, finished}
 use Rattle.fast_packet.specs.FastRuns.{FastPiece, fast_rules}
 use Rattle.fast_packet.specs.Keys.{refused}
 use Rattle.fast_packet.specs.declared.key.FastKey.{FastKey}

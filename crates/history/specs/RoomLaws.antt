@@ -4,7 +4,7 @@ use Rattle.std.specs.List.{list_any}
 use Rattle.n2k_id.specs.Frame.{BusFrame}
 use Rattle.n2k_id.specs.Identifier.{parts_of}
 use Rattle.report_rules.specs.Rules as rules
-use Rattle.capture_text.specs.declared.emit.Report.{Report}
+use Rattle.gate_events.specs.declared.emit.Report.{Report}
 use Rattle.history.specs.AddressLaws.{IsReceiver}
 use Rattle.history.specs.Entries.{History, frame, datagram, tick, command}
 use Rattle.history.specs.Receiver.{Receiver}

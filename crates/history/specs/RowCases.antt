@@ -1,7 +1,7 @@
 -- What is said of single messages: date and time, and two sentences in one datagram.
 use Rattle.std.specs.Prelude.{[], ◌∷◌, ◌++◌, codes}
 use Rattle.datagram450.specs.Datagram.{header}
-use Rattle.history.specs.Emits.{net}
+use Rattle.gate_events.specs.Emit.{net}
 use Rattle.history.specs.Cases.{Emits, full, emitted, lined, navd, bare, two_devices}
 
 -- the time of a device that has claimed its address, with its date as the calendar has it

@@ -13,9 +13,9 @@ use Rattle.iso_transport.specs.declared.verdict.Verdict.TheVariants as what
 use Rattle.iso_transport.specs.Audience.{key_of}
 use Rattle.iso_transport.specs.IsoRuns.{IsoPiece}
 use Rattle.iso_transport.specs.RunVerdicts.{run_verdict}
-use Rattle.capture_text.specs.declared.emit.Report.{Report}
-use Rattle.capture_text.specs.declared.emit.Detail.{Detail}
-use Rattle.capture_text.specs.declared.emit.Detail.TheVariants as detail
+use Rattle.gate_events.specs.declared.emit.Report.{Report}
+use Rattle.gate_events.specs.declared.emit.Detail.{Detail}
+use Rattle.gate_events.specs.declared.emit.Detail.TheVariants as detail
 use Rattle.history.specs.Emits.{breaks, broken_of, report_of}
 use Rattle.history.specs.Meanings as meanings
 use Rattle.history.specs.Traces.{Note, fast_piece, iso_piece}

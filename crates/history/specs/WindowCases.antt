@@ -2,7 +2,8 @@
 use Rattle.std.specs.Prelude.{ℕ, zero, suc, ◌+◌, ◌-◌, ◌*◌, min, List, [], ◌∷◌, ◌++◌}
 use Rattle.report_rules.specs.Rules.{expired}
 use Rattle.history.specs.Entries.{Entry, tick}
-use Rattle.history.specs.Emits.{Emit, of_source}
+use Rattle.gate_events.specs.Emit.{Emit}
+use Rattle.history.specs.Emits.{of_source}
 use Rattle.history.specs.Cases.{Emits, full, can_frame, emitted, two_devices}
 
 -- the request to send 70 bytes in ten packets, with this limit of packets for one clear to send

@@ -5,7 +5,6 @@ ghost use Rattle.history.specs.ChoiceCases as choice_cases;
 ghost use Rattle.history.specs.RowCases as row_cases;
 ghost use Rattle.history.specs.TransportCases as transport_cases;
 ghost use Rattle.history.specs.NetCases as net_cases;
-ghost use Rattle.history.specs.ReplayCases as replay_cases;
 ghost use Rattle.history.specs.IsolationCases as isolation_cases;
 ghost use Rattle.history.specs.NetChoiceCases as net_choice_cases;
 ghost use Rattle.history.specs.GroupCases as group_cases;
@@ -74,15 +73,6 @@ pub fn datagrams_are_heard()
     ensures not_heard { net_cases.NotHeard }
     ensures early_after_move { net_cases.EarlyAfterMove }
     ensures no_room { net_cases.NoRoom }
-{}
-
-/// The text of captures.
-pub fn captures_are_replayed()
-    ensures one_line { replay_cases.OneLine }
-    ensures backwards { replay_cases.Backwards }
-    ensures cut_off_in_data { replay_cases.CutOffInData }
-    ensures cut_off_in_identifier { replay_cases.CutOffInIdentifier }
-    ensures not_extended { replay_cases.NotExtended }
 {}
 
 /// A device's messages, with and without another device between them.

@@ -3,7 +3,7 @@ ghost use Rattle.history.specs.AddressLaws.{AddressesAreSound, GatewaysReceive};
 ghost use Rattle.history.specs.CountLaws.{SlotsCountFast, SlotsCountIso, SlotsCountGroups};
 ghost use Rattle.history.specs.FreshLaws.{FreshByLast, MessagesAreKept, ClaimsForget, CommandsForgetNone, ReadingsAreKept};
 ghost use Rattle.history.specs.IsolationLaws.{Isolation, IsolationOfTwo};
-ghost use Rattle.history.specs.LengthLaws.{LongDatagrams, LongLines};
+ghost use Rattle.history.specs.LengthLaws.{LongDatagrams};
 ghost use Rattle.history.specs.LimitLaws.{FastWithinLimit, IsoWithinLimit, GroupsWithinLimit};
 ghost use Rattle.history.specs.GroupLaws.{LinesStepGroup, LinesStandAlone, TimeEndsGroup};
 ghost use Rattle.history.specs.KeyLaws.{FramesStepFast, FramesKeepFast, TimeEndsFast, FramesStepIso, FramesCompleteIso, TimeEndsIso};
@@ -176,10 +176,8 @@ pub fn open_keys_keep_the_limits()
     ensures groups { GroupsWithinLimit }
 {}
 
-/// A datagram of more than 1472 bytes gives rule 47 and nothing else, and a line of a capture of more than 4096 bytes rule 2 alone,
-/// whatever they hold.
-#[tactic(auto, using(crate::proofs::Lengths::long_datagrams, crate::proofs::Lengths::long_lines))]
+/// A datagram of more than 1472 bytes gives rule 47 and nothing else, whatever it holds.
+#[tactic(auto, using(crate::proofs::Lengths::long_datagrams))]
 pub fn what_is_too_long_is_told()
     ensures datagrams { LongDatagrams }
-    ensures lines { LongLines }
 {}

@@ -3,9 +3,9 @@ use Rattle.std.specs.Cmp.Lexicographic.{pointwise}
 use Rattle.std.specs.List.{AllByRecursion}
 use Rattle.std.proofs.lemmas.Bool.{cond-true, cond-false, eqb-false, leb-true, leb-false, ltb-true, ltb-false, eqb-true, eq-eqb, ne_eqb, lt-ltb, le-ltb, le-leb, lt-leb}
 use Rattle.std.proofs.Common.{◌≡◌, ℕ, ◌+◌, ◌-◌, ◌%◌, ◌<◌, ◌≤◌, ◌==◌, ◌&&◌, ◌||◌, not, nat_eq, nat_le, nat_lt, min, if◌then◌else◌, Bool, true, false, List, [], ◌∷◌, ◌++◌, length, drop, Option, Some, None, option_map, length-append, length-take, length-drop, add-one, refl, sym, ◌∙◌, ap, subst, arith}
-use Rattle.runs.specs.Runs.{is_whole, is_admitted, opener_of, since_opener, if_open, if_whole, kept_at, open_of, open_at, run_of, fed, fed_later, finished, finished_later}
-use Rattle.runs.proofs.Steps.{one_step_of}
-use Rattle.runs.proofs.Suffixes.{one_suffix_of}
+use Rattle.slot_views.specs.Runs.{is_whole, is_admitted, opener_of, since_opener, if_open, if_whole, kept_at, open_of, open_at, run_of, fed, fed_later, finished, finished_later}
+use Rattle.slot_views.proofs.RunSteps.{one_step_of}
+use Rattle.slot_views.proofs.RunSuffixes.{one_suffix_of}
 use Rattle.slot_views.specs.Slots.{Entry, is_complete}
 use Rattle.slot_views.specs.Traces.{left_at, entry_after}
 use Rattle.iso_transport.specs.declared.answers.IsoRefusal.TheVariants as refusal

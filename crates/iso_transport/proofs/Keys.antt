@@ -5,8 +5,8 @@ use Rattle.std.specs.List.{AllByRecursion, filter, list_any}
 use Rattle.std.specs.Cmp.{IsTotalOrder}
 use Rattle.std.specs.BTreeMap.{is_at}
 use Rattle.std.specs.declared.cmp.Ordering.{Ordering}
-use Rattle.runs.specs.Runs.{open_at, run_of, fed}
-use Rattle.runs.proofs.Steps.{one_step_of}
+use Rattle.slot_views.specs.Runs.{open_at, run_of, fed}
+use Rattle.slot_views.proofs.RunSteps.{one_step_of}
 use Rattle.slot_views.specs.Slots.{Entry, SlotMap, IsOrdered, IsMap, Changes, is_full, entry_at, released, begun_after, grown_after}
 use Rattle.slot_views.specs.Traces.{Filling, left_at, entry_after, if_incomplete, grown_entry, unexpired, now_of, pieces_at, keys_in, other_open_keys as other_open_entries, open_keys as open_entries, IsNoted as AreNoted, IsStep, map_after}
 use Rattle.slot_views.proofs.Keeping.{Keeps, same_keeps, released_keeps, released_here, begun_keeps, begun_here, grown_keeps, grown_here}

@@ -1,7 +1,7 @@
 -- Messages of the transport protocol are runs, so what is promised of runs holds of them.
 use Rattle.std.proofs.Common.{◌≡◌, ℕ, ◌&&◌, not, nat_lt, Bool, true, false, List, [], ◌∷◌, length, refl, arith}
 use Rattle.std.proofs.lemmas.Bool.{eqb-true, le-ltb}
-use Rattle.runs.specs.Runs.{IsLawful, is_whole, opener_of}
+use Rattle.slot_views.specs.Runs.{IsLawful, is_whole, opener_of}
 use Rattle.iso_transport.specs.IsoRuns.{IsoPiece, need_of, is_opener, is_next, is_repeat, iso_rules}
 
 pub both_true : (a b : Bool) → (a && b) ≡ true → (a ≡ true) × (b ≡ true)

@@ -2,7 +2,7 @@
 use Rattle.std.proofs.lemmas.Bool.{eqb-true, leb-true, ltb-true}
 use Rattle.std.proofs.lemmas.List.{take_all}
 use Rattle.std.proofs.Common.{◌≡◌, ℕ, ◌+◌, ◌-◌, ◌*◌, ◌<◌, ◌≤◌, min, Bool, true, false, List, [], ◌∷◌, ◌++◌, length, drop, slice_index, Option, Some, None, length-drop, length-append, refl, sym, ◌∙◌, ap, subst, arith}
-use Rattle.runs.specs.Runs.{accepted, accepted_after, accepted_more, in_time, opener_of}
+use Rattle.slot_views.specs.Runs.{accepted, accepted_after, accepted_more, in_time, opener_of}
 use Rattle.slot_views.specs.Slots.{Entry}
 use Rattle.iso_transport.specs.Sessions.{packets_of, opens, gap_after, mark_of}
 use Rattle.iso_transport.specs.IsoRuns.{IsoPiece, number_of, end_of, part_of, session_of, need_of, is_opener, is_next, is_repeat, iso_rules, joined}

@@ -1,7 +1,7 @@
 -- What a message of the transport protocol is: a run of frames of one sender, all to this node (addressed) or all to all.
 use Rattle.std.specs.Cmp.Lexicographic.{pointwise}
 use Rattle.std.specs.Prelude.{ℕ, ◌+◌, ◌-◌, ◌*◌, Bool, false, ◌&&◌, not, ◌==◌, nat_eq, nat_le, nat_lt, min, List, [], ◌∷◌, ◌++◌, length, take, drop, slice_index}
-use Rattle.runs.specs.Runs.{Rules, opener_of}
+use Rattle.slot_views.specs.Runs.{Rules, opener_of}
 use Rattle.iso_transport.specs.declared.session.Session.{Session}
 use Rattle.iso_transport.specs.Cm.{cm_of}
 use Rattle.iso_transport.specs.Sessions.{packets_of, opens, announced, gap_after}

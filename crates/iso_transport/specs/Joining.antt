@@ -2,7 +2,7 @@
 use Rattle.std.specs.Prelude.{◌≡◌, ℕ, true, false, not, ◌&&◌, List, ◌∷◌, Option}
 use Rattle.std.specs.declared.cmp.Ordering.{Ordering}
 use Rattle.std.specs.declared.cmp.Ordering.TheVariants.{Less}
-use Rattle.runs.specs.Runs.{open_at, fed, finished}
+use Rattle.slot_views.specs.Runs.{open_at, fed, finished}
 use Rattle.slot_views.specs.Slots.{SlotMap, IsMap, Changes, entry_at, is_full}
 use Rattle.n2k_id.specs.declared.identifier_parts.Parts.{Parts}
 use Rattle.iso_transport.specs.declared.key.IsoKey.{IsoKey}

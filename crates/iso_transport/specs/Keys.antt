@@ -4,7 +4,7 @@ use Rattle.std.specs.Prelude.{◌≡◌, ℕ, ◌≤◌, Bool, true, false, ◌&
 use Rattle.std.specs.List.{AllByRecursion, filter}
 use Rattle.std.specs.BTreeMap.{is_at}
 use Rattle.std.specs.declared.cmp.Ordering.{Ordering}
-use Rattle.runs.specs.Runs.{open_at, run_of}
+use Rattle.slot_views.specs.Runs.{open_at, run_of}
 use Rattle.slot_views.specs.Slots.{SlotMap, entry_at}
 use Rattle.slot_views.specs.Traces.{unexpired, now_of, pieces_at, keys_in}
 use Rattle.n2k_id.specs.declared.identifier_parts.Parts.{Parts}

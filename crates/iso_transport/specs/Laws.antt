@@ -3,7 +3,7 @@ use Rattle.std.specs.Prelude.{◌≡◌, ℕ, ◌≤◌, Bool, true, false, List
 use Rattle.std.specs.List.{AllByRecursion}
 use Rattle.slot_views.specs.Slots.{Entry}
 use Rattle.slot_views.specs.Traces.{Filling, left_at, entry_after}
-use Rattle.runs.specs.Runs.{open_of, open_at, run_of}
+use Rattle.slot_views.specs.Runs.{open_of, open_at, run_of}
 use Rattle.iso_transport.specs.Audience.{bears}
 use Rattle.iso_transport.specs.IsoRuns.{IsoPiece, iso_rules, session_of, payload}
 use Rattle.iso_transport.specs.Answers.{reply_by}

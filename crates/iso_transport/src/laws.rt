@@ -1,6 +1,6 @@
 //! What is promised of messages of the transport protocol, whoever joins them.
 ghost use Rattle.std.specs.Prelude.{◌≡◌, ℕ, true, false, List, ◌∷◌, Option};
-ghost use Rattle.runs.specs.Laws.{OneStep, OneSuffix};
+ghost use Rattle.slot_views.specs.RunLaws.{OneStep, OneSuffix};
 ghost use Rattle.n2k_id.specs.declared.identifier_parts.Parts.{Parts};
 ghost use Rattle.iso_transport.specs.declared.key.IsoKey.{IsoKey};
 ghost use Rattle.iso_transport.specs.Audience.{key_of, is_data, concerns};

@@ -4,8 +4,8 @@ ghost use Rattle.gate_core.specs.Steps.{IsEventValid};
 ghost use Rattle.gate_core.specs.Steps as steps;
 ghost use Rattle.isolation.specs.Runs.{IsCut, IsFrameEvent, Runs, Turns, entry_of, kept_from};
 
-use capture_text::Event;
 use gate_core::{Done, Gateway, Outbox};
+use gate_events::Event;
 use n2k_id::Frame;
 use std::alloc::{AllocError, Global};
 

@@ -15,7 +15,7 @@ use Rattle.history.specs.AddressLaws.{IsReceiver}
 use Rattle.history.specs.Choice.{is_first, rank_of, reading_of, selected, selected_reading}
 use Rattle.history.specs.ChoiceLaws.{IsOfHolder}
 use Rattle.history.specs.Entries.{Entry, History, frame, datagram, tick, command, moment_of}
-use Rattle.history.specs.Emits.{Emit}
+use Rattle.gate_events.specs.Emit.{Emit}
 use Rattle.history.specs.FromBus.{chosen}
 use Rattle.history.specs.Gate.{out}
 use Rattle.history.specs.Known.{Known, known, is_claim}

@@ -5,7 +5,8 @@ use Rattle.readings.specs.declared.reading.Reading.{Reading}
 use Rattle.readings.specs.Rows.{row_of}
 use Rattle.n2k_id.specs.Frame.{BusFrame}
 use Rattle.history.specs.Datagrams.{Spoken}
-use Rattle.history.specs.Emits.{Emit, can, net, report, reported}
+use Rattle.gate_events.specs.Emit.{Emit, can, net, report}
+use Rattle.history.specs.Emits.{reported}
 use Rattle.history.specs.Entries.{Entry, History, frame}
 use Rattle.history.specs.EntryLaws.{SaysOne, nets_in, nothing, one}
 use Rattle.history.specs.FromBus.{answers_by, chosen, frame_refused, meaning_after, said_in}

@@ -9,7 +9,7 @@ use Rattle.readings.specs.Ranges.{IsValid}
 use Rattle.readings.specs.Rows.{row_of}
 use Rattle.sentence_rows.specs.declared.rmc.Minimum.{Minimum}
 use Rattle.tag_block.specs.Numbers.{most_count}
-use Rattle.history.specs.Emits.{Emit, can, net, report}
+use Rattle.gate_events.specs.Emit.{Emit, can, net, report}
 use Rattle.history.specs.Settings.{same_row}
 use Rattle.gate_core.specs.declared.done.Done.{Done}
 use Rattle.joined_rmc.specs.declared.kept.Kept.{Kept}

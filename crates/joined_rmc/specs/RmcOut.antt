@@ -12,7 +12,7 @@ use Rattle.sentence_rows.specs.Rmc.{rmc_text}
 use Rattle.tag_block.specs.Numbers.{most_count}
 use Rattle.datagram450.specs.Datagram.{header}
 use Rattle.datagram450.specs.Writing.{line_text}
-use Rattle.history.specs.Emits.{Emit, net}
+use Rattle.gate_events.specs.Emit.{Emit, net}
 use Rattle.history.specs.Entries.{Entry, History, moment_of}
 use Rattle.history.specs.Settings.{Settings}
 use Rattle.settings.specs.declared.rmc.RmcConfig.{RmcConfig}

@@ -3,8 +3,8 @@ ghost use Rattle.std.specs.Prelude.{◌≡◌};
 ghost use Rattle.joined_rmc.specs.Kept.{IsDoneValid, IsKeptValid, is_said, picked, picked_of};
 
 use crate::kept::Kept;
-use capture_text::Emit;
 use gate_core::{Done, Outbox};
+use gate_events::Emit;
 
 /// The message that a step at this moment selected.
 pub(crate) fn selected(moment: u64, emits: &Outbox) -> Option<Kept>

@@ -11,11 +11,11 @@ ghost use Rattle.joined_rmc.specs.RmcOut.{RmcRule};
 
 use crate::{RmcConfig, RmcJoin};
 use arrayvec::ArrayVec;
-use capture_text::Event;
 use claim_table::Preset;
 use gate_core::{Config, Ends, Gateway, Outbox, RowConfig};
-use gate_outside::{Address, Routes};
+use gate_events::Event;
 use n2k_id::{Frame, Name};
+use network_routes::{Address, Routes};
 use sentence_text::{Group, Sfi};
 use std::alloc::Global;
 use std::test::Fail;

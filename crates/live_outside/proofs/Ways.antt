@@ -6,7 +6,7 @@ use Rattle.std.proofs.lemmas.Slice.Eq.{bytes_eq-Decides}
 use Rattle.std.proofs.lemmas.Bool.Decides.{not_from_Decides}
 use Rattle.std.proofs.Math.Seq.{take-suc, drop-cons}
 use Rattle.std.specs.declared.net.socket_addr.SocketAddrV4.{SocketAddrV4}
-use Rattle.gate_outside.specs.declared.address.Route.{Route}
+use Rattle.network_routes.specs.declared.Route.{Route}
 use Rattle.live_outside.specs.declared.destinations.Destination.{Destination}
 use Rattle.live_outside.specs.Destinations.{IsOfRoute, AreOfRoutes, GoesTo}
 

@@ -2,7 +2,7 @@
 use Rattle.std.specs.Prelude.{◌≡◌, ◌≢◌, ◌⊎◌, ⊤, ℕ, List, [], ◌∷◌}
 use Rattle.std.specs.declared.net.socket_addr.SocketAddrV4.{SocketAddrV4}
 use Rattle.std.specs.Net.Grammar.{IsSocketV4Text}
-use Rattle.gate_outside.specs.declared.address.Route.{Route}
+use Rattle.network_routes.specs.declared.Route.{Route}
 use Rattle.live_outside.specs.declared.destinations.Destination.{Destination}
 
 -- The destination is that of the route: its group, and the address that its text spells.

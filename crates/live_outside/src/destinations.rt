@@ -3,7 +3,7 @@ ghost use Rattle.std.specs.Prelude.{◌≡◌, IfSome};
 ghost use Rattle.live_outside.specs.Destinations.{IsOfRoute};
 
 use arrayvec::ArrayVec;
-use gate_outside::{Route, Routes};
+use network_routes::{Route, Routes};
 use sentence_text::Group;
 use std::net::{Ipv4Addr, SocketAddrV4};
 

@@ -2,7 +2,8 @@
 ghost use Rattle.gate_outside.specs.Link.{Fits};
 
 use crate::destinations::Destinations;
-use gate_outside::{Arrival, Failed, Routes};
+use gate_outside::{Arrival, Failed};
+use network_routes::Routes;
 use sentence_text::Group;
 use std::io;
 use std::io::ErrorKind;

@@ -1,7 +1,8 @@
 //! What no clause says: that a file's bytes come, that datagrams move, and that time passes.
 use super::*;
 use arrayvec::ArrayVec;
-use gate_outside::{Address, Arrival, Clock, Failed, Files, Link, LoadFault, Route, Routes};
+use gate_outside::{Arrival, Clock, Failed, Files, Link, LoadFault};
+use network_routes::{Address, Route, Routes};
 use sentence_text::Group;
 use std::io;
 use std::net::UdpSocket;

@@ -1,7 +1,8 @@
 //! A link over UDP.
 use crate::activity::{Activity, Side};
 use crate::socket::{LONGEST_WAIT_MS, Socket};
-use gate_outside::{Arrival, Failed, Link, Routes};
+use gate_outside::{Arrival, Failed, Link};
+use network_routes::Routes;
 use sentence_text::Group;
 use std::marker::Model;
 use std::net::Net;

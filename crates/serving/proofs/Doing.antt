@@ -2,8 +2,8 @@
 use Rattle.std.proofs.Common.{◌≡◌, List, [], ◌∷◌, ◌++◌, refl, sym, ap, subst, ◌∙◌, append_assoc}
 use Rattle.std.proofs.lemmas.List.{append-nil}
 use Rattle.gate_outside.specs.Link.{Outcome}
-use Rattle.history.specs.Emits.{Emitted}
-use Rattle.history.specs.Replay.{Running}
+use Rattle.gate_events.specs.Emit.{Emitted}
+use Rattle.bridge.specs.Replayed.{Running}
 use Rattle.bridge.specs.Kept.{Bridged}
 use Rattle.bridge.specs.Parts.{Parts}
 use Rattle.serving.specs.Handing.{DoesAll, DoesSome, HandsAll, HandsSome, RunStands, passed}

@@ -3,11 +3,12 @@ use Rattle.std.proofs.Common.{◌≡◌, ℕ, Bool, true, false, List, [], ◌�
 use Rattle.std.specs.Prelude.{Option, Some, None, is_some, option_map, Result, Ok, Err}
 use Rattle.std.proofs.lemmas.List.{append-nil, map-append}
 use Rattle.report_rules.specs.Rules as rules
-use Rattle.capture_text.specs.declared.emit.Detail.TheVariants as detail
+use Rattle.gate_events.specs.declared.emit.Detail.TheVariants as detail
 use Rattle.gate_outside.specs.declared.Failed.{Failed}
 use Rattle.gate_core.specs.declared.done.Command.{Command}
 use Rattle.gate_core.specs.Promises.{entry_by}
-use Rattle.history.specs.Emits.{Emit, Emitted, at, broken}
+use Rattle.gate_events.specs.Emit.{Emit, Emitted}
+use Rattle.history.specs.Emits.{at, broken}
 use Rattle.history.specs.Entries.{Entry, History, IsHistory, is_accepted, moment_of, now}
 use Rattle.history.specs.Gate.{Stepped, command_in, out}
 use Rattle.history.specs.Messages.{done}

@@ -6,17 +6,18 @@ use Rattle.std.proofs.lemmas.Bool.{eqb-true}
 use Rattle.std.proofs.lemmas.List.{append-nil, take-append-drop, take_all, length-drop}
 use Rattle.n2k_id.specs.Frame.{BusFrame}
 use Rattle.report_rules.specs.Rules as rules
-use Rattle.capture_text.specs.declared.emit.Detail.TheVariants as detail
-use Rattle.capture_text.specs.declared.emit.Report.{Report}
+use Rattle.gate_events.specs.declared.emit.Detail.TheVariants as detail
+use Rattle.gate_events.specs.declared.emit.Report.{Report}
 use Rattle.capture_text.specs.Writing.{frame_text, time_text}
 use Rattle.gate_outside.specs.declared.Failed.{Failed}
 use Rattle.gate_outside.specs.Faults.{Rose}
 use Rattle.gate_outside.specs.Link.{GoesOn, Handed, Outcome, Traffic, failed_also, handed_also, received_also}
 use Rattle.gate_outside.specs.Told.{Joins}
 use Rattle.capture_stream.proofs.WriterLemmas.{Joins-nil, Joins-then}
-use Rattle.history.specs.Emits as emits
-use Rattle.history.specs.Emits.{Emit, Emitted, at, broken, report_of}
-use Rattle.history.specs.Replay.{line_of}
+use Rattle.gate_events.specs.Emit as emits
+use Rattle.gate_events.specs.Emit.{Emit, Emitted}
+use Rattle.history.specs.Emits.{at, broken, report_of}
+use Rattle.capture_text.specs.Emitted.{line_of}
 use Rattle.serving.specs.Handing.{Broken, Hands, HandsAll, Takes, passed}
 use Rattle.serving.specs.Served.{Passes, Stops, Tried, item_of, outside, over_bus, over_net, to_text}
 use Rattle.serving.proofs.Passing.{goes_as, goes_still, traffic_same, traffic_still}

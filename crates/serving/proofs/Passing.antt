@@ -8,7 +8,7 @@ use Rattle.gate_outside.specs.Faults.{Rose}
 use Rattle.gate_outside.specs.Link.{Attachment, GoesOn, Handed, Outcome, Traffic}
 use Rattle.gate_outside.specs.Told.{Joins}
 use Rattle.capture_stream.proofs.WriterLemmas.{Joins-nil, Joins-then}
-use Rattle.history.specs.Emits.{Emitted}
+use Rattle.gate_events.specs.Emit.{Emitted}
 use Rattle.serving.specs.Handing.{passed}
 use Rattle.serving.specs.Served.{IsFront, Outside, Passed, Passes, Stops, Tried, all_due, bus_sends, net_sends, over_bus, over_net, to_bus, to_net, to_text, with_last}
 

@@ -6,12 +6,11 @@ use Rattle.gate_outside.specs.Faults.{Rose}
 use Rattle.gate_outside.specs.Link.{Outcome}
 use Rattle.gate_outside.specs.Told.{Joins}
 use Rattle.capture_stream.proofs.WriterLemmas.{Joins-nil, Joins-then}
-use Rattle.history.specs.Emits.{Emitted}
-use Rattle.history.specs.Replay.{Running}
+use Rattle.gate_events.specs.Emit.{Emitted}
+use Rattle.bridge.specs.Replayed.{Running, RunningStands}
 use Rattle.bridge.specs.BridgeStands.{IsNew}
 use Rattle.bridge.specs.Kept.{Bridged}
 use Rattle.bridge.specs.Parts.{Parts}
-use Rattle.bridge.specs.Replayed.{RunningStands}
 use Rattle.serving.specs.Handing.{Ends, TurnsAll, TurnsSome, passed}
 use Rattle.serving.specs.Served.{IsFront, Outside, Passes, Tried, all_due}
 use Rattle.serving.specs.Turns.{Turned, due_from, due_of, turn}

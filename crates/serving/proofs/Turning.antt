@@ -1,18 +1,18 @@
 -- What a turn makes of what came before, put together from its calls.
 use Rattle.std.proofs.Common.{◌≡◌, ℕ, Bool, true, false, List, [], ◌∷◌, ◌++◌, refl, sym, ap, subst, ◌∙◌, arith}
 use Rattle.std.specs.Prelude.{◌||◌, max, Option, Some, None, Result, Ok, Err}
-use Rattle.capture_text.specs.declared.emit.Report.{Report}
+use Rattle.gate_events.specs.declared.emit.Report.{Report}
 use Rattle.gate_outside.specs.declared.Failed.{Failed}
 use Rattle.gate_outside.specs.Link.{Outcome}
 use Rattle.gate_outside.specs.Told.{Joins}
-use Rattle.history.specs.Emits as emits
-use Rattle.history.specs.Emits.{Emit, Emitted, at}
-use Rattle.history.specs.Replay.{Running}
+use Rattle.gate_events.specs.Emit as emits
+use Rattle.gate_events.specs.Emit.{Emit, Emitted}
+use Rattle.history.specs.Emits.{at}
+use Rattle.bridge.specs.Replayed.{Running, RunningStands}
 use Rattle.gate_model.specs.Machine.{Machine}
 use Rattle.bridge.specs.BridgeStands.{IsStart}
 use Rattle.bridge.specs.Kept.{Bridged, left_of}
 use Rattle.bridge.specs.Parts.{Parts}
-use Rattle.bridge.specs.Replayed.{RunningStands}
 use Rattle.serving.specs.Handing.{Does, DoesAll, DoesSome, Hands, HandsAll, HandsSome, RunStands, TakesTurn, passed}
 use Rattle.serving.specs.Served.{IsFront, Outside, Passes, all_due}
 use Rattle.serving.specs.Turns.{Came, Turned, came_in, from_bus, from_net, in_turn, is_event, moment_at, opened, tick_behind, turn, with_all, with_came}

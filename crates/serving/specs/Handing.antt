@@ -2,18 +2,17 @@
 use Rattle.std.specs.Prelude.{◌≡◌, ◌≢◌, ℕ, Bool, List, [], ◌∷◌, ◌++◌, length, Option, Some, option_map, Result, Ok, Err}
 use Rattle.n2k_id.specs.declared.frame.Frame.{Frame}
 use Rattle.n2k_id.specs.Frame.{bus_frame}
-use Rattle.capture_text.specs.declared.emit.Report.{Report}
+use Rattle.gate_events.specs.declared.emit.Report.{Report}
 use Rattle.gate_outside.specs.declared.Failed.{Failed}
 use Rattle.gate_outside.specs.Faults.{Rose}
 use Rattle.gate_outside.specs.Link.{Outcome}
 use Rattle.gate_outside.specs.Told.{Joins}
-use Rattle.history.specs.Emits.{Emitted}
+use Rattle.gate_events.specs.Emit.{Emitted}
 use Rattle.history.specs.Entries as entry
-use Rattle.history.specs.Replay.{Running}
+use Rattle.bridge.specs.Replayed.{Running, RunningStands}
 use Rattle.bridge.specs.BridgeStands.{IsNew}
 use Rattle.bridge.specs.Kept.{Bridged}
 use Rattle.bridge.specs.Parts.{Parts}
-use Rattle.bridge.specs.Replayed.{RunningStands}
 use Rattle.serving.specs.Served.{EndsBy, IsCut, IsFront, Outside, Passed, Passes, Stops, Tried, all_due}
 use Rattle.serving.specs.Turns.{Came, Turned, is_event, turn, with_came}
 

@@ -2,15 +2,16 @@
 use Rattle.std.specs.Prelude.{◌≡◌, ◌≢◌, ◌≤◌, ℕ, ◌+◌, Bool, true, false, List, [], ◌∷◌, ◌++◌, length, map, codes, Option}
 use Rattle.std.specs.List.{flat_map}
 use Rattle.report_rules.specs.Rules as rules
-use Rattle.capture_text.specs.declared.emit.Detail.TheVariants as detail
-use Rattle.capture_text.specs.declared.emit.Report.{Report}
+use Rattle.gate_events.specs.declared.emit.Detail.TheVariants as detail
+use Rattle.gate_events.specs.declared.emit.Report.{Report}
 use Rattle.capture_text.specs.Writing.{time_text, frame_text}
 use Rattle.gate_outside.specs.Faults.{Rose}
 use Rattle.gate_outside.specs.Link.{GoesOn, Handed, Outcome, Traffic}
 use Rattle.gate_outside.specs.Told.{Joins}
-use Rattle.history.specs.Emits as emits
-use Rattle.history.specs.Emits.{Emit, Emitted, broken}
-use Rattle.history.specs.Replay.{line_of}
+use Rattle.gate_events.specs.Emit as emits
+use Rattle.gate_events.specs.Emit.{Emit, Emitted}
+use Rattle.history.specs.Emits.{broken}
+use Rattle.capture_text.specs.Emitted.{line_of}
 use Rattle.bridge.specs.Parts.{Parts}
 use Rattle.serving.specs.Turns.{due_of}
 

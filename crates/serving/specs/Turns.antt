@@ -2,18 +2,19 @@
 use Rattle.std.specs.Prelude.{ℕ, ◌+◌, Bool, true, false, ◌||◌, max, drop, List, [], ◌∷◌, ◌++◌, Option, Some, None, Result, Ok, Err, if◌then◌else◌}
 use Rattle.std.specs.Io.BufRead.{ends_with_byte, strip_last}
 use Rattle.report_rules.specs.Rules as rules
-use Rattle.capture_text.specs.declared.emit.Detail.TheVariants as detail
-use Rattle.capture_text.specs.declared.emit.Report.{Report}
-use Rattle.capture_text.specs.declared.event.LineRule.{LineRule}
-use Rattle.capture_text.specs.Capture as capture
-use Rattle.capture_text.specs.Capture.{Seen}
-use Rattle.capture_text.specs.Event.{rule_number}
+use Rattle.gate_events.specs.declared.emit.Detail.TheVariants as detail
+use Rattle.gate_events.specs.declared.emit.Report.{Report}
+use Rattle.capture_text.specs.declared.line_rule.LineRule.{LineRule}
+use Rattle.gate_events.specs.Event as capture
+use Rattle.gate_events.specs.Event.{Seen}
+use Rattle.capture_text.specs.LineRule.{rule_number}
 use Rattle.capture_text.specs.Reading.{read}
 use Rattle.gate_outside.specs.Link.{Outcome}
-use Rattle.history.specs.Emits.{Emitted, at, report, report_of}
+use Rattle.gate_events.specs.Emit.{Emitted, report}
+use Rattle.history.specs.Emits.{at, report_of}
 use Rattle.history.specs.Entries as entry
 use Rattle.history.specs.Entries.{Entry}
-use Rattle.history.specs.Replay.{Running, moment_in}
+use Rattle.bridge.specs.Replayed.{Running, moment_in}
 use Rattle.bridge.specs.Gate.{opening, stepped}
 use Rattle.bridge.specs.Parts.{Parts}
 

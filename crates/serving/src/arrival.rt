@@ -7,7 +7,8 @@ ghost use Rattle.gate_outside.specs.Link.{GoesOn, Outcome, received_also};
 ghost use Rattle.serving.specs.Handing.{frame_came, frame_said};
 ghost use Rattle.serving.specs.Turns.{from_bus, refused, said, text_of};
 
-use capture_text::{Detail, Event, Report, read_line};
+use capture_text::read_line;
+use gate_events::{Detail, Event, Report};
 use gate_outside::{Arrival, Failed, Link};
 use n2k_id::Frame;
 use report_rules::{CAPTURE_FORM, RECEIVE_FAILED};

@@ -2,19 +2,21 @@
 ghost use Rattle.std.specs.Prelude.{◌≡◌, ◌∷◌, [], ◌++◌, codes, drop, take};
 ghost use Rattle.report_rules.specs.Rules.{send_failed};
 ghost use Rattle.n2k_id.specs.Frame.{IsFrame, bus_frame};
-ghost use Rattle.capture_text.specs.Writing.{CanWrite, frame_text, time_text};
+ghost use Rattle.capture_text.specs.Writing.{frame_text, time_text};
+ghost use Rattle.gate_events.specs.Emit.{CanWrite};
 ghost use Rattle.gate_outside.specs.Link.{Sends};
 ghost use Rattle.gate_core.specs.Output.{emit_of};
-ghost use Rattle.history.specs.Emits as emits;
+ghost use Rattle.gate_events.specs.Emit as emits;
 ghost use Rattle.history.specs.Emits.{at, report_of};
-ghost use Rattle.history.specs.Replay.{line_of};
+ghost use Rattle.capture_text.specs.Emitted.{line_of};
 ghost use Rattle.bridge.specs.Kept.{left_of};
 ghost use Rattle.serving.specs.Handing.{Hands, Takes};
 ghost use Rattle.serving.specs.Served.{outside};
 
 use arrayvec::ArrayVec;
 use bridge::Bridge;
-use capture_text::{Detail, Emit, Report, write_emit};
+use capture_text::write_emit;
+use gate_events::{Detail, Emit, Report};
 use gate_outside::{Failed, Link, Sink};
 use n2k_id::Frame;
 use report_rules::SEND_FAILED;

@@ -11,7 +11,7 @@ ghost use Rattle.serving.specs.Turns.{from_bus, from_net, opened, tick_behind, w
 use crate::arrival::receive_frame;
 use crate::handing::{hand_on, write_report};
 use bridge::Bridge;
-use capture_text::{Detail, Event, Report};
+use gate_events::{Detail, Event, Report};
 use gate_outside::{Arrival, Clock, Failed, Link, Sink};
 use report_rules::RECEIVE_FAILED;
 

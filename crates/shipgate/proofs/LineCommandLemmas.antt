@@ -1,9 +1,9 @@
 -- A command that keeps nothing gives each line its text.
 use Rattle.std.proofs.Common.{◌≡◌, ◌+◌, ℕ, List, [], ◌∷◌, Result, Ok, Err, refl, sym, subst}
 use Rattle.std.specs.Prelude.{Option}
-use Rattle.capture_text.specs.declared.event.LineRule.{LineRule}
-use Rattle.capture_text.specs.declared.event.LineRule.TheVariants.{Form, NotExtended, Long}
-use Rattle.capture_text.specs.Capture.{Seen}
+use Rattle.capture_text.specs.declared.line_rule.LineRule.{LineRule}
+use Rattle.capture_text.specs.declared.line_rule.LineRule.TheVariants.{Form, NotExtended, Long}
+use Rattle.gate_events.specs.Event.{Seen}
 use Rattle.capture_text.specs.Reading.{read}
 use Rattle.capture_text.proofs.Laws.{found, long_found, not_extended_found, is_form}
 use Rattle.shipgate.specs.Says.{Says}

@@ -10,11 +10,11 @@ use Rattle.pgn_profile.specs.declared.profiled.Profiled.{Profiled}
 use Rattle.pgn_profile.specs.declared.profiled.Profiled.TheVariants as says
 use Rattle.pgn_profile.specs.Profiled.{kind_of, profiled}
 use Rattle.sentence_rows.specs.Writing.{IsText}
-use Rattle.capture_text.specs.declared.event.LineRule.{LineRule}
-use Rattle.capture_text.specs.declared.emit.Detail.TheVariants as detail
-use Rattle.capture_text.specs.Event.{rule_number}
+use Rattle.capture_text.specs.declared.line_rule.LineRule.{LineRule}
+use Rattle.gate_events.specs.declared.emit.Detail.TheVariants as detail
+use Rattle.capture_text.specs.LineRule.{rule_number}
 use Rattle.report_rules.specs.Rules.{not_converted, short_message}
-use Rattle.capture_text.specs.Capture.{Seen, frame, datagram, tick}
+use Rattle.gate_events.specs.Event.{Seen, frame, datagram, tick}
 use Rattle.capture_text.specs.Writing.{report_text}
 use Rattle.shipgate.specs.Talker.{talker_of}
 

@@ -1,7 +1,7 @@
 -- What a command writes that answers each line of a capture by itself.
 use Rattle.std.specs.Prelude.{◌≡◌, ◌+◌, ℕ, List, [], ◌∷◌, ◌++◌, Result}
-use Rattle.capture_text.specs.declared.event.LineRule.{LineRule}
-use Rattle.capture_text.specs.Capture.{Seen}
+use Rattle.capture_text.specs.declared.line_rule.LineRule.{LineRule}
+use Rattle.gate_events.specs.Event.{Seen}
 use Rattle.shipgate.specs.Says.{Says}
 use Rattle.shipgate.specs.declared.words.LineCommand.{LineCommand}
 use Rattle.shipgate.specs.declared.words.LineCommand.TheVariants.{Convert, Show}

@@ -1,8 +1,9 @@
 -- What a line of a capture says by its grammar, or which rule it breaks.
 use Rattle.std.specs.Prelude.{ℕ, ◌<◌, List, length, Result, Ok, Err}
-use Rattle.capture_text.specs.declared.event.LineRule.{LineRule}
-use Rattle.capture_text.specs.declared.event.LineRule.TheVariants.{Form, NotExtended, Long}
-use Rattle.capture_text.specs.Capture.{longest_line, Seen, IsLine, IsNotExtended, IsNoLine}
+use Rattle.capture_text.specs.declared.line_rule.LineRule.{LineRule}
+use Rattle.capture_text.specs.declared.line_rule.LineRule.TheVariants.{Form, NotExtended, Long}
+use Rattle.capture_text.specs.Capture.{longest_line, IsLine, IsNotExtended, IsNoLine}
+use Rattle.gate_events.specs.Event.{Seen}
 
 abbrev pub Says : List ℕ → Result Seen LineRule → Type 0
 Says line (Ok seen) = IsLine seen line

@@ -11,10 +11,10 @@ use Rattle.datagram450.specs.declared.fault.DatagramFault.TheVariants as faults
 use Rattle.datagram450.specs.Item.{Item, line, bad}
 use Rattle.datagram450.specs.Datagram as datagrams
 use Rattle.datagram450.specs.Datagram.{longest_datagram}
-use Rattle.capture_text.specs.declared.event.LineRule.{LineRule}
-use Rattle.capture_text.specs.Event.{rule_number}
+use Rattle.capture_text.specs.declared.line_rule.LineRule.{LineRule}
+use Rattle.capture_text.specs.LineRule.{rule_number}
 use Rattle.report_rules.specs.Rules.{datagram_header, datagram_long}
-use Rattle.capture_text.specs.Capture.{Seen, frame, datagram, tick}
+use Rattle.gate_events.specs.Event.{Seen, frame, datagram, tick}
 use Rattle.capture_text.specs.Writing.{part}
 
 abbrev pub start : ℕ → List ℕ

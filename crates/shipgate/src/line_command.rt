@@ -1,7 +1,7 @@
 //! A command that answers each line of a capture by itself.
 ghost use Rattle.std.specs.Prelude.{◌≡◌, Ok, Err};
 ghost use Rattle.gate_outside.specs.Faults.{HasCause, Rose};
-ghost use Rattle.capture_text.specs.Reading.{view, IsValid};
+ghost use Rattle.gate_events.specs.Event.{view, IsValid};
 ghost use Rattle.capture_stream.specs.Writer.{SendsText};
 ghost use Rattle.capture_stream.specs.Progress.{Ends, Steady};
 ghost use Rattle.shipgate.specs.LineCommand.{IsTextOf, AreTextsOf};
@@ -9,7 +9,8 @@ ghost use Rattle.shipgate.specs.LineCommand.{IsTextOf, AreTextsOf};
 use crate::words::LineCommand;
 use crate::{convert, show};
 use capture_stream::{Answers, Ending, Writer, answer_capture};
-use capture_text::{Event, LineRule};
+use capture_text::LineRule;
+use gate_events::Event;
 use gate_outside::{Failed, Sink, Source};
 
 // Sends what a line gives that says something.

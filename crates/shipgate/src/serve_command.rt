@@ -10,7 +10,8 @@ use crate::replay::NO_MEMORY;
 use arrayvec::ArrayVec;
 use bridge::{Bridge, Settings};
 use config_values::Ends;
-use gate_outside::{Address, Clock, Failed, Files, Link, Routes, Sink};
+use gate_outside::{Clock, Failed, Files, Link, Sink};
+use network_routes::{Address, Routes};
 use serving::serve_turns;
 use std::alloc::Global;
 

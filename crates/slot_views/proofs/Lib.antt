@@ -4,6 +4,8 @@ pub mod Lists
 pub mod Order
 pub mod Places
 pub mod Quiet
+pub mod RunSteps
+pub mod RunSuffixes
 pub mod Sound
 pub mod Steps
 pub mod Tied

@@ -4,3 +4,5 @@ pub mod Answers
 pub mod Rows
 pub mod Traces
 pub mod Laws
+pub mod Runs
+pub mod RunLaws

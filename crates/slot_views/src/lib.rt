@@ -9,6 +9,7 @@ mod buffers;
 mod growth;
 mod laws;
 mod opening;
+mod runs;
 mod shelf;
 mod slot;
 mod slots;
@@ -17,4 +18,5 @@ mod tests;
 
 pub use answers::{Begun, Ended, Grown, Kept, View};
 pub use laws::{entries_end_one_by_one, first_entry_ends, keys_stand_apart};
+pub use runs::{one_step, one_suffix};
 pub use slots::Slots;

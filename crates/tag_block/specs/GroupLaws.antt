@@ -2,7 +2,7 @@
 use Rattle.std.specs.Prelude.{◌≡◌, ℕ, ◌≤◌, Bool, true, false, ◌&&◌, ◌==◌, if◌then◌else◌, is_some, IsSomeAnd, List, [], ◌∷◌, length, Option, Some, None}
 use Rattle.std.specs.List.{AllByRecursion}
 use Rattle.std.specs.declared.cmp.Ordering.{Ordering}
-use Rattle.runs.specs.Runs.{opener_of, open_at, run_of}
+use Rattle.slot_views.specs.Runs.{opener_of, open_at, run_of}
 use Rattle.slot_views.specs.Slots.{Entry, SlotMap, grown, entry_at}
 use Rattle.slot_views.specs.Traces.{Filling, if_incomplete, entry_after, unexpired, now_of, pieces_at, open_keys, IsNoted, map_after}
 use Rattle.tag_block.specs.declared.group_key.GroupKey.{GroupKey}

@@ -1,6 +1,6 @@
 -- What a group of lines is: a run of lines of one sender and code, numbered from 1, with one total.
 use Rattle.std.specs.Prelude.{ℕ, ◌+◌, Bool, false, ◌&&◌, ◌==◌, nat_lt, List, [], ◌∷◌, ◌++◌, length}
-use Rattle.runs.specs.Runs.{Rules, opener_of}
+use Rattle.slot_views.specs.Runs.{Rules, opener_of}
 use Rattle.tag_block.specs.declared.group_part.GroupPart.{GroupPart}
 use Rattle.tag_block.specs.Groups.{group_gap}
 

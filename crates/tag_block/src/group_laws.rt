@@ -1,6 +1,6 @@
 //! What is promised of groups of lines, whoever assembles them.
-ghost use Rattle.runs.specs.Laws.{OneStep, OneSuffix};
-ghost use Rattle.runs.specs.Runs.{open_of};
+ghost use Rattle.slot_views.specs.RunLaws.{OneStep, OneSuffix};
+ghost use Rattle.slot_views.specs.Runs.{open_of};
 ghost use Rattle.std.specs.Prelude.{◌≡◌, ℕ, List, ◌∷◌};
 ghost use Rattle.std.specs.List.{AllByRecursion};
 ghost use Rattle.tag_block.specs.declared.group_key.GroupKey.{GroupKey};

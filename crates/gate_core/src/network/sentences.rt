@@ -12,7 +12,7 @@ ghost use Rattle.gate_core.specs.Output.{Output, and_emits, most_emits, has_data
 use crate::network::heard::Heard;
 use crate::network::rows::Readings;
 use crate::outbox::Outbox;
-use capture_text::{Detail, Report};
+use gate_events::{Detail, Report};
 use report_rules::{FIELD_FORM, FIELD_RANGE};
 use sentence_rows::{FieldFault, read_rows};
 use sentence_text::Sentence;

@@ -1,5 +1,5 @@
 use Rattle.std.proofs.Common.{[], ◌∷◌, ap, sym, ◌∙◌, arith}
-use Rattle.history.specs.Emits.{report}
+use Rattle.gate_events.specs.Emit.{report}
 use Rattle.gate_core.specs.Output.{and_emits}
 use Rattle.gate_core.proofs.Telling.{has_room, fewer, one_told, ends_slots, ends_emits}
 use Rattle.gate_core.proofs.endings.end_groups.Goals as goal

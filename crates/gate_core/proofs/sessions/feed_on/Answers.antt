@@ -1,7 +1,8 @@
 use Rattle.std.proofs.Common.{◌+◌, ◌≤◌, length, ap, ◌∙◌, subst, sym, arith}
 use Rattle.std.proofs.lemmas.List.{length-map}
 use Rattle.n2k_id.specs.Frame.{held_bytes}
-use Rattle.history.specs.Emits.{report, reported, replied}
+use Rattle.gate_events.specs.Emit.{report}
+use Rattle.history.specs.Emits.{reported, replied}
 use Rattle.gate_core.specs.SessionTold.{told_reports}
 use Rattle.gate_core.specs.Output.{and_emits, most_emits}
 use Rattle.gate_core.proofs.SessionTelling.{reply_named, message_is, emits_are, room_for_first, room_for_second, both_emitted}

@@ -1,6 +1,6 @@
 use Rattle.std.proofs.Common.{true, false}
-use Rattle.runs.proofs.Steps.{one_step_of}
-use Rattle.runs.proofs.Suffixes.{one_suffix_of}
+use Rattle.slot_views.proofs.RunSteps.{one_step_of}
+use Rattle.slot_views.proofs.RunSuffixes.{one_suffix_of}
 use Rattle.iso_transport.specs.IsoRuns.{iso_rules}
 use Rattle.iso_transport.proofs.Lawful.{lawful}
 use Rattle.iso_transport.proofs.laws.iso_runs.Goals as goal

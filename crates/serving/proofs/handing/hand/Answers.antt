@@ -1,10 +1,10 @@
 use Rattle.std.proofs.Common.{sym, subst}
 use Rattle.n2k_id.specs.Frame.{bus_frame}
-use Rattle.capture_text.specs.declared.emit.Emit.{Emit}
-use Rattle.capture_text.specs.declared.emit.Report.{Report}
+use Rattle.gate_events.specs.declared.emit.Emit.{Emit}
+use Rattle.gate_events.specs.declared.emit.Report.{Report}
 use Rattle.gate_core.specs.Output.{emit_of}
-use Rattle.history.specs.Emits as emits
-use Rattle.history.specs.Replay.{line_of}
+use Rattle.gate_events.specs.Emit as emits
+use Rattle.capture_text.specs.Emitted.{line_of}
 use Rattle.serving.specs.Handing.{Hands, HandsAll, Takes}
 use Rattle.serving.specs.Served.{outside}
 use Rattle.serving.proofs.Items.{datagram_failed, datagram_sent, due_now, frame_failed, frame_sent, report_written}

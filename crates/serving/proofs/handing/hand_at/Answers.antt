@@ -1,5 +1,5 @@
 use Rattle.std.proofs.Common.{List, [], sym, subst}
-use Rattle.history.specs.Emits.{Emitted}
+use Rattle.gate_events.specs.Emit.{Emitted}
 use Rattle.gate_core.specs.Output.{emit_of}
 use Rattle.bridge.specs.Kept.{left_of}
 use Rattle.serving.specs.Handing.{Hands}

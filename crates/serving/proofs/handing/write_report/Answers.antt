@@ -1,7 +1,7 @@
 use Rattle.std.proofs.Common.{◌≡◌, ℕ, List, ◌∷◌, ◌++◌, [], ap, subst, ◌∙◌}
-use Rattle.capture_text.specs.declared.emit.Emit.TheVariants as lent
-use Rattle.history.specs.Emits as emits
-use Rattle.history.specs.Replay.{line_of}
+use Rattle.gate_events.specs.declared.emit.Emit.TheVariants as lent
+use Rattle.gate_events.specs.Emit as emits
+use Rattle.capture_text.specs.Emitted.{line_of}
 use Rattle.bridge.proofs.Sending.{same_line}
 use Rattle.serving.specs.Handing.{Takes}
 use Rattle.serving.proofs.handing.write_report.Goals as goal

@@ -1,7 +1,7 @@
 use Rattle.std.proofs.Common.{true, false, [], ◌∷◌, refl, subst, take}
 use Rattle.std.specs.Prelude.{Some, None, Ok, Err}
 use Rattle.report_rules.specs.Rules as rules
-use Rattle.capture_text.specs.declared.emit.Detail.TheVariants as detail
+use Rattle.gate_events.specs.declared.emit.Detail.TheVariants as detail
 use Rattle.gate_outside.specs.declared.link.Arrival.{Arrival}
 use Rattle.gate_outside.specs.Link.{Outcome, Receives}
 use Rattle.history.specs.Emits.{report_of}

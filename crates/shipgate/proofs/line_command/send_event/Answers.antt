@@ -1,5 +1,5 @@
 use Rattle.std.proofs.Common.{refl}
-use Rattle.capture_text.specs.Reading.{view}
+use Rattle.gate_events.specs.Event.{view}
 use Rattle.shipgate.specs.Show.{seen_text}
 use Rattle.shipgate.proofs.line_command.send_event.Goals as goal
 

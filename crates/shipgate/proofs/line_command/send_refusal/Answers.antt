@@ -1,5 +1,5 @@
 use Rattle.std.proofs.Common.{refl}
-use Rattle.capture_text.specs.Event.{rule_number}
+use Rattle.capture_text.specs.LineRule.{rule_number}
 use Rattle.shipgate.specs.Convert.{refusal}
 use Rattle.shipgate.specs.Show.{rule_text}
 use Rattle.shipgate.proofs.line_command.send_refusal.Goals as goal

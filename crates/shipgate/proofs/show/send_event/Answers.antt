@@ -1,6 +1,6 @@
 use Rattle.std.proofs.Common.{sym, ap, ◌∙◌}
-use Rattle.capture_text.specs.declared.event.Event.{Event}
-use Rattle.capture_text.specs.Reading.{view}
+use Rattle.gate_events.specs.declared.event.Event.{Event}
+use Rattle.gate_events.specs.Event.{view}
 use Rattle.shipgate.specs.Show.{seen_text}
 use Rattle.capture_stream.proofs.WriterLemmas.{writes_as}
 use Rattle.shipgate.proofs.show.send_event.Goals as goal

@@ -1,5 +1,5 @@
-use Rattle.runs.proofs.Steps.{one_step_of}
-use Rattle.runs.proofs.Suffixes.{one_suffix_of}
+use Rattle.slot_views.proofs.RunSteps.{one_step_of}
+use Rattle.slot_views.proofs.RunSuffixes.{one_suffix_of}
 use Rattle.tag_block.specs.GroupRuns.{group_rules}
 use Rattle.tag_block.proofs.GroupPrefixes.{lawful}
 use Rattle.tag_block.proofs.group_laws.groups_are_runs.Goals as goal

@@ -1,5 +1,5 @@
 use Rattle.std.proofs.Common.{◌≡◌, ◌+◌, ◌≤◌, ◌++◌, [], List, length, sym, ap, subst, ◌∙◌, arith}
-use Rattle.history.specs.Emits.{Emit}
+use Rattle.gate_events.specs.Emit.{Emit}
 use Rattle.gate_core.specs.Steps.{entry_of}
 use Rattle.ais_bridge.specs.AisKept.{AisKept}
 use Rattle.ais_bridge.specs.Emitted.{most_reports}

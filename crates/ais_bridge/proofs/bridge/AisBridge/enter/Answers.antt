@@ -1,7 +1,7 @@
 use Rattle.std.proofs.Common.{◌≡◌, ◌+◌, ◌≤◌, ◌++◌, List, length, sym, ap, subst, ◌∙◌, append_assoc, length-append, arith}
 use Rattle.n2k_id.specs.Frame.{bus_frame}
-use Rattle.capture_text.specs.declared.event.Event.{Event}
-use Rattle.history.specs.Emits.{Emit}
+use Rattle.gate_events.specs.declared.event.Event.{Event}
+use Rattle.gate_events.specs.Emit.{Emit}
 use Rattle.gate_model.specs.AddressStands.{name_held}
 use Rattle.gate_model.specs.Endings.{fast_overdue}
 use Rattle.gate_core.specs.Steps.{by_keys, entry_of}

@@ -4,7 +4,8 @@ use Rattle.slot_views.specs.Slots.{SlotMap}
 use Rattle.fast_packet.specs.declared.key.FastKey.{FastKey}
 use Rattle.fast_packet.specs.Assembly.{fed_after}
 use Rattle.tag_block.specs.Numbers.{most_count}
-use Rattle.history.specs.Emits.{Emit, reported}
+use Rattle.gate_events.specs.Emit.{Emit}
+use Rattle.history.specs.Emits.{reported}
 use Rattle.gate_model.specs.FastPackets.{FastAnswer, fast_answer, key_of}
 use Rattle.gate_core.specs.Steps.{by_keys}
 use Rattle.ais_bridge.specs.AisKept.{AisKept, answer_breaks, fed}

@@ -1,7 +1,7 @@
 use Rattle.std.proofs.Common.{ℕ, Bool, ◌++◌, ap, ◌∙◌}
 use Rattle.std.specs.Prelude.{Option}
 use Rattle.n2k_id.specs.Frame.{bus_frame}
-use Rattle.capture_text.specs.declared.emit.Report.{Report}
+use Rattle.gate_events.specs.declared.emit.Report.{Report}
 use Rattle.bus_identity.specs.Answers.{Kept}
 use Rattle.bus_identity.specs.declared.identity.Answered.{Answered}
 use Rattle.bridge.specs.Answered.{answer_by}

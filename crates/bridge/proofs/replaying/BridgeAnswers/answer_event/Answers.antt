@@ -1,5 +1,5 @@
 use Rattle.std.proofs.Common.{ℕ, ◌++◌, Ok, subst, sym}
-use Rattle.capture_text.specs.Reading.{view}
+use Rattle.gate_events.specs.Event.{view}
 use Rattle.bridge.specs.Replayed.{GivesReplay}
 use Rattle.bridge.specs.Replaying.{IsOpening, left_text}
 use Rattle.bridge.proofs.Replays.{gives_event}

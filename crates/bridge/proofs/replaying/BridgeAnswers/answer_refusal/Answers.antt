@@ -1,9 +1,9 @@
 use Rattle.std.proofs.Common.{◌≡◌, List, ℕ, ◌++◌, Err, ap, subst, ◌∙◌}
-use Rattle.capture_text.specs.declared.emit.Detail.TheVariants as detail
-use Rattle.capture_text.specs.Event.{rule_number}
+use Rattle.gate_events.specs.declared.emit.Detail.TheVariants as detail
+use Rattle.capture_text.specs.LineRule.{rule_number}
 use Rattle.capture_stream.specs.Writer.{Writes}
 use Rattle.history.specs.Emits.{broken}
-use Rattle.history.specs.Replay.{line_of}
+use Rattle.capture_text.specs.Emitted.{line_of}
 use Rattle.bridge.specs.Replayed.{GivesReplay}
 use Rattle.bridge.proofs.Replays.{gives_refusal}
 use Rattle.bridge.proofs.Sending.{is_sent}

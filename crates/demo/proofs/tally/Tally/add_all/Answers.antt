@@ -1,6 +1,7 @@
 use Rattle.std.proofs.Common.{◌≡◌, ℕ, ◌+◌, List, refl, ap, ◌∙◌, arith, drop, length, take}
 use Rattle.std.proofs.lemmas.List.{length-map, take_all}
-use Rattle.history.specs.Emits.{Emit, at}
+use Rattle.gate_events.specs.Emit.{Emit}
+use Rattle.history.specs.Emits.{at}
 use Rattle.demo.specs.declared.tally.Tally.{Tally}
 use Rattle.demo.specs.Tally.{and_all, total}
 use Rattle.demo.proofs.Tallies.{next_counted, total_all, total_front}

@@ -1,6 +1,7 @@
 use Rattle.std.proofs.Common.{List, ap, sym, ◌∙◌}
 use Rattle.gate_core.specs.Output.{emit_of}
-use Rattle.history.specs.Emits.{Emit, at}
+use Rattle.gate_events.specs.Emit.{Emit}
+use Rattle.history.specs.Emits.{at}
 use Rattle.demo.specs.Tally.{and_all}
 use Rattle.demo.proofs.Tallies.{one_at}
 use Rattle.demo.proofs.tally.Tally.add_at.Goals as goal

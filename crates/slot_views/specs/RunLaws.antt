@@ -1,6 +1,6 @@
 -- What is promised of every kind of run.
 use Rattle.std.specs.Prelude.{◌≡◌, ℕ, ◌≤◌, List, ◌∷◌, Some}
-use Rattle.runs.specs.Runs.{Rules, IsOpen, IsRun, since_opener, open_of, open_at, run_of, kept_at, fed, finished}
+use Rattle.slot_views.specs.Runs.{Rules, IsOpen, IsRun, since_opener, open_of, open_at, run_of, kept_at, fed, finished}
 
 module _ {X : Type 0} (r : Rules X) where
   -- one more piece, or a later moment, does to the open prefix what `fed` and `kept_at` say

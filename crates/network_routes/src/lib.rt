@@ -1,4 +1,6 @@
 //! Where a link listens and sends.
+#![tactic(auto)]
+
 use arrayvec::ArrayVec;
 use sentence_text::Group;
 

@@ -1,5 +1,5 @@
-use Rattle.history.proofs.ReplayCases.{one_line, backwards, cut_off_in_data, cut_off_in_identifier, not_extended}
-use Rattle.history.proofs.cases.captures_are_replayed.Goals as goal
+use Rattle.bridge.proofs.ReplayCases.{one_line, backwards, cut_off_in_data, cut_off_in_identifier, not_extended}
+use Rattle.bridge.proofs.cases.captures_are_replayed.Goals as goal
 
 pub returns-clause-one_line : goal.returns-clause-one_line
 returns-clause-one_line c = one_line

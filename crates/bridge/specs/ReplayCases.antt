@@ -1,16 +1,22 @@
 -- The text of captures.
-use Rattle.std.specs.Prelude.{◌≡◌, ℕ, List, [], ◌∷◌, ◌++◌, codes}
+use Rattle.std.specs.Prelude.{◌≡◌, ℕ, List, [], ◌∷◌, ◌++◌, None, codes}
 use Rattle.std.specs.List.{flat_map}
-use Rattle.history.specs.Replay.{replay_text}
+use Rattle.capture_text.specs.Lines.{lines_of}
 use Rattle.history.specs.Cases.{two_devices}
+use Rattle.bridge.specs.Parts.{Parts}
+use Rattle.bridge.specs.Replayed.{replay_text}
 
 abbrev pub text : List (List ℕ) → List ℕ
 text lines = flat_map (λ l. l ++ 10 ∷ []) lines
 
+-- a gateway of two devices that says neither RMC nor reports of ships around
+abbrev pub alone : Parts
+alone = record { gateway = two_devices; information = []; rmc = None; ais = None }
+
 -- a heading
 abbrev pub OneLine : Type 0
 OneLine =
-    replay_text two_devices (text (codes "(1700000000.000000) can0 09F11217#005C3DFF7FFF7FFC" ∷ []))
+    replay_text alone (lines_of (text (codes "(1700000000.000000) can0 09F11217#005C3DFF7FFF7FFC" ∷ [])))
     ≡ text
     (codes "(1700000000.000000) can0 18EEFFFB#0100C0FF008232C0"
     ∷ codes "(1700000000.000000) can0 18EAFFFB#00EE00"
@@ -20,13 +26,13 @@ OneLine =
 -- time that goes back
 abbrev pub Backwards : Type 0
 Backwards =
-    replay_text two_devices (text (codes "(5.000000) tick" ∷ codes "(4.999999) tick" ∷ []))
+    replay_text alone (lines_of (text (codes "(5.000000) tick" ∷ codes "(4.999999) tick" ∷ [])))
     ≡ text (codes "(5.000000) can0 18EEFFFB#0100C0FF008232C0" ∷ codes "(5.000000) can0 18EAFFFB#00EE00" ∷ codes "(5.000000) rule 3" ∷ [])
 
 -- a line that was cut off within its data, and one within its identifier
 abbrev pub CutOffInData : Type 0
 CutOffInData =
-    replay_text two_devices (text (codes "(5.000000) can0 09F11217#005C3D" ∷ []))
+    replay_text alone (lines_of (text (codes "(5.000000) can0 09F11217#005C3D" ∷ [])))
     ≡ text
     (codes "(5.000000) can0 18EEFFFB#0100C0FF008232C0"
     ∷ codes "(5.000000) can0 18EAFFFB#00EE00"
@@ -34,8 +40,8 @@ CutOffInData =
     ∷ [])
 
 abbrev pub CutOffInIdentifier : Type 0
-CutOffInIdentifier = replay_text two_devices (text (codes "(5.000000) can0 09F112" ∷ [])) ≡ text (codes "(0.000000) rule 1 line=1" ∷ [])
+CutOffInIdentifier = replay_text alone (lines_of (text (codes "(5.000000) can0 09F112" ∷ []))) ≡ text (codes "(0.000000) rule 1 line=1" ∷ [])
 
 -- a frame with an identifier of 11 bits
 abbrev pub NotExtended : Type 0
-NotExtended = replay_text two_devices (text (codes "(1.000000) can0 123#00" ∷ [])) ≡ text (codes "(0.000000) rule 4 line=1" ∷ [])
+NotExtended = replay_text alone (lines_of (text (codes "(1.000000) can0 123#00" ∷ []))) ≡ text (codes "(0.000000) rule 4 line=1" ∷ [])
