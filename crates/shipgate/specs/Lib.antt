@@ -1,13 +1,1 @@
-pub mod Check
-pub mod Configuring
-pub mod Convert
-pub mod DemoCommand
-pub mod LineCommand
 pub mod Program
-pub mod ReplayCommand
-pub mod Run
-pub mod Says
-pub mod ServeCommand
-pub mod Show
-pub mod Talker
-pub mod Words

@@ -3,14 +3,14 @@
 use Rattle.std.specs.Prelude.{◌≡◌, ◌↔◌, ℕ, List, Option, None}
 use Rattle.gate_outside.specs.Link.{Traffic}
 use Rattle.serving.specs.Served.{outside}
-use Rattle.shipgate.specs.declared.words.LineCommand.{LineCommand}
-use Rattle.shipgate.specs.Check.{ChecksBy}
-use Rattle.shipgate.specs.DemoCommand.{DemosBy}
-use Rattle.shipgate.specs.LineCommand.{AreTextsOf}
-use Rattle.shipgate.specs.ReplayCommand.{ReplaysBy}
-use Rattle.shipgate.specs.Run.{EndsBy, IsStatus}
-use Rattle.shipgate.specs.ServeCommand.{ServesBy}
-use Rattle.shipgate.specs.Words.{AreNumbers, IsNoForm, IsTurns, line_words, check_words, replay_words, serve_words, demo_words}
+use Rattle.command_words.specs.declared.words.LineCommand.{LineCommand}
+use Rattle.config_check.specs.Check.{ChecksBy}
+use Rattle.gateway_commands.specs.DemoCommand.{DemosBy}
+use Rattle.line_commands.specs.LineCommand.{AreTextsOf}
+use Rattle.gateway_commands.specs.ReplayCommand.{ReplaysBy}
+use Rattle.statuses.specs.Statuses.{EndsBy, IsStatus}
+use Rattle.gateway_commands.specs.ServeCommand.{ServesBy}
+use Rattle.command_words.specs.Words.{AreNumbers, IsNoForm, IsTurns, line_words, check_words, replay_words, serve_words, demo_words}
 
 -- what is told of two links and of a clock, and how often a call of each link failed
 pub record Live : Type 0 where

@@ -10,37 +10,18 @@ ghost use Rattle.std.specs.Process.{exit_status};
 ghost use Rattle.std.specs.Vec.Iter.{into_iter_items};
 ghost use Rattle.shipgate.specs.Program.{RunsOver, live};
 
-mod check;
-mod configuring;
-mod convert;
-mod demo_command;
-mod line_command;
-mod line_text;
-mod numerals;
-mod replay;
-mod replay_command;
-mod run;
-mod serve_command;
-mod show;
-mod talker;
-mod words;
-
 pub use bridge::{Bridge, Settings};
-pub use demo_command::demo_with;
+pub use command_words::{Command, LineCommand};
 use gate_outside::{Clock, Files, Link, ReaderSource, WriterSink};
+pub use gateway_commands::{demo_with, replay_with, run, stream};
 use live_outside::{Activity, DiskFiles, SystemClock, UdpLink};
-pub use replay::{replay_with, stream};
-pub use run::run;
 pub use serving::serve_turns;
+use statuses::NO_MEMORY;
 use std::alloc::{AllocError, Global};
 use std::env::Args;
 use std::io::{ErrorKind, Read, Write};
 use std::process::ExitCode;
 use std::{env, io};
-pub use words::{Command, LineCommand};
-
-/// Want of memory before the program began.
-const NO_MEMORY: u8 = 7;
 
 /// What the commands are, for who gave words that are none.
 const COMMANDS: &str =
@@ -187,10 +168,3 @@ fn main(rt: HostRuntime) -> ExitCode {
     explain(&rt, &status);
     exit_code(status)
 }
-
-#[cfg(test)]
-mod live_tests;
-#[cfg(test)]
-mod tests;
-#[cfg(test)]
-mod turns_tests;

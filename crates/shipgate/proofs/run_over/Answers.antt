@@ -1,8 +1,8 @@
 use Rattle.std.proofs.Common.{ℕ, List, ap, subst}
 use Rattle.std.specs.Prelude.{Option, None}
-use Rattle.shipgate.specs.LineCommand.{AreTextsOf}
-use Rattle.shipgate.specs.ReplayCommand.{ReplaysBy}
-use Rattle.shipgate.specs.Run.{EndsBy}
+use Rattle.line_commands.specs.LineCommand.{AreTextsOf}
+use Rattle.gateway_commands.specs.ReplayCommand.{ReplaysBy}
+use Rattle.statuses.specs.Statuses.{EndsBy}
 use Rattle.shipgate.proofs.run_over.Goals as goal
 
 pub returns : goal.returns

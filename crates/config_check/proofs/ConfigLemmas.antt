@@ -1,0 +1,72 @@
+-- A file says one thing, and what follows of the statuses of a command that runs with it.
+use Rattle.std.proofs.Common.{◌≡◌, ℕ, ◌<◌, ◌≤◌, ◌⊎◌, List, length, sym, ap, ◌∙◌, subst, inl, inr, arith}
+use Rattle.std.specs.Prelude.{Option, Some, Result, Ok, Err}
+use Rattle.gate_outside.specs.Faults.{Rose}
+use Rattle.gate_outside.specs.Files.{largest_file}
+use Rattle.config_document.specs.declared.fault.ConfigFault.{ConfigFault}
+use Rattle.gate_config.specs.ConfigOf.{IsConfigOf, config_in, document_place}
+use Rattle.settings.specs.declared.settings.Settings.{Settings}
+use Rattle.config_check.specs.Check.{Accepts, ChecksBy, IsCheckStatus}
+use Rattle.config_check.specs.Configuring.{ConfiguresBy, FileSays, IsToldAs}
+
+same_config : (bytes : List ℕ) (a b : Result Settings ConfigFault) → IsConfigOf bytes a → IsConfigOf bytes b → a ≡ b
+same_config bytes a b (inl none) (inl other) = none.1 ∙ sym other.1
+same_config bytes a b (inl none) (inr some) = absurd (none.0 some.0 some.1)
+same_config bytes a b (inr some) (inl none) = absurd (none.0 some.0 some.1)
+same_config bytes a b (inr some) (inr other) =
+    let one : Some some.0 ≡ Some other.0 = sym some.1.parsed ∙ other.1.parsed in
+    let same : some.0 ≡ other.0 = cc in
+    some.2 ∙ ap (λ m. config_in (document_place m)) same ∙ sym other.2
+
+-- what was loaded is what is told
+one_said : (told : Option (List ℕ)) (a b : Result Settings ConfigFault) → FileSays told a → IsToldAs told b → a ≡ b
+one_said told a b f t = same_config t.bytes a b (subst (λ (bytes : List ℕ). IsConfigOf bytes a) (f.own t.bytes t.told_by) f.says) t.says
+
+no_fault : (told : Option (List ℕ)) (settings : Settings) (fault : ConfigFault) → FileSays told (Ok settings) → IsToldAs told (Err fault) → ⊥
+no_fault told settings fault f t = let same : Ok settings ≡ Err fault = one_said told (Ok settings) (Err fault) f t in absurd cc
+
+not_both : (m n : ℕ) → m < n → n ≤ m → ⊥
+not_both m n below above = omega (arith, below, above)
+
+not_too_long : (told : Option (List ℕ)) (said : Result Settings ConfigFault) → FileSays told said → (bytes : List ℕ) → told ≡ Some bytes → largest_file < length bytes → ⊥
+not_too_long told said f bytes is long = not_both largest_file (length bytes) long (subst (λ (b : List ℕ). length b ≤ largest_file) (f.own bytes is) f.within)
+
+-- ---- an accepted configuration
+
+abbrev pub IsDone : ℕ → Type 0
+IsDone status = (status ≡ 3 → ⊥) × (status ≡ 6 → ⊥)
+
+pub configures : (content : Option (List ℕ)) (files files' : ℕ) (told told' : Option (List ℕ)) (sink sink' status : ℕ) (settings : Settings)
+    → FileSays content (Ok settings) → IsDone status → ConfiguresBy content files files' told told' sink sink' status
+configures content files files' told told' sink sink' status settings f done = record {
+  refused = λ is. absurd (done.0 is);
+  unread = λ is. absurd (done.1 is);
+  refusal = λ fault t held. absurd (no_fault content settings fault f t);
+  too_long = λ bytes is long. absurd (not_too_long content (Ok settings) f bytes is long);
+}
+
+-- `check`
+
+check_status : (status : ℕ) → (status ≡ 0) ⊎ (status ≡ 4) → IsCheckStatus status
+check_status status (inl done) = inl done
+check_status status (inr failed) = inr (inr (inl failed))
+
+check_done : (status : ℕ) → (status ≡ 0) ⊎ (status ≡ 4) → IsDone status
+check_done status (inl done) = (λ is. absurd (omega (arith, done, is)), λ is. absurd (omega (arith, done, is)))
+check_done status (inr failed) = (λ is. absurd (omega (arith, failed, is)), λ is. absurd (omega (arith, failed, is)))
+
+check_complete : (status sink sink' : ℕ) → (status ≡ 0) ⊎ (status ≡ 4) → (status ≡ 4 → Rose sink sink') → (Rose sink sink' → ⊥) → (status ≡ 0) ⊎ (status ≡ 7)
+check_complete status sink sink' (inl done) cause held = inl done
+check_complete status sink sink' (inr failed) cause held = absurd (held (cause failed))
+
+pub accepted : (content : Option (List ℕ)) (files files' : ℕ) (told told' : Option (List ℕ)) (sink sink' status : ℕ) (settings : Settings)
+    → FileSays content (Ok settings) → Accepts told told' sink sink' status → ChecksBy content files files' told told' sink sink' status
+accepted content files files' told told' sink sink' status settings f a = record {
+  known = check_status status a.known;
+  configures = configures content files files' told told' sink sink' status settings f (check_done status a.known);
+  done = λ is. ((settings, f), a.done is);
+  sink_failed = λ is. ((settings, f), a.sink_failed is);
+  sink_cause = a.sink_cause;
+  steady = a.steady;
+  complete = λ other t files_held sink_held. check_complete status sink sink' a.known a.sink_cause sink_held;
+}

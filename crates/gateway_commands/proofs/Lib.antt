@@ -1,0 +1,3 @@
+pub mod ReplayCommandLemmas
+pub mod ReplayLemmas
+pub mod ServeLemmas

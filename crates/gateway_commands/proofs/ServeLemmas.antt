@@ -1,0 +1,57 @@
+-- What follows of the statuses of a gateway between two links.
+use Rattle.std.proofs.Common.{◌≡◌, ◌≢◌, ℕ, ◌⊎◌, List, refl, inl, inr, arith}
+use Rattle.std.specs.Prelude.{Option, Ok}
+use Rattle.settings.specs.declared.settings.Settings.{Settings}
+use Rattle.serving.specs.Served.{Outside}
+use Rattle.config_check.specs.Configuring.{FileSays}
+use Rattle.gateway_commands.specs.ServeCommand.{IsServeStatus, IsTurnsStatus, ServesBy, ServesWith}
+use Rattle.statuses.specs.Statuses.{SteadyBy}
+use Rattle.config_check.proofs.ConfigLemmas.{IsDone, configures}
+use Rattle.statuses.proofs.StatusLemmas.{steady_unread}
+
+abbrev Known : ℕ → Type 0
+Known status = (status ≡ 7) ⊎ ((status ≡ 9) ⊎ IsTurnsStatus status)
+
+is_done : (status : ℕ) → Known status → IsDone status
+is_done status (inl is) = (λ e. absurd (omega (arith, is, e)), λ e. absurd (omega (arith, is, e)))
+is_done status (inr (inl is)) = (λ e. absurd (omega (arith, is, e)), λ e. absurd (omega (arith, is, e)))
+is_done status (inr (inr (inl is))) = (λ e. absurd (omega (arith, is, e)), λ e. absurd (omega (arith, is, e)))
+is_done status (inr (inr (inr is))) = (λ e. absurd (omega (arith, is, e)), λ e. absurd (omega (arith, is, e)))
+
+is_known : (status : ℕ) → Known status → IsServeStatus status
+is_known status (inl is) = inr (inr (inl is))
+is_known status (inr rest) = inr (inr (inr rest))
+
+is_complete : (status : ℕ) → Known status → (status ≢ 7 → status ≡ 0) → (status ≡ 0) ⊎ (status ≡ 7)
+is_complete status (inl is) complete = inr is
+is_complete status (inr (inl is)) complete = inl (complete (λ e. omega (arith, is, e)))
+is_complete status (inr (inr (inl is))) complete = inl is
+is_complete status (inr (inr (inr is))) complete = inl (complete (λ e. omega (arith, is, e)))
+
+pub served : (turns : ℕ) (content : Option (List ℕ)) (files files' : ℕ) (clock clock' : Option (List ℕ)) (bus bus' net net' : ℕ) (old new : Outside) (status : ℕ)
+    (settings : Settings) → FileSays content (Ok settings) → ServesWith settings turns clock clock' bus bus' net net' old new status
+    → ServesBy turns content files files' clock clock' bus bus' net net' old new status
+served turns content files files' clock clock' bus bus' net net' old new status settings f s = record {
+  known = is_known status s.known;
+  configures = configures content files files' old.taken new.taken old.faults new.faults status settings f (is_done status s.known);
+  serves = λ is. (settings, f, s.serves is);
+  unattached = λ is. (settings, f, s.unattached is);
+  sink_cause = s.sink_cause;
+  complete = λ other told files_held bus_held net_held sink_held. is_complete status s.known (λ no. s.complete no bus_held net_held sink_held);
+}
+
+-- no status of a gateway between two links is that of a read
+no_read : (status : ℕ) → IsServeStatus status → (status ≡ 5 → ⊥) × (status ≡ 8 → ⊥)
+no_read status (inl is) = (λ e. omega (arith, is, e), λ e. omega (arith, is, e))
+no_read status (inr (inl is)) = (λ e. omega (arith, is, e), λ e. omega (arith, is, e))
+no_read status (inr (inr (inl is))) = (λ e. omega (arith, is, e), λ e. omega (arith, is, e))
+no_read status (inr (inr (inr (inl is)))) = (λ e. omega (arith, is, e), λ e. omega (arith, is, e))
+no_read status (inr (inr (inr (inr (inl is))))) = (λ e. omega (arith, is, e), λ e. omega (arith, is, e))
+no_read status (inr (inr (inr (inr (inr is))))) = (λ e. omega (arith, is, e), λ e. omega (arith, is, e))
+
+-- where all turns were taken, no write failed
+pub serve_steady : (turns : ℕ) (content : Option (List ℕ)) (files files' : ℕ) (clock clock' : Option (List ℕ)) (bus bus' net net' : ℕ) (old new : Outside)
+    (source status : ℕ) → ServesBy turns content files files' clock clock' bus bus' net net' old new status → SteadyBy source source old.faults new.faults status
+serve_steady turns content files files' clock clock' bus bus' net net' old new source status s =
+    let none = no_read status s.known in
+    steady_unread source source old.faults new.faults status refl (λ is. ((s.serves (inl is)).2.ends.done is).passes.steady) none.0 none.1

@@ -1,0 +1,3 @@
+pub mod DemoCommand
+pub mod ReplayCommand
+pub mod ServeCommand

@@ -1,0 +1,31 @@
+//! The gateway over a made-up input that a seed gives.
+ghost use Rattle.std.specs.Prelude.{◌≡◌, ◌≤◌};
+ghost use Rattle.gateway_commands.specs.DemoCommand.{DemosBy};
+
+use capture_stream::{Ending, send_now};
+use demo::demo_line;
+use gate_outside::{Failed, Sink};
+use statuses::{NO_MEMORY, status_of};
+use std::alloc::Global;
+
+/// Runs a gateway over so many events, at most 1,000,000, of the made-up input of a seed, writes the line that sums up what it emits,
+/// and answers a status.
+///
+/// | Status | Where |
+/// |---|---|
+/// | 0 | the line was written |
+/// | 4 | only where the sink's faults rose; what was written is some front of the line |
+/// | 7 | only for want of memory before the first event; nothing was written |
+pub fn demo_with<K: Sink>(alloc: Global, seed: u64, count: u32, out: &mut K) -> u8
+    requires { count ≤ 1000000 }
+    ensures demos { DemosBy seed count (K.taken out.old) (K.taken out.new) (K.fault_count out.old) (K.fault_count out.new) result }
+    ensures memory { result ≡ 7 → out.new ≡ out.old }
+{
+    match demo_line(alloc, seed, count) {
+        Ok(line) => match send_now(line.as_slice(), out) {
+            Ok(()) => status_of(Ending::Done),
+            Err(Failed) => status_of(Ending::SinkFailed),
+        },
+        Err(_) => NO_MEMORY,
+    }
+}

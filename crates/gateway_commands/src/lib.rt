@@ -1,0 +1,13 @@
+//! The commands that run a gateway, and the top call: [`run`] takes the words of the command line and the outside as traits, and its contract
+//! says what each status means for the bytes that were read and written.
+#![tactic(auto)]
+
+mod demo_command;
+mod replay;
+mod replay_command;
+mod serve_command;
+mod top_call;
+
+pub use demo_command::demo_with;
+pub use replay::{replay_with, stream};
+pub use top_call::run;

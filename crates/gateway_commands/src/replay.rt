@@ -1,0 +1,70 @@
+//! The gateway over a capture: what it would have sent and reported, line by line.
+ghost use Rattle.std.specs.Prelude.{◌≡◌, ◌≢◌};
+ghost use Rattle.gate_outside.specs.Faults.{Rose};
+ghost use Rattle.settings.specs.Settings.{IsSettings};
+ghost use Rattle.bridge.specs.BridgeStands.{IsNew};
+ghost use Rattle.bridge.specs.Parts.{Parts, parts_of};
+ghost use Rattle.bridge.specs.Replayed.{IsReplay};
+ghost use Rattle.statuses.specs.Statuses.{EndsBy, IsReplayStatus, IsStreamStatus, IsUnhindered, SteadyBy};
+
+use bridge::{Bridge, Settings};
+use capture_stream::answer_capture;
+use gate_outside::{Sink, Source};
+use statuses::{NO_MEMORY, status_of};
+use std::alloc::Global;
+
+/// Runs a new bridge over a capture, whose first event starts it, and answers a status.
+///
+/// | Status | Where |
+/// |---|---|
+/// | 0 | the input was read to its end, and all that the bridge emits and reports was written |
+/// | 4 | only where the sink's faults rose; what was written is some front of the text |
+/// | 5 | only where the source's faults rose; the text of the complete lines was written |
+/// | 8 | exactly where more than 2^40 bytes were read, and no call failed before |
+///
+/// Of 4, 5 and 8 the first call that fails decides: with 0 and 8 no call failed, with 4 no read did, and with 5 no write.
+pub fn stream<S: Source, K: Sink>(bridge: &mut Bridge, input: &mut S, out: &mut K) -> u8
+    ensures status { IsStreamStatus result }
+    ensures ends { (p : Parts) → IsNew p bridge.old
+        → EndsBy (IsReplay p) (S.left input.old) (S.left input.new) (K.taken out.old) (K.taken out.new) result }
+    ensures sink_cause { result ≡ 4 → Rose (K.fault_count out.old) (K.fault_count out.new) }
+    ensures source_cause { result ≡ 5 → Rose (S.fault_count input.old) (S.fault_count input.new) }
+    ensures steady { SteadyBy (S.fault_count input.old) (S.fault_count input.new) (K.fault_count out.old) (K.fault_count out.new) result }
+    ensures complete { (p : Parts) → IsNew p bridge.old
+        → IsUnhindered (S.left input.old) (S.fault_count input.old) (S.fault_count input.new) (K.fault_count out.old) (K.fault_count out.new)
+        → result ≡ 0 }
+{
+    status_of(answer_capture(bridge, input, out))
+}
+
+/// Runs a gateway of these settings, with the parts beside it, over a capture, and answers a status.
+///
+/// | Status | Where |
+/// |---|---|
+/// | 0, 4, 5, 8 | as [`stream`] answers |
+/// | 7 | only for want of memory before the first byte was read |
+pub fn replay_with<S: Source, K: Sink>(
+    alloc: Global,
+    settings: &Settings,
+    input: &mut S,
+    out: &mut K,
+) -> u8
+    requires { IsSettings settings.now }
+    ensures status { IsReplayStatus result }
+    ensures ends { EndsBy (IsReplay (parts_of settings.now)) (S.left input.old) (S.left input.new) (K.taken out.old) (K.taken out.new) result }
+    ensures memory { result ≡ 7 → (input.new ≡ input.old) × (out.new ≡ out.old) }
+    ensures sink_cause { result ≡ 4 → Rose (K.fault_count out.old) (K.fault_count out.new) }
+    ensures source_cause { result ≡ 5 → Rose (S.fault_count input.old) (S.fault_count input.new) }
+    ensures steady { SteadyBy (S.fault_count input.old) (S.fault_count input.new) (K.fault_count out.old) (K.fault_count out.new) result }
+    ensures complete { result ≢ 7
+        → IsUnhindered (S.left input.old) (S.fault_count input.old) (S.fault_count input.new) (K.fault_count out.old) (K.fault_count out.new)
+        → result ≡ 0 }
+{
+    match Bridge::new(alloc, settings) {
+        Ok(bridge) => {
+            let mut bridge = bridge;
+            stream(&mut bridge, input, out)
+        }
+        Err(_) => NO_MEMORY,
+    }
+}

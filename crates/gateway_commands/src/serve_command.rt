@@ -1,0 +1,98 @@
+//! `serve`: the gateway of a configuration between two links that live.
+ghost use Rattle.std.specs.Prelude.{◌≡◌, []};
+ghost use Rattle.serving.specs.Served.{outside};
+ghost use Rattle.settings.specs.Settings.{IsSettings};
+ghost use Rattle.statuses.specs.Statuses.{IsEarly};
+ghost use Rattle.gateway_commands.specs.ServeCommand.{AttachesBoth, ServesBy, ServesWith};
+
+use arrayvec::ArrayVec;
+use bridge::{Bridge, Settings};
+use config_check::{give_up, load_settings};
+use config_values::Ends;
+use gate_outside::{Clock, Failed, Files, Link, Sink};
+use network_routes::{Address, Routes};
+use serving::serve_turns;
+use statuses::NO_MEMORY;
+use std::alloc::Global;
+
+/// The status of a link that can't be attached.
+const UNATTACHED: u8 = 9;
+
+/// Runs a gateway of the configuration in the file of this name between two links, for so many turns, and answers the status.
+pub(crate) fn serve<F: Files, K: Sink, B: Link, E: Link, C: Clock>(
+    alloc: Global,
+    name: &str,
+    turns: u32,
+    files: &mut F,
+    out: &mut K,
+    bus: &mut B,
+    net: &mut E,
+    clock: &mut C,
+) -> u8
+    ensures serves { ServesBy turns (F.content files.old name.now) (F.fault_count files.old) (F.fault_count files.new)
+        (C.readings clock.old) (C.readings clock.new) (B.fault_count bus.old) (B.fault_count bus.new) (E.fault_count net.old) (E.fault_count net.new)
+        (outside (B.traffic bus.old) (E.traffic net.old) (K.taken out.old) (K.fault_count out.old))
+        (outside (B.traffic bus.new) (E.traffic net.new) (K.taken out.new) (K.fault_count out.new)) result }
+    ensures quiet { IsEarly result → (out.new ≡ out.old) × (bus.new ≡ bus.old) × (net.new ≡ net.old) × (clock.new ≡ clock.old) }
+    ensures refused { result ≡ 3 → (bus.new ≡ bus.old) × (net.new ≡ net.old) × (clock.new ≡ clock.old) }
+    ensures unattached { result ≡ 9 → (out.new ≡ out.old) × (clock.new ≡ clock.old) }
+{
+    match load_settings(alloc, name, files) {
+        Ok(settings) => serve_with(alloc, &settings, turns, out, bus, net, clock),
+        Err(why) => give_up(&why, out),
+    }
+}
+
+/// Runs a gateway of these settings between two links, for so many turns, and answers the status.
+fn serve_with<K: Sink, B: Link, E: Link, C: Clock>(
+    alloc: Global,
+    settings: &Settings,
+    turns: u32,
+    out: &mut K,
+    bus: &mut B,
+    net: &mut E,
+    clock: &mut C,
+) -> u8
+    requires { IsSettings settings.now }
+    ensures serves { ServesWith settings.now turns (C.readings clock.old) (C.readings clock.new)
+        (B.fault_count bus.old) (B.fault_count bus.new) (E.fault_count net.old) (E.fault_count net.new)
+        (outside (B.traffic bus.old) (E.traffic net.old) (K.taken out.old) (K.fault_count out.old))
+        (outside (B.traffic bus.new) (E.traffic net.new) (K.taken out.new) (K.fault_count out.new)) result }
+    ensures memory { result ≡ 7 → (out.new ≡ out.old) × (bus.new ≡ bus.old) × (net.new ≡ net.old) × (clock.new ≡ clock.old) }
+    ensures unattached { result ≡ 9 → (out.new ≡ out.old) × (clock.new ≡ clock.old) }
+{
+    match Bridge::new(alloc, settings) {
+        Ok(bridge) => {
+            let mut bridge = bridge;
+            match attach_both(&settings.config.ends, bus, net) {
+                Ok(()) => serve_turns(&mut bridge, turns, out, bus, net, clock),
+                Err(Failed) => UNATTACHED,
+            }
+        }
+        Err(_) => NO_MEMORY,
+    }
+}
+
+/// Attaches the bus, and then the network.
+fn attach_both<B: Link, E: Link>(ends: &Ends, bus: &mut B, net: &mut E) -> Result<(), Failed>
+    ensures { AttachesBoth ends.now (B.traffic bus.old) (B.traffic bus.new) (B.fault_count bus.old) (B.fault_count bus.new)
+        (E.traffic net.old) (E.traffic net.new) (E.fault_count net.old) (E.fault_count net.new) result }
+{
+    match bus.attach(ends.bus_listen.as_slice(), &all_to(&ends.bus_send)) {
+        Ok(()) => net.attach(ends.net_listen.as_slice(), &ends.net),
+        Err(Failed) => Err(Failed),
+    }
+}
+
+/// Routes by which all that is sent goes to one address.
+fn all_to(address: &Address) -> Routes
+    ensures list { result.list.items ≡ [] }
+    ensures other { result.other.items ≡ address.now.items }
+{
+    let mut other = ArrayVec::new();
+    let _fits = other.try_extend_from_slice(address.as_slice());
+    Routes {
+        list: ArrayVec::new(),
+        other,
+    }
+}

@@ -1,0 +1,3 @@
+pub mod ConvertLemmas
+pub mod LineCommandLemmas
+pub mod ShowLemmas

@@ -1,0 +1,5 @@
+pub mod Convert
+pub mod LineCommand
+pub mod Says
+pub mod Show
+pub mod Talker
