@@ -1,6 +1,4 @@
 //! What no clause says: that a file's bytes come, that datagrams move, who waits how long, and why a call failed.
-ghost use Rattle.std.specs.Prelude.{◌<◌};
-
 use super::*;
 use arrayvec::ArrayVec;
 use gate_outside::{Address, Arrival, Clock, Failed, Files, Link, LoadFault, Route, Routes};
@@ -145,9 +143,11 @@ fn a_link_that_listens_nowhere_fails(rt: HostRuntime) -> Result<(), Fail> {
 // Two links that are attached, each at a port that was free, and a peer that sends to them.
 #[derive(Drop)]
 struct Ends<'a> {
-    links: [UdpLink<'a, HostRuntime>; 2],
+    bus: UdpLink<'a, HostRuntime>,
+    net: UdpLink<'a, HostRuntime>,
     peer: UdpSocket,
-    to: [SocketAddr; 2],
+    to_bus: SocketAddr,
+    to_net: SocketAddr,
 }
 
 // Where a link listens, which a peer sees by what it is sent.
@@ -166,39 +166,42 @@ fn attached(
 fn open_ends<'a>(rt: &'a HostRuntime, activity: &'a Activity) -> Result<Ends<'a>, Fail> {
     let (peer, _) = peer_at(rt, "127.0.0.1:0")?;
     let (mut bus, mut net) = UdpLink::pair(rt, activity);
-    let to = [
-        attached(rt, &mut bus, &peer)?,
-        attached(rt, &mut net, &peer)?,
-    ];
+    let to_bus = attached(rt, &mut bus, &peer)?;
+    let to_net = attached(rt, &mut net, &peer)?;
     Ok(Ends {
-        links: [bus, net],
+        bus,
+        net,
         peer,
-        to,
+        to_bus,
+        to_net,
     })
 }
 
-// Sends so many datagrams to a link of a pair.
-fn send(ends: &Ends<'_>, link: usize, count: u32) -> Result<(), Fail>
-    requires { link < 2 }
-{
+// Sends so many datagrams to an address.
+fn send(peer: &UdpSocket, to: SocketAddr, count: u32) -> Result<(), Fail> {
     for _ in 0..count {
-        ends.peer.send_to(b"one", ends.to[link])?;
+        peer.send_to(b"one", to)?;
     }
     Ok(())
 }
 
-// How many arrivals each link has in so many turns, in which the first is asked and then the second.
-fn take(ends: &mut Ends<'_>, turns: u32) -> [u32; 2] {
-    let mut count = [0_u32; 2];
-    let mut buf = [0; 1500];
-    for _ in 0..turns {
-        for (link, count) in ends.links.iter_mut().zip(&mut count) {
-            if let Ok(Arrival::Bytes(_)) = link.receive(&mut buf) {
-                *count = count.saturating_add(1);
-            }
-        }
+// How many arrivals a receive has: one or none.
+fn count_of(link: &mut UdpLink<'_, HostRuntime>) -> u32 {
+    match link.receive(&mut [0; 1500]) {
+        Ok(Arrival::Bytes(_)) => 1,
+        _ => 0,
     }
-    count
+}
+
+// How many arrivals the bus and the network have in so many turns, in which the bus is asked first.
+fn take(ends: &mut Ends<'_>, turns: u32) -> [u32; 2] {
+    let mut bus = 0_u32;
+    let mut net = 0_u32;
+    for _ in 0..turns {
+        bus = bus.saturating_add(count_of(&mut ends.bus));
+        net = net.saturating_add(count_of(&mut ends.net));
+    }
+    [bus, net]
 }
 
 // Where a receive waits for its own next arrival though the other link has more, each of these 250 takes 4
@@ -213,9 +216,9 @@ fn a_link_with_a_thousand_arrivals_isnt_kept_waiting_by_the_other(
     let began = clock.now();
     for round in 0..250 {
         if round % 25 == 0 {
-            send(&ends, 0, 100)?;
+            send(&ends.peer, ends.to_bus, 100)?;
         }
-        send(&ends, 1, 1)?;
+        send(&ends.peer, ends.to_net, 1)?;
         assert_eq!(rt; take(&mut ends, 4), [4, 1]);
     }
     let passed = clock.now().saturating_sub(began);
@@ -271,8 +274,8 @@ fn time_of(rt: &HostRuntime, ends: &mut Ends<'_>, case: &Turns) -> Result<u64, F
     let mut clock = SystemClock::new(rt);
     let began = clock.now();
     for _ in 0..case.turns {
-        send(ends, 0, case.comes[0])?;
-        send(ends, 1, case.comes[1])?;
+        send(&ends.peer, ends.to_bus, case.comes[0])?;
+        send(&ends.peer, ends.to_net, case.comes[1])?;
         if take(ends, 1) != case.comes {
             return Err(Fail::new(case.about));
         }
