@@ -6,4 +6,5 @@
 mod numerals;
 mod words;
 
-pub use words::{Command, LineCommand, USAGE, command_of};
+pub use numerals::number_between;
+pub use words::{Command, LineCommand, MOST_EVENTS, MOST_SEED, MOST_TURNS, USAGE, command_of};

@@ -6,7 +6,7 @@ use arrayvec::ArrayVec;
 use unit_fraction::write_decimal;
 
 /// The number of this range that a word spells in decimal digits, without a leading zero.
-pub(crate) fn number_between(word: &str, least: u64, most: u64) -> Option<u64>
+pub fn number_between(word: &str, least: u64, most: u64) -> Option<u64>
     ensures found { IfSome result (λ n. IsNumber least most n word.now) }
     ensures only { (n : ℕ) → IsNumber least most n word.now → result ≡ Some n }
 {

@@ -5,13 +5,13 @@ ghost use Rattle.command_words.specs.Words.{AreTurnsOf, IsForm, IsNoDemo, IsNoFo
 use crate::numerals::number_between;
 
 /// The greatest seed of a demonstration.
-const MOST_SEED: u64 = 999_999_999_999_999_999;
+pub const MOST_SEED: u64 = 999_999_999_999_999_999;
 
 /// How many events a demonstration has at most.
-const MOST_EVENTS: u64 = 1_000_000;
+pub const MOST_EVENTS: u64 = 1_000_000;
 
 /// How many turns a gateway between two links takes at most.
-const MOST_TURNS: u64 = 999_999_999;
+pub const MOST_TURNS: u64 = 999_999_999;
 
 /// A command that answers each line of a capture by itself.
 #[derive(Clone, Copy, Debug, PartialEq, Eq)]

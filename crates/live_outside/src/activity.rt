@@ -1,19 +1,56 @@
-//! Which of two links is busy, so that a silent one doesn't keep the other from its arrivals.
+//! Which of two links spoke last, so that neither keeps the other from its arrivals.
+ghost use Rattle.std.specs.Prelude.{◌≡◌, ◌≢◌, ◌<◌};
+ghost use Rattle.live_outside.specs.declared.activity.Patience.{Patience};
+
 use std::cell::Cell;
 
-/// Which of the two links of a program had an arrival at its last receive. Both are silent at first.
+/// A link spoke lately where it has fewer receives in a row than these without an arrival: at naps of half a
+/// millisecond some 150 ms.
+const LATELY: u32 = 256;
+
+/// How long a receive may wait for an arrival.
+#[derive(Clone, Copy, Debug, PartialEq, Eq)]
+pub(crate) enum Patience {
+    /// Not at all.
+    Hurry,
+    /// For a nap after it found nothing, in which neither link is heard.
+    Nap,
+    /// In the socket, where it hears its own link alone.
+    Wait,
+}
+
+/// How many receives in a row of each of the two links of a program had no arrival. Both have been silent
+/// for long at first.
 #[derive(Drop)]
 pub struct Activity {
-    bus: Cell<bool>,
-    net: Cell<bool>,
+    bus: Cell<u32>,
+    net: Cell<u32>,
+}
+
+// How long a receive may wait on a link of so many receives in a row without an arrival, where the other link
+// has so many. Only the link that spoke last waits, since its next arrival is the likelier one, and never
+// while the other may have more: a receive can't hear the other link. Where both spoke lately it naps, for
+// then each may be the next to speak.
+fn wait_of(own: u32, other: u32) -> Patience
+    ensures leaves_a_busy_link_alone { other ≡ 0 → result ≡ Patience.Hurry }
+    ensures waits_where_it_spoke_last { other < own → result ≡ Patience.Hurry }
+    ensures hears_who_spoke_lately { other < 256 → result ≢ Patience.Wait }
+{
+    if other == 0 || other < own {
+        Patience::Hurry
+    } else if other < LATELY {
+        Patience::Nap
+    } else {
+        Patience::Wait
+    }
 }
 
 impl Activity {
     /// Two silent links.
     pub fn new() -> Self {
         Activity {
-            bus: Cell::new(false),
-            net: Cell::new(false),
+            bus: Cell::new(LATELY),
+            net: Cell::new(LATELY),
         }
     }
 
@@ -40,19 +77,23 @@ impl Default for Activity {
 /// What one link knows of itself and of the other.
 #[derive(Clone, Copy)]
 pub(crate) struct Side<'a> {
-    own: &'a Cell<bool>,
-    other: &'a Cell<bool>,
+    own: &'a Cell<u32>,
+    other: &'a Cell<u32>,
 }
 
 impl Side<'_> {
-    /// Whether a receive on this link may wait. A link that was silent while the other was busy doesn't:
-    /// it would hold up the other's next arrival.
-    pub(crate) fn may_wait(&self) -> bool {
-        self.own.get() || !self.other.get()
+    /// How long the next receive on this link may wait.
+    pub(crate) fn patience(&self) -> Patience {
+        wait_of(self.own.get(), self.other.get())
     }
 
     /// Notes whether a receive on this link had an arrival.
     pub(crate) fn note(&self, arrived: bool) {
-        self.own.set(arrived);
+        let silent = if arrived {
+            0
+        } else {
+            self.own.get().saturating_add(1)
+        };
+        self.own.set(silent);
     }
 }

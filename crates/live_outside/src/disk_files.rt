@@ -1,11 +1,11 @@
 //! The files of the system.
-ghost use Rattle.std.specs.Prelude.{None};
+ghost use Rattle.std.specs.Prelude.{◌≢◌, None};
 ghost use Rattle.gate_outside.specs.Files.{Loads};
+ghost use Rattle.gate_outside.specs.declared.load_fault.LoadFault.{LoadFault};
 
 use gate_outside::{Files, LARGEST_FILE, LoadFault};
 use std::alloc::Global;
 use std::fs::File;
-use std::io;
 use std::io::{ErrorKind, Read};
 use std::marker::Model;
 
@@ -14,6 +14,7 @@ use std::marker::Model;
 pub struct DiskFiles<'a, R> {
     rt: &'a R,
     faults: u64,
+    unread: Option<ErrorKind>,
 }
 
 impl<'a, R> Model for DiskFiles<'a, R> {
@@ -31,36 +32,67 @@ impl<'a, R: std::fs::Files> DiskFiles<'a, R> {
     pub fn new(rt: &'a R) -> Self
         ensures { result ≡ 0 }
     {
-        DiskFiles { rt, faults: 0 }
+        DiskFiles {
+            rt,
+            faults: 0,
+            unread: None,
+        }
+    }
+
+    /// Why the last load that gave no bytes gave none, if one did: what the system said, or `FileTooLarge`.
+    pub fn unread(&self) -> Option<ErrorKind> {
+        self.unread
     }
 }
 
-// Whether an error is for want of memory.
-fn is_memory(error: &io::Error) -> bool {
-    error.kind() == ErrorKind::OutOfMemory
+// The fault that an error of the system is.
+fn fault_of(kind: ErrorKind) -> LoadFault
+    ensures { result ≢ LoadFault.TooLong }
+{
+    if kind == ErrorKind::OutOfMemory {
+        LoadFault::Memory
+    } else {
+        LoadFault::Failed
+    }
 }
 
-// All bytes of a reader, where there are at most 1 MiB. Of more, one byte more is read.
-fn read_whole<R: Read + Drop>(alloc: Global, reader: R) -> Result<Vec<u8>, LoadFault>
+// All bytes of a reader, where there are at most 1 MiB. Of more, one byte more is read. Where it gives none, why.
+fn read_whole<R: Read + Drop>(
+    alloc: Global,
+    reader: R,
+    unread: &mut Option<ErrorKind>,
+) -> Result<Vec<u8>, LoadFault>
     ensures { Loads (R.remaining reader) result }
 {
     let mut bytes = Vec::new(alloc);
     match reader.take(LARGEST_FILE as u64 + 1).read_to_end(&mut bytes) {
-        Ok(_) if bytes.len() > LARGEST_FILE => Err(LoadFault::TooLong),
+        Ok(_) if bytes.len() > LARGEST_FILE => {
+            *unread = Some(ErrorKind::FileTooLarge);
+            Err(LoadFault::TooLong)
+        }
         Ok(_) => Ok(bytes),
-        Err(error) if is_memory(&error) => Err(LoadFault::Memory),
-        Err(_) => Err(LoadFault::Failed),
+        Err(error) => {
+            *unread = Some(error.kind());
+            Err(fault_of(error.kind()))
+        }
     }
 }
 
-// The bytes of the file of a name.
-fn read_file<R: std::fs::Files>(rt: &R, alloc: Global, name: &str) -> Result<Vec<u8>, LoadFault>
+// The bytes of the file of a name. Where it gives none, why.
+fn read_file<R: std::fs::Files>(
+    rt: &R,
+    alloc: Global,
+    name: &str,
+    unread: &mut Option<ErrorKind>,
+) -> Result<Vec<u8>, LoadFault>
     ensures { Loads None result }
 {
     match File::open(rt, name) {
-        Ok(file) => read_whole(alloc, file),
-        Err(error) if is_memory(&error) => Err(LoadFault::Memory),
-        Err(_) => Err(LoadFault::Failed),
+        Ok(file) => read_whole(alloc, file, unread),
+        Err(error) => {
+            *unread = Some(error.kind());
+            Err(fault_of(error.kind()))
+        }
     }
 }
 
@@ -76,7 +108,7 @@ impl<'a, R: std::fs::Files> Files for DiskFiles<'a, R> {
     }
 
     fn load(&mut self, alloc: Global, name: &str) -> Result<Vec<u8>, LoadFault> {
-        let loaded = read_file(self.rt, alloc, name);
+        let loaded = read_file(self.rt, alloc, name, &mut self.unread);
         if matches!(&loaded, Err(LoadFault::Failed)) {
             self.faults = self.faults.saturating_add(1);
         }

@@ -1,4 +1,5 @@
-//! The outside of a program that runs: files of the system, two UDP links, and the system's clock.
+//! The outside of a program that runs: files of the system, a stream that is written, two UDP links, and the
+//! system's clock.
 //!
 //! These adapters tell nothing of content, since no clause of std says what a file or a socket gave. Each
 //! is proved against its trait: it fails only where its count of faults rose, and its answers fit what it
@@ -10,12 +11,14 @@ mod destinations;
 mod disk_files;
 mod socket;
 mod system_clock;
+mod told_writer;
 mod udp_link;
 
 pub use activity::Activity;
 pub use disk_files::DiskFiles;
 pub use system_clock::SystemClock;
-pub use udp_link::UdpLink;
+pub use told_writer::ToldWriter;
+pub use udp_link::{UdpLink, Unattached};
 
 #[cfg(test)]
 mod tests;

@@ -11,7 +11,7 @@ use std::net::{Net, SocketAddrV4, UdpSocket};
 use std::time::Duration;
 
 /// How long a receive waits at most, in milliseconds.
-pub(crate) const LONGEST_WAIT_MS: u64 = 10;
+pub(crate) const LONGEST_WAIT_MS: u64 = 4;
 
 /// How many networks a multicast datagram crosses: none but the ship's own.
 const MULTICAST_TTL: u32 = 1;
@@ -36,20 +36,20 @@ fn bound<R: Net>(rt: &R, listen: SocketAddrV4) -> io::Result<UdpSocket> {
 
 impl Socket {
     /// A socket that listens at an address and sends by these routes, where each address is an IPv4
-    /// address and a port and the system lends the one to listen at.
-    pub(crate) fn open<R: Net>(rt: &R, listen: &[u8], routes: &Routes) -> Option<Self> {
-        let destinations = Destinations::of(routes)?;
+    /// address and a port (`InvalidInput` where one isn't) and the system lends the one to listen at.
+    pub(crate) fn open<R: Net>(rt: &R, listen: &[u8], routes: &Routes) -> Result<Self, ErrorKind> {
+        let destinations = Destinations::of(routes).ok_or(ErrorKind::InvalidInput)?;
         let listen = match SocketAddrV4::parse_ascii(listen) {
             Ok(listen) => listen,
-            Err(_) => return None,
+            Err(_) => return Err(ErrorKind::InvalidInput),
         };
         match bound(rt, listen) {
-            Ok(socket) => Some(Socket {
+            Ok(socket) => Ok(Socket {
                 socket,
                 destinations,
                 waits: true,
             }),
-            Err(_) => None,
+            Err(error) => Err(error.kind()),
         }
     }
 

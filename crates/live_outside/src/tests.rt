@@ -1,11 +1,13 @@
-//! What no clause says: that a file's bytes come, that datagrams move, and that time passes.
+//! What no clause says: that a file's bytes come, that datagrams move, who waits how long, and why a call failed.
 use super::*;
 use arrayvec::ArrayVec;
 use gate_outside::{Arrival, Clock, Failed, Files, Link, LoadFault};
 use network_routes::{Address, Route, Routes};
 use sentence_text::Group;
+use std::cell::Cell;
 use std::io;
-use std::net::UdpSocket;
+use std::io::{ErrorKind, Write};
+use std::net::{SocketAddr, UdpSocket};
 use std::test::Fail;
 use std::time::Duration;
 
@@ -40,10 +42,42 @@ fn a_file_is_loaded_and_a_missing_one_fails(rt: HostRuntime) -> Result<(), Fail>
     let missing = files.load(alloc, "/nowhere/shipgate.toml");
     assert!(rt; matches!(&missing, Err(LoadFault::Failed)));
     assert_eq!(rt; files.faults(), 1);
+    assert!(rt; files.unread() == Some(ErrorKind::NotFound));
+    let folder = files.load(alloc, "/dev");
+    assert!(rt; matches!(&folder, Err(LoadFault::Failed)));
+    assert!(rt; files.unread() == Some(ErrorKind::IsADirectory));
     let empty = files.load(alloc, "/dev/null").expect(&rt, "an empty file");
     assert!(rt; empty.is_empty());
     let endless = files.load(alloc, "/dev/zero");
     assert!(rt; matches!(&endless, Err(LoadFault::TooLong)));
+    assert!(rt; files.unread() == Some(ErrorKind::FileTooLarge));
+    Ok(())
+}
+
+// A pipe at whose other end nobody reads.
+#[derive(Drop)]
+struct ClosedPipe;
+
+impl Write for ClosedPipe {
+    fn write(&mut self, _buf: &[u8]) -> io::Result<usize> {
+        Err(io::Error::from(ErrorKind::BrokenPipe))
+    }
+
+    fn flush(&mut self) -> io::Result<()> {
+        Ok(())
+    }
+}
+
+#[test]
+fn a_writer_tells_why_it_failed(rt: HostRuntime) -> Result<(), Fail> {
+    let unwritten = Cell::new(None);
+    let mut full = [0; 4];
+    let written = ToldWriter::new(&mut full[..], &unwritten).write(b"text");
+    assert!(rt; matches!(&written, Ok(4)));
+    assert!(rt; unwritten.get().is_none());
+    let failed = ToldWriter::new(ClosedPipe, &unwritten).write(b"text");
+    assert!(rt; failed.is_err());
+    assert!(rt; unwritten.get() == Some(ErrorKind::BrokenPipe));
     Ok(())
 }
 
@@ -91,9 +125,174 @@ fn a_link_that_listens_nowhere_fails(rt: HostRuntime) -> Result<(), Fail> {
     let activity = Activity::new();
     let (mut link, _net) = UdpLink::pair(&rt, &activity);
     let routes = routes_to(&rt, "127.0.0.1", 9)?;
-    assert_eq!(rt; link.attach(b"localhost:0", &routes), Err(Failed));
+    let (_peer, port) = peer_at(&rt, "127.0.0.1:0").expect(&rt, "a socket");
+    let taken = address_of(&rt, "127.0.0.1", port)?;
+    for (listen, kind) in [
+        (b"localhost:0".as_slice(), ErrorKind::InvalidInput),
+        (b"192.0.2.1:0", ErrorKind::AddrNotAvailable),
+        (taken.as_slice(), ErrorKind::AddrInUse),
+    ] {
+        assert_eq!(rt; link.attach(listen, &routes), Err(Failed));
+        let why = link.unattached().expect(&rt, "a reason");
+        assert!(rt; why.listen.as_slice() == listen && why.kind == kind);
+    }
     assert_eq!(rt; link.receive(&mut [0; 1500]), Err(Failed));
-    assert_eq!(rt; link.faults(), 2);
+    assert_eq!(rt; link.faults(), 4);
+    Ok(())
+}
+
+// Two links that are attached, each at a port that was free, and a peer that sends to them.
+#[derive(Drop)]
+struct Ends<'a> {
+    bus: UdpLink<'a, HostRuntime>,
+    net: UdpLink<'a, HostRuntime>,
+    peer: UdpSocket,
+    to_bus: SocketAddr,
+    to_net: SocketAddr,
+}
+
+// Where a link listens, which a peer sees by what it is sent.
+fn attached(
+    rt: &HostRuntime,
+    link: &mut UdpLink<'_, HostRuntime>,
+    peer: &UdpSocket,
+) -> Result<SocketAddr, Fail> {
+    let port = peer.local_addr()?.port();
+    let routes = routes_to(rt, "127.0.0.1", port)?;
+    link.attach(b"127.0.0.1:0", &routes)?;
+    link.send(Group::default(), b"here")?;
+    Ok(peer.recv_from(&mut [0; 1500])?.1)
+}
+
+fn open_ends<'a>(rt: &'a HostRuntime, activity: &'a Activity) -> Result<Ends<'a>, Fail> {
+    let (peer, _) = peer_at(rt, "127.0.0.1:0")?;
+    let (mut bus, mut net) = UdpLink::pair(rt, activity);
+    let to_bus = attached(rt, &mut bus, &peer)?;
+    let to_net = attached(rt, &mut net, &peer)?;
+    Ok(Ends {
+        bus,
+        net,
+        peer,
+        to_bus,
+        to_net,
+    })
+}
+
+// Sends so many datagrams to an address.
+fn send(peer: &UdpSocket, to: SocketAddr, count: u32) -> Result<(), Fail> {
+    for _ in 0..count {
+        peer.send_to(b"one", to)?;
+    }
+    Ok(())
+}
+
+// How many arrivals a receive has: one or none.
+fn count_of(link: &mut UdpLink<'_, HostRuntime>) -> u32 {
+    match link.receive(&mut [0; 1500]) {
+        Ok(Arrival::Bytes(_)) => 1,
+        _ => 0,
+    }
+}
+
+// How many arrivals the bus and the network have in so many turns, in which the bus is asked first.
+fn take(ends: &mut Ends<'_>, turns: u32) -> [u32; 2] {
+    let mut bus = 0_u32;
+    let mut net = 0_u32;
+    for _ in 0..turns {
+        bus = bus.saturating_add(count_of(&mut ends.bus));
+        net = net.saturating_add(count_of(&mut ends.net));
+    }
+    [bus, net]
+}
+
+// Where a receive waits for its own next arrival though the other link has more, each of these 250 takes 4
+// milliseconds at least.
+#[test]
+fn a_link_with_a_thousand_arrivals_isnt_kept_waiting_by_the_other(
+    rt: HostRuntime,
+) -> Result<(), Fail> {
+    let activity = Activity::new();
+    let mut clock = SystemClock::new(&rt);
+    let mut ends = open_ends(&rt, &activity)?;
+    let began = clock.now();
+    for round in 0..250 {
+        if round % 25 == 0 {
+            send(&ends.peer, ends.to_bus, 100)?;
+        }
+        send(&ends.peer, ends.to_net, 1)?;
+        assert_eq!(rt; take(&mut ends, 4), [4, 1]);
+    }
+    let passed = clock.now().saturating_sub(began);
+    assert!(rt; passed < 500_000, "{passed} microseconds");
+    Ok(())
+}
+
+// What comes to the two links before each turn, and how long so many of these turns take, in microseconds.
+#[derive(Clone, Copy)]
+struct Turns {
+    about: &'static str,
+    comes: [u32; 2],
+    turns: u32,
+    least: u64,
+    most: u64,
+}
+
+const HOUR: u64 = 3_600_000_000;
+
+const TURNS: [Turns; 4] = [
+    Turns {
+        about: "two links that have long been silent wait in turn",
+        comes: [0, 0],
+        turns: 25,
+        least: 100_000,
+        most: HOUR,
+    },
+    Turns {
+        about: "a silent network isn't waited for while the bus is busy",
+        comes: [1, 0],
+        turns: 250,
+        least: 0,
+        most: 500_000,
+    },
+    Turns {
+        about: "a silent bus isn't waited for while the network is busy",
+        comes: [0, 1],
+        turns: 250,
+        least: 0,
+        most: 500_000,
+    },
+    Turns {
+        about: "two links that spoke lately don't spin",
+        comes: [0, 0],
+        turns: 100,
+        least: 25_000,
+        most: HOUR,
+    },
+];
+
+// How long these turns take, in microseconds, where what comes is taken in its turn.
+fn time_of(rt: &HostRuntime, ends: &mut Ends<'_>, case: &Turns) -> Result<u64, Fail> {
+    let mut clock = SystemClock::new(rt);
+    let began = clock.now();
+    for _ in 0..case.turns {
+        send(&ends.peer, ends.to_bus, case.comes[0])?;
+        send(&ends.peer, ends.to_net, case.comes[1])?;
+        if take(ends, 1) != case.comes {
+            return Err(Fail::new(case.about));
+        }
+    }
+    Ok(clock.now().saturating_sub(began))
+}
+
+#[test]
+fn a_receive_waits_only_while_the_other_link_is_silent(rt: HostRuntime) -> Result<(), Fail> {
+    let activity = Activity::new();
+    let mut ends = open_ends(&rt, &activity)?;
+    for case in &TURNS {
+        let passed = time_of(&rt, &mut ends, case)?;
+        let holds = case.least <= passed && passed < case.most;
+        assert!(rt; holds, "{}: {passed} microseconds", case.about);
+    }
     Ok(())
 }
 

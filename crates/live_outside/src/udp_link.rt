@@ -1,21 +1,35 @@
 //! A link over UDP.
-use crate::activity::{Activity, Side};
+use crate::activity::{Activity, Patience, Side};
 use crate::socket::{LONGEST_WAIT_MS, Socket};
 use gate_outside::{Arrival, Failed, Link};
-use network_routes::Routes;
+use network_routes::{Address, Routes};
 use sentence_text::Group;
+use std::io::ErrorKind;
 use std::marker::Model;
 use std::net::Net;
 use std::thread;
 use std::time::{Clock, Duration};
 
+/// How long a nap takes, in microseconds.
+const NAP_US: u64 = 500;
+
+/// Why a link couldn't be attached.
+#[derive(Debug, Drop)]
+pub struct Unattached {
+    /// The address that it was to listen at.
+    pub listen: Address,
+    /// What the system said, or that an address isn't an IPv4 address and a port (`InvalidInput`).
+    pub kind: ErrorKind,
+}
+
 /// A link over UDP. Addresses are IPv4 addresses with a port, as `192.168.0.7:60001`.
 ///
-/// A receive waits at most 10 milliseconds, which the system rounds up to its own tick, and not at all
-/// where this link was silent while the other was busy. One that fails waits as long, so that a link that
-/// is down neither spins nor fills the reports. Of a datagram of more than 1500 bytes the first 1500 are
-/// taken; one of no byte is an arrival as any other. The system holds what comes meanwhile, up to its
-/// own limit.
+/// A receive doesn't wait while the other link of the pair had an arrival at its last receive, nor where the
+/// other spoke later than this one. Else it waits: for a nap of 0.5 milliseconds where the other spoke
+/// lately, and up to 4 milliseconds, which the system rounds up to its own tick, where the other has long been
+/// silent. One that fails waits as long, so that a link that is down doesn't spin while both are silent.
+/// Of a datagram of more than 1500 bytes the first 1500 are taken; one of no byte is an arrival as any other.
+/// The system holds what comes meanwhile, up to its own limit.
 ///
 /// A send never waits. Broadcast addresses may be sent to. A multicast datagram crosses no router
 /// (its time to live is 1), and programs of the same computer that joined its group receive it too.
@@ -26,6 +40,7 @@ pub struct UdpLink<'a, R> {
     side: Side<'a>,
     socket: Option<Socket>,
     faults: u64,
+    unattached: Option<Unattached>,
 }
 
 impl<'a, R> Model for UdpLink<'a, R> {
@@ -50,14 +65,30 @@ impl<'a, R: Net + Clock> UdpLink<'a, R> {
             side: bus,
             socket: None,
             faults: 0,
+            unattached: None,
         };
         let net = UdpLink {
             rt,
             side: net,
             socket: None,
             faults: 0,
+            unattached: None,
         };
         (bus, net)
+    }
+
+    /// Why the last call of `attach` failed, if one did.
+    pub fn unattached(&self) -> Option<&Unattached> {
+        self.unattached.as_ref()
+    }
+}
+
+// How long to sleep after a receive of this patience. One that waited in its socket has waited.
+fn pause_after(patience: Patience, arrival: &Result<Arrival, Failed>) -> Option<Duration> {
+    match (patience, arrival) {
+        (Patience::Nap, Ok(Arrival::Nothing) | Err(Failed)) => Some(Duration::from_micros(NAP_US)),
+        (Patience::Wait, Err(Failed)) => Some(Duration::from_millis(LONGEST_WAIT_MS)),
+        _ => None,
     }
 }
 
@@ -74,11 +105,17 @@ impl<'a, R: Net + Clock> Link for UdpLink<'a, R> {
 
     fn attach(&mut self, listen: &[u8], routes: &Routes) -> Result<(), Failed> {
         match Socket::open(self.rt, listen, routes) {
-            Some(socket) => {
+            Ok(socket) => {
                 self.socket = Some(socket);
                 Ok(())
             }
-            None => {
+            Err(kind) => {
+                let mut address = Address::new();
+                let _fits = address.try_extend_from_slice(listen);
+                self.unattached = Some(Unattached {
+                    listen: address,
+                    kind,
+                });
                 self.faults = self.faults.saturating_add(1);
                 Err(Failed)
             }
@@ -86,17 +123,17 @@ impl<'a, R: Net + Clock> Link for UdpLink<'a, R> {
     }
 
     fn receive(&mut self, buf: &mut [u8; 1500]) -> Result<Arrival, Failed> {
-        let waits = self.side.may_wait();
+        let patience = self.side.patience();
         let arrival = match &mut self.socket {
-            Some(socket) => socket.receive(buf, waits),
+            Some(socket) => socket.receive(buf, patience == Patience::Wait),
             None => Err(Failed),
         };
         self.side.note(matches!(&arrival, Ok(Arrival::Bytes(_))));
         if arrival.is_err() {
             self.faults = self.faults.saturating_add(1);
-            if waits {
-                thread::sleep(self.rt, Duration::from_millis(LONGEST_WAIT_MS));
-            }
+        }
+        if let Some(pause) = pause_after(patience, &arrival) {
+            thread::sleep(self.rt, pause);
         }
         arrival
     }

@@ -10,28 +10,22 @@ ghost use Rattle.std.specs.Process.{exit_status};
 ghost use Rattle.std.specs.Vec.Iter.{into_iter_items};
 ghost use Rattle.shipgate.specs.Program.{RunsOver, live};
 
+mod explain;
+
 pub use bridge::{Bridge, Settings};
 pub use command_words::{Command, LineCommand};
+use explain::{Kept, explain_run};
 use gate_outside::{Clock, Files, Link, ReaderSource, WriterSink};
 pub use gateway_commands::{demo_with, replay_with, run, stream};
-use live_outside::{Activity, DiskFiles, SystemClock, UdpLink};
+use live_outside::{Activity, DiskFiles, SystemClock, ToldWriter, UdpLink};
 pub use serving::serve_turns;
 use statuses::NO_MEMORY;
 use std::alloc::{AllocError, Global};
-use std::env::Args;
+use std::cell::Cell;
+use std::env::{Args, Env};
 use std::io::{ErrorKind, Read, Write};
 use std::process::ExitCode;
 use std::{env, io};
-
-/// What the commands are, for who gave words that are none.
-const COMMANDS: &str =
-    "  convert             a capture from standard input; its single-frame messages as sentences
-  show                a capture from standard input; what each of its lines holds
-  check CONFIG        a configuration; whether it is accepted, or what is wrong with it
-  replay CONFIG       a configuration, and a capture from standard input; all that the gateway would have sent and reported
-  serve CONFIG TURNS  a configuration, and two links over UDP; the gateway's reports, each at once
-  demo SEED COUNT     nothing; a line that sums up a run of the gateway over a made-up input
-Each writes to standard output. Statuses: 0 done, 2 no command, 3 the configuration is refused, 4 a write failed, 5 a read failed, 6 the configuration can't be read, 7 no memory to begin with, 8 more than 2^40 bytes of input, 9 a link can't be attached. The manual is shipgate.1.";
 
 // All arguments of the process.
 fn all_words(alloc: Global, args: Args) -> Result<Vec<String>, AllocError>
@@ -127,24 +121,14 @@ fn exit_code(status: Result<u8, AllocError>) -> ExitCode
     }
 }
 
-// Says on standard error why a run didn't do its work.
-fn explain(rt: &impl Eprint, status: &Result<u8, AllocError>) {
-    let why = match status {
-        Ok(2) => "these words are no command",
-        Ok(3) => "the configuration is refused",
-        Ok(4) => "the output can't be written",
-        Ok(5) => "the input can't be read",
-        Ok(6) => "the configuration can't be read, or has more than 1 MiB",
-        Ok(7) => "there is no memory for the configuration or the gateway",
-        Ok(8) => "the input has more than 2^40 bytes",
-        Ok(9) => "a link can't listen or send where the configuration says",
-        Ok(_) => return,
-        Err(AllocError) => "there is no memory to begin with",
-    };
-    // Where standard error is closed too, the status says it.
-    let _ = eprintln!(rt; "shipgate: {why}");
-    if let Ok(2) = status {
-        let _ = eprintln!(rt; "{COMMANDS}");
+// All words of the process, for a status that is told by them.
+fn words_to_tell<R: Env + Alloc<A = Global>>(
+    rt: &R,
+    status: &Result<u8, AllocError>,
+) -> Vec<String> {
+    match status {
+        Ok(2 | 6) => words_of(rt.alloc(), env::args(rt)).unwrap_or(Vec::new(rt.alloc())),
+        _ => Vec::new(rt.alloc()),
     }
 }
 
@@ -155,16 +139,24 @@ fn main(rt: HostRuntime) -> ExitCode {
     let mut bus = bus;
     let mut net = net;
     let mut clock = SystemClock::new(&rt);
+    let unwritten = Cell::new(None);
     let status = run_with(
         rt.alloc(),
         env::args(&rt),
         &mut files,
         rt.stdin(),
-        rt.stdout(),
+        ToldWriter::new(rt.stdout(), &unwritten),
         &mut bus,
         &mut net,
         &mut clock,
     );
-    explain(&rt, &status);
+    let kept = Kept {
+        words: words_to_tell(&rt, &status),
+        unread: files.unread(),
+        unwritten: unwritten.get(),
+        bus: bus.unattached(),
+        net: net.unattached(),
+    };
+    explain_run(&rt, &status, &kept);
     exit_code(status)
 }
