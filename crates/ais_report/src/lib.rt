@@ -9,8 +9,6 @@ mod conversion;
 mod field;
 mod quantity;
 mod report;
-#[cfg(test)]
-mod tests;
 
 pub use characters::{armour, read_armour};
 pub use conversion::convert;

@@ -12,8 +12,6 @@ mod pgn;
 mod product;
 mod request;
 mod sending;
-#[cfg(test)]
-mod tests;
 
 pub use identity::{Answered, Identity};
 pub use product::Product;

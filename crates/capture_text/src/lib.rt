@@ -14,6 +14,3 @@ pub use gate_events::{Detail, Emit, Event, Report};
 pub use line_rule::LineRule;
 pub use reading::read_line;
 pub use writing::write_emit;
-
-#[cfg(test)]
-mod tests;

@@ -7,8 +7,6 @@ mod fault;
 pub mod laws;
 mod preset;
 mod table;
-#[cfg(test)]
-mod tests;
 
 pub use answer::{ClaimStep, Holder, OwnAnswer};
 pub use fault::ClaimFault;

@@ -11,8 +11,6 @@ mod lists;
 mod patterns;
 mod presets;
 mod row_config;
-#[cfg(test)]
-mod tests;
 
 pub use config::{Config, Ends};
 pub use endpoint::is_endpoint;

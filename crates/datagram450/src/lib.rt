@@ -15,6 +15,3 @@ pub use fault::DatagramFault;
 pub use item::LineItem;
 pub use line_iter::{LineIter, lines};
 pub use writing::{begin, push_line};
-
-#[cfg(test)]
-mod tests;

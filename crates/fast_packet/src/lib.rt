@@ -7,8 +7,6 @@ mod frames;
 mod key;
 mod laws;
 mod splitting;
-#[cfg(test)]
-mod tests;
 mod verdict;
 
 pub use answers::{FastFed, FastOutcome, FastRefusal};

@@ -13,8 +13,6 @@ mod presets;
 mod reading;
 mod routes;
 mod rows;
-#[cfg(test)]
-mod tests;
 mod unknown;
 
 pub use bus_identity::Product;

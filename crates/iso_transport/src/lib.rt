@@ -9,8 +9,6 @@ mod key;
 mod laws;
 mod reply;
 mod session;
-#[cfg(test)]
-mod tests;
 mod verdict;
 
 pub use answers::{IsoEnded, IsoFed, IsoOutcome, IsoRefusal};

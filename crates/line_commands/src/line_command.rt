@@ -9,8 +9,8 @@ ghost use Rattle.statuses.specs.Statuses.{EndsBy, IsStreamStatus, IsUnhindered, 
 use crate::{convert, show};
 use capture_stream::{Answers, Writer, answer_capture};
 use capture_text::LineRule;
-use gate_events::Event;
 use command_words::LineCommand;
+use gate_events::Event;
 use gate_outside::{Failed, Sink, Source};
 use statuses::status_of;
 
@@ -91,11 +91,7 @@ impl Answers for Lines {
 /// | 8 | exactly where more than 2^40 bytes were read, and no call failed before |
 ///
 /// Of 4, 5 and 8 the first call that fails decides: with 0 and 8 no call failed, with 4 no read did, and with 5 no write.
-pub fn answer_lines<S: Source, K: Sink>(
-    command: LineCommand,
-    input: &mut S,
-    out: &mut K,
-) -> u8
+pub fn answer_lines<S: Source, K: Sink>(command: LineCommand, input: &mut S, out: &mut K) -> u8
     ensures status { IsStreamStatus result }
     ensures ends { EndsBy (AreTextsOf command) (S.left input.old) (S.left input.new) (K.taken out.old) (K.taken out.new) result }
     ensures sink_cause { result ≡ 4 → Rose (K.fault_count out.old) (K.fault_count out.new) }

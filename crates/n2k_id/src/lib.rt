@@ -7,8 +7,6 @@ mod identifier;
 mod identifier_parts;
 mod name;
 mod pattern;
-#[cfg(test)]
-mod tests;
 
 pub use frame::Frame;
 pub use identifier::{join, parts};

@@ -14,8 +14,6 @@ mod position;
 mod profiled;
 mod reader;
 mod steering;
-#[cfg(test)]
-mod tests;
 mod time;
 mod water;
 mod wind;

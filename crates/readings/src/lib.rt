@@ -10,8 +10,6 @@ mod number;
 pub mod range;
 mod reading;
 mod rows;
-#[cfg(test)]
-mod tests;
 mod validity;
 
 pub use number::{bits, read_signed, read_unsigned};

@@ -30,8 +30,6 @@ mod reading;
 mod rmc;
 mod rot;
 mod rsa;
-#[cfg(test)]
-mod tests;
 mod ths;
 mod vhw;
 mod vlw;

@@ -23,6 +23,3 @@ pub use sentence::Sentence;
 pub use sfi::Sfi;
 pub use sum::{SumFault, sum_digits, sum_fault, xor};
 pub use writing::write;
-
-#[cfg(test)]
-mod tests;

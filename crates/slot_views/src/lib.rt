@@ -13,8 +13,6 @@ mod runs;
 mod shelf;
 mod slot;
 mod slots;
-#[cfg(test)]
-mod tests;
 
 pub use answers::{Begun, Ended, Grown, Kept, View};
 pub use laws::{entries_end_one_by_one, first_entry_ends, keys_stand_apart};

@@ -9,8 +9,6 @@ pub mod laws;
 mod note;
 mod rank;
 mod row_notes;
-#[cfg(test)]
-mod tests;
 
 pub use choice::Choice;
 pub use rank::Rank;

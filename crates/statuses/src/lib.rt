@@ -2,6 +2,7 @@
 //!
 //! No call takes memory.
 #![tactic(auto)]
+
 ghost use Rattle.std.specs.Prelude.{◌≡◌};
 ghost use Rattle.statuses.specs.Statuses.{IsStreamStatus, status_of};
 

@@ -34,8 +34,3 @@ pub use reading::read;
 pub use slot_views::View;
 pub use tag::Tag;
 pub use writing::{Packet, TagParts, write};
-
-#[cfg(test)]
-mod group_tests;
-#[cfg(test)]
-mod tests;

@@ -16,6 +16,3 @@ pub use fraction::{Fraction, scale, scale_decimal};
 pub use laws::{there_and_back, written_is_read};
 pub use reading::read_decimal;
 pub use writing::write_decimal;
-
-#[cfg(test)]
-mod tests;

@@ -1,4 +1,4 @@
-use crate::{Begun, Ended, Grown, Kept, Slots, View};
+use slot_views::{Begun, Ended, Grown, Kept, Slots, View};
 use std::test::Fail;
 
 type Small = Slots<u8, 8, 4>;

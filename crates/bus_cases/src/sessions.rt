@@ -1,4 +1,6 @@
-use crate::{Cm, IsoAssembler, IsoEnded, IsoOutcome, IsoRefusal, Reply, read_cm, write_reply};
+use iso_transport::{
+    Cm, IsoAssembler, IsoEnded, IsoOutcome, IsoRefusal, Reply, read_cm, write_reply,
+};
 use n2k_id::{Frame, Parts};
 use std::test::Fail;
 

@@ -1,7 +1,7 @@
-use super::*;
 use arrayvec::ArrayVec;
 use sentence_text::Sfi;
 use std::test::Fail;
+use tag_block::{GroupPart, TagFault, TagParts, TagRule, read, write};
 
 fn fault_of(line: &[u8]) -> Option<TagFault> {
     match read(line) {

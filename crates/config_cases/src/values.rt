@@ -1,7 +1,7 @@
 //! That the ranges and the rules against repeats are those meant: values at both sides of each bound, worked out by hand.
-use crate::{Config, Ends, RowConfig};
 use arrayvec::ArrayVec;
 use claim_table::Preset;
+use config_values::{Config, Ends, RowConfig};
 use n2k_id::{Name, Pattern};
 use network_routes::{Address, Route, Routes};
 use sentence_text::{Group, Sfi};

@@ -1,6 +1,6 @@
 ghost use Rattle.std.specs.Prelude.{◌≡◌, ◌<◌, All, IfOk};
 
-use crate::{ClaimFault, ClaimStep, ClaimTable, Holder, OwnAnswer, Preset};
+use claim_table::{ClaimFault, ClaimStep, ClaimTable, Holder, OwnAnswer, Preset};
 use n2k_id::Name;
 use std::alloc::Global;
 use std::test::Fail;
@@ -34,7 +34,7 @@ impl Bus {
         }
     }
 
-    #[tactic(auto, using(crate::proofs::LawLemmas::since_grows))]
+    #[tactic(auto, using(claim_table::proofs::LawLemmas::since_grows))]
     fn hear(&mut self, address: u8, name: u64) -> ClaimStep
         requires address { address < 255 }
         requires latest { All (IsSinceBy self.old.index) self.old.table.holders }

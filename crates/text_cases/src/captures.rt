@@ -1,5 +1,5 @@
-use super::*;
 use arrayvec::ArrayVec;
+use capture_text::{Detail, Emit, Event, LineRule, Report, read_line, write_emit};
 use n2k_id::Frame;
 use sentence_text::{Group, Sfi};
 use std::test::Fail;

@@ -1,6 +1,6 @@
 //! What isn't available, and what is just beyond a range.
 
-use crate::{Payload, Profiled, read, write};
+use pgn_profile::{Payload, Profiled, read, write};
 use readings::Reading;
 
 /// Each PGN with three payloads: as it is written where nothing is available, and twice just beyond

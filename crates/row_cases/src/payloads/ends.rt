@@ -1,6 +1,6 @@
 //! The ends of each range, read and written.
 
-use crate::{Payload, Profiled, read, write};
+use pgn_profile::{Payload, Profiled, read, write};
 use readings::Reading;
 
 #[test]

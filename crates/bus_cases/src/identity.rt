@@ -1,5 +1,5 @@
-use crate::{Answered, Frames, Identity, Product};
 use arrayvec::ArrayVec;
+use bus_identity::{Answered, Frames, Identity, Product};
 use n2k_id::Frame;
 
 /// A request from address 0x17 to the gateway at 0xFB, and one to all.

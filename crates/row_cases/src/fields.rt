@@ -1,7 +1,7 @@
 //! The sentences and the raw values were worked out by hand from the layouts of IEC 61162-1.
 
-use crate::{FieldFault, Lines, Readings, read_rows, sentences};
 use readings::{Reading, valid};
+use sentence_rows::{FieldFault, Lines, Readings, read_rows, sentences};
 use sentence_text::Sentence;
 
 #[test]

@@ -1,4 +1,4 @@
-use super::*;
+use datagram450::{DatagramFault, LineItem, begin, lines, push_line};
 use sentence_text::Sfi;
 use std::test::Fail;
 use tag_block::{GroupPart, Packet, TagParts};

@@ -1,5 +1,5 @@
-use crate::{Choice, Rank};
 use readings::Row;
+use source_choice::{Choice, Rank};
 use std::test::Fail;
 
 const SECOND: u64 = 1_000_000;

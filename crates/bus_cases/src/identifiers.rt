@@ -1,4 +1,4 @@
-use crate::{Frame, Name, NameFields, Parts, Pattern, join, parts, read_name, write_name};
+use n2k_id::{Frame, Name, NameFields, Parts, Pattern, join, parts, read_name, write_name};
 
 fn to(destination: u8, priority: u8, pgn: u32, source: u8) -> Parts {
     Parts {

@@ -3,7 +3,7 @@
 mod beyond;
 mod ends;
 
-use crate::{Kind, Profiled, kind, priority, read};
+use pgn_profile::{Kind, Profiled, kind, priority, read};
 use readings::{Reading, Row};
 
 #[test]

@@ -1,4 +1,4 @@
-use crate::{FastAssembler, FastFed, FastKey, FastOutcome, FastRefusal, FrameList, split};
+use fast_packet::{FastAssembler, FastFed, FastKey, FastOutcome, FastRefusal, FrameList, split};
 use n2k_id::Frame;
 use std::test::Fail;
 

@@ -1,6 +1,8 @@
-use super::*;
 use arrayvec::ArrayVec;
 use std::test::Fail;
+use unit_fraction::{
+    Decimal, DecimalFault, Fraction, read_decimal, scale, scale_decimal, write_decimal,
+};
 
 #[test]
 fn a_conversion_rounds_once_and_halves_go_away_from_zero(rt: HostRuntime) {

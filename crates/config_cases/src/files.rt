@@ -1,6 +1,6 @@
 //! What files say, and what is wrong with them: each line worked out by hand from the table of keys.
-use crate::{Settings, read, read_all};
 use config_document::FaultLine;
+use gate_config::{Settings, read, read_all};
 use n2k_id::{Name, Pattern};
 use std::alloc::Global;
 use std::test::*;

@@ -1,6 +1,6 @@
 ghost use Rattle.std.specs.Prelude.{◌+◌, ◌≤◌, length};
 
-use crate::{AisFault, AisReport, armour, convert, read_armour};
+use ais_report::{AisFault, AisReport, armour, convert, read_armour};
 
 /// Message 1 of ship 200000000 under way: one degree east on the equator, to the east at 10.0 knots, heading east.
 const UNDER_WAY: [u8; 28] = [

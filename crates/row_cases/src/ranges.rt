@@ -1,4 +1,4 @@
-use super::*;
+use readings::{Reading, Row, bits, read_signed, read_unsigned, row, usable, valid};
 
 #[test]
 fn numbers_stand_with_the_lowest_byte_first(rt: HostRuntime) {

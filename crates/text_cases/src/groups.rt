@@ -1,6 +1,6 @@
-use crate::{GroupAssembler, GroupFed, GroupKey, GroupOutcome, GroupPart};
 use sentence_text::Sfi;
 use std::test::Fail;
+use tag_block::{GroupAssembler, GroupFed, GroupKey, GroupOutcome, GroupPart};
 
 /// What became of a line; a complete group is told by whether its sentences are those that were wanted.
 #[derive(Clone, Copy, Debug, PartialEq, Eq)]

@@ -1,5 +1,5 @@
-use super::*;
 use arrayvec::ArrayVec;
+use sentence_text::{Group, SentenceFault, SentenceRule, Sfi, read, write};
 use std::test::Fail;
 
 #[test]
