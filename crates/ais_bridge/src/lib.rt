@@ -9,8 +9,6 @@ mod claims;
 mod emits;
 mod feeding;
 mod laws;
-#[cfg(test)]
-mod tests;
 mod told;
 mod writing;
 

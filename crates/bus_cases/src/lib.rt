@@ -1,4 +1,5 @@
-//! What goes over the bus: identifiers and NAMEs, claims, messages in the making, and the choice between sources. All of it is tests: they stand apart from the crates that they are about, which are proved but once without them.
+//! What goes over the bus: identifiers and NAMEs, claims, messages in the making, and the choice between sources. All of it is tests: they
+//! stand apart from the crates that they are about, which are proved but once without them.
 #![tactic(auto)]
 
 #[cfg(test)]

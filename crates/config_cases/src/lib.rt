@@ -1,4 +1,5 @@
-//! Configurations: which values are valid, and what a file says. All of it is tests: they stand apart from the crates that they are about, which are proved but once without them.
+//! Configurations: which values are valid, and what a file says. All of it is tests: they stand apart from the crates that they are about,
+//! which are proved but once without them.
 #![tactic(auto)]
 
 #[cfg(test)]

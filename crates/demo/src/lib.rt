@@ -14,6 +14,3 @@ mod tally;
 mod turns;
 
 pub use summary::{Summary, demo_line};
-
-#[cfg(test)]
-mod tests;

@@ -54,6 +54,3 @@ pub use streams::{ReaderSource, WriterSink};
 /// A call failed. It is answered only where the object's count of faults rose in that call.
 #[derive(Clone, Copy, Debug, Default, PartialEq, Eq)]
 pub struct Failed;
-
-#[cfg(test)]
-mod tests;

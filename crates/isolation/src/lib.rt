@@ -5,6 +5,3 @@ pub mod laws;
 mod running;
 
 pub use running::FrameEvent;
-
-#[cfg(test)]
-mod tests;

@@ -10,8 +10,6 @@ mod minimum;
 mod rmc_join;
 mod selected;
 mod slot;
-#[cfg(test)]
-mod tests;
 
 pub use rmc_join::RmcJoin;
 pub use settings::RmcConfig;

@@ -19,6 +19,3 @@ pub use disk_files::DiskFiles;
 pub use system_clock::SystemClock;
 pub use told_writer::ToldWriter;
 pub use udp_link::{UdpLink, Unattached};
-
-#[cfg(test)]
-mod tests;

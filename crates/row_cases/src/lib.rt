@@ -1,4 +1,5 @@
-//! What is carried: readings, their payloads on the bus, their sentences on the network, and the reports of ships. All of it is tests: they stand apart from the crates that they are about, which are proved but once without them.
+//! What is carried: readings, their payloads on the bus, their sentences on the network, and the reports of ships. All of it is tests: they
+//! stand apart from the crates that they are about, which are proved but once without them.
 #![tactic(auto)]
 
 #[cfg(test)]

@@ -8,6 +8,3 @@ mod handing;
 mod turns;
 
 pub use turns::serve_turns;
-
-#[cfg(test)]
-mod tests;

@@ -1,4 +1,5 @@
-//! What is written and read as text: numbers, sentences, TAG blocks and their groups, datagrams, and the lines of a capture. All of it is tests: they stand apart from the crates that they are about, which are proved but once without them.
+//! What is written and read as text: numbers, sentences, TAG blocks and their groups, datagrams, and the lines of a capture. All of it is
+//! tests: they stand apart from the crates that they are about, which are proved but once without them.
 #![tactic(auto)]
 
 #[cfg(test)]

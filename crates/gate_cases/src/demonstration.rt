@@ -1,5 +1,5 @@
 //! Runs whose lines two other programs worked out.
-use crate::demo_line;
+use demo::demo_line;
 use std::test::Fail;
 
 #[test]

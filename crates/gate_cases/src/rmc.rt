@@ -9,11 +9,11 @@ ghost use Rattle.gate_core.specs.Steps.{IsEventValid, by_keys, entry_of};
 ghost use Rattle.joined_rmc.specs.JoinStands.{IsJoined, JoinStands};
 ghost use Rattle.joined_rmc.specs.RmcOut.{RmcRule};
 
-use crate::{RmcConfig, RmcJoin};
 use arrayvec::ArrayVec;
 use claim_table::Preset;
 use gate_core::{Config, Ends, Gateway, Outbox, RowConfig};
 use gate_events::Event;
+use joined_rmc::{RmcConfig, RmcJoin};
 use n2k_id::{Frame, Name};
 use network_routes::{Address, Routes};
 use sentence_text::{Group, Sfi};

@@ -1,7 +1,7 @@
 //! What no clause says: that a file's bytes come, that datagrams move, who waits how long, and why a call failed.
-use super::*;
 use arrayvec::ArrayVec;
 use gate_outside::{Arrival, Clock, Failed, Files, Link, LoadFault};
+use live_outside::{Activity, DiskFiles, SystemClock, ToldWriter, UdpLink};
 use network_routes::{Address, Route, Routes};
 use sentence_text::Group;
 use std::cell::Cell;

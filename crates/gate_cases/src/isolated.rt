@@ -3,12 +3,12 @@ ghost use Rattle.n2k_id.specs.Frame.{IsFrame};
 ghost use Rattle.std.specs.Prelude.{◌≡◌};
 ghost use Rattle.isolation.specs.Runs.{IsFrameEvent};
 
-use crate::FrameEvent;
-use crate::laws::same_from;
 use arrayvec::ArrayVec;
 use claim_table::Preset;
 use config_values::{Config, Ends, RowConfig};
 use gate_core::{Gateway, Outbox};
+use isolation::FrameEvent;
+use isolation::laws::same_from;
 use n2k_id::{Frame, Name};
 use network_routes::{Address, Routes};
 use sentence_text::Sfi;

@@ -3,7 +3,6 @@ ghost use Rattle.std.specs.Prelude.{IfOk};
 ghost use Rattle.gate_outside.specs.LinkMemory.{IsArrival};
 ghost use Rattle.settings.specs.Settings.{IsSettings};
 
-use crate::serve_turns;
 use arrayvec::ArrayVec;
 use bridge::{Bridge, Settings};
 use bus_identity::Product;
@@ -13,6 +12,7 @@ use gate_outside::{MemClock, MemLink, MemSink};
 use n2k_id::Name;
 use network_routes::{Address, Routes};
 use sentence_text::Sfi;
+use serving::serve_turns;
 use std::alloc::{AllocError, Global};
 use std::test::Fail;
 

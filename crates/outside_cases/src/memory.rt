@@ -1,5 +1,9 @@
 //! What no clause says: that the makers find memory, and the texts of faults.
-use super::*;
+use gate_outside::{
+    Arrival, Failed, Files, Link, LoadFault, MemFiles, MemLink, MemSink, MemSource, QuietFiles,
+    QuietLink, QuietSink, QuietSource, ReaderSource, Sink, Source, WriterSink,
+};
+use network_routes::{Address, Routes};
 use sentence_text::Group;
 use std::test::Fail;
 

@@ -1,6 +1,6 @@
 //! A gateway and its bridge, with exactly what the bridge emits at each event. A frame stands as its identifier and its bytes, the first one
 //! highest.
-use crate::{AisBridge, AisConfig, AisEmits};
+use ais_bridge::{AisBridge, AisConfig, AisEmits};
 use arrayvec::ArrayVec;
 use claim_table::Preset;
 use config_values::{Config, Ends, RowConfig};
