@@ -1,3 +1,4 @@
+pub mod LineLemmas
 pub mod ReplayCommandLemmas
 pub mod ReplayLemmas
 pub mod ServeLemmas

@@ -1,13 +1,15 @@
-use Rattle.std.proofs.Common.{◌≡◌, ℕ, List, map, subst, sym}
+use Rattle.std.proofs.Common.{◌≡◌, ℕ, List, map, subst}
 use Rattle.std.specs.Prelude.{string_bytes}
 use Rattle.command_words.specs.declared.words.Command.{Command}
-use Rattle.command_words.specs.declared.words.Command.TheVariants.{Demo, Serve}
+use Rattle.command_words.specs.declared.words.Command.TheVariants.{Demo, Lines, Serve}
+use Rattle.command_words.specs.declared.words.LineCommand.{LineCommand}
 use Rattle.serving.specs.Served.{outside}
 use Rattle.gateway_commands.specs.DemoCommand.{DemosBy}
-use Rattle.statuses.specs.Statuses.{SteadyBy}
+use Rattle.line_commands.specs.LineCommand.{AreTextsOf}
+use Rattle.statuses.specs.Statuses.{EndsBy}
 use Rattle.gateway_commands.specs.ServeCommand.{ServesBy}
-use Rattle.command_words.specs.Words.{IsDemo, IsForm, IsServe}
-use Rattle.statuses.proofs.StatusLemmas.{steady_by}
+use Rattle.command_words.specs.Words.{IsDemo, IsForm, IsServe, line_words}
+use Rattle.gateway_commands.proofs.LineLemmas.{one_line}
 use Rattle.gateway_commands.proofs.ServeLemmas.{serve_steady}
 use Rattle.command_words.proofs.WordLemmas.{one_demo, one_serve}
 use Rattle.gateway_commands.proofs.top_call.run.Goals as goal
@@ -47,14 +49,16 @@ returns-in-Some-Serve-clause-serves g c = λ turns file second form number.
     subst (λ (t : ℕ). ServesBy t (content file) files files' readings readings' bus bus' net net' old new status) same.1
     (subst (λ (f : List ℕ). ServesBy c.in-Some-Serve.turns (content f) files files' readings readings' bus bus' net net' old new status) same.0 c.serve.ensures.serves)
 
-pub returns-in-Some-Lines-clause-steady : goal.returns-in-Some-Lines-clause-steady
-returns-in-Some-Lines-clause-steady g c =
-    let source = g.S.Source.fault_count c.args.input.now in
-    let source' = g.S.Source.fault_count c.answer_lines.new.input in
-    let sink = g.K.Sink.fault_count c.args.out.now in
-    let sink' = g.K.Sink.fault_count c.answer_lines.new.out in
-    subst (λ (s : ℕ). SteadyBy source source' sink sink' s) (sym c.status_of.ensures.status)
-    (steady_by source source' sink sink' c.answer_lines.result c.answer_lines.ensures.steady)
+pub returns-in-Some-Lines-clause-ends : goal.returns-in-Some-Lines-clause-ends
+returns-in-Some-Lines-clause-ends g c = λ command form.
+    let words = map string_bytes c.args.words.now in
+    let is : c.in-Some-Lines.field-0 ≡ Lines c.in-Some-Lines.command = cc c.in-Some-Lines.field-0-is in
+    let here : words ≡ line_words c.in-Some-Lines.command = subst (λ (k : Command). IsForm words k) is c.in-Some-Lines.ensures in
+    let same = one_line words c.in-Some-Lines.command command here form in (
+      c.answer_lines.ensures.status,
+      subst (λ (k : LineCommand). EndsBy (AreTextsOf k) (g.S.Source.left c.args.input.now) (g.S.Source.left c.answer_lines.new.input)
+          (g.K.Sink.taken c.args.out.now) (g.K.Sink.taken c.answer_lines.new.out) c.answer_lines.result) same c.answer_lines.ensures.ends,
+    )
 
 pub returns-in-Some-Serve-clause-steady : goal.returns-in-Some-Serve-clause-steady
 returns-in-Some-Serve-clause-steady g c =

@@ -3,7 +3,7 @@ use Rattle.gate_model.specs.MachineSteps.{stepped}
 use Rattle.gate_core.specs.Steps.{by_keys, entry_of}
 use Rattle.joined_rmc.specs.Kept.{IsDoneValid}
 use Rattle.joined_rmc.proofs.Chaining.{left_valid}
-use Rattle.joined_rmc.proofs.tests.step.Goals as goal
+use Rattle.gate_cases.proofs.rmc.step.Goals as goal
 
 pub after-requires-clause-valid : goal.after-requires-clause-valid
 after-requires-clause-valid c =

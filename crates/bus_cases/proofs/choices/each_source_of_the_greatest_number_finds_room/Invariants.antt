@@ -1,5 +1,5 @@
 use Rattle.std.proofs.Common.{◌≡◌}
-use Rattle.source_choice.proofs.tests.each_source_of_the_greatest_number_finds_room.Given as goal
+use Rattle.bus_cases.proofs.choices.each_source_of_the_greatest_number_finds_room.Given as goal
 
 abbrev pub invariant-loop-source : goal.invariant-loop-source
 invariant-loop-source g l = l.choice.sources ≡ 254
