@@ -8,7 +8,7 @@ import re
 from .candump import NO_FORM, NoFrame
 from .clocks import MICROSECONDS, time_of_day_us
 from .fast_packets import MOST_BYTES, Message
-from .identifiers import ALL, FIRST_BROADCAST_FORMAT, Parts
+from .identifiers import parts_of_message
 
 HEX = rb"[0-9A-Fa-f]"
 LINE = re.compile(
@@ -27,13 +27,6 @@ def read_line(text):
         raise NoFrame(LONG)
     parts = parts_of_message(int(priority), int(pgn, 16), int(source, 16), int(destination, 16))
     return time_of_day_us(time), Message(parts, bytes.fromhex(data.decode()))
-
-
-def parts_of_message(priority, pgn, source, destination):
-    """The parts of a message's identifier; what can go to all alone goes to all."""
-    if pgn >> 8 & 0xFF < FIRST_BROADCAST_FORMAT:
-        return Parts(priority, pgn & ~0xFF, source, destination)
-    return Parts(priority, pgn, source, ALL)
 
 
 def write_line(message, time_us):

@@ -39,8 +39,10 @@ def bits_of(frame):
     for byte in value.to_bytes((length + 7) // 8, "big"):
         left = (left << 8 ^ SUMS[left >> SUM_BITS - 8 ^ byte]) & (1 << SUM_BITS) - 1
     text = f"{value << SUM_BITS | left:0{length + SUM_BITS}b}"
-    stuffed = sum(1 + (len(match.group()) - 5) // 4 for match in STUFFED.finditer(text))
-    return length + SUM_BITS + stuffed + BITS_BEHIND
+    others, runs = STUFFED.subn("", text)
+    # a run of five bits has one stuff bit, and one more for each four that follow: a fourth of its bits but the first
+    stuffed = (len(text) - len(others) - runs) // 4
+    return len(text) + stuffed + BITS_BEHIND
 
 
 def load_percent(bits, seconds):

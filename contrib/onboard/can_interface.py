@@ -85,6 +85,8 @@ class CanInterface:
             self.is_down, self.lost = True, 0
             if self.bitrate is not None and not is_up(self.socket, self.name):
                 self._set_up()
+            # a socket that was bound to an interface that was down tells it once, be it up by now
+            self.socket.getsockopt(socket.SOL_SOCKET, socket.SO_ERROR)
         except OSError as error:
             if error.errno == errno.EAFNOSUPPORT:
                 raise

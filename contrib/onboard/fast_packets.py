@@ -32,6 +32,10 @@ class Message(NamedTuple):
     parts: Parts
     data: bytes
 
+    def frame(self):
+        """The frame with these bytes as they are."""
+        return Frame(identifier_of(self.parts), self.data)
+
 
 def is_fast(pgn):
     """Whether messages of this PGN come as fast packets."""

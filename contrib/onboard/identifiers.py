@@ -39,6 +39,13 @@ def identifier_of(parts):
     return parts.priority << 26 | (parts.pgn | specific) << 8 | parts.source
 
 
+def parts_of_message(priority, pgn, source, destination):
+    """The parts of what a tool says of a message; what can go to all alone goes to all."""
+    if pgn >> 8 & 0xFF < FIRST_BROADCAST_FORMAT:
+        return Parts(priority, pgn & ~0xFF, source, destination)
+    return Parts(priority, pgn, source, ALL)
+
+
 def name_of(claim):
     """The NAME in the data of a claim, as a number: the eight bytes, the last of which is the highest; nothing where there are fewer."""
     return int.from_bytes(claim[:NAME_BYTES], "little") if len(claim) >= NAME_BYTES else None

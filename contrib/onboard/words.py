@@ -25,12 +25,12 @@ class LeftOut:
         self.teller = teller
         self.counts = collections.Counter()
 
-    def add(self, reason, count=1):
-        """Counts what was left out for a reason, a text or an exception that says it."""
+    def add(self, reason, count=1, example=None):
+        """Counts what was left out for a reason, a text or an exception that says it; the first one is shown by its example, where there is one."""
         reason = str(reason)
         if count > 0:
             if reason not in self.counts:
-                self.teller.tell(f"left out: {reason}")
+                self.teller.tell(f"left out: {reason}" + (f" ({example})" if example else ""))
             self.counts[reason] += count
 
     def since(self, earlier):
