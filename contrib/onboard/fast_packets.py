@@ -81,8 +81,12 @@ class Joiner:
         if number == 0:
             length, held = (frame.data[1], frame.data[2:]) if len(frame.data) > 1 else (0, b"")
         else:
-            length, following, held = self.open.pop(key, (0, None, b""))
+            length, following, held = self.open.get(key, (0, 0, b""))
+            if length == 0 or number == following - 1:
+                # of no message that is open, or the last frame again
+                return None
             if number != following:
+                del self.open[key]
                 return None
             held += frame.data[1:]
         if len(held) >= length > 0:
