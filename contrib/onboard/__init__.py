@@ -1,0 +1,1 @@
+"""What the tools around the gateway share: lines of candump, identifiers, fast packets, ways to a bus, recordings, words on standard error."""
