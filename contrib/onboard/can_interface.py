@@ -9,7 +9,7 @@ import struct
 import subprocess
 
 from .candump import ERROR_FLAG, IDENTIFIER_BITS, MOST_DATA, REMOTE, STANDARD, Frame
-from .endpoints import RECEIVE_BUFFER_BYTES, RETRY_SECONDS, Told
+from .endpoints import RETRY_SECONDS, Told, make_room
 
 # struct can_frame of <linux/can.h>: the identifier with its flags, the length, padding, the data
 CAN_FRAME = struct.Struct("=IB3x8s")
@@ -42,7 +42,7 @@ def opened_on(name):
         opened.setsockopt(socket.SOL_CAN_RAW, socket.CAN_RAW_RECV_OWN_MSGS, 0)
         opened.setsockopt(socket.SOL_CAN_RAW, CAN_RAW_ERR_FILTER, struct.pack("=I", ALL_ERRORS))
         opened.setsockopt(socket.SOL_SOCKET, SO_RXQ_OVFL, 1)
-        opened.setsockopt(socket.SOL_SOCKET, socket.SO_RCVBUF, RECEIVE_BUFFER_BYTES)
+        make_room(opened)
         opened.bind((name,))
         opened.setblocking(False)
     except OSError:

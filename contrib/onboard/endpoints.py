@@ -24,6 +24,8 @@ DATAGRAM_BYTES = 65536
 MOST_DATAGRAMS = 64
 MOST_WAITING_BYTES = 65536
 RECEIVE_BUFFER_BYTES = 1 << 20
+# sets a buffer beyond what the system allows others, where that is granted: an option that Python has no name for, of <asm/socket.h>
+SO_RCVBUFFORCE = 33
 
 
 def host_and_port(text):
@@ -42,11 +44,19 @@ def device(text):
     return (kind, *host_and_port(rest))
 
 
+def make_room(opened):
+    """Gives a socket room for what comes in a second or two, while a busy machine has no processor for it."""
+    try:
+        opened.setsockopt(socket.SOL_SOCKET, SO_RCVBUFFORCE, RECEIVE_BUFFER_BYTES)
+    except PermissionError:
+        opened.setsockopt(socket.SOL_SOCKET, socket.SO_RCVBUF, RECEIVE_BUFFER_BYTES)
+
+
 def udp_socket(address):
     """A socket that doesn't wait, on an address of this machine, with room for what comes in a burst."""
     opened = socket.socket(socket.AF_INET, socket.SOCK_DGRAM)
     try:
-        opened.setsockopt(socket.SOL_SOCKET, socket.SO_RCVBUF, RECEIVE_BUFFER_BYTES)
+        make_room(opened)
         opened.bind(address)
         opened.setblocking(False)
     except OSError:
