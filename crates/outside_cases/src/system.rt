@@ -239,7 +239,7 @@ struct Turns {
 
 const HOUR: u64 = 3_600_000_000;
 
-const TURNS: [Turns; 5] = [
+const TURNS: [Turns; 4] = [
     Turns {
         about: "two links that have long been silent wait in turn",
         comes: [0, 0],
@@ -258,13 +258,6 @@ const TURNS: [Turns; 5] = [
         about: "a silent bus isn't waited for while the network is busy",
         comes: [0, 1],
         turns: 250,
-        least: 0,
-        most: 500_000,
-    },
-    Turns {
-        about: "what comes to both is taken in its turn",
-        comes: [1, 1],
-        turns: 10,
         least: 0,
         most: 500_000,
     },
