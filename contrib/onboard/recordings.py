@@ -7,7 +7,7 @@ and the moments in one never go back.
 import os
 import time
 
-from .candump import write_line
+from .candump import write_datagram_line, write_line
 from .clocks import MICROSECONDS, SteadyClock
 
 FLUSH_SECONDS = 1.0
@@ -81,8 +81,15 @@ class Recording:
 
     def add(self, interface, frame, direction):
         """Writes the line of a frame, at this moment."""
+        self._add(lambda moment_us: write_line(moment_us, interface, frame, direction))
+
+    def add_datagram(self, group, datagram):
+        """Writes the line of a datagram of a transmission group, at this moment."""
+        self._add(lambda moment_us: write_datagram_line(moment_us, group, datagram))
+
+    def _add(self, line_at):
         if self.file is not None:
-            line = write_line(self.clock.now_us(), interface, frame, direction) + b"\n"
+            line = line_at(self.clock.now_us()) + b"\n"
             self.bytes += len(line)
             self._try(lambda: self.file.write(line), time.monotonic())
 
