@@ -1,0 +1,1 @@
+"""What a configuration file says: its text, its keys, and what is wrong with it."""
