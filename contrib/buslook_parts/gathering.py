@@ -3,6 +3,8 @@
 import collections
 
 MOST_CELLS = 400
+# of strips that stand in many rows
+MOST_STRIP_CELLS = 240
 # marks are wider than points
 MOST_MARKS = 60
 MOST_SPANS = 120
@@ -37,6 +39,35 @@ class Series:
         return self.begin + place * self.width
 
 
+class Counts:
+    """How often each of several things came over time, in cells that all of them share: where the time outgrows these, two become one."""
+
+    def __init__(self, begin, width_us=1000, most=MOST_STRIP_CELLS):
+        self.begin, self.width, self.most, self.cells = begin, width_us, most, {}
+        self.now, self.end = self.cells.setdefault(0, collections.Counter()), begin + width_us
+
+    def at(self, moment):
+        """The counts of the cell of a moment, which doesn't go back."""
+        if moment >= self.end:
+            while (moment - self.begin) // self.width >= self.most:
+                self._widen()
+            place = (moment - self.begin) // self.width
+            self.now, self.end = self.cells.setdefault(place, collections.Counter()), self.begin + (place + 1) * self.width
+        return self.now
+
+    def _widen(self):
+        self.width *= 2
+        before, self.cells = self.cells, {}
+        for place, counts in before.items():
+            self.cells.setdefault(place // 2, collections.Counter()).update(counts)
+
+    def series(self, key):
+        """The counts of one thing alone."""
+        found = Series(self.begin, sum_of, self.width, self.most)
+        found.cells = {place: counts[key] for place, counts in sorted(self.cells.items()) if counts[key]}
+        return found
+
+
 def sum_of(first, second):
     return first + second
 
@@ -68,8 +99,12 @@ class Tally:
     def add(self, key):
         self.counts[key if key in self.counts or len(self.counts) < MOST_KEYS else "others"] += 1
 
+    def all(self):
+        """Each key with how often it came, the most frequent first."""
+        return sorted(self.counts.items(), key=lambda pair: (-pair[1], str(pair[0])))
+
     def most(self, number):
-        return sorted(self.counts.items(), key=lambda pair: (-pair[1], str(pair[0])))[:number]
+        return self.all()[:number]
 
 
 class Span:

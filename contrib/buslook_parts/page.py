@@ -5,27 +5,23 @@ import os
 import re
 import time
 
-from .drawing import COLOURS, LEFT, NOT_READY_COLOUR, OWN_COLOUR, RIGHT, SHAPES, WIDTH, Palette, Scale, bar, clock, columns, drawing, key_of, label, mark, table, text
+from .drawing import (
+    ALARM_COLOUR, LEFT, LINE_COLOUR, NOT_READY_COLOUR, OWN_COLOUR, RIGHT, SHAPES, WIDTH, Palette, Scale, anchor, bar, clock, columns, drawing, folded, key_of, label, line_of, mark, rows_folded,
+    section, table, text, wide)
 from .gathering import MANY
 from .recording import CURVES, RATES
+from .sources import beside_each_other
+from .speakers import names_at, the_bus, who_spoke
+from .style import SCRIPT, STYLE
 
 RULES_PAGE = os.path.join(os.path.dirname(os.path.realpath(__file__)), "..", "..", "docs", "reports.md")
-MOST_ROWS = 40
-MOST_SPANS_SHOWN = 300
+SHOWN_ROWS = 40
 # the rules by which messages, and groups of lines, end before they are whole
 ENDS = (
     ("messages that ended unfinished (rules 11, 14, 16, 17, 19, 21)", (11, 14, 16, 17, 19, 21)),
     ("frames of a wrong length, which end an open message (rules 13, 18)", (13, 18)),
     ("lines and groups of lines out of order or too late (rules 40, 42)", (40, 42)),
 )
-
-
-def section(title, words, body):
-    return f"<section><h2>{title}</h2><p>{words}</p>{body}</section>"
-
-
-def folded(summary, body):
-    return f"<details><summary>{summary}</summary>{body}</details>"
 
 
 # ---- who was there
@@ -112,7 +108,7 @@ def rows_of_strip(words, strip, scale):
 def who_was_heard(recording, scale):
     palette, strips = Palette(), sorted(recording.strips.items())
     if not strips:
-        return section("Who was heard", "Nothing was said of any row.", "")
+        return section("Who was heard", "Nothing was said of any row.", beside_each_other(recording, scale))
     drawn = "".join(strip_drawn(words, strip, scale, 16 + 26 * place, palette) for place, (words, strip) in enumerate(strips))
     rows = [row for words, strip in strips for row in rows_of_strip(words, strip, scale)]
     return section(
@@ -121,7 +117,7 @@ def who_was_heard(recording, scale):
         "No bar where nothing was said for the row's timeout. A triangle stands where a worse device was taken, since the better one had fallen silent "
         "or lost its address.",
         drawing("which device was said in each row", 16 + 26 * len(strips), scale, drawn)
-        + folded("As a table", table(("Row", "Device", "NAME", "Rank", "First said", "Last said"), rows[:MOST_SPANS_SHOWN])),
+        + folded("As a table", table(("Row", "Device", "NAME", "Rank", "First said", "Last said"), rows)) + beside_each_other(recording, scale),
     )
 
 
@@ -149,24 +145,23 @@ def path_of(run, scale, height_of):
             parts.extend([(middle, height_of(point.least)), (middle, height_of(point.most))])
         if point.end > point.begin:
             parts.append((scale.x(point.end), height_of(point.last)))
-    if len(parts) == 1:
-        parts.append((parts[0][0] + 0.1, parts[0][1]))
-    return "M" + "L".join(f"{x:.1f} {y:.1f}" for x, y in parts)
+    return line_of(parts)
 
 
 def curve_drawn(recording, scale, curve):
     points = recording.curves[curve.title].in_order()
     least, most = min(point.least for point in points), max(point.most for point in points)
-    span = (most - least) or 1
 
     def height_of(value):
-        part = (value - least) / span
+        # a value that is always the same stands in the middle
+        part = 0.5 if least == most else (value - least) / (most - least)
         return 10 + 70 * (part if curve.downwards else 1 - part)
 
     runs = lines_between(points, recording.ranks.timeout_us(curve.row), curve.turns)
     path = "".join(path_of(run, scale, height_of) for run in runs)
     ends = (least, most) if curve.downwards else (most, least)
-    words = label(43, curve.title, "label strong") + label(58, curve.unit) + label(15, f"{ends[0]:g}", "small") + label(84, f"{ends[1]:g}", "small")
+    words = label(43, curve.title, "label strong") + label(58, curve.unit)
+    words += label(73, f"always {least:g}", "small") if least == most else label(15, f"{ends[0]:g}", "small") + label(84, f"{ends[1]:g}", "small")
     frame = f'<rect class="frame" x="{LEFT}" y="4" width="{RIGHT - LEFT}" height="82"/>'
     return drawing(curve.title, 90, scale, frame + words + f'<path class="curve" d="{path}"/>')
 
@@ -191,7 +186,7 @@ def track_drawn(recording, row):
     start = re.match(r"M([\d.-]+) ([\d.-]+)", parts[0])
     ring = f'<circle class="ring" cx="{start.group(1)}" cy="{start.group(2)}" r="5"/>'
     frame = f'<rect class="frame" x="{LEFT}" y="4" width="{RIGHT - LEFT}" height="266"/>'
-    return f'<svg viewBox="0 0 {WIDTH} 292" role="img" aria-label="position">{frame}{words}{foot}<path class="curve" d="{"".join(parts)}"/>{ring}</svg>'
+    return wide("position", f'<svg viewBox="0 0 {WIDTH} 292" role="img" aria-label="position">{frame}{words}{foot}<path class="curve" d="{"".join(parts)}"/>{ring}</svg>')
 
 
 def degrees(value, positive, negative):
@@ -233,7 +228,7 @@ def rules_drawn(recording, scale, known):
     for rule, _ in recording.rules.most_common():
         if rule in recording.rule_series:
             parts.append(label(y + 16, f"{rule}, {known[rule][0]}" if rule in known else f"rule {rule}"))
-            parts.append(columns(scale, recording.rule_series[rule], y + 20, 18, COLOURS[5]))
+            parts.append(columns(scale, recording.rule_series[rule], y + 20, 18, ALARM_COLOUR))
             y += 27
     return drawing("reports of each rule over time", y, scale, "".join(parts)) if parts else ""
 
@@ -267,62 +262,32 @@ def what_was_refused(recording, scale):
 def rates_drawn(recording, scale):
     parts, y = [], 6
     for what in RATES:
-        series = recording.rates.get(what)
-        if series is not None:
+        series = recording.rates.series(what)
+        if series.cells:
             most = max(series.cells.values()) * 1_000_000 / series.width
             parts.append(label(y + 22, what))
             parts.append(label(y + 36, f"at most {most:.4g} a second", "small"))
-            parts.append(columns(scale, series, y + 40, 36, COLOURS[0]))
+            parts.append(columns(scale, series, y + 40, 36, LINE_COLOUR))
             y += 50
     return drawing("frames, datagrams and reports over time", y, scale, "".join(parts)) if parts else ""
 
 
 def how_much(recording, scale):
-    names = ("lines of the recording", "frames from the bus", "datagrams from the network", "sentences from the network", "ticks", "lines that were refused", "empty lines",
-             "frames to the bus", "datagrams to the network", "sentences to the network", "messages said to the network")
+    names = ("lines of the recording", "frames from the bus", "error frames", "datagrams from the network", "sentences from the network", "ticks", "lines that were refused",
+             "empty lines", "frames to the bus", "datagrams to the network", "sentences to the network", "messages said to the network")
     counts = [(name, recording.counts[name]) for name in names]
     counts.append(("reports", sum(recording.rules.values())))
     counts += [(name, sum(recording.rules[rule] for rule in rules)) for name, rules in ENDS]
-    sentences = [(f"<code>{text(name)}</code>", count) for name, count in recording.sentences.most(MOST_ROWS)]
-    heard = [(text(sfi), text(destination), f"<code>{text(name)}</code>", count) for (sfi, destination, name), count in pairs(recording.heard_sources)]
-    frames = [(pgn, f"address {source}", count) for (pgn, source), count in pairs(recording.by_pgn)]
+    sentences = [(f"<code>{text(name)}</code>", count) for name, count in recording.sentences.all()]
+    heard = [(*map(text, key[:2]), f"<code>{text(key[2])}</code>", count) if isinstance(key, tuple) else (text(key), "", "", count) for key, count in recording.heard_sources.all()]
     body = rates_drawn(recording, scale) if scale is not None else ""
     body += table(("What", "How many"), counts, "counts")
-    body += folded("Sentences that went out", table(("Sentence", "How many"), sentences)) if sentences else ""
-    body += folded("Sentences that came from the network", table(("Source", "Destination", "Sentence", "How many"), heard)) if heard else ""
-    body += folded("Frames from the bus by their PGN", table(("PGN", "From", "How many"), frames)) if frames else ""
+    body += folded("Sentences that went out", rows_folded(("Sentence", "How many"), sentences, SHOWN_ROWS)) if sentences else ""
+    body += folded("Sentences that came from the network", rows_folded(("Source", "Destination", "Sentence", "How many"), heard, SHOWN_ROWS)) if heard else ""
     return section("How much", "Frames, datagrams and reports, by the second or longer.", body)
 
 
-def pairs(tally):
-    return [(key, count) for key, count in tally.most(MOST_ROWS) if isinstance(key, tuple)]
-
-
 # ---- all of it
-
-STYLE = """
-:root{color-scheme:light}body{font:15px/1.5 system-ui,'DejaVu Sans',sans-serif;max-width:1040px;margin:1.5em auto;padding:0 1em;color:#111;background:#fff}
-h1{font-size:1.5em;margin-bottom:.2em;overflow-wrap:anywhere}h2{font-size:1.2em;border-bottom:1px solid #bbb;margin-top:1.8em}h3{font-size:1em}
-svg{display:block;width:100%;height:auto;font:12px system-ui,'DejaVu Sans',sans-serif}text{fill:#111}.strong{font-weight:600}text.small{font-size:11px;fill:#444}
-.grid{stroke:#e4e4e4}.axis{stroke:#777}.frame{fill:none;stroke:#999}.bar{stroke:#fff;stroke-width:.5}text.inside{font-size:11px;fill:#fff}text.dark,text.on-hatch{fill:#111}
-.mark{stroke:#000;stroke-width:1.3}.curve{fill:none;stroke:#0072b2;stroke-width:1.6;stroke-linecap:round;stroke-linejoin:round}.ring{fill:none;stroke:#d55e00;stroke-width:2}
-.cursor{stroke:#d55e00;pointer-events:none}.key{margin-right:1.2em;white-space:nowrap}.key svg{display:inline;width:14px;height:14px;vertical-align:-2px}
-table{border-collapse:collapse;margin:.8em 0;font-size:.9em}td,th{border:1px solid #ccc;padding:.2em .5em;text-align:left;vertical-align:top;overflow-wrap:break-word}
-th{background:#f2f2f2;white-space:nowrap}.counts td:last-child,.devices td:last-child{text-align:right}.rules td:nth-child(4){min-width:7em}code{font-size:.9em;overflow-wrap:anywhere}.rules{font-size:.85em}.rules td:nth-child(2){min-width:6em}.lines{overflow-wrap:anywhere;padding-left:5em}
-:target{background:#fff3bf}#moment{position:fixed;top:0;right:0;background:#111;color:#fff;padding:.1em .6em}#moment:empty{display:none}
-@media print{*{print-color-adjust:exact;-webkit-print-color-adjust:exact}body{margin:0;max-width:none;font-size:11px}details,#moment,.cursor{display:none}svg,tr,h2{break-inside:avoid}h2{break-after:avoid}}
-"""
-# a line through all drawings at the moment that is pointed to
-SCRIPT = f"""
-const drawings = document.querySelectorAll('svg.time'), told = document.getElementById('moment'), seconds = Number(document.body.dataset.seconds);
-for (const drawing of drawings) drawing.addEventListener('pointermove', event => {{
-  const box = drawing.getBoundingClientRect(), x = (event.clientX - box.left) / box.width * {WIDTH}, part = (x - {LEFT}) / {RIGHT - LEFT};
-  if (part < 0 || part > 1) return;
-  for (const line of document.querySelectorAll('.cursor')) for (const end of ['x1', 'x2']) line.setAttribute(end, x);
-  told.textContent = (part * seconds).toFixed(3) + ' s';
-}});
-"""
-
 
 def summary(recording):
     if recording.begin is None:
@@ -332,14 +297,55 @@ def summary(recording):
     return f"{recording.counts['lines of the recording']} lines over {clock(round(length, 1))}, from {stamp} by the recording's own clock (UTC)."
 
 
+def glance(recording, scale):
+    """What is worth a look first, each in a line that leads to its section."""
+    lines = []
+    if recording.counts["error frames"]:
+        kinds = ", ".join(f"{text(kind)} {counted(count, 'time')}" for kind, count in recording.errors.most(3))
+        lines.append(("Who spoke", f"{counted(recording.counts['error frames'], 'error frame')}: {kinds}"))
+    if scale is not None:
+        lines += glance_at_the_bus(recording, scale)
+    if recording.rules:
+        lines.append(("What was refused", f"{counted(sum(recording.rules.values()), 'report')}, of rule {few([rule for rule, _ in recording.rules.most_common()], '')}"))
+    return "<ul>" + "".join(f'<li><a href="#{anchor(title)}">{words}</a>' for title, words in lines) + "</ul>" if lines else ""
+
+
+def glance_at_the_bus(recording, scale):
+    bus, lines = recording.bus, []
+    never = [address for address in sorted(bus.speakers) if not names_at(recording.addresses, address)]
+    if never:
+        lines.append(("Who spoke", f"{few(never)} spoke and never claimed"))
+    silences = sorted(((speaker.longest, address) for address, speaker in bus.speakers.items() if speaker.longest), key=lambda one: one[0].begin - one[0].end)
+    for silence, address in silences[:3]:
+        lines.append(("Who spoke", f"address {address} said nothing for {(silence.end - silence.begin) / 1_000_000:.1f} s from {scale.since(silence.begin)}"))
+    if len(bus.interfaces) > 1:
+        lines.append(("What was on the bus", f"frames of the interfaces {text(b', '.join(sorted(bus.interfaces)))} are taken for those of one bus: look at each alone"))
+    return lines
+
+
+def counted(number, word):
+    return f"{number} {word}{'' if number == 1 else 's'}"
+
+
+def few(numbers, word="address "):
+    """Some numbers in words; of many the first ones."""
+    shown = ", ".join(map(str, numbers[:8]))
+    return word + shown + (f" and {len(numbers) - 8} more" if len(numbers) > 8 else "")
+
+
+SECTIONS = ("Who spoke", "What was on the bus", "Who was there", "Who was heard", "What was said", "What was refused", "How much")
+
+
 def page(recording, capture, config):
     scale = None if recording.begin is None else Scale(recording.begin, recording.end)
-    parts = (who_was_there, who_was_heard, what_was_said) if scale is not None else ()
+    parts = (who_spoke, the_bus, who_was_there, who_was_heard, what_was_said) if scale is not None else (who_spoke,)
     body = "".join(part(recording, scale) for part in (*parts, what_was_refused, how_much))
     seconds = 0 if scale is None else scale.length / 1_000_000
     title = f"{text(os.path.basename(capture))}, by {text(os.path.basename(config))}"
+    links = "".join(f'<a href="#{anchor(name)}">{name}</a>' for name in SECTIONS if f'id="{anchor(name)}"' in body)
     hatch = '<svg width="0" height="0" style="position:absolute;width:0" aria-hidden="true"><pattern id="hatch" width="6" height="6" patternUnits="userSpaceOnUse" patternTransform="rotate(45)"><rect width="6" height="6" fill="#ddd"/><rect width="2" height="6" fill="#777"/></pattern></svg>'
     return (
-        f'<!DOCTYPE html>\n<html lang="en">\n<head>\n<meta charset="utf-8">\n<meta name="viewport" content="width=1040">\n<link rel="icon" href="data:,">\n<title>{title}</title>\n'
-        f'<style>{STYLE}</style>\n</head>\n<body data-seconds="{seconds}">\n{hatch}<h1>{title}</h1>\n<p>{summary(recording)}</p>\n{body}\n<output id="moment"></output>\n<script>{SCRIPT}</script>\n</body>\n</html>\n'
+        f'<!DOCTYPE html>\n<html lang="en">\n<head>\n<meta charset="utf-8">\n<meta name="viewport" content="width=device-width">\n<link rel="icon" href="data:,">\n<title>{title}</title>\n'
+        f'<style>{STYLE}</style>\n</head>\n<body data-seconds="{seconds}">\n{hatch}<h1>{title}</h1>\n<p>{summary(recording)}</p>\n{glance(recording, scale)}<nav aria-label="sections">{links}</nav>\n'
+        f'{body}\n<output id="moment"></output>\n<script>{SCRIPT}</script>\n</body>\n</html>\n'
     )

@@ -1,14 +1,19 @@
-"""What a recording holds, read off what the program wrote of each of its lines."""
+"""What a recording holds, read off its frames and what the program wrote of each of its lines."""
 
 import collections
 import re
 
-from .gathering import MOST_MARKS, Mark, Point, Series, Spans, Strip, Tally, first_of, sum_of
-from .program import FRAME, ITEM, REPORT
+from configuration.keys import is_matched
+from onboard.candump import NoFrame, read_line
+from onboard.error_frames import kinds_of
+from onboard.fast_packets import is_fast
+from onboard.identifiers import ADDRESS_CLAIM, ALL, NULL_ADDRESS, name_of, name_text, parts_of
 
-CLAIM_PGN = 60928
-# the address of those that can claim none
-NOWHERE = 254
+from .bus import Bus
+from .gathering import MOST_MARKS, Counts, Mark, Point, Series, Spans, Strip, Tally, first_of, sum_of
+from .program import ITEM, SHOWN_FRAME, Frame
+from .quantities import COMPARED_PGNS, Compared
+
 READY_AFTER_US = 250_000
 MOST_EVENTS = 200
 LINES_OF_A_RULE = 5
@@ -49,13 +54,17 @@ CURVES = [
     Curve("wind angle, true", "degrees", "wind_true", "MWV", 1, True, False),
     Curve("wind direction", "degrees", "wind_north", "MWD", 1, True, False),
 ]
+CURVES_OF = collections.defaultdict(list)
+for one in CURVES:
+    CURVES_OF[one.formatter].append(one)
+MOST_RATES = 400
 RATES = ("frames from the bus", "frames to the bus", "datagrams from the network", "datagrams to the network", "reports")
 TIMEOUT_MS = 5000
-# the fields of a NAME (ISO 11783-5): the word of the configuration, the first bit and the width
-NAME_FIELDS = {
-    "unique": (0, 21), "manufacturer": (21, 11), "instance_lower": (32, 3), "instance_upper": (35, 5), "function": (40, 8), "reserved": (48, 1),
-    "class": (49, 7), "system_instance": (56, 4), "industry": (60, 3), "arbitrary": (63, 1),
-}
+# a message of several frames begins with a frame 0 (fast packet), or with an RTS or BAM of the transport protocol (ISO 11783-3)
+CONNECTION_MANAGEMENT, BEGINNINGS, EXPIRED = 60416, (16, 32), 16
+MOST_BEGINNINGS = 1024
+# a line of a datagram that the gateway sends: its TAG block and its sentence
+SENT_LINE = re.compile(rb"\\[^\\]*\\([$!][^\r\n]*)\r\n")
 
 
 Device = collections.namedtuple("Device", "label name rank rank_text")
@@ -110,7 +119,7 @@ class Addresses:
         left = self.places.get(name)
         if left is not None and left != address:
             self.leave(moment, left, name, "left")
-        if address == NOWHERE:
+        if address == NULL_ADDRESS:
             return None
         holder = self.own_name if address == self.own else self.holders.get(address)
         if holder is None:
@@ -128,7 +137,7 @@ class Addresses:
             self.spans[self.own].change(moment, None)
         self.own, self.ready_at = address, None
         self.ready.change(moment, None)
-        if address == NOWHERE:
+        if address == NULL_ADDRESS:
             return self.tell(moment, address, "can't claim", self.own_name)
         self.spans[address].change(moment, self.own_name)
         self.ready_at = moment + READY_AFTER_US
@@ -152,7 +161,7 @@ class Ranks:
     def of_device(self, row, address, name):
         """Ranks are compared by the place of the first pattern that matches, then by NAME."""
         patterns = self.rows.get(row, {}).get("sources", [])
-        shown, number = ("", 0) if name is None else (f"{name:016X}", name)
+        shown, number = ("", 0) if name is None else (name_text(name), name)
         for place, pattern in enumerate(patterns, 1):
             if name is not None and is_matched(pattern, name):
                 return Device(f"address {address}", shown, (place, number), f"rank {place}")
@@ -164,13 +173,6 @@ class Ranks:
         (source,) = sources
         place = self.network.index(source) + 1 if source in self.network else 0
         return Device(source, "", (place, 0), f"rank {place}" if place else "")
-
-
-def is_matched(pattern, name):
-    if re.fullmatch("[0-9A-Fa-f]{16}", pattern):
-        return int(pattern, 16) == name
-    fields = (part.split("=") for part in pattern.split(" "))
-    return all(int(value) == name >> NAME_FIELDS[field][0] & (1 << NAME_FIELDS[field][1]) - 1 for field, value in fields)
 
 
 def row_of(fields):
@@ -194,62 +196,111 @@ class Recording:
     def __init__(self, config):
         self.addresses, self.ranks = Addresses(config), Ranks(config)
         self.begin = self.end = None
+        self.bus = self.compared = self.rates = None
         self.counts, self.rules = collections.Counter(), collections.Counter()
-        self.sentences, self.heard_sources, self.by_pgn, self.devices = Tally(), Tally(), Tally(), Tally()
+        self.sentences, self.heard_sources, self.devices, self.errors = Tally(), Tally(), Tally(), Tally()
         self.rule_series, self.rule_lines, self.rule_devices = {}, collections.defaultdict(list), collections.defaultdict(Tally)
-        self.excerpt, self.rates = {}, {}
+        self.excerpt, self.beginnings = {}, collections.OrderedDict()
         self.curves, self.is_apart, self.tracks, self.strips = {}, set(), {}, {}
 
-    # what `show` says of a line of the recording
-
-    def seen(self, line, items, emits, moment):
+    def take(self, number, line, moment, frame, items, emits):
+        """A line by its number, the moment that is reached with it, its frame or what `show` says of it, and what `replay` gives."""
         self.counts["lines of the recording"] += 1
-        if not items and line in (b"", b"\r"):
+        if frame is not None or (items and not items[0].startswith(b"rule ")):
+            self.reach(moment)
+        elif items:
+            self.counts["lines that were refused"] += 1
+            self.error(line)
+        elif line in (b"", b"\r"):
             self.counts["empty lines"] += 1
             return
-        if items and items[0].startswith(b"rule "):
-            self.counts["lines that were refused"] += 1
-            return
+        is_passed_over = any(match.group(3) == b"3" for match in emits)
+        parts = None if frame is None else parts_of(frame.identifier)
+        if frame is not None:
+            self.frame(parts, frame, is_passed_over)
+        elif items == [b"tick"]:
+            self.counts["ticks"] += 1
+        elif items and not items[0].startswith(b"rule "):
+            self.datagram(items)
+        rows_said = self.emitted(number, line, items, parts, emits)
+        if frame is not None and not is_passed_over:
+            if parts.pgn in COMPARED_PGNS:
+                self.compared.frame(moment, frame, parts.pgn, parts.source, rows_said)
+            self.begins(number, line, parts, frame.data)
+
+    def reach(self, moment):
         if self.begin is None:
-            self.begin = self.end = moment
+            self.begin = moment
+            self.bus, self.compared, self.rates = Bus(moment), Compared(moment, self.ranks), Counts(moment, 1_000_000, MOST_RATES)
             self.addresses.start(moment)
         self.end = moment
         self.addresses.reach(moment)
-        frame = FRAME.fullmatch(items[0]) if items else None
-        if frame is not None:
-            self.frame(int(frame.group(1)), int(frame.group(2)), int(frame.group(3)), line, emits)
-        elif items == [b"tick"]:
-            self.counts["ticks"] += 1
-        else:
-            self.datagram(items)
 
-    def frame(self, pgn, source, length, line, emits):
-        self.count("frames from the bus", self.end)
-        self.by_pgn.add((pgn, source))
-        if pgn == CLAIM_PGN and length == 8 and source != 255 and not is_passed_over(emits):
-            data = line.split(b" ", 3)[2].partition(b"#")[2].rstrip(b"\r")
-            self.addresses.claim(self.end, source, int.from_bytes(bytes.fromhex(data.decode()), "little"))
+    # what the line is
+
+    def frame(self, parts, frame, is_passed_over):
+        self.count("frames from the bus")
+        source = parts.source
+        if parts.pgn == ADDRESS_CLAIM and len(frame.data) == 16 and source != ALL and not is_passed_over:
+            self.addresses.claim(self.end, source, name_of(bytes.fromhex(frame.data.decode())))
+        is_claimed = source in self.addresses.holders or source in (self.addresses.own, NULL_ADDRESS)
+        self.bus.frame(self.end, frame, parts.pgn, source, is_claimed)
+
+    def error(self, line):
+        """A line that is refused may be an error frame, which tells what is wrong with the cable."""
+        try:
+            read = read_line(line)
+        except NoFrame:
+            return
+        if read.frame.is_error:
+            self.counts["error frames"] += 1
+            for kind in kinds_of(read.frame):
+                self.errors.add(kind)
+            if self.bus is not None:
+                self.bus.error(self.end)
 
     def datagram(self, items):
-        self.count("datagrams from the network", self.end)
+        self.count("datagrams from the network")
         for item in map(ITEM.fullmatch, items):
             if item is not None:
                 self.counts["sentences from the network"] += 1
                 self.heard_sources.add((item.group(2).decode(), item.group(3), item.group(4).split(b",")[0]))
 
-    def count(self, what, moment):
+    def begins(self, number, line, parts, data):
+        """Keeps where a message of several frames began, for the rule that tells that its end never came."""
+        key = None
+        if parts.pgn == CONNECTION_MANAGEMENT and len(data) == 16 and int(data[:2], 16) in BEGINNINGS:
+            key = parts.source, int.from_bytes(bytes.fromhex(data[10:].decode()), "little")
+        elif data and is_fast(parts.pgn) and int(data[:2], 16) & 0x1F == 0:
+            key = parts.source, parts.pgn
+        if key is not None:
+            self.beginnings[key] = number, excerpt_of(line)
+            self.beginnings.move_to_end(key)
+            if len(self.beginnings) > MOST_BEGINNINGS:
+                self.beginnings.popitem(last=False)
+
+    def count(self, what):
         self.counts[what] += 1
         if self.begin is not None:
-            if what not in self.rates:
-                self.rates[what] = Series(self.begin, sum_of, 1_000_000)
-            self.rates[what].add(moment, 1)
+            self.rates.at(self.end)[what] += 1
 
-    # what `replay` gave at a line
+    # what `replay` gave at it
 
-    def reported(self, number, line, items, report):
-        rule, detail = int(report.group(3)), (report.group(4) or b"").decode()
+    def emitted(self, number, line, items, parts, emits):
+        """The rows that were said of what was written at a line."""
+        rows_said = set()
+        for match in emits:
+            if match.group(3) is not None:
+                self.reported(number, line, items, int(match.group(3)), (match.group(4) or b"").decode())
+            elif match.group(5) is not None:
+                self.sent_to_bus(parts_of(int(match.group(5), 16)), items)
+            else:
+                self.sent_to_network(bytes.fromhex(match.group(8).decode()), parts, rows_said)
+        return rows_said
+
+    def reported(self, number, line, items, rule, detail):
         self.rules[rule] += 1
-        self.count("reports", self.end)
+        self.count("reports")
         device = device_of(detail, items)
         self.rule_devices[rule].add(device)
         self.devices.add(device)
@@ -257,36 +308,40 @@ class Recording:
             if rule not in self.rule_series:
                 self.rule_series[rule] = Series(self.begin, sum_of)
             self.rule_series[rule].add(self.end, 1)
-        lines = self.rule_lines[rule]
-        if len(lines) < LINES_OF_A_RULE and number not in lines:
-            lines.append(number)
-            self.excerpt[number] = line[:160] + (b" ..." if len(line) > 160 else b"")
+        if len(self.rule_lines[rule]) < LINES_OF_A_RULE:
+            self.quoted(rule, *self.told_at(number, line, rule, detail))
 
-    def sent(self, items, cause):
-        """A line that went out, by what `show` says of it, and of what had come in."""
-        frame = FRAME.fullmatch(items[0]) if items else None
-        if frame is not None:
-            self.count("frames to the bus", self.end)
-            self.sent_to_bus(int(frame.group(1)), int(frame.group(2)), cause)
-            return
-        self.count("datagrams to the network", self.end)
-        source = FRAME.fullmatch(cause[0]) if cause else None
-        sentences = [item.group(4).decode() for item in map(ITEM.fullmatch, items) if item is not None]
+    def told_at(self, number, line, rule, detail):
+        """The line that a report leads to: the one at which it came, or the one at which a message began whose end never came."""
+        words = dict(word.split("=", 1) for word in detail.split(" ") if "=" in word)
+        began = self.beginnings.get((int(words["src"]), int(words["pgn"]))) if rule == EXPIRED and "src" in words else None
+        return began or (number, excerpt_of(line))
+
+    def quoted(self, rule, number, shown):
+        if number not in self.rule_lines[rule]:
+            self.rule_lines[rule].append(number)
+            self.excerpt[number] = shown
+
+    def sent_to_bus(self, parts, items):
+        self.count("frames to the bus")
+        if parts.pgn == ADDRESS_CLAIM:
+            if parts.source != self.addresses.own:
+                self.addresses.move(self.end, parts.source)
+        elif parts.pgn in TO_BUS:
+            sources = {item.group(2).decode() for item in map(ITEM.fullmatch, items) if item is not None}
+            words, rows = TO_BUS[parts.pgn]
+            if sources:
+                self.strip(f"{words}, to the bus", max(map(self.ranks.timeout_us, rows))).say(self.end, self.ranks.of_network(sources))
+
+    def sent_to_network(self, datagram, parts, rows_said):
+        """A datagram, by the frame that it comes of; the rows that it says are added to those that are."""
+        self.count("datagrams to the network")
+        sentences = [sentence.decode() for sentence in SENT_LINE.findall(datagram)]
         self.counts["messages said to the network"] += any(sentence[3:6] in FORMATTERS for sentence in sentences)
         for sentence in sentences:
             self.counts["sentences to the network"] += 1
             self.sentences.add(sentence.split(",")[0])
-            self.said(sentence.split("*")[0].split(","), None if source is None else int(source.group(2)))
-
-    def sent_to_bus(self, pgn, source, cause):
-        if pgn == CLAIM_PGN:
-            if source != self.addresses.own:
-                self.addresses.move(self.end, source)
-        elif pgn in TO_BUS:
-            sources = {item.group(2).decode() for item in map(ITEM.fullmatch, cause) if item is not None}
-            words, rows = TO_BUS[pgn]
-            if sources:
-                self.strip(f"{words}, to the bus", max(map(self.ranks.timeout_us, rows))).say(self.end, self.ranks.of_network(sources))
+            rows_said.add(self.said(sentence.split("*")[0].split(","), None if parts is None else parts.source))
 
     def strip(self, label, timeout_us):
         if label not in self.strips:
@@ -294,18 +349,20 @@ class Recording:
         return self.strips[label]
 
     def said(self, fields, source):
-        row = row_of(fields)
-        if source is not None and fields[0][3:] == "VDM":
+        """A sentence that went out, and the row that it says."""
+        formatter, row = fields[0][3:], row_of(fields)
+        if source is not None and formatter == "VDM":
             self.strip("ships around", TIMEOUT_MS * 1000).say(self.end, Device(f"address {source}", "", None, ""))
         if source is not None and row is not None:
             device = self.ranks.of_device(row, source, self.addresses.holders.get(source))
             self.strip(ROWS[row], self.ranks.timeout_us(row)).say(self.end, device)
-        for curve in CURVES:
+        for curve in CURVES_OF.get(formatter, ()):
             # a rudder's sentence without a value doesn't tell which rudder it is of, so it parts both
-            if curve.formatter == fields[0][3:] and (curve.row == row or row is None):
+            if curve.row == row or row is None:
                 self.valued(curve, fields[curve.field])
         if row in ("position", "gnss"):
             self.placed(row, fields[1:5] if row == "position" else fields[2:6])
+        return row
 
     def valued(self, curve, text):
         if not text:
@@ -327,11 +384,23 @@ class Recording:
         self.tracks[row].add(self.end, (self.end, place, row in self.is_apart))
         self.is_apart.discard(row)
 
+    def close(self):
+        """The end of the recording."""
+        if self.bus is not None:
+            self.bus.end(self.end)
 
-def is_passed_over(emits):
-    """Whether an event came too early and has no effect (rule 3)."""
-    reports = map(REPORT.fullmatch, emits)
-    return any(report is not None and report.group(3) == b"3" for report in reports)
+
+def frame_of(line, items):
+    """The frame of a line that `show` says is one, however it is written."""
+    if not items or SHOWN_FRAME.fullmatch(items[0]) is None:
+        return None
+    _, interface, rest = line.split(b" ", 2)
+    identifier, data = rest.split(b" ")[0].rstrip(b"\r").split(b"#")
+    return Frame(interface, int(identifier, 16), data)
+
+
+def excerpt_of(line):
+    return line[:160] + (b" ..." if len(line) > 160 else b"")
 
 
 def device_of(detail, items):
@@ -347,5 +416,3 @@ def device_of(detail, items):
                 return item.group(2).decode()
         return "the network"
     return "the recording"
-
-
