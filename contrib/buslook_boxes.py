@@ -9,7 +9,7 @@ import subprocess
 import tempfile
 
 BROWSERS = ("chromium", "chromium-browser", "google-chrome")
-LIMIT_SECONDS = 90
+LIMIT_SECONDS = 180
 # of the settings of the browser: which one of its colour schemes a page is told
 SCHEMES = {"dark": 0, "light": 1}
 # texts of drawings are at least so high on the screen, and a contrast is at least that of WCAG AA
@@ -17,7 +17,11 @@ LEAST_HEIGHT, LEAST_CONTRAST = 9, 4.5
 
 SCRIPT = """
 const wrong = [], seen = new Set();
-function tell(what, element) { const key = what + element.textContent.slice(0, 40); if (!seen.has(key) && wrong.length < 40) wrong.push(what + ': ' + element.textContent.slice(0, 60)); seen.add(key); }
+function tell(what, element) {
+  const words = what + ': ' + element.textContent.slice(0, 60);
+  if (!seen.has(words) && wrong.length < 40) wrong.push(words);
+  seen.add(words);
+}
 function channels(colour) { const found = colour.match(/[\\d.]+/g).map(Number); return found.length > 3 && found[3] === 0 ? null : found; }
 function luminance(colour) {
   const [r, g, b] = colour.slice(0, 3).map(c => { c /= 255; return c <= .04045 ? c / 12.92 : ((c + .055) / 1.055) ** 2.4; });
@@ -46,7 +50,8 @@ for (const svg of document.querySelectorAll('svg')) {
   }
   for (let i = 0; i < texts.length; i++) for (let j = i + 1; j < texts.length; j++) {
     const [a, b] = [texts[i][1], texts[j][1]];
-    if (Math.min(a.right, b.right) - Math.max(a.left, b.left) > 1 && Math.min(a.bottom, b.bottom) - Math.max(a.top, b.top) > 3) tell('overlaps ' + texts[j][0].textContent.slice(0, 30), texts[i][0]);
+    const across = Math.min(a.right, b.right) - Math.max(a.left, b.left), down = Math.min(a.bottom, b.bottom) - Math.max(a.top, b.top);
+    if (across > 1 && down > 3) tell('overlaps ' + texts[j][0].textContent.slice(0, 30), texts[i][0]);
   }
 }
 for (const element of document.querySelectorAll('h1,h2,h3,p,li,td,th,a,summary,code,b,span')) {
@@ -59,7 +64,8 @@ for (const folded of document.querySelectorAll('details')) folded.open = false;
 dispatchEvent(new Event('beforeprint'));
 for (const folded of document.querySelectorAll('details')) if (!folded.open) tell('is not printed', folded);
 for (const one of document.querySelectorAll('svg[role=img]')) if (!one.getAttribute('aria-label')) tell('has no label', one);
-parent.postMessage(JSON.stringify({wrong, width: innerWidth, dark: matchMedia('(prefers-color-scheme: dark)').matches, texts: document.querySelectorAll('svg text').length}), '*');
+const dark = matchMedia('(prefers-color-scheme: dark)').matches, texts = document.querySelectorAll('svg text').length;
+parent.postMessage(JSON.stringify({wrong, width: innerWidth, dark, texts}), '*');
 """
 # a window is never narrower than 500 pixels, and a frame in it may be
 FRAME = """<!DOCTYPE html><meta name="color-scheme" content="light dark"><script>
@@ -93,7 +99,8 @@ def looked_at(content, width, scheme):
         frame = os.path.join(folder, "frame.html")
         with open(frame, "w", encoding="ascii") as file:
             file.write(FRAME.replace("WIDTH", str(width)))
-        shown = run(folder, [f"--window-size={width + 100},1300", f"--blink-settings=preferredColorScheme={SCHEMES[scheme]}", "--virtual-time-budget=5000", "--dump-dom"], frame).decode()
+        words = [f"--window-size={width + 100},1300", f"--blink-settings=preferredColorScheme={SCHEMES[scheme]}", "--virtual-time-budget=5000", "--dump-dom"]
+        shown = run(folder, words, frame).decode()
     found = re.search(r'<script type="application/json" id="boxes">(.*?)</script>', shown, re.DOTALL)
     return None if found is None else json.loads(found.group(1))
 

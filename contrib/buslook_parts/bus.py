@@ -26,6 +26,9 @@ class Silence(collections.namedtuple("Silence", "begin end times")):
     def joined(self, other):
         return Silence(self.begin, other.end, self.times + other.times)
 
+    def seconds(self):
+        return (self.end - self.begin) / SECOND_US
+
 
 class Speaker:
     """What came from one address."""
@@ -42,7 +45,7 @@ class Speaker:
     def fell_silent(self, until):
         """From the last frame on nothing came until this moment."""
         silence = Silence(self.last, until, 1)
-        if self.longest is None or until - self.last > self.longest.end - self.longest.begin:
+        if self.longest is None or silence.seconds() > self.longest.seconds():
             self.longest = silence
         self.silences.add(self.last, silence)
 

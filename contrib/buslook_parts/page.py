@@ -6,8 +6,8 @@ import re
 import time
 
 from .drawing import (
-    ALARM_COLOUR, LEFT, LINE_COLOUR, NOT_READY_COLOUR, OWN_COLOUR, RIGHT, SHAPES, WIDTH, Palette, Scale, anchor, bar, clock, columns, drawing, folded, key_of, label, line_of, mark, rows_folded,
-    section, table, text, wide)
+    ALARM_COLOUR, LEFT, LINE_COLOUR, NOT_READY_COLOUR, OWN_COLOUR, RIGHT, SHAPES, WIDTH, Palette, Scale, anchor, bar, clock, columns, drawing, folded, key_of,
+    label, line_of, mark, rows_folded, section, table, text, wide)
 from .gathering import MANY
 from .recording import CURVES, RATES
 from .sources import beside_each_other
@@ -186,7 +186,8 @@ def track_drawn(recording, row):
     start = re.match(r"M([\d.-]+) ([\d.-]+)", parts[0])
     ring = f'<circle class="ring" cx="{start.group(1)}" cy="{start.group(2)}" r="5"/>'
     frame = f'<rect class="frame" x="{LEFT}" y="4" width="{RIGHT - LEFT}" height="266"/>'
-    return wide("position", f'<svg viewBox="0 0 {WIDTH} 292" role="img" aria-label="position">{frame}{words}{foot}<path class="curve" d="{"".join(parts)}"/>{ring}</svg>')
+    body = f'{frame}{words}{foot}<path class="curve" d="{"".join(parts)}"/>{ring}'
+    return wide("position", f'<svg viewBox="0 0 {WIDTH} 292" role="img" aria-label="position">{body}</svg>')
 
 
 def degrees(value, positive, negative):
@@ -199,7 +200,8 @@ def what_was_said(recording, scale):
     drawn += [track_drawn(recording, row) for row in ("position", "gnss") if row in recording.tracks][:1]
     if not drawn:
         return section("What was said", "No sentence with a value that can be drawn went out.", "")
-    return section("What was said", "Values of the sentences that went out. Where none was said for the row's timeout, or one without a value, the line is broken.", "".join(drawn))
+    words = "Values of the sentences that went out. Where none was said for the row's timeout, or one without a value, the line is broken."
+    return section("What was said", words, "".join(drawn))
 
 
 # ---- what was refused
@@ -272,14 +274,19 @@ def rates_drawn(recording, scale):
     return drawing("frames, datagrams and reports over time", y, scale, "".join(parts)) if parts else ""
 
 
+def heard_row(key, count):
+    """A source, a destination and a sentence, or all others together."""
+    return (*map(text, key[:2]), f"<code>{text(key[2])}</code>", count) if isinstance(key, tuple) else (text(key), "", "", count)
+
+
 def how_much(recording, scale):
-    names = ("lines of the recording", "frames from the bus", "error frames", "datagrams from the network", "sentences from the network", "ticks", "lines that were refused",
-             "empty lines", "frames to the bus", "datagrams to the network", "sentences to the network", "messages said to the network")
+    names = ("lines of the recording", "frames from the bus", "error frames", "datagrams from the network", "sentences from the network", "ticks",
+             "lines that were refused", "empty lines", "frames to the bus", "datagrams to the network", "sentences to the network", "messages said to the network")
     counts = [(name, recording.counts[name]) for name in names]
     counts.append(("reports", sum(recording.rules.values())))
     counts += [(name, sum(recording.rules[rule] for rule in rules)) for name, rules in ENDS]
     sentences = [(f"<code>{text(name)}</code>", count) for name, count in recording.sentences.all()]
-    heard = [(*map(text, key[:2]), f"<code>{text(key[2])}</code>", count) if isinstance(key, tuple) else (text(key), "", "", count) for key, count in recording.heard_sources.all()]
+    heard = [heard_row(key, count) for key, count in recording.heard_sources.all()]
     body = rates_drawn(recording, scale) if scale is not None else ""
     body += table(("What", "How many"), counts, "counts")
     body += folded("Sentences that went out", rows_folded(("Sentence", "How many"), sentences, SHOWN_ROWS)) if sentences else ""
@@ -306,7 +313,8 @@ def glance(recording, scale):
     if scale is not None:
         lines += glance_at_the_bus(recording, scale)
     if recording.rules:
-        lines.append(("What was refused", f"{counted(sum(recording.rules.values()), 'report')}, of rule {few([rule for rule, _ in recording.rules.most_common()], '')}"))
+        rules = few([rule for rule, _ in recording.rules.most_common()], "")
+        lines.append(("What was refused", f"{counted(sum(recording.rules.values()), 'report')}, of rule {rules}"))
     return "<ul>" + "".join(f'<li><a href="#{anchor(title)}">{words}</a>' for title, words in lines) + "</ul>" if lines else ""
 
 
@@ -315,11 +323,12 @@ def glance_at_the_bus(recording, scale):
     never = [address for address in sorted(bus.speakers) if not names_at(recording.addresses, address)]
     if never:
         lines.append(("Who spoke", f"{few(never)} spoke and never claimed"))
-    silences = sorted(((speaker.longest, address) for address, speaker in bus.speakers.items() if speaker.longest), key=lambda one: one[0].begin - one[0].end)
+    silences = sorted(((speaker.longest, address) for address, speaker in bus.speakers.items() if speaker.longest), key=lambda one: -one[0].seconds())
     for silence, address in silences[:3]:
-        lines.append(("Who spoke", f"address {address} said nothing for {(silence.end - silence.begin) / 1_000_000:.1f} s from {scale.since(silence.begin)}"))
+        lines.append(("Who spoke", f"address {address} said nothing for {silence.seconds():.1f} s from {scale.since(silence.begin)}"))
     if len(bus.interfaces) > 1:
-        lines.append(("What was on the bus", f"frames of the interfaces {text(b', '.join(sorted(bus.interfaces)))} are taken for those of one bus: look at each alone"))
+        names = text(b", ".join(sorted(bus.interfaces)))
+        lines.append(("What was on the bus", f"frames of the interfaces {names} are taken for those of one bus: look at each alone"))
     return lines
 
 
@@ -333,6 +342,11 @@ def few(numbers, word="address "):
     return word + shown + (f" and {len(numbers) - 8} more" if len(numbers) > 8 else "")
 
 
+# what fills bars of changes that are too quick to draw
+HATCH = (
+    '<svg width="0" height="0" style="position:absolute;width:0" aria-hidden="true"><pattern id="hatch" width="6" height="6" patternUnits="userSpaceOnUse" '
+    'patternTransform="rotate(45)"><rect width="6" height="6" fill="#ddd"/><rect width="2" height="6" fill="#777"/></pattern></svg>'
+)
 SECTIONS = ("Who spoke", "What was on the bus", "Who was there", "Who was heard", "What was said", "What was refused", "How much")
 
 
@@ -343,9 +357,9 @@ def page(recording, capture, config):
     seconds = 0 if scale is None else scale.length / 1_000_000
     title = f"{text(os.path.basename(capture))}, by {text(os.path.basename(config))}"
     links = "".join(f'<a href="#{anchor(name)}">{name}</a>' for name in SECTIONS if f'id="{anchor(name)}"' in body)
-    hatch = '<svg width="0" height="0" style="position:absolute;width:0" aria-hidden="true"><pattern id="hatch" width="6" height="6" patternUnits="userSpaceOnUse" patternTransform="rotate(45)"><rect width="6" height="6" fill="#ddd"/><rect width="2" height="6" fill="#777"/></pattern></svg>'
     return (
-        f'<!DOCTYPE html>\n<html lang="en">\n<head>\n<meta charset="utf-8">\n<meta name="viewport" content="width=device-width">\n<link rel="icon" href="data:,">\n<title>{title}</title>\n'
-        f'<style>{STYLE}</style>\n</head>\n<body data-seconds="{seconds}">\n{hatch}<h1>{title}</h1>\n<p>{summary(recording)}</p>\n{glance(recording, scale)}<nav aria-label="sections">{links}</nav>\n'
+        '<!DOCTYPE html>\n<html lang="en">\n<head>\n<meta charset="utf-8">\n<meta name="viewport" content="width=device-width">\n'
+        f'<link rel="icon" href="data:,">\n<title>{title}</title>\n<style>{STYLE}</style>\n</head>\n<body data-seconds="{seconds}">\n'
+        f'{HATCH}<h1>{title}</h1>\n<p>{summary(recording)}</p>\n{glance(recording, scale)}<nav aria-label="sections">{links}</nav>\n'
         f'{body}\n<output id="moment"></output>\n<script>{SCRIPT}</script>\n</body>\n</html>\n'
     )

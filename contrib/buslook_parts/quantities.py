@@ -1,6 +1,5 @@
 """What each source says of a quantity, whether it was taken or not, and how far it lay from the one that was."""
 
-import collections
 import math
 from typing import NamedTuple
 
@@ -33,7 +32,8 @@ class Quantity(NamedTuple):
 OF_HEADING = {0: (Quantity("heading, true", "degrees", "heading_true", "heading", DEGREES, turns=True),),
               1: (Quantity("heading, magnetic", "degrees", "heading_magnetic", "heading", DEGREES, turns=True),)}
 FIRST_RUDDER = (Quantity("rudder, first", "degrees", "rudder_first", "position", DEGREES),)
-COURSE = (Quantity("speed over ground", "knots", "course_speed", "speed", KNOTS), Quantity("course over ground", "degrees", "course_speed", "course", DEGREES, turns=True))
+COURSE = (Quantity("speed over ground", "knots", "course_speed", "speed", KNOTS),
+          Quantity("course over ground", "degrees", "course_speed", "course", DEGREES, turns=True))
 SEA = "water temperature", "degrees Celsius", "water_temperature", "temperature"
 
 
@@ -41,6 +41,7 @@ def wind(words, row):
     return Quantity(f"wind speed, {words}", "knots", row, "speed", KNOTS), Quantity(f"wind angle, {words}", "degrees", row, "angle", DEGREES, turns=True)
 
 
+NORTH_WIND, TRUE_WIND = wind("by north", "wind_north"), wind("true", "wind_true")
 QUANTITIES = {
     127250: OF_HEADING,
     127245: {0: FIRST_RUDDER, 255: FIRST_RUDDER, 1: (Quantity("rudder, second", "degrees", "rudder_second", "position", DEGREES),)},
@@ -50,7 +51,7 @@ QUANTITIES = {
     128275: {None: (Quantity("distance log", "nautical miles", "distance_log", "log", MILES),)},
     129026: {0: COURSE, 1: COURSE},
     129283: {None: (Quantity("cross track error", "nautical miles", "cross_track", "distance", 0.01 * MILES),)},
-    130306: {0: wind("by north", "wind_north"), 1: wind("by north", "wind_north"), 2: wind("apparent", "wind_apparent"), 3: wind("true", "wind_true"), 4: wind("true", "wind_true")},
+    130306: {0: NORTH_WIND, 1: NORTH_WIND, 2: wind("apparent", "wind_apparent"), 3: TRUE_WIND, 4: TRUE_WIND},
     130312: {0: (Quantity(*SEA, 0.01, 273.15),)},
     130316: {0: (Quantity(*SEA, 0.001, 273.15),)},
 }

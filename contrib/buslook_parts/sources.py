@@ -29,13 +29,18 @@ def source_drawn(points, palette, address, scale, height_of, turns_at):
     return f'<path class="curve" style="stroke:{palette.colour(address)}" d="{path}"><title>address {address}</title></path>'
 
 
+def is_drawn(beside):
+    return beside.points is not None and bool(beside.points.cells)
+
+
 def quantity_drawn(words, unit, sources, scale, palette):
     """What each source said of a quantity: in the column at the left its greatest and least value, and the colour of each source."""
-    drawn = {address: beside.points.in_order() for address, beside in sorted(sources.items()) if beside.points is not None and beside.points.cells}
+    drawn = {address: beside.points.in_order() for address, beside in sorted(sources.items()) if is_drawn(beside)}
     values = [value for points in drawn.values() for point in points for value in (point.first, point.last)]
     height_of = height_in(min(values), max(values))
     parts = [f'<rect class="frame" x="{LEFT}" y="{FRAME_TOP}" width="{RIGHT - LEFT}" height="{FRAME_BOTTOM - FRAME_TOP}"/>']
-    parts += [label(14, f"{max(values):.6g}", "small"), label(30, words, "label strong"), label(44, unit, "small"), label(FRAME_BOTTOM, f"{min(values):.6g}", "small")]
+    parts += [label(14, f"{max(values):.6g}", "small"), label(30, words, "label strong"), label(44, unit, "small")]
+    parts.append(label(FRAME_BOTTOM, f"{min(values):.6g}", "small"))
     for place, (address, points) in enumerate(drawn.items()):
         y = 59 + 14 * place
         parts.append(f'<line class="curve" style="stroke:{palette.colour(address)}" x1="72" x2="92" y1="{y - 4}" y2="{y - 4}"/>' + label(y, f"address {address}"))
@@ -56,10 +61,11 @@ def beside_each_other(recording, scale):
     several, palette = recording.compared.of_several(), Palette()
     if not several:
         return ""
-    drawn = [quantity_drawn(words, unit, sources, scale, palette) for words, unit, sources in several if any(beside.points is not None and beside.points.cells for beside in sources.values())]
+    drawn = [quantity_drawn(words, unit, sources, scale, palette) for words, unit, sources in several if any(map(is_drawn, sources.values()))]
     rows = [source_row(recording, words, unit, address, beside, scale) for words, unit, sources in several for address, beside in sorted(sources.items())]
     heads = ("Quantity", "Source", "Maker", "Messages", "Of these", "Mean distance from the one said", "Greatest distance")
     return (
-        "<h3>Several sources of one quantity</h3><p>What each of them said, at most four drawn, and how far those that weren't taken lay from the value that was said last.</p>"
+        "<h3>Several sources of one quantity</h3><p>What each of them said, at most four drawn, and how far those that weren't taken lay from the value "
+        "that was said last.</p>"
         + "".join(drawn[:MOST_DRAWN]) + rows_folded(heads, rows, SHOWN_ROWS, "sources")
     )

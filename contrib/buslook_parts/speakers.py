@@ -38,12 +38,14 @@ def speaker_drawn(recording, address, y, scale):
     words, kind = who(recording, address)
     both = [(strips.series((address, is_claimed)), colour) for is_claimed, colour in ((True, LINE_COLOUR), (False, ALARM_COLOUR))]
     most = max(max(series.cells.values(), default=0) for series, _ in both)
-    parts = [label(y + 13, cut(words, MOST_WORDS), "label strong"), label(y + 27, cut(kind, MOST_SMALL_WORDS), "small" if names_at(recording.addresses, address) else "small alarm")]
+    colour_of_kind = "small" if names_at(recording.addresses, address) else "small alarm"
+    parts = [label(y + 13, cut(words, MOST_WORDS), "label strong"), label(y + 27, cut(kind, MOST_SMALL_WORDS), colour_of_kind)]
     parts += [strip(scale, series, y + 26, TALL, most, colour) for series, colour in both if series.cells]
     for silence in speaker.silences.in_order():
         left, right = scale.x(silence.begin), scale.x(silence.end)
-        title = f"address {address} silent from {scale.since(silence.begin)} to {scale.since(silence.end)}" + (f", {silence.times} times" if silence.times > 1 else "")
-        parts.append(f'<rect class="silent" x="{left:.1f}" y="{y + 9}" width="{max(2, right - left):.1f}" height="{TALL + 2}"><title>{text(title)}</title></rect>')
+        times = f", {silence.times} times" if silence.times > 1 else ""
+        title = text(f"address {address} silent from {scale.since(silence.begin)} to {scale.since(silence.end)}{times}")
+        parts.append(f'<rect class="silent" x="{left:.1f}" y="{y + 9}" width="{max(2, right - left):.1f}" height="{TALL + 2}"><title>{title}</title></rect>')
     return "".join(parts)
 
 
@@ -67,26 +69,31 @@ def speakers_drawn(recording, scale):
 
 def speaker_row(recording, address, scale):
     speaker, names = recording.bus.speakers[address], names_at(recording.addresses, address)
-    shown = "<br>".join(f"<code>{name_text(name)}</code>" for name in names[-MOST_NAMES:]) + (f"<br>and {len(names) - MOST_NAMES} before" if len(names) > MOST_NAMES else "")
-    product = "" if speaker.product is None else ", ".join(text(part) for part in (speaker.product["model"], speaker.product["software"], speaker.product["serial"]) if part)
-    silence = "" if speaker.longest is None else f"{(speaker.longest.end - speaker.longest.begin) / 1_000_000:.1f} s from {scale.since(speaker.longest.begin)}"
+    earlier = f"<br>and {len(names) - MOST_NAMES} before" if len(names) > MOST_NAMES else ""
+    shown = "<br>".join(f"<code>{name_text(name)}</code>" for name in names[-MOST_NAMES:]) + earlier
+    product = {} if speaker.product is None else speaker.product
+    products = ", ".join(text(product[part]) for part in ("model", "software", "serial") if product.get(part))
+    silence = "" if speaker.longest is None else f"{speaker.longest.seconds():.1f} s from {scale.since(speaker.longest.begin)}"
     claimed = shown or '<span class="never">never claimed</span>'
     unclaimed = f"<b>{speaker.unclaimed}</b>" if speaker.unclaimed else "0"
     makers = (text(maker_of(names[-1])), text(function_of(names[-1]))) if names else ("", "")
-    return address, claimed, *makers, product, speaker.frames, unclaimed, scale.since(speaker.first), scale.since(speaker.last), silence
+    return address, claimed, *makers, products, speaker.frames, unclaimed, scale.since(speaker.first), scale.since(speaker.last), silence
 
 
 def who_spoke(recording, scale):
-    errors = folded("Error frames by their kind", table(("Kind", "How many"), [(text(kind), count) for kind, count in recording.errors.all()])) if recording.errors.counts else ""
+    kinds = [(text(kind), count) for kind, count in recording.errors.all()]
+    errors = folded("Error frames by their kind", table(("Kind", "How many"), kinds)) if kinds else ""
     if scale is None or not recording.bus.speakers:
         return section("Who spoke", "No frame came from a device.", errors)
     bus = recording.bus
     heads = ("Address", "NAME", "Maker", "Function", "Product", "Frames", "Unclaimed", "First", "Last", "Longest silence")
+    rows = [speaker_row(recording, address, scale) for address in sorted(bus.speakers)]
     return section(
         "Who spoke",
-        "For each address its frames over time, the higher the more, blue from a device that has claimed its address and orange from one that hasn't. A dashed box is a "
-        "silence: five seconds and more without a frame, and ten times as long as is usual for it. Makers and functions are those of the NAME, and products with their software and serial numbers what PGN 126996 said.",
-        speakers_drawn(recording, scale) + table(heads, [speaker_row(recording, address, scale) for address in sorted(bus.speakers)], "speakers") + errors,
+        "For each address its frames over time, the higher the more, blue from a device that has claimed its address and orange from one that hasn't. "
+        "A dashed box is a silence: five seconds and more without a frame, and ten times as long as is usual for it. "
+        "Makers and functions are those of the NAME, and products with their software and serial numbers what PGN 126996 said.",
+        speakers_drawn(recording, scale) + table(heads, rows, "speakers") + errors,
     )
 
 
@@ -95,13 +102,18 @@ def pace_of(message):
     if message.count < 2 or message.last == message.first:
         return "once" if message.count == 1 else ""
     pace = (message.count - 1) * 1_000_000 / (message.last - message.first)
-    return f"{pace:.3g} a second" if pace >= 0.95 else f"each {1 / pace:.3g} s"
+    return f"{rounded(pace)} a second" if pace >= 0.95 else f"each {rounded(1 / pace)} s"
+
+
+def rounded(number):
+    """Three digits that say something, and no exponent."""
+    return f"{float(f'{number:.3g}'):.10g}"
 
 
 def gap_of(message, scale):
     if message.count < 2:
         return ""
-    words = f"{message.gap / 1_000_000:.3g} s from {scale.since(message.gap_at)}"
+    words = f"{rounded(message.gap / 1_000_000)} s from {scale.since(message.gap_at)}"
     usual = (message.last - message.first - message.gap) / max(1, message.count - 2)
     return f"<b>{words}</b>" if message.gap > max(GAP_US, GAP_TIMES * usual) and message.count > 3 else words
 
@@ -116,9 +128,11 @@ def load_drawn(recording, scale):
     whole = series.width * BITS_A_SECOND / 1_000_000
     most = 100 * max(series.cells.values()) / whole
     top = next((share for share in TOPS if most <= share), TOPS[-1])
-    words = label(28, "load of the bus", "label strong") + label(43, f"at most {most:.3g} %", "small") + label(14, f"{top} %", "small") + label(66, "0", "small")
+    words = label(28, "load of the bus", "label strong") + label(43, f"at most {most:.3g} %", "small")
+    words += label(14, f"{top} %", "small") + label(66, "0", "small")
     line = f'<line class="axis" x1="{LEFT}" x2="{RIGHT}" y1="10" y2="10"/>'
-    return drawing(f"load of the bus, at most {most:.3g} percent", 66, scale, words + line + columns(scale, series, 66, 56, LINE_COLOUR, whole * top / 100))
+    share = columns(scale, series, 66, 56, LINE_COLOUR, whole * top / 100)
+    return drawing(f"load of the bus, at most {most:.3g} percent", 66, scale, words + line + share)
 
 
 def the_bus(recording, scale):
@@ -130,7 +144,7 @@ def the_bus(recording, scale):
     others = f"<p>and {bus.others} frames of other messages, of which there are too many to tell</p>" if bus.others else ""
     return section(
         "What was on the bus",
-        "The share of 250 kbit/s that all frames took, by the second or longer, stuff bits as a sample of each message has them; then each message of each device, with the "
-        "greatest time between two frames of it. Bold is a gap of more than a second and five times the usual one.",
+        "The share of 250 kbit/s that all frames took, by the second or longer, stuff bits as a sample of each message has them; "
+        "then each message of each device, with the greatest time between two frames of it. Bold is a gap of more than a second and five times the usual one.",
         load_drawn(recording, scale) + rows_folded(heads, rows, SHOWN_MESSAGES, "messages") + others,
     )

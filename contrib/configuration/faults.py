@@ -186,7 +186,8 @@ class Looking:
                 seen.append(same)
         elif key.name == "group" and name in ("rmc", "ais"):
             if value in self.group_of.values():
-                self.add("twice", path, table.places["group"], f"a group of its own: {', '.join(sorted({group for group in self.group_of.values() if group}))} stand elsewhere")
+                others = ", ".join(sorted({group for group in self.group_of.values() if group}))
+                self.add("twice", path, table.places["group"], f"a group of its own, other than {others}")
             self.group_of[name] = value
         return len(self.faults) == before
 
@@ -216,7 +217,8 @@ class Looking:
             if name not in known:
                 self.unknown_keys += 1
                 place = self.document.place(table.places[name][0][0])
-                yield Fault("unknown", prefix + name, place, None, self.nearest(prefix, name, known) if self.unknown_keys <= MOST_NEAREST else f"one of {', '.join(known)}")
+                meant = self.nearest(prefix, name, known) if self.unknown_keys <= MOST_NEAREST else f"one of {', '.join(known)}"
+                yield Fault("unknown", prefix + name, place, None, meant)
 
     def nearest(self, prefix, name, known):
         """The keys that may be meant: the same name in another table, or one that is spelled like it."""

@@ -22,7 +22,7 @@ class Form:
 
 
 Key = collections.namedtuple("Key", "name form default is_required")
-Row = collections.namedtuple("Row", "name talker pgns selector values")
+Row = collections.namedtuple("Row", "name pgns selector values")
 
 
 def text_form(pattern):
@@ -69,7 +69,6 @@ class Page:
             self.text = file.read()
         self.tables = self.tables_of_keys()
         self.rows = self.rows_of_page()
-        self.kinds = {match.group(1): match.group(2) for match in re.finditer(r"\| `config: (\w+) [^|]*\| ([^|]*?) \|", self.text)}
 
     def found(self, pattern, what):
         match = re.search(pattern, self.text, re.MULTILINE)
@@ -127,13 +126,13 @@ class Page:
         return tables
 
     def rows_of_page(self):
-        """The rows with their talkers, and the PGNs, selectors and selectors' values that they are taken from."""
+        """The rows, and the PGNs, selectors and selectors' values that they are taken from."""
         rows = []
         for cells in self.table("R"):
             pgns = [int(pgn) for pgn in re.findall(r"\b\d{6}\b", cells[1])]
             selector = re.search(r"(reference|instance|source) (\d+(?: or \d+)*)", cells[1])
             values = [] if selector is None else [int(value) for value in selector.group(2).split(" or ")]
-            rows.append(Row(cells[0].strip("`"), cells[3], pgns, selector and selector.group(1), values))
+            rows.append(Row(cells[0].strip("`"), pgns, selector and selector.group(1), values))
         return rows
 
     def most_tables(self):

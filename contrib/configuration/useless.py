@@ -78,7 +78,8 @@ class Accepted:
         """Both links on one port, and a link that sends to itself."""
         ends = {link: (endpoint_of(self.value(link, "listen")), endpoint_of(self.value(link, "send"))) for link in ("bus", "net")}
         if ends["bus"][0].meets(ends["net"][0]):
-            yield Warned("bus.listen", self.place("bus", "listen") or self.place("net", "listen"), "both links listen on one port: `serve` can't begin, and ends with status 9")
+            why = "both links listen on one port: `serve` can't begin, and ends with status 9"
+            yield Warned("bus.listen", self.place("bus", "listen") or self.place("net", "listen"), why)
         for link, (listen, send) in ends.items():
             for other, (heard, _) in ends.items():
                 if send.port == heard.port and (send.host == heard.host or heard.is_of_all() and send.is_loopback()):
