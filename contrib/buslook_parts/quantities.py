@@ -9,7 +9,7 @@ from onboard.fast_packets import Joiner, is_fast
 
 from .gathering import Point, Series
 
-MOST_DRAWN_SOURCES, CELLS = 4, 200
+MOST_DRAWN_SOURCES, CELLS = 4, 120
 DEGREES = math.degrees(1e-4)
 KNOTS, MILES = 0.01 * 3600 / 1852, 1 / 1852
 # a minute of latitude
