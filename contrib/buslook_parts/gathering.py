@@ -7,7 +7,7 @@ MOST_CELLS = 400
 MOST_STRIP_CELLS = 240
 # marks are wider than points
 MOST_MARKS = 60
-MOST_SPANS = 120
+MOST_SPANS = 40
 MOST_KEYS = 1000
 MANY = "changes too quick to draw"
 
@@ -147,12 +147,19 @@ class Spans:
             self.list, least = joined_spans(self.list, least), 2 * least
 
 
+def is_joined(before, span, least):
+    """Whether two neighbours become one: no longer together, or both of changes too quick to draw, with no longer a gap between them."""
+    if before is None or span.end is None:
+        return False
+    return span.end - before.begin <= least or before.value == span.value == MANY and span.begin - before.end <= least
+
+
 def joined_spans(spans, least):
-    """The spans, where neighbours are one that are no longer together."""
+    """The spans, where neighbours are one as far as they can't be told apart."""
     kept = []
     for span in spans:
         before = kept[-1] if kept else None
-        if before is not None and span.end is not None and span.end - before.begin <= least:
+        if is_joined(before, span, least):
             before.end, before.value = span.end, before.value if before.value == span.value else MANY
         else:
             kept.append(span)
