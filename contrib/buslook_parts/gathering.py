@@ -171,7 +171,7 @@ class Strip:
 
     def __init__(self, begin, timeout_us):
         self.spans, self.timeout_us = Spans(), timeout_us
-        self.worse = Series(begin, first_of, most=MOST_MARKS)
+        self.worse = Series(begin, first_of, most=MOST_SPANS)
 
     def say(self, moment, device):
         last = self.spans.list[-1] if self.spans.list else None

@@ -88,7 +88,7 @@ def bar_of_device(words, span, scale, y, palette):
 
 def mark_of_change(change, scale, y):
     moment, better, last = change
-    title = f"taken at {scale.since(moment)}: {better} was said last at {scale.since(last)}, and fell silent or lost its address"
+    title = f"taken at {scale.since(moment)}: {better} was said last at {scale.since(last)}"
     return mark(scale.x(moment), y + 8, "taken over", title)
 
 
