@@ -1,7 +1,7 @@
 -- What is told stands before what is posted.
 use Rattle.std.proofs.Common.{◌≡◌, ℕ, suc, ◌+◌, ◌≤◌, Bool, true, false, List, [], ◌∷◌, ◌++◌, length, map, filter, refl, sym, ap, subst, ◌∙◌, append_assoc, append-nil, length-append, arith}
 use Rattle.gate_events.specs.Emit.{Emit, net}
-use Rattle.gate_core.specs.Output.{has_datagram, is_datagram}
+use Rattle.gate_outbox.specs.Output.{has_datagram, is_datagram}
 use Rattle.ais_bridge.specs.declared.told.Told.{Told}
 use Rattle.ais_bridge.specs.Emitted.{AreEmits, posted_emits, told_emit, told_emits}
 

@@ -7,8 +7,8 @@ use Rattle.fast_packet.specs.declared.key.FastKey.{FastKey}
 use Rattle.fast_packet.specs.Answers.{ended_of}
 use Rattle.gate_events.specs.Emit.{Emit, can, net, report}
 use Rattle.history.specs.Emits.{of_source}
-use Rattle.gate_core.specs.Output.{Output, has_datagram}
-use Rattle.gate_core.proofs.Telling.{IsEnding, said_fast, to_tell, one_told}
+use Rattle.gate_outbox.specs.Output.{Output, has_datagram}
+use Rattle.gate_outbox.proofs.Telling.{IsEnding, said_fast, to_tell, one_told}
 use Rattle.ais_bridge.specs.Emitted.{most_reports}
 
 -- emits as they stand in an outbox

@@ -2,7 +2,7 @@
 use Rattle.std.specs.Prelude.{ℕ, ◌≤◌, Bool, List, [], ◌∷◌, ◌++◌, length, map, filter, if◌then◌else◌}
 use Rattle.gate_events.specs.Emit.{Emit, net}
 use Rattle.history.specs.Emits.{of_source}
-use Rattle.gate_core.specs.Output.{is_datagram}
+use Rattle.gate_outbox.specs.Output.{is_datagram}
 use Rattle.ais_bridge.specs.declared.told.Told.{Told}
 
 abbrev pub told_emit : Told → Emit

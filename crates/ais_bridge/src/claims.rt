@@ -3,7 +3,7 @@ ghost use Rattle.std.specs.Prelude.{◌≡◌, ◌+◌, ◌<◌, ◌≤◌, ◌+
 ghost use Rattle.slot_views.specs.Slots.{remaining};
 ghost use Rattle.claim_table.specs.Claims.{other_than, places};
 ghost use Rattle.fast_packet.specs.Assembly.{is_from};
-ghost use Rattle.gate_core.specs.Output.{has_datagram};
+ghost use Rattle.gate_outbox.specs.Output.{has_datagram};
 ghost use Rattle.gate_model.specs.Endings.{fast_lost};
 ghost use Rattle.gate_model.specs.FastPackets.{lost_of_source, without_source};
 ghost use Rattle.ais_bridge.specs.AisKept as kept;

@@ -3,7 +3,7 @@ ghost use Rattle.std.specs.Prelude.{◌≡◌, ◌+◌, ◌%◌, ◌<◌, ◌≤
 ghost use Rattle.gate_events.specs.Emit.{CanWrite, net};
 ghost use Rattle.sentence_text.specs.Names.{IsSfi};
 ghost use Rattle.ais_report.specs.Fields.{IsReport};
-ghost use Rattle.gate_core.specs.Output.{emit_of, has_datagram};
+ghost use Rattle.gate_outbox.specs.Output.{emit_of, has_datagram};
 ghost use Rattle.ais_bridge.specs.Emitted.{AreEmits, most_reports, told_emit};
 ghost use Rattle.ais_bridge.specs.Reports.{report_datagram};
 

@@ -8,7 +8,7 @@ ghost use Rattle.fast_packet.specs.Assembly.{fed_after};
 ghost use Rattle.slot_views.specs.Traces.{unexpired};
 ghost use Rattle.history.specs.Emits.{of_source, reported};
 ghost use Rattle.history.specs.RuleLaws.{fast_refusal_breaks, fast_rule};
-ghost use Rattle.gate_core.specs.Output.{has_datagram};
+ghost use Rattle.gate_outbox.specs.Output.{has_datagram};
 ghost use Rattle.gate_core.specs.Steps.{IsEventValid, by_keys, entry_of};
 ghost use Rattle.gate_model.specs.AddressStands.{name_held};
 ghost use Rattle.gate_model.specs.Endings.{fast_overdue};

@@ -19,7 +19,7 @@ use Rattle.history.specs.Receiver.{receiver_of}
 use Rattle.history.specs.Settings.{Settings}
 use Rattle.gate_model.specs.Machine.{Machine}
 use Rattle.gate_model.proofs.AddressTells.{standing_tells_alike}
-use Rattle.gate_core.specs.Output.{Output}
+use Rattle.gate_outbox.specs.Output.{Output}
 use Rattle.gate_core.specs.Steps.{entry_of}
 use Rattle.bus_identity.specs.Answers.{Kept, answer_frames, answered, answered_by, frames_from, kept_after}
 use Rattle.bus_identity.specs.Pgns.{product_information, pgn_lists}

@@ -5,7 +5,7 @@ use Rattle.history.specs.Entries as entry
 use Rattle.history.specs.Entries.{Entry, History}
 use Rattle.history.specs.Settings.{Settings}
 use Rattle.gate_model.specs.Machine.{Machine}
-use Rattle.gate_core.specs.Output.{Output}
+use Rattle.gate_outbox.specs.Output.{Output}
 use Rattle.joined_rmc.specs.JoinStands.{IsJoinStep}
 use Rattle.joined_rmc.specs.Kept.{bytes_in}
 use Rattle.joined_rmc.specs.RmcOut.{RmcRule, rmc_datagram, sent_to}

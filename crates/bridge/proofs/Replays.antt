@@ -12,7 +12,7 @@ use Rattle.capture_text.specs.LineRule.{rule_number}
 use Rattle.gate_events.specs.Event.{view}
 use Rattle.capture_stream.specs.Answering.{LineGives}
 use Rattle.capture_stream.specs.Lines.{AreTexts, IsTextFrom}
-use Rattle.gate_core.specs.declared.done.Command.{Command}
+use Rattle.gate_outbox.specs.declared.done.Command.{Command}
 use Rattle.gate_core.specs.Promises.{entry_by}
 use Rattle.gate_core.specs.Steps.{entry_of}
 use Rattle.gate_model.specs.Machine.{Machine}

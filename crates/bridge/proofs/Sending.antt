@@ -10,7 +10,7 @@ use Rattle.gate_outside.specs.Faults.{HasCause}
 use Rattle.capture_stream.specs.Answering.{Sent}
 use Rattle.capture_stream.specs.Writer.{Sends, Writes}
 use Rattle.capture_stream.proofs.WriterLemmas.{Sends-behind, Sends-none, Sends-then}
-use Rattle.gate_core.specs.Output.{emit_of}
+use Rattle.gate_outbox.specs.Output.{emit_of}
 use Rattle.gate_events.specs.Emit.{Emit}
 use Rattle.history.specs.Emits.{at}
 use Rattle.capture_text.specs.Emitted.{emit_text as text_of, line_of}

@@ -8,7 +8,7 @@ use Rattle.history.specs.Settings.{Settings}
 use Rattle.settings.specs.declared.ais.AisConfig.{AisConfig}
 use Rattle.gate_model.specs.Machine.{Machine}
 use Rattle.gate_model.specs.Stands.{Stands}
-use Rattle.gate_core.specs.Output.{Output}
+use Rattle.gate_outbox.specs.Output.{Output}
 use Rattle.gate_core.specs.Steps.{by_keys}
 use Rattle.ais_bridge.specs.Promises.{IsAisStep, IsAisTaken, StandsAis}
 use Rattle.ais_bridge.proofs.CommandLemmas.{commands_leave_ais}

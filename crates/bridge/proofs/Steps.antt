@@ -12,8 +12,8 @@ use Rattle.history.specs.Gate.{out}
 use Rattle.history.specs.Settings.{Settings}
 use Rattle.gate_model.specs.Machine.{Machine}
 use Rattle.gate_model.specs.Stands.{Stands}
-use Rattle.gate_core.specs.declared.done.Command.{Command}
-use Rattle.gate_core.specs.Output.{Output, and_emits, nothing}
+use Rattle.gate_outbox.specs.declared.done.Command.{Command}
+use Rattle.gate_outbox.specs.Output.{Output, and_emits, nothing}
 use Rattle.gate_core.specs.Promises.{IsTaken, IsTooEarly, IsStep, IsCommandStep, entry_by}
 use Rattle.gate_core.specs.Steps.{by_keys, entry_of, IsEventValid}
 use Rattle.bridge.specs.Beside.{IsStepped}

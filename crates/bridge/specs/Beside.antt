@@ -5,7 +5,7 @@ use Rattle.history.specs.Entries.{Entry, History, IsHistory}
 use Rattle.history.specs.Settings.{Settings}
 use Rattle.settings.specs.declared.ais.AisConfig.{AisConfig}
 use Rattle.gate_model.specs.Machine.{Machine}
-use Rattle.gate_core.specs.Output.{Output}
+use Rattle.gate_outbox.specs.Output.{Output}
 use Rattle.gate_core.specs.Promises.{IsTaken}
 use Rattle.joined_rmc.specs.JoinStands.{JoinStands}
 use Rattle.joined_rmc.specs.RmcOut.{RmcRule}

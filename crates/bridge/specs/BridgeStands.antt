@@ -12,7 +12,7 @@ use Rattle.history.specs.Settings.{Settings}
 use Rattle.settings.specs.declared.ais.AisConfig.{AisConfig}
 use Rattle.gate_model.specs.Machine.{opened_machine}
 use Rattle.gate_model.specs.Stands.{Stands}
-use Rattle.gate_core.specs.declared.done.Command.{Command}
+use Rattle.gate_outbox.specs.declared.done.Command.{Command}
 use Rattle.gate_core.specs.Promises.{entry_by}
 use Rattle.gate_core.specs.Steps.{by_keys}
 use Rattle.joined_rmc.specs.RmcOut.{RmcRule}

@@ -10,7 +10,7 @@ use Rattle.history.specs.Pgns as pgns
 use Rattle.gate_events.specs.Emit.{Emit, can, net, report}
 use Rattle.history.specs.Emits.{report_of}
 use Rattle.gate_model.specs.Machine.{Machine}
-use Rattle.gate_core.specs.Output.{Output}
+use Rattle.gate_outbox.specs.Output.{Output}
 use Rattle.bus_identity.specs.Answers.{Kept as Counted}
 use Rattle.bus_identity.specs.declared.identity.Answered.{Answered}
 use Rattle.bus_identity.specs.declared.identity.Answered.TheVariants.{Nothing, Sent, NotReady}

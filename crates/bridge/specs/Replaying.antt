@@ -1,6 +1,6 @@
 -- What the calls that answer a line of a capture send, and what they make of the bridge.
 use Rattle.std.specs.Prelude.{◌≡◌, ℕ, true, false, List, [], ◌++◌, take, drop, Option, Some, None, Result}
-use Rattle.gate_core.specs.declared.done.Command.{Command}
+use Rattle.gate_outbox.specs.declared.done.Command.{Command}
 use Rattle.gate_outside.specs.Faults.{HasCause}
 use Rattle.capture_stream.specs.Writer.{Writes}
 use Rattle.history.specs.Emits.{at}

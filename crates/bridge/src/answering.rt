@@ -5,7 +5,7 @@ ghost use Rattle.gate_events.specs.Emit.{CanWrite};
 ghost use Rattle.claim_table.specs.Claims.{is_ready};
 ghost use Rattle.bus_identity.specs.Answers.{kept_after};
 ghost use Rattle.bus_identity.specs.Payloads.{information_of};
-ghost use Rattle.gate_core.specs.Output.{Output, emit_of};
+ghost use Rattle.gate_outbox.specs.Output.{Output, emit_of};
 ghost use Rattle.gate_core.specs.Steps.{IsEventValid, entry_of};
 ghost use Rattle.bridge.specs.Answered.{answer_by};
 ghost use Rattle.bridge.specs.Beside.{IsAnswering};

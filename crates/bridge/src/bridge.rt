@@ -1,7 +1,7 @@
 //! The gateway with the parts beside it.
 ghost use Rattle.std.specs.Prelude.{◌≡◌, ◌≤◌, ◌++◌, true, false, length, option_map, slice_get, is_some, nat_le, IfOk, IfSome};
 ghost use Rattle.gate_events.specs.Emit.{CanWrite};
-ghost use Rattle.gate_core.specs.Output.{emit_of};
+ghost use Rattle.gate_outbox.specs.Output.{emit_of};
 ghost use Rattle.gate_core.specs.Steps.{IsEventValid, entry_of};
 ghost use Rattle.history.specs.Entries.{moment_of};
 ghost use Rattle.joined_rmc.specs.Kept.{IsDoneValid};

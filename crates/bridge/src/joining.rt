@@ -2,7 +2,7 @@
 ghost use Rattle.std.specs.Prelude.{◌≡◌, ◌≤◌, length, option_map, slice_get, IfSome, Some};
 ghost use Rattle.gate_events.specs.Emit.{CanWrite};
 ghost use Rattle.config_values.specs.Rows.{IsTalker};
-ghost use Rattle.gate_core.specs.Output.{emit_of};
+ghost use Rattle.gate_outbox.specs.Output.{emit_of};
 ghost use Rattle.history.specs.Entries.{Entry};
 ghost use Rattle.joined_rmc.specs.Kept.{IsDoneValid};
 ghost use Rattle.bridge.specs.Beside.{IsJoining};

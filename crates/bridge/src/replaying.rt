@@ -2,7 +2,7 @@
 ghost use Rattle.std.specs.Prelude.{◌≡◌, ◌++◌, ◌∷◌, [], ℕ, List, true};
 ghost use Rattle.gate_events.specs.Emit.{CanWrite};
 ghost use Rattle.capture_stream.specs.Writer.{Writes};
-ghost use Rattle.gate_core.specs.Output.{emit_of};
+ghost use Rattle.gate_outbox.specs.Output.{emit_of};
 ghost use Rattle.gate_outside.specs.Faults.{HasCause};
 ghost use Rattle.capture_text.specs.Emitted.{line_of};
 ghost use Rattle.bridge.specs.Replaying.{IsOpening, IsOrdered, IsSent, SendsThen, left_text, line_at};

@@ -4,7 +4,7 @@ ghost use Rattle.std.specs.Int.{IsInRange};
 ghost use Rattle.gate_events.specs.Emit.{CanWrite};
 ghost use Rattle.config_values.specs.Configs.{IsConfig};
 ghost use Rattle.config_values.specs.Settings.{settings_of};
-ghost use Rattle.gate_core.specs.Output.{Output, emit_of};
+ghost use Rattle.gate_outbox.specs.Output.{Output, emit_of};
 ghost use Rattle.gate_core.specs.Steps.{IsEventValid, entry_of};
 ghost use Rattle.bridge.specs.Beside.{IsWatching};
 ghost use Rattle.bridge.specs.BridgeStands.{IsOpenedWatching};

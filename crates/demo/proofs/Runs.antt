@@ -17,8 +17,8 @@ use Rattle.history.specs.Receiver.{receiver_of}
 use Rattle.history.specs.Settings.{Settings}
 use Rattle.gate_model.specs.Machine.{Machine, opened_machine, started_at}
 use Rattle.gate_model.specs.Stands.{Stands}
-use Rattle.gate_core.specs.declared.done.Command.{Command}
-use Rattle.gate_core.specs.Output.{Output, and_emits, nothing}
+use Rattle.gate_outbox.specs.declared.done.Command.{Command}
+use Rattle.gate_outbox.specs.Output.{Output, and_emits, nothing}
 use Rattle.gate_core.specs.Promises.{IsCommandStep, IsStep, IsTaken, IsTooEarly, entry_by}
 use Rattle.gate_core.specs.Steps.{IsEventValid, by_keys, entry_of}
 use Rattle.demo.specs.declared.input.Input.{Input}

@@ -11,7 +11,7 @@ use Rattle.history.specs.Receiver.{receiver_of}
 use Rattle.history.specs.Settings.{Settings}
 use Rattle.gate_model.specs.Machine.{Machine}
 use Rattle.gate_model.specs.Stands.{Stands}
-use Rattle.gate_core.specs.declared.done.Command.{Command}
+use Rattle.gate_outbox.specs.declared.done.Command.{Command}
 use Rattle.gate_core.specs.Promises.{entry_by}
 use Rattle.gate_core.specs.Steps.{by_keys}
 use Rattle.demo.specs.declared.tally.Tally.{Tally}

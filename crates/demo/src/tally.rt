@@ -2,7 +2,7 @@
 ghost use Rattle.std.specs.Prelude.{◌≡◌, ◌+◌, ◌<◌, ◌≤◌, ◌^◌, [], drop, take};
 ghost use Rattle.std.specs.List.{fold};
 ghost use Rattle.gate_events.specs.Emit.{CanWrite};
-ghost use Rattle.gate_core.specs.Output.{emit_of};
+ghost use Rattle.gate_outbox.specs.Output.{emit_of};
 ghost use Rattle.history.specs.Emits.{at};
 ghost use Rattle.demo.specs.Tally.{and_all, and_one, counted, folded, tally_of, total};
 

@@ -1,6 +1,6 @@
 //! A gateway that follows the turns of a case.
 ghost use Rattle.std.specs.Prelude.{◌≡◌};
-ghost use Rattle.gate_core.specs.Output.{nothing};
+ghost use Rattle.gate_outbox.specs.Output.{nothing};
 
 use crate::case::{Case, Comes, Seen, Turn};
 use crate::setup::{Setup, config_of};

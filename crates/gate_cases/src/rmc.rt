@@ -3,7 +3,7 @@ ghost use Rattle.std.specs.Prelude.{◌≡◌, ℕ, [], true};
 ghost use Rattle.history.specs.AddressLaws.{AreSettings};
 ghost use Rattle.history.specs.Entries.{History, IsHistory, is_accepted};
 ghost use Rattle.gate_model.specs.Stands.{Stands};
-ghost use Rattle.gate_core.specs.Output.{nothing};
+ghost use Rattle.gate_outbox.specs.Output.{nothing};
 ghost use Rattle.gate_core.specs.Promises.{IsTaken};
 ghost use Rattle.gate_core.specs.Steps.{IsEventValid, by_keys, entry_of};
 ghost use Rattle.joined_rmc.specs.JoinStands.{IsJoined, JoinStands};

@@ -14,12 +14,12 @@ use Rattle.gate_model.specs.FastPackets.{fast_step}
 use Rattle.gate_model.specs.Sessions.{session_step}
 use Rattle.gate_model.specs.Machine.{Machine}
 use Rattle.gate_model.specs.MachineSteps.{fast_frame, session_frame}
-use Rattle.gate_core.specs.declared.done.Done.{Done}
-use Rattle.gate_core.specs.declared.done.Command.{Command}
-use Rattle.gate_core.specs.declared.messages.Content.{Content}
-use Rattle.gate_core.specs.Contents.{content_in}
-use Rattle.gate_core.specs.Output.{Output, and_emits, most_emits}
-use Rattle.gate_core.specs.SessionTold.{step_emits}
+use Rattle.gate_outbox.specs.declared.done.Done.{Done}
+use Rattle.gate_outbox.specs.declared.done.Command.{Command}
+use Rattle.bus_messages.specs.declared.messages.Content.{Content}
+use Rattle.bus_messages.specs.Contents.{content_in}
+use Rattle.gate_outbox.specs.Output.{Output, and_emits, most_emits}
+use Rattle.bus_messages.specs.SessionTold.{step_emits}
 use Rattle.gate_core.specs.Steps.{by_keys, first_there, done_of, command_of, and_step}
 use Rattle.gate_core.specs.Completing.{said_after, said_emits, and_message}
 use Rattle.gate_core.proofs.Completing.{after_same, emits_same, done_same, command_same}

@@ -9,7 +9,7 @@ use Rattle.history.specs.TraceLaws.{same_own}
 use Rattle.gate_model.specs.Sessions.{lost_addressed}
 use Rattle.gate_model.specs.Machine.{Machine}
 use Rattle.gate_model.specs.MachineSteps.{claim_tells, lost_at, without}
-use Rattle.gate_core.specs.Output.{Output, and_emits, most_emits}
+use Rattle.gate_outbox.specs.Output.{Output, and_emits, most_emits}
 
 room_of_second : (o a b c d : List Emit) → length o + length (a ++ b ++ c ++ d) ≤ most_emits → length (o ++ a) + length b ≤ most_emits
 room_of_second o a b c d room =

@@ -7,9 +7,9 @@ use Rattle.source_choice.specs.declared.rank.Rank.{Rank}
 use Rattle.history.specs.Messages.{Carried}
 use Rattle.history.specs.Settings.{Settings}
 use Rattle.gate_model.specs.Said.{SaidKept, Complete, Ordered, complete_by, reading_by, message_after, message_emits, profiled_after, profiled_emits, ranked_after, ranked_emits, rank_by, ordered_by, orders}
-use Rattle.gate_core.specs.Contents.{content_in}
-use Rattle.gate_core.specs.declared.done.Command.{Command}
-use Rattle.gate_core.specs.Saying.{message_from}
+use Rattle.bus_messages.specs.Contents.{content_in}
+use Rattle.gate_outbox.specs.declared.done.Command.{Command}
+use Rattle.row_traffic.specs.Saying.{message_from}
 use Rattle.gate_core.specs.Steps.{done_of, command_of}
 use Rattle.gate_core.specs.Completing.{sender_by, said_after, said_emits, done_by, command_by}
 

@@ -5,8 +5,8 @@ use Rattle.datagram450.specs.Item.{Item}
 use Rattle.history.specs.Settings.{Settings}
 use Rattle.gate_model.specs.Machine.{Machine}
 use Rattle.gate_model.specs.NetLines.{NetKept, datagram_emits}
-use Rattle.gate_core.specs.declared.network.hearing.Hearing.{Hearing}
-use Rattle.gate_core.specs.NetCalls.{Hears, IsHeardBy, datagram_gives}
+use Rattle.row_traffic.specs.declared.network.hearing.Hearing.{Hearing}
+use Rattle.row_traffic.specs.NetCalls.{Hears, IsHeardBy, datagram_gives}
 use Rattle.gate_core.specs.Steps.{Stays, by_keys}
 
 pub still_listed : (g : Machine) (h : Hearing) → Stays g → IsHeardBy g.settings h → length h.sources.now ≤ 254 → Hears h g.network

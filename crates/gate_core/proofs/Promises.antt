@@ -32,8 +32,8 @@ use Rattle.config_values.specs.declared.config.Config.{Config}
 use Rattle.config_values.specs.Configs.{IsConfig}
 use Rattle.config_values.specs.Settings.{settings_of}
 use Rattle.config_values.proofs.SettingsLemmas.{are_settings}
-use Rattle.gate_core.specs.declared.done.Done.{Done}
-use Rattle.gate_core.specs.Output.{most_emits}
+use Rattle.gate_outbox.specs.declared.done.Done.{Done}
+use Rattle.gate_outbox.specs.Output.{most_emits}
 use Rattle.gate_core.specs.Steps.{by_keys, entry_of, IsEventValid, Stays, done_of, command_of, output_of}
 use Rattle.gate_core.specs.Promises.{done_told, entry_by, IsTaken, IsTooEarly, IsStep, IsCommandStep}
 

@@ -5,12 +5,12 @@ use Rattle.history.specs.Choice.{reading_in}
 use Rattle.gate_events.specs.Emit.{Emit}
 use Rattle.history.specs.Settings.{Settings}
 use Rattle.gate_model.specs.Said.{SaidKept, profiled_after, profiled_emits}
-use Rattle.gate_core.specs.declared.done.Done.{Done}
-use Rattle.gate_core.specs.declared.done.Command.{Command}
-use Rattle.gate_core.specs.declared.messages.Content.{Content}
-use Rattle.gate_core.specs.declared.said.Sender.{Sender}
-use Rattle.gate_core.specs.Output.{Output}
-use Rattle.gate_core.specs.Saying.{message_from}
+use Rattle.gate_outbox.specs.declared.done.Done.{Done}
+use Rattle.gate_outbox.specs.declared.done.Command.{Command}
+use Rattle.bus_messages.specs.declared.messages.Content.{Content}
+use Rattle.row_traffic.specs.declared.said.Sender.{Sender}
+use Rattle.gate_outbox.specs.Output.{Output}
+use Rattle.row_traffic.specs.Saying.{message_from}
 use Rattle.gate_core.specs.Steps.{first_there}
 
 abbrev pub sender_by : ℕ → ℕ → Holder → Sender

@@ -1,15 +1,3 @@
-pub mod Output
-pub mod Kept
-pub mod Lending
-pub mod Overdue
-pub mod Sending
-pub mod NetCalls
-pub mod NetFaults
-pub mod Contents
-pub mod FastTold
-pub mod SessionTold
-pub mod MeaningOf
-pub mod Saying
 pub mod Steps
 pub mod Completing
 pub mod Promises

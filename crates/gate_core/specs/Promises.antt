@@ -12,9 +12,9 @@ use Rattle.history.specs.Emits.{broken}
 use Rattle.history.specs.Gate.{out, command_in}
 use Rattle.gate_model.specs.Machine.{Machine}
 use Rattle.gate_model.specs.Stands.{Stands}
-use Rattle.gate_core.specs.declared.done.Command.{Command}
-use Rattle.gate_core.specs.declared.done.Done.{Done}
-use Rattle.gate_core.specs.Output.{Output}
+use Rattle.gate_outbox.specs.declared.done.Command.{Command}
+use Rattle.gate_outbox.specs.declared.done.Done.{Done}
+use Rattle.gate_outbox.specs.Output.{Output}
 use Rattle.gate_core.specs.Steps.{by_keys}
 
 -- what is told of a message

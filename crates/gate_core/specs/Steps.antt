@@ -11,9 +11,9 @@ use Rattle.history.specs.Entries as entry
 use Rattle.history.specs.Entries.{Entry}
 use Rattle.gate_model.specs.Said.{Complete, Ordered, reading_by, ordered_by}
 use Rattle.gate_model.specs.Machine.{Compared, Machine, Step}
-use Rattle.gate_core.specs.Output.{Output}
-use Rattle.gate_core.specs.declared.done.Done.{Done}
-use Rattle.gate_core.specs.declared.done.Command.{Command}
+use Rattle.gate_outbox.specs.Output.{Output}
+use Rattle.gate_outbox.specs.declared.done.Done.{Done}
+use Rattle.gate_outbox.specs.declared.done.Command.{Command}
 
 -- the keys of what is in the making are compared as the code compares them
 abbrev pub by_keys : Compared

@@ -12,16 +12,15 @@ ghost use Rattle.gate_model.specs.MachineSteps.{stepped, commanded};
 ghost use Rattle.gate_model.specs.Stands.{Stands};
 ghost use Rattle.config_values.specs.Configs.{IsConfig};
 ghost use Rattle.config_values.specs.Settings.{settings_of};
-ghost use Rattle.gate_core.specs.Output.{nothing, and_emits};
+ghost use Rattle.gate_outbox.specs.Output.{nothing, and_emits};
 ghost use Rattle.gate_core.specs.Steps.{IsEventValid, by_keys, entry_of, output_of};
 ghost use Rattle.gate_core.specs.Holding.{IsHeld, IsWithin};
 ghost use Rattle.gate_core.specs.Promises.{IsStep, IsCommandStep};
 
-use crate::done::Command;
-use crate::outbox::Outbox;
 use crate::state::State;
 use config_values::Config;
 use gate_events::Event;
+use gate_outbox::{Command, Outbox};
 use n2k_id::Name;
 use std::alloc::{AllocError, Global};
 use std::marker::Model;

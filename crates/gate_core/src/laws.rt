@@ -5,7 +5,7 @@ ghost use Rattle.pgn_profile.specs.Payload.{pgn_of};
 ghost use Rattle.history.specs.Settings.{Settings};
 ghost use Rattle.history.specs.NetReadings.{NetReading, next_sequence};
 ghost use Rattle.history.specs.FromNet.{sent_from};
-ghost use Rattle.gate_core.specs.Sending.{reading_frames};
+ghost use Rattle.row_traffic.specs.Sending.{reading_frames};
 
 /// A reading from the network goes out in the frames that the definition over all that ever came says, with the sequence that it says.
 pub fn readings_go_out_so()

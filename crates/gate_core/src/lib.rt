@@ -2,27 +2,10 @@
 #![tactic(auto)]
 
 mod addresses;
-mod datagram;
-mod done;
-mod endings;
-mod fast;
-mod frames;
 mod gateway;
-mod kept;
 pub mod laws;
-mod meanings;
-mod messages;
-mod network;
-mod outbox;
-mod pgn;
-mod reports;
-mod rows;
-mod said;
-mod sending;
-mod sessions;
 mod state;
 
 pub use config_values::{Config, Ends, RowConfig};
-pub use done::{Command, Done};
+pub use gate_outbox::{Command, Done, Outbox};
 pub use gateway::{Gateway, HeldCounts};
-pub use outbox::Outbox;

@@ -11,23 +11,22 @@ ghost use Rattle.gate_model.specs.Machine.{counted_in, later, opened_machine, ov
 ghost use Rattle.gate_model.specs.MachineSteps.{stepped, entered, handled, commanded};
 ghost use Rattle.config_values.specs.Configs.{IsConfig};
 ghost use Rattle.config_values.specs.Settings.{settings_of};
-ghost use Rattle.gate_core.specs.Output.{nothing, and_emits, most_emits, has_datagram};
+ghost use Rattle.gate_outbox.specs.Output.{nothing, and_emits, most_emits, has_datagram};
 ghost use Rattle.gate_core.specs.Steps.{IsEventValid, Stays, by_keys, and_step, entry_of, output_of};
 
 use crate::addresses::Addresses;
-use crate::done::Command;
-use crate::endings::{end_fast, end_sessions};
-use crate::frames::{own_claim, request_for_claims};
-use crate::network::Network;
-use crate::outbox::Outbox;
-use crate::said::Said;
 use crate::state::opening::{addresses_of, copy_of, fast_of, network_of, said_of, sessions_of};
+use bus_messages::endings::{end_fast, end_sessions};
 use config_values::Config;
 use fast_packet::FastAssembler;
 use gate_events::{Detail, Event, Report};
+use gate_outbox::frames::{own_claim, request_for_claims};
+use gate_outbox::{Command, Outbox};
 use iso_transport::IsoAssembler;
 use n2k_id::Name;
 use report_rules::MOMENT_BACK;
+use row_traffic::network::Network;
+use row_traffic::said::Said;
 use std::alloc::{AllocError, Global};
 use std::marker::Model;
 

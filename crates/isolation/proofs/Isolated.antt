@@ -13,7 +13,7 @@ use Rattle.history.specs.Settings.{Settings}
 use Rattle.history.proofs.Isolation.{isolation_of_two}
 use Rattle.history.proofs.Receivers.{gateways_receive}
 use Rattle.gate_model.specs.Machine.{Machine}
-use Rattle.gate_core.specs.declared.done.Done.{Done}
+use Rattle.gate_outbox.specs.declared.done.Done.{Done}
 use Rattle.gate_core.specs.Promises.{done_told}
 use Rattle.isolation.specs.declared.running.FrameEvent.{FrameEvent}
 use Rattle.isolation.specs.Runs.{entry_of, entry_at, and_event, and_events, told_from, IsRun, Runs}

@@ -8,7 +8,7 @@ use Rattle.history.specs.Receiver.{receiver_of}
 use Rattle.history.specs.Settings.{Settings}
 use Rattle.gate_model.specs.Machine.{Machine}
 use Rattle.gate_model.specs.Stands.{Stands}
-use Rattle.gate_core.specs.declared.done.Done.{Done}
+use Rattle.gate_outbox.specs.declared.done.Done.{Done}
 use Rattle.gate_core.specs.Promises.{done_told}
 use Rattle.gate_core.specs.Steps.{by_keys}
 use Rattle.isolation.specs.declared.running.FrameEvent.{FrameEvent}

@@ -28,7 +28,7 @@ use Rattle.history.proofs.ChoiceSteps.{messages_are_of_holders}
 use Rattle.history.proofs.FreshSteps.{below, claim_says_none}
 use Rattle.history.proofs.KeySteps.{known_same}
 use Rattle.gate_core.specs.Promises.{done_told}
-use Rattle.gate_core.specs.declared.done.Done.{Done}
+use Rattle.gate_outbox.specs.declared.done.Done.{Done}
 use Rattle.joined_rmc.specs.Chosen.{Chosen, chosen_at, chosen_of, held_by, last_of, newer, saying, still_held}
 use Rattle.joined_rmc.specs.JoinStands.{kept_of}
 use Rattle.joined_rmc.specs.Kept.{is_said, picked, picked_of, read_at}

@@ -19,7 +19,7 @@ use Rattle.history.proofs.Receivers.{gateways_receive}
 use Rattle.gate_model.specs.AddressStands.{name_held}
 use Rattle.gate_model.specs.Machine.{Machine}
 use Rattle.gate_model.proofs.AddressTells.{standing_tells_alike}
-use Rattle.gate_core.specs.Output.{Output}
+use Rattle.gate_outbox.specs.Output.{Output}
 use Rattle.gate_core.specs.Promises.{IsTaken}
 use Rattle.joined_rmc.specs.Chosen.{Chosen, chosen_at, is_due, last_of, said_within, still_held}
 use Rattle.joined_rmc.specs.JoinStands.{IsJoinStep, IsJoined, JoinStands, SlotStands, kept_of}

@@ -9,7 +9,7 @@ use Rattle.history.specs.Known.{known}
 use Rattle.history.specs.Receiver.{receiver_of}
 use Rattle.history.specs.Settings.{Settings}
 use Rattle.gate_model.specs.Machine.{Machine}
-use Rattle.gate_core.specs.Output.{Output}
+use Rattle.gate_outbox.specs.Output.{Output}
 use Rattle.gate_core.specs.Promises.{IsTaken}
 use Rattle.joined_rmc.specs.declared.kept.Kept.{Kept}
 use Rattle.joined_rmc.specs.declared.slot.Slot.{Slot}

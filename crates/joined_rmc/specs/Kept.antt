@@ -11,7 +11,7 @@ use Rattle.sentence_rows.specs.declared.rmc.Minimum.{Minimum}
 use Rattle.tag_block.specs.Numbers.{most_count}
 use Rattle.gate_events.specs.Emit.{Emit, can, net, report}
 use Rattle.history.specs.Settings.{same_row}
-use Rattle.gate_core.specs.declared.done.Done.{Done}
+use Rattle.gate_outbox.specs.declared.done.Done.{Done}
 use Rattle.joined_rmc.specs.declared.kept.Kept.{Kept}
 use Rattle.joined_rmc.specs.declared.slot.Slot.{Slot}
 use Rattle.joined_rmc.specs.Chosen.{says_position, unless_old}

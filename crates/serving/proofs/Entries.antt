@@ -5,7 +5,7 @@ use Rattle.std.proofs.lemmas.List.{append-nil, map-append}
 use Rattle.report_rules.specs.Rules as rules
 use Rattle.gate_events.specs.declared.emit.Detail.TheVariants as detail
 use Rattle.gate_outside.specs.declared.Failed.{Failed}
-use Rattle.gate_core.specs.declared.done.Command.{Command}
+use Rattle.gate_outbox.specs.declared.done.Command.{Command}
 use Rattle.gate_core.specs.Promises.{entry_by}
 use Rattle.gate_events.specs.Emit.{Emit, Emitted}
 use Rattle.history.specs.Emits.{at, broken}

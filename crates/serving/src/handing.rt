@@ -5,7 +5,7 @@ ghost use Rattle.n2k_id.specs.Frame.{IsFrame, bus_frame};
 ghost use Rattle.capture_text.specs.Writing.{frame_text, time_text};
 ghost use Rattle.gate_events.specs.Emit.{CanWrite};
 ghost use Rattle.gate_outside.specs.Link.{Sends};
-ghost use Rattle.gate_core.specs.Output.{emit_of};
+ghost use Rattle.gate_outbox.specs.Output.{emit_of};
 ghost use Rattle.gate_events.specs.Emit as emits;
 ghost use Rattle.history.specs.Emits.{at, report_of};
 ghost use Rattle.capture_text.specs.Emitted.{line_of};

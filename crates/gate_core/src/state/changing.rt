@@ -12,17 +12,16 @@ ghost use Rattle.gate_model.specs.Said as said;
 ghost use Rattle.gate_model.specs.Sessions.{without_addressed, lost_addressed};
 ghost use Rattle.gate_model.specs.MachineSteps.{claim_frame, claim_takes, command_here, lost_at, without};
 ghost use Rattle.gate_core.specs.Steps.{Stays, by_keys, and_step};
-ghost use Rattle.gate_core.specs.Output.{and_emits, most_emits, has_datagram};
+ghost use Rattle.gate_outbox.specs.Output.{and_emits, most_emits, has_datagram};
 
-use crate::done::Command;
-use crate::endings::{drop_addressed, drop_source};
-use crate::frames::{ALL, own_claim};
-use crate::meanings::{Meaning, tell_plain};
-use crate::outbox::Outbox;
-use crate::pgn::{ADDRESS_CLAIMED, COMMANDED_ADDRESS};
-use crate::reports::of_source;
 use crate::state::State;
+use bus_messages::endings::{drop_addressed, drop_source};
+use bus_messages::meanings::{Meaning, tell_plain};
 use claim_table::{ClaimStep, OwnAnswer};
+use gate_outbox::frames::{ALL, own_claim};
+use gate_outbox::pgn::{ADDRESS_CLAIMED, COMMANDED_ADDRESS};
+use gate_outbox::reports::of_source;
+use gate_outbox::{Command, Outbox};
 use n2k_id::{Frame, Name, Parts, read_name};
 use report_rules::COMMAND_NOT_OBEYED;
 

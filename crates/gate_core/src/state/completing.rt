@@ -6,15 +6,14 @@ ghost use Rattle.claim_table.specs.Claims.{holder_at};
 ghost use Rattle.history.specs.Choice.{reading_in};
 ghost use Rattle.gate_core.specs.Completing.{said_after, said_emits, sender_by, and_message};
 ghost use Rattle.gate_core.specs.Steps.{Stays, first_there};
-ghost use Rattle.gate_core.specs.Output.{most_emits, has_datagram};
+ghost use Rattle.gate_outbox.specs.Output.{most_emits, has_datagram};
 
-use crate::done::{Command, Done};
-use crate::messages::Content;
-use crate::outbox::Outbox;
-use crate::said::Sender;
 use crate::state::State;
+use bus_messages::messages::Content;
+use gate_outbox::{Command, Done, Outbox};
 use pgn_profile::Profiled;
 use readings::Reading;
+use row_traffic::said::Sender;
 
 impl State {
     /// Takes the message that a frame from this source completes.

@@ -5,14 +5,14 @@ ghost use Rattle.datagram450.specs.Datagram.{read};
 ghost use Rattle.gate_model.specs.NetLines.{datagram_after, datagram_emits};
 ghost use Rattle.gate_model.specs.MachineSteps.{datagram_here};
 ghost use Rattle.config_values.specs.Settings.{settings_of};
-ghost use Rattle.gate_core.specs.NetCalls.{IsHeardBy};
+ghost use Rattle.row_traffic.specs.NetCalls.{IsHeardBy};
 ghost use Rattle.gate_core.specs.Steps.{Stays, by_keys};
-ghost use Rattle.gate_core.specs.Output.{and_emits, most_emits, has_datagram};
+ghost use Rattle.gate_outbox.specs.Output.{and_emits, most_emits, has_datagram};
 
-use crate::network::{Came, Hearing};
-use crate::outbox::Outbox;
 use crate::state::State;
 use config_values::Config;
+use gate_outbox::Outbox;
+use row_traffic::network::{Came, Hearing};
 
 impl State {
     /// Takes a datagram.

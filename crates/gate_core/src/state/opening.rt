@@ -7,13 +7,13 @@ ghost use Rattle.config_values.specs.Configs.{IsConfig};
 ghost use Rattle.config_values.specs.Settings.{settings_of};
 
 use crate::addresses::Addresses;
-use crate::network::Network;
-use crate::rows::row_at;
-use crate::said::Said;
 use claim_table::ClaimFault;
 use config_values::Config;
 use fast_packet::FastAssembler;
 use iso_transport::IsoAssembler;
+use row_traffic::network::Network;
+use row_traffic::rows::row_at;
+use row_traffic::said::Said;
 use std::alloc::{AllocError, Global};
 
 /// A copy of the configuration.

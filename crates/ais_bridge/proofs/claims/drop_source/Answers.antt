@@ -1,7 +1,7 @@
 use Rattle.std.proofs.Common.{ap, sym, ◌∙◌}
 use Rattle.report_rules.specs.Rules as rules
 use Rattle.fast_packet.specs.Assembly.{is_from}
-use Rattle.gate_core.proofs.Telling.{fewer, one_told, ends_slots, ends_emits}
+use Rattle.gate_outbox.proofs.Telling.{fewer, one_told, ends_slots, ends_emits}
 use Rattle.ais_bridge.proofs.TellingLemmas.{plain, room_for_one}
 use Rattle.ais_bridge.proofs.claims.drop_source.Goals as goal
 

@@ -3,7 +3,7 @@ use Rattle.std.proofs.Common.{length}
 use Rattle.report_rules.specs.Rules as rules
 use Rattle.fast_packet.specs.Assembly.{is_from}
 use Rattle.fast_packet.specs.Answers.{ended_of}
-use Rattle.gate_core.proofs.Telling.{IsEnding, said_fast}
+use Rattle.gate_outbox.proofs.Telling.{IsEnding, said_fast}
 use Rattle.ais_bridge.proofs.TellingLemmas.{plain}
 use Rattle.ais_bridge.proofs.claims.drop_source.Given as goal
 

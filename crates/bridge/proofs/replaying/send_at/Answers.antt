@@ -2,7 +2,7 @@ use Rattle.std.proofs.Common.{List, ℕ, ◌++◌, subst, sym, ◌∙◌, ap}
 use Rattle.std.proofs.lemmas.List.{append-nil}
 use Rattle.capture_stream.specs.Writer.{Sends, Writes}
 use Rattle.capture_stream.proofs.WriterLemmas.{Sends-none}
-use Rattle.gate_core.specs.Output.{emit_of}
+use Rattle.gate_outbox.specs.Output.{emit_of}
 use Rattle.bridge.specs.Kept.{left_of}
 use Rattle.bridge.proofs.Sending.{nothing_there, one_line}
 use Rattle.bridge.proofs.replaying.send_at.Goals as goal

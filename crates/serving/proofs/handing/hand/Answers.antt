@@ -2,7 +2,7 @@ use Rattle.std.proofs.Common.{sym, subst}
 use Rattle.n2k_id.specs.Frame.{bus_frame}
 use Rattle.gate_events.specs.declared.emit.Emit.{Emit}
 use Rattle.gate_events.specs.declared.emit.Report.{Report}
-use Rattle.gate_core.specs.Output.{emit_of}
+use Rattle.gate_outbox.specs.Output.{emit_of}
 use Rattle.gate_events.specs.Emit as emits
 use Rattle.capture_text.specs.Emitted.{line_of}
 use Rattle.serving.specs.Handing.{Hands, HandsAll, Takes}

@@ -1,6 +1,6 @@
 use Rattle.std.proofs.Common.{List, [], sym, subst}
 use Rattle.gate_events.specs.Emit.{Emitted}
-use Rattle.gate_core.specs.Output.{emit_of}
+use Rattle.gate_outbox.specs.Output.{emit_of}
 use Rattle.bridge.specs.Kept.{left_of}
 use Rattle.serving.specs.Handing.{Hands}
 use Rattle.serving.specs.Served.{outside}

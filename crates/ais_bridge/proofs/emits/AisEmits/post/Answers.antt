@@ -1,6 +1,6 @@
 use Rattle.std.proofs.Common.{◌≡◌, true, false, ◌++◌, ◌∷◌, [], sym, ap, subst, ◌∙◌}
 use Rattle.gate_events.specs.Emit.{net}
-use Rattle.gate_core.specs.Output.{has_datagram}
+use Rattle.gate_outbox.specs.Output.{has_datagram}
 use Rattle.ais_bridge.specs.Emitted.{posted_emits, told_emits}
 use Rattle.ais_bridge.specs.Reports.{report_datagram}
 use Rattle.ais_bridge.proofs.EmittedLemmas.{post_gives}

@@ -1,5 +1,5 @@
 use Rattle.std.proofs.Common.{◌≡◌, false, ◌++◌, ◌∷◌, [], sym, ap, subst, ◌∙◌}
-use Rattle.gate_core.specs.Output.{has_datagram}
+use Rattle.gate_outbox.specs.Output.{has_datagram}
 use Rattle.ais_bridge.specs.Emitted.{told_emit}
 use Rattle.ais_bridge.proofs.EmittedLemmas.{tell_gives, tell_none}
 use Rattle.ais_bridge.proofs.emits.AisEmits.tell.Goals as goal

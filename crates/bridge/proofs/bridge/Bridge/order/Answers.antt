@@ -1,6 +1,6 @@
 use Rattle.std.proofs.Common.{◌≡◌, sym, ap, subst, ◌∙◌}
 use Rattle.gate_model.specs.Machine.{Machine}
-use Rattle.gate_core.specs.declared.done.Command.{Command}
+use Rattle.gate_outbox.specs.declared.done.Command.{Command}
 use Rattle.gate_core.specs.Promises.{IsCommandStep}
 use Rattle.bridge.specs.BridgeStands.{IsCommanded}
 use Rattle.bridge.specs.Kept.{Bridged}

@@ -1,6 +1,6 @@
 use Rattle.std.proofs.Common.{sym, ap, subst, ◌∙◌}
 use Rattle.gate_model.specs.MachineSteps.{stepped}
-use Rattle.gate_core.specs.Output.{Output}
+use Rattle.gate_outbox.specs.Output.{Output}
 use Rattle.gate_core.specs.Steps.{by_keys, entry_of}
 use Rattle.joined_rmc.specs.Kept.{IsDoneValid}
 use Rattle.joined_rmc.proofs.Chaining.{left_valid}

@@ -1,5 +1,5 @@
 use Rattle.std.proofs.Common.{List, ap, sym, ◌∙◌}
-use Rattle.gate_core.specs.Output.{emit_of}
+use Rattle.gate_outbox.specs.Output.{emit_of}
 use Rattle.gate_events.specs.Emit.{Emit}
 use Rattle.history.specs.Emits.{at}
 use Rattle.demo.specs.Tally.{and_all}

@@ -2,7 +2,7 @@ use Rattle.std.proofs.Common.{subst, sym}
 use Rattle.gate_model.specs.Machine.{Machine}
 use Rattle.gate_model.specs.MachineSteps.{commanded}
 use Rattle.gate_model.specs.Stands.{IsReached}
-use Rattle.gate_core.specs.Output.{Output}
+use Rattle.gate_outbox.specs.Output.{Output}
 use Rattle.gate_core.specs.Promises.{IsCommandStep}
 use Rattle.gate_core.specs.Steps.{by_keys}
 use Rattle.gate_core.proofs.Promises.{command_fits, is_command_step}

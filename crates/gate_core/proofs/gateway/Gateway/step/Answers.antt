@@ -2,7 +2,7 @@ use Rattle.std.proofs.Common.{subst, sym}
 use Rattle.gate_model.specs.Machine.{Machine}
 use Rattle.gate_model.specs.MachineSteps.{stepped}
 use Rattle.gate_model.specs.Stands.{IsReached}
-use Rattle.gate_core.specs.Output.{Output}
+use Rattle.gate_outbox.specs.Output.{Output}
 use Rattle.gate_core.specs.Promises.{IsStep}
 use Rattle.gate_core.specs.Steps.{by_keys, entry_of}
 use Rattle.gate_core.proofs.Promises.{stays_of, step_fits, is_step}

@@ -3,7 +3,7 @@ use Rattle.datagram450.specs.Datagram.{read}
 use Rattle.gate_model.specs.Machine.{Machine}
 use Rattle.gate_model.specs.NetLines.{NetKept, datagram_after, datagram_emits}
 use Rattle.config_values.specs.Settings.{settings_of}
-use Rattle.gate_core.specs.Output.{and_emits, most_emits}
+use Rattle.gate_outbox.specs.Output.{and_emits, most_emits}
 use Rattle.gate_core.specs.Steps.{Stays, by_keys}
 use Rattle.gate_core.proofs.Hearing.{still_listed, same_gives}
 use Rattle.gate_core.proofs.state.State.hear.Goals as goal

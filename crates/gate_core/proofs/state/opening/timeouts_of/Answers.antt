@@ -1,7 +1,7 @@
 use Rattle.std.proofs.Common.{arith}
 use Rattle.history.specs.Settings.{rule_at}
 use Rattle.config_values.specs.Settings.{settings_of}
-use Rattle.gate_core.proofs.Counts.{all_counted}
+use Rattle.row_traffic.proofs.Counts.{all_counted}
 use Rattle.gate_core.proofs.state.opening.timeouts_of.Goals as goal
 
 pub returns : goal.returns

@@ -1,0 +1,3 @@
+pub mod ReplyPgns
+pub mod FastTelling
+pub mod SessionTelling

@@ -1,0 +1,81 @@
+//! What a complete message says, read while its payload is lent.
+ghost use Rattle.std.specs.Prelude.{◌≡◌, ◌+◌, ◌≤◌, false, length, IfSome};
+ghost use Rattle.pgn_profile.specs.Profiled.{GivesValid};
+ghost use Rattle.history.specs.BusRules.{is_short};
+ghost use Rattle.history.specs.Emits.{reported};
+ghost use Rattle.bus_messages.specs.Contents.{content_of, ordered_in, is_for, short_reports};
+ghost use Rattle.gate_outbox.specs.Output.{and_emits, most_emits, has_datagram};
+
+use gate_outbox::Outbox;
+use gate_outbox::pgn::COMMANDED_ADDRESS;
+use gate_outbox::reports::of_source;
+use n2k_id::{Name, read_name};
+use pgn_profile::{Profiled, read};
+use report_rules::SHORT_MESSAGE;
+
+/// What the payload of a message says.
+#[derive(Clone, Copy)]
+pub struct Content {
+    pub pgn: u32,
+    pub profiled: Profiled,
+    /// The address to which the gateway is told to go (ISO 11783-5, commanded address).
+    pub ordered: Option<u8>,
+}
+
+/// Where the address stands in a command: behind the NAME that it is for.
+const ORDERED_AT: usize = 8;
+
+/// Reads the payload of a message of the PGN, which may be a command to the gateway of this NAME.
+pub(crate) fn read_content(name: Name, pgn: u32, payload: &[u8]) -> Content
+    ensures content { result ≡ content_of name.0 pgn payload.now }
+    ensures valid { GivesValid result.profiled }
+{
+    Content {
+        pgn,
+        profiled: read(pgn, payload),
+        ordered: ordered(name, pgn, payload),
+    }
+}
+
+/// The address to which a message of the PGN tells the gateway of this NAME to go.
+fn ordered(name: Name, pgn: u32, payload: &[u8]) -> Option<u8>
+    ensures { result ≡ ordered_in name.0 pgn payload.now }
+{
+    if pgn == COMMANDED_ADDRESS && is_for(name, payload) {
+        Some(payload[ORDERED_AT])
+    } else {
+        None
+    }
+}
+
+/// Whether the first bytes are the NAME, and another byte follows.
+fn is_for(name: Name, payload: &[u8]) -> bool
+    ensures { result ≡ is_for name.0 payload.now }
+{
+    payload.len() > ORDERED_AT && read_name(payload) == Some(name)
+}
+
+/// Whether the payload has too few bytes for what its PGN says.
+fn is_short(profiled: Profiled) -> bool
+    ensures { result ≡ is_short profiled }
+{
+    match profiled {
+        Profiled::Short => true,
+        Profiled::Reading(_) | Profiled::Outside => false,
+    }
+}
+
+/// Reports a message that has too few bytes for what its PGN says.
+pub(crate) fn tell_short(source: u8, message: Option<Content>, out: &mut Outbox)
+    requires room { length out.old.emits + length (short_reports source message) ≤ most_emits }
+    requires before { has_datagram out.old.emits ≡ false }
+    ensures emits { out.new ≡ and_emits out.old (reported (short_reports source message)) }
+    ensures before { has_datagram out.new.emits ≡ false }
+{
+    match message {
+        Some(content) if is_short(content.profiled) => {
+            out.tell(of_source(SHORT_MESSAGE, source, content.pgn));
+        }
+        _ => {}
+    }
+}

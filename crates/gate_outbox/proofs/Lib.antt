@@ -1,0 +1,3 @@
+pub mod Datagrams
+pub mod Behind
+pub mod Telling

@@ -1,0 +1,157 @@
+-- One entry that passes a test ends after another, and is told of, until none is left.
+use Rattle.std.proofs.Common.{◌≡◌, ℕ, ◌+◌, ◌<◌, ◌≤◌, Bool, true, false, Option, Some, None, option_map, List, [], ◌∷◌, ◌++◌, length, filter, refl, sym, ap, ◌∙◌, subst, append_assoc, append-nil, length-append, arith}
+use Rattle.std.specs.List.{find, flat_map}
+use Rattle.slot_views.specs.Slots.{Entry, SlotMap, without_first, without, remaining}
+use Rattle.slot_views.proofs.Endings.{all_stay, one_fewer}
+use Rattle.report_rules.specs.Rules as rules
+use Rattle.gate_events.specs.declared.emit.Detail.TheVariants as detail
+use Rattle.fast_packet.specs.declared.key.FastKey.{FastKey}
+use Rattle.iso_transport.specs.declared.answers.IsoEnded.{IsoEnded}
+use Rattle.tag_block.specs.declared.group_key.GroupKey.{GroupKey}
+use Rattle.gate_events.specs.Emit.{Emit}
+use Rattle.history.specs.Emits.{broken, of_source}
+use Rattle.gate_outbox.specs.Output.{Output, and_emits, most_emits, has_datagram}
+
+module _ {X : Type 0} (p : X → Bool) (tell : X → List Emit) where
+  told_first : (xs : List X) (x : X) → find p xs ≡ Some x
+      → flat_map tell (filter p xs) ≡ tell x ++ flat_map tell (filter p (without_first p xs))
+  told_first [] x is = cc
+  told_first (y ∷ ys) x is = by (p y) refl (λ later. told_first ys x later)
+    where
+      by : (b : Bool) → p y ≡ b
+          → (find p ys ≡ Some x → flat_map tell (filter p ys) ≡ tell x ++ flat_map tell (filter p (without_first p ys)))
+          → flat_map tell (filter p (y ∷ ys)) ≡ tell x ++ flat_map tell (filter p (without_first p (y ∷ ys)))
+      by true eb rest =
+          let found : Some y ≡ Some x = rw eb at is in
+          let same : y ≡ x = cc in
+          rw eb (ap (λ z. tell z ++ flat_map tell (filter p ys)) same)
+      by false eb rest =
+          let later : find p ys ≡ Some x = rw eb at is in
+          rw (eb, eb) (rest later)
+
+  told_none : (xs : List X) → find p xs ≡ None → flat_map tell (filter p xs) ≡ []
+  told_none [] is = refl
+  told_none (y ∷ ys) is = by (p y) refl (λ later. told_none ys later)
+    where
+      by : (b : Bool) → p y ≡ b → (find p ys ≡ None → flat_map tell (filter p ys) ≡ []) → flat_map tell (filter p (y ∷ ys)) ≡ []
+      by true eb rest = let found : Some y ≡ None = rw eb at is in cc
+      by false eb rest = let later : find p ys ≡ None = rw eb at is in rw eb (rest later)
+
+  fewer_left : (xs : List X) (x : X) → find p xs ≡ Some x → length (without_first p xs) < length xs
+  fewer_left [] x is = cc
+  fewer_left (y ∷ ys) x is = by (p y) refl (λ later. fewer_left ys x later)
+    where
+      by : (b : Bool) → p y ≡ b → (find p ys ≡ Some x → length (without_first p ys) < length ys) → length (without_first p (y ∷ ys)) < length (y ∷ ys)
+      by true eb rest = rw eb (omega arith)
+      by false eb rest = let later : find p ys ≡ Some x = rw eb at is in let less = rest later in rw eb (omega (arith, less))
+
+  all_left : (xs : List X) → find p xs ≡ None → without_first p xs ≡ xs
+  all_left [] is = refl
+  all_left (y ∷ ys) is = by (p y) refl (λ later. all_left ys later)
+    where
+      by : (b : Bool) → p y ≡ b → (find p ys ≡ None → without_first p ys ≡ ys) → without_first p (y ∷ ys) ≡ y ∷ ys
+      by true eb rest = let found : Some y ≡ None = rw eb at is in cc
+      by false eb rest = let later : find p ys ≡ None = rw eb at is in rw eb (ap {B = List X} (λ zs. y ∷ zs) (rest later))
+
+-- ---- what is told of what was taken out
+
+abbrev pub said_fast : ℕ → FastKey → List Emit
+said_fast rule key = of_source rule key.source key.pgn ∷ []
+
+abbrev pub said_session : ℕ → IsoEnded → List Emit
+said_session rule ended = of_source rule ended.source ended.pgn ∷ []
+
+abbrev pub said_group : GroupKey → List Emit
+said_group key = broken rules.group_expired (detail.GroupKey key.sfi key.code) ∷ []
+
+-- ---- the way of a loop: a call takes out the first entry that passes the test, and answers what it was
+
+-- the element that was found by an answer
+found_of : {X Y : Type 0} (f : X → Y) (o : Option X) (y : Y) → option_map f o ≡ Some y → (x : X) × (o ≡ Some x) × (f x ≡ y)
+found_of f None y is = cc
+found_of f (Some x) y is = (x, refl, (cc))
+
+none_found : {X Y : Type 0} (f : X → Y) (o : Option X) → option_map f o ≡ None → o ≡ None
+none_found f None is = refl
+none_found f (Some x) is = cc
+
+module _ {K Y : Type 0} (p : K × Entry → Bool) (f : K × Entry → Y) (say : Y → List Emit) where
+  -- what is still to be told
+  abbrev pub to_tell : SlotMap K → List Emit
+  to_tell s = flat_map (λ e. say (f e)) (filter p s.entries)
+
+  -- the slots and the outbox as it begins, and as far as it has come
+  pub record IsEnding (s₀ : SlotMap K) (o₀ : Output) (s : SlotMap K) (o : Output) : Type 0 where
+    -- the same will be left
+    pub rest : remaining p s ≡ remaining p s₀
+    -- what was told and what is still to be told make up the whole
+    pub whole : and_emits o (to_tell s) ≡ and_emits o₀ (to_tell s₀)
+    pub room : length o.emits + length (to_tell s) ≤ most_emits
+    pub before : has_datagram o.emits ≡ false
+
+module _ {K Y : Type 0} {p : K × Entry → Bool} {f : K × Entry → Y} {say : Y → List Emit} {s₀ s : SlotMap K} {o₀ o : Output}
+    (ending : IsEnding p f say s₀ o₀ s o) where
+  abbrev with_slots : List (K × Entry) → SlotMap K
+  with_slots es = record { limit = s.limit; entries = es }
+
+  abbrev with_told : List Emit → Output
+  with_told es = record { emits = es; done = o.done; command = o.command }
+
+  -- ---- an entry is there
+
+  module _ {y : Y} (is : option_map f (find p s.entries) ≡ Some y) where
+    first : to_tell p f say s ≡ say y ++ to_tell p f say (without s p)
+    first =
+        let found = found_of f (find p s.entries) y is in
+        told_first p (λ e. say (f e)) s.entries found.0 found.1 ∙ ap (λ z. say z ++ to_tell p f say (without s p)) found.2
+
+    lengths : length (to_tell p f say s) ≡ length (say y) + length (to_tell p f say (without s p))
+    lengths = ap length first ∙ length-append (say y) (to_tell p f say (without s p))
+
+    pub has_room : length o.emits + length (say y) ≤ most_emits
+    has_room = let room = ending.room in let sum = lengths in omega (arith, room, sum)
+
+    goes_on : has_datagram (o.emits ++ say y) ≡ false → IsEnding p f say s₀ o₀ (without s p) (and_emits o (say y))
+    goes_on before = record {
+      rest = ap with_slots (one_fewer p s.entries) ∙ ending.rest;
+      whole =
+          ap with_told (append_assoc o.emits (say y) (to_tell p f say (without s p)) ∙ ap (λ es. o.emits ++ es) (sym first))
+          ∙ ending.whole;
+      room =
+          let room = ending.room in
+          let sum = lengths in
+          let more = length-append o.emits (say y) in
+          omega (arith, room, sum, more);
+      before = before;
+    }
+
+    -- it was taken out, and told of
+    module _ {s' : SlotMap K} (after : s' ≡ without s p) where
+      pub fewer : length s'.entries < length s.entries
+      fewer =
+          let found = found_of f (find p s.entries) y is in
+          subst (λ z. length z.entries < length s.entries) (sym after) (fewer_left p (λ e. say (f e)) s.entries found.0 found.1)
+
+      pub one_told : {o' : Output} → o' ≡ and_emits o (say y) → has_datagram o'.emits ≡ false → IsEnding p f say s₀ o₀ s' o'
+      one_told {o'} emits before =
+          let before_all : has_datagram (o.emits ++ say y) ≡ false = subst (λ z. has_datagram z.emits ≡ false) emits before in
+          let on = subst (λ z. IsEnding p f say s₀ o₀ (without s p) z) (sym emits) (goes_on before_all) in
+          subst (λ z. IsEnding p f say s₀ o₀ z o') (sym after) on
+
+  -- ---- none is left
+
+  module _ (is : option_map f (find p s.entries) ≡ None) where
+    none : find p s.entries ≡ None
+    none = none_found f (find p s.entries) is
+
+    pub ends_slots : {s' : SlotMap K} → s' ≡ without s p → s' ≡ remaining p s₀
+    ends_slots after =
+        after
+        ∙ ap with_slots (all_left p (λ e. say (f e)) s.entries none ∙ sym (all_stay p s.entries none))
+        ∙ ending.rest
+
+    pub ends_emits : o ≡ and_emits o₀ (to_tell p f say s₀)
+    ends_emits =
+        let all : o.emits ++ to_tell p f say s ≡ o.emits =
+        ap (λ es. o.emits ++ es) (told_none p (λ e. say (f e)) s.entries none) ∙ append-nil o.emits in
+        sym (ap with_told all) ∙ ending.whole

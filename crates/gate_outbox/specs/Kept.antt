@@ -1,0 +1,33 @@
+-- Frames and reports, as an outbox keeps them.
+use Rattle.std.specs.Prelude.{ℕ, Bool, if◌then◌else◌, List, [], ◌∷◌, map, take}
+use Rattle.n2k_id.specs.Frame.{IsFrame, bus_frame}
+use Rattle.gate_events.specs.declared.emit.Detail.TheVariants as detail
+use Rattle.gate_events.specs.Emit.{Emit, can, net, report}
+use Rattle.history.specs.Emits.{report_of}
+use Rattle.gate_outbox.specs.declared.datagram.Datagram.{Datagram}
+use Rattle.gate_outbox.specs.declared.kept.Kept.{Kept}
+use Rattle.gate_outbox.specs.declared.kept.Kept.TheVariants as kept
+
+-- a frame is valid
+abbrev pub IsKept : Kept → Type 0
+IsKept (kept.Frame frame) = IsFrame frame
+IsKept (kept.Report what) = Unit {0}
+
+abbrev pub kept_emit : Kept → Emit
+kept_emit (kept.Frame frame) = can (bus_frame frame)
+kept_emit (kept.Report what) = report what
+
+-- what stands in a place that says nothing
+abbrev pub blank : Kept
+blank = kept.Report (report_of 0 detail.Nothing)
+
+-- the emits of the first cells
+abbrev pub first_emits : ℕ → List Kept → List Emit
+first_emits count cells = map kept_emit (take count cells)
+
+-- the datagram, where it is there, and how many that are
+abbrev pub posted_emits : Bool → Datagram → List Emit
+posted_emits posted d = if posted then net d.group d.packet.items ∷ [] else []
+
+abbrev pub datagrams : Bool → ℕ
+datagrams posted = if posted then 1 else 0

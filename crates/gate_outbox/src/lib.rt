@@ -1,0 +1,14 @@
+//! What a step of the gateway leaves: frames and reports in their order, at most one datagram, and the message that it completes.
+#![tactic(auto)]
+
+mod datagram;
+mod done;
+pub mod frames;
+mod kept;
+mod outbox;
+pub mod pgn;
+pub mod reports;
+
+pub use datagram::Datagram;
+pub use done::{Command, Done};
+pub use outbox::Outbox;

@@ -1,0 +1,4 @@
+pub mod Sending
+pub mod NetCalls
+pub mod NetFaults
+pub mod Saying

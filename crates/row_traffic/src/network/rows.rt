@@ -1,0 +1,179 @@
+//! What the sources of the network said last of each row, and how many fast packets were sent of it.
+ghost use Rattle.std.specs.Prelude.{◌≡◌, ◌+◌, ◌<◌, ◌≤◌, [], ◌∷◌, false, length, All, IfOk, Some};
+ghost use Rattle.readings.specs.Ranges.{IsValid};
+ghost use Rattle.readings.specs.Rows.{row_of};
+ghost use Rattle.source_choice.specs.Choices.{row_number, opened};
+ghost use Rattle.history.specs.Choice.{is_usable};
+ghost use Rattle.history.specs.NetReadings.{is_fast_row};
+ghost use Rattle.gate_model.specs.Net.{rank_by, is_chosen, sequence_at, sent_by, reading_after, reading_emits, readings_after, readings_emit};
+ghost use Rattle.row_traffic.specs.NetCalls.{line_of, none_sent};
+ghost use Rattle.gate_outbox.specs.Output.{Output, and_emits, most_emits, has_datagram};
+
+use crate::network::heard::Heard;
+use crate::rows::{number, says_something};
+use crate::sending::send_reading;
+use gate_outbox::Outbox;
+use gate_outbox::reports::at_place;
+use readings::{Reading, Row, row};
+use report_rules::NOT_READY;
+use source_choice::{Choice, Rank};
+use std::alloc::{AllocError, Global};
+use std::marker::Model;
+
+/// What is kept of the readings from the network.
+#[derive(Drop)]
+pub(crate) struct Readings {
+    choice: Choice,
+    /// How many fast packets were sent of each row, from 0 to 7, by the row's number.
+    sequences: [u8; 17],
+}
+
+impl Model for Readings {
+    ghost use Rattle.std.specs.Prelude.{◌≡◌, ◌≤◌, length};
+    ghost use Rattle.std.specs.List.{AllByRecursion};
+    ghost use Rattle.gate_model.specs.Net.{ReadingsKept};
+
+    ghost Value = { ReadingsKept };
+
+    ghost view = { λ r. record { choices = r.choice; sequences = r.sequences } };
+
+    ghost invariant = { λ r. (length r.sequences ≡ 17) × AllByRecursion (λ n. n ≤ 7) r.sequences };
+}
+
+impl Readings {
+    /// With nothing noted, and nothing sent.
+    pub(crate) fn new(
+        alloc: Global,
+        listed: u16,
+        timeouts: &[u32; 17],
+    ) -> Result<Readings, AllocError>
+        requires { listed ≤ 254 }
+        ensures { IfOk result (λ r. r ≡ record { choices = opened listed timeouts.now; sequences = none_sent }) }
+    {
+        let choice = Choice::new(alloc, listed, timeouts)?;
+        Ok(Readings {
+            choice,
+            sequences: [0; 17],
+        })
+    }
+
+    /// Takes a reading: where it is selected it is sent on, or reported where the gateway isn't ready; and it is noted.
+    pub(crate) fn take(&mut self, line: Heard, reading: &Reading, out: &mut Outbox)
+        requires valid { IsValid reading.now }
+        requires source { line.source < self.old.choices.sources }
+        requires room { length out.old.emits + length (reading_emits line.came.own self.old (line_of line) reading.now) ≤ most_emits }
+        requires before { has_datagram out.old.emits ≡ false }
+        ensures after { self.new ≡ reading_after self.old (line_of line) reading.now }
+        ensures emits { out.new ≡ and_emits out.old (reading_emits line.came.own self.old (line_of line) reading.now) }
+        ensures before { has_datagram out.new.emits ≡ false }
+    {
+        let chosen = self.is_chosen(line, reading);
+        self.pass_on(line, reading, chosen, out);
+        self.note(line, reading, chosen);
+    }
+
+    /// Takes the readings of a sentence, in their order.
+    pub(crate) fn take_all(&mut self, line: Heard, readings: &[Reading], out: &mut Outbox)
+        requires valid { All IsValid readings.now }
+        requires source { line.source < self.old.choices.sources }
+        requires room { length out.old.emits + length (readings_emit line.came.own self.old (line_of line) readings.now) ≤ most_emits }
+        requires before { has_datagram out.old.emits ≡ false }
+        ensures after { self.new ≡ readings_after self.old (line_of line) readings.now }
+        ensures emits { out.new ≡ and_emits out.old (readings_emit line.came.own self.old (line_of line) readings.now) }
+        ensures before { has_datagram out.new.emits ≡ false }
+    {
+        for reading in readings {
+            self.take(line, reading, out);
+        }
+    }
+
+    /// Whether the reading is selected.
+    fn is_chosen(&self, line: Heard, reading: &Reading) -> bool
+        requires { line.source < self.now.choices.sources }
+        ensures { result ≡ is_chosen self.now (line_of line) reading.now }
+    {
+        self.choice
+            .selected(row(reading), line.source, rank_by(line), line.came.moment)
+    }
+
+    /// Sends a reading that is selected on, or reports it where the gateway isn't ready.
+    fn pass_on(&self, line: Heard, reading: &Reading, chosen: bool, out: &mut Outbox)
+        requires valid { IsValid reading.now }
+        requires chosen { chosen ≡ is_chosen self.now (line_of line) reading.now }
+        requires room { length out.old.emits + length (reading_emits line.came.own self.now (line_of line) reading.now) ≤ most_emits }
+        requires before { has_datagram out.old.emits ≡ false }
+        ensures emits { out.new ≡ and_emits out.old (reading_emits line.came.own self.now (line_of line) reading.now) }
+        ensures before { has_datagram out.new.emits ≡ false }
+    {
+        if !chosen {
+            return;
+        }
+        if line.came.ready {
+            self.send(line.came.own, reading, out);
+        } else {
+            out.tell(at_place(NOT_READY, line.place));
+        }
+    }
+
+    /// Sends a reading from the own address, where there is one.
+    fn send(&self, own: Option<u8>, reading: &Reading, out: &mut Outbox)
+        requires valid { IsValid reading.now }
+        requires room { length out.old.emits + length (sent_by own self.now reading.now) ≤ most_emits }
+        requires before { has_datagram out.old.emits ≡ false }
+        ensures emits { out.new ≡ and_emits out.old (sent_by own self.now reading.now) }
+        ensures before { has_datagram out.new.emits ≡ false }
+    {
+        match own {
+            Some(address) => {
+                send_reading(address, self.sequence_at(row(reading)), reading, out);
+            }
+            None => {}
+        }
+    }
+
+    /// The sequence of the next fast packet of the row.
+    fn sequence_at(&self, row: Row) -> u8
+        ensures sequence { result ≡ sequence_at self.now row }
+        ensures within { result ≤ 7 }
+    {
+        self.sequences[number(row)]
+    }
+
+    /// Notes the reading, and counts the fast packet that is sent of it.
+    fn note(&mut self, line: Heard, reading: &Reading, chosen: bool)
+        requires source { line.source < self.old.choices.sources }
+        requires chosen { chosen ≡ is_chosen self.old (line_of line) reading.now }
+        ensures { self.new ≡ reading_after self.old (line_of line) reading.now }
+    {
+        let row = row(reading);
+        if chosen && line.came.ready && is_fast(row) {
+            let number = number(row);
+            self.sequences[number] = (self.sequences[number] + 1) % 8;
+        }
+        self.choice.note(
+            row,
+            line.source,
+            rank_by(line),
+            line.came.moment,
+            says_something(reading),
+        );
+    }
+}
+
+/// Whether messages of the row are sent as fast packets.
+#[tactic(auto, unfolding(pgn_profile::specs::Profiled::messages))]
+fn is_fast(row: Row) -> bool
+    ensures { result ≡ is_fast_row row }
+{
+    matches!(row, Row::DistanceLog | Row::Gnss)
+}
+
+/// The rank of a source is its place among those that are listed.
+fn rank_by(line: Heard) -> Rank
+    ensures { result ≡ rank_by (line_of line) }
+{
+    Rank {
+        place: line.source,
+        name: 0,
+    }
+}

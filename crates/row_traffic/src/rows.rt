@@ -1,0 +1,55 @@
+//! The rows by their numbers, how they are configured, and when a reading says something of one.
+ghost use Rattle.std.specs.Prelude.{◌≡◌, ◌<◌, IsTrue, Some};
+ghost use Rattle.std.specs.List.{list_all};
+ghost use Rattle.sentence_text.specs.Byte.{is_capital};
+ghost use Rattle.source_choice.specs.Choices.{row_number};
+ghost use Rattle.history.specs.Choice.{is_usable};
+ghost use Rattle.history.specs.Settings.{rule_at, rule_of};
+ghost use Rattle.config_values.specs.Configs.{IsConfig};
+ghost use Rattle.config_values.specs.Rows.{IsRow};
+ghost use Rattle.config_values.specs.Settings.{settings_of, rule_of_row};
+
+use config_values::{Config, RowConfig};
+use readings::{Reading, Row, usable};
+
+/// The place of the row among the rows.
+pub(crate) fn number(row: Row) -> usize
+    ensures number { result ≡ row_number row }
+    ensures within { result < 17 }
+{
+    row as usize
+}
+
+/// How the row with this number is taken and said.
+#[tactic(auto, using(config_values::proofs::SettingsLemmas::rules_are_by_number))]
+pub fn row_at(config: &Config, number: usize) -> &RowConfig
+    requires { number < 17 }
+    ensures rule { rule_of_row result.now ≡ rule_at (settings_of config.now).rows number }
+    ensures valid { IsConfig config.now → IsRow result.now }
+{
+    &config.rows[number]
+}
+
+/// How the row is taken and said.
+pub(crate) fn row_config(config: &Config, row: Row) -> &RowConfig
+    ensures rule { rule_of_row result.now ≡ rule_of (settings_of config.now) row }
+    ensures valid { IsConfig config.now → IsRow result.now }
+{
+    row_at(config, number(row))
+}
+
+/// The talker of the row's sentences.
+pub(crate) fn talker_of(config: &Config, row: Row) -> [u8; 2]
+    requires { IsConfig config.now }
+    ensures talker { result ≡ (rule_of (settings_of config.now) row).talker }
+    ensures capitals { IsTrue (list_all is_capital result) }
+{
+    row_config(config, row).talker
+}
+
+/// Whether the reading says something of its row.
+pub(crate) fn says_something(reading: &Reading) -> bool
+    ensures { result ≡ is_usable (Some reading.now) }
+{
+    usable(reading)
+}

@@ -1,0 +1,269 @@
+//! What is said on the network of the messages of the bus (IEC 61162-450): whose messages are said, and how many lines were.
+ghost use Rattle.std.specs.Prelude.{◌≡◌, ◌+◌, ◌<◌, ◌≤◌, ◌++◌, ◌∷◌, [], false, length, map, IfOk, IfSome, Some};
+ghost use Rattle.std.specs.List.{AllByRecursion};
+ghost use Rattle.readings.specs.Ranges.{IsValid};
+ghost use Rattle.readings.specs.Rows.{row_of};
+ghost use Rattle.sentence_text.specs.Byte.{is_capital};
+ghost use Rattle.source_choice.specs.Choices.{opened, forgotten, row_number};
+ghost use Rattle.tag_block.specs.Writing.{longest_packet};
+ghost use Rattle.history.specs.Choice.{is_usable, rank_of};
+ghost use Rattle.gate_events.specs.Emit.{net};
+ghost use Rattle.history.specs.Settings.{rule_of};
+ghost use Rattle.gate_model.specs.Net.{row_numbers};
+ghost use Rattle.gate_model.specs.Said.{SaidKept, is_chosen, noted_by, counted, lines_more, groups_more, lines_at, datagram_by, sentences_by, rank_by};
+ghost use Rattle.gate_model.specs.Said.{ranked_after, ranked_emits, profiled_after, profiled_emits};
+ghost use Rattle.config_values.specs.Configs.{IsConfig};
+ghost use Rattle.config_values.specs.Settings.{settings_of, rule_of_row};
+ghost use Rattle.row_traffic.specs.Saying.{message_from, texts};
+ghost use Rattle.gate_outbox.specs.Output.{and_emits, most_emits, has_datagram};
+
+use crate::rows::{number, row_at, row_config, says_something};
+use crate::said::ranks::rank_in;
+use crate::said::writing::{sentences_in, speaker, write_datagram};
+use config_values::Config;
+use gate_outbox::Outbox;
+use n2k_id::Name;
+use readings::{Reading, Row, row};
+use sentence_rows::Lines;
+use sentence_text::Group;
+use source_choice::{Choice, Rank};
+use std::alloc::{AllocError, Global};
+use std::marker::Model;
+
+mod ranks;
+mod writing;
+
+/// How many addresses a device can hold: 0 to 253.
+const PLACES: u16 = 254;
+
+/// The greatest count of a line, behind which counts begin again with 1.
+const MOST_COUNT: u16 = 999;
+
+/// The greatest code of a group of lines, behind which codes begin again with 1.
+const MOST_CODE: u8 = 99;
+
+/// Who sends a message, and when it is complete.
+#[derive(Clone, Copy)]
+pub struct Sender {
+    /// In microseconds.
+    pub moment: u64,
+    pub source: u8,
+    /// The NAME that holds the source.
+    pub name: Name,
+}
+
+/// What is kept of what was said.
+#[derive(Drop)]
+pub struct Said {
+    choice: Choice,
+    /// How many lines were said on the transmission group of each row, from 0 to 998, by the row's number.
+    lines: [u16; 17],
+    /// How many groups of lines were said, from 0 to 98.
+    groups: u8,
+}
+
+impl Model for Said {
+    ghost use Rattle.std.specs.Prelude.{◌≡◌, ◌<◌, length};
+    ghost use Rattle.std.specs.List.{AllByRecursion};
+    ghost use Rattle.gate_model.specs.Said.{SaidKept};
+
+    ghost Value = { SaidKept };
+
+    ghost view = { λ s. record { choices = s.choice; lines = s.lines; groups = s.groups } };
+
+    ghost invariant = { λ s. (s.choice.sources ≡ 254) × (length s.lines ≡ 17) × AllByRecursion (λ n. n < 999) s.lines × (s.groups < 99) };
+}
+
+impl Said {
+    /// With nothing said.
+    pub fn new(alloc: Global, timeouts: &[u32; 17]) -> Result<Said, AllocError>
+        ensures { IfOk result (λ s. s ≡ record { choices = opened 254 timeouts.now; lines = map (λ number. 0) row_numbers; groups = 0 }) }
+    {
+        let choice = Choice::new(alloc, PLACES, timeouts)?;
+        Ok(Said {
+            choice,
+            lines: [0; 17],
+            groups: 0,
+        })
+    }
+
+    /// Takes a message with its reading: where its sender has a rank in the row it is noted, and where it is selected it is said.
+    pub fn take(
+        &mut self,
+        config: &Config,
+        sender: Sender,
+        reading: Option<Reading>,
+        out: &mut Outbox,
+    )
+        requires config { IsConfig config.now }
+        requires source { sender.source < 254 }
+        requires valid { IfSome reading IsValid }
+        requires room { length out.old.emits
+            + length (profiled_emits (settings_of config.now) self.old (message_from sender) reading) ≤ most_emits }
+        requires before { has_datagram out.old.emits ≡ false }
+        ensures after { self.new ≡ profiled_after (settings_of config.now) self.old (message_from sender) reading }
+        ensures emits { out.new ≡ and_emits out.old (profiled_emits (settings_of config.now) self.old (message_from sender) reading) }
+    {
+        match reading {
+            None => {}
+            Some(reading) => self.take_reading(config, sender, &reading, out),
+        }
+    }
+
+    /// Takes a reading: where its sender has a rank in the row.
+    fn take_reading(&mut self, config: &Config, sender: Sender, reading: &Reading, out: &mut Outbox)
+        requires config { IsConfig config.now }
+        requires source { sender.source < 254 }
+        requires valid { IsValid reading.now }
+        requires room { length out.old.emits + length (ranked_emits (settings_of config.now) self.old (message_from sender) reading.now
+            (rank_by (settings_of config.now) (message_from sender) reading.now)) ≤ most_emits }
+        requires before { has_datagram out.old.emits ≡ false }
+        ensures after { self.new ≡ ranked_after (settings_of config.now) self.old (message_from sender) reading.now
+            (rank_by (settings_of config.now) (message_from sender) reading.now) }
+        ensures emits { out.new ≡ and_emits out.old (ranked_emits (settings_of config.now) self.old (message_from sender) reading.now
+            (rank_by (settings_of config.now) (message_from sender) reading.now)) }
+    {
+        match rank_in(config, row(reading), sender.name) {
+            None => {}
+            Some(rank) => self.take_ranked(config, sender, rank, reading, out),
+        }
+    }
+
+    /// Notes a reading, and says it where it is selected.
+    fn take_ranked(
+        &mut self,
+        config: &Config,
+        sender: Sender,
+        rank: Rank,
+        reading: &Reading,
+        out: &mut Outbox,
+    )
+        requires config { IsConfig config.now }
+        requires source { sender.source < 254 }
+        requires valid { IsValid reading.now }
+        requires room { length out.old.emits
+            + length (ranked_emits (settings_of config.now) self.old (message_from sender) reading.now (Some rank)) ≤ most_emits }
+        requires before { has_datagram out.old.emits ≡ false }
+        ensures after { self.new ≡ ranked_after (settings_of config.now) self.old (message_from sender) reading.now (Some rank) }
+        ensures emits { out.new ≡ and_emits out.old
+            (ranked_emits (settings_of config.now) self.old (message_from sender) reading.now (Some rank)) }
+    {
+        if self.is_chosen(sender, rank, reading) {
+            self.note(sender, rank, reading);
+            self.say(config, reading, out);
+        } else {
+            self.note(sender, rank, reading);
+        }
+    }
+
+    /// Whether the reading is selected.
+    fn is_chosen(&self, sender: Sender, rank: Rank, reading: &Reading) -> bool
+        requires { sender.source < 254 }
+        ensures { result ≡ is_chosen self.now (message_from sender) rank reading.now }
+    {
+        self.choice
+            .selected(row(reading), sender.source, rank, sender.moment)
+    }
+
+    /// Notes what the sender said of the row.
+    fn note(&mut self, sender: Sender, rank: Rank, reading: &Reading)
+        requires { sender.source < 254 }
+        ensures { self.new ≡ noted_by self.old (message_from sender) rank reading.now }
+    {
+        self.choice.note(
+            row(reading),
+            sender.source,
+            rank,
+            sender.moment,
+            says_something(reading),
+        );
+    }
+
+    /// Says a reading in one datagram, and counts its lines.
+    fn say(&mut self, config: &Config, reading: &Reading, out: &mut Outbox)
+        requires config { IsConfig config.now }
+        requires valid { IsValid reading.now }
+        requires room { length out.old.emits < most_emits }
+        requires before { has_datagram out.old.emits ≡ false }
+        ensures after { self.new ≡ counted (settings_of config.now) self.old reading.now }
+        ensures emits { out.new ≡ and_emits out.old (net (rule_of (settings_of config.now) (row_of reading.now)).group
+            (datagram_by (settings_of config.now) self.old reading.now) ∷ []) }
+    {
+        let row = row(reading);
+        let group = row_config(config, row).group;
+        let mut sentences = Lines::new();
+        sentences_in(config, reading, &mut sentences);
+        let datagram = out.post(group);
+        write_datagram(
+            speaker(config),
+            u16::from(self.groups) + 1,
+            self.lines[number(row)],
+            &sentences,
+            &mut datagram.packet,
+        );
+        self.count(config, group, sentences.len() as u16);
+    }
+
+    /// Counts so many lines that were said on a transmission group.
+    fn count(&mut self, config: &Config, group: Group, count: u16)
+        requires { count ≤ 2 }
+        ensures { self.new ≡ record self.old {
+          lines = map (lines_more (settings_of config.now) self.old group count) row_numbers;
+          groups = groups_more self.old count;
+        } }
+    {
+        self.count_lines(config, group, count);
+        self.count_groups(count);
+    }
+
+    fn count_lines(&mut self, config: &Config, group: Group, count: u16)
+        requires { count ≤ 2 }
+        ensures { self.new ≡ record self.old { lines = map (lines_more (settings_of config.now) self.old group count) row_numbers } }
+    {
+        self.lines = self.counted_lines(config, group, count);
+    }
+
+    /// How many lines were said on the transmission group of each row, with so many more on a transmission group.
+    fn counted_lines(&self, config: &Config, group: Group, count: u16) -> [u16; 17]
+        requires { count ≤ 2 }
+        ensures lines { result ≡ map (lines_more (settings_of config.now) self.now group count) row_numbers }
+        ensures small { AllByRecursion (λ n. n < 999) result }
+    {
+        let mut lines = [0; 17];
+        for number in 0..17 {
+            lines[number] = self.lines_more(config, group, count, number);
+        }
+        lines
+    }
+
+    /// How many lines were said on the transmission group of a row, with so many more on a transmission group.
+    fn lines_more(&self, config: &Config, group: Group, count: u16, number: usize) -> u16
+        requires row { number < 17 }
+        requires few { count ≤ 2 }
+        ensures lines { result ≡ lines_more (settings_of config.now) self.now group count number }
+        ensures within { result < 999 }
+    {
+        let before = self.lines[number];
+        if group == row_at(config, number).group {
+            (before + count) % MOST_COUNT
+        } else {
+            before
+        }
+    }
+
+    fn count_groups(&mut self, count: u16)
+        ensures { self.new ≡ record self.old { groups = groups_more self.old count } }
+    {
+        if count >= 2 {
+            self.groups = (self.groups + 1) % MOST_CODE;
+        }
+    }
+
+    /// Nothing is noted of the source any more.
+    pub fn forget(&mut self, source: u8)
+        requires { source < 254 }
+        ensures { self.new ≡ record self.old { choices = forgotten self.old.choices source } }
+    {
+        self.choice.forget(source);
+    }
+}
