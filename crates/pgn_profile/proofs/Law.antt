@@ -1,126 +1,71 @@
--- The law of reading and writing: what is written of a valid reading is read as that reading.
-use Rattle.std.proofs.Common.{◌≡◌, ◌≤◌, ◌*◌, ℕ, ℤ, pos, ◌≤ℤ◌, true, false, nat_le, Option, refl, arith}
-use Rattle.std.proofs.lemmas.Bool.Decides.{nat_tests}
-use Rattle.std.proofs.lemmas.Int.{ints}
+-- The laws of the table: what is read is valid, and what is written of a valid reading is read as that reading.
+use Rattle.std.proofs.Common.{◌≡◌, ℕ, Bool, true, false, List, [], ◌∷◌, length, nat_lt, ◌==◌, Some, refl, ap}
+use Rattle.std.specs.Prelude.{if◌then◌else◌}
 use Rattle.readings.specs.declared.reading.Reading.{Reading}
 use Rattle.readings.specs.declared.reading.Reading.TheVariants as reading
-use Rattle.readings.specs.Numbers.{bits_of}
 use Rattle.readings.specs.Rows.{row_of}
-use Rattle.readings.specs.Ranges.{IsValid, angle, deviation, rate_of_turn, rudder, speed, depth, offset, depth_scale, water_distance, latitude, longitude, date, time, fix_latitude, fix_longitude, altitude, satellites, hdop, separation, water_temperature, cross_track}
+use Rattle.readings.specs.Ranges.{IsValid}
+use Rattle.pgn_profile.specs.declared.profiled.Profiled.{Profiled}
 use Rattle.pgn_profile.specs.declared.profiled.Profiled.TheVariants as says
+use Rattle.pgn_profile.specs.Part.{AreIn, Values, values_in}
+use Rattle.pgn_profile.specs.Layout as rows
+use Rattle.pgn_profile.specs.Layout.{Layout, given, reading_by, written}
 use Rattle.pgn_profile.specs.Payload.{payload_of, pgn_of}
-use Rattle.pgn_profile.specs.Profiled.{known_method, messages, profiled}
-use Rattle.pgn_profile.proofs.ReadBack.{signed_back, unsigned_back}
+use Rattle.pgn_profile.specs.Profiled.{GivesValid, Message, by_message, by_rows, message_in, messages, profiled}
+use Rattle.pgn_profile.proofs.Parts.{are_in, is_well_formed, written_back}
 
-method_back : (m : ℕ) → pos m ≤ℤ pos 8 → known_method (bits_of (m * 16) 4 4) ≡ m
-method_back m known =
-    let small : m ≤ 8 = omega (arith, ints) in
-    let same : bits_of (m * 16) 4 4 ≡ m = omega arith in
-    let test : nat_le m 8 ≡ true = grind (arith, nat_tests) in
-    rw (same, test) refl
+-- ---- what is read is valid
 
--- nine equal values make equal fixes
-gnss_same : {d d2 t t2 la la2 lo lo2 al al2 : Option ℤ} {m m2 : ℕ} {n n2 h h2 s s2 : Option ℤ}
-    → d ≡ d2 → t ≡ t2 → la ≡ la2 → lo ≡ lo2 → al ≡ al2 → m ≡ m2 → n ≡ n2 → h ≡ h2 → s ≡ s2
-    → says.Reading (reading.Gnss d t la lo al m n h s) ≡ says.Reading (reading.Gnss d2 t2 la2 lo2 al2 m2 n2 h2 s2)
-gnss_same e1 e2 e3 e4 e5 e6 e7 e8 e9 = cc
+rows_valid : (rows : List Layout) (p : List ℕ) → GivesValid (by_rows rows p)
+rows_valid [] p = tt
+rows_valid (row ∷ rows) p = by (row.selects p) (rows_valid rows p)
+  where
+    by : (b : Bool) → GivesValid (by_rows rows p) → GivesValid (if b then says.Reading (reading_by row p) else by_rows rows p)
+    by true others = row.valid (values_in row.parts p) (are_in row.parts p)
+    by false others = others
+
+found_valid : (list : List Message) (pgn : ℕ) (p : List ℕ) → GivesValid (by_message (message_in list pgn) p)
+found_valid [] pgn p = tt
+found_valid (m ∷ list) pgn p = found (m.pgn == pgn) (found_valid list pgn p)
+  where
+    long : (b : Bool) → GivesValid (if b then says.Short else by_rows m.rows p)
+    long true = tt
+    long false = rows_valid m.rows p
+
+    found : (b : Bool) → GivesValid (by_message (message_in list pgn) p) → GivesValid (by_message (if b then Some m else message_in list pgn) p)
+    found true others = long (nat_lt (length p) m.least)
+    found false others = others
+
+pub profiled_valid : (pgn : ℕ) (p : List ℕ) → GivesValid (profiled pgn p)
+profiled_valid pgn p = found_valid messages pgn p
+
+pub what_is_profiled_is_valid : (x : Profiled) (pgn : ℕ) (p : List ℕ) → x ≡ profiled pgn p → GivesValid x
+what_is_profiled_is_valid x pgn p is = rw is (profiled_valid pgn p)
+
+-- ---- what is written is read
+
+back : (row : Layout) (v : Values row.parts) → is_well_formed (length row.around) row.parts ≡ true → AreIn row.parts v
+    → says.Reading (reading_by row (written row v)) ≡ says.Reading (given row.parts row.reading v)
+back row v fits within = ap (λ (x : Values row.parts). says.Reading (given row.parts row.reading x)) (written_back row.parts v row.around fits within)
 
 pub law : (r : Reading) → IsValid r → profiled (pgn_of (row_of r)) (payload_of r) ≡ says.Reading r
 unfolding messages
-law (reading.HeadingTrue h) valid =
-    let bytes = payload_of (reading.HeadingTrue h) in
-    let e1 = unsigned_back bytes 1 2 angle h refl refl refl valid.0 in
-    cc
-law (reading.HeadingMagnetic h d v) valid =
-    let bytes = payload_of (reading.HeadingMagnetic h d v) in
-    let e1 = unsigned_back bytes 1 2 angle h refl refl refl valid.0 in
-    let e2 = signed_back bytes 3 2 deviation d refl refl refl valid.1.0 in
-    let e3 = signed_back bytes 5 2 deviation v refl refl refl valid.1.1.0 in
-    cc
-law (reading.RateOfTurn r) valid =
-    let bytes = payload_of (reading.RateOfTurn r) in
-    let e1 = signed_back bytes 1 4 rate_of_turn r refl refl refl valid.0 in
-    cc
-law (reading.RudderFirst p) valid =
-    let bytes = payload_of (reading.RudderFirst p) in
-    let e1 = signed_back bytes 4 2 rudder p refl refl refl valid.0 in
-    cc
-law (reading.RudderSecond p) valid =
-    let bytes = payload_of (reading.RudderSecond p) in
-    let e1 = signed_back bytes 4 2 rudder p refl refl refl valid.0 in
-    cc
-law (reading.WaterSpeed s) valid =
-    let bytes = payload_of (reading.WaterSpeed s) in
-    let e1 = unsigned_back bytes 1 2 speed s refl refl refl valid.0 in
-    cc
-law (reading.Depth d o r) valid =
-    let bytes = payload_of (reading.Depth d o r) in
-    let e1 = unsigned_back bytes 1 4 depth d refl refl refl valid.0 in
-    let e2 = signed_back bytes 5 2 offset o refl refl refl valid.1.0 in
-    let e3 = unsigned_back bytes 7 1 depth_scale r refl refl refl valid.1.1.0 in
-    cc
-law (reading.DistanceLog l t) valid =
-    let bytes = payload_of (reading.DistanceLog l t) in
-    let e1 = unsigned_back bytes 6 4 water_distance l refl refl refl valid.0 in
-    let e2 = unsigned_back bytes 10 4 water_distance t refl refl refl valid.1.0 in
-    cc
-law (reading.Position la lo) valid =
-    let bytes = payload_of (reading.Position la lo) in
-    let e1 = signed_back bytes 0 4 latitude la refl refl refl valid.0 in
-    let e2 = signed_back bytes 4 4 longitude lo refl refl refl valid.1.0 in
-    cc
-law (reading.CourseSpeed false c s) valid =
-    let bytes = payload_of (reading.CourseSpeed false c s) in
-    let e1 = unsigned_back bytes 2 2 angle c refl refl refl valid.0 in
-    let e2 = unsigned_back bytes 4 2 speed s refl refl refl valid.1.0 in
-    cc
-law (reading.CourseSpeed true c s) valid =
-    let bytes = payload_of (reading.CourseSpeed true c s) in
-    let e1 = unsigned_back bytes 2 2 angle c refl refl refl valid.0 in
-    let e2 = unsigned_back bytes 4 2 speed s refl refl refl valid.1.0 in
-    cc
-law (reading.Gnss d t la lo al m n h s) valid =
-    let bytes = payload_of (reading.Gnss d t la lo al m n h s) in
-    let e1 = unsigned_back bytes 1 2 date d refl refl refl valid.0 in
-    let e2 = unsigned_back bytes 3 4 time t refl refl refl valid.1.0 in
-    let e3 = signed_back bytes 7 8 fix_latitude la refl refl refl valid.1.1.0 in
-    let e4 = signed_back bytes 15 8 fix_longitude lo refl refl refl valid.1.1.1.0 in
-    let e5 = signed_back bytes 23 8 altitude al refl refl refl valid.1.1.1.1.0 in
-    let e6 = method_back m valid.1.1.1.1.1.0.1 in
-    let e7 = unsigned_back bytes 33 1 satellites n refl refl refl valid.1.1.1.1.1.1.0 in
-    let e8 = signed_back bytes 34 2 hdop h refl refl refl valid.1.1.1.1.1.1.1.0 in
-    let e9 = signed_back bytes 38 4 separation s refl refl refl valid.1.1.1.1.1.1.1.1.0 in
-    gnss_same e1 e2 e3 e4 e5 e6 e7 e8 e9
-law (reading.Time d t) valid =
-    let bytes = payload_of (reading.Time d t) in
-    let e1 = unsigned_back bytes 2 2 date d refl refl refl valid.0 in
-    let e2 = unsigned_back bytes 4 4 time t refl refl refl valid.1.0 in
-    cc
-law (reading.WindApparent s a) valid =
-    let bytes = payload_of (reading.WindApparent s a) in
-    let e1 = unsigned_back bytes 1 2 speed s refl refl refl valid.0 in
-    let e2 = unsigned_back bytes 3 2 angle a refl refl refl valid.1.0 in
-    cc
-law (reading.WindTrue s a) valid =
-    let bytes = payload_of (reading.WindTrue s a) in
-    let e1 = unsigned_back bytes 1 2 speed s refl refl refl valid.0 in
-    let e2 = unsigned_back bytes 3 2 angle a refl refl refl valid.1.0 in
-    cc
-law (reading.WindNorth false s a) valid =
-    let bytes = payload_of (reading.WindNorth false s a) in
-    let e1 = unsigned_back bytes 1 2 speed s refl refl refl valid.0 in
-    let e2 = unsigned_back bytes 3 2 angle a refl refl refl valid.1.0 in
-    cc
-law (reading.WindNorth true s a) valid =
-    let bytes = payload_of (reading.WindNorth true s a) in
-    let e1 = unsigned_back bytes 1 2 speed s refl refl refl valid.0 in
-    let e2 = unsigned_back bytes 3 2 angle a refl refl refl valid.1.0 in
-    cc
-law (reading.WaterTemperature k) valid =
-    let bytes = payload_of (reading.WaterTemperature k) in
-    let e1 = unsigned_back bytes 3 3 water_temperature k refl refl refl valid.0 in
-    cc
-law (reading.CrossTrack d) valid =
-    let bytes = payload_of (reading.CrossTrack d) in
-    let e1 = signed_back bytes 2 4 cross_track d refl refl refl valid.0 in
-    cc
+law (reading.HeadingTrue h) valid = back rows.heading_true (h, tt) refl valid
+law (reading.HeadingMagnetic h d v) valid = back rows.heading_magnetic (h, (d, (v, tt))) refl valid
+law (reading.RateOfTurn r) valid = back rows.turning (r, tt) refl valid
+law (reading.RudderFirst p) valid = back rows.rudder_first (p, tt) refl valid
+law (reading.RudderSecond p) valid = back rows.rudder_second (p, tt) refl valid
+law (reading.WaterSpeed s) valid = back rows.water_speed (s, tt) refl valid
+law (reading.Depth d o r) valid = back rows.water_depth (d, (o, (r, tt))) refl valid
+law (reading.DistanceLog l t) valid = back rows.distance_log (l, (t, tt)) refl valid
+law (reading.Position la lo) valid = back rows.position (la, (lo, tt)) refl valid
+law (reading.CourseSpeed false c s) valid = back rows.course_speed (false, (c, (s, tt))) refl valid
+law (reading.CourseSpeed true c s) valid = back rows.course_speed (true, (c, (s, tt))) refl valid
+law (reading.Gnss d t la lo al m n h s) valid = back rows.fix (d, (t, (la, (lo, (al, (m, (n, (h, (s, tt))))))))) refl valid
+law (reading.Time d t) valid = back rows.system_time (d, (t, tt)) refl valid
+law (reading.WindApparent s a) valid = back rows.wind_apparent (s, (a, tt)) refl valid
+law (reading.WindTrue s a) valid = back rows.wind_true (s, (a, tt)) refl valid
+law (reading.WindNorth false s a) valid = back rows.wind_north (false, (s, (a, tt))) refl valid
+law (reading.WindNorth true s a) valid = back rows.wind_north (true, (s, (a, tt))) refl valid
+law (reading.WaterTemperature k) valid = back rows.extended_temperature (k, tt) refl valid
+law (reading.CrossTrack d) valid = back rows.track (d, tt) refl valid

@@ -1,4 +1,5 @@
 pub mod Available
 pub mod Law
+pub mod Parts
 pub mod Pieces
 pub mod ReadBack

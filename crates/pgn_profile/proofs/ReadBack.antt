@@ -1,7 +1,7 @@
 -- A value that is written is read back.
-use Rattle.std.proofs.Common.{◌≡◌, ◌≤◌, ◌<◌, ◌+◌, ◌-◌, ◌*◌, ◌^◌, ◌%◌, ℕ, zero, suc, ℤ, pos, negsuc, ◌≤ℤ◌, ◌-ℤ◌, Bool, true, false, ◌&&◌, nat_lt, nat_le, List, [], ◌∷◌, ◌++◌, length, take, drop, Option, Some, None, unwrap_or, w64, refl, sym, ap, ◌∙◌, arith}
+use Rattle.std.proofs.Common.{◌≡◌, ◌≤◌, ◌<◌, ◌+◌, ◌-◌, ◌*◌, ◌^◌, ◌%◌, ℕ, zero, suc, ℤ, pos, negsuc, ◌≤ℤ◌, ◌-ℤ◌, Bool, true, false, ◌&&◌, nat_lt, nat_le, List, [], ◌∷◌, length, take, drop, Option, Some, None, unwrap_or, w64, refl, sym, ap, ◌∙◌, arith}
 use Rattle.std.proofs.Math.Nat.{mod-eq_of_lt, mul-add-mod_self_right, one-le-pow, pow-suc, pow-succ'}
-use Rattle.std.proofs.Math.Seq.{take-append_seam}
+use Rattle.std.proofs.lemmas.Bool.{and_parts}
 use Rattle.std.proofs.lemmas.Bool.Decides.{nat_tests}
 use Rattle.std.proofs.lemmas.Int.{ints}
 use Rattle.std.proofs.lemmas.List.{append-nil}
@@ -38,13 +38,9 @@ value_of_bytes width n fits =
     ∙ ap (little_number width) (sym (append-nil (little_bytes width n)))
     ∙ little_number-reads_back width n [] size
 
-field_written : (payload bytes : List ℕ) (place width : ℕ) → length bytes ≡ width → nat_le (place + width) (length payload) ≡ true
-    → drop place payload ≡ bytes ++ drop (place + width) payload → field_at payload place width ≡ Some bytes
-field_written payload bytes place width len inside there =
-    let cut : take width (drop place payload) ≡ bytes =
-    ap (take width) there ∙ ap (λ (k : ℕ). take k (bytes ++ drop (place + width) payload)) (sym len)
-    ∙ take-append_seam bytes (drop (place + width) payload) in
-    rw inside (ap Some cut)
+field_written : (payload bytes : List ℕ) (place width : ℕ) → nat_le (place + width) (length payload) ≡ true
+    → take width (drop place payload) ≡ bytes → field_at payload place width ≡ Some bytes
+field_written payload bytes place width inside there = rw inside (ap Some there)
 
 -- ---- two's complement
 
@@ -95,19 +91,17 @@ twos_back width (negsuc n) low high fits =
 -- ---- a number in a payload
 
 unsigned_written : (payload : List ℕ) (place width n : ℕ) → n < 2 ^ (8 * width) → nat_le (place + width) (length payload) ≡ true
-    → drop place payload ≡ number_bytes width (pos n) ++ drop (place + width) payload → unsigned_at payload place width ≡ Some n
+    → take width (drop place payload) ≡ number_bytes width (pos n) → unsigned_at payload place width ≡ Some n
 unsigned_written payload place width n fits inside there =
-    let len = length-bytes_low_first 0 width (n % 2 ^ (8 * width)) in
-    ap unsigned_in (field_written payload (number_bytes width (pos n)) place width len inside there)
+    ap unsigned_in (field_written payload (number_bytes width (pos n)) place width inside there)
     ∙ ap (λ (m : ℕ). Some (little_endian (little_bytes width m))) (mod-eq_of_lt fits)
     ∙ ap Some (value_of_bytes width n fits)
 
 signed_written : (payload : List ℕ) (place width : ℕ) (z : ℤ) → 1 ≤ width → width ≤ 8 → IsOf width z → nat_le (place + width) (length payload) ≡ true
-    → drop place payload ≡ number_bytes width z ++ drop (place + width) payload → signed_at payload place width ≡ Some z
+    → take width (drop place payload) ≡ number_bytes width z → signed_at payload place width ≡ Some z
 signed_written payload place width z low high fits inside there =
-    let len = length-bytes_low_first 0 width (low_bytes w64 width z) in
     let value = value_of_bytes width (low_bytes w64 width z) (low_bytes_fit width z low high fits) in
-    ap (signed_in width) (field_written payload (number_bytes width z) place width len inside there)
+    ap (signed_in width) (field_written payload (number_bytes width z) place width inside there)
     ∙ ap (λ (m : ℕ). Some (twos_complement width m)) value
     ∙ ap Some (twos_back width z low high fits)
 
@@ -123,10 +117,6 @@ signed_fits width range =
 
 above : (low high : ℤ) → not (int_lt high low) ≡ true → low ≤ℤ high
 above low high e = grind (arith, ints)
-
-both : (a b : Bool) → (a && b) ≡ true → (a ≡ true) × (b ≡ true)
-both true b e = (refl, e)
-both false b e = cc
 
 -- what is above a range is in no such range
 largest_is_outside : (largest : ℤ) (range : Range) → range.high ≤ℤ (largest -ℤ pos 3) → Holds range largest → ⊥
@@ -146,16 +136,15 @@ written_unsigned width range (Some (pos n)) low high within = (n, omega (arith, 
 written_unsigned width range (Some (negsuc n)) low high within = absurd (omega (arith, ints))
 
 pub unsigned_back : (payload : List ℕ) (place width : ℕ) (range : Range) (value : Option ℤ) → unsigned_fits width range ≡ true
-    → nat_le (place + width) (length payload) ≡ true → drop place payload ≡ unsigned_bytes width value ++ drop (place + width) payload
+    → nat_le (place + width) (length payload) ≡ true → take width (drop place payload) ≡ unsigned_bytes width value
     → Admits range value → unsigned_value place width range payload ≡ value
 unsigned_back payload place width range value fits inside there within =
-    let tests = both (not (int_lt range.low (pos 0))) (not (int_lt (largest_unsigned width -ℤ pos 3) range.high)) fits in
+    let tests = and_parts (not (int_lt range.low (pos 0))) (not (int_lt (largest_unsigned width -ℤ pos 3) range.high)) fits in
     let low : pos 0 ≤ℤ range.low = above (pos 0) range.low tests.0 in
     let high : range.high ≤ℤ (largest_unsigned width -ℤ pos 3) = above range.high (largest_unsigned width -ℤ pos 3) tests.1 in
     let number = written_unsigned width range value low high within in
     let bytes : unsigned_bytes width value ≡ number_bytes width (pos number.0) = ap (number_bytes width) (sym number.2) in
-    let read = unsigned_written payload place width number.0 number.1 inside
-    (there ∙ ap (λ (bs : List ℕ). bs ++ drop (place + width) payload) bytes) in
+    let read = unsigned_written payload place width number.0 number.1 inside (there ∙ bytes) in
     ap (unsigned_from width range) read
     ∙ ap (available (largest_unsigned width) range) number.2
     ∙ back (largest_unsigned width) range value high within
@@ -169,13 +158,13 @@ is_of width range (Some (pos n)) low high within = omega (arith, ints)
 is_of width range (Some (negsuc n)) low high within = omega (arith, ints)
 
 pub signed_back : (payload : List ℕ) (place width : ℕ) (range : Range) (value : Option ℤ) → signed_fits width range ≡ true
-    → nat_le (place + width) (length payload) ≡ true → drop place payload ≡ signed_bytes width value ++ drop (place + width) payload
+    → nat_le (place + width) (length payload) ≡ true → take width (drop place payload) ≡ signed_bytes width value
     → Admits range value → signed_value place width range payload ≡ value
 signed_back payload place width range value fits inside there within =
     let lowest = pos 0 -ℤ pos (2 ^ (8 * width - 1)) in
-    let last = both (nat_lt 0 width && nat_le width 8 && not (int_lt range.low lowest)) (not (int_lt (largest_signed width -ℤ pos 3) range.high)) fits in
-    let third = both (nat_lt 0 width && nat_le width 8) (not (int_lt range.low lowest)) last.0 in
-    let widths = both (nat_lt 0 width) (nat_le width 8) third.0 in
+    let last = and_parts (nat_lt 0 width && nat_le width 8 && not (int_lt range.low lowest)) (not (int_lt (largest_signed width -ℤ pos 3) range.high)) fits in
+    let third = and_parts (nat_lt 0 width && nat_le width 8) (not (int_lt range.low lowest)) last.0 in
+    let widths = and_parts (nat_lt 0 width) (nat_le width 8) third.0 in
     let low : lowest ≤ℤ range.low = above lowest range.low third.1 in
     let high : range.high ≤ℤ (largest_signed width -ℤ pos 3) = above range.high (largest_signed width -ℤ pos 3) last.1 in
     let narrowest : 1 ≤ width = grind (arith, nat_tests) in

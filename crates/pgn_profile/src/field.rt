@@ -4,7 +4,6 @@
 //! below them, so the range alone tells whether a value is available.
 
 ghost use Rattle.std.specs.Prelude.{◌≡◌, ◌≤◌, ◌≤ℤ◌, ◌-ℤ◌, pos};
-ghost use Rattle.readings.specs.Ranges.{Admits};
 ghost use Rattle.pgn_profile.specs.Field.{largest_signed, largest_unsigned, signed_value, unsigned_value};
 
 use readings::{Range, read_signed, read_unsigned};
@@ -16,8 +15,7 @@ pub fn unsigned(payload: &[u8], at: usize, width: usize, range: Range) -> Option
     requires widest { width ≤ 8 }
     requires below_largest { range.high ≤ℤ (largest_unsigned width -ℤ pos 3) }
 
-    ensures value { result ≡ unsigned_value at width range payload.now }
-    ensures within { Admits range result }
+    ensures { result ≡ unsigned_value at width range payload.now }
 {
     match i64::try_from(read_unsigned(payload, at, width)?) {
         Ok(value) if range.holds(value) => Some(value),
@@ -32,8 +30,7 @@ pub fn signed(payload: &[u8], at: usize, width: usize, range: Range) -> Option<i
     requires widest { width ≤ 8 }
     requires below_largest { range.high ≤ℤ (largest_signed width -ℤ pos 3) }
 
-    ensures value { result ≡ signed_value at width range payload.now }
-    ensures within { Admits range result }
+    ensures { result ≡ signed_value at width range payload.now }
 {
     let value = read_signed(payload, at, width)?;
     if range.holds(value) {

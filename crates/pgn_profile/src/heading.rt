@@ -5,21 +5,17 @@
 //!
 //! PGN 127251, rate of turn: SID, rate (i32 at byte 1).
 
-ghost use Rattle.std.specs.Prelude.{◌≡◌, []};
-ghost use Rattle.pgn_profile.specs.Payload.{payload_of};
-ghost use Rattle.pgn_profile.specs.Profiled.{GivesValid, profiled};
+ghost use Rattle.std.specs.Prelude.{◌≡◌};
+ghost use Rattle.pgn_profile.specs.Profiled.{profiled};
 
 use crate::field::{signed, unsigned};
-use crate::piece::Piece::{Byte, Signed, Unsigned};
-use crate::piece::{Payload, append_all};
 use crate::profiled::Profiled;
 use readings::range::{ANGLE, DEVIATION, RATE_OF_TURN};
 use readings::{Reading, bits};
 
 #[tactic(auto, unfolding(crate::specs::Profiled::messages))]
 pub fn read_heading(payload: &[u8]) -> Profiled
-    ensures value { result ≡ profiled 127250 payload.now }
-    ensures valid { GivesValid result }
+    ensures { result ≡ profiled 127250 payload.now }
 {
     if payload.len() < 8 {
         return Profiled::Short;
@@ -39,8 +35,7 @@ pub fn read_heading(payload: &[u8]) -> Profiled
 
 #[tactic(auto, unfolding(crate::specs::Profiled::messages))]
 pub fn read_rate_of_turn(payload: &[u8]) -> Profiled
-    ensures value { result ≡ profiled 127251 payload.now }
-    ensures valid { GivesValid result }
+    ensures { result ≡ profiled 127251 payload.now }
 {
     if payload.len() < 5 {
         return Profiled::Short;
@@ -48,57 +43,4 @@ pub fn read_rate_of_turn(payload: &[u8]) -> Profiled
     Profiled::Reading(Reading::RateOfTurn {
         rate: signed(payload, 1, 4, RATE_OF_TURN),
     })
-}
-
-pub fn write_heading_true(heading: Option<i64>, out: &mut Payload)
-    requires { out.old.items ≡ [] }
-    ensures { out.new.items ≡ payload_of (Reading.HeadingTrue heading) }
-{
-    append_all(
-        &[
-            Byte(0xFF),
-            Unsigned(2, heading),
-            Signed(2, None),
-            Signed(2, None),
-            Byte(0xFC),
-        ],
-        out,
-    );
-}
-
-pub fn write_heading_magnetic(
-    heading: Option<i64>,
-    deviation: Option<i64>,
-    variation: Option<i64>,
-    out: &mut Payload,
-)
-    requires { out.old.items ≡ [] }
-    ensures { out.new.items ≡ payload_of (Reading.HeadingMagnetic heading deviation variation) }
-{
-    append_all(
-        &[
-            Byte(0xFF),
-            Unsigned(2, heading),
-            Signed(2, deviation),
-            Signed(2, variation),
-            Byte(0xFD),
-        ],
-        out,
-    );
-}
-
-pub fn write_rate_of_turn(rate: Option<i64>, out: &mut Payload)
-    requires { out.old.items ≡ [] }
-    ensures { out.new.items ≡ payload_of (Reading.RateOfTurn rate) }
-{
-    append_all(
-        &[
-            Byte(0xFF),
-            Signed(4, rate),
-            Byte(0xFF),
-            Byte(0xFF),
-            Byte(0xFF),
-        ],
-        out,
-    );
 }

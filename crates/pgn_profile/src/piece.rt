@@ -14,7 +14,9 @@ pub type Payload = ArrayVec<u8, 223>;
 /// A piece of a payload.
 #[derive(Clone, Copy)]
 pub enum Piece {
-    /// A byte that stands as it is.
+    /// Bytes that stand as they are.
+    Bytes(&'static [u8]),
+    /// One byte.
     Byte(u8),
     /// An unsigned value of so many bytes, or the largest of them where there is none.
     Unsigned(usize, Option<i64>),
@@ -31,6 +33,9 @@ impl Piece {
         ensures { out.new.items ≡ out.old.items ++ bytes_of self }
     {
         match self {
+            Piece::Bytes(bytes) => {
+                let _fits = out.try_extend_from_slice(bytes);
+            }
             Piece::Byte(byte) => out.push(byte),
             Piece::Unsigned(width, value) => {
                 append_number(width, value.unwrap_or(most_unsigned(width)), out);

@@ -11,14 +11,12 @@
 //!
 //! PGN 129283, cross track error: SID, mode and termination, distance (i32 at byte 2).
 
-ghost use Rattle.std.specs.Prelude.{◌≡◌, ◌≤◌, []};
+ghost use Rattle.std.specs.Prelude.{◌≡◌};
 ghost use Rattle.readings.specs.Numbers.{bits_of};
-ghost use Rattle.pgn_profile.specs.Payload.{payload_of};
-ghost use Rattle.pgn_profile.specs.Profiled.{GivesValid, known_method, profiled};
+ghost use Rattle.pgn_profile.specs.Part.{known};
+ghost use Rattle.pgn_profile.specs.Profiled.{profiled};
 
 use crate::field::{signed, unsigned};
-use crate::piece::Piece::{Byte, Signed, Unsigned};
-use crate::piece::{Payload, append_all};
 use crate::profiled::Profiled;
 use readings::range::{
     ALTITUDE, ANGLE, CROSS_TRACK, DATE, FIX_LATITUDE, FIX_LONGITUDE, HDOP, LATITUDE, LONGITUDE,
@@ -28,8 +26,7 @@ use readings::{Reading, bits};
 
 #[tactic(auto, unfolding(crate::specs::Profiled::messages))]
 pub fn read_position(payload: &[u8]) -> Profiled
-    ensures value { result ≡ profiled 129025 payload.now }
-    ensures valid { GivesValid result }
+    ensures { result ≡ profiled 129025 payload.now }
 {
     if payload.len() < 8 {
         return Profiled::Short;
@@ -42,8 +39,7 @@ pub fn read_position(payload: &[u8]) -> Profiled
 
 #[tactic(auto, unfolding(crate::specs::Profiled::messages))]
 pub fn read_course(payload: &[u8]) -> Profiled
-    ensures value { result ≡ profiled 129026 payload.now }
-    ensures valid { GivesValid result }
+    ensures { result ≡ profiled 129026 payload.now }
 {
     if payload.len() < 6 {
         return Profiled::Short;
@@ -67,8 +63,7 @@ pub fn read_course(payload: &[u8]) -> Profiled
 
 /// The method of a fix; what isn't known counts as no fix.
 fn method(byte: u8) -> u8
-    ensures value { result ≡ known_method (bits_of byte 4 4) }
-    ensures known { result ≤ 8 }
+    ensures { result ≡ known 8 (bits_of byte 4 4) }
 {
     match bits(byte, 4, 4) {
         method @ 0..=8 => method,
@@ -78,8 +73,7 @@ fn method(byte: u8) -> u8
 
 #[tactic(auto, unfolding(crate::specs::Profiled::messages))]
 pub fn read_fix(payload: &[u8]) -> Profiled
-    ensures value { result ≡ profiled 129029 payload.now }
-    ensures valid { GivesValid result }
+    ensures { result ≡ profiled 129029 payload.now }
 {
     if payload.len() < 32 {
         return Profiled::Short;
@@ -99,8 +93,7 @@ pub fn read_fix(payload: &[u8]) -> Profiled
 
 #[tactic(auto, unfolding(crate::specs::Profiled::messages))]
 pub fn read_cross_track(payload: &[u8]) -> Profiled
-    ensures value { result ≡ profiled 129283 payload.now }
-    ensures valid { GivesValid result }
+    ensures { result ≡ profiled 129283 payload.now }
 {
     if payload.len() < 6 {
         return Profiled::Short;
@@ -108,79 +101,4 @@ pub fn read_cross_track(payload: &[u8]) -> Profiled
     Profiled::Reading(Reading::CrossTrack {
         distance: signed(payload, 2, 4, CROSS_TRACK),
     })
-}
-
-pub fn write_position(latitude: Option<i64>, longitude: Option<i64>, out: &mut Payload)
-    requires { out.old.items ≡ [] }
-    ensures { out.new.items ≡ payload_of (Reading.Position latitude longitude) }
-{
-    append_all(&[Signed(4, latitude), Signed(4, longitude)], out);
-}
-
-pub fn write_course(magnetic: bool, course: Option<i64>, speed: Option<i64>, out: &mut Payload)
-    requires { out.old.items ≡ [] }
-    ensures { out.new.items ≡ payload_of (Reading.CourseSpeed magnetic course speed) }
-{
-    append_all(
-        &[
-            Byte(0xFF),
-            Byte(if magnetic { 0xFD } else { 0xFC }),
-            Unsigned(2, course),
-            Unsigned(2, speed),
-            Byte(0xFF),
-            Byte(0xFF),
-        ],
-        out,
-    );
-}
-
-pub fn write_cross_track(distance: Option<i64>, out: &mut Payload)
-    requires { out.old.items ≡ [] }
-    ensures { out.new.items ≡ payload_of (Reading.CrossTrack distance) }
-{
-    append_all(
-        &[
-            Byte(0xFF),
-            Byte(0x30),
-            Signed(4, distance),
-            Byte(0xFF),
-            Byte(0xFF),
-        ],
-        out,
-    );
-}
-
-/// The payload of a fix, with a method of at most 8.
-pub fn write_fix(
-    date: Option<i64>,
-    time: Option<i64>,
-    latitude: Option<i64>,
-    longitude: Option<i64>,
-    altitude: Option<i64>,
-    method: u8,
-    satellites: Option<i64>,
-    hdop: Option<i64>,
-    separation: Option<i64>,
-    out: &mut Payload,
-)
-    requires empty { out.old.items ≡ [] }
-    requires known { method ≤ 8 }
-    ensures { out.new.items ≡ payload_of (Reading.Gnss date time latitude longitude altitude method satellites hdop separation) }
-{
-    let pieces = [
-        Byte(0xFF),
-        Unsigned(2, date),
-        Unsigned(4, time),
-        Signed(8, latitude),
-        Signed(8, longitude),
-        Signed(8, altitude),
-        Byte(method << 4),
-        Byte(0xFC),
-        Unsigned(1, satellites),
-        Signed(2, hdop),
-        Signed(2, None),
-        Signed(4, separation),
-        Byte(0),
-    ];
-    append_all(&pieces, out);
 }

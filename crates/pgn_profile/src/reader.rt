@@ -30,7 +30,7 @@ pub fn kind(pgn: u32) -> Kind
 }
 
 /// Reads the payload of a message of the PGN.
-#[tactic(auto, unfolding(crate::specs::Profiled::messages))]
+#[tactic(auto, unfolding(crate::specs::Profiled::messages), using(crate::proofs::Law::what_is_profiled_is_valid))]
 pub fn read(pgn: u32, payload: &[u8]) -> Profiled
     ensures value { result ≡ profiled pgn payload.now }
     ensures valid { GivesValid result }

@@ -5,21 +5,17 @@
 //! PGN 129033, time and date: date (u16 at byte 0), time (u32 at 2), local offset. It is read and
 //! never written, and its offset isn't used.
 
-ghost use Rattle.std.specs.Prelude.{◌≡◌, []};
-ghost use Rattle.pgn_profile.specs.Payload.{payload_of};
-ghost use Rattle.pgn_profile.specs.Profiled.{GivesValid, profiled};
+ghost use Rattle.std.specs.Prelude.{◌≡◌};
+ghost use Rattle.pgn_profile.specs.Profiled.{profiled};
 
 use crate::field::unsigned;
-use crate::piece::Piece::{Byte, Unsigned};
-use crate::piece::{Payload, append_all};
 use crate::profiled::Profiled;
 use readings::Reading;
 use readings::range::{DATE, TIME};
 
 #[tactic(auto, unfolding(crate::specs::Profiled::messages))]
 pub fn read_system_time(payload: &[u8]) -> Profiled
-    ensures value { result ≡ profiled 126992 payload.now }
-    ensures valid { GivesValid result }
+    ensures { result ≡ profiled 126992 payload.now }
 {
     if payload.len() < 8 {
         return Profiled::Short;
@@ -32,8 +28,7 @@ pub fn read_system_time(payload: &[u8]) -> Profiled
 
 #[tactic(auto, unfolding(crate::specs::Profiled::messages))]
 pub fn read_time_and_date(payload: &[u8]) -> Profiled
-    ensures value { result ≡ profiled 129033 payload.now }
-    ensures valid { GivesValid result }
+    ensures { result ≡ profiled 129033 payload.now }
 {
     if payload.len() < 6 {
         return Profiled::Short;
@@ -42,14 +37,4 @@ pub fn read_time_and_date(payload: &[u8]) -> Profiled
         date: unsigned(payload, 0, 2, DATE),
         time: unsigned(payload, 2, 4, TIME),
     })
-}
-
-pub fn write_system_time(date: Option<i64>, time: Option<i64>, out: &mut Payload)
-    requires { out.old.items ≡ [] }
-    ensures { out.new.items ≡ payload_of (Reading.Time date time) }
-{
-    append_all(
-        &[Byte(0xFF), Byte(0xFF), Unsigned(2, date), Unsigned(4, time)],
-        out,
-    );
 }

@@ -11,13 +11,10 @@
 //!
 //! PGN 130316, temperature, extended range: the same with a temperature of three bytes in 0.001 K.
 
-ghost use Rattle.std.specs.Prelude.{◌≡◌, []};
-ghost use Rattle.pgn_profile.specs.Payload.{payload_of};
-ghost use Rattle.pgn_profile.specs.Profiled.{GivesValid, profiled};
+ghost use Rattle.std.specs.Prelude.{◌≡◌};
+ghost use Rattle.pgn_profile.specs.Profiled.{profiled};
 
 use crate::field::{signed, unsigned};
-use crate::piece::Piece::{Byte, Signed, Unsigned};
-use crate::piece::{Payload, append_all};
 use crate::profiled::Profiled;
 use readings::range::{DEPTH, DEPTH_SCALE, OFFSET, SPEED, WATER_DISTANCE, WATER_TEMPERATURE};
 use readings::{Range, Reading};
@@ -30,8 +27,7 @@ const WATER_TEMPERATURE_HUNDREDTHS: Range = Range {
 
 #[tactic(auto, unfolding(crate::specs::Profiled::messages))]
 pub fn read_water_speed(payload: &[u8]) -> Profiled
-    ensures value { result ≡ profiled 128259 payload.now }
-    ensures valid { GivesValid result }
+    ensures { result ≡ profiled 128259 payload.now }
 {
     if payload.len() < 3 {
         return Profiled::Short;
@@ -43,8 +39,7 @@ pub fn read_water_speed(payload: &[u8]) -> Profiled
 
 #[tactic(auto, unfolding(crate::specs::Profiled::messages))]
 pub fn read_depth(payload: &[u8]) -> Profiled
-    ensures value { result ≡ profiled 128267 payload.now }
-    ensures valid { GivesValid result }
+    ensures { result ≡ profiled 128267 payload.now }
 {
     if payload.len() < 5 {
         return Profiled::Short;
@@ -58,8 +53,7 @@ pub fn read_depth(payload: &[u8]) -> Profiled
 
 #[tactic(auto, unfolding(crate::specs::Profiled::messages))]
 pub fn read_distance_log(payload: &[u8]) -> Profiled
-    ensures value { result ≡ profiled 128275 payload.now }
-    ensures valid { GivesValid result }
+    ensures { result ≡ profiled 128275 payload.now }
 {
     if payload.len() < 10 {
         return Profiled::Short;
@@ -72,8 +66,7 @@ pub fn read_distance_log(payload: &[u8]) -> Profiled
 
 #[tactic(auto, unfolding(crate::specs::Profiled::messages))]
 pub fn read_temperature(payload: &[u8]) -> Profiled
-    ensures value { result ≡ profiled 130312 payload.now }
-    ensures valid { GivesValid result }
+    ensures { result ≡ profiled 130312 payload.now }
 {
     if payload.len() < 5 {
         return Profiled::Short;
@@ -90,8 +83,7 @@ pub fn read_temperature(payload: &[u8]) -> Profiled
 
 #[tactic(auto, unfolding(crate::specs::Profiled::messages))]
 pub fn read_extended_temperature(payload: &[u8]) -> Profiled
-    ensures value { result ≡ profiled 130316 payload.now }
-    ensures valid { GivesValid result }
+    ensures { result ≡ profiled 130316 payload.now }
 {
     if payload.len() < 6 {
         return Profiled::Short;
@@ -102,67 +94,4 @@ pub fn read_extended_temperature(payload: &[u8]) -> Profiled
     Profiled::Reading(Reading::WaterTemperature {
         kelvin: unsigned(payload, 3, 3, WATER_TEMPERATURE),
     })
-}
-
-pub fn write_water_speed(speed: Option<i64>, out: &mut Payload)
-    requires { out.old.items ≡ [] }
-    ensures { out.new.items ≡ payload_of (Reading.WaterSpeed speed) }
-{
-    append_all(
-        &[
-            Byte(0xFF),
-            Unsigned(2, speed),
-            Unsigned(2, None),
-            Byte(0xFF),
-            Byte(0xFF),
-            Byte(0xFF),
-        ],
-        out,
-    );
-}
-
-pub fn write_depth(depth: Option<i64>, offset: Option<i64>, range: Option<i64>, out: &mut Payload)
-    requires { out.old.items ≡ [] }
-    ensures { out.new.items ≡ payload_of (Reading.Depth depth offset range) }
-{
-    append_all(
-        &[
-            Byte(0xFF),
-            Unsigned(4, depth),
-            Signed(2, offset),
-            Unsigned(1, range),
-        ],
-        out,
-    );
-}
-
-pub fn write_distance_log(log: Option<i64>, trip: Option<i64>, out: &mut Payload)
-    requires { out.old.items ≡ [] }
-    ensures { out.new.items ≡ payload_of (Reading.DistanceLog log trip) }
-{
-    append_all(
-        &[
-            Unsigned(2, None),
-            Unsigned(4, None),
-            Unsigned(4, log),
-            Unsigned(4, trip),
-        ],
-        out,
-    );
-}
-
-pub fn write_temperature(kelvin: Option<i64>, out: &mut Payload)
-    requires { out.old.items ≡ [] }
-    ensures { out.new.items ≡ payload_of (Reading.WaterTemperature kelvin) }
-{
-    append_all(
-        &[
-            Byte(0xFF),
-            Byte(0),
-            Byte(0),
-            Unsigned(3, kelvin),
-            Unsigned(2, None),
-        ],
-        out,
-    );
 }

@@ -2,21 +2,17 @@
 //! reference: 0 true north, 1 magnetic north, 2 apparent, 3 true to the boat's course over ground and
 //! 4 true to its course through the water.
 
-ghost use Rattle.std.specs.Prelude.{◌≡◌, []};
-ghost use Rattle.pgn_profile.specs.Payload.{wind_bytes};
-ghost use Rattle.pgn_profile.specs.Profiled.{GivesValid, profiled};
+ghost use Rattle.std.specs.Prelude.{◌≡◌};
+ghost use Rattle.pgn_profile.specs.Profiled.{profiled};
 
 use crate::field::unsigned;
-use crate::piece::Piece::{Byte, Unsigned};
-use crate::piece::{Payload, append_all};
 use crate::profiled::Profiled;
 use readings::range::{ANGLE, SPEED};
 use readings::{Reading, bits};
 
 #[tactic(auto, unfolding(crate::specs::Profiled::messages))]
 pub fn read_wind(payload: &[u8]) -> Profiled
-    ensures value { result ≡ profiled 130306 payload.now }
-    ensures valid { GivesValid result }
+    ensures { result ≡ profiled 130306 payload.now }
 {
     if payload.len() < 6 {
         return Profiled::Short;
@@ -38,22 +34,4 @@ pub fn read_wind(payload: &[u8]) -> Profiled
         }),
         _ => Profiled::Outside,
     }
-}
-
-/// The payload of a wind with its reference, above which all bits are set.
-pub fn write_wind(speed: Option<i64>, angle: Option<i64>, reference: u8, out: &mut Payload)
-    requires { out.old.items ≡ [] }
-    ensures { out.new.items ≡ wind_bytes speed angle reference }
-{
-    append_all(
-        &[
-            Byte(0xFF),
-            Unsigned(2, speed),
-            Unsigned(2, angle),
-            Byte(reference),
-            Byte(0xFF),
-            Byte(0xFF),
-        ],
-        out,
-    );
 }

@@ -1,12 +1,14 @@
-ghost use Rattle.std.specs.Prelude.{◌≡◌, []};
+ghost use Rattle.std.specs.Prelude.{◌≡◌, [], ◌∷◌, ◌++◌};
 ghost use Rattle.readings.specs.Rows.{row_of};
 ghost use Rattle.readings.specs.Ranges.{IsValid};
+ghost use Rattle.pgn_profile.specs.Field.{unsigned_bytes};
 ghost use Rattle.pgn_profile.specs.Payload.{payload_of, pgn_of, priority_of};
 ghost use Rattle.pgn_profile.specs.Profiled.{profiled};
 
-use crate::piece::Payload;
+use crate::pgn;
+use crate::piece::Piece::{Byte, Bytes, Signed, Unsigned};
+use crate::piece::{Payload, append_all};
 use crate::profiled::Profiled;
-use crate::{heading, pgn, position, steering, time, water, wind};
 use readings::{Reading, Row, row};
 
 /// The priority with which a reading of the row is sent; 0 is the most urgent.
@@ -54,33 +56,95 @@ fn write_payload(reading: &Reading, out: &mut Payload)
     ensures { out.new.items ≡ payload_of reading.now }
 {
     match *reading {
-        Reading::HeadingTrue { heading } => heading::write_heading_true(heading, out),
+        Reading::HeadingTrue { heading } => append_all(
+            &[
+                Byte(0xFF),
+                Unsigned(2, heading),
+                Bytes(&[0xFF, 0x7F, 0xFF, 0x7F, 0xFC]),
+            ],
+            out,
+        ),
         Reading::HeadingMagnetic {
             heading,
             deviation,
             variation,
-        } => {
-            heading::write_heading_magnetic(heading, deviation, variation, out);
-        }
-        Reading::RateOfTurn { rate } => heading::write_rate_of_turn(rate, out),
-        Reading::RudderFirst { position } => steering::write_first_rudder(position, out),
-        Reading::RudderSecond { position } => steering::write_second_rudder(position, out),
-        Reading::WaterSpeed { speed } => water::write_water_speed(speed, out),
+        } => append_all(
+            &[
+                Byte(0xFF),
+                Unsigned(2, heading),
+                Signed(2, deviation),
+                Signed(2, variation),
+                Byte(0xFD),
+            ],
+            out,
+        ),
+        Reading::RateOfTurn { rate } => append_all(
+            &[Byte(0xFF), Signed(4, rate), Bytes(&[0xFF, 0xFF, 0xFF])],
+            out,
+        ),
+        Reading::RudderFirst { position } => append_all(
+            &[
+                Bytes(&[0, 0xFF, 0xFF, 0x7F]),
+                Signed(2, position),
+                Bytes(&[0xFF, 0xFF]),
+            ],
+            out,
+        ),
+        Reading::RudderSecond { position } => append_all(
+            &[
+                Bytes(&[1, 0xFF, 0xFF, 0x7F]),
+                Signed(2, position),
+                Bytes(&[0xFF, 0xFF]),
+            ],
+            out,
+        ),
+        Reading::WaterSpeed { speed } => append_all(
+            &[
+                Byte(0xFF),
+                Unsigned(2, speed),
+                Bytes(&[0xFF, 0xFF, 0xFF, 0xFF, 0xFF]),
+            ],
+            out,
+        ),
         Reading::Depth {
             depth,
             offset,
             range,
-        } => water::write_depth(depth, offset, range, out),
-        Reading::DistanceLog { log, trip } => water::write_distance_log(log, trip, out),
+        } => append_all(
+            &[
+                Byte(0xFF),
+                Unsigned(4, depth),
+                Signed(2, offset),
+                Unsigned(1, range),
+            ],
+            out,
+        ),
+        Reading::DistanceLog { log, trip } => append_all(
+            &[
+                Bytes(&[0xFF, 0xFF, 0xFF, 0xFF, 0xFF, 0xFF]),
+                Unsigned(4, log),
+                Unsigned(4, trip),
+            ],
+            out,
+        ),
         Reading::Position {
             latitude,
             longitude,
-        } => position::write_position(latitude, longitude, out),
+        } => append_all(&[Signed(4, latitude), Signed(4, longitude)], out),
         Reading::CourseSpeed {
             magnetic,
             course,
             speed,
-        } => position::write_course(magnetic, course, speed, out),
+        } => append_all(
+            &[
+                Byte(0xFF),
+                Byte(if magnetic { 0xFD } else { 0xFC }),
+                Unsigned(2, course),
+                Unsigned(2, speed),
+                Bytes(&[0xFF, 0xFF]),
+            ],
+            out,
+        ),
         Reading::Gnss {
             date,
             time,
@@ -91,25 +155,69 @@ fn write_payload(reading: &Reading, out: &mut Payload)
             satellites,
             hdop,
             separation,
-        } => position::write_fix(
-            date, time, latitude, longitude, altitude, method, satellites, hdop, separation, out,
+        } => append_all(
+            &[
+                Byte(0xFF),
+                Unsigned(2, date),
+                Unsigned(4, time),
+                Signed(8, latitude),
+                Signed(8, longitude),
+                Signed(8, altitude),
+                Byte(method << 4),
+                Byte(0xFC),
+                Unsigned(1, satellites),
+                Signed(2, hdop),
+                Bytes(&[0xFF, 0x7F]),
+                Signed(4, separation),
+                Byte(0),
+            ],
+            out,
         ),
-        Reading::Time { date, time } => time::write_system_time(date, time, out),
-        Reading::WindApparent { speed, angle } => wind::write_wind(speed, angle, 0xFA, out),
-        Reading::WindTrue { speed, angle } => wind::write_wind(speed, angle, 0xFB, out),
+        Reading::Time { date, time } => append_all(
+            &[Bytes(&[0xFF, 0xFF]), Unsigned(2, date), Unsigned(4, time)],
+            out,
+        ),
+        Reading::WindApparent { speed, angle } => write_wind(speed, angle, 0xFA, out),
+        Reading::WindTrue { speed, angle } => write_wind(speed, angle, 0xFB, out),
         Reading::WindNorth {
-            magnetic: false,
+            magnetic,
             speed,
             angle,
-        } => wind::write_wind(speed, angle, 0xF8, out),
-        Reading::WindNorth {
-            magnetic: true,
-            speed,
-            angle,
-        } => wind::write_wind(speed, angle, 0xF9, out),
-        Reading::WaterTemperature { kelvin } => water::write_temperature(kelvin, out),
-        Reading::CrossTrack { distance } => position::write_cross_track(distance, out),
+        } => write_wind(speed, angle, if magnetic { 0xF9 } else { 0xF8 }, out),
+        Reading::WaterTemperature { kelvin } => append_all(
+            &[
+                Bytes(&[0xFF, 0, 0]),
+                Unsigned(3, kelvin),
+                Bytes(&[0xFF, 0xFF]),
+            ],
+            out,
+        ),
+        Reading::CrossTrack { distance } => append_all(
+            &[
+                Bytes(&[0xFF, 0x30]),
+                Signed(4, distance),
+                Bytes(&[0xFF, 0xFF]),
+            ],
+            out,
+        ),
     }
+}
+
+/// The payload of a wind with its reference, above which all bits are set.
+fn write_wind(speed: Option<i64>, angle: Option<i64>, reference: u8, out: &mut Payload)
+    requires { out.old.items ≡ [] }
+    ensures { out.new.items ≡ 0xFF ∷ unsigned_bytes 2 speed ++ unsigned_bytes 2 angle ++ (reference ∷ 0xFF ∷ 0xFF ∷ []) }
+{
+    append_all(
+        &[
+            Byte(0xFF),
+            Unsigned(2, speed),
+            Unsigned(2, angle),
+            Byte(reference),
+            Bytes(&[0xFF, 0xFF]),
+        ],
+        out,
+    );
 }
 
 /// The PGN under which a reading of the row is sent.

@@ -1,0 +1,132 @@
+-- The rows of the profile's messages: which payloads are of a row, and where its values stand in them.
+use Rattle.std.specs.Prelude.{ℕ, List, [], ◌∷◌, Bool, true, ◌==◌}
+use Rattle.std.specs.List.{list_any}
+use Rattle.readings.specs.declared.reading.Reading.{Reading}
+use Rattle.readings.specs.declared.reading.Reading.TheVariants as reading
+use Rattle.readings.specs.Ranges.{IsValid, angle, deviation, rate_of_turn, rudder, speed, depth, offset, depth_scale, water_distance, latitude, longitude, date, time, fix_latitude, fix_longitude, altitude, satellites, hdop, separation, water_temperature, cross_track}
+use Rattle.pgn_profile.specs.Part.{AreIn, Part, ValueOf, Values, bits_at, code, filled, flag, multiple, part, signed, unsigned, values_in}
+
+-- a reading, once each value is given
+abbrev pub Given : List Part → Type 0
+Given [] = Reading
+Given (part ∷ parts) = ValueOf part.content → Given parts
+
+abbrev pub given : (parts : List Part) → Given parts → Values parts → Reading
+given [] r values = r
+given (part ∷ parts) r values = given parts (r values.0) values.1
+
+-- A row: its payloads, its parts in the order of the reading's fields, the reading that they give, which is
+-- valid where each value is in its range, and the bytes around the values, none for a row that is only read.
+pub record Layout : Type 0 where
+  pub selects : List ℕ → Bool
+  pub parts : List Part
+  pub reading : Given parts
+  pub valid : (values : Values parts) → AreIn parts values → IsValid (given parts reading values)
+  pub around : List ℕ
+
+abbrev pub layout : (List ℕ → Bool) → (parts : List Part) → (reading : Given parts)
+    → ((values : Values parts) → AreIn parts values → IsValid (given parts reading values)) → List ℕ → Layout
+layout selects parts reading valid around = record { selects = selects; parts = parts; reading = reading; valid = valid; around = around }
+
+-- what a payload of the row says
+abbrev pub reading_by : Layout → List ℕ → Reading
+reading_by row payload = given row.parts row.reading (values_in row.parts payload)
+
+-- the payload that says the values
+abbrev pub written : (row : Layout) → Values row.parts → List ℕ
+written row values = filled row.parts values row.around
+
+-- each payload is of the row
+abbrev pub always : List ℕ → Bool
+always payload = true
+
+-- the payloads whose bits (byte, lowest bit, number of bits) have one of these values are of the row
+abbrev pub where_bits : ℕ → ℕ → ℕ → List ℕ → List ℕ → Bool
+where_bits place low count values payload = list_any (λ v. v == bits_at place low count payload) values
+
+abbrev pub heading_true : Layout
+heading_true =
+    layout (where_bits 7 0 2 (0 ∷ [])) (unsigned 1 2 angle ∷ []) reading.HeadingTrue (λ v is. is) (0xFF ∷ 0 ∷ 0 ∷ 0xFF ∷ 0x7F ∷ 0xFF ∷ 0x7F ∷ 0xFC ∷ [])
+
+abbrev pub heading_magnetic : Layout
+heading_magnetic =
+    layout (where_bits 7 0 2 (1 ∷ [])) (unsigned 1 2 angle ∷ signed 3 2 deviation ∷ signed 5 2 deviation ∷ []) reading.HeadingMagnetic (λ v is. is)
+    (0xFF ∷ 0 ∷ 0 ∷ 0 ∷ 0 ∷ 0 ∷ 0 ∷ 0xFD ∷ [])
+
+abbrev pub turning : Layout
+turning = layout always (signed 1 4 rate_of_turn ∷ []) reading.RateOfTurn (λ v is. is) (0xFF ∷ 0 ∷ 0 ∷ 0 ∷ 0 ∷ 0xFF ∷ 0xFF ∷ 0xFF ∷ [])
+
+-- 255 says that there is only one rudder
+abbrev pub rudder_first : Layout
+rudder_first =
+    layout (where_bits 0 0 8 (0 ∷ 255 ∷ [])) (signed 4 2 rudder ∷ []) reading.RudderFirst (λ v is. is) (0 ∷ 0xFF ∷ 0xFF ∷ 0x7F ∷ 0 ∷ 0 ∷ 0xFF ∷ 0xFF ∷ [])
+
+abbrev pub rudder_second : Layout
+rudder_second =
+    layout (where_bits 0 0 8 (1 ∷ [])) (signed 4 2 rudder ∷ []) reading.RudderSecond (λ v is. is) (1 ∷ 0xFF ∷ 0xFF ∷ 0x7F ∷ 0 ∷ 0 ∷ 0xFF ∷ 0xFF ∷ [])
+
+abbrev pub water_speed : Layout
+water_speed = layout always (unsigned 1 2 speed ∷ []) reading.WaterSpeed (λ v is. is) (0xFF ∷ 0 ∷ 0 ∷ 0xFF ∷ 0xFF ∷ 0xFF ∷ 0xFF ∷ 0xFF ∷ [])
+
+abbrev pub water_depth : Layout
+water_depth =
+    layout always (unsigned 1 4 depth ∷ signed 5 2 offset ∷ unsigned 7 1 depth_scale ∷ []) reading.Depth (λ v is. is)
+    (0xFF ∷ 0 ∷ 0 ∷ 0 ∷ 0 ∷ 0 ∷ 0 ∷ 0 ∷ [])
+
+abbrev pub distance_log : Layout
+distance_log =
+    layout always (unsigned 6 4 water_distance ∷ unsigned 10 4 water_distance ∷ []) reading.DistanceLog (λ v is. is)
+    (0xFF ∷ 0xFF ∷ 0xFF ∷ 0xFF ∷ 0xFF ∷ 0xFF ∷ 0 ∷ 0 ∷ 0 ∷ 0 ∷ 0 ∷ 0 ∷ 0 ∷ 0 ∷ [])
+
+abbrev pub position : Layout
+position = layout always (signed 0 4 latitude ∷ signed 4 4 longitude ∷ []) reading.Position (λ v is. is) (0 ∷ 0 ∷ 0 ∷ 0 ∷ 0 ∷ 0 ∷ 0 ∷ 0 ∷ [])
+
+abbrev pub course_speed : Layout
+course_speed =
+    layout (where_bits 1 0 2 (0 ∷ 1 ∷ [])) (part 1 1 (flag 2 0xFC 0xFD) ∷ unsigned 2 2 angle ∷ unsigned 4 2 speed ∷ []) reading.CourseSpeed (λ v is. is)
+    (0xFF ∷ 0 ∷ 0 ∷ 0 ∷ 0 ∷ 0 ∷ 0xFF ∷ 0xFF ∷ [])
+
+-- with the method in the four highest bits of byte 31
+abbrev pub fix : Layout
+fix =
+    layout always (unsigned 1 2 date ∷ unsigned 3 4 time ∷ signed 7 8 fix_latitude ∷ signed 15 8 fix_longitude ∷ signed 23 8 altitude ∷ part 31 1 (code 4 4 8)
+    ∷ unsigned 33 1 satellites ∷ signed 34 2 hdop ∷ signed 38 4 separation ∷ [])
+    reading.Gnss (λ v is. is)
+    (0xFF ∷ 0 ∷ 0 ∷ 0 ∷ 0 ∷ 0 ∷ 0 ∷ 0 ∷ 0 ∷ 0 ∷ 0 ∷ 0 ∷ 0 ∷ 0 ∷ 0 ∷ 0 ∷ 0 ∷ 0 ∷ 0 ∷ 0 ∷ 0 ∷ 0 ∷ 0 ∷ 0 ∷ 0 ∷ 0 ∷ 0 ∷ 0 ∷ 0 ∷ 0 ∷ 0 ∷ 0 ∷ 0xFC ∷ 0 ∷ 0 ∷ 0
+    ∷ 0xFF ∷ 0x7F ∷ 0 ∷ 0 ∷ 0 ∷ 0 ∷ 0 ∷ [])
+
+abbrev pub system_time : Layout
+system_time =
+    layout always (unsigned 2 2 date ∷ unsigned 4 4 time ∷ []) reading.Time (λ v is. is) (0xFF ∷ 0xFF ∷ 0 ∷ 0 ∷ 0 ∷ 0 ∷ 0 ∷ 0 ∷ [])
+
+-- only read
+abbrev pub time_and_date : Layout
+time_and_date = layout always (unsigned 0 2 date ∷ unsigned 2 4 time ∷ []) reading.Time (λ v is. is) []
+
+abbrev pub wind_apparent : Layout
+wind_apparent =
+    layout (where_bits 5 0 3 (2 ∷ [])) (unsigned 1 2 speed ∷ unsigned 3 2 angle ∷ []) reading.WindApparent (λ v is. is)
+    (0xFF ∷ 0 ∷ 0 ∷ 0 ∷ 0 ∷ 0xFA ∷ 0xFF ∷ 0xFF ∷ [])
+
+abbrev pub wind_true : Layout
+wind_true =
+    layout (where_bits 5 0 3 (3 ∷ 4 ∷ [])) (unsigned 1 2 speed ∷ unsigned 3 2 angle ∷ []) reading.WindTrue (λ v is. is)
+    (0xFF ∷ 0 ∷ 0 ∷ 0 ∷ 0 ∷ 0xFB ∷ 0xFF ∷ 0xFF ∷ [])
+
+abbrev pub wind_north : Layout
+wind_north =
+    layout (where_bits 5 0 3 (0 ∷ 1 ∷ [])) (part 5 1 (flag 3 0xF8 0xF9) ∷ unsigned 1 2 speed ∷ unsigned 3 2 angle ∷ []) reading.WindNorth (λ v is. is)
+    (0xFF ∷ 0 ∷ 0 ∷ 0 ∷ 0 ∷ 0 ∷ 0xFF ∷ 0xFF ∷ [])
+
+-- only read, in hundredths of a kelvin
+abbrev pub temperature : Layout
+temperature =
+    layout (where_bits 2 0 8 (0 ∷ [])) (part 3 2 (multiple 10 17315 37315) ∷ []) reading.WaterTemperature (λ v is. is) []
+
+abbrev pub extended_temperature : Layout
+extended_temperature =
+    layout (where_bits 2 0 8 (0 ∷ [])) (unsigned 3 3 water_temperature ∷ []) reading.WaterTemperature (λ v is. is)
+    (0xFF ∷ 0 ∷ 0 ∷ 0 ∷ 0 ∷ 0 ∷ 0xFF ∷ 0xFF ∷ [])
+
+abbrev pub track : Layout
+track = layout always (signed 2 4 cross_track ∷ []) reading.CrossTrack (λ v is. is) (0xFF ∷ 0x30 ∷ 0 ∷ 0 ∷ 0 ∷ 0 ∷ 0xFF ∷ 0xFF ∷ [])
