@@ -38,22 +38,7 @@ use Rattle.sentence_rows.proofs.FixedTexts.{blank_none, blank_some}
 named : (k : Formatter) → formatter_of (name_of k) ≡ Some k
 unfolding formatter_of
 named formatter.Hdt = refl
-named formatter.Hdg = refl
-named formatter.Rot = refl
-named formatter.Rsa = refl
-named formatter.Vhw = refl
-named formatter.Dpt = refl
-named formatter.Dbt = refl
-named formatter.Vlw = refl
-named formatter.Gll = refl
-named formatter.Vtg = refl
-named formatter.Gga = refl
-named formatter.Zda = refl
-named formatter.Mwv = refl
-named formatter.Mwd = refl
-named formatter.Mtw = refl
-named formatter.Xte = refl
-named formatter.Ths = refl
+named _ = refl
 
 abbrev pub texts : List Field → List (List ℕ)
 texts fields = map text_of fields

@@ -27,47 +27,49 @@ use crate::written_unit::{ALTITUDE_METRES, DILUTION, FIX_MINUTES, SEPARATION_MET
 use readings::Reading;
 use sentence_text::Sentence;
 
-pub(crate) fn gga(
-    talker: [u8; 2],
-    time: Option<i64>,
-    latitude: Option<i64>,
-    longitude: Option<i64>,
-    altitude: Option<i64>,
-    method: u8,
-    satellites: Option<i64>,
-    hdop: Option<i64>,
-    separation: Option<i64>,
-    out: &mut Lines,
-)
+/// What is said of a fix, of whose latitude and longitude both are there or neither.
+#[derive(Clone, Copy)]
+pub(crate) struct Fix {
+    pub time: Option<i64>,
+    pub latitude: Option<i64>,
+    pub longitude: Option<i64>,
+    pub altitude: Option<i64>,
+    pub method: u8,
+    pub satellites: Option<i64>,
+    pub hdop: Option<i64>,
+    pub separation: Option<i64>,
+}
+
+pub(crate) fn gga(talker: [u8; 2], fix: Fix, out: &mut Lines)
     requires room { length out.old.items < 2 }
     requires talker { IsTrue (list_all is_capital talker) }
-    requires latitude { IsCounted FIX_MINUTES latitude }
-    requires longitude { IsCounted FIX_MINUTES longitude }
-    requires altitude { IsCounted ALTITUDE_METRES altitude }
-    requires method { method ≤ 8 }
-    requires satellites { IsPrintable (Field.Satellites satellites) }
-    requires hdop { IsCounted DILUTION hdop }
-    requires separation { IsCounted SEPARATION_METRES separation }
-    ensures said { lines_of out.new ≡ lines_of out.old ++ sentence_by talker (codes "GGA") (text.gga time latitude longitude altitude method
-        satellites hdop separation) ∷ [] }
-    ensures again { IsReadBack talker (codes "GGA") (text.gga time latitude longitude altitude method satellites hdop separation) }
+    requires latitude { IsCounted FIX_MINUTES fix.latitude }
+    requires longitude { IsCounted FIX_MINUTES fix.longitude }
+    requires altitude { IsCounted ALTITUDE_METRES fix.altitude }
+    requires method { fix.method ≤ 8 }
+    requires satellites { IsPrintable (Field.Satellites fix.satellites) }
+    requires hdop { IsCounted DILUTION fix.hdop }
+    requires separation { IsCounted SEPARATION_METRES fix.separation }
+    ensures said { lines_of out.new ≡ lines_of out.old ++ sentence_by talker (codes "GGA") (text.gga fix.time fix.latitude fix.longitude fix.altitude fix.method
+        fix.satellites fix.hdop fix.separation) ∷ [] }
+    ensures again { IsReadBack talker (codes "GGA") (text.gga fix.time fix.latitude fix.longitude fix.altitude fix.method fix.satellites fix.hdop fix.separation) }
 {
-    let quality = letter_where(latitude.is_some(), b'0' + method, b'0');
+    let quality = letter_where(fix.latitude.is_some(), b'0' + fix.method, b'0');
     append(
         talker,
         *b"GGA",
         &[
-            Time(time),
-            Degrees(latitude, FIX_MINUTES, 2),
-            Side(latitude, FIX_MINUTES, b'N', b'S'),
-            Degrees(longitude, FIX_MINUTES, 3),
-            Side(longitude, FIX_MINUTES, b'E', b'W'),
+            Time(fix.time),
+            Degrees(fix.latitude, FIX_MINUTES, 2),
+            Side(fix.latitude, FIX_MINUTES, b'N', b'S'),
+            Degrees(fix.longitude, FIX_MINUTES, 3),
+            Side(fix.longitude, FIX_MINUTES, b'E', b'W'),
             Letter(quality),
-            Satellites(satellites),
-            Decimal(hdop, DILUTION),
-            Decimal(altitude, ALTITUDE_METRES),
+            Satellites(fix.satellites),
+            Decimal(fix.hdop, DILUTION),
+            Decimal(fix.altitude, ALTITUDE_METRES),
             Letter(b'M'),
-            Decimal(separation, SEPARATION_METRES),
+            Decimal(fix.separation, SEPARATION_METRES),
             Letter(b'M'),
             Empty,
             Empty,

@@ -11,160 +11,80 @@ pub struct ReadUnit {
     pub signed: bool,
 }
 
+/// A unit by its fraction, the largest raw value, and whether a sign may be written.
+macro_rules! unit {
+    ($num:literal / $den:literal, $most:literal, $signed:literal) => {
+        ReadUnit {
+            num: $num,
+            den: $den,
+            most: $most,
+            signed: $signed,
+        }
+    };
+}
+
 /// Headings, courses and the angle of the wind in degrees, to 1e-4 radian; pi is 3.141592653589793.
-pub const ANGLE: ReadUnit = ReadUnit {
-    num: 3_141_592_653_589_793,
-    den: 18_000_000_000_000,
-    most: 62_832,
-    signed: false,
-};
+pub const ANGLE: ReadUnit = unit!(3_141_592_653_589_793 / 18_000_000_000_000, 62_832, false);
 
 /// Deviation and variation in degrees, with a letter for the sign.
-pub const DEVIATION: ReadUnit = ReadUnit {
-    num: 3_141_592_653_589_793,
-    den: 18_000_000_000_000,
-    most: 31_416,
-    signed: false,
-};
+pub const DEVIATION: ReadUnit = unit!(3_141_592_653_589_793 / 18_000_000_000_000, 31_416, false);
 
 /// A rudder in degrees.
-pub const RUDDER: ReadUnit = ReadUnit {
-    num: 3_141_592_653_589_793,
-    den: 18_000_000_000_000,
-    most: 15_708,
-    signed: true,
-};
+pub const RUDDER: ReadUnit = unit!(3_141_592_653_589_793 / 18_000_000_000_000, 15_708, true);
 
 /// Degrees a minute, to 1/32,000,000 rad/s.
-pub const RATE_OF_TURN: ReadUnit = ReadUnit {
-    num: 3_141_592_653_589_793,
-    den: 337_500_000_000,
-    most: 930_842_268,
-    signed: true,
-};
+pub const RATE_OF_TURN: ReadUnit = unit!(
+    3_141_592_653_589_793 / 337_500_000_000,
+    930_842_268,
+    true
+);
 
 /// Knots, to 0.01 m/s.
-pub const KNOTS: ReadUnit = ReadUnit {
-    num: 463,
-    den: 9,
-    most: 65_532,
-    signed: false,
-};
+pub const KNOTS: ReadUnit = unit!(463 / 9, 65_532, false);
 
-pub const KILOMETRES_PER_HOUR: ReadUnit = ReadUnit {
-    num: 250,
-    den: 9,
-    most: 65_532,
-    signed: false,
-};
+pub const KILOMETRES_PER_HOUR: ReadUnit = unit!(250 / 9, 65_532, false);
 
-pub const METRES_PER_SECOND: ReadUnit = ReadUnit {
-    num: 100,
-    den: 1,
-    most: 65_532,
-    signed: false,
-};
+pub const METRES_PER_SECOND: ReadUnit = unit!(100 / 1, 65_532, false);
 
 /// A depth in metres, to 0.01 m.
-pub const METRES: ReadUnit = ReadUnit {
-    num: 100,
-    den: 1,
-    most: 1_200_000,
-    signed: false,
-};
+pub const METRES: ReadUnit = unit!(100 / 1, 1_200_000, false);
 
 /// The transducer's offset in metres, to 0.001 m.
-pub const OFFSET_METRES: ReadUnit = ReadUnit {
-    num: 1_000,
-    den: 1,
-    most: 32_764,
-    signed: true,
-};
+pub const OFFSET_METRES: ReadUnit = unit!(1_000 / 1, 32_764, true);
 
 /// The range of a depth's scale in metres, to 10 m.
-pub const RANGE_METRES: ReadUnit = ReadUnit {
-    num: 1,
-    den: 10,
-    most: 252,
-    signed: false,
-};
+pub const RANGE_METRES: ReadUnit = unit!(1 / 10, 252, false);
 
 /// A distance through the water, to metres.
-pub const NAUTICAL_MILES: ReadUnit = ReadUnit {
-    num: 1_852,
-    den: 1,
-    most: 3_704_000_000,
-    signed: false,
-};
+pub const NAUTICAL_MILES: ReadUnit = unit!(1_852 / 1, 3_704_000_000, false);
 
 /// The distance from the track in nautical miles, with a letter for the sign, to 0.01 m.
-pub const TRACK_MILES: ReadUnit = ReadUnit {
-    num: 185_200,
-    den: 1,
-    most: 18_520_000,
-    signed: false,
-};
+pub const TRACK_MILES: ReadUnit = unit!(185_200 / 1, 18_520_000, false);
 
 /// Minutes of latitude, to 1e-7 degree.
-pub const LATITUDE: ReadUnit = ReadUnit {
-    num: 500_000,
-    den: 3,
-    most: 900_000_000,
-    signed: false,
-};
+pub const LATITUDE: ReadUnit = unit!(500_000 / 3, 900_000_000, false);
 
 /// Minutes of longitude, to 1e-7 degree.
-pub const LONGITUDE: ReadUnit = ReadUnit {
-    num: 500_000,
-    den: 3,
-    most: 1_800_000_000,
-    signed: false,
-};
+pub const LONGITUDE: ReadUnit = unit!(500_000 / 3, 1_800_000_000, false);
 
 /// Minutes of a fix's latitude, to 1e-16 degree.
-pub const FIX_LATITUDE: ReadUnit = ReadUnit {
-    num: 500_000_000_000_000,
-    den: 3,
-    most: 900_000_000_000_000_000,
-    signed: false,
-};
+pub const FIX_LATITUDE: ReadUnit = unit!(500_000_000_000_000 / 3, 900_000_000_000_000_000, false);
 
 /// Minutes of a fix's longitude, to 1e-16 degree.
-pub const FIX_LONGITUDE: ReadUnit = ReadUnit {
-    num: 500_000_000_000_000,
-    den: 3,
-    most: 1_800_000_000_000_000_000,
-    signed: false,
-};
+pub const FIX_LONGITUDE: ReadUnit = unit!(
+    500_000_000_000_000 / 3,
+    1_800_000_000_000_000_000,
+    false
+);
 
 /// The altitude of a fix in metres, to 1e-6 m.
-pub const ALTITUDE_METRES: ReadUnit = ReadUnit {
-    num: 1_000_000,
-    den: 1,
-    most: 9_999_900_000,
-    signed: true,
-};
+pub const ALTITUDE_METRES: ReadUnit = unit!(1_000_000 / 1, 9_999_900_000, true);
 
 /// The geoid's height in metres, to 0.01 m.
-pub const SEPARATION_METRES: ReadUnit = ReadUnit {
-    num: 100,
-    den: 1,
-    most: 99_990,
-    signed: true,
-};
+pub const SEPARATION_METRES: ReadUnit = unit!(100 / 1, 99_990, true);
 
 /// The horizontal dilution of precision, to hundredths.
-pub const DILUTION: ReadUnit = ReadUnit {
-    num: 100,
-    den: 1,
-    most: 9_999,
-    signed: false,
-};
+pub const DILUTION: ReadUnit = unit!(100 / 1, 9_999, false);
 
 /// Degrees Celsius, to thousandths of a degree.
-pub const CELSIUS: ReadUnit = ReadUnit {
-    num: 1_000,
-    den: 1,
-    most: 100_000,
-    signed: true,
-};
+pub const CELSIUS: ReadUnit = unit!(1_000 / 1, 100_000, true);

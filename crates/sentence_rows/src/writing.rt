@@ -70,10 +70,17 @@ fn say(reading: &Reading, talker: [u8; 2], ths: bool, out: &mut Lines)
             separation,
             ..
         } => {
-            let (north, east) = (beside(latitude, longitude), beside(longitude, latitude));
-            gga::gga(
-                talker, time, north, east, altitude, method, satellites, hdop, separation, out,
-            );
+            let fix = gga::Fix {
+                time,
+                latitude: beside(latitude, longitude),
+                longitude: beside(longitude, latitude),
+                altitude,
+                method,
+                satellites,
+                hdop,
+                separation,
+            };
+            gga::gga(talker, fix, out);
         }
         Reading::Time { date, time } => zda::zda(talker, date, time, out),
         Reading::WindApparent { speed, angle } => mwv::mwv(talker, b'R', speed, angle, out),

@@ -12,151 +12,74 @@ pub struct WrittenUnit {
     pub digits: u8,
 }
 
+/// A unit by its fraction, its decimals, the largest raw value and the most digits.
+macro_rules! unit {
+    ($num:literal / $den:literal, $places:literal, $largest:literal, $digits:literal) => {
+        WrittenUnit {
+            num: $num,
+            den: $den,
+            places: $places,
+            largest: $largest,
+            digits: $digits,
+        }
+    };
+}
+
 /// Deviation, variation and rudder, from 1e-4 radian; pi is 3.141592653589793.
-pub const DEGREES: WrittenUnit = WrittenUnit {
-    num: 180_000_000_000_000,
-    den: 3_141_592_653_589_793,
-    places: 1,
-    largest: 31_416,
-    digits: 4,
-};
+pub const DEGREES: WrittenUnit = unit!(180_000_000_000_000 / 3_141_592_653_589_793, 1, 31_416, 4);
+
 /// From 1/32,000,000 rad/s.
-pub const DEGREES_PER_MINUTE: WrittenUnit = WrittenUnit {
-    num: 3_375_000_000_000,
-    den: 3_141_592_653_589_793,
-    places: 1,
-    largest: 930_842_268,
-    digits: 7,
-};
-/// From 0.01 m/s.
-pub const KNOTS: WrittenUnit = WrittenUnit {
-    num: 900,
-    den: 463,
-    places: 2,
-    largest: 65_532,
-    digits: 6,
-};
+pub const DEGREES_PER_MINUTE: WrittenUnit = unit!(
+    3_375_000_000_000 / 3_141_592_653_589_793,
+    1,
+    930_842_268,
+    7
+);
 
 /// From 0.01 m/s.
-pub const KILOMETRES_PER_HOUR: WrittenUnit = WrittenUnit {
-    num: 18,
-    den: 5,
-    places: 2,
-    largest: 65_532,
-    digits: 6,
-};
+pub const KNOTS: WrittenUnit = unit!(900 / 463, 2, 65_532, 6);
 
 /// From 0.01 m/s.
-pub const METRES_PER_SECOND: WrittenUnit = WrittenUnit {
-    num: 1,
-    den: 1,
-    places: 2,
-    largest: 65_532,
-    digits: 5,
-};
-/// Depth, from 0.01 m.
-pub const METRES: WrittenUnit = WrittenUnit {
-    num: 1,
-    den: 1,
-    places: 2,
-    largest: 1_200_000,
-    digits: 7,
-};
+pub const KILOMETRES_PER_HOUR: WrittenUnit = unit!(18 / 5, 2, 65_532, 6);
+
+/// From 0.01 m/s.
+pub const METRES_PER_SECOND: WrittenUnit = unit!(1 / 1, 2, 65_532, 5);
 
 /// Depth, from 0.01 m.
-pub const FEET: WrittenUnit = WrittenUnit {
-    num: 125,
-    den: 381,
-    places: 1,
-    largest: 1_200_000,
-    digits: 6,
-};
+pub const METRES: WrittenUnit = unit!(1 / 1, 2, 1_200_000, 7);
 
 /// Depth, from 0.01 m.
-pub const FATHOMS: WrittenUnit = WrittenUnit {
-    num: 125,
-    den: 2_286,
-    places: 1,
-    largest: 1_200_000,
-    digits: 5,
-};
+pub const FEET: WrittenUnit = unit!(125 / 381, 1, 1_200_000, 6);
+
+/// Depth, from 0.01 m.
+pub const FATHOMS: WrittenUnit = unit!(125 / 2_286, 1, 1_200_000, 5);
+
 /// The transducer's offset, from 0.001 m.
-pub const OFFSET_METRES: WrittenUnit = WrittenUnit {
-    num: 1,
-    den: 10,
-    places: 2,
-    largest: 32_764,
-    digits: 4,
-};
+pub const OFFSET_METRES: WrittenUnit = unit!(1 / 10, 2, 32_764, 4);
+
 /// The range of the depth scale, from 10 m.
-pub const RANGE_METRES: WrittenUnit = WrittenUnit {
-    num: 100,
-    den: 1,
-    places: 1,
-    largest: 252,
-    digits: 5,
-};
+pub const RANGE_METRES: WrittenUnit = unit!(100 / 1, 1, 252, 5);
+
 /// Total and trip distance, from metres.
-pub const NAUTICAL_MILES: WrittenUnit = WrittenUnit {
-    num: 25,
-    den: 463,
-    places: 2,
-    largest: 3_704_000_000,
-    digits: 9,
-};
+pub const NAUTICAL_MILES: WrittenUnit = unit!(25 / 463, 2, 3_704_000_000, 9);
+
 /// The distance from the track, from 0.01 m.
-pub const TRACK_MILES: WrittenUnit = WrittenUnit {
-    num: 5,
-    den: 926,
-    places: 3,
-    largest: 18_520_000,
-    digits: 6,
-};
+pub const TRACK_MILES: WrittenUnit = unit!(5 / 926, 3, 18_520_000, 6);
+
 /// Minutes of latitude and longitude, from 1e-7 degree.
-pub const MINUTES: WrittenUnit = WrittenUnit {
-    num: 3,
-    den: 50,
-    places: 4,
-    largest: 1_800_000_000,
-    digits: 9,
-};
+pub const MINUTES: WrittenUnit = unit!(3 / 50, 4, 1_800_000_000, 9);
+
 /// The same from 1e-16 degree.
-pub const FIX_MINUTES: WrittenUnit = WrittenUnit {
-    num: 3,
-    den: 50_000_000_000,
-    places: 4,
-    largest: 1_800_000_000_000_000_000,
-    digits: 9,
-};
+pub const FIX_MINUTES: WrittenUnit = unit!(3 / 50_000_000_000, 4, 1_800_000_000_000_000_000, 9);
+
 /// Altitude, from 1e-6 m.
-pub const ALTITUDE_METRES: WrittenUnit = WrittenUnit {
-    num: 1,
-    den: 100_000,
-    places: 1,
-    largest: 9_999_900_000,
-    digits: 5,
-};
+pub const ALTITUDE_METRES: WrittenUnit = unit!(1 / 100_000, 1, 9_999_900_000, 5);
+
 /// The geoid's height, from 0.01 m.
-pub const SEPARATION_METRES: WrittenUnit = WrittenUnit {
-    num: 1,
-    den: 10,
-    places: 1,
-    largest: 99_990,
-    digits: 4,
-};
+pub const SEPARATION_METRES: WrittenUnit = unit!(1 / 10, 1, 99_990, 4);
+
 /// Dilution of precision, from hundredths.
-pub const DILUTION: WrittenUnit = WrittenUnit {
-    num: 1,
-    den: 1,
-    places: 2,
-    largest: 9_999,
-    digits: 4,
-};
+pub const DILUTION: WrittenUnit = unit!(1 / 1, 2, 9_999, 4);
+
 /// Degrees Celsius, from thousandths of a degree.
-pub const CELSIUS: WrittenUnit = WrittenUnit {
-    num: 1,
-    den: 100,
-    places: 1,
-    largest: 100_000,
-    digits: 4,
-};
+pub const CELSIUS: WrittenUnit = unit!(1 / 100, 1, 100_000, 4);
