@@ -1,9 +1,13 @@
 //! What no clause says: that a file's bytes come, that datagrams move, who waits how long, and why a call failed.
+ghost use Rattle.std.specs.Prelude.{◌≤◌, length};
+ghost use Rattle.gate_outside.specs.Link.{longest_address};
+
 use arrayvec::ArrayVec;
 use gate_outside::{Arrival, Clock, Failed, Files, Link, LoadFault};
 use live_outside::{Activity, DiskFiles, SystemClock, ToldWriter, UdpLink};
 use network_routes::{Address, Route, Routes};
 use sentence_text::Group;
+use std::alloc::Global;
 use std::cell::Cell;
 use std::io;
 use std::io::{ErrorKind, Write};
@@ -35,22 +39,47 @@ fn peer_at(rt: &HostRuntime, address: &str) -> io::Result<(UdpSocket, u16)> {
     Ok((peer, port))
 }
 
+// Files that can't be loaded, and why.
+const UNREAD: [(&str, LoadFault, ErrorKind); 3] = [
+    (
+        "/nowhere/shipgate.toml",
+        LoadFault::Failed,
+        ErrorKind::NotFound,
+    ),
+    ("/dev", LoadFault::Failed, ErrorKind::IsADirectory),
+    ("/dev/zero", LoadFault::TooLong, ErrorKind::FileTooLarge),
+];
+
+// Whether a load fails so.
+fn fails(
+    files: &mut DiskFiles<'_, HostRuntime>,
+    alloc: Global,
+    name: &str,
+    fault: LoadFault,
+    kind: ErrorKind,
+) -> bool {
+    match files.load(alloc, name) {
+        Err(found) => found == fault && files.unread() == Some(kind),
+        Ok(_) => false,
+    }
+}
+
 #[test]
-fn a_file_is_loaded_and_a_missing_one_fails(rt: HostRuntime) -> Result<(), Fail> {
-    let alloc = rt.alloc();
+fn a_load_that_fails_tells_why(rt: HostRuntime) -> Result<(), Fail> {
     let mut files = DiskFiles::new(&rt);
-    let missing = files.load(alloc, "/nowhere/shipgate.toml");
-    assert!(rt; matches!(&missing, Err(LoadFault::Failed)));
-    assert_eq!(rt; files.faults(), 1);
-    assert!(rt; files.unread() == Some(ErrorKind::NotFound));
-    let folder = files.load(alloc, "/dev");
-    assert!(rt; matches!(&folder, Err(LoadFault::Failed)));
-    assert!(rt; files.unread() == Some(ErrorKind::IsADirectory));
-    let empty = files.load(alloc, "/dev/null").expect(&rt, "an empty file");
-    assert!(rt; empty.is_empty());
-    let endless = files.load(alloc, "/dev/zero");
-    assert!(rt; matches!(&endless, Err(LoadFault::TooLong)));
-    assert!(rt; files.unread() == Some(ErrorKind::FileTooLarge));
+    for (name, fault, kind) in &UNREAD {
+        assert!(rt; fails(&mut files, rt.alloc(), name, *fault, *kind));
+    }
+    assert!(rt; files.faults() == 2);
+    Ok(())
+}
+
+#[test]
+fn a_file_may_be_empty(rt: HostRuntime) -> Result<(), Fail> {
+    match DiskFiles::new(&rt).load(rt.alloc(), "/dev/null") {
+        Ok(bytes) => assert!(rt; bytes.is_empty()),
+        Err(_) => assert!(rt; false),
+    }
     Ok(())
 }
 
@@ -81,43 +110,98 @@ fn a_writer_tells_why_it_failed(rt: HostRuntime) -> Result<(), Fail> {
     Ok(())
 }
 
+// A link that sends a group to one address and all else elsewhere.
+fn link_to<'a>(
+    rt: &'a HostRuntime,
+    activity: &'a Activity,
+    group: Group,
+    host: &str,
+    port: u16,
+) -> Result<UdpLink<'a, HostRuntime>, Fail> {
+    let (mut link, _net) = UdpLink::pair(rt, activity);
+    let mut routes = routes_to(rt, "127.0.0.1", 9)?;
+    let _fits = routes.list.try_push(Route {
+        group,
+        address: address_of(rt, host, port)?,
+    });
+    link.attach(b"127.0.0.1:0", &routes)?;
+    Ok(link)
+}
+
+// Whether what a link sends under a group comes to the peer, and from where.
+fn comes_from(
+    link: &mut UdpLink<'_, HostRuntime>,
+    group: Group,
+    peer: &UdpSocket,
+) -> Result<SocketAddr, Fail> {
+    link.send(Group::default(), b"elsewhere")?;
+    link.send(group, b"out")?;
+    let mut buf = [0; 1500];
+    let (count, from) = peer.recv_from(&mut buf)?;
+    if buf.get(..count) == Some(b"out".as_slice()) {
+        Ok(from)
+    } else {
+        Err("another datagram".into())
+    }
+}
+
+// How many bytes a peer sends, and how many of them arrive.
+const ARRIVALS: [(usize, usize); 3] = [(4, 4), (0, 0), (1501, 1500)];
+
+// Whether so many of the bytes that a peer sends arrive.
+fn arrives(
+    link: &mut UdpLink<'_, HostRuntime>,
+    peer: &UdpSocket,
+    from: SocketAddr,
+    (sent, count): (usize, usize),
+) -> Result<bool, Fail> {
+    let bytes = [b'a'; 1501];
+    let mut buf = [0; 1500];
+    peer.send_to(bytes.get(..sent).unwrap_or(&[]), from)?;
+    let arrival = link.receive(&mut buf);
+    Ok(arrival == Ok(Arrival::Bytes(count)) && buf.get(..count) == bytes.get(..count))
+}
+
 #[test]
 fn datagrams_move_each_way(rt: HostRuntime) -> Result<(), Fail> {
-    let (peer, port) = peer_at(&rt, "127.0.0.1:0").expect(&rt, "a socket");
+    let (peer, port) = peer_at(&rt, "127.0.0.1:0")?;
     let activity = Activity::new();
-    let (mut link, _net) = UdpLink::pair(&rt, &activity);
-    let group = Group::of(b"SATD").expect(&rt, "a group");
-    let address = address_of(&rt, "127.0.0.1", port)?;
-    let mut routes = routes_to(&rt, "127.0.0.1", 9)?;
-    let _fits = routes.list.try_push(Route { group, address });
-    assert_eq!(rt; link.attach(b"127.0.0.1:0", &routes), Ok(()));
-    assert_eq!(rt; link.send(Group::default(), b"elsewhere"), Ok(()));
-    assert_eq!(rt; link.send(group, b"out"), Ok(()));
-    let mut buf = [0; 1500];
-    let (count, from) = peer.recv_from(&mut buf).expect(&rt, "a datagram");
-    assert_eq!(rt; &buf[..count], b"out".as_slice());
-    for (sent, arrival) in [(4, 4), (0, 0), (1501, 1500)] {
-        let sent = peer.send_to(&[b'a'; 1501][..sent], from);
-        assert!(rt; sent.is_ok());
-        assert_eq!(rt; link.receive(&mut buf), Ok(Arrival::Bytes(arrival)));
+    let group = Group::of(b"SATD").unwrap_or_default();
+    let mut link = link_to(&rt, &activity, group, "127.0.0.1", port)?;
+    let from = comes_from(&mut link, group, &peer)?;
+    for arrival in &ARRIVALS {
+        assert!(rt; arrives(&mut link, &peer, from, *arrival)?);
     }
-    assert_eq!(rt; buf[1499], b'a');
-    assert_eq!(rt; link.receive(&mut buf), Ok(Arrival::Nothing));
+    assert!(rt; link.receive(&mut [0; 1500]) == Ok(Arrival::Nothing));
     Ok(())
 }
 
 #[test]
 fn a_broadcast_address_is_sent_to(rt: HostRuntime) -> Result<(), Fail> {
-    let (peer, port) = peer_at(&rt, "0.0.0.0:0").expect(&rt, "a socket");
+    let (peer, port) = peer_at(&rt, "0.0.0.0:0")?;
     let activity = Activity::new();
-    let (_bus, mut link) = UdpLink::pair(&rt, &activity);
-    let routes = routes_to(&rt, "127.255.255.255", port)?;
-    assert_eq!(rt; link.attach(b"127.0.0.1:0", &routes), Ok(()));
-    assert_eq!(rt; link.send(Group::default(), b"all"), Ok(()));
-    let mut buf = [0; 1500];
-    let (count, _) = peer.recv_from(&mut buf).expect(&rt, "a datagram");
-    assert_eq!(rt; count, 3);
+    let group = Group::default();
+    let mut link = link_to(&rt, &activity, group, "127.255.255.255", port)?;
+    link.send(group, b"all")?;
+    let (count, _) = peer.recv_from(&mut [0; 1500])?;
+    assert!(rt; count == 3);
     Ok(())
+}
+
+// Whether an attach there fails, for this reason.
+fn is_refused(
+    link: &mut UdpLink<'_, HostRuntime>,
+    listen: &[u8],
+    routes: &Routes,
+    kind: ErrorKind,
+) -> bool
+    requires { length listen.now ≤ longest_address }
+{
+    let refused = link.attach(listen, routes) == Err(Failed);
+    match link.unattached() {
+        Some(why) => refused && why.listen.as_slice() == listen && why.kind == kind,
+        None => false,
+    }
 }
 
 #[test]
@@ -125,19 +209,20 @@ fn a_link_that_listens_nowhere_fails(rt: HostRuntime) -> Result<(), Fail> {
     let activity = Activity::new();
     let (mut link, _net) = UdpLink::pair(&rt, &activity);
     let routes = routes_to(&rt, "127.0.0.1", 9)?;
-    let (_peer, port) = peer_at(&rt, "127.0.0.1:0").expect(&rt, "a socket");
+    let (_peer, port) = peer_at(&rt, "127.0.0.1:0")?;
     let taken = address_of(&rt, "127.0.0.1", port)?;
-    for (listen, kind) in [
-        (b"localhost:0".as_slice(), ErrorKind::InvalidInput),
-        (b"192.0.2.1:0", ErrorKind::AddrNotAvailable),
-        (taken.as_slice(), ErrorKind::AddrInUse),
-    ] {
-        assert_eq!(rt; link.attach(listen, &routes), Err(Failed));
-        let why = link.unattached().expect(&rt, "a reason");
-        assert!(rt; why.listen.as_slice() == listen && why.kind == kind);
-    }
-    assert_eq!(rt; link.receive(&mut [0; 1500]), Err(Failed));
-    assert_eq!(rt; link.faults(), 4);
+    assert!(rt; is_refused(&mut link, b"localhost:0", &routes, ErrorKind::InvalidInput));
+    assert!(rt;
+        is_refused(
+            &mut link,
+            b"192.0.2.1:0",
+            &routes,
+            ErrorKind::AddrNotAvailable
+        )
+    );
+    assert!(rt; is_refused(&mut link, &taken, &routes, ErrorKind::AddrInUse));
+    assert!(rt; link.receive(&mut [0; 1500]) == Err(Failed));
+    assert!(rt; link.faults() == 4);
     Ok(())
 }
 
@@ -220,7 +305,7 @@ fn a_link_with_a_thousand_arrivals_isnt_kept_waiting_by_the_other(
             send(&ends.peer, ends.to_bus, 100)?;
         }
         send(&ends.peer, ends.to_net, 1)?;
-        assert_eq!(rt; take(&mut ends, 4), [4, 1]);
+        assert!(rt; take(&mut ends, 4) == [4, 1]);
     }
     let passed = clock.now().saturating_sub(began);
     assert!(rt; passed < 500_000, "{passed} microseconds");
