@@ -74,33 +74,33 @@ fn left(address: u8, own: OwnAnswer) -> ClaimStep {
 #[test]
 fn a_claim_is_one_of_seven_cases(rt: HostRuntime) -> Result<(), Fail> {
     let mut bus = Bus::of(rt.alloc(), OWN, 10, &[preset(20, 0x50)])?;
-    assert_eq!(rt; bus.hear(30, OWN), nothing(OwnAnswer::Duplicate));
-    assert_eq!(rt; bus.hear(254, 0x50), left(20, OwnAnswer::Silent));
-    assert_eq!(rt; bus.hear(20, 0x60), nothing(OwnAnswer::Silent));
-    assert_eq!(rt; bus.hear(20, 0x60), nothing(OwnAnswer::Silent));
-    assert_eq!(rt;
-        bus.table.holder(20),
-        Some(Holder {
-            name: Name(0x60),
-            since: 3
-        })
+    assert!(rt; bus.hear(30, OWN) == nothing(OwnAnswer::Duplicate));
+    assert!(rt; bus.hear(254, 0x50) == left(20, OwnAnswer::Silent));
+    assert!(rt; bus.hear(20, 0x60) == nothing(OwnAnswer::Silent));
+    assert!(rt; bus.hear(20, 0x60) == nothing(OwnAnswer::Silent));
+    assert!(rt;
+        bus.table.holder(20)
+            == Some(Holder {
+                name: Name(0x60),
+                since: 3
+            })
     );
-    assert_eq!(rt; bus.hear(20, 0x70), nothing(OwnAnswer::Silent));
-    assert_eq!(rt; bus.hear(21, 0x60), left(20, OwnAnswer::Silent));
+    assert!(rt; bus.hear(20, 0x70) == nothing(OwnAnswer::Silent));
+    assert!(rt; bus.hear(21, 0x60) == left(20, OwnAnswer::Silent));
     let won = ClaimStep {
         lost: Some((21, Name(0x60))),
         ..nothing(OwnAnswer::Silent)
     };
-    assert_eq!(rt; bus.hear(21, 0x40), won);
-    assert_eq!(rt; bus.hear(10, OWN + 1), nothing(OwnAnswer::Defend));
-    assert_eq!(rt; bus.hear(10, 0x30), nothing(OwnAnswer::Move(11)));
-    assert_eq!(rt; bus.hear(11, 0x40), left(21, OwnAnswer::Move(12)));
-    assert_eq!(rt;
-        bus.table.holder(10),
-        Some(Holder {
-            name: Name(0x30),
-            since: 9
-        })
+    assert!(rt; bus.hear(21, 0x40) == won);
+    assert!(rt; bus.hear(10, OWN + 1) == nothing(OwnAnswer::Defend));
+    assert!(rt; bus.hear(10, 0x30) == nothing(OwnAnswer::Move(11)));
+    assert!(rt; bus.hear(11, 0x40) == left(21, OwnAnswer::Move(12)));
+    assert!(rt;
+        bus.table.holder(10)
+            == Some(Holder {
+                name: Name(0x30),
+                since: 9
+            })
     );
     Ok(())
 }
@@ -108,11 +108,11 @@ fn a_claim_is_one_of_seven_cases(rt: HostRuntime) -> Result<(), Fail> {
 #[test]
 fn the_gateway_moves_past_251_to_0(rt: HostRuntime) -> Result<(), Fail> {
     let mut bus = Bus::of(rt.alloc(), OWN, 250, &[preset(0, 0x50)])?;
-    assert_eq!(rt; bus.hear(250, 0x10), nothing(OwnAnswer::Move(251)));
-    assert_eq!(rt; bus.hear(251, 0x20), nothing(OwnAnswer::Move(1)));
-    assert_eq!(rt; bus.hear(1, 0x50), left(0, OwnAnswer::Move(2)));
-    assert_eq!(rt; bus.table.own(), Some(2));
-    assert_eq!(rt; bus.table.request(), OwnAnswer::Defend);
+    assert!(rt; bus.hear(250, 0x10) == nothing(OwnAnswer::Move(251)));
+    assert!(rt; bus.hear(251, 0x20) == nothing(OwnAnswer::Move(1)));
+    assert!(rt; bus.hear(1, 0x50) == left(0, OwnAnswer::Move(2)));
+    assert!(rt; bus.table.own() == Some(2));
+    assert!(rt; bus.table.request() == OwnAnswer::Defend);
     Ok(())
 }
 
@@ -120,9 +120,9 @@ fn the_gateway_moves_past_251_to_0(rt: HostRuntime) -> Result<(), Fail> {
 fn the_gateway_may_move_to_the_address_left(rt: HostRuntime) -> Result<(), Fail> {
     let presets = [preset(11, 0x50), preset(12, 0x60), preset(253, 0x70)];
     let mut bus = Bus::of(rt.alloc(), OWN, 10, &presets)?;
-    assert_eq!(rt; bus.hear(10, 0x50), left(11, OwnAnswer::Move(11)));
-    assert_eq!(rt; bus.hear(11, 0x70), left(253, OwnAnswer::Move(13)));
-    assert_eq!(rt; bus.hear(13, 0x50), left(10, OwnAnswer::Move(14)));
+    assert!(rt; bus.hear(10, 0x50) == left(11, OwnAnswer::Move(11)));
+    assert!(rt; bus.hear(11, 0x70) == left(253, OwnAnswer::Move(13)));
+    assert!(rt; bus.hear(13, 0x50) == left(10, OwnAnswer::Move(14)));
     Ok(())
 }
 
@@ -131,15 +131,14 @@ fn the_gateway_cannot_claim_where_every_address_is_taken(rt: HostRuntime) -> Res
     let mut bus = Bus::of(rt.alloc(), OWN, 100, &[])?;
     for address in 0..252 {
         if address != 100 {
-            assert_eq!(rt;
-                bus.hear(address, 0x100 + u64::from(address)),
-                nothing(OwnAnswer::Silent)
+            assert!(rt;
+                bus.hear(address, 0x100 + u64::from(address)) == nothing(OwnAnswer::Silent)
             );
         }
     }
-    assert_eq!(rt; bus.hear(100, 0x10), nothing(OwnAnswer::CannotClaim));
-    assert_eq!(rt; bus.table.own(), None);
-    assert_eq!(rt; bus.table.request(), OwnAnswer::CannotClaim);
+    assert!(rt; bus.hear(100, 0x10) == nothing(OwnAnswer::CannotClaim));
+    assert!(rt; bus.table.own() == None);
+    assert!(rt; bus.table.request() == OwnAnswer::CannotClaim);
     assert!(rt; !bus.table.ready(u64::MAX));
     Ok(())
 }
@@ -147,13 +146,13 @@ fn the_gateway_cannot_claim_where_every_address_is_taken(rt: HostRuntime) -> Res
 #[test]
 fn a_fixed_gateway_does_not_move(rt: HostRuntime) -> Result<(), Fail> {
     let mut bus = Bus::of(rt.alloc(), FIXED, 10, &[])?;
-    assert_eq!(rt; bus.hear(10, FIXED + 1), nothing(OwnAnswer::Defend));
-    assert_eq!(rt; bus.hear(10, FIXED - 1), nothing(OwnAnswer::CannotClaim));
+    assert!(rt; bus.hear(10, FIXED + 1) == nothing(OwnAnswer::Defend));
+    assert!(rt; bus.hear(10, FIXED - 1) == nothing(OwnAnswer::CannotClaim));
     assert!(rt;
         bus.table.command(10 + 1, 5 * SECOND),
         "a command needs no such NAME"
     );
-    assert_eq!(rt; bus.table.own(), Some(11));
+    assert!(rt; bus.table.own() == Some(11));
     Ok(())
 }
 
@@ -165,7 +164,7 @@ fn a_command_is_obeyed_where_the_address_is_free(rt: HostRuntime) -> Result<(), 
     assert!(rt; !bus.table.command(20, SECOND));
     assert!(rt; bus.table.ready(SECOND));
     assert!(rt; bus.table.command(251, SECOND));
-    assert_eq!(rt; bus.table.own(), Some(251));
+    assert!(rt; bus.table.own() == Some(251));
     assert!(rt; !bus.table.ready(SECOND));
     Ok(())
 }
@@ -177,9 +176,9 @@ fn readiness_is_counted_from_start_and_move(rt: HostRuntime) -> Result<(), Fail>
     assert!(rt; !bus.table.ready(0));
     assert!(rt; !bus.table.ready(749_999));
     assert!(rt; bus.table.ready(750_000));
-    assert_eq!(rt; bus.hear(10, OWN + 1), nothing(OwnAnswer::Defend));
+    assert!(rt; bus.hear(10, OWN + 1) == nothing(OwnAnswer::Defend));
     assert!(rt; bus.table.ready(SECOND));
-    assert_eq!(rt; bus.hear(10, OWN - 1), nothing(OwnAnswer::Move(11)));
+    assert!(rt; bus.hear(10, OWN - 1) == nothing(OwnAnswer::Move(11)));
     assert!(rt; !bus.table.ready(2_249_999));
     assert!(rt; bus.table.ready(2_250_000));
     Ok(())
@@ -191,32 +190,21 @@ fn presets_that_clash_are_refused(rt: HostRuntime) {
     let twice_by_name = [preset(20, 0x50), preset(21, 0x50)];
     let own_address = [preset(20, 0x50), preset(10, 0x60)];
     let own_name = [preset(20, OWN)];
-    assert_eq!(rt;
-        Bus::of(rt.alloc(), OWN, 10, &twice_by_address).err(),
-        Some(ClaimFault::PresetTwice)
+    assert!(rt;
+        Bus::of(rt.alloc(), OWN, 10, &twice_by_address).err() == Some(ClaimFault::PresetTwice)
     );
-    assert_eq!(rt;
-        Bus::of(rt.alloc(), OWN, 10, &twice_by_name).err(),
-        Some(ClaimFault::PresetTwice)
+    assert!(rt;
+        Bus::of(rt.alloc(), OWN, 10, &twice_by_name).err() == Some(ClaimFault::PresetTwice)
     );
-    assert_eq!(rt;
-        Bus::of(rt.alloc(), OWN, 10, &own_address).err(),
-        Some(ClaimFault::OwnTaken)
-    );
-    assert_eq!(rt;
-        Bus::of(rt.alloc(), OWN, 10, &own_name).err(),
-        Some(ClaimFault::OwnTaken)
-    );
+    assert!(rt; Bus::of(rt.alloc(), OWN, 10, &own_address).err() == Some(ClaimFault::OwnTaken));
+    assert!(rt; Bus::of(rt.alloc(), OWN, 10, &own_name).err() == Some(ClaimFault::OwnTaken));
 }
 
 #[test]
 fn faults_say_what_is_wrong(rt: HostRuntime) -> Result<(), Fail> {
     let twice = format!(in rt.alloc(); "{}", ClaimFault::PresetTwice)?;
-    assert_eq!(rt; twice.as_str(), "two presets share an address or a NAME");
+    assert!(rt; twice.as_str() == "two presets share an address or a NAME");
     let taken = format!(in rt.alloc(); "{}", ClaimFault::OwnTaken)?;
-    assert_eq!(rt;
-        taken.as_str(),
-        "a preset has the gateway's own address or NAME"
-    );
+    assert!(rt; taken.as_str() == "a preset has the gateway's own address or NAME");
     Ok(())
 }

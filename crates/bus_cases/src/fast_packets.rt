@@ -67,14 +67,14 @@ fn two_senders_in_turn_complete_a_message_each(rt: HostRuntime) -> Result<(), Fa
         } else {
             Told::Held
         };
-        assert_eq!(rt; fed(&mut assembler, 24, frame, 1_000_000, &PAYLOAD), want);
-        assert_eq!(rt; fed(&mut assembler, 23, frame, 1_001_000, &PAYLOAD), want);
+        assert!(rt; fed(&mut assembler, 24, frame, 1_000_000, &PAYLOAD) == want);
+        assert!(rt; fed(&mut assembler, 23, frame, 1_001_000, &PAYLOAD) == want);
     }
-    assert_eq!(rt;
-        fed(&mut assembler, 23, &FRAMES[6], 1_002_000, &PAYLOAD),
-        Told::Refused(FastRefusal::Orphan)
+    assert!(rt;
+        fed(&mut assembler, 23, &FRAMES[6], 1_002_000, &PAYLOAD)
+            == Told::Refused(FastRefusal::Orphan)
     );
-    assert_eq!(rt; assembler.count(), 0);
+    assert!(rt; assembler.count() == 0);
     Ok(())
 }
 
@@ -85,19 +85,13 @@ fn an_assembly_waits_for_750_ms(rt: HostRuntime) -> Result<(), Fail> {
         source: 23,
         pgn: GNSS,
     };
-    assert_eq!(rt;
-        fed(&mut assembler, 23, &FRAMES[0], 5_000_000, &PAYLOAD),
-        Told::Held
-    );
-    assert_eq!(rt; assembler.expire_one(5_750_000), None);
-    assert_eq!(rt;
-        fed(&mut assembler, 23, &FRAMES[1], 5_750_000, &PAYLOAD),
-        Told::Held
-    );
-    assert_eq!(rt; assembler.expire_one(6_500_001), Some(open));
-    assert_eq!(rt;
-        fed(&mut assembler, 23, &FRAMES[2], 6_500_001, &PAYLOAD),
-        Told::Refused(FastRefusal::Orphan)
+    assert!(rt; fed(&mut assembler, 23, &FRAMES[0], 5_000_000, &PAYLOAD) == Told::Held);
+    assert!(rt; assembler.expire_one(5_750_000) == None);
+    assert!(rt; fed(&mut assembler, 23, &FRAMES[1], 5_750_000, &PAYLOAD) == Told::Held);
+    assert!(rt; assembler.expire_one(6_500_001) == Some(open));
+    assert!(rt;
+        fed(&mut assembler, 23, &FRAMES[2], 6_500_001, &PAYLOAD)
+            == Told::Refused(FastRefusal::Orphan)
     );
     Ok(())
 }
@@ -105,30 +99,20 @@ fn an_assembly_waits_for_750_ms(rt: HostRuntime) -> Result<(), Fail> {
 #[test]
 fn a_full_assembler_refuses_openers_of_other_keys(rt: HostRuntime) -> Result<(), Fail> {
     let mut assembler = FastAssembler::new(rt.alloc(), 1)?;
-    assert_eq!(rt;
-        fed(&mut assembler, 23, &FRAMES[0], 5_000_000, &PAYLOAD),
-        Told::Held
+    assert!(rt; fed(&mut assembler, 23, &FRAMES[0], 5_000_000, &PAYLOAD) == Told::Held);
+    assert!(rt;
+        fed(&mut assembler, 24, &FRAMES[0], 5_100_000, &PAYLOAD) == Told::Refused(FastRefusal::Full)
     );
-    assert_eq!(rt;
-        fed(&mut assembler, 24, &FRAMES[0], 5_100_000, &PAYLOAD),
-        Told::Refused(FastRefusal::Full)
+    assert!(rt; fed(&mut assembler, 23, &FRAMES[0], 5_200_000, &PAYLOAD) == Told::Restarted);
+    assert!(rt; assembler.drop_source(24) == None);
+    assert!(rt;
+        assembler.drop_source(23)
+            == Some(FastKey {
+                source: 23,
+                pgn: GNSS
+            })
     );
-    assert_eq!(rt;
-        fed(&mut assembler, 23, &FRAMES[0], 5_200_000, &PAYLOAD),
-        Told::Restarted
-    );
-    assert_eq!(rt; assembler.drop_source(24), None);
-    assert_eq!(rt;
-        assembler.drop_source(23),
-        Some(FastKey {
-            source: 23,
-            pgn: GNSS
-        })
-    );
-    assert_eq!(rt;
-        fed(&mut assembler, 24, &FRAMES[0], 5_800_000, &PAYLOAD),
-        Told::Held
-    );
+    assert!(rt; fed(&mut assembler, 24, &FRAMES[0], 5_800_000, &PAYLOAD) == Told::Held);
     Ok(())
 }
 
@@ -136,28 +120,22 @@ fn a_full_assembler_refuses_openers_of_other_keys(rt: HostRuntime) -> Result<(),
 fn refused_frames_have_their_reason(rt: HostRuntime) -> Result<(), Fail> {
     let mut assembler = FastAssembler::new(rt.alloc(), 64)?;
     let too_long = [0x00, 0xE0, 0, 0, 0, 0, 0, 0];
-    for bytes in [&too_long[..], &[0; 8], &[], &[0x00, 0x2B, 0, 0, 0, 0, 0]] {
-        assert_eq!(rt;
-            fed(&mut assembler, 23, bytes, 1_000_000, &PAYLOAD),
-            Told::Refused(FastRefusal::Length)
+    for &bytes in &[&too_long[..], &[0; 8], &[], &[0x00, 0x2B, 0, 0, 0, 0, 0]] {
+        assert!(rt;
+            fed(&mut assembler, 23, bytes, 1_000_000, &PAYLOAD)
+                == Told::Refused(FastRefusal::Length)
         );
     }
-    assert_eq!(rt;
-        fed(&mut assembler, 23, &FRAMES[0], 1_000_000, &PAYLOAD),
-        Told::Held
-    );
-    assert_eq!(rt;
-        fed(&mut assembler, 23, &FRAMES[1], 1_001_000, &PAYLOAD),
-        Told::Held
-    );
+    assert!(rt; fed(&mut assembler, 23, &FRAMES[0], 1_000_000, &PAYLOAD) == Told::Held);
+    assert!(rt; fed(&mut assembler, 23, &FRAMES[1], 1_001_000, &PAYLOAD) == Told::Held);
     let other_byte = [0x01, 0x2F, 0, 0, 0, 0, 0, 0x01];
-    assert_eq!(rt;
-        fed(&mut assembler, 23, &other_byte, 1_002_000, &PAYLOAD),
-        Told::Refused(FastRefusal::Order)
+    assert!(rt;
+        fed(&mut assembler, 23, &other_byte, 1_002_000, &PAYLOAD)
+            == Told::Refused(FastRefusal::Order)
     );
-    assert_eq!(rt;
-        fed(&mut assembler, 23, &FRAMES[2], 1_003_000, &PAYLOAD),
-        Told::Refused(FastRefusal::Orphan)
+    assert!(rt;
+        fed(&mut assembler, 23, &FRAMES[2], 1_003_000, &PAYLOAD)
+            == Told::Refused(FastRefusal::Orphan)
     );
     Ok(())
 }
@@ -166,27 +144,12 @@ fn refused_frames_have_their_reason(rt: HostRuntime) -> Result<(), Fail> {
 fn a_repeat_of_the_last_frame_is_passed_over(rt: HostRuntime) -> Result<(), Fail> {
     let mut assembler = FastAssembler::new(rt.alloc(), 64)?;
     for frame in &FRAMES[..4] {
-        assert_eq!(rt;
-            fed(&mut assembler, 23, frame, 1_000_000, &PAYLOAD),
-            Told::Held
-        );
+        assert!(rt; fed(&mut assembler, 23, frame, 1_000_000, &PAYLOAD) == Told::Held);
     }
-    assert_eq!(rt;
-        fed(&mut assembler, 23, &FRAMES[3], 1_100_000, &PAYLOAD),
-        Told::Repeat
-    );
-    assert_eq!(rt;
-        fed(&mut assembler, 23, &FRAMES[4], 1_200_000, &PAYLOAD),
-        Told::Held
-    );
-    assert_eq!(rt;
-        fed(&mut assembler, 23, &FRAMES[5], 1_200_000, &PAYLOAD),
-        Told::Held
-    );
-    assert_eq!(rt;
-        fed(&mut assembler, 23, &FRAMES[6], 1_200_000, &PAYLOAD),
-        Told::Complete(true)
-    );
+    assert!(rt; fed(&mut assembler, 23, &FRAMES[3], 1_100_000, &PAYLOAD) == Told::Repeat);
+    assert!(rt; fed(&mut assembler, 23, &FRAMES[4], 1_200_000, &PAYLOAD) == Told::Held);
+    assert!(rt; fed(&mut assembler, 23, &FRAMES[5], 1_200_000, &PAYLOAD) == Told::Held);
+    assert!(rt; fed(&mut assembler, 23, &FRAMES[6], 1_200_000, &PAYLOAD) == Told::Complete(true));
     Ok(())
 }
 
@@ -194,10 +157,10 @@ fn a_repeat_of_the_last_frame_is_passed_over(rt: HostRuntime) -> Result<(), Fail
 fn a_message_splits_into_its_frames(rt: HostRuntime) -> Result<(), Fail> {
     let mut frames = FrameList::new();
     assert!(rt; split(0, &PAYLOAD, &mut frames));
-    assert_eq!(rt; frames.as_slice(), FRAMES.as_slice());
+    assert!(rt; frames.as_slice() == FRAMES.as_slice());
     assert!(rt; !split(8, &PAYLOAD, &mut frames));
     assert!(rt; !split(0, &[], &mut frames));
-    assert_eq!(rt; frames.len(), 7);
+    assert!(rt; frames.len() == 7);
     Ok(())
 }
 
@@ -207,13 +170,13 @@ fn the_longest_message_has_32_frames(rt: HostRuntime) -> Result<(), Fail> {
     message[..43].copy_from_slice(&PAYLOAD);
     let mut frames = FrameList::new();
     assert!(rt; split(5, &message, &mut frames));
-    assert_eq!(rt; frames.len(), 32);
+    assert!(rt; frames.len() == 32);
     let mut assembler = FastAssembler::new(rt.alloc(), 1)?;
     let mut told = Told::Repeat;
     for frame in frames.iter() {
         told = fed(&mut assembler, 23, frame, 1_000_000, &message);
     }
-    assert_eq!(rt; told, Told::Complete(true));
+    assert!(rt; told == Told::Complete(true));
     Ok(())
 }
 
@@ -221,16 +184,10 @@ fn the_longest_message_has_32_frames(rt: HostRuntime) -> Result<(), Fail> {
 fn as_many_messages_are_open_as_the_greatest_limit(rt: HostRuntime) -> Result<(), Fail> {
     let mut assembler = FastAssembler::new(rt.alloc(), 256)?;
     for source in 0..u8::MAX {
-        assert_eq!(rt;
-            fed(&mut assembler, source, &FRAMES[0], 0, &PAYLOAD),
-            Told::Held
-        );
+        assert!(rt; fed(&mut assembler, source, &FRAMES[0], 0, &PAYLOAD) == Told::Held);
     }
-    assert_eq!(rt;
-        fed(&mut assembler, u8::MAX, &FRAMES[0], 0, &PAYLOAD),
-        Told::Held
-    );
-    assert_eq!(rt; assembler.count(), 256);
-    assert_eq!(rt; fed(&mut assembler, 7, &FRAMES[1], 0, &PAYLOAD), Told::Held);
+    assert!(rt; fed(&mut assembler, u8::MAX, &FRAMES[0], 0, &PAYLOAD) == Told::Held);
+    assert!(rt; assembler.count() == 256);
+    assert!(rt; fed(&mut assembler, 7, &FRAMES[1], 0, &PAYLOAD) == Told::Held);
     Ok(())
 }

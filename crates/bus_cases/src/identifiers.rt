@@ -25,23 +25,23 @@ fn identifiers_are_split_and_joined(rt: HostRuntime) {
         (0x1FFF_FFFF, to(255, 7, 0x3_FFFF, 255)),
     ];
     for (id, expected) in rows {
-        assert_eq!(rt; parts(id), Some(expected));
-        assert_eq!(rt; join(expected), Some(id));
+        assert!(rt; parts(id) == Some(expected));
+        assert!(rt; join(expected) == Some(id));
     }
-    assert_eq!(rt; parts(0x2000_0000), None);
-    assert_eq!(rt; join(to(0x17, 6, 61458, 0)), None);
+    assert!(rt; parts(0x2000_0000) == None);
+    assert!(rt; join(to(0x17, 6, 61458, 0)) == None);
 }
 
 #[test]
 fn a_frame_holds_its_piece(rt: HostRuntime) {
     let piece = [0x00, 0x5C, 0x3D];
-    assert_eq!(rt; Frame::of(0x2000_0000, &piece), None);
-    assert_eq!(rt; Frame::of(0, &[0; 9]), None);
+    assert!(rt; Frame::of(0x2000_0000, &piece) == None);
+    assert!(rt; Frame::of(0, &[0; 9]) == None);
     match Frame::of(0x09F1_1217, &piece) {
         None => assert!(rt; false, "a frame of three bytes"),
         Some(frame) => {
-            assert_eq!(rt; frame.held(), piece.as_slice());
-            assert_eq!(rt; frame.bytes, [0x00, 0x5C, 0x3D, 0, 0, 0, 0, 0]);
+            assert!(rt; frame.held() == piece.as_slice());
+            assert!(rt; frame.bytes == [0x00, 0x5C, 0x3D, 0, 0, 0, 0, 0]);
         }
     }
 }
@@ -81,14 +81,14 @@ fn names_are_cut_into_fields_and_joined(rt: HostRuntime) {
         (0x70FE_FF07_001F_FFFF, STRIPES),
     ];
     for (number, fields) in rows {
-        assert_eq!(rt; Name(number).fields(), fields);
-        assert_eq!(rt; Name::of_fields(fields), Some(Name(number)));
+        assert!(rt; Name(number).fields() == fields);
+        assert!(rt; Name::of_fields(fields) == Some(Name(number)));
     }
     let wide = NameFields {
         industry: 8,
         ..SENSOR
     };
-    assert_eq!(rt; Name::of_fields(wide), None);
+    assert!(rt; Name::of_fields(wide) == None);
     assert!(rt; Name(0xC032_8200_FFC0_0001) < Name(0xC078_8C00_FFC0_0005));
 }
 
@@ -96,9 +96,9 @@ fn names_are_cut_into_fields_and_joined(rt: HostRuntime) {
 fn names_are_read_and_written_low_byte_first(rt: HostRuntime) {
     let bytes = [0x05, 0x00, 0xC0, 0xFF, 0x00, 0x8C, 0x78, 0xC0];
     let name = Name(0xC078_8C00_FFC0_0005);
-    assert_eq!(rt; write_name(name), bytes);
-    assert_eq!(rt; read_name(&bytes), Some(name));
-    assert_eq!(rt; read_name(&bytes[..7]), None);
+    assert!(rt; write_name(name) == bytes);
+    assert!(rt; read_name(&bytes) == Some(name));
+    assert!(rt; read_name(&bytes[..7]) == None);
 }
 
 #[test]

@@ -111,7 +111,7 @@ fn sequence(frames: &Frames, place: usize) -> Option<u8> {
 #[test]
 fn product_information_goes_to_all_in_twenty_frames(rt: HostRuntime) {
     let mut out = Frames::new();
-    for id in [TO_US, TO_ALL] {
+    for &id in &[TO_US, TO_ALL] {
         let answered = answer(
             &mut gateway(),
             Some(0xFB),
@@ -120,7 +120,7 @@ fn product_information_goes_to_all_in_twenty_frames(rt: HostRuntime) {
             &PRODUCT_INFORMATION,
             &mut out,
         );
-        assert_eq!(rt; answered, Answered::Sent);
+        assert!(rt; answered == Answered::Sent);
         assert!(rt; are(&out, 0x19F0_14FB, &INFORMATION));
     }
 }
@@ -153,19 +153,16 @@ fn a_text_may_fill_its_field(rt: HostRuntime) {
     ];
     for (place, bytes) in places {
         let frame = out.as_slice().get(place);
-        assert_eq!(rt;
-            frame.map(|frame| u64::from_be_bytes(frame.bytes)),
-            Some(bytes)
-        );
+        assert!(rt; frame.map(|frame| u64::from_be_bytes(frame.bytes)) == Some(bytes));
     }
 }
 
 #[test]
 fn both_lists_go_to_who_asked_in_eighteen_frames(rt: HostRuntime) {
     let mut out = Frames::new();
-    for id in [TO_US, TO_ALL] {
+    for &id in &[TO_US, TO_ALL] {
         let answered = answer(&mut gateway(), Some(0xFB), true, id, &PGN_LISTS, &mut out);
-        assert_eq!(rt; answered, Answered::Sent);
+        assert!(rt; answered == Answered::Sent);
         assert!(rt; are(&out, 0x19EE_17FB, &LISTS));
     }
 }
@@ -174,7 +171,7 @@ fn both_lists_go_to_who_asked_in_eighteen_frames(rt: HostRuntime) {
 fn what_the_gateway_alone_is_asked_for_is_refused(rt: HostRuntime) {
     let mut out = Frames::new();
     let answered = answer(&mut gateway(), Some(0xFB), true, TO_US, &HEADING, &mut out);
-    assert_eq!(rt; answered, Answered::Sent);
+    assert!(rt; answered == Answered::Sent);
     assert!(rt; are(&out, 0x18E8_17FB, &[0x01FF_FFFF_FF12_F101]));
 }
 
@@ -194,30 +191,31 @@ fn who_has_no_address_is_answered_to_all(rt: HostRuntime) {
     }
 }
 
+/// The address of the gateway, a frame and its bytes.
+const UNANSWERED: [(Option<u8>, u32, [u8; 3]); 8] = [
+    // all are asked for what the gateway hasn't got
+    (Some(0xFB), TO_ALL, HEADING),
+    // the claim is answered elsewhere
+    (Some(0xFB), TO_US, ADDRESS_CLAIMED),
+    (Some(0xFB), TO_ALL, ADDRESS_CLAIMED),
+    // another device is asked
+    (Some(0xFB), 0x18EA_FC17, PRODUCT_INFORMATION),
+    (None, TO_US, PRODUCT_INFORMATION),
+    // the gateway asks
+    (Some(0xFB), 0x18EA_FFFB, PRODUCT_INFORMATION),
+    // PGN 59392 and PGN 60160 are no requests
+    (Some(0xFB), 0x18E8_FB17, PRODUCT_INFORMATION),
+    (Some(0xFB), 0x18EB_FB17, PRODUCT_INFORMATION),
+];
+
 #[test]
 fn other_frames_have_no_answer(rt: HostRuntime) {
     let mut gateway = gateway();
     let mut out = Frames::new();
-    let rows: [(Option<u8>, u32, [u8; 3]); 8] = [
-        // all are asked for what the gateway hasn't got
-        (Some(0xFB), TO_ALL, HEADING),
-        // the claim is answered elsewhere
-        (Some(0xFB), TO_US, ADDRESS_CLAIMED),
-        (Some(0xFB), TO_ALL, ADDRESS_CLAIMED),
-        // another device is asked
-        (Some(0xFB), 0x18EA_FC17, PRODUCT_INFORMATION),
-        (None, TO_US, PRODUCT_INFORMATION),
-        // the gateway asks
-        (Some(0xFB), 0x18EA_FFFB, PRODUCT_INFORMATION),
-        // PGN 59392 and PGN 60160 are no requests
-        (Some(0xFB), 0x18E8_FB17, PRODUCT_INFORMATION),
-        (Some(0xFB), 0x18EB_FB17, PRODUCT_INFORMATION),
-    ];
-    for (own, id, asked) in rows {
-        for ready in [false, true] {
-            assert_eq!(rt;
-                answer(&mut gateway, own, ready, id, &asked, &mut out),
-                Answered::Nothing
+    for &(own, id, asked) in &UNANSWERED {
+        for &ready in &[false, true] {
+            assert!(rt;
+                answer(&mut gateway, own, ready, id, &asked, &mut out) == Answered::Nothing
             );
             assert!(rt; out.is_empty());
         }
@@ -242,7 +240,7 @@ fn a_request_has_at_least_three_bytes(rt: HostRuntime) {
             &bytes[..len],
             &mut out,
         );
-        assert_eq!(rt; answered, wanted);
+        assert!(rt; answered == wanted);
         assert!(rt; out.is_empty() == (len < 3));
     }
 }
@@ -259,10 +257,7 @@ fn nothing_is_sent_before_the_gateway_is_ready(rt: HostRuntime) {
         (None, TO_ALL, PGN_LISTS),
     ];
     for (own, id, asked) in rows {
-        assert_eq!(rt;
-            answer(&mut gateway, own, false, id, &asked, &mut out),
-            Answered::NotReady
-        );
+        assert!(rt; answer(&mut gateway, own, false, id, &asked, &mut out) == Answered::NotReady);
         assert!(rt; out.is_empty());
     }
     let _sent = answer(
@@ -280,7 +275,7 @@ fn nothing_is_sent_before_the_gateway_is_ready(rt: HostRuntime) {
 fn sequences_count_the_messages_of_their_kind(rt: HostRuntime) {
     let mut gateway = gateway();
     let mut out = Frames::new();
-    for (product, list) in [
+    for &(product, list) in &[
         (0, 0),
         (1, 2),
         (2, 4),
@@ -299,11 +294,11 @@ fn sequences_count_the_messages_of_their_kind(rt: HostRuntime) {
             &PRODUCT_INFORMATION,
             &mut out,
         );
-        assert_eq!(rt; sequence(&out, 0), Some(product));
-        assert_eq!(rt; sequence(&out, 19), Some(product));
+        assert!(rt; sequence(&out, 0) == Some(product));
+        assert!(rt; sequence(&out, 19) == Some(product));
         let _sent = answer(&mut gateway, Some(0xFB), true, TO_US, &PGN_LISTS, &mut out);
-        assert_eq!(rt; sequence(&out, 8), Some(list));
-        assert_eq!(rt; sequence(&out, 9), Some(list + 1));
+        assert!(rt; sequence(&out, 8) == Some(list));
+        assert!(rt; sequence(&out, 9) == Some(list + 1));
         let _sent = answer(&mut gateway, Some(0xFB), true, TO_US, &HEADING, &mut out);
     }
 }

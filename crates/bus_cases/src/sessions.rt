@@ -123,13 +123,12 @@ fn the_longest_message_gets_its_grants_and_its_acknowledgement(
 ) -> Result<(), Fail> {
     let message = [0x5A; 1785];
     let mut assembler = IsoAssembler::new(rt.alloc(), 1)?;
-    assert_eq!(rt;
+    assert!(rt;
         fed(
             &mut assembler,
             to_own(MANAGEMENT, &RTS, 10_250_000),
             &message
-        ),
-        replied(grant(8, 1), Told::Held)
+        ) == replied(grant(8, 1), Told::Held)
     );
     for number in 1..=255u8 {
         let bytes = packet(number, &message[..7]);
@@ -145,9 +144,9 @@ fn the_longest_message_gets_its_grants_and_its_acknowledgement(
             _ if number % 8 == 0 => replied(grant(8, number.wrapping_add(1)), Told::Held),
             _ => quiet(Told::Held),
         };
-        assert_eq!(rt; answer, want);
+        assert!(rt; answer == want);
     }
-    assert_eq!(rt; assembler.count(), 0);
+    assert!(rt; assembler.count() == 0);
     Ok(())
 }
 
@@ -185,7 +184,7 @@ fn the_shortest_message_to_all_completes_without_a_reply(rt: HostRuntime) -> Res
             bytes: &bytes,
             at: 10_000_000,
         };
-        assert_eq!(rt; fed(&mut assembler, sent, &message), quiet(told));
+        assert!(rt; fed(&mut assembler, sent, &message) == quiet(told));
     }
     Ok(())
 }
@@ -227,8 +226,8 @@ fn replies_have_their_bytes_and_are_read_back(rt: HostRuntime) {
         ),
     ];
     for (reply, bytes, cm) in rows {
-        assert_eq!(rt; bytes_of(&reply), Some(bytes));
-        assert_eq!(rt; read_cm(&bytes), Some(cm));
+        assert!(rt; bytes_of(&reply) == Some(bytes));
+        assert!(rt; read_cm(&bytes) == Some(cm));
     }
     let rts = Cm::Rts {
         size: 1785,
@@ -236,17 +235,17 @@ fn replies_have_their_bytes_and_are_read_back(rt: HostRuntime) {
         limit: 255,
         pgn,
     };
-    assert_eq!(rt; read_cm(&RTS), Some(rts));
-    assert_eq!(rt; read_cm(&RTS[..7]), None);
-    assert_eq!(rt;
-        read_cm(&[0x20, 0x09, 0, 2, 0xFF, 0xD8, 0xFE, 0]),
-        Some(Cm::Bam {
-            size: 9,
-            packets: 2,
-            pgn: 65240
-        })
+    assert!(rt; read_cm(&RTS) == Some(rts));
+    assert!(rt; read_cm(&RTS[..7]) == None);
+    assert!(rt;
+        read_cm(&[0x20, 0x09, 0, 2, 0xFF, 0xD8, 0xFE, 0])
+            == Some(Cm::Bam {
+                size: 9,
+                packets: 2,
+                pgn: 65240
+            })
     );
-    assert_eq!(rt; read_cm(&[0x12, 0, 0, 0, 0, 0, 0, 0]), None);
+    assert!(rt; read_cm(&[0x12, 0, 0, 0, 0, 0, 0, 0]) == None);
 }
 
 #[test]
@@ -316,9 +315,9 @@ fn frames_that_open_nothing_have_their_answer(rt: HostRuntime) -> Result<(), Fai
             bytes,
             at: 10_000_000,
         };
-        assert_eq!(rt; fed(&mut assembler, sent, &[]), want);
+        assert!(rt; fed(&mut assembler, sent, &[]) == want);
     }
-    assert_eq!(rt; assembler.count(), 0);
+    assert!(rt; assembler.count() == 0);
     Ok(())
 }
 
@@ -346,19 +345,13 @@ fn packets_that_end_a_session_have_their_reply(rt: HostRuntime) -> Result<(), Fa
     for (pgn, bytes, want) in rows {
         let mut assembler = IsoAssembler::new(rt.alloc(), 1)?;
         let first = packet(1, &[0x5A; 7]);
-        assert_eq!(rt;
-            fed(&mut assembler, to_own(MANAGEMENT, &RTS, 1_000_000), &[]),
-            replied(grant(8, 1), Told::Held)
+        assert!(rt;
+            fed(&mut assembler, to_own(MANAGEMENT, &RTS, 1_000_000), &[])
+                == replied(grant(8, 1), Told::Held)
         );
-        assert_eq!(rt;
-            fed(&mut assembler, to_own(DATA, &first, 1_000_000), &[]),
-            quiet(Told::Held)
-        );
-        assert_eq!(rt;
-            fed(&mut assembler, to_own(pgn, bytes, 1_000_000), &[]),
-            want
-        );
-        assert_eq!(rt; assembler.count(), 0);
+        assert!(rt; fed(&mut assembler, to_own(DATA, &first, 1_000_000), &[]) == quiet(Told::Held));
+        assert!(rt; fed(&mut assembler, to_own(pgn, bytes, 1_000_000), &[]) == want);
+        assert!(rt; assembler.count() == 0);
     }
     Ok(())
 }
@@ -366,18 +359,18 @@ fn packets_that_end_a_session_have_their_reply(rt: HostRuntime) -> Result<(), Fa
 #[test]
 fn the_first_grant_is_the_window(rt: HostRuntime) -> Result<(), Fail> {
     // the limit of the RTS, and how many packets are granted first
-    for (limit, granted) in [(0, 1), (1, 1), (7, 7), (8, 8), (9, 8), (255, 8)] {
+    for &(limit, granted) in &[(0, 1), (1, 1), (7, 7), (8, 8), (9, 8), (255, 8)] {
         let mut assembler = IsoAssembler::new(rt.alloc(), 1)?;
         let rts = [0x10, 0xF9, 0x06, 0xFF, limit, 0x05, 0xF8, 0x01];
-        assert_eq!(rt;
-            fed(&mut assembler, to_own(MANAGEMENT, &rts, 1_000_000), &[]),
-            replied(grant(granted, 1), Told::Held)
+        assert!(rt;
+            fed(&mut assembler, to_own(MANAGEMENT, &rts, 1_000_000), &[])
+                == replied(grant(granted, 1), Told::Held)
         );
         // two packets are fewer than most windows
         let short = [0x10, 0x09, 0x00, 0x02, limit, 0x05, 0xF8, 0x01];
-        assert_eq!(rt;
-            fed(&mut assembler, to_own(MANAGEMENT, &short, 1_000_000), &[]),
-            (Some(GNSS), Some(grant(granted.min(2), 1)), Told::Held)
+        assert!(rt;
+            fed(&mut assembler, to_own(MANAGEMENT, &short, 1_000_000), &[])
+                == (Some(GNSS), Some(grant(granted.min(2), 1)), Told::Held)
         );
     }
     Ok(())
@@ -391,7 +384,7 @@ fn a_session_waits_longer_for_what_was_granted(rt: HostRuntime) -> Result<(), Fa
         pgn: GNSS,
     });
     // how many packets came, and the last moment at which the next one may come
-    for (packets, last) in [
+    for &(packets, last) in &[
         (0, 6_250_000),
         (1, 5_750_000),
         (7, 5_750_000),
@@ -408,10 +401,10 @@ fn a_session_waits_longer_for_what_was_granted(rt: HostRuntime) -> Result<(), Fa
         if packets > 0 {
             let again = packet(packets, &[0x5A; 7]);
             let answer = fed(&mut assembler, to_own(DATA, &again, 5_700_000), &[]);
-            assert_eq!(rt; answer, quiet(Told::Repeat));
+            assert!(rt; answer == quiet(Told::Repeat));
         }
-        assert_eq!(rt; assembler.expire_one(last), None);
-        assert_eq!(rt; assembler.expire_one(last.saturating_add(1)), ended);
+        assert!(rt; assembler.expire_one(last) == None);
+        assert!(rt; assembler.expire_one(last.saturating_add(1)) == ended);
     }
     Ok(())
 }
@@ -420,7 +413,7 @@ fn a_session_waits_longer_for_what_was_granted(rt: HostRuntime) -> Result<(), Fa
 fn sessions_end_in_the_order_of_their_keys(rt: HostRuntime) -> Result<(), Fail> {
     let bam = [0x20, 0x09, 0x00, 0x02, 0xFF, 0xD8, 0xFE, 0x00];
     let mut assembler = IsoAssembler::new(rt.alloc(), 3)?;
-    for (to, from, bytes) in [(OWN, 24, &RTS), (OWN, 23, &RTS), (ALL, 24, &bam)] {
+    for &(to, from, bytes) in &[(OWN, 24, &RTS), (OWN, 23, &RTS), (ALL, 24, &bam)] {
         let sent = Sent {
             pgn: MANAGEMENT,
             to,
@@ -428,7 +421,7 @@ fn sessions_end_in_the_order_of_their_keys(rt: HostRuntime) -> Result<(), Fail> 
             bytes,
             at: 1_000_000,
         };
-        assert_eq!(rt; fed(&mut assembler, sent, &[]).2, Told::Held);
+        assert!(rt; fed(&mut assembler, sent, &[]).2 == Told::Held);
     }
     let sent = Sent {
         pgn: MANAGEMENT,
@@ -437,20 +430,19 @@ fn sessions_end_in_the_order_of_their_keys(rt: HostRuntime) -> Result<(), Fail> 
         bytes: &RTS,
         at: 1_100_000,
     };
-    assert_eq!(rt;
-        fed(&mut assembler, sent, &[]),
-        replied(abort(1), Told::Refused(IsoRefusal::Full(GNSS)))
+    assert!(rt;
+        fed(&mut assembler, sent, &[]) == replied(abort(1), Told::Refused(IsoRefusal::Full(GNSS)))
     );
     let ended = |addressed: bool, source: u8, pgn: u32| Some(IsoEnded {
         addressed,
         source,
         pgn,
     });
-    assert_eq!(rt; assembler.drop_source(25), None);
-    assert_eq!(rt; assembler.drop_source(24), ended(false, 24, 65240));
-    assert_eq!(rt; assembler.drop_addressed(), ended(true, 23, GNSS));
-    assert_eq!(rt; assembler.drop_source(24), ended(true, 24, GNSS));
-    assert_eq!(rt; assembler.drop_addressed(), None);
+    assert!(rt; assembler.drop_source(25) == None);
+    assert!(rt; assembler.drop_source(24) == ended(false, 24, 65240));
+    assert!(rt; assembler.drop_addressed() == ended(true, 23, GNSS));
+    assert!(rt; assembler.drop_source(24) == ended(true, 24, GNSS));
+    assert!(rt; assembler.drop_addressed() == None);
     Ok(())
 }
 
@@ -466,8 +458,8 @@ fn as_many_sessions_are_open_as_the_greatest_limit(rt: HostRuntime) -> Result<()
             bytes: &bam,
             at: 0,
         };
-        assert_eq!(rt; fed(&mut assembler, sent, b""), quiet(Told::Held));
+        assert!(rt; fed(&mut assembler, sent, b"") == quiet(Told::Held));
     }
-    assert_eq!(rt; assembler.count(), 32);
+    assert!(rt; assembler.count() == 32);
     Ok(())
 }

@@ -18,32 +18,32 @@ fn entries_of_two_keys_grow_apart_and_lend_their_bytes(rt: HostRuntime) -> Resul
             Begun::Held { replaced: false }
         )
     );
-    assert_eq!(rt; slots.held_bytes(4).unwrap_or(b""), b"xy".as_slice());
-    assert_eq!(rt;
-        slots.kept(7),
-        Some(Kept {
-            next: 1,
-            need: 2,
-            length: 2,
-            mark: 1
-        })
+    assert!(rt; slots.held_bytes(4).unwrap_or(b"") == b"xy".as_slice());
+    assert!(rt;
+        slots.kept(7)
+            == Some(Kept {
+                next: 1,
+                need: 2,
+                length: 2,
+                mark: 1
+            })
     );
     match slots.grow(7, 1, b"cde", 120, 50) {
         Grown::Complete(View { bytes, mark }) => {
-            assert_eq!(rt; bytes, b"abcde".as_slice());
-            assert_eq!(rt; mark, 1);
+            assert!(rt; bytes == b"abcde".as_slice());
+            assert!(rt; mark == 1);
         }
         _ => assert!(rt; false, "not complete"),
     }
-    assert_eq!(rt; slots.count(), 1);
-    assert_eq!(rt;
-        slots.kept(4),
-        Some(Kept {
-            next: 1,
-            need: 2,
-            length: 2,
-            mark: 2
-        })
+    assert!(rt; slots.count() == 1);
+    assert!(rt;
+        slots.kept(4)
+            == Some(Kept {
+                next: 1,
+                need: 2,
+                length: 2,
+                mark: 2
+            })
     );
     Ok(())
 }
@@ -67,7 +67,7 @@ fn a_full_map_refuses_new_keys_alone(rt: HostRuntime) -> Result<(), Fail> {
     match slots.begin(7, b"ef", 1, 120, 50, 3) {
         Begun::Complete { replaced, view } => {
             assert!(rt; replaced);
-            assert_eq!(rt; view.bytes, b"ef".as_slice());
+            assert!(rt; view.bytes == b"ef".as_slice());
         }
         _ => assert!(rt; false, "not complete"),
     }
@@ -77,7 +77,7 @@ fn a_full_map_refuses_new_keys_alone(rt: HostRuntime) -> Result<(), Fail> {
             Begun::Held { replaced: false }
         )
     );
-    assert_eq!(rt; slots.limit(), 1);
+    assert!(rt; slots.limit() == 1);
     assert!(rt; slots.give_up(8));
     assert!(rt; !slots.give_up(8));
     Ok(())
@@ -95,15 +95,15 @@ fn another_number_ends_the_entry(rt: HostRuntime) -> Result<(), Fail> {
 #[test]
 fn an_entry_expires_after_its_gap_and_the_least_key_first(rt: HostRuntime) -> Result<(), Fail> {
     let mut slots = Small::new(rt.alloc(), 3)?;
-    for key in [9, 3, 6] {
+    for &key in &[9, 3, 6] {
         assert!(rt; matches!(slots.begin(key, b"ab", 2, 100, 50, 5), Begun::Held { .. }));
     }
-    assert_eq!(rt; slots.expire_one(150), None);
-    assert_eq!(rt; slots.expire_one(151), Some(Ended { key: 3, mark: 5 }));
-    assert_eq!(rt; slots.drop_between(7, 9), Some(Ended { key: 9, mark: 5 }));
-    assert_eq!(rt; slots.drop_between(7, 9), None);
-    assert_eq!(rt; slots.expire_one(151), Some(Ended { key: 6, mark: 5 }));
-    assert_eq!(rt; slots.expire_one(151), None);
+    assert!(rt; slots.expire_one(150) == None);
+    assert!(rt; slots.expire_one(151) == Some(Ended { key: 3, mark: 5 }));
+    assert!(rt; slots.drop_between(7, 9) == Some(Ended { key: 9, mark: 5 }));
+    assert!(rt; slots.drop_between(7, 9) == None);
+    assert!(rt; slots.expire_one(151) == Some(Ended { key: 6, mark: 5 }));
+    assert!(rt; slots.expire_one(151) == None);
     Ok(())
 }
 
@@ -116,6 +116,6 @@ fn as_many_entries_are_held_as_the_greatest_limit_of_fast_packets(
         assert!(rt; matches!(slots.begin(key, b"ab", 32, 100, 50, 1), Begun::Held { .. }));
     }
     assert!(rt; matches!(slots.begin(256, b"ab", 32, 100, 50, 1), Begun::Full));
-    assert_eq!(rt; slots.count(), 256);
+    assert!(rt; slots.count() == 256);
     Ok(())
 }
