@@ -25,103 +25,117 @@ fn moment_of(line: &[u8]) -> Result<u64, LineRule> {
     }
 }
 
-#[test]
-fn lines_say_frames_datagrams_and_ticks(rt: HostRuntime) {
-    let heading: [u8; 8] = [0x00, 0x5C, 0x3D, 0xFF, 0x7F, 0xFF, 0x7F, 0xFC];
-    let rows: [(&[u8], u64, Option<(u32, &[u8])>, Option<&[u8]>); 9] = [
-        (
-            b"(1700000000.000000) can0 09F11217#005C3DFF7FFF7FFC",
-            1_700_000_000_000_000,
-            Some((0x09F1_1217, &heading)),
-            None,
-        ),
-        (
-            b"(0.000001) vcan0 1fffffff#",
-            1,
-            Some((0x1FFF_FFFF, b"")),
-            None,
-        ),
-        (
-            b"(9999999999.999999) tick0 00000000#aB and more",
-            9_999_999_999_999_999,
-            Some((0, b"\xAB")),
-            None,
-        ),
-        (
-            b"(001.000000) abcdefghijklmnop 12345678#00 ",
-            1_000_000,
-            Some((0x1234_5678, b"\0")),
-            None,
-        ),
-        (b"(1.000000) tick", 1_000_000, None, None),
-        (b"(1.000000) tick and more", 1_000_000, None, None),
-        (
-            b"(1.000000) udp0 NAVD#5564506243",
-            1_000_000,
-            None,
-            Some(b"UdPbC"),
-        ),
-        (b"(1.000000) udp0 4X0Z#", 1_000_000, None, Some(b"")),
-        (
-            b"(1.000000) udp0 NAVD#0d0A and more",
-            1_000_000,
-            None,
-            Some(b"\r\n"),
-        ),
-    ];
-    for (line, moment, frame, bytes) in rows {
-        let mut room = [0; 2048];
-        let frame = frame.and_then(|(id, held)| Frame::of(id, held));
-        assert_eq!(rt; said(line, &mut room), Ok((moment, frame, bytes)));
-    }
+/// The bytes of a heading.
+const HEADING: [u8; 8] = [0x00, 0x5C, 0x3D, 0xFF, 0x7F, 0xFF, 0x7F, 0xFC];
+
+/// Lines, and what they say: a moment, and a frame's identifier and bytes, or a datagram's bytes.
+const LINES: [(&[u8], u64, Option<(u32, &[u8])>, Option<&[u8]>); 9] = [
+    (
+        b"(1700000000.000000) can0 09F11217#005C3DFF7FFF7FFC",
+        1_700_000_000_000_000,
+        Some((0x09F1_1217, &HEADING)),
+        None,
+    ),
+    (
+        b"(0.000001) vcan0 1fffffff#",
+        1,
+        Some((0x1FFF_FFFF, b"")),
+        None,
+    ),
+    (
+        b"(9999999999.999999) tick0 00000000#aB and more",
+        9_999_999_999_999_999,
+        Some((0, b"\xAB")),
+        None,
+    ),
+    (
+        b"(001.000000) abcdefghijklmnop 12345678#00 ",
+        1_000_000,
+        Some((0x1234_5678, b"\0")),
+        None,
+    ),
+    (b"(1.000000) tick", 1_000_000, None, None),
+    (b"(1.000000) tick and more", 1_000_000, None, None),
+    (
+        b"(1.000000) udp0 NAVD#5564506243",
+        1_000_000,
+        None,
+        Some(b"UdPbC"),
+    ),
+    (b"(1.000000) udp0 4X0Z#", 1_000_000, None, Some(b"")),
+    (
+        b"(1.000000) udp0 NAVD#0d0A and more",
+        1_000_000,
+        None,
+        Some(b"\r\n"),
+    ),
+];
+
+/// Whether a line says this.
+fn says(line: &[u8], moment: u64, frame: Option<(u32, &[u8])>, bytes: Option<&[u8]>) -> bool {
+    let meant = match frame {
+        Some((id, held)) => Frame::of(id, held),
+        None => None,
+    };
+    let mut room = [0; 2048];
+    meant.is_some() == frame.is_some() && said(line, &mut room) == Ok((moment, meant, bytes))
 }
 
 #[test]
+fn lines_say_frames_datagrams_and_ticks(rt: HostRuntime) {
+    for (line, moment, frame, bytes) in &LINES {
+        assert!(rt; says(line, *moment, *frame, *bytes));
+    }
+}
+
+/// Lines that say nothing, and the rule that each breaks.
+const OTHER_LINES: [(&[u8], LineRule); 37] = [
+    (b"", LineRule::Form),
+    (b"hello", LineRule::Form),
+    (b"(1.000000)", LineRule::Form),
+    (b"(1.000000) ", LineRule::Form),
+    (b"1.000000) tick", LineRule::Form),
+    (b"(.000000) tick", LineRule::Form),
+    (b"(12345678901.000000) tick", LineRule::Form),
+    (b"(1.00000) tick", LineRule::Form),
+    (b"(1.0000000) tick", LineRule::Form),
+    (b"(1.000000)tick", LineRule::Form),
+    (b"(1.000000)  tick", LineRule::Form),
+    (b"(1.000000) tick\ttext", LineRule::Form),
+    (b"(1.000000) Tick", LineRule::Form),
+    (b"(1.000000) can0", LineRule::Form),
+    (b"(1.000000) abcdefghijklmnopq 09F11217#", LineRule::Form),
+    (b"(1.000000) can0 #", LineRule::Form),
+    (b"(1.000000) can0 12#R", LineRule::Form),
+    (b"(1.000000) can0 09F1121#", LineRule::Form),
+    (b"(1.000000) can0 09F112170#", LineRule::Form),
+    (b"(1.000000) can0 09F1121G#", LineRule::Form),
+    (b"(1.000000) can0 09F11217#0", LineRule::Form),
+    (
+        b"(1.000000) can0 09F11217#001122334455667788",
+        LineRule::Form,
+    ),
+    (b"(1.000000) can0 09F11217#00x", LineRule::Form),
+    (b"(1.000000) can0 123#0", LineRule::Form),
+    (b"(1.000000) can0 20000000#0", LineRule::Form),
+    (b"(1.000000) udp0 navd#", LineRule::Form),
+    (b"(1.000000) udp0 NAV#", LineRule::Form),
+    (b"(1.000000) udp0 NAVDX#", LineRule::Form),
+    (b"(1.000000) udp0 NAVD#5", LineRule::Form),
+    (b"(1.000000) udp0 NAVD#5G", LineRule::Form),
+    (b"(1.000000) can0 123#00", LineRule::NotExtended),
+    (b"(1.000000) can0 123#R", LineRule::NotExtended),
+    (b"(1.000000) can0 123##", LineRule::NotExtended),
+    (b"(1.000000) can0 20000000#", LineRule::NotExtended),
+    (b"(1.000000) can0 FFFFFFFF#00 x", LineRule::NotExtended),
+    (b"(1.000000) can0 09F11217#R8", LineRule::NotExtended),
+    (b"(1.000000) can0 09F11217##1xyz", LineRule::NotExtended),
+];
+
+#[test]
 fn every_other_line_breaks_a_rule(rt: HostRuntime) {
-    let rows: [(&[u8], LineRule); 37] = [
-        (b"", LineRule::Form),
-        (b"hello", LineRule::Form),
-        (b"(1.000000)", LineRule::Form),
-        (b"(1.000000) ", LineRule::Form),
-        (b"1.000000) tick", LineRule::Form),
-        (b"(.000000) tick", LineRule::Form),
-        (b"(12345678901.000000) tick", LineRule::Form),
-        (b"(1.00000) tick", LineRule::Form),
-        (b"(1.0000000) tick", LineRule::Form),
-        (b"(1.000000)tick", LineRule::Form),
-        (b"(1.000000)  tick", LineRule::Form),
-        (b"(1.000000) tick\ttext", LineRule::Form),
-        (b"(1.000000) Tick", LineRule::Form),
-        (b"(1.000000) can0", LineRule::Form),
-        (b"(1.000000) abcdefghijklmnopq 09F11217#", LineRule::Form),
-        (b"(1.000000) can0 #", LineRule::Form),
-        (b"(1.000000) can0 12#R", LineRule::Form),
-        (b"(1.000000) can0 09F1121#", LineRule::Form),
-        (b"(1.000000) can0 09F112170#", LineRule::Form),
-        (b"(1.000000) can0 09F1121G#", LineRule::Form),
-        (b"(1.000000) can0 09F11217#0", LineRule::Form),
-        (
-            b"(1.000000) can0 09F11217#001122334455667788",
-            LineRule::Form,
-        ),
-        (b"(1.000000) can0 09F11217#00x", LineRule::Form),
-        (b"(1.000000) can0 123#0", LineRule::Form),
-        (b"(1.000000) can0 20000000#0", LineRule::Form),
-        (b"(1.000000) udp0 navd#", LineRule::Form),
-        (b"(1.000000) udp0 NAV#", LineRule::Form),
-        (b"(1.000000) udp0 NAVDX#", LineRule::Form),
-        (b"(1.000000) udp0 NAVD#5", LineRule::Form),
-        (b"(1.000000) udp0 NAVD#5G", LineRule::Form),
-        (b"(1.000000) can0 123#00", LineRule::NotExtended),
-        (b"(1.000000) can0 123#R", LineRule::NotExtended),
-        (b"(1.000000) can0 123##", LineRule::NotExtended),
-        (b"(1.000000) can0 20000000#", LineRule::NotExtended),
-        (b"(1.000000) can0 FFFFFFFF#00 x", LineRule::NotExtended),
-        (b"(1.000000) can0 09F11217#R8", LineRule::NotExtended),
-        (b"(1.000000) can0 09F11217##1xyz", LineRule::NotExtended),
-    ];
-    for (line, rule) in rows {
-        assert_eq!(rt; moment_of(line), Err(rule));
+    for &(line, rule) in &OTHER_LINES {
+        assert!(rt; moment_of(line) == Err(rule));
     }
 }
 
@@ -143,24 +157,26 @@ fn a_line_has_at_most_4096_bytes(rt: HostRuntime) {
         (&text[..4096], Err(LineRule::Form)),
     ];
     for (line, answer) in rows {
-        assert_eq!(rt; moment_of(line), answer);
+        assert!(rt; moment_of(line) == answer);
     }
 }
 
+/// Lines, and how many of their bytes are a line too.
+const FRONTS: [(&[u8], [usize; 3]); 2] = [
+    (b"(1.000000) can0 09F11217#005C", [25, 27, 29]),
+    (b"(1.000000) udp0 NAVD#5564", [21, 23, 25]),
+];
+
 #[test]
 fn each_front_of_a_line_has_its_answer(rt: HostRuntime) {
-    let rows: [(&[u8], [usize; 3]); 2] = [
-        (b"(1.000000) can0 09F11217#005C", [25, 27, 29]),
-        (b"(1.000000) udp0 NAVD#5564", [21, 23, 25]),
-    ];
-    for (line, whole) in rows {
+    for &(line, whole) in &FRONTS {
         for count in 0..=line.len() {
             let expected = if whole.contains(&count) {
                 Ok(1_000_000)
             } else {
                 Err(LineRule::Form)
             };
-            assert_eq!(rt; moment_of(&line[..count]), expected);
+            assert!(rt; moment_of(&line[..count]) == expected);
         }
     }
 }
@@ -171,20 +187,14 @@ fn emits_are_written_as_lines(rt: HostRuntime) -> Result<(), Fail> {
     let group = Group::of(b"NAVD").ok_or("a group")?;
     let mut out = ArrayVec::new();
     write_emit(&Emit::Can(claim), 10_300_000, &mut out);
-    assert_eq!(rt;
-        out.as_slice(),
-        b"(10.300000) can0 18EEFFFB#0100C0FF008232C0".as_slice()
-    );
+    assert!(rt; out.as_slice() == b"(10.300000) can0 18EEFFFB#0100C0FF008232C0".as_slice());
     let mut out = ArrayVec::new();
     write_emit(
         &Emit::Net(group, b"UdPbC\0\x5C"),
         1_700_000_000_000_000,
         &mut out,
     );
-    assert_eq!(rt;
-        out.as_slice(),
-        b"(1700000000.000000) udp0 NAVD#5564506243005C".as_slice()
-    );
+    assert!(rt; out.as_slice() == b"(1700000000.000000) udp0 NAVD#5564506243005C".as_slice());
     Ok(())
 }
 
@@ -228,27 +238,28 @@ fn reports_are_written_as_lines(rt: HostRuntime) -> Result<(), Fail> {
     for (rule, detail, moment, line) in rows {
         let mut out = ArrayVec::new();
         write_emit(&Emit::Report(Report { rule, detail }), moment, &mut out);
-        assert_eq!(rt; out.as_slice(), line);
+        assert!(rt; out.as_slice() == line);
     }
     Ok(())
 }
 
+/// The last moment that a line has.
+const LAST: u64 = 9_999_999_999_999_999;
+
 #[test]
-fn what_is_written_is_read_back(rt: HostRuntime) -> Result<(), Fail> {
-    let moment = 9_999_999_999_999_999;
-    let group = Group::of(b"TGTD").ok_or("a group")?;
+fn a_datagram_that_is_written_is_read_back(rt: HostRuntime) {
+    let group = Group::of(b"TGTD").unwrap_or_default();
     let bytes = [0xC5; 512];
-    let mut room = [0; 2048];
     let mut out = ArrayVec::new();
-    write_emit(&Emit::Net(group, &bytes), moment, &mut out);
-    assert_eq!(rt; out.len(), 1054);
-    assert_eq!(rt;
-        said(&out, &mut room),
-        Ok((moment, None, Some(bytes.as_slice())))
-    );
+    write_emit(&Emit::Net(group, &bytes), LAST, &mut out);
+    assert!(rt; out.len() == 1054 && says(&out, LAST, None, Some(&bytes)));
+}
+
+#[test]
+fn a_frame_that_is_written_is_read_back(rt: HostRuntime) -> Result<(), Fail> {
     let frame = Frame::of(0x1FFF_FFFF, &[0xFF; 8]).ok_or("a frame")?;
     let mut out = ArrayVec::new();
-    write_emit(&Emit::Can(frame), moment, &mut out);
-    assert_eq!(rt; said(&out, &mut room), Ok((moment, Some(frame), None)));
+    write_emit(&Emit::Can(frame), LAST, &mut out);
+    assert!(rt; says(&out, LAST, Some((0x1FFF_FFFF, &[0xFF; 8])), None));
     Ok(())
 }

@@ -25,7 +25,7 @@ fn a_conversion_rounds_once_and_halves_go_away_from_zero(rt: HostRuntime) {
         (half, 0, 0),
     ];
     for (fraction, raw, value) in rows {
-        assert_eq!(rt; scale(fraction, raw), value);
+        assert!(rt; scale(fraction, raw) == value);
     }
 }
 
@@ -39,30 +39,29 @@ fn a_conversion_holds_at_the_ends_of_its_range(rt: HostRuntime) {
         num: 1,
         den: u64::MAX,
     };
-    assert_eq!(rt;
-        scale(most, i64::MIN),
-        -170_141_183_460_469_231_722_463_931_679_029_329_920
-    );
-    assert_eq!(rt; scale(least, i64::MIN), -1);
-    assert_eq!(rt; scale(least, i64::MAX), 0);
+    assert!(rt; scale(most, i64::MIN) == -170_141_183_460_469_231_722_463_931_679_029_329_920);
+    assert!(rt; scale(least, i64::MIN) == -1);
+    assert!(rt; scale(least, i64::MAX) == 0);
 }
+
+/// Sign, digits and places, and how the number is written.
+const NUMBERS: [(bool, u64, u8, &[u8]); 8] = [
+    (false, 0, 0, b"0"),
+    (true, 0, 1, b"0.0"),
+    (false, 900, 1, b"90.0"),
+    (true, 5, 2, b"-0.05"),
+    (false, 1234, 0, b"1234"),
+    (true, 1, 0, b"-1"),
+    (false, 7, 12, b"0.000000000007"),
+    (true, u64::MAX, 3, b"-18446744073709551.615"),
+];
 
 #[test]
 fn a_number_is_written_with_its_decimals(rt: HostRuntime) -> Result<(), Fail> {
-    let rows: [(bool, u64, u8, &[u8]); 8] = [
-        (false, 0, 0, b"0"),
-        (true, 0, 1, b"0.0"),
-        (false, 900, 1, b"90.0"),
-        (true, 5, 2, b"-0.05"),
-        (false, 1234, 0, b"1234"),
-        (true, 1, 0, b"-1"),
-        (false, 7, 12, b"0.000000000007"),
-        (true, u64::MAX, 3, b"-18446744073709551.615"),
-    ];
-    for (negative, digits, places, text) in rows {
+    for &(negative, digits, places, text) in &NUMBERS {
         let mut out = ArrayVec::new();
         assert!(rt; write_decimal(negative, digits, places, &mut out));
-        assert_eq!(rt; out.as_slice(), text);
+        assert!(rt; out.as_slice() == text);
     }
     Ok(())
 }
@@ -95,7 +94,7 @@ fn a_decimal_is_read_or_its_first_fault_is_named(rt: HostRuntime) {
         (b"0000000000001x", Err(DecimalFault::Byte(13))),
     ];
     for (text, decimal) in rows {
-        assert_eq!(rt; read_decimal(text), decimal);
+        assert!(rt; read_decimal(text) == decimal);
     }
 }
 
@@ -114,7 +113,7 @@ fn a_decimal_is_scaled_by_its_value(rt: HostRuntime) {
         (raw_knots, true, 0, 2, 0),
     ];
     for (fraction, negative, digits, places, raw) in rows {
-        assert_eq!(rt;
+        assert!(rt;
             scale_decimal(
                 fraction,
                 &Decimal {
@@ -122,8 +121,7 @@ fn a_decimal_is_scaled_by_its_value(rt: HostRuntime) {
                     digits,
                     places
                 }
-            ),
-            raw
+            ) == raw
         );
     }
 }
@@ -135,8 +133,8 @@ fn what_does_not_fit_changes_nothing(rt: HostRuntime) -> Result<(), Fail> {
         assert!(rt; out.try_push(b' ').is_ok());
     }
     assert!(rt; !write_decimal(false, 900, 1, &mut out));
-    assert_eq!(rt; out.len(), 79);
+    assert!(rt; out.len() == 79);
     assert!(rt; write_decimal(false, 100, 0, &mut out));
-    assert_eq!(rt; out.len(), 82);
+    assert!(rt; out.len() == 82);
     Ok(())
 }
