@@ -3,5 +3,5 @@ pub mod Decimals
 pub mod EndpointTexts
 pub mod Listed
 pub mod Loopback
-pub mod Noted
+pub mod Tables
 pub mod Values

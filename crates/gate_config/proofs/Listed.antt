@@ -1,5 +1,5 @@
 -- What the test of listed rows tells of each of them.
-use Rattle.std.proofs.Common.{◌≡◌, ℕ, zero, suc, ◌+◌, ◌<◌, ◌≤◌, Bool, ◌&&◌, ◌==◌, IsTrue, List, [], ◌∷◌, ◌++◌, length, get_or, drop, map, Ok, Bor, sym, ap, ◌∙◌, arith, eqb-true}
+use Rattle.std.proofs.Common.{◌≡◌, ℕ, zero, suc, ◌+◌, ◌<◌, Bool, ◌&&◌, ◌==◌, IsTrue, List, [], ◌∷◌, ◌++◌, length, get_or, drop, map, Ok, Bor, sym, ap, ◌∙◌, arith, eqb-true}
 use Rattle.std.specs.List.{list_all}
 use Rattle.std.proofs.lemmas.Bool.{and_parts, leb-true}
 use Rattle.std.proofs.lemmas.List.{at_drop_more}
@@ -24,21 +24,15 @@ listed row test =
       talker = record { len = eqb-true (length row.1) 2 inner.0; letters = inner.1 };
     }
 
+pub mapped_at : {A B : Type 0} (f : A → B) (test : B → Bool) (xs : List A) (i : ℕ) (d : A) → IsTrue (list_all test (map f xs)) → i < length xs → IsTrue (test (f (get_or xs i d)))
+mapped_at f test [] i d all within = absurd (omega arith)
+mapped_at f test (x ∷ xs) zero d all within = (and_parts (test (f x)) (list_all test (map f xs)) all).0
+mapped_at f test (x ∷ xs) (suc i) d all within = mapped_at f test xs i d (and_parts (test (f x)) (list_all test (map f xs)) all).1 (omega arith)
+
 pub listed_at :
     (rows : List (Bor (List ℕ) × List ℕ)) (i : ℕ) (d : Bor (List ℕ) × List ℕ) → IsTrue (list_all is_listed (map listed_seen rows)) → i < length rows
     → IsListed (listed_seen (get_or rows i d))
-listed_at [] i d all within = absurd (omega arith)
-listed_at (row ∷ rows) zero d all within = listed (listed_seen row) (and_parts (is_listed (listed_seen row)) (list_all is_listed (map listed_seen rows)) all).0
-listed_at (row ∷ rows) (suc i) d all within =
-    listed_at rows i d (and_parts (is_listed (listed_seen row)) (list_all is_listed (map listed_seen rows)) all).1 (omega arith)
-
-pub short_at : (names : List (Bor (List ℕ))) (i : ℕ) (d : Bor (List ℕ)) → IsTrue (list_all is_short (map (λ (name : Bor (List ℕ)). name.now) names)) → i < length names
-    → length (get_or names i d).now ≤ 60
-short_at [] i d all within = absurd (omega arith)
-short_at (name ∷ names) zero d all within =
-    leb-true (length name.now) 60 (and_parts (is_short name.now) (list_all is_short (map (λ (n : Bor (List ℕ)). n.now) names)) all).0
-short_at (name ∷ names) (suc i) d all within =
-    short_at names i d (and_parts (is_short name.now) (list_all is_short (map (λ (n : Bor (List ℕ)). n.now) names)) all).1 (omega arith)
+listed_at rows i d all within = listed (listed_seen (get_or rows i d)) (mapped_at listed_seen is_listed rows i d all within)
 
 -- one more listed row is read
 pub one_more :

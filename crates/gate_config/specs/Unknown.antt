@@ -1,10 +1,11 @@
 -- Keys that aren't known, in every table: of all of them the one is told whose path comes first in the order of bytes.
-use Rattle.std.specs.Prelude.{ℕ, ◌+◌, List, [], ◌∷◌, codes, Option, Some, None}
+use Rattle.std.specs.Prelude.{ℕ, ◌+◌, List, [], ◌∷◌, map, Option, Some, None}
 use Rattle.toml.specs.Data.{Data, Items, no_items, item, Members, no_members, array, get_member}
 use Rattle.config_document.specs.Kinds.{members_in}
 use Rattle.config_document.specs.Places.{Place}
 use Rattle.config_document.specs.Unknown.{least_of, unknown_in}
-use Rattle.gate_config.specs.Keys.{item_prefix, row_prefix}
+use Rattle.gate_config.specs.Keys
+use Rattle.gate_config.specs.Reading.{Table, item_prefix, prefix_of}
 
 abbrev pub table_of : Option Data → Members
 table_of None = no_members
@@ -27,69 +28,41 @@ noted_items known word number no_items best = best
 noted_items known word number (item value more) best =
     noted_items known word (number + 1) more (noted known (record { prefix = item_prefix word number; members = members_in value }) best)
 
--- the document's own keys, and those of each table
-abbrev pub top_known : List (List ℕ)
-top_known = codes "gateway" ∷ codes "preset" ∷ codes "row" ∷ codes "net" ∷ codes "bus" ∷ codes "route" ∷ codes "identity" ∷ codes "rmc" ∷ codes "ais" ∷ []
-
--- gateway
-abbrev pub gateway_known : List (List ℕ)
-gateway_known = codes "name" ∷ codes "address" ∷ codes "sfi" ∷ codes "group" ∷ codes "fast_slots" ∷ codes "iso_slots" ∷ codes "group_slots" ∷ codes "ths" ∷ []
-
--- preset
-abbrev pub preset_known : List (List ℕ)
-preset_known = codes "address" ∷ codes "name" ∷ []
-
--- row
-abbrev pub rows_known : List (List ℕ)
-rows_known = codes "heading_true" ∷ codes "heading_magnetic" ∷ codes "rate_of_turn" ∷ codes "rudder_first" ∷ codes "rudder_second" ∷ codes "water_speed" ∷ codes "depth" ∷ codes "distance_log" ∷ codes "position" ∷ codes "course_speed" ∷ codes "gnss" ∷ codes "time" ∷ codes "wind_apparent" ∷ codes "wind_true" ∷ codes "wind_north" ∷ codes "water_temperature" ∷ codes "cross_track" ∷ []
-
--- row.R
-abbrev pub row_known : List (List ℕ)
-row_known = codes "sources" ∷ codes "others" ∷ codes "timeout_ms" ∷ codes "talker" ∷ codes "group" ∷ []
-
--- net
-abbrev pub net_known : List (List ℕ)
-net_known = codes "sources" ∷ codes "listen" ∷ codes "send" ∷ []
-
--- bus
-abbrev pub bus_known : List (List ℕ)
-bus_known = codes "listen" ∷ codes "send" ∷ []
-
--- route
-abbrev pub route_known : List (List ℕ)
-route_known = codes "group" ∷ codes "address" ∷ []
-
--- identity
-abbrev pub identity_known : List (List ℕ)
-identity_known = codes "code" ∷ codes "model" ∷ codes "software" ∷ codes "version" ∷ codes "serial" ∷ codes "load" ∷ []
-
--- rmc
-abbrev pub rmc_known : List (List ℕ)
-rmc_known = codes "group" ∷ codes "talker" ∷ []
-
--- ais
-abbrev pub ais_known : List (List ℕ)
-ais_known = codes "group" ∷ codes "slots" ∷ []
+-- the names of the rows
+abbrev pub row_names : List (List ℕ)
+row_names = map (λ listed. listed.0) Keys.listed_rows
 
 -- the table of each of these rows
 abbrev pub each_row_noted : Place → List (List ℕ) → Option (List ℕ) → Option (List ℕ)
 each_row_noted rows [] best = best
-each_row_noted rows (name ∷ names) best = each_row_noted rows names (noted row_known (place_under rows name (row_prefix name)) best)
+each_row_noted rows (name ∷ names) best = each_row_noted rows names (noted Keys.row.known (place_under rows name (Keys.row_prefix name)) best)
 
 -- the table of rows, and each row's table
 unfoldable pub rows_noted : Place → Option (List ℕ) → Option (List ℕ)
-rows_noted rows best = each_row_noted rows rows_known (noted rows_known rows best)
+rows_noted rows best = each_row_noted rows row_names (noted row_names rows best)
+
+-- a table that stands once in the document, and one that stands as each item of a list
+abbrev once : {E A : Type 0} → Table E A → Place → Option (List ℕ) → Option (List ℕ)
+once t document best = noted t.known (place_under document t.name (prefix_of t.name)) best
+
+abbrev items : {E A : Type 0} → Table E A → Place → Option (List ℕ) → Option (List ℕ)
+items t document best = noted_items t.known (prefix_of t.name) 1 (items_of (get_member t.name document.members)) best
+
+-- the document's own keys are the names of the tables
+unfoldable pub tables : List (List ℕ)
+tables =
+    Keys.gateway.name ∷ Keys.preset.name ∷ Keys.row.name ∷ Keys.net.name ∷ Keys.bus.name ∷ Keys.route.name ∷ Keys.identity.name ∷ Keys.rmc.name ∷ Keys.ais.name ∷ []
 
 -- every table
 unfoldable pub first_unknown : Place → Option (List ℕ)
 first_unknown document =
-    noted ais_known (place_under document (codes "ais") (codes "ais."))
-    (noted rmc_known (place_under document (codes "rmc") (codes "rmc."))
-    (noted identity_known (place_under document (codes "identity") (codes "identity."))
-    (noted_items route_known (codes "route.") 1 (items_of (get_member (codes "route") document.members))
-    (noted bus_known (place_under document (codes "bus") (codes "bus."))
-    (noted net_known (place_under document (codes "net") (codes "net."))
-    (rows_noted (place_under document (codes "row") (codes "row."))
-    (noted_items preset_known (codes "preset.") 1 (items_of (get_member (codes "preset") document.members))
-    (noted gateway_known (place_under document (codes "gateway") (codes "gateway."))
-    (noted top_known document None)))))))))
+    once Keys.ais document
+    (once Keys.rmc document
+    (once Keys.identity document
+    (items Keys.route document
+    (once Keys.bus document
+    (once Keys.net document
+    (rows_noted (place_under document Keys.row.name (prefix_of Keys.row.name))
+    (items Keys.preset document
+    (once Keys.gateway document
+    (noted tables document None)))))))))

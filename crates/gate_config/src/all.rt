@@ -7,7 +7,6 @@ ghost use Rattle.settings.specs.Settings.{IsSettings};
 
 use crate::gateway::gateway_keys;
 use crate::identity::identity_keys;
-use crate::keys::section;
 use crate::links::{bus_keys, net_keys};
 use crate::parts::{ais_keys, rmc_keys};
 use crate::presets::preset_keys;
@@ -31,7 +30,7 @@ pub(crate) fn all_keys(document: &Section) -> Result<Settings, ConfigFault>
     ensures said { result ≡ settings_in (place_of document.now) }
     ensures valid { IfOk result IsSettings }
 {
-    let own = gateway_keys(&section(document, "gateway", b"gateway.")?)?;
+    let own = gateway_keys(document)?;
     let presets = preset_keys(
         document,
         &Preset {
@@ -39,7 +38,7 @@ pub(crate) fn all_keys(document: &Section) -> Result<Settings, ConfigFault>
             name: own.name,
         },
     )?;
-    let rows = row_keys(&section(document, "row", b"row.")?, own.group)?;
+    let rows = row_keys(document, own.group)?;
     let (net_sources, ends) = link_keys(document, own.sfi)?;
     let (product, rmc, ais) = part_keys(document, &rows)?;
     Ok(Settings {
@@ -68,8 +67,8 @@ fn link_keys(document: &Section, own: Sfi) -> Result<(ArrayVec<Sfi, 32>, Ends), 
     ensures said { result ≡ links_in own (place_of document.now) }
     ensures valid { IfOk result (AreLinks own) }
 {
-    let (sources, net_listen, net_send) = net_keys(&section(document, "net", b"net.")?, own)?;
-    let (bus_listen, bus_send) = bus_keys(&section(document, "bus", b"bus.")?)?;
+    let (sources, net_listen, net_send) = net_keys(document, own)?;
+    let (bus_listen, bus_send) = bus_keys(document)?;
     let routes = route_keys(document)?;
     let ends = Ends {
         bus_listen,
@@ -89,9 +88,9 @@ fn part_keys(document: &Section, rows: &[RowConfig]) -> Result<Parts, ConfigFaul
     ensures said { result ≡ parts_in rows.now (place_of document.now) }
     ensures valid { IfOk result (AreParts rows.now) }
 {
-    let product = identity_keys(&section(document, "identity", b"identity.")?)?;
-    let rmc = rmc_keys(&section(document, "rmc", b"rmc.")?, rows)?;
-    let ais = ais_keys(&section(document, "ais", b"ais.")?, rows, group_of(&rmc))?;
+    let product = identity_keys(document)?;
+    let rmc = rmc_keys(document, rows)?;
+    let ais = ais_keys(document, rows, group_of(&rmc))?;
     Ok((product, rmc, ais))
 }
 

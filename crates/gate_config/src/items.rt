@@ -1,6 +1,7 @@
 //! What stands before the keys of a table in their paths: of an item of a list, and of a row.
 ghost use Rattle.std.specs.Prelude.{◌≡◌, ◌+◌, ◌≤◌, ◌++◌, decimal, length};
-ghost use Rattle.gate_config.specs.Keys.{item_prefix, row_prefix};
+ghost use Rattle.gate_config.specs.Keys.{row_prefix};
+ghost use Rattle.gate_config.specs.Reading.{item_prefix};
 
 use arrayvec::ArrayVec;
 use unit_fraction::write_decimal;

@@ -3,10 +3,10 @@ ghost use Rattle.std.specs.Prelude.{◌≡◌, IfOk};
 ghost use Rattle.std.specs.Int.{IsInRange};
 ghost use Rattle.config_document.specs.Keys.{number_at, text_at, truth_at};
 ghost use Rattle.config_document.specs.Places.{place_of};
-ghost use Rattle.gate_config.specs.Reading.{default, needed, once, section_at};
+ghost use Rattle.gate_config.specs.Reading.{default, needed, section_at};
 ghost use Rattle.config_document.specs.Keys.{Sees};
 
-use config_document::{ConfigFault, Flaw, Section, Written};
+use config_document::{ConfigFault, Section, Written};
 
 /// The number at a key that has to be there.
 pub(crate) fn needed_number(
@@ -95,19 +95,4 @@ pub(crate) fn section<'a>(
         Ok(table) => Ok(Section { prefix, table }),
         Err(fault) => Err(fault),
     }
-}
-
-/// The value at a key, unless it stands a second time.
-pub(crate) fn once<T: Drop>(
-    stands: bool,
-    section: &Section,
-    name: &str,
-    value: T,
-) -> Result<T, ConfigFault>
-    ensures { result ≡ once stands (place_of section.now) name.now value }
-{
-    if stands {
-        return Err(section.fault(name, Flaw::Twice));
-    }
-    Ok(value)
 }

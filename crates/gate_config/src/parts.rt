@@ -4,41 +4,53 @@ ghost use Rattle.std.specs.List.{list_any};
 ghost use Rattle.std.specs.Option.{ForSome};
 ghost use Rattle.config_document.specs.Places.{place_of};
 ghost use Rattle.gate_config.specs.Beside.{IsAisBeside, IsGroupBeside};
-ghost use Rattle.gate_config.specs.Keys.{ais_in, is_taken, own_group_in, rmc_in};
+ghost use Rattle.gate_config.specs.Keys.{ais, is_taken, own_group_at, rmc};
+ghost use Rattle.gate_config.specs.Reading.{table_in};
 ghost use Rattle.gate_config.specs.Texts.{same_text};
 ghost use Rattle.settings.specs.Settings.{IsRmc};
 
-use crate::keys::{number_or, text_or};
+use crate::keys::{number_or, section, text_or};
 use config_document::{ConfigFault, Flaw, Section, Talker};
 use config_values::RowConfig;
 use sentence_text::Group;
 use settings::{AisConfig, RmcConfig};
 
-#[tactic(auto, using(crate::proofs::Values::talker), unfolding(crate::specs::Keys::rmc_in))]
-pub(crate) fn rmc_keys(rmc: &Section, rows: &[RowConfig]) -> Result<Option<RmcConfig>, ConfigFault>
-    ensures said { result ≡ rmc_in rows.now (place_of rmc.now) }
+pub(crate) const RMC_KEYS: [&str; 2] = ["group", "talker"];
+
+pub(crate) const AIS_KEYS: [&str; 2] = ["group", "slots"];
+
+#[tactic(auto, using(crate::proofs::Values::talker), unfolding(crate::specs::Keys::rmc))]
+pub(crate) fn rmc_keys(
+    document: &Section,
+    rows: &[RowConfig],
+) -> Result<Option<RmcConfig>, ConfigFault>
+    ensures said { result ≡ table_in rmc rows.now (place_of document.now) }
     ensures valid { IfOk result (λ rmc. ForSome rmc (IsRmc rows.now)) }
 {
-    let group = own_group(rmc, rows, None, "talker")?;
-    let Talker(talker) = text_or(rmc, "talker", Talker(*b"GP"))?;
-    match group {
+    let table = section(document, "rmc", b"rmc.")?;
+    let [group, talker] = RMC_KEYS;
+    let own = own_group(&table, group, rows, None, talker)?;
+    let Talker(talker) = text_or(&table, talker, Talker(*b"GP"))?;
+    match own {
         None => Ok(None),
         Some(group) => Ok(Some(RmcConfig { group, talker })),
     }
 }
 
-#[tactic(auto, unfolding(crate::specs::Keys::ais_in))]
+#[tactic(auto, unfolding(crate::specs::Keys::ais))]
 pub(crate) fn ais_keys(
-    ais: &Section,
+    document: &Section,
     rows: &[RowConfig],
     taken: Option<Group>,
 ) -> Result<Option<AisConfig>, ConfigFault>
-    ensures said { result ≡ ais_in rows.now taken (place_of ais.now) }
+    ensures said { result ≡ table_in ais (rows.now, taken) (place_of document.now) }
     ensures valid { IfOk result (λ ais. ForSome ais (IsAisBeside rows.now taken)) }
 {
-    let group = own_group(ais, rows, taken, "slots")?;
-    let slots = number_or(ais, "slots", 1, 256, 16)? as u16;
-    match group {
+    let table = section(document, "ais", b"ais.")?;
+    let [group, slots] = AIS_KEYS;
+    let own = own_group(&table, group, rows, taken, slots)?;
+    let slots = number_or(&table, slots, 1, 256, 16)? as u16;
+    match own {
         None => Ok(None),
         Some(group) => Ok(Some(AisConfig { group, slots })),
     }
@@ -48,25 +60,26 @@ pub(crate) fn ais_keys(
 #[tactic(auto, using(crate::proofs::Beside::group_beside))]
 fn own_group(
     section: &Section,
+    name: &str,
     rows: &[RowConfig],
     taken: Option<Group>,
     other: &str,
 ) -> Result<Option<Group>, ConfigFault>
-    ensures said { result ≡ own_group_in rows.now taken (place_of section.now) other.now }
+    ensures said { result ≡ own_group_at rows.now taken other.now (place_of section.now) name.now }
     ensures valid { IfOk result (λ group. ForSome group (IsGroupBeside rows.now taken)) }
 {
-    match section.text::<Group>("group") {
+    match section.text::<Group>(name) {
         Err(fault) => Err(fault),
         Ok(None) => {
             if section.member(other).is_some() {
-                section.required("group", None)
+                section.required(name, None)
             } else {
                 Ok(None)
             }
         }
         Ok(Some(group)) => {
             if have_group(rows, group) || is_taken(taken, group) {
-                Err(section.fault("group", Flaw::Twice))
+                Err(section.fault(name, Flaw::Twice))
             } else {
                 Ok(Some(group))
             }

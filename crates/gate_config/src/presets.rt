@@ -4,7 +4,8 @@ ghost use Rattle.std.specs.List.{list_any};
 ghost use Rattle.config_document.specs.Places.{place_of};
 ghost use Rattle.config_values.specs.Presets.{ArePresets};
 ghost use Rattle.gate_config.specs.Beside.{IsPresetBeside};
-ghost use Rattle.gate_config.specs.Keys.{address_stands, name_stands, preset_in, presets_in};
+ghost use Rattle.gate_config.specs.Keys.{address_stands, name_stands, preset};
+ghost use Rattle.gate_config.specs.Reading.{items_in};
 
 use crate::items::item_prefix;
 use crate::keys::{needed_number, needed_text};
@@ -13,16 +14,18 @@ use claim_table::Preset;
 use config_document::{ConfigFault, Flaw, Section};
 use n2k_id::Name;
 
+pub(crate) const KEYS: [&str; 2] = ["address", "name"];
+
 /// How many presets there may be.
 const MOST_PRESETS: usize = 253;
 
 /// The presets beside the gateway's own address and NAME.
-#[tactic(auto, using(crate::proofs::Beside::no_presets, crate::proofs::Beside::one_more_preset), unfolding(crate::specs::Keys::presets_in))]
+#[tactic(auto, using(crate::proofs::Beside::no_presets, crate::proofs::Beside::one_more_preset), unfolding(crate::specs::Keys::preset))]
 pub(crate) fn preset_keys(
     document: &Section,
     own: &Preset,
 ) -> Result<ArrayVec<Preset, 253>, ConfigFault>
-    ensures said { result ≡ presets_in own.now (place_of document.now) }
+    ensures said { result ≡ items_in preset 253 own.now (place_of document.now) }
     ensures valid { IfOk result (λ presets. ArePresets own.now.name own.now.address presets.items) }
 {
     let values = document.tables_at("preset", MOST_PRESETS)?;
@@ -40,20 +43,24 @@ pub(crate) fn preset_keys(
 }
 
 /// A preset beside the gateway's own address and NAME, and those of the presets before it.
-#[tactic(auto, using(crate::proofs::Beside::preset_beside), unfolding(crate::specs::Keys::preset_in))]
+#[tactic(auto, using(crate::proofs::Beside::preset_beside), unfolding(crate::specs::Keys::preset))]
 fn preset(section: &Section, own: &Preset, earlier: &[Preset]) -> Result<Preset, ConfigFault>
-    ensures said { result ≡ preset_in own.now earlier.now (place_of section.now) }
+    ensures said { result ≡ preset.read (own.now, earlier.now) (place_of section.now) }
     ensures valid { IfOk result (IsPresetBeside own.now earlier.now) }
 {
-    let address = needed_number(section, "address", 0, 253)? as u8;
-    if address_stands(own, earlier, address) {
-        return Err(section.fault("address", Flaw::Twice));
+    let [address, name] = KEYS;
+    let place = needed_number(section, address, 0, 253)? as u8;
+    if address_stands(own, earlier, place) {
+        return Err(section.fault(address, Flaw::Twice));
     }
-    let name = needed_text(section, "name")?;
-    if name_stands(own, earlier, name) {
-        return Err(section.fault("name", Flaw::Twice));
+    let said = needed_text(section, name)?;
+    if name_stands(own, earlier, said) {
+        return Err(section.fault(name, Flaw::Twice));
     }
-    Ok(Preset { address, name })
+    Ok(Preset {
+        address: place,
+        name: said,
+    })
 }
 
 /// Whether the address is the gateway's own or an earlier preset's.

@@ -3,7 +3,8 @@ ghost use Rattle.std.specs.Prelude.{◌≡◌, IfOk};
 ghost use Rattle.config_document.specs.Places.{place_of};
 ghost use Rattle.config_values.specs.Configs.{AreRoutes};
 ghost use Rattle.gate_config.specs.Beside.{IsRouteBeside};
-ghost use Rattle.gate_config.specs.Keys.{group_stands, route_in, routes_in};
+ghost use Rattle.gate_config.specs.Keys.{group_stands, route};
+ghost use Rattle.gate_config.specs.Reading.{items_in};
 
 use crate::endpoint::Endpoint;
 use crate::items::item_prefix;
@@ -13,12 +14,14 @@ use config_document::{ConfigFault, Flaw, Section};
 use network_routes::Route;
 use sentence_text::Group;
 
+pub(crate) const KEYS: [&str; 2] = ["group", "address"];
+
 /// How many routes there may be.
 const MOST_ROUTES: usize = 8;
 
-#[tactic(auto, using(crate::proofs::Beside::no_routes, crate::proofs::Beside::one_more_route), unfolding(crate::specs::Keys::routes_in))]
+#[tactic(auto, using(crate::proofs::Beside::no_routes, crate::proofs::Beside::one_more_route), unfolding(crate::specs::Keys::route))]
 pub(crate) fn route_keys(document: &Section) -> Result<ArrayVec<Route, 8>, ConfigFault>
-    ensures said { result ≡ routes_in (place_of document.now) }
+    ensures said { result ≡ items_in route 8 tt (place_of document.now) }
     ensures valid { IfOk result (λ routes. AreRoutes routes.items) }
 {
     let values = document.tables_at("route", MOST_ROUTES)?;
@@ -36,17 +39,21 @@ pub(crate) fn route_keys(document: &Section) -> Result<ArrayVec<Route, 8>, Confi
 }
 
 /// A route beside those before it.
-#[tactic(auto, using(crate::proofs::Beside::route_beside), unfolding(crate::specs::Keys::route_in))]
+#[tactic(auto, using(crate::proofs::Beside::route_beside), unfolding(crate::specs::Keys::route))]
 fn route(section: &Section, earlier: &[Route]) -> Result<Route, ConfigFault>
-    ensures said { result ≡ route_in earlier.now (place_of section.now) }
+    ensures said { result ≡ route.read (tt, earlier.now) (place_of section.now) }
     ensures valid { IfOk result (IsRouteBeside earlier.now) }
 {
-    let group = needed_text(section, "group")?;
-    if have_group(earlier, group) {
-        return Err(section.fault("group", Flaw::Twice));
+    let [group, address] = KEYS;
+    let said = needed_text(section, group)?;
+    if have_group(earlier, said) {
+        return Err(section.fault(group, Flaw::Twice));
     }
-    let Endpoint(address) = needed_text(section, "address")?;
-    Ok(Route { group, address })
+    let Endpoint(address) = needed_text(section, address)?;
+    Ok(Route {
+        group: said,
+        address,
+    })
 }
 
 fn have_group(routes: &[Route], group: Group) -> bool

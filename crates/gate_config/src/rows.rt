@@ -1,11 +1,16 @@
 //! The keys of each row: whom it is taken from, and how it is said.
 ghost use Rattle.std.specs.Prelude.{◌≡◌, [], All, IfOk, IsTrue, map};
 ghost use Rattle.std.specs.List.{list_all};
+ghost use Rattle.config_document.specs.Keys.{list_at};
+ghost use Rattle.config_document.specs.Patterns.{pattern_in};
 ghost use Rattle.config_document.specs.Places.{place_of};
 ghost use Rattle.config_document.specs.Texts.{IsTalker};
+ghost use Rattle.config_document.specs.Twice.{repeats};
 ghost use Rattle.config_values.specs.Rows.{AreSources, IsRow};
-ghost use Rattle.gate_config.specs.Keys.{row_at, row_in, row_sources_in, rows_from, rows_in};
+ghost use Rattle.gate_config.specs.Keys.{row, row_at, rows_from, rows_in};
 ghost use Rattle.gate_config.specs.Listed.{is_listed, listed_seen};
+ghost use Rattle.gate_config.specs.Reading.{unless};
+ghost use Rattle.gate_config.specs.Texts.{same_pattern};
 
 use crate::items::row_prefix;
 use crate::keys::{number_or, section, text_or, truth_or};
@@ -15,18 +20,20 @@ use config_values::RowConfig;
 use n2k_id::Pattern;
 use sentence_text::Group;
 
+pub(crate) const KEYS: [&str; 5] = ["sources", "others", "timeout_ms", "talker", "group"];
+
 /// How many rows there are.
 const ROWS: usize = 17;
 
 /// What each row is taken from and how it is said, in the order of the rows, each with the talker that it has where none is configured
 /// (IEC 61162-1).
-#[tactic(auto, unfolding(crate::specs::Keys::rows_in, crate::specs::Keys::listed_rows))]
-pub(crate) fn row_keys(rows: &Section, group: Group) -> Result<[RowConfig; ROWS], ConfigFault>
-    ensures said { result ≡ rows_in group (place_of rows.now) }
+#[tactic(auto, using(crate::proofs::Tables::row_name), unfolding(crate::specs::Keys::rows_in, crate::specs::Keys::listed_rows))]
+pub(crate) fn row_keys(document: &Section, group: Group) -> Result<[RowConfig; ROWS], ConfigFault>
+    ensures said { result ≡ rows_in group (place_of document.now) }
     ensures valid { IfOk result (All IsRow) }
 {
     each_row(
-        rows,
+        &section(document, "row", b"row.")?,
         group,
         &[
             ("heading_true", *b"HE"),
@@ -89,17 +96,18 @@ fn row(
     keys_of_row(&section, talker, group)
 }
 
-#[tactic(auto, unfolding(crate::specs::Keys::row_in))]
+#[tactic(auto, unfolding(crate::specs::Keys::row))]
 fn keys_of_row(section: &Section, talker: [u8; 2], group: Group) -> Result<RowConfig, ConfigFault>
     requires { IsTalker talker }
-    ensures said { result ≡ row_in talker group (place_of section.now) }
+    ensures said { result ≡ row.read (talker, group) (place_of section.now) }
     ensures valid { IfOk result IsRow }
 {
-    let sources = row_sources(section)?;
-    let others = truth_or(section, "others", true)?;
-    let timeout_ms = number_or(section, "timeout_ms", 100, 60_000, 5_000)?;
-    let Talker(talker) = text_or(section, "talker", Talker(talker))?;
-    let group = text_or(section, "group", group)?;
+    let [sources, others, timeout_ms, said_by, sent_to] = KEYS;
+    let sources = row_sources(section, sources)?;
+    let others = truth_or(section, others, true)?;
+    let timeout_ms = number_or(section, timeout_ms, 100, 60_000, 5_000)?;
+    let Talker(talker) = text_or(section, said_by, Talker(talker))?;
+    let group = text_or(section, sent_to, group)?;
     Ok(RowConfig {
         sources,
         others,
@@ -110,14 +118,13 @@ fn keys_of_row(section: &Section, talker: [u8; 2], group: Group) -> Result<RowCo
 }
 
 /// The devices that a row is taken from, none of them twice.
-#[tactic(auto, unfolding(crate::specs::Keys::row_sources_in))]
-fn row_sources(section: &Section) -> Result<ArrayVec<Pattern, 16>, ConfigFault>
-    ensures said { result ≡ row_sources_in (place_of section.now) }
+fn row_sources(section: &Section, name: &str) -> Result<ArrayVec<Pattern, 16>, ConfigFault>
+    ensures said { result ≡ unless (λ sources. repeats same_pattern sources.items) (list_at pattern_in 16) (place_of section.now) name.now }
     ensures valid { IfOk result (λ sources. AreSources sources.items) }
 {
-    let sources = section.list::<Pattern, 16>("sources")?;
+    let sources = section.list::<Pattern, 16>(name)?;
     if repeats(sources.as_slice()) {
-        return Err(section.fault("sources", Flaw::Twice));
+        return Err(section.fault(name, Flaw::Twice));
     }
     Ok(sources)
 }

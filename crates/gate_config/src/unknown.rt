@@ -5,86 +5,56 @@ ghost use Rattle.toml.specs.Data.{get_member};
 ghost use Rattle.toml.specs.View.{items_view};
 ghost use Rattle.config_document.specs.Places.{place_of};
 ghost use Rattle.config_document.specs.Unknown.{path_seen};
-ghost use Rattle.gate_config.specs.Keys.{row_prefix};
+ghost use Rattle.gate_config.specs.Keys.{row, row_prefix};
 ghost use Rattle.gate_config.specs.Listed.{is_short};
-ghost use Rattle.gate_config.specs.Unknown.{each_row_noted, first_unknown, items_of, noted, noted_items, place_under, row_known, rows_noted};
+ghost use Rattle.gate_config.specs.Unknown.{each_row_noted, first_unknown, items_of, noted, noted_items, place_under, rows_noted};
 
 use crate::items::{item_prefix, row_prefix};
+use crate::{gateway, identity, links, parts, presets, routes, rows};
 use config_document::{Section, least_unknown};
 use std::alloc::{AllocError, Global};
 use toml::Value;
 
 /// The path of the key that isn't known, and that comes first of all such in the order of bytes.
-#[tactic(auto, unfolding(crate::specs::Unknown::first_unknown))]
 pub(crate) fn first_unknown(
     alloc: Global,
     document: &Section,
 ) -> Result<Option<Vec<u8>>, AllocError>
     ensures { IfOk result (λ path. path_seen path ≡ first_unknown (place_of document.now)) }
 {
-    let least = least_unknown(
-        alloc,
-        document,
-        &[
-            "gateway", "preset", "row", "net", "bus", "route", "identity", "rmc", "ais",
-        ],
-        None,
-    )?;
+    let tables = [
+        "gateway", "preset", "row", "net", "bus", "route", "identity", "rmc", "ais",
+    ];
+    let least = least_unknown(alloc, document, &tables, None)?;
     let least = under(
         alloc,
         document,
         "gateway",
         b"gateway.",
-        &[
-            "name",
-            "address",
-            "sfi",
-            "group",
-            "fast_slots",
-            "iso_slots",
-            "group_slots",
-            "ths",
-        ],
+        &gateway::KEYS,
         least,
     )?;
-    let least = in_items(
-        alloc,
-        items(document, "preset"),
-        b"preset.",
-        &["address", "name"],
-        least,
-    )?;
+    let presets = items(document, "preset");
+    let least = in_items(alloc, presets, b"preset.", &presets::KEYS, least)?;
     let least = in_row_table(alloc, &table_under(document, "row", b"row."), least)?;
-    let least = under(
-        alloc,
-        document,
-        "net",
-        b"net.",
-        &["sources", "listen", "send"],
-        least,
-    )?;
-    let least = under(alloc, document, "bus", b"bus.", &["listen", "send"], least)?;
-    let least = in_items(
-        alloc,
-        items(document, "route"),
-        b"route.",
-        &["group", "address"],
-        least,
-    )?;
+    let least = under(alloc, document, "net", b"net.", &links::NET_KEYS, least)?;
+    let least = under(alloc, document, "bus", b"bus.", &links::BUS_KEYS, least)?;
+    let routes = items(document, "route");
+    let least = in_items(alloc, routes, b"route.", &routes::KEYS, least)?;
     let least = under(
         alloc,
         document,
         "identity",
         b"identity.",
-        &["code", "model", "software", "version", "serial", "load"],
+        &identity::KEYS,
         least,
     )?;
-    let least = under(alloc, document, "rmc", b"rmc.", &["group", "talker"], least)?;
-    under(alloc, document, "ais", b"ais.", &["group", "slots"], least)
+    let least = under(alloc, document, "rmc", b"rmc.", &parts::RMC_KEYS, least)?;
+    under(alloc, document, "ais", b"ais.", &parts::AIS_KEYS, least)
 }
 
 /// The same of the table of rows, and of each row's table.
-#[tactic(auto, unfolding(crate::specs::Unknown::rows_noted))]
+#[tactic(auto, unfolding(crate::specs::Unknown::rows_noted, crate::specs::Keys::listed_rows))]
 fn in_row_table(
     alloc: Global,
     rows: &Section,
@@ -140,17 +110,10 @@ fn in_row(
     least: Option<Vec<u8>>,
 ) -> Result<Option<Vec<u8>>, AllocError>
     requires { length name.now ≤ 60 }
-    ensures { IfOk result (λ path. path_seen path ≡ noted row_known (place_under (place_of rows.now) name.now (row_prefix name.now)) (path_seen least)) }
+    ensures { IfOk result (λ path. path_seen path ≡ noted row.known (place_under (place_of rows.now) name.now (row_prefix name.now)) (path_seen least)) }
 {
     let prefix = row_prefix(name);
-    under(
-        alloc,
-        rows,
-        name,
-        prefix.as_slice(),
-        &["sources", "others", "timeout_ms", "talker", "group"],
-        least,
-    )
+    under(alloc, rows, name, prefix.as_slice(), &rows::KEYS, least)
 }
 
 /// The same of the table at a key.
@@ -159,12 +122,12 @@ fn under(
     section: &Section,
     name: &str,
     prefix: &[u8],
-    known: &[&str],
+    keys: &[&str],
     least: Option<Vec<u8>>,
 ) -> Result<Option<Vec<u8>>, AllocError>
-    ensures { IfOk result (λ path. path_seen path ≡ noted (map (λ word. word.now) known.now) (place_under (place_of section.now) name.now prefix.now) (path_seen least)) }
+    ensures { IfOk result (λ path. path_seen path ≡ noted (map (λ key. key.now) keys.now) (place_under (place_of section.now) name.now prefix.now) (path_seen least)) }
 {
-    least_unknown(alloc, &table_under(section, name, prefix), known, least)
+    least_unknown(alloc, &table_under(section, name, prefix), keys, least)
 }
 
 /// The same of the items at a key.
@@ -172,11 +135,11 @@ fn in_items(
     alloc: Global,
     values: &[Value],
     word: &[u8],
-    known: &[&str],
+    keys: &[&str],
     least: Option<Vec<u8>>,
 ) -> Result<Option<Vec<u8>>, AllocError>
     requires { length word.now ≤ 8 }
-    ensures { IfOk result (λ path. path_seen path ≡ noted_items (map (λ key. key.now) known.now) word.now 1 (items_view values.now) (path_seen least)) }
+    ensures { IfOk result (λ path. path_seen path ≡ noted_items (map (λ key. key.now) keys.now) word.now 1 (items_view values.now) (path_seen least)) }
 {
     let mut least = least;
     for (place, value) in values.iter().enumerate() {
@@ -185,7 +148,7 @@ fn in_items(
             prefix: prefix.as_slice(),
             table: value.as_table(),
         };
-        least = least_unknown(alloc, &section, known, least)?;
+        least = least_unknown(alloc, &section, keys, least)?;
     }
     Ok(least)
 }

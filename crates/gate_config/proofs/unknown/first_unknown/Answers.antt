@@ -1,12 +1,12 @@
-use Rattle.config_document.specs.Places.{place_of}
-use Rattle.config_document.specs.Unknown.{path_seen}
-use Rattle.gate_config.proofs.Noted.{in_all_tables}
+use Rattle.gate_config.specs.Keys.{ais, bus, gateway, identity, net, preset, rmc, route, row}
+use Rattle.gate_config.specs.Unknown.{first_unknown, tables}
 use Rattle.gate_config.proofs.unknown.first_unknown.Goals as goal
 
 pub returns : goal.returns
+unfolding first_unknown tables gateway preset row net bus route identity rmc ais
 returns c =
-    in_all_tables c.under-6.result (place_of c.args.document.now) (path_seen c.in_ok-least.least) (path_seen c.in_ok-least-2.least) (path_seen c.in_ok-least-3.least)
-    (path_seen c.in_ok-least-4.least) (path_seen c.in_ok-least-5.least) (path_seen c.in_ok-least-6.least) (path_seen c.in_ok-least-7.least) (path_seen c.in_ok-least-8.least)
-    (path_seen c.in_ok-least-9.least) c.in_ok-least.ensures c.in_ok-least-2.ensures (rw c.items.ensures at c.in_ok-least-3.ensures)
-    (rw c.table_under.ensures at c.in_ok-least-4.ensures) c.in_ok-least-5.ensures c.in_ok-least-6.ensures (rw c.items-2.ensures at c.in_ok-least-7.ensures)
-    c.in_ok-least-8.ensures c.in_ok-least-9.ensures c.under-6.ensures
+    let presets = rw c.items-presets.ensures at c.in_ok-least-3.ensures in
+    let rows = rw c.table_under.ensures at c.in_ok-least-4.ensures in
+    let routes = rw c.items-routes.ensures at c.in_ok-least-7.ensures in
+    rw (c.in_ok-least-9.ensures, c.in_ok-least-8.ensures, routes, c.in_ok-least-6.ensures, c.in_ok-least-5.ensures, rows, presets, c.in_ok-least-2.ensures, c.in_ok-least.ensures)
+    at c.under-6.ensures

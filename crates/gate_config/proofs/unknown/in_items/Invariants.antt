@@ -6,5 +6,5 @@ use Rattle.gate_config.proofs.unknown.in_items.Given as goal
 
 abbrev pub invariant-loop-place : goal.invariant-loop-place
 invariant-loop-place l =
-    noted_items (map (λ (key : Bor (List ℕ)). key.now) l.known) l.word (l.place + 1) (items_view (drop l.place l.values)) (path_seen l.least)
-    ≡ noted_items (map (λ (key : Bor (List ℕ)). key.now) l.known) l.word 1 (items_view l.values) (path_seen l.fn.least)
+    noted_items (map (λ (key : Bor (List ℕ)). key.now) l.keys) l.word (l.place + 1) (items_view (drop l.place l.values)) (path_seen l.least)
+    ≡ noted_items (map (λ (key : Bor (List ℕ)). key.now) l.keys) l.word 1 (items_view l.values) (path_seen l.fn.least)
