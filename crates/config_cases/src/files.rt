@@ -1,5 +1,6 @@
 //! What files say, and what is wrong with them: each line worked out by hand from the table of keys.
 use config_document::FaultLine;
+use config_values::{Config, Ends, RowConfig};
 use gate_config::{Settings, read, read_all};
 use n2k_id::{Name, Pattern};
 use std::alloc::Global;
@@ -466,9 +467,9 @@ x = => config: not toml
 x => config: not toml
 x = 1;x = 1 => config: not toml
 [gateway];[gateway] => config: not toml"#;
-    assert_eq!(rt; first_that_fails(rt.alloc(), USUAL, usual)?, "");
-    assert_eq!(rt; first_that_fails(rt.alloc(), "", others)?, "");
-    assert_eq!(rt; first_that_fails(rt.alloc(), OWN, " => ok")?, "");
+    assert!(rt; first_that_fails(rt.alloc(), USUAL, usual)? == "");
+    assert!(rt; first_that_fails(rt.alloc(), "", others)? == "");
+    assert!(rt; first_that_fails(rt.alloc(), OWN, " => ok")? == "");
     Ok(())
 }
 
@@ -476,80 +477,92 @@ x = 1;x = 1 => config: not toml
 fn bytes_that_are_no_text(rt: HostRuntime) {
     let files = [b"\xff".as_slice(), b"# \xc3", b"# \xed\xa0\x80"];
     for file in files {
-        assert_eq!(rt;
-            said(rt.alloc(), file).as_slice(),
-            b"config: not toml".as_slice()
-        );
+        assert!(rt; said(rt.alloc(), file).as_slice() == b"config: not toml".as_slice());
     }
 }
 
 #[test]
 fn own_keys(rt: HostRuntime) -> Result<(), Fail> {
-    assert_eq!(rt; first_that_fails(rt.alloc(), "", OWN_KEYS)?, "");
+    assert!(rt; first_that_fails(rt.alloc(), "", OWN_KEYS)? == "");
     Ok(())
 }
 
 #[test]
 fn each_key_at_its_ends_and_beyond(rt: HostRuntime) -> Result<(), Fail> {
-    assert_eq!(rt; first_that_fails(rt.alloc(), OWN, ENDS)?, "");
+    assert!(rt; first_that_fails(rt.alloc(), OWN, ENDS)? == "");
     Ok(())
 }
 
 #[test]
 fn each_fault_of_each_kind_of_key(rt: HostRuntime) -> Result<(), Fail> {
-    assert_eq!(rt; first_that_fails(rt.alloc(), OWN, FAULTS)?, "");
+    assert!(rt; first_that_fails(rt.alloc(), OWN, FAULTS)? == "");
     Ok(())
 }
 
 /// The settings of the own keys alone are the defaults.
+/// Whether the keys that have to be there are as they were given, and nothing is said of those beside them.
+fn has_usual_keys(config: &Config) -> bool {
+    config.name == Name(0xC032_8200_FFC0_0001)
+        && config.address == 251
+        && config.fast_slots == 64
+        && config.iso_slots == 8
+        && config.group_slots == 8
+        && !config.ths
+        && config.presets.is_empty()
+        && config.net_sources.is_empty()
+}
+
+/// The talker of each row, in their order.
+const TALKERS: &[u8; 34] = b"HEHCTIIIIIVWSDVWGPGPGPGPWIWIWIYXII";
+
+/// Whether a row is heard from everybody for five seconds, and said by this talker to all.
+fn is_usual(row: &RowConfig, talker: &[u8]) -> bool {
+    row.sources.is_empty()
+        && row.others
+        && row.timeout_ms == 5_000
+        && row.talker.as_slice() == talker
+        && row.group.as_bytes() == b"NAVD"
+}
+
+fn has_usual_rows(config: &Config) -> bool {
+    config
+        .rows
+        .iter()
+        .zip(TALKERS.chunks(2))
+        .all(|(row, talker)| is_usual(row, talker))
+}
+
+fn has_usual_ends(ends: &Ends) -> bool {
+    ends.net_listen.as_slice() == b"127.0.0.1:60001".as_slice()
+        && ends.net.other.as_slice() == b"127.0.0.1:60002".as_slice()
+        && ends.net.list.is_empty()
+        && ends.bus_listen.as_slice() == b"127.0.0.1:60101".as_slice()
+        && ends.bus_send.as_slice() == b"127.0.0.1:60102".as_slice()
+}
+
+/// Whether the gateway is the usual product, and nothing is joined or passed on.
+fn is_usual_product(settings: &Settings) -> bool {
+    let product = &settings.product;
+    product.code == 0
+        && product.model.as_slice() == b"shipgate".as_slice()
+        && product.software.as_slice() == b"1".as_slice()
+        && product.version.as_slice() == b"1".as_slice()
+        && product.serial.as_slice() == b"1".as_slice()
+        && product.load == 1
+        && settings.rmc.is_none()
+        && settings.ais.is_none()
+}
+
 #[test]
 fn defaults(rt: HostRuntime) -> Result<(), Fail> {
     let settings: Settings = read_all(rt.alloc(), OWN.as_bytes())
         .ok()
         .ok_or("the keys are those that have to be there")?;
-    let config = &settings.config;
-    assert_eq!(rt; config.name, Name(0xC032_8200_FFC0_0001));
-    assert_eq!(rt; config.address, 251);
-    assert_eq!(rt; config.fast_slots, 64);
-    assert_eq!(rt; config.iso_slots, 8);
-    assert_eq!(rt; config.group_slots, 8);
-    assert!(rt; !config.ths);
-    assert!(rt; config.presets.is_empty());
-    assert!(rt; config.net_sources.is_empty());
-    let talkers = *b"HEHCTIIIIIVWSDVWGPGPGPGPWIWIWIYXII";
-    for (number, row) in config.rows.iter().enumerate() {
-        assert!(rt; row.sources.is_empty());
-        assert!(rt; row.others);
-        assert_eq!(rt; row.timeout_ms, 5_000);
-        assert_eq!(rt; row.talker.as_slice(), &talkers[2 * number..2 * number + 2]);
-        assert_eq!(rt; row.group.as_bytes(), b"NAVD");
-    }
-    assert_eq!(rt;
-        config.ends.net_listen.as_slice(),
-        b"127.0.0.1:60001".as_slice()
-    );
-    assert_eq!(rt;
-        config.ends.net.other.as_slice(),
-        b"127.0.0.1:60002".as_slice()
-    );
-    assert_eq!(rt;
-        config.ends.bus_listen.as_slice(),
-        b"127.0.0.1:60101".as_slice()
-    );
-    assert_eq!(rt;
-        config.ends.bus_send.as_slice(),
-        b"127.0.0.1:60102".as_slice()
-    );
-    assert!(rt; config.ends.net.list.is_empty());
-    assert_eq!(rt; settings.product.code, 0);
-    assert_eq!(rt; settings.product.model.as_slice(), b"shipgate".as_slice());
-    assert_eq!(rt; settings.product.software.as_slice(), b"1".as_slice());
-    assert_eq!(rt; settings.product.version.as_slice(), b"1".as_slice());
-    assert_eq!(rt; settings.product.serial.as_slice(), b"1".as_slice());
-    assert_eq!(rt; settings.product.load, 1);
-    assert!(rt; settings.rmc.is_none());
-    assert!(rt; settings.ais.is_none());
-    assert!(rt; config.valid());
+    assert!(rt; has_usual_keys(&settings.config));
+    assert!(rt; has_usual_rows(&settings.config));
+    assert!(rt; has_usual_ends(&settings.config.ends));
+    assert!(rt; is_usual_product(&settings));
+    assert!(rt; settings.config.valid());
     Ok(())
 }
 
@@ -567,10 +580,7 @@ fn patterns_state_fields(rt: HostRuntime) -> Result<(), Fail> {
     stated.industry = Some(4);
     stated.arbitrary = Some(true);
     let whole = Pattern::whole(Name(0xC078_8C00_FFC0_0005));
-    assert_eq!(rt;
-        config.rows[3].sources.as_slice(),
-        [stated, whole].as_slice()
-    );
+    assert!(rt; config.rows[3].sources.as_slice() == [stated, whole].as_slice());
     Ok(())
 }
 
@@ -585,15 +595,9 @@ fn presets_up_to_the_most(rt: HostRuntime) -> Result<(), Fail> {
         )?;
         file.push_str(&item)?;
     }
-    assert_eq!(rt;
-        said(rt.alloc(), file.as_bytes()).as_slice(),
-        b"ok".as_slice()
-    );
+    assert!(rt; said(rt.alloc(), file.as_bytes()).as_slice() == b"ok".as_slice());
     file.push_str("[[preset]]\n")?;
-    assert_eq!(rt;
-        said(rt.alloc(), file.as_bytes()).as_slice(),
-        b"config: range preset".as_slice()
-    );
+    assert!(rt; said(rt.alloc(), file.as_bytes()).as_slice() == b"config: range preset".as_slice());
     Ok(())
 }
 
@@ -604,10 +608,9 @@ fn a_mebibyte_of_empty_lines(rt: HostRuntime) -> Result<(), Fail> {
     for _ in 0..16_384 {
         file.extend_from_slice(&[b'\n'; 64])?;
     }
-    assert_eq!(rt; file.len(), 1_048_576);
-    assert_eq!(rt;
-        said(rt.alloc(), file.as_slice()).as_slice(),
-        b"config: missing gateway.name".as_slice()
+    assert!(rt; file.len() == 1_048_576);
+    assert!(rt;
+        said(rt.alloc(), file.as_slice()).as_slice() == b"config: missing gateway.name".as_slice()
     );
     Ok(())
 }

@@ -5,6 +5,7 @@ use config_values::{Config, Ends, RowConfig};
 use n2k_id::{Name, Pattern};
 use network_routes::{Address, Route, Routes};
 use sentence_text::{Group, Sfi};
+use std::test::Fail;
 
 const OWN: u64 = 0xC032_8200_FFC0_0001;
 
@@ -165,176 +166,181 @@ fn changed(change: Change) -> Config {
     config
 }
 
+/// What is changed in a configuration, and whether it is valid then.
+const CHANGED: [(&str, Change, bool); 53] = [
+    ("as it stands", Change::Nothing, true),
+    ("the least address", Change::Address(0), true),
+    (
+        "an address of no device that moves",
+        Change::Address(252),
+        false,
+    ),
+    ("a preset's address", Change::Address(23), false),
+    ("no fast packet", Change::FastSlots(0), false),
+    ("one fast packet", Change::FastSlots(1), true),
+    ("the most fast packets", Change::FastSlots(256), true),
+    ("one fast packet too many", Change::FastSlots(257), false),
+    ("no session", Change::IsoSlots(0), false),
+    ("the most sessions", Change::IsoSlots(32), true),
+    ("one session too many", Change::IsoSlots(33), false),
+    ("no group of lines", Change::GroupSlots(0), false),
+    ("the most groups of lines", Change::GroupSlots(32), true),
+    ("one group of lines too many", Change::GroupSlots(33), false),
+    ("no preset", Change::Presets(&[]), true),
+    (
+        "the greatest address of a preset",
+        Change::Presets(&[(253, 5)]),
+        true,
+    ),
+    (
+        "a preset without an address",
+        Change::Presets(&[(254, 5)]),
+        false,
+    ),
+    (
+        "an address of two presets",
+        Change::Presets(&[(23, 5), (24, 6), (23, 7)]),
+        false,
+    ),
+    (
+        "a NAME of two presets",
+        Change::Presets(&[(23, 5), (24, 6), (25, 5)]),
+        false,
+    ),
+    (
+        "a preset at the own address",
+        Change::Presets(&[(23, 5), (251, 6)]),
+        false,
+    ),
+    (
+        "a preset of the own NAME",
+        Change::Presets(&[(23, 5), (24, OWN)]),
+        false,
+    ),
+    ("a pattern of all devices", Change::Sources(&[ANY]), true),
+    (
+        "two patterns",
+        Change::Sources(&[AUTOPILOT, STEERING]),
+        true,
+    ),
+    (
+        "a pattern twice",
+        Change::Sources(&[AUTOPILOT, STEERING, AUTOPILOT]),
+        false,
+    ),
+    ("the least timeout", Change::Timeout(100), true),
+    ("a timeout too short", Change::Timeout(99), false),
+    ("the longest timeout", Change::Timeout(60_000), true),
+    ("a timeout too long", Change::Timeout(60_001), false),
+    (
+        "a talker of the first and the last letter",
+        Change::Talker(*b"AZ"),
+        true,
+    ),
+    ("a talker of a small letter", Change::Talker(*b"Ii"), false),
+    ("a talker of a digit", Change::Talker(*b"1I"), false),
+    (
+        "two sources of the network",
+        Change::NetSources(&[b"II0002", b"II0003"]),
+        true,
+    ),
+    (
+        "a source of the network twice",
+        Change::NetSources(&[b"II0002", b"II0003", b"II0002"]),
+        false,
+    ),
+    (
+        "the gateway as its source",
+        Change::NetSources(&[b"II0002", b"II0001"]),
+        false,
+    ),
+    (
+        "the greatest address and port",
+        Change::NetListen(b"255.255.255.255:65535"),
+        true,
+    ),
+    (
+        "the least address and port",
+        Change::NetListen(b"0.0.0.0:1"),
+        true,
+    ),
+    ("no port", Change::NetListen(b"127.0.0.1"), false),
+    ("port 0", Change::NetListen(b"127.0.0.1:0"), false),
+    (
+        "a port too great",
+        Change::NetListen(b"127.0.0.1:65536"),
+        false,
+    ),
+    (
+        "a port with a leading zero",
+        Change::NetListen(b"127.0.0.1:060001"),
+        false,
+    ),
+    (
+        "a port with a sign",
+        Change::NetListen(b"127.0.0.1:+60001"),
+        false,
+    ),
+    (
+        "a port with a space",
+        Change::NetListen(b"127.0.0.1:60001 "),
+        false,
+    ),
+    (
+        "a number too great",
+        Change::NetListen(b"127.0.0.256:60001"),
+        false,
+    ),
+    (
+        "a number with a leading zero",
+        Change::NetListen(b"127.0.0.01:60001"),
+        false,
+    ),
+    ("three numbers", Change::NetListen(b"127.0.1:60001"), false),
+    ("a name", Change::NetListen(b"localhost:60001"), false),
+    ("an IPv6 address", Change::NetListen(b"[::1]:60001"), false),
+    (
+        "nowhere to send to on the network",
+        Change::NetSend(b""),
+        false,
+    ),
+    (
+        "nowhere to listen on the bus",
+        Change::BusListen(b""),
+        false,
+    ),
+    ("nowhere to send to on the bus", Change::BusSend(b""), false),
+    (
+        "two routes",
+        Change::Routes(&[
+            (b"NAVD", b"239.192.0.4:60004"),
+            (b"TGTD", b"239.192.0.4:60004"),
+        ]),
+        true,
+    ),
+    (
+        "a group of two routes",
+        Change::Routes(&[
+            (b"NAVD", b"239.192.0.4:60004"),
+            (b"NAVD", b"239.192.0.5:60005"),
+        ]),
+        false,
+    ),
+    (
+        "a route to nowhere",
+        Change::Routes(&[(b"NAVD", b"239.192.0.4")]),
+        false,
+    ),
+];
+
 #[test]
-fn valid_is_what_is_in_range_and_nothing_twice(rt: HostRuntime) {
-    let rows = [
-        ("as it stands", Change::Nothing, true),
-        ("the least address", Change::Address(0), true),
-        (
-            "an address of no device that moves",
-            Change::Address(252),
-            false,
-        ),
-        ("a preset's address", Change::Address(23), false),
-        ("no fast packet", Change::FastSlots(0), false),
-        ("one fast packet", Change::FastSlots(1), true),
-        ("the most fast packets", Change::FastSlots(256), true),
-        ("one fast packet too many", Change::FastSlots(257), false),
-        ("no session", Change::IsoSlots(0), false),
-        ("the most sessions", Change::IsoSlots(32), true),
-        ("one session too many", Change::IsoSlots(33), false),
-        ("no group of lines", Change::GroupSlots(0), false),
-        ("the most groups of lines", Change::GroupSlots(32), true),
-        ("one group of lines too many", Change::GroupSlots(33), false),
-        ("no preset", Change::Presets(&[]), true),
-        (
-            "the greatest address of a preset",
-            Change::Presets(&[(253, 5)]),
-            true,
-        ),
-        (
-            "a preset without an address",
-            Change::Presets(&[(254, 5)]),
-            false,
-        ),
-        (
-            "an address of two presets",
-            Change::Presets(&[(23, 5), (24, 6), (23, 7)]),
-            false,
-        ),
-        (
-            "a NAME of two presets",
-            Change::Presets(&[(23, 5), (24, 6), (25, 5)]),
-            false,
-        ),
-        (
-            "a preset at the own address",
-            Change::Presets(&[(23, 5), (251, 6)]),
-            false,
-        ),
-        (
-            "a preset of the own NAME",
-            Change::Presets(&[(23, 5), (24, OWN)]),
-            false,
-        ),
-        ("a pattern of all devices", Change::Sources(&[ANY]), true),
-        (
-            "two patterns",
-            Change::Sources(&[AUTOPILOT, STEERING]),
-            true,
-        ),
-        (
-            "a pattern twice",
-            Change::Sources(&[AUTOPILOT, STEERING, AUTOPILOT]),
-            false,
-        ),
-        ("the least timeout", Change::Timeout(100), true),
-        ("a timeout too short", Change::Timeout(99), false),
-        ("the longest timeout", Change::Timeout(60_000), true),
-        ("a timeout too long", Change::Timeout(60_001), false),
-        (
-            "a talker of the first and the last letter",
-            Change::Talker(*b"AZ"),
-            true,
-        ),
-        ("a talker of a small letter", Change::Talker(*b"Ii"), false),
-        ("a talker of a digit", Change::Talker(*b"1I"), false),
-        (
-            "two sources of the network",
-            Change::NetSources(&[b"II0002", b"II0003"]),
-            true,
-        ),
-        (
-            "a source of the network twice",
-            Change::NetSources(&[b"II0002", b"II0003", b"II0002"]),
-            false,
-        ),
-        (
-            "the gateway as its source",
-            Change::NetSources(&[b"II0002", b"II0001"]),
-            false,
-        ),
-        (
-            "the greatest address and port",
-            Change::NetListen(b"255.255.255.255:65535"),
-            true,
-        ),
-        (
-            "the least address and port",
-            Change::NetListen(b"0.0.0.0:1"),
-            true,
-        ),
-        ("no port", Change::NetListen(b"127.0.0.1"), false),
-        ("port 0", Change::NetListen(b"127.0.0.1:0"), false),
-        (
-            "a port too great",
-            Change::NetListen(b"127.0.0.1:65536"),
-            false,
-        ),
-        (
-            "a port with a leading zero",
-            Change::NetListen(b"127.0.0.1:060001"),
-            false,
-        ),
-        (
-            "a port with a sign",
-            Change::NetListen(b"127.0.0.1:+60001"),
-            false,
-        ),
-        (
-            "a port with a space",
-            Change::NetListen(b"127.0.0.1:60001 "),
-            false,
-        ),
-        (
-            "a number too great",
-            Change::NetListen(b"127.0.0.256:60001"),
-            false,
-        ),
-        (
-            "a number with a leading zero",
-            Change::NetListen(b"127.0.0.01:60001"),
-            false,
-        ),
-        ("three numbers", Change::NetListen(b"127.0.1:60001"), false),
-        ("a name", Change::NetListen(b"localhost:60001"), false),
-        ("an IPv6 address", Change::NetListen(b"[::1]:60001"), false),
-        (
-            "nowhere to send to on the network",
-            Change::NetSend(b""),
-            false,
-        ),
-        (
-            "nowhere to listen on the bus",
-            Change::BusListen(b""),
-            false,
-        ),
-        ("nowhere to send to on the bus", Change::BusSend(b""), false),
-        (
-            "two routes",
-            Change::Routes(&[
-                (b"NAVD", b"239.192.0.4:60004"),
-                (b"TGTD", b"239.192.0.4:60004"),
-            ]),
-            true,
-        ),
-        (
-            "a group of two routes",
-            Change::Routes(&[
-                (b"NAVD", b"239.192.0.4:60004"),
-                (b"NAVD", b"239.192.0.5:60005"),
-            ]),
-            false,
-        ),
-        (
-            "a route to nowhere",
-            Change::Routes(&[(b"NAVD", b"239.192.0.4")]),
-            false,
-        ),
-    ];
-    for (what, change, expected) in rows {
-        assert_eq!(rt; changed(change).valid(), expected, "{what}");
+fn valid_is_what_is_in_range_and_nothing_twice(rt: HostRuntime) -> Result<(), Fail> {
+    for (what, change, expected) in &CHANGED {
+        if changed(*change).valid() != *expected {
+            return Err((*what).into());
+        }
     }
+    Ok(())
 }
 
 fn with_sources(list: &[Pattern]) -> Config {
