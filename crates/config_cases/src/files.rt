@@ -499,7 +499,6 @@ fn each_fault_of_each_kind_of_key(rt: HostRuntime) -> Result<(), Fail> {
     Ok(())
 }
 
-/// The settings of the own keys alone are the defaults.
 /// Whether the keys that have to be there are as they were given, and nothing is said of those beside them.
 fn has_usual_keys(config: &Config) -> bool {
     config.name == Name(0xC032_8200_FFC0_0001)
@@ -553,6 +552,7 @@ fn is_usual_product(settings: &Settings) -> bool {
         && settings.ais.is_none()
 }
 
+/// The settings of the own keys alone are the defaults.
 #[test]
 fn defaults(rt: HostRuntime) -> Result<(), Fail> {
     let settings: Settings = read_all(rt.alloc(), OWN.as_bytes())
