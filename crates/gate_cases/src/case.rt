@@ -1,13 +1,9 @@
-//! What a case is: events, with what is emitted at each.
-use crate::setup::Setup;
+//! Events, with what is emitted at each.
 
 /// What comes to the gateway. A frame stands as its identifier and its bytes, the first one highest.
 #[derive(Clone, Copy)]
 pub(crate) enum Comes {
     Frame(u32, u64),
-    /// A frame of fewer bytes.
-    Short(u32, &'static [u8]),
-    Datagram(&'static [u8]),
     Tick,
 }
 
@@ -31,12 +27,3 @@ pub(crate) enum Seen<'a> {
 
 /// A moment in microseconds, what comes then, and what is emitted at it.
 pub(crate) type Turn = (u64, Comes, &'static [Seen<'static>]);
-
-/// What a case shows, how the gateway is configured, when it starts, and what comes then.
-#[derive(Clone, Copy)]
-pub(crate) struct Case {
-    pub(crate) shows: &'static str,
-    pub(crate) setup: Setup,
-    pub(crate) start: u64,
-    pub(crate) turns: &'static [Turn],
-}

@@ -2,34 +2,16 @@
 ghost use Rattle.std.specs.Prelude.{◌≡◌};
 ghost use Rattle.gate_outbox.specs.Output.{nothing};
 
-use crate::case::{Case, Comes, Seen, Turn};
-use crate::setup::{Setup, config_of};
-use crate::tables::{addresses, limits, messages, sessions, sources};
+use crate::case::{Comes, Seen, Turn};
 use gate_core::{Gateway, Outbox};
 use gate_events::{Detail, Emit, Event, Report};
 use n2k_id::Frame;
-use std::alloc::Global;
-use std::test::Fail;
-
-/// A gateway that started at this moment.
-pub(crate) fn started(alloc: Global, setup: Setup, moment: u64) -> Result<Gateway, Fail> {
-    let config = config_of(setup);
-    if !config.valid() {
-        return Err("no configuration".into());
-    }
-    let mut gateway = Gateway::new(alloc, &config)?;
-    let mut out = Outbox::new();
-    gateway.start(moment, &mut out);
-    Ok(gateway)
-}
 
 /// Steps through what comes at this moment, and leaves in the outbox what is emitted then, and nothing else.
 pub(crate) fn step(gateway: &mut Gateway, moment: u64, comes: Comes, out: &mut Outbox) {
     out.clear();
     match comes {
         Comes::Frame(id, bytes) => step_frame(gateway, moment, id, &bytes.to_be_bytes(), out),
-        Comes::Short(id, bytes) => step_frame(gateway, moment, id, bytes, out),
-        Comes::Datagram(bytes) => gateway.step(&Event::Datagram { moment, bytes }, out),
         Comes::Tick => gateway.step(&Event::Tick { moment }, out),
     }
 }
@@ -96,40 +78,4 @@ pub(crate) fn follows(gateway: &mut Gateway, turns: &[Turn]) -> bool {
         }
     }
     true
-}
-
-/// Fails with what the first case shows that doesn't hold.
-fn all_hold(alloc: Global, cases: &[Case]) -> Result<(), Fail> {
-    for case in cases {
-        let mut gateway = started(alloc, case.setup, case.start)?;
-        if !follows(&mut gateway, case.turns) {
-            return Err(case.shows.into());
-        }
-    }
-    Ok(())
-}
-
-#[test]
-fn messages_of_the_bus_are_said_and_their_faults_reported(rt: HostRuntime) -> Result<(), Fail> {
-    all_hold(rt.alloc(), &messages::CASES)
-}
-
-#[test]
-fn addresses_change_hands_with_all_that_hangs_on_them(rt: HostRuntime) -> Result<(), Fail> {
-    all_hold(rt.alloc(), &addresses::CASES)
-}
-
-#[test]
-fn sessions_are_answered_and_commands_obeyed(rt: HostRuntime) -> Result<(), Fail> {
-    all_hold(rt.alloc(), &sessions::CASES)
-}
-
-#[test]
-fn limits_and_moments_are_kept(rt: HostRuntime) -> Result<(), Fail> {
-    all_hold(rt.alloc(), &limits::CASES)
-}
-
-#[test]
-fn those_are_heard_who_count(rt: HostRuntime) -> Result<(), Fail> {
-    all_hold(rt.alloc(), &sources::CASES)
 }

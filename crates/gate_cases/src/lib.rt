@@ -1,4 +1,4 @@
-//! The gateway on tables of events, with exactly what it emits at each, and the parts beside it. All of it is tests: they stand apart from
+//! What a gateway and the parts beside it tell of themselves, at the greatest limits and at the end of time too, and what the parts say. All of it is tests: they stand apart from
 //! the crates that they are about, which are proved but once without them.
 #![tactic(auto)]
 
@@ -8,10 +8,6 @@ mod case;
 mod demonstration;
 #[cfg(test)]
 mod following;
-#[cfg(test)]
-mod hostile;
-#[cfg(test)]
-mod hostile_network;
 #[cfg(test)]
 mod isolated;
 #[cfg(test)]
@@ -24,5 +20,3 @@ mod setup;
 mod ships;
 #[cfg(test)]
 mod standing;
-#[cfg(test)]
-mod tables;

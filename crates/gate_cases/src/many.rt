@@ -2,10 +2,9 @@
 ghost use Rattle.std.specs.Prelude.{◌≤◌};
 
 use crate::case::{Comes, Seen, Turn};
-use crate::following::{are_seen, follows, seen_at, started, step};
-use crate::setup::{Limits, Setup, USUAL};
+use crate::following::{are_seen, follows, step};
+use crate::setup::{Limits, started};
 use crate::standing::holds;
-use arrayvec::ArrayVec;
 use datagram450::{begin, push_line};
 use gate_core::{Gateway, Outbox};
 use gate_events::Event;
@@ -14,14 +13,10 @@ use std::test::Fail;
 use tag_block::{GroupPart, Packet, TagParts};
 
 /// The greatest numbers of messages in the making.
-const GREATEST: Setup = Setup {
-    limits: Limits {
-        fast: 256,
-        iso: 32,
-        group: 32,
-    },
-    address: 251,
-    prefers: false,
+const GREATEST: Limits = Limits {
+    fast: 256,
+    iso: 32,
+    group: 32,
 };
 
 /// When all comes.
@@ -100,9 +95,9 @@ fn hear(gateway: &mut Gateway, moment: u64, bytes: &[u8], out: &mut Outbox) {
 }
 
 /// Takes the first line of two of the group with this code.
-pub(crate) fn begin_group(gateway: &mut Gateway, moment: u64, code: u16, out: &mut Outbox)
+fn begin_group(gateway: &mut Gateway, moment: u64, code: u16, out: &mut Outbox)
     requires least { 1 ≤ code }
-    requires most { code ≤ 99 }
+    requires most { code ≤ 33 }
 {
     let mut packet = Packet::new();
     begin(&mut packet);
@@ -144,82 +139,5 @@ fn one_more_group_than_the_greatest_limit_is_refused(rt: HostRuntime) -> Result<
     assert!(rt; all_groups_begin(&mut gateway));
     assert!(rt; is_next_refused(&mut gateway));
     assert!(rt; holds(&gateway, 0, 0, 32));
-    Ok(())
-}
-
-/// Two groups of lines from two senders, one within the other, and 61 lines more.
-fn many_lines() -> ArrayVec<u8, 512> {
-    let mut bytes = ArrayVec::new();
-    let _fits = bytes.try_extend_from_slice(
-        b"UdPbC\0\\g:1-2-7,s:II0002,n:1*47\\$HEHDT,90.0,T*16\r\n\\g:1-2-7,s:II0003,n:1*46\\$HEHDT,90.1,T*17\r\n",
-    );
-    let _fits = bytes.try_extend_from_slice(
-        b"\\g:2-2-7,s:II0003,n:2*46\\$HEHDT,90.1,T*17\r\n\\g:2-2-7,s:II0002,n:2*47\\$HEHDT,90.0,T*16\r\n",
-    );
-    for _ in 0..61_u8 {
-        let _fits = bytes.try_extend_from_slice(b"x\n");
-    }
-    bytes
-}
-
-/// The headings of both groups, that of the one which is complete first before that of the other.
-const HEADINGS: [u64; 4] = [
-    0xFF6D_3DFF_7FFF_7FFC,
-    0xFF6D_3DFF_7FFF_7FFC,
-    0xFF5C_3DFF_7FFF_7FFC,
-    0xFF5C_3DFF_7FFF_7FFC,
-];
-
-fn are_headings_first(out: &Outbox) -> bool {
-    for place in 0..HEADINGS.len() {
-        if seen_at(out, place) != Some(Seen::Frame(0x09F1_12FB, HEADINGS[place])) {
-            return false;
-        }
-    }
-    true
-}
-
-/// Whether behind the headings each of 60 lines is reported, and that there is one more.
-fn are_faults_behind(out: &Outbox) -> bool {
-    for line in 0..60_u16 {
-        if seen_at(out, 4 + usize::from(line)) != Some(Seen::At(34, 178 + 2 * line)) {
-            return false;
-        }
-    }
-    out.len() == 65 && seen_at(out, 64) == Some(Seen::At(46, 298))
-}
-
-/// Whether of a datagram of 65 lines 64 are read.
-fn reads_64_lines(gateway: &mut Gateway) -> bool {
-    let mut out = Outbox::new();
-    hear(gateway, 10_250_000, &many_lines(), &mut out);
-    are_headings_first(&out) && are_faults_behind(&out)
-}
-
-#[test]
-fn of_a_datagram_64_lines_are_read(rt: HostRuntime) -> Result<(), Fail> {
-    let mut gateway = started(rt.alloc(), USUAL, 10_000_000)?;
-    assert!(rt; reads_64_lines(&mut gateway));
-    Ok(())
-}
-
-/// A datagram of 1473 bytes that begins with the header.
-fn long_datagram() -> [u8; 1473] {
-    let mut bytes = [0; 1473];
-    bytes[..6].copy_from_slice(b"UdPbC\0");
-    bytes
-}
-
-/// Whether it is refused, at the first byte that is too many.
-fn refuses_long_datagram(gateway: &mut Gateway) -> bool {
-    let mut out = Outbox::new();
-    hear(gateway, 10_250_000, &long_datagram(), &mut out);
-    are_seen(&out, &[Seen::At(47, 1472)])
-}
-
-#[test]
-fn a_datagram_of_more_than_1472_bytes_is_not_read(rt: HostRuntime) -> Result<(), Fail> {
-    let mut gateway = started(rt.alloc(), USUAL, 10_000_000)?;
-    assert!(rt; refuses_long_datagram(&mut gateway));
     Ok(())
 }

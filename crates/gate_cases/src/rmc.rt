@@ -1,21 +1,13 @@
 //! A few events, with exactly what RMC says at each. A frame stands as its identifier and its bytes, the first one highest.
-ghost use Rattle.std.specs.Prelude.{◌≡◌, ℕ, [], true};
-ghost use Rattle.history.specs.AddressLaws.{AreSettings};
-ghost use Rattle.history.specs.Entries.{History, IsHistory, is_accepted};
-ghost use Rattle.gate_model.specs.Stands.{Stands};
+ghost use Rattle.std.specs.Prelude.{◌≡◌, []};
 ghost use Rattle.gate_outbox.specs.Output.{nothing};
-ghost use Rattle.gate_core.specs.Promises.{IsTaken};
-ghost use Rattle.gate_core.specs.Steps.{IsEventValid, by_keys, entry_of};
-ghost use Rattle.joined_rmc.specs.JoinStands.{IsJoined, JoinStands};
-ghost use Rattle.joined_rmc.specs.RmcOut.{RmcRule};
+ghost use Rattle.gate_core.specs.Steps.{IsEventValid};
 
-use arrayvec::ArrayVec;
-use claim_table::Preset;
-use gate_core::{Config, Ends, Gateway, Outbox, RowConfig};
+use crate::setup::{USUAL, started};
+use gate_core::{Gateway, Outbox};
 use gate_events::Event;
 use joined_rmc::{RmcConfig, RmcJoin};
-use n2k_id::{Frame, Name};
-use network_routes::{Address, Routes};
+use n2k_id::Frame;
 use sentence_text::{Group, Sfi};
 use std::alloc::Global;
 use std::test::Fail;
@@ -45,44 +37,6 @@ const POSITION_ALONE: &[u8] =
 const WITHOUT_TIME: &[u8] =
     b"UdPbC\0\\s:II0001,n:1*01\\$GPRMC,,A,1300.0000,N,18000.0000,W,9.99,90.0,,,,A*69\r\n";
 
-fn endpoint(text: &[u8]) -> Address {
-    let mut address = ArrayVec::new();
-    let _fits = address.try_extend_from_slice(text);
-    address
-}
-
-/// Two devices are known.
-fn config() -> Config {
-    let mut presets = ArrayVec::new();
-    for (address, name) in [(23, 0xC078_8C00_FFC0_0005), (24, 0xC078_8C00_FFC0_0006)] {
-        let _fits = presets.try_push(Preset {
-            address,
-            name: Name(name),
-        });
-    }
-    Config {
-        name: Name(0xC032_8200_FFC0_0001),
-        address: 251,
-        sfi: Sfi::of(b"II0001").unwrap_or_default(),
-        fast_slots: 64,
-        iso_slots: 8,
-        group_slots: 8,
-        ths: false,
-        presets,
-        rows: std::array::from_fn(|_| RowConfig::default()),
-        net_sources: ArrayVec::new(),
-        ends: Ends {
-            bus_listen: endpoint(b"127.0.0.1:60101"),
-            bus_send: endpoint(b"127.0.0.1:60102"),
-            net_listen: endpoint(b"127.0.0.1:60001"),
-            net: Routes {
-                list: ArrayVec::new(),
-                other: endpoint(b"127.0.0.1:60002"),
-            },
-        },
-    }
-}
-
 fn join() -> RmcJoin {
     RmcJoin::new(
         &RmcConfig {
@@ -94,7 +48,7 @@ fn join() -> RmcJoin {
     )
 }
 
-/// A step of the gateway, and RMC after it. Where both stand for a history, and the event is accepted, both stand for it with the event.
+/// A step of the gateway, and RMC after it.
 fn step(
     gateway: &mut Gateway,
     join: &mut RmcJoin,
@@ -105,12 +59,6 @@ fn step(
     requires valid { IsEventValid event.now }
     requires out { out.old ≡ nothing }
     requires packet { packet.old.items ≡ [] }
-    ensures taken { (s : ℕ) (h : History) → IsHistory h → Stands by_keys gateway.old.settings s h gateway.old
-        → is_accepted h (entry_of event.now) ≡ true → IsTaken gateway.old.settings s h (entry_of event.now) gateway.new out.new }
-    ensures joined { (r : RmcRule) (s : ℕ) (h : History) → AreSettings gateway.old.settings → IsHistory h
-        → Stands by_keys gateway.old.settings s h gateway.old → JoinStands r gateway.old.settings s h join.old
-        → is_accepted h (entry_of event.now) ≡ true
-        → IsJoined r gateway.old.settings s h (entry_of event.now) join.new result packet.new.items }
 {
     gateway.step(event, out);
     join.after(gateway, out, packet)
@@ -118,14 +66,9 @@ fn step(
 
 /// Whether a gateway, with RMC behind it, says at each frame what stands beside it.
 fn says(alloc: Global, turns: &[Turn]) -> Result<bool, Fail> {
-    let config = config();
-    if !config.valid() {
-        return Err("no configuration".into());
-    }
-    let mut gateway = Gateway::new(alloc, &config)?;
+    let mut gateway = started(alloc, USUAL, 1_000_000)?;
     let mut join = join();
     let mut out = Outbox::new();
-    gateway.start(1_000_000, &mut out);
     let mut packet = Packet::new();
     for (moment, id, bytes, datagram) in turns {
         out.clear();
@@ -278,9 +221,9 @@ const CASES: [(&str, &[Turn]); 12] = [
 
 #[test]
 fn rmc_joins_what_was_said(rt: HostRuntime) -> Result<(), Fail> {
-    for (name, turns) in CASES {
+    for (name, turns) in &CASES {
         if !says(rt.alloc(), turns)? {
-            return Err(name.into());
+            return Err((*name).into());
         }
     }
     Ok(())

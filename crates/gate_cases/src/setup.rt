@@ -1,10 +1,13 @@
-//! How the gateway of a case is configured.
+//! How the gateway of a case is configured, and how it starts.
 use arrayvec::ArrayVec;
 use claim_table::Preset;
 use config_values::{Config, Ends, RowConfig};
-use n2k_id::{Name, Pattern};
+use gate_core::{Gateway, Outbox};
+use n2k_id::Name;
 use network_routes::{Address, Routes};
 use sentence_text::Sfi;
+use std::alloc::Global;
+use std::test::Fail;
 
 /// How many fast packets, sessions and groups of lines may be in the making.
 #[derive(Clone, Copy)]
@@ -14,51 +17,11 @@ pub(crate) struct Limits {
     pub(crate) group: u16,
 }
 
-/// What is different from case to case.
-#[derive(Clone, Copy)]
-pub(crate) struct Setup {
-    pub(crate) limits: Limits,
-    /// The address that the gateway begins with.
-    pub(crate) address: u8,
-    /// Whether headings are taken from the device at 23 before the one at 24, where it said one within two seconds.
-    pub(crate) prefers: bool,
-}
-
-/// The limits of a configuration that states none.
-const USUAL_LIMITS: Limits = Limits {
+/// Those of a configuration that states none.
+pub(crate) const USUAL: Limits = Limits {
     fast: 64,
     iso: 8,
     group: 8,
-};
-
-pub(crate) const USUAL: Setup = Setup {
-    limits: USUAL_LIMITS,
-    address: 251,
-    prefers: false,
-};
-
-/// The least limits.
-pub(crate) const ONE_EACH: Setup = Setup {
-    limits: Limits {
-        fast: 1,
-        iso: 1,
-        group: 1,
-    },
-    address: 251,
-    prefers: false,
-};
-
-/// The first address.
-pub(crate) const AT_ZERO: Setup = Setup {
-    limits: USUAL_LIMITS,
-    address: 0,
-    prefers: false,
-};
-
-pub(crate) const PREFERRING: Setup = Setup {
-    limits: USUAL_LIMITS,
-    address: 251,
-    prefers: true,
 };
 
 /// The NAMEs of the devices at 23 and 24.
@@ -71,21 +34,15 @@ fn endpoint(text: &[u8]) -> Address {
 }
 
 /// The rows, of which headings and fixes have their usual talkers.
-fn rows_of(setup: Setup) -> [RowConfig; 17] {
+fn rows() -> [RowConfig; 17] {
     let mut rows = std::array::from_fn(|_| RowConfig::default());
     rows[0].talker = *b"HE";
     rows[10].talker = *b"GP";
-    if setup.prefers {
-        for (_, name) in KNOWN {
-            let _fits = rows[0].sources.try_push(Pattern::whole(Name(name)));
-        }
-        rows[0].timeout_ms = 2_000;
-    }
     rows
 }
 
 /// Two devices are known, and the network is heard from two sources.
-pub(crate) fn config_of(setup: Setup) -> Config {
+pub(crate) fn config_of(limits: Limits) -> Config {
     let mut presets = ArrayVec::new();
     for (address, name) in KNOWN {
         let _fits = presets.try_push(Preset {
@@ -99,14 +56,14 @@ pub(crate) fn config_of(setup: Setup) -> Config {
     }
     Config {
         name: Name(0xC032_8200_FFC0_0001),
-        address: setup.address,
+        address: 251,
         sfi: Sfi::of(b"II0001").unwrap_or_default(),
-        fast_slots: setup.limits.fast,
-        iso_slots: setup.limits.iso,
-        group_slots: setup.limits.group,
+        fast_slots: limits.fast,
+        iso_slots: limits.iso,
+        group_slots: limits.group,
         ths: false,
         presets,
-        rows: rows_of(setup),
+        rows: rows(),
         net_sources,
         ends: Ends {
             bus_listen: endpoint(b"127.0.0.1:60101"),
@@ -118,4 +75,16 @@ pub(crate) fn config_of(setup: Setup) -> Config {
             },
         },
     }
+}
+
+/// A gateway that started at this moment.
+pub(crate) fn started(alloc: Global, limits: Limits, moment: u64) -> Result<Gateway, Fail> {
+    let config = config_of(limits);
+    if !config.valid() {
+        return Err("no configuration".into());
+    }
+    let mut gateway = Gateway::new(alloc, &config)?;
+    let mut out = Outbox::new();
+    gateway.start(moment, &mut out);
+    Ok(gateway)
 }

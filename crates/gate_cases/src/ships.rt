@@ -1,19 +1,16 @@
 //! A gateway and its bridge, with exactly what the bridge emits at each event. A frame stands as its identifier and its bytes, the first one
 //! highest.
+use crate::setup::{USUAL, config_of, started};
 use ais_bridge::{AisBridge, AisConfig, AisEmits};
-use arrayvec::ArrayVec;
-use claim_table::Preset;
-use config_values::{Config, Ends, RowConfig};
-use gate_core::{Gateway, Outbox};
+use gate_core::Outbox;
 use gate_events::{Detail, Emit, Event};
-use n2k_id::{Frame, Name};
-use network_routes::{Address, Routes};
-use sentence_text::{Group, Sfi};
+use n2k_id::Frame;
+use sentence_text::Group;
 use std::alloc::Global;
 use std::test::Fail;
 
 /// What the bridge emits.
-#[derive(Clone, Copy, Debug, PartialEq, Eq)]
+#[derive(Clone, Copy, PartialEq, Eq)]
 enum Seen<'a> {
     Datagram(&'a [u8]),
     /// A rule that was broken, and the sender's address.
@@ -45,46 +42,6 @@ const FRAMES: [u64; 5] = [
     0x04FF_FFFF_FFFF_FFFF,
 ];
 
-fn endpoint(text: &[u8]) -> Address {
-    let mut address = ArrayVec::new();
-    let _fits = address.try_extend_from_slice(text);
-    address
-}
-
-/// Two devices are known.
-fn config() -> Config {
-    let mut presets = ArrayVec::new();
-    for (address, name) in [(23, 0xC078_8C00_FFC0_0005), (24, 0xC078_8C00_FFC0_0006)] {
-        let _fits = presets.try_push(Preset {
-            address,
-            name: Name(name),
-        });
-    }
-    let mut rows = std::array::from_fn(|_| RowConfig::default());
-    rows[0].talker = *b"HE";
-    Config {
-        name: Name(0xC032_8200_FFC0_0001),
-        address: 251,
-        sfi: Sfi::of(b"II0001").unwrap_or_default(),
-        fast_slots: 64,
-        iso_slots: 8,
-        group_slots: 8,
-        ths: false,
-        presets,
-        rows,
-        net_sources: ArrayVec::new(),
-        ends: Ends {
-            bus_listen: endpoint(b"127.0.0.1:60101"),
-            bus_send: endpoint(b"127.0.0.1:60102"),
-            net_listen: endpoint(b"127.0.0.1:60001"),
-            net: Routes {
-                list: ArrayVec::new(),
-                other: endpoint(b"127.0.0.1:60002"),
-            },
-        },
-    }
-}
-
 /// Whether this is the emit at the place.
 fn is_at(emits: &AisEmits, place: usize, seen: Seen<'_>) -> bool {
     match emits.item(place) {
@@ -108,20 +65,24 @@ fn are_seen(emits: &AisEmits, seen: &[Seen<'_>]) -> bool {
             .all(|(place, seen)| is_at(emits, place, *seen))
 }
 
-/// Whether a gateway and a bridge of so many slots give at each frame what stands beside it.
-fn gives(alloc: Global, slots: u16, turns: &[Turn]) -> Result<bool, Fail> {
-    let config = config();
+/// A bridge of so many slots, beside a gateway.
+fn bridge_of(alloc: Global, slots: u16) -> Result<AisBridge, Fail> {
+    let config = config_of(USUAL);
     if !config.valid() || slots < 1 || slots > 256 {
         return Err("no configuration".into());
     }
-    let mut gateway = Gateway::new(alloc, &config)?;
     let ais = AisConfig {
         group: Group::of(b"TGTD").unwrap_or_default(),
         slots,
     };
-    let mut bridge = AisBridge::new(alloc, &ais, config.sfi, &config.presets)?;
+    Ok(AisBridge::new(alloc, &ais, config.sfi, &config.presets)?)
+}
+
+/// Whether a gateway and a bridge of so many slots give at each frame what stands beside it.
+fn gives(alloc: Global, slots: u16, turns: &[Turn]) -> Result<bool, Fail> {
+    let mut gateway = started(alloc, USUAL, 0)?;
+    let mut bridge = bridge_of(alloc, slots)?;
     let mut out = Outbox::new();
-    gateway.start(0, &mut out);
     let mut emits = AisEmits::new();
     for (moment, id, bytes, seen) in turns {
         out.clear();
@@ -224,9 +185,9 @@ const CASES: [(&str, u16, &[Turn]); 4] = [
 
 #[test]
 fn reports_are_said_exactly_as_is_meant(rt: HostRuntime) -> Result<(), Fail> {
-    for (name, slots, turns) in CASES {
-        if !gives(rt.alloc(), slots, turns)? {
-            return Err(name.into());
+    for (name, slots, turns) in &CASES {
+        if !gives(rt.alloc(), *slots, turns)? {
+            return Err((*name).into());
         }
     }
     Ok(())

@@ -1,8 +1,7 @@
 //! What a gateway and its outbox tell besides the emits.
-use crate::case::{Comes, Turn};
-use crate::following::{follows, started, step};
-use crate::setup::USUAL;
-use crate::tables::{CLEAR_TO_SEND, HEADING_OF_23, REQUEST_TO_SEND};
+use crate::case::{Comes, Seen, Turn};
+use crate::following::{follows, step};
+use crate::setup::{USUAL, started};
 use gate_core::{Gateway, HeldCounts, Outbox};
 use n2k_id::Name;
 use std::test::Fail;
@@ -10,9 +9,17 @@ use std::test::Fail;
 /// When all comes.
 const MOMENT: u64 = 10_250_000;
 
+/// The message of the heading 90.0, of the device at 23.
+const HEADING_OF_23: Comes = Comes::Frame(0x09F1_1217, 0x005C_3DFF_7FFF_7FFC);
+
+/// A request of the device at 23 to send 1785 bytes to the gateway, and what clears the first packets of it.
 const SESSION_BEGINS: [Turn; 2] = [
     (MOMENT, Comes::Tick, &[]),
-    (MOMENT, REQUEST_TO_SEND, &[CLEAR_TO_SEND]),
+    (
+        MOMENT,
+        Comes::Frame(0x1CEC_FB17, 0x10F9_06FF_FF05_F801),
+        &[Seen::Frame(0x1CEC_17FB, 0x1108_01FF_FF05_F801)],
+    ),
 ];
 
 /// Whether a session of the device at 23 begins.
@@ -107,5 +114,31 @@ fn what_is_complete_is_told_until_the_outbox_is_cleared(rt: HostRuntime) -> Resu
     assert!(rt; tells_heading(&mut gateway));
     assert!(rt; command_begins(&mut gateway));
     assert!(rt; tells_command(&mut gateway));
+    Ok(())
+}
+
+/// The first frame of a position fix, of the device at 23.
+const FIX_BEGINS: Comes = Comes::Frame(0x0DF8_0517, 0x002B_00DB_4C00_08AF);
+
+const END_OF_TIME: u64 = u64::MAX;
+
+/// The moment may go to the end of time and stand still there, but not go back.
+const TO_THE_END: [Turn; 6] = [
+    (MOMENT, FIX_BEGINS, &[]),
+    (MOMENT - 1, Comes::Tick, &[Seen::Report(3)]),
+    (END_OF_TIME, Comes::Tick, &[Seen::Source(16, 23, 129_029)]),
+    (END_OF_TIME, Comes::Tick, &[]),
+    (END_OF_TIME - 1, HEADING_OF_23, &[Seen::Report(3)]),
+    (
+        END_OF_TIME,
+        HEADING_OF_23,
+        &[Seen::Datagram(b"UdPbC\0\\s:II0001,n:1*01\\$HEHDT,90.0,T*16\r\n")],
+    ),
+];
+
+#[test]
+fn a_gateway_goes_on_to_the_end_of_time(rt: HostRuntime) -> Result<(), Fail> {
+    let mut gateway = started(rt.alloc(), USUAL, 10_000_000)?;
+    assert!(rt; follows(&mut gateway, &TO_THE_END));
     Ok(())
 }

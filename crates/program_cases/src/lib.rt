@@ -3,8 +3,6 @@
 #![tactic(auto)]
 
 #[cfg(test)]
-mod between_links;
-#[cfg(test)]
 mod live_tests;
 #[cfg(test)]
 mod tests;

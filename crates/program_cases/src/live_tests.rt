@@ -13,16 +13,20 @@ pub(crate) type Coming = Option<&'static [u8]>;
 /// What a link is handed, in order.
 pub(crate) type Handed = &'static [&'static [u8]];
 
-/// A run of `serve` over two links, of which the bus may fail, and what goes out.
+/// A run of `serve` over two links, what is read and received in its turns, and what goes out.
 #[derive(Clone, Copy)]
 struct Case {
     about: &'static str,
     turns: &'static str,
+    clock: [u64; 2],
     bus: [Coming; 2],
+    net: [Coming; 2],
     /// Whether the bus and the network can't be attached.
     unattached: [bool; 2],
-    /// The receives and the sends of the bus that fail, by their numbers from 1.
-    lost: [&'static [u32]; 2],
+    /// The receives and the sends of the bus, and the receives of the network, that fail, by their numbers from 1.
+    lost: [&'static [u32]; 3],
+    /// The writes that fail; each takes at most ten bytes.
+    unwritten: &'static [u32],
     to_bus: Handed,
     to_net: Handed,
     written: &'static [u8],
@@ -44,35 +48,91 @@ pub(crate) const HEADING: &[u8] = b"(1700000000.000000) can0 09F11217#005C3DFF7F
 
 const SENTENCE: &[u8] = b"UdPbC\0\\s:II0001,n:1*01\\$HEHDT,90.0,T*16\r\n";
 
-/// One turn in which nothing comes and nothing fails.
+/// Two turns in which nothing comes and nothing fails.
 const QUIET: Case = Case {
     about: "a gateway starts in its first turn",
-    turns: "1",
+    turns: "2",
+    clock: [0, 1_000],
     bus: [None, None],
+    net: [None, None],
     unattached: [false, false],
-    lost: [&[], &[]],
+    lost: [&[], &[], &[]],
+    unwritten: &[],
     to_bus: &[CLAIM, REQUEST],
     to_net: &[],
     written: b"",
     status: 0,
 };
 
-const CASES: [Case; 6] = [
+const CASES: [Case; 12] = [
     QUIET,
     Case {
         about: "what couldn't be sent is reported in its place",
-        turns: "2",
         bus: [None, Some(HEADING)],
-        lost: [&[], &[2]],
+        lost: [&[], &[2], &[]],
         to_bus: &[CLAIM],
         to_net: &[SENTENCE],
         written: b"(0.000000) rule 50 link=bus\n",
         ..QUIET
     },
     Case {
-        about: "a failed receive is reported",
-        lost: [&[1], &[]],
-        written: b"(0.000000) rule 51 link=bus\n",
+        about: "a failed receive is reported, and counts as nothing received",
+        bus: [Some(HEADING), None],
+        lost: [&[1], &[], &[1]],
+        to_net: &[SENTENCE],
+        written: b"(0.000000) rule 51 link=bus\n(0.000000) rule 51 link=net\n",
+        ..QUIET
+    },
+    Case {
+        about: "a line end of an arrival is no part of it",
+        bus: [
+            Some(b"(5.000000) can0 09F11217#005C3DFF7FFF7FFC\r\n"),
+            Some(b"\n"),
+        ],
+        to_net: &[SENTENCE],
+        written: b"(0.001000) rule 1 line=2\n",
+        ..QUIET
+    },
+    Case {
+        about: "no other line than that of a frame comes over the bus",
+        bus: [Some(b"(1.000000) tick"), Some(b"(1.000000) can0 123#00")],
+        written: b"(0.000000) rule 1 line=1\n(0.001000) rule 4 line=2\n",
+        ..QUIET
+    },
+    Case {
+        about: "a CR without an LF is part of an arrival",
+        bus: [Some(b"(1.000000) can0 09F11217#005C3D\r"), None],
+        net: [None, Some(b"UdPbC")],
+        written: b"(0.000000) rule 1 line=1\n(0.001000) rule 30 at=5\n",
+        ..QUIET
+    },
+    Case {
+        about: "a clock that is set back doesn't set back the gateway",
+        clock: [1_000, 0],
+        net: [None, Some(b"UdPbC")],
+        to_bus: &[
+            b"(0.001000) can0 18EEFFFB#0100C0FF008232C0",
+            b"(0.001000) can0 18EAFFFB#00EE00",
+        ],
+        written: b"(0.001000) rule 30 at=5\n",
+        ..QUIET
+    },
+    Case {
+        about: "a failed write ends the turns",
+        net: [Some(b"UdPbC"), None],
+        bus: [None, Some(HEADING)],
+        unwritten: &[1],
+        written: b"",
+        status: 4,
+        ..QUIET
+    },
+    Case {
+        about: "a report is written whole or in part",
+        net: [Some(b"UdPbC"), None],
+        bus: [None, Some(HEADING)],
+        unwritten: &[2],
+        written: b"(0.000000)",
+        status: 4,
         ..QUIET
     },
     Case {
@@ -91,7 +151,7 @@ const CASES: [Case; 6] = [
     },
     Case {
         about: "a number of turns has no leading zero",
-        turns: "01",
+        turns: "02",
         to_bus: &[],
         written: b"usage: shipgate convert | show | check CONFIG | replay CONFIG | serve CONFIG TURNS | demo SEED COUNT\n",
         status: 2,
@@ -156,10 +216,11 @@ struct Outside {
 }
 
 fn outside_of(alloc: Global, case: &Case) -> Result<Outside, AllocError> {
-    let bus = link(alloc, case.bus, case.unattached[0], case.lost)?;
-    let net = link(alloc, [None, None], case.unattached[1], [&[], &[]])?;
-    let out = MemSink::of(alloc, 1_000, 10, Vec::new(alloc))?;
-    let clock = MemClock::of(vec![in alloc; 0, 1_000]?);
+    let [receives, sends, from_net] = case.lost;
+    let bus = link(alloc, case.bus, case.unattached[0], [receives, sends])?;
+    let net = link(alloc, case.net, case.unattached[1], [from_net, &[]])?;
+    let out = MemSink::of(alloc, 1_000, 10, case.unwritten.to_vec(alloc)?)?;
+    let clock = MemClock::of(case.clock.to_vec(alloc)?);
     Ok(Outside {
         bus,
         net,
@@ -223,7 +284,9 @@ fn ends(alloc: Global, case: &Case) -> Result<bool, Fail> {
 #[test]
 fn a_gateway_runs_between_links_of_a_configuration(rt: HostRuntime) -> Result<(), Fail> {
     for case in &CASES {
-        assert!(rt; ends(rt.alloc(), case)?, "{}", case.about);
+        if !ends(rt.alloc(), case)? {
+            return Err(case.about.into());
+        }
     }
     Ok(())
 }

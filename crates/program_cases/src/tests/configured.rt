@@ -167,7 +167,7 @@ fn empty_lines(alloc: Global, count: usize) -> Result<Vec<u8>, Fail> {
 
 #[test]
 fn files_are_accepted_or_their_first_fault_is_said(rt: HostRuntime) -> Result<(), Fail> {
-    assert_eq!(rt; first_otherwise(rt.alloc(), &FILES)?, "none");
+    assert!(rt; first_otherwise(rt.alloc(), &FILES)? == "none");
     Ok(())
 }
 

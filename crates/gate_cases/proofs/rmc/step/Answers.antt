@@ -9,7 +9,3 @@ pub after-requires-clause-valid : goal.after-requires-clause-valid
 after-requires-clause-valid c =
     let g = c.args.gateway.now in
     subst (λ o. IsDoneValid o.done) (sym c.step.ensures.output) (left_valid g.settings.name (stepped by_keys g (entry_of c.args.event.now)))
-
-pub returns-clause-joined : goal.returns-clause-joined
-returns-clause-joined c = λ r s h settings could stands before accepted.
-    c.after.ensures.history r c.args.gateway.now.settings s h (entry_of c.args.event.now) settings ((c.step.ensures.history s h could stands).0 accepted) before
