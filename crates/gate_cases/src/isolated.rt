@@ -1,13 +1,14 @@
 //! What no clause says: that memory is found, and a case of both lists.
 ghost use Rattle.n2k_id.specs.Frame.{IsFrame};
-ghost use Rattle.std.specs.Prelude.{◌≡◌};
+ghost use Rattle.std.specs.Prelude.{◌≡◌, All, IfOk};
 ghost use Rattle.isolation.specs.Runs.{IsFrameEvent};
 
 use crate::setup::{USUAL, started};
-use gate_core::Done;
+use gate_core::{Done, Gateway};
 use isolation::FrameEvent;
 use isolation::laws::same_from;
 use n2k_id::{Frame, Name};
+use std::alloc::{AllocError, Global};
 use std::test::Fail;
 
 /// The NAME of the device at 23.
@@ -41,25 +42,62 @@ fn is_log(told: &[Done]) -> bool {
     }
 }
 
+/// Whether the log is all that was said alone, and the same was said beside another.
+fn are_log(alone: &[Done], beside: &[Done]) -> bool {
+    is_log(alone) && alone == beside
+}
+
+/// Lets a frame of the log come from an address.
+fn append_log(
+    events: &mut Vec<FrameEvent>,
+    moment: u64,
+    source: u8,
+    part: usize,
+) -> Result<(), AllocError>
+    requires { All IsFrameEvent events.old.items }
+    ensures { IfOk result (λ _. All IsFrameEvent events.new.items) }
+{
+    events.push(log(moment, source, part))?;
+    Ok(())
+}
+
+/// The log of the device at 23 alone.
+fn log_alone(alloc: Global) -> Result<Vec<FrameEvent>, AllocError>
+    ensures { IfOk result (λ events. All IsFrameEvent events.items) }
+{
+    let mut events = Vec::new(alloc);
+    append_log(&mut events, 1_000_000, 23, 0)?;
+    append_log(&mut events, 1_001_000, 23, 1)?;
+    append_log(&mut events, 1_002_000, 23, 2)?;
+    Ok(events)
+}
+
+/// The same beside that of the device at 24.
+fn log_beside(alloc: Global) -> Result<Vec<FrameEvent>, AllocError>
+    ensures { IfOk result (λ events. All IsFrameEvent events.items) }
+{
+    let mut events = Vec::new(alloc);
+    append_log(&mut events, 1_000_000, 23, 0)?;
+    append_log(&mut events, 1_000_500, 24, 0)?;
+    append_log(&mut events, 1_001_000, 23, 1)?;
+    append_log(&mut events, 1_001_500, 24, 1)?;
+    append_log(&mut events, 1_002_000, 23, 2)?;
+    append_log(&mut events, 1_002_500, 24, 2)?;
+    Ok(events)
+}
+
+/// Whether the log is all that the device says, alone and beside the other.
+fn says_the_same(alloc: Global, left: &mut Gateway, right: &mut Gateway) -> Result<bool, Fail> {
+    let lefts = log_alone(alloc)?;
+    let rights = log_beside(alloc)?;
+    let (alone, beside) = same_from(alloc, left, right, 23, lefts.as_slice(), rights.as_slice())?;
+    Ok(are_log(alone.as_slice(), beside.as_slice()))
+}
+
 #[test]
 fn a_device_says_the_same_beside_another(rt: HostRuntime) -> Result<(), Fail> {
-    let alloc = rt.alloc();
-    let mut left = started(alloc, USUAL, 0)?;
-    let mut right = started(alloc, USUAL, 0)?;
-    let lefts = [
-        log(1_000_000, 23, 0),
-        log(1_001_000, 23, 1),
-        log(1_002_000, 23, 2),
-    ];
-    let rights = [
-        log(1_000_000, 23, 0),
-        log(1_000_500, 24, 0),
-        log(1_001_000, 23, 1),
-        log(1_001_500, 24, 1),
-        log(1_002_000, 23, 2),
-        log(1_002_500, 24, 2),
-    ];
-    let (alone, beside) = same_from(alloc, &mut left, &mut right, 23, &lefts, &rights)?;
-    assert!(rt; is_log(alone.as_slice()) && alone.as_slice() == beside.as_slice());
+    let mut left = started(rt.alloc(), USUAL, 0)?;
+    let mut right = started(rt.alloc(), USUAL, 0)?;
+    assert!(rt; says_the_same(rt.alloc(), &mut left, &mut right)?);
     Ok(())
 }

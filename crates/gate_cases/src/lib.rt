@@ -1,5 +1,5 @@
-//! What a gateway and the parts beside it tell of themselves, at the greatest limits and at the end of time too, and what the parts say. All of it is tests: they stand apart from
-//! the crates that they are about, which are proved but once without them.
+//! What a gateway and the parts beside it tell of themselves, at the greatest limits and at the end of time too, and what the parts say. All
+//! of it is tests: they stand apart from the crates that they are about, which are proved but once without them.
 #![tactic(auto)]
 
 #[cfg(test)]
