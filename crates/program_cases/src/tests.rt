@@ -315,7 +315,7 @@ fn datagrams_and_other_lines_are_shown(rt: HostRuntime) -> Result<(), Fail> {
 
 /// A run on the heading, and how it ends.
 #[derive(Clone, Copy)]
-struct Failing {
+struct Ending {
     word: &'static str,
     /// Which reads fail.
     reads: &'static [u32],
@@ -329,7 +329,7 @@ const USAGE: &[u8] =
     b"usage: shipgate convert | show | check CONFIG | replay CONFIG | serve CONFIG TURNS | demo SEED COUNT\n";
 
 /// A run in which nothing fails.
-const WHOLE: Failing = Failing {
+const WHOLE: Ending = Ending {
     word: "convert",
     reads: &[],
     room: Room {
@@ -341,7 +341,7 @@ const WHOLE: Failing = Failing {
 };
 
 /// A line that is shown in writes of three bytes.
-const SHOWN_WHOLE: Failing = Failing {
+const SHOWN_WHOLE: Ending = Ending {
     word: "show",
     taken: b"line=1 prio=2 pgn=127250 src=23 dst=255 len=8\n",
     ..WHOLE
@@ -353,20 +353,20 @@ const ONE_WRITE: Room<'static> = Room {
     failing: &[2],
 };
 
-const FAILING: [Failing; 12] = [
+const ENDINGS: [Ending; 12] = [
     WHOLE,
-    Failing {
+    Ending {
         reads: &[1],
         status: 5,
         taken: b"",
         ..WHOLE
     },
-    Failing {
+    Ending {
         reads: &[2],
         status: 5,
         ..WHOLE
     },
-    Failing {
+    Ending {
         room: Room {
             most: 4096,
             failing: &[1],
@@ -375,13 +375,13 @@ const FAILING: [Failing; 12] = [
         taken: b"",
         ..WHOLE
     },
-    Failing {
+    Ending {
         room: ONE_WRITE,
         status: 4,
         taken: b"$HE",
         ..WHOLE
     },
-    Failing {
+    Ending {
         room: Room {
             most: 0,
             failing: &[],
@@ -391,31 +391,31 @@ const FAILING: [Failing; 12] = [
         ..WHOLE
     },
     SHOWN_WHOLE,
-    Failing {
+    Ending {
         reads: &[2],
         status: 5,
         ..SHOWN_WHOLE
     },
-    Failing {
+    Ending {
         room: ONE_WRITE,
         status: 4,
         taken: b"lin",
         ..SHOWN_WHOLE
     },
-    Failing {
+    Ending {
         word: "",
         status: 2,
         taken: USAGE,
         ..WHOLE
     },
-    Failing {
+    Ending {
         word: "",
         room: ONE_WRITE,
         status: 2,
         taken: b"usa",
         ..WHOLE
     },
-    Failing {
+    Ending {
         word: "Convert",
         status: 2,
         taken: USAGE,
@@ -424,7 +424,7 @@ const FAILING: [Failing; 12] = [
 ];
 
 /// Whether a run ends so.
-fn ends_so(alloc: Global, case: &Failing) -> Result<bool, Fail> {
+fn ends_so(alloc: Global, case: &Ending) -> Result<bool, Fail> {
     let given = Given {
         bytes: HEADING,
         most: 4096,
@@ -436,7 +436,7 @@ fn ends_so(alloc: Global, case: &Failing) -> Result<bool, Fail> {
 
 #[test]
 fn failures_have_their_status_and_lose_no_complete_line(rt: HostRuntime) -> Result<(), Fail> {
-    for case in &FAILING {
+    for case in &ENDINGS {
         assert!(rt; ends_so(rt.alloc(), case)?);
     }
     Ok(())
