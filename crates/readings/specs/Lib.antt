@@ -1,3 +1,4 @@
+pub mod About
 pub mod Numbers
 pub mod Ranges
 pub mod Rows
