@@ -41,13 +41,17 @@ length_frames_of sequence p =
 pub information_fits : (p : List ℕ) → length p ≡ 134 → need_of (length p) ≡ 20
 information_fits p e = rw e refl
 
-pub sent_list_fits : (p : List ℕ) → p ≡ sent_list → length p ≡ 58
-unfolding sent
-sent_list_fits p e = rw e refl
+-- each list fits a message, and both their frames into an answer
+abbrev Fits : List ℕ → Type 0
+Fits p = (1 ≤ length p) × (length p ≤ 134) × (need_of (length p) ≤ 10)
 
-pub received_list_fits : (p : List ℕ) → p ≡ received_list → length p ≡ 61
+pub sent_list_fits : (p : List ℕ) → p ≡ sent_list → Fits p
+unfolding sent
+sent_list_fits p e = rw e (omega arith, omega arith, omega arith)
+
+pub received_list_fits : (p : List ℕ) → p ≡ received_list → Fits p
 unfolding received
-received_list_fits p e = rw e refl
+received_list_fits p e = rw e (omega arith, omega arith, omega arith)
 
 -- the next frame has room where all have it
 pub next_fits : (f : List ℕ → BusFrame) (out start : List Frame) (pieces : List (List ℕ)) (i limit : ℕ) → i < length pieces

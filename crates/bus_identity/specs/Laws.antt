@@ -1,12 +1,13 @@
 -- What is promised of all answers.
-use Rattle.std.specs.Prelude.{◌≡◌, ◌≢◌, ℕ, ◌+◌, ◌%◌, ◌<◌, ◌≤◌, ◌^◌, Bool, true, false, ◌&&◌, ◌==◌, if◌then◌else◌, List, [], ◌∷◌, length, map, take, Option, Some}
-use Rattle.std.specs.List.{AllByRecursion}
+use Rattle.std.specs.Prelude.{◌≡◌, ◌≢◌, ℕ, ◌+◌, ◌%◌, ◌<◌, ◌≤◌, ◌^◌, IsTrue, Bool, true, false, ◌&&◌, nat_lt, ◌==◌, if◌then◌else◌, List, [], ◌∷◌, length, map, take, Option, Some}
+use Rattle.std.specs.List.{AllByRecursion, list_all, list_any}
 use Rattle.n2k_id.specs.Frame.{BusFrame}
 use Rattle.n2k_id.specs.declared.identifier_parts.Parts.{Parts}
 use Rattle.n2k_id.specs.Identifier.{CanJoin, parts_of}
 use Rattle.fast_packet.specs.FastFrames.{longest}
 use Rattle.fast_packet.specs.Laws.{IsRunOf}
-use Rattle.bus_identity.specs.Pgns.{pgn_lists, product_information}
+use Rattle.readings.specs.About.{every_row}
+use Rattle.bus_identity.specs.Pgns.{pgn_lists, product_information, received, sent, sent_by, taken_by}
 use Rattle.bus_identity.specs.Requests.{asked_of, is_due, IsDue}
 use Rattle.bus_identity.specs.Answers.{Kept, answer_frames, answered_address, kept_after, list_frames, message_by, product_frames, refusal_frames}
 
@@ -80,3 +81,20 @@ pub record Counts (information : List ℕ) (h : List Call) : Type 0 where
 
 abbrev pub SequencesCount : Type 0
 SequencesCount = (information : List ℕ) (h : List Call) → Counts information h
+
+-- ---- the lists of parameter groups
+
+-- each number is below the next
+abbrev pub rises : List ℕ → Bool
+rises [] = true
+rises (pgn ∷ more) = list_all (nat_lt pgn) more && rises more
+
+abbrev pub has : List ℕ → ℕ → Bool
+has pgns pgn = list_any (λ p. p == pgn) pgns
+
+-- no group stands twice, and what a row is sent and taken in by is there
+pub record ListsAreOfTheRows : Type 0 where
+  pub sent_rises : IsTrue (rises sent)
+  pub received_rises : IsTrue (rises received)
+  pub each_sent : IsTrue (list_all (λ r. list_all (has sent) (sent_by r)) every_row)
+  pub each_taken : IsTrue (list_all (λ r. list_all (has received) (taken_by r)) every_row)

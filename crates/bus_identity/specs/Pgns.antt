@@ -1,5 +1,9 @@
 -- The parameter groups by which a device says who it is, by their numbers.
-use Rattle.std.specs.Prelude.{ℕ, List, [], ◌∷◌}
+use Rattle.std.specs.Prelude.{ℕ, ◌==◌, nat_lt, List, [], ◌∷◌, if◌then◌else◌}
+use Rattle.std.specs.List.{flat_map}
+use Rattle.std.specs.Option.{option_to_list}
+use Rattle.readings.specs.declared.rows.Row.{Row}
+use Rattle.readings.specs.About.{about_of, every_row}
 
 -- a device asks for a parameter group (ISO 11783-3)
 abbrev pub request : ℕ
@@ -21,14 +25,39 @@ pgn_lists = 126464
 abbrev pub product_information : ℕ
 product_information = 126996
 
--- those that the gateway sends
+-- long messages are announced, and sent in parts (ISO 11783-3)
+abbrev pub transport_announced : ℕ
+transport_announced = 60416
+
+abbrev pub transport_part : ℕ
+transport_part = 60160
+
+-- a device is told its address (ISO 11783-5)
+abbrev pub address_commanded : ℕ
+address_commanded = 65240
+
+-- ---- the lists
+
+-- a group among others in ascending order, once
+abbrev pub with_group : ℕ → List ℕ → List ℕ
+with_group pgn [] = pgn ∷ []
+with_group pgn (p ∷ more) = if nat_lt pgn p then pgn ∷ p ∷ more else if pgn == p then p ∷ more else p ∷ with_group pgn more
+
+abbrev pub ascending : List ℕ → List ℕ
+ascending [] = []
+ascending (pgn ∷ more) = with_group pgn (ascending more)
+
+-- those that a row is sent by, and taken in by
+abbrev pub sent_by : Row → List ℕ
+sent_by r = (about_of r).pgn ∷ []
+
+abbrev pub taken_by : Row → List ℕ
+taken_by r = (about_of r).pgn ∷ option_to_list (about_of r).also
+
+-- those that the gateway sends: as a device, and of its rows
 unfoldable pub sent : List ℕ
-sent =
-    59392 ∷ 59904 ∷ 60416 ∷ 60928 ∷ 126464 ∷ 126992 ∷ 126996 ∷ 127245 ∷ 127250 ∷ 127251 ∷ 128259 ∷ 128267 ∷ 128275 ∷ 129025 ∷ 129026 ∷ 129029 ∷ 129283
-    ∷ 130306 ∷ 130316 ∷ []
+sent = ascending (acknowledgement ∷ request ∷ transport_announced ∷ address_claimed ∷ pgn_lists ∷ product_information ∷ flat_map sent_by every_row)
 
 -- those that it takes in
 unfoldable pub received : List ℕ
-received =
-    59904 ∷ 60160 ∷ 60416 ∷ 60928 ∷ 65240 ∷ 126992 ∷ 127245 ∷ 127250 ∷ 127251 ∷ 128259 ∷ 128267 ∷ 128275 ∷ 129025 ∷ 129026 ∷ 129029 ∷ 129033 ∷ 129283
-    ∷ 130306 ∷ 130312 ∷ 130316 ∷ []
+received = ascending (request ∷ transport_part ∷ transport_announced ∷ address_claimed ∷ address_commanded ∷ flat_map taken_by every_row)

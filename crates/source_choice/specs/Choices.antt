@@ -1,7 +1,7 @@
 -- What was noted of all rows.
 use Rattle.std.specs.Prelude.{◌≡◌, ◌≢◌, ℕ, ◌+◌, ◌*◌, ◌<◌, ◌≤◌, ◌⊎◌, IsTrue, List, [], ◌∷◌, map, slice_index_or, slice_set, Option, Some}
 use Rattle.readings.specs.declared.rows.Row.{Row}
-use Rattle.readings.specs.declared.rows.Row.TheVariants as row
+use Rattle.readings.specs.About.{about_of}
 use Rattle.source_choice.specs.declared.rank.Rank.{Rank}
 use Rattle.source_choice.specs.declared.note.Note.{Note}
 use Rattle.source_choice.specs.Notes.{RowNotes, note_of, with_note, without}
@@ -11,24 +11,9 @@ pub record Choices : Type 0 where
   pub sources : ℕ
   pub rows : List RowNotes
 
+-- the row's place among the rows
 abbrev pub row_number : Row → ℕ
-row_number row.HeadingTrue = 0
-row_number row.HeadingMagnetic = 1
-row_number row.RateOfTurn = 2
-row_number row.RudderFirst = 3
-row_number row.RudderSecond = 4
-row_number row.WaterSpeed = 5
-row_number row.Depth = 6
-row_number row.DistanceLog = 7
-row_number row.Position = 8
-row_number row.CourseSpeed = 9
-row_number row.Gnss = 10
-row_number row.Time = 11
-row_number row.WindApparent = 12
-row_number row.WindTrue = 13
-row_number row.WindNorth = 14
-row_number row.WaterTemperature = 15
-row_number row.CrossTrack = 16
+row_number row = (about_of row).number
 
 -- with nothing noted yet
 abbrev pub nothing : ℕ → ℕ → RowNotes

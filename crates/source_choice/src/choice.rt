@@ -1,11 +1,11 @@
 ghost use Rattle.std.specs.Prelude.{◌≡◌, ◌<◌, ◌≤◌, ◌↔◌, map, IfOk, IsTrue};
-ghost use Rattle.source_choice.specs.Choices.{IsFirst, forgotten_in, nothing, row_at, row_number, opened, with_noted, forgotten};
+ghost use Rattle.source_choice.specs.Choices.{IsFirst, forgotten_in, nothing, row_at, opened, with_noted, forgotten};
 ghost use Rattle.source_choice.specs.Notes.{is_selected};
 
 use crate::note::Note;
 use crate::rank::Rank;
 use crate::row_notes::RowNotes;
-use readings::Row;
+use readings::{ROWS, Row};
 use std::alloc::{AllocError, Global};
 use std::marker::Model;
 
@@ -19,20 +19,21 @@ pub struct Choice {
 impl Model for Choice {
     ghost use Rattle.std.specs.Prelude.{◌≡◌, length};
     ghost use Rattle.std.specs.List.{AllByRecursion};
+    ghost use Rattle.readings.specs.About.{rows_count};
     ghost use Rattle.source_choice.specs.Choices.{Choices};
 
     ghost Value = { Choices };
 
     ghost view = { λ c. record { sources = c.sources; rows = c.rows.items } };
 
-    ghost invariant = { λ c. (length c.rows.items ≡ 17) × AllByRecursion (λ r. r.sources ≡ c.sources) c.rows.items };
+    ghost invariant = { λ c. (length c.rows.items ≡ rows_count) × AllByRecursion (λ r. r.sources ≡ c.sources) c.rows.items };
 }
 
 impl Choice {
     /// A choice that knows of nothing: there are so many sources, from 0 on, and a row's value counts so many milliseconds, in the
     /// order of the rows.
     #[tactic(auto, using(crate::proofs::ChoiceLemmas::all_opened))]
-    pub fn new(alloc: Global, sources: u16, timeouts: &[u32; 17]) -> Result<Choice, AllocError>
+    pub fn new(alloc: Global, sources: u16, timeouts: &[u32; ROWS]) -> Result<Choice, AllocError>
         requires { sources ≤ 254 }
         ensures { IfOk result (λ c. c ≡ opened sources timeouts.now) }
     {
@@ -47,7 +48,7 @@ impl Choice {
         ensures value { result ≡ is_selected (row_at self.now row) source rank moment }
         ensures first { IsTrue result ↔ IsFirst (row_at self.now row) source rank moment }
     {
-        self.rows[number(row)].selected(source, rank, moment)
+        self.rows[row.number()].selected(source, rank, moment)
     }
 
     /// Notes what the source said of the row, in the place of what was noted before.
@@ -56,7 +57,7 @@ impl Choice {
         requires { source < self.old.sources }
         ensures { self.new ≡ with_noted self.old row (record { source = source; rank = rank; moment = moment; usable = usable }) }
     {
-        self.rows[number(row)].note(Note {
+        self.rows[row.number()].note(Note {
             source,
             rank,
             moment,
@@ -74,16 +75,8 @@ impl Choice {
     }
 }
 
-/// The row's place among the rows.
-fn number(row: Row) -> usize
-    ensures number { result ≡ row_number row }
-    ensures within { result < 17 }
-{
-    row as usize
-}
-
 /// The rows, of which nothing is noted yet.
-fn rows_of(alloc: Global, sources: u16, timeouts: &[u32; 17]) -> Result<Vec<RowNotes>, AllocError>
+fn rows_of(alloc: Global, sources: u16, timeouts: &[u32; ROWS]) -> Result<Vec<RowNotes>, AllocError>
     ensures { IfOk result (λ rows. rows.items ≡ map (nothing sources) timeouts.now) }
 {
     let mut rows = Vec::with_capacity(alloc, timeouts.len())?;
