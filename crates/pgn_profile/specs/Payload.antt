@@ -3,7 +3,7 @@ use Rattle.std.specs.Prelude.{ℕ, List}
 use Rattle.readings.specs.declared.reading.Reading.{Reading}
 use Rattle.readings.specs.declared.reading.Reading.TheVariants as reading
 use Rattle.readings.specs.declared.rows.Row.{Row}
-use Rattle.readings.specs.declared.rows.Row.TheVariants as row
+use Rattle.readings.specs.About.{about_of}
 use Rattle.pgn_profile.specs.Layout as rows
 use Rattle.pgn_profile.specs.Layout.{written}
 
@@ -28,29 +28,7 @@ payload_of (reading.CrossTrack d) = written rows.track (d, tt)
 
 -- the PGN under which a row is sent
 abbrev pub pgn_of : Row → ℕ
-pgn_of row.HeadingTrue = 127250
-pgn_of row.HeadingMagnetic = 127250
-pgn_of row.RateOfTurn = 127251
-pgn_of row.RudderFirst = 127245
-pgn_of row.RudderSecond = 127245
-pgn_of row.WaterSpeed = 128259
-pgn_of row.Depth = 128267
-pgn_of row.DistanceLog = 128275
-pgn_of row.Position = 129025
-pgn_of row.CourseSpeed = 129026
-pgn_of row.Gnss = 129029
-pgn_of row.Time = 126992
-pgn_of row.WindApparent = 130306
-pgn_of row.WindTrue = 130306
-pgn_of row.WindNorth = 130306
-pgn_of row.WaterTemperature = 130316
-pgn_of row.CrossTrack = 129283
+pgn_of row = (about_of row).pgn
 
 abbrev pub priority_of : Row → ℕ
-priority_of row.Depth = 3
-priority_of row.DistanceLog = 6
-priority_of row.Gnss = 3
-priority_of row.Time = 3
-priority_of row.WaterTemperature = 5
-priority_of row.CrossTrack = 3
-priority_of _ = 2
+priority_of row = (about_of row).priority

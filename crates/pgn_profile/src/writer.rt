@@ -5,7 +5,6 @@ ghost use Rattle.pgn_profile.specs.Field.{unsigned_bytes};
 ghost use Rattle.pgn_profile.specs.Payload.{payload_of, pgn_of, priority_of};
 ghost use Rattle.pgn_profile.specs.Profiled.{profiled};
 
-use crate::pgn;
 use crate::piece::Piece::{Byte, Bytes, Signed, Unsigned};
 use crate::piece::{Payload, append_all};
 use crate::profiled::Profiled;
@@ -15,22 +14,7 @@ use readings::{Reading, Row, row};
 pub fn priority(row: Row) -> u8
     ensures { result ≡ priority_of row }
 {
-    match row {
-        Row::HeadingTrue
-        | Row::HeadingMagnetic
-        | Row::RateOfTurn
-        | Row::RudderFirst
-        | Row::RudderSecond
-        | Row::WaterSpeed
-        | Row::Position
-        | Row::CourseSpeed
-        | Row::WindApparent
-        | Row::WindTrue
-        | Row::WindNorth => 2,
-        Row::Depth | Row::Gnss | Row::Time | Row::CrossTrack => 3,
-        Row::WaterTemperature => 5,
-        Row::DistanceLog => 6,
-    }
+    row.priority()
 }
 
 /// Writes the payload of a valid reading to `out`, which is empty, and answers its PGN.
@@ -46,7 +30,7 @@ pub fn write(reading: &Reading, out: &mut Payload) -> u32
     ensures read_back { profiled result out.new.items ≡ Profiled.Reading reading.now }
 {
     write_payload(reading, out);
-    written_pgn(row(reading))
+    row(reading).pgn()
 }
 
 /// Writes the payload of the reading.
@@ -218,25 +202,4 @@ fn write_wind(speed: Option<i64>, angle: Option<i64>, reference: u8, out: &mut P
         ],
         out,
     );
-}
-
-/// The PGN under which a reading of the row is sent.
-fn written_pgn(row: Row) -> u32
-    ensures { result ≡ pgn_of row }
-{
-    match row {
-        Row::HeadingTrue | Row::HeadingMagnetic => pgn::VESSEL_HEADING,
-        Row::RateOfTurn => pgn::RATE_OF_TURN,
-        Row::RudderFirst | Row::RudderSecond => pgn::RUDDER,
-        Row::WaterSpeed => pgn::SPEED,
-        Row::Depth => pgn::WATER_DEPTH,
-        Row::DistanceLog => pgn::DISTANCE_LOG,
-        Row::Position => pgn::POSITION_RAPID_UPDATE,
-        Row::CourseSpeed => pgn::COG_SOG_RAPID_UPDATE,
-        Row::Gnss => pgn::GNSS_POSITION_DATA,
-        Row::Time => pgn::SYSTEM_TIME,
-        Row::WindApparent | Row::WindTrue | Row::WindNorth => pgn::WIND_DATA,
-        Row::WaterTemperature => pgn::TEMPERATURE_EXTENDED_RANGE,
-        Row::CrossTrack => pgn::CROSS_TRACK_ERROR,
-    }
 }
