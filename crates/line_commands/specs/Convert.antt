@@ -16,7 +16,7 @@ use Rattle.capture_text.specs.LineRule.{rule_number}
 use Rattle.report_rules.specs.Rules.{not_converted, short_message}
 use Rattle.gate_events.specs.Event.{Seen, frame, datagram, tick}
 use Rattle.capture_text.specs.Writing.{report_text}
-use Rattle.line_commands.specs.Talker.{talker_of}
+use Rattle.readings.specs.About.{about_of}
 
 -- the report of a rule about a line
 unfoldable pub refusal : ℕ → ℕ → List ℕ
@@ -25,7 +25,7 @@ refusal rule number = report_text (record { rule = rule; detail = detail.Line nu
 -- What a payload gives: the sentences of its reading, spoken by the row's talker, or a report where it is too
 -- short for its message or of no row.
 abbrev pub IsPayloadText : ℕ → Profiled → List ℕ → Type 0
-IsPayloadText number (says.Reading r) text = (lines : List (List ℕ)) × IsText r (talker_of (row_of r)) false lines × (text ≡ flat_map (λ line. line) lines)
+IsPayloadText number (says.Reading r) text = (lines : List (List ℕ)) × IsText r (about_of (row_of r)).talker false lines × (text ≡ flat_map (λ line. line) lines)
 IsPayloadText number says.Outside text = text ≡ refusal not_converted number
 IsPayloadText number says.Short text = text ≡ refusal short_message number
 

@@ -2,4 +2,3 @@ pub mod Convert
 pub mod LineCommand
 pub mod Says
 pub mod Show
-pub mod Talker

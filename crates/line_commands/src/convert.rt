@@ -10,13 +10,12 @@ ghost use Rattle.sentence_rows.specs.Lines.{lines_of};
 ghost use Rattle.sentence_rows.specs.Writing.{IsText};
 ghost use Rattle.gate_events.specs.Event.{view, IsValid};
 ghost use Rattle.gate_outside.specs.Faults.{HasCause};
-ghost use Rattle.line_commands.specs.Talker.{talker_of};
+ghost use Rattle.readings.specs.About.{about_of};
 ghost use Rattle.capture_text.specs.LineRule.{rule_number};
 ghost use Rattle.line_commands.specs.Convert.{refusal, IsPayloadText, IsMessageText, IsSaidText};
 ghost use Rattle.capture_stream.specs.Writer.{SendsText, Writes};
 
 use crate::line_text::{LineText, append, append_part};
-use crate::talker::talker_of;
 use arrayvec::ArrayVec;
 use capture_stream::Writer;
 use capture_text::LineRule;
@@ -71,12 +70,12 @@ fn send_lines<K: Sink>(lines: &Lines, writer: &mut Writer, out: &mut K) -> Resul
 // Sends the sentences of a reading.
 fn send_reading<K: Sink>(reading: &Reading, writer: &mut Writer, out: &mut K) -> Result<(), Failed>
     requires { IsValidReading reading.now }
-    ensures sent { SendsText (λ text. (lines : List (List ℕ)) × IsText reading.now (talker_of (row_of reading.now)) false lines
+    ensures sent { SendsText (λ text. (lines : List (List ℕ)) × IsText reading.now (about_of (row_of reading.now)).talker false lines
         × (text ≡ flat_map (λ line. line) lines)) (K.taken out.old) (K.taken out.new) writer.old writer.new result }
     ensures cause { HasCause (K.fault_count out.old) (K.fault_count out.new) result }
 {
     let mut lines = ArrayVec::new();
-    sentences(reading, talker_of(row(reading)), false, &mut lines);
+    sentences(reading, row(reading).talker(), false, &mut lines);
     send_lines(&lines, writer, out)
 }
 

@@ -8,6 +8,5 @@ mod convert;
 mod line_command;
 mod line_text;
 mod show;
-mod talker;
 
 pub use line_command::answer_lines;
