@@ -1,7 +1,7 @@
 pub mod Beside
 pub mod Decimals
+pub mod EachRow
 pub mod EndpointTexts
-pub mod Listed
 pub mod Loopback
 pub mod Tables
 pub mod Values

@@ -1,6 +1,7 @@
 -- What is read of a value is valid where it is configured.
-use Rattle.std.proofs.Common.{ℕ, nat_le, IsTrue, List, get_or, All}
+use Rattle.std.proofs.Common.{ℕ, zero, suc, ◌<◌, Bool, nat_le, IsTrue, List, [], ◌∷◌, length, get_or, All, arith}
 use Rattle.std.specs.Int.{IsInRange}
+use Rattle.std.specs.List.{list_all}
 use Rattle.std.proofs.lemmas.Bool.{and_parts, leb-true}
 use Rattle.sentence_text.specs.Byte.{is_capital}
 use Rattle.n2k_id.specs.declared.pattern.Pattern.{Pattern}
@@ -10,7 +11,11 @@ use Rattle.config_document.specs.Texts.{IsTalker as IsTalkerRead}
 use Rattle.config_values.specs.Patterns.{IsPattern}
 use Rattle.config_values.specs.Rows.{IsTalker}
 use Rattle.settings.specs.Settings.{IsText}
-use Rattle.gate_config.proofs.Listed.{test_at}
+
+test_at : {A : Type 0} (test : A → Bool) (xs : List A) (i : ℕ) (d : A) → IsTrue (list_all test xs) → i < length xs → IsTrue (test (get_or xs i d))
+test_at test [] i d all within = absurd (omega arith)
+test_at test (x ∷ xs) zero d all within = (and_parts (test x) (list_all test xs) all).0
+test_at test (x ∷ xs) (suc i) d all within = test_at test xs i d (and_parts (test x) (list_all test xs) all).1 (omega arith)
 
 pub talker : (text : List ℕ) → IsTalkerRead text → IsTalker text
 talker text read = record { len = read.len; letters = λ k d within. test_at is_capital text k d read.letters within }

@@ -6,6 +6,8 @@ use Rattle.arrayvec.specs.ArrayVec.{ArrayVec}
 use Rattle.claim_table.specs.declared.preset.Preset.{Preset}
 use Rattle.toml.specs.Data.{get_member}
 use Rattle.n2k_id.specs.declared.name.Name.{Name}
+use Rattle.readings.specs.declared.rows.Row.{Row}
+use Rattle.readings.specs.About.{about_of, rows as all_rows}
 use Rattle.config_document.specs.declared.fault.ConfigFault.{ConfigFault}
 use Rattle.config_document.specs.Keys.{list_at, number_at, text_at, truth_at}
 use Rattle.config_document.specs.Faults.{fault_at, missing}
@@ -78,39 +80,18 @@ row_prefix name = codes "row." ++ name ++ codes "."
 unfoldable pub row_at : List ℕ → List ℕ → Place → List ℕ → List ℕ → Result RowConfig ConfigFault
 row_at talker group rows name prefix = section_at rows name prefix >>= row.read (talker, group)
 
--- each row by its name, and the talker that it has by default
-unfoldable pub listed_rows : List (List ℕ × List ℕ)
-listed_rows =
-    (codes "heading_true", codes "HE")
-    ∷ (codes "heading_magnetic", codes "HC")
-    ∷ (codes "rate_of_turn", codes "TI")
-    ∷ (codes "rudder_first", codes "II")
-    ∷ (codes "rudder_second", codes "II")
-    ∷ (codes "water_speed", codes "VW")
-    ∷ (codes "depth", codes "SD")
-    ∷ (codes "distance_log", codes "VW")
-    ∷ (codes "position", codes "GP")
-    ∷ (codes "course_speed", codes "GP")
-    ∷ (codes "gnss", codes "GP")
-    ∷ (codes "time", codes "GP")
-    ∷ (codes "wind_apparent", codes "WI")
-    ∷ (codes "wind_true", codes "WI")
-    ∷ (codes "wind_north", codes "WI")
-    ∷ (codes "water_temperature", codes "YX")
-    ∷ (codes "cross_track", codes "II")
-    ∷ []
-
-abbrev pub rows_from : List ℕ → Place → List RowConfig → List (List ℕ × List ℕ) → Result (List RowConfig) ConfigFault
+-- these rows, each by its name, and with the talker that it has by default
+abbrev pub rows_from : List ℕ → Place → List RowConfig → List Row → Result (List RowConfig) ConfigFault
 rows_from group rows earlier [] = Ok earlier
-rows_from group rows earlier (listed ∷ more) = do
-  row ← row_at listed.1 group rows listed.0 (row_prefix listed.0)
-  rows_from group rows (earlier ++ row ∷ []) more
+rows_from group rows earlier (r ∷ more) = do
+  config ← row_at (about_of r).talker group rows (about_of r).name (row_prefix (about_of r).name)
+  rows_from group rows (earlier ++ config ∷ []) more
 
 -- row, in the order of the rows
 unfoldable pub rows_in : List ℕ → Place → Result (List RowConfig) ConfigFault
 rows_in group document = do
-  rows ← section_at document row.name (prefix_of row.name)
-  rows_from group rows [] listed_rows
+  place ← section_at document row.name (prefix_of row.name)
+  rows_from group place [] all_rows
 
 -- where a link listens or sends; by default a port of the machine itself
 unfoldable pub link : ℕ → Kind (ArrayVec ℕ)

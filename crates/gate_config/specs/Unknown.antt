@@ -1,6 +1,8 @@
 -- Keys that aren't known, in every table: of all of them the one is told whose path comes first in the order of bytes.
 use Rattle.std.specs.Prelude.{ℕ, ◌+◌, List, [], ◌∷◌, map, Option, Some, None}
 use Rattle.toml.specs.Data.{Data, Items, no_items, item, Members, no_members, array, get_member}
+use Rattle.readings.specs.declared.rows.Row.{Row}
+use Rattle.readings.specs.About.{about_of, rows as all_rows}
 use Rattle.config_document.specs.Kinds.{members_in}
 use Rattle.config_document.specs.Places.{Place}
 use Rattle.config_document.specs.Unknown.{least_of, unknown_in}
@@ -28,18 +30,22 @@ noted_items known word number no_items best = best
 noted_items known word number (item value more) best =
     noted_items known word (number + 1) more (noted known (record { prefix = item_prefix word number; members = members_in value }) best)
 
--- the names of the rows
-abbrev pub row_names : List (List ℕ)
-row_names = map (λ listed. listed.0) Keys.listed_rows
+-- the names of these rows
+abbrev pub row_names : List Row → List (List ℕ)
+row_names all = map (λ r. (about_of r).name) all
+
+-- the table of a row
+abbrev pub row_noted : Place → Row → Option (List ℕ) → Option (List ℕ)
+row_noted place r best = noted Keys.row.known (place_under place (about_of r).name (Keys.row_prefix (about_of r).name)) best
 
 -- the table of each of these rows
-abbrev pub each_row_noted : Place → List (List ℕ) → Option (List ℕ) → Option (List ℕ)
-each_row_noted rows [] best = best
-each_row_noted rows (name ∷ names) best = each_row_noted rows names (noted Keys.row.known (place_under rows name (Keys.row_prefix name)) best)
+abbrev pub each_row_noted : Place → List Row → Option (List ℕ) → Option (List ℕ)
+each_row_noted place [] best = best
+each_row_noted place (r ∷ more) best = each_row_noted place more (row_noted place r best)
 
 -- the table of rows, and each row's table
 unfoldable pub rows_noted : Place → Option (List ℕ) → Option (List ℕ)
-rows_noted rows best = each_row_noted rows row_names (noted row_names rows best)
+rows_noted place best = each_row_noted place all_rows (noted (row_names all_rows) place best)
 
 -- a table that stands once in the document, and one that stands as each item of a list
 abbrev once : {E A : Type 0} → Table E A → Place → Option (List ℕ) → Option (List ℕ)

@@ -1,6 +1,5 @@
 //! The keys of each row: whom it is taken from, and how it is said.
-ghost use Rattle.std.specs.Prelude.{◌≡◌, [], All, IfOk, IsTrue, map};
-ghost use Rattle.std.specs.List.{list_all};
+ghost use Rattle.std.specs.Prelude.{◌≡◌, [], All, IfOk};
 ghost use Rattle.config_document.specs.Keys.{list_at};
 ghost use Rattle.config_document.specs.Patterns.{pattern_in};
 ghost use Rattle.config_document.specs.Places.{place_of};
@@ -8,7 +7,6 @@ ghost use Rattle.config_document.specs.Texts.{IsTalker};
 ghost use Rattle.config_document.specs.Twice.{repeats};
 ghost use Rattle.config_values.specs.Rows.{AreSources, IsRow};
 ghost use Rattle.gate_config.specs.Keys.{row, row_at, rows_from, rows_in};
-ghost use Rattle.gate_config.specs.Listed.{is_listed, listed_seen};
 ghost use Rattle.gate_config.specs.Reading.{unless};
 ghost use Rattle.gate_config.specs.Texts.{same_pattern};
 
@@ -18,59 +16,34 @@ use arrayvec::ArrayVec;
 use config_document::{ConfigFault, Flaw, Section, Talker, repeats};
 use config_values::RowConfig;
 use n2k_id::Pattern;
+use readings::{ROWS, Row, all_rows};
 use sentence_text::Group;
 
 pub(crate) const KEYS: [&str; 5] = ["sources", "others", "timeout_ms", "talker", "group"];
 
-/// How many rows there are.
-const ROWS: usize = 17;
-
-/// What each row is taken from and how it is said, in the order of the rows, each with the talker that it has where none is configured
-/// (IEC 61162-1).
-#[tactic(auto, using(crate::proofs::Tables::row_name), unfolding(crate::specs::Keys::rows_in, crate::specs::Keys::listed_rows))]
+/// What each row is taken from and how it is said, in the order of the rows.
+#[tactic(auto, using(crate::proofs::Tables::row_name), unfolding(crate::specs::Keys::rows_in))]
 pub(crate) fn row_keys(document: &Section, group: Group) -> Result<[RowConfig; ROWS], ConfigFault>
     ensures said { result ≡ rows_in group (place_of document.now) }
     ensures valid { IfOk result (All IsRow) }
 {
-    each_row(
-        &section(document, "row", b"row.")?,
-        group,
-        &[
-            ("heading_true", *b"HE"),
-            ("heading_magnetic", *b"HC"),
-            ("rate_of_turn", *b"TI"),
-            ("rudder_first", *b"II"),
-            ("rudder_second", *b"II"),
-            ("water_speed", *b"VW"),
-            ("depth", *b"SD"),
-            ("distance_log", *b"VW"),
-            ("position", *b"GP"),
-            ("course_speed", *b"GP"),
-            ("gnss", *b"GP"),
-            ("time", *b"GP"),
-            ("wind_apparent", *b"WI"),
-            ("wind_true", *b"WI"),
-            ("wind_north", *b"WI"),
-            ("water_temperature", *b"YX"),
-            ("cross_track", *b"II"),
-        ],
-    )
+    each_row(&section(document, "row", b"row.")?, group, all_rows())
 }
 
-/// The rows of these names, each with its own talker where none is configured.
+/// These rows, each with its own talker where none is configured.
 fn each_row(
     rows: &Section,
     group: Group,
-    listed: &[(&str, [u8; 2]); ROWS],
+    all: &[Row; ROWS],
 ) -> Result<[RowConfig; ROWS], ConfigFault>
-    requires { IsTrue (list_all is_listed (map listed_seen listed.now)) }
-    ensures said { result ≡ rows_from group (place_of rows.now) [] (map listed_seen listed.now) }
+    ensures said { result ≡ rows_from group (place_of rows.now) [] all.now }
     ensures valid { IfOk result (All IsRow) }
 {
     let mut read = ArrayVec::new();
-    for (name, talker) in listed {
+    for each in all {
+        let name = each.name();
         let prefix = row_prefix(name);
-        let row = row(rows, name, prefix.as_slice(), *talker, group)?;
+        let row = row(rows, name, prefix.as_slice(), each.talker(), group)?;
         read.push(row);
     }
     match read.into_inner() {

@@ -1,17 +1,16 @@
 //! Keys that aren't known, in every table.
-ghost use Rattle.std.specs.Prelude.{◌≡◌, ◌≤◌, IfOk, IsTrue, length, map};
-ghost use Rattle.std.specs.List.{list_all};
+ghost use Rattle.std.specs.Prelude.{◌≡◌, ◌≤◌, IfOk, length, map};
 ghost use Rattle.toml.specs.Data.{get_member};
 ghost use Rattle.toml.specs.View.{items_view};
 ghost use Rattle.config_document.specs.Places.{place_of};
 ghost use Rattle.config_document.specs.Unknown.{path_seen};
-ghost use Rattle.gate_config.specs.Keys.{row, row_prefix};
-ghost use Rattle.gate_config.specs.Listed.{is_short};
-ghost use Rattle.gate_config.specs.Unknown.{each_row_noted, first_unknown, items_of, noted, noted_items, place_under, rows_noted};
+ghost use Rattle.gate_config.specs.Unknown.{each_row_noted, first_unknown, items_of, noted, noted_items, place_under, row_names, row_noted, rows_noted};
 
 use crate::items::{item_prefix, row_prefix};
 use crate::{gateway, identity, links, parts, presets, routes, rows};
+use arrayvec::ArrayVec;
 use config_document::{Section, least_unknown};
+use readings::{ROWS, Row, all_rows};
 use std::alloc::{AllocError, Global};
 use toml::Value;
 
@@ -54,7 +53,7 @@ pub(crate) fn first_unknown(
 }
 
 /// The same of the table of rows, and of each row's table.
-#[tactic(auto, unfolding(crate::specs::Unknown::rows_noted, crate::specs::Keys::listed_rows))]
+#[tactic(auto, unfolding(crate::specs::Unknown::rows_noted))]
 fn in_row_table(
     alloc: Global,
     rows: &Section,
@@ -62,56 +61,48 @@ fn in_row_table(
 ) -> Result<Option<Vec<u8>>, AllocError>
     ensures { IfOk result (λ path. path_seen path ≡ rows_noted (place_of rows.now) (path_seen least)) }
 {
-    let names = [
-        "heading_true",
-        "heading_magnetic",
-        "rate_of_turn",
-        "rudder_first",
-        "rudder_second",
-        "water_speed",
-        "depth",
-        "distance_log",
-        "position",
-        "course_speed",
-        "gnss",
-        "time",
-        "wind_apparent",
-        "wind_true",
-        "wind_north",
-        "water_temperature",
-        "cross_track",
-    ];
-    let least = least_unknown(alloc, rows, &names, least)?;
-    in_rows(alloc, rows, &names, least)
+    let names = names_of(all_rows());
+    let least = least_unknown(alloc, rows, names.as_slice(), least)?;
+    in_rows(alloc, rows, all_rows(), least)
 }
 
-/// The same of the tables of the rows of these names.
+/// The names of these rows.
+fn names_of(all: &[Row; ROWS]) -> ArrayVec<&'static str, ROWS>
+    ensures { map (λ name. name.now) result.items ≡ row_names all.now }
+{
+    let mut names = ArrayVec::new();
+    for row in all {
+        names.push(row.name());
+    }
+    names
+}
+
+/// The same of the tables of these rows.
 fn in_rows(
     alloc: Global,
     rows: &Section,
-    names: &[&str],
+    all: &[Row],
     least: Option<Vec<u8>>,
 ) -> Result<Option<Vec<u8>>, AllocError>
-    requires { IsTrue (list_all is_short (map (λ name. name.now) names.now)) }
-    ensures { IfOk result (λ path. path_seen path ≡ each_row_noted (place_of rows.now) (map (λ name. name.now) names.now) (path_seen least)) }
+    ensures { IfOk result (λ path. path_seen path ≡ each_row_noted (place_of rows.now) all.now (path_seen least)) }
 {
     let mut least = least;
-    for name in names {
-        least = in_row(alloc, rows, name, least)?;
+    for row in all {
+        least = in_row(alloc, rows, *row, least)?;
     }
     Ok(least)
 }
 
-/// The same of the table of the row of this name.
+/// The same of the table of a row.
 fn in_row(
     alloc: Global,
     rows: &Section,
-    name: &str,
+    row: Row,
     least: Option<Vec<u8>>,
 ) -> Result<Option<Vec<u8>>, AllocError>
-    requires { length name.now ≤ 60 }
-    ensures { IfOk result (λ path. path_seen path ≡ noted row.known (place_under (place_of rows.now) name.now (row_prefix name.now)) (path_seen least)) }
+    ensures { IfOk result (λ path. path_seen path ≡ row_noted (place_of rows.now) row (path_seen least)) }
 {
+    let name = row.name();
     let prefix = row_prefix(name);
     under(alloc, rows, name, prefix.as_slice(), &rows::KEYS, least)
 }
