@@ -1,18 +1,22 @@
 -- The configuration of the gateway that takes the made-up input is valid.
-use Rattle.std.proofs.Common.{◌≡◌, ℕ, ◌<◌, List, [], ◌∷◌, sym, ap, subst, ◌∙◌, arith}
+use Rattle.std.proofs.Common.{◌≡◌, ℕ, ◌+◌, ◌<◌, List, [], ◌∷◌, ◌++◌, length, take, get_or, sym, ap, subst, ◌∙◌, arith}
 use Rattle.std.specs.Prelude.{◌≢◌, false, All, codes, map, slice_index_or}
 use Rattle.std.specs.List.{AllPairs}
+use Rattle.std.proofs.lemmas.List.{map-append, map_more}
 use Rattle.std.proofs.lemmas.List.Elements.{All-cons, All-nil}
 use Rattle.claim_table.specs.Claims.{places}
 use Rattle.claim_table.specs.declared.preset.Preset.{Preset}
 use Rattle.n2k_id.specs.declared.name.Name.{Name}
+use Rattle.readings.specs.declared.rows.Row.{Row}
+use Rattle.readings.specs.About.{rows as all_rows}
 use Rattle.history.specs.Settings.{RowRule, Settings}
 use Rattle.config_values.specs.declared.config.Config.{Config}
 use Rattle.config_values.specs.Configs.{AreEnds, IsConfig}
 use Rattle.config_values.specs.Presets.{AreApart, ArePresets}
 use Rattle.config_values.specs.Rows.{IsRow}
-use Rattle.config_values.specs.Settings.{settings_of}
-use Rattle.demo.specs.Setup.{demo_settings, row_said_by, talkers}
+use Rattle.config_values.specs.declared.row_config.RowConfig.{RowConfig}
+use Rattle.config_values.specs.Settings.{rule_of_row, settings_of}
+use Rattle.demo.specs.Setup.{demo_settings, row_said}
 
 no_presets : (name : Name) (address : ℕ) (presets : List Preset) → presets ≡ [] → ArePresets name address presets
 no_presets name address [] e = record {
@@ -70,10 +74,20 @@ settings_with sfi presets rows sources = record {
 
 -- the lists are those of the settings
 pub same_settings : (sfi : List ℕ) (presets : List Preset) (rows : List RowRule) (sources : List (List ℕ)) → sfi ≡ codes "II0001" → presets ≡ []
-    → rows ≡ map row_said_by talkers → sources ≡ codes "II0002" ∷ [] → settings_with sfi presets rows sources ≡ demo_settings
+    → rows ≡ map row_said all_rows → sources ≡ codes "II0002" ∷ [] → settings_with sfi presets rows sources ≡ demo_settings
 unfolding demo_settings
 same_settings sfi presets rows sources a b d e =
     ap (λ (x : List ℕ). settings_with x presets rows sources) a
     ∙ ap (λ (x : List Preset). settings_with (codes "II0001") x rows sources) b
     ∙ ap (λ (x : List RowRule). settings_with (codes "II0001") [] x sources) d
-    ∙ ap (λ (x : List (List ℕ)). settings_with (codes "II0001") [] (map row_said_by talkers) x) e
+    ∙ ap (λ (x : List (List ℕ)). settings_with (codes "II0001") [] (map row_said all_rows) x) e
+
+-- one more row is said by its talker
+pub one_more_row :
+    (configs : List RowConfig) (all : List Row) (i : ℕ) (d : Row) (config : RowConfig) → i < length all → map rule_of_row configs ≡ map row_said (take i all)
+    → rule_of_row config ≡ row_said (get_or all i d) → map rule_of_row (configs ++ config ∷ []) ≡ map row_said (take (i + 1) all)
+one_more_row configs all i d config within before is =
+    map-append rule_of_row configs (config ∷ [])
+    ∙ ap (λ (rules : List RowRule). rules ++ rule_of_row config ∷ []) before
+    ∙ ap (λ (rule : RowRule). map row_said (take i all) ++ rule ∷ []) is
+    ∙ sym (map_more row_said all i d within)

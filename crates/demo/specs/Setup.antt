@@ -1,22 +1,18 @@
 -- How the gateway is configured that takes the made-up input, as plain values.
 use Rattle.std.specs.Prelude.{ℕ, true, false, List, [], ◌∷◌, map, codes}
+use Rattle.readings.specs.declared.rows.Row.{Row}
+use Rattle.readings.specs.About.{about_of, rows}
 use Rattle.history.specs.Settings.{RowRule, Settings}
 
--- a row that is taken from all alike, and said by a talker
-abbrev pub row_said_by : List ℕ → RowRule
-row_said_by talker = record {
+-- a row that is taken from all alike, and said by its own talker
+abbrev pub row_said : Row → RowRule
+row_said row = record {
   sources = [];
   others = true;
   timeout = 5000;
-  talker = talker;
+  talker = (about_of row).talker;
   group = codes "NAVD";
 }
-
--- who says each row
-abbrev pub talkers : List (List ℕ)
-talkers =
-    codes "HE" ∷ codes "HC" ∷ codes "TI" ∷ codes "II" ∷ codes "II" ∷ codes "VW" ∷ codes "SD" ∷ codes "VW" ∷ codes "GP" ∷ codes "GP"
-    ∷ codes "GP" ∷ codes "GP" ∷ codes "WI" ∷ codes "WI" ∷ codes "WI" ∷ codes "YX" ∷ codes "II" ∷ []
 
 unfoldable pub demo_settings : Settings
 demo_settings = record {
@@ -28,6 +24,6 @@ demo_settings = record {
   group_slots = 8;
   ths = false;
   presets = [];
-  rows = map row_said_by talkers;
+  rows = map row_said rows;
   net_sources = codes "II0002" ∷ [];
 }

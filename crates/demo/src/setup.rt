@@ -3,14 +3,15 @@ ghost use Rattle.std.specs.Prelude.{◌≡◌, ◌≤◌, ◌∷◌, [], All, co
 ghost use Rattle.sentence_text.specs.Names.{IsSfi};
 ghost use Rattle.config_values.specs.Configs.{AreEnds, IsConfig};
 ghost use Rattle.config_values.specs.Endpoints.{IsEndpoint};
-ghost use Rattle.config_values.specs.Rows.{IsRow, IsTalker};
+ghost use Rattle.config_values.specs.Rows.{IsRow};
 ghost use Rattle.config_values.specs.Settings.{rule_of_row, settings_of};
-ghost use Rattle.demo.specs.Setup.{demo_settings, row_said_by, talkers};
+ghost use Rattle.demo.specs.Setup.{demo_settings, row_said};
 
 use arrayvec::ArrayVec;
 use config_values::{Config, Ends, RowConfig};
 use n2k_id::Name;
 use network_routes::{Address, Routes};
+use readings::{ROWS, Row, all_rows};
 use sentence_text::{Group, Sfi};
 
 /// As a configuration of the least keys has it, with room for as many fast packets as there can be.
@@ -27,7 +28,7 @@ pub(crate) fn demo_config() -> Config
         group_slots: 8,
         ths: false,
         presets: ArrayVec::new(),
-        rows: rows(),
+        rows: rows_of(all_rows()),
         net_sources: net_sources(),
         ends: ends(),
     }
@@ -49,43 +50,31 @@ fn net_sources() -> ArrayVec<Sfi, 32>
     sources
 }
 
-/// Each row, with its talker (IEC 61162-1).
-fn rows() -> [RowConfig; 17]
+/// These rows, each said by its own talker.
+fn rows_of(all: &[Row; ROWS]) -> [RowConfig; ROWS]
     ensures valid { All IsRow result }
-    ensures said { map rule_of_row result ≡ map row_said_by talkers }
+    ensures said { map rule_of_row result ≡ map row_said all.now }
 {
-    [
-        row(b"HE"),
-        row(b"HC"),
-        row(b"TI"),
-        row(b"II"),
-        row(b"II"),
-        row(b"VW"),
-        row(b"SD"),
-        row(b"VW"),
-        row(b"GP"),
-        row(b"GP"),
-        row(b"GP"),
-        row(b"GP"),
-        row(b"WI"),
-        row(b"WI"),
-        row(b"WI"),
-        row(b"YX"),
-        row(b"II"),
-    ]
+    let mut rows = ArrayVec::new();
+    for row in all {
+        rows.push(row_said(*row));
+    }
+    match rows.into_inner() {
+        Ok(rows) => rows,
+        Err(_) => unreachable!(),
+    }
 }
 
-/// A row that is taken from all alike, and said by this talker.
-fn row(talker: &[u8; 2]) -> RowConfig
-    requires { IsTalker talker.now }
+/// A row that is taken from all alike, and said by its own talker.
+fn row_said(row: Row) -> RowConfig
     ensures valid { IsRow result }
-    ensures said { rule_of_row result ≡ row_said_by talker.now }
+    ensures said { rule_of_row result ≡ row_said row }
 {
     RowConfig {
         sources: ArrayVec::new(),
         others: true,
         timeout_ms: 5_000,
-        talker: *talker,
+        talker: row.talker(),
         group: Group::of(b"NAVD").unwrap(),
     }
 }

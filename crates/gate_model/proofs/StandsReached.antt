@@ -1,12 +1,12 @@
 -- At what was reached the calls can be made that the gateway makes.
-use Rattle.std.proofs.Common.{◌≡◌, ℕ, suc, ◌-◌, ◌%◌, ◌<◌, ◌≤◌, min, Bool, true, false, List, [], ◌∷◌, length, get_or, refl, sym, ap, subst, ◌∙◌, nat_lt, arith}
+use Rattle.std.proofs.Common.{◌≡◌, ℕ, suc, ◌-◌, ◌%◌, ◌<◌, ◌≤◌, min, Bool, true, false, IsTrue, ◌&&◌, ◌==◌, eqb-true, List, [], ◌∷◌, length, get_or, refl, sym, ap, subst, ◌∙◌, nat_lt, arith}
 use Rattle.std.specs.Prelude.{Option, Some, None}
 use Rattle.std.specs.List.{AllByRecursion}
 use Rattle.std.specs.declared.cmp.Ordering.{Ordering}
 use Rattle.std.proofs.lemmas.List.{length-map, get_or_past}
-use Rattle.std.proofs.lemmas.Bool.{ltb-true, ltb-false}
+use Rattle.std.proofs.lemmas.Bool.{and_parts, ltb-true, ltb-false}
 use Rattle.readings.specs.declared.rows.Row.{Row}
-use Rattle.readings.specs.declared.rows.Row.TheVariants as row
+use Rattle.readings.specs.About.{every_row}
 use Rattle.claim_table.specs.declared.answer.Holder.{Holder}
 use Rattle.claim_table.specs.Claims.{Claims, holder_at}
 use Rattle.claim_table.specs.Presets.{opened}
@@ -90,42 +90,37 @@ slots_fit cmp slots configured most limit few map =
 
 -- ---- a list of one number for each row has only small ones where each row's is small
 
-rows : List Row
-rows =
-    row.HeadingTrue ∷ row.HeadingMagnetic ∷ row.RateOfTurn ∷ row.RudderFirst ∷ row.RudderSecond ∷ row.WaterSpeed ∷ row.Depth ∷ row.DistanceLog
-    ∷ row.Position ∷ row.CourseSpeed ∷ row.Gnss ∷ row.Time ∷ row.WindApparent ∷ row.WindTrue ∷ row.WindNorth ∷ row.WaterTemperature
-    ∷ row.CrossTrack ∷ []
-
 -- the rows' numbers go up by one
-abbrev AreNumbered : ℕ → List Row → Type 0
-AreNumbered n [] = Unit {0}
-AreNumbered n (r ∷ rs) = (row_number r ≡ n) × AreNumbered (suc n) rs
+abbrev is_numbered : ℕ → List Row → Bool
+is_numbered n [] = true
+is_numbered n (r ∷ rs) = (row_number r == n) && is_numbered (suc n) rs
 
-each_small : (most n : ℕ) (rs : List Row) (xs : List ℕ) → AreNumbered n rs → length xs ≡ length rs
+each_small : (most n : ℕ) (rs : List Row) (xs : List ℕ) → IsTrue (is_numbered n rs) → length xs ≡ length rs
     → ((r : Row) → n ≤ row_number r → get_or xs (row_number r - n) 0 < most) → AllByRecursion (λ x. x < most) xs
 each_small most n [] [] numbered same small = tt
 each_small most n [] (x ∷ xs) numbered same small = absurd (omega (arith, same))
 each_small most n (r ∷ rs) [] numbered same small = absurd (omega (arith, same))
-each_small most n (r ∷ rs) (x ∷ xs) numbered same small = (first, each_small most (suc n) rs xs numbered.1 (omega (arith, same)) rest)
+each_small most n (r ∷ rs) (x ∷ xs) numbered same small = (first, each_small most (suc n) rs xs parts.1 (omega (arith, same)) rest)
   where
+    parts : IsTrue (row_number r == n) × IsTrue (is_numbered (suc n) rs)
+    parts = and_parts (row_number r == n) (is_numbered (suc n) rs) numbered
+
+    placed : row_number r ≡ n
+    placed = eqb-true (row_number r) n parts.0
+
     first : x < most
     first =
-        let none : row_number r - n ≡ 0 = omega (arith, numbered.0) in
-        subst (λ (i : ℕ). get_or (x ∷ xs) i 0 < most) none (small r (omega (arith, numbered.0)))
+        let none : row_number r - n ≡ 0 = omega (arith, placed) in
+        subst (λ (i : ℕ). get_or (x ∷ xs) i 0 < most) none (small r (omega (arith, placed)))
 
     rest : (q : Row) → suc n ≤ row_number q → get_or xs (row_number q - suc n) 0 < most
     rest q le =
         let one : row_number q - n ≡ suc (row_number q - suc n) = omega (arith, le) in
         subst (λ (i : ℕ). get_or (x ∷ xs) i 0 < most) one (small q (omega (arith, le)))
 
-numbered : AreNumbered 0 rows
-unfolding rows
-numbered = (refl, (refl, (refl, (refl, (refl, (refl, (refl, (refl, (refl, (refl, (refl, (refl, (refl, (refl, (refl, (refl, (refl, tt)))))))))))))))))
-
 all_small : (most : ℕ) (xs : List ℕ) → length xs ≡ length row_numbers → ((r : Row) → get_or xs (row_number r) 0 < most) → AllByRecursion (λ x. x < most) xs
-unfolding rows
 all_small most xs same small =
-    each_small most 0 rows xs numbered same
+    each_small most 0 every_row xs refl same
     (λ r le. let same_place : row_number r ≡ row_number r - 0 = omega arith in
     subst (λ (i : ℕ). get_or xs i 0 < most) same_place (small r))
 

@@ -5,6 +5,7 @@ use Rattle.report_rules.specs.Rules as rules
 use Rattle.readings.specs.declared.reading.Reading.{Reading}
 use Rattle.readings.specs.declared.rows.Row.{Row}
 use Rattle.readings.specs.Rows.{row_of}
+use Rattle.readings.specs.About.{every_row}
 use Rattle.pgn_profile.specs.Payload.{payload_of, pgn_of, priority_of}
 use Rattle.fast_packet.specs.Splitting.{frames_of}
 use Rattle.sentence_rows.specs.declared.fault.FieldFault.{FieldFault}
@@ -28,7 +29,7 @@ pub record ReadingsKept : Type 0 where
   pub sequences : List ℕ
 
 abbrev pub row_numbers : List ℕ
-row_numbers = 0 ∷ 1 ∷ 2 ∷ 3 ∷ 4 ∷ 5 ∷ 6 ∷ 7 ∷ 8 ∷ 9 ∷ 10 ∷ 11 ∷ 12 ∷ 13 ∷ 14 ∷ 15 ∷ 16 ∷ []
+row_numbers = map row_number every_row
 
 -- how long a source counts in each row
 abbrev pub timeouts : Settings → List ℕ

@@ -3,7 +3,7 @@ use Rattle.std.specs.Prelude.{◌≡◌, ℕ, ◌+◌, true, false, List, [], �
 use Rattle.std.specs.Int.{w64, to_be_bytes}
 use Rattle.claim_table.specs.declared.preset.Preset.{Preset}
 use Rattle.readings.specs.declared.rows.Row.{Row}
-use Rattle.readings.specs.declared.rows.Row.TheVariants as row
+use Rattle.readings.specs.About.{about_of, every_row}
 use Rattle.datagram450.specs.Datagram.{header}
 use Rattle.history.specs.Entries.{Entry, frame}
 use Rattle.history.specs.Settings.{Settings, RowRule}
@@ -29,29 +29,8 @@ navd tag sentence = net (codes "NAVD") (header ++ lined tag sentence)
 
 -- ---- a gateway that takes all sources for 5 seconds and says all on NAVD
 
-abbrev pub talker_of : Row → List ℕ
-talker_of row.HeadingTrue = codes "HE"
-talker_of row.HeadingMagnetic = codes "HC"
-talker_of row.RateOfTurn = codes "TI"
-talker_of row.RudderFirst = codes "II"
-talker_of row.RudderSecond = codes "II"
-talker_of row.WaterSpeed = codes "VW"
-talker_of row.Depth = codes "SD"
-talker_of row.DistanceLog = codes "VW"
-talker_of row.WindApparent = codes "WI"
-talker_of row.WindTrue = codes "WI"
-talker_of row.WindNorth = codes "WI"
-talker_of row.WaterTemperature = codes "YX"
-talker_of row.CrossTrack = codes "II"
-talker_of _ = codes "GP"
-
-abbrev pub all_rows : List Row
-all_rows = row.HeadingTrue ∷ row.HeadingMagnetic ∷ row.RateOfTurn ∷ row.RudderFirst ∷ row.RudderSecond ∷ row.WaterSpeed ∷ row.Depth ∷
-    row.DistanceLog ∷ row.Position ∷ row.CourseSpeed ∷ row.Gnss ∷ row.Time ∷ row.WindApparent ∷ row.WindTrue ∷ row.WindNorth ∷
-    row.WaterTemperature ∷ row.CrossTrack ∷ []
-
 abbrev pub plain_rule : Row → RowRule
-plain_rule r = record { sources = []; others = true; timeout = 5000; talker = talker_of r; group = codes "NAVD" }
+plain_rule r = record { sources = []; others = true; timeout = 5000; talker = (about_of r).talker; group = codes "NAVD" }
 
 abbrev pub with_presets : List Preset → Settings
 with_presets presets = record {
@@ -63,7 +42,7 @@ with_presets presets = record {
   group_slots = 8;
   ths = false;
   presets = presets;
-  rows = map plain_rule all_rows;
+  rows = map plain_rule every_row;
   net_sources = codes "II0002" ∷ [];
 }
 

@@ -8,7 +8,8 @@ use Rattle.readings.specs.declared.rows.Row.TheVariants as row
 use Rattle.history.specs.Entries.{frame}
 use Rattle.history.specs.Settings.{Settings, RowRule}
 use Rattle.history.specs.Emits.{of_source}
-use Rattle.history.specs.Cases.{Emits, full, emitted, navd, two_devices, all_rows, plain_rule}
+use Rattle.readings.specs.About.{every_row}
+use Rattle.history.specs.Cases.{Emits, full, emitted, navd, two_devices, plain_rule}
 
 abbrev pub OneHeading : Type 0
 OneHeading =
@@ -25,7 +26,7 @@ ranked_rule row.HeadingTrue = record (plain_rule row.HeadingTrue) { sources = of
 ranked_rule r = plain_rule r
 
 abbrev pub ranked : Settings
-ranked = record two_devices { rows = map ranked_rule all_rows }
+ranked = record two_devices { rows = map ranked_rule every_row }
 
 -- the second source is heard once the first has been silent for more than 2 seconds, or has nothing to say
 abbrev pub FirstOfTwo : Type 0

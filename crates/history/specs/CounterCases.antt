@@ -6,7 +6,8 @@ use Rattle.datagram450.specs.Datagram.{header}
 use Rattle.history.specs.Entries.{datagram, tick}
 use Rattle.history.specs.Settings.{Settings, RowRule}
 use Rattle.gate_events.specs.Emit.{Emit, net}
-use Rattle.history.specs.Cases.{Emits, full, can_frame, emitted, lined, navd, two_devices, all_rows, plain_rule}
+use Rattle.readings.specs.About.{every_row}
+use Rattle.history.specs.Cases.{Emits, full, can_frame, emitted, lined, navd, two_devices, plain_rule}
 
 -- depths are said on a transmission group of their own
 abbrev pub on_satd : Row → RowRule
@@ -14,7 +15,7 @@ on_satd row.Depth = record (plain_rule row.Depth) { group = codes "SATD" }
 on_satd r = plain_rule r
 
 abbrev pub two_groups : Settings
-two_groups = record two_devices { rows = map on_satd all_rows }
+two_groups = record two_devices { rows = map on_satd every_row }
 
 abbrev pub satd : List ℕ → Emit
 satd lines = net (codes "SATD") (header ++ lines)

@@ -4,7 +4,8 @@ use Rattle.n2k_id.specs.declared.pattern.Pattern.{Pattern}
 use Rattle.readings.specs.declared.rows.Row.{Row}
 use Rattle.readings.specs.declared.rows.Row.TheVariants as row
 use Rattle.history.specs.Settings.{Settings, RowRule}
-use Rattle.history.specs.Cases.{Emits, IsSilent, full, emitted, navd, with_presets, preset, all_rows, plain_rule}
+use Rattle.readings.specs.About.{every_row}
+use Rattle.history.specs.Cases.{Emits, IsSilent, full, emitted, navd, with_presets, preset, plain_rule}
 
 -- the devices of a manufacturer
 abbrev pub by_manufacturer : ℕ → Pattern
@@ -27,7 +28,7 @@ one_maker row.HeadingTrue = record (plain_rule row.HeadingTrue) { sources = by_m
 one_maker r = plain_rule r
 
 abbrev pub three_devices : Settings
-three_devices = record (with_presets (preset 23 0xC0788C00FFC00005 ∷ preset 24 0xC0788C00FFC00006 ∷ preset 25 0xC0788C00FF800007 ∷ [])) { rows = map one_maker all_rows }
+three_devices = record (with_presets (preset 23 0xC0788C00FFC00005 ∷ preset 24 0xC0788C00FFC00006 ∷ preset 25 0xC0788C00FF800007 ∷ [])) { rows = map one_maker every_row }
 
 -- of two devices with one place in the list the smaller NAME goes first
 abbrev pub BySmallerName : Type 0
