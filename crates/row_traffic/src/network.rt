@@ -27,6 +27,7 @@ use crate::network::sentences::take_sentence;
 use datagram450::{DatagramFault, LineItem, LineIter, lines};
 use gate_outbox::Outbox;
 use gate_outbox::reports::at_place;
+use readings::ROWS;
 pub use heard::Came;
 pub use hearing::Hearing;
 use report_rules::{DATAGRAM_HEADER, DATAGRAM_LONG, OTHER_DESTINATION, OWN_LINE, UNLISTED_SOURCE};
@@ -61,7 +62,7 @@ impl Network {
         alloc: Global,
         group_slots: u16,
         listed: u16,
-        timeouts: &[u32; 17],
+        timeouts: &[u32; ROWS],
     ) -> Result<Network, AllocError>
         requires { listed ≤ 254 }
         ensures { IfOk result (λ n. n ≡ opened_net group_slots listed timeouts.now) }

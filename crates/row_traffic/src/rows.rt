@@ -10,20 +10,20 @@ ghost use Rattle.config_values.specs.Rows.{IsRow};
 ghost use Rattle.config_values.specs.Settings.{settings_of, rule_of_row};
 
 use config_values::{Config, RowConfig};
-use readings::{Reading, Row, usable};
+use readings::{ROWS, Reading, Row, usable};
 
 /// The place of the row among the rows.
 pub(crate) fn number(row: Row) -> usize
     ensures number { result ≡ row_number row }
-    ensures within { result < 17 }
+    ensures within { result < ROWS }
 {
-    row as usize
+    row.number()
 }
 
 /// How the row with this number is taken and said.
 #[tactic(auto, using(config_values::proofs::SettingsLemmas::rules_are_by_number))]
 pub fn row_at(config: &Config, number: usize) -> &RowConfig
-    requires { number < 17 }
+    requires { number < ROWS }
     ensures rule { rule_of_row result.now ≡ rule_at (settings_of config.now).rows number }
     ensures valid { IsConfig config.now → IsRow result.now }
 {

@@ -23,7 +23,7 @@ use crate::said::writing::{sentences_in, speaker, write_datagram};
 use config_values::Config;
 use gate_outbox::Outbox;
 use n2k_id::Name;
-use readings::{Reading, Row, row};
+use readings::{ROWS, Reading, Row, row};
 use sentence_rows::Lines;
 use sentence_text::Group;
 use source_choice::{Choice, Rank};
@@ -57,7 +57,7 @@ pub struct Sender {
 pub struct Said {
     choice: Choice,
     /// How many lines were said on the transmission group of each row, from 0 to 998, by the row's number.
-    lines: [u16; 17],
+    lines: [u16; ROWS],
     /// How many groups of lines were said, from 0 to 98.
     groups: u8,
 }
@@ -65,24 +65,25 @@ pub struct Said {
 impl Model for Said {
     ghost use Rattle.std.specs.Prelude.{◌≡◌, ◌<◌, length};
     ghost use Rattle.std.specs.List.{AllByRecursion};
+    ghost use Rattle.readings.specs.About.{rows_count};
     ghost use Rattle.gate_model.specs.Said.{SaidKept};
 
     ghost Value = { SaidKept };
 
     ghost view = { λ s. record { choices = s.choice; lines = s.lines; groups = s.groups } };
 
-    ghost invariant = { λ s. (s.choice.sources ≡ 254) × (length s.lines ≡ 17) × AllByRecursion (λ n. n < 999) s.lines × (s.groups < 99) };
+    ghost invariant = { λ s. (s.choice.sources ≡ 254) × (length s.lines ≡ rows_count) × AllByRecursion (λ n. n < 999) s.lines × (s.groups < 99) };
 }
 
 impl Said {
     /// With nothing said.
-    pub fn new(alloc: Global, timeouts: &[u32; 17]) -> Result<Said, AllocError>
+    pub fn new(alloc: Global, timeouts: &[u32; ROWS]) -> Result<Said, AllocError>
         ensures { IfOk result (λ s. s ≡ record { choices = opened 254 timeouts.now; lines = map (λ number. 0) row_numbers; groups = 0 }) }
     {
         let choice = Choice::new(alloc, PLACES, timeouts)?;
         Ok(Said {
             choice,
-            lines: [0; 17],
+            lines: [0; ROWS],
             groups: 0,
         })
     }
@@ -224,13 +225,13 @@ impl Said {
     }
 
     /// How many lines were said on the transmission group of each row, with so many more on a transmission group.
-    fn counted_lines(&self, config: &Config, group: Group, count: u16) -> [u16; 17]
+    fn counted_lines(&self, config: &Config, group: Group, count: u16) -> [u16; ROWS]
         requires { count ≤ 2 }
         ensures lines { result ≡ map (lines_more (settings_of config.now) self.now group count) row_numbers }
         ensures small { AllByRecursion (λ n. n < 999) result }
     {
-        let mut lines = [0; 17];
-        for number in 0..17 {
+        let mut lines = [0; ROWS];
+        for number in 0..ROWS {
             lines[number] = self.lines_more(config, group, count, number);
         }
         lines
@@ -238,7 +239,7 @@ impl Said {
 
     /// How many lines were said on the transmission group of a row, with so many more on a transmission group.
     fn lines_more(&self, config: &Config, group: Group, count: u16, number: usize) -> u16
-        requires row { number < 17 }
+        requires row { number < ROWS }
         requires few { count ≤ 2 }
         ensures lines { result ≡ lines_more (settings_of config.now) self.now group count number }
         ensures within { result < 999 }

@@ -11,6 +11,7 @@ use claim_table::ClaimFault;
 use config_values::Config;
 use fast_packet::FastAssembler;
 use iso_transport::IsoAssembler;
+use readings::ROWS;
 use row_traffic::network::Network;
 use row_traffic::rows::row_at;
 use row_traffic::said::Said;
@@ -81,18 +82,18 @@ pub(crate) fn network_of(alloc: Global, config: &Config) -> Result<Network, Allo
 }
 
 /// How long a source counts in each row, in milliseconds.
-fn timeouts_of(config: &Config) -> [u32; 17]
+fn timeouts_of(config: &Config) -> [u32; ROWS]
     ensures { result ≡ timeouts (settings_of config.now) }
 {
-    let mut timeouts = [0; 17];
-    for row in 0..17 {
+    let mut timeouts = [0; ROWS];
+    for row in 0..ROWS {
         timeouts[row] = timeout_at(config, row);
     }
     timeouts
 }
 
 fn timeout_at(config: &Config, row: usize) -> u32
-    requires { row < 17 }
+    requires { row < ROWS }
     ensures { result ≡ (rule_at (settings_of config.now).rows row).timeout }
 {
     row_at(config, row).timeout_ms

@@ -14,7 +14,7 @@ use crate::rows::{number, says_something};
 use crate::sending::send_reading;
 use gate_outbox::Outbox;
 use gate_outbox::reports::at_place;
-use readings::{Reading, Row, row};
+use readings::{ROWS, Reading, Row, row};
 use report_rules::NOT_READY;
 use source_choice::{Choice, Rank};
 use std::alloc::{AllocError, Global};
@@ -25,19 +25,20 @@ use std::marker::Model;
 pub(crate) struct Readings {
     choice: Choice,
     /// How many fast packets were sent of each row, from 0 to 7, by the row's number.
-    sequences: [u8; 17],
+    sequences: [u8; ROWS],
 }
 
 impl Model for Readings {
     ghost use Rattle.std.specs.Prelude.{◌≡◌, ◌≤◌, length};
     ghost use Rattle.std.specs.List.{AllByRecursion};
+    ghost use Rattle.readings.specs.About.{rows_count};
     ghost use Rattle.gate_model.specs.Net.{ReadingsKept};
 
     ghost Value = { ReadingsKept };
 
     ghost view = { λ r. record { choices = r.choice; sequences = r.sequences } };
 
-    ghost invariant = { λ r. (length r.sequences ≡ 17) × AllByRecursion (λ n. n ≤ 7) r.sequences };
+    ghost invariant = { λ r. (length r.sequences ≡ rows_count) × AllByRecursion (λ n. n ≤ 7) r.sequences };
 }
 
 impl Readings {
@@ -45,7 +46,7 @@ impl Readings {
     pub(crate) fn new(
         alloc: Global,
         listed: u16,
-        timeouts: &[u32; 17],
+        timeouts: &[u32; ROWS],
     ) -> Result<Readings, AllocError>
         requires { listed ≤ 254 }
         ensures { IfOk result (λ r. r ≡ record { choices = opened listed timeouts.now; sequences = none_sent }) }
@@ -53,7 +54,7 @@ impl Readings {
         let choice = Choice::new(alloc, listed, timeouts)?;
         Ok(Readings {
             choice,
-            sequences: [0; 17],
+            sequences: [0; ROWS],
         })
     }
 
