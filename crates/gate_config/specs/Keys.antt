@@ -26,28 +26,33 @@ use Rattle.config_document.specs.declared.texts.ProductText.{ProductText}
 use Rattle.config_document.specs.Texts.{group_in, name_in, product_text_in, sfi_in, talker_in}
 use Rattle.gate_config.specs.declared.gateway.Own.{Own}
 use Rattle.gate_config.specs.Texts.{endpoint_in, loopback, same_pattern, same_text}
-use Rattle.gate_config.specs.Reading.{◌>>=◌, ◌&◌, Kind, Table, default, items_in, key, needed, prefix_of, section_at, table, table_in, unless}
+use Rattle.gate_config.specs.Reading.{◌>>=◌, ◌&◌, Kind, Table, default, items_in, key, key_beside, keys, needed, prefix_of, section_at, table, table_in, unless}
 
--- gateway
+-- gateway: how many fast packets, sessions and groups of lines may be in the making
+unfoldable pub slots : Table ⊤ (ℕ × ℕ × ℕ)
+slots =
+    table (codes "gateway") (λ fast iso group. (fast, iso, group))
+    & key (codes "fast_slots") (default 64 (number_at 1 256))
+    & key (codes "iso_slots") (default 8 (number_at 1 32))
+    & key (codes "group_slots") (default 8 (number_at 1 32))
+
 unfoldable pub gateway : Table ⊤ Own
 gateway =
-    table (codes "gateway") (λ name address sfi group fast_slots iso_slots group_slots ths. record {
+    table (codes "gateway") (λ name address sfi group slots ths. record {
       name = name;
       address = address;
       sfi = sfi;
       group = group;
-      fast_slots = fast_slots;
-      iso_slots = iso_slots;
-      group_slots = group_slots;
+      fast_slots = slots.0;
+      iso_slots = slots.1;
+      group_slots = slots.2;
       ths = ths;
     })
     & key (codes "name") (needed (text_at name_in))
     & key (codes "address") (needed (number_at 0 251))
     & key (codes "sfi") (needed (text_at sfi_in))
     & key (codes "group") (default (codes "NAVD") (text_at group_in))
-    & key (codes "fast_slots") (default 64 (number_at 1 256))
-    & key (codes "iso_slots") (default 8 (number_at 1 32))
-    & key (codes "group_slots") (default 8 (number_at 1 32))
+    & keys slots
     & key (codes "ths") (default false truth_at)
 
 -- preset: the gateway's own address and NAME, and those of the presets before it, can't stand again
@@ -60,8 +65,8 @@ name_stands own earlier name = list_any (λ p. p.name.0 == name.0) (own ∷ earl
 unfoldable pub preset : Table (Preset × List Preset) Preset
 preset =
     table (codes "preset") (λ address name. record { address = address; name = name })
-    & (codes "address", λ beside. unless (address_stands beside.0 beside.1) (needed (number_at 0 253)))
-    & (codes "name", λ beside. unless (name_stands beside.0 beside.1) (needed (text_at name_in)))
+    & key_beside (codes "address") (λ beside. unless (address_stands beside.0 beside.1) (needed (number_at 0 253)))
+    & key_beside (codes "name") (λ beside. unless (name_stands beside.0 beside.1) (needed (text_at name_in)))
 
 -- row.R, beside the talker and the group that it has by default
 unfoldable pub row : Table (List ℕ × List ℕ) RowConfig
@@ -70,8 +75,8 @@ row =
     & key (codes "sources") (unless (λ sources. repeats same_pattern sources.items) (list_at pattern_in 16))
     & key (codes "others") (default true truth_at)
     & key (codes "timeout_ms") (default 5000 (number_at 100 60000))
-    & (codes "talker", λ beside. default (record { 0 = beside.0 }) (text_at talker_in))
-    & (codes "group", λ beside. default beside.1 (text_at group_in))
+    & key_beside (codes "talker") (λ beside. default (record { 0 = beside.0 }) (text_at talker_in))
+    & key_beside (codes "group") (λ beside. default beside.1 (text_at group_in))
 
 -- what stands before the keys of a row
 abbrev pub row_prefix : List ℕ → List ℕ
@@ -103,7 +108,7 @@ link port place name = do
 unfoldable pub net : Table (List ℕ) (ArrayVec (List ℕ) × ArrayVec ℕ × ArrayVec ℕ)
 net =
     table (codes "net") (λ sources listen send. (sources, listen, send))
-    & (codes "sources", λ own. unless (λ sources. repeats same_text (own ∷ sources.items)) (list_at sfi_in 32))
+    & key_beside (codes "sources") (λ own. unless (λ sources. repeats same_text (own ∷ sources.items)) (list_at sfi_in 32))
     & key (codes "listen") (link 60001)
     & key (codes "send") (link 60002)
 
@@ -121,28 +126,34 @@ group_stands earlier group = list_any (λ r. same_text r.group group) earlier
 unfoldable pub route : Table (⊤ × List Route) Route
 route =
     table (codes "route") (λ group address. record { group = group; address = address.0 })
-    & (codes "group", λ beside. unless (group_stands beside.1) (needed (text_at group_in)))
+    & key_beside (codes "group") (λ beside. unless (group_stands beside.1) (needed (text_at group_in)))
     & key (codes "address") (needed (text_at endpoint_in))
 
 -- identity
 abbrev pub product_text : List ℕ → Kind ProductText
 product_text other = default (record { 0 = record { items = other } }) (text_at product_text_in)
 
-unfoldable pub identity : Table ⊤ Product
-identity =
-    table (codes "identity") (λ code model software version serial load. record {
-      code = code;
-      model = model.0;
-      software = software.0;
-      version = version.0;
-      serial = serial.0;
-      load = load;
-    })
-    & key (codes "code") (default 0 (number_at 0 65535))
+-- the texts by which the device is known
+unfoldable pub texts : Table ⊤ (ProductText × ProductText × ProductText × ProductText)
+texts =
+    table (codes "identity") (λ model software version serial. (model, software, version, serial))
     & key (codes "model") (product_text (codes "shipgate"))
     & key (codes "software") (product_text (codes "1"))
     & key (codes "version") (product_text (codes "1"))
     & key (codes "serial") (product_text (codes "1"))
+
+unfoldable pub identity : Table ⊤ Product
+identity =
+    table (codes "identity") (λ code texts load. record {
+      code = code;
+      model = texts.0.0;
+      software = texts.1.0;
+      version = texts.2.0;
+      serial = texts.3.0;
+      load = load;
+    })
+    & key (codes "code") (default 0 (number_at 0 65535))
+    & keys texts
     & key (codes "load") (default 1 (number_at 0 252))
 
 -- another part's group
@@ -164,14 +175,14 @@ own_group_at rows taken other place name = own_group rows taken other place name
 unfoldable pub rmc : Table (List RowConfig) (Option RmcConfig)
 rmc =
     table (codes "rmc") (λ group talker. option_map (λ g. record { group = g; talker = talker.0 }) group)
-    & (codes "group", λ rows. own_group_at rows None (codes "talker"))
+    & key_beside (codes "group") (λ rows. own_group_at rows None (codes "talker"))
     & key (codes "talker") (default (record { 0 = codes "GP" }) (text_at talker_in))
 
 -- ais, beside the rows and the group of rmc
 unfoldable pub ais : Table (List RowConfig × Option (List ℕ)) (Option AisConfig)
 ais =
     table (codes "ais") (λ group slots. option_map (λ g. record { group = g; slots = slots }) group)
-    & (codes "group", λ beside. own_group_at beside.0 beside.1 (codes "slots"))
+    & key_beside (codes "group") (λ beside. own_group_at beside.0 beside.1 (codes "slots"))
     & key (codes "slots") (default 16 (number_at 1 256))
 
 -- net, bus and route: whom the network is heard from, and where the links listen and send

@@ -39,18 +39,26 @@ pub record Table (E A : Type 0) : Type 0 where
 abbrev pub table : {E A : Type 0} → List ℕ → A → Table E A
 table name make = record { name = name; known = []; read = λ beside place. Ok make }
 
--- A key is an entry: its name, its kind beside what is read already, and by the order of the entries its place among the settings.
+-- An entry: its names, what it reads beside what is read already, and by the order of the entries its place among the settings.
 infixl 5 ◌&◌
-abbrev pub ◌&◌ : {E A B : Type 0} → Table E (A → B) → List ℕ × (E → Kind A) → Table E B
+abbrev pub ◌&◌ : {E A B : Type 0} → Table E (A → B) → List (List ℕ) × (E → Place → Result A ConfigFault) → Table E B
 t & entry = record {
   name = t.name;
-  known = t.known ++ entry.0 ∷ [];
-  read = λ beside place. t.read beside place >>= λ make. entry.1 beside place entry.0 >>= λ x. Ok (make x);
+  known = t.known ++ entry.0;
+  read = λ beside place. t.read beside place >>= λ make. entry.1 beside place >>= λ x. Ok (make x);
 }
 
+-- a key whose kind goes by what is read already
+abbrev pub key_beside : {E A : Type 0} → List ℕ → (E → Kind A) → List (List ℕ) × (E → Place → Result A ConfigFault)
+key_beside name kind = (name ∷ [], λ beside place. kind beside place name)
+
 -- a key whose kind is the same beside all
-abbrev pub key : {E A : Type 0} → List ℕ → Kind A → List ℕ × (E → Kind A)
-key name kind = (name, λ beside. kind)
+abbrev pub key : {E A : Type 0} → List ℕ → Kind A → List (List ℕ) × (E → Place → Result A ConfigFault)
+key name kind = key_beside name (λ beside. kind)
+
+-- several keys, which stand in the table as they do in one of their own
+abbrev pub keys : {E A : Type 0} → Table E A → List (List ℕ) × (E → Place → Result A ConfigFault)
+keys part = (part.known, part.read)
 
 -- what stands before the keys of a table of the document
 abbrev pub prefix_of : List ℕ → List ℕ

@@ -2,7 +2,7 @@
 ghost use Rattle.std.specs.Prelude.{◌≡◌, ◌<◌, IfOk};
 ghost use Rattle.std.specs.Int.{IsInRange};
 ghost use Rattle.config_document.specs.Places.{place_of};
-ghost use Rattle.gate_config.specs.Keys.{gateway};
+ghost use Rattle.gate_config.specs.Keys.{gateway, slots};
 ghost use Rattle.gate_config.specs.Reading.{table_in};
 
 use crate::keys::{needed_number, needed_text, number_or, section, text_or, truth_or};
@@ -43,7 +43,14 @@ pub(crate) fn gateway_keys(document: &Section) -> Result<Own, ConfigFault>
     ensures group_slots { IfOk result (λ own. IsInRange 1 32 own.group_slots) }
 {
     let table = section(document, "gateway", b"gateway.")?;
-    let [
+    let [name, address, sfi, group, _, _, _, ths] = KEYS;
+    let name = needed_text(&table, name)?;
+    let address = needed_number(&table, address, 0, 251)? as u8;
+    let sfi = needed_text(&table, sfi)?;
+    let group = text_or(&table, group, Group::default())?;
+    let (fast_slots, iso_slots, group_slots) = slot_keys(&table)?;
+    let ths = truth_or(&table, ths, false)?;
+    Ok(Own {
         name,
         address,
         sfi,
@@ -52,15 +59,20 @@ pub(crate) fn gateway_keys(document: &Section) -> Result<Own, ConfigFault>
         iso_slots,
         group_slots,
         ths,
-    ] = KEYS;
-    Ok(Own {
-        name: needed_text(&table, name)?,
-        address: needed_number(&table, address, 0, 251)? as u8,
-        sfi: needed_text(&table, sfi)?,
-        group: text_or(&table, group, Group::default())?,
-        fast_slots: number_or(&table, fast_slots, 1, 256, 64)? as u16,
-        iso_slots: number_or(&table, iso_slots, 1, 32, 8)? as u16,
-        group_slots: number_or(&table, group_slots, 1, 32, 8)? as u16,
-        ths: truth_or(&table, ths, false)?,
     })
+}
+
+/// How many fast packets, sessions and groups of lines may be in the making.
+#[tactic(auto, unfolding(crate::specs::Keys::slots))]
+fn slot_keys(table: &Section) -> Result<(u16, u16, u16), ConfigFault>
+    ensures said { result ≡ slots.read tt (place_of table.now) }
+    ensures fast { IfOk result (λ s. IsInRange 1 256 s.0) }
+    ensures iso { IfOk result (λ s. IsInRange 1 32 s.1) }
+    ensures group { IfOk result (λ s. IsInRange 1 32 s.2) }
+{
+    let [_, _, _, _, fast, iso, group, _] = KEYS;
+    let fast = number_or(table, fast, 1, 256, 64)? as u16;
+    let iso = number_or(table, iso, 1, 32, 8)? as u16;
+    let group = number_or(table, group, 1, 32, 8)? as u16;
+    Ok((fast, iso, group))
 }

@@ -2,7 +2,7 @@
 ghost use Rattle.std.specs.Prelude.{◌≡◌, IfOk};
 ghost use Rattle.config_document.specs.Places.{place_of};
 ghost use Rattle.config_document.specs.Texts.{IsProductText};
-ghost use Rattle.gate_config.specs.Keys.{identity};
+ghost use Rattle.gate_config.specs.Keys.{identity, texts};
 ghost use Rattle.gate_config.specs.Reading.{table_in};
 ghost use Rattle.settings.specs.Settings.{IsProduct};
 
@@ -19,12 +19,10 @@ pub(crate) fn identity_keys(document: &Section) -> Result<Product, ConfigFault>
     ensures valid { IfOk result IsProduct }
 {
     let table = section(document, "identity", b"identity.")?;
-    let [code, model, software, version, serial, load] = KEYS;
+    let [code, _, _, _, _, load] = KEYS;
     let code = number_or(&table, code, 0, 65_535, 0)? as u16;
-    let ProductText(model) = text_or(&table, model, default_text(b"shipgate"))?;
-    let ProductText(software) = text_or(&table, software, default_text(b"1"))?;
-    let ProductText(version) = text_or(&table, version, default_text(b"1"))?;
-    let ProductText(serial) = text_or(&table, serial, default_text(b"1"))?;
+    let (ProductText(model), ProductText(software), ProductText(version), ProductText(serial)) =
+        text_keys(&table)?;
     let load = number_or(&table, load, 0, 252, 1)? as u8;
     Ok(Product {
         code,
@@ -34,6 +32,26 @@ pub(crate) fn identity_keys(document: &Section) -> Result<Product, ConfigFault>
         serial,
         load,
     })
+}
+
+/// The model, its software and version, and the serial number.
+type Texts = (ProductText, ProductText, ProductText, ProductText);
+
+/// The texts by which the device is known.
+#[tactic(auto, unfolding(crate::specs::Keys::texts))]
+fn text_keys(table: &Section) -> Result<Texts, ConfigFault>
+    ensures said { result ≡ texts.read tt (place_of table.now) }
+    ensures model { IfOk result (λ texts. IsProductText texts.0.0.items) }
+    ensures software { IfOk result (λ texts. IsProductText texts.1.0.items) }
+    ensures version { IfOk result (λ texts. IsProductText texts.2.0.items) }
+    ensures serial { IfOk result (λ texts. IsProductText texts.3.0.items) }
+{
+    let [_, model, software, version, serial, _] = KEYS;
+    let model = text_or(table, model, default_text(b"shipgate"))?;
+    let software = text_or(table, software, default_text(b"1"))?;
+    let version = text_or(table, version, default_text(b"1"))?;
+    let serial = text_or(table, serial, default_text(b"1"))?;
+    Ok((model, software, version, serial))
 }
 
 /// A text that stands where none is configured.

@@ -1,9 +1,9 @@
-use Rattle.gate_config.specs.Keys.{ais, bus, gateway, identity, net, preset, rmc, route, row}
+use Rattle.gate_config.specs.Keys.{ais, bus, gateway, identity, net, preset, rmc, route, row, slots, texts}
 use Rattle.gate_config.specs.Unknown.{first_unknown, tables}
 use Rattle.gate_config.proofs.unknown.first_unknown.Goals as goal
 
 pub returns : goal.returns
-unfolding first_unknown tables gateway preset row net bus route identity rmc ais
+unfolding first_unknown tables gateway slots preset row net bus route identity texts rmc ais
 returns c =
     let presets = rw c.items-presets.ensures at c.in_ok-least-3.ensures in
     let rows = rw c.table_under.ensures at c.in_ok-least-4.ensures in
