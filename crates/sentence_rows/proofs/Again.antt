@@ -1,9 +1,12 @@
 -- A raw value that is printed and read back is printed the same.
-use Rattle.std.proofs.Common.{◌≡◌, ℕ, zero, suc, ◌+◌, ◌*◌, ◌^◌, ◌<◌, ◌≤◌, ◌⊎◌, ℤ, pos, negsuc, neg_ℤ, ◌*ℤ◌, Bool, true, false, Option, Some, None, Result, Ok, List, [], ◌∷◌, refl, sym, ap, ◌∙◌, inl, inr, arith}
-use Rattle.std.specs.Prelude.{◌&&◌, ◌==◌, not, nat_le, unsigned_abs, is_some, if◌then◌else◌}
+use Rattle.std.proofs.Common.{◌≡◌, ℕ, zero, suc, ◌+◌, ◌*◌, ◌/◌, ◌^◌, ◌<◌, ◌≤◌, ◌⊎◌, ℤ, pos, negsuc, ◌*ℤ◌, Bool, true, false, Option, Some, None, Result, Ok, List, [], ◌∷◌, map, refl, sym, ap, ◌∙◌, inl, inr, arith}
+use Rattle.std.specs.Prelude.{◌&&◌, ◌||◌, ◌==◌, not, nat_le, nat_lt, unsigned_abs, is_some, IsTrue, if◌then◌else◌}
 use Rattle.std.proofs.lemmas.Bool.{le-leb, ne_eqb}
-use Rattle.std.proofs.lemmas.Int.{unsigned_abs-mul}
+use Rattle.std.proofs.lemmas.Bool.Decides.{nat_tests}
+use Rattle.std.proofs.lemmas.Int.{ints, unsigned_abs-mul}
 use Rattle.std.proofs.lemmas.Nat.{mul-le}
+use Rattle.readings.specs.Ranges as ranges
+use Rattle.readings.specs.Ranges.{Admits, Holds}
 use Rattle.unit_fraction.specs.declared.decimal.Decimal.{Decimal as Number}
 use Rattle.unit_fraction.specs.declared.decimal.DecimalFault.{DecimalFault}
 use Rattle.unit_fraction.specs.Round.{nearest, round, signed}
@@ -15,12 +18,12 @@ use Rattle.unit_fraction.proofs.Round.{round_signed}
 use Rattle.unit_fraction.proofs.ThereAndBack.{sizes}
 use Rattle.sentence_rows.specs.declared.written_unit.WrittenUnit.{WrittenUnit}
 use Rattle.sentence_rows.specs.declared.read_unit.ReadUnit.{ReadUnit}
-use Rattle.sentence_rows.specs.declared.field.Field.TheVariants.{Decimal, Magnitude, Side}
-use Rattle.sentence_rows.specs.WrittenUnits as unit
-use Rattle.sentence_rows.specs.ReadUnits as quantity
-use Rattle.sentence_rows.specs.Field.{count, is_negative, text_of}
+use Rattle.sentence_rows.specs.declared.field.Field.TheVariants.{Decimal, Degrees, Magnitude, Side}
+use Rattle.sentence_rows.specs.ReadUnits.{range_of}
+use Rattle.sentence_rows.specs.Field.{count, degrees_text, is_negative, text_of}
 use Rattle.sentence_rows.specs.Fault.{given}
 use Rattle.sentence_rows.specs.Columns as spec
+use Rattle.sentence_rows.proofs.Counts.{abs-neg, abs-round}
 
 -- a unit that is written and a quantity that is read are each other's inverse, and the ends of the range stay within it
 pub record Paired (u : WrittenUnit) (q : ReadUnit) : Type 0 where
@@ -31,6 +34,36 @@ pub record Paired (u : WrittenUnit) (q : ReadUnit) : Type 0 where
   pub places : u.places < 12
   pub short : nearest (q.most * u.num) u.den < 10 ^ 12
   pub within : nearest (nearest (q.most * u.num) u.den * q.num) (10 ^ u.places * q.den) ≤ q.most
+
+-- the nearest whole number, which computes
+abbrev pub quotient : ℕ → ℕ → ℕ
+quotient n d = (2 * n + d) / (2 * d)
+
+pub nearest_quotient : (n d : ℕ) → quotient n d ≡ nearest n d
+unfolding nearest
+nearest_quotient n d = refl
+
+-- the same as a test
+abbrev pub is_paired : WrittenUnit → ReadUnit → Bool
+is_paired u q =
+    let by = 10 ^ u.places * q.den in
+    let most = quotient (q.most * u.num) u.den in
+    nat_lt 0 u.den && nat_lt 0 by && (q.num * u.num == by * u.den) && (nat_le u.den u.num || nat_le by q.num)
+    && nat_lt u.places 12 && nat_lt most (10 ^ 12) && nat_le (quotient (most * q.num) by) q.most
+
+pub paired : (u : WrittenUnit) (q : ReadUnit) → IsTrue (is_paired u q) → Paired u q
+paired u q h =
+    let e = nearest_quotient (q.most * u.num) u.den in
+    let g = nearest_quotient (quotient (q.most * u.num) u.den * q.num) (10 ^ u.places * q.den) in
+    record {
+      den = grind (arith, nat_tests);
+      by = grind (arith, nat_tests);
+      inverse = grind (arith, nat_tests);
+      one_is_finer = grind (arith, nat_tests);
+      places = grind (arith, nat_tests);
+      short = rw (← e) (grind (arith, nat_tests));
+      within = rw (← e, ← g) (grind (arith, nat_tests));
+    }
 
 -- ---- sizes
 
@@ -72,17 +105,9 @@ read_within u q size p le =
 
 -- ---- signs
 
-abs-neg : (n : ℕ) → unsigned_abs (neg_ℤ (pos n)) ≡ n
-abs-neg zero = refl
-abs-neg (suc n) = refl
-
 pub abs-signed : (negative : Bool) (n : ℕ) → unsigned_abs (signed negative n) ≡ n
 abs-signed true n = abs-neg n
 abs-signed false n = refl
-
-abs-round : (n : ℤ) (d : ℕ) → unsigned_abs (round n d) ≡ nearest (unsigned_abs n) d
-abs-round (pos n) d = refl
-abs-round (negsuc n) d = abs-neg (nearest (suc n) d)
 
 pub sign_size : (c : ℤ) → signed (is_negative c) (unsigned_abs c) ≡ c
 sign_size (pos n) = refl
@@ -112,10 +137,6 @@ abbrev pub back : ReadUnit → WrittenUnit → Option ℤ → Option ℤ
 back q u None = None
 back q u (Some raw) = Some (again q u raw)
 
-abbrev pub IsNoMore : ℕ → Option ℤ → Type 0
-IsNoMore most None = Unit {0}
-IsNoMore most (Some raw) = unsigned_abs raw ≤ most
-
 pub count_again : (u : WrittenUnit) (q : ReadUnit) (raw : ℤ) → Paired u q → count u (again q u raw) ≡ count u raw
 count_again u q raw p =
     let negative = is_negative (count u raw) in
@@ -135,21 +156,24 @@ pub same_decimal : (u : WrittenUnit) (q : ReadUnit) (raw : Option ℤ) → Paire
 same_decimal u q None p = refl
 same_decimal u q (Some raw) p = ap (λ (c : ℤ). decimal_text (is_negative c) (unsigned_abs c) u.places) (count_again u q raw p)
 
-pub same_magnitude : (u : WrittenUnit) (q : ReadUnit) (raw : Option ℤ) → Paired u q → text_of (Magnitude (back q u raw) u) ≡ text_of (Magnitude raw u)
-same_magnitude u q None p = refl
-same_magnitude u q (Some raw) p = ap (λ (c : ℤ). decimal_text false (unsigned_abs c) u.places) (count_again u q raw p)
+pub same_sided : (u : WrittenUnit) (q : ReadUnit) (raw : Option ℤ) (first second : ℕ) → Paired u q
+    → map text_of (Magnitude (back q u raw) u ∷ Side (back q u raw) u first second ∷ []) ≡ map text_of (Magnitude raw u ∷ Side raw u first second ∷ [])
+same_sided u q None first second p = refl
+same_sided u q (Some raw) first second p =
+    ap (λ (c : ℤ). decimal_text false (unsigned_abs c) u.places ∷ ((if is_negative c then second else first) ∷ []) ∷ []) (count_again u q raw p)
 
-pub same_side : (u : WrittenUnit) (q : ReadUnit) (raw : Option ℤ) (first second : ℕ) → Paired u q → text_of (Side (back q u raw) u first second) ≡ text_of (Side raw u first second)
-same_side u q None first second p = refl
-same_side u q (Some raw) first second p = ap (λ (c : ℤ). (if is_negative c then second else first) ∷ []) (count_again u q raw p)
+pub same_coordinate : (u : WrittenUnit) (q : ReadUnit) (raw : Option ℤ) (width first second : ℕ) → Paired u q
+    → map text_of (Degrees (back q u raw) u width ∷ Side (back q u raw) u first second ∷ []) ≡ map text_of (Degrees raw u width ∷ Side raw u first second ∷ [])
+same_coordinate u q None width first second p = refl
+same_coordinate u q (Some raw) width first second p =
+    ap (λ (c : ℤ). degrees_text width (unsigned_abs c) ∷ ((if is_negative c then second else first) ∷ []) ∷ []) (count_again u q raw p)
 
 pub there_again : (u : WrittenUnit) (q : ReadUnit) (raw : Option ℤ) → is_some (back q u raw) ≡ is_some raw
 there_again u q None = refl
 there_again u q (Some raw) = refl
 
--- a unit that is finer than the raw value loses nothing of it, where it has no sign
-pub nothing_lost : (u : WrittenUnit) (q : ReadUnit) (n : ℕ) → Paired u q → u.den ≤ u.num → again q u (pos n) ≡ pos n
-nothing_lost u q n p le = ap pos (same_size u q n p le)
+abbrev some_size : ℕ → Option ℤ
+some_size n = Some (pos n)
 
 -- ---- reading the text of a number
 
@@ -185,95 +209,36 @@ reads_digits q u negative digits p fits shown short le at =
     written_again negative digits u.places short p.places ∙ ap (λ (b : Bool). said_of b digits u.places) shown in
     rw (said, fits) (scales q u negative digits at p.by le)
 
-pub reads_decimal : (q : ReadUnit) (u : WrittenUnit) (raw : Option ℤ) → Paired u q → q.signed ≡ true → IsNoMore q.most raw
-    → ReadsAs q (text_of (Decimal raw u)) (back q u raw)
-reads_decimal q u None p s le = reads_nothing q
-reads_decimal q u (Some raw) p s le =
-    reads_digits q u (is_negative (count u raw)) (unsigned_abs (count u raw)) p (never (is_negative (count u raw)) q.signed s) (shows (count u raw)) (count_short u q raw p le) (size_again u q raw p le)
+-- what a quantity's range says of a raw value's size, and of its sign where none may be written
+pub no_more_either : (most : ℕ) (raw : ℤ) → Holds (ranges.either_side most) raw → unsigned_abs raw ≤ most
+no_more_either most raw h = omega (arith, ints, h.0, h.1)
+
+no_more : (signed : Bool) (most : ℕ) (raw : ℤ) → Holds (if signed then ranges.either_side most else ranges.up_to most) raw → unsigned_abs raw ≤ most
+no_more true most raw h = no_more_either most raw h
+no_more false most raw h = omega (arith, ints, h.0, h.1)
+
+sign_fits : (u : WrittenUnit) (signed : Bool) (most : ℕ) (raw : ℤ) → Holds (if signed then ranges.either_side most else ranges.up_to most) raw
+    → (is_negative (count u raw) && not signed) ≡ false
+sign_fits u true most raw h = never (is_negative (count u raw))
   where
-    never : (b s : Bool) → s ≡ true → (b && not s) ≡ false
-    never true s e = rw e refl
-    never false s e = refl
+    never : (b : Bool) → (b && false) ≡ false
+    never true = refl
+    never false = refl
+sign_fits u false most (pos n) h = refl
+sign_fits u false most (negsuc n) h = absurd (omega (arith, ints, h.0))
+
+pub reads_decimal : (q : ReadUnit) (u : WrittenUnit) (raw : Option ℤ) → Paired u q → Admits (range_of q) raw → ReadsAs q (text_of (Decimal raw u)) (back q u raw)
+reads_decimal q u None p h = reads_nothing q
+reads_decimal q u (Some raw) p h =
+    let le = no_more q.signed q.most raw h in
+    reads_digits q u (is_negative (count u raw)) (unsigned_abs (count u raw)) p (sign_fits u q.signed q.most raw h) (shows (count u raw)) (count_short u q raw p le) (size_again u q raw p le)
+
+-- a unit that is finer than the raw value loses nothing of it, where it has no sign
+pub exact : (q : ReadUnit) (u : WrittenUnit) (v : Option ℤ) → Paired u q → u.den ≤ u.num → Admits (ranges.up_to q.most) v → back q u v ≡ v
+exact q u None p le h = refl
+exact q u (Some (pos n)) p le h = ap (λ (x : ℕ). some_size x) (same_size u q n p le)
+exact q u (Some (negsuc n)) p le h = absurd (omega (arith, ints, h.0))
 
 pub reads_magnitude : (q : ReadUnit) (u : WrittenUnit) (raw : ℤ) → Paired u q → unsigned_abs raw ≤ q.most
     → ReadsAs q (text_of (Magnitude (Some raw) u)) (Some (pos (read_size q u (unsigned_abs (count u raw)))))
 reads_magnitude q u raw p le = reads_digits q u false (unsigned_abs (count u raw)) p refl refl (count_short u q raw p le) (size_again u q raw p le)
-
--- a value without a sign, as it is printed with one that isn't there
-pub reads_unsigned : (q : ReadUnit) (u : WrittenUnit) (n : ℕ) → Paired u q → n ≤ q.most → ReadsAs q (text_of (Decimal (Some (pos n)) u)) (Some (again q u (pos n)))
-reads_unsigned q u n p le =
-    reads_digits q u false (unsigned_abs (count u (pos n))) p refl refl (count_short u q (pos n) p le) (size_again u q (pos n) p le)
-
--- ---- the pairs
-
-pub rudder : Paired unit.degrees quantity.rudder
-unfolding nearest
-rudder = record { den = omega arith; by = omega arith; inverse = refl; one_is_finer = inr (omega arith); places = omega arith; short = omega arith; within = omega arith }
-
-pub deviation : Paired unit.degrees quantity.deviation
-unfolding nearest
-deviation = record { den = omega arith; by = omega arith; inverse = refl; one_is_finer = inr (omega arith); places = omega arith; short = omega arith; within = omega arith }
-
-pub angle : Paired unit.degrees quantity.angle
-unfolding nearest
-angle = record { den = omega arith; by = omega arith; inverse = refl; one_is_finer = inr (omega arith); places = omega arith; short = omega arith; within = omega arith }
-
-pub rate_of_turn : Paired unit.degrees_per_minute quantity.rate_of_turn
-unfolding nearest
-rate_of_turn = record { den = omega arith; by = omega arith; inverse = refl; one_is_finer = inr (omega arith); places = omega arith; short = omega arith; within = omega arith }
-
-pub knots : Paired unit.knots quantity.knots
-unfolding nearest
-knots = record { den = omega arith; by = omega arith; inverse = refl; one_is_finer = inl (omega arith); places = omega arith; short = omega arith; within = omega arith }
-
-pub metres : Paired unit.metres quantity.metres
-unfolding nearest
-metres = record { den = omega arith; by = omega arith; inverse = refl; one_is_finer = inl (omega arith); places = omega arith; short = omega arith; within = omega arith }
-
-pub offset_metres : Paired unit.offset_metres quantity.offset_metres
-unfolding nearest
-offset_metres = record { den = omega arith; by = omega arith; inverse = refl; one_is_finer = inr (omega arith); places = omega arith; short = omega arith; within = omega arith }
-
-pub range_metres : Paired unit.range_metres quantity.range_metres
-unfolding nearest
-range_metres = record { den = omega arith; by = omega arith; inverse = refl; one_is_finer = inl (omega arith); places = omega arith; short = omega arith; within = omega arith }
-
-pub nautical_miles : Paired unit.nautical_miles quantity.nautical_miles
-unfolding nearest
-nautical_miles = record { den = omega arith; by = omega arith; inverse = refl; one_is_finer = inr (omega arith); places = omega arith; short = omega arith; within = omega arith }
-
-pub track_miles : Paired unit.track_miles quantity.track_miles
-unfolding nearest
-track_miles = record { den = omega arith; by = omega arith; inverse = refl; one_is_finer = inr (omega arith); places = omega arith; short = omega arith; within = omega arith }
-
-pub latitude : Paired unit.minutes quantity.latitude
-unfolding nearest
-latitude = record { den = omega arith; by = omega arith; inverse = refl; one_is_finer = inr (omega arith); places = omega arith; short = omega arith; within = omega arith }
-
-pub longitude : Paired unit.minutes quantity.longitude
-unfolding nearest
-longitude = record { den = omega arith; by = omega arith; inverse = refl; one_is_finer = inr (omega arith); places = omega arith; short = omega arith; within = omega arith }
-
-pub fix_latitude : Paired unit.fix_minutes quantity.fix_latitude
-unfolding nearest
-fix_latitude = record { den = omega arith; by = omega arith; inverse = refl; one_is_finer = inr (omega arith); places = omega arith; short = omega arith; within = omega arith }
-
-pub fix_longitude : Paired unit.fix_minutes quantity.fix_longitude
-unfolding nearest
-fix_longitude = record { den = omega arith; by = omega arith; inverse = refl; one_is_finer = inr (omega arith); places = omega arith; short = omega arith; within = omega arith }
-
-pub altitude_metres : Paired unit.altitude_metres quantity.altitude_metres
-unfolding nearest
-altitude_metres = record { den = omega arith; by = omega arith; inverse = refl; one_is_finer = inr (omega arith); places = omega arith; short = omega arith; within = omega arith }
-
-pub separation_metres : Paired unit.separation_metres quantity.separation_metres
-unfolding nearest
-separation_metres = record { den = omega arith; by = omega arith; inverse = refl; one_is_finer = inr (omega arith); places = omega arith; short = omega arith; within = omega arith }
-
-pub dilution : Paired unit.dilution quantity.dilution
-unfolding nearest
-dilution = record { den = omega arith; by = omega arith; inverse = refl; one_is_finer = inl (omega arith); places = omega arith; short = omega arith; within = omega arith }
-
-pub celsius : Paired unit.celsius quantity.celsius
-unfolding nearest
-celsius = record { den = omega arith; by = omega arith; inverse = refl; one_is_finer = inr (omega arith); places = omega arith; short = omega arith; within = omega arith }

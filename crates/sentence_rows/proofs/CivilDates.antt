@@ -1,10 +1,8 @@
 -- The date that is computed for a day is the calendar's.
-use Rattle.std.proofs.Common.{◌≡◌, ℕ, zero, suc, ◌+◌, ◌-◌, ◌*◌, ◌<◌, ◌≤◌, ℤ, pos, negsuc, ◌+ℤ◌, ◌-ℤ◌, Bool, true, false, nat_lt, unsigned_abs, if◌then◌else◌, refl, sym, ◌∙◌, ap, arith, inl, inr}
-use Rattle.std.proofs.lemmas.Bool.{cases_Bool}
+use Rattle.std.proofs.Common.{◌≡◌, ℕ, zero, suc, ◌+◌, ◌-◌, ◌*◌, ◌<◌, ◌≤◌, ℤ, pos, negsuc, ◌-ℤ◌, Bool, true, false, nat_lt, if◌then◌else◌, refl, ◌∙◌, ap, arith}
 use Rattle.std.proofs.lemmas.Bool.Decides.{nat_tests}
 use Rattle.std.proofs.lemmas.Int.{ints}
 use Rattle.jiff_core.specs.Calendar.{is_leap_year, days_of_years, days_of_months, days_in_month, days_in_year, days_from_civil, day_count}
-use Rattle.readings.specs.Ranges.{Holds, date as date_range}
 use Rattle.sentence_rows.specs.Calendar.{CivilDate, ymd, date_in_year, date_after, civil_date, IsDateOf}
 use Rattle.sentence_rows.specs.Laws.{DatesAreTheCalendars}
 
@@ -63,7 +61,7 @@ year_by y false e = rw e refl
 year_length : (y : ℤ) → days_of_months y 12 ≡ days_in_year y
 year_length y = year_by y (is_leap_year y) refl
 
-no_months : (y : ℤ) → days_of_months y 0 ≡ 0
+pub no_months : (y : ℤ) → days_of_months y 0 ≡ 0
 unfolding days_of_months
 no_months y = refl
 
@@ -129,7 +127,7 @@ year_by_least : (y : ℤ) (leap : Bool) → is_leap_year y ≡ leap → 365 ≤ 
 year_by_least y true e = rw e (omega arith)
 year_by_least y false e = rw e (omega arith)
 
-years_least : (year n : ℕ) → days_of_years (year + 10000) + 365 * n ≤ days_of_years (year + n + 10000)
+pub years_least : (year n : ℕ) → days_of_years (year + 10000) + 365 * n ≤ days_of_years (year + n + 10000)
 years_least year zero = let same : year + 0 + 10000 ≡ year + 10000 = omega arith in rw same (omega arith)
 years_least year (suc n) =
     let so_far = years_least year n in

@@ -19,11 +19,11 @@ pub record Sound (unit : WrittenUnit) : Type 0 where
 pub sound : (unit : WrittenUnit) → IsTrue (is_sound unit) → Sound unit
 sound unit h = record { den = grind (arith, nat_tests); places = grind (arith, nat_tests); digits = grind (arith, nat_tests); room = grind (arith, nat_tests) }
 
-abs-neg : (q : ℕ) → unsigned_abs (neg_ℤ (pos q)) ≡ q
+pub abs-neg : (q : ℕ) → unsigned_abs (neg_ℤ (pos q)) ≡ q
 abs-neg zero = refl
 abs-neg (suc q) = refl
 
-abs-round : (n : ℤ) (d : ℕ) → unsigned_abs (round n d) ≡ nearest (unsigned_abs n) d
+pub abs-round : (n : ℤ) (d : ℕ) → unsigned_abs (round n d) ≡ nearest (unsigned_abs n) d
 abs-round (pos n) d = refl
 abs-round (negsuc n) d = abs-neg (nearest (suc n) d)
 

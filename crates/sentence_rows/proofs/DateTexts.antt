@@ -1,20 +1,22 @@
 -- A date that is printed is read as the same day.
-use Rattle.std.proofs.Common.{◌≡◌, ℕ, zero, suc, ◌+◌, ◌*◌, ◌<◌, ◌≤◌, ℤ, pos, neg_ℤ, ◌+ℤ◌, ◌-ℤ◌, ◌≤ℤ◌, ◌<ℤ◌, Bool, true, false, Option, Some, None, Result, Ok, [], refl, sym, ap, ◌∙◌, inl, arith}
+use Rattle.std.proofs.Common.{◌≡◌, ℕ, ◌+◌, ◌<◌, ℤ, pos, ◌≤ℤ◌, ◌<ℤ◌, Bool, true, false, Option, Some, None, Result, Ok, [], refl, sym, ap, ◌∙◌, inl, arith}
 use Rattle.std.specs.Prelude.{◌&&◌, ◌||◌, ◌==◌, unsigned_abs, if◌then◌else◌}
 use Rattle.std.specs.Int.{IsInRange}
 use Rattle.std.proofs.lemmas.Int.{ints, by_lt_z}
 use Rattle.jiff.specs.Types.{Date}
-use Rattle.jiff.specs.Words.{IsYear, days_in_month, is_leap_year, epoch_day}
-use Rattle.jiff.proofs.Family.{days_from_civil-day, days_from_civil-next_month, days_from_civil-next_year, days_from_civil-min, epoch_day-lt}
+use Rattle.jiff.specs.Words.{days_in_month, is_leap_year, epoch_day}
+use Rattle.jiff.proofs.Family.{epoch_day-lt}
+use Rattle.jiff_core.specs.Calendar.{day_count, days_from_civil}
 use Rattle.readings.specs.Ranges.{Holds, date as date_range}
 use Rattle.sentence_rows.specs.declared.fault.FieldFault.{FieldFault}
 use Rattle.sentence_rows.specs.declared.field.Field.TheVariants.{Digits}
 use Rattle.sentence_rows.specs.Field.{text_of}
 use Rattle.sentence_rows.specs.Fault.{given}
 use Rattle.sentence_rows.specs.Columns as spec
+use Rattle.sentence_rows.proofs.CivilDates.{no_months, years_least}
 use Rattle.sentence_rows.proofs.Dates.{dated, inside}
-use Rattle.sentence_rows.proofs.FixedTexts.{digits_of, no_digits, digits_decimals, length_decimals, number_decimals, blank_none, blank_some}
-use Rattle.sentence_rows.proofs.Texted.{Fields, given_at}
+use Rattle.sentence_rows.proofs.FixedTexts.{digits_of, no_digits, digits_decimals, length_decimals, number_decimals}
+use Rattle.sentence_rows.proofs.Texted.{Fields, blank_none, blank_some, given_at}
 
 abbrev said_digits : ℕ → Result ℕ FieldFault
 said_digits n = Ok n
@@ -29,7 +31,7 @@ read_four f at may_lack n small e =
     let len = length_decimals 4 n in
     digits_of f at may_lack 4 4 (text_of (Digits (Some n) 4)) e (omega (arith, len)) (omega (arith, len)) (omega (arith, len)) (digits_decimals 4 n) ∙ ap said_digits (number_decimals 4 n small)
 
--- ---- the calendar before 1970
+-- ---- the calendar before the year 0
 
 month_bounds_if : (february leap short : Bool) → IsInRange 28 31 (if february then (if leap then 29 else 28) else (if short then 30 else 31))
 month_bounds_if true true short = (omega arith, omega arith)
@@ -40,66 +42,33 @@ month_bounds_if false leap false = (omega arith, omega arith)
 pub month_bounds : (y : ℤ) (m : ℕ) → IsInRange 28 31 (days_in_month y m)
 month_bounds y m = month_bounds_if (m == 2) (is_leap_year y) ((m == 4) || (m == 6) || (m == 9) || (m == 11))
 
-record IsMonth (y : ℤ) (m : ℕ) : Type 0 where
-  year : IsYear y
-  month : IsInRange 1 12 m
+-- 1 January of the year 0
+first_day : Date
+first_day = record {
+  year = pos 0;
+  month = 1;
+  day = 1;
+  year_in = (omega (arith, ints), omega (arith, ints));
+  month_in = (omega arith, omega arith);
+  day_in = let b = month_bounds (pos 0) 1 in (omega arith, omega (arith, b.0));
+}
 
-one_day : (y : ℤ) (m : ℕ) → IsInRange 1 (days_in_month y m) 1
-one_day y m = let b = month_bounds y m in (omega arith, omega (arith, b.0))
+fewer_days : day_count (pos 0) 1 1 < day_count (pos 1970) 1 1
+unfolding day_count
+fewer_days =
+    let room = years_least 0 1970 in
+    let none = no_months (pos 0) in
+    let none_too = no_months (pos 1970) in
+    omega (arith, room, none, none_too)
 
-abbrev first_of : (y : ℤ) (m : ℕ) → IsMonth y m → Date
-first_of y m h = record { year = y; month = m; day = 1; year_in = h.year; month_in = h.month; day_in = one_day y m }
-
-month_step : (y : ℤ) (m : ℕ) (h : IsMonth y m) (k : IsMonth y (m + 1)) → epoch_day (first_of y (m + 1) k) ≤ℤ (epoch_day (first_of y m h) +ℤ pos 31)
-month_step y m h k =
-    let b = month_bounds y m in
-    let next = days_from_civil-next_month y m (days_in_month y m) h.month.0 refl in
-    let same = days_from_civil-day y m (days_in_month y m) 1 (omega (arith, b.0)) (omega arith) in
-    omega (arith, ints, next, same, b.1)
-
-month : (y : ℤ) (m : ℕ) → IsYear y → 1 ≤ m → m ≤ 12 → IsMonth y m
-month y m year low high = record { year = year; month = (low, high) }
-
-year_step : (y next : ℤ) (h : IsMonth y 1) (k : IsMonth next 1) → next ≡ y +ℤ pos 1 → epoch_day (first_of next 1 k) ≤ℤ (epoch_day (first_of y 1 h) +ℤ pos 372)
-year_step y next h k e =
-    let m : (n : ℕ) → 1 ≤ n → n ≤ 12 → IsMonth y n = λ n low high. month y n h.year low high in
-    let s1 = month_step y 1 h (m 2 (omega arith) (omega arith)) in
-    let s2 = month_step y 2 (m 2 (omega arith) (omega arith)) (m 3 (omega arith) (omega arith)) in
-    let s3 = month_step y 3 (m 3 (omega arith) (omega arith)) (m 4 (omega arith) (omega arith)) in
-    let s4 = month_step y 4 (m 4 (omega arith) (omega arith)) (m 5 (omega arith) (omega arith)) in
-    let s5 = month_step y 5 (m 5 (omega arith) (omega arith)) (m 6 (omega arith) (omega arith)) in
-    let s6 = month_step y 6 (m 6 (omega arith) (omega arith)) (m 7 (omega arith) (omega arith)) in
-    let s7 = month_step y 7 (m 7 (omega arith) (omega arith)) (m 8 (omega arith) (omega arith)) in
-    let s8 = month_step y 8 (m 8 (omega arith) (omega arith)) (m 9 (omega arith) (omega arith)) in
-    let s9 = month_step y 9 (m 9 (omega arith) (omega arith)) (m 10 (omega arith) (omega arith)) in
-    let s10 = month_step y 10 (m 10 (omega arith) (omega arith)) (m 11 (omega arith) (omega arith)) in
-    let s11 = month_step y 11 (m 11 (omega arith) (omega arith)) (m 12 (omega arith) (omega arith)) in
-    let low : neg_ℤ (pos 10000) ≤ℤ y = let in_year = h.year in omega (arith, ints, in_year.0) in
-    let over = days_from_civil-next_year y next low e in
-    let last = days_from_civil-day y 12 31 1 (omega arith) (omega arith) in
-    omega (arith, ints, over, last)
-
-abbrev IsEarly : ℕ → ℤ → Type 0
-IsEarly n y = (h : IsMonth y 1) → epoch_day (first_of y 1 h) ≤ℤ (pos (372 * n) -ℤ pos 4371587)
-
-early : (n : ℕ) → n ≤ 9999 → IsEarly n (pos n -ℤ pos 9999)
-early zero le h = omega (arith, ints, days_from_civil-min)
-early (suc n) le h =
-    let y = pos n -ℤ pos 9999 in
-    let before : IsMonth y 1 = month y 1 (omega (arith, ints), omega (arith, ints)) (omega arith) (omega arith) in
-    let rest = early n (omega arith) before in
-    let step = year_step y (pos (suc n) -ℤ pos 9999) before h (omega (arith, ints)) in
-    omega (arith, ints, rest, step)
-
-year_zero : IsMonth (pos 0) 1
-year_zero = month (pos 0) 1 (omega (arith, ints), omega (arith, ints)) (omega arith) (omega arith)
-
-before_zero : epoch_day (first_of (pos 0) 1 year_zero) <ℤ pos 0
-before_zero = let e = early 9999 (omega arith) year_zero in omega (arith, ints, e)
+before_zero : epoch_day first_day <ℤ pos 0
+unfolding days_from_civil first_day
+before_zero = let e = fewer_days in omega (arith, ints, e)
 
 -- a day from 1970-01-01 on has no year before the first
 not_before : (d : Date) → pos 0 ≤ℤ epoch_day d → pos 0 ≤ℤ d.year
-not_before d after = by_lt_z d.year (pos 0) (λ lt. let e = epoch_day-lt d (first_of (pos 0) 1 year_zero) (inl lt) in absurd (omega (arith, ints, e, before_zero))) (λ ge. omega (arith, ints, ge))
+unfolding first_day
+not_before d after = by_lt_z d.year (pos 0) (λ lt. let e = epoch_day-lt d first_day (inl lt) in absurd (omega (arith, ints, e, before_zero))) (λ ge. omega (arith, ints, ge))
 
 -- ---- the three fields
 

@@ -19,7 +19,7 @@ step = number_step
 pub fits : (n : ℕ) (ds : List ℕ) (i total : ℕ) → i < length ds → number_after n (drop i ds) ≡ total → n * 10 + (get_or ds i 0 - 48) ≤ total
 fits = number_fits
 
-list_all_digits : (xs : List ℕ) → list_all is_ascii_digit xs ≡ all_ascii_digits xs
+pub list_all_digits : (xs : List ℕ) → list_all is_ascii_digit xs ≡ all_ascii_digits xs
 list_all_digits [] = refl
 list_all_digits (c ∷ cs) = ap (λ b. is_ascii_digit c && b) (list_all_digits cs)
 

@@ -1,15 +1,18 @@
 -- Texts of a fixed number of digits, which are read as the numbers that they write.
 use Rattle.std.proofs.Common.{◌≡◌, ℕ, zero, suc, ◌+◌, ◌*◌, ◌/◌, ◌%◌, ◌^◌, ◌<◌, ◌≤◌, ℤ, pos, Bool, true, false, Option, Some, None, Result, Ok, Err, List, [], ◌∷◌, ◌++◌, length, length-append, take, drop, refl, sym, ap, ◌∙◌, arith}
-use Rattle.std.specs.Prelude.{◌&&◌, ◌==◌, nat_le, nat_lt, unsigned_abs, is_none, unwrap_or, if◌then◌else◌}
+use Rattle.std.specs.Prelude.{◌==◌, nat_le, nat_lt, unsigned_abs, IsTrue, if◌then◌else◌}
 use Rattle.std.specs.Char.{is_ascii_digit}
 use Rattle.std.specs.Fmt.{decimal}
 use Rattle.std.specs.List.{list_all}
-use Rattle.std.specs.Str.{all_ascii_digits}
 use Rattle.std.proofs.Math.Nat.{pow-succ'}
 use Rattle.std.proofs.lemmas.Bool.{le-leb, lt-leb, lt-ltb, ltb-true}
+use Rattle.std.proofs.lemmas.Int.{ints}
 use Rattle.std.proofs.lemmas.Fmt.{decimal_nonempty, digits_decimal, digits_value-decimal, length-decimal-le}
 use Rattle.std.proofs.lemmas.List.{take_at, drop_at}
 use Rattle.std.proofs.lemmas.List.Folds.{list_all-append}
+use Rattle.std.proofs.lemmas.Nat.{mul-le}
+use Rattle.readings.specs.Ranges as ranges
+use Rattle.readings.specs.Ranges.{Admits}
 use Rattle.unit_fraction.specs.Digits.{number_after, number}
 use Rattle.unit_fraction.specs.Text.{decimals}
 use Rattle.unit_fraction.proofs.Number.{number_after_append}
@@ -20,11 +23,11 @@ use Rattle.sentence_rows.specs.declared.read_unit.ReadUnit.{ReadUnit}
 use Rattle.sentence_rows.specs.declared.fault.FieldFault.{FieldFault}
 use Rattle.sentence_rows.specs.declared.fault.FieldFault.TheVariants.{Range as OutOfRange}
 use Rattle.sentence_rows.specs.declared.field.Field.TheVariants.{Degrees, Satellites, Side, Time}
-use Rattle.sentence_rows.specs.Field.{count, degrees_text, is_negative, text_of, time_text}
-use Rattle.sentence_rows.specs.Fault.{given}
+use Rattle.sentence_rows.specs.Field.{count, degrees_text, text_of, time_text}
 use Rattle.sentence_rows.specs.Columns as spec
-use Rattle.sentence_rows.proofs.Again.{Paired, IsNoMore, back, read_size, scales, size_again}
-use Rattle.sentence_rows.proofs.Texted.{Fields, given_at, says_at, said_value, side_of, side_nowhere, toward_signed}
+use Rattle.sentence_rows.proofs.Again.{Paired, back, count_size, is_paired, nearest_mono, nearest_quotient, no_more_either, paired, printed, quotient, same_coordinate, scales, size_again, there_again}
+use Rattle.sentence_rows.proofs.DigitNumbers.{list_all_digits}
+use Rattle.sentence_rows.proofs.Texted.{Back, Fields, blank_none, blank_some, given_at, says_at, size_of, toward_of}
 
 -- ---- digits
 
@@ -133,35 +136,41 @@ degrees_read at width m q below =
         let under : nat_le 60 b ≡ false = lt-leb 60 b small in
         rw (rest, deg, under, e) refl
 
-pub coordinate_of : (f : Fields) (at width : ℕ) (q : ReadUnit) (u : WrittenUnit) (raw : Option ℤ) (first second : ℕ) → Paired u q → IsNoMore q.most raw → u.places ≡ 4
-    → ((r : ℤ) → unsigned_abs r ≤ q.most → unsigned_abs (count u r) / 600000 < 10 ^ width) → (first == second) ≡ false
-    → spec.field_at f at ≡ Some (text_of (Degrees raw u width)) → spec.field_at f (at + 1) ≡ Some (text_of (Side raw u first second))
-    → spec.coordinate f at q (width + 2) first second ≡ Ok (back q u raw)
-unfolding spec.coordinate spec.degrees
-coordinate_of f at width q u None first second p le four below ne e s =
-    given_at (spec.text_says (spec.field_at f at) at (spec.degrees_of at q (width + 2))) None (λ v. given (spec.side f (at + 1) first second (is_none v)) (λ n. Ok (spec.toward n v)))
-    (says_at (spec.field_at f at) [] at (spec.degrees_of at q (width + 2)) e)
-    ∙ given_at (spec.side f (at + 1) first second true) false (λ n. Ok (spec.toward n None)) (side_nowhere f (at + 1) first second [] s)
-coordinate_of f at width q u (Some raw) first second p le four below ne e s =
-    let negative = is_negative (count u raw) in
+degrees_of_raw : (f : Fields) (at width : ℕ) (q : ReadUnit) (u : WrittenUnit) (raw : Option ℤ) → Paired u q → Admits (ranges.either_side q.most) raw → u.places ≡ 4
+    → printed u q.most / 600000 < 10 ^ width → spec.field_at f at ≡ Some (text_of (Degrees raw u width)) → spec.degrees f at q (width + 2) ≡ Ok (size_of q u raw)
+unfolding spec.degrees
+degrees_of_raw f at width q u None p held four ends e = says_at (spec.field_at f at) [] at (spec.degrees_of at q (width + 2)) e
+degrees_of_raw f at width q u (Some raw) p held four ends e =
     let m = unsigned_abs (count u raw) in
-    let size = read_size q u m in
-    let scale : spec.scaled at q (Some (record { negative = false; digits = m; places = 4 })) ≡ Ok (Some (pos size)) =
-    ap (λ (k : ℕ). spec.scaled at q (Some (record { negative = false; digits = m; places = k }))) (sym four) ∙ scales q u false m at p.by (size_again u q raw p le) in
-    given_at (spec.text_says (spec.field_at f at) at (spec.degrees_of at q (width + 2))) (Some (pos size)) (λ v. given (spec.side f (at + 1) first second (is_none v)) (λ n. Ok (spec.toward n v)))
-    (says_at (spec.field_at f at) (degrees_text width m) at (spec.degrees_of at q (width + 2)) e ∙ degrees_read at width m q (below raw le) ∙ scale)
-    ∙ given_at (spec.side f (at + 1) first second false) negative (λ n. Ok (spec.toward n (Some (pos size)))) (side_of f (at + 1) first second negative ne s)
-    ∙ ap said_value (toward_signed negative size)
+    let le = no_more_either q.most raw held in
+    let most : printed u (unsigned_abs raw) ≤ printed u q.most =
+    nearest_mono (unsigned_abs raw * u.num) (q.most * u.num) u.den p.den (mul-le (unsigned_abs raw) u.num q.most u.num le (omega arith)) in
+    says_at (spec.field_at f at) (degrees_text width m) at (spec.degrees_of at q (width + 2)) e
+    ∙ degrees_read at width m q (omega (arith, count_size u raw, most, ends))
+    ∙ ap (λ (k : ℕ). spec.scaled at q (Some (record { negative = false; digits = m; places = k }))) (sym four)
+    ∙ scales q u false m at p.by (size_again u q raw p le)
+
+pub coordinate_back : (f : Fields) (at width : ℕ) (q : ReadUnit) (u : WrittenUnit) (v : Option ℤ) (first second : ℕ) → IsTrue (is_paired u q) → Admits (ranges.either_side q.most) v → u.places ≡ 4
+    → quotient (q.most * u.num) u.den / 600000 < 10 ^ width → (first == second) ≡ false
+    → spec.field_at f at ≡ Some (text_of (Degrees v u width)) → spec.field_at f (at + 1) ≡ Some (text_of (Side v u first second))
+    → Back (spec.coordinate f at q (width + 2) first second) (λ x. Degrees x u width ∷ Side x u first second ∷ []) v
+unfolding spec.coordinate
+coordinate_back f at width q u v first second pair held four ends ne e s =
+    let p = paired u q pair in
+    let below = rw (nearest_quotient (q.most * u.num) u.den) at ends in
+    let size = degrees_of_raw f at width q u v p held four below e in
+    record {
+      value = back q u v;
+      is = toward_of f (at + 1) q u v first second (spec.degrees f at q (width + 2)) size ne s;
+      same = same_coordinate u q v width first second p;
+      there = there_again u q v;
+    }
 
 -- ---- time of day
 
-abbrev pub back_time : Option ℤ → Option ℤ
+abbrev back_time : Option ℤ → Option ℤ
 back_time None = None
 back_time (Some raw) = Some (pos (unsigned_abs raw / 100 * 100))
-
-pub same_time : (raw : Option ℤ) → text_of (Time (back_time raw)) ≡ text_of (Time raw)
-same_time None = refl
-same_time (Some raw) = let h : unsigned_abs raw / 100 * 100 / 100 ≡ unsigned_abs raw / 100 = omega arith in rw h refl
 
 time_some : (at : ℕ) (bytes : List ℕ) → 0 < length bytes → spec.time_of at bytes ≡ spec.time_in at (spec.fixed_in 6 4 bytes)
 time_some at [] h = absurd (omega arith)
@@ -215,10 +224,18 @@ time_read at raw le =
     ∙ in_day at h m s c hours (omega arith) (omega arith) (omega arith)
     ∙ ap said_time (hundredths n)
 
-pub time_said : (f : Fields) (at : ℕ) (raw : Option ℤ) → IsNoMore 863999999 raw → spec.field_at f at ≡ Some (text_of (Time raw)) → spec.time f at ≡ Ok (back_time raw)
+pub time_back : (f : Fields) (at : ℕ) (v : Option ℤ) → Admits ranges.time v → spec.field_at f at ≡ Some (text_of (Time v)) → Back (spec.time f at) (λ x. Time x ∷ []) v
 unfolding spec.time
-time_said f at None le e = says_at (spec.field_at f at) [] at (spec.time_of at) e
-time_said f at (Some raw) le e = says_at (spec.field_at f at) (time_text (unsigned_abs raw)) at (spec.time_of at) e ∙ time_read at (unsigned_abs raw) le
+time_back f at None held e = record { value = None; is = says_at (spec.field_at f at) [] at (spec.time_of at) e; same = refl; there = refl }
+time_back f at (Some raw) held e =
+    let n = unsigned_abs raw in
+    let again : n / 100 * 100 / 100 ≡ n / 100 = omega arith in
+    record {
+      value = back_time (Some raw);
+      is = says_at (spec.field_at f at) (time_text n) at (spec.time_of at) e ∙ time_read at n (omega (arith, ints, held.0, held.1));
+      same = rw again refl;
+      there = refl;
+    }
 
 -- ---- whole numbers
 
@@ -244,7 +261,7 @@ unfolding spec.digits
 no_digits f at least most e = says_at (spec.field_at f at) [] at (spec.digits_in at true least most) e
 
 -- the number of satellites, and the method of a fix
-satellites_text : (n : ℕ) → List ℕ
+abbrev satellites_text : ℕ → List ℕ
 satellites_text n = if nat_lt n 10 then decimals 2 n else decimal n
 
 record Counted (n : ℕ) (bytes : List ℕ) : Type 0 where
@@ -252,10 +269,6 @@ record Counted (n : ℕ) (bytes : List ℕ) : Type 0 where
   few : length bytes ≤ 3
   are_digits : AreDigits bytes
   value : number bytes ≡ n
-
-list_digits : (xs : List ℕ) → list_all is_ascii_digit xs ≡ all_ascii_digits xs
-list_digits [] = refl
-list_digits (c ∷ cs) = ap (λ b. is_ascii_digit c && b) (list_digits cs)
 
 counted_text : (n : ℕ) (b : Bool) → n < 1000 → nat_lt n 10 ≡ b → Counted n (if b then decimals 2 n else decimal n)
 counted_text n true few e =
@@ -266,46 +279,31 @@ counted_text n false few e =
     record {
       some = decimal_nonempty n (omega arith);
       few = length-decimal-le 3 n (omega arith) (omega arith) (omega arith);
-      are_digits = list_digits (decimal n) ∙ digits_decimal own n (omega arith);
+      are_digits = list_all_digits (decimal n) ∙ digits_decimal own n (omega arith);
       value = digits_value-decimal own n (omega arith);
     }
 
-nothing_not : (bytes : List ℕ) → 0 < length bytes → spec.is_nothing bytes ≡ false
-nothing_not [] h = absurd (omega arith)
-nothing_not (c ∷ cs) h = refl
-
-blank_at : (f : Fields) (at : ℕ) (bytes : List ℕ) → spec.field_at f at ≡ Some bytes → spec.is_blank f at ≡ spec.is_nothing bytes
-unfolding spec.is_blank spec.text
-blank_at f at bytes e = ap (λ (o : Option (List ℕ)). spec.is_nothing (unwrap_or o [])) e
-
-pub blank_none : (f : Fields) (at : ℕ) → spec.field_at f at ≡ Some [] → spec.is_blank f at ≡ true
-blank_none f at e = blank_at f at [] e
-
-pub blank_some : (f : Fields) (at : ℕ) (bytes : List ℕ) → spec.field_at f at ≡ Some bytes → 0 < length bytes → spec.is_blank f at ≡ false
-blank_some f at bytes e h = blank_at f at bytes e ∙ nothing_not bytes h
-
-abbrev pub back_count : Option ℤ → Option ℤ
-back_count None = None
-back_count (Some raw) = Some (pos (unsigned_abs raw))
-
-pub same_count : (raw : Option ℤ) → text_of (Satellites (back_count raw)) ≡ text_of (Satellites raw)
-same_count None = refl
-same_count (Some raw) = refl
-
-pub satellites_of : (f : Fields) (at : ℕ) (raw : Option ℤ) → IsNoMore 252 raw → spec.field_at f at ≡ Some (text_of (Satellites raw)) → spec.satellites f at ≡ Ok (back_count raw)
+satellites_of : (f : Fields) (at : ℕ) (n : ℕ) → n ≤ 252 → spec.field_at f at ≡ Some (satellites_text n) → spec.satellites f at ≡ Ok (Some (pos n))
 unfolding spec.satellites
-satellites_of f at None le e =
+satellites_of f at n le e =
+    let t : Counted n (satellites_text n) = counted_text n (nat_lt n 10) (omega arith) refl in
+    let blank = blank_some f at (satellites_text n) e t.some in
+    let fits : nat_le n 252 ≡ true = le-leb n 252 le in
+    given_at (spec.digits f at true 1 3) n (λ x. if spec.is_blank f at then Ok None else if nat_le x 252 then Ok (Some (pos x)) else Err (OutOfRange at))
+    (digits_of f at true 1 3 (satellites_text n) e t.some t.some t.few t.are_digits ∙ ap said_number t.value)
+    ∙ rw (blank, fits) refl
+
+no_satellites : (f : Fields) (at : ℕ) → spec.field_at f at ≡ Some [] → spec.satellites f at ≡ Ok None
+unfolding spec.satellites
+no_satellites f at e =
     let blank = blank_none f at e in
     given_at (spec.digits f at true 1 3) 0 (λ n. if spec.is_blank f at then Ok None else if nat_le n 252 then Ok (Some (pos n)) else Err (OutOfRange at)) (no_digits f at 1 3 e)
     ∙ rw blank refl
-satellites_of f at (Some raw) le e =
-    let n = unsigned_abs raw in
-    let t : Counted n (text_of (Satellites (Some raw))) = counted_text n (nat_lt n 10) (omega arith) refl in
-    let blank = blank_some f at (text_of (Satellites (Some raw))) e t.some in
-    let fits : nat_le n 252 ≡ true = le-leb n 252 le in
-    given_at (spec.digits f at true 1 3) n (λ x. if spec.is_blank f at then Ok None else if nat_le x 252 then Ok (Some (pos x)) else Err (OutOfRange at))
-    (digits_of f at true 1 3 (text_of (Satellites (Some raw))) e t.some t.some t.few t.are_digits ∙ ap said_number t.value)
-    ∙ rw (blank, fits) refl
+
+pub satellites_back : (f : Fields) (at : ℕ) (v : Option ℤ) → Admits ranges.satellites v → spec.field_at f at ≡ Some (text_of (Satellites v)) → Back (spec.satellites f at) (λ x. Satellites x ∷ []) v
+satellites_back f at None held e = record { value = None; is = no_satellites f at e; same = refl; there = refl }
+satellites_back f at (Some raw) held e =
+    record { value = Some (pos (unsigned_abs raw)); is = satellites_of f at (unsigned_abs raw) (omega (arith, ints, held.0, held.1)) e; same = refl; there = refl }
 
 pub quality_of : (f : Fields) (at m : ℕ) → m ≤ 8 → spec.field_at f at ≡ Some ((48 + m) ∷ []) → spec.quality f at ≡ Ok m
 unfolding spec.quality

@@ -11,7 +11,5 @@ pub mod Texted
 pub mod FixedTexts
 pub mod DateTexts
 pub mod StableRows
-pub mod StableFixes
-pub mod StableLines
 pub mod CivilDates
 pub mod Unique

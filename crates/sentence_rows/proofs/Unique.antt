@@ -1,17 +1,16 @@
 -- A reading is said in one way.
-use Rattle.std.proofs.Common.{◌≡◌, ◌↔◌, ℕ, ◌+◌, ◌*◌, ◌%◌, ℤ, Bool, Option, None, Some, List, [], ◌∷◌, map, refl, sym, ◌∙◌, ap}
+use Rattle.std.proofs.Common.{◌≡◌, ◌+◌, ◌*◌, ◌%◌, ℤ, Option, None, Some, [], ◌∷◌, refl, sym, ◌∙◌, ap}
 use Rattle.std.specs.Prelude.{codes, unsigned_abs}
 use Rattle.jiff.specs.Types.{Date}
 use Rattle.jiff.specs.Words.{epoch_day}
 use Rattle.jiff.proofs.Family.{epoch_day_injective}
-use Rattle.readings.specs.declared.reading.Reading.{Reading}
 use Rattle.readings.specs.declared.reading.Reading.TheVariants as reading
-use Rattle.readings.specs.Ranges.{Holds, IsValid, date as date_range}
-use Rattle.sentence_rows.specs.Calendar.{CivilDate, IsDateOf, civil_date}
+use Rattle.readings.specs.Ranges.{Holds, date as date_range}
+use Rattle.sentence_rows.specs.Calendar.{civil_date}
 use Rattle.sentence_rows.specs.Laws.{SaidInOneWay}
 use Rattle.sentence_rows.specs.Lines.{sentence_by}
 use Rattle.sentence_rows.specs.Rmc.{date_number}
-use Rattle.sentence_rows.specs.Writing.{Dated, IsText, said, said_on, sentences_of, zda, zda_on}
+use Rattle.sentence_rows.specs.Writing.{zda, zda_on}
 use Rattle.sentence_rows.proofs.CivilDates.{dates_are_the_calendars}
 
 -- a date of the same day is said in the same fields
