@@ -193,18 +193,6 @@ sentence_fits talker formatter fields two three printable short =
     let b = length_body fields printable in
     simp length-append (omega (arith, b))
 
--- what is written of the body behind its comma is the sentence of the fields
-pub written_sentence : (talker formatter body rest new : List ℕ) (fields : List Field) (b : Bool) → length talker ≡ 2 → length formatter ≡ 3
-    → AllByRecursion IsPrintable fields → body_width fields ≤ 71 → 0 < length fields → body ≡ body_text fields → rest ≡ drop 1 body
-    → (length (sentence (parts_of talker formatter rest)) ≤ 82 → IsTrue b) → (IsTrue b → new ≡ sentence (parts_of talker formatter rest))
-    → new ≡ sentence_by talker formatter fields
-written_sentence talker formatter body rest new fields b two three printable short some e r fits written =
-    let same : sentence (parts_of talker formatter rest) ≡ sentence_by talker formatter fields =
-    ap (λ (bs : List ℕ). sentence (record { start = 36; talker = talker; formatter = formatter; body = bs })) (behind_comma body rest fields some e r) in
-    let room : length (sentence (parts_of talker formatter rest)) ≤ 82 =
-    let P : List ℕ → Type 0 = λ bs. length bs ≤ 82 in subst P (sym same) (sentence_fits talker formatter fields two three printable short) in
-    written (fits room) ∙ same
-
 -- ---- the fields of a body
 
 take_one_more : (n c : ℕ) (cs : List ℕ) → take (1 + n) (c ∷ cs) ≡ c ∷ take n cs
@@ -249,19 +237,25 @@ fields_text (f ∷ fs) h =
 abbrev said_by : List ℕ → List ℕ → List ℕ → Result SentenceParts SentenceFault
 said_by talker formatter body = Ok (record { start = 36; talker = talker; formatter = formatter; body = body })
 
--- a sentence that is written is read back
-pub read_back : (talker formatter body rest new : List ℕ) (fields : List Field) (b : Bool) → length talker ≡ 2 → length formatter ≡ 3
+-- what is written of the body behind its comma is the sentence of the fields, and is read back
+pub record Written (talker formatter : List ℕ) (fields : List Field) (new : List ℕ) : Type 0 where
+  pub text : new ≡ sentence_by talker formatter fields
+  pub again : IsReadBack talker formatter fields
+
+pub written : (talker formatter body rest new : List ℕ) (fields : List Field) (b : Bool) → length talker ≡ 2 → length formatter ≡ 3
     → AllByRecursion IsPrintable fields → body_width fields ≤ 71 → 0 < length fields → body ≡ body_text fields → rest ≡ drop 1 body
     → (length (sentence (parts_of talker formatter rest)) ≤ 82 → IsTrue b) → (IsTrue b → new ≡ sentence (parts_of talker formatter rest))
-    → (IsTrue b → read new ≡ Ok (parts_of talker formatter rest)) → IsReadBack talker formatter fields
-read_back talker formatter body rest new fields b two three printable short some e r fits written again =
+    → (IsTrue b → read new ≡ Ok (parts_of talker formatter rest)) → Written talker formatter fields new
+written talker formatter body rest new fields b two three printable short some e r fits text again =
     let comma = behind_comma body rest fields some e r in
     let same : sentence (parts_of talker formatter rest) ≡ sentence_by talker formatter fields =
     ap (λ (bs : List ℕ). sentence (record { start = 36; talker = talker; formatter = formatter; body = bs })) comma in
-    let room : length (sentence (parts_of talker formatter rest)) ≤ 82 =
-    let P : List ℕ → Type 0 = λ bs. length bs ≤ 82 in subst P (sym same) (sentence_fits talker formatter fields two three printable short) in
-    let done = fits room in
+    let P : List ℕ → Type 0 = λ bs. length bs ≤ 82 in
+    let done = fits (subst P (sym same) (sentence_fits talker formatter fields two three printable short)) in
     record {
-      is_sentence = ap read (sym (written done ∙ same)) ∙ again done ∙ ap (said_by talker formatter) comma;
-      has_fields = fields_text fields printable;
+      text = text done ∙ same;
+      again = record {
+        is_sentence = ap read (sym (text done ∙ same)) ∙ again done ∙ ap (said_by talker formatter) comma;
+        has_fields = fields_text fields printable;
+      };
     }

@@ -1,6 +1,6 @@
 -- A date that is printed is read as the same day.
-use Rattle.std.proofs.Common.{◌≡◌, ℕ, ◌+◌, ◌<◌, ℤ, pos, ◌≤ℤ◌, ◌<ℤ◌, Bool, true, false, Option, Some, None, Result, Ok, [], refl, sym, ap, ◌∙◌, inl, arith}
-use Rattle.std.specs.Prelude.{◌&&◌, ◌||◌, ◌==◌, unsigned_abs, if◌then◌else◌}
+use Rattle.std.proofs.Common.{◌≡◌, ℕ, ◌+◌, ◌^◌, ◌<◌, ◌≤◌, ℤ, pos, ◌≤ℤ◌, ◌<ℤ◌, Bool, true, false, Some, None, Result, Ok, [], refl, sym, ap, ◌∙◌, inl, arith}
+use Rattle.std.specs.Prelude.{◌||◌, ◌==◌, unsigned_abs, if◌then◌else◌}
 use Rattle.std.specs.Int.{IsInRange}
 use Rattle.std.proofs.lemmas.Int.{ints, by_lt_z}
 use Rattle.jiff.specs.Types.{Date}
@@ -9,27 +9,23 @@ use Rattle.jiff.proofs.Family.{epoch_day-lt}
 use Rattle.jiff_core.specs.Calendar.{day_count, days_from_civil}
 use Rattle.readings.specs.Ranges.{Holds, date as date_range}
 use Rattle.sentence_rows.specs.declared.fault.FieldFault.{FieldFault}
+use Rattle.unit_fraction.specs.Text.{decimals}
 use Rattle.sentence_rows.specs.declared.field.Field.TheVariants.{Digits}
 use Rattle.sentence_rows.specs.Field.{text_of}
-use Rattle.sentence_rows.specs.Fault.{given}
 use Rattle.sentence_rows.specs.Columns as spec
 use Rattle.sentence_rows.proofs.CivilDates.{no_months, years_least}
 use Rattle.sentence_rows.proofs.Dates.{dated, inside}
 use Rattle.sentence_rows.proofs.FixedTexts.{digits_of, no_digits, digits_decimals, length_decimals, number_decimals}
-use Rattle.sentence_rows.proofs.Texted.{Fields, blank_none, blank_some, given_at}
+use Rattle.sentence_rows.proofs.Texted.{Fields, blank_none, blank_some}
 
 abbrev said_digits : ℕ → Result ℕ FieldFault
 said_digits n = Ok n
 
-read_two : (f : Fields) (at : ℕ) (may_lack : Bool) (n : ℕ) → n < 100 → spec.field_at f at ≡ Some (text_of (Digits (Some n) 2)) → spec.digits f at may_lack 1 2 ≡ Ok n
-read_two f at may_lack n small e =
-    let len = length_decimals 2 n in
-    digits_of f at may_lack 1 2 (text_of (Digits (Some n) 2)) e (omega (arith, len)) (omega (arith, len)) (omega (arith, len)) (digits_decimals 2 n) ∙ ap said_digits (number_decimals 2 n small)
-
-read_four : (f : Fields) (at : ℕ) (may_lack : Bool) (n : ℕ) → n < 10000 → spec.field_at f at ≡ Some (text_of (Digits (Some n) 4)) → spec.digits f at may_lack 4 4 ≡ Ok n
-read_four f at may_lack n small e =
-    let len = length_decimals 4 n in
-    digits_of f at may_lack 4 4 (text_of (Digits (Some n) 4)) e (omega (arith, len)) (omega (arith, len)) (omega (arith, len)) (digits_decimals 4 n) ∙ ap said_digits (number_decimals 4 n small)
+read_digits : (f : Fields) (at : ℕ) (may_lack : Bool) (least width n : ℕ) → 0 < width → least ≤ width → n < 10 ^ width → spec.field_at f at ≡ Some (text_of (Digits (Some n) width))
+    → spec.digits f at may_lack least width ≡ Ok n
+read_digits f at may_lack least width n some low small e =
+    let len = length_decimals width n in
+    digits_of f at may_lack least width (decimals width n) e (omega (arith, len)) (omega (arith, len)) (omega (arith, len)) (digits_decimals width n) ∙ ap said_digits (number_decimals width n small)
 
 -- ---- the calendar before the year 0
 
@@ -72,40 +68,22 @@ not_before d after = by_lt_z d.year (pos 0) (λ lt. let e = epoch_day-lt d first
 
 -- ---- the three fields
 
-abbrev said_day : ℤ → Result (Option ℤ) FieldFault
-said_day day = Ok (Some day)
-
 pub date_said : (f : Fields) (at : ℕ) (d : Date) (day : ℤ) → epoch_day d ≡ day → Holds date_range day
     → spec.field_at f at ≡ Some (text_of (Digits (Some d.day) 2)) → spec.field_at f (at + 1) ≡ Some (text_of (Digits (Some d.month) 2))
     → spec.field_at f (at + 2) ≡ Some (text_of (Digits (Some (unsigned_abs d.year)) 4)) → spec.date f at ≡ Ok (Some day)
 unfolding spec.date spec.are_blank
 date_said f at d day on within e1 e2 e3 =
-    let none = spec.is_blank f at && spec.is_blank f (at + 1) && spec.is_blank f (at + 2) in
     let blank : spec.is_blank f at ≡ false = blank_some f at (text_of (Digits (Some d.day) 2)) e1 (omega (arith, length_decimals 2 d.day)) in
-    let there : none ≡ false = rw blank refl in
     let b = month_bounds d.year d.month in
     let after : pos 0 ≤ℤ epoch_day d = omega (arith, ints, within.0, on) in
     let year : d.year ≡ pos (unsigned_abs d.year) = let y = not_before d after in omega (arith, ints, y) in
     let in_year = d.year_in in
-    let short : unsigned_abs d.year < 10000 = omega (arith, ints, in_year.0, in_year.1) in
-    let day_small : d.day < 100 = omega (arith, d.day_in.1, b.1) in
-    let month_small : d.month < 100 = omega (arith, d.month_in.1) in
-    let r1 = read_two f at none d.day day_small e1 in
-    let r2 = read_two f (at + 1) none d.month month_small e2 in
-    let r3 = read_four f (at + 2) none (unsigned_abs d.year) short e3 in
-    given_at (spec.digits f at none 1 2) d.day (λ x. given (spec.digits f (at + 1) none 1 2) (λ m. given (spec.digits f (at + 2) none 4 4) (λ y. if none then Ok None else spec.day_in at (spec.day_number y m x)))) r1
-    ∙ given_at (spec.digits f (at + 1) none 1 2) d.month (λ m. given (spec.digits f (at + 2) none 4 4) (λ y. if none then Ok None else spec.day_in at (spec.day_number y m d.day))) r2
-    ∙ given_at (spec.digits f (at + 2) none 4 4) (unsigned_abs d.year) (λ y. if none then Ok None else spec.day_in at (spec.day_number y d.month d.day)) r3
-    ∙ ap (λ (n : Bool). if n then Ok None else spec.day_in at (spec.day_number (unsigned_abs d.year) d.month d.day)) there
-    ∙ ap (spec.day_in at) (dated (unsigned_abs d.year) d.month d.day d (year, refl, refl) ∙ ap spec.day_within on ∙ sym (inside day within))
+    let r1 = read_digits f at false 1 2 d.day (omega arith) (omega arith) (omega (arith, d.day_in.1, b.1)) e1 in
+    let r2 = read_digits f (at + 1) false 1 2 d.month (omega arith) (omega arith) (omega (arith, d.month_in.1)) e2 in
+    let r3 = read_digits f (at + 2) false 4 4 (unsigned_abs d.year) (omega arith) (omega arith) (omega (arith, ints, in_year.0, in_year.1)) e3 in
+    rw (blank, r1, r2, r3) (ap (spec.day_in at) (dated (unsigned_abs d.year) d.month d.day d (year, refl, refl) ∙ ap spec.day_within on ∙ sym (inside day within)))
 
 pub no_date_said : (f : Fields) (at : ℕ) → spec.field_at f at ≡ Some [] → spec.field_at f (at + 1) ≡ Some [] → spec.field_at f (at + 2) ≡ Some [] → spec.date f at ≡ Ok None
 unfolding spec.date spec.are_blank
 no_date_said f at e1 e2 e3 =
-    let b1 = blank_none f at e1 in
-    let b2 = blank_none f (at + 1) e2 in
-    let b3 = blank_none f (at + 2) e3 in
-    let r1 = no_digits f at 1 2 e1 in
-    let r2 = no_digits f (at + 1) 1 2 e2 in
-    let r3 = no_digits f (at + 2) 4 4 e3 in
-    rw (b1, b2, b3, r1, r2, r3) refl
+    rw (blank_none f at e1, blank_none f (at + 1) e2, blank_none f (at + 2) e3, no_digits f at 1 2 e1, no_digits f (at + 1) 1 2 e2, no_digits f (at + 2) 4 4 e3) refl

@@ -1,5 +1,5 @@
 -- Texts of a fixed number of digits, which are read as the numbers that they write.
-use Rattle.std.proofs.Common.{◌≡◌, ℕ, zero, suc, ◌+◌, ◌*◌, ◌/◌, ◌%◌, ◌^◌, ◌<◌, ◌≤◌, ℤ, pos, Bool, true, false, Option, Some, None, Result, Ok, Err, List, [], ◌∷◌, ◌++◌, length, length-append, take, drop, refl, sym, ap, ◌∙◌, arith}
+use Rattle.std.proofs.Common.{◌≡◌, ℕ, zero, suc, ◌+◌, ◌*◌, ◌/◌, ◌%◌, ◌^◌, ◌<◌, ◌≤◌, ℤ, pos, Bool, true, false, Option, Some, None, Result, Ok, List, [], ◌∷◌, ◌++◌, length, length-append, take, drop, refl, sym, ap, ◌∙◌, arith}
 use Rattle.std.specs.Prelude.{◌==◌, nat_le, nat_lt, unsigned_abs, IsTrue, if◌then◌else◌}
 use Rattle.std.specs.Char.{is_ascii_digit}
 use Rattle.std.specs.Fmt.{decimal}
@@ -21,13 +21,12 @@ use Rattle.sentence_rows.specs.declared.written_unit.WrittenUnit.{WrittenUnit}
 use Rattle.sentence_rows.specs.declared.digits.Fixed.{Fixed}
 use Rattle.sentence_rows.specs.declared.read_unit.ReadUnit.{ReadUnit}
 use Rattle.sentence_rows.specs.declared.fault.FieldFault.{FieldFault}
-use Rattle.sentence_rows.specs.declared.fault.FieldFault.TheVariants.{Range as OutOfRange}
 use Rattle.sentence_rows.specs.declared.field.Field.TheVariants.{Degrees, Satellites, Side, Time}
 use Rattle.sentence_rows.specs.Field.{count, degrees_text, text_of, time_text}
 use Rattle.sentence_rows.specs.Columns as spec
 use Rattle.sentence_rows.proofs.Again.{Paired, back, count_size, is_paired, nearest_mono, nearest_quotient, no_more_either, paired, printed, quotient, same_coordinate, scales, size_again, there_again}
 use Rattle.sentence_rows.proofs.DigitNumbers.{list_all_digits}
-use Rattle.sentence_rows.proofs.Texted.{Back, Fields, blank_none, blank_some, given_at, says_at, size_of, toward_of}
+use Rattle.sentence_rows.proofs.Texted.{Back, Fields, blank_none, blank_some, size_of, toward_of}
 
 -- ---- digits
 
@@ -95,15 +94,6 @@ degrees_some : (at : ℕ) (q : ReadUnit) (width : ℕ) (bytes : List ℕ) → 0 
 degrees_some at q width [] h = absurd (omega arith)
 degrees_some at q width (c ∷ cs) h = refl
 
-minutes_split : (m : ℕ) → m / 600000 * 100 + m % 600000 / 10000 ≡ m / 600000 * 100 + m % 600000 / 10000
-minutes_split m = refl
-
-below_sixty : (a b : ℕ) → b < 60 → (a * 100 + b) % 100 ≡ b
-below_sixty a b h = omega arith
-
-hundreds : (a b : ℕ) → b < 60 → (a * 100 + b) / 100 ≡ a
-hundreds a b h = omega arith
-
 whole_minutes : (m : ℕ) → (m / 600000 * 60 + m % 600000 / 10000) * 10000 + m % 10000 ≡ m
 whole_minutes m = omega arith
 
@@ -121,34 +111,30 @@ degrees_read at width m q below =
     let w : number whole ≡ a * 100 + b = two_behind (decimals width a) b (omega arith) ∙ ap (λ (n : ℕ). n * 100 + b) (number_decimals width a below) in
     let p : number part ≡ m % 10000 = number_decimals 4 (m % 10000) (omega arith) in
     let four = length_decimals 4 (m % 10000) in
-    let is : spec.fixed_in (width + 2) 9 (whole ++ 46 ∷ part) ≡ fixed_by (a * 100 + b) (m % 10000) 4 =
-    fixed_text (width + 2) 9 whole part (digits_joined (decimals width a) (decimals 2 b) (digits_decimals width a) (digits_decimals 2 b)) len (digits_decimals 4 (m % 10000)) (omega (arith, four))
-    ∙ ap (λ (n : ℕ). fixed_by n (number part) (length part)) w ∙ ap (λ (n : ℕ). fixed_by (a * 100 + b) n (length part)) p ∙ ap (λ (n : ℕ). fixed_by (a * 100 + b) (m % 10000) n) four in
-    degrees_some at q (width + 2) (whole ++ 46 ∷ part) long
-    ∙ ap (spec.degrees_in at q) is
-    ∙ in_range at q a b (m % 10000) m sixty (whole_minutes m)
+    let is : spec.fixed_in (width + 2) 9 (whole ++ 46 ∷ part) ≡ fixed_by (number whole) (number part) (length part) =
+    fixed_text (width + 2) 9 whole part (digits_joined (decimals width a) (decimals 2 b) (digits_decimals width a) (digits_decimals 2 b)) len (digits_decimals 4 (m % 10000)) (omega (arith, four)) in
+    degrees_some at q (width + 2) (whole ++ 46 ∷ part) long ∙ rw (is, w, p, four) (in_range at q a b (m % 10000) m sixty (whole_minutes m))
   where
     in_range : (at : ℕ) (q : ReadUnit) (a b part m : ℕ) → b < 60 → (a * 60 + b) * 10000 + part ≡ m
         → spec.degrees_in at q (fixed_by (a * 100 + b) part 4) ≡ spec.scaled at q (Some (record { negative = false; digits = m; places = 4 }))
     in_range at q a b part m small e =
-        let rest : (a * 100 + b) % 100 ≡ b = below_sixty a b small in
-        let deg : (a * 100 + b) / 100 ≡ a = hundreds a b small in
+        let rest : (a * 100 + b) % 100 ≡ b = omega arith in
+        let deg : (a * 100 + b) / 100 ≡ a = omega arith in
         let under : nat_le 60 b ≡ false = lt-leb 60 b small in
         rw (rest, deg, under, e) refl
 
 degrees_of_raw : (f : Fields) (at width : ℕ) (q : ReadUnit) (u : WrittenUnit) (raw : Option ℤ) → Paired u q → Admits (ranges.either_side q.most) raw → u.places ≡ 4
     → printed u q.most / 600000 < 10 ^ width → spec.field_at f at ≡ Some (text_of (Degrees raw u width)) → spec.degrees f at q (width + 2) ≡ Ok (size_of q u raw)
 unfolding spec.degrees
-degrees_of_raw f at width q u None p held four ends e = says_at (spec.field_at f at) [] at (spec.degrees_of at q (width + 2)) e
+degrees_of_raw f at width q u None p held four ends e = rw e refl
 degrees_of_raw f at width q u (Some raw) p held four ends e =
     let m = unsigned_abs (count u raw) in
     let le = no_more_either q.most raw held in
     let most : printed u (unsigned_abs raw) ≤ printed u q.most =
     nearest_mono (unsigned_abs raw * u.num) (q.most * u.num) u.den p.den (mul-le (unsigned_abs raw) u.num q.most u.num le (omega arith)) in
-    says_at (spec.field_at f at) (degrees_text width m) at (spec.degrees_of at q (width + 2)) e
-    ∙ degrees_read at width m q (omega (arith, count_size u raw, most, ends))
-    ∙ ap (λ (k : ℕ). spec.scaled at q (Some (record { negative = false; digits = m; places = k }))) (sym four)
-    ∙ scales q u false m at p.by (size_again u q raw p le)
+    let places : spec.scaled at q (Some (record { negative = false; digits = m; places = 4 })) ≡ Ok (size_of q u (Some raw)) =
+    ap (λ (k : ℕ). spec.scaled at q (Some (record { negative = false; digits = m; places = k }))) (sym four) ∙ scales q u false m at p.by (size_again u q raw p le) in
+    rw e (degrees_read at width m q (omega (arith, count_size u raw, most, ends)) ∙ places)
 
 pub coordinate_back : (f : Fields) (at width : ℕ) (q : ReadUnit) (u : WrittenUnit) (v : Option ℤ) (first second : ℕ) → IsTrue (is_paired u q) → Admits (ranges.either_side q.most) v → u.places ≡ 4
     → quotient (q.most * u.num) u.den / 600000 < 10 ^ width → (first == second) ≡ false
@@ -216,23 +202,19 @@ time_read at raw le =
     two_behind front s (omega arith) ∙ ap (λ (x : ℕ). x * 100 + s) (two_behind (decimals 2 h) m (omega arith) ∙ ap (λ (x : ℕ). x * 100 + m) (number_decimals 2 h (omega arith))) in
     let p : number part ≡ c = number_decimals 2 c (omega arith) in
     let all : AreDigits whole = digits_joined front (decimals 2 s) (digits_joined (decimals 2 h) (decimals 2 m) (digits_decimals 2 h) (digits_decimals 2 m)) (digits_decimals 2 s) in
-    let is : spec.fixed_in 6 4 (whole ++ 46 ∷ part) ≡ fixed_by ((h * 100 + m) * 100 + s) c 2 =
-    fixed_text 6 4 whole part all len (digits_decimals 2 c) (omega (arith, two))
-    ∙ ap (λ (x : ℕ). fixed_by x (number part) (length part)) w ∙ ap (λ (x : ℕ). fixed_by ((h * 100 + m) * 100 + s) x (length part)) p ∙ ap (λ (x : ℕ). fixed_by ((h * 100 + m) * 100 + s) c x) two in
-    time_some at (whole ++ 46 ∷ part) long
-    ∙ ap (spec.time_in at) is
-    ∙ in_day at h m s c hours (omega arith) (omega arith) (omega arith)
-    ∙ ap said_time (hundredths n)
+    let is : spec.fixed_in 6 4 (whole ++ 46 ∷ part) ≡ fixed_by (number whole) (number part) (length part) = fixed_text 6 4 whole part all len (digits_decimals 2 c) (omega (arith, two)) in
+    let parts : fixed_by (number whole) (number part) (length part) ≡ fixed_by ((h * 100 + m) * 100 + s) c 2 = cc in
+    time_some at (whole ++ 46 ∷ part) long ∙ ap (spec.time_in at) (is ∙ parts) ∙ in_day at h m s c hours (omega arith) (omega arith) (omega arith) ∙ ap said_time (hundredths n)
 
 pub time_back : (f : Fields) (at : ℕ) (v : Option ℤ) → Admits ranges.time v → spec.field_at f at ≡ Some (text_of (Time v)) → Back (spec.time f at) (λ x. Time x ∷ []) v
 unfolding spec.time
-time_back f at None held e = record { value = None; is = says_at (spec.field_at f at) [] at (spec.time_of at) e; same = refl; there = refl }
+time_back f at None held e = record { value = None; is = rw e refl; same = refl; there = refl }
 time_back f at (Some raw) held e =
     let n = unsigned_abs raw in
     let again : n / 100 * 100 / 100 ≡ n / 100 = omega arith in
     record {
       value = back_time (Some raw);
-      is = says_at (spec.field_at f at) (time_text n) at (spec.time_of at) e ∙ time_read at n (omega (arith, ints, held.0, held.1));
+      is = rw e (time_read at n (omega (arith, ints, held.0, held.1)));
       same = rw again refl;
       there = refl;
     }
@@ -253,12 +235,11 @@ digits_some at may_lack least most (c ∷ cs) some low high h =
 pub digits_of : (f : Fields) (at : ℕ) (may_lack : Bool) (least most : ℕ) (bytes : List ℕ) → spec.field_at f at ≡ Some bytes → 0 < length bytes → least ≤ length bytes → length bytes ≤ most
     → AreDigits bytes → spec.digits f at may_lack least most ≡ Ok (number bytes)
 unfolding spec.digits
-digits_of f at may_lack least most bytes e some low high h =
-    says_at (spec.field_at f at) bytes at (spec.digits_in at may_lack least most) e ∙ digits_some at may_lack least most bytes some low high h
+digits_of f at may_lack least most bytes e some low high h = rw e (digits_some at may_lack least most bytes some low high h)
 
 pub no_digits : (f : Fields) (at least most : ℕ) → spec.field_at f at ≡ Some [] → spec.digits f at true least most ≡ Ok 0
 unfolding spec.digits
-no_digits f at least most e = says_at (spec.field_at f at) [] at (spec.digits_in at true least most) e
+no_digits f at least most e = rw e refl
 
 -- the number of satellites, and the method of a fix
 abbrev satellites_text : ℕ → List ℕ
@@ -289,16 +270,12 @@ satellites_of f at n le e =
     let t : Counted n (satellites_text n) = counted_text n (nat_lt n 10) (omega arith) refl in
     let blank = blank_some f at (satellites_text n) e t.some in
     let fits : nat_le n 252 ≡ true = le-leb n 252 le in
-    given_at (spec.digits f at true 1 3) n (λ x. if spec.is_blank f at then Ok None else if nat_le x 252 then Ok (Some (pos x)) else Err (OutOfRange at))
-    (digits_of f at true 1 3 (satellites_text n) e t.some t.some t.few t.are_digits ∙ ap said_number t.value)
-    ∙ rw (blank, fits) refl
+    let digits : spec.digits f at true 1 3 ≡ Ok n = digits_of f at true 1 3 (satellites_text n) e t.some t.some t.few t.are_digits ∙ ap said_number t.value in
+    rw (digits, blank, fits) refl
 
 no_satellites : (f : Fields) (at : ℕ) → spec.field_at f at ≡ Some [] → spec.satellites f at ≡ Ok None
 unfolding spec.satellites
-no_satellites f at e =
-    let blank = blank_none f at e in
-    given_at (spec.digits f at true 1 3) 0 (λ n. if spec.is_blank f at then Ok None else if nat_le n 252 then Ok (Some (pos n)) else Err (OutOfRange at)) (no_digits f at 1 3 e)
-    ∙ rw blank refl
+no_satellites f at e = rw (no_digits f at 1 3 e, blank_none f at e) refl
 
 pub satellites_back : (f : Fields) (at : ℕ) (v : Option ℤ) → Admits ranges.satellites v → spec.field_at f at ≡ Some (text_of (Satellites v)) → Back (spec.satellites f at) (λ x. Satellites x ∷ []) v
 satellites_back f at None held e = record { value = None; is = no_satellites f at e; same = refl; there = refl }
@@ -310,6 +287,6 @@ unfolding spec.quality
 quality_of f at m le e =
     let value : number ((48 + m) ∷ []) ≡ m = omega arith in
     let fits : nat_le m 8 ≡ true = le-leb m 8 le in
-    given_at (spec.digits f at true 1 1) m (λ n. if nat_le n 8 then Ok n else Err (OutOfRange at))
-    (digits_of f at true 1 1 ((48 + m) ∷ []) e (omega arith) (omega arith) (omega arith) (one_digit m (omega arith)) ∙ ap said_number value)
-    ∙ rw fits refl
+    let digits : spec.digits f at true 1 1 ≡ Ok m =
+    digits_of f at true 1 1 ((48 + m) ∷ []) e (omega arith) (omega arith) (omega arith) (one_digit m (omega arith)) ∙ ap said_number value in
+    rw (digits, fits) refl

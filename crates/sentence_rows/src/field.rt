@@ -1,4 +1,4 @@
-ghost use Rattle.std.specs.Prelude.{◌≡◌, ◌+◌, ◌≤◌, ◌<◌, ◌^◌, ◌++◌, length, IsTrue, nat_lt, unsigned_abs};
+ghost use Rattle.std.specs.Prelude.{◌≡◌, ◌+◌, ◌/◌, ◌≤◌, ◌<◌, ◌^◌, ◌++◌, length, IsTrue, nat_lt, unsigned_abs};
 ghost use Rattle.unit_fraction.specs.Text.{decimal_text, decimals};
 ghost use Rattle.sentence_rows.specs.Field.{IsCounted, IsPrintable, count, is_sound, text_of, width_of};
 
@@ -147,6 +147,13 @@ fn append_angle(raw: Option<i64>, out: &mut ArrayVec<u8, 82>)
     }
 }
 
+/// The whole degrees of a count of ten-thousandths of a minute.
+fn whole_degrees(minutes: u64) -> u64
+    ensures { result ≡ minutes / 600000 }
+{
+    minutes / 600_000
+}
+
 /// Appends degrees, and minutes with four decimals.
 fn append_degrees(raw: Option<i64>, unit: WrittenUnit, width: u8, out: &mut ArrayVec<u8, 82>)
     requires sound { IsTrue (is_sound unit) }
@@ -156,7 +163,7 @@ fn append_degrees(raw: Option<i64>, unit: WrittenUnit, width: u8, out: &mut Arra
 {
     if let Some(raw) = raw {
         let minutes = size(raw, unit);
-        append_digits(minutes / 600_000, width, out);
+        append_digits(whole_degrees(minutes), width, out);
         append_digits(minutes % 600_000 / 10_000, 2, out);
         out.push(b'.');
         append_digits(minutes % 10_000, 4, out);
