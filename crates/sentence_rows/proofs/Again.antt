@@ -106,12 +106,10 @@ read_within u q size p le =
 -- ---- signs
 
 pub abs-signed : (negative : Bool) (n : ℕ) → unsigned_abs (signed negative n) ≡ n
-abs-signed true n = abs-neg n
-abs-signed false n = refl
+abs-signed negative n = grind (arith, abs-neg)
 
 pub sign_size : (c : ℤ) → signed (is_negative c) (unsigned_abs c) ≡ c
-sign_size (pos n) = refl
-sign_size (negsuc n) = refl
+sign_size c = grind arith
 
 pub count_size : (u : WrittenUnit) (raw : ℤ) → unsigned_abs (count u raw) ≡ printed u (unsigned_abs raw)
 count_size u raw = abs-round (raw *ℤ pos u.num) u.den ∙ ap (λ (n : ℕ). nearest n u.den) (unsigned_abs-mul raw (pos u.num))
@@ -169,8 +167,7 @@ same_coordinate u q (Some raw) width first second p =
     ap (λ (c : ℤ). degrees_text width (unsigned_abs c) ∷ ((if is_negative c then second else first) ∷ []) ∷ []) (count_again u q raw p)
 
 pub there_again : (u : WrittenUnit) (q : ReadUnit) (raw : Option ℤ) → is_some (back q u raw) ≡ is_some raw
-there_again u q None = refl
-there_again u q (Some raw) = refl
+there_again u q raw = grind arith
 
 abbrev some_size : ℕ → Option ℤ
 some_size n = Some (pos n)
@@ -214,8 +211,7 @@ pub no_more_either : (most : ℕ) (raw : ℤ) → Holds (ranges.either_side most
 no_more_either most raw h = omega (arith, ints, h.0, h.1)
 
 no_more : (signed : Bool) (most : ℕ) (raw : ℤ) → Holds (if signed then ranges.either_side most else ranges.up_to most) raw → unsigned_abs raw ≤ most
-no_more true most raw h = no_more_either most raw h
-no_more false most raw h = omega (arith, ints, h.0, h.1)
+no_more signed most raw h = grind (arith, ints)
 
 sign_fits : (u : WrittenUnit) (signed : Bool) (most : ℕ) (raw : ℤ) → Holds (if signed then ranges.either_side most else ranges.up_to most) raw
     → (is_negative (count u raw) && not signed) ≡ false

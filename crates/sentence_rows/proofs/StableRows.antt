@@ -96,8 +96,7 @@ kept ths k fields same rest r is said_so e =
 -- ---- values that are there
 
 only_there : (v : Option ℤ) (b : Bool) → is_some v ≡ b → only_if b v ≡ v
-only_there None b e = rw (← e) refl
-only_there (Some x) b e = rw (← e) refl
+only_there v b e = grind arith
 
 same_letter : (v w : Option ℤ) (first second : ℕ) → is_some v ≡ is_some w → letter_where (is_some v) first second ≡ letter_where (is_some w) first second
 same_letter v w first second e = ap (λ (t : Bool). letter_where t first second) e
@@ -109,8 +108,7 @@ unfolding rows.hdt
 hdt ths h =
     let f = texts (text.hdt h) in
     let a = measure_back f 1 quantity.angle 84 (λ x. Angle x ∷ []) h (angle_back f 1 h refl) refl in
-    let same : texts (text.hdt a.value) ≡ f = let s = a.same in cc in
-    kept ths formatter.Hdt (text.hdt h) (text.hdt a.value) (if ths then (codes "THS", text.ths a.value) ∷ [] else []) (reading.HeadingTrue a.value) (rw a.is refl) (λ talker. refl) same
+    kept ths formatter.Hdt (text.hdt h) (text.hdt a.value) (if ths then (codes "THS", text.ths a.value) ∷ [] else []) (reading.HeadingTrue a.value) (rw a.is refl) (λ talker. refl) (cc)
 
 -- THS comes behind HDT
 ths_behind : (h : Option ℤ) → Kept true (codes "THS", text.ths h)
@@ -132,8 +130,7 @@ hdg ths h d v in_d in_v =
     let a = angle_back f 1 h refl in
     let x = sided_back f 2 quantity.deviation unit.degrees d 69 87 refl in_d refl refl refl in
     let y = sided_back f 4 quantity.deviation unit.degrees v 69 87 refl in_v refl refl refl in
-    let same : texts (text.hdg a.value x.value y.value) ≡ f = let s = a.same in let t = x.same in let w = y.same in cc in
-    kept ths formatter.Hdg (text.hdg h d v) (text.hdg a.value x.value y.value) [] (reading.HeadingMagnetic a.value x.value y.value) (rw (a.is, x.is, y.is) refl) (λ talker. refl) same
+    kept ths formatter.Hdg (text.hdg h d v) (text.hdg a.value x.value y.value) [] (reading.HeadingMagnetic a.value x.value y.value) (rw (a.is, x.is, y.is) refl) (λ talker. refl) (cc)
 
 rot : (ths : Bool) (r : Option ℤ) → Admits ranges.rate_of_turn r → Kept ths (codes "ROT", text.rot r)
 unfolding rows.rot
@@ -196,8 +193,7 @@ dpt ths d o r in_d in_o in_r =
     let a = number_back f 1 quantity.metres unit.metres d refl in_d refl in
     let b = number_back f 2 quantity.offset_metres unit.offset_metres o refl in_o refl in
     let c = number_back f 3 quantity.range_metres unit.range_metres r refl in_r refl in
-    let same : texts (text.dpt a.value b.value c.value) ≡ f = let s = a.same in let t = b.same in let w = c.same in cc in
-    kept ths formatter.Dpt (text.dpt d o r) (text.dpt a.value b.value c.value) ((codes "DBT", text.dbt a.value) ∷ []) (reading.Depth a.value b.value c.value) (rw (a.is, b.is, c.is) refl) (λ talker. refl) same
+    kept ths formatter.Dpt (text.dpt d o r) (text.dpt a.value b.value c.value) ((codes "DBT", text.dbt a.value) ∷ []) (reading.Depth a.value b.value c.value) (rw (a.is, b.is, c.is) refl) (λ talker. refl) (cc)
 
 -- DBT comes behind DPT, and says all of the depth
 dbt : (ths : Bool) (d : Option ℤ) → Admits ranges.depth d → Kept ths (codes "DBT", text.dbt d)
@@ -222,18 +218,15 @@ vlw ths l t in_l in_t =
     let u = unit.nautical_miles in
     let a = measured f 1 q u 78 l (number_back f 1 q u l refl in_l refl) refl in
     let b = measured f 3 q u 78 t (number_back f 3 q u t refl in_t refl) refl in
-    let same : texts (text.vlw a.value b.value) ≡ f = let s = a.same in let w = b.same in cc in
-    kept ths formatter.Vlw (text.vlw l t) (text.vlw a.value b.value) [] (reading.DistanceLog a.value b.value) (rw (a.is, b.is) refl) (λ talker. refl) same
+    kept ths formatter.Vlw (text.vlw l t) (text.vlw a.value b.value) [] (reading.DistanceLog a.value b.value) (rw (a.is, b.is) refl) (λ talker. refl) (cc)
 
 -- ---- temperature
 
 above_again : (c : Option ℤ) → text.above_freezing (rows.from_freezing c) ≡ c
-above_again None = refl
-above_again (Some x) = let e : (x +ℤ pos 273150) -ℤ pos 273150 ≡ x = omega (arith, ints) in rw e refl
+above_again c = grind (arith, ints)
 
 celsius_within : (k : Option ℤ) → Admits ranges.water_temperature k → Admits (ranges.either_side 100000) (text.above_freezing k)
-celsius_within None h = tt
-celsius_within (Some x) h = (omega (arith, ints, h.0, h.1), omega (arith, ints, h.0, h.1))
+celsius_within k h = grind (arith, ints)
 
 mtw : (ths : Bool) (k : Option ℤ) → Admits ranges.water_temperature k → Kept ths (codes "MTW", text.mtw k)
 unfolding rows.mtw
@@ -249,8 +242,7 @@ mtw ths k in_k =
 -- ---- cross track error
 
 twice : (b : Bool) → (b && b) ≡ b
-twice true = refl
-twice false = refl
+twice b = grind arith
 
 xte : (ths : Bool) (x : Option ℤ) → Admits ranges.cross_track x → Kept ths (codes "XTE", text.xte x)
 unfolding rows.xte
@@ -294,16 +286,10 @@ vhw ths s in_s =
 -- ---- directions, true or else magnetic
 
 direction : (m : Bool) (c : Option ℤ) → first_of_two (back_angle (only_if (not m) c)) (back_angle (only_if m c)) ≡ back_angle c
-direction true None = refl
-direction true (Some x) = refl
-direction false None = refl
-direction false (Some x) = refl
+direction m c = grind arith
 
 magnetic : (m : Bool) (c : Option ℤ) → (is_none (only_if (not m) c) && not (is_none (only_if m c))) ≡ (m && is_some c)
-magnetic true None = refl
-magnetic true (Some x) = refl
-magnetic false None = refl
-magnetic false (Some x) = refl
+magnetic m c = grind arith
 
 -- a direction is read from the north that it is said from, where it is there
 record Directed (f : Fields) (m : Bool) (c : Option ℤ) : Type 0 where
@@ -341,18 +327,13 @@ same_magnetic false (Some raw) = refl
 
 -- what is said of two values where one of them is there
 either_there : (c s : Option ℤ) → (is_some (back_angle c) || is_some s) ≡ (is_some c || is_some s)
-either_there None s = refl
-either_there (Some x) s = refl
+either_there c s = grind arith
 
 only_either : (c s : Option ℤ) → only_if (is_some c || is_some s) (back_angle c) ≡ back_angle c
-only_either None None = refl
-only_either None (Some y) = refl
-only_either (Some x) s = refl
+only_either c s = grind arith
 
 only_other : (c s : Option ℤ) → only_if (is_some c || is_some s) s ≡ s
-only_other None None = refl
-only_other None (Some y) = refl
-only_other (Some x) s = refl
+only_other c s = grind arith
 
 vtg_of : (f : Fields) (m there : Bool) (c s : Option ℤ) → spec.either_unit f 1 quantity.angle 84 quantity.angle 77 ≡ Ok c
     → spec.either_unit f 5 quantity.knots 78 quantity.kilometres_per_hour 75 ≡ Ok s → spec.is_magnetic f ≡ m → spec.field_at f 9 ≡ Some (letter_where there 65 78 ∷ [])
@@ -429,10 +410,7 @@ abbrev Both : Option ℤ → Option ℤ → Type 0
 Both la lo = is_some la ≡ is_some lo
 
 both_beside : (la lo : Option ℤ) → Both (beside la lo) (beside lo la)
-both_beside None None = refl
-both_beside None (Some y) = refl
-both_beside (Some x) None = refl
-both_beside (Some x) (Some y) = refl
+both_beside la lo = grind arith
 
 beside_same : (v other : Option ℤ) → Both v other → beside v other ≡ v
 beside_same v other e = only_there v (is_some other) e
@@ -519,16 +497,14 @@ zda ths None t None in_day in_t on =
     let f = texts (text.zda t None) in
     let a = time_back f 1 t in_t refl in
     let e = no_date_said f 2 refl refl refl in
-    let same : texts (text.zda a.value None) ≡ f = let s = a.same in cc in
-    kept ths formatter.Zda (text.zda t None) (text.zda a.value None) [] (reading.Time None a.value) (rw (a.is, e) refl) (λ talker. refl) same
+    kept ths formatter.Zda (text.zda t None) (text.zda a.value None) [] (reading.Time None a.value) (rw (a.is, e) refl) (λ talker. refl) (cc)
 zda ths None t (Some d) in_day in_t on = cc
 zda ths (Some day) t None in_day in_t on = absurd on
 zda ths (Some day) t (Some d) in_day in_t on =
     let f = texts (text.zda t (Some d)) in
     let a = time_back f 1 t in_t refl in
     let e = date_said f 2 d day on in_day refl refl refl in
-    let same : texts (text.zda a.value (Some d)) ≡ f = let s = a.same in cc in
-    kept ths formatter.Zda (text.zda t (Some d)) (text.zda a.value (Some d)) [] (reading.Time (Some day) a.value) (rw (a.is, e) refl) (λ talker. (d, on, refl)) same
+    kept ths formatter.Zda (text.zda t (Some d)) (text.zda a.value (Some d)) [] (reading.Time (Some day) a.value) (rw (a.is, e) refl) (λ talker. (d, on, refl)) (cc)
 
 -- ---- each sentence of a valid reading
 

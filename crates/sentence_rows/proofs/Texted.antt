@@ -90,45 +90,31 @@ either_of f at q letter other other_letter (Some x) b m n long = rw (m, counted_
 
 -- ---- statuses, modes and references
 
-status_text : (there beside_nothing : Bool) (at : ℕ) → spec.which at 65 86 beside_nothing (letter_where there 65 86 ∷ []) ≡ Ok there
-status_text true beside_nothing at = refl
-status_text false beside_nothing at = refl
-
 pub status_of : (f : Fields) (at : ℕ) (beside_nothing there : Bool) → spec.field_at f at ≡ Some (letter_where there 65 86 ∷ []) → spec.status f at beside_nothing ≡ Ok there
 unfolding spec.status
-status_of f at beside_nothing there e = rw e (status_text there beside_nothing at)
-
-mode_text : (there : Bool) (at : ℕ) → spec.mode_of at (letter_where there 65 86 ∷ []) ≡ Ok there
-mode_text true at = refl
-mode_text false at = refl
+status_of f at beside_nothing there e = grind arith
 
 pub mode_said : (f : Fields) (at : ℕ) (there : Bool) → spec.field_at f at ≡ Some (letter_where there 65 86 ∷ []) → spec.heading_mode f at ≡ Ok there
 unfolding spec.heading_mode
-mode_said f at there e = rw e (mode_text there at)
+mode_said f at there e = grind arith
 
 pub reference_of : (f : Fields) (at : ℕ) (from_true : Bool) → spec.field_at f at ≡ Some ((if from_true then 84 else 82) ∷ []) → spec.reference f at ≡ Ok from_true
 unfolding spec.reference
-reference_of f at true e = rw e refl
-reference_of f at false e = rw e refl
+reference_of f at from_true e = grind arith
 
 -- ---- sides
-
-side_text : (at first second : ℕ) (b : Bool) → (first == second) ≡ false → spec.which at second first false ((if b then second else first) ∷ []) ≡ Ok b
-side_text at first second true ne = let same : (second == second) ≡ true = eq-eqb second second refl in rw same refl
-side_text at first second false ne = let same : (first == first) ≡ true = eq-eqb first first refl in rw (ne, same) refl
 
 side_of : (f : Fields) (at first second : ℕ) (b : Bool) → (first == second) ≡ false → spec.field_at f at ≡ Some ((if b then second else first) ∷ [])
     → spec.side f at first second false ≡ Ok b
 unfolding spec.side
-side_of f at first second b ne e = rw e (side_text at first second b ne)
+side_of f at first second b ne e = grind arith
 
 side_nowhere : (f : Fields) (at first second : ℕ) (bytes : List ℕ) → spec.field_at f at ≡ Some bytes → spec.side f at first second true ≡ Ok false
 unfolding spec.side
 side_nowhere f at first second bytes e = rw e refl
 
 toward_signed : (b : Bool) (n : ℕ) → spec.toward b (Some (pos n)) ≡ Some (signed b n)
-toward_signed true n = refl
-toward_signed false n = refl
+toward_signed b n = grind arith
 
 abbrev said_value : Option ℤ → Result (Option ℤ) FieldFault
 said_value v = Ok v
@@ -187,8 +173,7 @@ same_angle (Some raw) =
     ap (λ (n : ℕ). decimal_text false (n % 3600) 1) e ∙ ap (λ (n : ℕ). decimal_text false n 1) (let h : t % 3600 ≡ t = omega arith in h)
 
 angle_there : (h : Option ℤ) → is_some (back_angle h) ≡ is_some h
-angle_there None = refl
-angle_there (Some raw) = refl
+angle_there h = grind arith
 
 pub angle_of : (f : Fields) (at : ℕ) (h : Option ℤ) → spec.field_at f at ≡ Some (text_of (Angle h)) → spec.number f at quantity.angle ≡ Ok (back_angle h)
 angle_of f at h e = number_of f at quantity.angle (text_of (Angle h)) (back_angle h) e (reads_angle h)

@@ -36,9 +36,7 @@ unfolding spec.decimal
 decimal_fits fields at may_be_signed = grind arith
 
 sign_shown : (negative may_be_signed : Bool) → (negative && not may_be_signed) ≡ false → may_be_signed ≡ false → negative ≡ false
-sign_shown false may_be_signed h e = refl
-sign_shown true true h e = e
-sign_shown true false h e = h
+sign_shown negative may_be_signed h e = grind arith
 
 holds_by : (may_be_signed : Bool) (most : ℕ) (x : ℤ) → unsigned_abs x ≤ most → (may_be_signed ≡ false → pos 0 ≤ℤ x)
     → Holds (if may_be_signed then ranges.either_side most else ranges.up_to most) x
@@ -66,9 +64,7 @@ unfolding spec.either_unit
 either_within fields at q letter other other_letter same = grind (arith, measure_within)
 
 toward_within : (most : ℕ) (negative : Bool) (v : Option ℤ) → Admits (ranges.up_to most) v → Admits (ranges.either_side most) (spec.toward negative v)
-toward_within most negative None h = tt
-toward_within most true (Some raw) h = (omega (arith, ints), omega (arith, ints))
-toward_within most false (Some raw) h = (omega (arith, ints), omega (arith, ints))
+toward_within most negative v h = grind (arith, ints)
 
 sided_within : (fields : List (List ℕ)) (at : ℕ) (q : ReadUnit) (positive negative : ℕ) → q.signed ≡ false
     → Admits (ranges.either_side q.most) (value (spec.sided fields at q positive negative))
@@ -163,39 +159,27 @@ date_within : (fields : List (List ℕ)) (at : ℕ) → Admits ranges.date (valu
 unfolding spec.date
 date_within fields at = grind (arith, day_number_within)
 
-few_satellites : (n : ℕ) → n ≤ 252 → Holds ranges.satellites (pos n)
-few_satellites n le = (omega (arith, ints), omega (arith, ints))
-
 satellites_within : (fields : List (List ℕ)) (at : ℕ) → Admits ranges.satellites (value (spec.satellites fields at))
 unfolding spec.satellites
-satellites_within fields at = grind (arith, leb-true, few_satellites)
+satellites_within fields at = grind (arith, ints, leb-true)
 
 abbrev IsMethod : ℕ → Type 0
 IsMethod n = Holds ranges.method (pos n)
 
-method_at : (n : ℕ) → n ≤ 8 → IsMethod n
-method_at n le = (omega (arith, ints), omega (arith, ints))
-
 quality_within : (fields : List (List ℕ)) (at : ℕ) → IsMethod (result_unwrap_or (spec.quality fields at) 0)
 unfolding spec.quality
-quality_within fields at = grind (arith, leb-true, method_at)
+quality_within fields at = grind (arith, ints, leb-true)
 
 -- ---- rows
 
 only_within : (range : Range) (meant : Bool) (v : Option ℤ) → Admits range v → Admits range (only_if meant v)
-only_within range true v h = h
-only_within range false v h = tt
+only_within range meant v h = grind arith
 
 pub beside_within : (range : Range) (v other : Option ℤ) → Admits range v → Admits range (beside v other)
 beside_within range v other h = only_within range (is_some other) v h
 
 kelvin_within : (v : Option ℤ) → Admits (ranges.either_side 100000) v → Admits ranges.water_temperature (rows.from_freezing v)
-kelvin_within None h = tt
-kelvin_within (Some x) h = (omega (arith, ints), omega (arith, ints))
-
--- ---- rows
-
--- a reading, valid where there is no fault
+kelvin_within v h = grind (arith, ints)
 
 valid_as : (formatter : Formatter) (f : List (List ℕ)) → IfOk (rows.read_as formatter f) rows.AreValid
 unfolding rows.hdt rows.ths rows.hdg rows.rot rows.rsa rows.vhw rows.dpt rows.depth_range rows.dbt rows.vlw rows.gll rows.vtg rows.gga rows.zda rows.mwv rows.mwd rows.mtw rows.xte
