@@ -1,5 +1,5 @@
 -- A body has only bytes that a sentence may have, and room for them.
-use Rattle.std.proofs.Common.{◌≡◌, ℕ, zero, suc, ◌+◌, ◌/◌, ◌%◌, ◌^◌, ◌<◌, ◌≤◌, Bool, true, false, ◌&&◌, IsTrue, List, [], ◌∷◌, ◌++◌, Option, Result, Ok, length, length-append, map, take, drop, get_or, refl, sym, ap, subst, ◌∙◌, append_assoc, arith}
+use Rattle.std.proofs.Common.{◌≡◌, ℕ, zero, suc, ◌+◌, ◌/◌, ◌%◌, ◌^◌, ◌<◌, ◌≤◌, Bool, true, false, IsTrue, List, [], ◌∷◌, ◌++◌, Option, Result, Ok, length, length-append, map, take, drop, get_or, refl, sym, ap, subst, ◌∙◌, append_assoc, arith}
 use Rattle.std.specs.Prelude.{Some, None, ◌==◌, not, nat_lt, unsigned_abs, if◌then◌else◌}
 use Rattle.std.specs.Char.{is_ascii_digit}
 use Rattle.std.specs.Fmt.{decimal}
@@ -7,7 +7,7 @@ use Rattle.std.specs.List.{AllByRecursion, list_all, position_or_len}
 use Rattle.std.specs.Str.{all_ascii_digits}
 use Rattle.std.proofs.Math.Nat.{div-le_self}
 use Rattle.std.proofs.Math.Seq.{drop-cons}
-use Rattle.std.proofs.lemmas.Bool.{not-true}
+use Rattle.std.proofs.lemmas.Bool.{and_parts, not-true}
 use Rattle.std.proofs.lemmas.Bool.Decides.{nat_tests}
 use Rattle.std.proofs.lemmas.Fmt.{digits_decimal}
 use Rattle.std.proofs.lemmas.List.Folds.{list_all-append}
@@ -50,14 +50,10 @@ decimals_bytes (suc k) n =
 ascii_byte : (c : ℕ) → is_ascii_digit c ≡ true → is_field_byte c ≡ true
 ascii_byte c h = grind (arith, nat_tests)
 
-both : (a b : Bool) → (a && b) ≡ true → (a ≡ true) × (b ≡ true)
-both true b e = (refl, e)
-both false b e = cc
-
 digits_bytes : (ds : List ℕ) → all_ascii_digits ds ≡ true → AreBytes ds
 digits_bytes [] h = refl
 digits_bytes (d ∷ ds) h =
-    let parts = both (is_ascii_digit d) (all_ascii_digits ds) h in
+    let parts = and_parts (is_ascii_digit d) (all_ascii_digits ds) h in
     joined (d ∷ []) ds (one d (ascii_byte d parts.0)) (digits_bytes ds parts.1)
 
 decimal_bytes : (n : ℕ) → n < 2 ^ 64 → AreBytes (decimal n)
@@ -129,8 +125,8 @@ AreBody bytes = list_all is_body_byte bytes ≡ true
 in_body : (bytes : List ℕ) → AreBytes bytes → AreBody bytes
 in_body [] h = refl
 in_body (c ∷ cs) h =
-    let parts = both (is_field_byte c) (list_all is_field_byte cs) h in
-    let front = both (is_body_byte c) (not (c == 44)) parts.0 in
+    let parts = and_parts (is_field_byte c) (list_all is_field_byte cs) h in
+    let front = and_parts (is_body_byte c) (not (c == 44)) parts.0 in
     let rest = in_body cs parts.1 in
     rw (front.0, rest) refl
 
@@ -183,7 +179,7 @@ capital_is_address c h = rw h refl
 pub capitals_are_address : (cs : List ℕ) → IsTrue (list_all is_capital cs) → IsTrue (list_all is_address_byte cs)
 capitals_are_address [] h = refl
 capitals_are_address (c ∷ cs) h =
-    let parts = both (is_capital c) (list_all is_capital cs) h in
+    let parts = and_parts (is_capital c) (list_all is_capital cs) h in
     rw (capital_is_address c parts.0) (capitals_are_address cs parts.1)
 
 -- a body of the least room makes a sentence of at most 82 bytes
@@ -205,8 +201,8 @@ before_comma c cs e =
 
 no_comma : (c : ℕ) (cs : List ℕ) → AreBytes (c ∷ cs) → ((c == 44) ≡ false) × AreBytes cs
 no_comma c cs h =
-    let parts = both (is_field_byte c) (list_all is_field_byte cs) h in
-    let front = both (is_body_byte c) (not (c == 44)) parts.0 in
+    let parts = and_parts (is_field_byte c) (list_all is_field_byte cs) h in
+    let front = and_parts (is_body_byte c) (not (c == 44)) parts.0 in
     (not-true (c == 44) front.1, parts.1)
 
 front_again : (t rest : List ℕ) → AreBytes t → field_at_front rest ≡ [] → field_at_front (t ++ rest) ≡ t

@@ -15,7 +15,8 @@ use Rattle.sentence_rows.specs.Field.{text_of}
 use Rattle.sentence_rows.specs.Columns as spec
 use Rattle.sentence_rows.proofs.CivilDates.{no_months, years_least}
 use Rattle.sentence_rows.proofs.Dates.{dated, inside}
-use Rattle.sentence_rows.proofs.FixedTexts.{digits_of, no_digits, digits_decimals, length_decimals, number_decimals}
+use Rattle.sentence_rows.proofs.FixedTexts.{digits_of, no_digits, digits_decimals, number_decimals}
+use Rattle.sentence_rows.proofs.Texts.{length_decimals}
 use Rattle.sentence_rows.proofs.Texted.{Fields, blank_none, blank_some}
 
 abbrev said_digits : ℕ → Result ℕ FieldFault

@@ -1,7 +1,8 @@
 -- The calendar of the standard library of dates and that of the definitions are one.
 use Rattle.std.proofs.Common.{◌≡◌, ℕ, ◌≤◌, Bool, true, false, Some, None, ℤ, pos, negsuc, refl, sym, ap, subst, ◌∙◌, arith, inl, inr}
 use Rattle.std.specs.Prelude.{nat_le}
-use Rattle.std.proofs.lemmas.Bool.{both_ways, cases_Bool, leb-true, and_parts, and_from, le-leb}
+use Rattle.std.proofs.lemmas.Bool.{both_ways, cases_Bool, leb-true, and_parts, le-leb}
+use Rattle.std.proofs.lemmas.Bool.Decides.{nat_tests}
 use Rattle.std.proofs.lemmas.Int.{ints}
 use Rattle.jiff.specs.Types.{Date}
 use Rattle.jiff.specs.Words.{IsDate, IsYear, IsYmd, days_in_month, epoch_day}
@@ -39,15 +40,9 @@ tests year month day date is =
     let d : date.day ≡ day = same_pos date.day day is.2 in
     let most : days_in_month date.year date.month ≡ days_in_month (pos year) month = ap (λ (y : ℤ). days_in_month y date.month) is.0 ∙ ap (days_in_month (pos year)) m in
     let in_year : IsYear (pos year) = let P : ℤ → Type 0 = λ y. IsYear y in subst P is.0 date.year_in in
-    let low : 1 ≤ month = omega (arith, date.month_in.0, m) in
-    let high : month ≤ 12 = omega (arith, date.month_in.1, m) in
-    let first : 1 ≤ day = omega (arith, date.day_in.0, d) in
-    let last : day ≤ days_in_month (pos year) month = omega (arith, date.day_in.1, d, most) in
-    record {
-      year_is = le-leb year 9999 (omega (arith, ints, in_year.1));
-      month_is = and_from (nat_le 1 month) (nat_le month 12) (le-leb 1 month low) (le-leb month 12 high);
-      day_is = and_from (nat_le 1 day) (nat_le day (days_in_month (pos year) month)) (le-leb 1 day first) (le-leb day (days_in_month (pos year) month) last);
-    }
+    let month_in = date.month_in in
+    let day_in = date.day_in in
+    record { year_is = grind (arith, ints, nat_tests); month_is = grind (arith, nat_tests); day_is = grind (arith, nat_tests) }
 
 -- the day number where there is the date
 dated_if : (year month day : ℕ) (date : Date) (y m d : Bool) (ey : is_year year ≡ y) (em : is_month month ≡ m) (ed : is_day year month day ≡ d)

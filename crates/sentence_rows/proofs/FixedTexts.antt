@@ -26,6 +26,7 @@ use Rattle.sentence_rows.specs.Field.{count, degrees_text, text_of, time_text}
 use Rattle.sentence_rows.specs.Columns as spec
 use Rattle.sentence_rows.proofs.Again.{Paired, back, count_size, is_paired, nearest_mono, nearest_quotient, no_more_either, paired, printed, quotient, same_coordinate, scales, size_again, there_again}
 use Rattle.sentence_rows.proofs.DigitNumbers.{list_all_digits}
+use Rattle.sentence_rows.proofs.Texts.{length_decimals}
 use Rattle.sentence_rows.proofs.Texted.{Back, Fields, blank_none, blank_some, size_of, toward_of}
 
 -- ---- digits
@@ -45,10 +46,6 @@ one_digit m h = let d : is_ascii_digit (48 + m) ≡ true = digit_at m h in rw d 
 pub digits_decimals : (k n : ℕ) → AreDigits (decimals k n)
 digits_decimals zero n = refl
 digits_decimals (suc k) n = digits_joined (decimals k (n / 10)) ((48 + n % 10) ∷ []) (digits_decimals k (n / 10)) (one_digit (n % 10) (omega arith))
-
-pub length_decimals : (k n : ℕ) → length (decimals k n) ≡ k
-length_decimals zero n = refl
-length_decimals (suc k) n = let rest = length_decimals k (n / 10) in simp length-append (omega (arith, rest))
 
 number_push : (n : ℕ) (ds : List ℕ) (d : ℕ) → number_after n (ds ++ (48 + d) ∷ []) ≡ number_after n ds * 10 + d
 number_push n ds d = number_after_append n ds ((48 + d) ∷ []) ∙ omega arith

@@ -1,5 +1,5 @@
 -- Each sentence that is written is read as one reading, which is said in it again.
-use Rattle.std.proofs.Common.{◌≡◌, ℕ, ◌+◌, ◌≤◌, ℤ, pos, ◌+ℤ◌, ◌-ℤ◌, Bool, true, false, Option, Some, None, Result, Ok, List, [], ◌∷◌, ◌++◌, All, length, map, refl, sym, ap, ◌∙◌, arith}
+use Rattle.std.proofs.Common.{◌≡◌, ℕ, ◌+◌, ◌≤◌, ℤ, pos, Bool, true, false, Option, Some, None, Result, Ok, List, [], ◌∷◌, ◌++◌, All, length, map, refl, sym, ap, ◌∙◌, arith}
 use Rattle.std.specs.Prelude.{◌&&◌, ◌||◌, not, codes, is_none, is_some, Contains, if◌then◌else◌}
 use Rattle.std.specs.List.{AllByRecursion}
 use Rattle.std.proofs.lemmas.Int.{ints}
@@ -30,7 +30,7 @@ use Rattle.sentence_rows.specs.Stable.{IsReadBack, IsSaid, IsStable, parts_by}
 use Rattle.sentence_rows.specs.Writing as text
 use Rattle.sentence_rows.specs.Writing.{Dated, IsText, beside, day_said, letter_where, only_if, said}
 use Rattle.sentence_rows.proofs.Again.{ReadsAs, back, paired, reads_decimal, reads_nothing, same_decimal}
-use Rattle.sentence_rows.proofs.Texted.{Back, Fields, angle_back, angle_of, back_angle, blank_angle, either_of, first_of_two, measure_back, measure_of, mode_said, number_back, number_of, reads_exactly, reference_of, same_angle, sided_back, status_of, texts, unit_of, wind_of}
+use Rattle.sentence_rows.proofs.Texted.{Fields, angle_back, angle_of, back_angle, blank_angle, either_of, first_of_two, angle_measured, measured, measure_of, mode_said, number_back, number_of, reads_exactly, reference_of, same_angle, sided_back, status_of, texts, unit_of, wind_of}
 use Rattle.sentence_rows.proofs.FixedTexts.{coordinate_back, quality_of, satellites_back, time_back}
 use Rattle.sentence_rows.proofs.DateTexts.{date_said, no_date_said}
 use Rattle.sentence_rows.proofs.Valid.{beside_within}
@@ -107,7 +107,7 @@ hdt : (ths : Bool) (h : Option ℤ) → Kept ths (codes "HDT", text.hdt h)
 unfolding rows.hdt
 hdt ths h =
     let f = texts (text.hdt h) in
-    let a = measure_back f 1 quantity.angle 84 (λ x. Angle x ∷ []) h (angle_back f 1 h refl) refl in
+    let a = angle_measured f 1 84 h refl refl in
     kept ths formatter.Hdt (text.hdt h) (text.hdt a.value) (if ths then (codes "THS", text.ths a.value) ∷ [] else []) (reading.HeadingTrue a.value) (rw a.is refl) (λ talker. refl) (cc)
 
 -- THS comes behind HDT
@@ -205,19 +205,14 @@ dbt ths d in_d =
     kept_at ths formatter.Dbt (text.dbt d) (reading.Depth d None None) ((codes "DPT", text.dpt d None None) ∷ (codes "DBT", text.dbt d) ∷ []) (rw m refl) (λ talker. refl)
     (λ talker. (1, omega arith, refl))
 
--- a number and its unit
-measured : (f : Fields) (at : ℕ) (q : ReadUnit) (u : WrittenUnit) (letter : ℕ) (v : Option ℤ) → Back (spec.number f at q) (λ x. Decimal x u ∷ []) v → spec.field_at f (at + 1) ≡ Some (letter ∷ [])
-    → Back (spec.measure f at q letter) (λ x. Decimal x u ∷ []) v
-measured f at q u letter v n e = measure_back f at q letter (λ x. Decimal x u ∷ []) v n e
-
 vlw : (ths : Bool) (l t : Option ℤ) → Admits ranges.water_distance l → Admits ranges.water_distance t → Kept ths (codes "VLW", text.vlw l t)
 unfolding rows.vlw
 vlw ths l t in_l in_t =
     let f = texts (text.vlw l t) in
     let q = quantity.nautical_miles in
     let u = unit.nautical_miles in
-    let a = measured f 1 q u 78 l (number_back f 1 q u l refl in_l refl) refl in
-    let b = measured f 3 q u 78 t (number_back f 3 q u t refl in_t refl) refl in
+    let a = measured f 1 q u 78 l refl in_l refl refl in
+    let b = measured f 3 q u 78 t refl in_t refl refl in
     kept ths formatter.Vlw (text.vlw l t) (text.vlw a.value b.value) [] (reading.DistanceLog a.value b.value) (rw (a.is, b.is) refl) (λ talker. refl) (cc)
 
 -- ---- temperature
@@ -234,7 +229,7 @@ mtw ths k in_k =
     let f = texts (text.mtw k) in
     let q = quantity.celsius in
     let c = text.above_freezing k in
-    let a = measured f 1 q unit.celsius 67 c (number_back f 1 q unit.celsius c refl (celsius_within k in_k) refl) refl in
+    let a = measured f 1 q unit.celsius 67 c refl (celsius_within k in_k) refl refl in
     let kelvin = rows.from_freezing a.value in
     let same : texts (text.mtw kelvin) ≡ f = let s : texts (Decimal a.value unit.celsius ∷ Letter 67 ∷ []) ≡ f = let t = a.same in cc in ap (λ (x : Option ℤ). texts (Decimal x unit.celsius ∷ Letter 67 ∷ [])) (above_again a.value) ∙ s in
     kept ths formatter.Mtw (text.mtw k) (text.mtw kelvin) [] (reading.WaterTemperature kelvin) (rw a.is refl) (λ talker. refl) same
@@ -468,8 +463,8 @@ gga ths t la lo al m n h s in_t in_la in_lo in_al in_m in_n in_h in_s both =
     let quality = quality_of f 6 method g.small (ap one_letter g.letter) in
     let seen = satellites_back f 7 n in_n refl in
     let hdop = number_back f 8 quantity.dilution unit.dilution h refl in_h refl in
-    let above = measured f 9 quantity.altitude_metres unit.altitude_metres 77 al (number_back f 9 quantity.altitude_metres unit.altitude_metres al refl in_al refl) refl in
-    let apart = measured f 11 quantity.separation_metres unit.separation_metres 77 s (number_back f 11 quantity.separation_metres unit.separation_metres s refl in_s refl) refl in
+    let above = measured f 9 quantity.altitude_metres unit.altitude_metres 77 al refl in_al refl refl in
+    let apart = measured f 11 quantity.separation_metres unit.separation_metres 77 s refl in_s refl refl in
     let together : Both a.value b.value = a.there ∙ both ∙ sym b.there in
     let y1 = beside_same a.value b.value together in
     let y2 = beside_same b.value a.value (sym together) in

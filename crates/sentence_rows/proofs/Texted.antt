@@ -73,9 +73,11 @@ pub measure_of : (f : Fields) (at : ℕ) (q : ReadUnit) (letter : ℕ) (v : Opti
 unfolding spec.measure
 measure_of f at q letter v n e = rw (n, unit_of f (at + 1) letter (is_none v) e) refl
 
-pub measure_back : (f : Fields) (at : ℕ) (q : ReadUnit) (letter : ℕ) (written : Option ℤ → List Field) (v : Option ℤ) → Back (spec.number f at q) written v
-    → spec.field_at f (at + 1) ≡ Some (letter ∷ []) → Back (spec.measure f at q letter) written v
-measure_back f at q letter written v n e = record { value = n.value; is = measure_of f at q letter n.value n.is e; same = n.same; there = n.there }
+pub measured : (f : Fields) (at : ℕ) (q : ReadUnit) (u : WrittenUnit) (letter : ℕ) (v : Option ℤ) → IsTrue (is_paired u q) → Admits (range_of q) v
+    → spec.field_at f at ≡ Some (text_of (Decimal v u)) → spec.field_at f (at + 1) ≡ Some (letter ∷ []) → Back (spec.measure f at q letter) (λ x. Decimal x u ∷ []) v
+measured f at q u letter v pair held e l =
+    let n = number_back f at q u v pair held e in
+    record { value = n.value; is = measure_of f at q letter n.value n.is l; same = n.same; there = n.there }
 
 -- the first of two measures that is there
 abbrev pub first_of_two : Option ℤ → Option ℤ → Option ℤ
@@ -180,6 +182,12 @@ angle_of f at h e = number_of f at quantity.angle (text_of (Angle h)) (back_angl
 
 pub angle_back : (f : Fields) (at : ℕ) (h : Option ℤ) → spec.field_at f at ≡ Some (text_of (Angle h)) → Back (spec.number f at quantity.angle) (λ x. Angle x ∷ []) h
 angle_back f at h e = record { value = back_angle h; is = angle_of f at h e; same = ap (λ (t : List ℕ). t ∷ []) (same_angle h); there = angle_there h }
+
+pub angle_measured : (f : Fields) (at letter : ℕ) (h : Option ℤ) → spec.field_at f at ≡ Some (text_of (Angle h)) → spec.field_at f (at + 1) ≡ Some (letter ∷ [])
+    → Back (spec.measure f at quantity.angle letter) (λ x. Angle x ∷ []) h
+angle_measured f at letter h e l =
+    let n = angle_back f at h e in
+    record { value = n.value; is = measure_of f at quantity.angle letter n.value n.is l; same = n.same; there = n.there }
 
 -- ---- blank fields
 

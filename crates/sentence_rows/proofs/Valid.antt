@@ -1,16 +1,14 @@
 -- Each value that is read is in its range.
-use Rattle.std.proofs.Common.{◌≡◌, ℕ, ◌+◌, ◌-◌, ◌*◌, ◌/◌, ◌%◌, ◌^◌, ◌<◌, ◌≤◌, ℤ, pos, negsuc, ◌≤ℤ◌, Bool, true, false, List, [], ◌∷◌, length, take, drop, Option, Some, None, Result, refl, inl, inr, arith}
-use Rattle.std.specs.Prelude.{◌&&◌, ◌==◌, not, nat_le, nat_lt, unsigned_abs, is_some, IfOk, IfSome, if◌then◌else◌}
-use Rattle.std.specs.Char.{is_ascii_digit}
-use Rattle.std.specs.List.{list_all}
+use Rattle.std.proofs.Common.{◌≡◌, ℕ, ◌+◌, ◌*◌, ◌^◌, ◌<◌, ◌≤◌, ℤ, pos, ◌≤ℤ◌, Bool, true, false, List, [], ◌∷◌, Option, Some, None, Result, arith}
+use Rattle.std.specs.Prelude.{◌&&◌, not, unsigned_abs, is_some, IfOk, IfSome, if◌then◌else◌}
 use Rattle.std.specs.Result.{result_unwrap_or}
-use Rattle.std.proofs.lemmas.Bool.{cases_Bool, leb-true, ltb-true, and_parts}
+use Rattle.std.proofs.lemmas.Bool.{leb-true}
+use Rattle.std.proofs.lemmas.Bool.Decides.{nat_tests}
 use Rattle.std.proofs.lemmas.Int.{ints}
 use Rattle.readings.specs.declared.range.Range.{Range}
 use Rattle.readings.specs.Ranges as ranges
 use Rattle.readings.specs.Ranges.{Admits, Holds, IsValid}
 use Rattle.unit_fraction.specs.declared.decimal.Decimal.{Decimal}
-use Rattle.unit_fraction.specs.Digits.{number as number_of_digits}
 use Rattle.unit_fraction.specs.Round.{nearest}
 use Rattle.sentence_rows.specs.declared.digits.Fixed.{Fixed}
 use Rattle.sentence_rows.specs.declared.fault.FieldFault.{FieldFault}
@@ -40,8 +38,7 @@ sign_shown negative may_be_signed h e = grind arith
 
 holds_by : (may_be_signed : Bool) (most : ℕ) (x : ℤ) → unsigned_abs x ≤ most → (may_be_signed ≡ false → pos 0 ≤ℤ x)
     → Holds (if may_be_signed then ranges.either_side most else ranges.up_to most) x
-holds_by true most x within above = (omega (arith, ints), omega (arith, ints))
-holds_by false most x within above = (above refl, omega (arith, ints))
+holds_by may_be_signed most x within above = grind (arith, ints)
 
 raw_above : (q : ReadUnit) (d : Decimal) → d.negative ≡ false → pos 0 ≤ℤ spec.raw_of q d
 unfolding spec.raw_of
@@ -103,31 +100,19 @@ abbrev HasPart : ℕ → Fixed → Type 0
 HasPart most x = (x.part < 10 ^ x.places) × (x.places ≤ most)
 
 part_of : (whole most : ℕ) (rest : List ℕ) → IfSome (spec.with_part whole (spec.part_behind most rest)) (HasPart most)
-part_of whole most [] = (omega arith, omega arith)
-part_of whole most (c ∷ cs) =
-    elim (cases_Bool ((c == 46) && nat_le (length cs) most && list_all is_ascii_digit cs)) [
-      | inl e ↦ rw e (let p = and_parts ((c == 46) && nat_le (length cs) most) (list_all is_ascii_digit cs) e in
-          let q = and_parts (c == 46) (nat_le (length cs) most) p.0 in
-          (small cs p.1, leb-true (length cs) most q.1))
-      | inr e ↦ rw e tt
-    ]
+part_of whole most rest = grind (arith, nat_tests, small)
 
 fixed_part : (width most : ℕ) (bytes : List ℕ) → IfSome (spec.fixed_in width most bytes) (HasPart most)
 unfolding spec.fixed_in
-fixed_part width most bytes = elim (cases_Bool (nat_le width (length bytes) && list_all is_ascii_digit (take width bytes))) [
-  | inl e ↦ rw e (part_of (number_of_digits (take width bytes)) most (drop width bytes))
-  | inr e ↦ rw e tt
-]
+fixed_part width most bytes = grind (arith, part_of)
 
 time_bound : (h m s part : ℕ) → h < 24 → m < 60 → s < 60 → part < 10000 → Holds ranges.time (pos ((h * 3600 + m * 60 + s) * 10000 + part))
 time_bound h m s part hours minutes seconds few = (omega (arith, ints), omega (arith, ints))
 
 time_raw_within : (x : Fixed) → HasPart 4 x → spec.is_time x ≡ true → Holds ranges.time (spec.time_raw x)
 time_raw_within x h e =
-    let p = and_parts (nat_lt (x.whole / 10000) 24 && nat_lt (x.whole / 100 % 100) 60) (nat_lt (x.whole % 100) 60) e in
-    let q = and_parts (nat_lt (x.whole / 10000) 24) (nat_lt (x.whole / 100 % 100) 60) p.0 in
-    time_bound (x.whole / 10000) (x.whole / 100 % 100) (x.whole % 100) (x.part * 10 ^ (4 - x.places))
-    (ltb-true (x.whole / 10000) 24 q.0) (ltb-true (x.whole / 100 % 100) 60 q.1) (ltb-true (x.whole % 100) 60 p.1) (decimals_below x.places x.part h.1 h.0)
+    let few = decimals_below x.places x.part h.1 h.0 in
+    grind (arith, ints, nat_tests, time_bound)
 
 time_in_within : (at : ℕ) (x : Option Fixed) → IfSome x (HasPart 4) → Admits ranges.time (value (spec.time_in at x))
 time_in_within at x h = grind (arith, time_raw_within)
@@ -138,18 +123,10 @@ time_of_within at (c ∷ cs) = time_in_within at (spec.fixed_in 6 4 (c ∷ cs)) 
 
 time_within : (fields : List (List ℕ)) (at : ℕ) → Admits ranges.time (value (spec.time fields at))
 unfolding spec.time
-time_within fields at = said (spec.field_at fields at)
-  where
-    said : (o : Option (List ℕ)) → Admits ranges.time (value (spec.text_says o at (spec.time_of at)))
-    said None = tt
-    said (Some bytes) = time_of_within at bytes
+time_within fields at = grind (arith, time_of_within)
 
 day_within_range : (day : ℤ) → Admits ranges.date (spec.day_within day)
-day_within_range (pos n) = elim (cases_Bool (nat_le n 65532)) [
-  | inl e ↦ rw e (let le : n ≤ 65532 = leb-true n 65532 e in (omega (arith, ints), omega (arith, ints)))
-  | inr e ↦ rw e tt
-]
-day_within_range (negsuc n) = tt
+day_within_range day = grind (arith, ints, nat_tests)
 
 day_number_within : (year month day : ℕ) → Admits ranges.date (spec.day_number year month day)
 unfolding spec.day_number
