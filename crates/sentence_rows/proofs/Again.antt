@@ -123,8 +123,7 @@ pub count_signed : (u : WrittenUnit) (negative : Bool) (n : ℕ) → 0 < u.den �
 count_signed u negative n positive = ap (λ (x : ℤ). round x u.den) (signed-mul negative n u.num) ∙ round_signed negative (n * u.num) u.den positive
 
 shows : (c : ℤ) → shows_minus (is_negative c) (unsigned_abs c) ≡ is_negative c
-shows (pos n) = refl
-shows (negsuc n) = let e : (suc n == 0) ≡ false = ne_eqb (suc n) 0 (λ z. omega arith) in rw e refl
+shows c = grind (arith, nat_tests)
 
 -- ---- the raw value that is read back
 

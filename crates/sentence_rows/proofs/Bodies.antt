@@ -52,9 +52,7 @@ ascii_byte c h = grind (arith, nat_tests)
 
 digits_bytes : (ds : List ℕ) → all_ascii_digits ds ≡ true → AreBytes ds
 digits_bytes [] h = refl
-digits_bytes (d ∷ ds) h =
-    let parts = and_parts (is_ascii_digit d) (all_ascii_digits ds) h in
-    joined (d ∷ []) ds (one d (ascii_byte d parts.0)) (digits_bytes ds parts.1)
+digits_bytes (d ∷ ds) h = grind (arith, ascii_byte, digits_bytes ds)
 
 decimal_bytes : (n : ℕ) → n < 2 ^ 64 → AreBytes (decimal n)
 decimal_bytes n h = digits_bytes (decimal n) (digits_decimal own n h)
@@ -76,26 +74,17 @@ text_bytes negative n places h =
     (behind_bytes places (decimals places n) (decimals_bytes places n)))
 
 side_byte : (b : Bool) (p n : ℕ) → is_field_byte p ≡ true → is_field_byte n ≡ true → AreBytes ((if b then n else p) ∷ [])
-side_byte true p n hp hn = one n hn
-side_byte false p n hp hn = one p hp
+side_byte b p n hp hn = grind arith
 
 satellites_bytes : (n : ℕ) → n < 1000 → (b : Bool) → AreBytes (if b then decimals 2 n else decimal n)
 satellites_bytes n h true = decimals_bytes 2 n
 satellites_bytes n h false = decimal_bytes n (omega arith)
 
 degrees_bytes : (w m : ℕ) → AreBytes (degrees_text w m)
-degrees_bytes w m =
-    joined (decimals w (m / 600000) ++ decimals 2 (m % 600000 / 10000)) (46 ∷ decimals 4 (m % 10000))
-    (joined (decimals w (m / 600000)) (decimals 2 (m % 600000 / 10000)) (decimals_bytes w (m / 600000)) (decimals_bytes 2 (m % 600000 / 10000)))
-    (joined (46 ∷ []) (decimals 4 (m % 10000)) refl (decimals_bytes 4 (m % 10000)))
+degrees_bytes w m = search (joined, decimals_bytes)
 
 time_bytes : (raw : ℕ) → AreBytes (time_text raw)
-time_bytes raw =
-    let n = raw / 100 in
-    joined (decimals 2 (n / 360000) ++ decimals 2 (n / 6000 % 60) ++ decimals 2 (n / 100 % 60)) (46 ∷ decimals 2 (n % 100))
-    (joined (decimals 2 (n / 360000) ++ decimals 2 (n / 6000 % 60)) (decimals 2 (n / 100 % 60))
-    (joined (decimals 2 (n / 360000)) (decimals 2 (n / 6000 % 60)) (decimals_bytes 2 (n / 360000)) (decimals_bytes 2 (n / 6000 % 60))) (decimals_bytes 2 (n / 100 % 60)))
-    (joined (46 ∷ []) (decimals 2 (n % 100)) refl (decimals_bytes 2 (n % 100)))
+time_bytes raw = grind (arith, digit_byte)
 
 pub field_bytes : (f : Field) → IsPrintable f → AreBytes (text_of f)
 field_bytes Empty h = refl
@@ -124,11 +113,7 @@ AreBody bytes = list_all is_body_byte bytes ≡ true
 
 in_body : (bytes : List ℕ) → AreBytes bytes → AreBody bytes
 in_body [] h = refl
-in_body (c ∷ cs) h =
-    let parts = and_parts (is_field_byte c) (list_all is_field_byte cs) h in
-    let front = and_parts (is_body_byte c) (not (c == 44)) parts.0 in
-    let rest = in_body cs parts.1 in
-    rw (front.0, rest) refl
+in_body (c ∷ cs) h = grind (arith, in_body cs)
 
 body_joined : (xs ys : List ℕ) → AreBody xs → AreBody ys → AreBody (xs ++ ys)
 body_joined xs ys p q = list_all-append is_body_byte xs ys ∙ (rw (p, q) refl)
@@ -178,9 +163,7 @@ capital_is_address c h = rw h refl
 
 pub capitals_are_address : (cs : List ℕ) → IsTrue (list_all is_capital cs) → IsTrue (list_all is_address_byte cs)
 capitals_are_address [] h = refl
-capitals_are_address (c ∷ cs) h =
-    let parts = and_parts (is_capital c) (list_all is_capital cs) h in
-    rw (capital_is_address c parts.0) (capitals_are_address cs parts.1)
+capitals_are_address (c ∷ cs) h = grind (arith, capital_is_address, capitals_are_address cs)
 
 -- a body of the least room makes a sentence of at most 82 bytes
 pub sentence_fits : (talker formatter : List ℕ) (fields : List Field) → length talker ≡ 2 → length formatter ≡ 3 → AllByRecursion IsPrintable fields
@@ -200,10 +183,7 @@ before_comma c cs e =
     ap (λ (n : ℕ). take n (c ∷ cs)) len ∙ take_one_more (position_or_len (λ x. x == 44) cs) c cs
 
 no_comma : (c : ℕ) (cs : List ℕ) → AreBytes (c ∷ cs) → ((c == 44) ≡ false) × AreBytes cs
-no_comma c cs h =
-    let parts = and_parts (is_field_byte c) (list_all is_field_byte cs) h in
-    let front = and_parts (is_body_byte c) (not (c == 44)) parts.0 in
-    (not-true (c == 44) front.1, parts.1)
+no_comma c cs h = (grind (arith, nat_tests), grind arith)
 
 front_again : (t rest : List ℕ) → AreBytes t → field_at_front rest ≡ [] → field_at_front (t ++ rest) ≡ t
 front_again [] rest h e = e

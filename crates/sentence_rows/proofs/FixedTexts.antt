@@ -6,6 +6,7 @@ use Rattle.std.specs.Fmt.{decimal}
 use Rattle.std.specs.List.{list_all}
 use Rattle.std.proofs.Math.Nat.{pow-succ'}
 use Rattle.std.proofs.lemmas.Bool.{le-leb, lt-leb, lt-ltb, ltb-true}
+use Rattle.std.proofs.lemmas.Bool.Decides.{nat_tests}
 use Rattle.std.proofs.lemmas.Int.{ints}
 use Rattle.std.proofs.lemmas.Fmt.{decimal_nonempty, digits_decimal, digits_value-decimal, length-decimal-le}
 use Rattle.std.proofs.lemmas.List.{take_at, drop_at}
@@ -37,11 +38,8 @@ AreDigits ds = list_all is_ascii_digit ds ≡ true
 digits_joined : (xs ys : List ℕ) → AreDigits xs → AreDigits ys → AreDigits (xs ++ ys)
 digits_joined xs ys p q = list_all-append is_ascii_digit xs ys ∙ (rw (p, q) refl)
 
-digit_at : (m : ℕ) → m < 10 → is_ascii_digit (48 + m) ≡ true
-digit_at m h = grind arith
-
 one_digit : (m : ℕ) → m < 10 → AreDigits ((48 + m) ∷ [])
-one_digit m h = let d : is_ascii_digit (48 + m) ≡ true = digit_at m h in rw d refl
+one_digit m h = grind arith
 
 pub digits_decimals : (k n : ℕ) → AreDigits (decimals k n)
 digits_decimals zero n = refl
@@ -88,8 +86,7 @@ fixed_text width most whole part w len p few =
 -- ---- positions
 
 degrees_some : (at : ℕ) (q : ReadUnit) (width : ℕ) (bytes : List ℕ) → 0 < length bytes → spec.degrees_of at q width bytes ≡ spec.degrees_in at q (spec.fixed_in width 9 bytes)
-degrees_some at q width [] h = absurd (omega arith)
-degrees_some at q width (c ∷ cs) h = refl
+degrees_some at q width bytes h = grind arith
 
 whole_minutes : (m : ℕ) → (m / 600000 * 60 + m % 600000 / 10000) * 10000 + m % 10000 ≡ m
 whole_minutes m = omega arith
@@ -156,8 +153,7 @@ back_time None = None
 back_time (Some raw) = Some (pos (unsigned_abs raw / 100 * 100))
 
 time_some : (at : ℕ) (bytes : List ℕ) → 0 < length bytes → spec.time_of at bytes ≡ spec.time_in at (spec.fixed_in 6 4 bytes)
-time_some at [] h = absurd (omega arith)
-time_some at (c ∷ cs) h = refl
+time_some at bytes h = grind arith
 
 abbrev said_time : ℕ → Result (Option ℤ) FieldFault
 said_time n = Ok (Some (pos n))
@@ -223,11 +219,7 @@ said_number n = Ok n
 
 digits_some : (at : ℕ) (may_lack : Bool) (least most : ℕ) (bytes : List ℕ) → 0 < length bytes → least ≤ length bytes → length bytes ≤ most → AreDigits bytes
     → spec.digits_in at may_lack least most bytes ≡ Ok (number bytes)
-digits_some at may_lack least most [] some low high h = absurd (omega arith)
-digits_some at may_lack least most (c ∷ cs) some low high h =
-    let a : nat_le least (length (c ∷ cs)) ≡ true = le-leb least (length (c ∷ cs)) low in
-    let b : nat_le (length (c ∷ cs)) most ≡ true = le-leb (length (c ∷ cs)) most high in
-    rw (a, b, h) refl
+digits_some at may_lack least most bytes some low high h = grind (arith, nat_tests)
 
 pub digits_of : (f : Fields) (at : ℕ) (may_lack : Bool) (least most : ℕ) (bytes : List ℕ) → spec.field_at f at ≡ Some bytes → 0 < length bytes → least ≤ length bytes → length bytes ≤ most
     → AreDigits bytes → spec.digits f at may_lack least most ≡ Ok (number bytes)

@@ -118,7 +118,7 @@ ths_behind h =
     let a = angle_back f 1 h refl in
     let m = mode_said f 2 (is_some h) refl in
     let read : rows.read_as formatter.Ths f ≡ found (reading.HeadingTrue (only_if (is_some h) a.value)) = rw (a.is, m) refl in
-    let same : texts (text.ths a.value) ≡ f = let s = a.same in let t = same_letter a.value h 65 86 a.there in cc in
+    let same : texts (text.ths a.value) ≡ f = let t = same_letter a.value h 65 86 a.there in cc in
     kept_at true formatter.Ths (text.ths h) (reading.HeadingTrue a.value) ((codes "HDT", text.hdt a.value) ∷ (codes "THS", text.ths a.value) ∷ [])
     (read ∙ ap (λ (x : Option ℤ). found (reading.HeadingTrue x)) (only_there a.value (is_some h) a.there)) (λ talker. refl)
     (λ talker. (1, omega arith, same_sentence talker (codes "THS") (text.ths a.value) (text.ths h) same))
@@ -139,7 +139,7 @@ rot ths r in_r =
     let a = number_back f 1 quantity.rate_of_turn unit.degrees_per_minute r refl in_r refl in
     let m = status_of f 2 (is_none a.value) (is_some r) refl in
     let read : rows.read_as formatter.Rot f ≡ found (reading.RateOfTurn (only_if (is_some r) a.value)) = rw (a.is, m) refl in
-    let same : texts (text.rot a.value) ≡ f = let s = a.same in let t = same_letter a.value r 65 86 a.there in cc in
+    let same : texts (text.rot a.value) ≡ f = let t = same_letter a.value r 65 86 a.there in cc in
     kept ths formatter.Rot (text.rot r) (text.rot a.value) [] (reading.RateOfTurn a.value)
     (read ∙ ap (λ (x : Option ℤ). found (reading.RateOfTurn x)) (only_there a.value (is_some r) a.there)) (λ talker. refl) same
 
@@ -157,17 +157,16 @@ no_rudder =
 
 rsa_first : (ths : Bool) (p : Option ℤ) → Admits ranges.rudder p → Kept ths (codes "RSA", text.rsa_first p)
 unfolding rows.rsa
-rsa_first ths None in_p = kept ths formatter.Rsa (text.rsa_first None) (text.rsa_first None) [] (reading.RudderFirst None) no_rudder (λ talker. refl) refl
-rsa_first ths (Some raw) in_p =
-    let f = texts (text.rsa_first (Some raw)) in
-    let p = back quantity.rudder unit.degrees (Some raw) in
-    let pair = paired unit.degrees quantity.rudder refl in
-    let e1 = number_of f 1 quantity.rudder (text_of (Decimal (Some raw) unit.degrees)) p refl (reads_decimal quantity.rudder unit.degrees (Some raw) pair in_p) in
-    let e2 = status_of f 2 false true refl in
-    let e3 = number_of f 3 quantity.rudder [] None refl (reads_nothing quantity.rudder) in
-    let e4 = status_of f 4 true false refl in
-    kept ths formatter.Rsa (text.rsa_first (Some raw)) (text.rsa_first p) [] (reading.RudderFirst p) (rw (e1, e2, e3, e4) refl) (λ talker. refl)
-    (ap (λ (t : List ℕ). t ∷ (65 ∷ []) ∷ [] ∷ (86 ∷ []) ∷ []) (same_decimal unit.degrees quantity.rudder (Some raw) pair))
+rsa_first ths p in_p =
+    let f = texts (text.rsa_first p) in
+    let a = number_back f 1 quantity.rudder unit.degrees p refl in_p refl in
+    let m = status_of f 2 (is_none a.value) (is_some p) refl in
+    let e = number_of f 3 quantity.rudder [] None refl (reads_nothing quantity.rudder) in
+    let n = status_of f 4 true false refl in
+    let read : rows.read_as formatter.Rsa f ≡ found (reading.RudderFirst (only_if (is_some p) a.value)) = rw (a.is, m, e, n) refl in
+    let same : texts (text.rsa_first a.value) ≡ f = let t = same_letter a.value p 65 86 a.there in cc in
+    kept ths formatter.Rsa (text.rsa_first p) (text.rsa_first a.value) [] (reading.RudderFirst a.value)
+    (read ∙ ap (λ (x : Option ℤ). found (reading.RudderFirst x)) (only_there a.value (is_some p) a.there)) (λ talker. refl) same
 
 -- a second rudder that isn't available is said as a first one that isn't
 rsa_second : (ths : Bool) (p : Option ℤ) → Admits ranges.rudder p → Kept ths (codes "RSA", text.rsa_second p)
@@ -250,7 +249,7 @@ xte ths x in_x =
     let n = status_of f 2 blank there refl in
     let u = unit_of f 5 78 (is_none a.value) refl in
     let read : rows.read_as formatter.Xte f ≡ found (reading.CrossTrack (only_if (there && there) a.value)) = rw (m, n, a.is, u) refl in
-    let same : texts (text.xte a.value) ≡ f = let s = a.same in let t = same_letter a.value x 65 86 a.there in let w = same_letter a.value x 65 78 a.there in cc in
+    let same : texts (text.xte a.value) ≡ f = let t = same_letter a.value x 65 86 a.there in let w = same_letter a.value x 65 78 a.there in cc in
     kept ths formatter.Xte (text.xte x) (text.xte a.value) [] (reading.CrossTrack a.value)
     (read ∙ ap (λ (y : Option ℤ). found (reading.CrossTrack y)) (only_there a.value (there && there) (a.there ∙ sym (twice there)))) (λ talker. refl) same
 
@@ -309,16 +308,10 @@ directed f m c e1 e2 e3 e4 le =
 
 -- both directions are printed the same
 same_true : (m : Bool) (c : Option ℤ) → text_of (Angle (only_if (not (m && is_some c)) (back_angle c))) ≡ text_of (Angle (only_if (not m) c))
-same_true true None = refl
-same_true false None = refl
-same_true true (Some raw) = refl
-same_true false (Some raw) = same_angle (Some raw)
+same_true m c = grind (arith, same_angle)
 
 same_magnetic : (m : Bool) (c : Option ℤ) → text_of (Angle (only_if (m && is_some c) (back_angle c))) ≡ text_of (Angle (only_if m c))
-same_magnetic true None = refl
-same_magnetic false None = refl
-same_magnetic true (Some raw) = same_angle (Some raw)
-same_magnetic false (Some raw) = refl
+same_magnetic m c = grind (arith, same_angle)
 
 -- what is said of two values where one of them is there
 either_there : (c s : Option ℤ) → (is_some (back_angle c) || is_some s) ≡ (is_some c || is_some s)
@@ -443,8 +436,7 @@ record Method (there : Bool) (m : ℕ) : Type 0 where
   same : letter_where there (48 + method_there there m) 48 ≡ letter_where there (48 + m) 48
 
 method_of : (there : Bool) (m : ℕ) → m ≤ 8 → Method there m
-method_of true m le = record { letter = refl; small = le; same = refl }
-method_of false m le = record { letter = refl; small = omega arith; same = refl }
+method_of there m le = record { letter = grind arith; small = grind arith; same = grind arith }
 
 abbrev one_letter : ℕ → Option (List ℕ)
 one_letter c = Some (c ∷ [])

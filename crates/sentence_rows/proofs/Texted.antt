@@ -196,8 +196,7 @@ unfolding spec.is_blank spec.text
 blank_at f at bytes e = rw e refl
 
 nothing_not : (bytes : List ℕ) → 0 < length bytes → spec.is_nothing bytes ≡ false
-nothing_not [] h = absurd (omega arith)
-nothing_not (c ∷ cs) h = refl
+nothing_not bytes h = grind arith
 
 pub blank_none : (f : Fields) (at : ℕ) → spec.field_at f at ≡ Some [] → spec.is_blank f at ≡ true
 blank_none f at e = blank_at f at [] e
