@@ -23,7 +23,7 @@ use Rattle.sentence_rows.specs.ReadUnits.{range_of}
 use Rattle.sentence_rows.specs.Field.{count, degrees_text, is_negative, text_of}
 use Rattle.sentence_rows.specs.Fault.{given}
 use Rattle.sentence_rows.specs.Columns as spec
-use Rattle.sentence_rows.proofs.Counts.{abs-neg, abs-round}
+use Rattle.sentence_rows.proofs.Bodies.{abs-neg, abs-round}
 
 -- a unit that is written and a quantity that is read are each other's inverse, and the ends of the range stay within it
 pub record Paired (u : WrittenUnit) (q : ReadUnit) : Type 0 where

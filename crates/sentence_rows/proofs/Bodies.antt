@@ -1,15 +1,25 @@
--- A body has only bytes that a sentence may have, and room for them.
-use Rattle.std.proofs.Common.{◌≡◌, ℕ, zero, suc, ◌+◌, ◌/◌, ◌%◌, ◌^◌, ◌<◌, ◌≤◌, Bool, true, false, IsTrue, List, [], ◌∷◌, ◌++◌, Option, Result, Ok, length, length-append, map, take, drop, get_or, refl, sym, ap, subst, ◌∙◌, append_assoc, arith}
-use Rattle.std.specs.Prelude.{Some, None, ◌==◌, not, nat_lt, unsigned_abs, if◌then◌else◌}
-use Rattle.std.specs.Char.{is_ascii_digit}
+-- The bytes of a field and of a body, and the room that they take.
+use Rattle.std.proofs.Common.{◌≡◌, ℕ, zero, suc, ◌+◌, ◌*◌, ◌^◌, ◌<◌, ◌≤◌, ℤ, pos, negsuc, neg_ℤ, ◌*ℤ◌, IsTrue, refl, arith, ◌-◌, ◌/◌, ◌%◌, Bool, true, false, List, Option, length, length-append, sym, ap, ◌∙◌, [], ◌∷◌, ◌++◌, Result, Ok, map, take, drop, get_or, subst, append_assoc}
+use Rattle.std.specs.Prelude.{unsigned_abs, Some, None, nat_lt, if◌then◌else◌, ◌==◌, not}
+use Rattle.std.proofs.Math.Nat.{div-lt_iff_lt-mul, pow-le-pow_right, div-le_self, one-le-pow}
+use Rattle.std.proofs.lemmas.Bool.Decides.{nat_tests}
+use Rattle.std.proofs.lemmas.Int.{unsigned_abs-mul}
+use Rattle.std.proofs.lemmas.Nat.{mul-le, pow-add}
+use Rattle.unit_fraction.specs.Round.{nearest, round}
+use Rattle.sentence_rows.specs.declared.written_unit.WrittenUnit.{WrittenUnit}
+use Rattle.sentence_rows.specs.Field.{count, is_sound, IsPrintable, is_negative, text_of, width_of, body_text, body_width, degrees_text, time_text}
 use Rattle.std.specs.Fmt.{decimal}
+use Rattle.std.proofs.lemmas.Fmt.{length-decimal-le, digits_decimal}
+use Rattle.unit_fraction.specs.Digits.{spelling}
+use Rattle.unit_fraction.specs.Text.{behind_point, decimal_text, decimals, shows_minus}
+use Rattle.sentence_rows.specs.WrittenUnits.{degrees}
+use Rattle.sentence_rows.specs.declared.field.Field.{Field}
+use Rattle.sentence_rows.specs.declared.field.Field.TheVariants.{Empty, Letter, Decimal, Magnitude, Side, Angle, Degrees, Time, Digits, Satellites}
+use Rattle.std.specs.Char.{is_ascii_digit}
 use Rattle.std.specs.List.{AllByRecursion, list_all, position_or_len}
 use Rattle.std.specs.Str.{all_ascii_digits}
-use Rattle.std.proofs.Math.Nat.{div-le_self}
 use Rattle.std.proofs.Math.Seq.{drop-cons}
 use Rattle.std.proofs.lemmas.Bool.{and_parts, not-true}
-use Rattle.std.proofs.lemmas.Bool.Decides.{nat_tests}
-use Rattle.std.proofs.lemmas.Fmt.{digits_decimal}
 use Rattle.std.proofs.lemmas.List.Folds.{list_all-append}
 use Rattle.readings.proofs.Ranges.{by_place}
 use Rattle.sentence_text.specs.Byte.{is_address_byte, is_body_byte, is_capital, is_field_byte}
@@ -18,17 +28,129 @@ use Rattle.sentence_text.specs.Fields.{field_at_front, fields_of}
 use Rattle.sentence_text.specs.Reading.{read}
 use Rattle.sentence_text.specs.Sentence.{SentenceParts, parts_of, sentence}
 use Rattle.sentence_text.proofs.Fields.{fields_before_comma}
-use Rattle.unit_fraction.specs.Digits.{spelling}
-use Rattle.unit_fraction.specs.Text.{behind_point, decimal_text, decimals, shows_minus}
 use Rattle.unit_fraction.proofs.Text.{own}
-use Rattle.sentence_rows.specs.WrittenUnits.{degrees}
-use Rattle.sentence_rows.specs.declared.field.Field.{Field}
-use Rattle.sentence_rows.specs.declared.field.Field.TheVariants.{Empty, Letter, Decimal, Magnitude, Side, Angle, Degrees, Time, Digits, Satellites}
-use Rattle.sentence_rows.specs.Field.{IsPrintable, body_text, body_width, count, degrees_text, is_negative, text_of, time_text, width_of}
 use Rattle.sentence_rows.specs.Lines.{sentence_by}
 use Rattle.sentence_rows.specs.Stable.{IsReadBack}
-use Rattle.sentence_rows.proofs.Counts.{count_fits}
-use Rattle.sentence_rows.proofs.Texts.{text_fits}
+
+-- what a sound conversion says of its numbers
+pub record Sound (unit : WrittenUnit) : Type 0 where
+  pub den : 0 < unit.den
+  pub places : unit.places < unit.digits
+  pub digits : unit.digits ≤ 12
+  pub room : 2 * (unit.largest * unit.num) + unit.den < 2 * unit.den * 10 ^ unit.digits
+
+pub sound : (unit : WrittenUnit) → IsTrue (is_sound unit) → Sound unit
+sound unit h = record { den = grind (arith, nat_tests); places = grind (arith, nat_tests); digits = grind (arith, nat_tests); room = grind (arith, nat_tests) }
+
+pub abs-neg : (q : ℕ) → unsigned_abs (neg_ℤ (pos q)) ≡ q
+abs-neg zero = refl
+abs-neg (suc q) = refl
+
+pub abs-round : (n : ℤ) (d : ℕ) → unsigned_abs (round n d) ≡ nearest (unsigned_abs n) d
+abs-round (pos n) d = refl
+abs-round (negsuc n) d = abs-neg (nearest (suc n) d)
+
+nearest_below : (n d k : ℕ) → 0 < d → 2 * n + d < k * (2 * d) → nearest n d < k
+unfolding nearest
+nearest_below n d k some room =
+    let positive : 0 < 2 * d = omega arith in
+    (div-lt_iff_lt-mul {k = 2 * d} {x = 2 * n + d} {y = k} positive).1 room
+
+pub count_below : (unit : WrittenUnit) (raw : ℤ) → IsTrue (is_sound unit) → unsigned_abs raw ≤ unit.largest
+    → unsigned_abs (count unit raw) < 10 ^ unit.digits
+count_below unit raw is within =
+    let s = sound unit is in
+    let size : unsigned_abs (count unit raw) ≡ nearest (unsigned_abs (raw *ℤ pos unit.num)) unit.den = abs-round (raw *ℤ pos unit.num) unit.den in
+    let product : unsigned_abs (raw *ℤ pos unit.num) ≡ unsigned_abs raw * unit.num = unsigned_abs-mul raw (pos unit.num) in
+    let most : unsigned_abs raw * unit.num ≤ unit.largest * unit.num = mul-le (unsigned_abs raw) unit.num unit.largest unit.num within (omega arith) in
+    let room : 2 * unsigned_abs (raw *ℤ pos unit.num) + unit.den < 10 ^ unit.digits * (2 * unit.den) = omega (arith, s.room, product, most) in
+    rw size (nearest_below (unsigned_abs (raw *ℤ pos unit.num)) unit.den (10 ^ unit.digits) s.den room)
+
+-- the count fits a word
+pub count_fits : (unit : WrittenUnit) (raw : ℤ) → IsTrue (is_sound unit) → unsigned_abs raw ≤ unit.largest
+    → unsigned_abs (count unit raw) < 10 ^ 12
+count_fits unit raw is within =
+    let s = sound unit is in
+    let below = count_below unit raw is within in
+    let most : 10 ^ unit.digits ≤ 10 ^ 12 = pow-le-pow_right {n = 10} (omega arith) {i = unit.digits} {j = 12} s.digits in
+    omega arith
+
+pub length_decimals : (k n : ℕ) → length (decimals k n) ≡ k
+length_decimals zero n = refl
+length_decimals (suc k) n = let rest = length_decimals k (n / 10) in simp length-append (omega (arith, rest))
+
+pub whole_length : (k places n : ℕ) → places < k → n < 10 ^ k → n < 2 ^ 64 → length (decimal (n / 10 ^ places)) ≤ k - places
+whole_length k places n few below word =
+    let some : 1 ≤ 10 ^ places = one-le-pow places 10 (omega arith) in
+    let parts : k - places + places ≡ k = omega arith in
+    let product : 10 ^ k ≡ 10 ^ (k - places) * 10 ^ places = ap (λ (e : ℕ). 10 ^ e) (sym parts) ∙ pow-add 10 (k - places) places in
+    let small : n / 10 ^ places < 10 ^ (k - places) =
+    (div-lt_iff_lt-mul {k = 10 ^ places} {x = n} {y = 10 ^ (k - places)} some).1 (omega (arith, product)) in
+    let word_too : n / 10 ^ places < 2 ^ 64 = omega (arith, div-le_self n (10 ^ places)) in
+    length-decimal-le (k - places) (n / 10 ^ places) (omega arith) small word_too
+
+pub length_unsigned_text : (k places n : ℕ) → places < k → n < 10 ^ k → n < 2 ^ 64 → length (decimal_text false n places) ≤ k + 1
+length_unsigned_text k zero n few below word = let w = whole_length k zero n few below word in simp length-append (omega (arith, w))
+length_unsigned_text k (suc places) n few below word =
+    let w = whole_length k (suc places) n few below word in
+    let p = length_decimals places (n / 10) in
+    simp length-append (omega (arith, w, p))
+
+minus_adds : (negative : Bool) (whole : List ℕ) (part : Option (List ℕ)) → length (spelling negative whole part) ≤ length (spelling false whole part) + 1
+minus_adds negative whole part = grind arith
+
+pub length_decimal_text : (negative : Bool) (k places n : ℕ) → places < k → n < 10 ^ k → n < 2 ^ 64 → length (decimal_text negative n places) ≤ k + 2
+length_decimal_text negative k places n few below word =
+    let w = length_unsigned_text k places n few below word in
+    let m = minus_adds (shows_minus negative n) (decimal (n / 10 ^ places)) (behind_point places (decimals places n)) in
+    omega (arith, w, m)
+
+pub decimal_room : (unit : WrittenUnit) (negative : Bool) (n out : ℕ) → IsTrue (is_sound unit) → n < 10 ^ unit.digits → n < 2 ^ 64
+    → out + (unit.digits + 2) ≤ 82 → out + length (decimal_text negative n unit.places) ≤ 82
+decimal_room unit negative n out is below word room =
+    let w = length_decimal_text negative unit.digits unit.places n ((sound unit is).places) below word in
+    omega (arith, w)
+
+pub magnitude_room : (unit : WrittenUnit) (n out : ℕ) → IsTrue (is_sound unit) → n < 10 ^ unit.digits → n < 2 ^ 64
+    → out + (unit.digits + 1) ≤ 82 → out + length (decimal_text false n unit.places) ≤ 82
+magnitude_room unit n out is below word room =
+    let w = length_unsigned_text unit.digits unit.places n ((sound unit is).places) below word in
+    omega (arith, w)
+
+-- ---- the width of a field
+
+length_satellites : (n : ℕ) → n < 1000 → length (if nat_lt n 10 then decimals 2 n else decimal n) ≤ 3
+length_satellites n few =
+    let d = length-decimal-le 3 n (omega arith) (omega arith) (omega arith) in
+    let two = length_decimals 2 n in
+    elim (nat_lt n 10) as (λ b. length (if b then decimals 2 n else decimal n) ≤ 3) [ true ↦ omega (arith, two) | false ↦ d ]
+
+pub text_fits : (f : Field) → IsPrintable f → length (text_of f) ≤ width_of f
+text_fits Empty h = omega arith
+text_fits (Letter c) h = omega arith
+text_fits (Decimal None unit) h = omega arith
+text_fits (Decimal (Some raw) unit) h =
+    length_decimal_text (is_negative (count unit raw)) unit.digits unit.places (unsigned_abs (count unit raw)) ((sound unit h.0).places) (count_below unit raw h.0 h.1) (omega (arith, count_fits unit raw h.0 h.1))
+text_fits (Magnitude None unit) h = omega arith
+text_fits (Magnitude (Some raw) unit) h =
+    length_unsigned_text unit.digits unit.places (unsigned_abs (count unit raw)) ((sound unit h.0).places) (count_below unit raw h.0 h.1) (omega (arith, count_fits unit raw h.0 h.1))
+text_fits (Side None unit p n) h = omega arith
+text_fits (Side (Some raw) unit p n) h = omega arith
+text_fits (Angle None) h = omega arith
+text_fits (Angle (Some raw)) h =
+    length_unsigned_text 4 1 (unsigned_abs (count degrees raw) % 3600) (omega arith) (omega arith) (omega arith)
+text_fits (Degrees None unit w) h = omega arith
+text_fits (Degrees (Some raw) unit w) h =
+    let m = unsigned_abs (count unit raw) in
+    simp length-append (omega (arith, length_decimals w (m / 600000), length_decimals 2 (m % 600000 / 10000), length_decimals 4 (m % 10000)))
+text_fits (Time None) h = omega arith
+text_fits (Time (Some raw)) h =
+    let n = unsigned_abs raw / 100 in
+    simp length-append (omega (arith, length_decimals 2 (n / 360000), length_decimals 2 (n / 6000 % 60), length_decimals 2 (n / 100 % 60), length_decimals 2 (n % 100)))
+text_fits (Digits None w) h = omega arith
+text_fits (Digits (Some n) w) h = omega (arith, length_decimals w n)
+text_fits (Satellites None) h = omega arith
+text_fits (Satellites (Some n)) h = length_satellites (unsigned_abs n) h
 
 abbrev pub AreBytes : List ℕ → Type 0
 AreBytes bytes = list_all is_field_byte bytes ≡ true

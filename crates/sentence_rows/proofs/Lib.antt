@@ -1,15 +1,10 @@
 pub mod Bodies
-pub mod Counts
-pub mod Said
-pub mod Texts
 pub mod Columns
 pub mod DigitNumbers
 pub mod Valid
-pub mod Dates
 pub mod Again
 pub mod Texted
-pub mod FixedTexts
-pub mod DateTexts
 pub mod StableRows
+pub mod Dates
 pub mod CivilDates
 pub mod Unique

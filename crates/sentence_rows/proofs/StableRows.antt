@@ -30,9 +30,7 @@ use Rattle.sentence_rows.specs.Stable.{IsReadBack, IsSaid, IsStable, parts_by}
 use Rattle.sentence_rows.specs.Writing as text
 use Rattle.sentence_rows.specs.Writing.{Dated, IsText, beside, day_said, letter_where, only_if, said}
 use Rattle.sentence_rows.proofs.Again.{ReadsAs, back, paired, reads_decimal, reads_nothing, same_decimal}
-use Rattle.sentence_rows.proofs.Texted.{Fields, angle_back, angle_of, back_angle, blank_angle, either_of, first_of_two, angle_measured, measured, measure_of, mode_said, number_back, number_of, reads_exactly, reference_of, same_angle, sided_back, status_of, texts, unit_of, wind_of}
-use Rattle.sentence_rows.proofs.FixedTexts.{coordinate_back, quality_of, satellites_back, time_back}
-use Rattle.sentence_rows.proofs.DateTexts.{date_said, no_date_said}
+use Rattle.sentence_rows.proofs.Texted.{Fields, angle_back, angle_of, back_angle, blank_angle, either_of, first_of_two, angle_measured, measured, measure_of, mode_said, number_back, number_of, reads_exactly, reference_of, same_angle, sided_back, status_of, texts, unit_of, wind_of, coordinate_back, quality_of, satellites_back, time_back, date_said, no_date_said}
 use Rattle.sentence_rows.proofs.Valid.{beside_within}
 
 -- ---- a whole sentence
@@ -421,7 +419,7 @@ gll ths la lo in_la in_lo both =
     let x2 = ap (only_if there) y2 ∙ only_there b.value there (b.there ∙ sym both) in
     let read : rows.read_as formatter.Gll f ≡ found (reading.Position (only_if there (beside a.value b.value)) (only_if there (beside b.value a.value))) = rw (a.is, b.is, m) refl in
     let same : texts (text.gll a.value b.value) ≡ f =
-    let s = a.same in let t = b.same in let w = same_letter a.value la 65 86 a.there in let z = same_letter a.value la 65 78 a.there in cc in
+    let w = same_letter a.value la 65 86 a.there in let z = same_letter a.value la 65 78 a.there in cc in
     kept ths formatter.Gll (text.gll la lo) (text.gll (beside a.value b.value) (beside b.value a.value)) [] (reading.Position a.value b.value)
     (read ∙ two (λ x y. found (reading.Position x y)) _ _ _ _ x1 x2) (λ talker. refl) (two (λ x y. texts (text.gll x y)) _ _ _ _ y1 y2 ∙ same)
 
@@ -463,7 +461,6 @@ gga ths t la lo al m n h s in_t in_la in_lo in_al in_m in_n in_h in_s both =
     let read : rows.read_as formatter.Gga f ≡ found (reading.Gnss None time.value (beside a.value b.value) (beside b.value a.value) above.value method seen.value hdop.value apart.value) =
     rw (time.is, a.is, b.is, quality, seen.is, hdop.is, above.is, apart.is) refl in
     let same : texts (text.gga time.value a.value b.value above.value method seen.value hdop.value apart.value) ≡ f =
-    let s0 = time.same in let s1 = a.same in let s2 = b.same in let s3 = seen.same in let s4 = hdop.same in let s5 = above.same in let s6 = apart.same in
     let s7 : letter_where (is_some a.value) (48 + method) 48 ≡ letter_where (is_some la) (48 + m) 48 = same_letter a.value la (48 + method) 48 a.there ∙ g.same in cc in
     kept ths formatter.Gga (text.gga t la lo al m n h s) (text.gga time.value (beside a.value b.value) (beside b.value a.value) above.value method seen.value hdop.value apart.value) []
     (reading.Gnss None time.value a.value b.value above.value method seen.value hdop.value apart.value)

@@ -8,32 +8,23 @@ use Rattle.sentence_rows.proofs.clock.day_number.Goals as goal
 
 pub returns-in-Err : goal.returns-in-Err
 returns-in-Err c =
-    let year : to_z w16 c.args.year ≡ pos c.args.year = omega (arith, ints) in
-    let month : to_z w8 c.args.month ≡ pos c.args.month = omega (arith, ints) in
-    let day : to_z w8 c.args.day ≡ pos c.args.day = omega (arith, ints) in
     let succeeds = c.in-Err.ensures.succeeds in
-    no_date_of c.args.year c.args.month c.args.day (to_z w16 c.args.year) (to_z w8 c.args.month) (to_z w8 c.args.day) year month day (λ is. false≢true (succeeds.1 is))
+    no_date_of c.args.year c.args.month c.args.day (to_z w16 c.args.year) (to_z w8 c.args.month) (to_z w8 c.args.day) (omega (arith, ints)) (omega (arith, ints)) (omega (arith, ints)) (λ is. false≢true (succeeds.1 is))
 
 pub returns-then-holds : goal.returns-then-holds
 returns-then-holds c =
-    let year : to_z w16 c.args.year ≡ pos c.args.year = omega (arith, ints) in
-    let month : to_z w8 c.args.month ≡ pos c.args.month = omega (arith, ints) in
-    let day : to_z w8 c.args.day ≡ pos c.args.day = omega (arith, ints) in
     let fits : FitsSigned w64 c.days_since_1970-day.result = search rules in
     let is = to_z-of_z w64 c.days_since_1970-day.result fits ∙ c.days_since_1970-day.ensures in
     let within = c.if-holds.ensures in
     inside (to_z w64 (of_z w64 c.days_since_1970-day.result)) (within.0 refl)
     ∙ ap day_within is
-    ∙ dated_of c.args.year c.args.month c.args.day (to_z w16 c.args.year) (to_z w8 c.args.month) (to_z w8 c.args.day) c.in-Ok.date year month day c.in-Ok.ensures.value
+    ∙ dated_of c.args.year c.args.month c.args.day (to_z w16 c.args.year) (to_z w8 c.args.month) (to_z w8 c.args.day) c.in-Ok.date (omega (arith, ints)) (omega (arith, ints)) (omega (arith, ints)) c.in-Ok.ensures.value
 
 pub returns-else-holds : goal.returns-else-holds
 returns-else-holds c =
-    let year : to_z w16 c.args.year ≡ pos c.args.year = omega (arith, ints) in
-    let month : to_z w8 c.args.month ≡ pos c.args.month = omega (arith, ints) in
-    let day : to_z w8 c.args.day ≡ pos c.args.day = omega (arith, ints) in
     let fits : FitsSigned w64 c.days_since_1970-day.result = search rules in
     let is = to_z-of_z w64 c.days_since_1970-day.result fits ∙ c.days_since_1970-day.ensures in
     let within = c.if-holds.ensures in
     outside (to_z w64 (of_z w64 c.days_since_1970-day.result)) (λ holds. false≢true (within.1 holds))
     ∙ ap day_within is
-    ∙ dated_of c.args.year c.args.month c.args.day (to_z w16 c.args.year) (to_z w8 c.args.month) (to_z w8 c.args.day) c.in-Ok.date year month day c.in-Ok.ensures.value
+    ∙ dated_of c.args.year c.args.month c.args.day (to_z w16 c.args.year) (to_z w8 c.args.month) (to_z w8 c.args.day) c.in-Ok.date (omega (arith, ints)) (omega (arith, ints)) (omega (arith, ints)) c.in-Ok.ensures.value

@@ -1,5 +1,5 @@
 use Rattle.std.proofs.Common.{◌%◌, arith}
-use Rattle.sentence_rows.proofs.Texts.{length_unsigned_text}
+use Rattle.sentence_rows.proofs.Bodies.{length_unsigned_text}
 use Rattle.sentence_rows.proofs.field.append_angle.Goals as goal
 
 pub append_number-requires-clause-room : goal.append_number-requires-clause-room

@@ -1,4 +1,4 @@
-use Rattle.sentence_rows.proofs.Texts.{decimal_room}
+use Rattle.sentence_rows.proofs.Bodies.{decimal_room}
 use Rattle.sentence_rows.proofs.field.append_decimal.Goals as goal
 
 pub append_number-requires-clause-room : goal.append_number-requires-clause-room

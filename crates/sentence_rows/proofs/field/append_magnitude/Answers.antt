@@ -1,4 +1,4 @@
-use Rattle.sentence_rows.proofs.Texts.{magnitude_room}
+use Rattle.sentence_rows.proofs.Bodies.{magnitude_room}
 use Rattle.sentence_rows.proofs.field.append_magnitude.Goals as goal
 
 pub append_number-requires-clause-room : goal.append_number-requires-clause-room

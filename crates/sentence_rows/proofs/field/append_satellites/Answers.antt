@@ -5,7 +5,7 @@ use Rattle.std.specs.Prelude.{unsigned_abs}
 use Rattle.std.proofs.lemmas.Int.{to_z-of_z}
 use Rattle.sentence_rows.specs.declared.field.Field.TheVariants.{Satellites}
 use Rattle.sentence_rows.specs.Field.{IsPrintable}
-use Rattle.sentence_rows.proofs.Texts.{whole_length}
+use Rattle.sentence_rows.proofs.Bodies.{whole_length}
 use Rattle.sentence_rows.proofs.field.append_satellites.Goals as goal
 
 few_in : (raw : Option ℤ) (v : ℤ) → raw ≡ Some v → IsPrintable (Satellites raw) → unsigned_abs v < 1000

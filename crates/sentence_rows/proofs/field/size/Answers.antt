@@ -5,7 +5,7 @@ use Rattle.std.specs.Int.{w128}
 use Rattle.std.specs.Prelude.{unsigned_abs}
 use Rattle.sentence_rows.specs.declared.written_unit.WrittenUnit.{WrittenUnit}
 use Rattle.sentence_rows.specs.Field.{count}
-use Rattle.sentence_rows.proofs.Counts.{count_below, count_fits}
+use Rattle.sentence_rows.proofs.Bodies.{count_below, count_fits}
 use Rattle.sentence_rows.proofs.field.size.Goals as goal
 
 -- what is counted without its sign
