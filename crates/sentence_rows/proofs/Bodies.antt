@@ -1,6 +1,6 @@
 -- The bytes of a field and of a body, and the room that they take.
 use Rattle.std.proofs.Common.{◌≡◌, ℕ, zero, suc, ◌+◌, ◌*◌, ◌^◌, ◌<◌, ◌≤◌, ℤ, pos, negsuc, neg_ℤ, ◌*ℤ◌, IsTrue, refl, arith, ◌-◌, ◌/◌, ◌%◌, Bool, true, false, List, Option, length, length-append, sym, ap, ◌∙◌, [], ◌∷◌, ◌++◌, Result, Ok, map, take, drop, get_or, subst, append_assoc}
-use Rattle.std.specs.Prelude.{unsigned_abs, Some, None, nat_lt, if◌then◌else◌, ◌==◌, not}
+use Rattle.std.specs.Prelude.{unsigned_abs, Some, None, nat_lt, if◌then◌else◌, ◌==◌}
 use Rattle.std.proofs.Math.Nat.{div-lt_iff_lt-mul, pow-le-pow_right, div-le_self, one-le-pow}
 use Rattle.std.proofs.lemmas.Bool.Decides.{nat_tests}
 use Rattle.std.proofs.lemmas.Int.{unsigned_abs-mul}
@@ -19,7 +19,6 @@ use Rattle.std.specs.Char.{is_ascii_digit}
 use Rattle.std.specs.List.{AllByRecursion, list_all, position_or_len}
 use Rattle.std.specs.Str.{all_ascii_digits}
 use Rattle.std.proofs.Math.Seq.{drop-cons}
-use Rattle.std.proofs.lemmas.Bool.{and_parts, not-true}
 use Rattle.std.proofs.lemmas.List.Folds.{list_all-append}
 use Rattle.readings.proofs.Ranges.{by_place}
 use Rattle.sentence_text.specs.Byte.{is_address_byte, is_body_byte, is_capital, is_field_byte}

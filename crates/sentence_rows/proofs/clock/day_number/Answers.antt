@@ -1,5 +1,5 @@
 -- The date that the library has is the one of these numbers.
-use Rattle.std.proofs.Common.{◌≡◌, ◌∙◌, ap, refl, pos, to_z, of_z, w8, w16, w64, FitsSigned, rules, arith}
+use Rattle.std.proofs.Common.{◌∙◌, ap, refl, to_z, of_z, w8, w16, w64, FitsSigned, rules, arith}
 use Rattle.std.proofs.lemmas.Bool.{false≢true}
 use Rattle.std.proofs.lemmas.Int.{ints, to_z-of_z}
 use Rattle.sentence_rows.specs.Columns.{day_within}
