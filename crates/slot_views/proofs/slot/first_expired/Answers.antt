@@ -1,5 +1,6 @@
-use Rattle.std.proofs.Common.{◌≡◌, ◌<◌, ◌+◌, ◌-◌, min, length, take, get_or, sym, ◌∙◌, ap, subst, add-one, false, arith}
-use Rattle.std.proofs.lemmas.Bool.{le-ltb}
+use Rattle.std.proofs.Common.{◌≡◌, ◌<◌, ◌+◌, ◌-◌, min, length, take, get_or, sym, ◌∙◌, ap, subst, add-one, true, false, arith}
+use Rattle.std.proofs.lemmas.Bool.{lt-ltb, le-ltb}
+use Rattle.std.proofs.lemmas.List.{get_or_default}
 use Rattle.slot_views.specs.declared.slot.Slot.{Slot}
 use Rattle.slot_views.specs.Slots.{has_expired}
 use Rattle.slot_views.specs.Shelf.{entry_of, quiet_of}
@@ -21,3 +22,12 @@ loop-at-preserved g c =
       quiet = c.still_quiet-quiet_until.ensures ∙ (ap (λ n. min n (c.slot-item.result.last + c.slot-item.result.gap)) c.loop-at.invariant.quiet
           ∙ (ap (λ (s : Slot g.row.K.Denot). min (quiet_of (take c.loop-at.at items)) (s.last + s.gap)) read ∙ sym (quiet_more items c.loop-at.at c.slot-item.result in_range)));
     }
+
+pub returns-then-saturating_sub-from-clause-found : goal.returns-then-saturating_sub-from-clause-found
+returns-then-saturating_sub-from-clause-found g c =
+    let items = c.args.slots.now.items in
+    let in_range : c.loop-at.at < length c.args.slots.now.items = omega arith in
+    let here : has_expired c.args.moment (entry_of c.slot-item.result) ≡ true = lt-ltb c.slot-item.result.gap (c.args.moment - c.slot-item.result.last) (omega arith) in
+    let read : c.slot-item.result ≡ get_or items c.loop-at.at c.slot-item.result = rw c.deref-slot-items.ensures.value at c.slot-item.is in
+    let there : has_expired c.args.moment (entry_of (get_or items c.loop-at.at c.slot-item.result)) ≡ true = subst (λ (s : Slot g.row.K.Denot). has_expired c.args.moment (entry_of s) ≡ true) read here in
+    record { in_range = in_range; before = c.loop-at.invariant.none; here = λ d. rw (get_or_default items c.loop-at.at d c.slot-item.result in_range) there }

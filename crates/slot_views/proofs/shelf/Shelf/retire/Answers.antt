@@ -1,4 +1,5 @@
 use Rattle.std.proofs.Common.{◌≤◌, arith, vec_capacity}
+use Rattle.std.proofs.lemmas.Grind.{common_steps}
 use Rattle.slot_views.specs.Shelf.{HasRoom}
 use Rattle.slot_views.proofs.Lists.{all_remove, all_append, all_get}
 use Rattle.slot_views.proofs.Order.{ordered_remove}
@@ -24,3 +25,6 @@ returns-clause-sound g c = record {
   ordered = rw c.remove-bytes.ensures.items (ordered_remove g.K.Ord.cmp c.args.self.now.slots.items c.args.at c.requires.sound.ordered);
   quiet = rw c.remove-bytes.ensures.items (all_remove _ c.args.self.now.slots.items c.args.at c.requires.sound.quiet);
 }
+
+pub returns-clause-finished : goal.returns-clause-finished
+returns-clause-finished g c = grind (arith, common_steps)
