@@ -10,14 +10,12 @@ ghost use Rattle.std.specs.Process.{exit_status};
 ghost use Rattle.std.specs.Vec.Iter.{into_iter_items};
 ghost use Rattle.shipgate.specs.Program.{RunsOver, live};
 
-mod explain;
-
 pub use bridge::{Bridge, Settings};
 pub use command_words::{Command, LineCommand};
-use explain::{Kept, explain_run};
 use gate_outside::{Clock, Files, Link, ReaderSource, WriterSink};
 pub use gateway_commands::{demo_with, replay_with, run, stream};
 use live_outside::{Activity, DiskFiles, SystemClock, ToldWriter, UdpLink};
+use run_failures::{Kept, explain_run};
 pub use serving::serve_turns;
 use statuses::NO_MEMORY;
 use std::alloc::{AllocError, Global};

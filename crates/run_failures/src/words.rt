@@ -1,9 +1,5 @@
-//! What standard error says of a run that didn't do its work.
+//! Which word of the command line isn't one, and what the commands are.
 use command_words::{MOST_EVENTS, MOST_SEED, MOST_TURNS, number_between};
-use live_outside::Unattached;
-use std::alloc::AllocError;
-use std::io::ErrorKind;
-use std::str;
 
 /// The program's version, and the kit that proved it: as README.md has them.
 const VERSION: &str = "shipgate 1.0.0, built with rattle-kit-13f logic dac8208d650f15bf";
@@ -64,40 +60,8 @@ const FORMS: [Form; 6] = [
     },
 ];
 
-/// What the outside kept of a run that failed.
-#[derive(Drop)]
-pub(crate) struct Kept<'a> {
-    /// All words of the process, or none where one of them isn't UTF-8.
-    pub words: Vec<String>,
-    /// Why the configuration's file gave no bytes.
-    pub unread: Option<ErrorKind>,
-    /// Why a write failed.
-    pub unwritten: Option<ErrorKind>,
-    /// Why the bus link couldn't be attached.
-    pub bus: Option<&'a Unattached>,
-    /// Why the network link couldn't be attached.
-    pub net: Option<&'a Unattached>,
-}
-
-/// Says why a run ended with a status that isn't 0. Where standard error is closed too, the status says it.
-pub(crate) fn explain_run(rt: &impl Eprint, status: &Result<u8, AllocError>, kept: &Kept<'_>) {
-    let why = match status {
-        Ok(2) => return explain_words(rt, kept.words.as_slice()),
-        Ok(3) => "the configuration is refused",
-        Ok(4) => return explain_write(rt, kept.unwritten),
-        Ok(5) => "the input can't be read",
-        Ok(6) => return explain_file(rt, kept.words.as_slice(), kept.unread),
-        Ok(7) => "there is no memory for the configuration or the gateway",
-        Ok(8) => "the input has more than 2^40 bytes",
-        Ok(9) => return explain_links(rt, kept),
-        Ok(_) => return,
-        Err(AllocError) => "there is no memory to begin with",
-    };
-    let _ = eprintln!(rt; "shipgate: {why}");
-}
-
-// Which word isn't one, and what the commands are; or the version alone, for who asks for it.
-fn explain_words(rt: &impl Eprint, words: &[String]) {
+/// Which word isn't one, and what the commands are; or the version alone, for who asks for it.
+pub(crate) fn explain_words(rt: &impl Eprint, words: &[String]) {
     let _ = match words {
         [] => eprintln!(rt; "shipgate: one of the words isn't UTF-8"),
         [_] => eprintln!(rt; "shipgate: there is no command"),
@@ -149,57 +113,4 @@ fn explain_parameters(rt: &impl Eprint, form: &Form, words: &[String]) {
     if let Some(word) = words.next() {
         let _ = eprintln!(rt; "shipgate: {name} takes no word more: {word}");
     }
-}
-
-// Why standard output wasn't written. A closed pipe is how its reader says that it has enough.
-fn explain_write(rt: &impl Eprint, unwritten: Option<ErrorKind>) {
-    let _ = match unwritten {
-        Some(ErrorKind::BrokenPipe) => return,
-        Some(kind) => eprintln!(rt; "shipgate: the output can't be written: {kind}"),
-        None => eprintln!(rt; "shipgate: the output can't be written"),
-    };
-}
-
-// What is wrong with the configuration's file, which the third word names.
-fn explain_file(rt: &impl Eprint, words: &[String], unread: Option<ErrorKind>) {
-    let file = match words {
-        [_, _, file, ..] => file.as_str(),
-        _ => "",
-    };
-    let _ = match unread {
-        Some(ErrorKind::NotFound) => eprintln!(rt;
-            "shipgate: the configuration {file} isn't there"
-        ),
-        Some(ErrorKind::IsADirectory) => eprintln!(rt;
-            "shipgate: the configuration {file} is a folder"
-        ),
-        Some(ErrorKind::FileTooLarge) => {
-            eprintln!(rt; "shipgate: the configuration {file} has more than 1 MiB")
-        }
-        Some(kind) => eprintln!(rt; "shipgate: the configuration {file} can't be read: {kind}"),
-        None => eprintln!(rt; "shipgate: the configuration {file} can't be read"),
-    };
-}
-
-// Which link couldn't be attached. The network is tried once the bus is attached.
-fn explain_links(rt: &impl Eprint, kept: &Kept<'_>) {
-    match (kept.bus, kept.net) {
-        (Some(why), _) => explain_link(rt, "bus", why),
-        (None, Some(why)) => explain_link(rt, "net", why),
-        (None, None) => {}
-    }
-}
-
-// Why a link couldn't be attached.
-fn explain_link(rt: &impl Eprint, link: &str, why: &Unattached) {
-    let listen = str::from_utf8(why.listen.as_slice()).unwrap_or("");
-    let _ = match why.kind {
-        ErrorKind::AddrInUse => {
-            eprintln!(rt; "shipgate: {link}.listen {listen}: a program listens there already")
-        }
-        ErrorKind::AddrNotAvailable => {
-            eprintln!(rt; "shipgate: {link}.listen {listen}: this machine has no such address")
-        }
-        kind => eprintln!(rt; "shipgate: {link}.listen {listen}: {kind}"),
-    };
 }

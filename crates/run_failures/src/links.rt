@@ -1,0 +1,28 @@
+//! Which link couldn't be attached, and why.
+use crate::Kept;
+use live_outside::Unattached;
+use std::io::ErrorKind;
+use std::str;
+
+/// Which link couldn't be attached. The network is tried once the bus is attached.
+pub(crate) fn explain_links(rt: &impl Eprint, kept: &Kept<'_>) {
+    match (kept.bus, kept.net) {
+        (Some(why), _) => explain_link(rt, "bus", why),
+        (None, Some(why)) => explain_link(rt, "net", why),
+        (None, None) => {}
+    }
+}
+
+// Why a link couldn't be attached.
+fn explain_link(rt: &impl Eprint, link: &str, why: &Unattached) {
+    let listen = str::from_utf8(why.listen.as_slice()).unwrap_or("");
+    let _ = match why.kind {
+        ErrorKind::AddrInUse => {
+            eprintln!(rt; "shipgate: {link}.listen {listen}: a program listens there already")
+        }
+        ErrorKind::AddrNotAvailable => {
+            eprintln!(rt; "shipgate: {link}.listen {listen}: this machine has no such address")
+        }
+        kind => eprintln!(rt; "shipgate: {link}.listen {listen}: {kind}"),
+    };
+}
