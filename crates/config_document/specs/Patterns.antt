@@ -10,11 +10,8 @@ use Rattle.n2k_id.specs.Pattern.{stating}
 use Rattle.sentence_text.specs.Byte.{is_digit}
 use Rattle.unit_fraction.specs.Digits.{number}
 use Rattle.config_document.specs.Texts.{name_in}
-
-infixl 10 ◌>>=◌
-abbrev pub ◌>>=◌ : {A B : Type 0} → Option A → (A → Option B) → Option B
-None >>= f = None
-(Some x) >>= f = f x
+use Rattle.config_document.specs.declared.pattern.Words as code
+use Rattle.config_document.specs.declared.pattern.Words.TheVariants as words
 
 -- 1 to 7 decimal digits, leading zeros among them, of a number that has no more bits
 unfoldable pub number_in : ℕ → List ℕ → Option ℕ
@@ -35,42 +32,58 @@ behind text = option_map (λ i. drop (i + 1) text) (position is_space text)
 abbrev pub begins : List ℕ → List ℕ → Bool
 begins start text = pointwise nat_eq (take (length start) text) start
 
--- what the first of the words states of a field of so many bits, and the words behind it
-abbrev pub stated : List ℕ → ℕ → Option (List ℕ) → Option (Option ℕ × Option (List ℕ))
-stated field width None = Some (None, None)
-stated field width (Some text) =
-    if begins field (word text) then (number_in width (drop (length field) (word text)) >>= λ number. Some (Some number, behind text)) else Some (None, Some text)
+-- what is left of the words: those behind what was read, or none behind the last word; and nothing at all once a word was wrong
+abbrev pub Words : Type 0
+Words = Option (Option (List ℕ))
 
--- no word is left
-abbrev pub ended : Option (List ℕ) → Pattern → Option Pattern
-ended None pattern = Some pattern
-ended (Some words) pattern = None
+-- what code sees as such words
+abbrev pub words_seen : code.Words → Words
+words_seen (words.Left text) = Some (Some text.now)
+words_seen words.Ended = Some None
+words_seen words.Wrong = None
+
+abbrev counted : Option ℕ → Option (List ℕ) → Option ℕ × Words
+counted None rest = (None, None)
+counted (Some number) rest = (Some number, Some rest)
+
+-- what the first of the words states of a field of so many bits, and the words behind it; nothing, and all words, where it is about another field
+unfoldable pub stated : List ℕ → ℕ → Words → Option ℕ × Words
+stated field width None = (None, None)
+stated field width (Some None) = (None, Some None)
+stated field width (Some (Some text)) =
+    if begins field (word text) then counted (number_in width (drop (length field) (word text))) (behind text) else (None, Some (Some text))
+
+-- no word is left, and none was wrong
+abbrev pub ended : Words → Pattern → Option Pattern
+ended None pattern = None
+ended (Some None) pattern = Some pattern
+ended (Some (Some text)) pattern = None
 
 -- the fields in the order in which they stand in a NAME, each stated once or not at all
 unfoldable pub stating_in : List ℕ → Option Pattern
-stating_in text = do
-  unique ← stated (codes "unique=") 21 (Some text)
-  manufacturer ← stated (codes "manufacturer=") 11 unique.1
-  instance_lower ← stated (codes "instance_lower=") 3 manufacturer.1
-  instance_upper ← stated (codes "instance_upper=") 5 instance_lower.1
-  function ← stated (codes "function=") 8 instance_upper.1
-  reserved ← stated (codes "reserved=") 1 function.1
-  class ← stated (codes "class=") 7 reserved.1
-  system_instance ← stated (codes "system_instance=") 4 class.1
-  industry ← stated (codes "industry=") 3 system_instance.1
-  arbitrary ← stated (codes "arbitrary=") 1 industry.1
-  ended arbitrary.1 (record {
-    unique = unique.0;
-    manufacturer = manufacturer.0;
-    instance_lower = instance_lower.0;
-    instance_upper = instance_upper.0;
-    function = function.0;
-    reserved = reserved.0;
-    class = class.0;
-    system_instance = system_instance.0;
-    industry = industry.0;
-    arbitrary = option_map (λ n. n == 1) arbitrary.0;
-  })
+stating_in text =
+    let unique = stated (codes "unique=") 21 (Some (Some text)) in
+    let manufacturer = stated (codes "manufacturer=") 11 unique.1 in
+    let instance_lower = stated (codes "instance_lower=") 3 manufacturer.1 in
+    let instance_upper = stated (codes "instance_upper=") 5 instance_lower.1 in
+    let function = stated (codes "function=") 8 instance_upper.1 in
+    let reserved = stated (codes "reserved=") 1 function.1 in
+    let class = stated (codes "class=") 7 reserved.1 in
+    let system_instance = stated (codes "system_instance=") 4 class.1 in
+    let industry = stated (codes "industry=") 3 system_instance.1 in
+    let arbitrary = stated (codes "arbitrary=") 1 industry.1 in
+    ended arbitrary.1 (record {
+      unique = unique.0;
+      manufacturer = manufacturer.0;
+      instance_lower = instance_lower.0;
+      instance_upper = instance_upper.0;
+      function = function.0;
+      reserved = reserved.0;
+      class = class.0;
+      system_instance = system_instance.0;
+      industry = industry.0;
+      arbitrary = option_map (λ n. n == 1) arbitrary.0;
+    })
 
 abbrev whole_or : Option Name → Option Pattern → Option Pattern
 whole_or None other = other

@@ -1,10 +1,10 @@
 //! A choice of devices by the fields of their NAMEs, as a text: `class=40 industry=4`, or the 16 hexadecimal digits of one NAME.
-ghost use Rattle.std.specs.Prelude.{◌≡◌, ◌==◌, ◌<◌, ◌≤◌, ◌^◌, IfSome, IsTrue, length, option_map};
+ghost use Rattle.std.specs.Prelude.{◌≡◌, ◌==◌, ◌<◌, ◌≤◌, ◌^◌, IfSome, IsTrue, Some, length, option_map};
 ghost use Rattle.std.specs.Option.{ForSome};
 ghost use Rattle.std.specs.List.{list_all, position};
 ghost use Rattle.sentence_text.specs.Byte.{is_digit};
 ghost use Rattle.unit_fraction.specs.Digits.{number as number_of_digits};
-ghost use Rattle.config_document.specs.Patterns.{IsStated, behind, is_space, number_in, stated, stating_in, word};
+ghost use Rattle.config_document.specs.Patterns.{IsStated, behind, ended, is_space, number_in, stated, stating_in, word, words_seen};
 
 use crate::written::Written;
 use n2k_id::{Name, Pattern};
@@ -26,26 +26,33 @@ impl Written for Pattern {
     }
 }
 
+/// What is left of the words.
+#[derive(Clone, Copy)]
+enum Words<'a> {
+    /// Those behind what was read.
+    Left(&'a [u8]),
+    /// None is left.
+    Ended,
+    /// A word was wrong.
+    Wrong,
+}
+
 /// The pattern of the fields that are stated, in the order in which they stand in a NAME.
-#[tactic(auto, unfolding(crate::specs::Patterns::stating_in))]
 fn stating(text: &[u8]) -> Option<Pattern>
     ensures value { result ≡ stating_in text.now }
     ensures valid { IfSome result IsStated }
 {
-    let (unique, words) = stated(Some(text), b"unique=", 21)?;
-    let (manufacturer, words) = stated(words, b"manufacturer=", 11)?;
-    let (instance_lower, words) = stated(words, b"instance_lower=", 3)?;
-    let (instance_upper, words) = stated(words, b"instance_upper=", 5)?;
-    let (function, words) = stated(words, b"function=", 8)?;
-    let (reserved, words) = stated(words, b"reserved=", 1)?;
-    let (class, words) = stated(words, b"class=", 7)?;
-    let (system_instance, words) = stated(words, b"system_instance=", 4)?;
-    let (industry, words) = stated(words, b"industry=", 3)?;
-    let (arbitrary, words) = stated(words, b"arbitrary=", 1)?;
-    if words.is_some() {
-        return None;
-    }
-    Some(Pattern {
+    let (unique, words) = stated(Words::Left(text), b"unique=", 21);
+    let (manufacturer, words) = stated(words, b"manufacturer=", 11);
+    let (instance_lower, words) = stated(words, b"instance_lower=", 3);
+    let (instance_upper, words) = stated(words, b"instance_upper=", 5);
+    let (function, words) = stated(words, b"function=", 8);
+    let (reserved, words) = stated(words, b"reserved=", 1);
+    let (class, words) = stated(words, b"class=", 7);
+    let (system_instance, words) = stated(words, b"system_instance=", 4);
+    let (industry, words) = stated(words, b"industry=", 3);
+    let (arbitrary, words) = stated(words, b"arbitrary=", 1);
+    let pattern = Pattern {
         unique,
         manufacturer: short(manufacturer),
         instance_lower: byte(instance_lower),
@@ -56,29 +63,39 @@ fn stating(text: &[u8]) -> Option<Pattern>
         system_instance: byte(system_instance),
         industry: byte(industry),
         arbitrary: flag(arbitrary),
-    })
+    };
+    ended(words, pattern)
+}
+
+/// The pattern, where no word is left and none was wrong.
+fn ended(words: Words<'_>, pattern: Pattern) -> Option<Pattern>
+    ensures value { result ≡ ended (words_seen words.entry) pattern }
+    ensures only { IfSome result (λ p. p ≡ pattern) }
+{
+    match words {
+        Words::Ended => Some(pattern),
+        Words::Left(_) | Words::Wrong => None,
+    }
 }
 
 /// What the first of the words states of a field of so many bits, and the words behind it; nothing, and all words, where it is about
 /// another field.
-fn stated<'a>(
-    words: Option<&'a [u8]>,
-    field: &[u8],
-    width: u32,
-) -> Option<(Option<u32>, Option<&'a [u8]>)>
+#[tactic(auto, unfolding(crate::specs::Patterns::stated))]
+fn stated<'a>(words: Words<'a>, field: &[u8], width: u32) -> (Option<u32>, Words<'a>)
     requires { width ≤ 21 }
-    ensures value { option_map (λ s. (s.0, option_map (λ t. t.now) s.1)) result ≡ stated field.now width (option_map (λ t. t.now) words.entry) }
-    ensures fits { IfSome result (λ s. ForSome s.0 (λ n. n < 2 ^ width)) }
+    ensures number { result.0 ≡ (stated field.now width (words_seen words.entry)).0 }
+    ensures behind { words_seen result.1 ≡ (stated field.now width (words_seen words.entry)).1 }
+    ensures fits { ForSome result.0 (λ n. n < 2 ^ width) }
 {
     match words {
-        None => Some((None, None)),
-        Some(text) => {
+        Words::Ended | Words::Wrong => (None, words),
+        Words::Left(text) => {
             let (word, behind) = cut_word(text);
             match word.strip_prefix(field) {
-                None => Some((None, words)),
+                None => (None, words),
                 Some(digits) => match number_of(digits, width) {
-                    None => None,
-                    Some(number) => Some((Some(number), behind)),
+                    None => (None, Words::Wrong),
+                    Some(number) => (Some(number), behind),
                 },
             }
         }
@@ -86,13 +103,13 @@ fn stated<'a>(
 }
 
 /// The first word, and the words behind it.
-fn cut_word(text: &[u8]) -> (&[u8], Option<&[u8]>)
+fn cut_word(text: &[u8]) -> (&[u8], Words<'_>)
     ensures word { result.0.now ≡ word text.now }
-    ensures behind { option_map (λ t. t.now) result.1 ≡ behind text.now }
+    ensures behind { words_seen result.1 ≡ Some (behind text.now) }
 {
     match first_space(text) {
-        None => (text, None),
-        Some(place) => (&text[..place], Some(&text[place + 1..])),
+        None => (text, Words::Ended),
+        Some(place) => (&text[..place], Words::Left(&text[place + 1..])),
     }
 }
 
