@@ -1,14 +1,9 @@
 //! A heading of the bus that is said on the network: by the gateway, and by the calls that it makes for it alone.
-ghost use Rattle.std.specs.Prelude.{◌≤◌, ◌<◌};
-ghost use Rattle.n2k_id.specs.Frame.{IsFrame};
-ghost use Rattle.readings.specs.Ranges.{IsValid};
-
 use datagram450::{begin, push_line};
 use gate_core::{Gateway, Outbox};
 use gate_events::{Emit, Event};
 use n2k_id::Frame;
 use pgn_profile::{Profiled, read};
-use readings::Reading;
 use sentence_rows::{Lines, sentences};
 use sentence_text::Sfi;
 use tag_block::{Packet, TagParts};
@@ -60,18 +55,17 @@ pub fn say(packet: &mut Packet, calls: u32) -> u64 {
 }
 
 fn say_once(source: Sfi, packet: &mut Packet, call: u32) -> u64 {
+    let mut lines = Lines::new();
     match read(VESSEL_HEADING, &payload(call)) {
-        Profiled::Reading(reading) => write(source, packet, call, &reading),
-        Profiled::Outside | Profiled::Short => 0,
+        Profiled::Reading(reading) => sentences(&reading, *b"IN", false, &mut lines),
+        Profiled::Outside | Profiled::Short => return 0,
     }
+    write(source, packet, call, &lines);
+    packet.len() as u64
 }
 
-/// Writes the datagram of a reading that is said in one line, and answers its length.
-fn write(source: Sfi, packet: &mut Packet, call: u32, reading: &Reading) -> u64
-    requires { IsValid reading.now }
-{
-    let mut lines = Lines::new();
-    sentences(reading, *b"IN", false, &mut lines);
+/// Writes the datagram of what is said.
+fn write(source: Sfi, packet: &mut Packet, call: u32, lines: &Lines) {
     packet.clear();
     begin(packet);
     let tag = TagParts {
@@ -82,5 +76,4 @@ fn write(source: Sfi, packet: &mut Packet, call: u32, reading: &Reading) -> u64
     for line in lines.as_slice() {
         let _fits = push_line(&tag, &line.bytes, packet);
     }
-    packet.len() as u64
 }
