@@ -1,6 +1,7 @@
 -- What is kept of the messages that RMC is made from, as plain values, and what a step of the gateway makes of it. Nothing here speaks of
 -- what came before.
-use Rattle.std.specs.Prelude.{ℕ, ◌+◌, ◌-◌, ◌%◌, Bool, true, false, ◌==◌, List, [], ◌∷◌, length, slice_get, Option, Some, None, IfSome, if◌then◌else◌}
+use Rattle.std.specs.Prelude.{ℕ, ◌+◌, ◌-◌, ◌%◌, Bool, true, false, ◌==◌, List, [], ◌∷◌, length, slice_get, Option, Some, None, IfSome, option_map, if◌then◌else◌}
+use Rattle.std.specs.Borrow.{Bor}
 use Rattle.n2k_id.specs.declared.name.Name.{Name}
 use Rattle.readings.specs.declared.reading.Reading.{Reading}
 use Rattle.readings.specs.declared.rows.Row.{Row}
@@ -26,6 +27,10 @@ pub record Join : Type 0 where
   pub motion : Slot
   pub heading : Slot
   pub count : ℕ
+
+-- what is lent, where something is
+abbrev pub lent : Option (Bor Reading) → Option Reading
+lent reading = option_map (λ r. r.now) reading
 
 abbrev pub empty_slot : ℕ → Slot
 empty_slot timeout = record { timeout = timeout; kept = None }

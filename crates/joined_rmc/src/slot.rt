@@ -4,7 +4,7 @@ ghost use Rattle.readings.specs.Ranges.{IsValid};
 ghost use Rattle.history.specs.Settings.{same_row};
 ghost use Rattle.gate_model.specs.AddressStands.{name_held};
 ghost use Rattle.joined_rmc.specs.Chosen.{unless_old};
-ghost use Rattle.joined_rmc.specs.Kept.{IsKeptValid, empty_slot, held_in, in_slot, is_named, kept_within, newer_kept, slot_after};
+ghost use Rattle.joined_rmc.specs.Kept.{IsKeptValid, empty_slot, held_in, in_slot, is_named, kept_within, lent, newer_kept, slot_after};
 
 use crate::kept::Kept;
 use gate_core::Gateway;
@@ -68,12 +68,12 @@ impl Slot {
     }
 
     /// What it says at a moment.
-    pub(crate) fn says(&self, moment: u64) -> Option<Reading>
+    pub(crate) fn says(&self, moment: u64) -> Option<&Reading>
         requires { IsKeptValid self.now.kept }
-        ensures says { result ≡ in_slot moment self.now }
-        ensures valid { IfSome result IsValid }
+        ensures says { lent result ≡ in_slot moment self.now }
+        ensures valid { IfSome result (λ r. IsValid r.now) }
     {
-        match self.kept {
+        match &self.kept {
             None => None,
             Some(kept) => unless_old(self.timeout, moment, kept),
         }
@@ -81,13 +81,13 @@ impl Slot {
 }
 
 /// What the message says, where it isn't older at the moment than the timeout.
-fn unless_old(timeout: u32, moment: u64, kept: Kept) -> Option<Reading>
-    requires { IsValid kept.reading }
-    ensures says { result ≡ unless_old timeout moment kept.moment kept.reading }
-    ensures valid { IfSome result IsValid }
+fn unless_old(timeout: u32, moment: u64, kept: &Kept) -> Option<&Reading>
+    requires { IsValid kept.now.reading }
+    ensures says { lent result ≡ unless_old timeout moment kept.now.moment kept.now.reading }
+    ensures valid { IfSome result (λ r. IsValid r.now) }
 {
     if moment.saturating_sub(kept.moment) <= 1000 * u64::from(timeout) {
-        Some(kept.reading)
+        Some(&kept.reading)
     } else {
         None
     }

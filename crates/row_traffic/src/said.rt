@@ -6,7 +6,7 @@ ghost use Rattle.readings.specs.Rows.{row_of};
 ghost use Rattle.sentence_text.specs.Byte.{is_capital};
 ghost use Rattle.source_choice.specs.Choices.{opened, forgotten, row_number};
 ghost use Rattle.tag_block.specs.Writing.{longest_packet};
-ghost use Rattle.history.specs.Choice.{is_usable, rank_of};
+ghost use Rattle.history.specs.Choice.{is_usable, rank_of, reading_in};
 ghost use Rattle.gate_events.specs.Emit.{net};
 ghost use Rattle.history.specs.Settings.{rule_of};
 ghost use Rattle.gate_model.specs.Net.{row_numbers};
@@ -23,6 +23,7 @@ use crate::said::writing::{sentences_in, speaker, write_datagram};
 use config_values::Config;
 use gate_outbox::Outbox;
 use n2k_id::Name;
+use pgn_profile::Profiled;
 use readings::{ROWS, Reading, Row, row};
 use sentence_rows::Lines;
 use sentence_text::Group;
@@ -88,26 +89,20 @@ impl Said {
         })
     }
 
-    /// Takes a message with its reading: where its sender has a rank in the row it is noted, and where it is selected it is said.
-    pub fn take(
-        &mut self,
-        config: &Config,
-        sender: Sender,
-        reading: Option<Reading>,
-        out: &mut Outbox,
-    )
+    /// Takes what a message says: a reading is noted where its sender has a rank in the row, and said where it is selected.
+    pub fn take(&mut self, config: &Config, sender: Sender, profiled: &Profiled, out: &mut Outbox)
         requires config { IsConfig config.now }
         requires source { sender.source < 254 }
-        requires valid { IfSome reading IsValid }
+        requires valid { IfSome (reading_in profiled.now) IsValid }
         requires room { length out.old.emits
-            + length (profiled_emits (settings_of config.now) self.old (message_from sender) reading) ≤ most_emits }
+            + length (profiled_emits (settings_of config.now) self.old (message_from sender) (reading_in profiled.now)) ≤ most_emits }
         requires before { has_datagram out.old.emits ≡ false }
-        ensures after { self.new ≡ profiled_after (settings_of config.now) self.old (message_from sender) reading }
-        ensures emits { out.new ≡ and_emits out.old (profiled_emits (settings_of config.now) self.old (message_from sender) reading) }
+        ensures after { self.new ≡ profiled_after (settings_of config.now) self.old (message_from sender) (reading_in profiled.now) }
+        ensures emits { out.new ≡ and_emits out.old (profiled_emits (settings_of config.now) self.old (message_from sender) (reading_in profiled.now)) }
     {
-        match reading {
-            None => {}
-            Some(reading) => self.take_reading(config, sender, &reading, out),
+        match profiled {
+            Profiled::Reading(reading) => self.take_reading(config, sender, reading, out),
+            Profiled::Outside | Profiled::Short => {}
         }
     }
 

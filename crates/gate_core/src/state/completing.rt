@@ -1,6 +1,5 @@
 //! A message that a frame completes: it is said where it is selected, and told with the command that it gives.
 ghost use Rattle.std.specs.Prelude.{◌≡◌, ◌+◌, ◌≤◌, false, length, option_map, IfSome, Some};
-ghost use Rattle.readings.specs.Ranges.{IsValid};
 ghost use Rattle.pgn_profile.specs.Profiled.{GivesValid};
 ghost use Rattle.claim_table.specs.Claims.{holder_at};
 ghost use Rattle.history.specs.Choice.{reading_in};
@@ -20,21 +19,21 @@ impl State {
     pub(crate) fn complete(
         &mut self,
         source: u8,
-        message: Option<Content>,
+        message: &Option<Content>,
         moment: u64,
         out: &mut Outbox,
     )
         requires stays { Stays self.old }
-        requires says { IfSome message (λ message. GivesValid message.profiled) }
+        requires says { IfSome message.now (λ message. GivesValid message.profiled) }
         requires room { length out.old.emits + length (said_emits self.old.settings self.old.said moment source
-            (holder_at self.old.addresses.claims.holders source) message) ≤ most_emits }
+            (holder_at self.old.addresses.claims.holders source) message.now) ≤ most_emits }
         requires before { has_datagram out.old.emits ≡ false }
         ensures after { self.new ≡ record self.old {
           said = said_after self.old.settings self.old.said moment source
-              (holder_at self.old.addresses.claims.holders source) message;
+              (holder_at self.old.addresses.claims.holders source) message.now;
         } }
         ensures output { out.new ≡ and_message self.old.settings out.old self.old.said moment source
-            (holder_at self.old.addresses.claims.holders source) message }
+            (holder_at self.old.addresses.claims.holders source) message.now }
     {
         match (self.addresses.claims().holder(source), message) {
             (Some(holder), Some(message)) => {
@@ -43,9 +42,8 @@ impl State {
                     source,
                     name: holder.name,
                 };
-                let reading = reading_in(message.profiled);
-                self.said.take(&self.config, sender, reading, out);
-                tell(sender, message, reading, out);
+                self.said.take(&self.config, sender, &message.profiled, out);
+                tell(sender, message, out);
             }
             _ => {}
         }
@@ -53,30 +51,28 @@ impl State {
 }
 
 /// The reading of a message, where it has one.
-fn reading_in(profiled: Profiled) -> Option<Reading>
-    requires { GivesValid profiled }
-    ensures reading { result ≡ reading_in profiled }
-    ensures valid { IfSome result IsValid }
+fn reading_in(profiled: &Profiled) -> Option<Reading>
+    ensures { result ≡ reading_in profiled.now }
 {
     match profiled {
-        Profiled::Reading(reading) => Some(reading),
+        Profiled::Reading(reading) => Some(*reading),
         Profiled::Outside | Profiled::Short => None,
     }
 }
 
 /// Tells of a message, and of the command that it gives.
-fn tell(sender: Sender, message: Content, reading: Option<Reading>, out: &mut Outbox)
+fn tell(sender: Sender, message: &Content, out: &mut Outbox)
     ensures { out.new ≡ record {
       emits = out.old.emits;
-      done = Some (record { source = sender.source; name = sender.name; pgn = message.pgn; reading = reading });
-      command = first_there (option_map (λ address. record { source = sender.source; address = address }) message.ordered) out.old.command;
+      done = Some (record { source = sender.source; name = sender.name; pgn = message.now.pgn; reading = reading_in message.now.profiled });
+      command = first_there (option_map (λ address. record { source = sender.source; address = address }) message.now.ordered) out.old.command;
     } }
 {
     out.complete(Done {
         source: sender.source,
         name: sender.name,
         pgn: message.pgn,
-        reading,
+        reading: reading_in(&message.profiled),
     });
     if let Some(address) = message.ordered {
         out.order(Command {
