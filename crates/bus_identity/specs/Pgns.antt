@@ -26,11 +26,11 @@ abbrev pub product_information : ℕ
 product_information = 126996
 
 -- long messages are announced, and sent in parts (ISO 11783-3)
-abbrev pub transport_announced : ℕ
-transport_announced = 60416
+abbrev pub connection_management : ℕ
+connection_management = 60416
 
-abbrev pub transport_part : ℕ
-transport_part = 60160
+abbrev pub data_transfer : ℕ
+data_transfer = 60160
 
 -- a device is told its address (ISO 11783-5)
 abbrev pub address_commanded : ℕ
@@ -56,8 +56,8 @@ taken_by r = (about_of r).pgn ∷ option_to_list (about_of r).also
 
 -- those that the gateway sends: as a device, and of its rows
 unfoldable pub sent : List ℕ
-sent = ascending (acknowledgement ∷ request ∷ transport_announced ∷ address_claimed ∷ pgn_lists ∷ product_information ∷ flat_map sent_by every_row)
+sent = ascending (acknowledgement ∷ request ∷ connection_management ∷ address_claimed ∷ pgn_lists ∷ product_information ∷ flat_map sent_by every_row)
 
 -- those that it takes in
 unfoldable pub received : List ℕ
-received = ascending (request ∷ transport_part ∷ transport_announced ∷ address_claimed ∷ address_commanded ∷ flat_map taken_by every_row)
+received = ascending (request ∷ data_transfer ∷ connection_management ∷ address_claimed ∷ address_commanded ∷ flat_map taken_by every_row)
