@@ -99,17 +99,35 @@ fn done(
 
 fn measure(rt: &HostRuntime, work: Work, calls: u32) -> io::Result<()> {
     let mut out = Outbox::new();
-    let mut packet = Packet::new();
     let Some(mut gateway) = opened(rt.alloc(), MANY, &mut out)? else {
         return Ok(());
     };
-    frames::claim_all(&mut gateway, &mut out);
+    prepare(work, &mut gateway, &mut out);
+    measure_done(rt, work, &mut gateway, &mut out, calls)
+}
+
+/// What comes before the work: claims, and the fast packets that are open meanwhile.
+fn prepare(work: Work, gateway: &mut Gateway, out: &mut Outbox) {
+    frames::claim_all(gateway, out);
     if work == Work::AmongMany {
-        frames::hold_all(&mut gateway, &mut out);
+        frames::hold_all(gateway, out);
     }
+}
+
+fn measure_done(
+    rt: &HostRuntime,
+    work: Work,
+    gateway: &mut Gateway,
+    out: &mut Outbox,
+    calls: u32,
+) -> io::Result<()> {
+    let mut packet = Packet::new();
     let start = Instant::now(rt)?;
-    let sum = done(work, &mut gateway, &mut out, &mut packet, calls);
-    let nanoseconds = start.elapsed(rt)?.as_nanos();
+    let sum = done(work, gateway, out, &mut packet, calls);
+    tell(rt, calls, start.elapsed(rt)?.as_nanos(), sum)
+}
+
+fn tell(rt: &HostRuntime, calls: u32, nanoseconds: u128, sum: u64) -> io::Result<()> {
     let tenths = nanoseconds.saturating_mul(10) / u128::from(calls.max(1));
     println!(rt; "{}.{} ns a call ({sum})", tenths / 10, tenths % 10)
 }
