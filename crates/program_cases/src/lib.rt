@@ -5,6 +5,8 @@
 #[cfg(test)]
 mod live_tests;
 #[cfg(test)]
+mod outside;
+#[cfg(test)]
 mod tests;
 #[cfg(test)]
 mod turns_tests;

@@ -1,15 +1,13 @@
 //! The program over objects in memory, with the bytes and statuses worked out by hand.
-ghost use Rattle.std.specs.Prelude.{◌<◌};
-
 mod configured;
 mod failing;
 
-use gate_outside::{
-    Files, Link, MemClock, MemFiles, MemLink, MemSink, MemSource, QuietFiles, QuietLink,
-    QuietSource, ReaderSource, Sink, Source, WriterSink,
+use crate::outside::{
+    PLAIN, Run, SILENT, Way, beside_of, ends_so, joined, listed, sink_of, status_between,
+    status_of, was_written,
 };
-use gateway_commands::run;
-use std::alloc::Global;
+use gate_outside::{Link, ReaderSource, WriterSink};
+use std::alloc::{AllocError, Global};
 use std::io::{Read, Write};
 use std::test::Fail;
 
@@ -31,148 +29,54 @@ address = 251
 sfi = \"II0001\"
 ";
 
-/// An input, how many bytes a read moves at most, and which reads fail.
-#[derive(Drop)]
-struct Given<'a> {
-    bytes: &'a [u8],
-    most: usize,
-    failing: &'a [u32],
-    ghost some: { 0 < most },
-}
-
-/// How many bytes a write moves at most, and which writes fail.
-#[derive(Clone, Copy)]
-struct Room<'a> {
-    most: usize,
-    failing: &'a [u32],
-}
-
-/// What stands in every file, and which loads fail.
-#[derive(Clone, Copy)]
-struct Stored<'a> {
-    text: &'a [u8],
-    failing: &'a [u32],
-}
-
-/// No file that a command would use.
-const UNUSED: Stored<'static> = Stored {
-    text: b"",
-    failing: &[],
-};
-
-/// The words of a command line.
-fn listed(alloc: Global, words: &[&str]) -> Result<Vec<String>, Fail> {
-    let mut list = Vec::new(alloc);
-    for word in words {
-        list.push(String::from_str(alloc, word)?)?;
-    }
-    Ok(list)
-}
-
-/// The status of a run beside this bus, over these files, with no network and no clock.
-fn status_beside<F: Files, S: Source, K: Sink, B: Link>(
-    alloc: Global,
-    words: &[String],
-    files: &mut F,
-    input: &mut S,
-    out: &mut K,
-    bus: &mut B,
-) -> Result<u8, Fail> {
-    let mut net = QuietLink::of(alloc, 0, 0, Vec::new(alloc))?;
-    let mut clock = MemClock::of(Vec::new(alloc));
-    Ok(run(alloc, words, files, input, out, bus, &mut net, &mut clock))
-}
-
-/// The status of a run over these files, with no link and no clock.
-fn status_over<F: Files, S: Source, K: Sink>(
-    alloc: Global,
-    words: &[String],
-    files: &mut F,
-    input: &mut S,
-    out: &mut K,
-) -> Result<u8, Fail> {
-    let mut bus = QuietLink::of(alloc, 0, 0, Vec::new(alloc))?;
-    status_beside(alloc, words, files, input, out, &mut bus)
-}
-
-/// The status of a run over a reader and a writer of std, with no link and no clock.
-fn status_with<F: Files, R: Read + Drop, W: Write + Drop>(
-    alloc: Global,
-    words: &[String],
-    files: &mut F,
-    reader: R,
-    writer: W,
-) -> Result<u8, Fail> {
-    let mut input = ReaderSource::new(reader);
-    let mut out = WriterSink::new(writer);
-    status_over(alloc, words, files, &mut input, &mut out)
-}
-
-/// The status of a run over what is stored and given, and what the sink took in it.
-fn outcome_over(
-    alloc: Global,
-    words: &[String],
-    stored: &Stored,
-    given: &Given,
-    room: &Room,
-) -> Result<(u8, Vec<u8>), Fail> {
-    let mut files = MemFiles::of(stored.text.to_vec(alloc)?, stored.failing.to_vec(alloc)?);
-    let mut input = MemSource::of(
-        given.bytes.to_vec(alloc)?,
-        given.most,
-        given.failing.to_vec(alloc)?,
-    );
-    let mut out = MemSink::of(alloc, 20_000, room.most, room.failing.to_vec(alloc)?)?;
-    let status = status_over(alloc, words, &mut files, &mut input, &mut out)?;
-    Ok((status, out.taken().to_vec(alloc)?))
-}
-
-/// The status of a run of at most one word, and what the sink took in it.
-fn outcome(alloc: Global, word: &str, given: &Given, room: &Room) -> Result<(u8, Vec<u8>), Fail> {
-    let named = [word];
-    let count = if word.is_empty() { 0 } else { 1 };
-    let words = listed(alloc, &named[..count])?;
-    outcome_over(alloc, words.as_slice(), &UNUSED, given, room)
-}
-
 /// Whether a run over a reader and a writer of std ends well, with this text.
-fn is_written_by_std(alloc: Global, word: &str, text: &[u8]) -> Result<bool, Fail> {
-    let words = listed(alloc, &[word])?;
-    let mut files = QuietFiles::of(Vec::new(alloc));
+fn is_written_by_std(alloc: Global, words: &[&str], text: &[u8]) -> Result<bool, AllocError> {
+    let words = listed(alloc, words)?;
     let mut kept = Vec::new(alloc);
-    let status = status_with(alloc, words.as_slice(), &mut files, HEADING, &mut kept)?;
+    let status = status_with(alloc, words.as_slice(), HEADING, &mut kept)?;
     Ok(status == 0 && kept.as_slice() == text)
 }
+
+/// The status of a run over a reader and a writer of std.
+fn status_with<R: Read + Drop, W: Write + Drop>(
+    alloc: Global,
+    words: &[String],
+    reader: R,
+    writer: W,
+) -> Result<u8, AllocError> {
+    let mut beside = beside_of(alloc, &PLAIN, b"")?;
+    let mut input = ReaderSource::new(reader);
+    let mut out = WriterSink::new(writer);
+    Ok(status_of(alloc, words, &mut beside, &mut input, &mut out))
+}
+
+const CONVERT: &[&str] = &["convert"];
+
+const SHOW: &[&str] = &["show"];
 
 #[test]
 fn readers_and_writers_of_std_are_run_over(rt: HostRuntime) -> Result<(), Fail> {
     let shown = b"line=1 prio=2 pgn=127250 src=23 dst=255 len=8\n";
-    assert!(rt; is_written_by_std(rt.alloc(), "convert", b"$HEHDT,90.0,T*16\r\n")?);
-    assert!(rt; is_written_by_std(rt.alloc(), "show", shown)?);
+    assert!(rt; is_written_by_std(rt.alloc(), CONVERT, b"$HEHDT,90.0,T*16\r\n")?);
+    assert!(rt; is_written_by_std(rt.alloc(), SHOW, shown)?);
     Ok(())
 }
 
 /// Whether exactly this is written of a capture, where a read gives at most so many bytes and a write takes three.
 fn is_written(
     alloc: Global,
-    word: &str,
+    words: &'static [&'static str],
     capture: &[u8],
-    most: usize,
+    pace: usize,
     text: &[u8],
-) -> Result<bool, Fail>
-    requires { 0 < most }
-{
-    let given = Given {
-        bytes: capture,
-        most,
-        failing: &[],
+) -> bool {
+    let run = Run {
+        words,
+        pace,
+        piece: 3,
+        ..PLAIN
     };
-    let room = Room {
-        most: 3,
-        failing: &[],
-    };
-    let (status, taken) = outcome(alloc, word, &given, &room)?;
-    Ok(status == 0 && taken.as_slice() == text)
+    ends_so(alloc, &run, (b"", capture), 0, text)
 }
 
 /// Frames, and the sentences of each.
@@ -216,10 +120,10 @@ const CONVERTED: [(&[u8], &[u8]); 15] = [
 ];
 
 /// Whether a frame becomes these sentences, where it is read byte by byte.
-fn is_converted(alloc: Global, frame: &[u8], sentences: &[u8]) -> Result<bool, Fail> {
+fn is_converted(alloc: Global, frame: &[u8], sentences: &[u8]) -> Result<bool, AllocError> {
     let mut line = b"(1700000000.000000) can0 ".to_vec(alloc)?;
     line.extend_from_slice(frame)?;
-    is_written(alloc, "convert", line.as_slice(), 1, sentences)
+    Ok(is_written(alloc, CONVERT, line.as_slice(), 1, sentences))
 }
 
 #[test]
@@ -232,49 +136,51 @@ fn messages_of_one_frame_become_their_sentences(rt: HostRuntime) -> Result<(), F
 
 /// Empty lines, text, a heading, a message that is too short for its fields, one of more than one frame and one of no row, a line that is too
 /// long, one that is no text, and a heading whose line ends with CR alone.
-fn other_lines(alloc: Global) -> Result<Vec<u8>, Fail> {
-    let mut bytes = b"\r\n\nhello\n".to_vec(alloc)?;
-    bytes.extend_from_slice(HEADING)?;
-    bytes.extend_from_slice(
-        b"(1.000000) can0 09F11217#04\n(1.000000) can0 0DF80517#005C3DFF7FFF7FFC\n(1.000000) can0 18EEFF17#005C3DFF7FFF7FFC\n",
-    )?;
-    for _ in 0..4097 {
-        bytes.push(b'x')?;
-    }
-    bytes.extend_from_slice(b"\r\n\x00\xFF\n")?;
-    bytes.extend_from_slice(&HEADING[..HEADING.len() - 1])?;
-    bytes.push(b'\r')?;
-    Ok(bytes)
-}
+const OTHER_LINES: [&[u8]; 4] = [
+    b"\r\n\nhello\n(1700000000.000000) can0 09F11217#005C3DFF7FFF7FFC\n\
+      (1.000000) can0 09F11217#04\n(1.000000) can0 0DF80517#005C3DFF7FFF7FFC\n(1.000000) can0 18EEFF17#005C3DFF7FFF7FFC\n",
+    &[b'x'; 4097],
+    b"\r\n\x00\xFF\n",
+    b"(1700000000.000000) can0 09F11217#005C3DFF7FFF7FFC\r",
+];
 
 /// Whether a command writes this of them, in whatever pieces they are read.
-fn writes_of_other_lines(alloc: Global, word: &str, text: &[u8]) -> Result<bool, Fail> {
-    let lines = other_lines(alloc)?;
-    let capture = lines.as_slice();
-    Ok(
-        is_written(alloc, word, capture, 1, text)?
-            && is_written(alloc, word, capture, 7, text)?
-            && is_written(alloc, word, capture, 70_000, text)?,
-    )
+fn writes_of_other_lines(
+    alloc: Global,
+    words: &'static [&'static str],
+    text: &[u8],
+) -> Result<bool, AllocError> {
+    let capture = joined(alloc, &OTHER_LINES)?;
+    for pace in &[1, 7, 70_000] {
+        if !is_written(alloc, words, capture.as_slice(), *pace, text) {
+            return Ok(false);
+        }
+    }
+    Ok(true)
 }
 
-#[test]
-fn other_lines_are_reported_by_number(rt: HostRuntime) -> Result<(), Fail> {
-    let converted: &[u8] =
+/// A command, and what it writes of them.
+const OF_OTHER_LINES: [(&[&str], &[u8]); 2] = [
+    (
+        CONVERT,
         b"rule 1 line=3\n$HEHDT,90.0,T*16\r\nrule 22 line=5\nrule 5 line=6\nrule 5 line=7\nrule 2 line=8\n\
-          rule 1 line=9\n$HEHDT,90.0,T*16\r\n";
-    assert!(rt; writes_of_other_lines(rt.alloc(), "convert", converted)?);
-    Ok(())
-}
-
-#[test]
-fn other_lines_are_shown_by_number(rt: HostRuntime) -> Result<(), Fail> {
-    let shown: &[u8] = b"line=3 rule 1\nline=4 prio=2 pgn=127250 src=23 dst=255 len=8\n\
+          rule 1 line=9\n$HEHDT,90.0,T*16\r\n",
+    ),
+    (
+        SHOW,
+        b"line=3 rule 1\nline=4 prio=2 pgn=127250 src=23 dst=255 len=8\n\
           line=5 prio=2 pgn=127250 src=23 dst=255 len=1\n\
           line=6 prio=3 pgn=129029 src=23 dst=255 len=8\n\
           line=7 prio=6 pgn=60928 src=23 dst=255 len=8\n\
-          line=8 rule 2\nline=9 rule 1\nline=10 prio=2 pgn=127250 src=23 dst=255 len=8\n";
-    assert!(rt; writes_of_other_lines(rt.alloc(), "show", shown)?);
+          line=8 rule 2\nline=9 rule 1\nline=10 prio=2 pgn=127250 src=23 dst=255 len=8\n",
+    ),
+];
+
+#[test]
+fn other_lines_are_reported_and_shown_by_number(rt: HostRuntime) -> Result<(), Fail> {
+    for (words, text) in &OF_OTHER_LINES {
+        assert!(rt; writes_of_other_lines(rt.alloc(), words, text)?);
+    }
     Ok(())
 }
 
@@ -304,23 +210,23 @@ const SHOWN: [(&[u8], &[u8], &[u8]); 4] = [
     ),
 ];
 
+/// Whether just that is written of a capture by each command.
+fn is_shown(alloc: Global, capture: &[u8], shown: &[u8], converted: &[u8]) -> bool {
+    is_written(alloc, SHOW, capture, 4096, shown)
+        && is_written(alloc, CONVERT, capture, 4096, converted)
+}
+
 #[test]
 fn datagrams_and_other_lines_are_shown(rt: HostRuntime) -> Result<(), Fail> {
     for (capture, shown, converted) in &SHOWN {
-        assert!(rt; is_written(rt.alloc(), "show", capture, 4096, shown)?);
-        assert!(rt; is_written(rt.alloc(), "convert", capture, 4096, converted)?);
+        assert!(rt; is_shown(rt.alloc(), capture, shown, converted));
     }
     Ok(())
 }
 
 /// A run on the heading, and how it ends.
-#[derive(Clone, Copy)]
 struct Ending {
-    word: &'static str,
-    /// Which reads fail.
-    reads: &'static [u32],
-    /// How many bytes a write takes, and which writes fail.
-    room: Room<'static>,
+    run: &'static Run,
     status: u8,
     taken: &'static [u8],
 }
@@ -328,116 +234,119 @@ struct Ending {
 const USAGE: &[u8] =
     b"usage: shipgate convert | show | check CONFIG | replay CONFIG | serve CONFIG TURNS | demo SEED COUNT\n";
 
-/// A run in which nothing fails.
-const WHOLE: Ending = Ending {
-    word: "convert",
-    reads: &[],
-    room: Room {
-        most: 3,
-        failing: &[],
-    },
-    status: 0,
-    taken: b"$HEHDT,90.0,T*16\r\n",
+/// A run in which nothing fails, in writes of three bytes.
+const CONVERTING: Run = Run {
+    words: CONVERT,
+    piece: 3,
+    ..PLAIN
 };
 
-/// A line that is shown in writes of three bytes.
-const SHOWN_WHOLE: Ending = Ending {
-    word: "show",
-    taken: b"line=1 prio=2 pgn=127250 src=23 dst=255 len=8\n",
-    ..WHOLE
+const SHOWING: Run = Run {
+    words: SHOW,
+    ..CONVERTING
 };
 
-/// A write of three bytes, and none after it.
-const ONE_WRITE: Room<'static> = Room {
-    most: 3,
-    failing: &[2],
-};
-
-const ENDINGS: [Ending; 12] = [
-    WHOLE,
+const ENDINGS: &[Ending] = &[
     Ending {
-        reads: &[1],
+        run: &CONVERTING,
+        status: 0,
+        taken: b"$HEHDT,90.0,T*16\r\n",
+    },
+    Ending {
+        run: &Run {
+            read: 1,
+            ..CONVERTING
+        },
         status: 5,
         taken: b"",
-        ..WHOLE
     },
     Ending {
-        reads: &[2],
+        run: &Run {
+            read: 2,
+            ..CONVERTING
+        },
         status: 5,
-        ..WHOLE
+        taken: b"$HEHDT,90.0,T*16\r\n",
     },
     Ending {
-        room: Room {
-            most: 4096,
-            failing: &[1],
+        run: &Run {
+            piece: 4096,
+            write: 1,
+            ..CONVERTING
         },
         status: 4,
         taken: b"",
-        ..WHOLE
     },
     Ending {
-        room: ONE_WRITE,
+        run: &Run {
+            write: 2,
+            ..CONVERTING
+        },
         status: 4,
         taken: b"$HE",
-        ..WHOLE
     },
     Ending {
-        room: Room {
-            most: 0,
-            failing: &[],
+        run: &Run {
+            piece: 0,
+            ..CONVERTING
         },
         status: 4,
         taken: b"",
-        ..WHOLE
     },
-    SHOWN_WHOLE,
     Ending {
-        reads: &[2],
+        run: &SHOWING,
+        status: 0,
+        taken: b"line=1 prio=2 pgn=127250 src=23 dst=255 len=8\n",
+    },
+    Ending {
+        run: &Run { read: 2, ..SHOWING },
         status: 5,
-        ..SHOWN_WHOLE
+        taken: b"line=1 prio=2 pgn=127250 src=23 dst=255 len=8\n",
     },
     Ending {
-        room: ONE_WRITE,
+        run: &Run {
+            write: 2,
+            ..SHOWING
+        },
         status: 4,
         taken: b"lin",
-        ..SHOWN_WHOLE
     },
     Ending {
-        word: "",
+        run: &Run {
+            words: &[],
+            ..CONVERTING
+        },
         status: 2,
         taken: USAGE,
-        ..WHOLE
     },
     Ending {
-        word: "",
-        room: ONE_WRITE,
+        run: &Run {
+            words: &[],
+            write: 2,
+            ..CONVERTING
+        },
         status: 2,
         taken: b"usa",
-        ..WHOLE
     },
     Ending {
-        word: "Convert",
+        run: &Run {
+            words: &["Convert"],
+            ..CONVERTING
+        },
         status: 2,
         taken: USAGE,
-        ..WHOLE
     },
 ];
 
 /// Whether a run ends so.
-fn ends_so(alloc: Global, case: &Ending) -> Result<bool, Fail> {
-    let given = Given {
-        bytes: HEADING,
-        most: 4096,
-        failing: case.reads,
-    };
-    let (status, taken) = outcome(alloc, case.word, &given, &case.room)?;
-    Ok(status == case.status && taken.as_slice() == case.taken)
+fn ends(alloc: Global, case: &Ending) -> bool {
+    ends_so(alloc, case.run, (b"", HEADING), case.status, case.taken)
 }
 
 #[test]
 fn failures_have_their_status_and_lose_no_complete_line(rt: HostRuntime) -> Result<(), Fail> {
-    for case in &ENDINGS {
-        assert!(rt; ends_so(rt.alloc(), case)?);
+    for case in ENDINGS {
+        assert!(rt; ends(rt.alloc(), case));
     }
     Ok(())
 }
@@ -447,32 +356,37 @@ const HEADING_SAID: &[u8] = b"(1700000000.000000) can0 18EEFFFB#0100C0FF008232C0
       (1700000000.000000) can0 18EAFFFB#00EE00\n\
       (1700000000.000000) udp0 NAVD#5564506243005C733A4949303030312C6E3A312A30315C2448454844542C39302E302C542A31360D0A\n";
 
+/// A replay beside a bus that can't be attached.
+const REPLAY: Run = Run {
+    words: &["replay", "boat.toml"],
+    bus: Way {
+        unattached: true,
+        ..SILENT
+    },
+    ..PLAIN
+};
+
+/// Whether nothing was asked of a bus that fails.
+fn is_unasked<B: Link>(bus: &B) -> bool {
+    bus.faults() == 0
+}
+
+/// Whether it says this, and asks nothing of the bus.
+fn is_replayed(alloc: Global, text: &[u8]) -> bool {
+    let Ok(mut beside) = beside_of(alloc, &REPLAY, USUAL) else {
+        return false;
+    };
+    let Ok(mut out) = sink_of(alloc, &REPLAY) else {
+        return false;
+    };
+    status_between(alloc, &REPLAY, HEADING, &mut beside, &mut out) == Some(0)
+        && was_written(&out, text)
+        && is_unasked(&beside.bus)
+}
+
 /// A bus that can't be attached is nothing to a replay, which leaves it as it is.
 #[test]
 fn a_replay_needs_no_link(rt: HostRuntime) -> Result<(), Fail> {
-    let alloc = rt.alloc();
-    let words = listed(alloc, &["replay", "boat.toml"])?;
-    let mut files = QuietFiles::of(USUAL.to_vec(alloc)?);
-    let mut input = QuietSource::of(HEADING.to_vec(alloc)?, 4096);
-    let mut out = MemSink::of(alloc, 1_000, 4096, Vec::new(alloc))?;
-    let receives = Vec::new(alloc);
-    let mut bus = MemLink::of(
-        alloc,
-        0,
-        0,
-        Vec::new(alloc),
-        true,
-        receives,
-        Vec::new(alloc),
-    )?;
-    let status = status_beside(
-        alloc,
-        words.as_slice(),
-        &mut files,
-        &mut input,
-        &mut out,
-        &mut bus,
-    )?;
-    assert!(rt; status == 0 && out.taken() == HEADING_SAID && bus.faults() == 0);
+    assert!(rt; is_replayed(rt.alloc(), HEADING_SAID));
     Ok(())
 }

@@ -1,6 +1,7 @@
 //! `check` and `replay` over files in memory: the first fault of each, as a line.
-use super::{Given, Room, Stored, USUAL, listed, outcome_over};
-use std::alloc::Global;
+use super::USUAL;
+use crate::outside::{PLAIN, Run, ends_so, joined};
+use std::alloc::{AllocError, Global};
 use std::test::Fail;
 
 const AGAIN: &[u8] = b"[[preset]]
@@ -21,10 +22,10 @@ const REPLAY: &[&str] = &["replay", "boat.toml"];
 struct Case {
     name: &'static str,
     words: &'static [&'static str],
-    /// The file's bytes, in two pieces.
-    config: (&'static [u8], &'static [u8]),
-    /// Which loads fail.
-    loads: &'static [u32],
+    /// The file's bytes, in pieces.
+    config: &'static [&'static [u8]],
+    /// The load that fails, by its number from 1; 0 is none.
+    load: u32,
     capture: &'static [u8],
     status: u8,
     text: &'static [u8],
@@ -35,8 +36,8 @@ const FILES: [Case; 10] = [
     Case {
         name: "an accepted configuration",
         words: CHECK,
-        config: (USUAL, b""),
-        loads: &[],
+        config: &[USUAL],
+        load: 0,
         capture: b"(1700000000.000000) can0 09F11217#005C3DFF7FFF7FFC",
         status: 0,
         text: b"config ok\n",
@@ -44,8 +45,8 @@ const FILES: [Case; 10] = [
     Case {
         name: "an address of two presets",
         words: CHECK,
-        config: (USUAL, AGAIN),
-        loads: &[],
+        config: &[USUAL, AGAIN],
+        load: 0,
         capture: b"(1700000000.000000) can0 09F11217#005C3DFF7FFF7FFC",
         status: 3,
         text: b"config: twice preset.3.address\n",
@@ -53,8 +54,8 @@ const FILES: [Case; 10] = [
     Case {
         name: "a field of a pattern that is too great",
         words: CHECK,
-        config: (USUAL, TOO_GREAT),
-        loads: &[],
+        config: &[USUAL, TOO_GREAT],
+        load: 0,
         capture: b"(1700000000.000000) can0 09F11217#005C3DFF7FFF7FFC",
         status: 3,
         text: b"config: range row.heading_true.sources\n",
@@ -62,8 +63,8 @@ const FILES: [Case; 10] = [
     Case {
         name: "no TOML",
         words: CHECK,
-        config: (b"x =", b""),
-        loads: &[],
+        config: &[b"x ="],
+        load: 0,
         capture: b"(1700000000.000000) can0 09F11217#005C3DFF7FFF7FFC",
         status: 3,
         text: b"config: not toml\n",
@@ -71,8 +72,8 @@ const FILES: [Case; 10] = [
     Case {
         name: "an empty file",
         words: CHECK,
-        config: (b"", b""),
-        loads: &[],
+        config: &[b""],
+        load: 0,
         capture: b"(1700000000.000000) can0 09F11217#005C3DFF7FFF7FFC",
         status: 3,
         text: b"config: missing gateway.name\n",
@@ -80,8 +81,8 @@ const FILES: [Case; 10] = [
     Case {
         name: "a file that can't be read",
         words: CHECK,
-        config: (USUAL, b""),
-        loads: &[1],
+        config: &[USUAL],
+        load: 1,
         capture: b"(1700000000.000000) can0 09F11217#005C3DFF7FFF7FFC",
         status: 6,
         text: b"",
@@ -89,8 +90,8 @@ const FILES: [Case; 10] = [
     Case {
         name: "a replay without a file",
         words: &["replay"],
-        config: (USUAL, b""),
-        loads: &[],
+        config: &[USUAL],
+        load: 0,
         capture: b"(1700000000.000000) can0 09F11217#005C3DFF7FFF7FFC",
         status: 2,
         text: b"usage: shipgate convert | show | check CONFIG | replay CONFIG | serve CONFIG TURNS | demo SEED COUNT\n",
@@ -98,8 +99,8 @@ const FILES: [Case; 10] = [
     Case {
         name: "a replay of no TOML",
         words: REPLAY,
-        config: (b"x =", b""),
-        loads: &[],
+        config: &[b"x ="],
+        load: 0,
         capture: b"(1700000000.000000) can0 09F11217#005C3DFF7FFF7FFC",
         status: 3,
         text: b"config: not toml\n",
@@ -107,8 +108,8 @@ const FILES: [Case; 10] = [
     Case {
         name: "a replay of an empty file",
         words: REPLAY,
-        config: (b"", b""),
-        loads: &[],
+        config: &[b""],
+        load: 0,
         capture: b"(1700000000.000000) can0 09F11217#005C3DFF7FFF7FFC",
         status: 3,
         text: b"config: missing gateway.name\n",
@@ -116,8 +117,8 @@ const FILES: [Case; 10] = [
     Case {
         name: "a replay of a file that can't be read",
         words: REPLAY,
-        config: (USUAL, b""),
-        loads: &[1],
+        config: &[USUAL],
+        load: 1,
         capture: b"(1700000000.000000) can0 09F11217#005C3DFF7FFF7FFC",
         status: 6,
         text: b"",
@@ -125,71 +126,66 @@ const FILES: [Case; 10] = [
 ];
 
 /// Whether a run over these bytes of a file ends so, with this text.
-fn ends_so(alloc: Global, case: &Case, config: &[u8]) -> Result<bool, Fail> {
-    let words = listed(alloc, case.words)?;
-    let stored = Stored {
-        text: config,
-        failing: case.loads,
+fn ends(alloc: Global, case: &Case, config: &[u8]) -> bool {
+    let run = Run {
+        words: case.words,
+        load: case.load,
+        ..PLAIN
     };
-    let given = Given {
-        bytes: case.capture,
-        most: 4096,
-        failing: &[],
-    };
-    let room = Room {
-        most: 4096,
-        failing: &[],
-    };
-    let (status, taken) = outcome_over(alloc, words.as_slice(), &stored, &given, &room)?;
-    Ok(status == case.status && taken.as_slice() == case.text)
+    ends_so(alloc, &run, (config, case.capture), case.status, case.text)
+}
+
+/// Whether a case ends as it says.
+fn holds(alloc: Global, case: &Case) -> bool {
+    match joined(alloc, case.config) {
+        Ok(config) => ends(alloc, case, config.as_slice()),
+        Err(_) => false,
+    }
 }
 
 /// The name of the first case that ends otherwise.
-fn first_otherwise(alloc: Global, cases: &[Case]) -> Result<&'static str, Fail> {
+fn first_otherwise(alloc: Global, cases: &[Case]) -> &'static str {
     for case in cases {
-        let mut config = case.config.0.to_vec(alloc)?;
-        config.extend_from_slice(case.config.1)?;
-        if !ends_so(alloc, case, config.as_slice())? {
-            return Ok(case.name);
+        if !holds(alloc, case) {
+            return case.name;
         }
     }
-    Ok("none")
+    "none"
 }
 
-/// So many empty lines.
-fn empty_lines(alloc: Global, count: usize) -> Result<Vec<u8>, Fail> {
-    let mut bytes = Vec::new(alloc);
-    for _ in 0..count {
-        bytes.push(b'\n')?;
-    }
-    Ok(bytes)
+/// How many empty lines a file has, and the status and the text of its check.
+const LENGTHS: [(usize, u8, &[u8]); 2] = [
+    (1_048_576, 3, b"config: missing gateway.name\n"),
+    (1_048_577, 6, b""),
+];
+
+/// The check of a file.
+const CHECKING: Run = Run {
+    words: CHECK,
+    ..PLAIN
+};
+
+/// Whether the check of a file of so many empty lines ends so.
+fn ends_by_length(
+    alloc: Global,
+    count: usize,
+    status: u8,
+    text: &[u8],
+) -> Result<bool, AllocError> {
+    let lines = vec![in alloc; b'\n'; count]?;
+    Ok(ends_so(alloc, &CHECKING, (lines.as_slice(), b""), status, text))
 }
 
 #[test]
 fn files_are_accepted_or_their_first_fault_is_said(rt: HostRuntime) -> Result<(), Fail> {
-    assert!(rt; first_otherwise(rt.alloc(), &FILES)? == "none");
+    assert!(rt; first_otherwise(rt.alloc(), &FILES) == "none");
     Ok(())
 }
 
 #[test]
 fn a_file_has_at_most_1_mib(rt: HostRuntime) -> Result<(), Fail> {
-    let case = Case {
-        name: "a whole MiB of empty lines",
-        words: CHECK,
-        config: (b"", b""),
-        loads: &[],
-        capture: b"",
-        status: 3,
-        text: b"config: missing gateway.name\n",
-    };
-    let bytes = empty_lines(rt.alloc(), 1_048_576)?;
-    assert!(rt; ends_so(rt.alloc(), &case, bytes.as_slice())?);
-    let longer = Case {
-        status: 6,
-        text: b"",
-        ..case
-    };
-    let bytes = empty_lines(rt.alloc(), 1_048_577)?;
-    assert!(rt; ends_so(rt.alloc(), &longer, bytes.as_slice())?);
+    for (count, status, text) in &LENGTHS {
+        assert!(rt; ends_by_length(rt.alloc(), *count, *status, text)?);
+    }
     Ok(())
 }

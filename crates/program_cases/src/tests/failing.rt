@@ -3,13 +3,12 @@
 //! What has to be written then is not taken from a run: beside each of twenty lines stands what each command writes of it, worked out by
 //! hand. Where a read fails it is that of the lines that were complete before; where a write fails it is as much of the whole text as the
 //! writes before took.
-ghost use Rattle.std.specs.Prelude.{◌<◌};
-
 mod lines;
 
-use super::{Given, Room, Stored, USUAL, listed, outcome_over};
+use super::USUAL;
+use crate::outside::{PLAIN, Run, ends_so};
 use lines::LINES;
-use std::alloc::Global;
+use std::alloc::{AllocError, Global};
 use std::test::Fail;
 
 /// A line of a capture, and what each command writes of it.
@@ -51,7 +50,7 @@ impl Reading {
 const PACE: usize = 64;
 
 /// All lines.
-fn capture(alloc: Global) -> Result<Vec<u8>, Fail> {
+fn capture(alloc: Global) -> Result<Vec<u8>, AllocError> {
     let mut bytes = Vec::new(alloc);
     for line in &LINES {
         bytes.extend_from_slice(line.bytes)?;
@@ -60,7 +59,7 @@ fn capture(alloc: Global) -> Result<Vec<u8>, Fail> {
 }
 
 /// What the command writes of the lines that are complete within so many bytes.
-fn text_within(alloc: Global, command: Reading, read: usize) -> Result<Vec<u8>, Fail> {
+fn text_within(alloc: Global, command: Reading, read: usize) -> Result<Vec<u8>, AllocError> {
     let mut text = Vec::new(alloc);
     let mut end: usize = 0;
     for line in &LINES {
@@ -79,58 +78,45 @@ fn loses_no_line(
     command: Reading,
     capture: &[u8],
     before: u16,
-) -> Result<bool, Fail> {
-    let words = listed(alloc, command.words())?;
-    let stored = Stored {
-        text: USUAL,
-        failing: &[],
+) -> Result<bool, AllocError> {
+    let run = Run {
+        words: command.words(),
+        pace: PACE,
+        read: u32::from(before) + 1,
+        piece: 32,
+        ..PLAIN
     };
-    let given = Given {
-        bytes: capture,
-        most: PACE,
-        failing: &[u32::from(before) + 1],
-    };
-    let room = Room {
-        most: 32,
-        failing: &[],
-    };
-    let (status, taken) = outcome_over(alloc, words.as_slice(), &stored, &given, &room)?;
     let read = PACE * usize::from(before);
-    let meant = if read < capture.len() + PACE { 5 } else { 0 };
+    let status = if read < capture.len() + PACE { 5 } else { 0 };
     let text = text_within(alloc, command, read)?;
-    Ok(status == meant && taken.as_slice() == text.as_slice())
+    Ok(ends_so(alloc, &run, (USUAL, capture), status, text.as_slice()))
 }
 
-/// Fails where a read fails, whichever it is, and a line is lost.
-fn loses_no_line_at_any_read(alloc: Global, command: Reading) -> Result<(), Fail> {
+/// Whether no line is lost, whichever read fails.
+fn loses_no_line_at_any_read(alloc: Global, command: Reading) -> Result<bool, AllocError> {
     let capture = capture(alloc)?;
     for before in 0..14 {
         if !loses_no_line(alloc, command, capture.as_slice(), before)? {
-            return Err("a line is lost, or too much is written".into());
+            return Ok(false);
         }
     }
+    Ok(true)
+}
+
+const READING: [Reading; 3] = [Reading::Convert, Reading::Show, Reading::Replay];
+
+#[test]
+fn all_that_was_read_before_a_fault_is_written(rt: HostRuntime) -> Result<(), Fail> {
+    for command in &READING {
+        assert!(rt; loses_no_line_at_any_read(rt.alloc(), *command)?);
+    }
     Ok(())
-}
-
-#[test]
-fn convert_writes_all_that_was_read_before_a_fault(rt: HostRuntime) -> Result<(), Fail> {
-    loses_no_line_at_any_read(rt.alloc(), Reading::Convert)
-}
-
-#[test]
-fn show_writes_all_that_was_read_before_a_fault(rt: HostRuntime) -> Result<(), Fail> {
-    loses_no_line_at_any_read(rt.alloc(), Reading::Show)
-}
-
-#[test]
-fn replay_writes_all_that_was_read_before_a_fault(rt: HostRuntime) -> Result<(), Fail> {
-    loses_no_line_at_any_read(rt.alloc(), Reading::Replay)
 }
 
 /// A run, and all that it writes, in writes that take so many bytes each.
 #[derive(Clone, Copy)]
 struct Written<'a> {
-    words: &'a [&'a str],
+    words: &'static [&'static str],
     file: &'a [u8],
     capture: &'a [u8],
     text: &'a [u8],
@@ -139,43 +125,39 @@ struct Written<'a> {
     status: [u8; 2],
 }
 
-/// Whether, where a write fails after so many, just what those took is written.
-fn writes_front(alloc: Global, run: &Written, before: u16) -> Result<bool, Fail> {
-    let words = listed(alloc, run.words)?;
-    let stored = Stored {
-        text: run.file,
-        failing: &[],
-    };
-    let given = Given {
-        bytes: run.capture,
-        most: 4096,
-        failing: &[],
-    };
-    let room = Room {
-        most: usize::from(run.piece),
-        failing: &[u32::from(before) + 1],
-    };
-    let (status, taken) = outcome_over(alloc, words.as_slice(), &stored, &given, &room)?;
+/// The status where a write fails after so many, and what those took.
+fn front_of<'a>(run: &Written<'a>, before: u16) -> (u8, &'a [u8]) {
     let end = usize::from(run.piece) * usize::from(before);
-    let (meant, front) = match run.text.get(..end) {
+    match run.text.get(..end) {
         Some(front) if end < run.text.len() => (run.status[0], front),
         _ => (run.status[1], run.text),
-    };
-    Ok(status == meant && taken.as_slice() == front)
+    }
 }
 
-/// Fails where a write fails, whichever it is, and something else is written than what those before it took.
-fn writes_front_at_any_write(alloc: Global, run: &Written) -> Result<(), Fail> {
+/// Whether, where a write fails after so many, just what those took is written.
+fn writes_front(alloc: Global, written: &Written, before: u16) -> bool {
+    let run = Run {
+        words: written.words,
+        piece: usize::from(written.piece),
+        write: u32::from(before) + 1,
+        ..PLAIN
+    };
+    let (status, front) = front_of(written, before);
+    ends_so(alloc, &run, (written.file, written.capture), status, front)
+}
+
+/// Whether just what the writes before took is written, whichever fails.
+fn writes_front_at_any_write(alloc: Global, written: &Written) -> bool {
     for before in 0..32 {
-        if !writes_front(alloc, run, before)? {
-            return Err("something is lost, or too much is written".into());
+        if !writes_front(alloc, written, before) {
+            return false;
         }
     }
-    Ok(())
+    true
 }
 
 /// The same of a command that reads the twenty lines.
-fn writes_front_of_lines(alloc: Global, command: Reading) -> Result<(), Fail> {
+fn writes_front_of_lines(alloc: Global, command: Reading) -> Result<bool, AllocError> {
     let capture = capture(alloc)?;
     let text = text_within(alloc, command, capture.len())?;
     let run = Written {
@@ -186,22 +168,15 @@ fn writes_front_of_lines(alloc: Global, command: Reading) -> Result<(), Fail> {
         piece: 32,
         status: [4, 0],
     };
-    writes_front_at_any_write(alloc, &run)
+    Ok(writes_front_at_any_write(alloc, &run))
 }
 
 #[test]
-fn convert_writes_up_to_the_write_that_fails(rt: HostRuntime) -> Result<(), Fail> {
-    writes_front_of_lines(rt.alloc(), Reading::Convert)
-}
-
-#[test]
-fn show_writes_up_to_the_write_that_fails(rt: HostRuntime) -> Result<(), Fail> {
-    writes_front_of_lines(rt.alloc(), Reading::Show)
-}
-
-#[test]
-fn replay_writes_up_to_the_write_that_fails(rt: HostRuntime) -> Result<(), Fail> {
-    writes_front_of_lines(rt.alloc(), Reading::Replay)
+fn what_is_read_is_written_up_to_the_write_that_fails(rt: HostRuntime) -> Result<(), Fail> {
+    for command in &READING {
+        assert!(rt; writes_front_of_lines(rt.alloc(), *command)?);
+    }
+    Ok(())
 }
 
 /// What commands write that read no capture. The words and the configuration decide the status before the line is written.
@@ -243,7 +218,7 @@ const LINES_ALONE: [Written<'static>; 4] = [
 #[test]
 fn lines_alone_are_written_up_to_the_write_that_fails(rt: HostRuntime) -> Result<(), Fail> {
     for run in &LINES_ALONE {
-        writes_front_at_any_write(rt.alloc(), run)?;
+        assert!(rt; writes_front_at_any_write(rt.alloc(), run));
     }
     Ok(())
 }
@@ -262,7 +237,7 @@ const DEMONSTRATION: Written<'static> = Written {
 #[test]
 fn a_demonstration_writes_up_to_the_write_that_fails(rt: HostRuntime) -> Result<(), Fail> {
     for before in 0..5 {
-        assert!(rt; writes_front(rt.alloc(), &DEMONSTRATION, before)?);
+        assert!(rt; writes_front(rt.alloc(), &DEMONSTRATION, before));
     }
     Ok(())
 }
