@@ -4,6 +4,8 @@
    headings   true headings from many addresses
    singles    the messages in one frame that convert.c knows, in turn
    positions  fast packets of the four senders of replay.toml, in an order that is drawn
+   position   those of the first sender alone
+   network    for network.toml: datagrams with a true heading each
    bus        for bus.toml: fast packets of which frames are lost, messages in one frame, devices that come and go, requests, ticks, and
               datagrams of which some are damaged
    held       fast packets of one sender within 750 ms, while OPEN others are open; before them the claims of all senders */
@@ -47,6 +49,11 @@ static void put_position(uint64_t i) {
     struct sender *sender = &senders[draw(4)];
     next_frame(sender);
     put_frame(moment, GNSS | sender->address);
+}
+
+static void put_position_of_one(uint64_t i) {
+    next_frame(&senders[0]);
+    put_frame(START + i * 10000, GNSS | senders[0].address);
 }
 
 /* The address of a device, by its number. Its NAME has the number too. The first four are those of the senders. */
@@ -100,6 +107,13 @@ static size_t put_line(char *out, const char *source, unsigned number_of_line, c
     for (const char *c = block; *c; c++) block_sum ^= (unsigned char)*c;
     for (const char *c = body; *c; c++) sum ^= (unsigned char)*c;
     return (size_t)sprintf(out, "\\%s*%02X\\$%s*%02X\r\n", block, block_sum, body, sum);
+}
+
+static void put_heading_of_bridge(uint64_t i) {
+    char body[80], bytes[160] = "UdPbC";
+    unsigned drawn = (unsigned)draw(3600);
+    snprintf(body, sizeof body, "IIHDT,%u.%u,T", drawn / 10, drawn % 10);
+    put_datagram(START + i * 10000, bytes, 6 + put_line(bytes + 6, "II0002", (unsigned)(i % 999 + 1), body));
 }
 
 /* A datagram of the bridge, as a whole or damaged in one byte, or of a source that isn't heard. */
@@ -169,7 +183,8 @@ static void put_held(uint64_t i) {
 static const struct kind {
     const char *name;
     void (*put)(uint64_t i);
-} kinds[] = {{"headings", put_heading}, {"singles", put_single}, {"positions", put_position}, {"bus", put_bus}, {"held", put_held}};
+} kinds[] = {{"headings", put_heading}, {"singles", put_single}, {"positions", put_position}, {"position", put_position_of_one},
+            {"network", put_heading_of_bridge}, {"bus", put_bus}, {"held", put_held}};
 
 int main(int words, char **word) {
     if (words < 3) return 2;
