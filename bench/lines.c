@@ -6,6 +6,7 @@
    positions  fast packets of the four senders of replay.toml, in an order that is drawn
    position   those of the first sender alone
    network    for network.toml: datagrams with a true heading each
+   ships      for ships.toml: fast packets with the position report of a ship each
    bus        for bus.toml: fast packets of which frames are lost, messages in one frame, devices that come and go, requests, ticks, and
               datagrams of which some are damaged
    held       fast packets of one sender within 750 ms, while OPEN others are open; before them the claims of all senders */
@@ -54,6 +55,12 @@ static void put_position(uint64_t i) {
 static void put_position_of_one(uint64_t i) {
     next_frame(&senders[0]);
     put_frame(START + i * 10000, GNSS | senders[0].address);
+}
+
+static void put_ship(uint64_t i) {
+    static struct sender receiver = {.address = 43, .of_ships = 1};
+    next_frame(&receiver);
+    put_frame(START + i * 10000, SHIP | receiver.address);
 }
 
 /* The address of a device, by its number. Its NAME has the number too. The first four are those of the senders. */
@@ -184,7 +191,7 @@ static const struct kind {
     const char *name;
     void (*put)(uint64_t i);
 } kinds[] = {{"headings", put_heading}, {"singles", put_single}, {"positions", put_position}, {"position", put_position_of_one},
-            {"network", put_heading_of_bridge}, {"bus", put_bus}, {"held", put_held}};
+            {"network", put_heading_of_bridge}, {"ships", put_ship}, {"bus", put_bus}, {"held", put_held}};
 
 int main(int words, char **word) {
     if (words < 3) return 2;

@@ -135,21 +135,38 @@ void gnss(void) {
     fixed("00");
 }
 
+void ship(void) {
+    number((1 + draw(3)) | draw(4) << 6, 1);
+    number(draw(1000000000), 4);
+    to_either_side(1800000000, 4);
+    to_either_side(900000000, 4);
+    number(draw(256), 1);
+    up_to(62832, 2);
+    up_to(65532, 2);
+    number(draw(1 << 20), 3);
+    up_to(62832, 2);
+    fixed("FF7F");
+    number(draw(64) | 0xC0, 1);
+    fixed("FF");
+}
+
 void next_frame(struct sender *sender) {
+    size_t length = sender->of_ships ? 27 : 43;
     if (sender->frames == 0) {
         begin();
-        gnss();
-        memcpy(sender->message, digits, sizeof sender->message);
+        if (sender->of_ships) ship();
+        else gnss();
+        memcpy(sender->message, digits, 2 * length);
     }
     begin();
     number(sender->sequence << 5 | sender->frames, 1);
-    if (sender->frames == 0) fixed("2B");
-    size_t at = sender->frames == 0 ? 0 : 14 * sender->frames - 2, left = sizeof sender->message - at;
+    if (sender->frames == 0) number(length, 1);
+    size_t at = sender->frames == 0 ? 0 : 14 * sender->frames - 2, left = 2 * length - at;
     size_t part = left < 16 - count ? left : 16 - count;
     memcpy(digits + count, sender->message + at, part);
     count += part;
     while (count < 16) fixed("FF");
-    if (++sender->frames == 7) {
+    if (++sender->frames == (length + 7) / 7) {
         sender->frames = 0;
         sender->sequence = (sender->sequence + 1) % 8;
     }

@@ -16,6 +16,7 @@ enum {
     POSITION = 0x09F80100,
     COURSE = 0x09F80200,
     GNSS = 0x0DF80500,
+    SHIP = 0x11F80E00,
     DATE = 0x0DF80900,
     WIND = 0x09FD0200,
     LOG = 0x19F51300,
@@ -48,10 +49,12 @@ void wind(void);
 void clock_time(void);
 void date(void);
 void gnss(void);
+void ship(void);
 
-/* A sender of fast packets of 43 bytes: the message, how many of its frames came, and its sequence. */
+/* A sender of fast packets, of satellite fixes or of ships around: the message, how many of its frames came, and its sequence. */
 struct sender {
     uint8_t address;
+    int of_ships;
     char message[2 * 43];
     unsigned frames, sequence;
 };
