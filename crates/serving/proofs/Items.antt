@@ -24,9 +24,9 @@ use Rattle.serving.proofs.Passing.{goes_as, goes_still, traffic_same, traffic_st
 
 -- ---- a receive
 
-pub receives_by_bus : (outcome : Outcome) (b b' n : Option Traffic) (told : Option (List ℕ)) (faults : ℕ) → GoesOn (received_also outcome) b b'
+pub receives_by_bus : (outcome : Outcome) {b b' n : Option Traffic} {told : Option (List ℕ)} {faults : ℕ} → GoesOn (received_also outcome) b b'
     → Passes (outside b n told faults) (outside b' n told faults) (passed (outcome ∷ []) [] [])
-receives_by_bus outcome b b' n told faults goes = record {
+receives_by_bus outcome {b} {b'} {n} {told} {faults} goes = record {
   bus = goes_as (received_also outcome) (over_bus (passed (outcome ∷ []) [] []))
       (λ t. let r = t.received ++ outcome ∷ [] in
       traffic_same t.attached r r t.handed (t.handed ++ []) t.sends (t.sends ++ []) refl (sym (append-nil t.handed)) (sym (append-nil t.sends))) b b' goes;
@@ -35,9 +35,9 @@ receives_by_bus outcome b b' n told faults goes = record {
   steady = refl;
 }
 
-pub receives_by_net : (outcome : Outcome) (b n n' : Option Traffic) (told : Option (List ℕ)) (faults : ℕ) → GoesOn (received_also outcome) n n'
+pub receives_by_net : (outcome : Outcome) {b n n' : Option Traffic} {told : Option (List ℕ)} {faults : ℕ} → GoesOn (received_also outcome) n n'
     → Passes (outside b n told faults) (outside b n' told faults) (passed [] (outcome ∷ []) [])
-receives_by_net outcome b n n' told faults goes = record {
+receives_by_net outcome {b} {n} {n'} {told} {faults} goes = record {
   bus = goes_still (over_bus (passed [] (outcome ∷ []) [])) traffic_still b;
   net = goes_as (received_also outcome) (over_net (passed [] (outcome ∷ []) []))
       (λ t. let r = t.received ++ outcome ∷ [] in

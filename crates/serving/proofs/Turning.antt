@@ -62,12 +62,12 @@ module _ (m : ℕ) where
 
 -- ---- what came by one link
 
-module _ (m : ℕ) (came came' : Came) (same : came ≡ came') (bus net : List Outcome) (before : Bridged) (old mid : Outside)
+module _ (m : ℕ) {came came' : Came} (same : came ≡ came') {bus net : List Outcome} {before : Bridged} {old mid : Outside}
     (receives : Passes old mid (passed bus net [])) where
-  pub hears_all : (heard : Bool) (after : Bridged) (new : Outside) → heard ≡ is_event came
+  pub hears_all : {heard : Bool} {after : Bridged} {new : Outside} → heard ≡ is_event came
       → DoesAll RunStands (λ p g. with_came p m came g) [] [] before after mid new
       → (heard ≡ is_event came') × DoesAll RunStands (λ p g. with_came p m came' g) (bus ++ []) (net ++ []) before after old new
-  hears_all heard after new is x = (
+  hears_all {heard} {after} {new} is x = (
     is ∙ ap is_event same,
     record {
       tried = x.tried;
@@ -77,9 +77,9 @@ module _ (m : ℕ) (came came' : Came) (same : came ≡ came') (bus net : List O
     },
   )
 
-  pub hears_some : (new : Outside) → DoesSome RunStands (λ p g. with_came p m came g) [] [] before mid new
+  pub hears_some : {new : Outside} → DoesSome RunStands (λ p g. with_came p m came g) [] [] before mid new
       → DoesSome RunStands (λ p g. with_came p m came' g) (bus ++ []) (net ++ []) before old new
-  hears_some new x = record {
+  hears_some {new} x = record {
     tried = x.tried;
     last = x.last;
     stops = stops_then old mid new (passed bus net []) (passed [] [] x.tried) x.last receives x.stops;
@@ -88,18 +88,18 @@ module _ (m : ℕ) (came came' : Came) (same : came ≡ came') (bus net : List O
   }
 
 -- a report of what couldn't be received or read
-pub reports_all : (m : ℕ) (r : Report) (b : Bridged) (old new : Outside) → HandsAll old new (due_now m (emits.report r))
+pub reports_all : {m : ℕ} {r : Report} {b : Bridged} {old new : Outside} → HandsAll old new (due_now m (emits.report r))
     → DoesAll RunStands (λ p g. with_came p m (Err r) g) [] [] b b old new
-reports_all m r b old new h = record {
+reports_all h = record {
   tried = h.tried;
   passes = h.passes;
   is_due = λ p g stands. h.is_due;
   stands = λ p g stands. stands;
 }
 
-pub reports_some : (m : ℕ) (r : Report) (b : Bridged) (old new : Outside) → HandsSome old new (due_now m (emits.report r))
+pub reports_some : {m : ℕ} {r : Report} {b : Bridged} {old new : Outside} → HandsSome old new (due_now m (emits.report r))
     → DoesSome RunStands (λ p g. with_came p m (Err r) g) [] [] b old new
-reports_some m r b old new h = record {
+reports_some h = record {
   tried = h.tried;
   last = h.last;
   stops = h.stops;
