@@ -51,6 +51,7 @@ pub mod SessionCases
 pub mod OwnCases
 pub mod EndingCases
 pub mod LineCases
+pub mod DecidingCases
 pub mod Lengths
 pub mod FitDatagrams
 pub mod FitRoom

@@ -52,5 +52,6 @@ pub mod SessionCases
 pub mod OwnCases
 pub mod EndingCases
 pub mod LineCases
+pub mod DecidingCases
 pub mod LengthLaws
 pub mod Held

@@ -15,6 +15,7 @@ ghost use Rattle.history.specs.SessionCases as session_cases;
 ghost use Rattle.history.specs.OwnCases as own_cases;
 ghost use Rattle.history.specs.EndingCases as ending_cases;
 ghost use Rattle.history.specs.LineCases as line_cases;
+ghost use Rattle.history.specs.DecidingCases as deciding_cases;
 
 /// What is emitted while addresses change hands.
 pub fn addresses_change_hands()
@@ -156,4 +157,22 @@ pub fn lines_break_rules()
     ensures bad_fields { line_cases.BadFields }
     ensures own_line_elsewhere { line_cases.OwnLineElsewhere }
     ensures one_line_too_many { line_cases.OneLineTooMany }
+{}
+
+/// What one word of the definition decides.
+pub fn single_words_decide()
+    ensures command_for_another { deciding_cases.CommandForAnother }
+    ensures long_command { deciding_cases.LongCommand }
+    ensures command_behind_its_event { deciding_cases.CommandBehindItsEvent }
+    ensures request_to_another { deciding_cases.RequestToAnother }
+    ensures claim_of_all { deciding_cases.ClaimOfAll }
+    ensures new_holder { deciding_cases.NewHolder }
+    ensures cut_opener { deciding_cases.CutOpener }
+    ensures short_while_open { deciding_cases.ShortWhileOpen }
+    ensures unsent_uncounted { deciding_cases.UnsentUncounted }
+    ensures given_up_behind { deciding_cases.GivenUpBehind }
+    ensures session_again_at_the_limit { deciding_cases.SessionAgainAtTheLimit }
+    ensures fast_packets_end_first { deciding_cases.FastPacketsEndFirst }
+    ensures left_once { deciding_cases.LeftOnce }
+    ensures group_again_at_the_limit { deciding_cases.GroupAgainAtTheLimit }
 {}

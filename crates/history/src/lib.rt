@@ -7,7 +7,7 @@ mod laws;
 pub use cases::{
     addresses_change_hands, datagrams_are_heard, devices_are_apart, fast_packets_are_joined,
     lines_are_joined, lines_break_rules, messages_are_said, messages_end, names_decide,
-    sessions_are_answered, sessions_break_off, sources_are_chosen,
+    sessions_are_answered, sessions_break_off, single_words_decide, sources_are_chosen,
     sources_of_the_network_are_chosen, the_own_address_moves, what_goes_out_is_counted,
     windows_are_granted,
 };
