@@ -1,5 +1,5 @@
 -- How a command over lines begins and ends.
-use Rattle.std.proofs.Common.{◌≡◌, ℕ, ◌<◌, ◌≤◌, ◌⊎◌, false, List, [], ◌++◌, length, take, refl, sym, ap, ◌∙◌, subst, inl, inr, arith}
+use Rattle.std.proofs.Common.{◌≡◌, ℕ, ◌+◌, ◌≤◌, ◌⊎◌, false, List, [], ◌++◌, length, take, refl, sym, ap, ◌∙◌, subst, inl, inr, arith}
 use Rattle.std.specs.Prelude.{Option, Some, None}
 use Rattle.std.proofs.lemmas.List.{append-nil, nil_from_length}
 use Rattle.gate_outside.specs.Told.{Leaves}
@@ -72,11 +72,11 @@ read_failed Gives first now left left' left'' told told' held number size r leav
 
 -- more came than an input may have
 pub limit_passed : {A : Type 0} (Gives : A → ℕ → List ℕ → List ℕ → A → Type 0) (first now : A) (left left' told told' : Option (List ℕ)) (held : Held) (waiting : List ℕ) (number size : ℕ)
-    → Stand Gives first left left' told told' held waiting number size now → input_limit < size → PassesLimit (IsTextFrom Gives first) left left' told told'
+    → Stand Gives first left left' told told' held waiting number size now → size ≡ input_limit + 1 → PassesLimit (IsTextFrom Gives first) left left' told told'
 limit_passed Gives first now left left' told told' held waiting number size s beyond = record {
   read = s.read;
   leaves = s.leaves;
-  beyond = omega (arith, s.sized);
+  beyond = sym s.sized ∙ beyond;
   writes = stopped Gives first now left left' told told' held waiting number size s;
 }
 

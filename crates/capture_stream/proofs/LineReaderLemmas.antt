@@ -84,15 +84,15 @@ read_behind count read kept part rest le fits =
     let b : take read (part ++ rest) ≡ take read part = take-append-le read part rest fits in
     ap (λ (n : ℕ). take (n + read) (take count kept ++ (part ++ rest))) (sym len) ∙ (a ∙ ap (λ (xs : List ℕ). take count kept ++ xs) b)
 
-pub reads_behind : (left left' : Option (List ℕ)) (buffer part : List ℕ) (count : ℕ) (result : Result ℕ Failed) → count < length buffer → length part ≡ length buffer - count
+pub reads_behind : (left left' : Option (List ℕ)) (buffer part : List ℕ) (count piece : ℕ) (result : Result ℕ Failed) → count + piece ≤ length buffer → 0 < piece → length part ≡ piece
     → IfOk result (λ read. read ≤ length part) → Reads left left' part result → TellsEnd left part result
-    → ReadsBehind left left' (take count buffer) (put_mid count (length buffer - count) buffer part) count result
-reads_behind left left' buffer part count (Ok read) room len bound reads end =
+    → ReadsBehind left left' (take count buffer) (put_mid count piece buffer part) count result
+reads_behind left left' buffer part count piece (Ok read) within some len bound reads end =
     let came : Came left left' read (take read part) = record {
       leaves = reads;
       counted = omega (arith, length-take read part);
       end = λ none bytes told. (end (omega arith) bytes told).0 none;
     } in
-    let whole : take (count + read) (put_mid count (length buffer - count) buffer part) ≡ take count buffer ++ take read part = read_behind count read buffer part (post_of count (length buffer - count) buffer) (omega arith) bound in
-    (take read part, came, whole, omega (arith, length-append (take count buffer) (part ++ post_of count (length buffer - count) buffer), length-append part (post_of count (length buffer - count) buffer), length-take count buffer))
-reads_behind left left' buffer part count (Err e) room len bound reads end = reads
+    let whole : take (count + read) (put_mid count piece buffer part) ≡ take count buffer ++ take read part = read_behind count read buffer part (post_of count piece buffer) (omega arith) bound in
+    (take read part, came, whole, omega (arith, length-append (take count buffer) (part ++ post_of count piece buffer), length-append part (post_of count piece buffer), length-take count buffer))
+reads_behind left left' buffer part count piece (Err e) within some len bound reads end = reads

@@ -1,5 +1,5 @@
 -- How far a command that writes a text for each line of its input has come, and how it ends.
-use Rattle.std.specs.Prelude.{◌≡◌, ◌<◌, ◌≤◌, ◌⊎◌, ◌^◌, ℕ, true, false, List, [], ◌∷◌, ◌++◌, length, map, take, Option, Some, Result, Ok, Err}
+use Rattle.std.specs.Prelude.{◌≡◌, ◌+◌, ◌<◌, ◌≤◌, ◌⊎◌, ◌^◌, ℕ, true, false, List, [], ◌∷◌, ◌++◌, length, map, take, Option, Some, Result, Ok, Err}
 use Rattle.std.specs.List.{flat_map, AllByRecursion}
 use Rattle.gate_outside.specs.Told.{Leaves, Joins}
 use Rattle.gate_outside.specs.declared.Failed.{Failed}
@@ -92,11 +92,11 @@ pub record StopsWriting (IsText : List (List ℕ) → List ℕ → Type 0) (left
   pub within : length read ≤ input_limit
   pub writes : WritesSome IsText told told' (complete_lines read) ⊎ (AreAll left read × WritesSome IsText told told' (lines_of read))
 
--- More bytes were read than an input may have, and some of the text of the complete lines was written.
+-- One byte more was read than an input may have, and some of the text of the complete lines was written.
 pub record PassesLimit (IsText : List (List ℕ) → List ℕ → Type 0) (left left' told told' : Option (List ℕ)) : Type 0 where
   pub read : List ℕ
   pub leaves : Leaves left left' read
-  pub beyond : input_limit < length read
+  pub beyond : length read ≡ input_limit + 1
   pub writes : WritesSome IsText told told' (complete_lines read)
 
 -- how a command over lines ends, by what the text of lines is

@@ -1,5 +1,5 @@
 //! Cuts an input that comes in pieces into its lines, within fixed memory.
-ghost use Rattle.std.specs.Prelude.{◌≡◌, ◌+◌, ◌<◌, ◌≤◌, ◌||◌, false, length, take, drop, slice_index, MatchOption};
+ghost use Rattle.std.specs.Prelude.{◌≡◌, ◌+◌, ◌<◌, ◌≤◌, ◌||◌, false, length, take, drop, slice_index, IfOk, MatchOption};
 ghost use Rattle.std.specs.List.{fold};
 ghost use Rattle.capture_text.specs.Lines.{is_lf, without_cr};
 ghost use Rattle.gate_outside.specs.Faults.{HasCause};
@@ -93,13 +93,32 @@ fn move_to_front(buffer: &mut [u8], from: usize, count: usize)
     }
 }
 
-// Reads into the buffer, behind its first bytes.
-fn read_behind<S: Source>(buffer: &mut [u8], count: usize, input: &mut S) -> Result<usize, Failed>
-    requires { count < length buffer.old }
+// How many bytes are read at once, where there is room for some and no more than so many may come.
+fn piece_len(room: usize, most: u64) -> usize
+    requires room { 0 < room }
+    requires most { 0 < most }
+    ensures some { 0 < result }
+    ensures within { result ≤ room }
+    ensures most { result ≤ most }
+{
+    if most < room as u64 { most as usize } else { room }
+}
+
+// Reads into the buffer, behind its first bytes and no more than so many.
+fn read_behind<S: Source>(
+    buffer: &mut [u8],
+    count: usize,
+    most: u64,
+    input: &mut S,
+) -> Result<usize, Failed>
+    requires room { count < length buffer.old }
+    requires some { 0 < most }
     ensures bytes { ReadsBehind (S.left input.old) (S.left input.new) (take count buffer.old) buffer.new count result }
+    ensures most { IfOk result (λ read. read ≤ most) }
     ensures cause { HasCause (S.fault_count input.old) (S.fault_count input.new) result }
 {
-    input.read(&mut buffer[count..])
+    let piece = piece_len(buffer.len() - count, most);
+    input.read(&mut buffer[count..count + piece])
 }
 
 /// The bytes of an input that were read and not yet given as lines.
@@ -218,11 +237,12 @@ impl LineReader {
         }
     }
 
-    /// Reads more of the input, and answers how many bytes came: none at its end.
-    pub(crate) fn fill<S: Source>(&mut self, input: &mut S) -> Result<usize, Failed>
-        requires { length self.old.unread ≤ most_unread }
+    /// Reads more of the input, no more than so many bytes, and answers how many came: none at its end.
+    pub(crate) fn fill<S: Source>(&mut self, most: u64, input: &mut S) -> Result<usize, Failed>
+        requires room { length self.old.unread ≤ most_unread }
+        requires some { 0 < most }
         ensures bytes { Fills (S.left input.old) (S.left input.new) self.old self.new result }
-        ensures bound { IfOk result (λ count. count ≤ buffer_size) }
+        ensures most { IfOk result (λ count. count ≤ most) }
         ensures cause { HasCause (S.fault_count input.old) (S.fault_count input.new) result }
     {
         let count = self.end - self.start;
@@ -231,7 +251,7 @@ impl LineReader {
         self.line_end = 0;
         self.start = 0;
         self.end = count;
-        let read = read_behind(&mut self.buffer, count, input)?;
+        let read = read_behind(&mut self.buffer, count, most, input)?;
         self.end = count + read;
         Ok(read)
     }

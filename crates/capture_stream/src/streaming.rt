@@ -126,7 +126,7 @@ fn answer_last<A: Answers, K: Sink>(
 /// from 1.
 ///
 /// What waits is written before each read, so that a reader at the other end of a pipe sees at once what there is to
-/// see.
+/// see. Of an input that has more bytes than it may have, one byte more is read.
 pub fn answer_capture<A: Answers, S: Source, K: Sink>(
     answers: &mut A,
     input: &mut S,
@@ -146,7 +146,7 @@ pub fn answer_capture<A: Answers, S: Source, K: Sink>(
         if let Err(Failed) = writer.flush(out) {
             return Ending::SinkFailed;
         }
-        match reader.fill(input) {
+        match reader.fill(LIMIT + 1 - total, input) {
             Err(Failed) => return Ending::SourceFailed,
             Ok(0) => {
                 return match answer_last(

@@ -47,7 +47,7 @@ pub fn send_now<K: Sink>(piece: &[u8], out: &mut K) -> Result<(), Failed>
 }
 
 impl Writer {
-    ghost use Rattle.std.specs.Prelude.{◌≡◌, ◌+◌, ◌<◌, [], ◌∷◌, ◌++◌, length, OnOk};
+    ghost use Rattle.std.specs.Prelude.{◌≡◌, ◌+◌, ◌<◌, [], ◌∷◌, ◌++◌, length, OnErr, OnOk};
     ghost use Rattle.std.specs.List.{flat_map};
     ghost use Rattle.capture_text.specs.Writing.{line_text};
     ghost use Rattle.gate_events.specs.Emit.{CanWrite};
@@ -67,6 +67,7 @@ impl Writer {
     pub fn flush<K: Sink>(&mut self, out: &mut K) -> Result<(), Failed>
         ensures sent { Writes (K.taken out.old) (K.taken out.new) self.old [] result }
         ensures none { OnOk result (self.new ≡ []) }
+        ensures kept { OnErr result (self.new ≡ self.old) }
         ensures cause { HasCause (K.fault_count out.old) (K.fault_count out.new) result }
     {
         send_now(self.waiting.as_slice(), out)?;

@@ -51,7 +51,7 @@ returns-then-total-gt-LIMIT-clause-ends g c =
     let sent = rested_sent (LineGives g.A.Answers.gives) c.args.answers.now c.pieces.answers (g.S.Source.left c.args.input.now) (g.S.Source.left c.pieces.input) (g.K.Sink.taken c.args.out.now) (g.K.Sink.taken c.pieces.out) (g.K.Sink.taken c.flush.new.out) c.pieces.reader c.pieces.writer c.pieces.number c.pieces.total c.pieces.invariant.rested c.in_default.ensures.sent in
     let came = c.in-Ok.ensures.bytes in
     let empty = stand_filled (LineGives g.A.Answers.gives) c.args.answers.now c.pieces.answers (g.S.Source.left c.args.input.now) (g.S.Source.left c.pieces.input) (g.S.Source.left c.fill.new.input) (g.K.Sink.taken c.args.out.now) (g.K.Sink.taken c.flush.new.out) c.pieces.reader c.fill.new.self [] came.0 c.pieces.number c.pieces.total c.in-Ok.count sent.stand came.1.leaves came.1.counted came.2 came.3 in
-    limit_passed (LineGives g.A.Answers.gives) c.args.answers.now c.pieces.answers (g.S.Source.left c.args.input.now) (g.S.Source.left c.fill.new.input) (g.K.Sink.taken c.args.out.now) (g.K.Sink.taken c.flush.new.out) c.fill.new.self [] c.pieces.number (c.pieces.total + c.in-Ok.count) empty c.if-total-gt-LIMIT.true
+    limit_passed (LineGives g.A.Answers.gives) c.args.answers.now c.pieces.answers (g.S.Source.left c.args.input.now) (g.S.Source.left c.fill.new.input) (g.K.Sink.taken c.args.out.now) (g.K.Sink.taken c.flush.new.out) c.fill.new.self [] c.pieces.number (c.pieces.total + c.in-Ok.count) empty (omega (arith, c.if-total-gt-LIMIT.true, c.in-Ok.ensures.most, c.pieces.invariant.within))
 
 pub answer_lines-requires : goal.answer_lines-requires
 answer_lines-requires g c =
