@@ -13,6 +13,7 @@ use Rattle.settings.specs.declared.ais.AisConfig.{AisConfig}
 use Rattle.gate_model.specs.Machine.{opened_machine}
 use Rattle.gate_model.specs.Stands.{Stands}
 use Rattle.gate_outbox.specs.declared.done.Command.{Command}
+use Rattle.gate_outbox.specs.Output.{nothing}
 use Rattle.gate_core.specs.Promises.{entry_by}
 use Rattle.gate_core.specs.Steps.{by_keys}
 use Rattle.joined_rmc.specs.RmcOut.{RmcRule}
@@ -40,6 +41,7 @@ IsOpenedWatching c ais watching = (watched_left watching ≡ []) × ((s : ℕ) �
 pub record IsNew (p : Parts) (b : Bridged) : Type 0 where
   pub settings : AreSettings p.gateway
   pub waits : b.started ≡ false
+  pub left : b.out ≡ nothing
   pub gateway : b.gateway ≡ opened_machine p.gateway
   pub answering : b.answering ≡ unanswered p.information
   pub joining : IsOpenedJoining p.rmc b.joining

@@ -4,7 +4,6 @@ ghost use Rattle.gate_events.specs.Emit.{CanWrite};
 ghost use Rattle.gate_outbox.specs.Output.{emit_of};
 ghost use Rattle.gate_core.specs.Steps.{IsEventValid, entry_of};
 ghost use Rattle.history.specs.Entries.{moment_of};
-ghost use Rattle.joined_rmc.specs.Kept.{IsDoneValid};
 ghost use Rattle.settings.specs.Settings.{IsSettings};
 ghost use Rattle.bridge.specs.BridgeStands.{IsBesideStep, IsBridgeStep, IsCommanded, IsNew, IsOrder, IsStart};
 ghost use Rattle.bridge.specs.Kept.{joined_left, left_beside, left_of, quiet, watched_left};
@@ -107,8 +106,7 @@ impl Bridge {
 
     /// Lets the parts beside the gateway take an event that it has taken.
     fn take_beside(&mut self, event: &Event<'_>)
-        requires valid { IsEventValid event.now }
-        requires done { IsDoneValid self.old.out.done }
+        requires { IsEventValid event.now }
         ensures { IsBesideStep (entry_of event.now) self.old self.new }
     {
         self.answering.answer(&self.gateway, event);

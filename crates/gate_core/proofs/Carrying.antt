@@ -14,8 +14,6 @@ use Rattle.gate_model.specs.FastPackets.{fast_step}
 use Rattle.gate_model.specs.Sessions.{session_step}
 use Rattle.gate_model.specs.Machine.{Machine}
 use Rattle.gate_model.specs.MachineSteps.{fast_frame, session_frame}
-use Rattle.gate_outbox.specs.declared.done.Done.{Done}
-use Rattle.gate_outbox.specs.declared.done.Command.{Command}
 use Rattle.bus_messages.specs.declared.messages.Content.{Content}
 use Rattle.bus_messages.specs.Contents.{content_in}
 use Rattle.gate_outbox.specs.Output.{Output, and_emits, most_emits}

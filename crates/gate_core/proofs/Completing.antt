@@ -1,12 +1,12 @@
 -- A message that was read while its payload was lent leaves what the message with its payload leaves.
-use Rattle.std.proofs.Common.{◌≡◌, ℕ, Bool, true, false, ◌&&◌, ◌==◌, List, Option, Some, None, option_map, refl, ap, if◌then◌else◌}
+use Rattle.std.proofs.Common.{◌≡◌, ℕ, Bool, true, false, Option, Some, None, option_map, refl, if◌then◌else◌}
 use Rattle.std.specs.Prelude.{slice_index}
 use Rattle.claim_table.specs.declared.answer.Holder.{Holder}
 use Rattle.readings.specs.declared.reading.Reading.{Reading}
 use Rattle.source_choice.specs.declared.rank.Rank.{Rank}
 use Rattle.history.specs.Messages.{Carried}
 use Rattle.history.specs.Settings.{Settings}
-use Rattle.gate_model.specs.Said.{SaidKept, Complete, Ordered, complete_by, reading_by, message_after, message_emits, profiled_after, profiled_emits, ranked_after, ranked_emits, rank_by, ordered_by, orders}
+use Rattle.gate_model.specs.Said.{SaidKept, Complete, complete_by, reading_by, message_after, message_emits, profiled_after, profiled_emits, ranked_after, ranked_emits, rank_by, ordered_by, orders}
 use Rattle.bus_messages.specs.Contents.{content_in}
 use Rattle.gate_outbox.specs.declared.done.Command.{Command}
 use Rattle.row_traffic.specs.Saying.{message_from}

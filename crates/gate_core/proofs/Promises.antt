@@ -1,5 +1,5 @@
 -- A step of the gateway gives what the definition over the whole history says, and finds room.
-use Rattle.std.proofs.Common.{◌≡◌, ℕ, ◌<◌, ◌≤◌, Bool, true, false, [], ◌∷◌, Option, Some, None, option_map, length, refl, sym, ap, subst, ◌∙◌, arith}
+use Rattle.std.proofs.Common.{◌≡◌, ℕ, ◌<◌, ◌≤◌, true, false, [], ◌∷◌, Option, Some, None, option_map, length, refl, sym, ap, subst, ◌∙◌, arith}
 use Rattle.std.specs.Prelude.{if◌then◌else◌}
 use Rattle.std.proofs.lemmas.Bool.{leb-true}
 use Rattle.std.proofs.lemmas.List.{length-take}
@@ -12,11 +12,9 @@ use Rattle.gate_events.specs.declared.emit.Detail.TheVariants as detail
 use Rattle.history.specs.Entries as entry
 use Rattle.history.specs.Entries.{Entry, History, IsHistory, IsOffered, is_accepted, moment_of, now}
 use Rattle.history.specs.EntryLaws.{IsEvent}
-use Rattle.history.specs.Settings.{Settings}
 use Rattle.history.specs.Receiver.{receiver_of}
 use Rattle.history.specs.Messages.{Message, done}
 use Rattle.history.specs.Emits.{broken}
-use Rattle.history.specs.Gate.{command_in}
 use Rattle.gate_model.specs.Said.{Complete, Ordered, complete_of, ordered_by}
 use Rattle.gate_model.specs.Machine.{Machine, Step, opened_machine, started_at}
 use Rattle.gate_model.specs.MachineSteps.{stepped, entered, commanded}
@@ -32,8 +30,6 @@ use Rattle.config_values.specs.declared.config.Config.{Config}
 use Rattle.config_values.specs.Configs.{IsConfig}
 use Rattle.config_values.specs.Settings.{settings_of}
 use Rattle.config_values.proofs.SettingsLemmas.{are_settings}
-use Rattle.gate_outbox.specs.declared.done.Done.{Done}
-use Rattle.gate_outbox.specs.Output.{most_emits}
 use Rattle.gate_core.specs.Steps.{by_keys, entry_of, IsEventValid, Stays, done_of, command_of, output_of}
 use Rattle.gate_core.specs.Promises.{done_told, entry_by, IsTaken, IsTooEarly, IsStep, IsCommandStep}
 

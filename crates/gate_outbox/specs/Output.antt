@@ -1,7 +1,8 @@
 -- What a step of the gateway leaves: what is to be sent and reported, in its order, the message that it completed, and the command
 -- that this message gives (ISO 11783-5, commanded address).
-use Rattle.std.specs.Prelude.{ℕ, ◌≤◌, Bool, true, false, ◌||◌, List, [], ◌∷◌, ◌++◌, length, filter, Option, None}
+use Rattle.std.specs.Prelude.{ℕ, ◌≤◌, Bool, true, false, ◌||◌, List, [], ◌∷◌, ◌++◌, length, filter, Option, None, IfSome}
 use Rattle.n2k_id.specs.Frame.{bus_frame}
+use Rattle.readings.specs.Ranges.{IsValid}
 use Rattle.gate_events.specs.declared.emit.Emit.{Emit as Lent}
 use Rattle.gate_events.specs.declared.emit.Emit.TheVariants as lent
 use Rattle.gate_events.specs.Emit.{Emit, can, net, report}
@@ -33,6 +34,10 @@ is_datagram (report what) = false
 abbrev pub has_datagram : List Emit → Bool
 has_datagram [] = false
 has_datagram (e ∷ es) = is_datagram e || has_datagram es
+
+-- what a message says of a row has its range
+abbrev pub IsDoneValid : Option Done → Type 0
+IsDoneValid done = IfSome done (λ d. IfSome d.reading IsValid)
 
 -- what holds of every outbox
 pub record IsOutput (o : Output) : Type 0 where

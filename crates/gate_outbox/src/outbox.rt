@@ -4,7 +4,8 @@ ghost use Rattle.std.specs.Borrow.{sem};
 ghost use Rattle.n2k_id.specs.Frame.{IsFrame, bus_frame};
 ghost use Rattle.gate_events.specs.Emit.{CanWrite, can, net, report};
 ghost use Rattle.gate_outbox.specs.Kept.{IsKept, kept_emit};
-ghost use Rattle.gate_outbox.specs.Output.{Output, IsOutput, nothing, and_emits, most_emits, has_datagram, emit_of};
+ghost use Rattle.readings.specs.Ranges.{IsValid};
+ghost use Rattle.gate_outbox.specs.Output.{Output, IsDoneValid, IsOutput, nothing, and_emits, most_emits, has_datagram, emit_of};
 
 use crate::datagram::Datagram;
 use crate::done::{Command, Done};
@@ -29,14 +30,14 @@ pub struct Outbox {
 
 impl Model for Outbox {
     ghost use Rattle.std.specs.Prelude.{◌≡◌, ◌+◌, ◌++◌, ◌≤◌, false, length};
-    ghost use Rattle.gate_outbox.specs.Output.{Output, most_emits, has_datagram};
+    ghost use Rattle.gate_outbox.specs.Output.{IsDoneValid, Output, most_emits, has_datagram};
     ghost use Rattle.gate_outbox.specs.Kept.{datagrams, posted_emits};
 
     ghost Value = { Output };
 
     ghost view = { λ o. record { emits = o.kept ++ posted_emits o.posted o.datagram; done = o.done; command = o.command } };
 
-    ghost invariant = { λ o. (length o.kept + datagrams o.posted ≤ most_emits) × (has_datagram o.kept ≡ false) };
+    ghost invariant = { λ o. (length o.kept + datagrams o.posted ≤ most_emits) × (has_datagram o.kept ≡ false) × IsDoneValid o.done };
 }
 
 impl Outbox {
@@ -94,7 +95,8 @@ impl Outbox {
 
     /// The message that the step completed.
     pub fn done(&self) -> Option<Done>
-        ensures { result ≡ self.now.done }
+        ensures done { result ≡ self.now.done }
+        ensures valid { IsDoneValid result }
     {
         self.done
     }
@@ -152,6 +154,7 @@ impl Outbox {
 
     /// Notes the message that the step completed.
     pub fn complete(&mut self, done: Done)
+        requires { IfSome done.reading IsValid }
         ensures { self.new ≡ record self.old { done = Some done } }
     {
         self.done = Some(done);

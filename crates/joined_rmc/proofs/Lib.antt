@@ -1,8 +1,6 @@
-pub mod Validity
 pub mod Datagrams
 pub mod Holders
 pub mod Chosen
 pub mod Slots
 pub mod Steps
 pub mod Commands
-pub mod Chaining

@@ -134,6 +134,3 @@ bytes_in (Some bytes) = bytes
 
 abbrev pub IsKeptValid : Option Kept → Type 0
 IsKeptValid kept = IfSome kept (λ k. IsValid k.reading)
-
-abbrev pub IsDoneValid : Option Done → Type 0
-IsDoneValid d = IfSome d (λ x. IfSome x.reading IsValid)

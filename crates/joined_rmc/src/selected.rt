@@ -1,6 +1,7 @@
 //! Which message a step of the gateway selected: the one that was complete, where it was said on the network.
 ghost use Rattle.std.specs.Prelude.{◌≡◌};
-ghost use Rattle.joined_rmc.specs.Kept.{IsDoneValid, IsKeptValid, is_said, picked, picked_of};
+ghost use Rattle.gate_outbox.specs.Output.{IsDoneValid};
+ghost use Rattle.joined_rmc.specs.Kept.{IsKeptValid, is_said, picked, picked_of};
 
 use crate::kept::Kept;
 use gate_core::{Done, Outbox};
@@ -8,7 +9,6 @@ use gate_events::Emit;
 
 /// The message that a step at this moment selected.
 pub(crate) fn selected(moment: u64, emits: &Outbox) -> Option<Kept>
-    requires { IsDoneValid emits.now.done }
     ensures selected { result ≡ picked moment emits.now.emits emits.now.done }
     ensures valid { IsKeptValid result }
 {

@@ -1,5 +1,6 @@
 //! A message that a frame completes: it is said where it is selected, and told with the command that it gives.
 ghost use Rattle.std.specs.Prelude.{◌≡◌, ◌+◌, ◌≤◌, false, length, option_map, IfSome, Some};
+ghost use Rattle.readings.specs.Ranges.{IsValid};
 ghost use Rattle.pgn_profile.specs.Profiled.{GivesValid};
 ghost use Rattle.claim_table.specs.Claims.{holder_at};
 ghost use Rattle.history.specs.Choice.{reading_in};
@@ -19,21 +20,21 @@ impl State {
     pub(crate) fn complete(
         &mut self,
         source: u8,
-        message: &Option<Content>,
+        message: Option<Content>,
         moment: u64,
         out: &mut Outbox,
     )
         requires stays { Stays self.old }
-        requires says { IfSome message.now (λ message. GivesValid message.profiled) }
+        requires says { IfSome message (λ message. GivesValid message.profiled) }
         requires room { length out.old.emits + length (said_emits self.old.settings self.old.said moment source
-            (holder_at self.old.addresses.claims.holders source) message.now) ≤ most_emits }
+            (holder_at self.old.addresses.claims.holders source) message) ≤ most_emits }
         requires before { has_datagram out.old.emits ≡ false }
         ensures after { self.new ≡ record self.old {
           said = said_after self.old.settings self.old.said moment source
-              (holder_at self.old.addresses.claims.holders source) message.now;
+              (holder_at self.old.addresses.claims.holders source) message;
         } }
         ensures output { out.new ≡ and_message self.old.settings out.old self.old.said moment source
-            (holder_at self.old.addresses.claims.holders source) message.now }
+            (holder_at self.old.addresses.claims.holders source) message }
     {
         match (self.addresses.claims().holder(source), message) {
             (Some(holder), Some(message)) => {
@@ -43,7 +44,7 @@ impl State {
                     name: holder.name,
                 };
                 self.said.take(&self.config, sender, &message.profiled, out);
-                tell(sender, message, out);
+                tell(sender, &message, out);
             }
             _ => {}
         }
@@ -52,7 +53,9 @@ impl State {
 
 /// The reading of a message, where it has one.
 fn reading_in(profiled: &Profiled) -> Option<Reading>
-    ensures { result ≡ reading_in profiled.now }
+    requires { GivesValid profiled.now }
+    ensures reading { result ≡ reading_in profiled.now }
+    ensures valid { IfSome result IsValid }
 {
     match profiled {
         Profiled::Reading(reading) => Some(*reading),
@@ -62,6 +65,7 @@ fn reading_in(profiled: &Profiled) -> Option<Reading>
 
 /// Tells of a message, and of the command that it gives.
 fn tell(sender: Sender, message: &Content, out: &mut Outbox)
+    requires { GivesValid message.now.profiled }
     ensures { out.new ≡ record {
       emits = out.old.emits;
       done = Some (record { source = sender.source; name = sender.name; pgn = message.now.pgn; reading = reading_in message.now.profiled });

@@ -8,6 +8,7 @@ unfolding parts_of
 returns c = record {
   settings = (are_settings c.args.settings.now.config c.requires.config).settings;
   waits = refl;
+  left = c.new-2.ensures;
   gateway = c.in_ok-gateway.ensures;
   answering = c.new-answering.ensures;
   joining = c.joining_of-joining.ensures;

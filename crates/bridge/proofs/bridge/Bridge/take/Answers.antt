@@ -1,18 +1,9 @@
 use Rattle.std.proofs.Common.{sym, ap, subst, ◌∙◌}
-use Rattle.gate_model.specs.MachineSteps.{stepped}
-use Rattle.gate_outbox.specs.Output.{Output}
-use Rattle.gate_core.specs.Steps.{by_keys, entry_of}
-use Rattle.joined_rmc.specs.Kept.{IsDoneValid}
-use Rattle.joined_rmc.proofs.Chaining.{left_valid}
+use Rattle.gate_core.specs.Steps.{entry_of}
 use Rattle.bridge.specs.BridgeStands.{IsBridgeStep}
 use Rattle.bridge.specs.Kept.{Bridged, quiet}
 use Rattle.bridge.proofs.Steps.{accepted_step, refused_step, with_gateway}
 use Rattle.bridge.proofs.bridge.Bridge.take.Goals as goal
-
-pub take_beside-requires-clause-done : goal.take_beside-requires-clause-done
-take_beside-requires-clause-done c =
-    let g = c.self.inside.gateway in
-    subst (λ (o : Output). IsDoneValid o.done) (sym c.step.ensures.output) (left_valid g.settings.name (stepped by_keys g (entry_of c.args.event.now)))
 
 pub returns-then-accepted : goal.returns-then-accepted
 returns-then-accepted c =

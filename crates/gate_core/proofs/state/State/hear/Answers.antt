@@ -1,4 +1,4 @@
-use Rattle.std.proofs.Common.{◌≡◌, ◌+◌, ◌≤◌, length, refl, sym, ap, subst, ◌∙◌}
+use Rattle.std.proofs.Common.{◌+◌, ◌≤◌, length, sym, ap, subst, ◌∙◌}
 use Rattle.datagram450.specs.Datagram.{read}
 use Rattle.gate_model.specs.Machine.{Machine}
 use Rattle.gate_model.specs.NetLines.{NetKept, datagram_after, datagram_emits}
