@@ -24,7 +24,7 @@ const FRAMES: [[u8; 8]; 7] = [
 ];
 
 /// What became of a frame; a complete message is told by whether it is the payload.
-#[derive(Clone, Copy, Debug, PartialEq, Eq)]
+#[derive(Clone, Copy, PartialEq, Eq)]
 enum Told {
     Held,
     Restarted,

@@ -14,7 +14,7 @@ pub const MOST_EVENTS: u64 = 1_000_000;
 pub const MOST_TURNS: u64 = 999_999_999;
 
 /// A command that answers each line of a capture by itself.
-#[derive(Clone, Copy, Debug, PartialEq, Eq)]
+#[derive(Clone, Copy)]
 pub enum LineCommand {
     /// The sentences of each frame.
     Convert,
@@ -23,7 +23,7 @@ pub enum LineCommand {
 }
 
 /// A command of the program.
-#[derive(Clone, Copy, Debug, PartialEq, Eq)]
+#[derive(Clone, Copy)]
 pub enum Command<'a> {
     /// Reads a capture and writes a text for each of its lines.
     Lines(LineCommand),

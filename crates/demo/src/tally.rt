@@ -20,7 +20,7 @@ const FACTOR: u128 = 31;
 const END: u128 = 1 << 64;
 
 /// How many emits there were of each kind, and what all bytes of their lines were folded into.
-#[derive(Clone, Copy, Debug, PartialEq, Eq)]
+#[derive(Clone, Copy)]
 pub(crate) struct Tally {
     pub(crate) frames: u64,
     pub(crate) datagrams: u64,

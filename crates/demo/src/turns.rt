@@ -14,7 +14,7 @@ const KINDS: u16 = 8;
 const HEADINGS: u16 = 62_832;
 
 /// What happens at a turn.
-#[derive(Clone, Copy, Debug, PartialEq, Eq)]
+#[derive(Clone, Copy)]
 pub enum Turn {
     /// The device at an address claims it.
     Claim(u8),

@@ -23,7 +23,7 @@ use tag_block::Packet;
 const MANY: u16 = 256;
 
 /// What is measured.
-#[derive(Clone, Copy, Debug, PartialEq, Eq)]
+#[derive(Clone, Copy)]
 enum Work {
     /// Steps that complete a heading, each said in a datagram.
     Steps,

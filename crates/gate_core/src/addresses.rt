@@ -10,7 +10,7 @@ use std::alloc::Global;
 use std::marker::Model;
 
 /// The addresses of the bus, with the index of the next entry.
-#[derive(Debug, Drop)]
+#[derive(Drop)]
 pub(crate) struct Addresses {
     claims: ClaimTable,
     count: u64,

@@ -14,7 +14,7 @@ use std::time::{Clock, Duration};
 const NAP_US: u64 = 500;
 
 /// Why a link couldn't be attached.
-#[derive(Debug, Drop)]
+#[derive(Drop)]
 pub struct Unattached {
     /// The address that it was to listen at.
     pub listen: Address,

@@ -4,7 +4,7 @@ ghost use Rattle.source_choice.specs.Notes.{is_before, is_fresh, outranks};
 use crate::rank::Rank;
 
 /// What a source said last of a row.
-#[derive(Clone, Copy, Debug)]
+#[derive(Clone, Copy)]
 pub(crate) struct Note {
     pub source: u8,
     pub rank: Rank,
