@@ -12,16 +12,14 @@ use fast_packet::FastAssembler;
 use gate_core::Gateway;
 use gate_events::Event;
 use n2k_id::Name;
+use n2k_id::address::ADDRESSES;
 use sentence_text::{Group, Sfi};
 use settings::AisConfig;
 use std::alloc::{AllocError, Global};
 use std::marker::Model;
 
-/// How many addresses a device can have: 0 to 253.
-pub(crate) const PLACES: usize = 254;
-
 /// Who holds each address.
-pub(crate) type Names = [Option<Name>; PLACES];
+pub(crate) type Names = [Option<Name>; ADDRESSES];
 
 /// The reports of ships around in the making, and who holds which address.
 #[derive(Drop)]
@@ -88,7 +86,7 @@ fn names_of(presets: &[Preset]) -> Names
     requires { All (λ p. p.address < places) presets.now }
     ensures { result ≡ named (replicate places None) presets.now }
 {
-    let mut names = [None; PLACES];
+    let mut names = [None; ADDRESSES];
     for preset in presets {
         names[usize::from(preset.address)] = Some(preset.name);
     }

@@ -10,11 +10,12 @@ ghost use Rattle.ais_bridge.specs.AisKept as kept;
 ghost use Rattle.ais_bridge.specs.AisKept.{claimed, is_name, left_in, name_in, with_name, without_name, won_from};
 ghost use Rattle.ais_bridge.specs.Emitted.{most_reports};
 
-use crate::bridge::{AisBridge, Names, PLACES};
+use crate::bridge::{AisBridge, Names};
 use crate::emits::AisEmits;
 use crate::told::Told;
 use fast_packet::FastAssembler;
 use n2k_id::Name;
+use n2k_id::address::ADDRESSES;
 use report_rules::CLAIM_LOST;
 
 impl AisBridge {
@@ -83,7 +84,7 @@ fn won_from(address: u8, before: Option<Name>, after: Option<Name>) -> Option<u8
 fn name_in(names: &Names, address: u8) -> Option<Name>
     ensures { result ≡ name_in names.now address }
 {
-    if usize::from(address) < PLACES {
+    if usize::from(address) < ADDRESSES {
         names[usize::from(address)]
     } else {
         None
@@ -135,7 +136,7 @@ fn forget(names: &mut Names, left: Option<u8>)
 fn note(names: &mut Names, address: u8, holder: Option<Name>)
     ensures { names.new ≡ with_name names.old address holder }
 {
-    if usize::from(address) < PLACES {
+    if usize::from(address) < ADDRESSES {
         names[usize::from(address)] = holder;
     }
 }

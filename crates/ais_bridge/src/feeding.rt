@@ -22,25 +22,21 @@ ghost use Rattle.ais_bridge.specs.Promises.{step_by};
 use crate::bridge::AisBridge;
 use crate::emits::AisEmits;
 use crate::told::Told;
-use crate::writing::MOST_COUNT;
 use ais_report::{AisFault, AisReport, convert};
 use fast_packet::{FastAssembler, FastFed, FastOutcome, FastRefusal};
 use gate_core::Gateway;
 use gate_events::Event;
+use n2k_id::address::ALL;
+use n2k_id::pgn::ADDRESS_CLAIMED;
 use n2k_id::{Frame, Name, Parts, parts, read_name};
 use report_rules::{
     AIS_REPORT_OUTSIDE, EXPIRED, FAST_LENGTH, FAST_ORDER, FAST_ORPHAN, RESTARTED, SHORT_MESSAGE,
     SLOTS_FULL, UNCLAIMED,
 };
+use tag_block::MOST_COUNT;
 
 /// AIS class A position report.
 const REPORT_PGN: u32 = 129_038;
-
-/// A device claims an address (ISO 11783-5).
-const ADDRESS_CLAIMED: u32 = 60_928;
-
-/// The address that is nobody's.
-const NOBODY: u8 = 255;
 
 /// What a payload says.
 type Converted = Result<(AisReport, u8), AisFault>;
@@ -214,7 +210,7 @@ fn feed_reports(
 fn claimed_name(parts: &Parts, bytes: &[u8]) -> Option<Name>
     ensures { result ≡ claimed_name parts.now bytes.now }
 {
-    if parts.pgn == ADDRESS_CLAIMED && bytes.len() >= 8 && parts.source != NOBODY {
+    if parts.pgn == ADDRESS_CLAIMED && bytes.len() >= 8 && parts.source != ALL {
         read_name(bytes)
     } else {
         None

@@ -9,10 +9,7 @@ use ais_report::{AisReport, armour};
 use arrayvec::ArrayVec;
 use datagram450::{begin, push_line};
 use sentence_text::{Sfi, sum_digits, xor};
-use tag_block::{Packet, TagParts};
-
-/// The greatest count of a line (IEC 61162-450).
-pub(crate) const MOST_COUNT: u16 = 999;
+use tag_block::{MOST_COUNT, Packet, TagParts};
 
 /// The bytes of a sentence (IEC 61162-1: at most 82).
 type Line = ArrayVec<u8, 82>;

@@ -14,12 +14,10 @@ ghost use Rattle.bridge.specs.Kept.{early_report, quiet_answering, unanswered};
 use bus_identity::{Answered, Frames, Identity, Product};
 use gate_core::Gateway;
 use gate_events::{Detail, Emit, Event, Report};
+use n2k_id::pgn::REQUEST;
 use n2k_id::{Frame, parts};
 use report_rules::NOT_READY;
 use std::marker::Model;
-
-/// The parameter group of a request (ISO 11783-3).
-const REQUEST: u32 = 59904;
 
 /// Who the gateway is, with the answer to the last event.
 #[derive(Drop)]

@@ -4,7 +4,6 @@ ghost use Rattle.gate_events.specs.Emit.{CanWrite};
 ghost use Rattle.config_values.specs.Rows.{IsTalker};
 ghost use Rattle.gate_outbox.specs.Output.{emit_of};
 ghost use Rattle.history.specs.Entries.{Entry};
-ghost use Rattle.joined_rmc.specs.Kept.{IsDoneValid};
 ghost use Rattle.bridge.specs.Beside.{IsJoining};
 ghost use Rattle.bridge.specs.BridgeStands.{IsOpenedJoining};
 ghost use Rattle.bridge.specs.Kept.{joined_left, quiet_joining};
@@ -14,6 +13,7 @@ use config_values::{Config, RowConfig};
 use gate_core::{Gateway, Outbox};
 use gate_events::Emit;
 use joined_rmc::{RmcConfig, RmcJoin};
+use readings::ROWS;
 use sentence_text::Group;
 use std::marker::Model;
 use tag_block::Packet;
@@ -59,7 +59,6 @@ impl Joining {
 
     /// Takes what a step of the gateway left that accepted its event.
     fn join(&mut self, gateway: &Gateway, emits: &Outbox)
-        requires { IsDoneValid emits.now.done }
         ensures { (e : Entry) → IsJoining gateway.now emits.now e (Some self.old) (Some self.new) }
     {
         self.packet.clear();
@@ -88,11 +87,11 @@ impl Joining {
 }
 
 /// How long a source of each row counts, in milliseconds.
-fn timeouts_of(rows: &[RowConfig; 17]) -> [u32; 17]
+fn timeouts_of(rows: &[RowConfig; ROWS]) -> [u32; ROWS]
     ensures { result ≡ timeouts_of rows.now }
 {
-    let mut timeouts = [0; 17];
-    for row in 0..17 {
+    let mut timeouts = [0; ROWS];
+    for row in 0..ROWS {
         timeouts[row] = rows[row].timeout_ms;
     }
     timeouts
@@ -120,7 +119,6 @@ pub(crate) fn clear(joining: &mut Option<Joining>)
 
 /// Takes what a step of the gateway left that accepted its event.
 pub(crate) fn join(joining: &mut Option<Joining>, gateway: &Gateway, emits: &Outbox)
-    requires { IsDoneValid emits.now.done }
     ensures { (e : Entry) → IsJoining gateway.now emits.now e joining.old joining.new }
 {
     if let Some(joining) = joining {

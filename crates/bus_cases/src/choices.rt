@@ -1,4 +1,4 @@
-use readings::Row;
+use readings::{ROWS, Row};
 use source_choice::{Choice, Rank};
 use std::test::Fail;
 
@@ -14,7 +14,7 @@ const SECOND_BEST: Rank = Rank {
     name: 0xC078_8C00_FFC0_0006,
 };
 
-const TIMEOUTS: [u32; 17] = [2_000; 17];
+const TIMEOUTS: [u32; ROWS] = [2_000; ROWS];
 
 #[test]
 fn the_second_source_waits_until_the_first_is_silent_or_says_nothing(

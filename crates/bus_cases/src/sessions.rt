@@ -1,26 +1,21 @@
 use iso_transport::{
     Cm, IsoAssembler, IsoEnded, IsoOutcome, IsoRefusal, Reply, read_cm, write_reply,
 };
+use n2k_id::address::ALL;
+use n2k_id::pgn::{CONNECTION_MANAGEMENT, DATA_TRANSFER};
 use n2k_id::{Frame, Parts};
 use std::test::Fail;
 
 /// This node's address, all nodes, and PGN 129029, GNSS position data.
 const OWN: u8 = 251;
 
-const ALL: u8 = 255;
-
 const GNSS: u32 = 129029;
-
-/// Connection management and data.
-const MANAGEMENT: u32 = 60416;
-
-const DATA: u32 = 60160;
 
 /// An RTS of 1785 bytes in 255 packets, of which any number may be granted at once.
 const RTS: [u8; 8] = [0x10, 0xF9, 0x06, 0xFF, 0xFF, 0x05, 0xF8, 0x01];
 
 /// What became of a frame; a complete message is told by its PGN and by whether it is the one that was sent.
-#[derive(Clone, Copy, Debug, PartialEq, Eq)]
+#[derive(Clone, Copy, PartialEq, Eq)]
 enum Told {
     Ignored,
     Held,
@@ -126,13 +121,17 @@ fn the_longest_message_gets_its_grants_and_its_acknowledgement(
     assert!(rt;
         fed(
             &mut assembler,
-            to_own(MANAGEMENT, &RTS, 10_250_000),
+            to_own(CONNECTION_MANAGEMENT, &RTS, 10_250_000),
             &message
         ) == replied(grant(8, 1), Told::Held)
     );
     for number in 1..=255u8 {
         let bytes = packet(number, &message[..7]);
-        let answer = fed(&mut assembler, to_own(DATA, &bytes, 10_300_000), &message);
+        let answer = fed(
+            &mut assembler,
+            to_own(DATA_TRANSFER, &bytes, 10_300_000),
+            &message,
+        );
         let want = match number {
             8 => replied(grant(8, 9), Told::Held),
             240 => replied(grant(8, 241), Told::Held),
@@ -155,22 +154,22 @@ fn the_shortest_message_to_all_completes_without_a_reply(rt: HostRuntime) -> Res
     let message = [0x01, 0x00, 0xC0, 0xFF, 0x00, 0x82, 0x32, 0xC0, 0x64];
     let frames = [
         (
-            MANAGEMENT,
+            CONNECTION_MANAGEMENT,
             [0x20, 0x09, 0x00, 0x02, 0xFF, 0xD8, 0xFE, 0x00],
             Told::Held,
         ),
         (
-            DATA,
+            DATA_TRANSFER,
             [0x01, 0x01, 0x00, 0xC0, 0xFF, 0x00, 0x82, 0x32],
             Told::Held,
         ),
         (
-            DATA,
+            DATA_TRANSFER,
             [0x02, 0xC0, 0x64, 0xFF, 0xFF, 0xFF, 0xFF, 0xFF],
             Told::Complete(65240, true),
         ),
         (
-            DATA,
+            DATA_TRANSFER,
             [0x02, 0xC0, 0x64, 0xFF, 0xFF, 0xFF, 0xFF, 0xFF],
             Told::Refused(IsoRefusal::Orphan),
         ),
@@ -256,55 +255,60 @@ fn frames_that_open_nothing_have_their_answer(rt: HostRuntime) -> Result<(), Fai
     let orphan = quiet(Told::Refused(IsoRefusal::Orphan));
     let rows: [(u32, u8, &[u8], Answer); 15] = [
         // fewer than 8 bytes
-        (MANAGEMENT, ALL, &[0x20, 0x09, 0x00], size),
-        (MANAGEMENT, OWN, &[], size),
+        (CONNECTION_MANAGEMENT, ALL, &[0x20, 0x09, 0x00], size),
+        (CONNECTION_MANAGEMENT, OWN, &[], size),
         // an RTS to all, a BAM to this node
-        (MANAGEMENT, ALL, &RTS, size),
+        (CONNECTION_MANAGEMENT, ALL, &RTS, size),
         (
-            MANAGEMENT,
+            CONNECTION_MANAGEMENT,
             OWN,
             &[0x20, 0x09, 0, 2, 0xFF, 0x05, 0xF8, 0x01],
             size,
         ),
         // 8 bytes; 1786 bytes; a packet too few
         (
-            MANAGEMENT,
+            CONNECTION_MANAGEMENT,
             OWN,
             &[0x10, 0x08, 0, 2, 0xFF, 0x05, 0xF8, 0x01],
             misfit,
         ),
         (
-            MANAGEMENT,
+            CONNECTION_MANAGEMENT,
             OWN,
             &[0x10, 0xFA, 0x06, 0xFF, 0xFF, 0x05, 0xF8, 0x01],
             misfit,
         ),
         (
-            MANAGEMENT,
+            CONNECTION_MANAGEMENT,
             OWN,
             &[0x10, 0xF9, 0x06, 0xFE, 0xFF, 0x05, 0xF8, 0x01],
             misfit,
         ),
         (
-            MANAGEMENT,
+            CONNECTION_MANAGEMENT,
             ALL,
             &[0x20, 0x08, 0, 2, 0xFF, 0x05, 0xF8, 0x01],
             size,
         ),
         // an abort, a CTS, an acknowledgement, another control byte, another node
-        (MANAGEMENT, OWN, &abort(1), ignored),
-        (MANAGEMENT, OWN, &grant(8, 1), ignored),
+        (CONNECTION_MANAGEMENT, OWN, &abort(1), ignored),
+        (CONNECTION_MANAGEMENT, OWN, &grant(8, 1), ignored),
         (
-            MANAGEMENT,
+            CONNECTION_MANAGEMENT,
             OWN,
             &[0x13, 0xF9, 0x06, 0xFF, 0xFF, 0x05, 0xF8, 0x01],
             ignored,
         ),
-        (MANAGEMENT, ALL, &[0x12, 0, 0, 0, 0, 0, 0, 0], ignored),
-        (MANAGEMENT, 24, &RTS, ignored),
+        (
+            CONNECTION_MANAGEMENT,
+            ALL,
+            &[0x12, 0, 0, 0, 0, 0, 0, 0],
+            ignored,
+        ),
+        (CONNECTION_MANAGEMENT, 24, &RTS, ignored),
         // packets without a session
-        (DATA, OWN, &[], orphan),
-        (DATA, ALL, &[1; 8], orphan),
+        (DATA_TRANSFER, OWN, &[], orphan),
+        (DATA_TRANSFER, ALL, &[1; 8], orphan),
     ];
     let mut assembler = IsoAssembler::new(rt.alloc(), 8)?;
     for (pgn, to, bytes, want) in rows {
@@ -327,17 +331,17 @@ fn packets_that_end_a_session_have_their_reply(rt: HostRuntime) -> Result<(), Fa
     let size = replied(abort(2), Told::Refused(IsoRefusal::Size));
     let rows: [(u32, &[u8], Answer); 5] = [
         // another number; another byte than the first time; fewer than it owes, and so with another number
-        (DATA, &[0x03, 1, 2, 3, 4, 5, 6, 7], order),
+        (DATA_TRANSFER, &[0x03, 1, 2, 3, 4, 5, 6, 7], order),
         (
-            DATA,
+            DATA_TRANSFER,
             &[0x01, 0x5A, 0x5A, 0x5A, 0x5A, 0x5A, 0x5A, 0x5B],
             order,
         ),
-        (DATA, &[0x02, 1, 2, 3, 4, 5, 6], size),
-        (DATA, &[0x03], size),
+        (DATA_TRANSFER, &[0x02, 1, 2, 3, 4, 5, 6], size),
+        (DATA_TRANSFER, &[0x03], size),
         // the sender aborts
         (
-            MANAGEMENT,
+            CONNECTION_MANAGEMENT,
             &abort(3),
             quiet(Told::Refused(IsoRefusal::Aborted(GNSS))),
         ),
@@ -346,10 +350,19 @@ fn packets_that_end_a_session_have_their_reply(rt: HostRuntime) -> Result<(), Fa
         let mut assembler = IsoAssembler::new(rt.alloc(), 1)?;
         let first = packet(1, &[0x5A; 7]);
         assert!(rt;
-            fed(&mut assembler, to_own(MANAGEMENT, &RTS, 1_000_000), &[])
-                == replied(grant(8, 1), Told::Held)
+            fed(
+                &mut assembler,
+                to_own(CONNECTION_MANAGEMENT, &RTS, 1_000_000),
+                &[]
+            ) == replied(grant(8, 1), Told::Held)
         );
-        assert!(rt; fed(&mut assembler, to_own(DATA, &first, 1_000_000), &[]) == quiet(Told::Held));
+        assert!(rt;
+            fed(
+                &mut assembler,
+                to_own(DATA_TRANSFER, &first, 1_000_000),
+                &[]
+            ) == quiet(Told::Held)
+        );
         assert!(rt; fed(&mut assembler, to_own(pgn, bytes, 1_000_000), &[]) == want);
         assert!(rt; assembler.count() == 0);
     }
@@ -363,14 +376,20 @@ fn the_first_grant_is_the_window(rt: HostRuntime) -> Result<(), Fail> {
         let mut assembler = IsoAssembler::new(rt.alloc(), 1)?;
         let rts = [0x10, 0xF9, 0x06, 0xFF, limit, 0x05, 0xF8, 0x01];
         assert!(rt;
-            fed(&mut assembler, to_own(MANAGEMENT, &rts, 1_000_000), &[])
-                == replied(grant(granted, 1), Told::Held)
+            fed(
+                &mut assembler,
+                to_own(CONNECTION_MANAGEMENT, &rts, 1_000_000),
+                &[]
+            ) == replied(grant(granted, 1), Told::Held)
         );
         // two packets are fewer than most windows
         let short = [0x10, 0x09, 0x00, 0x02, limit, 0x05, 0xF8, 0x01];
         assert!(rt;
-            fed(&mut assembler, to_own(MANAGEMENT, &short, 1_000_000), &[])
-                == (Some(GNSS), Some(grant(granted.min(2), 1)), Told::Held)
+            fed(
+                &mut assembler,
+                to_own(CONNECTION_MANAGEMENT, &short, 1_000_000),
+                &[]
+            ) == (Some(GNSS), Some(grant(granted.min(2), 1)), Told::Held)
         );
     }
     Ok(())
@@ -392,15 +411,27 @@ fn a_session_waits_longer_for_what_was_granted(rt: HostRuntime) -> Result<(), Fa
         (9, 5_750_000),
     ] {
         let mut assembler = IsoAssembler::new(rt.alloc(), 1)?;
-        let _ = fed(&mut assembler, to_own(MANAGEMENT, &RTS, 5_000_000), &[]);
+        let _ = fed(
+            &mut assembler,
+            to_own(CONNECTION_MANAGEMENT, &RTS, 5_000_000),
+            &[],
+        );
         for number in 1..=packets {
             let bytes = packet(number, &[0x5A; 7]);
-            let _ = fed(&mut assembler, to_own(DATA, &bytes, 5_000_000), &[]);
+            let _ = fed(
+                &mut assembler,
+                to_own(DATA_TRANSFER, &bytes, 5_000_000),
+                &[],
+            );
         }
         // the last packet again gains no time, and gets no reply
         if packets > 0 {
             let again = packet(packets, &[0x5A; 7]);
-            let answer = fed(&mut assembler, to_own(DATA, &again, 5_700_000), &[]);
+            let answer = fed(
+                &mut assembler,
+                to_own(DATA_TRANSFER, &again, 5_700_000),
+                &[],
+            );
             assert!(rt; answer == quiet(Told::Repeat));
         }
         assert!(rt; assembler.expire_one(last) == None);
@@ -415,7 +446,7 @@ fn sessions_end_in_the_order_of_their_keys(rt: HostRuntime) -> Result<(), Fail> 
     let mut assembler = IsoAssembler::new(rt.alloc(), 3)?;
     for &(to, from, bytes) in &[(OWN, 24, &RTS), (OWN, 23, &RTS), (ALL, 24, &bam)] {
         let sent = Sent {
-            pgn: MANAGEMENT,
+            pgn: CONNECTION_MANAGEMENT,
             to,
             from,
             bytes,
@@ -424,7 +455,7 @@ fn sessions_end_in_the_order_of_their_keys(rt: HostRuntime) -> Result<(), Fail> 
         assert!(rt; fed(&mut assembler, sent, &[]).2 == Told::Held);
     }
     let sent = Sent {
-        pgn: MANAGEMENT,
+        pgn: CONNECTION_MANAGEMENT,
         to: OWN,
         from: 25,
         bytes: &RTS,
@@ -452,7 +483,7 @@ fn as_many_sessions_are_open_as_the_greatest_limit(rt: HostRuntime) -> Result<()
     let mut assembler = IsoAssembler::new(rt.alloc(), 32)?;
     for from in 0..32 {
         let sent = Sent {
-            pgn: MANAGEMENT,
+            pgn: CONNECTION_MANAGEMENT,
             to: ALL,
             from,
             bytes: &bam,

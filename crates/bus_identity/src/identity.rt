@@ -10,6 +10,8 @@ use crate::pgn;
 use crate::product::{Payload, Product, information_of};
 use crate::request::{asked_of, is_due};
 use crate::sending::{Frames, answer_identifier, answered_address, append_frame, append_message};
+use n2k_id::address::ALL;
+use n2k_id::pgn::ACKNOWLEDGEMENT;
 use n2k_id::{Frame, parts};
 use std::marker::Model;
 
@@ -121,7 +123,7 @@ impl Identity {
         ensures valid { AllByRecursion IsFrame out.new.items }
         ensures after { self.new ≡ record self.old { products = (self.old.products + 1) % 8 } }
     {
-        let id = answer_identifier(pgn::PRODUCT_INFORMATION, 255, own);
+        let id = answer_identifier(pgn::PRODUCT_INFORMATION, ALL, own);
         append_message(id, self.products, &self.information, out);
         self.products = (self.products + 1) % 8;
     }
@@ -146,7 +148,7 @@ fn refuse(own: u8, asker: u8, asked: &[u8; 3], out: &mut Frames)
     ensures frames { map bus_frame out.new.items ≡ answers.refusal_frames own asker asked.now }
     ensures valid { AllByRecursion IsFrame out.new.items }
 {
-    let id = answer_identifier(pgn::ACKNOWLEDGEMENT, asker, own);
+    let id = answer_identifier(ACKNOWLEDGEMENT, asker, own);
     append_frame(
         id,
         &[1, 255, 255, 255, 255, asked[0], asked[1], asked[2]],

@@ -5,6 +5,8 @@ ghost use Rattle.bus_identity.specs.Requests as requests;
 
 use crate::pgn;
 use n2k_id::Parts;
+use n2k_id::address::ALL;
+use n2k_id::pgn::{ADDRESS_CLAIMED, REQUEST};
 
 /// Whether the frame is a request that has to be answered, by the own address.
 #[tactic(auto, using(crate::proofs::RequestLemmas::due_tells))]
@@ -19,9 +21,9 @@ pub(crate) fn is_due(own: Option<u8>, parts: &Parts, held: &[u8]) -> bool
 fn concerns(own: Option<u8>, parts: &Parts, held: &[u8]) -> bool
     ensures { result ≡ requests.concerns own parts.now held.now }
 {
-    parts.pgn == pgn::REQUEST
+    parts.pgn == REQUEST
         && held.len() >= 3
-        && (parts.destination == 255 || is_own(own, parts.destination))
+        && (parts.destination == ALL || is_own(own, parts.destination))
         && !is_own(own, parts.source)
 }
 
@@ -30,7 +32,7 @@ fn concerns(own: Option<u8>, parts: &Parts, held: &[u8]) -> bool
 fn is_answered(own: Option<u8>, destination: u8, asked: u32) -> bool
     ensures { result ≡ requests.is_answered own destination asked }
 {
-    asked != pgn::ADDRESS_CLAIMED
+    asked != ADDRESS_CLAIMED
         && (asked == pgn::PRODUCT_INFORMATION
             || asked == pgn::PGN_LISTS
             || is_own(own, destination))

@@ -10,6 +10,7 @@ ghost use Rattle.bus_identity.specs.Answers.{answer_parts, answered_address, fra
 
 use arrayvec::ArrayVec;
 use fast_packet::{FrameList, split};
+use n2k_id::address::{ALL, NULL_ADDRESS};
 use n2k_id::{Frame, Parts, join};
 
 /// The frames of an answer.
@@ -22,7 +23,7 @@ const PRIORITY: u8 = 6;
 pub(crate) fn answered_address(source: u8) -> u8
     ensures { result ≡ answered_address source }
 {
-    if source <= 253 { source } else { 255 }
+    if source < NULL_ADDRESS { source } else { ALL }
 }
 
 /// The identifier of an answer.

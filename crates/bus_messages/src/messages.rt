@@ -7,8 +7,8 @@ ghost use Rattle.bus_messages.specs.Contents.{content_of, ordered_in, is_for, sh
 ghost use Rattle.gate_outbox.specs.Output.{and_emits, most_emits, has_datagram};
 
 use gate_outbox::Outbox;
-use gate_outbox::pgn::COMMANDED_ADDRESS;
 use gate_outbox::reports::of_source;
+use n2k_id::pgn::COMMANDED_ADDRESS;
 use n2k_id::{Name, read_name};
 use pgn_profile::{Profiled, read};
 use report_rules::SHORT_MESSAGE;

@@ -13,10 +13,11 @@ ghost use Rattle.gate_outbox.specs.Output.{and_emits, most_emits, has_datagram};
 use crate::messages::{Content, read_content, tell_short};
 use gate_events::Report;
 use gate_outbox::Outbox;
-use gate_outbox::frames::{ALL, reply_from};
-use gate_outbox::pgn::DATA_TRANSFER;
+use gate_outbox::frames::reply_from;
 use gate_outbox::reports::of_source;
 use iso_transport::{IsoAssembler, IsoFed, IsoKey, IsoOutcome, IsoRefusal, Reply};
+use n2k_id::address::ALL;
+use n2k_id::pgn::DATA_TRANSFER;
 use n2k_id::{Frame, Name, Parts};
 use report_rules::{
     ISO_ABORTED, ISO_ORDER, ISO_ORPHAN, ISO_SIZE, NOT_READY, RESTARTED, SLOTS_FULL,

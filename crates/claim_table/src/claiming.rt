@@ -7,12 +7,10 @@ ghost use Rattle.claim_table.specs.Claims.{next_free, next_own, other_than, sett
 use crate::answer::{ClaimStep, Holder, OwnAnswer};
 use crate::table::ClaimTable;
 use n2k_id::Name;
-
-/// The address from which a device says that it can claim none.
-const NULL_ADDRESS: u8 = 254;
+use n2k_id::address::NULL_ADDRESS;
 
 /// How many addresses the gateway may move to: 0 to 251.
-const MOVE_PLACES: u8 = 252;
+pub const MOVE_PLACES: u8 = 252;
 
 /// Where a NAME that takes the gateway's address comes from, and where the gateway goes.
 #[derive(Clone, Copy)]

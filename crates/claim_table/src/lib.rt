@@ -9,6 +9,7 @@ mod preset;
 mod table;
 
 pub use answer::{ClaimStep, Holder, OwnAnswer};
+pub use claiming::MOVE_PLACES;
 pub use fault::ClaimFault;
 pub use preset::Preset;
 pub use table::ClaimTable;

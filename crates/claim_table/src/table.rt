@@ -8,11 +8,9 @@ use crate::answer::{ClaimStep, Holder, OwnAnswer};
 use crate::fault::ClaimFault;
 use crate::preset::Preset;
 use n2k_id::Name;
+use n2k_id::address::ADDRESSES;
 use std::alloc::{AllocError, Global};
 use std::marker::Model;
-
-/// How many addresses a device can hold: 0 to 253.
-const PLACES: usize = 254;
 
 /// How long after its claim a device waits before it sends anything else, in microseconds.
 const CLAIM_WAIT: u64 = 250_000;
@@ -125,7 +123,7 @@ fn placed(alloc: Global, presets: &[Preset]) -> Result<Vec<Option<Holder>>, Allo
     ensures holders { IfOk result (λ holders. holders.items ≡ placed (replicate 254 None) presets.now) }
     ensures room { IfOk result (λ holders. length holders.items ≡ 254) }
 {
-    let mut holders = vec![in alloc; None; PLACES]?;
+    let mut holders = vec![in alloc; None; ADDRESSES]?;
     for preset in presets {
         holders[usize::from(preset.address)] = Some(Holder {
             name: preset.name,

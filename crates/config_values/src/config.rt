@@ -8,9 +8,10 @@ use crate::lists::{Apart, are_apart, are_valid, is_apart_from};
 use crate::presets::are_presets;
 use crate::row_config::RowConfig;
 use arrayvec::ArrayVec;
-use claim_table::Preset;
+use claim_table::{MOVE_PLACES, Preset};
 use n2k_id::Name;
 use network_routes::{Address, Routes};
+use readings::ROWS;
 use sentence_text::Sfi;
 
 /// How a gateway is configured.
@@ -33,7 +34,7 @@ pub struct Config {
     /// The devices whose addresses are known before they claim.
     pub presets: ArrayVec<Preset, 253>,
     /// Whom each row is taken from and how it is said, in the order of the rows.
-    pub rows: [RowConfig; 17],
+    pub rows: [RowConfig; ROWS],
     /// Whom the network is heard from, in order of preference.
     pub net_sources: ArrayVec<Sfi, 32>,
     /// Where the links listen and send.
@@ -52,9 +53,6 @@ pub struct Ends {
     /// Where what is sent to a transmission group goes.
     pub net: Routes,
 }
-
-/// The greatest address that the gateway may have.
-const LAST_ADDRESS: u8 = 251;
 
 /// The most messages of each kind that may be open.
 const MOST_FAST_SLOTS: u16 = 256;
@@ -86,7 +84,7 @@ impl Config {
 fn is_address(address: u8) -> bool
     ensures { IsTrue result ↔ (address < move_places) }
 {
-    address <= LAST_ADDRESS
+    address < MOVE_PLACES
 }
 
 fn is_limit(slots: u16, most: u16) -> bool

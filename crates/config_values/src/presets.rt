@@ -5,9 +5,7 @@ ghost use Rattle.config_values.specs.Presets.{ArePresets};
 use crate::lists::{Apart, Valid, are_apart, are_valid, is_apart_from};
 use claim_table::Preset;
 use n2k_id::Name;
-
-/// The greatest address that a device can hold.
-const LAST_ADDRESS: u8 = 253;
+use n2k_id::address::ADDRESSES;
 
 /// Whether these can be the presets beside a gateway of this NAME and address.
 pub(crate) fn are_presets(name: Name, address: u8, presets: &[Preset]) -> bool
@@ -23,7 +21,7 @@ impl Valid for Preset {
     ghost is_valid = { λ p. p.address < places };
 
     fn is_valid(&self) -> bool {
-        self.address <= LAST_ADDRESS
+        usize::from(self.address) < ADDRESSES
     }
 }
 

@@ -11,8 +11,8 @@ use crate::item::{LineItem, only_line, read_line};
 use report_rules::{LINE_FORM, TOO_MANY_LINES};
 use std::marker::Model;
 
-/// The longest datagram that is read.
-const LONGEST: usize = 1472;
+/// How many bytes a datagram may have, and so the first place that it may not have.
+pub const LONGEST_DATAGRAM: u16 = 1472;
 
 /// The most lines of a datagram.
 const MOST_LINES: u8 = 64;
@@ -111,7 +111,7 @@ fn start<'a>(bytes: &'a [u8]) -> Result<LineIter<'a>, DatagramFault>
     if place < HEADER.len() {
         return Err(DatagramFault::Header(place));
     }
-    if bytes.len() > LONGEST {
+    if bytes.len() > LONGEST_DATAGRAM as usize {
         return Err(DatagramFault::Long);
     }
     Ok(LineIter {

@@ -7,17 +7,14 @@ ghost use Rattle.readings.specs.declared.reading.Reading.TheVariants.{HeadingTru
 ghost use Rattle.pgn_profile.specs.Payload.{payload_of};
 ghost use Rattle.demo.specs.Input.{position_frame, to_all};
 
+use n2k_id::address::ALL;
+use n2k_id::pgn::ADDRESS_CLAIMED;
 use n2k_id::{Frame, Name, Parts, join, write_name};
 use pgn_profile::{Payload, write};
 use readings::Reading;
 
-/// The address of all.
-const ALL: u8 = 255;
-
 /// The NAME of the device at the address 0; those of the others follow.
 const FIRST_NAME: u64 = 0xC078_8C00_0000_0000;
-
-const ADDRESS_CLAIMED: u32 = 60928;
 
 const GNSS_POSITION: u32 = 129_029;
 

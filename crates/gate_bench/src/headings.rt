@@ -6,15 +6,12 @@ use n2k_id::Frame;
 use pgn_profile::{Profiled, read};
 use sentence_rows::{Lines, sentences};
 use sentence_text::Sfi;
-use tag_block::{Packet, TagParts};
+use tag_block::{MOST_COUNT, Packet, TagParts};
 
 /// PGN 127250, vessel heading, from the device at 23.
 const HEADING: u32 = 0x09F1_1217;
 
 const VESSEL_HEADING: u32 = 127_250;
-
-/// How many lines are counted before their numbers begin again.
-const MOST_COUNT: u32 = 999;
 
 /// A true heading, which is another one from call to call.
 fn payload(call: u32) -> [u8; 8] {
@@ -71,7 +68,7 @@ fn write(source: Sfi, packet: &mut Packet, call: u32, lines: &Lines) {
     let tag = TagParts {
         group: None,
         source,
-        count: (call % MOST_COUNT) as u16 + 1,
+        count: (call % u32::from(MOST_COUNT)) as u16 + 1,
     };
     for line in lines.as_slice() {
         let _fits = push_line(&tag, &line.bytes, packet);

@@ -8,6 +8,7 @@ use gate_core::{Gateway, Outbox};
 use gate_events::Event;
 use joined_rmc::{RmcConfig, RmcJoin};
 use n2k_id::Frame;
+use readings::ROWS;
 use sentence_text::{Group, Sfi};
 use std::alloc::Global;
 use std::test::Fail;
@@ -44,7 +45,7 @@ fn join() -> RmcJoin {
             talker: *b"GP",
         },
         Sfi::of(b"II0001").unwrap_or_default(),
-        &[5_000; 17],
+        &[5_000; ROWS],
     )
 }
 

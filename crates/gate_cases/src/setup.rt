@@ -5,6 +5,7 @@ use config_values::{Config, Ends, RowConfig};
 use gate_core::{Gateway, Outbox};
 use n2k_id::Name;
 use network_routes::{Address, Routes};
+use readings::{ROWS, Row};
 use sentence_text::Sfi;
 use std::alloc::Global;
 use std::test::Fail;
@@ -34,10 +35,10 @@ fn endpoint(text: &[u8]) -> Address {
 }
 
 /// The rows, of which headings and fixes have their usual talkers.
-fn rows() -> [RowConfig; 17] {
+fn rows() -> [RowConfig; ROWS] {
     let mut rows = std::array::from_fn(|_| RowConfig::default());
-    rows[0].talker = *b"HE";
-    rows[10].talker = *b"GP";
+    rows[Row::HeadingTrue as usize].talker = Row::HeadingTrue.talker();
+    rows[Row::Gnss as usize].talker = Row::Gnss.talker();
     rows
 }
 

@@ -6,15 +6,10 @@ ghost use Rattle.iso_transport.specs.Replies.{named_pgn};
 ghost use Rattle.gate_events.specs.Emit.{can};
 ghost use Rattle.history.specs.Emits.{sent, own_claim, request_for_claims, reply_from};
 
-use crate::pgn::{ADDRESS_CLAIMED, CONNECTION_MANAGEMENT, REQUEST};
 use iso_transport::{Reply, write_reply};
+use n2k_id::address::{ALL, NULL_ADDRESS};
+use n2k_id::pgn::{ADDRESS_CLAIMED, CONNECTION_MANAGEMENT, REQUEST};
 use n2k_id::{Frame, Name, Parts, join, write_name};
-
-/// The address of all.
-pub const ALL: u8 = 255;
-
-/// The address from which a device says that it can claim none (ISO 11783-5).
-const NULL_ADDRESS: u8 = 254;
 
 /// The priority of claims and requests, and that of the transport protocol.
 const MANAGEMENT_PRIORITY: u8 = 6;

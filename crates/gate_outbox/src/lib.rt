@@ -6,7 +6,6 @@ mod done;
 pub mod frames;
 mod kept;
 mod outbox;
-pub mod pgn;
 pub mod reports;
 
 pub use datagram::Datagram;

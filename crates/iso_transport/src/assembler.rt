@@ -13,6 +13,7 @@ use crate::answers::{IsoEnded, IsoFed, IsoOutcome, IsoRefusal};
 use crate::key::IsoKey;
 use crate::session::Session;
 use crate::verdict::{Verdict, is_to, management_verdict, packet_verdict};
+use n2k_id::pgn::{CONNECTION_MANAGEMENT, DATA_TRANSFER};
 use n2k_id::{Frame, Parts};
 use slot_views::{Begun, Grown, Slots};
 use std::alloc::{AllocError, Global};
@@ -23,12 +24,6 @@ const ROOM: usize = 1792;
 
 /// How many bytes of the message a packet carries at most.
 const PIECE: usize = 7;
-
-/// The PGN of connection management (TP.CM).
-const MANAGEMENT: u32 = 60416;
-
-/// The PGN of data (TP.DT).
-const DATA: u32 = 60160;
 
 /// Messages of several senders in the making (ISO 11783-3, transport protocol).
 #[derive(Drop)]
@@ -186,10 +181,10 @@ impl IsoAssembler {
         }
         let key = IsoKey::of(parts);
         match parts.pgn {
-            MANAGEMENT => {
+            CONNECTION_MANAGEMENT => {
                 management_verdict(key.addressed, crowded, self.message_of(key), bytes)
             }
-            DATA => self.packet_verdict(key, bytes),
+            DATA_TRANSFER => self.packet_verdict(key, bytes),
             _ => Verdict::Ignored,
         }
     }

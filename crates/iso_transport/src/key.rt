@@ -2,6 +2,7 @@
 ghost use Rattle.std.specs.Prelude.{◌≡◌};
 
 use n2k_id::Parts;
+use n2k_id::address::ALL;
 
 /// A sender, and whether it sends to this node alone or to all. One sender may have a session of each kind.
 ///
@@ -20,7 +21,7 @@ impl IsoKey {
         ensures { result ≡ key_of parts.now }
     {
         IsoKey {
-            addressed: parts.destination != 255,
+            addressed: parts.destination != ALL,
             source: parts.source,
         }
     }

@@ -9,6 +9,7 @@ use crate::answers::IsoRefusal;
 use crate::connection::{Cm, read_cm};
 use crate::reply::Reply;
 use crate::session::Session;
+use n2k_id::address::ALL;
 use slot_views::Kept;
 
 /// What a frame is.
@@ -66,7 +67,7 @@ impl Verdict {
 pub(crate) fn is_to(own: Option<u8>, destination: u8) -> bool
     ensures { result ≡ audience.is_to own destination }
 {
-    destination == 255 || own == Some(destination)
+    destination == ALL || own == Some(destination)
 }
 
 /// What a connection management frame is, where the session of its key is of the message `held`. `crowded` says that as many are

@@ -7,7 +7,7 @@ ghost use Rattle.sentence_rows.specs.Rmc.{IsMinimum};
 ghost use Rattle.history.specs.Settings.{Settings};
 ghost use Rattle.gate_model.specs.AddressStands.{name_held};
 ghost use Rattle.joined_rmc.specs.JoinStands.{IsJoinStep, JoinStands};
-ghost use Rattle.joined_rmc.specs.Kept.{IsDoneValid, IsKeptValid, Join, bytes_in, counted, datagram_in, is_due_kept, join_after, join_says, minimum_in, opened, picked, slots_after};
+ghost use Rattle.joined_rmc.specs.Kept.{IsKeptValid, Join, bytes_in, counted, datagram_in, is_due_kept, join_after, join_says, minimum_in, opened, picked, slots_after};
 ghost use Rattle.joined_rmc.specs.RmcOut.{datagram_by, rule_by};
 
 use crate::kept::Kept;
@@ -16,15 +16,12 @@ use crate::selected::selected;
 use crate::slot::Slot;
 use datagram450::{begin, push_line};
 use gate_core::{Gateway, Outbox};
-use readings::Row;
+use readings::{ROWS, Row};
 use sentence_rows::{Minimum, SentenceText, write_rmc};
 use sentence_text::Sfi;
 use settings::RmcConfig;
 use std::marker::Model;
-use tag_block::{Packet, TagParts};
-
-/// The greatest count of a line, behind which counts begin again with 1.
-const MOST_COUNT: u16 = 999;
+use tag_block::{MOST_COUNT, Packet, TagParts};
 
 /// What is kept of the messages that RMC is made from.
 #[derive(Drop)]
@@ -67,7 +64,7 @@ impl Model for RmcJoin {
 impl RmcJoin {
     /// With nothing kept, of a gateway that speaks by this system function identifier. A timeout is how long a message of the row
     /// counts, in milliseconds, by the row's number.
-    pub fn new(config: &RmcConfig, sfi: Sfi, timeouts: &[u32; 17]) -> RmcJoin
+    pub fn new(config: &RmcConfig, sfi: Sfi, timeouts: &[u32; ROWS]) -> RmcJoin
         requires { IsTrue (list_all is_capital config.now.talker) }
         ensures kept { result ≡ opened config.now.talker sfi timeouts.now }
         ensures stands { (c : Settings) (s : ℕ) → JoinStands (rule_by config.now sfi timeouts.now) c s [] result }
@@ -86,7 +83,6 @@ impl RmcJoin {
     /// Takes what a step of the gateway left that accepted its event. Says whether it gives RMC, whose datagram the packet then holds.
     pub fn after(&mut self, gateway: &Gateway, emits: &Outbox, packet: &mut Packet) -> bool
         requires empty { packet.old.items ≡ [] }
-        requires valid { IsDoneValid emits.now.done }
         ensures history { IsJoinStep gateway.now emits.now self.old self.new result packet.new.items }
     {
         let moment = gateway.moment();

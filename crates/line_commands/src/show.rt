@@ -16,16 +16,13 @@ use crate::line_text::{LineText, append, append_number, append_part};
 use arrayvec::ArrayVec;
 use capture_stream::Writer;
 use capture_text::LineRule;
-use datagram450::{DatagramFault, LineItem, LineIter, lines};
+use datagram450::{DatagramFault, LONGEST_DATAGRAM, LineItem, LineIter, lines};
 use gate_events::Event;
 use gate_outside::{Failed, Sink};
 use n2k_id::{Frame, parts};
 use report_rules::{DATAGRAM_HEADER, DATAGRAM_LONG};
 use sentence_text::Sfi;
 use tag_block::GroupPart;
-
-/// How many bytes a datagram may have, and so the first place that it may not have.
-const LONGEST: u16 = 1472;
 
 #[tactic(auto, using(command_words::proofs::Numbers::digits_of_a_long))]
 fn write_start(number: u64, text: &mut LineText)
@@ -252,7 +249,13 @@ fn send_datagram<K: Sink>(
         Err(DatagramFault::Header(place)) => {
             send_place(number, place as u16, DATAGRAM_HEADER, writer, out)
         }
-        Err(DatagramFault::Long) => send_place(number, LONGEST, DATAGRAM_LONG, writer, out),
+        Err(DatagramFault::Long) => send_place(
+            number,
+            LONGEST_DATAGRAM,
+            DATAGRAM_LONG,
+            writer,
+            out,
+        ),
     }
 }
 

@@ -1,6 +1,7 @@
 ghost use Rattle.std.specs.Prelude.{◌≡◌, ◌^◌, ◌<◌, ◌↔◌, IsTrue, IsSome, IfSome};
 ghost use Rattle.n2k_id.specs.Identifier.{CanJoin, IsLaidOut, has_destination, group_of, identifier_of, parts_of};
 
+use crate::address::ALL;
 use crate::identifier_parts::Parts;
 
 /// The first number that is no 29-bit identifier.
@@ -60,7 +61,7 @@ fn split(id: u32) -> Parts
         Parts {
             priority,
             pgn: group,
-            destination: 255,
+            destination: ALL,
             source,
         }
     }
@@ -105,6 +106,6 @@ fn can_join(p: &Parts) -> bool
     if has_destination(p.pgn) {
         fits && p.pgn & 0xFF == 0
     } else {
-        fits && p.destination == 255
+        fits && p.destination == ALL
     }
 }

@@ -2,11 +2,13 @@
 //! the NAMEs of devices (ISO 11783-5).
 #![tactic(auto)]
 
+pub mod address;
 mod frame;
 mod identifier;
 mod identifier_parts;
 mod name;
 mod pattern;
+pub mod pgn;
 
 pub use frame::Frame;
 pub use identifier::{join, parts};

@@ -24,7 +24,7 @@ use crate::network::groups::{end_groups, take_part};
 use crate::network::heard::Heard;
 use crate::network::rows::Readings;
 use crate::network::sentences::take_sentence;
-use datagram450::{DatagramFault, LineItem, LineIter, lines};
+use datagram450::{DatagramFault, LONGEST_DATAGRAM, LineItem, LineIter, lines};
 use gate_outbox::Outbox;
 use gate_outbox::reports::at_place;
 pub use heard::Came;
@@ -35,9 +35,6 @@ use sentence_text::Sentence;
 use std::alloc::{AllocError, Global};
 use std::marker::Model;
 use tag_block::{GroupAssembler, GroupKey, GroupPart, Tag};
-
-/// How many bytes a datagram has at most.
-const LONGEST: u16 = 1472;
 
 /// What the gateway keeps of the network.
 #[derive(Drop)]
@@ -106,7 +103,7 @@ impl Network {
         match lines(bytes) {
             Ok(items) => self.items(hearing, items, out),
             Err(DatagramFault::Header(place)) => out.tell(at_place(DATAGRAM_HEADER, place as u16)),
-            Err(DatagramFault::Long) => out.tell(at_place(DATAGRAM_LONG, LONGEST)),
+            Err(DatagramFault::Long) => out.tell(at_place(DATAGRAM_LONG, LONGEST_DATAGRAM)),
         }
     }
 

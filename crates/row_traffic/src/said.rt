@@ -23,6 +23,7 @@ use crate::said::writing::{sentences_in, speaker, write_datagram};
 use config_values::Config;
 use gate_outbox::Outbox;
 use n2k_id::Name;
+use n2k_id::address::ADDRESSES;
 use pgn_profile::Profiled;
 use readings::{ROWS, Reading, Row, row};
 use sentence_rows::Lines;
@@ -30,18 +31,10 @@ use sentence_text::Group;
 use source_choice::{Choice, Rank};
 use std::alloc::{AllocError, Global};
 use std::marker::Model;
+use tag_block::{MOST_CODE, MOST_COUNT};
 
 mod ranks;
 mod writing;
-
-/// How many addresses a device can hold: 0 to 253.
-const PLACES: u16 = 254;
-
-/// The greatest count of a line, behind which counts begin again with 1.
-const MOST_COUNT: u16 = 999;
-
-/// The greatest code of a group of lines, behind which codes begin again with 1.
-const MOST_CODE: u8 = 99;
 
 /// Who sends a message, and when it is complete.
 #[derive(Clone, Copy)]
@@ -81,7 +74,7 @@ impl Said {
     pub fn new(alloc: Global, timeouts: &[u32; ROWS]) -> Result<Said, AllocError>
         ensures { IfOk result (λ s. s ≡ record { choices = opened 254 timeouts.now; lines = map (λ number. 0) row_numbers; groups = 0 }) }
     {
-        let choice = Choice::new(alloc, PLACES, timeouts)?;
+        let choice = Choice::new(alloc, ADDRESSES as u16, timeouts)?;
         Ok(Said {
             choice,
             lines: [0; ROWS],

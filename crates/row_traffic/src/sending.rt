@@ -10,8 +10,9 @@ ghost use Rattle.row_traffic.specs.Sending.{reading_frames, sent_with};
 
 use fast_packet::{FrameList, split};
 use gate_outbox::Outbox;
-use gate_outbox::frames::{ALL, frame_of};
+use gate_outbox::frames::frame_of;
 use n2k_id::Parts;
+use n2k_id::address::ALL;
 use pgn_profile::{Kind, Payload, kind, priority, write};
 use readings::{Reading, row};
 

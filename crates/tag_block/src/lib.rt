@@ -33,4 +33,4 @@ pub use group_part::GroupPart;
 pub use reading::read;
 pub use slot_views::View;
 pub use tag::Tag;
-pub use writing::{Packet, TagParts, write};
+pub use writing::{MOST_CODE, MOST_COUNT, Packet, TagParts, write};

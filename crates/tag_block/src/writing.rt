@@ -11,6 +11,12 @@ use crate::group_part::GroupPart;
 use arrayvec::ArrayVec;
 use sentence_text::{Sfi, sum_digits, xor};
 
+/// The greatest count of a line, behind which counts begin again with 1.
+pub const MOST_COUNT: u16 = 999;
+
+/// The greatest code by which a group of lines is written, behind which codes begin again with 1.
+pub const MOST_CODE: u8 = 99;
+
 /// The bytes of a datagram that is sent.
 pub type Packet = ArrayVec<u8, 512>;
 

@@ -18,10 +18,11 @@ use crate::state::State;
 use bus_messages::endings::{drop_addressed, drop_source};
 use bus_messages::meanings::{Meaning, tell_plain};
 use claim_table::{ClaimStep, OwnAnswer};
-use gate_outbox::frames::{ALL, own_claim};
-use gate_outbox::pgn::{ADDRESS_CLAIMED, COMMANDED_ADDRESS};
+use gate_outbox::frames::own_claim;
 use gate_outbox::reports::of_source;
 use gate_outbox::{Command, Outbox};
+use n2k_id::address::ALL;
+use n2k_id::pgn::{ADDRESS_CLAIMED, COMMANDED_ADDRESS};
 use n2k_id::{Frame, Name, Parts, read_name};
 use report_rules::COMMAND_NOT_OBEYED;
 

@@ -25,8 +25,8 @@ use bus_messages::{fast, sessions};
 use fast_packet::FastKey;
 use gate_outbox::Outbox;
 use gate_outbox::frames::own_claim;
-use gate_outbox::pgn::ADDRESS_CLAIMED;
 use iso_transport::IsoKey;
+use n2k_id::pgn::ADDRESS_CLAIMED;
 use n2k_id::{Frame, Name, Parts, parts};
 
 impl State {
@@ -93,7 +93,7 @@ impl State {
             (plain_frame by_keys self.old moment (bus_frame frame.now) (meant meaning) []) }
     {
         let message = tell_plain(self.name(), meaning, parts, frame.held(), out);
-        self.complete(parts.source, &message, moment, out);
+        self.complete(parts.source, message, moment, out);
     }
 
     /// Takes a request (ISO 11783-5).
@@ -111,7 +111,7 @@ impl State {
         let name = self.name();
         let message = tell_plain(name, Meaning::Request, parts, frame.held(), out);
         answer_request(name, self.addresses.claims().own(), frame.held(), out);
-        self.complete(parts.source, &message, moment, out);
+        self.complete(parts.source, message, moment, out);
     }
 
     /// Takes a frame of the transport protocol (ISO 11783-3).
@@ -125,7 +125,7 @@ impl State {
         ensures output { out.new ≡ and_step self.old.settings.name out.old (session_frame by_keys self.old moment (bus_frame frame.now)) }
     {
         let message = self.feed_session(parts, frame, moment, out);
-        self.complete(parts.source, &message, moment, out);
+        self.complete(parts.source, message, moment, out);
     }
 
     /// Takes a frame of the transport protocol, and reads the message that it completes.
@@ -183,7 +183,7 @@ impl State {
         ensures output { out.new ≡ and_step self.old.settings.name out.old (fast_frame by_keys self.old moment (bus_frame frame.now)) }
     {
         let message = self.feed_fast(parts, frame, moment, out);
-        self.complete(parts.source, &message, moment, out);
+        self.complete(parts.source, message, moment, out);
     }
 
     /// Takes a frame of a fast packet, and reads the message that it completes.

@@ -1,10 +1,10 @@
 //! What isn't available, and what is just beyond a range.
 
 use pgn_profile::{Payload, Profiled, read, write};
-use readings::Reading;
+use readings::{ROWS, Reading};
 
 /// Payloads whose values are beyond their ranges, and their one reading.
-const BEYOND: [(u32, [&[u8]; 3], Reading); 17] = [
+const BEYOND: [(u32, [&[u8]; 3], Reading); ROWS] = [
     (
         127250,
         [

@@ -13,13 +13,12 @@ ghost use Rattle.config_values.specs.Settings.{settings_of};
 ghost use Rattle.row_traffic.specs.Saying.{texts};
 
 use crate::rows::talker_of;
-use crate::said::MOST_COUNT;
 use config_values::Config;
 use datagram450::{begin, push_line};
 use readings::{Reading, row};
 use sentence_rows::{Lines, SentenceText, sentences};
 use sentence_text::Sfi;
-use tag_block::{GroupPart, Packet, TagParts};
+use tag_block::{GroupPart, MOST_COUNT, Packet, TagParts};
 
 /// The system function identifier by which the gateway speaks.
 #[tactic(auto, using(crate::proofs::Saying::says_sfi))]

@@ -1,10 +1,13 @@
-//! The parameter groups by which the gateway itself speaks on the bus, by their numbers.
+//! The parameter groups by which devices manage the network, by their numbers.
 
 /// A device claims an address, or says that it can claim none (ISO 11783-5).
 pub const ADDRESS_CLAIMED: u32 = 60_928;
 
 /// A device asks for a parameter group (ISO 11783-3).
 pub const REQUEST: u32 = 59_904;
+
+/// A device answers that it doesn't have what was asked for (ISO 11783-3).
+pub const ACKNOWLEDGEMENT: u32 = 59_392;
 
 /// The transport protocol: management of a connection (ISO 11783-3).
 pub const CONNECTION_MANAGEMENT: u32 = 60_416;
