@@ -4,6 +4,7 @@ ghost use Rattle.std.specs.List.{find};
 ghost use Rattle.std.specs.Borrow.{sem};
 ghost use Rattle.n2k_id.specs.Frame.{IsFrame, held_bytes};
 ghost use Rattle.slot_views.specs.Slots.{SlotMap, IsMap, entry_at, without, begun_after, grown_after, has_expired};
+ghost use Rattle.slot_views.specs.Places.{IsPlace};
 ghost use Rattle.slot_views.specs.Answers.{kept_of};
 ghost use Rattle.fast_packet.specs.FastFrames.{gap, counter_of};
 ghost use Rattle.fast_packet.specs.Assembly.{verdict, opening, part_to, extended, fed_by, fed_after, is_from};
@@ -14,7 +15,7 @@ use crate::frames::{is_no_later, is_opener, mark_of, need_of, part};
 use crate::key::FastKey;
 use crate::verdict::{Verdict, later_verdict};
 use n2k_id::Frame;
-use slot_views::{Begun, Grown, Kept, Slots};
+use slot_views::{Begun, Grown, Kept, Place, Slots};
 use std::alloc::{AllocError, Global};
 use std::marker::Model;
 
@@ -67,12 +68,12 @@ impl FastAssembler {
             (fed_after ⟦<FastKey as Ord>⟧.cmp self.old (record { source = source; pgn = pgn }) (held_bytes frame.now) moment)) }
         ensures answer { FeedGives ⟦<FastKey as Ord>⟧.cmp self.old (record { source = source; pgn = pgn }) (held_bytes frame.now) moment result }
     {
-        let key = FastKey { source, pgn };
+        let place = self.slots.find(FastKey { source, pgn });
         let bytes = frame.held();
-        let kept = self.slots.kept(key);
-        let verdict = self.verdict(key, kept, bytes);
+        let kept = self.slots.kept_at(place);
+        let verdict = self.verdict(place, kept, bytes);
         let restarted = verdict.restarts(kept.is_some());
-        let outcome = self.take(key, bytes, moment, verdict);
+        let outcome = self.take(place, bytes, moment, verdict);
         FastFed { restarted, outcome }
     }
 
@@ -80,42 +81,44 @@ impl FastAssembler {
     #[tactic(auto, using(crate::proofs::Keys::released_assemblies))]
     fn take<'a>(
         &'a mut self,
-        key: FastKey,
+        place: Place<FastKey>,
         bytes: &[u8],
         moment: u64,
         verdict: Verdict,
     ) -> FastOutcome<'a>
-        requires { VerdictFits (entry_at ⟦<FastKey as Ord>⟧.cmp self.old key) bytes.now verdict }
-        ensures* after { sem 𝓛 (ends_as self.entry (fed_by ⟦<FastKey as Ord>⟧.cmp self.old key bytes.now moment verdict)) }
-        ensures answer { OutcomeBy ⟦<FastKey as Ord>⟧.cmp self.old key bytes.now moment verdict result }
+        requires place { IsPlace ⟦<FastKey as Ord>⟧.cmp self.old place }
+        requires fits { VerdictFits (entry_at ⟦<FastKey as Ord>⟧.cmp self.old place.key) bytes.now verdict }
+        ensures* after { sem 𝓛 (ends_as self.entry (fed_by ⟦<FastKey as Ord>⟧.cmp self.old place.key bytes.now moment verdict)) }
+        ensures answer { OutcomeBy ⟦<FastKey as Ord>⟧.cmp self.old place.key bytes.now moment verdict result }
     {
         match verdict {
             Verdict::Short => {
-                let _ = self.slots.give_up(key);
+                let _ = self.slots.give_up_at(place);
                 FastOutcome::Refused(FastRefusal::Length)
             }
             Verdict::OutOfOrder => {
-                let _ = self.slots.give_up(key);
+                let _ = self.slots.give_up_at(place);
                 FastOutcome::Refused(FastRefusal::Order)
             }
             Verdict::Orphan => FastOutcome::Refused(FastRefusal::Orphan),
             Verdict::Again => FastOutcome::Repeat,
-            Verdict::Opens => self.begin(key, bytes, moment),
-            Verdict::Next(end) => self.grow(key, bytes, end, moment),
+            Verdict::Opens => self.begin(place, bytes, moment),
+            Verdict::Next(end) => self.grow(place, bytes, end, moment),
         }
     }
 
     // Opens the assembly of a frame 0, in the place of the one that is open.
-    fn begin<'a>(&'a mut self, key: FastKey, bytes: &[u8], moment: u64) -> FastOutcome<'a>
-        requires { IsOpener bytes.now }
-        ensures* after { sem 𝓛 (ends_as self.entry (begun_after ⟦<FastKey as Ord>⟧.cmp self.old key (opening bytes.now moment))) }
-        ensures answer { OpensGives ⟦<FastKey as Ord>⟧.cmp self.old key (opening bytes.now moment) result }
+    fn begin<'a>(&'a mut self, place: Place<FastKey>, bytes: &[u8], moment: u64) -> FastOutcome<'a>
+        requires place { IsPlace ⟦<FastKey as Ord>⟧.cmp self.old place }
+        requires opener { IsOpener bytes.now }
+        ensures* after { sem 𝓛 (ends_as self.entry (begun_after ⟦<FastKey as Ord>⟧.cmp self.old place.key (opening bytes.now moment))) }
+        ensures answer { OpensGives ⟦<FastKey as Ord>⟧.cmp self.old place.key (opening bytes.now moment) result }
     {
         let length = bytes[1];
         let piece = &bytes[2..2 + usize::from(length.min(6))];
         let need = need_of(length);
         let mark = mark_of(bytes[0], length);
-        match self.slots.begin(key, piece, need, moment, GAP, mark) {
+        match self.slots.begin_at(place, piece, need, moment, GAP, mark) {
             Begun::Full => FastOutcome::Refused(FastRefusal::Full),
             Begun::Held { .. } => FastOutcome::Held,
             Begun::Complete { view, .. } => FastOutcome::Complete(view),
@@ -125,18 +128,22 @@ impl FastAssembler {
     // Adds the part of the message that the next frame holds up to this place.
     fn grow<'a>(
         &'a mut self,
-        key: FastKey,
+        place: Place<FastKey>,
         bytes: &[u8],
         end: usize,
         moment: u64,
     ) -> FastOutcome<'a>
-        requires { IsNext (entry_at ⟦<FastKey as Ord>⟧.cmp self.old key) bytes.now end }
+        requires place { IsPlace ⟦<FastKey as Ord>⟧.cmp self.old place }
+        requires next { IsNext (entry_at ⟦<FastKey as Ord>⟧.cmp self.old place.key) bytes.now end }
         ensures* after { sem 𝓛 (ends_as self.entry
-            (grown_after ⟦<FastKey as Ord>⟧.cmp self.old key (counter_of bytes.now) (part_to end bytes.now) moment gap)) }
-        ensures answer { NextGives ⟦<FastKey as Ord>⟧.cmp self.old key (λ e. extended end bytes.now moment e) result }
+            (grown_after ⟦<FastKey as Ord>⟧.cmp self.old place.key (counter_of bytes.now) (part_to end bytes.now) moment gap)) }
+        ensures answer { NextGives ⟦<FastKey as Ord>⟧.cmp self.old place.key (λ e. extended end bytes.now moment e) result }
     {
         let counter = u16::from(bytes[0] % 32);
-        match self.slots.grow(key, counter, part(bytes, end), moment, GAP) {
+        match self
+            .slots
+            .grow_at(place, counter, part(bytes, end), moment, GAP)
+        {
             Grown::Held => FastOutcome::Held,
             Grown::Complete(view) => FastOutcome::Complete(view),
             // can't be: the assembly is open.
@@ -148,10 +155,11 @@ impl FastAssembler {
 
     // What the frame is to the assembly of its key, of which this is kept.
     #[tactic(auto, using(crate::proofs::Verdicts::kept_verdict, crate::proofs::Verdicts::fits_from))]
-    fn verdict(&self, key: FastKey, kept: Option<Kept>, bytes: &[u8]) -> Verdict
-        requires { kept ≡ option_map kept_of (entry_at ⟦<FastKey as Ord>⟧.cmp self.now key) }
-        ensures value { result ≡ verdict (entry_at ⟦<FastKey as Ord>⟧.cmp self.now key) bytes.now }
-        ensures fits { VerdictFits (entry_at ⟦<FastKey as Ord>⟧.cmp self.now key) bytes.now result }
+    fn verdict(&self, place: Place<FastKey>, kept: Option<Kept>, bytes: &[u8]) -> Verdict
+        requires place { IsPlace ⟦<FastKey as Ord>⟧.cmp self.now place }
+        requires kept { kept ≡ option_map kept_of (entry_at ⟦<FastKey as Ord>⟧.cmp self.now place.key) }
+        ensures value { result ≡ verdict (entry_at ⟦<FastKey as Ord>⟧.cmp self.now place.key) bytes.now }
+        ensures fits { VerdictFits (entry_at ⟦<FastKey as Ord>⟧.cmp self.now place.key) bytes.now result }
     {
         if is_opener(bytes) {
             return Verdict::Opens;
@@ -161,7 +169,11 @@ impl FastAssembler {
         }
         match kept {
             None => Verdict::Orphan,
-            Some(kept) => later_verdict(kept, self.slots.held_bytes(key).unwrap_or(&[]), bytes),
+            Some(kept) => later_verdict(
+                kept,
+                self.slots.held_bytes_at(place).unwrap_or(&[]),
+                bytes,
+            ),
         }
     }
 

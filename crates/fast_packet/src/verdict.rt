@@ -6,7 +6,7 @@ ghost use Rattle.fast_packet.specs.Assembly as assembly;
 use slot_views::Kept;
 
 /// What a frame is.
-#[derive(Clone, Copy, Debug, PartialEq, Eq)]
+#[derive(Clone, Copy)]
 pub enum Verdict {
     /// It has no byte, no length that a message may have, or less than it owes.
     Short,

@@ -10,7 +10,8 @@ use Rattle.std.specs.BTreeMap.{is_at, insert_entry}
 use Rattle.slot_views.specs.declared.slot.Slot.{Slot}
 use Rattle.slot_views.specs.Slots.{Entry}
 use Rattle.slot_views.specs.Slots.{IsOrdered}
-use Rattle.slot_views.specs.Shelf.{entry_of, entries_of, Below, Above, IsAt, Extends}
+use Rattle.slot_views.specs.Places.{Below, Above}
+use Rattle.slot_views.specs.Shelf.{entry_of, entries_of, IsAt, Extends}
 
 module _ {K : Type 0} (cmp : K → K → Ordering) where
   pub all_removed : (P : K × Entry → Type 0) (xs : List (Slot K)) (i : ℕ) → AllByRecursion P (entries_of xs) → AllByRecursion P (entries_of (remove xs i))
@@ -45,49 +46,45 @@ module _ {K : Type 0} (cmp : K → K → Ordering) where
     all_inserted P [] (suc i) s all holds = (holds, tt)
     all_inserted P (x ∷ xs) (suc i) s all holds = (all.0, all_inserted P xs i s all.1 holds)
 
-    above_all : (k : K) (xs : List (Slot K)) → AllByRecursion (λ s. cmp k s.key ≡ Less) xs → AllByRecursion (λ e. cmp k e.0 ≡ Less) (entries_of xs)
-    above_all k [] all = tt
-    above_all k (x ∷ xs) all = (all.0, above_all k xs all.1)
-
     -- a slot in the gap for its key keeps the order
-    pub ordered_insert : (xs : List (Slot K)) (i : ℕ) (s : Slot K) → Below cmp s.key xs i → Above cmp s.key xs i → IsOrdered cmp (entries_of xs) → IsOrdered cmp (entries_of (insert xs i s))
-    ordered_insert xs zero s below above ordered = (above_all s.key xs above, ordered)
+    pub ordered_insert : (xs : List (Slot K)) (i : ℕ) (s : Slot K) → Below cmp s.key (entries_of xs) i → Above cmp s.key (entries_of xs) i → IsOrdered cmp (entries_of xs) → IsOrdered cmp (entries_of (insert xs i s))
+    ordered_insert xs zero s below above ordered = (above, ordered)
     ordered_insert [] (suc i) s below above ordered = (tt, tt)
     ordered_insert (x ∷ xs) (suc i) s below above ordered =
         (all_inserted (λ e. cmp x.key e.0 ≡ Less) xs i s ordered.0 (turn s.key x.key below.0), ordered_insert xs i s below.1 above ordered.1)
 
   module _ (k : K) where
     -- what is found at the key's place, and at a gap
-    pub lookup_at : (xs : List (Slot K)) (i : ℕ) (d : Slot K) → i < length xs → Below cmp k xs i → cmp k (get_or xs i d).key ≡ Equal → lookup (is_at (cmp k)) (entries_of xs) ≡ Some (entry_of (get_or xs i d)).1
+    pub lookup_at : (xs : List (Slot K)) (i : ℕ) (d : Slot K) → i < length xs → Below cmp k (entries_of xs) i → cmp k (get_or xs i d).key ≡ Equal → lookup (is_at (cmp k)) (entries_of xs) ≡ Some (entry_of (get_or xs i d)).1
     lookup_at [] i d in_range below equal = absurd (omega arith)
     lookup_at (x ∷ xs) zero d in_range below equal = rw equal refl
     lookup_at (x ∷ xs) (suc i) d in_range below equal = rw below.0 (lookup_at xs i d (omega arith) below.1 equal)
 
-    pub lookup_gap : (xs : List (Slot K)) (i : ℕ) → Below cmp k xs i → Above cmp k xs i → lookup (is_at (cmp k)) (entries_of xs) ≡ None
+    pub lookup_gap : (xs : List (Slot K)) (i : ℕ) → Below cmp k (entries_of xs) i → Above cmp k (entries_of xs) i → lookup (is_at (cmp k)) (entries_of xs) ≡ None
     lookup_gap [] zero below above = refl
     lookup_gap [] (suc i) below above = refl
     lookup_gap (x ∷ xs) zero below above = rw above.0 (lookup_gap xs zero tt above.1)
     lookup_gap (x ∷ xs) (suc i) below above = rw below.0 (lookup_gap xs i below.1 above)
 
     -- what the edits at the key make of the list
-    pub remove_at : (xs : List (Slot K)) (i : ℕ) (d : Slot K) → i < length xs → Below cmp k xs i → cmp k (get_or xs i d).key ≡ Equal → remove_entry (is_at (cmp k)) (entries_of xs) ≡ entries_of (remove xs i)
+    pub remove_at : (xs : List (Slot K)) (i : ℕ) (d : Slot K) → i < length xs → Below cmp k (entries_of xs) i → cmp k (get_or xs i d).key ≡ Equal → remove_entry (is_at (cmp k)) (entries_of xs) ≡ entries_of (remove xs i)
     remove_at [] i d in_range below equal = absurd (omega arith)
     remove_at (x ∷ xs) zero d in_range below equal = rw equal refl
     remove_at (x ∷ xs) (suc i) d in_range below equal = rw below.0 (ap {B = List (K × Entry)} (λ es. entry_of x ∷ es) (remove_at xs i d (omega arith) below.1 equal))
 
-    pub remove_gap : (xs : List (Slot K)) (i : ℕ) → Below cmp k xs i → Above cmp k xs i → remove_entry (is_at (cmp k)) (entries_of xs) ≡ entries_of xs
+    pub remove_gap : (xs : List (Slot K)) (i : ℕ) → Below cmp k (entries_of xs) i → Above cmp k (entries_of xs) i → remove_entry (is_at (cmp k)) (entries_of xs) ≡ entries_of xs
     remove_gap [] zero below above = refl
     remove_gap [] (suc i) below above = refl
     remove_gap (x ∷ xs) zero below above = rw above.0 (ap {B = List (K × Entry)} (λ es. entry_of x ∷ es) (remove_gap xs zero tt above.1))
     remove_gap (x ∷ xs) (suc i) below above = rw below.0 (ap {B = List (K × Entry)} (λ es. entry_of x ∷ es) (remove_gap xs i below.1 above))
 
-    pub insert_gap : (xs : List (Slot K)) (i : ℕ) (s : Slot K) (e : Entry) → entry_of s ≡ (k, e) → Below cmp k xs i → Above cmp k xs i → insert_entry cmp (entries_of xs) k e ≡ entries_of (insert xs i s)
+    pub insert_gap : (xs : List (Slot K)) (i : ℕ) (s : Slot K) (e : Entry) → entry_of s ≡ (k, e) → Below cmp k (entries_of xs) i → Above cmp k (entries_of xs) i → insert_entry cmp (entries_of xs) k e ≡ entries_of (insert xs i s)
     insert_gap [] zero s e is below above = rw is refl
     insert_gap [] (suc i) s e is below above = rw is refl
     insert_gap (x ∷ xs) zero s e is below above = rw (above.0, is) refl
     insert_gap (x ∷ xs) (suc i) s e is below above = rw below.0 (ap {B = List (K × Entry)} (λ es. entry_of x ∷ es) (insert_gap xs i s e is below.1 above))
 
-    pub set_at : (xs : List (Slot K)) (i : ℕ) (s d : Slot K) (e : Entry) → entry_of s ≡ ((get_or xs i d).key, e) → i < length xs → Below cmp k xs i → cmp k (get_or xs i d).key ≡ Equal → set_value (is_at (cmp k)) (entries_of xs) e ≡ entries_of (set xs i s)
+    pub set_at : (xs : List (Slot K)) (i : ℕ) (s d : Slot K) (e : Entry) → entry_of s ≡ ((get_or xs i d).key, e) → i < length xs → Below cmp k (entries_of xs) i → cmp k (get_or xs i d).key ≡ Equal → set_value (is_at (cmp k)) (entries_of xs) e ≡ entries_of (set xs i s)
     set_at [] i s d e is in_range below equal = absurd (omega arith)
     set_at (x ∷ xs) zero s d e is in_range below equal = rw (equal, is) refl
     set_at (x ∷ xs) (suc i) s d e is in_range below equal = rw below.0 (ap {B = List (K × Entry)} (λ es. entry_of x ∷ es) (set_at xs i s d e is (omega arith) below.1 equal))

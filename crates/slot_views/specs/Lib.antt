@@ -1,4 +1,5 @@
 pub mod Slots
+pub mod Places
 pub mod Shelf
 pub mod Answers
 pub mod Rows

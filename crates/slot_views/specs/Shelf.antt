@@ -4,7 +4,7 @@ use Rattle.std.specs.Global.{Vec}
 use Rattle.std.specs.Vec.{vec_len, vec_capacity}
 use Rattle.std.specs.List.{AllByRecursion}
 use Rattle.std.specs.declared.cmp.Ordering.{Ordering}
-use Rattle.std.specs.declared.cmp.Ordering.TheVariants.{Less, Equal, Greater}
+use Rattle.std.specs.declared.cmp.Ordering.TheVariants.{Equal}
 use Rattle.std.specs.Ordering.{is_gt}
 use Rattle.slot_views.specs.declared.slot.Slot.{Slot}
 use Rattle.slot_views.specs.declared.shelf.Shelf.{Shelf}
@@ -13,6 +13,7 @@ use Rattle.slot_views.specs.declared.opening.Opening.TheVariants.{Full as Openin
 use Rattle.slot_views.specs.declared.growth.Growth.{Growth}
 use Rattle.slot_views.specs.declared.growth.Growth.TheVariants.{Absent as GrowthAbsent, NotNext as GrowthNotNext, Held as GrowthHeld, Complete as GrowthComplete}
 use Rattle.slot_views.specs.Slots.{Entry, SlotMap, IsOrdered, entry_at, is_held, is_full, is_complete}
+use Rattle.slot_views.specs.Places.{Below, Above}
 
 module _ {K : Type 0} where
   -- what a slot shows
@@ -65,29 +66,21 @@ module _ {K : Type 0} where
       pub last : (d : Vec ℕ) → (slice_index_or s.spare.items (vec_len s.spare - 1) d).items ≡ bytes
 
   module _ (cmp : K → K → Ordering) (k : K) (xs : List (Slot K)) where
-    -- the slots before place i have lesser keys
-    abbrev pub Below : ℕ → Type 0
-    Below i = AllByRecursion (λ s. cmp k s.key ≡ Greater) (take i xs)
-
-    -- those from place i on have greater ones
-    abbrev pub Above : ℕ → Type 0
-    Above i = AllByRecursion (λ s. cmp k s.key ≡ Less) (drop i xs)
-
-    -- those from place i on have keys that aren't lesser
+    -- the entries from place i on have keys that aren't lesser
     abbrev pub NotBelow : ℕ → Type 0
-    NotBelow i = AllByRecursion (λ s. is_gt (cmp k s.key) ≡ false) (drop i xs)
+    NotBelow i = AllByRecursion (λ e. is_gt (cmp k e.0) ≡ false) (drop i (entries_of xs))
 
     -- the slot at place i has the key
     pub record IsAt (i : ℕ) : Type 0 where
       pub in_range : i < length xs
-      pub below : Below i
+      pub below : Below cmp k (entries_of xs) i
       pub here : (d : Slot K) → cmp k (slice_index_or xs i d).key ≡ Equal
 
     -- the key would go at place i
     pub record IsGap (i : ℕ) : Type 0 where
       pub in_range : i ≤ length xs
-      pub below : Below i
-      pub above : Above i
+      pub below : Below cmp k (entries_of xs) i
+      pub above : Above cmp k (entries_of xs) i
 
   -- the slot at place i is the first that shows an entry which passes the test
   pub record IsFirst (p : K × Entry → Bool) (xs : List (Slot K)) (i : ℕ) : Type 0 where

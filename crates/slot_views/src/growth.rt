@@ -1,8 +1,10 @@
 //! How an entry grows.
 ghost use Rattle.std.specs.Prelude.{◌≡◌, min, ◌+◌, ◌<◌, ◌≤◌, length, slice_index_or};
 ghost use Rattle.slot_views.specs.Slots.{grown, grown_after};
+ghost use Rattle.slot_views.specs.Places.{IsPlace};
 ghost use Rattle.slot_views.specs.Shelf.{entry_of, seen, IsSound, Extends, GrowsAs};
 
+use crate::place::Place;
 use crate::shelf::Shelf;
 use crate::slot::{join, still_quiet};
 
@@ -16,15 +18,23 @@ pub enum Growth {
 }
 
 impl<K: Copy + Ord, const CAP: usize, const PIECE: usize> Shelf<K, CAP, PIECE> {
-    // Adds the piece with that number to the key's entry.
-    pub fn grow(&mut self, key: K, next: u16, piece: &[u8], moment: u64, gap: u32) -> Growth
+    // Adds the piece with that number to the entry of the key that stands there.
+    pub fn grow(
+        &mut self,
+        place: Place<K>,
+        next: u16,
+        piece: &[u8],
+        moment: u64,
+        gap: u32,
+    ) -> Growth
         requires sound { IsSound K.cmp self.old }
+        requires place { IsPlace K.cmp (seen self.old) place }
         requires piece_fits { length piece.now ≤ PIECE }
         ensures sound { IsSound K.cmp self.new }
-        ensures after { seen self.new ≡ grown_after K.cmp (seen self.old) key next piece.now moment gap }
-        ensures answer { GrowsAs K.cmp (seen self.old) key self.new next (λ e. grown e piece.now moment gap) result }
+        ensures after { seen self.new ≡ grown_after K.cmp (seen self.old) place.key next piece.now moment gap }
+        ensures answer { GrowsAs K.cmp (seen self.old) place.key self.new next (λ e. grown e piece.now moment gap) result }
     {
-        let Ok(at) = self.place(key) else {
+        let Ok(at) = self.slot_place(place) else {
             return Growth::Absent;
         };
         let slot = &self.slots[at];
@@ -56,5 +66,6 @@ impl<K: Copy + Ord, const CAP: usize, const PIECE: usize> Shelf<K, CAP, PIECE> {
         let slot = &mut self.slots[at];
         join(slot, piece, moment, gap);
         self.quiet_until = still_quiet(self.quiet_until, moment, gap);
+        self.latest = at;
     }
 }

@@ -9,6 +9,7 @@ mod buffers;
 mod growth;
 mod laws;
 mod opening;
+mod place;
 mod runs;
 mod shelf;
 mod slot;
@@ -16,5 +17,6 @@ mod slots;
 
 pub use answers::{Begun, Ended, Grown, Kept, View};
 pub use laws::{entries_end_one_by_one, first_entry_ends, keys_stand_apart};
+pub use place::Place;
 pub use runs::{one_step, one_suffix};
 pub use slots::Slots;

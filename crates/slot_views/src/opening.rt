@@ -1,9 +1,11 @@
 //! How an entry opens.
 ghost use Rattle.std.specs.Prelude.{◌≡◌, ◌+◌, ◌*◌, min, ◌<◌, ◌≤◌, length, vec_len, IsTrue};
 ghost use Rattle.slot_views.specs.Slots.{opened, released, added, is_held, begun_after};
+ghost use Rattle.slot_views.specs.Places.{IsPlace};
 ghost use Rattle.slot_views.specs.Shelf.{seen, IsSound, HasFinished, IsGap, OpensAs};
 
 use crate::buffers::{put, refill};
+use crate::place::Place;
 use crate::shelf::Shelf;
 use crate::slot::{Slot, still_quiet};
 
@@ -32,17 +34,18 @@ pub struct Vacant {
 }
 
 impl<K: Copy + Ord, const CAP: usize, const PIECE: usize> Shelf<K, CAP, PIECE> {
-    // Opens an entry at the key, in the place of the one that is held there.
-    pub fn begin(&mut self, key: K, piece: &[u8], start: Start) -> Opening
+    // Opens an entry of the key that stands there, in the place of the one that is held.
+    pub fn begin(&mut self, place: Place<K>, piece: &[u8], start: Start) -> Opening
         requires sound { IsSound K.cmp self.old }
+        requires place { IsPlace K.cmp (seen self.old) place }
         requires need { 1 ≤ start.need }
         requires piece_fits { length piece.now ≤ PIECE }
         requires message_fits { start.need * PIECE ≤ CAP }
         ensures sound { IsSound K.cmp self.new }
-        ensures after { seen self.new ≡ begun_after K.cmp (seen self.old) key (opened piece.now start.need start.moment start.gap start.mark) }
-        ensures answer { OpensAs K.cmp (seen self.old) key self.new (opened piece.now start.need start.moment start.gap start.mark) result }
+        ensures after { seen self.new ≡ begun_after K.cmp (seen self.old) place.key (opened piece.now start.need start.moment start.gap start.mark) }
+        ensures answer { OpensAs K.cmp (seen self.old) place.key self.new (opened piece.now start.need start.moment start.gap start.mark) result }
     {
-        let Vacant { at, replaced } = self.vacate(key);
+        let Vacant { at, replaced } = self.vacate(place);
         if self.spare.is_empty() {
             return Opening::Full;
         }
@@ -50,20 +53,21 @@ impl<K: Copy + Ord, const CAP: usize, const PIECE: usize> Shelf<K, CAP, PIECE> {
             self.finish(piece);
             return Opening::Complete { replaced };
         }
-        self.open(at, key, piece, start);
+        self.open(at, place.key, piece, start);
         Opening::Held { replaced }
     }
 
-    // Gives up the key's slot, where it has one, and says where the key would go then.
-    pub fn vacate(&mut self, key: K) -> Vacant
-        requires { IsSound K.cmp self.old }
+    // Gives up the slot of the key that stands there, where it has one, and says where the key would go then.
+    pub fn vacate(&mut self, place: Place<K>) -> Vacant
+        requires sound { IsSound K.cmp self.old }
+        requires place { IsPlace K.cmp (seen self.old) place }
         ensures sound { IsSound K.cmp self.new }
-        ensures after { seen self.new ≡ released K.cmp (seen self.old) key }
-        ensures replaced { result.replaced ≡ is_held K.cmp (seen self.old) key }
-        ensures gap { IsGap K.cmp key self.new.slots.items result.at }
+        ensures after { seen self.new ≡ released K.cmp (seen self.old) place.key }
+        ensures replaced { result.replaced ≡ is_held K.cmp (seen self.old) place.key }
+        ensures gap { IsGap K.cmp place.key self.new.slots.items result.at }
         ensures room { IsTrue result.replaced → 0 < vec_len self.new.spare }
     {
-        match self.place(key) {
+        match self.slot_place(place) {
             Ok(at) => {
                 self.retire(at, &[]);
                 Vacant { at, replaced: true }
@@ -113,5 +117,6 @@ impl<K: Copy + Ord, const CAP: usize, const PIECE: usize> Shelf<K, CAP, PIECE> {
         };
         put(&mut self.slots, at, slot);
         self.quiet_until = still_quiet(self.quiet_until, start.moment, start.gap);
+        self.latest = at;
     }
 }

@@ -3,10 +3,12 @@ ghost use Rattle.std.specs.Prelude.{◌≡◌, ◌+◌, ◌<◌, ◌≤◌, ◌^
 ghost use Rattle.std.specs.List.{remove};
 ghost use Rattle.slot_views.specs.Slots.{has_expired, is_between, IsOrdered};
 ghost use Rattle.slot_views.specs.Answers.{ended_of, kept_of};
-ghost use Rattle.slot_views.specs.Shelf.{entries_of, entry_of, seen, IsSound, HasFinished, IsAt, IsGap, Below, NotBelow, IsFirst, NoneShows, quiet_after};
+ghost use Rattle.slot_views.specs.Places.{Below, IsPlace};
+ghost use Rattle.slot_views.specs.Shelf.{entries_of, entry_of, seen, IsSound, HasFinished, IsAt, IsGap, NotBelow, IsFirst, NoneShows, quiet_after};
 
 use crate::answers::{Ended, Kept};
 use crate::buffers::{append, buffers, keep};
+use crate::place::Place;
 use crate::slot::{Slot, first_expired};
 use std::alloc::{AllocError, Global};
 use std::cmp::Ordering;
@@ -20,6 +22,8 @@ pub struct Shelf<K, const CAP: usize, const PIECE: usize> {
     pub spare: Vec<Vec<u8>>,
     /// No entry expires up to this moment.
     pub quiet_until: u64,
+    /// Where a slot opened or grew last, if it still stands there.
+    pub latest: usize,
 }
 
 impl<K: Copy + Ord, const CAP: usize, const PIECE: usize> Shelf<K, CAP, PIECE> {
@@ -35,11 +39,25 @@ impl<K: Copy + Ord, const CAP: usize, const PIECE: usize> Shelf<K, CAP, PIECE> {
             slots,
             spare,
             quiet_until: u64::MAX,
+            latest: 0,
         })
     }
 
-    // Where the key is, or where it would go.
+    // Where the key is, or where it would go. One message after another is most often of the same key.
     pub fn place(&self, key: K) -> Result<usize, usize>
+        requires { IsOrdered K.cmp (entries_of self.now.slots.items) }
+        ensures found { IfOk result (IsAt K.cmp key self.now.slots.items) }
+        ensures absent { IfErr result (IsGap K.cmp key self.now.slots.items) }
+    {
+        let latest = self.latest;
+        if latest < self.slots.len() && key.cmp(&self.slots[latest].key).is_eq() {
+            return Ok(latest);
+        }
+        self.search(key)
+    }
+
+    // The same, by a search among all slots.
+    fn search(&self, key: K) -> Result<usize, usize>
         requires { IsOrdered K.cmp (entries_of self.now.slots.items) }
         ensures found { IfOk result (IsAt K.cmp key self.now.slots.items) }
         ensures absent { IfErr result (IsGap K.cmp key self.now.slots.items) }
@@ -55,6 +73,16 @@ impl<K: Copy + Ord, const CAP: usize, const PIECE: usize> Shelf<K, CAP, PIECE> {
             }
         }
         Err(low)
+    }
+
+    // The place as one among the slots.
+    #[tactic(auto, using(crate::proofs::Places::found_from, crate::proofs::Places::absent_from))]
+    pub fn slot_place(&self, place: Place<K>) -> Result<usize, usize>
+        requires { IsPlace K.cmp (seen self.now) place }
+        ensures found { IfOk result (IsAt K.cmp place.key self.now.slots.items) }
+        ensures absent { IfErr result (IsGap K.cmp place.key self.now.slots.items) }
+    {
+        place.at
     }
 
     // What is known of the slot.
@@ -163,7 +191,7 @@ impl<K: Copy + Ord, const CAP: usize, const PIECE: usize> Shelf<K, CAP, PIECE> {
     fn lowest_from(&self, low: K) -> usize
         requires { IsOrdered K.cmp (entries_of self.now.slots.items) }
         ensures in_range { result ≤ length self.now.slots.items }
-        ensures below { Below K.cmp low self.now.slots.items result }
+        ensures below { Below K.cmp low (entries_of self.now.slots.items) result }
         ensures not_below { NotBelow K.cmp low self.now.slots.items result }
     {
         match self.place(low) {

@@ -9,6 +9,7 @@ ghost use Rattle.slot_views.specs.Slots.{begun_after, grown_after, has_expired, 
 use crate::answers::{Begun, Ended, Grown, Kept, View};
 use crate::growth::Growth;
 use crate::opening::{Opening, Start};
+use crate::place::Place;
 use crate::shelf::Shelf;
 use std::alloc::{AllocError, Global};
 use std::marker::Model;
@@ -37,6 +38,7 @@ impl<K: Copy + Ord, const CAP: usize, const PIECE: usize> Model for Slots<K, CAP
 
 impl<K: Copy + Ord, const CAP: usize, const PIECE: usize> Slots<K, CAP, PIECE> {
     ghost use Rattle.slot_views.specs.Answers.{BeginGives, GrowGives, ended_of, kept_of};
+    ghost use Rattle.slot_views.specs.Places.{IsPlace};
     ghost use Rattle.slot_views.specs.Rows.{ends_as};
 
     /// An empty map, with the memory for `limit` entries.
@@ -46,6 +48,17 @@ impl<K: Copy + Ord, const CAP: usize, const PIECE: usize> Slots<K, CAP, PIECE> {
     {
         let shelf = Shelf::new(alloc, limit)?;
         Ok(Slots { shelf })
+    }
+
+    /// Where the key stands now. What takes a key looks for it; what takes its place, and is else the same, doesn't.
+    #[tactic(auto, using(crate::proofs::Places::stands))]
+    pub fn find(&self, key: K) -> Place<K>
+        ensures key { result.key ≡ key }
+        ensures place { IsPlace K.cmp self.now result }
+        ensures map { IsMap K.cmp self.now }
+    {
+        let at = self.shelf.place(key);
+        Place { key, at }
     }
 
     /// Opens an entry at the key with its first piece, in the place of the one that is held there. `need` is the number of pieces,
@@ -69,13 +82,35 @@ impl<K: Copy + Ord, const CAP: usize, const PIECE: usize> Slots<K, CAP, PIECE> {
         ensures* after { sem 𝓛 (ends_as K.row CAP.row PIECE.row K.Ord self.entry (begun_after K.cmp self.old key (opened piece.now need moment gap mark))) }
         ensures answer { BeginGives K.cmp self.old key (opened piece.now need moment gap mark) result }
     {
+        let place = self.find(key);
+        self.begin_at(place, piece, need, moment, gap, mark)
+    }
+
+    /// `begin`, where the key stands.
+    pub fn begin_at<'a>(
+        &'a mut self,
+        place: Place<K>,
+        piece: &[u8],
+        need: u16,
+        moment: u64,
+        gap: u32,
+        mark: u64,
+    ) -> Begun<'a>
+        requires place { IsPlace K.cmp self.old place }
+        requires need { 1 ≤ need }
+        requires piece_fits { length piece.now ≤ PIECE }
+        requires message_fits { need * PIECE ≤ CAP }
+        ensures map { IsMap K.cmp self.old }
+        ensures* after { sem 𝓛 (ends_as K.row CAP.row PIECE.row K.Ord self.entry (begun_after K.cmp self.old place.key (opened piece.now need moment gap mark))) }
+        ensures answer { BeginGives K.cmp self.old place.key (opened piece.now need moment gap mark) result }
+    {
         let start = Start {
             need,
             moment,
             gap,
             mark,
         };
-        match self.shelf.begin(key, piece, start) {
+        match self.shelf.begin(place, piece, start) {
             Opening::Full => Begun::Full,
             Opening::Held { replaced } => Begun::Held { replaced },
             Opening::Complete { replaced } => Begun::Complete {
@@ -102,7 +137,26 @@ impl<K: Copy + Ord, const CAP: usize, const PIECE: usize> Slots<K, CAP, PIECE> {
         ensures* after { sem 𝓛 (ends_as K.row CAP.row PIECE.row K.Ord self.entry (grown_after K.cmp self.old key next piece.now moment gap)) }
         ensures answer { GrowGives K.cmp self.old key next (λ e. grown e piece.now moment gap) result }
     {
-        match self.shelf.grow(key, next, piece, moment, gap) {
+        let place = self.find(key);
+        self.grow_at(place, next, piece, moment, gap)
+    }
+
+    /// `grow`, where the key stands.
+    pub fn grow_at<'a>(
+        &'a mut self,
+        place: Place<K>,
+        next: u16,
+        piece: &[u8],
+        moment: u64,
+        gap: u32,
+    ) -> Grown<'a>
+        requires place { IsPlace K.cmp self.old place }
+        requires piece_fits { length piece.now ≤ PIECE }
+        ensures map { IsMap K.cmp self.old }
+        ensures* after { sem 𝓛 (ends_as K.row CAP.row PIECE.row K.Ord self.entry (grown_after K.cmp self.old place.key next piece.now moment gap)) }
+        ensures answer { GrowGives K.cmp self.old place.key next (λ e. grown e piece.now moment gap) result }
+    {
+        match self.shelf.grow(place, next, piece, moment, gap) {
             Growth::Absent => Grown::Absent,
             Growth::NotNext(kept) => Grown::NotNext(kept),
             Growth::Held => Grown::Held,
@@ -118,7 +172,15 @@ impl<K: Copy + Ord, const CAP: usize, const PIECE: usize> Slots<K, CAP, PIECE> {
         ensures kept { result ≡ option_map kept_of (entry_at K.cmp self.now key) }
         ensures map { IsMap K.cmp self.now }
     {
-        match self.shelf.place(key) {
+        self.kept_at(self.find(key))
+    }
+
+    /// `kept`, where the key stands.
+    pub fn kept_at(&self, place: Place<K>) -> Option<Kept>
+        requires { IsPlace K.cmp self.now place }
+        ensures { result ≡ option_map kept_of (entry_at K.cmp self.now place.key) }
+    {
+        match self.shelf.slot_place(place) {
             Ok(at) => Some(self.shelf.kept(at)),
             Err(_) => None,
         }
@@ -129,7 +191,15 @@ impl<K: Copy + Ord, const CAP: usize, const PIECE: usize> Slots<K, CAP, PIECE> {
         ensures bytes { option_copied result ≡ option_map (λ e. e.bytes) (entry_at K.cmp self.now key) }
         ensures map { IsMap K.cmp self.now }
     {
-        match self.shelf.place(key) {
+        self.held_bytes_at(self.find(key))
+    }
+
+    /// `held_bytes`, where the key stands.
+    pub fn held_bytes_at(&self, place: Place<K>) -> Option<&[u8]>
+        requires { IsPlace K.cmp self.now place }
+        ensures { option_copied result ≡ option_map (λ e. e.bytes) (entry_at K.cmp self.now place.key) }
+    {
+        match self.shelf.slot_place(place) {
             Ok(at) => Some(self.shelf.bytes(at)),
             Err(_) => None,
         }
@@ -141,7 +211,17 @@ impl<K: Copy + Ord, const CAP: usize, const PIECE: usize> Slots<K, CAP, PIECE> {
         ensures after { self.new ≡ released K.cmp self.old key }
         ensures answer { result ≡ is_held K.cmp self.old key }
     {
-        self.shelf.vacate(key).replaced
+        let place = self.find(key);
+        self.give_up_at(place)
+    }
+
+    /// `give_up`, where the key stands.
+    pub fn give_up_at(&mut self, place: Place<K>) -> bool
+        requires { IsPlace K.cmp self.old place }
+        ensures after { self.new ≡ released K.cmp self.old place.key }
+        ensures answer { result ≡ is_held K.cmp self.old place.key }
+    {
+        self.shelf.vacate(place).replaced
     }
 
     /// Takes out the entry of the least key for which more time than its gap has passed at the moment.

@@ -20,21 +20,21 @@ sum g c = rw (count_seen c.vacate-at.new.self) c.vacate-at.ensures.sound.buffers
 left : (spare : ℕ) → false ≡ eqb spare 0 → 0 < spare
 left spare some = let other : spare ≢ 0 = eqb-false spare 0 (sym some) in omega arith
 
-full : (g : Over) (c : After-vacate-at g) → vec_len c.vacate-at.new.self.spare ≡ 0 → (is_full g.K.Ord.cmp (seen c.args.self.now) c.args.key ≡ true) × (seen c.vacate-at.new.self ≡ seen c.args.self.now)
+full : (g : Over) (c : After-vacate-at g) → vec_len c.vacate-at.new.self.spare ≡ 0 → (is_full g.K.Ord.cmp (seen c.args.self.now) c.args.place.key ≡ true) × (seen c.vacate-at.new.self ≡ seen c.args.self.now)
 full g c empty =
-    full_from g.K.Ord.cmp (seen c.args.self.now) c.args.key (seen c.vacate-at.new.self) c.vacate-at.result.replaced (vec_len c.vacate-at.new.self.spare)
+    full_from g.K.Ord.cmp (seen c.args.self.now) c.args.place.key (seen c.vacate-at.new.self) c.vacate-at.result.replaced (vec_len c.vacate-at.new.self.spare)
     c.vacate-at.ensures.after c.vacate-at.ensures.replaced c.vacate-at.ensures.room (sum g c) empty
 
-room : (g : Over) (c : After-vacate-at g) → 0 < vec_len c.vacate-at.new.self.spare → is_full g.K.Ord.cmp (seen c.args.self.now) c.args.key ≡ false
+room : (g : Over) (c : After-vacate-at g) → 0 < vec_len c.vacate-at.new.self.spare → is_full g.K.Ord.cmp (seen c.args.self.now) c.args.place.key ≡ false
 room g c some =
-    room_from g.K.Ord.cmp (seen c.args.self.now) c.args.key (seen c.vacate-at.new.self) c.vacate-at.result.replaced (vec_len c.vacate-at.new.self.spare)
+    room_from g.K.Ord.cmp (seen c.args.self.now) c.args.place.key (seen c.vacate-at.new.self) c.vacate-at.result.replaced (vec_len c.vacate-at.new.self.spare)
     c.vacate-at.ensures.after c.vacate-at.ensures.replaced (sum g c) some
 
 pub returns-then-is_empty-clause-after : goal.returns-then-is_empty-clause-after
 returns-then-is_empty-clause-after g c =
     let s = (goal.at.returns-then-is_empty-clause-after g c).After-vacate-at in
     let all = full g s (eqb-true _ _ (sym c.if-is_empty.ensures)) in
-    all.1 ∙ begun_full g.K.Ord.cmp (seen c.args.self.now) c.args.key (entry g s) all.0
+    all.1 ∙ begun_full g.K.Ord.cmp (seen c.args.self.now) c.args.place.key (entry g s) all.0
 
 pub returns-then-is_empty-clause-answer : goal.returns-then-is_empty-clause-answer
 returns-then-is_empty-clause-answer g c = (full g ((goal.at.returns-then-is_empty-clause-answer g c).After-vacate-at) (eqb-true _ _ (sym c.if-is_empty.ensures))).0
@@ -42,7 +42,7 @@ returns-then-is_empty-clause-answer g c = (full g ((goal.at.returns-then-is_empt
 pub returns-then-start-eq1-clause-after : goal.returns-then-start-eq1-clause-after
 returns-then-start-eq1-clause-after g c =
     let s = (goal.at.returns-then-start-eq1-clause-after g c).After-vacate-at in
-    c.finish.ensures.same ∙ (c.vacate-at.ensures.after ∙ begun_complete g.K.Ord.cmp (seen c.args.self.now) c.args.key (entry g s) (room g s (left _ c.if-is_empty.ensures)) (sym c.if-start-eq1.true))
+    c.finish.ensures.same ∙ (c.vacate-at.ensures.after ∙ begun_complete g.K.Ord.cmp (seen c.args.self.now) c.args.place.key (entry g s) (room g s (left _ c.if-is_empty.ensures)) (sym c.if-start-eq1.true))
 
 pub returns-then-start-eq1-clause-answer : goal.returns-then-start-eq1-clause-answer
 returns-then-start-eq1-clause-answer g c =
@@ -52,7 +52,7 @@ returns-then-start-eq1-clause-answer g c =
 pub returns-clause-after : goal.returns-clause-after
 returns-clause-after g c =
     let s = (goal.at.returns-clause-after g c).After-vacate-at in
-    c.open.ensures.after ∙ (ap (λ m. added g.K.Ord.cmp m c.args.key (entry g s)) c.vacate-at.ensures.after ∙ begun_held g.K.Ord.cmp (seen c.args.self.now) c.args.key (entry g s) (room g s (left _ c.if-is_empty.ensures)) (λ e. c.if-start-eq1.false (sym e)))
+    c.open.ensures.after ∙ (ap (λ m. added g.K.Ord.cmp m c.args.place.key (entry g s)) c.vacate-at.ensures.after ∙ begun_held g.K.Ord.cmp (seen c.args.self.now) c.args.place.key (entry g s) (room g s (left _ c.if-is_empty.ensures)) (λ e. c.if-start-eq1.false (sym e)))
 
 pub returns-clause-answer : goal.returns-clause-answer
 returns-clause-answer g c =

@@ -1,7 +1,7 @@
 use Rattle.std.proofs.Common.{◌≡◌, ◌<◌, false, length, inl, inr, ap, sym, ◌∙◌, subst, arith}
 use Rattle.std.specs.Ordering.{is_gt}
 use Rattle.std.specs.declared.cmp.Ordering.TheVariants.{Greater}
-use Rattle.slot_views.proofs.Places.{first_between, none_between}
+use Rattle.slot_views.proofs.Places.{first_between, none_between, none_between_below}
 use Rattle.slot_views.proofs.shelf.Shelf.between.Given.{Over}
 use Rattle.slot_views.proofs.shelf.Shelf.between.Goals.{After-cmp}
 use Rattle.slot_views.proofs.shelf.Shelf.between.Goals as goal
@@ -9,6 +9,10 @@ use Rattle.slot_views.proofs.shelf.Shelf.between.Goals as goal
 -- the place that was found is one of a slot
 inside : (g : Over) (c : After-cmp g) → c.lowest_from-at.result < length c.args.self.now.slots.items
 inside g c = omega arith
+
+pub returns-then-at-len-clause-absent : goal.returns-then-at-len-clause-absent
+returns-then-at-len-clause-absent g c =
+    none_between_below g.met.K.Ord.total c.args.low c.args.high c.args.self.now.slots.items c.lowest_from-at.result (omega arith) c.lowest_from-at.ensures.below
 
 pub returns-in-Greater-clause-absent : goal.returns-in-Greater-clause-absent
 returns-in-Greater-clause-absent g c =

@@ -1,7 +1,7 @@
 use Rattle.std.proofs.Common.{◌≡◌, rules}
 use Rattle.slot_views.specs.Slots.{IsMap}
 use Rattle.slot_views.proofs.Sound.{map_seen}
-use Rattle.slot_views.proofs.slots.Slots.begin.Goals as goal
+use Rattle.slot_views.proofs.slots.Slots.begin_at.Goals as goal
 
 pub returns-in-Complete : goal.returns-in-Complete
 returns-in-Complete g c =

@@ -4,12 +4,12 @@ use Rattle.slot_views.specs.Shelf.{seen, HasFinished}
 use Rattle.slot_views.specs.Answers.{Shows}
 use Rattle.slot_views.proofs.Sound.{map_seen}
 use Rattle.slot_views.proofs.Steps.{on_some}
-use Rattle.slot_views.proofs.slots.Slots.grow.Goals as goal
+use Rattle.slot_views.proofs.slots.Slots.grow_at.Goals as goal
 
 pub returns-in-Complete : goal.returns-in-Complete
 returns-in-Complete g c =
     let more = λ (e : Entry). grown e c.args.piece.now c.args.moment c.args.gap in
-    let answer = on_some (entry_at g.K.Ord.cmp (seen c.self.inside.shelf) c.args.key)
+    let answer = on_some (entry_at g.K.Ord.cmp (seen c.self.inside.shelf) c.args.place.key)
     (λ e. (e.next ≡ c.args.next) × (is_complete (more e) ≡ true) × HasFinished c.grow.new.self (more e).bytes × (c.in-Complete.mark ≡ e.mark))
     (λ e. (e.next ≡ c.args.next) × (is_complete (more e) ≡ true) × Shows record { bytes = c.finished.result; mark = c.in-Complete.mark } (more e))
     (λ e (next, complete, finished, mark). (next, complete, record { bytes = c.finished.ensures (more e).bytes finished; mark = mark }))
