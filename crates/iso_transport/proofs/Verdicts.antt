@@ -1,6 +1,6 @@
 -- What follows from what a frame is.
-use Rattle.std.proofs.Common.{◌≡◌, ℕ, ◌≤◌, ◌&&◌, not, nat_lt, Bool, true, false, if◌then◌else◌, List, length, Option, Some, None, option_map, is_some, refl, arith}
-use Rattle.std.proofs.lemmas.Bool.{leb-true}
+use Rattle.std.proofs.Common.{◌≡◌, ℕ, ◌≤◌, ◌==◌, ◌&&◌, not, nat_lt, Bool, true, false, if◌then◌else◌, List, length, Option, Some, None, option_map, is_some, refl, arith}
+use Rattle.std.proofs.lemmas.Bool.{leb-true, eqb-true, ltb-false}
 use Rattle.std.specs.declared.cmp.Ordering.{Ordering}
 use Rattle.slot_views.specs.Slots.{Entry, SlotMap, entry_at}
 use Rattle.n2k_id.specs.declared.identifier_parts.Parts.{Parts}
@@ -17,7 +17,8 @@ use Rattle.iso_transport.specs.declared.verdict.Verdict.{Verdict}
 use Rattle.iso_transport.specs.declared.verdict.Verdict.TheVariants.{Ignored, Again, Refused, Ends, Opens, Next}
 use Rattle.iso_transport.specs.Cm.{cm_of}
 use Rattle.iso_transport.specs.Sessions.{shortest, is_size, announced}
-use Rattle.iso_transport.specs.Verdicts.{IsSmall, VerdictFits, TellsSmall, opener_verdict, sized_verdict, abort_verdict, kind_verdict, management_verdict, pgn_in}
+use Rattle.iso_transport.specs.Verdicts.{IsSmall, VerdictFits, TellsSmall, opener_verdict, sized_verdict, abort_verdict, kind_verdict, management_verdict, left_of, is_again, packet_verdict, pgn_in}
+use Rattle.iso_transport.specs.IsoRuns.{number_of, end_of}
 
 both_true : (a b : Bool) → (a && b) ≡ true → (a ≡ true) × (b ≡ true)
 both_true true b h = (refl, h)
@@ -64,6 +65,27 @@ module _ (crowded : Bool) (o : Option Entry) (bytes : List ℕ) where
 
   pub management_fits : (addressed : Bool) → VerdictFits (full_where crowded o) o bytes (management_verdict addressed crowded (option_map pgn_in o) bytes)
   management_fits addressed = by_test addressed (nat_lt (length bytes) 8) (cm_of bytes)
+
+-- what a packet is
+packet_by : (full addressed : Bool) (e : Entry) (bytes : List ℕ) (t r n : Bool) → nat_lt (length bytes) (end_of (left_of e)) ≡ t → is_again e bytes ≡ r → (number_of bytes == e.next) ≡ n
+    → VerdictFits full (Some e) bytes (packet_verdict addressed (Some e) bytes)
+packet_by full addressed e bytes true r n et er en = rw et tt
+packet_by full addressed e bytes false true n et er en = rw (et, er) tt
+packet_by full addressed e bytes false false false et er en = rw (et, er, en) tt
+packet_by full addressed e bytes false false true et er en = rw (et, er, en) record {
+  small = record { size = omega arith; window = omega arith };
+  entry = e;
+  held = refl;
+  number_is = refl;
+  awaited = eqb-true _ _ en;
+  some = omega arith;
+  most = omega arith;
+  enough = ltb-false _ _ et;
+}
+
+pub packet_fits : (full addressed : Bool) (o : Option Entry) (bytes : List ℕ) → VerdictFits full o bytes (packet_verdict addressed o bytes)
+packet_fits full addressed None bytes = tt
+packet_fits full addressed (Some e) bytes = packet_by full addressed e bytes _ _ _ refl refl refl
 
 -- what is told of an open session fits a reply
 pub tells_small : (full : Bool) (o : Option Entry) (bytes : List ℕ) (v : Verdict) → VerdictFits full o bytes v → TellsSmall v

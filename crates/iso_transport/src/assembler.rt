@@ -4,6 +4,7 @@ ghost use Rattle.std.specs.List.{find};
 ghost use Rattle.std.specs.Borrow.{sem};
 ghost use Rattle.n2k_id.specs.Frame.{IsFrame, held_bytes};
 ghost use Rattle.slot_views.specs.Slots.{SlotMap, IsMap, grown, entry_at, is_full, without, released, begun_after, grown_after, has_expired};
+ghost use Rattle.slot_views.specs.Places.{IsPlace};
 ghost use Rattle.iso_transport.specs.Audience.{key_of};
 ghost use Rattle.iso_transport.specs.Sessions.{gap_after};
 ghost use Rattle.iso_transport.specs.Verdicts.{VerdictFits, IsOpening, packet_verdict, pgn_in};
@@ -15,7 +16,7 @@ use crate::session::Session;
 use crate::verdict::{Verdict, is_to, management_verdict, packet_verdict};
 use n2k_id::pgn::{CONNECTION_MANAGEMENT, DATA_TRANSFER};
 use n2k_id::{Frame, Parts};
-use slot_views::{Begun, Grown, Slots};
+use slot_views::{Begun, Grown, Place, Slots};
 use std::alloc::{AllocError, Global};
 use std::marker::Model;
 
@@ -74,11 +75,11 @@ impl IsoAssembler {
         ensures answer { FeedGives ⟦<IsoKey as Ord>⟧.cmp self.old own parts.now (held_bytes frame.now) moment result }
     {
         let bytes = frame.held();
-        let key = IsoKey::of(parts);
-        let verdict = self.verdict(own, parts, bytes);
+        let place = self.slots.find(IsoKey::of(parts));
+        let verdict = self.verdict(own, parts, place, bytes);
         let restarted = verdict.restarted();
-        let reply = verdict.reply(key.addressed);
-        let outcome = self.take(key, bytes, moment, verdict);
+        let reply = verdict.reply(place.key.addressed);
+        let outcome = self.take(place, bytes, moment, verdict);
         IsoFed {
             restarted,
             reply,
@@ -90,41 +91,48 @@ impl IsoAssembler {
     #[tactic(auto, using(crate::proofs::Sources::released_sessions))]
     fn take<'a>(
         &'a mut self,
-        key: IsoKey,
+        place: Place<IsoKey>,
         bytes: &[u8],
         moment: u64,
         verdict: Verdict,
     ) -> IsoOutcome<'a>
-        requires { VerdictFits (is_full ⟦<IsoKey as Ord>⟧.cmp self.old key) (entry_at ⟦<IsoKey as Ord>⟧.cmp self.old key) bytes.now verdict }
-        ensures* after { sem 𝓛 (ends_as self.entry (fed_by ⟦<IsoKey as Ord>⟧.cmp self.old key bytes.now moment verdict)) }
-        ensures answer { OutcomeBy key.addressed (entry_at ⟦<IsoKey as Ord>⟧.cmp self.old key) bytes.now moment verdict result }
+        requires place { IsPlace ⟦<IsoKey as Ord>⟧.cmp self.old place }
+        requires fits { VerdictFits (is_full ⟦<IsoKey as Ord>⟧.cmp self.old place.key) (entry_at ⟦<IsoKey as Ord>⟧.cmp self.old place.key) bytes.now verdict }
+        ensures* after { sem 𝓛 (ends_as self.entry (fed_by ⟦<IsoKey as Ord>⟧.cmp self.old place.key bytes.now moment verdict)) }
+        ensures answer { OutcomeBy place.key.addressed (entry_at ⟦<IsoKey as Ord>⟧.cmp self.old place.key) bytes.now moment verdict result }
     {
         match verdict {
             Verdict::Ignored => IsoOutcome::Ignored,
             Verdict::Again => IsoOutcome::Repeat,
             Verdict::Refused(refusal, _) => IsoOutcome::Refused(refusal),
             Verdict::Ends(refusal, _) => {
-                let _ = self.slots.give_up(key);
+                let _ = self.slots.give_up_at(place);
                 IsoOutcome::Refused(refusal)
             }
-            Verdict::Opens(session, _) => self.begin(key, session, moment),
+            Verdict::Opens(session, _) => self.begin(place, session, moment),
             Verdict::Next(session, number, end) => {
-                self.grow(key, session, number, part(bytes, end), moment)
+                self.grow(place, session, number, part(bytes, end), moment)
             }
         }
     }
 
     // Opens the session, in the place of the one that is open.
-    fn begin<'a>(&'a mut self, key: IsoKey, session: Session, moment: u64) -> IsoOutcome<'a>
-        requires { IsOpening (is_full ⟦<IsoKey as Ord>⟧.cmp self.old key) session }
-        ensures* after { sem 𝓛 (ends_as self.entry (begun_after ⟦<IsoKey as Ord>⟧.cmp self.old key (opening key.addressed session moment))) }
+    fn begin<'a>(
+        &'a mut self,
+        place: Place<IsoKey>,
+        session: Session,
+        moment: u64,
+    ) -> IsoOutcome<'a>
+        requires place { IsPlace ⟦<IsoKey as Ord>⟧.cmp self.old place }
+        requires opening { IsOpening (is_full ⟦<IsoKey as Ord>⟧.cmp self.old place.key) session }
+        ensures* after { sem 𝓛 (ends_as self.entry (begun_after ⟦<IsoKey as Ord>⟧.cmp self.old place.key (opening place.key.addressed session moment))) }
         ensures answer { result ≡ IsoOutcome.Held }
     {
         let need = session.packets() + 1;
-        let gap = session.gap_after(key.addressed, 0);
+        let gap = session.gap_after(place.key.addressed, 0);
         match self
             .slots
-            .begin(key, &[], need, moment, gap, session.mark())
+            .begin_at(place, &[], need, moment, gap, session.mark())
         {
             Begun::Held { .. } => IsoOutcome::Held,
             // can't be: there is room.
@@ -140,22 +148,26 @@ impl IsoAssembler {
     // Adds the part of the message that the packet with this number holds.
     fn grow<'a>(
         &'a mut self,
-        key: IsoKey,
+        place: Place<IsoKey>,
         session: Session,
         number: u8,
         part: &[u8],
         moment: u64,
     ) -> IsoOutcome<'a>
+        requires place { IsPlace ⟦<IsoKey as Ord>⟧.cmp self.old place }
         requires window { 1 ≤ session.window }
         requires fits { length part.now ≤ 7 }
-        requires awaited { IsSomeAnd (entry_at ⟦<IsoKey as Ord>⟧.cmp self.old key) (λ e. number ≡ e.next) }
+        requires awaited { IsSomeAnd (entry_at ⟦<IsoKey as Ord>⟧.cmp self.old place.key) (λ e. number ≡ e.next) }
         ensures* after { sem 𝓛 (ends_as self.entry
-            (grown_after ⟦<IsoKey as Ord>⟧.cmp self.old key number part.now moment (gap_after key.addressed session number))) }
-        ensures answer { NextGives (entry_at ⟦<IsoKey as Ord>⟧.cmp self.old key) session
-            (λ e. grown e part.now moment (gap_after key.addressed session number)) result }
+            (grown_after ⟦<IsoKey as Ord>⟧.cmp self.old place.key number part.now moment (gap_after place.key.addressed session number))) }
+        ensures answer { NextGives (entry_at ⟦<IsoKey as Ord>⟧.cmp self.old place.key) session
+            (λ e. grown e part.now moment (gap_after place.key.addressed session number)) result }
     {
-        let gap = session.gap_after(key.addressed, number);
-        match self.slots.grow(key, u16::from(number), part, moment, gap) {
+        let gap = session.gap_after(place.key.addressed, number);
+        match self
+            .slots
+            .grow_at(place, u16::from(number), part, moment, gap)
+        {
             Grown::Held => IsoOutcome::Held,
             Grown::Complete(view) => IsoOutcome::Complete {
                 pgn: session.pgn,
@@ -169,7 +181,9 @@ impl IsoAssembler {
     }
 
     // What the frame is to the sessions.
-    fn verdict(&self, own: Option<u8>, parts: &Parts, bytes: &[u8]) -> Verdict
+    fn verdict(&self, own: Option<u8>, parts: &Parts, place: Place<IsoKey>, bytes: &[u8]) -> Verdict
+        requires key { place.key ≡ key_of parts.now }
+        requires place { IsPlace ⟦<IsoKey as Ord>⟧.cmp self.now place }
         ensures map { IsMap ⟦<IsoKey as Ord>⟧.cmp self.now }
         ensures value { result ≡ verdict_of ⟦<IsoKey as Ord>⟧.cmp self.now own parts.now bytes.now }
         ensures fits { VerdictFits (is_full ⟦<IsoKey as Ord>⟧.cmp self.now (key_of parts.now))
@@ -179,34 +193,36 @@ impl IsoAssembler {
         if !is_to(own, parts.destination) {
             return Verdict::Ignored;
         }
-        let key = IsoKey::of(parts);
         match parts.pgn {
             CONNECTION_MANAGEMENT => {
-                management_verdict(key.addressed, crowded, self.message_of(key), bytes)
+                let held = self.message_of(place);
+                management_verdict(place.key.addressed, crowded, held, bytes)
             }
-            DATA_TRANSFER => self.packet_verdict(key, bytes),
+            DATA_TRANSFER => self.packet_verdict(place, bytes),
             _ => Verdict::Ignored,
         }
     }
 
     // What a packet is to the session of its key.
-    fn packet_verdict(&self, key: IsoKey, bytes: &[u8]) -> Verdict
-        ensures { result ≡ packet_verdict key.addressed (entry_at ⟦<IsoKey as Ord>⟧.cmp self.now key) bytes.now }
+    fn packet_verdict(&self, place: Place<IsoKey>, bytes: &[u8]) -> Verdict
+        requires { IsPlace ⟦<IsoKey as Ord>⟧.cmp self.now place }
+        ensures { result ≡ packet_verdict place.key.addressed (entry_at ⟦<IsoKey as Ord>⟧.cmp self.now place.key) bytes.now }
     {
-        match self.slots.kept(key) {
+        match self.slots.kept_at(place) {
             None => Verdict::Refused(IsoRefusal::Orphan, None),
             Some(kept) => {
-                let held = self.slots.held_bytes(key).unwrap_or(&[]);
-                packet_verdict(key.addressed, kept, held, bytes)
+                let held = self.slots.held_bytes_at(place).unwrap_or(&[]);
+                packet_verdict(place.key.addressed, kept, held, bytes)
             }
         }
     }
 
     // The message of the key's session, where it is open.
-    fn message_of(&self, key: IsoKey) -> Option<u32>
-        ensures { result ≡ option_map pgn_in (entry_at ⟦<IsoKey as Ord>⟧.cmp self.now key) }
+    fn message_of(&self, place: Place<IsoKey>) -> Option<u32>
+        requires { IsPlace ⟦<IsoKey as Ord>⟧.cmp self.now place }
+        ensures { result ≡ option_map pgn_in (entry_at ⟦<IsoKey as Ord>⟧.cmp self.now place.key) }
     {
-        match self.slots.kept(key) {
+        match self.slots.kept_at(place) {
             None => None,
             Some(kept) => Some(Session::of_mark(kept.mark).pgn),
         }
@@ -250,8 +266,9 @@ impl IsoAssembler {
         ensures after { self.new ≡ released ⟦<IsoKey as Ord>⟧.cmp self.old key }
         ensures answer { result ≡ option_map (λ e. ended_of (key, e)) (entry_at ⟦<IsoKey as Ord>⟧.cmp self.old key) }
     {
-        let message = self.message_of(key);
-        let _ = self.slots.give_up(key);
+        let place = self.slots.find(key);
+        let message = self.message_of(place);
+        let _ = self.slots.give_up_at(place);
         match message {
             Some(pgn) => Some(IsoEnded {
                 addressed: key.addressed,

@@ -18,7 +18,7 @@ const GAP: u32 = 750_000;
 
 /// A session's message, by its PGN and size, and how many packets its sender is granted at once: 1 to 8, and 1 where nothing
 /// is granted.
-#[derive(Clone, Copy, Debug, PartialEq, Eq)]
+#[derive(Clone, Copy)]
 pub struct Session {
     pub pgn: u32,
     pub size: u16,

@@ -13,7 +13,7 @@ use n2k_id::address::ALL;
 use slot_views::Kept;
 
 /// What a frame is.
-#[derive(Clone, Copy, Debug, PartialEq, Eq)]
+#[derive(Clone, Copy)]
 pub enum Verdict {
     /// It is to another node, or gives nothing.
     Ignored,

@@ -7,5 +7,5 @@ use Rattle.iso_transport.proofs.assembler.IsoAssembler.begin.Goals as goal
 
 pub invariant_of-self : goal.invariant_of-self
 invariant_of-self c =
-    let fits : key_fits c.args.key ≡ true = le-leb c.args.key.source 255 (omega arith) in
-    subst (AreSessions key.TheImpl.ghosts.cmp) (sym c.begin.follows.holds-at-none) (begun_sessions c.self.inside.slots c.args.key _ fits c.self.invariant)
+    let fits : key_fits c.args.place.key ≡ true = le-leb c.args.place.key.source 255 (omega arith) in
+    subst (AreSessions key.TheImpl.ghosts.cmp) (sym c.begin_at.follows.holds-at-none) (begun_sessions c.self.inside.slots c.args.place.key _ fits c.self.invariant)

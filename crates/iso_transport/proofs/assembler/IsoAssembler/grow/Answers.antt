@@ -7,5 +7,5 @@ use Rattle.iso_transport.proofs.assembler.IsoAssembler.grow.Goals as goal
 
 pub invariant_of-self : goal.invariant_of-self
 invariant_of-self c =
-    let fits : key_fits c.args.key ≡ true = le-leb c.args.key.source 255 (omega arith) in
-    subst (AreSessions key.TheImpl.ghosts.cmp) (sym c.grow.follows.holds-at-none) (grown_sessions c.self.inside.slots c.args.key _ _ _ _ fits c.self.invariant)
+    let fits : key_fits c.args.place.key ≡ true = le-leb c.args.place.key.source 255 (omega arith) in
+    subst (AreSessions key.TheImpl.ghosts.cmp) (sym c.grow_at.follows.holds-at-none) (grown_sessions c.self.inside.slots c.args.place.key _ _ _ _ fits c.self.invariant)

@@ -6,6 +6,18 @@ use Rattle.slot_views.proofs.Sound.{map_seen}
 use Rattle.slot_views.proofs.Steps.{on_some}
 use Rattle.slot_views.proofs.slots.Slots.grow_at.Goals as goal
 
+pub returns-in-Absent : goal.returns-in-Absent
+returns-in-Absent g c =
+    ((refl, λ _. tt, rw (← c.self.view_is) c.in-Absent.ensures.after), record { map = rw (← c.self.view_is) (map_seen c.self.inside.shelf c.self.invariant); after = tt; answer = rw (← c.self.view_is) c.in-Absent.ensures.answer })
+
+pub returns-in-NotNext : goal.returns-in-NotNext
+returns-in-NotNext g c =
+    ((refl, λ _. tt, rw (← c.self.view_is) c.in-NotNext.ensures.after), record { map = rw (← c.self.view_is) (map_seen c.self.inside.shelf c.self.invariant); after = tt; answer = rw (← c.self.view_is) c.in-NotNext.ensures.answer })
+
+pub returns-in-Held : goal.returns-in-Held
+returns-in-Held g c =
+    ((refl, λ _. tt, rw (← c.self.view_is) c.in-Held.ensures.after), record { map = rw (← c.self.view_is) (map_seen c.self.inside.shelf c.self.invariant); after = tt; answer = rw (← c.self.view_is) c.in-Held.ensures.answer })
+
 pub returns-in-Complete : goal.returns-in-Complete
 returns-in-Complete g c =
     let more = λ (e : Entry). grown e c.args.piece.now c.args.moment c.args.gap in
