@@ -58,11 +58,11 @@ pub(crate) fn later_verdict(kept: Kept, held: &[u8], bytes: &[u8]) -> Verdict
 fn is_again(kept: Kept, held: &[u8], bytes: &[u8]) -> bool
     ensures { result ≡ assembly.is_again (as_entry kept held.now) bytes.now }
 {
-    if bytes.len() != 8 || kept.next < 2 || kept.next >= kept.need {
-        return false;
-    }
-    let first = 32 * (kept.mark / 256) + u64::from(kept.next - 1);
-    u64::from(bytes[0]) == first && bytes[1..] == held[held.len().saturating_sub(7)..]
+    bytes.len() == 8
+        && 2 <= kept.next
+        && kept.next < kept.need
+        && u64::from(bytes[0]) == 32 * (kept.mark / 256) + u64::from(kept.next - 1)
+        && bytes[1..] == held[held.len().saturating_sub(7)..]
 }
 
 // Whether the frame has the next counter and the sequence.

@@ -182,8 +182,9 @@ pub(crate) fn packet_verdict(addressed: bool, kept: Kept, held: &[u8], bytes: &[
 fn is_again(kept: Kept, held: &[u8], bytes: &[u8]) -> bool
     ensures { result ≡ verdicts.is_again (as_entry kept held.now) bytes.now }
 {
-    if bytes.len() != 8 || kept.next < 2 || kept.next >= kept.need {
-        return false;
-    }
-    u16::from(bytes[0]) == kept.next - 1 && bytes[1..] == held[held.len().saturating_sub(7)..]
+    bytes.len() == 8
+        && 2 <= kept.next
+        && kept.next < kept.need
+        && u16::from(bytes[0]) == kept.next - 1
+        && bytes[1..] == held[held.len().saturating_sub(7)..]
 }
