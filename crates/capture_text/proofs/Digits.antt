@@ -1,113 +1,50 @@
--- Going over digits, and the number that they write.
-use Rattle.std.proofs.Common.{◌≡◌, ℕ, suc, ◌+◌, ◌-◌, ◌*◌, ◌<◌, ◌≤◌, ◌^◌, true, false, leb, Some, List, [], ◌∷◌, length, get_or, take, drop, drop-cons, refl, sym, ap, ◌∙◌, add-one, arith, take-take}
+-- Decimal digits, and the number that they write.
+use Rattle.std.proofs.Common.{◌≡◌, ℕ, suc, ◌+◌, ◌-◌, ◌*◌, ◌<◌, ◌≤◌, ◌^◌, true, List, [], ◌∷◌, length, get_or, take, drop, ap, ◌∙◌, sym, arith, take-take}
 use Rattle.std.specs.Char.{is_ascii_digit}
-use Rattle.std.specs.List.{prefix_len}
-use Rattle.std.proofs.lemmas.Bool.{le-leb}
-use Rattle.std.proofs.lemmas.Grind.{pow_more}
-use Rattle.std.proofs.lemmas.List.{length-take, take_more}
-use Rattle.std.proofs.lemmas.List.Sums.{prefix_len-drop_all, prefix_len-le-length}
+use Rattle.std.specs.List.{list_all, prefix_len}
+use Rattle.std.proofs.lemmas.Bool.{and_parts}
+use Rattle.std.proofs.lemmas.List.{length-take}
+use Rattle.std.proofs.lemmas.List.Sums.{prefix_len-le-length}
 use Rattle.std.proofs.lemmas.Nat.{mul-le}
 use Rattle.std.proofs.Math.Nat.{pow-le-pow_right}
 use Rattle.unit_fraction.specs.Digits.{number_after, number}
-use Rattle.capture_text.specs.Reading.{seconds_at}
-use Rattle.unit_fraction.proofs.Number.{number_after_append}
+use Rattle.unit_fraction.proofs.Number as number
+use Rattle.capture_text.proofs.Numbers.{all_digits}
 
--- so many digits were passed, and their number is known
-pub record DigitRun (text : List ℕ) (before count number : ℕ) : Type 0 where
-  pub passed : count + prefix_len is_ascii_digit (drop count text) ≡ prefix_len is_ascii_digit text
-  pub number_is : number ≡ number_after before (take count text)
-  pub small : number < (before + 1) * 10 ^ count
-
-prefix_step : (c : ℕ) (cs : List ℕ) → is_ascii_digit c ≡ true → prefix_len is_ascii_digit (c ∷ cs) ≡ 1 + prefix_len is_ascii_digit cs
-prefix_step c cs e = rw e refl
-
-prefix_stop : (c : ℕ) (cs : List ℕ) → is_ascii_digit c ≡ false → prefix_len is_ascii_digit (c ∷ cs) ≡ 0
-prefix_stop c cs e = rw e refl
-
-pub run_starts : (text : List ℕ) (before : ℕ) → DigitRun text before 0 before
-run_starts text before = record { passed = omega arith; number_is = refl; small = omega arith }
-
--- a digit more
-ten_times : (number b n p : ℕ) → number < b * p → n ≤ 9 → number * 10 + n < b * (p * 10)
-ten_times number b n p small digit =
-    let x = b * p in
-    let same : b * (p * 10) ≡ x * 10 = omega arith in
-    omega (arith, same)
+pub digit_in_range : (digits : List ℕ) (i : ℕ) → list_all is_ascii_digit digits ≡ true → i < length digits → (48 ≤ get_or digits i 0) × (get_or digits i 0 ≤ 57)
+digit_in_range digits i h lt = number.digit_in_range digits i (sym (all_digits digits) ∙ h) lt
 
 digit_value : (c : ℕ) → is_ascii_digit c ≡ true → c - 48 ≤ 9
 digit_value c e = grind arith
 
-number_more : (before : ℕ) (text : List ℕ) (count : ℕ) → count < length text → number_after before (take (count + 1) text) ≡ number_after before (take count text) * 10 + (get_or text count 0 - 48)
-number_more before text count lt =
-    ap (number_after before) (take_more text count 0 lt)
-    ∙ number_after_append before (take count text) (get_or text count 0 ∷ [])
+ten_times : (total n d x : ℕ) → total < (n * 10 + d + 1) * x → d ≤ 9 → total < (n + 1) * (x * 10)
+ten_times total n d x lt le =
+    let more = mul-le (n * 10 + d + 1) x ((n + 1) * 10) x (omega arith) (omega arith) in
+    let same : (n + 1) * 10 * x ≡ (n + 1) * (x * 10) = omega arith in
+    omega (arith, more, same)
 
-pub run_goes_on : (text : List ℕ) (before count number value : ℕ) → count < length text → is_ascii_digit (get_or text count 0) ≡ true → value ≡ get_or text count 0 - 48
-    → DigitRun text before count number → DigitRun text before (count + 1) (number * 10 + value)
-run_goes_on text before count number value lt e v r =
-    let c = get_or text count 0 in
-    let front : prefix_len is_ascii_digit (drop count text) ≡ 1 + prefix_len is_ascii_digit (drop (count + 1) text) =
-    ap (prefix_len is_ascii_digit) (drop-cons text count 0 lt) ∙ prefix_step c (drop (suc count) text) e ∙ ap (λ (n : ℕ). 1 + prefix_len is_ascii_digit (drop n text)) (sym (add-one count)) in
-    record {
-      passed = omega (arith, front, r.passed);
-      number_is = ap (λ (n : ℕ). n * 10 + value) r.number_is ∙ ap (λ (n : ℕ). number_after before (take count text) * 10 + n) v ∙ sym (number_more before text count lt);
-      small = rw (pow_more 10 count) (ten_times number (before + 1) value (10 ^ count) r.small (omega (arith, v, digit_value c e)));
-    }
+number_bound : (before : ℕ) (digits : List ℕ) → list_all is_ascii_digit digits ≡ true → number_after before digits < (before + 1) * 10 ^ length digits
+number_bound before [] h = omega arith
+number_bound before (c ∷ cs) h =
+    let p = and_parts (is_ascii_digit c) (list_all is_ascii_digit cs) h in
+    let power : 10 ^ suc (length cs) ≡ 10 ^ length cs * 10 = omega arith in
+    rw power (ten_times (number_after (before * 10 + (c - 48)) cs) before (c - 48) (10 ^ length cs) (number_bound (before * 10 + (c - 48)) cs p.1) (digit_value c p.0))
 
-pub run_stops : (text : List ℕ) (before count number : ℕ) → count < length text → is_ascii_digit (get_or text count 0) ≡ false
-    → DigitRun text before count number → (count ≡ prefix_len is_ascii_digit text) × (number ≡ number_after before (take count text)) × (number < (before + 1) * 10 ^ count)
-run_stops text before count number lt e r =
-    let front : prefix_len is_ascii_digit (drop count text) ≡ 0 = ap (prefix_len is_ascii_digit) (drop-cons text count 0 lt) ∙ prefix_stop (get_or text count 0) (drop (suc count) text) e in
-    (omega (arith, front, r.passed), r.number_is, r.small)
+below : (before bound most : ℕ) (digits : List ℕ) → before < bound → list_all is_ascii_digit digits ≡ true → length digits ≤ most → number_after before digits < bound * 10 ^ most
+below before bound most digits lt h few =
+    omega (arith, number_bound before digits h, mul-le (before + 1) (10 ^ length digits) bound (10 ^ most) (omega arith) (pow-le-pow_right (omega arith) few))
 
-pub run_ends : (text : List ℕ) (before count number : ℕ) → length text ≤ count → DigitRun text before count number
-    → (count ≡ prefix_len is_ascii_digit text) × (number ≡ number_after before (take count text)) × (number < (before + 1) * 10 ^ count)
-run_ends text before count number le r = (omega (arith, prefix_len-drop_all is_ascii_digit text count le, r.passed), r.number_is, r.small)
+-- ten digits, and six behind them
 
-ten_some : 0 < 10
-ten_some = omega arith
+pub seconds_fit : (digits : List ℕ) → list_all is_ascii_digit digits ≡ true → length digits ≤ 10 → number_after 0 digits < 10 ^ 10
+seconds_fit digits h few = omega (arith, below 0 1 10 digits (omega arith) h few)
 
--- what was read and one digit more are below this
-pub more_fits : (text : List ℕ) (before count number value : ℕ) → count < length text → is_ascii_digit (get_or text count 0) ≡ true → value ≡ get_or text count 0 - 48
-    → (before + 1) * 10 ^ length text ≤ 10 ^ 16 → DigitRun text before count number → number * 10 + value < 10 ^ 16
-more_fits text before count number value lt e v fits r =
-    let next = run_goes_on text before count number value lt e v r in
-    let longer = mul-le (before + 1) (10 ^ (count + 1)) (before + 1) (10 ^ length text) (omega arith) (pow-le-pow_right ten_some (omega arith)) in
-    omega (arith, next.small, longer, fits)
+pub micros_fit : (seconds : ℕ) (digits : List ℕ) → seconds < 10 ^ 10 → list_all is_ascii_digit digits ≡ true → length digits ≤ 6 → number_after seconds digits < 2 ^ 64
+micros_fit seconds digits lt h few = omega (arith, below seconds (10 ^ 10) 6 digits lt h few)
 
--- ---- ten digits and six
+pub usual_fits : (seconds micros : List ℕ) → list_all is_ascii_digit seconds ≡ true → length seconds ≤ 10 → list_all is_ascii_digit micros ≡ true → length micros ≤ 6
+    → number_after (number_after 0 seconds) micros < 2 ^ 64
+usual_fits seconds micros hs ten hm six = micros_fit (number_after 0 seconds) micros (seconds_fit seconds hs ten) hm six
 
-pub seconds_fit : (text : List ℕ) → (0 + 1) * 10 ^ length (take 10 text) ≤ 10 ^ 16
-seconds_fit text =
-    let few : length (take 10 text) ≤ 10 = omega (arith, length-take 10 text) in
-    let less = pow-le-pow_right ten_some few in
-    omega (arith, less)
-
-few_counted : (text : List ℕ) → prefix_len is_ascii_digit (take 10 text) ≤ 10
+pub few_counted : (text : List ℕ) → prefix_len is_ascii_digit (take 10 text) ≤ 10
 few_counted text = omega (arith, prefix_len-le-length is_ascii_digit (take 10 text), length-take 10 text)
-
-pub seconds_few : (text : List ℕ) (count seconds : ℕ) → count ≡ prefix_len is_ascii_digit (take 10 text) → seconds < (0 + 1) * 10 ^ count → seconds < 10 ^ 10
-seconds_few text count seconds run small =
-    let same : 10 ^ count ≡ 10 ^ prefix_len is_ascii_digit (take 10 text) = ap (λ (n : ℕ). 10 ^ n) run in
-    omega (arith, small, same, pow-le-pow_right ten_some (few_counted text))
-
-pub micros_fit : (seconds : ℕ) (text : List ℕ) → seconds < 10 ^ 10 → (seconds + 1) * 10 ^ length (take 6 text) ≤ 10 ^ 16
-micros_fit seconds text few =
-    let six : length (take 6 text) ≤ 6 = omega (arith, length-take 6 text) in
-    omega (arith, mul-le (seconds + 1) (10 ^ length (take 6 text)) (10 ^ 10) (10 ^ 6) (omega (arith, few)) (pow-le-pow_right ten_some six))
-
-pub seconds_there : (text front : List ℕ) (count seconds : ℕ) → front ≡ take 10 text → count ≡ prefix_len is_ascii_digit front → seconds ≡ number_after 0 (take count front)
-    → 1 ≤ count → get_or text count 0 ≡ 46 → seconds_at text ≡ Some (record { moment = seconds; rest = drop (count + 1) text })
-unfolding seconds_at
-seconds_there text front count seconds is run value some point =
-    let n = prefix_len is_ascii_digit (take 10 text) in
-    let same : count ≡ n = run ∙ ap (prefix_len is_ascii_digit) is in
-    let p0 : leb 1 n ≡ true = le-leb 1 n (omega (arith, same, some)) in
-    let p1 : get_or text n 0 ≡ 46 = ap (λ (k : ℕ). get_or text k 0) (sym same) ∙ point in
-    let a : number (take n text) ≡ seconds =
-    ap number (sym (take-take n 10 text (few_counted text))) ∙ ap (λ (k : ℕ). number (take k (take 10 text))) (sym same) ∙ ap (λ (x : List ℕ). number (take count x)) (sym is) ∙ sym value in
-    let b : drop (n + 1) text ≡ drop (count + 1) text = ap (λ (k : ℕ). drop (k + 1) text) (sym same) in
-    rw (p0, p1, a, b) refl
-
-pub six_are_front : (text : List ℕ) → take 6 (take 6 text) ≡ take 6 text
-six_are_front text = take-take 6 6 text (omega arith)

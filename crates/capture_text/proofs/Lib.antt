@@ -3,7 +3,7 @@ pub mod Cuts
 pub mod Data
 pub mod Digits
 pub mod Frames
-pub mod Hex
+pub mod HexadecimalLemmas
 pub mod Laws
 pub mod LineEnds
 pub mod Lines

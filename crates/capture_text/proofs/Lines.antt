@@ -5,18 +5,18 @@ use Rattle.std.specs.Char.{is_ascii_graphic}
 use Rattle.std.specs.List.{prefix_len, list_all}
 use Rattle.std.specs.Cmp.Lexicographic.{same_text}
 use Rattle.std.proofs.lemmas.Bool.{cases_Bool, cases_lt, and_parts, and_from, eqb-true, eq-eqb, leb-true, le-leb, lt-ltb, le-ltb}
-use Rattle.std.proofs.lemmas.List.{take-append-drop}
+use Rattle.std.proofs.lemmas.List.{length-take, take-append-drop}
 use Rattle.std.proofs.lemmas.List.Folds.{length-prefix_len}
 use Rattle.hex.specs.Hex.{decode_of}
 use Rattle.sentence_text.specs.Names.{IsGroup}
 use Rattle.sentence_text.specs.Byte.{is_address_byte}
-use Rattle.sentence_text.proofs.Bytes.{front_passes, splits}
+use Rattle.sentence_text.proofs.Bytes.{front_passes, run_of, splits}
 use Rattle.capture_text.specs.declared.line_rule.LineRule.{LineRule}
 use Rattle.capture_text.specs.declared.line_rule.LineRule.TheVariants.{Form, Long}
 use Rattle.capture_text.specs.Capture.{IsInterface, Begins, is_end, longest_line, most_bytes}
 use Rattle.gate_events.specs.Event.{Seen}
 use Rattle.capture_text.specs.Reading.{Timed, time_at, Named, interface_at, is_group, bytes_before_end, bytes_at, frame_at, seen_frame, is_name, seen_behind, seen_named, seen_at, read}
-use Rattle.capture_text.proofs.Cuts.{cut_by_test, cut_found, if_some, some_is, four}
+use Rattle.capture_text.proofs.Cuts.{within, cut_by_test, cut_found, if_some, some_is, four}
 use Rattle.capture_text.proofs.Times.{time_found, time_again}
 use Rattle.capture_text.proofs.Data.{BytesFound, bytes_found, bytes_again}
 
@@ -58,6 +58,13 @@ interface_again name tail h stops =
     ∙ ap (λ (x : List ℕ). named_by (prefix_len is_ascii_graphic text) x tail) s.front_is
     ∙ ap (λ (x : ℕ). named_by x name tail) s.run
     ∙ rw (some, few) refl
+
+-- a name of four bytes
+pub four_first : (rest : List ℕ) → get_or rest 4 0 ≡ 32 → list_all is_ascii_graphic (take 4 rest) ≡ true → (4 ≤ length rest) × (prefix_len is_ascii_graphic rest ≡ 4)
+four_first rest space all =
+    let lt : 4 < length rest = within rest 4 31 space in
+    let four : length (take 4 rest) ≡ 4 = omega (arith, lt, length-take 4 rest) in
+    (omega (arith, lt), ap (prefix_len is_ascii_graphic) (cut_found rest 4 31 space) ∙ run_of is_ascii_graphic (take 4 rest) (32 ∷ drop 5 rest) all refl ∙ four)
 
 pub end_no_name : (rest : List ℕ) → is_end rest ≡ true → prefix_len is_ascii_graphic rest ≡ 0
 end_no_name [] h = refl

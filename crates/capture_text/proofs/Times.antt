@@ -1,10 +1,10 @@
 -- The time of a line: what is read is spelled so, and what is spelled so is read.
-use Rattle.std.proofs.Common.{◌≡◌, ℕ, zero, suc, ◌+◌, ◌-◌, ◌<◌, ◌≤◌, true, false, cond, leb, ◌&&◌, List, [], ◌∷◌, ◌++◌, length, get_or, take, drop, Option, Some, None, refl, sym, ap, subst, ◌∙◌, append_assoc, length-append, arith, take-take}
+use Rattle.std.proofs.Common.{◌≡◌, ℕ, zero, suc, ◌+◌, ◌-◌, ◌<◌, ◌≤◌, ◌^◌, true, false, cond, leb, ◌&&◌, List, [], ◌∷◌, ◌++◌, length, get_or, take, drop, Option, Some, None, refl, sym, ap, subst, ◌∙◌, append_assoc, length-append, arith, take-take}
 use Rattle.std.specs.Prelude.{◌==◌}
 use Rattle.std.specs.Char.{is_ascii_digit}
 use Rattle.std.specs.List.{prefix_len, list_all}
 use Rattle.std.proofs.lemmas.Bool.{and_parts, eqb-true, leb-true, le-leb}
-use Rattle.std.proofs.lemmas.List.{length-take, take_more}
+use Rattle.std.proofs.lemmas.List.{drop-drop, get_or-drop, length-take, take_more}
 use Rattle.std.proofs.lemmas.List.Sums.{prefix_len-le-length}
 use Rattle.std.proofs.Math.Seq.{take-append-add}
 use Rattle.sentence_text.proofs.Bytes.{front_passes, run_of}
@@ -12,6 +12,7 @@ use Rattle.unit_fraction.specs.Digits.{number, number_after}
 use Rattle.unit_fraction.proofs.Number.{number_after_append}
 use Rattle.capture_text.specs.Capture.{IsTime}
 use Rattle.capture_text.specs.Reading.{Timed, seconds_at, micros_at, micros_behind, time_at}
+use Rattle.capture_text.proofs.Digits.{few_counted, micros_fit, seconds_fit}
 use Rattle.capture_text.proofs.Cuts.{within, cut_found, cut_by_test, cut_at, if_some, some_is}
 
 pub record TimeRead (line : List ℕ) (t : Timed) : Type 0 where
@@ -28,6 +29,17 @@ front_digits m n text e =
     ap (list_all is_ascii_digit) (sym (take-take n m text le))
     ∙ ap (λ (k : ℕ). list_all is_ascii_digit (take k (take m text))) (sym e)
     ∙ front_passes is_ascii_digit (take m text)
+
+pub ten_counted : (text : List ℕ) (count : ℕ) → count ≡ prefix_len is_ascii_digit (take 10 text) → (list_all is_ascii_digit (take count text) ≡ true) × (number_after 0 (take count text) < 10 ^ 10)
+ten_counted text count run =
+    let digits = front_digits 10 count text (sym run) in
+    let few : length (take count text) ≤ 10 = omega (arith, run, few_counted text, length-take count text) in
+    (digits, seconds_fit (take count text) digits few)
+
+pub six_counted : (seconds : ℕ) (text : List ℕ) → seconds < 10 ^ 10 → prefix_len is_ascii_digit (take 6 text) ≡ 6 → (list_all is_ascii_digit (take 6 text) ≡ true) × (number_after seconds (take 6 text) < 2 ^ 64)
+six_counted seconds text small run =
+    let digits = front_digits 6 6 text run in
+    (digits, micros_fit seconds (take 6 text) small digits (omega (arith, length-take 6 text)))
 
 other_first : (k c : ℕ) (rest : List ℕ) → is_ascii_digit c ≡ false → prefix_len is_ascii_digit (take k (c ∷ rest)) ≡ 0
 other_first zero c rest e = refl
@@ -182,3 +194,26 @@ time_again moment time rest h =
     ∙ ap micros_behind (seconds_again h.seconds behind h.some h.few h.seconds_digits)
     ∙ micros_again (number h.seconds) h.micros rest h.six h.micros_digits
     ∙ ap (λ (x : ℕ). Some (record { moment = x; rest = rest })) value
+
+-- a time of twenty bytes, with the space behind it
+pub usual_time : (line : List ℕ) → get_or line 0 0 ≡ 40 → get_or line 11 0 ≡ 46 → get_or line 18 0 ≡ 41 → get_or line 19 0 ≡ 32
+    → list_all is_ascii_digit (take 10 (drop 1 line)) ≡ true → list_all is_ascii_digit (take 6 (drop 12 line)) ≡ true
+    → time_at line ≡ Some (record { moment = number_after (number (take 10 (drop 1 line))) (take 6 (drop 12 line)); rest = drop 20 line })
+usual_time line opened point closed space are_seconds are_micros =
+    let text = drop 1 line in
+    let seconds = take 10 text in
+    let micros = take 6 (drop 12 line) in
+    let rest = drop 20 line in
+    let behind : List ℕ = micros ++ 41 ∷ 32 ∷ rest in
+    let there : get_or text 10 0 ≡ 46 = get_or-drop 1 line 10 0 ∙ point in
+    let end : get_or (drop 12 line) 6 0 ≡ 41 = get_or-drop 12 line 6 0 ∙ closed in
+    let last : get_or (drop 19 line) 0 0 ≡ 32 = get_or-drop 19 line 0 0 ∙ space in
+    let a : text ≡ seconds ++ 46 ∷ drop 12 line = cut_found text 10 45 there ∙ ap (λ (x : List ℕ). seconds ++ 46 ∷ x) (drop-drop 11 1 line) in
+    let b : drop 12 line ≡ micros ++ 41 ∷ drop 19 line = cut_found (drop 12 line) 6 40 end ∙ ap (λ (x : List ℕ). micros ++ 41 ∷ x) (drop-drop 7 12 line) in
+    let c : drop 19 line ≡ 32 ∷ rest = cut_found (drop 19 line) 0 31 last ∙ ap (λ (x : List ℕ). 32 ∷ x) (drop-drop 1 19 line) in
+    let shape : line ≡ 40 ∷ (seconds ++ 46 ∷ behind) = cut_found line 0 39 opened ∙ ap (λ (x : List ℕ). 40 ∷ x) (a ∙ ap (λ (x : List ℕ). seconds ++ 46 ∷ x) (b ∙ ap (λ (x : List ℕ). micros ++ 41 ∷ x) c)) in
+    let ten : length seconds ≡ 10 = omega (arith, length-take 10 text, within text 10 45 there) in
+    ap time_at shape
+    ∙ time_by (seconds ++ 46 ∷ behind)
+    ∙ ap micros_behind (seconds_again seconds behind (omega (arith, ten)) (omega (arith, ten)) are_seconds)
+    ∙ micros_again (number seconds) micros rest (omega (arith, length-take 6 (drop 12 line), within (drop 12 line) 6 40 end)) are_micros

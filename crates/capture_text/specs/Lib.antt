@@ -1,6 +1,7 @@
 pub mod Lines
 pub mod LineRule
 pub mod Capture
+pub mod Hexadecimal
 pub mod Reading
 pub mod Writing
 pub mod Emitted

@@ -1,5 +1,5 @@
-ghost use Rattle.std.specs.Prelude.{◌≡◌, ◌≤◌, length};
-ghost use Rattle.std.specs.Char.{is_ascii_graphic, is_ascii_hexdigit};
+ghost use Rattle.std.specs.Prelude.{◌≡◌, ◌≤◌, length, true};
+ghost use Rattle.std.specs.Char.{is_ascii_graphic};
 ghost use Rattle.std.specs.List.{list_all, prefix_len};
 ghost use Rattle.capture_text.specs.Capture as capture;
 ghost use Rattle.capture_text.specs.Reading as spec;
@@ -21,10 +21,24 @@ pub(crate) fn up_to_space(text: &[u8]) -> &[u8]
     text.split_at(text_run(text)).0
 }
 
-pub(crate) fn all_hexadecimal(text: &[u8]) -> bool
-    ensures { result ≡ list_all is_ascii_hexdigit text.now }
+/// Whether all are bytes of a name. All are tested, many at once, and none is a reason to stop.
+#[tactic(auto, using(std::proofs::lemmas::List::Folds::list_all_more))]
+fn all_of_name(text: &[u8]) -> bool
+    ensures { result ≡ list_all is_ascii_graphic text.now }
 {
-    text.iter().all(|byte| byte.is_ascii_hexdigit())
+    let mut all = true;
+    for byte in text {
+        all = all & byte.is_ascii_graphic();
+    }
+    all
+}
+
+/// Whether a name of four bytes and a space come first, as in nearly every line.
+#[tactic(auto, using(crate::proofs::Lines::four_first))]
+fn is_name_of_four(text: &[u8]) -> bool
+    ensures { result ≡ true → (4 ≤ length text.now) × (prefix_len is_ascii_graphic text.now ≡ 4) }
+{
+    text.len() > 4 && text[4] == b' ' && all_of_name(&text[..4])
 }
 
 /// How many bytes of a name come first.
@@ -32,6 +46,9 @@ pub(crate) fn name_run(text: &[u8]) -> usize
     ensures run { result ≡ prefix_len is_ascii_graphic text.now }
     ensures within { result ≤ length text.now }
 {
+    if is_name_of_four(text) {
+        return 4;
+    }
     text.iter()
         .take_while(|byte| byte.is_ascii_graphic())
         .count()

@@ -6,8 +6,10 @@
 #![tactic(auto)]
 
 mod byte;
+mod hexadecimal;
 mod line_rule;
 mod reading;
+mod time;
 mod writing;
 
 pub use gate_events::{Detail, Emit, Event, Report};

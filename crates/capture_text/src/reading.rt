@@ -1,4 +1,4 @@
-ghost use Rattle.std.specs.Prelude.{◌≡◌, ◌+◌, ◌*◌, ◌<◌, ◌≤◌, ◌^◌, ◌⊎◌, ◌++◌, ◌↔◌, length, take, Ok, Err, Some, None, is_some, IfOk, IfSome, MatchOption};
+ghost use Rattle.std.specs.Prelude.{◌≡◌, ◌+◌, ◌*◌, ◌<◌, ◌≤◌, ◌^◌, ◌⊎◌, ◌++◌, ◌↔◌, length, slice_index, take, drop, true, false, ◌==◌, Ok, Err, Some, None, is_some, IfOk, IfSome, MatchOption};
 ghost use Rattle.std.specs.Char.{is_ascii_digit, is_ascii_hexdigit};
 ghost use Rattle.std.specs.List.{list_all, prefix_len};
 ghost use Rattle.std.specs.Result.{result_ok};
@@ -9,78 +9,16 @@ ghost use Rattle.capture_text.specs.Capture.{IsLine, IsNotExtended, IsNoLine, lo
 ghost use Rattle.gate_events.specs.Event.{Seen, IsValid, view};
 ghost use Rattle.capture_text.specs.Reading as spec;
 
-use crate::byte::{all_hexadecimal, is_end, is_group, name_run, up_to_space};
+use crate::byte::{is_end, is_group, name_run, up_to_space};
+use crate::hexadecimal::{all_hexadecimal, eight_bytes, number};
 use crate::line_rule::LineRule;
+use crate::time::time;
 use gate_events::Event;
 use n2k_id::Frame;
 use sentence_text::byte_at;
 
 /// The most bytes of a line.
 const LONGEST: usize = 4096;
-
-/// How many digits come first, and the number that they write behind those that were read before.
-#[tactic(auto, using(crate::proofs::Digits::run_starts, crate::proofs::Digits::run_goes_on, crate::proofs::Digits::run_stops, crate::proofs::Digits::run_ends))]
-fn digit_run(before: u64, text: &[u8]) -> (usize, u64)
-    requires { (before + 1) * 10 ^ length text.now ≤ 10 ^ 16 }
-    ensures run { result.0 ≡ prefix_len is_ascii_digit text.now }
-    ensures number { result.1 ≡ number_after before (take result.0 text.now) }
-    ensures small { result.1 < (before + 1) * 10 ^ result.0 }
-{
-    let mut number = before;
-    for (count, byte) in text.iter().enumerate() {
-        if !byte.is_ascii_digit() {
-            return (count, number);
-        }
-        number = number * 10 + u64::from(*byte - b'0');
-    }
-    (text.len(), number)
-}
-
-/// The first bytes, at most so many.
-fn front(text: &[u8], most: usize) -> &[u8]
-    ensures { result.now ≡ take most text.now }
-{
-    text.split_at(text.len().min(most)).0
-}
-
-/// The seconds at the front, and what follows the point behind them.
-#[tactic(auto, using(crate::proofs::Digits::seconds_fit, crate::proofs::Digits::seconds_few, crate::proofs::Digits::seconds_there), unfolding(crate::specs::Reading::seconds_at))]
-fn seconds(text: &[u8]) -> Option<(u64, &[u8])>
-    ensures few { IfSome result (λ t. t.0 < 10 ^ 10) }
-    ensures reads { MatchOption result (spec.seconds_at text.now ≡ None) (λ t. spec.seconds_at text.now ≡ Some (record { moment = t.0; rest = t.1.now })) }
-{
-    let (count, seconds) = digit_run(0, front(text, 10));
-    if count < 1 || byte_at(text, count) != b'.' {
-        return None;
-    }
-    Some((seconds, text.split_at(count + 1).1))
-}
-
-/// The moment whose seconds were read and whose microseconds are at the front, and what follows the space behind them.
-#[tactic(auto, using(crate::proofs::Digits::micros_fit, crate::proofs::Digits::six_are_front), unfolding(crate::specs::Reading::micros_at))]
-fn moment(seconds: u64, text: &[u8]) -> Option<(u64, &[u8])>
-    requires { seconds < 10 ^ 10 }
-    ensures reads { MatchOption result (spec.micros_at seconds text.now ≡ None)
-        (λ t. spec.micros_at seconds text.now ≡ Some (record { moment = t.0; rest = t.1.now })) }
-{
-    let (count, moment) = digit_run(seconds, front(text, 6));
-    if count != 6 || byte_at(text, 6) != b')' || byte_at(text, 7) != b' ' {
-        return None;
-    }
-    Some((moment, text.split_at(8).1))
-}
-
-/// The moment of the time at the front, and what follows the space behind it.
-#[tactic(auto, unfolding(crate::specs::Reading::time_at))]
-fn time(line: &[u8]) -> Option<(u64, &[u8])>
-    ensures reads { MatchOption result (spec.time_at line.now ≡ None) (λ t. spec.time_at line.now ≡ Some (record { moment = t.0; rest = t.1.now })) }
-{
-    if byte_at(line, 0) != b'(' {
-        return None;
-    }
-    let (seconds, rest) = seconds(line.split_at(1).1)?;
-    moment(seconds, rest)
-}
 
 /// Puts the bytes that the digits write into the room, and says how many there are.
 fn put_bytes(digits: &[u8], room: &mut [u8]) -> Option<usize>
@@ -123,20 +61,13 @@ fn put_datagram(tail: &[u8], room: &mut [u8; 2048]) -> Option<usize>
 fn put_data(behind: &[u8], room: &mut [u8; 8]) -> Option<usize>
     ensures { spec.IsPut result room.new (spec.data_at behind.now) }
 {
-    put_bytes_before_end(behind, &mut room[..])
-}
-
-/// The number that eight digits write.
-#[tactic(auto, unfolding(crate::specs::Reading::number_of))]
-fn number(digits: &[u8]) -> Option<u32>
-    requires { length digits.now ≡ 8 }
-    ensures { result ≡ spec.number_of digits.now }
-{
-    let mut bytes = [0; 4];
-    match hex::decode_to_slice(digits, &mut bytes) {
-        Ok(()) => Some(u32::from_be_bytes(bytes)),
-        Err(_) => None,
+    if behind.len() == 16
+        && let Some(bytes) = eight_bytes(behind)
+    {
+        *room = bytes;
+        return Some(8);
     }
+    put_bytes_before_end(behind, &mut room[..])
 }
 
 /// Whether a remote frame, or a frame of CAN FD, follows its identifier.
@@ -196,6 +127,18 @@ fn wide_frame(identifier: &[u8], behind: &[u8]) -> Result<Frame, LineRule>
     }
 }
 
+/// What stands before and behind a `#` at this place, if one stands there.
+fn split_at_hash(text: &[u8], place: usize) -> Option<(&[u8], &[u8])>
+    requires { place < 2 ^ 32 }
+    ensures { MatchOption result ((slice_index text.now place == 35) ≡ false)
+        (λ t. ((slice_index text.now place == 35) ≡ true) × (t.0.now ≡ take place text.now) × (t.1.now ≡ drop (place + 1) text.now)) }
+{
+    if byte_at(text, place) != b'#' {
+        return None;
+    }
+    Some((&text[..place], &text[place + 1..]))
+}
+
 /// The frame of the bus behind the interface.
 #[tactic(auto, unfolding(crate::specs::Reading::frame_at))]
 fn frame(tail: &[u8]) -> Result<Frame, LineRule>
@@ -205,14 +148,14 @@ fn frame(tail: &[u8]) -> Result<Frame, LineRule>
     if byte_at(tail, 0) != b' ' {
         return Err(LineRule::Form);
     }
-    let digits = tail.split_at(1).1;
-    if byte_at(digits, 3) == b'#' {
-        return Err(short_frame(digits.split_at(3).0, digits.split_at(4).1));
+    let digits = &tail[1..];
+    if let Some((identifier, behind)) = split_at_hash(digits, 3) {
+        return Err(short_frame(identifier, behind));
     }
-    if byte_at(digits, 8) == b'#' {
-        return wide_frame(digits.split_at(8).0, digits.split_at(9).1);
+    match split_at_hash(digits, 8) {
+        Some((identifier, behind)) => wide_frame(identifier, behind),
+        None => Err(LineRule::Form),
     }
-    Err(LineRule::Form)
 }
 
 /// The interface at the front, and what follows it.

@@ -11,6 +11,7 @@ ghost use Rattle.capture_text.specs.Reading.{read};
 ghost use Rattle.capture_text.specs.Writing.{time_text, part, detail_text, report_text, frame_text, datagram_text, line_text, said};
 ghost use Rattle.gate_events.specs.Emit.{CanWrite, most_written};
 
+use crate::hexadecimal::put_digits;
 use arrayvec::ArrayVec;
 use gate_events::{Detail, Emit, Report};
 use n2k_id::Frame;
@@ -19,8 +20,8 @@ use unit_fraction::write_decimal;
 
 type Line = ArrayVec<u8, 4096>;
 
-/// Hexadecimal digits with capital letters, by their value.
-const DIGITS: [u8; 16] = *b"0123456789ABCDEF";
+/// What makes room for digits that are put there.
+static ZEROS: [u8; 4096] = [0; 4096];
 
 fn append(piece: &[u8], out: &mut Line)
     requires { array_vec_len out.old + length piece.now ≤ longest_line }
@@ -43,22 +44,15 @@ fn append_decimal(number: u64, places: u8, out: &mut Line)
     append(text.as_slice(), out);
 }
 
-#[tactic(auto, using(crate::proofs::Hex::hex_starts, crate::proofs::Hex::hex_goes_on))]
 fn append_hex(bytes: &[u8], out: &mut Line)
     requires { array_vec_len out.old + 2 * length bytes.now ≤ longest_line }
     ensures text { out.new.items ≡ out.old.items ++ encode_upper bytes.now }
     ensures len { array_vec_len out.new ≡ array_vec_len out.old + 2 * length bytes.now }
     ensures fit { IsBytes bytes.now }
 {
-    for byte in bytes {
-        append(
-            &[
-                DIGITS[usize::from(*byte / 16)],
-                DIGITS[usize::from(*byte % 16)],
-            ],
-            out,
-        );
-    }
+    let start = out.len();
+    append(&ZEROS[..2 * bytes.len()], out);
+    put_digits(bytes, &mut out.as_mut_slice()[start..]);
 }
 
 /// The time of a line, and a space.

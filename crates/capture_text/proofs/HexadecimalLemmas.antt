@@ -1,0 +1,156 @@
+-- Hexadecimal digits that are read and written many at once.
+use Rattle.std.proofs.Common.{◌≡◌, ℕ, ◌+◌, ◌-◌, ◌*◌, ◌%◌, ◌<◌, ◌≤◌, Bool, true, false, ◌&&◌, cond, ltb, leb, List, [], ◌∷◌, ◌++◌, length, get_or, set, take, drop, Ok, Some, None, refl, sym, ap, subst, ◌∙◌, arith, inl, inr}
+use Rattle.std.specs.Prelude.{◌||◌, All, map, Result, Err, option_map}
+use Rattle.std.specs.Char.{digit_value, is_ascii_hexdigit}
+use Rattle.std.specs.Result.{result_ok}
+use Rattle.std.specs.Int.{w32, from_be_bytes}
+use Rattle.std.specs.List.{list_all, range_with_len}
+use Rattle.std.proofs.lemmas.Bool.{and_parts, le-leb, leb-true, or_cases}
+use Rattle.std.proofs.lemmas.List.{append_assoc, append-nil, drop_all, map_more, take_all, take_more_set}
+use Rattle.std.proofs.lemmas.List.FromFn.{get_or-map-range_with_len}
+use Rattle.std.proofs.lemmas.List.Elements.{All-nil, All-cons, All-get_or}
+use Rattle.std.proofs.lemmas.List.Sums.{AllPass-from_list_all}
+use Rattle.hex.specs.Hex.{decode_of, decode_pairs, digit_or_error, hex_digit_value, pair_value, upper_digits, value_at}
+use Rattle.hex.specs.declared.error.FromHexError.{FromHexError}
+use Rattle.hex.proofs.HexLemmas.{decode_of-even}
+use Rattle.hex.proofs.Pairs.{cons_byte, decode_pairs-ok_pair, drop-pair}
+use Rattle.capture_text.specs.Hexadecimal.{paired}
+use Rattle.capture_text.specs.Reading.{number_of}
+use Rattle.capture_text.proofs.Data.{written_digits}
+
+-- ---- read
+
+pub digit_at : (digits : List ℕ) (i : ℕ) → i < length digits → list_all is_ascii_hexdigit digits ≡ true → is_ascii_hexdigit (get_or digits i 0) ≡ true
+digit_at digits i lt h = All-get_or (λ c. is_ascii_hexdigit c ≡ true) digits i 0 lt (AllPass-from_list_all is_ascii_hexdigit digits h)
+
+pub values_more : (digits room : List ℕ) (i value : ℕ) → i < length digits → i < length room → value ≡ digit_value (get_or digits i 0) → take i room ≡ map digit_value (take i digits)
+    → take (i + 1) (set room i value) ≡ map digit_value (take (i + 1) digits)
+values_more digits room i value lt fits v e =
+    take_more_set room i value fits
+    ∙ ap (λ (x : List ℕ). x ++ value ∷ []) e
+    ∙ ap (λ (x : ℕ). map digit_value (take i digits) ++ x ∷ []) v
+    ∙ sym (map_more digit_value digits i 0 lt)
+
+-- a digit is in one of three ranges
+data DigitKind (c : ℕ) : Type 0 where
+  decimal : 48 ≤ c → c ≤ 57 → DigitKind c
+  capital : 65 ≤ c → c ≤ 70 → DigitKind c
+  small_letter : 97 ≤ c → c ≤ 102 → DigitKind c
+
+abbrev within : ℕ → ℕ → ℕ → Bool
+within a b c = leb a c && leb c b
+
+in_range : (a b c : ℕ) → within a b c ≡ true → (a ≤ c) × (c ≤ b)
+in_range a b c h = let p = and_parts (leb a c) (leb c b) h in (leb-true a c p.0, leb-true c b p.1)
+
+digit_kind : (c : ℕ) → is_ascii_hexdigit c ≡ true → DigitKind c
+digit_kind c h = elim (or_cases (within 48 57 c || within 65 70 c) (within 97 102 c) h) [
+  | inr e ↦ let r = in_range 97 102 c e in small_letter r.0 r.1
+  | inl f ↦
+      elim (or_cases (within 48 57 c) (within 65 70 c) f) [
+        | inl e ↦ let r = in_range 48 57 c e in decimal r.0 r.1
+        | inr e ↦ let r = in_range 65 70 c e in capital r.0 r.1
+      ]
+]
+
+decimal_value : (c : ℕ) → 48 ≤ c → c ≤ 57 → (digit_value c < 16) × (hex_digit_value c ≡ Some (digit_value c))
+decimal_value c low high = (grind arith, grind arith)
+
+capital_value : (c : ℕ) → 65 ≤ c → c ≤ 70 → (digit_value c < 16) × (hex_digit_value c ≡ Some (digit_value c))
+capital_value c low high = (grind arith, grind arith)
+
+letter_last : (b : Bool) (c : ℕ) → cond (b && false) (Some (c - 55)) (Some (c - 87)) ≡ Some (c - 87)
+letter_last true c = refl
+letter_last false c = refl
+
+letter_value : (c : ℕ) → 97 ≤ c → c ≤ 102 → (digit_value c < 16) × (hex_digit_value c ≡ Some (digit_value c))
+letter_value c low high = (
+  grind arith,
+  let past : leb c 70 ≡ false = grind arith in
+      let here : leb c 102 ≡ true = le-leb c 102 high in
+      let from : leb 97 c ≡ true = le-leb 97 c low in
+      let value : digit_value c ≡ c - 87 = grind arith in
+      simp (past, here, from, value) (letter_last (leb 65 c) c),
+)
+
+-- the value of a digit, as hex has it
+value_is : (c : ℕ) → is_ascii_hexdigit c ≡ true → (digit_value c < 16) × (hex_digit_value c ≡ Some (digit_value c))
+value_is c h = elim (digit_kind c h) [
+  | decimal low high ↦ decimal_value c low high
+  | capital low high ↦ capital_value c low high
+  | small_letter low high ↦ letter_value c low high
+]
+
+values_small : (digits : List ℕ) → list_all is_ascii_hexdigit digits ≡ true → All (λ v. v < 16) (map digit_value digits)
+values_small [] h = All-nil (λ v. v < 16)
+values_small (c ∷ cs) h =
+    let p = and_parts (is_ascii_hexdigit c) (list_all is_ascii_hexdigit cs) h in
+    All-cons (λ v. v < 16) (digit_value c) (map digit_value cs) (value_is c p.0).0 (values_small cs p.1)
+
+pub small_values : (digits values : List ℕ) → list_all is_ascii_hexdigit digits ≡ true → values ≡ map digit_value digits → All (λ v. v < 16) values
+small_values digits values h e = subst (All (λ v. v < 16)) (sym e) (values_small digits h)
+
+pub pairs_more : (values room : List ℕ) (i byte : ℕ) → i < length room → 2 * i + 1 < length values → byte ≡ get_or values (2 * i) 0 * 16 + get_or values (2 * i + 1) 0
+    → take i room ++ paired (drop (2 * i) values) ≡ paired values → take (i + 1) (set room i byte) ++ paired (drop (2 * (i + 1)) values) ≡ paired values
+pairs_more values room i byte lt fits b e =
+    let rest = paired (drop (2 * (i + 1)) values) in
+    ap (λ (x : List ℕ). x ++ rest) (take_more_set room i byte lt)
+    ∙ append_assoc (take i room) (byte ∷ []) rest
+    ∙ ap (λ (x : ℕ). take i room ++ x ∷ rest) b
+    ∙ ap (λ (x : List ℕ). take i room ++ paired x) (sym (drop-pair values i fits))
+    ∙ e
+
+pub pairs_done : (values room : List ℕ) (i : ℕ) → length room ≤ i → length values ≤ 2 * i → take i room ++ paired (drop (2 * i) values) ≡ paired values → room ≡ paired values
+pairs_done values room i le all e =
+    sym (take_all i room le)
+    ∙ sym (append-nil (take i room))
+    ∙ ap (λ (x : List ℕ). take i room ++ paired x) (sym (drop_all (2 * i) values all))
+    ∙ e
+
+decoded_from : (i : ℕ) (digits : List ℕ) → length digits % 2 ≡ 0 → list_all is_ascii_hexdigit digits ≡ true → decode_pairs i digits ≡ Ok (paired (map digit_value digits))
+unfolding decode_pairs
+decoded_from i [] even h = refl
+decoded_from i (a ∷ []) even h = absurd (omega arith)
+decoded_from i (a ∷ b ∷ rest) even h =
+    let p = and_parts (is_ascii_hexdigit a) (list_all is_ascii_hexdigit (b ∷ rest)) h in
+    let q = and_parts (is_ascii_hexdigit b) (list_all is_ascii_hexdigit rest) p.1 in
+    let high : value_at a i ≡ Ok (digit_value a) = ap (digit_or_error a i) (value_is a p.0).1 in
+    let low : value_at b (i + 1) ≡ Ok (digit_value b) = ap (digit_or_error b (i + 1)) (value_is b q.0).1 in
+    let byte = digit_value a * 16 + digit_value b in
+    let pair : pair_value a b i ≡ Ok byte = rw (high, low) refl in
+    decode_pairs-ok_pair i a b byte rest pair ∙ ap (cons_byte byte) (decoded_from (i + 2) rest (omega arith) q.1)
+
+decoded : (digits : List ℕ) → length digits % 2 ≡ 0 → list_all is_ascii_hexdigit digits ≡ true → decode_of digits ≡ Ok (paired (map digit_value digits))
+decoded digits even h = decode_of-even digits even ∙ decoded_from 0 digits even h
+
+pub sixteen_decoded : (digits bytes values : List ℕ) → length digits ≡ 16 → list_all is_ascii_hexdigit digits ≡ true → values ≡ map digit_value digits → bytes ≡ paired values → decode_of digits ≡ Ok bytes
+sixteen_decoded digits bytes values len h v e =
+    let even : length digits % 2 ≡ 0 = omega arith in
+    decoded digits even h ∙ ap (λ (x : List ℕ). Ok (paired x)) (sym v) ∙ ap (λ (x : List ℕ). Ok x) (sym e)
+
+pub number_decoded : (digits bytes values : List ℕ) → length digits ≡ 8 → list_all is_ascii_hexdigit digits ≡ true → values ≡ map digit_value digits → bytes ≡ paired values
+    → number_of digits ≡ Some (from_be_bytes w32 bytes)
+unfolding number_of
+number_decoded digits bytes values len h v e =
+    let even : length digits % 2 ≡ 0 = omega arith in
+    let written : decode_of digits ≡ Ok bytes = decoded digits even h ∙ ap (λ (x : List ℕ). Ok (paired x)) (sym v) ∙ ap (λ (x : List ℕ). Ok x) (sym e) in
+    rw written refl
+
+pub no_number : (digits : List ℕ) → list_all is_ascii_hexdigit digits ≡ false → number_of digits ≡ None
+unfolding number_of
+no_number digits h = by_answer (decode_of digits) refl
+  where
+    by_answer : (r : Result (List ℕ) FromHexError) → decode_of digits ≡ r → option_map (from_be_bytes w32) (result_ok r) ≡ None
+    by_answer (Ok bytes) e = absurd (let f : true ≡ false = sym (written_digits digits bytes e) ∙ h in cc)
+    by_answer (Err fault) e = refl
+
+-- ---- written
+
+abbrev digit_of : ℕ → ℕ
+digit_of value = cond (ltb value 10) (48 + value) (55 + value)
+
+pub digit_is : (value : ℕ) → value < 16 → get_or upper_digits value 0 ≡ cond (ltb value 10) (48 + value) (55 + value)
+digit_is value lt =
+    let all : upper_digits ≡ map digit_of (range_with_len 0 16) = refl in
+    let here : 0 + value ≡ value = omega arith in
+    ap (λ (x : List ℕ). get_or x value 0) all ∙ get_or-map-range_with_len digit_of 0 16 value value 0 lt here

@@ -1,0 +1,11 @@
+use Rattle.std.proofs.Common.{arith}
+use Rattle.hex.specs.Hex.{upper_digits}
+use Rattle.hex.proofs.Pairs.{encode_step, encode_done}
+use Rattle.capture_text.proofs.hexadecimal.put_digits.Goals as goal
+
+pub bytes-preserved : goal.bytes-preserved
+bytes-preserved c =
+    encode_step upper_digits c.args.bytes.now c.bytes.room c.bytes.i c.digit.result c.digit-in-bytes.result (omega arith) (omega arith) c.digit.ensures c.digit-in-bytes.ensures c.bytes.invariant
+
+pub returns : goal.returns
+returns c = encode_done upper_digits c.args.bytes.now c.bytes.room c.bytes.i (omega arith) (omega arith) c.bytes.invariant

@@ -1,0 +1,127 @@
+//! The time at the front of a line.
+ghost use Rattle.std.specs.Prelude.{◌≡◌, ◌+◌, ◌<◌, ◌≤◌, ◌^◌, length, take, drop, true, Some, None, IfSome, MatchOption};
+ghost use Rattle.std.specs.Char.{is_ascii_digit};
+ghost use Rattle.std.specs.List.{list_all, prefix_len};
+ghost use Rattle.unit_fraction.specs.Digits.{number_after};
+ghost use Rattle.capture_text.specs.Reading as spec;
+
+use sentence_text::byte_at;
+
+/// How many bytes a time of ten digits of seconds has, with the space behind it.
+const USUAL_TIME: usize = 20;
+
+/// Whether all are decimal digits. All are tested, many at once, and none is a reason to stop.
+#[tactic(auto, using(std::proofs::lemmas::List::Folds::list_all_more))]
+fn all_decimal(text: &[u8]) -> bool
+    ensures { result ≡ list_all is_ascii_digit text.now }
+{
+    let mut all = true;
+    for byte in text {
+        all = all & byte.is_ascii_digit();
+    }
+    all
+}
+
+/// The number that the digits write behind those that were read before.
+#[tactic(auto, using(crate::proofs::Digits::digit_in_range, unit_fraction::proofs::Number::number_step))]
+fn number(before: u64, digits: &[u8]) -> u64
+    requires digits { list_all is_ascii_digit digits.now ≡ true }
+    requires fits { number_after before digits.now < 2 ^ 64 }
+    ensures { result ≡ number_after before digits.now }
+{
+    let mut number = before;
+    for digit in digits {
+        number = number * 10 + u64::from(*digit - b'0');
+    }
+    number
+}
+
+/// The moment of a time whose seconds have ten digits, as all have from 2001 to 2286.
+#[tactic(auto, using(crate::proofs::Times::usual_time, crate::proofs::Digits::usual_fits))]
+fn usual_moment(line: &[u8]) -> Option<u64>
+    ensures within { IfSome result (λ moment. 20 ≤ length line.now) }
+    ensures reads { IfSome result (λ moment. spec.time_at line.now ≡ Some (record { moment = moment; rest = drop 20 line.now })) }
+{
+    if line.len() < USUAL_TIME {
+        return None;
+    }
+    let seconds = &line[1..11];
+    let micros = &line[12..18];
+    if line[0] != b'(' || line[11] != b'.' || line[18] != b')' || line[19] != b' ' {
+        return None;
+    }
+    if !(all_decimal(seconds) & all_decimal(micros)) {
+        return None;
+    }
+    Some(number(number(0, seconds), micros))
+}
+
+/// The first bytes, at most so many.
+#[tactic(auto, using(std::proofs::lemmas::List::take_all))]
+fn front(text: &[u8], most: usize) -> &[u8]
+    ensures { result.now ≡ take most text.now }
+{
+    if text.len() <= most {
+        text
+    } else {
+        &text[..most]
+    }
+}
+
+/// How many digits come first, of at most so many bytes.
+fn digit_run(text: &[u8], most: usize) -> usize
+    ensures { result ≡ prefix_len is_ascii_digit (take most text.now) }
+{
+    front(text, most)
+        .iter()
+        .take_while(|byte| byte.is_ascii_digit())
+        .count()
+}
+
+/// The seconds at the front, and what follows the point behind them.
+#[tactic(auto, unfolding(crate::specs::Reading::seconds_at))]
+fn seconds(text: &[u8]) -> Option<(u64, &[u8])>
+    ensures few { IfSome result (λ t. t.0 < 10 ^ 10) }
+    ensures reads { MatchOption result (spec.seconds_at text.now ≡ None) (λ t. spec.seconds_at text.now ≡ Some (record { moment = t.0; rest = t.1.now })) }
+{
+    let count = digit_run(text, 10);
+    if count < 1 || byte_at(text, count) != b'.' {
+        return None;
+    }
+    Some((number(0, &text[..count]), &text[count + 1..]))
+}
+
+/// The moment whose seconds were read and whose microseconds are at the front, and what follows the space behind them.
+#[tactic(auto, unfolding(crate::specs::Reading::micros_at))]
+fn moment(seconds: u64, text: &[u8]) -> Option<(u64, &[u8])>
+    requires { seconds < 10 ^ 10 }
+    ensures reads { MatchOption result (spec.micros_at seconds text.now ≡ None)
+        (λ t. spec.micros_at seconds text.now ≡ Some (record { moment = t.0; rest = t.1.now })) }
+{
+    if digit_run(text, 6) != 6 || byte_at(text, 6) != b')' || byte_at(text, 7) != b' ' {
+        return None;
+    }
+    Some((number(seconds, &text[..6]), &text[8..]))
+}
+
+/// The same of any time.
+#[tactic(auto, unfolding(crate::specs::Reading::time_at))]
+fn any_time(line: &[u8]) -> Option<(u64, &[u8])>
+    ensures reads { MatchOption result (spec.time_at line.now ≡ None) (λ t. spec.time_at line.now ≡ Some (record { moment = t.0; rest = t.1.now })) }
+{
+    if byte_at(line, 0) != b'(' {
+        return None;
+    }
+    let (seconds, rest) = seconds(&line[1..])?;
+    moment(seconds, rest)
+}
+
+/// The moment of the time at the front, and what follows the space behind it.
+pub(crate) fn time(line: &[u8]) -> Option<(u64, &[u8])>
+    ensures reads { MatchOption result (spec.time_at line.now ≡ None) (λ t. spec.time_at line.now ≡ Some (record { moment = t.0; rest = t.1.now })) }
+{
+    match usual_moment(line) {
+        Some(moment) => Some((moment, &line[USUAL_TIME..])),
+        None => any_time(line),
+    }
+}
