@@ -128,20 +128,24 @@ sixteen_decoded digits bytes values len h v e =
     let even : length digits % 2 ≡ 0 = omega arith in
     decoded digits even h ∙ ap (λ (x : List ℕ). Ok (paired x)) (sym v) ∙ ap (λ (x : List ℕ). Ok x) (sym e)
 
-pub number_decoded : (digits bytes values : List ℕ) → length digits ≡ 8 → list_all is_ascii_hexdigit digits ≡ true → values ≡ map digit_value digits → bytes ≡ paired values
+pub number_decoded : (digits bytes values : List ℕ) → length digits ≡ 8 → list_all is_ascii_hexdigit (take 8 digits) ≡ true → values ≡ map digit_value (take 8 digits) → bytes ≡ paired values
     → number_of digits ≡ Some (from_be_bytes w32 bytes)
 unfolding number_of
 number_decoded digits bytes values len h v e =
+    let all : take 8 digits ≡ digits = take_all 8 digits (omega arith) in
     let even : length digits % 2 ≡ 0 = omega arith in
-    let written : decode_of digits ≡ Ok bytes = decoded digits even h ∙ ap (λ (x : List ℕ). Ok (paired x)) (sym v) ∙ ap (λ (x : List ℕ). Ok x) (sym e) in
+    let written : decode_of digits ≡ Ok bytes =
+    decoded digits even (ap (list_all is_ascii_hexdigit) (sym all) ∙ h) ∙ ap (λ (x : List ℕ). Ok (paired (map digit_value x))) (sym all) ∙ ap (λ (x : List ℕ). Ok (paired x)) (sym v) ∙ ap (λ (x : List ℕ). Ok x) (sym e) in
     rw written refl
 
-pub no_number : (digits : List ℕ) → list_all is_ascii_hexdigit digits ≡ false → number_of digits ≡ None
+pub no_number : (digits : List ℕ) → length digits ≡ 8 → list_all is_ascii_hexdigit (take 8 digits) ≡ false → number_of digits ≡ None
 unfolding number_of
-no_number digits h = by_answer (decode_of digits) refl
+no_number digits len h = by_answer (decode_of digits) refl
   where
     by_answer : (r : Result (List ℕ) FromHexError) → decode_of digits ≡ r → option_map (from_be_bytes w32) (result_ok r) ≡ None
-    by_answer (Ok bytes) e = absurd (let f : true ≡ false = sym (written_digits digits bytes e) ∙ h in cc)
+    by_answer (Ok bytes) e =
+        let all : take 8 digits ≡ digits = take_all 8 digits (omega arith) in
+        absurd (let f : true ≡ false = sym (written_digits digits bytes e) ∙ ap (list_all is_ascii_hexdigit) (sym all) ∙ h in cc)
     by_answer (Err fault) e = refl
 
 -- ---- written

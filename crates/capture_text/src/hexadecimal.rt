@@ -76,6 +76,7 @@ pub(crate) fn number(digits: &[u8]) -> Option<u32>
     requires { length digits.now ≡ 8 }
     ensures { result ≡ number_of digits.now }
 {
+    let digits = &digits[..8];
     if !all_hexadecimal(digits) {
         return None;
     }

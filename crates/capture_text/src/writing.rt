@@ -1,4 +1,4 @@
-ghost use Rattle.std.specs.Prelude.{◌≡◌, ◌+◌, ◌*◌, ◌<◌, ◌≤◌, ◌^◌, [], ◌++◌, length, false, Ok, IfSome};
+ghost use Rattle.std.specs.Prelude.{◌≡◌, ◌+◌, ◌*◌, ◌<◌, ◌≤◌, ◌^◌, [], ◌++◌, length, take, false, Ok, IfSome};
 ghost use Rattle.std.specs.Fmt.{decimal};
 ghost use Rattle.arrayvec.specs.ArrayVec.{array_vec_len};
 ghost use Rattle.hex.specs.Hex.{encode_upper, IsBytes};
@@ -44,6 +44,14 @@ fn append_decimal(number: u64, places: u8, out: &mut Line)
     append(text.as_slice(), out);
 }
 
+/// Puts the digits of the bytes into the text, from a place to its end.
+fn put_from(start: usize, bytes: &[u8], text: &mut [u8])
+    requires { length text.old ≡ start + 2 * length bytes.now }
+    ensures { text.new ≡ take start text.old ++ encode_upper bytes.now }
+{
+    put_digits(bytes, &mut text[start..]);
+}
+
 fn append_hex(bytes: &[u8], out: &mut Line)
     requires { array_vec_len out.old + 2 * length bytes.now ≤ longest_line }
     ensures text { out.new.items ≡ out.old.items ++ encode_upper bytes.now }
@@ -52,7 +60,7 @@ fn append_hex(bytes: &[u8], out: &mut Line)
 {
     let start = out.len();
     append(&ZEROS[..2 * bytes.len()], out);
-    put_digits(bytes, &mut out.as_mut_slice()[start..]);
+    put_from(start, bytes, out.as_mut_slice());
 }
 
 /// The time of a line, and a space.
