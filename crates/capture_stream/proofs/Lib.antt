@@ -1,6 +1,6 @@
-pub mod Blocks
 pub mod DueLemmas
 pub mod EndLemmas
+pub mod FirstLf
 pub mod LineReaderLemmas
 pub mod Moves
 pub mod ProgressLemmas

@@ -6,6 +6,7 @@ ghost use Rattle.gate_outside.specs.Faults.{HasCause};
 ghost use Rattle.capture_stream.specs.LineReader.{HasNoLf, ReadsBehind};
 
 use gate_outside::{Failed, Source};
+use memchr::memchr;
 use std::marker::Model;
 
 /// The length of the longest line. A longer one is refused unread.
@@ -13,9 +14,6 @@ const LONGEST: usize = 4096;
 
 /// How many bytes are held, and so read at once, at most.
 const PIECE: usize = 65536;
-
-/// How many bytes are compared with LF at once.
-const BLOCK: usize = 16;
 
 /// What `advance` found.
 #[derive(Clone, Copy, Debug, PartialEq, Eq)]
@@ -28,46 +26,13 @@ pub(crate) enum Next {
     Unfinished,
 }
 
-// Where the first LF stands, looked for byte by byte.
-fn lf_in(bytes: &[u8]) -> Option<usize>
-    ensures { MatchOption result (HasNoLf bytes.now) (λ at.
-        (at < length bytes.now) × (slice_index bytes.now at ≡ 10) × HasNoLf (take at bytes.now)) }
-{
-    bytes.iter().position(|byte| *byte == b'\n')
-}
-
-// Whether an LF is among the bytes. All of them are compared, many at once, and none is a reason to stop.
-fn has_lf(block: &[u8]) -> bool
-    ensures { result ≡ fold (λ found byte. found || is_lf byte) false block.now }
-{
-    block
-        .iter()
-        .fold(false, |found, byte| found | (*byte == b'\n'))
-}
-
-// How many bytes come first in whole blocks without an LF.
-#[tactic(auto, using(crate::proofs::Blocks::no_lf_more))]
-fn bytes_without_lf(bytes: &[u8]) -> usize
-    ensures within { result ≤ length bytes.now }
-    ensures no_lf { HasNoLf (take result bytes.now) }
-{
-    let mut at = 0;
-    while bytes.len() - at >= BLOCK && !has_lf(&bytes[at..at + BLOCK]) {
-        at += BLOCK;
-    }
-    at
-}
-
 // Where the first LF stands.
+#[tactic(auto, using(crate::proofs::FirstLf::first_lf))]
 fn first_lf(bytes: &[u8]) -> Option<usize>
     ensures { MatchOption result (HasNoLf bytes.now) (λ at.
         (at < length bytes.now) × (slice_index bytes.now at ≡ 10) × HasNoLf (take at bytes.now)) }
 {
-    let at = bytes_without_lf(bytes);
-    match lf_in(bytes.split_at(at).1) {
-        Some(count) => Some(at + count),
-        None => None,
-    }
+    memchr(b'\n', bytes)
 }
 
 // The length of a line whose bytes up to its LF are these: a CR at the end is no part of it.

@@ -1,12 +1,12 @@
 -- Bytes in hexadecimal digits, up to the end of the line or a space.
-use Rattle.std.proofs.Common.{◌≡◌, ℕ, ◌+◌, ◌*◌, ◌≤◌, true, false, leb, List, [], ◌∷◌, ◌++◌, length, take, drop, Option, Some, None, Ok, refl, sym, ap, ◌∙◌, one-add, arith, inl, inr}
+use Rattle.std.proofs.Common.{◌≡◌, ℕ, ◌+◌, ◌*◌, ◌≤◌, true, false, leb, List, [], ◌∷◌, ◌++◌, length, drop, Option, Some, None, Ok, refl, sym, ap, ◌∙◌, one-add, arith, inl, inr}
 use Rattle.std.specs.Prelude.{◌==◌, ◌||◌, option_map}
 use Rattle.std.specs.Char.{is_ascii_hexdigit}
 use Rattle.std.specs.List.{prefix_len, list_all}
 use Rattle.std.specs.Result.{result_ok}
 use Rattle.std.specs.Int.{w32, from_be_bytes}
 use Rattle.std.proofs.lemmas.Bool.{cases_Bool, and_parts, eqb-true, leb-true, le-leb}
-use Rattle.std.proofs.lemmas.List.{append-nil, take-append-drop, take_all}
+use Rattle.std.proofs.lemmas.List.{append-nil, take-append-drop}
 use Rattle.std.proofs.lemmas.List.Sums.{list_all-from_AllPass}
 use Rattle.hex.specs.Hex.{decode_of, is_hex_digit}
 use Rattle.hex.proofs.HexLemmas.{decode_of-ok}
@@ -86,13 +86,11 @@ whole_is_bytes most text bytes e =
     ∙ bytes_again most text [] bytes (leb-true (length text) (2 * most) made.0) (result_some (decode_of text) bytes made.1) refl
 
 -- the bytes of sixteen digits
-pub eight_are_data : (text bytes : List ℕ) → length text ≡ 16 → decode_of text ≡ Ok bytes → (8 ≤ length bytes) × (data_at text ≡ Some (take 8 bytes))
+pub eight_are_data : (text bytes : List ℕ) → length text ≡ 16 → decode_of text ≡ Ok bytes → data_at text ≡ Some bytes
 eight_are_data text bytes len written =
-    let twice = (decode_of-ok text bytes written).2 in
     let fits : leb (length text) 16 ≡ true = le-leb (length text) 16 (omega arith) in
     let made : bytes_of 8 text ≡ Some bytes = rw (fits, written) refl in
-    let whole : take 8 bytes ≡ bytes = take_all 8 bytes (omega (arith, twice)) in
-    (omega (arith, twice), whole_is_bytes 8 text bytes made ∙ ap (λ (x : List ℕ). Some x) (sym whole))
+    whole_is_bytes 8 text bytes made
 
 pub data_found : (behind held : List ℕ) → data_at behind ≡ Some held → IsData held behind
 data_found behind held e =

@@ -61,12 +61,6 @@ fn put_datagram(tail: &[u8], room: &mut [u8; 2048]) -> Option<usize>
 fn put_data(behind: &[u8], room: &mut [u8; 8]) -> Option<usize>
     ensures { spec.IsPut result room.new (spec.data_at behind.now) }
 {
-    if behind.len() == 16
-        && let Some(bytes) = eight_bytes(behind)
-    {
-        *room = bytes;
-        return Some(8);
-    }
     put_bytes_before_end(behind, &mut room[..])
 }
 
@@ -95,18 +89,34 @@ fn short_frame(identifier: &[u8], behind: &[u8]) -> LineRule
     }
 }
 
+/// The frame of an identifier and of its data.
+fn frame_of(id: u32, held: &[u8]) -> Result<Frame, LineRule>
+    requires { length held.now ≤ 8 }
+    ensures reads { spec.bus_frame_in result ≡ spec.frame_with id (Some held.now) }
+    ensures valid { IfOk result IsFrame }
+{
+    match Frame::of(id, held) {
+        Some(frame) => Ok(frame),
+        None => Err(LineRule::NotExtended),
+    }
+}
+
 /// The frame of an identifier, and of the data behind its `#`.
+#[tactic(auto, using(crate::proofs::Data::eight_are_data))]
 fn frame_with(id: u32, behind: &[u8]) -> Result<Frame, LineRule>
     ensures reads { spec.bus_frame_in result ≡ spec.frame_with id (spec.data_at behind.now) }
     ensures valid { IfOk result IsFrame }
 {
+    // Most frames have eight bytes, and nothing behind them.
+    if behind.len() == 16
+        && let Some(bytes) = eight_bytes(behind)
+    {
+        return frame_of(id, &bytes);
+    }
     let mut room = [0; 8];
     match put_data(behind, &mut room) {
         None => Err(LineRule::Form),
-        Some(count) => match Frame::of(id, &room[..count]) {
-            Some(frame) => Ok(frame),
-            None => Err(LineRule::NotExtended),
-        },
+        Some(count) => frame_of(id, &room[..count]),
     }
 }
 
