@@ -1,7 +1,7 @@
 //! How a command over an input ends.
 
 /// How a command that reads an input and writes its text ends.
-#[derive(Clone, Copy, Debug, PartialEq, Eq)]
+#[derive(Clone, Copy)]
 pub enum Ending {
     /// The input was read to its end.
     Done,

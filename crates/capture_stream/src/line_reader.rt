@@ -16,7 +16,7 @@ const LONGEST: usize = 4096;
 const PIECE: usize = 65536;
 
 /// What `advance` found.
-#[derive(Clone, Copy, Debug, PartialEq, Eq)]
+#[derive(Clone, Copy)]
 pub(crate) enum Next {
     /// A line, which `line` lends.
     Line,

@@ -37,8 +37,8 @@ fn send_said<A: Answers, K: Sink>(
     }
 }
 
-// Sends what a line gives: nothing where it is empty.
-fn send_line<A: Answers, K: Sink>(
+// Sends what a line gives. An empty one gives nothing, and isn't read.
+fn send_unless_empty<A: Answers, K: Sink>(
     answers: &mut A,
     number: u64,
     line: &[u8],
@@ -69,7 +69,7 @@ fn send_next<A: Answers, K: Sink>(
     ensures cause { HasCause (K.fault_count out.old) (K.fault_count out.new) result }
 {
     match next {
-        Next::Line => send_line(answers, number, reader.line(), room, writer, out),
+        Next::Line => send_unless_empty(answers, number, reader.line(), room, writer, out),
         Next::Long => answers.answer_refusal(number, LineRule::Long, writer, out),
         Next::Unfinished => Ok(()),
     }

@@ -1,5 +1,5 @@
 -- Decimal digits, and the number that they write.
-use Rattle.std.proofs.Common.{◌≡◌, ℕ, suc, ◌+◌, ◌-◌, ◌*◌, ◌<◌, ◌≤◌, ◌^◌, true, List, [], ◌∷◌, length, get_or, take, drop, ap, ◌∙◌, sym, arith, take-take}
+use Rattle.std.proofs.Common.{◌≡◌, ℕ, suc, ◌+◌, ◌-◌, ◌*◌, ◌<◌, ◌≤◌, ◌^◌, true, List, [], ◌∷◌, length, get_or, take, ◌∙◌, sym, arith}
 use Rattle.std.specs.Char.{is_ascii_digit}
 use Rattle.std.specs.List.{list_all, prefix_len}
 use Rattle.std.proofs.lemmas.Bool.{and_parts}
@@ -7,7 +7,7 @@ use Rattle.std.proofs.lemmas.List.{length-take}
 use Rattle.std.proofs.lemmas.List.Sums.{prefix_len-le-length}
 use Rattle.std.proofs.lemmas.Nat.{mul-le}
 use Rattle.std.proofs.Math.Nat.{pow-le-pow_right}
-use Rattle.unit_fraction.specs.Digits.{number_after, number}
+use Rattle.unit_fraction.specs.Digits.{number_after}
 use Rattle.unit_fraction.proofs.Number as number
 use Rattle.capture_text.proofs.Numbers.{all_digits}
 

@@ -1,4 +1,4 @@
-use Rattle.std.proofs.Common.{◌≡◌, length, take}
+use Rattle.std.proofs.Common.{◌≡◌, take}
 use Rattle.std.specs.Prelude.{map}
 use Rattle.std.specs.Char.{digit_value}
 use Rattle.capture_text.proofs.hexadecimal.put_values.Given as goal

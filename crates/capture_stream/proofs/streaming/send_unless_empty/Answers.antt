@@ -6,7 +6,7 @@ use Rattle.capture_stream.specs.Answering.{LineGives}
 use Rattle.capture_stream.specs.Writer.{Sends}
 use Rattle.capture_stream.proofs.SaidLemmas.{gives_empty, gives_line, sent_as}
 use Rattle.capture_stream.proofs.WriterLemmas.{Sends-none}
-use Rattle.capture_stream.proofs.streaming.send_line.Goals as goal
+use Rattle.capture_stream.proofs.streaming.send_unless_empty.Goals as goal
 
 pub returns-then-is_empty-clause-sent : goal.returns-then-is_empty-clause-sent
 returns-then-is_empty-clause-sent g c =
