@@ -2,7 +2,7 @@
 //!
 //! What is to be fast here goes over all digits without a choice between one and the next, so that the compiler does many at once: one
 //! loop that tests them, one that takes their values and one that puts them together.
-ghost use Rattle.std.specs.Prelude.{◌≡◌, ◌*◌, ◌<◌, All, length, map, slice_index, true, Ok, IfSome, MatchOption};
+ghost use Rattle.std.specs.Prelude.{◌≡◌, ◌*◌, ◌<◌, All, length, map, slice_index, true, Ok, IfSome};
 ghost use Rattle.std.specs.Char.{digit_value, is_ascii_hexdigit};
 ghost use Rattle.std.specs.List.{list_all};
 ghost use Rattle.hex.specs.Hex.{decode_of, encode_upper, upper_digits};

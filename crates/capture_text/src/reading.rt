@@ -1,9 +1,6 @@
-ghost use Rattle.std.specs.Prelude.{◌≡◌, ◌+◌, ◌*◌, ◌<◌, ◌≤◌, ◌^◌, ◌⊎◌, ◌++◌, ◌↔◌, length, slice_index, take, drop, true, false, ◌==◌, Ok, Err, Some, None, is_some, IfOk, IfSome, MatchOption};
-ghost use Rattle.std.specs.Char.{is_ascii_digit, is_ascii_hexdigit};
-ghost use Rattle.std.specs.List.{list_all, prefix_len};
-ghost use Rattle.std.specs.Result.{result_ok};
-ghost use Rattle.hex.specs.Hex.{decode_of};
-ghost use Rattle.unit_fraction.specs.Digits.{number_after};
+ghost use Rattle.std.specs.Prelude.{◌≡◌, ◌+◌, ◌<◌, ◌≤◌, ◌^◌, ◌↔◌, length, slice_index, take, drop, true, false, ◌==◌, Ok, Err, Some, None, is_some, IfOk, MatchOption};
+ghost use Rattle.std.specs.Char.{is_ascii_hexdigit};
+ghost use Rattle.std.specs.List.{list_all};
 ghost use Rattle.n2k_id.specs.Frame.{IsFrame};
 ghost use Rattle.capture_text.specs.Capture.{IsLine, IsNotExtended, IsNoLine, longest_line};
 ghost use Rattle.gate_events.specs.Event.{Seen, IsValid, view};
