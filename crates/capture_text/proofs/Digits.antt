@@ -39,12 +39,11 @@ below before bound most digits lt h few =
 pub seconds_fit : (digits : List ℕ) → list_all is_ascii_digit digits ≡ true → length digits ≤ 10 → number_after 0 digits < 10 ^ 10
 seconds_fit digits h few = omega (arith, below 0 1 10 digits (omega arith) h few)
 
-pub micros_fit : (seconds : ℕ) (digits : List ℕ) → seconds < 10 ^ 10 → list_all is_ascii_digit digits ≡ true → length digits ≤ 6 → number_after seconds digits < 2 ^ 64
-micros_fit seconds digits lt h few = omega (arith, below seconds (10 ^ 10) 6 digits lt h few)
+pub micros_fit : (seconds : ℕ) (text : List ℕ) → seconds < 10 ^ 10 → list_all is_ascii_digit (take 6 text) ≡ true → number_after seconds (take 6 text) < 2 ^ 64
+micros_fit seconds text lt h = omega (arith, below seconds (10 ^ 10) 6 (take 6 text) lt h (omega (arith, length-take 6 text)))
 
-pub usual_fits : (seconds micros : List ℕ) → list_all is_ascii_digit seconds ≡ true → length seconds ≤ 10 → list_all is_ascii_digit micros ≡ true → length micros ≤ 6
-    → number_after (number_after 0 seconds) micros < 2 ^ 64
-usual_fits seconds micros hs ten hm six = micros_fit (number_after 0 seconds) micros (seconds_fit seconds hs ten) hm six
+pub ten_fit : (text : List ℕ) → list_all is_ascii_digit (take 10 text) ≡ true → number_after 0 (take 10 text) < 10 ^ 10
+ten_fit text h = seconds_fit (take 10 text) h (omega (arith, length-take 10 text))
 
 pub few_counted : (text : List ℕ) → prefix_len is_ascii_digit (take 10 text) ≤ 10
 few_counted text = omega (arith, prefix_len-le-length is_ascii_digit (take 10 text), length-take 10 text)

@@ -39,7 +39,7 @@ ten_counted text count run =
 pub six_counted : (seconds : ℕ) (text : List ℕ) → seconds < 10 ^ 10 → prefix_len is_ascii_digit (take 6 text) ≡ 6 → (list_all is_ascii_digit (take 6 text) ≡ true) × (number_after seconds (take 6 text) < 2 ^ 64)
 six_counted seconds text small run =
     let digits = front_digits 6 6 text run in
-    (digits, micros_fit seconds (take 6 text) small digits (omega (arith, length-take 6 text)))
+    (digits, micros_fit seconds text small digits)
 
 other_first : (k c : ℕ) (rest : List ℕ) → is_ascii_digit c ≡ false → prefix_len is_ascii_digit (take k (c ∷ rest)) ≡ 0
 other_first zero c rest e = refl
@@ -196,7 +196,7 @@ time_again moment time rest h =
     ∙ ap (λ (x : ℕ). Some (record { moment = x; rest = rest })) value
 
 -- a time of twenty bytes, with the space behind it
-pub usual_time : (line : List ℕ) → get_or line 0 0 ≡ 40 → get_or line 11 0 ≡ 46 → get_or line 18 0 ≡ 41 → get_or line 19 0 ≡ 32
+usual_time : (line : List ℕ) → get_or line 0 0 ≡ 40 → get_or line 11 0 ≡ 46 → get_or line 18 0 ≡ 41 → get_or line 19 0 ≡ 32
     → list_all is_ascii_digit (take 10 (drop 1 line)) ≡ true → list_all is_ascii_digit (take 6 (drop 12 line)) ≡ true
     → time_at line ≡ Some (record { moment = number_after (number (take 10 (drop 1 line))) (take 6 (drop 12 line)); rest = drop 20 line })
 usual_time line opened point closed space are_seconds are_micros =
@@ -217,3 +217,10 @@ usual_time line opened point closed space are_seconds are_micros =
     ∙ time_by (seconds ++ 46 ∷ behind)
     ∙ ap micros_behind (seconds_again seconds behind (omega (arith, ten)) (omega (arith, ten)) are_seconds)
     ∙ micros_again (number seconds) micros rest (omega (arith, length-take 6 (drop 12 line), within (drop 12 line) 6 40 end)) are_micros
+
+pub usual_read : (line : List ℕ) (seconds moment : ℕ) → get_or line 0 0 ≡ 40 → get_or line 11 0 ≡ 46 → get_or line 18 0 ≡ 41 → get_or line 19 0 ≡ 32
+    → list_all is_ascii_digit (take 10 (drop 1 line)) ≡ true → list_all is_ascii_digit (take 6 (drop 12 line)) ≡ true
+    → seconds ≡ number (take 10 (drop 1 line)) → moment ≡ number_after seconds (take 6 (drop 12 line)) → time_at line ≡ Some (record { moment = moment; rest = drop 20 line })
+usual_read line seconds moment opened point closed space are_seconds are_micros s m =
+    let value : moment ≡ number_after (number (take 10 (drop 1 line))) (take 6 (drop 12 line)) = m ∙ ap (λ (n : ℕ). number_after n (take 6 (drop 12 line))) s in
+    rw value (usual_time line opened point closed space are_seconds are_micros)

@@ -37,7 +37,6 @@ fn number(before: u64, digits: &[u8]) -> u64
 }
 
 /// The moment of a time whose seconds have ten digits, as all have from 2001 to 2286.
-#[tactic(auto, using(crate::proofs::Times::usual_time, crate::proofs::Digits::usual_fits))]
 fn usual_moment(line: &[u8]) -> Option<u64>
     ensures within { IfSome result (λ moment. 20 ≤ length line.now) }
     ensures reads { IfSome result (λ moment. spec.time_at line.now ≡ Some (record { moment = moment; rest = drop 20 line.now })) }
