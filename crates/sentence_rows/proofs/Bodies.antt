@@ -1,5 +1,5 @@
 -- The bytes of a field and of a body, and the room that they take.
-use Rattle.std.proofs.Common.{◌≡◌, ℕ, zero, suc, ◌+◌, ◌*◌, ◌^◌, ◌<◌, ◌≤◌, ℤ, pos, negsuc, neg_ℤ, ◌*ℤ◌, IsTrue, refl, arith, ◌-◌, ◌/◌, ◌%◌, Bool, true, false, List, Option, length, length-append, sym, ap, ◌∙◌, [], ◌∷◌, ◌++◌, Result, Ok, map, take, drop, get_or, subst, append_assoc}
+use Rattle.std.proofs.Common.{All, ◌≡◌, ℕ, zero, suc, ◌+◌, ◌*◌, ◌^◌, ◌<◌, ◌≤◌, ℤ, pos, negsuc, neg_ℤ, ◌*ℤ◌, IsTrue, refl, arith, ◌-◌, ◌/◌, ◌%◌, Bool, true, false, List, Option, length, length-append, sym, ap, ◌∙◌, [], ◌∷◌, ◌++◌, map, take, drop, get_or, append_assoc}
 use Rattle.std.specs.Prelude.{unsigned_abs, Some, None, nat_lt, if◌then◌else◌, ◌==◌}
 use Rattle.std.proofs.Math.Nat.{div-lt_iff_lt-mul, pow-le-pow_right, div-le_self, one-le-pow}
 use Rattle.std.proofs.lemmas.Bool.Decides.{nat_tests}
@@ -9,7 +9,7 @@ use Rattle.unit_fraction.specs.Round.{nearest, round}
 use Rattle.sentence_rows.specs.declared.written_unit.WrittenUnit.{WrittenUnit}
 use Rattle.sentence_rows.specs.Field.{count, is_sound, IsPrintable, is_negative, text_of, width_of, body_text, body_width, degrees_text, time_text}
 use Rattle.std.specs.Fmt.{decimal}
-use Rattle.std.proofs.lemmas.Fmt.{length-decimal-le, digits_decimal}
+use Rattle.std.proofs.lemmas.Fmt.{decimal_digit, decimal_step, length-decimal-le, digits_decimal}
 use Rattle.unit_fraction.specs.Digits.{spelling}
 use Rattle.unit_fraction.specs.Text.{behind_point, decimal_text, decimals, shows_minus}
 use Rattle.sentence_rows.specs.WrittenUnits.{degrees}
@@ -19,17 +19,18 @@ use Rattle.std.specs.Char.{is_ascii_digit}
 use Rattle.std.specs.List.{AllByRecursion, list_all, position_or_len}
 use Rattle.std.specs.Str.{all_ascii_digits}
 use Rattle.std.proofs.Math.Seq.{drop-cons}
+use Rattle.std.proofs.lemmas.List.Concat.{flat_map-cons}
+use Rattle.std.proofs.lemmas.List.Elements.{All-nil, All-cons}
 use Rattle.std.proofs.lemmas.List.Folds.{list_all-append}
 use Rattle.readings.proofs.Ranges.{by_place}
-use Rattle.sentence_text.specs.Byte.{is_address_byte, is_body_byte, is_capital, is_field_byte}
-use Rattle.sentence_text.specs.declared.fault.SentenceFault.{SentenceFault}
+use Rattle.sentence_text.specs.Byte.{is_address_byte, is_capital, is_field_byte}
 use Rattle.sentence_text.specs.Fields.{field_at_front, fields_of}
-use Rattle.sentence_text.specs.Reading.{read}
-use Rattle.sentence_text.specs.Sentence.{SentenceParts, parts_of, sentence}
+use Rattle.sentence_text.specs.Sentence.{body_of, ended}
 use Rattle.sentence_text.proofs.Fields.{fields_before_comma}
-use Rattle.unit_fraction.proofs.Text.{own}
+use Rattle.sentence_text.proofs.Spelling.{ended_sentence, read_back}
+use Rattle.unit_fraction.proofs.Text.{length-decimals, own}
 use Rattle.sentence_rows.specs.Lines.{sentence_by}
-use Rattle.sentence_rows.specs.Stable.{IsReadBack}
+use Rattle.sentence_rows.specs.Stable.{IsReadBack, parts_by}
 
 -- what a sound conversion says of its numbers
 pub record Sound (unit : WrittenUnit) : Type 0 where
@@ -74,10 +75,6 @@ count_fits unit raw is within =
     let most : 10 ^ unit.digits ≤ 10 ^ 12 = pow-le-pow_right {n = 10} (omega arith) {i = unit.digits} {j = 12} s.digits in
     omega arith
 
-pub length_decimals : (k n : ℕ) → length (decimals k n) ≡ k
-length_decimals zero n = refl
-length_decimals (suc k) n = let rest = length_decimals k (n / 10) in simp length-append (omega (arith, rest))
-
 pub whole_length : (k places n : ℕ) → places < k → n < 10 ^ k → n < 2 ^ 64 → length (decimal (n / 10 ^ places)) ≤ k - places
 whole_length k places n few below word =
     let some : 1 ≤ 10 ^ places = one-le-pow places 10 (omega arith) in
@@ -92,7 +89,7 @@ pub length_unsigned_text : (k places n : ℕ) → places < k → n < 10 ^ k → 
 length_unsigned_text k zero n few below word = let w = whole_length k zero n few below word in simp length-append (omega (arith, w))
 length_unsigned_text k (suc places) n few below word =
     let w = whole_length k (suc places) n few below word in
-    let p = length_decimals places (n / 10) in
+    let p = length-decimals places (n / 10) in
     simp length-append (omega (arith, w, p))
 
 minus_adds : (negative : Bool) (whole : List ℕ) (part : Option (List ℕ)) → length (spelling negative whole part) ≤ length (spelling false whole part) + 1
@@ -116,12 +113,44 @@ magnitude_room unit n out is below word room =
     let w = length_unsigned_text unit.digits unit.places n ((sound unit is).places) below word in
     omega (arith, w)
 
+-- the tenths of an angle fit a word, whatever the angle is
+pub angle_fits : (raw : ℤ) → unsigned_abs raw ≤ 2 ^ 63 → unsigned_abs (count degrees raw) < 2 ^ 64
+angle_fits raw within =
+    let size = abs-round (raw *ℤ pos degrees.num) degrees.den in
+    let product = unsigned_abs-mul raw (pos degrees.num) in
+    rw size (nearest_below (unsigned_abs (raw *ℤ pos degrees.num)) degrees.den (2 ^ 64) (omega arith) (omega (arith, product)))
+
+-- ---- digits one by one
+
+pub one_digit : (n : ℕ) → n < 10 → decimal n ≡ (48 + n) ∷ []
+one_digit n few = decimal_digit n few
+
+pub two_digits : (n : ℕ) → 10 ≤ n → n < 100 → decimal n ≡ decimals 2 n
+two_digits n some few =
+    let front : n / 10 % 10 ≡ n / 10 = omega arith in
+    decimal_step n some (omega arith) ∙ ap (λ (ds : List ℕ). ds ++ (48 + n % 10) ∷ []) (one_digit (n / 10) (omega arith)) ∙ (rw front refl)
+
+pub three_digits : (before : List ℕ) (n : ℕ) → 100 ≤ n → n < 1000 → (before ++ (48 + n / 100) ∷ []) ++ decimals 2 n ≡ before ++ decimal n
+three_digits before n some few =
+    let first : n / 10 / 10 % 10 ≡ n / 100 = omega arith in
+    let digits : decimal n ≡ (48 + n / 100) ∷ decimals 2 n =
+    decimal_step n (omega arith) (omega arith) ∙ ap (λ (ds : List ℕ). ds ++ (48 + n % 10) ∷ []) (two_digits (n / 10) (omega arith) (omega arith)) ∙ (rw first refl) in
+    append_assoc before ((48 + n / 100) ∷ []) (decimals 2 n) ∙ ap (λ (ds : List ℕ). before ++ ds) (sym digits)
+
+pub two_more : (before : List ℕ) (k n : ℕ) → 2 ≤ k → (before ++ decimals (k - 2) (n / 100)) ++ decimals 2 n ≡ before ++ decimals k n
+two_more before zero n some = absurd (omega arith)
+two_more before (suc zero) n some = absurd (omega arith)
+two_more before (suc (suc k)) n some =
+    let less : suc (suc k) - 2 ≡ k = omega arith in
+    let hundreds : n / 100 ≡ n / 10 / 10 = omega arith in
+    rw (less, hundreds) (simp append_assoc)
+
 -- ---- the width of a field
 
 length_satellites : (n : ℕ) → n < 1000 → length (if nat_lt n 10 then decimals 2 n else decimal n) ≤ 3
 length_satellites n few =
     let d = length-decimal-le 3 n (omega arith) (omega arith) (omega arith) in
-    let two = length_decimals 2 n in
+    let two = length-decimals 2 n in
     elim (nat_lt n 10) as (λ b. length (if b then decimals 2 n else decimal n) ≤ 3) [ true ↦ omega (arith, two) | false ↦ d ]
 
 pub text_fits : (f : Field) → IsPrintable f → length (text_of f) ≤ width_of f
@@ -141,13 +170,13 @@ text_fits (Angle (Some raw)) h =
 text_fits (Degrees None unit w) h = omega arith
 text_fits (Degrees (Some raw) unit w) h =
     let m = unsigned_abs (count unit raw) in
-    simp length-append (omega (arith, length_decimals w (m / 600000), length_decimals 2 (m % 600000 / 10000), length_decimals 4 (m % 10000)))
+    simp length-append (omega (arith, length-decimals w (m / 600000), length-decimals 2 (m % 600000 / 10000), length-decimals 4 (m % 10000)))
 text_fits (Time None) h = omega arith
 text_fits (Time (Some raw)) h =
     let n = unsigned_abs raw / 100 in
-    simp length-append (omega (arith, length_decimals 2 (n / 360000), length_decimals 2 (n / 6000 % 60), length_decimals 2 (n / 100 % 60), length_decimals 2 (n % 100)))
+    simp length-append (omega (arith, length-decimals 2 (n / 360000), length-decimals 2 (n / 6000 % 60), length-decimals 2 (n / 100 % 60), length-decimals 2 (n % 100)))
 text_fits (Digits None w) h = omega arith
-text_fits (Digits (Some n) w) h = omega (arith, length_decimals w n)
+text_fits (Digits (Some n) w) h = omega (arith, length-decimals w n)
 text_fits (Satellites None) h = omega arith
 text_fits (Satellites (Some n)) h = length_satellites (unsigned_abs n) h
 
@@ -228,32 +257,20 @@ field_bytes (Digits (Some n) w) h = decimals_bytes w n
 field_bytes (Satellites None) h = refl
 field_bytes (Satellites (Some n)) h = satellites_bytes (unsigned_abs n) h (nat_lt (unsigned_abs n) 10)
 
--- the bytes of a body are those of its fields and commas
-abbrev AreBody : List ℕ → Type 0
-AreBody bytes = list_all is_body_byte bytes ≡ true
-
-in_body : (bytes : List ℕ) → AreBytes bytes → AreBody bytes
-in_body [] h = refl
-in_body (c ∷ cs) h = grind (arith, in_body cs)
-
-body_joined : (xs ys : List ℕ) → AreBody xs → AreBody ys → AreBody (xs ++ ys)
-body_joined xs ys p q = list_all-append is_body_byte xs ys ∙ (rw (p, q) refl)
-
-body_bytes : (fields : List Field) → AllByRecursion IsPrintable fields → AreBody (body_text fields)
-body_bytes [] h = refl
-body_bytes (f ∷ fs) h = body_joined (44 ∷ text_of f) (body_text fs) (body_joined (44 ∷ []) (text_of f) refl (in_body (text_of f) (field_bytes f h.0))) (body_bytes fs h.1)
-
 length_body : (fields : List Field) → AllByRecursion IsPrintable fields → length (body_text fields) ≤ body_width fields
 length_body [] h = omega arith
 length_body (f ∷ fs) h = let t = text_fits f h.0 in let r = length_body fs h.1 in simp length-append (omega (arith, t, r))
 
 -- ---- the loop over the fields
 
-pub next : (body pushed new : List ℕ) (fields : List Field) (i : ℕ) (d : Field) → AllByRecursion IsPrintable fields → i < length fields
-    → pushed ≡ body ++ 44 ∷ [] → new ≡ pushed ++ text_of (get_or fields i d)
-    → (body ++ body_text (drop i fields) ≡ body_text fields) × (length body + body_width (drop i fields) ≤ 71)
-    → (new ++ body_text (drop (i + 1) fields) ≡ body_text fields) × (length new + body_width (drop (i + 1) fields) ≤ 71)
-next body pushed new fields i d printable inside comma text left =
+-- what is written and what is left make up the body behind what was there, and what is left has room
+pub record Left (before body : List ℕ) (fields : List Field) (i : ℕ) : Type 0 where
+  pub text : body ++ body_text (drop i fields) ≡ before ++ body_text fields
+  pub room : length body + body_width (drop i fields) ≤ 77
+
+pub next : (before body pushed new : List ℕ) (fields : List Field) (i : ℕ) (d : Field) → AllByRecursion IsPrintable fields → i < length fields
+    → pushed ≡ body ++ 44 ∷ [] → new ≡ pushed ++ text_of (get_or fields i d) → Left before body fields i → Left before new fields (i + 1)
+next before body pushed new fields i d printable inside comma text left =
     let g = get_or fields i d in
     let rest = drop (i + 1) fields in
     let step : suc i ≡ i + 1 = omega arith in
@@ -262,22 +279,20 @@ next body pushed new fields i d printable inside comma text left =
     let width : body_width (drop i fields) ≡ 1 + width_of g + body_width rest = ap body_width cut in
     let len : length new ≡ length body + 1 + length (text_of g) = rw (text, comma) (simp length-append (omega arith)) in
     let whole : new ++ body_text rest ≡ body ++ body_text (drop i fields) = rw (text, comma, cut) (simp append_assoc) in
-    (whole ∙ left.0, omega (arith, fits, width, len, left.1))
+    record { text = whole ∙ left.text; room = omega (arith, fits, width, len, left.room) }
 
--- ---- the body behind its first comma
+-- ---- a sentence of fields
 
-pub nonempty : (body : List ℕ) (fields : List Field) → 0 < length fields → body ≡ body_text fields → 1 ≤ length body
-nonempty body [] h e = absurd (omega arith)
-nonempty body (f ∷ fs) h e = omega (arith, ap length e)
+spelled : (fields : List Field) → body_text fields ≡ body_of (map text_of fields)
+spelled [] = refl
+spelled (f ∷ fs) = ap (λ (b : List ℕ). (44 ∷ text_of f) ++ b) (spelled fs) ∙ sym (flat_map-cons (λ (field : List ℕ). 44 ∷ field) (text_of f) (map text_of fs))
 
-pub behind_comma : (body rest : List ℕ) (fields : List Field) → 0 < length fields → body ≡ body_text fields → rest ≡ drop 1 body
-    → 44 ∷ rest ≡ body_text fields
-behind_comma body rest [] h e r = absurd (omega arith)
-behind_comma body rest (f ∷ fs) h e r = ap (λ (bs : List ℕ). 44 ∷ bs) (r ∙ ap (drop 1) e)
+abbrev IsField : List ℕ → Type 0
+IsField field = IsTrue (list_all is_field_byte field)
 
-pub are_body_bytes : (body rest : List ℕ) (fields : List Field) → 0 < length fields → body ≡ body_text fields → rest ≡ drop 1 body
-    → AllByRecursion IsPrintable fields → IsTrue (list_all is_body_byte rest)
-are_body_bytes body rest fields h e r printable = ap (list_all is_body_byte) (behind_comma body rest fields h e r) ∙ body_bytes fields printable
+are_fields : (fields : List Field) → AllByRecursion IsPrintable fields → All IsField (map text_of fields)
+are_fields [] h = All-nil IsField
+are_fields (f ∷ fs) h = All-cons IsField (text_of f) (map text_of fs) (field_bytes f h.0) (are_fields fs h.1)
 
 capital_is_address : (c : ℕ) → is_capital c ≡ true → is_address_byte c ≡ true
 capital_is_address c h = rw h refl
@@ -331,28 +346,23 @@ fields_text (f ∷ fs) h =
     ap (λ (x : List ℕ). x ∷ fields_of (t ++ body_text fs)) (front_again t (body_text fs) b (starts fs))
     ∙ ap (λ (x : List (List ℕ)). t ∷ x) (fields_behind t (body_text fs) b ∙ fields_text fs h.1)
 
-abbrev said_by : List ℕ → List ℕ → List ℕ → Result SentenceParts SentenceFault
-said_by talker formatter body = Ok (record { start = 36; talker = talker; formatter = formatter; body = body })
+pub is_read_back : (talker formatter : List ℕ) (fields : List Field) → length talker ≡ 2 → length formatter ≡ 3 → IsTrue (list_all is_capital talker)
+    → IsTrue (list_all is_address_byte formatter) → AllByRecursion IsPrintable fields → body_width fields ≤ 71 → IsReadBack talker formatter fields
+is_read_back talker formatter fields two three capital address printable short = record {
+  is_sentence = read_back (parts_by talker formatter fields) (record {
+    starts = refl;
+    two = two;
+    three = three;
+    talker_bytes = capitals_are_address talker capital;
+    formatter_bytes = address;
+    body = record { fields = map text_of fields; bytes = are_fields fields printable; spelled = spelled fields };
+    short = sentence_fits talker formatter fields two three printable short;
+  });
+  has_fields = fields_text fields printable;
+}
 
--- what is written of the body behind its comma is the sentence of the fields, and is read back
-pub record Written (talker formatter : List ℕ) (fields : List Field) (new : List ℕ) : Type 0 where
-  pub text : new ≡ sentence_by talker formatter fields
-  pub again : IsReadBack talker formatter fields
-
-pub written : (talker formatter body rest new : List ℕ) (fields : List Field) (b : Bool) → length talker ≡ 2 → length formatter ≡ 3
-    → AllByRecursion IsPrintable fields → body_width fields ≤ 71 → 0 < length fields → body ≡ body_text fields → rest ≡ drop 1 body
-    → (length (sentence (parts_of talker formatter rest)) ≤ 82 → IsTrue b) → (IsTrue b → new ≡ sentence (parts_of talker formatter rest))
-    → (IsTrue b → read new ≡ Ok (parts_of talker formatter rest)) → Written talker formatter fields new
-written talker formatter body rest new fields b two three printable short some e r fits text again =
-    let comma = behind_comma body rest fields some e r in
-    let same : sentence (parts_of talker formatter rest) ≡ sentence_by talker formatter fields =
-    ap (λ (bs : List ℕ). sentence (record { start = 36; talker = talker; formatter = formatter; body = bs })) comma in
-    let P : List ℕ → Type 0 = λ bs. length bs ≤ 82 in
-    let done = fits (subst P (sym same) (sentence_fits talker formatter fields two three printable short)) in
-    record {
-      text = text done ∙ same;
-      again = record {
-        is_sentence = ap read (sym (text done ∙ same)) ∙ again done ∙ ap (said_by talker formatter) comma;
-        has_fields = fields_text fields printable;
-      };
-    }
+-- what is begun, has its fields and is ended is the sentence of the fields
+pub written : (talker formatter begun full new : List ℕ) (fields : List Field) → begun ≡ 36 ∷ talker ++ formatter → full ≡ begun ++ body_text fields
+    → new ≡ ended full → new ≡ sentence_by talker formatter fields
+written talker formatter begun full new fields b f n =
+    n ∙ ap ended (f ∙ ap (λ (x : List ℕ). x ++ body_text fields) b) ∙ ended_sentence talker formatter (body_text fields)

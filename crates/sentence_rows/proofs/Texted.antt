@@ -31,10 +31,9 @@ use Rattle.std.proofs.lemmas.List.Folds.{list_all-append}
 use Rattle.std.proofs.lemmas.Nat.{mul-le}
 use Rattle.unit_fraction.specs.Digits.{number_after, number}
 use Rattle.unit_fraction.proofs.Number.{number_after_append}
-use Rattle.unit_fraction.proofs.Text.{own}
+use Rattle.unit_fraction.proofs.Text.{length-decimals, own}
 use Rattle.sentence_rows.specs.declared.digits.Fixed.{Fixed}
 use Rattle.sentence_rows.proofs.DigitNumbers.{list_all_digits}
-use Rattle.sentence_rows.proofs.Bodies.{length_decimals}
 use Rattle.std.specs.Int.{IsInRange}
 use Rattle.jiff.specs.Types.{Date}
 use Rattle.jiff.specs.Words.{days_in_month, is_leap_year, epoch_day}
@@ -312,11 +311,11 @@ degrees_read at width m q below =
     let sixty : b < 60 = omega arith in
     let whole = decimals width a ++ decimals 2 b in
     let part = decimals 4 (m % 10000) in
-    let len : length whole ≡ width + 2 = omega (arith, length-append (decimals width a) (decimals 2 b), length_decimals width a, length_decimals 2 b) in
+    let len : length whole ≡ width + 2 = omega (arith, length-append (decimals width a) (decimals 2 b), length-decimals width a, length-decimals 2 b) in
     let long : 0 < length (whole ++ 46 ∷ part) = omega (arith, length-append whole (46 ∷ part), len) in
     let w : number whole ≡ a * 100 + b = two_behind (decimals width a) b (omega arith) ∙ ap (λ (n : ℕ). n * 100 + b) (number_decimals width a below) in
     let p : number part ≡ m % 10000 = number_decimals 4 (m % 10000) (omega arith) in
-    let four = length_decimals 4 (m % 10000) in
+    let four = length-decimals 4 (m % 10000) in
     let is : spec.fixed_in (width + 2) 9 (whole ++ 46 ∷ part) ≡ fixed_by (number whole) (number part) (length part) =
     fixed_text (width + 2) 9 whole part (digits_joined (decimals width a) (decimals 2 b) (digits_decimals width a) (digits_decimals 2 b)) len (digits_decimals 4 (m % 10000)) (omega (arith, four)) in
     degrees_some at q (width + 2) (whole ++ 46 ∷ part) long ∙ rw (is, w, p, four) (in_range at q a b (m % 10000) m sixty (whole_minutes m))
@@ -399,8 +398,8 @@ time_read at raw le =
     let part = decimals 2 c in
     let hours : h < 24 = omega arith in
     let len : length whole ≡ 6 =
-    omega (arith, length-append front (decimals 2 s), length-append (decimals 2 h) (decimals 2 m), length_decimals 2 h, length_decimals 2 m, length_decimals 2 s) in
-    let two = length_decimals 2 c in
+    omega (arith, length-append front (decimals 2 s), length-append (decimals 2 h) (decimals 2 m), length-decimals 2 h, length-decimals 2 m, length-decimals 2 s) in
+    let two = length-decimals 2 c in
     let long : 0 < length (whole ++ 46 ∷ part) = omega (arith, length-append whole (46 ∷ part), len) in
     let w : number whole ≡ (h * 100 + m) * 100 + s =
     two_behind front s (omega arith) ∙ ap (λ (x : ℕ). x * 100 + s) (two_behind (decimals 2 h) m (omega arith) ∙ ap (λ (x : ℕ). x * 100 + m) (number_decimals 2 h (omega arith))) in
@@ -449,7 +448,7 @@ record Counted (n : ℕ) (bytes : List ℕ) : Type 0 where
 
 counted_text : (n : ℕ) (b : Bool) → n < 1000 → nat_lt n 10 ≡ b → Counted n (if b then decimals 2 n else decimal n)
 counted_text n true few e =
-    let two = length_decimals 2 n in
+    let two = length-decimals 2 n in
     let small : n < 10 = ltb-true n 10 e in
     record { some = omega (arith, two); few = omega (arith, two); are_digits = digits_decimals 2 n; value = number_decimals 2 n (omega arith) }
 counted_text n false few e =
@@ -490,7 +489,7 @@ quality_of f at m le e =
 read_digits : (f : Fields) (at : ℕ) (may_lack : Bool) (least width n : ℕ) → 0 < width → least ≤ width → n < 10 ^ width → spec.field_at f at ≡ Some (text_of (Digits (Some n) width))
     → spec.digits f at may_lack least width ≡ Ok n
 read_digits f at may_lack least width n some low small e =
-    let len = length_decimals width n in
+    let len = length-decimals width n in
     digits_of f at may_lack least width (decimals width n) e (omega (arith, len)) (omega (arith, len)) (omega (arith, len)) (digits_decimals width n) ∙ ap said_number (number_decimals width n small)
 
 -- ---- the calendar before the year 0
@@ -539,7 +538,7 @@ pub date_said : (f : Fields) (at : ℕ) (d : Date) (day : ℤ) → epoch_day d �
     → spec.field_at f (at + 2) ≡ Some (text_of (Digits (Some (unsigned_abs d.year)) 4)) → spec.date f at ≡ Ok (Some day)
 unfolding spec.date spec.are_blank
 date_said f at d day on within e1 e2 e3 =
-    let blank : spec.is_blank f at ≡ false = blank_some f at (text_of (Digits (Some d.day) 2)) e1 (omega (arith, length_decimals 2 d.day)) in
+    let blank : spec.is_blank f at ≡ false = blank_some f at (text_of (Digits (Some d.day) 2)) e1 (omega (arith, length-decimals 2 d.day)) in
     let b = month_bounds d.year d.month in
     let after : pos 0 ≤ℤ epoch_day d = omega (arith, ints, within.0, on) in
     let year : d.year ≡ pos (unsigned_abs d.year) = let y = not_before d after in omega (arith, ints, y) in

@@ -1,6 +1,8 @@
-ghost use Rattle.std.specs.Prelude.{◌≡◌, ◌+◌, ◌/◌, ◌≤◌, ◌<◌, ◌^◌, ◌++◌, length, IsTrue, nat_lt, unsigned_abs};
+ghost use Rattle.std.specs.Prelude.{◌≡◌, ◌+◌, ◌/◌, ◌%◌, ◌≤◌, ◌<◌, ◌^◌, ◌++◌, length, IsTrue, false, nat_lt, unsigned_abs};
+ghost use Rattle.std.specs.Fmt.{decimal};
 ghost use Rattle.unit_fraction.specs.Text.{decimal_text, decimals};
-ghost use Rattle.sentence_rows.specs.Field.{IsCounted, IsPrintable, count, is_sound, text_of, width_of};
+ghost use Rattle.sentence_rows.specs.Field.{IsCounted, IsPrintable, count, degrees_text, is_sound, text_of, width_of};
+ghost use Rattle.sentence_rows.specs.WrittenUnits.{degrees};
 
 use crate::written_unit::{DEGREES, WrittenUnit};
 use arrayvec::ArrayVec;
@@ -136,22 +138,33 @@ fn append_side(
     }
 }
 
-/// Appends the angle, all round being zero.
+/// The angle in tenths of a degree, all round being zero.
+#[tactic(auto, using(crate::proofs::Bodies::angle_fits))]
+fn tenths(raw: i64) -> u64
+    ensures { result ≡ unsigned_abs (count degrees raw) % 3600 }
+{
+    count(raw, DEGREES).unsigned_abs() as u64 % 3_600
+}
+
+/// Appends the angle.
 fn append_angle(raw: Option<i64>, out: &mut ArrayVec<u8, 82>)
     requires { length out.old.items + 5 ≤ 82 }
     ensures { out.new.items ≡ out.old.items ++ text_of (Field.Angle raw) }
 {
     if let Some(raw) = raw {
-        let tenths = count(raw, DEGREES).unsigned_abs() % 3600;
-        append_number(false, tenths as u64, 1, out);
+        append_tenths(tenths(raw), out);
     }
 }
 
-/// The whole degrees of a count of ten-thousandths of a minute.
-fn whole_degrees(minutes: u64) -> u64
-    ensures { result ≡ minutes / 600000 }
+/// Appends a number below 360, of which these are the tenths.
+fn append_tenths(tenths: u64, out: &mut ArrayVec<u8, 82>)
+    requires below { tenths < 3600 }
+    requires room { length out.old.items + 5 ≤ 82 }
+    ensures { out.new.items ≡ out.old.items ++ decimal_text false tenths 1 }
 {
-    minutes / 600_000
+    append_whole(tenths / 10, out);
+    out.push(b'.');
+    out.push(b'0' + (tenths % 10) as u8);
 }
 
 /// Appends degrees, and minutes with four decimals.
@@ -162,12 +175,19 @@ fn append_degrees(raw: Option<i64>, unit: WrittenUnit, width: u8, out: &mut Arra
     ensures { out.new.items ≡ out.old.items ++ text_of (Field.Degrees raw unit width) }
 {
     if let Some(raw) = raw {
-        let minutes = size(raw, unit);
-        append_digits(whole_degrees(minutes), width, out);
-        append_digits(minutes % 600_000 / 10_000, 2, out);
-        out.push(b'.');
-        append_digits(minutes % 10_000, 4, out);
+        append_minutes(size(raw, unit), width, out);
     }
+}
+
+/// Appends a count of ten-thousandths of a minute as degrees and minutes.
+fn append_minutes(minutes: u64, width: u8, out: &mut ArrayVec<u8, 82>)
+    requires { length out.old.items + (width + 7) ≤ 82 }
+    ensures { out.new.items ≡ out.old.items ++ degrees_text width minutes }
+{
+    append_digits(minutes / 600_000, width, out);
+    append_two(minutes % 600_000 / 10_000, out);
+    out.push(b'.');
+    append_digits(minutes % 10_000, 4, out);
 }
 
 /// Appends the time of day, cut off to hundredths of a second.
@@ -177,11 +197,11 @@ fn append_time(raw: Option<i64>, out: &mut ArrayVec<u8, 82>)
 {
     if let Some(raw) = raw {
         let hundredths = raw.unsigned_abs() / 100;
-        append_digits(hundredths / 360_000, 2, out);
-        append_digits(hundredths / 6_000 % 60, 2, out);
-        append_digits(hundredths / 100 % 60, 2, out);
+        append_two(hundredths / 360_000, out);
+        append_two(hundredths / 6_000 % 60, out);
+        append_two(hundredths / 100 % 60, out);
         out.push(b'.');
-        append_digits(hundredths % 100, 2, out);
+        append_two(hundredths % 100, out);
     }
 }
 
@@ -194,11 +214,39 @@ fn append_satellites(raw: Option<i64>, out: &mut ArrayVec<u8, 82>)
     if let Some(raw) = raw {
         let number = raw.unsigned_abs();
         if number < 10 {
-            append_digits(number, 2, out);
+            append_two(number, out);
         } else {
-            append_number(false, number, 0, out);
+            append_whole(number, out);
         }
     }
+}
+
+/// Appends a number below 1,000 without needless zeros.
+#[tactic(auto, using(crate::proofs::Bodies::one_digit, crate::proofs::Bodies::two_digits))]
+fn append_whole(number: u64, out: &mut ArrayVec<u8, 82>)
+    requires below { number < 1000 }
+    requires room { length out.old.items + 3 ≤ 82 }
+    ensures text { out.new.items ≡ out.old.items ++ decimal number }
+    ensures short { length out.new.items ≤ length out.old.items + 3 }
+{
+    match number {
+        0..=9 => out.push(b'0' + number as u8),
+        10..=99 => append_two(number, out),
+        _ => {
+            out.push(b'0' + (number / 100) as u8);
+            append_two(number, out);
+        }
+    }
+}
+
+/// Appends the last two digits of the number.
+fn append_two(number: u64, out: &mut ArrayVec<u8, 82>)
+    requires { length out.old.items + 2 ≤ 82 }
+    ensures text { out.new.items ≡ out.old.items ++ decimals 2 number }
+    ensures len { length out.new.items ≡ length out.old.items + 2 }
+{
+    out.push(b'0' + (number / 10 % 10) as u8);
+    out.push(b'0' + (number % 10) as u8);
 }
 
 /// Appends the last `width` digits of the number.
@@ -207,8 +255,10 @@ fn append_digits(number: u64, width: u8, out: &mut ArrayVec<u8, 82>)
     ensures text { out.new.items ≡ out.old.items ++ decimals width number }
     ensures len { length out.new.items ≡ length out.old.items + width }
 {
-    if width > 0 {
-        append_digits(number / 10, width - 1, out);
+    if width >= 2 {
+        append_digits(number / 100, width - 2, out);
+        append_two(number, out);
+    } else if width == 1 {
         out.push(b'0' + (number % 10) as u8);
     }
 }

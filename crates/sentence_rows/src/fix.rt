@@ -1,6 +1,7 @@
 //! What a satellite fix says of itself.
 
-ghost use Rattle.std.specs.Prelude.{◌≡◌};
+ghost use Rattle.std.specs.Prelude.{◌≡◌, ◌<◌, nat_le, unsigned_abs};
+ghost use Rattle.readings.specs.Ranges.{method as method_range, satellites as satellites_range};
 ghost use Rattle.sentence_rows.specs.Columns as spec;
 
 use crate::column::is_blank;
@@ -15,11 +16,18 @@ pub(crate) fn quality(sentence: &Sentence<'_>, at: u8) -> Result<u8, FieldFault>
     ensures { result ≡ spec.quality (spec.fields_in sentence.now) at }
 {
     let method = digits(sentence, at, true, 1, 1)?;
-    if METHOD.holds(method as i64) {
+    if is_method(method) {
         Ok(method as u8)
     } else {
         Err(FieldFault::Range(at))
     }
+}
+
+fn is_method(number: u64) -> bool
+    requires { number < 10 }
+    ensures { result ≡ nat_le number (unsigned_abs method_range.high) }
+{
+    METHOD.holds(number as i64)
 }
 
 /// The number of satellites.
@@ -27,12 +35,19 @@ pub(crate) fn quality(sentence: &Sentence<'_>, at: u8) -> Result<u8, FieldFault>
 pub(crate) fn satellites(sentence: &Sentence<'_>, at: u8) -> Result<Option<i64>, FieldFault>
     ensures { result ≡ spec.satellites (spec.fields_in sentence.now) at }
 {
-    let number = digits(sentence, at, true, 1, 3)? as i64;
+    let number = digits(sentence, at, true, 1, 3)?;
     if is_blank(sentence, at) {
         Ok(None)
-    } else if SATELLITES.holds(number) {
-        Ok(Some(number))
+    } else if are_satellites(number) {
+        Ok(Some(number as i64))
     } else {
         Err(FieldFault::Range(at))
     }
+}
+
+fn are_satellites(number: u64) -> bool
+    requires { number < 1000 }
+    ensures { result ≡ nat_le number (unsigned_abs satellites_range.high) }
+{
+    SATELLITES.holds(number as i64)
 }

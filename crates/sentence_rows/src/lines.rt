@@ -1,5 +1,6 @@
-ghost use Rattle.std.specs.Prelude.{◌≡◌, ◌≤◌, ◌<◌, [], ◌∷◌, ◌++◌, length, drop, IsTrue};
+ghost use Rattle.std.specs.Prelude.{◌≡◌, ◌≤◌, ◌<◌, [], ◌∷◌, ◌++◌, ◌+◌, length, IsTrue};
 ghost use Rattle.std.specs.List.{AllByRecursion, list_all};
+ghost use Rattle.arrayvec.specs.ArrayVec.{array_vec_len};
 ghost use Rattle.sentence_text.specs.Byte.{is_address_byte, is_capital};
 ghost use Rattle.sentence_rows.specs.Field.{IsPrintable, body_text, body_width};
 ghost use Rattle.sentence_rows.specs.Lines.{lines_of, sentence_by};
@@ -7,7 +8,7 @@ ghost use Rattle.sentence_rows.specs.Stable.{IsReadBack};
 
 use crate::field::Field;
 use arrayvec::ArrayVec;
-use sentence_text::write;
+use sentence_text::{begin, end};
 
 /// One sentence, from `$` to LF.
 #[derive(Debug, Drop)]
@@ -30,25 +31,17 @@ impl Default for SentenceText {
 /// The sentences of one reading.
 pub type Lines = ArrayVec<SentenceText, 2>;
 
-/// Leaves the fields, each behind a comma.
-fn append_body(fields: &[Field], body: &mut ArrayVec<u8, 82>)
-    requires empty { body.old.items ≡ [] }
+/// Appends the fields, each behind a comma.
+fn append_fields(fields: &[Field], out: &mut ArrayVec<u8, 82>)
     requires printable { AllByRecursion IsPrintable fields.now }
-    requires short { body_width fields.now ≤ 71 }
-    ensures { body.new.items ≡ body_text fields.now }
+    requires room { array_vec_len out.old + body_width fields.now ≤ 77 }
+    ensures text { out.new.items ≡ out.old.items ++ body_text fields.now }
+    ensures short { array_vec_len out.new ≤ 77 }
 {
     for field in fields {
-        body.push(b',');
-        field.append(body);
+        out.push(b',');
+        field.append(out);
     }
-}
-
-/// What stands behind the first byte.
-fn behind_first(bytes: &[u8]) -> &[u8]
-    requires { 1 ≤ length bytes.now }
-    ensures { result.now ≡ drop 1 bytes.now }
-{
-    &bytes[1..]
 }
 
 /// Leaves the sentence of the fields.
@@ -61,15 +54,14 @@ pub(crate) fn write_sentence(
     requires empty { text.old.bytes.items ≡ [] }
     requires talker { IsTrue (list_all is_capital talker) }
     requires formatter { IsTrue (list_all is_address_byte formatter) }
-    requires some { 0 < length fields.now }
     requires printable { AllByRecursion IsPrintable fields.now }
     requires short { body_width fields.now ≤ 71 }
     ensures text { text.new.bytes.items ≡ sentence_by talker formatter fields.now }
     ensures again { IsReadBack talker formatter fields.now }
 {
-    let mut body = ArrayVec::new();
-    append_body(fields, &mut body);
-    let _fits = write(talker, formatter, behind_first(&body), &mut text.bytes);
+    begin(talker, formatter, &mut text.bytes);
+    append_fields(fields, &mut text.bytes);
+    end(&mut text.bytes);
 }
 
 /// Adds the sentence of the fields.
@@ -77,7 +69,6 @@ pub(crate) fn append(talker: [u8; 2], formatter: [u8; 3], fields: &[Field], out:
     requires room { length out.old.items < 2 }
     requires talker { IsTrue (list_all is_capital talker) }
     requires formatter { IsTrue (list_all is_address_byte formatter) }
-    requires some { 0 < length fields.now }
     requires printable { AllByRecursion IsPrintable fields.now }
     requires short { body_width fields.now ≤ 71 }
     ensures said { lines_of out.new ≡ lines_of out.old ++ sentence_by talker formatter fields.now ∷ [] }

@@ -1,6 +1,6 @@
 //! The fields of a sentence that are numbers, with the letters of their units and of their signs.
 
-ghost use Rattle.std.specs.Prelude.{◌≡◌, ◌+◌, ◌<◌, ◌≤◌, ◌^◌, IfOk, IsTrue, unsigned_abs};
+ghost use Rattle.std.specs.Prelude.{◌≡◌, ◌+◌, ◌<◌, ◌≤◌, ◌^◌, IfOk, IsTrue, Some, unsigned_abs};
 ghost use Rattle.sentence_rows.specs.Columns as spec;
 ghost use Rattle.sentence_rows.specs.ReadUnits.{is_fit};
 
@@ -10,21 +10,17 @@ use crate::read_unit::{KILOMETRES_PER_HOUR, KNOTS, METRES_PER_SECOND, ReadUnit};
 use sentence_text::Sentence;
 use unit_fraction::{Decimal, DecimalFault, Fraction, read_decimal, scale_decimal};
 
-/// A decimal, with a sign only where there may be one; None where the field is empty.
-#[tactic(auto, unfolding(crate::specs::Columns::decimal), using(crate::proofs::Columns::scalable))]
-fn decimal(
-    sentence: &Sentence<'_>,
+/// What is read of a decimal, with a sign only where there may be one; None where the field is empty.
+fn decimal_in(
+    read: Result<Decimal, DecimalFault>,
     at: u8,
     may_be_signed: bool,
 ) -> Result<Option<Decimal>, FieldFault>
-    ensures exact { result ≡ spec.decimal (spec.fields_in sentence.now) at may_be_signed }
+    requires few { IfOk read (λ d. spec.IsScalable (Some d)) }
+    ensures exact { result ≡ spec.decimal_in at may_be_signed read }
     ensures few { IfOk result spec.IsScalable }
 {
-    let text = match field(sentence, at) {
-        Some(text) => text,
-        None => return Err(FieldFault::Form(at)),
-    };
-    match read_decimal(text) {
+    match read {
         Ok(decimal) => {
             if decimal.negative && !may_be_signed {
                 Err(FieldFault::Form(at))
@@ -34,6 +30,21 @@ fn decimal(
         }
         Err(DecimalFault::Empty) => Ok(None),
         Err(_) => Err(FieldFault::Form(at)),
+    }
+}
+
+#[tactic(auto, unfolding(crate::specs::Columns::decimal), using(crate::proofs::Columns::scalable))]
+fn decimal(
+    sentence: &Sentence<'_>,
+    at: u8,
+    may_be_signed: bool,
+) -> Result<Option<Decimal>, FieldFault>
+    ensures exact { result ≡ spec.decimal (spec.fields_in sentence.now) at may_be_signed }
+    ensures few { IfOk result spec.IsScalable }
+{
+    match field(sentence, at) {
+        Some(text) => decimal_in(read_decimal(text), at, may_be_signed),
+        None => Err(FieldFault::Form(at)),
     }
 }
 

@@ -1,6 +1,6 @@
 //! Latitude and longitude, as degrees and minutes with the letter of the hemisphere behind them.
 
-ghost use Rattle.std.specs.Prelude.{◌≡◌, ◌<◌, ◌≤◌, ◌^◌, IfOk, IsTrue};
+ghost use Rattle.std.specs.Prelude.{◌≡◌, ◌+◌, ◌*◌, ◌<◌, ◌≤◌, ◌^◌, IfOk, IsTrue};
 ghost use Rattle.sentence_rows.specs.Columns as spec;
 ghost use Rattle.sentence_rows.specs.ReadUnits.{is_fit};
 
@@ -15,8 +15,19 @@ use unit_fraction::Decimal;
 /// The most decimals of a minute that are read.
 const MOST_DECIMALS: u8 = 9;
 
-/// Degrees and minutes as minutes.
+/// The number that minutes and their decimals write without the point.
 #[tactic(auto, using(crate::proofs::DigitNumbers::minutes_fit, crate::proofs::DigitNumbers::power_small))]
+fn without_point(minutes: u64, part: u64, places: u8) -> u64
+    requires minutes { minutes ≤ 60100 }
+    requires places { places ≤ 9 }
+    requires part { part < 10 ^ places }
+    ensures value { result ≡ minutes * 10 ^ places + part }
+    ensures small { result < 10 ^ 14 }
+{
+    minutes * 10u64.pow(u32::from(places)) + part
+}
+
+/// Degrees and minutes as minutes.
 fn minutes_of(fixed: &Fixed) -> Decimal
     requires { spec.IsFixed 5 9 fixed.now }
     ensures value { result ≡ spec.minutes_of fixed.now }
@@ -26,7 +37,7 @@ fn minutes_of(fixed: &Fixed) -> Decimal
     let minutes = fixed.whole / 100 * 60 + fixed.whole % 100;
     Decimal {
         negative: false,
-        digits: minutes * 10u64.pow(u32::from(fixed.places)) + fixed.part,
+        digits: without_point(minutes, fixed.part, fixed.places),
         places: fixed.places,
     }
 }

@@ -17,7 +17,7 @@ use crate::written_unit::{DEGREES, KNOTS, MINUTES};
 use crate::zda::{civil_date, day_of, month_of, year_of};
 
 /// What RMC says, as raw values in the units of readings. A value is `None` where it isn't available.
-#[derive(Clone, Copy, Debug, PartialEq, Eq)]
+#[derive(Clone, Copy)]
 pub struct Minimum {
     pub time: Option<i64>,
     pub date: Option<i64>,

@@ -37,7 +37,7 @@ fields_pass (f ∷ fs) h =
 body_passes : (body : List ℕ) → IsBody body → list_all is_body_byte body ≡ true
 body_passes body h = subst (λ (x : List ℕ). list_all is_body_byte x ≡ true) (sym h.spelled) (fields_pass h.fields h.bytes)
 
-content_passes : (p : SentenceParts) → IsAddress (p.talker ++ p.formatter) → IsBody p.body → list_all is_body_byte (content p) ≡ true
+pub content_passes : (p : SentenceParts) → IsAddress (p.talker ++ p.formatter) → IsBody p.body → list_all is_body_byte (content p) ≡ true
 content_passes p address body =
     let front = all_weaker is_address_byte is_body_byte is_body (p.talker ++ p.formatter) address.bytes in
     subst (λ (x : List ℕ). list_all is_body_byte x ≡ true) (append_assoc p.talker p.formatter p.body) (all_append is_body_byte (p.talker ++ p.formatter) p.body front (body_passes p.body body))

@@ -1,18 +1,21 @@
--- A sentence that is written is in the grammar.
-use Rattle.std.proofs.Common.{◌≡◌, ℕ, ◌/◌, ◌%◌, ◌<◌, ◌≤◌, List, ◌++◌, length, refl, ◌∙◌, arith, length-append, inl}
-use Rattle.std.specs.Prelude.{IsTrue}
-use Rattle.std.specs.List.{list_all}
+-- A sentence that is written is in the grammar, and is read back.
+use Rattle.std.proofs.Common.{◌≡◌, ℕ, ◌/◌, ◌%◌, ◌<◌, ◌≤◌, List, [], ◌∷◌, ◌++◌, length, refl, ap, ◌∙◌, arith, append_assoc, length-append, inl}
+use Rattle.std.specs.Prelude.{IsTrue, true, Ok, bit_xor}
+use Rattle.std.specs.List.{fold, list_all}
 use Rattle.std.specs.Char.{digit_value}
-use Rattle.std.proofs.lemmas.Bool.{and_from}
+use Rattle.std.proofs.lemmas.Bool.{and_from, and_parts}
+use Rattle.std.proofs.lemmas.Bool.Decides.{nat_tests}
+use Rattle.std.proofs.lemmas.Grind.{widths}
 use Rattle.std.proofs.lemmas.List.Folds.{list_all-append}
 use Rattle.sentence_text.specs.Byte.{is_address_byte, is_body_byte}
-use Rattle.sentence_text.specs.Sentence.{content, xor_of, capital_digit, longest_written, sentence, parts_of, IsAddress, IsSentence}
-use Rattle.sentence_text.proofs.Fields.{is_body}
+use Rattle.sentence_text.specs.Reading.{read}
+use Rattle.sentence_text.specs.Sentence.{SentenceParts, content, xor_of, capital_digit, ended, longest_written, parts_of, sentence, IsAddress, IsBody, IsSentence}
+use Rattle.sentence_text.proofs.Only.{content_passes, only}
 
 pub digit_value-capital_digit : (n : ℕ) → n < 16 → digit_value (capital_digit n) ≡ n
 digit_value-capital_digit n small = grind arith
 
-pub is_address : (talker formatter : List ℕ) → length talker ≡ 2 → length formatter ≡ 3
+is_address : (talker formatter : List ℕ) → length talker ≡ 2 → length formatter ≡ 3
     → IsTrue (list_all is_address_byte talker) → IsTrue (list_all is_address_byte formatter) → IsAddress (talker ++ formatter)
 is_address talker formatter two three t f = record {
   least = omega (arith, length-append talker formatter);
@@ -20,29 +23,55 @@ is_address talker formatter two three t f = record {
   bytes = list_all-append is_address_byte talker formatter ∙ and_from (list_all is_address_byte talker) (list_all is_address_byte formatter) t f;
 }
 
-pub record IsWritten (talker formatter body : List ℕ) : Type 0 where
-  pub two : length talker ≡ 2
-  pub three : length formatter ≡ 3
-  pub talker_bytes : IsTrue (list_all is_address_byte talker)
-  pub formatter_bytes : IsTrue (list_all is_address_byte formatter)
-  pub body_bytes : IsTrue (list_all is_body_byte body)
+-- the sum of bytes is one
+sum_below : (sum : ℕ) (bytes : List ℕ) → sum < 256 → list_all is_body_byte bytes ≡ true → fold bit_xor sum bytes < 256
+sum_below sum [] s h = s
+sum_below sum (c ∷ cs) s h =
+    let p = and_parts (is_body_byte c) (list_all is_body_byte cs) h in
+    let small : c < 256 = grind (arith, nat_tests) in
+    let next : bit_xor sum c < 256 = grind (arith, widths) in
+    sum_below (bit_xor sum c) cs next p.1
 
-pub is_sentence : (talker formatter body text : List ℕ) → IsWritten talker formatter body → xor_of (content (parts_of talker formatter body)) < 256
-    → text ≡ sentence (parts_of talker formatter body) → length text ≤ longest_written → IsSentence (parts_of talker formatter body) text
-is_sentence talker formatter body text w byte spelled short =
-    let sum = xor_of (content (parts_of talker formatter body)) in
+pub record IsWritten (p : SentenceParts) : Type 0 where
+  pub starts : p.start ≡ 36
+  pub two : length p.talker ≡ 2
+  pub three : length p.formatter ≡ 3
+  pub talker_bytes : IsTrue (list_all is_address_byte p.talker)
+  pub formatter_bytes : IsTrue (list_all is_address_byte p.formatter)
+  pub body : IsBody p.body
+  pub short : length (sentence p) ≤ longest_written
+
+pub is_sentence : (p : SentenceParts) → IsWritten p → IsSentence p (sentence p)
+is_sentence p w =
+    let address = is_address p.talker p.formatter w.two w.three w.talker_bytes w.formatter_bytes in
+    let sum = xor_of (content p) in
+    let byte : sum < 256 = sum_below 0 (content p) (omega arith) (content_passes p address w.body) in
     let high : digit_value (capital_digit (sum / 16)) ≡ sum / 16 = digit_value-capital_digit (sum / 16) (omega arith) in
     let low : digit_value (capital_digit (sum % 16)) ≡ sum % 16 = digit_value-capital_digit (sum % 16) (omega arith) in
     record {
-      starts = inl refl;
+      starts = inl w.starts;
       talker = w.two;
-      address = is_address talker formatter w.two w.three w.talker_bytes w.formatter_bytes;
-      body = is_body body w.body_bytes;
+      address = address;
+      body = w.body;
       high = capital_digit (sum / 16);
       low = capital_digit (sum % 16);
       high_digit = omega (arith, high);
       low_digit = omega (arith, low);
       sum = omega (arith, high, low);
-      spelled = spelled;
-      most = omega (arith, short);
+      spelled = refl;
+      most = let short = w.short in omega (arith, short);
     }
+
+pub read_back : (p : SentenceParts) → IsWritten p → read (sentence p) ≡ Ok p
+read_back p w = only (sentence p) p (is_sentence p w)
+
+-- what is begun and ended is a sentence
+pub ended_sentence : (talker formatter body : List ℕ) → ended ((36 ∷ talker ++ formatter) ++ body) ≡ sentence (record { start = 36; talker = talker; formatter = formatter; body = body })
+ended_sentence talker formatter body = ap ended (ap (λ (x : List ℕ). 36 ∷ x) (append_assoc talker formatter body))
+
+pub written : (talker formatter body begun pushed full new : List ℕ) → begun ≡ 36 ∷ talker ++ formatter → pushed ≡ begun ++ 44 ∷ [] → full ≡ pushed ++ body
+    → new ≡ ended full → new ≡ sentence (parts_of talker formatter body)
+written talker formatter body begun pushed full new b p f n =
+    let whole : full ≡ (36 ∷ talker ++ formatter) ++ 44 ∷ body =
+    f ∙ ap (λ (x : List ℕ). x ++ body) (p ∙ ap (λ (x : List ℕ). x ++ 44 ∷ []) b) ∙ append_assoc (36 ∷ talker ++ formatter) (44 ∷ []) body in
+    n ∙ ap ended whole ∙ ended_sentence talker formatter (44 ∷ body)

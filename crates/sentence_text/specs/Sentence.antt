@@ -1,5 +1,5 @@
 -- What a sentence of IEC 61162-1 is, as a relation between its parts and all of its bytes.
-use Rattle.std.specs.Prelude.{◌≡◌, ℕ, ◌+◌, ◌*◌, ◌/◌, ◌%◌, ◌<◌, ◌≤◌, ◌⊎◌, List, [], ◌∷◌, ◌++◌, length, All, IsTrue, bit_xor, nat_lt, if◌then◌else◌}
+use Rattle.std.specs.Prelude.{◌≡◌, ℕ, ◌+◌, ◌*◌, ◌/◌, ◌%◌, ◌<◌, ◌≤◌, ◌⊎◌, List, [], ◌∷◌, ◌++◌, length, drop, All, IsTrue, bit_xor, nat_lt, if◌then◌else◌}
 use Rattle.std.specs.List.{flat_map, fold, list_all}
 use Rattle.std.specs.Char.{digit_value}
 use Rattle.sentence_text.specs.Byte.{is_address_byte, is_field_byte}
@@ -76,6 +76,10 @@ capital_digit n = if nat_lt n 10 then 48 + n else 55 + n
 -- the one sentence that is written of these parts
 abbrev pub sentence : SentenceParts → List ℕ
 sentence parts = let sum = xor_of (content parts) in spelling parts (capital_digit (sum / 16)) (capital_digit (sum % 16))
+
+-- what is begun, up to its last field, with the sum of what stands behind its first byte: `*`, two digits, CR and LF
+abbrev pub ended : List ℕ → List ℕ
+ended begun = let sum = xor_of (drop 1 begun) in begun ++ 42 ∷ capital_digit (sum / 16) ∷ capital_digit (sum % 16) ∷ 13 ∷ 10 ∷ []
 
 -- the parts of a sentence that is written: a body of fields divided by commas comes behind a comma
 abbrev pub parts_of : List ℕ → List ℕ → List ℕ → SentenceParts

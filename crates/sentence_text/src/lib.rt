@@ -22,4 +22,4 @@ pub use reading::read;
 pub use sentence::Sentence;
 pub use sfi::Sfi;
 pub use sum::{SumFault, sum_digits, sum_fault, xor};
-pub use writing::write;
+pub use writing::{begin, end, write};

@@ -6,7 +6,7 @@ ghost use Rattle.sentence_text.specs.Sentence.{capital_digit, xor_of};
 ghost use Rattle.sentence_text.specs.Sum as spec;
 
 /// What keeps two bytes from being the digits of a sum.
-#[derive(Clone, Copy, Debug, PartialEq, Eq)]
+#[derive(Clone, Copy)]
 pub enum SumFault {
     /// The first is no hexadecimal digit.
     First,

@@ -2,7 +2,7 @@ ghost use Rattle.std.specs.Prelude.{◌≡◌, ◌+◌, ◌<◌, ◌≤◌, [], 
 ghost use Rattle.std.specs.List.{list_all};
 ghost use Rattle.arrayvec.specs.ArrayVec.{array_vec_len};
 ghost use Rattle.sentence_text.specs.Byte.{is_address_byte, is_body_byte};
-ghost use Rattle.sentence_text.specs.Sentence.{IsSentence, capital_digit, content, longest_written, parts_of, sentence, xor_of};
+ghost use Rattle.sentence_text.specs.Sentence.{IsSentence, ended, longest_written, parts_of, sentence};
 ghost use Rattle.sentence_text.specs.Reading.{read};
 
 use crate::sum::{sum_digits, xor};
@@ -21,41 +21,26 @@ fn append(piece: &[u8], out: &mut ArrayVec<u8, 82>)
     let _fits = out.try_extend_from_slice(piece);
 }
 
-/// `$`, and the content behind it.
-fn append_content(talker: &[u8; 2], formatter: &[u8; 3], body: &[u8], out: &mut ArrayVec<u8, 82>)
+/// Begins a sentence, whose fields come behind this, each behind its comma: `$`, the talker and the formatter.
+pub fn begin(talker: [u8; 2], formatter: [u8; 3], out: &mut ArrayVec<u8, 82>)
     requires empty { out.old.items ≡ [] }
-    requires fits { length body.now + FRAME ≤ longest_written }
-    ensures content { out.new.items ≡ 36 ∷ content (parts_of talker.now formatter.now body.now) }
-    ensures len { array_vec_len out.new + 5 ≡ length body.now + FRAME }
+    ensures { out.new.items ≡ 36 ∷ talker ++ formatter }
 {
-    append(b"$", out);
-    append(talker, out);
-    append(formatter, out);
-    append(b",", out);
-    append(body, out);
+    out.push(b'$');
+    append(&talker, out);
+    append(&formatter, out);
 }
 
-/// `*`, the two digits of the sum, CR and LF.
-fn append_end(sum: u8, out: &mut ArrayVec<u8, 82>)
-    requires { array_vec_len out.old + 5 ≤ longest_written }
-    ensures text { out.new.items ≡ out.old.items ++ 42 ∷ capital_digit (sum / 16) ∷ capital_digit (sum % 16) ∷ 13 ∷ 10 ∷ [] }
-    ensures len { array_vec_len out.new ≡ array_vec_len out.old + 5 }
+/// Ends a sentence: `*`, the sum of what stands behind the `$`, CR and LF.
+pub fn end(out: &mut ArrayVec<u8, 82>)
+    requires begun { 1 ≤ array_vec_len out.old }
+    requires room { array_vec_len out.old + 5 ≤ longest_written }
+    ensures { out.new.items ≡ ended out.old.items }
 {
-    append(b"*", out);
+    let sum = xor(&out[1..]);
+    out.push(b'*');
     append(&sum_digits(sum), out);
     append(b"\r\n", out);
-}
-
-fn append_sentence(talker: &[u8; 2], formatter: &[u8; 3], body: &[u8], out: &mut ArrayVec<u8, 82>)
-    requires empty { out.old.items ≡ [] }
-    requires fits { length body.now + FRAME ≤ longest_written }
-    ensures text { out.new.items ≡ sentence (parts_of talker.now formatter.now body.now) }
-    ensures len { array_vec_len out.new ≡ length body.now + FRAME }
-    ensures sum { xor_of (content (parts_of talker.now formatter.now body.now)) < 256 }
-{
-    append_content(talker, formatter, body, out);
-    let sum = xor(&out[1..]);
-    append_end(sum, out);
 }
 
 /// Writes `$`, the address, a comma and the body, and behind `*` their sum. The body is the fields, divided by
@@ -74,6 +59,9 @@ pub fn write(talker: [u8; 2], formatter: [u8; 3], body: &[u8], out: &mut ArrayVe
     if body.len() > MOST - FRAME {
         return false;
     }
-    append_sentence(&talker, &formatter, body, out);
+    begin(talker, formatter, out);
+    out.push(b',');
+    append(body, out);
+    end(out);
     true
 }
