@@ -38,10 +38,6 @@ few_small ds h few = number_small ds (all_digits ds h) few
 pub power_small : (places : ℕ) → places ≤ 9 → (0 < 10 ^ places) × (10 ^ places ≤ 10 ^ 9)
 power_small places few = (one-le-pow places 10 (omega arith), pow-le-pow_right {n = 10} (omega arith) {i = places} {j = 9} few)
 
-pub minutes_fit : (minutes places part : ℕ) → minutes ≤ 60100 → places ≤ 9 → part < 10 ^ places → minutes * 10 ^ places + part < 10 ^ 14
-minutes_fit minutes places part few short below =
-    omega (arith, mul-le minutes (10 ^ places) 60100 (10 ^ 9) few ((power_small places short).1), (power_small places short).1)
-
 pub decimals_fit : (places part : ℕ) → places ≤ 4 → part < 10 ^ places → part * 10 ^ (4 - places) ≤ 10 ^ 9
 decimals_fit places part short below =
     let most : 10 ^ places ≤ 10 ^ 4 = pow-le-pow_right {n = 10} (omega arith) {i = places} {j = 4} short in

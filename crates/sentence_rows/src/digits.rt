@@ -8,7 +8,7 @@ ghost use Rattle.sentence_rows.specs.Columns as spec;
 
 use crate::column::field;
 use crate::fault::FieldFault;
-use sentence_text::Sentence;
+use sentence_text::{Sentence, all_digits};
 
 /// A number with a fixed count of digits, and behind its point so many more that write another number.
 #[derive(Clone, Copy)]
@@ -21,7 +21,7 @@ pub struct Fixed {
 fn are_digits(text: &[u8]) -> bool
     ensures { result ≡ list_all is_ascii_digit text.now }
 {
-    text.iter().all(|byte| byte.is_ascii_digit())
+    all_digits(text)
 }
 
 /// The number that at most twelve digits write.
@@ -47,14 +47,13 @@ fn part_behind(text: &[u8], most: u8) -> Option<&[u8]>
 {
     match text {
         [] => Some(text),
-        [b'.', part @ ..] => {
-            if part.len() <= usize::from(most) && are_digits(part) {
+        [first, part @ ..] => {
+            if *first == b'.' && part.len() <= usize::from(most) && are_digits(part) {
                 Some(part)
             } else {
                 None
             }
         }
-        _ => None,
     }
 }
 

@@ -29,7 +29,7 @@ fn decimal_in(
             }
         }
         Err(DecimalFault::Empty) => Ok(None),
-        Err(_) => Err(FieldFault::Form(at)),
+        Err(DecimalFault::Byte(_) | DecimalFault::Long) => Err(FieldFault::Form(at)),
     }
 }
 

@@ -16,7 +16,6 @@ use unit_fraction::Decimal;
 const MOST_DECIMALS: u8 = 9;
 
 /// The number that minutes and their decimals write without the point.
-#[tactic(auto, using(crate::proofs::DigitNumbers::minutes_fit, crate::proofs::DigitNumbers::power_small))]
 fn without_point(minutes: u64, part: u64, places: u8) -> u64
     requires minutes { minutes ≤ 60100 }
     requires places { places ≤ 9 }
@@ -24,7 +23,8 @@ fn without_point(minutes: u64, part: u64, places: u8) -> u64
     ensures value { result ≡ minutes * 10 ^ places + part }
     ensures small { result < 10 ^ 14 }
 {
-    minutes * 10u64.pow(u32::from(places)) + part
+    let power = 10u64.pow(u32::from(places));
+    minutes * power + part
 }
 
 /// Degrees and minutes as minutes.

@@ -38,9 +38,12 @@ pub fn end(out: &mut ArrayVec<u8, 82>)
     ensures { out.new.items ≡ ended out.old.items }
 {
     let sum = xor(&out[1..]);
+    let [high, low] = sum_digits(sum);
     out.push(b'*');
-    append(&sum_digits(sum), out);
-    append(b"\r\n", out);
+    out.push(high);
+    out.push(low);
+    out.push(b'\r');
+    out.push(b'\n');
 }
 
 /// Writes `$`, the address, a comma and the body, and behind `*` their sum. The body is the fields, divided by
