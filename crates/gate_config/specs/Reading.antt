@@ -18,15 +18,15 @@ abbrev pub Kind : Type 0 → Type 0
 Kind A = Place → List ℕ → Result A ConfigFault
 
 -- a key that has to be there
-abbrev pub needed : {A : Type 0} → Kind (Option A) → Kind A
+unfoldable pub needed : {A : Type 0} → Kind (Option A) → Kind A
 needed kind place name = kind place name >>= λ found. required place name found
 
 -- a key with a default
-abbrev pub default : {A : Type 0} → A → Kind (Option A) → Kind A
+unfoldable pub default : {A : Type 0} → A → Kind (Option A) → Kind A
 default other kind place name = kind place name >>= λ found. Ok (unwrap_or found other)
 
 -- a value that may not stand a second time
-abbrev pub unless : {A : Type 0} → (A → Bool) → Kind A → Kind A
+unfoldable pub unless : {A : Type 0} → (A → Bool) → Kind A → Kind A
 unless stands kind place name = kind place name >>= λ x. if stands x then Err (fault_at flaw.Twice (path_of place name)) else Ok x
 
 -- A table: its name, the keys that it may have, and what they say beside what is read already.

@@ -9,6 +9,7 @@ ghost use Rattle.config_document.specs.Keys.{Sees};
 use config_document::{ConfigFault, Section, Written};
 
 /// The number at a key that has to be there.
+#[tactic(auto, unfolding(crate::specs::Reading::needed))]
 pub(crate) fn needed_number(
     section: &Section,
     name: &str,
@@ -26,6 +27,7 @@ pub(crate) fn needed_number(
 }
 
 /// The number at a key, or its default.
+#[tactic(auto, unfolding(crate::specs::Reading::default))]
 pub(crate) fn number_or(
     section: &Section,
     name: &str,
@@ -45,6 +47,7 @@ pub(crate) fn number_or(
 }
 
 /// The truth value at a key, or its default.
+#[tactic(auto, unfolding(crate::specs::Reading::default))]
 pub(crate) fn truth_or(section: &Section, name: &str, other: bool) -> Result<bool, ConfigFault>
     ensures { result ≡ default other truth_at (place_of section.now) name.now }
 {
@@ -55,6 +58,7 @@ pub(crate) fn truth_or(section: &Section, name: &str, other: bool) -> Result<boo
 }
 
 /// What the text says at a key that has to be there.
+#[tactic(auto, unfolding(crate::specs::Reading::needed))]
 pub(crate) fn needed_text<T: Written>(section: &Section, name: &str) -> Result<T, ConfigFault>
     ensures said { result ≡ needed (text_at T.said_by) (place_of section.now) name.now }
     ensures valid { IfOk result T.is_valid }
@@ -67,6 +71,7 @@ pub(crate) fn needed_text<T: Written>(section: &Section, name: &str) -> Result<T
 }
 
 /// What the text says at a key, or its default.
+#[tactic(auto, unfolding(crate::specs::Reading::default))]
 pub(crate) fn text_or<T: Written + Drop>(
     section: &Section,
     name: &str,

@@ -51,6 +51,7 @@ pub(crate) fn bus_keys(document: &Section) -> Result<(Address, Address), ConfigF
 }
 
 /// Whom the network is heard from; the gateway isn't its own source.
+#[tactic(auto, unfolding(crate::specs::Reading::unless))]
 fn net_sources(net: &Section, name: &str, own: Sfi) -> Result<ArrayVec<Sfi, 32>, ConfigFault>
     ensures said { result ≡ unless (λ sources. repeats same_text (own ∷ sources.items)) (list_at sfi_in 32) (place_of net.now) name.now }
     ensures valid { IfOk result (λ sources. AreSourcesBeside own sources.items) }

@@ -43,7 +43,7 @@ pub(crate) fn preset_keys(
 }
 
 /// A preset beside the gateway's own address and NAME, and those of the presets before it.
-#[tactic(auto, using(crate::proofs::Beside::preset_beside), unfolding(crate::specs::Keys::preset))]
+#[tactic(auto, using(crate::proofs::Beside::preset_beside), unfolding(crate::specs::Keys::preset, crate::specs::Reading::unless))]
 fn preset(section: &Section, own: &Preset, earlier: &[Preset]) -> Result<Preset, ConfigFault>
     ensures said { result ≡ preset.read (own.now, earlier.now) (place_of section.now) }
     ensures valid { IfOk result (IsPresetBeside own.now earlier.now) }

@@ -39,7 +39,7 @@ pub(crate) fn route_keys(document: &Section) -> Result<ArrayVec<Route, 8>, Confi
 }
 
 /// A route beside those before it.
-#[tactic(auto, using(crate::proofs::Beside::route_beside), unfolding(crate::specs::Keys::route))]
+#[tactic(auto, using(crate::proofs::Beside::route_beside), unfolding(crate::specs::Keys::route, crate::specs::Reading::unless))]
 fn route(section: &Section, earlier: &[Route]) -> Result<Route, ConfigFault>
     ensures said { result ≡ route.read (tt, earlier.now) (place_of section.now) }
     ensures valid { IfOk result (IsRouteBeside earlier.now) }

@@ -91,6 +91,7 @@ fn keys_of_row(section: &Section, talker: [u8; 2], group: Group) -> Result<RowCo
 }
 
 /// The devices that a row is taken from, none of them twice.
+#[tactic(auto, unfolding(crate::specs::Reading::unless))]
 fn row_sources(section: &Section, name: &str) -> Result<ArrayVec<Pattern, 16>, ConfigFault>
     ensures said { result ≡ unless (λ sources. repeats same_pattern sources.items) (list_at pattern_in 16) (place_of section.now) name.now }
     ensures valid { IfOk result (λ sources. AreSources sources.items) }
