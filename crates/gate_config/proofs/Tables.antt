@@ -1,12 +1,22 @@
 -- The names of tables, and one more item of a list.
-use Rattle.std.proofs.Common.{◌≡◌, ℕ, ◌+◌, ◌<◌, List, [], ◌∷◌, ◌++◌, length, length-append, get_or, drop, map, Ok, refl, sym, ap, ◌∙◌}
-use Rattle.std.specs.Prelude.{codes}
+use Rattle.std.proofs.Common.{◌≡◌, ℕ, ◌+◌, ◌<◌, List, [], ◌∷◌, ◌++◌, length, length-append, get_or, drop, map, Ok, refl, sym, ap, ◌∙◌, arith}
+use Rattle.std.specs.Borrow.{Bor}
+use Rattle.std.specs.BTreeMap.{BTreeMap}
+use Rattle.std.specs.Prelude.{Option, String, codes, option_map}
+use Rattle.std.specs.declared.alloc.Global.{Global}
+use Rattle.std.proofs.lemmas.Grind.{common_steps}
 use Rattle.std.proofs.lemmas.List.{at_drop_more}
-use Rattle.toml.specs.Data.{Members}
+use Rattle.toml.specs.Data.{Data, Members, as_table}
+use Rattle.toml.specs.View.{table_view}
 use Rattle.toml.specs.declared.value.Value.{Value}
-use Rattle.config_document.specs.Places.{members_seen}
+use Rattle.config_document.specs.Kinds.{members_in}
+use Rattle.config_document.specs.Places.{members_of, members_seen}
 use Rattle.gate_config.specs.Keys.{preset, route, row}
 use Rattle.gate_config.specs.Reading.{◌>>=◌, Table, item_prefix, items_from, prefix_of}
+
+-- the keys of a value that is seen as a table
+pub table_seen : (value : Data) (table : Option (Bor (BTreeMap (String Global) Value))) → option_map (λ t. table_view t.now) table ≡ as_table value → members_of table ≡ members_in value
+table_seen value table same = grind (arith, common_steps)
 
 pub preset_name : prefix_of preset.name ≡ codes "preset."
 unfolding preset

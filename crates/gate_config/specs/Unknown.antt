@@ -59,16 +59,19 @@ unfoldable pub tables : List (List ℕ)
 tables =
     Keys.gateway.name ∷ Keys.preset.name ∷ Keys.row.name ∷ Keys.net.name ∷ Keys.bus.name ∷ Keys.route.name ∷ Keys.identity.name ∷ Keys.rmc.name ∷ Keys.ais.name ∷ []
 
+-- the gateway itself, the devices that it knows, and its rows
+unfoldable pub gateway_noted : Place → Option (List ℕ) → Option (List ℕ)
+gateway_noted document best =
+    rows_noted (place_under document Keys.row.name (prefix_of Keys.row.name)) (items Keys.preset document (once Keys.gateway document best))
+
+-- the links, and the routes between them
+unfoldable pub links_noted : Place → Option (List ℕ) → Option (List ℕ)
+links_noted document best = items Keys.route document (once Keys.bus document (once Keys.net document best))
+
+-- what the gateway says of itself, and the parts beside it
+unfoldable pub parts_noted : Place → Option (List ℕ) → Option (List ℕ)
+parts_noted document best = once Keys.ais document (once Keys.rmc document (once Keys.identity document best))
+
 -- every table
 unfoldable pub first_unknown : Place → Option (List ℕ)
-first_unknown document =
-    once Keys.ais document
-    (once Keys.rmc document
-    (once Keys.identity document
-    (items Keys.route document
-    (once Keys.bus document
-    (once Keys.net document
-    (rows_noted (place_under document Keys.row.name (prefix_of Keys.row.name))
-    (items Keys.preset document
-    (once Keys.gateway document
-    (noted tables document None)))))))))
+first_unknown document = parts_noted document (links_noted document (gateway_noted document (noted tables document None)))

@@ -4,7 +4,7 @@ ghost use Rattle.toml.specs.Data.{get_member};
 ghost use Rattle.toml.specs.View.{items_view};
 ghost use Rattle.config_document.specs.Places.{place_of};
 ghost use Rattle.config_document.specs.Unknown.{path_seen};
-ghost use Rattle.gate_config.specs.Unknown.{each_row_noted, first_unknown, items_of, noted, noted_items, place_under, row_names, row_noted, rows_noted};
+ghost use Rattle.gate_config.specs.Unknown.{each_row_noted, first_unknown, gateway_noted, items_of, links_noted, noted, noted_items, parts_noted, place_under, row_names, row_noted, rows_noted};
 
 use crate::items::{item_prefix, row_prefix};
 use crate::{gateway, identity, links, parts, presets, routes, rows};
@@ -25,6 +25,19 @@ pub(crate) fn first_unknown(
         "gateway", "preset", "row", "net", "bus", "route", "identity", "rmc", "ais",
     ];
     let least = least_unknown(alloc, document, &tables, None)?;
+    let least = in_gateway(alloc, document, least)?;
+    let least = in_links(alloc, document, least)?;
+    in_parts(alloc, document, least)
+}
+
+/// The lesser of this path and those of the gateway itself, of the devices that it knows, and of its rows.
+fn in_gateway(
+    alloc: Global,
+    document: &Section,
+    least: Option<Vec<u8>>,
+) -> Result<Option<Vec<u8>>, AllocError>
+    ensures { IfOk result (λ path. path_seen path ≡ gateway_noted (place_of document.now) (path_seen least)) }
+{
     let least = under(
         alloc,
         document,
@@ -35,11 +48,31 @@ pub(crate) fn first_unknown(
     )?;
     let presets = items(document, "preset");
     let least = in_items(alloc, presets, b"preset.", &presets::KEYS, least)?;
-    let least = in_row_table(alloc, &table_under(document, "row", b"row."), least)?;
+    in_row_table(alloc, &table_under(document, "row", b"row."), least)
+}
+
+/// The same of the links, and of the routes between them.
+fn in_links(
+    alloc: Global,
+    document: &Section,
+    least: Option<Vec<u8>>,
+) -> Result<Option<Vec<u8>>, AllocError>
+    ensures { IfOk result (λ path. path_seen path ≡ links_noted (place_of document.now) (path_seen least)) }
+{
     let least = under(alloc, document, "net", b"net.", &links::NET_KEYS, least)?;
     let least = under(alloc, document, "bus", b"bus.", &links::BUS_KEYS, least)?;
     let routes = items(document, "route");
-    let least = in_items(alloc, routes, b"route.", &routes::KEYS, least)?;
+    in_items(alloc, routes, b"route.", &routes::KEYS, least)
+}
+
+/// The same of what the gateway says of itself, and of the parts beside it.
+fn in_parts(
+    alloc: Global,
+    document: &Section,
+    least: Option<Vec<u8>>,
+) -> Result<Option<Vec<u8>>, AllocError>
+    ensures { IfOk result (λ path. path_seen path ≡ parts_noted (place_of document.now) (path_seen least)) }
+{
     let least = under(
         alloc,
         document,
@@ -148,11 +181,16 @@ fn in_items(
 fn table_under<'a>(section: &Section<'a>, name: &str, prefix: &'a [u8]) -> Section<'a>
     ensures { place_of result ≡ place_under (place_of section.now) name.now prefix.now }
 {
-    let table = match section.member(name) {
-        None => None,
-        Some(value) => value.as_table(),
-    };
-    Section { prefix, table }
+    match section.member(name) {
+        None => Section {
+            prefix,
+            table: None,
+        },
+        Some(value) => Section {
+            prefix,
+            table: value.as_table(),
+        },
+    }
 }
 
 /// The items at a key.
