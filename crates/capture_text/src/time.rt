@@ -103,7 +103,7 @@ fn moment(seconds: u64, text: &[u8]) -> Option<(u64, &[u8])>
     Some((number(seconds, &text[..6]), &text[8..]))
 }
 
-/// The same of any time.
+/// The moment of a time with any number of digits, and what follows the space behind it.
 #[tactic(auto, unfolding(crate::specs::Reading::time_at))]
 fn any_time(line: &[u8]) -> Option<(u64, &[u8])>
     ensures reads { MatchOption result (spec.time_at line.now ≡ None) (λ t. spec.time_at line.now ≡ Some (record { moment = t.0; rest = t.1.now })) }
