@@ -1,23 +1,15 @@
 -- The numbers that digits write, and their sizes.
-use Rattle.std.proofs.Common.{◌≡◌, ℕ, zero, suc, ◌+◌, ◌-◌, ◌*◌, ◌<◌, ◌≤◌, ◌^◌, List, [], ◌∷◌, length, get_or, drop, true, refl, arith, ap, sym, ◌∙◌}
+use Rattle.std.proofs.Common.{◌≡◌, ℕ, zero, suc, ◌-◌, ◌*◌, ◌<◌, ◌≤◌, ◌^◌, List, [], ◌∷◌, length, get_or, drop, true, refl, arith, ap, sym, ◌∙◌}
 use Rattle.std.specs.Prelude.{◌&&◌}
 use Rattle.std.specs.Char.{is_ascii_digit}
 use Rattle.std.specs.List.{list_all}
 use Rattle.std.specs.Str.{all_ascii_digits}
 use Rattle.std.proofs.Math.ListN.{drop_of_length-le}
-use Rattle.std.proofs.Math.Nat.{pow-le-pow_right, one-le-pow}
-use Rattle.std.proofs.lemmas.Nat.{mul-le}
+use Rattle.std.proofs.Math.Nat.{pow-le-pow_right}
 use Rattle.std.proofs.lemmas.Str.Parse.{digits_value_short}
 use Rattle.unit_fraction.specs.Digits.{number_after, number}
 use Rattle.unit_fraction.proofs.Text.{own}
-use Rattle.unit_fraction.proofs.Number.{number_step, number_fits, number_small, digit_in_range}
-
-pub step : (n : ℕ) (ds : List ℕ) (i total : ℕ) → i < length ds → number_after n (drop i ds) ≡ total
-    → number_after (n * 10 + (get_or ds i 0 - 48)) (drop (i + 1) ds) ≡ total
-step = number_step
-
-pub fits : (n : ℕ) (ds : List ℕ) (i total : ℕ) → i < length ds → number_after n (drop i ds) ≡ total → n * 10 + (get_or ds i 0 - 48) ≤ total
-fits = number_fits
+use Rattle.unit_fraction.proofs.Number.{number_small, digit_in_range}
 
 pub list_all_digits : (xs : List ℕ) → list_all is_ascii_digit xs ≡ all_ascii_digits xs
 list_all_digits [] = refl
@@ -34,15 +26,6 @@ small ds h = digits_value_short own ds (length ds) (all_digits ds h) (omega arit
 
 pub few_small : (ds : List ℕ) → list_all is_ascii_digit ds ≡ true → length ds ≤ 12 → number ds < 10 ^ 12
 few_small ds h few = number_small ds (all_digits ds h) few
-
-pub power_small : (places : ℕ) → places ≤ 9 → (0 < 10 ^ places) × (10 ^ places ≤ 10 ^ 9)
-power_small places few = (one-le-pow places 10 (omega arith), pow-le-pow_right {n = 10} (omega arith) {i = places} {j = 9} few)
-
-pub decimals_fit : (places part : ℕ) → places ≤ 4 → part < 10 ^ places → part * 10 ^ (4 - places) ≤ 10 ^ 9
-decimals_fit places part short below =
-    let most : 10 ^ places ≤ 10 ^ 4 = pow-le-pow_right {n = 10} (omega arith) {i = places} {j = 4} short in
-    let more : 10 ^ (4 - places) ≤ 10 ^ 4 = pow-le-pow_right {n = 10} (omega arith) {i = 4 - places} {j = 4} (omega arith) in
-    omega (arith, mul-le part (10 ^ (4 - places)) (10 ^ 4) (10 ^ 4) (omega arith) more)
 
 pub ended : (n total : ℕ) (ds : List ℕ) (i : ℕ) → length ds ≤ i → number_after n (drop i ds) ≡ total → n ≡ total
 ended n total ds i past e = rw (drop_of_length-le ds past) at e

@@ -22,7 +22,6 @@ fn is_time(fixed: &Fixed) -> bool
 }
 
 /// The time of day in 1e-4 second.
-#[tactic(auto, using(crate::proofs::DigitNumbers::decimals_fit, crate::proofs::DigitNumbers::power_small))]
 fn time_raw(fixed: &Fixed) -> i64
     requires { spec.IsFixed 6 4 fixed.now }
     ensures { result ≡ spec.time_raw fixed.now }

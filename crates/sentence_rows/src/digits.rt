@@ -25,7 +25,7 @@ fn are_digits(text: &[u8]) -> bool
 }
 
 /// The number that at most twelve digits write.
-#[tactic(auto, using(crate::proofs::DigitNumbers::step, crate::proofs::DigitNumbers::fits, crate::proofs::DigitNumbers::small, crate::proofs::DigitNumbers::in_range))]
+#[tactic(auto, using(unit_fraction::proofs::Number::number_step, unit_fraction::proofs::Number::number_fits, crate::proofs::DigitNumbers::small, crate::proofs::DigitNumbers::in_range))]
 fn number_of(digits: &[u8]) -> u64
     requires digits { IsTrue (list_all is_ascii_digit digits.now) }
     requires few { length digits.now ≤ 12 }

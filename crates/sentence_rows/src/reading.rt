@@ -18,10 +18,7 @@ pub type Readings = ArrayVec<Reading, 2>;
 fn alone_in(read: Result<Reading, FieldFault>) -> Result<(Reading, Option<Reading>), FieldFault>
     ensures { result ≡ spec.alone read }
 {
-    match read {
-        Ok(reading) => Ok((reading, None)),
-        Err(fault) => Err(fault),
-    }
+    Ok((read?, None))
 }
 
 /// The readings of a sentence of this formatter.
