@@ -25,9 +25,9 @@ use Rattle.std.proofs.lemmas.List.Folds.{list_all-append}
 use Rattle.readings.proofs.Ranges.{by_place}
 use Rattle.sentence_text.specs.Byte.{is_address_byte, is_capital, is_field_byte}
 use Rattle.sentence_text.specs.Fields.{field_at_front, fields_of}
-use Rattle.sentence_text.specs.Sentence.{body_of, ended}
+use Rattle.sentence_text.specs.Sentence.{body_of}
 use Rattle.sentence_text.proofs.Fields.{fields_before_comma}
-use Rattle.sentence_text.proofs.Spelling.{ended_sentence, read_back}
+use Rattle.sentence_text.proofs.Spelling.{read_back}
 use Rattle.unit_fraction.proofs.Text.{length-decimals, own}
 use Rattle.sentence_rows.specs.Lines.{sentence_by}
 use Rattle.sentence_rows.specs.Stable.{IsReadBack, parts_by}
@@ -360,9 +360,3 @@ is_read_back talker formatter fields two three capital address printable short =
   });
   has_fields = fields_text fields printable;
 }
-
--- what is begun, has its fields and is ended is the sentence of the fields
-pub written : (talker formatter begun full new : List ℕ) (fields : List Field) → begun ≡ 36 ∷ talker ++ formatter → full ≡ begun ++ body_text fields
-    → new ≡ ended full → new ≡ sentence_by talker formatter fields
-written talker formatter begun full new fields b f n =
-    n ∙ ap ended (f ∙ ap (λ (x : List ℕ). x ++ body_text fields) b) ∙ ended_sentence talker formatter (body_text fields)

@@ -1,6 +1,6 @@
 //! The fields of a sentence that are numbers, with the letters of their units and of their signs.
 
-ghost use Rattle.std.specs.Prelude.{◌≡◌, ◌+◌, ◌<◌, ◌≤◌, ◌^◌, IfOk, IsTrue, Some, unsigned_abs};
+ghost use Rattle.std.specs.Prelude.{◌≡◌, ◌+◌, ◌<◌, ◌≤◌, ◌^◌, IfOk, IsTrue, unsigned_abs};
 ghost use Rattle.sentence_rows.specs.Columns as spec;
 ghost use Rattle.sentence_rows.specs.ReadUnits.{is_fit};
 
@@ -10,29 +10,7 @@ use crate::read_unit::{KILOMETRES_PER_HOUR, KNOTS, METRES_PER_SECOND, ReadUnit};
 use sentence_text::Sentence;
 use unit_fraction::{Decimal, DecimalFault, Fraction, read_decimal, scale_decimal};
 
-/// What is read of a decimal, with a sign only where there may be one; None where the field is empty.
-fn decimal_in(
-    read: Result<Decimal, DecimalFault>,
-    at: u8,
-    may_be_signed: bool,
-) -> Result<Option<Decimal>, FieldFault>
-    requires few { IfOk read (λ d. spec.IsScalable (Some d)) }
-    ensures exact { result ≡ spec.decimal_in at may_be_signed read }
-    ensures few { IfOk result spec.IsScalable }
-{
-    match read {
-        Ok(decimal) => {
-            if decimal.negative && !may_be_signed {
-                Err(FieldFault::Form(at))
-            } else {
-                Ok(Some(decimal))
-            }
-        }
-        Err(DecimalFault::Empty) => Ok(None),
-        Err(DecimalFault::Byte(_) | DecimalFault::Long) => Err(FieldFault::Form(at)),
-    }
-}
-
+/// A decimal, with a sign only where there may be one; None where the field is empty.
 #[tactic(auto, unfolding(crate::specs::Columns::decimal), using(crate::proofs::Columns::scalable))]
 fn decimal(
     sentence: &Sentence<'_>,
@@ -42,9 +20,20 @@ fn decimal(
     ensures exact { result ≡ spec.decimal (spec.fields_in sentence.now) at may_be_signed }
     ensures few { IfOk result spec.IsScalable }
 {
-    match field(sentence, at) {
-        Some(text) => decimal_in(read_decimal(text), at, may_be_signed),
-        None => Err(FieldFault::Form(at)),
+    let text = match field(sentence, at) {
+        Some(text) => text,
+        None => return Err(FieldFault::Form(at)),
+    };
+    match read_decimal(text) {
+        Ok(decimal) => {
+            if decimal.negative && !may_be_signed {
+                Err(FieldFault::Form(at))
+            } else {
+                Ok(Some(decimal))
+            }
+        }
+        Err(DecimalFault::Empty) => Ok(None),
+        Err(DecimalFault::Byte(_) | DecimalFault::Long) => Err(FieldFault::Form(at)),
     }
 }
 

@@ -9,7 +9,7 @@ use Rattle.std.proofs.lemmas.Grind.{widths}
 use Rattle.std.proofs.lemmas.List.Folds.{list_all-append}
 use Rattle.sentence_text.specs.Byte.{is_address_byte, is_body_byte}
 use Rattle.sentence_text.specs.Reading.{read}
-use Rattle.sentence_text.specs.Sentence.{SentenceParts, content, xor_of, capital_digit, ended, longest_written, parts_of, sentence, IsAddress, IsBody, IsSentence}
+use Rattle.sentence_text.specs.Sentence.{SentenceParts, content, xor_of, capital_digit, ended, longest_written, sentence, IsAddress, IsBody, IsSentence}
 use Rattle.sentence_text.proofs.Only.{content_passes, only}
 
 pub digit_value-capital_digit : (n : ℕ) → n < 16 → digit_value (capital_digit n) ≡ n
@@ -65,13 +65,8 @@ is_sentence p w =
 pub read_back : (p : SentenceParts) → IsWritten p → read (sentence p) ≡ Ok p
 read_back p w = only (sentence p) p (is_sentence p w)
 
--- what is begun and ended is a sentence
-pub ended_sentence : (talker formatter body : List ℕ) → ended ((36 ∷ talker ++ formatter) ++ body) ≡ sentence (record { start = 36; talker = talker; formatter = formatter; body = body })
-ended_sentence talker formatter body = ap ended (ap (λ (x : List ℕ). 36 ∷ x) (append_assoc talker formatter body))
-
-pub written : (talker formatter body begun pushed full new : List ℕ) → begun ≡ 36 ∷ talker ++ formatter → pushed ≡ begun ++ 44 ∷ [] → full ≡ pushed ++ body
-    → new ≡ ended full → new ≡ sentence (parts_of talker formatter body)
-written talker formatter body begun pushed full new b p f n =
-    let whole : full ≡ (36 ∷ talker ++ formatter) ++ 44 ∷ body =
-    f ∙ ap (λ (x : List ℕ). x ++ body) (p ∙ ap (λ (x : List ℕ). x ++ 44 ∷ []) b) ∙ append_assoc (36 ∷ talker ++ formatter) (44 ∷ []) body in
-    n ∙ ap ended whole ∙ ended_sentence talker formatter (44 ∷ body)
+-- what is begun, has its body and is ended is a sentence
+pub written : (talker formatter body begun full new : List ℕ) → begun ≡ 36 ∷ talker ++ formatter → full ≡ begun ++ body → new ≡ ended full
+    → new ≡ sentence (record { start = 36; talker = talker; formatter = formatter; body = body })
+written talker formatter body begun full new b f n =
+    n ∙ ap ended (f ∙ ap (λ (x : List ℕ). x ++ body) b ∙ ap (λ (x : List ℕ). 36 ∷ x) (append_assoc talker formatter body))

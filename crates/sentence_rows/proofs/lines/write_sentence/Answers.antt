@@ -1,6 +1,8 @@
 -- What is begun, has its fields and is ended is their sentence, which is read back.
 use Rattle.std.proofs.Common.{◌≡◌, length, rules}
-use Rattle.sentence_rows.proofs.Bodies.{is_read_back, written}
+use Rattle.sentence_text.proofs.Spelling.{written}
+use Rattle.sentence_rows.specs.Field.{body_text}
+use Rattle.sentence_rows.proofs.Bodies.{is_read_back}
 use Rattle.sentence_rows.proofs.lines.write_sentence.Goals as goal
 
 pub returns : goal.returns
@@ -8,6 +10,6 @@ returns c =
     let two : length c.args.talker ≡ 2 = search rules in
     let three : length c.args.formatter ≡ 3 = search rules in
     record {
-      text = written c.args.talker c.args.formatter _ _ _ c.args.fields.now c.begin.ensures c.append_fields.ensures.text c.end.ensures;
+      text = written c.args.talker c.args.formatter (body_text c.args.fields.now) _ _ _ c.begin.ensures c.append_fields.ensures.text c.end.ensures;
       again = is_read_back c.args.talker c.args.formatter c.args.fields.now two three c.requires.talker c.requires.formatter c.requires.printable c.requires.short;
     }

@@ -1,5 +1,5 @@
 -- What is begun and ended behind a comma and the body is the sentence.
-use Rattle.std.proofs.Common.{◌≡◌, List, ℕ, length, length-append, refl, sym, ap, subst, ◌∙◌, arith, rules}
+use Rattle.std.proofs.Common.{◌≡◌, ◌∷◌, ◌++◌, [], append_assoc, List, ℕ, length, length-append, refl, sym, ap, subst, ◌∙◌, arith, rules}
 use Rattle.sentence_text.specs.Reading.{read}
 use Rattle.sentence_text.specs.Sentence.{IsSentence, parts_of, sentence}
 use Rattle.sentence_text.proofs.Fields.{is_body}
@@ -7,7 +7,9 @@ use Rattle.sentence_text.proofs.Spelling.{IsWritten, is_sentence, read_back, wri
 use Rattle.sentence_text.proofs.writing.write.Goals as goal
 
 text : (c : goal.After-end) → c.end.new.out.items ≡ sentence (parts_of c.args.talker c.args.formatter c.args.body.now)
-text c = written c.args.talker c.args.formatter c.args.body.now _ _ _ _ c.begin.ensures c.push.ensures.items c.append.ensures c.end.ensures
+text c =
+    written c.args.talker c.args.formatter (44 ∷ c.args.body.now) _ _ _ c.begin.ensures
+    (c.append.ensures ∙ ap (λ (x : List ℕ). x ++ c.args.body.now) c.push.ensures.items ∙ append_assoc c.begin.new.out.items (44 ∷ []) c.args.body.now) c.end.ensures
 
 is_written : (c : goal.After-end) → IsWritten (parts_of c.args.talker c.args.formatter c.args.body.now)
 is_written c =
