@@ -8,7 +8,7 @@ use crate::group_part::GroupPart;
 use slot_views::Kept;
 
 /// What a line is.
-#[derive(Clone, Copy, Debug, PartialEq, Eq)]
+#[derive(Clone, Copy)]
 pub enum GroupVerdict {
     /// The first line of a group.
     Opens,
