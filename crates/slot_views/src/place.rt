@@ -1,6 +1,6 @@
 //! Where a key stands.
 
-/// A key, and where it stands among those that are held, as long as these stay the same. So it is looked for once for several calls.
+/// A key, and where it stands among those that are held until they change (`Slots::find`). So it is looked for once for several calls.
 #[derive(Clone, Copy)]
 pub struct Place<K> {
     pub key: K,

@@ -43,7 +43,7 @@ impl<K: Copy + Ord, const CAP: usize, const PIECE: usize> Shelf<K, CAP, PIECE> {
         })
     }
 
-    // Where the key is, or where it would go. One message after another is most often of the same key.
+    // Where the key is, or where it would go. Pieces of one message mostly follow one another, so the place of the last one comes first.
     pub fn place(&self, key: K) -> Result<usize, usize>
         requires { IsOrdered K.cmp (entries_of self.now.slots.items) }
         ensures found { IfOk result (IsAt K.cmp key self.now.slots.items) }
