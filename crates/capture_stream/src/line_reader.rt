@@ -66,7 +66,11 @@ fn piece_len(room: usize, most: u64) -> usize
     ensures within { result ≤ room }
     ensures most { result ≤ most }
 {
-    if most < room as u64 { most as usize } else { room }
+    if most < room as u64 {
+        most as usize
+    } else {
+        room
+    }
 }
 
 // Reads into the buffer, behind its first bytes and no more than so many.
