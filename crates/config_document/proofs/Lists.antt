@@ -1,16 +1,26 @@
 -- The values of a list, one after another.
 use Rattle.std.proofs.Common.{◌≡◌, ℕ, suc, ◌<◌, ◌≤◌, List, [], ◌∷◌, length, Option, Some, None, Ok, Err, true, false, map, refl, ap, le-leb}
+use Rattle.std.specs.Prelude.{◌&&◌, is_some}
+use Rattle.std.specs.List.{list_all}
 use Rattle.std.proofs.lemmas.Bool.{lt-leb}
-use Rattle.toml.specs.View.{items_view}
+use Rattle.toml.specs.View.{items_view, view}
 use Rattle.toml.specs.declared.value.Value.{Value}
-use Rattle.config_document.specs.Kinds.{are_tables, count, each_members, each_said, said_in, tables_in}
+use Rattle.config_document.specs.Kinds.{are_tables, are_texts, count, each_members, each_said, said_in, tables_in}
 use Rattle.config_document.specs.Places.{members_seen}
 use Rattle.config_document.specs.declared.fault.Flaw.TheVariants as flaw
-use Rattle.toml.specs.Data.{Members, array}
+use Rattle.toml.specs.Data.{Members, array, as_str, as_table}
 
 pub count-view : (values : List Value) → count (items_view values) ≡ length values
 count-view [] = refl
 count-view (value ∷ values) = ap suc (count-view values)
+
+pub are_texts-view : (values : List Value) → list_all (λ value. is_some (as_str (view value))) values ≡ are_texts (items_view values)
+are_texts-view [] = refl
+are_texts-view (value ∷ values) = ap (λ rest. is_some (as_str (view value)) && rest) (are_texts-view values)
+
+pub are_tables-view : (values : List Value) → list_all (λ value. is_some (as_table (view value))) values ≡ are_tables (items_view values)
+are_tables-view [] = refl
+are_tables-view (value ∷ values) = ap (λ rest. is_some (as_table (view value)) && rest) (are_tables-view values)
 
 -- more values than there is room for
 pub said_many : {A : Type 0} (f : List ℕ → Option A) (most : ℕ) (values : List Value) → most < length values → None ≡ said_in f most (items_view values)

@@ -69,12 +69,7 @@ pub(crate) fn list<T: Written + Default + Drop, const MOST: usize>(
 fn are_texts(items: &[Value]) -> bool
     ensures { result ≡ are_texts (items_view items.now) }
 {
-    for item in items {
-        if !item.is_str() {
-            return false;
-        }
-    }
-    true
+    items.iter().all(Value::is_str)
 }
 
 /// What each of the texts says, where each says something and there is room for all.
@@ -124,10 +119,5 @@ pub(crate) fn tables(value: &Value, most: usize) -> Result<&[Value], Flaw>
 fn are_tables(items: &[Value]) -> bool
     ensures { result ≡ are_tables (items_view items.now) }
 {
-    for item in items {
-        if !item.is_table() {
-            return false;
-        }
-    }
-    true
+    items.iter().all(Value::is_table)
 }
