@@ -18,7 +18,7 @@ const REFUSED: u8 = 3;
 const UNREAD: u8 = 6;
 
 /// Why there are no settings.
-#[derive(Debug, Drop)]
+#[derive(Drop)]
 pub enum Unconfigured {
     /// The file can't be read, or has more than 1 MiB.
     Unread,

@@ -11,7 +11,7 @@ const MOST_KEY: usize = 128;
 pub type Key = ArrayVec<u8, 128>;
 
 /// What is wrong with the value of a key.
-#[derive(Clone, Copy, Debug, PartialEq, Eq)]
+#[derive(Clone, Copy)]
 pub enum Flaw {
     /// It is of another type of TOML.
     Kind,

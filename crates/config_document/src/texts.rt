@@ -10,11 +10,11 @@ use n2k_id::Name;
 use sentence_text::{Group, Sfi};
 
 /// The talker of a sentence, two capital letters (IEC 61162-1).
-#[derive(Clone, Copy, Debug, PartialEq, Eq)]
+#[derive(Clone, Copy)]
 pub struct Talker(pub [u8; 2]);
 
 /// A text of product information, at most 32 characters of ASCII from space to tilde.
-#[derive(Clone, Debug, Drop)]
+#[derive(Drop)]
 pub struct ProductText(pub ArrayVec<u8, 32>);
 
 impl Written for Name {
