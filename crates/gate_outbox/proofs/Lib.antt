@@ -1,3 +1,2 @@
 pub mod Datagrams
-pub mod Behind
 pub mod Telling

@@ -1,5 +1,6 @@
--- One entry that passes a test ends after another, and is told of, until none is left.
+-- What is told one after another; and one entry that passes a test ends after another, and is told of, until none is left.
 use Rattle.std.proofs.Common.{◌≡◌, ℕ, ◌+◌, ◌<◌, ◌≤◌, Bool, true, false, Option, Some, None, option_map, List, [], ◌∷◌, ◌++◌, length, filter, refl, sym, ap, ◌∙◌, subst, append_assoc, append-nil, length-append, arith}
+use Rattle.std.proofs.lemmas.Bool.Decides.{nat_tests}
 use Rattle.std.specs.List.{find, flat_map}
 use Rattle.slot_views.specs.Slots.{Entry, SlotMap, without_first, without, remaining}
 use Rattle.slot_views.proofs.Endings.{all_stay, one_fewer}
@@ -10,7 +11,24 @@ use Rattle.iso_transport.specs.declared.answers.IsoEnded.{IsoEnded}
 use Rattle.tag_block.specs.declared.group_key.GroupKey.{GroupKey}
 use Rattle.gate_events.specs.Emit.{Emit}
 use Rattle.history.specs.Emits.{broken, of_source}
-use Rattle.gate_outbox.specs.Output.{Output, and_emits, most_emits, has_datagram}
+use Rattle.gate_outbox.specs.Output.{Emitted, and_told, one_told, told_with}
+
+-- ---- what is told in two parts is told as one
+
+pub told_twice : (room : ℕ) (es a b : List Emit) → told_with room (told_with room es a) b ≡ told_with room es (a ++ b)
+told_twice room es [] b = refl
+told_twice room es (e ∷ a) b = told_twice room (one_told room es e) a b
+
+pub told_more : (room : ℕ) (x : Emitted) (a b : List Emit) → and_told room (and_told room x a) b ≡ and_told room x (a ++ b)
+told_more room x a b = ap (λ es. let y : Emitted = record { told = es; posted = x.posted } in y) (told_twice room x.told a b)
+
+-- all is told where there is room for it
+pub told_fits : (room : ℕ) (es a : List Emit) → length es + length a ≤ room → told_with room es a ≡ es ++ a
+told_fits room es [] fits = sym (append-nil es)
+told_fits room es (e ∷ a) fits =
+    let first : one_told room es e ≡ es ++ e ∷ [] = grind (arith, nat_tests) in
+    let more = length-append es (e ∷ []) in
+    rw first (told_fits room (es ++ e ∷ []) a (omega (arith, fits, more)) ∙ append_assoc es (e ∷ []) a)
 
 module _ {X : Type 0} (p : X → Bool) (tell : X → List Emit) where
   told_first : (xs : List X) (x : X) → find p xs ≡ Some x
@@ -75,68 +93,44 @@ none_found : {X Y : Type 0} (f : X → Y) (o : Option X) → option_map f o ≡ 
 none_found f None is = refl
 none_found f (Some x) is = cc
 
-module _ {K Y : Type 0} (p : K × Entry → Bool) (f : K × Entry → Y) (say : Y → List Emit) where
+module _ {K Y : Type 0} (room : ℕ) (p : K × Entry → Bool) (f : K × Entry → Y) (say : Y → List Emit) where
   -- what is still to be told
   abbrev pub to_tell : SlotMap K → List Emit
   to_tell s = flat_map (λ e. say (f e)) (filter p s.entries)
 
-  -- the slots and the outbox as it begins, and as far as it has come
-  pub record IsEnding (s₀ : SlotMap K) (o₀ : Output) (s : SlotMap K) (o : Output) : Type 0 where
+  -- the slots and the emits as it begins, and as far as it has come
+  pub record IsEnding (s₀ : SlotMap K) (x₀ : Emitted) (s : SlotMap K) (x : Emitted) : Type 0 where
     -- the same will be left
     pub rest : remaining p s ≡ remaining p s₀
     -- what was told and what is still to be told make up the whole
-    pub whole : and_emits o (to_tell s) ≡ and_emits o₀ (to_tell s₀)
-    pub room : length o.emits + length (to_tell s) ≤ most_emits
-    pub before : has_datagram o.emits ≡ false
+    pub whole : and_told room x (to_tell s) ≡ and_told room x₀ (to_tell s₀)
 
-module _ {K Y : Type 0} {p : K × Entry → Bool} {f : K × Entry → Y} {say : Y → List Emit} {s₀ s : SlotMap K} {o₀ o : Output}
-    (ending : IsEnding p f say s₀ o₀ s o) where
+module _ {K Y : Type 0} {room : ℕ} {p : K × Entry → Bool} {f : K × Entry → Y} {say : Y → List Emit} {s₀ s : SlotMap K} {x₀ x : Emitted}
+    (ending : IsEnding room p f say s₀ x₀ s x) where
   abbrev with_slots : List (K × Entry) → SlotMap K
   with_slots es = record { limit = s.limit; entries = es }
 
-  abbrev with_told : List Emit → Output
-  with_told es = record { emits = es; done = o.done; command = o.command }
+  -- ---- an entry is there: it was taken out, and told of
 
-  -- ---- an entry is there
+  module _ {y : Y} (is : option_map f (find p s.entries) ≡ Some y) {s' : SlotMap K} (after : s' ≡ without s p) where
+    pub fewer : length s'.entries < length s.entries
+    fewer =
+        let found = found_of f (find p s.entries) y is in
+        subst (λ z. length z.entries < length s.entries) (sym after) (fewer_left p (λ e. say (f e)) s.entries found.0 found.1)
 
-  module _ {y : Y} (is : option_map f (find p s.entries) ≡ Some y) where
-    first : to_tell p f say s ≡ say y ++ to_tell p f say (without s p)
+    first : to_tell room p f say s ≡ say y ++ to_tell room p f say (without s p)
     first =
         let found = found_of f (find p s.entries) y is in
-        told_first p (λ e. say (f e)) s.entries found.0 found.1 ∙ ap (λ z. say z ++ to_tell p f say (without s p)) found.2
+        told_first p (λ e. say (f e)) s.entries found.0 found.1 ∙ ap (λ z. say z ++ to_tell room p f say (without s p)) found.2
 
-    lengths : length (to_tell p f say s) ≡ length (say y) + length (to_tell p f say (without s p))
-    lengths = ap length first ∙ length-append (say y) (to_tell p f say (without s p))
-
-    pub has_room : length o.emits + length (say y) ≤ most_emits
-    has_room = let room = ending.room in let sum = lengths in omega (arith, room, sum)
-
-    goes_on : has_datagram (o.emits ++ say y) ≡ false → IsEnding p f say s₀ o₀ (without s p) (and_emits o (say y))
-    goes_on before = record {
+    goes_on : IsEnding room p f say s₀ x₀ (without s p) (and_told room x (say y))
+    goes_on = record {
       rest = ap with_slots (one_fewer p s.entries) ∙ ending.rest;
-      whole =
-          ap with_told (append_assoc o.emits (say y) (to_tell p f say (without s p)) ∙ ap (λ es. o.emits ++ es) (sym first))
-          ∙ ending.whole;
-      room =
-          let room = ending.room in
-          let sum = lengths in
-          let more = length-append o.emits (say y) in
-          omega (arith, room, sum, more);
-      before = before;
+      whole = told_more room x (say y) (to_tell room p f say (without s p)) ∙ ap (and_told room x) (sym first) ∙ ending.whole;
     }
 
-    -- it was taken out, and told of
-    module _ {s' : SlotMap K} (after : s' ≡ without s p) where
-      pub fewer : length s'.entries < length s.entries
-      fewer =
-          let found = found_of f (find p s.entries) y is in
-          subst (λ z. length z.entries < length s.entries) (sym after) (fewer_left p (λ e. say (f e)) s.entries found.0 found.1)
-
-      pub one_told : {o' : Output} → o' ≡ and_emits o (say y) → has_datagram o'.emits ≡ false → IsEnding p f say s₀ o₀ s' o'
-      one_told {o'} emits before =
-          let before_all : has_datagram (o.emits ++ say y) ≡ false = subst (λ z. has_datagram z.emits ≡ false) emits before in
-          let on = subst (λ z. IsEnding p f say s₀ o₀ (without s p) z) (sym emits) (goes_on before_all) in
-          subst (λ z. IsEnding p f say s₀ o₀ z o') (sym after) on
+    pub one_ended : {x' : Emitted} → x' ≡ and_told room x (say y) → IsEnding room p f say s₀ x₀ s' x'
+    one_ended {x'} emits = subst (λ z. IsEnding room p f say s₀ x₀ z x') (sym after) (subst (λ z. IsEnding room p f say s₀ x₀ (without s p) z) (sym emits) goes_on)
 
   -- ---- none is left
 
@@ -150,8 +144,5 @@ module _ {K Y : Type 0} {p : K × Entry → Bool} {f : K × Entry → Y} {say : 
         ∙ ap with_slots (all_left p (λ e. say (f e)) s.entries none ∙ sym (all_stay p s.entries none))
         ∙ ending.rest
 
-    pub ends_emits : o ≡ and_emits o₀ (to_tell p f say s₀)
-    ends_emits =
-        let all : o.emits ++ to_tell p f say s ≡ o.emits =
-        ap (λ es. o.emits ++ es) (told_none p (λ e. say (f e)) s.entries none) ∙ append-nil o.emits in
-        sym (ap with_told all) ∙ ending.whole
+    pub ends_emits : x ≡ and_told room x₀ (to_tell room p f say s₀)
+    ends_emits = sym (ap (and_told room x) (told_none p (λ e. say (f e)) s.entries none)) ∙ ending.whole

@@ -1,4 +1,4 @@
--- Frames and reports, as an outbox keeps them.
+-- Frames and reports, as they are kept.
 use Rattle.std.specs.Prelude.{ℕ, Bool, if◌then◌else◌, List, [], ◌∷◌, map, take}
 use Rattle.n2k_id.specs.Frame.{IsFrame, bus_frame}
 use Rattle.gate_events.specs.declared.emit.Detail.TheVariants as detail
@@ -25,9 +25,6 @@ blank = kept.Report (report_of 0 detail.Nothing)
 abbrev pub first_emits : ℕ → List Kept → List Emit
 first_emits count cells = map kept_emit (take count cells)
 
--- the datagram, where it is there, and how many that are
+-- the datagram, where it is there
 abbrev pub posted_emits : Bool → Datagram → List Emit
 posted_emits posted d = if posted then net d.group d.packet.items ∷ [] else []
-
-abbrev pub datagrams : Bool → ℕ
-datagrams posted = if posted then 1 else 0

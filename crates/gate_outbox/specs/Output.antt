@@ -1,48 +1,95 @@
 -- What a step of the gateway leaves: what is to be sent and reported, in its order, the message that it completed, and the command
 -- that this message gives (ISO 11783-5, commanded address).
-use Rattle.std.specs.Prelude.{ℕ, ◌≤◌, Bool, true, false, ◌||◌, List, [], ◌∷◌, ◌++◌, length, filter, Option, None, IfSome}
+use Rattle.std.specs.Prelude.{ℕ, ◌+◌, ◌≤◌, nat_lt, Bool, true, false, if◌then◌else◌, List, [], ◌∷◌, ◌++◌, length, filter, Option, Some, None, IfSome}
 use Rattle.n2k_id.specs.Frame.{bus_frame}
+use Rattle.readings.specs.declared.reading.Reading.{Reading}
+use Rattle.readings.specs.declared.rows.Row.{Row}
 use Rattle.readings.specs.Ranges.{IsValid}
+use Rattle.readings.specs.Rows.{row_of}
 use Rattle.gate_events.specs.declared.emit.Emit.{Emit as Lent}
 use Rattle.gate_events.specs.declared.emit.Emit.TheVariants as lent
 use Rattle.gate_events.specs.Emit.{Emit, can, net, report}
 use Rattle.gate_outbox.specs.declared.done.Done.{Done}
 use Rattle.gate_outbox.specs.declared.done.Command.{Command}
 
-pub record Output : Type 0 where
-  pub emits : List Emit
-  pub done : Option Done
-  pub command : Option Command
+-- what is told, in its order, and the datagram behind it, where it is there
+pub record Emitted : Type 0 where
+  pub told : List Emit
+  pub posted : List Emit
 
-abbrev pub nothing : Output
-nothing = record { emits = []; done = None; command = None }
+abbrev pub no_emits : Emitted
+no_emits = record { told = []; posted = [] }
 
--- with more emits behind those that are there
-abbrev pub and_emits : Output → List Emit → Output
-and_emits o more = record { emits = o.emits ++ more; done = o.done; command = o.command }
+abbrev pub emits_of : Emitted → List Emit
+emits_of x = x.told ++ x.posted
 
--- the most emits that there is room for
-abbrev pub most_emits : ℕ
-most_emits = 4096
+-- one more behind those that are told, where there is room for it
+abbrev pub one_told : ℕ → List Emit → Emit → List Emit
+one_told room told e = if nat_lt (length told) room then told ++ e ∷ [] else told
+
+-- more behind those that are told, as many as there is room for
+abbrev pub told_with : ℕ → List Emit → List Emit → List Emit
+told_with room told [] = told
+told_with room told (e ∷ es) = told_with room (one_told room told e) es
+
+abbrev pub and_told : ℕ → Emitted → List Emit → Emitted
+and_told room x more = record { told = told_with room x.told more; posted = x.posted }
+
+-- this datagram in the place of the one that was there
+abbrev pub with_posted : Emitted → List Emit → Emitted
+with_posted x posted = record { told = x.told; posted = posted }
+
+abbrev pub is_there : List Emit → Bool
+is_there [] = false
+is_there (e ∷ es) = true
 
 abbrev pub is_datagram : Emit → Bool
 is_datagram (can frame) = false
 is_datagram (net group bytes) = true
 is_datagram (report what) = false
 
--- one of them is a datagram
-abbrev pub has_datagram : List Emit → Bool
-has_datagram [] = false
-has_datagram (e ∷ es) = is_datagram e || has_datagram es
+-- what holds of all emits where there is room for so many that are told
+pub record IsEmitted (room : ℕ) (x : Emitted) : Type 0 where
+  pub most : length (emits_of x) ≤ room + 1
+  pub datagrams : length (filter is_datagram (emits_of x)) ≤ 1
+
+-- ---- a step
+
+pub record Output : Type 0 where
+  pub emits : Emitted
+  pub done : Option Done
+  pub command : Option Command
+
+abbrev pub nothing : Output
+nothing = record { emits = no_emits; done = None; command = None }
+
+-- the most that a step tells, and the most emits in all
+abbrev pub most_told : ℕ
+most_told = 4095
+
+abbrev pub most_emits : ℕ
+most_emits = 4096
+
+-- what holds of every outbox
+pub record IsOutput (o : Output) : Type 0 where
+  pub most : length (emits_of o.emits) ≤ most_emits
+  pub datagrams : length (filter is_datagram (emits_of o.emits)) ≤ 1
 
 -- what a message says of a row has its range
 abbrev pub IsDoneValid : Option Done → Type 0
 IsDoneValid done = IfSome done (λ d. IfSome d.reading IsValid)
 
--- what holds of every outbox
-pub record IsOutput (o : Output) : Type 0 where
-  pub most : length o.emits ≤ most_emits
-  pub datagrams : length (filter is_datagram o.emits) ≤ 1
+abbrev row_said : Option Reading → Option Row
+row_said None = None
+row_said (Some r) = Some (row_of r)
+
+abbrev pub row_done : Option Done → Option Row
+row_done None = None
+row_done (Some d) = row_said d.reading
+
+-- the row of the message that was selected: it is said in the datagram
+abbrev pub selected_row : Output → Option Row
+selected_row o = if is_there o.emits.posted then row_done o.done else None
 
 -- the plain value of an emit that is lent
 abbrev pub emit_of : Lent → Emit

@@ -3,11 +3,14 @@
 
 mod datagram;
 mod done;
+mod emits;
 pub mod frames;
 mod kept;
+mod kept_list;
 mod outbox;
 pub mod reports;
 
 pub use datagram::Datagram;
 pub use done::{Command, Done};
-pub use outbox::Outbox;
+pub use emits::Emits;
+pub use outbox::{MOST_TOLD, Outbox, StepEmits};
