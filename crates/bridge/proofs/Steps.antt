@@ -8,7 +8,7 @@ use Rattle.gate_events.specs.declared.event.Event.{Event}
 use Rattle.gate_events.specs.declared.event.Event.TheVariants as event
 use Rattle.gate_events.specs.Emit.{Emit}
 use Rattle.history.specs.Entries.{Entry, History, IsHistory, IsOffered, IsTimely, is_accepted, moment_of, now}
-use Rattle.history.specs.Gate.{out}
+use Rattle.history.specs.Gate.{out, opening_emits}
 use Rattle.history.specs.Settings.{Settings}
 use Rattle.gate_model.specs.Machine.{Machine}
 use Rattle.gate_model.specs.Stands.{Stands}
@@ -19,7 +19,7 @@ use Rattle.gate_core.specs.Steps.{by_keys, entry_of, IsEventValid}
 use Rattle.bridge.specs.Beside.{IsStepped}
 use Rattle.bridge.specs.BridgeStands.{BridgeStands, IsBesideStep, IsBridged, IsBridgeStep, IsCommanded, IsObeyed, IsRefused, IsStart}
 use Rattle.bridge.specs.Answered.{answers}
-use Rattle.bridge.specs.Gate.{opening_emits, rmc_of}
+use Rattle.bridge.specs.Gate.{rmc_of}
 use Rattle.bridge.specs.Kept.{Answering, Bridged, joined_left, left_beside, left_of, quiet, quiet_joining, quiet_watching, watched_left}
 use Rattle.bridge.specs.Parts.{Parts}
 use Rattle.bridge.proofs.Joins.{commanded_joins, joined_quiet, quiet_joins}

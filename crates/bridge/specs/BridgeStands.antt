@@ -5,7 +5,7 @@ use Rattle.gate_events.specs.declared.emit.Detail.TheVariants as detail
 use Rattle.history.specs.AddressLaws.{AreSettings}
 use Rattle.history.specs.Emits.{broken}
 use Rattle.history.specs.Entries.{Entry, History, IsHistory, is_accepted, moment_of, now}
-use Rattle.history.specs.Gate.{out, command_in}
+use Rattle.history.specs.Gate.{out, opening_emits, command_in}
 use Rattle.history.specs.Messages.{done}
 use Rattle.history.specs.Receiver.{receiver_of}
 use Rattle.history.specs.Settings.{Settings}
@@ -18,7 +18,7 @@ use Rattle.gate_core.specs.Promises.{entry_by}
 use Rattle.gate_core.specs.Steps.{by_keys}
 use Rattle.joined_rmc.specs.RmcOut.{RmcRule}
 use Rattle.bridge.specs.Beside.{AnsweringStands, JoiningStands, WatchingStands, IsAnswering, IsJoining, IsWatching}
-use Rattle.bridge.specs.Gate.{all_out, opening_emits}
+use Rattle.bridge.specs.Gate.{all_out}
 use Rattle.bridge.specs.Kept.{Bridged, Joining, Watching, joined_left, left_of, unanswered, watched_left}
 use Rattle.bridge.specs.Parts.{Parts}
 

@@ -1,25 +1,17 @@
 -- What the gateway with the parts beside it emits, over everything that ever came: at each event what the gateway itself emits, then its
 -- answers to who asks who it is, RMC, and the reports of ships around; and then what it emits at the command that the event completes
 -- (ISO 11783-5).
-use Rattle.std.specs.Prelude.{ℕ, List, [], ◌∷◌, ◌++◌, Option, Some, None, if◌then◌else◌}
-use Rattle.report_rules.specs.Rules as rules
-use Rattle.gate_events.specs.declared.emit.Detail.TheVariants as detail
+use Rattle.std.specs.Prelude.{ℕ, List, [], ◌++◌, Option, Some, None}
 use Rattle.gate_events.specs.Emit.{Emit, Emitted}
-use Rattle.history.specs.Emits.{at, broken, own_claim, request_for_claims}
-use Rattle.history.specs.Entries.{Entry, History, is_accepted, moment_of, now}
-use Rattle.history.specs.Gate.{Stepped, out, command_in}
-use Rattle.history.specs.Messages.{done}
-use Rattle.history.specs.Receiver.{receiver_of}
+use Rattle.history.specs.Emits.{at}
+use Rattle.history.specs.Entries.{Entry, History}
+use Rattle.history.specs.Gate.{Stepped, out, opening_emits, with_command_by, stepped_by, events_by, gate_by}
 use Rattle.history.specs.Settings.{Settings}
 use Rattle.settings.specs.declared.ais.AisConfig.{AisConfig}
 use Rattle.joined_rmc.specs.RmcOut.{RmcRule, rmc_out}
 use Rattle.ais_bridge.specs.AisOut.{ais_out}
 use Rattle.bridge.specs.Answered.{answers}
 use Rattle.bridge.specs.Parts.{Parts}
-
--- at the start: the own claim, and the request for the claims of all
-abbrev pub opening_emits : Settings → List Emit
-opening_emits c = own_claim c.name (Some c.address) ∷ request_for_claims c.address ∷ []
 
 -- RMC and the reports of ships around, where they are said
 abbrev pub rmc_of : Option RmcRule → Settings → ℕ → History → Entry → List Emit
@@ -38,27 +30,16 @@ module _ (p : Parts) (s : ℕ) where
   abbrev pub all_out : History → Entry → List Emit
   all_out h e = out p.gateway s h e ++ beside h e
 
-  -- ---- an event that is offered
+  -- ---- events that are offered, with the commands that they complete
 
-  -- with the command that it completes, which is the next entry and concerns the gateway alone
   abbrev pub with_command : History → Entry → Option Entry → Stepped p.gateway s
-  with_command h e None = record { emits = at (moment_of e) (all_out h e); after = e ∷ h }
-  with_command h e (Some ordered) = record { emits = at (moment_of e) (all_out h e ++ out p.gateway s (e ∷ h) ordered); after = ordered ∷ e ∷ h }
+  with_command h e ordered = with_command_by p.gateway s all_out h e ordered
 
-  -- an event that is too early is reported and changes nothing (rule 3)
   abbrev pub stepped : History → Entry → Stepped p.gateway s
-  stepped h e =
-      if is_accepted h e then with_command h e (command_in p.gateway s (done (receiver_of p.gateway) s h e) (moment_of e))
-      else record { emits = at (now h) (broken rules.moment_back detail.Nothing ∷ []); after = h }
-
-  -- ---- a list of events, in the order in which they come
-
-  abbrev pub opening : List Emitted
-  opening = at s (opening_emits p.gateway)
+  stepped h e = stepped_by p.gateway s all_out h e
 
   abbrev pub from_events : History → List Entry → List Emitted
-  from_events h [] = []
-  from_events h (e ∷ es) = let x = stepped h e in x.emits ++ from_events x.after es
+  from_events h events = events_by p.gateway s all_out h events
 
   abbrev pub gate : List Entry → List Emitted
-  gate events = opening ++ from_events [] events
+  gate events = gate_by p.gateway s all_out events

@@ -29,6 +29,10 @@ use Rattle.history.specs.Heard.{Came, came_at, with_items, lines_of}
 use Rattle.history.specs.FromNet.{items_in, datagram_gives}
 use Rattle.history.specs.FromBus.{chosen, frame_refused, from_frame, command_breaks, from_command}
 
+-- at the start: the own claim, and the request for the claims of all
+abbrev pub opening_emits : Settings → List Emit
+opening_emits c = own_claim c.name (Some c.address) ∷ request_for_claims c.address ∷ []
+
 module _ (c : Settings) (s : ℕ) where
   -- what an entry makes the gateway say on the network
   abbrev pub with_spoken : Option Reading → List Spoken → List Spoken
@@ -94,33 +98,46 @@ module _ (c : Settings) (s : ℕ) where
   command_in (Some d) m = if (d.pgn == pgns.commanded_address) && (nat_le 9 (length d.payload) && (name_at d.payload == c.name))
       then Some (entry.command m d.source (slice_index d.payload 8)) else None
 
-  -- ---- an event that is offered
+  abbrev pub opening : List Emitted
+  opening = at s (opening_emits c)
 
-  -- what it emits, and the history then
+  -- ---- events that are offered, by what an entry gives: of the gateway alone, or with parts beside it
+
+  -- what an event emits, and the history then
   pub record Stepped : Type 0 where
     pub emits : List Emitted
     pub after : History
 
-  -- with the command that it completes, which is the next entry
+  module _ (gives : History → Entry → List Emit) where
+    -- with the command that it completes, which is the next entry and concerns the gateway alone
+    abbrev pub with_command_by : History → Entry → Option Entry → Stepped
+    with_command_by h e None = record { emits = at (moment_of e) (gives h e); after = e ∷ h }
+    with_command_by h e (Some ordered) = record { emits = at (moment_of e) (gives h e ++ out (e ∷ h) ordered); after = ordered ∷ e ∷ h }
+
+    -- an event that is too early is reported and changes nothing (rule 3)
+    abbrev pub stepped_by : History → Entry → Stepped
+    stepped_by h e =
+        if is_accepted h e then with_command_by h e (command_in (done (receiver_of c) s h e) (moment_of e))
+        else record { emits = at (now h) (broken rules.moment_back detail.Nothing ∷ []); after = h }
+
+    -- a list of events, in the order in which they come
+    abbrev pub events_by : History → List Entry → List Emitted
+    events_by h [] = []
+    events_by h (e ∷ es) = let x = stepped_by h e in x.emits ++ events_by x.after es
+
+    abbrev pub gate_by : List Entry → List Emitted
+    gate_by events = opening ++ events_by [] events
+
+  -- ---- the gateway alone
+
   abbrev pub with_command : History → Entry → Option Entry → Stepped
-  with_command h e None = record { emits = at (moment_of e) (out h e); after = e ∷ h }
-  with_command h e (Some ordered) = record { emits = at (moment_of e) (out h e ++ out (e ∷ h) ordered); after = ordered ∷ e ∷ h }
+  with_command h e ordered = with_command_by out h e ordered
 
-  -- an event that is too early is reported and changes nothing (rule 3)
   abbrev pub stepped : History → Entry → Stepped
-  stepped h e =
-      if is_accepted h e then with_command h e (command_in (done (receiver_of c) s h e) (moment_of e))
-      else record { emits = at (now h) (broken rules.moment_back detail.Nothing ∷ []); after = h }
-
-  -- ---- a list of events, in the order in which they come
-
-  -- the start gives the own claim and the request for the claims of all
-  abbrev pub opening : List Emitted
-  opening = at s (own_claim c.name (Some c.address) ∷ request_for_claims c.address ∷ [])
+  stepped h e = stepped_by out h e
 
   abbrev pub from_events : History → List Entry → List Emitted
-  from_events h [] = []
-  from_events h (e ∷ es) = let x = stepped h e in x.emits ++ from_events x.after es
+  from_events h events = events_by out h events
 
   abbrev pub gate : List Entry → List Emitted
-  gate events = opening ++ from_events [] events
+  gate events = gate_by out events
