@@ -1,6 +1,6 @@
 -- What is kept of the addresses stands for the history from the start, and entry by entry.
 use Rattle.std.proofs.Common.{◌≡◌, ℕ, suc, min, Bool, true, false, List, [], ◌∷◌, length, map, refl, sym, ap, ◌∙◌, arith}
-use Rattle.std.specs.Prelude.{Option, Some, None, All}
+use Rattle.std.specs.Prelude.{Option, Some, None, All, if◌then◌else◌}
 use Rattle.n2k_id.specs.Frame.{BusFrame}
 use Rattle.claim_table.specs.declared.answer.Holder.{Holder}
 use Rattle.claim_table.specs.Claims.{Claims, Outcome, IsSinceBy, claim, command}
@@ -12,8 +12,8 @@ use Rattle.history.specs.Entries as entry
 use Rattle.history.specs.Entries.{Entry, History}
 use Rattle.history.specs.Receiver.{Receiver}
 use Rattle.history.specs.Known.{known, is_claim, claim_by}
-use Rattle.gate_model.specs.Addresses.{AddressesKept, last_index, counted, claimed, claims_after, addresses_after}
-use Rattle.gate_model.specs.AddressStands.{StandsAddresses, OpeningStandsAddresses, EntriesStandAddresses}
+use Rattle.gate_model.specs.Addresses.{AddressesKept, last_index, no_change, changed_by, counted, claimed, claims_after, changes_after, addresses_after}
+use Rattle.gate_model.specs.AddressStands.{StandsAddresses, OpeningStandsAddresses, EntriesStandAddresses, changes_in}
 
 -- ---- at the start nobody holds an address since a later entry
 
@@ -36,6 +36,7 @@ opening_stands_addresses r s = record {
       ap made
       (sym (none_counted last_index (opened r.name r.address r.presets).holders (opened_dated r.name r.address r.presets)));
   count = let least : 0 ≡ min last_index 0 = omega arith in least;
+  changed = refl;
 }
   where
     made : List (Option Holder) → Claims
@@ -65,8 +66,15 @@ module _ (r : Receiver) (s : ℕ) (h : History) (k : AddressesKept) (stands : St
   count_is : (e : Entry) → counted k.count ≡ min last_index (length (e ∷ h))
   count_is e = omega (arith, stands.count)
 
+  changed_is : (e : Entry) → changes_after k e ≡ changes_in r s (e ∷ h)
+  changed_is (entry.frame m f) =
+      ap (λ (o : Outcome). if is_claim f then changed_by o.step else no_change) (claimed_is m f)
+  changed_is (entry.datagram m bytes) = refl
+  changed_is (entry.tick m) = refl
+  changed_is (entry.command m source address) = refl
+
   entry_stands : (e : Entry) → StandsAddresses r s (e ∷ h) (addresses_after k e)
-  entry_stands e = record { claims = claims_are e; count = count_is e }
+  entry_stands e = record { claims = claims_are e; count = count_is e; changed = changed_is e }
 
 pub entries_stand_addresses : EntriesStandAddresses
 entries_stand_addresses r s h e k stands = entry_stands r s h k stands e

@@ -1,6 +1,6 @@
 -- What a claim (ISO 11783-5) makes of what a gateway keeps stands for the history with it, and is what the history says.
-use Rattle.std.proofs.Common.{◌≡◌, ℕ, Bool, true, not, List, [], ◌∷◌, ◌++◌, append-nil, length, refl, sym, ap, subst, ◌∙◌}
-use Rattle.std.specs.Prelude.{Option, Some, None, option_map, if◌then◌else◌}
+use Rattle.std.proofs.Common.{◌≡◌, ℕ, Bool, true, not, List, [], ◌∷◌, ◌++◌, length, refl, sym, ap, subst, ◌∙◌}
+use Rattle.std.specs.Prelude.{Option, Some, None, is_some, option_map, if◌then◌else◌}
 use Rattle.n2k_id.specs.Frame.{BusFrame}
 use Rattle.n2k_id.specs.Identifier.{parts_of}
 use Rattle.n2k_id.specs.declared.identifier_parts.Parts.{Parts}
@@ -15,7 +15,7 @@ use Rattle.history.specs.TraceLaws.{same_own}
 use Rattle.history.specs.Opens.{notes_of}
 use Rattle.history.specs.Meanings as meanings
 use Rattle.history.specs.Meanings.{Meaning, is_of_session, is_of_fast_packet}
-use Rattle.history.specs.Messages.{Message, done, messages_of}
+use Rattle.history.specs.Messages.{done, messages_of}
 use Rattle.gate_events.specs.Emit.{Emit}
 use Rattle.history.specs.Emits.{reported}
 use Rattle.history.specs.Endings as endings
@@ -44,7 +44,7 @@ use Rattle.gate_model.proofs.FastLosses.{claims_give_up_fast}
 use Rattle.gate_model.proofs.SessionLosses.{claims_give_up}
 use Rattle.gate_model.proofs.SaidClaims.{claims_stand_said}
 use Rattle.gate_model.proofs.NetItems.{other_entries_stand_net}
-use Rattle.gate_model.proofs.StandsTimes.{joined}
+use Rattle.gate_model.proofs.StandsTimes.{joined, three}
 use Rattle.gate_model.proofs.StandsFrames.{IsHandled, addresses_stand, claims_meant}
 
 -- what ends of one address is cut into the fast packets and the sessions
@@ -55,10 +55,6 @@ lost_cut k after notes m kinds (Some a) = refl
 
 four : {a b c x y z : List Emit} (d : List Emit) → a ≡ x → b ≡ y → c ≡ z → a ++ b ++ c ++ d ≡ x ++ y ++ z ++ d
 four d p q r = cc
-
--- without a datagram behind
-unsaid : {a b x y z : List Emit} → a ≡ x → b ≡ y → z ≡ [] → a ++ b ≡ x ++ y ++ z
-unsaid p q r = joined p q ∙ (sym (append-nil _) ∙ joined refl (sym r))
 
 module _ (o : Compared) (s : ℕ) (h : History) (m : ℕ) (f : BusFrame) (g : Machine) (orders : AreOrders o) (are : AreSettings g.settings)
     (is : IsHistory (frame m f ∷ h)) (stands : StandsAt o g.settings s h m g) (claims : is_claim f ≡ true) where
@@ -167,16 +163,17 @@ module _ (o : Compared) (s : ℕ) (h : History) (m : ℕ) (f : BusFrame) (g : Ma
       frames_are_told r s h m f g.addresses able stands.addresses (ap is_of_session meant) (ap is_of_fast_packet meant) in
       sym (told.reports ∙ ap (λ (meaning : Meaning). plain_reports g.settings.name meaning parts f.held) (told.meaning ∙ meant))
 
+  none_chosen : chosen g.settings k.claims.holders (messages_of r s h) (done r s h (frame m f)) ≡ None
+  none_chosen = ap (chosen g.settings k.claims.holders (messages_of r s h)) unsaid_here.silent
+
   nothing_said : said_in g.settings (spoken_of g.settings s h) (chosen g.settings k.claims.holders (messages_of r s h) (done r s h (frame m f))) ≡ []
-  nothing_said =
-      ap (λ (d : Option Message). said_in g.settings (spoken_of g.settings s h) (chosen g.settings k.claims.holders (messages_of r s h) d))
-      unsaid_here.silent
+  nothing_said = ap (said_in g.settings (spoken_of g.settings s h)) none_chosen
 
   abbrev claim_here : Step
   claim_here = let t = claim_takes g.settings.name g x in
-      record t { emits = reported (plain_reports g.settings.name meanings.address_claim parts f.held) ++ t.emits }
+      record t { told = reported (plain_reports g.settings.name meanings.address_claim parts f.held) ++ t.told }
 
-  pub claim_handled : IsHandled o g.settings s h (frame m f) claim_here
+  pub claim_handled : IsHandled o g.settings s h (frame m f) g.addresses claim_here
   claim_handled = record {
     stands = record {
       settings = refl;
@@ -187,6 +184,7 @@ module _ (o : Compared) (s : ℕ) (h : History) (m : ℕ) (f : BusFrame) (g : Ma
       said = said_left;
       network = (other_entries_stand_net o.groups g.settings s h m g.network stands.network).frames m f;
     };
-    emits = unsaid (ap reported breaks) gives nothing_said;
+    emits = three (ap reported breaks) gives (sym nothing_said);
+    selected = sym (ap is_some none_chosen);
     complete = sym (ap (option_map complete_of) unsaid_here.silent);
   }

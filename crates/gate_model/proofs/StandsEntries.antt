@@ -1,5 +1,5 @@
 -- What each entry makes of what a gateway keeps stands for the history with it, and is what the history says.
-use Rattle.std.proofs.Common.{◌≡◌, ℕ, ◌≤◌, Bool, true, false, List, [], ◌∷◌, ◌++◌, length, refl, sym, ap, subst, ◌∙◌, arith}
+use Rattle.std.proofs.Common.{◌≡◌, ℕ, ◌≤◌, Bool, true, false, List, [], ◌∷◌, ◌++◌, append-nil, append_assoc, length, refl, sym, ap, subst, ◌∙◌, arith}
 use Rattle.std.specs.Prelude.{Option, None, if◌then◌else◌}
 use Rattle.n2k_id.specs.Frame.{BusFrame}
 use Rattle.n2k_id.specs.Identifier.{parts_of}
@@ -21,11 +21,12 @@ use Rattle.history.specs.Gate as gate
 use Rattle.history.specs.Gate.{heard, expired, out}
 use Rattle.history.specs.AddressLaws.{IsReceiver, AreSettings}
 use Rattle.history.proofs.Receivers.{gateways_receive}
+use Rattle.gate_model.specs.Addresses.{no_change}
 use Rattle.gate_model.specs.AddressStands.{TellsAlike, CommandIsTold}
 use Rattle.gate_model.specs.NetLines.{datagram_after, datagram_emits}
 use Rattle.gate_model.specs.Sessions.{lost_addressed, without_addressed}
 use Rattle.gate_model.specs.SessionLaws.{StandsFor, GivesUp, is_moved}
-use Rattle.gate_model.specs.Machine.{Compared, Machine, Step, later, counted_in}
+use Rattle.gate_model.specs.Machine.{Compared, Machine, Step, later, overdue, counted_in}
 use Rattle.gate_model.specs.MachineSteps.{plain_frame, claim_frame, frame_step, frame_here, datagram_here, command_here, handled, entered, commanded}
 use Rattle.gate_model.specs.Stands.{AreOrders, StandsAt, Stands}
 use Rattle.gate_model.specs.StandsLaws.{IsStepOf, EntriesStand, CommandsStand, TooEarlyIsTold}
@@ -42,6 +43,9 @@ use Rattle.gate_model.proofs.StandsTimes.{joined, time_stands, none_expires}
 use Rattle.gate_model.proofs.StandsFrames.{IsHandled, not_claimed, plain_handled, fast_handled, session_handled}
 use Rattle.gate_model.proofs.StandsClaims.{claim_handled}
 
+nothing_posted : (a : List Emit) {x : List Emit} → a ≡ x → a ++ [] ≡ x
+nothing_posted a told = append-nil a ∙ told
+
 module _ (o : Compared) (s : ℕ) (h : History) (g : Machine) (orders : AreOrders o) (are : AreSettings g.settings) where
   abbrev r : Receiver
   r = receiver_of g.settings
@@ -56,7 +60,7 @@ module _ (o : Compared) (s : ℕ) (h : History) (g : Machine) (orders : AreOrder
 
   module _ (m : ℕ) (f : BusFrame) (is : IsHistory (entry.frame m f ∷ h)) (stands : StandsAt o g.settings s h m g) where
     abbrev Handled : Step → Type 0
-    Handled x = IsHandled o g.settings s h (entry.frame m f) x
+    Handled x = IsHandled o g.settings s h (entry.frame m f) g.addresses x
 
     of_claims : meaning_after r s h m f ≡ meanings.address_claim → Handled (claim_frame o g m f)
     of_claims e = by (is_claim f) refl
@@ -97,11 +101,12 @@ module _ (o : Compared) (s : ℕ) (h : History) (g : Machine) (orders : AreOrder
     abbrev datagram_by : Option ℕ → Bool → Step
     datagram_by own ready = record {
       after = record g { network = datagram_after o.groups g.settings m ready g.network (datagrams.read bytes) };
-      emits = datagram_emits o.groups g.settings m ready own g.network (datagrams.read bytes);
+      told = datagram_emits o.groups g.settings m ready own g.network (datagrams.read bytes);
+      posted = [];
       complete = None;
     }
 
-    datagram_known : IsHandled o g.settings s h (entry.datagram m bytes) (datagram_by k.claims.own (is_ready k.claims m))
+    datagram_known : IsHandled o g.settings s h (entry.datagram m bytes) g.addresses (datagram_by k.claims.own (is_ready k.claims m))
     datagram_known =
         let law = datagrams_stand_net o.groups g.settings s h m bytes g.network orders.groups stands.network in
         record {
@@ -114,20 +119,21 @@ module _ (o : Compared) (s : ℕ) (h : History) (g : Machine) (orders : AreOrder
             said = (other_entries_stand_said g.settings s h g.said stands.said).datagrams m bytes;
             network = law.stands;
           };
-          emits = law.gives;
+          emits = nothing_posted (datagram_by k.claims.own (is_ready k.claims m)).told law.gives;
+          selected = refl;
           complete = refl;
         }
 
-    datagram_handled : IsHandled o g.settings s h (entry.datagram m bytes) (datagram_here o g m bytes)
+    datagram_handled : IsHandled o g.settings s h (entry.datagram m bytes) g.addresses (datagram_here o g m bytes)
     datagram_handled =
         let alike : TellsAlike g.addresses.claims k.claims = standing_tells_alike r s h g.addresses stands.addresses in
-        subst (λ (own : Option ℕ). IsHandled o g.settings s h (entry.datagram m bytes) (datagram_by own (is_ready g.addresses.claims m))) (sym alike.own)
-        (subst (λ (ready : Bool). IsHandled o g.settings s h (entry.datagram m bytes) (datagram_by k.claims.own ready)) (sym (alike.ready m))
+        subst (λ (own : Option ℕ). IsHandled o g.settings s h (entry.datagram m bytes) g.addresses (datagram_by own (is_ready g.addresses.claims m))) (sym alike.own)
+        (subst (λ (ready : Bool). IsHandled o g.settings s h (entry.datagram m bytes) g.addresses (datagram_by k.claims.own ready)) (sym (alike.ready m))
         datagram_known)
 
   -- ---- a tick
 
-  tick_handled : (m : ℕ) → StandsAt o g.settings s h m g → IsHandled o g.settings s h (entry.tick m) (handled o g (entry.tick m))
+  tick_handled : (m : ℕ) → StandsAt o g.settings s h m g → IsHandled o g.settings s h (entry.tick m) g.addresses (handled o g (entry.tick m))
   tick_handled m stands = record {
     stands = record {
       settings = refl;
@@ -139,6 +145,7 @@ module _ (o : Compared) (s : ℕ) (h : History) (g : Machine) (orders : AreOrder
       network = (other_entries_stand_net o.groups g.settings s h m g.network stands.network).ticks m;
     };
     emits = refl;
+    selected = refl;
     complete = refl;
   }
 
@@ -171,7 +178,7 @@ module _ (o : Compared) (s : ℕ) (h : History) (g : Machine) (orders : AreOrder
         ∙ (ap (λ (obeys : Bool). command_by obeys (is_moved r s h (entry.command m source address)) after.claims.own) told.obeyed
         ∙ ap (λ (lost : List Emit). if is_obeyed k.claims address then lost ++ own_claim g.settings.name after.claims.own ∷ [] else []) ends.elsewhere_told))
 
-    command_handled : IsHandled o g.settings s h (entry.command m source address) (command_here g m source address)
+    command_handled : IsHandled o g.settings s h (entry.command m source address) g.addresses (command_here g m source address)
     command_handled = record {
       stands = record {
         settings = refl;
@@ -184,13 +191,14 @@ module _ (o : Compared) (s : ℕ) (h : History) (g : Machine) (orders : AreOrder
         said = (other_entries_stand_said g.settings s h g.said stands.said).commands m source address;
         network = (other_entries_stand_net o.groups g.settings s h m g.network stands.network).commands m source address;
       };
-      emits = joined (ap reported told.reports) command_tells;
+      emits = nothing_posted (command_here g m source address).told (joined (ap reported told.reports) command_tells);
+      selected = refl;
       complete = refl;
     }
 
   -- ---- each entry
 
-  entry_handled : (e : Entry) → IsHistory (e ∷ h) → StandsAt o g.settings s h (moment_of e) g → IsHandled o g.settings s h e (handled o g e)
+  entry_handled : (e : Entry) → IsHistory (e ∷ h) → StandsAt o g.settings s h (moment_of e) g → IsHandled o g.settings s h e g.addresses (handled o g e)
   entry_handled (entry.frame m f) is stands = frame_handled m f is stands
   entry_handled (entry.datagram m bytes) is stands = datagram_handled m bytes stands
   entry_handled (entry.tick m) is stands = tick_handled m stands
@@ -214,7 +222,10 @@ module _ (o : Compared) (s : ℕ) (h : History) (g : Machine) (orders : AreOrder
       let done = entry_handled o s h (later (moment_of e) g) orders are e is time.stands in
       record {
         stands = done.stands;
-        emits = joined time.told done.emits;
+        emits =
+            append_assoc (overdue (moment_of e) g) (handled o (later (moment_of e) g) e).told (handled o (later (moment_of e) g) e).posted
+            ∙ joined time.told done.emits;
+        selected = done.selected;
         complete = done.complete;
       }
 
@@ -225,7 +236,7 @@ module _ (o : Compared) (s : ℕ) (h : History) (g : Machine) (orders : AreOrder
 
     -- what it makes at a moment, and gives
     abbrev commanded_at : ℕ → Step
-    commanded_at m = let x = command_here g m source address in record { after = counted_in x.after; emits = x.emits; complete = None }
+    commanded_at m = let x = command_here g m source address in record x { after = counted_in no_change x.after }
 
     commanded_now : IsHistory (ordered ∷ h) → AreSettings g.settings → Stands o g.settings s h g → IsStepOf o g.settings s h ordered (commanded_at (now h))
     commanded_now is are stands =
@@ -233,6 +244,7 @@ module _ (o : Compared) (s : ℕ) (h : History) (g : Machine) (orders : AreOrder
         record {
           stands = done.stands;
           emits = done.emits ∙ ap (λ (emits : List Emit). emits ++ gate.handled g.settings s h ordered) (sym (none_expires g.settings s h));
+          selected = done.selected;
           complete = done.complete;
         }
 

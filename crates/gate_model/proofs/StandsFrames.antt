@@ -1,7 +1,8 @@
 -- What a frame from the bus that is no claim makes of what a gateway keeps stands for the history with it, and is what the history says.
 use Rattle.std.proofs.Common.{◌≡◌, ℕ, Bool, true, false, ◌&&◌, not, List, [], ◌∷◌, length, refl, sym, ap, subst, ◌∙◌, ◌==◌, nat_le}
-use Rattle.std.specs.Prelude.{Option, option_map, if◌then◌else◌}
+use Rattle.std.specs.Prelude.{Option, Some, None, is_some, option_map, if◌then◌else◌}
 use Rattle.n2k_id.specs.Frame.{BusFrame}
+use Rattle.readings.specs.declared.reading.Reading.{Reading}
 use Rattle.n2k_id.specs.Identifier.{parts_of}
 use Rattle.n2k_id.specs.declared.identifier_parts.Parts.{Parts}
 use Rattle.gate_events.specs.declared.emit.Report.{Report}
@@ -16,14 +17,16 @@ use Rattle.history.specs.Entries.{Entry, History, IsHistory, frame, moment_of}
 use Rattle.history.specs.Known.{Known, known, is_claim}
 use Rattle.history.specs.Meanings as meanings
 use Rattle.history.specs.Meanings.{Meaning, meaning_of, is_address_claim, is_of_session, is_of_fast_packet}
-use Rattle.history.specs.Messages.{Carried, done, said_by}
+use Rattle.history.specs.Messages.{Carried, done, messages_of, said_by}
 use Rattle.gate_events.specs.Emit.{Emit}
 use Rattle.history.specs.Emits.{reported, replied}
-use Rattle.history.specs.FromBus.{meaning_after, frame_refused, answers_by}
+use Rattle.history.specs.Datagrams.{Spoken}
+use Rattle.history.specs.FromBus.{meaning_after, frame_refused, answers_by, chosen, said_in}
 use Rattle.history.specs.Gate as gate
+use Rattle.history.specs.Gate.{spoken_of}
 use Rattle.history.specs.AddressLaws.{IsReceiver, AreSettings}
 use Rattle.history.proofs.Receivers.{gateways_receive}
-use Rattle.gate_model.specs.Addresses.{AddressesKept, counted, claimed, plain_reports, plain_done}
+use Rattle.gate_model.specs.Addresses.{AddressesKept, counted, claimed, changes_after, plain_reports, plain_done}
 use Rattle.gate_model.specs.AddressStands.{StandsAddresses, TellsAlike, FrameIsTold}
 use Rattle.gate_model.specs.FastPackets.{fast_step}
 use Rattle.gate_model.specs.FastLaws.{StandsFastFor}
@@ -31,7 +34,7 @@ use Rattle.gate_model.specs.Sessions.{session_step}
 use Rattle.gate_model.specs.SessionLaws.{StandsFor}
 use Rattle.gate_model.specs.Said.{Complete, complete_of, complete_by, message_after, message_emits}
 use Rattle.gate_model.specs.SaidStands.{SaidStandsFor}
-use Rattle.gate_model.specs.Machine.{Compared, Machine, Step, counted_in}
+use Rattle.gate_model.specs.Machine.{Compared, Machine, Step, gives, is_there, counted_in}
 use Rattle.gate_model.specs.MachineSteps.{with_message, plain_frame, session_frame, fast_frame}
 use Rattle.gate_model.specs.Stands.{AreOrders, StandsAt}
 use Rattle.gate_model.proofs.AddressSteps.{entries_stand_addresses}
@@ -47,11 +50,18 @@ use Rattle.gate_model.proofs.NetItems.{other_entries_stand_net}
 use Rattle.gate_model.proofs.StandsTimes.{three}
 
 -- what an entry makes of what is kept where nothing is overdue, and what it gives by itself
-module _ (o : Compared) (c : Settings) (s : ℕ) (h : History) (e : Entry) (x : Step) where
+module _ (o : Compared) (c : Settings) (s : ℕ) (h : History) (e : Entry) (addresses : AddressesKept) (x : Step) where
   pub record IsHandled : Type 0 where
-    pub stands : StandsAt o c s (e ∷ h) (moment_of e) (counted_in x.after)
-    pub emits : x.emits ≡ gate.handled c s h e
+    pub stands : StandsAt o c s (e ∷ h) (moment_of e) (counted_in (changes_after addresses e) x.after)
+    pub emits : gives x ≡ gate.handled c s h e
+    pub selected : let r = receiver_of c in
+        is_there x.posted ≡ is_some (chosen c (known r s h).claims.holders (messages_of r s h) (done r s h e))
     pub complete : x.complete ≡ option_map complete_of (done (receiver_of c) s h e)
+
+-- a datagram is there where a message is selected
+said_there : (c : Settings) (before : List Spoken) (r : Option Reading) → is_there (said_in c before r) ≡ is_some r
+said_there c before None = refl
+said_there c before (Some r) = refl
 
 -- ---- a claim is one by what a frame is to the gateway
 
@@ -84,7 +94,7 @@ module _ (o : Compared) (s : ℕ) (h : History) (m : ℕ) (f : BusFrame) (g : Ma
   parts = parts_of f.id
 
   abbrev Handled : Step → Type 0
-  Handled x = IsHandled o g.settings s h (frame m f) x
+  Handled x = IsHandled o g.settings s h (frame m f) g.addresses x
 
   able : IsReceiver r
   able = gateways_receive g.settings are
@@ -96,6 +106,7 @@ module _ (o : Compared) (s : ℕ) (h : History) (m : ℕ) (f : BusFrame) (g : Ma
   counted_addresses b = record {
     claims = if b then (claimed g.addresses m f).after else g.addresses.claims;
     count = counted g.addresses.count;
+    changed = changes_after g.addresses (frame m f);
   }
 
   pub addresses_stand : (b : Bool) → is_claim f ≡ b → StandsAddresses r s (frame m f ∷ h) (counted_addresses b)
@@ -114,6 +125,7 @@ module _ (o : Compared) (s : ℕ) (h : History) (m : ℕ) (f : BusFrame) (g : Ma
       → Handled (with_message (record g { fast = fast; sessions = sessions }) reports replies d)
   message_handled fast sessions reports replies d other fast_stands session_stands reports_are replies_are d_is =
       let said = messages_stand_said g.settings s h m f g.said are other stands.said in
+      let posts = ap (λ (d : Option Complete). message_emits g.settings g.said d) d_is ∙ said.gives in
       record {
         stands = record {
           settings = refl;
@@ -124,9 +136,8 @@ module _ (o : Compared) (s : ℕ) (h : History) (m : ℕ) (f : BusFrame) (g : Ma
           said = subst (λ (d : Option Complete). SaidStandsFor g.settings s (frame m f ∷ h) (message_after g.settings g.said d)) (sym d_is) said.stands;
           network = (other_entries_stand_net o.groups g.settings s h m g.network stands.network).frames m f;
         };
-        emits =
-            three (ap reported reports_are) replies_are
-            (ap (λ (d : Option Complete). message_emits g.settings g.said d) d_is ∙ said.gives);
+        emits = three (ap reported reports_are) replies_are posts;
+        selected = ap is_there posts ∙ said_there g.settings (spoken_of g.settings s h) _;
         complete = d_is;
       }
 

@@ -1,5 +1,5 @@
 -- What was reached is reached again by every event and command, and all that is emitted finds room.
-use Rattle.std.proofs.Common.{◌≡◌, ℕ, ◌<◌, ◌≤◌, Bool, true, false, List, [], ◌∷◌, length, refl, sym, ap, subst, ◌∙◌, arith}
+use Rattle.std.proofs.Common.{◌≡◌, ℕ, ◌<◌, ◌≤◌, Bool, true, false, List, [], ◌∷◌, length, length-append, refl, sym, ap, subst, ◌∙◌, arith}
 use Rattle.std.specs.Prelude.{Option, Some, None, option_map, IfSome, nat_le}
 use Rattle.std.proofs.lemmas.Bool.{leb-true}
 use Rattle.n2k_id.specs.Frame.{BusFrame}
@@ -108,10 +108,12 @@ module _ (o : Compared) (g : Machine) (orders : AreOrders o) (it : IsReached o g
     sequences = small;
   }
 
-  room_by : (e : Entry) (x : Step) → now it.past ≤ moment_of e → IsStepOf o g.settings it.start it.past e x → length x.emits ≤ 4096
+  room_by : (e : Entry) (x : Step) → now it.past ≤ moment_of e → IsStepOf o g.settings it.start it.past e x → length x.told ≤ 4095
   room_by e x le is =
-      subst (λ (emits : List Emit). length emits ≤ 4096) (sym is.emits)
-      (room_suffices g.settings it.start it.past e it.settings it.limits it.could le)
+      let both = length-append x.told x.posted in
+      let given = ap (λ (emits : List Emit). length emits) is.emits in
+      let most = room_suffices g.settings it.start it.past e it.settings it.limits it.could le in
+      omega (arith, both, given, most)
 
   -- what it completes is from an address that can be held
   source_by : (e : Entry) (x : Step) → IsStepOf o g.settings it.start it.past e x → IfSome x.complete (λ d. d.source < places)
@@ -120,7 +122,7 @@ module _ (o : Compared) (g : Machine) (orders : AreOrders o) (it : IsReached o g
       (of_message (done (receiver_of g.settings) it.start it.past e) (done_fits g.settings it.start it.past e it.settings))
 
   entered_fits : (e : Entry) → IsEvent e → IsOffered e → now it.past ≤ moment_of e
-      → IsReached o (entered o g e).after × (length (entered o g e).emits ≤ 4096) × IfSome (entered o g e).complete (λ d. d.source < places)
+      → IsReached o (entered o g e).after × (length (entered o g e).told ≤ 4095) × IfSome (entered o g e).complete (λ d. d.source < places)
   entered_fits e event offered le =
       let could : IsHistory (e ∷ it.past) = (offered, timely it.past e event le, it.could) in
       let is : IsStepOf o g.settings it.start it.past e (entered o g e) =

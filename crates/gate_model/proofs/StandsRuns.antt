@@ -17,7 +17,7 @@ use Rattle.history.specs.Gate.{with_command, command_in}
 use Rattle.history.specs.AddressLaws.{AreSettings}
 use Rattle.history.proofs.EntrySteps.{steps_keep_history}
 use Rattle.gate_model.specs.Said.{Complete, Ordered, complete_of, ordered_by}
-use Rattle.gate_model.specs.Machine.{Compared, Machine, Step, opened_machine, started_at}
+use Rattle.gate_model.specs.Machine.{Compared, Machine, Step, gives, opened_machine, started_at}
 use Rattle.gate_model.specs.MachineSteps.{entered}
 use Rattle.gate_model.specs.Stands.{AreOrders, Stands}
 use Rattle.gate_model.specs.StandsLaws.{IsStepOf}
@@ -41,7 +41,7 @@ module _ (o : Compared) (s : ℕ) (h : History) (e : Entry) (g : Machine) (order
       → Turns (with_ordered x d) (with_command g.settings s h e (option_map entry_of d))
   by_order x is None could = record {
     stands = is.stands;
-    emits = ap (λ (m : ℕ). at m x.emits) is.stands.moment ∙ ap (at (moment_of e)) is.emits;
+    emits = ap (λ (m : ℕ). at m (gives x)) is.stands.moment ∙ ap (at (moment_of e)) is.emits;
   }
   by_order x is (Some d) could =
       let y = commands_stand o g.settings s (e ∷ h) d.source d.address x.after orders are could is.stands in

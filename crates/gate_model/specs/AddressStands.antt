@@ -1,6 +1,6 @@
 -- When what a gateway keeps of the addresses (ISO 11783-5) stands for the history, and what it tells then: what all that is known of the
 -- addresses would tell.
-use Rattle.std.specs.Prelude.{◌≡◌, ℕ, ◌≤◌, min, true, false, List, [], ◌∷◌, length, All, Option, option_map}
+use Rattle.std.specs.Prelude.{◌≡◌, ℕ, ◌≤◌, min, true, false, List, [], ◌∷◌, length, All, Option, option_map, if◌then◌else◌}
 use Rattle.n2k_id.specs.Frame.{BusFrame}
 use Rattle.n2k_id.specs.Identifier.{parts_of}
 use Rattle.n2k_id.specs.declared.identifier_parts.Parts.{Parts}
@@ -9,19 +9,32 @@ use Rattle.pgn_profile.specs.declared.kinds.Kind.{Kind}
 use Rattle.claim_table.specs.declared.answer.Holder.{Holder}
 use Rattle.claim_table.specs.Claims.{Claims, IsSinceBy, claim, holder_at, is_obeyed, is_ready}
 use Rattle.claim_table.specs.Laws.{capped}
-use Rattle.history.specs.Entries.{Entry, History, frame, command}
+use Rattle.history.specs.Entries.{Entry, History, frame, datagram, tick, command}
 use Rattle.history.specs.Receiver.{Receiver}
 use Rattle.history.specs.Known.{known, is_claim, claim_by}
 use Rattle.history.specs.Meanings.{Meaning, request, meaning_of, is_of_session, is_of_fast_packet}
 use Rattle.history.specs.Messages.{Carried, done, said_by}
 use Rattle.history.specs.FromBus.{request_gives, own_answer, meaning_after, frame_refused, answers_by, command_breaks}
 use Rattle.history.specs.AddressLaws.{IsReceiver}
-use Rattle.gate_model.specs.Addresses.{AddressesKept, last_index, addresses_at_start, claimed, addresses_after, claim_emits, plain_reports, plain_done}
+use Rattle.gate_model.specs.Addresses.{AddressesKept, Changed, last_index, no_change, changed_by, addresses_at_start, claimed, addresses_after, claim_emits, plain_reports, plain_done}
+
+-- which addresses an entry takes from others: only a claim does
+abbrev pub changes_by : Receiver → ℕ → History → Entry → Changed
+changes_by r s h (frame m f) = if is_claim f then changed_by (claim (known r s h).claims (claim_by (length h) m f)).step else no_change
+changes_by r s h (datagram m bytes) = no_change
+changes_by r s h (tick m) = no_change
+changes_by r s h (command m source address) = no_change
+
+-- and the last one
+abbrev pub changes_in : Receiver → ℕ → History → Changed
+changes_in r s [] = no_change
+changes_in r s (e ∷ h) = changes_by r s h e
 
 -- it is what is known, but that entries are counted up to the last index
 pub record StandsAddresses (r : Receiver) (s : ℕ) (h : History) (k : AddressesKept) : Type 0 where
   pub claims : k.claims ≡ capped last_index (known r s h).claims
   pub count : k.count ≡ min last_index (length h)
+  pub changed : k.changed ≡ changes_in r s h
 
 -- ---- the start, and each entry
 

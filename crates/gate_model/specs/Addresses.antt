@@ -7,12 +7,13 @@ use Rattle.gate_events.specs.declared.emit.Detail.TheVariants as detail
 use Rattle.n2k_id.specs.declared.identifier_parts.Parts.{Parts}
 use Rattle.n2k_id.specs.Frame.{BusFrame}
 use Rattle.n2k_id.specs.Name.{name_at}
+use Rattle.claim_table.specs.declared.answer.ClaimStep.{ClaimStep}
 use Rattle.claim_table.specs.Claims.{Claims, Outcome, started, claim, command}
 use Rattle.claim_table.specs.Presets.{opened}
 use Rattle.history.specs.Entries as entry
 use Rattle.history.specs.Entries.{Entry}
 use Rattle.history.specs.Receiver.{Receiver}
-use Rattle.history.specs.Known.{is_claim, claim_by}
+use Rattle.history.specs.Known.{is_claim, claim_by, address_left, address_won}
 use Rattle.history.specs.Meanings.{Meaning, address_claim, own_source, request, from_nobody, transport, single, fast_packet, passed}
 use Rattle.history.specs.Messages.{Carried, carried}
 use Rattle.gate_events.specs.Emit.{Emit}
@@ -27,15 +28,28 @@ use Rattle.gate_model.specs.Said.{short_reports}
 unfoldable pub last_index : ℕ
 last_index = 2 ^ 64 - 1
 
+-- the addresses that an entry takes from others: the one that a NAME left for another, and the one that was won from another NAME
+pub record Changed : Type 0 where
+  pub left : Option ℕ
+  pub won : Option ℕ
+
+abbrev pub no_change : Changed
+no_change = record { left = None; won = None }
+
+abbrev pub changed_by : ClaimStep → Changed
+changed_by step = record { left = address_left step; won = address_won step }
+
 pub record AddressesKept : Type 0 where
   -- who holds which address and since which entry, and the own address
   pub claims : Claims
   -- how many entries there were, as far as they are counted: the index of the next one
   pub count : ℕ
+  -- which addresses changed hands by the last one
+  pub changed : Changed
 
 -- at the start, before any entry
 abbrev pub addresses_at_start : Receiver → ℕ → AddressesKept
-addresses_at_start r s = record { claims = started (opened r.name r.address r.presets) s; count = 0 }
+addresses_at_start r s = record { claims = started (opened r.name r.address r.presets) s; count = 0; changed = no_change }
 
 abbrev pub counted : ℕ → ℕ
 counted count = min last_index (count + 1)
@@ -51,8 +65,15 @@ claims_after k (entry.datagram m bytes) = k.claims
 claims_after k (entry.tick m) = k.claims
 claims_after k (entry.command m source address) = command k.claims address m
 
+-- a command moves the gateway's own address alone
+abbrev pub changes_after : AddressesKept → Entry → Changed
+changes_after k (entry.frame m f) = if is_claim f then changed_by (claimed k m f).step else no_change
+changes_after k (entry.datagram m bytes) = no_change
+changes_after k (entry.tick m) = no_change
+changes_after k (entry.command m source address) = no_change
+
 abbrev pub addresses_after : AddressesKept → Entry → AddressesKept
-addresses_after k e = record { claims = claims_after k e; count = counted k.count }
+addresses_after k e = record { claims = claims_after k e; count = counted k.count; changed = changes_after k e }
 
 -- what the gateway says of its own address after a claim
 abbrev pub claim_emits : ℕ → AddressesKept → ℕ → BusFrame → List Emit

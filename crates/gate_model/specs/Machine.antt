@@ -1,5 +1,5 @@
 -- What a gateway keeps, as plain values, and how time passes over it. Nothing here speaks of what came before.
-use Rattle.std.specs.Prelude.{ℕ, List, [], ◌++◌, Option}
+use Rattle.std.specs.Prelude.{ℕ, Bool, true, false, List, [], ◌∷◌, ◌++◌, Option}
 use Rattle.std.specs.declared.cmp.Ordering.{Ordering}
 use Rattle.slot_views.specs.Slots.{SlotMap}
 use Rattle.slot_views.specs.Traces.{unexpired}
@@ -11,7 +11,7 @@ use Rattle.history.specs.Settings.{Settings}
 use Rattle.history.specs.Receiver.{receiver_of}
 use Rattle.gate_events.specs.Emit.{Emit}
 use Rattle.gate_model.specs.Endings.{fast_overdue, sessions_overdue, groups_overdue}
-use Rattle.gate_model.specs.Addresses.{AddressesKept, addresses_at_start, counted}
+use Rattle.gate_model.specs.Addresses.{AddressesKept, Changed, addresses_at_start, counted}
 use Rattle.gate_model.specs.Said.{SaidKept, Complete, nothing_said}
 use Rattle.gate_model.specs.NetLines.{NetKept, nothing_kept, kept_until}
 
@@ -61,10 +61,21 @@ overdue m g = fast_overdue g.fast m ++ sessions_overdue g.addresses.claims.own g
 
 pub record Step : Type 0 where
   pub after : Machine
-  pub emits : List Emit
+  -- what it tells, in this order
+  pub told : List Emit
+  -- and behind it, where a message is selected that it completes, the datagram in which that is said
+  pub posted : List Emit
   -- the message that it completes
   pub complete : Option Complete
 
--- one more entry has come
-abbrev pub counted_in : Machine → Machine
-counted_in g = record g { addresses = record g.addresses { count = counted g.addresses.count } }
+abbrev pub gives : Step → List Emit
+gives x = x.told ++ x.posted
+
+-- whether a datagram is posted
+abbrev pub is_there : List Emit → Bool
+is_there [] = false
+is_there (e ∷ es) = true
+
+-- one more entry has come, by which these addresses changed hands
+abbrev pub counted_in : Changed → Machine → Machine
+counted_in changed g = record g { addresses = record g.addresses { count = counted g.addresses.count; changed = changed } }

@@ -19,7 +19,7 @@ use Rattle.gate_events.specs.Emit.{Emit}
 use Rattle.history.specs.Emits.{broken, reported, own_claim, replied}
 use Rattle.history.specs.FromBus.{own_answer, request_gives, command_breaks}
 use Rattle.gate_model.specs.Machine.{Compared, Machine, Step, later, overdue, counted_in}
-use Rattle.gate_model.specs.Addresses.{claimed, plain_reports, plain_done}
+use Rattle.gate_model.specs.Addresses.{no_change, claimed, changes_after, plain_reports, plain_done}
 use Rattle.gate_model.specs.FastPackets as fast
 use Rattle.gate_model.specs.FastPackets.{fast_step, fast_kept}
 use Rattle.gate_model.specs.Sessions as sessions
@@ -31,7 +31,8 @@ use Rattle.gate_model.specs.NetLines.{datagram_after, datagram_emits}
 abbrev pub with_message : Machine → List Report → List Emit → Option Complete → Step
 with_message g reports replies d = record {
   after = record g { said = message_after g.settings g.said d };
-  emits = reported reports ++ replies ++ message_emits g.settings g.said d;
+  told = reported reports ++ replies;
+  posted = message_emits g.settings g.said d;
   complete = d;
 }
 
@@ -66,7 +67,8 @@ claim_takes name g x =
         sessions = without_addressed (moved_by g x) rest.sessions;
         said = claimed_after x.step g.said;
       };
-      emits = claim_tells name g x;
+      told = claim_tells name g x;
+      posted = [];
       complete = None;
     }
 
@@ -90,7 +92,7 @@ module _ (o : Compared) (g : Machine) (m : ℕ) (f : BusFrame) where
   abbrev pub claim_frame : Step
   claim_frame = if is_claim f then
       (let x = claim_takes g.settings.name g (claimed g.addresses m f) in
-      record x { emits = reported (plain_reports g.settings.name address_claim parts_here f.held) ++ x.emits })
+      record x { told = reported (plain_reports g.settings.name address_claim parts_here f.held) ++ x.told })
       else plain_frame address_claim []
 
   abbrev pub session_frame : Step
@@ -122,7 +124,8 @@ datagram_here o g m bytes =
     let ready = is_ready g.addresses.claims m in
     record {
       after = record g { network = datagram_after o.groups g.settings m ready g.network read };
-      emits = datagram_emits o.groups g.settings m ready g.addresses.claims.own g.network read;
+      told = datagram_emits o.groups g.settings m ready g.addresses.claims.own g.network read;
+      posted = [];
       complete = None;
     }
 
@@ -134,29 +137,35 @@ command_here g m source address =
     let obeyed = is_obeyed claims address in
     record {
       after = record g { addresses = record g.addresses { claims = after }; sessions = without_addressed obeyed g.sessions };
-      emits = reported (command_breaks claims source address)
+      told = reported (command_breaks claims source address)
           ++ (if obeyed then lost_addressed obeyed g.sessions ++ own_claim g.settings.name after.own ∷ [] else []);
+      posted = [];
       complete = None;
     }
 
 abbrev pub handled : Compared → Machine → Entry → Step
 handled o g (entry.frame m f) = frame_here o g m f
 handled o g (entry.datagram m bytes) = datagram_here o g m bytes
-handled o g (entry.tick m) = record { after = g; emits = []; complete = None }
+handled o g (entry.tick m) = record { after = g; told = []; posted = []; complete = None }
 handled o g (entry.command m source address) = command_here g m source address
 
 -- an entry that isn't earlier than the last: what is overdue ends first
 abbrev pub entered : Compared → Machine → Entry → Step
 entered o g e = let x = handled o (later (moment_of e) g) e in
-    record { after = counted_in x.after; emits = overdue (moment_of e) g ++ x.emits; complete = x.complete }
+    record {
+      after = counted_in (changes_after g.addresses e) x.after;
+      told = overdue (moment_of e) g ++ x.told;
+      posted = x.posted;
+      complete = x.complete;
+    }
 
 -- an event: where it is too early it is reported, and changes nothing (rule 3)
 abbrev pub stepped : Compared → Machine → Entry → Step
 stepped o g e =
     if nat_le g.moment (moment_of e) then entered o g e
-    else record { after = g; emits = broken rules.moment_back detail.Nothing ∷ []; complete = None }
+    else record { after = g; told = broken rules.moment_back detail.Nothing ∷ []; posted = []; complete = None }
 
--- a command comes at the moment of the event that gave it, when nothing is overdue
+-- a command comes at the moment of the event that gave it, when nothing is overdue, and takes no address from another device
 abbrev pub commanded : Machine → ℕ → ℕ → Step
 commanded g source address = let x = command_here g g.moment source address in
-    record { after = counted_in x.after; emits = x.emits; complete = None }
+    record x { after = counted_in no_change x.after }

@@ -1,6 +1,6 @@
 -- What is promised of all that a gateway keeps: it stands for everything that ever came, and so gives exactly what the definition over the
 -- whole history says.
-use Rattle.std.specs.Prelude.{◌≡◌, ℕ, ◌<◌, ◌≤◌, [], ◌∷◌, None, option_map, IfSome, length, if◌then◌else◌}
+use Rattle.std.specs.Prelude.{◌≡◌, ℕ, ◌<◌, ◌≤◌, [], ◌∷◌, None, option_map, IfSome, is_some, length, if◌then◌else◌}
 use Rattle.claim_table.specs.Claims.{places}
 use Rattle.history.specs.Settings.{Settings}
 use Rattle.history.specs.Receiver.{receiver_of}
@@ -9,13 +9,15 @@ use Rattle.history.specs.Entries.{Entry, History, IsHistory, IsOffered, moment_o
 use Rattle.history.specs.EntryLaws.{IsEvent}
 use Rattle.report_rules.specs.Rules as rules
 use Rattle.gate_events.specs.declared.emit.Detail.TheVariants as detail
-use Rattle.history.specs.Messages.{done}
+use Rattle.history.specs.Known.{known}
+use Rattle.history.specs.Messages.{done, messages_of}
 use Rattle.history.specs.Emits.{broken}
+use Rattle.history.specs.FromBus.{chosen}
 use Rattle.history.specs.Gate.{out, expired}
 use Rattle.history.specs.AddressLaws.{AreSettings}
 use Rattle.history.specs.FitLaws.{IsWithinLimits}
 use Rattle.gate_model.specs.Said.{complete_of}
-use Rattle.gate_model.specs.Machine.{Compared, Machine, Step, opened_machine, started_at, later, overdue}
+use Rattle.gate_model.specs.Machine.{Compared, Machine, Step, gives, is_there, opened_machine, started_at, later, overdue}
 use Rattle.gate_model.specs.MachineSteps.{stepped, entered, commanded}
 use Rattle.gate_model.specs.Stands.{AreOrders, StandsAt, Stands, IsReached}
 
@@ -36,12 +38,15 @@ TimeStands =
     (o : Compared) (c : Settings) (s : ℕ) (h : History) (m : ℕ) (g : Machine) → AreOrders o → AreSettings c → IsHistory h → now h ≤ m
     → Stands o c s h g → TimePasses o c s h m g
 
--- ---- each entry: it leaves what stands for the history with it, emits what the definition says, and completes the message that it says
+-- ---- each entry: it leaves what stands for the history with it, emits what the definition says, with a datagram behind where the message is
+-- selected that it completes, and completes the message that the definition says
 
 module _ (o : Compared) (c : Settings) (s : ℕ) (h : History) (e : Entry) (x : Step) where
   pub record IsStepOf : Type 0 where
     pub stands : Stands o c s (e ∷ h) x.after
-    pub emits : x.emits ≡ out c s h e
+    pub emits : gives x ≡ out c s h e
+    pub selected : let r = receiver_of c in
+        is_there x.posted ≡ is_some (chosen c (known r s h).claims.holders (messages_of r s h) (done r s h e))
     pub complete : x.complete ≡ option_map complete_of (done (receiver_of c) s h e)
 
 abbrev pub EntriesStand : Type 0
@@ -60,7 +65,7 @@ CommandsStand =
 abbrev pub TooEarlyIsTold : Type 0
 TooEarlyIsTold =
     (o : Compared) (c : Settings) (s : ℕ) (h : History) (e : Entry) (g : Machine) → Stands o c s h g
-    → stepped o g e ≡ (if is_accepted h e then entered o g e else record { after = g; emits = broken rules.moment_back detail.Nothing ∷ []; complete = None })
+    → stepped o g e ≡ (if is_accepted h e then entered o g e else record { after = g; told = broken rules.moment_back detail.Nothing ∷ []; posted = []; complete = None })
 
 -- ---- what was reached is reached again, and all that is emitted finds room
 
@@ -74,7 +79,8 @@ OpeningIsReached = (o : Compared) (c : Settings) → AreSettings c → IsWithinL
 
 pub record StepFits (o : Compared) (g : Machine) (e : Entry) : Type 0 where
   pub reached : IsReached o (stepped o g e).after
-  pub room : length (stepped o g e).emits ≤ 4096
+  -- a datagram that is posted finds room besides, among 4096 places
+  pub room : length (stepped o g e).told ≤ 4095
   -- a message that is complete is from an address that can be held
   pub source : IfSome (stepped o g e).complete (λ d. d.source < places)
 
@@ -85,7 +91,7 @@ StepsFit =
 -- so it is with a command, from an address
 pub record CommandFits (o : Compared) (g : Machine) (source address : ℕ) : Type 0 where
   pub reached : IsReached o (commanded g source address).after
-  pub room : length (commanded g source address).emits ≤ 4096
+  pub room : length (commanded g source address).told ≤ 4095
 
 abbrev pub CommandsFit : Type 0
 CommandsFit =

@@ -10,7 +10,7 @@ use Rattle.history.specs.Emits.{at}
 use Rattle.history.specs.Gate as gate
 use Rattle.history.specs.AddressLaws.{AreSettings}
 use Rattle.gate_model.specs.Said.{Ordered, ordered_by}
-use Rattle.gate_model.specs.Machine.{Compared, Machine, Step, opened_machine, started_at}
+use Rattle.gate_model.specs.Machine.{Compared, Machine, Step, gives, opened_machine, started_at}
 use Rattle.gate_model.specs.MachineSteps.{stepped, commanded}
 use Rattle.gate_model.specs.Stands.{AreOrders, Stands}
 
@@ -21,8 +21,8 @@ pub record Turn : Type 0 where
   pub emits : List Emit
 
 abbrev pub with_ordered : Step → Option Ordered → Turn
-with_ordered x None = record { after = x.after; emits = x.emits }
-with_ordered x (Some d) = let y = commanded x.after d.source d.address in record { after = y.after; emits = x.emits ++ y.emits }
+with_ordered x None = record { after = x.after; emits = gives x }
+with_ordered x (Some d) = let y = commanded x.after d.source d.address in record { after = y.after; emits = gives x ++ gives y }
 
 abbrev pub turned : Compared → Machine → Entry → Turn
 turned o g e = let x = stepped o g e in with_ordered x (ordered_by g.settings.name x.complete)

@@ -14,8 +14,8 @@ pub fn time_stands()
     ensures { TimeStands }
 {}
 
-/// Each entry that isn't earlier than the last leaves what stands for the history with it, gives exactly what the history says, and completes
-/// the message that the history says: a frame, a datagram, a tick, and a command at the moment of the last entry, when nothing is overdue.
+/// Each entry that isn't earlier than the last leaves what stands for the history with it, gives exactly what the history says, with a datagram
+/// where the message is selected that it completes, and completes the message that the history says: a frame, a datagram, a tick, and a command at the moment of the last entry, when nothing is overdue.
 pub fn entries_stand()
     ensures entries { EntriesStand }
     ensures commands { CommandsStand }
@@ -27,7 +27,8 @@ pub fn too_early_is_told()
 {}
 
 /// A gateway that was opened with settings that can be is one of which the laws hold, before and after its start; and by every event, and by
-/// every command, it becomes such a one again. All that is emitted finds room among 4096 places.
+/// every command, it becomes such a one again. All that is told finds room among 4095 places, and a
+/// datagram besides.
 pub fn what_was_reached_is_reached_again()
     ensures opening { OpeningIsReached }
     ensures steps { StepsFit }

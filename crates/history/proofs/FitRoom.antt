@@ -1,4 +1,4 @@
--- Room for 4096 emits is enough for every entry.
+-- Room for 4095 emits is enough for every entry.
 use Rattle.std.proofs.Common.{length-append, arith}
 use Rattle.datagram450.specs.Datagram as datagrams
 use Rattle.claim_table.specs.Claims.{is_ready}

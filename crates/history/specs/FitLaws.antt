@@ -34,8 +34,8 @@ pub record IsWithinLimits (c : Settings) : Type 0 where
   pub iso : c.iso_slots ≤ 32
   pub groups : c.group_slots ≤ 32
 
--- room for 4096 emits is enough for every entry
+-- room for 4095 emits is enough for every entry, so that a datagram finds room besides among 4096
 abbrev pub RoomSuffices : Type 0
 RoomSuffices =
     (c : Settings) (s : ℕ) (h : History) (e : Entry) → AreSettings c → IsWithinLimits c → IsHistory h → now h ≤ moment_of e
-    → length (out c s h e) ≤ 4096
+    → length (out c s h e) ≤ 4095

@@ -154,7 +154,7 @@ pub fn devices_are_isolated_in_two()
 {}
 
 /// What ends by time, and what a tick, a frame, a command and a datagram give, is no more than the configuration has room for, by the
-/// numbers of what may be open; at the greatest numbers room for 4096 emits is enough for every entry.
+/// numbers of what may be open; at the greatest numbers room for 4095 emits is enough for every entry.
 pub fn entries_fit()
     ensures entries { AllEntriesFit }
     ensures datagrams { DatagramsFit }
