@@ -5,6 +5,7 @@ pub mod Lengths
 pub mod Ships
 pub mod Steps
 pub mod Sending
+pub mod PartCases
 pub mod ReplayCases
 pub mod Replays
 pub mod Events

@@ -4,6 +4,7 @@ pub mod BridgeStands
 pub mod Gate
 pub mod Kept
 pub mod LengthLaws
+pub mod PartCases
 pub mod Parts
 pub mod ReplayCases
 pub mod Replayed

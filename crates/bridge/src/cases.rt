@@ -1,4 +1,5 @@
-//! Cases of the definition, computed: the lines of a capture, and all that is written of them.
+//! Cases of the definition, computed: the lines of a capture and all that is written of them, and what the parts beside the gateway give.
+ghost use Rattle.bridge.specs.PartCases as part_cases;
 ghost use Rattle.bridge.specs.ReplayCases as replay_cases;
 
 /// The text of captures.
@@ -8,4 +9,21 @@ pub fn captures_are_replayed()
     ensures cut_off_in_data { replay_cases.CutOffInData }
     ensures cut_off_in_identifier { replay_cases.CutOffInIdentifier }
     ensures not_extended { replay_cases.NotExtended }
+{}
+
+/// Who asks what the gateway is: twice, before it is ready, and from no address.
+pub fn who_asks_is_answered()
+    ensures asked_twice { part_cases.AskedTwice }
+    ensures asked_early { part_cases.AskedEarly }
+    ensures asked_by_nobody { part_cases.AskedByNobody }
+{}
+
+/// RMC, whose fields come and go.
+pub fn rmc_is_joined()
+    ensures { part_cases.FieldsComeAndGo }
+{}
+
+/// A report of a ship, in the making while its sender's address changes hands.
+pub fn reports_of_ships_end_with_a_claim()
+    ensures { part_cases.ShipAcrossAClaim }
 {}

@@ -1,0 +1,93 @@
+-- The parts beside the gateway: who is asked for, RMC, and a ship around.
+use Rattle.std.specs.Prelude.{◌≡◌, ℕ, List, [], ◌∷◌, ◌++◌, map, Some, codes}
+use Rattle.report_rules.specs.Rules.{claim_lost, fast_orphan, not_ready}
+use Rattle.readings.specs.About.{every_row}
+use Rattle.datagram450.specs.Datagram.{header}
+use Rattle.gate_events.specs.Emit.{Emit, Emitted, net}
+use Rattle.history.specs.Cases.{can_frame, emitted, full, lined, navd, started, two_devices}
+use Rattle.history.specs.Emits.{of_source}
+use Rattle.history.specs.Entries.{Entry, frame}
+use Rattle.bridge.specs.Gate.{gate}
+use Rattle.bridge.specs.Parts.{Parts}
+
+-- a gateway of two devices whose product information is ten bytes, which says RMC on RCOM and reports of ships on TGTD
+abbrev pub all_parts : Parts
+all_parts = record {
+  gateway = two_devices;
+  information = 1 ∷ 2 ∷ 3 ∷ 4 ∷ 5 ∷ 6 ∷ 7 ∷ 8 ∷ 9 ∷ 10 ∷ [];
+  rmc = Some (record { group = codes "RCOM"; talker = codes "GP"; sfi = codes "II0001"; timeouts = map (λ row. 5000) every_row });
+  ais = Some (record { group = codes "TGTD"; slots = 16 });
+}
+
+-- it started at 10 seconds, and emits this at the events
+abbrev pub AllEmit : List Entry → List Emitted → Type 0
+AllEmit events after = gate all_parts 10000000 events ≡ started 10000000 ++ after
+
+-- ---- a request (ISO 11783-3), of three bytes
+
+abbrev pub asks : ℕ → ℕ → ℕ → ℕ → ℕ → Entry
+asks moment id a b c = frame moment (record { id = id; held = a ∷ b ∷ c ∷ [] })
+
+-- each answer is the next fast packet
+abbrev pub AskedTwice : Type 0
+AskedTwice =
+    AllEmit (asks 10250000 0x18EAFB17 0x14 0xF0 0x01 ∷ asks 10260000 0x18EAFF18 0x14 0xF0 0x01 ∷ [])
+    (emitted 10250000 (can_frame 0x19F014FB 0x000A010203040506)
+    ∷ emitted 10250000 (can_frame 0x19F014FB 0x010708090AFFFFFF)
+    ∷ emitted 10260000 (can_frame 0x19F014FB 0x200A010203040506)
+    ∷ emitted 10260000 (can_frame 0x19F014FB 0x210708090AFFFFFF)
+    ∷ [])
+
+abbrev pub AskedEarly : Type 0
+AskedEarly = AllEmit (asks 10249999 0x18EAFB17 0x14 0xF0 0x01 ∷ []) (emitted 10249999 (of_source not_ready 23 59904) ∷ [])
+
+-- who holds no address is answered, too; without one of its own it hears what goes to all
+abbrev pub AskedByNobody : Type 0
+AskedByNobody =
+    AllEmit (asks 10250000 0x18EAFB19 0x12 0xF1 0x01 ∷ asks 10260000 0x18EAFBFE 0x12 0xF1 0x01 ∷ [])
+    (emitted 10250000 (can_frame 0x18E819FB 0x01FFFFFFFF12F101) ∷ emitted 10260000 (can_frame 0x18E8FFFB 0x01FFFFFFFF12F101) ∷ [])
+
+-- ---- RMC
+
+abbrev pub rcom : List ℕ → List ℕ → Emit
+rcom tag sentence = net (codes "RCOM") (header ++ lined tag sentence)
+
+abbrev pub position_said : List ℕ
+position_said = codes "$GPGLL,1300.0000,N,18000.0000,W,,A,A*5E"
+
+-- the time is too old at the second position, and at the third the device that said course and speed has lost its address
+abbrev pub FieldsComeAndGo : Type 0
+FieldsComeAndGo =
+    AllEmit
+    (full 10000000 0x0DF01017 0x00F0DB4C0008AF2F
+    ∷ full 10100000 0x09F80217 0x00FC5C3D0202FFFF
+    ∷ full 10200000 0x09F80117 0x79A4BF07002EB694
+    ∷ full 15050000 0x09F80117 0x79A4BF07002EB694
+    ∷ full 15060000 0x18EEFF17 0x0200C0FF00823280
+    ∷ full 15070000 0x09F80118 0x79A4BF07002EB694
+    ∷ [])
+    (emitted 10000000 (navd (codes "s:II0001,n:1*01") (codes "$GPZDA,221320.00,14,11,2023,00,00*60"))
+    ∷ emitted 10100000 (navd (codes "s:II0001,n:2*02") (codes "$GPVTG,90.0,T,,M,9.99,N,18.50,K,A*01"))
+    ∷ emitted 10200000 (navd (codes "s:II0001,n:3*03") position_said)
+    ∷ emitted 10200000 (rcom (codes "s:II0001,n:1*01") (codes "$GPRMC,221320.00,A,1300.0000,N,18000.0000,W,9.99,90.0,141123,,,A*43"))
+    ∷ emitted 15050000 (navd (codes "s:II0001,n:4*04") position_said)
+    ∷ emitted 15050000 (rcom (codes "s:II0001,n:2*02") (codes "$GPRMC,,A,1300.0000,N,18000.0000,W,9.99,90.0,,,,A*69"))
+    ∷ emitted 15070000 (navd (codes "s:II0001,n:5*05") position_said)
+    ∷ emitted 15070000 (rcom (codes "s:II0001,n:3*03") (codes "$GPRMC,,A,1300.0000,N,18000.0000,W,,,,,,A*69"))
+    ∷ [])
+
+-- ---- a ship around
+
+abbrev pub ship : ℕ → ℕ → Entry
+ship moment bytes = full moment 0x11F80E17 bytes
+
+-- another device wins the sender's address between two frames of a report
+abbrev pub ShipAcrossAClaim : Type 0
+ShipAcrossAClaim =
+    AllEmit
+    (ship 10000000 0x001C0100C2EB0B80
+    ∷ ship 10010000 0x0196980000000000
+    ∷ full 10020000 0x18EEFF17 0x0200C0FF00823280
+    ∷ ship 10030000 0x02005C3D02020000
+    ∷ [])
+    (emitted 10020000 (of_source claim_lost 23 129038) ∷ emitted 10030000 (of_source fast_orphan 23 129038) ∷ [])
