@@ -9,7 +9,7 @@ use Rattle.readings.specs.Rows.{row_of}
 use Rattle.pgn_profile.specs.Profiled.{messages}
 use Rattle.pgn_profile.specs.Payload.{payload_of, pgn_of, priority_of}
 use Rattle.history.specs.NetReadings.{is_fast_row}
-use Rattle.row_traffic.specs.Sending.{row_parts, reading_frames}
+use Rattle.row_traffic.specs.Sending.{row_parts}
 
 pub can_send : (r : Row) (address : ℕ) → CanJoin (row_parts r address)
 unfolding has_destination
@@ -75,7 +75,3 @@ some_bytes (reading.WindTrue s a) = (omega arith, omega arith)
 some_bytes (reading.WindNorth m s a) = (omega arith, omega arith)
 some_bytes (reading.WaterTemperature k) = (omega arith, omega arith)
 some_bytes (reading.CrossTrack d) = (omega arith, omega arith)
-
--- then it is one
-pub one_frame : (address sequence : ℕ) (r : Reading) → is_fast_row (row_of r) ≡ false → length (reading_frames address sequence r) ≡ 1
-one_frame address sequence r single = rw single refl

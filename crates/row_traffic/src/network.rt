@@ -12,7 +12,7 @@ ghost use Rattle.gate_model.specs.NetLines.{kept_until, datagram_after, datagram
 ghost use Rattle.row_traffic.specs.NetCalls.{Hears, IsHeardBy, opened_net};
 ghost use Rattle.row_traffic.specs.NetCalls.{after_line, line_gives, after_item, item_gives, after_items, items_give, datagram_gives};
 ghost use Rattle.row_traffic.specs.NetFaults.{untaken};
-ghost use Rattle.gate_outbox.specs.Output.{Output, and_emits, most_emits, has_datagram};
+ghost use Rattle.gate_outbox.specs.Output.{and_told, most_told};
 
 mod groups;
 mod heard;
@@ -25,7 +25,7 @@ use crate::network::heard::Heard;
 use crate::network::rows::Readings;
 use crate::network::sentences::take_sentence;
 use datagram450::{DatagramFault, LONGEST_DATAGRAM, LineItem, LineIter, lines};
-use gate_outbox::Outbox;
+use gate_outbox::StepEmits;
 use gate_outbox::reports::at_place;
 pub use heard::Came;
 pub use hearing::Hearing;
@@ -77,27 +77,21 @@ impl Network {
     }
 
     /// Ends the groups of lines that are overdue at the moment, in the order of their keys.
-    pub fn end_overdue(&mut self, moment: u64, out: &mut Outbox)
-        requires room { length out.old.emits + length (groups_overdue self.old.groups moment) ≤ most_emits }
-        requires before { has_datagram out.old.emits ≡ false }
+    pub fn end_overdue(&mut self, moment: u64, out: &mut StepEmits)
         ensures after { self.new ≡ kept_until moment self.old }
-        ensures emits { out.new ≡ and_emits out.old (groups_overdue self.old.groups moment) }
-        ensures before { has_datagram out.new.emits ≡ false }
+        ensures emits { out.new ≡ and_told most_told out.old (groups_overdue self.old.groups moment) }
     {
         end_groups(&mut self.groups, moment, out);
     }
 
     /// Takes a datagram: what its items give, in their order, or why it isn't read.
-    pub fn datagram(&mut self, hearing: &Hearing<'_>, bytes: &[u8], out: &mut Outbox)
+    pub fn datagram(&mut self, hearing: &Hearing<'_>, bytes: &[u8], out: &mut StepEmits)
         requires hears { Hears hearing.now self.old }
-        requires room { length out.old.emits + length (datagram_gives ⟦<GroupKey as Ord>⟧.cmp hearing.now self.old (read bytes.now)) ≤ most_emits }
-        requires before { has_datagram out.old.emits ≡ false }
         ensures after { (c : Settings) → IsHeardBy c hearing.now
             → self.new ≡ datagram_after ⟦<GroupKey as Ord>⟧.cmp c hearing.now.came.moment hearing.now.came.ready self.old (read bytes.now) }
         ensures emits { (c : Settings) → IsHeardBy c hearing.now
-            → out.new ≡ and_emits out.old (datagram_emits ⟦<GroupKey as Ord>⟧.cmp c hearing.now.came.moment hearing.now.came.ready hearing.now.came.own self.old
+            → out.new ≡ and_told most_told out.old (datagram_emits ⟦<GroupKey as Ord>⟧.cmp c hearing.now.came.moment hearing.now.came.ready hearing.now.came.own self.old
             (read bytes.now)) }
-        ensures before { has_datagram out.new.emits ≡ false }
         ensures hears { Hears hearing.now self.new }
     {
         match lines(bytes) {
@@ -108,14 +102,11 @@ impl Network {
     }
 
     /// Takes the items of a datagram, in their order.
-    fn items(&mut self, hearing: &Hearing<'_>, items: LineIter<'_>, out: &mut Outbox)
+    fn items(&mut self, hearing: &Hearing<'_>, items: LineIter<'_>, out: &mut StepEmits)
         requires each { AllByRecursion IsItem items }
         requires hears { Hears hearing.now self.old }
-        requires room { length out.old.emits + length (items_give ⟦<GroupKey as Ord>⟧.cmp hearing.now self.old items) ≤ most_emits }
-        requires before { has_datagram out.old.emits ≡ false }
         ensures after { self.new ≡ after_items ⟦<GroupKey as Ord>⟧.cmp hearing.now self.old items.entry }
-        ensures emits { out.new ≡ and_emits out.old (items_give ⟦<GroupKey as Ord>⟧.cmp hearing.now self.old items.entry) }
-        ensures before { has_datagram out.new.emits ≡ false }
+        ensures emits { out.new ≡ and_told most_told out.old (items_give ⟦<GroupKey as Ord>⟧.cmp hearing.now self.old items.entry) }
         ensures hears { Hears hearing.now self.new }
     {
         let mut items = items;
@@ -125,14 +116,11 @@ impl Network {
     }
 
     /// Takes an item of a datagram: a line, or the rule that one breaks.
-    fn item(&mut self, hearing: &Hearing<'_>, item: &LineItem<'_>, out: &mut Outbox)
+    fn item(&mut self, hearing: &Hearing<'_>, item: &LineItem<'_>, out: &mut StepEmits)
         requires is { IsItem (item_view item.now) }
         requires hears { Hears hearing.now self.old }
-        requires room { length out.old.emits + length (item_gives ⟦<GroupKey as Ord>⟧.cmp hearing.now self.old (item_view item.now)) ≤ most_emits }
-        requires before { has_datagram out.old.emits ≡ false }
         ensures after { self.new ≡ after_item ⟦<GroupKey as Ord>⟧.cmp hearing.now self.old (item_view item.now) }
-        ensures emits { out.new ≡ and_emits out.old (item_gives ⟦<GroupKey as Ord>⟧.cmp hearing.now self.old (item_view item.now)) }
-        ensures before { has_datagram out.new.emits ≡ false }
+        ensures emits { out.new ≡ and_told most_told out.old (item_gives ⟦<GroupKey as Ord>⟧.cmp hearing.now self.old (item_view item.now)) }
     {
         match item {
             LineItem::Line {
@@ -153,15 +141,12 @@ impl Network {
         tag: &Tag<'_>,
         text: &[u8],
         sentence: &Sentence<'_>,
-        out: &mut Outbox,
+        out: &mut StepEmits,
     )
         requires is { IsItem (line place (said tag.now) text.now (parts sentence.now)) }
         requires hears { Hears hearing.now self.old }
-        requires room { length out.old.emits + length (line_gives ⟦<GroupKey as Ord>⟧.cmp hearing.now self.old place (said tag.now) text.now) ≤ most_emits }
-        requires before { has_datagram out.old.emits ≡ false }
         ensures after { self.new ≡ after_line ⟦<GroupKey as Ord>⟧.cmp hearing.now self.old place (said tag.now) text.now }
-        ensures emits { out.new ≡ and_emits out.old (line_gives ⟦<GroupKey as Ord>⟧.cmp hearing.now self.old place (said tag.now) text.now) }
-        ensures before { has_datagram out.new.emits ≡ false }
+        ensures emits { out.new ≡ and_told most_told out.old (line_gives ⟦<GroupKey as Ord>⟧.cmp hearing.now self.old place (said tag.now) text.now) }
     {
         let own = hearing.is_own(tag);
         let elsewhere = hearing.is_elsewhere(tag);
@@ -199,11 +184,8 @@ fn several(group: Option<GroupPart>) -> Option<GroupPart>
 }
 
 /// Reports why a line isn't taken: it is the gateway's own, for another device, or of a source that isn't listed.
-fn tell_untaken(own: bool, elsewhere: bool, unlisted: bool, place: u16, out: &mut Outbox)
-    requires room { length out.old.emits + length (untaken own elsewhere unlisted place) ≤ most_emits }
-    requires before { has_datagram out.old.emits ≡ false }
-    ensures emits { out.new ≡ and_emits out.old (untaken own elsewhere unlisted place) }
-    ensures before { has_datagram out.new.emits ≡ false }
+fn tell_untaken(own: bool, elsewhere: bool, unlisted: bool, place: u16, out: &mut StepEmits)
+    ensures emits { out.new ≡ and_told most_told out.old (untaken own elsewhere unlisted place) }
 {
     if own {
         out.tell(at_place(OWN_LINE, place));

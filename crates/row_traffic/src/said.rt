@@ -14,14 +14,14 @@ ghost use Rattle.gate_model.specs.Said.{SaidKept, is_chosen, noted_by, counted, 
 ghost use Rattle.gate_model.specs.Said.{ranked_after, ranked_emits, profiled_after, profiled_emits};
 ghost use Rattle.config_values.specs.Configs.{IsConfig};
 ghost use Rattle.config_values.specs.Settings.{settings_of, rule_of_row};
-ghost use Rattle.row_traffic.specs.Saying.{message_from, texts};
-ghost use Rattle.gate_outbox.specs.Output.{and_emits, most_emits, has_datagram};
+ghost use Rattle.row_traffic.specs.Saying.{and_posted, message_from};
+ghost use Rattle.gate_outbox.specs.Output.{with_posted};
 
 use crate::rows::{number, row_at, row_config, says_something};
 use crate::said::ranks::rank_in;
 use crate::said::writing::{sentences_in, speaker, write_datagram};
 use config_values::Config;
-use gate_outbox::Outbox;
+use gate_outbox::StepEmits;
 use n2k_id::Name;
 use n2k_id::address::ADDRESSES;
 use pgn_profile::Profiled;
@@ -83,15 +83,18 @@ impl Said {
     }
 
     /// Takes what a message says: a reading is noted where its sender has a rank in the row, and said where it is selected.
-    pub fn take(&mut self, config: &Config, sender: Sender, profiled: &Profiled, out: &mut Outbox)
+    pub fn take(
+        &mut self,
+        config: &Config,
+        sender: Sender,
+        profiled: &Profiled,
+        out: &mut StepEmits,
+    )
         requires config { IsConfig config.now }
         requires source { sender.source < 254 }
         requires valid { IfSome (reading_in profiled.now) IsValid }
-        requires room { length out.old.emits
-            + length (profiled_emits (settings_of config.now) self.old (message_from sender) (reading_in profiled.now)) ≤ most_emits }
-        requires before { has_datagram out.old.emits ≡ false }
         ensures after { self.new ≡ profiled_after (settings_of config.now) self.old (message_from sender) (reading_in profiled.now) }
-        ensures emits { out.new ≡ and_emits out.old (profiled_emits (settings_of config.now) self.old (message_from sender) (reading_in profiled.now)) }
+        ensures emits { out.new ≡ and_posted out.old (profiled_emits (settings_of config.now) self.old (message_from sender) (reading_in profiled.now)) }
     {
         match profiled {
             Profiled::Reading(reading) => self.take_reading(config, sender, reading, out),
@@ -100,16 +103,19 @@ impl Said {
     }
 
     /// Takes a reading: where its sender has a rank in the row.
-    fn take_reading(&mut self, config: &Config, sender: Sender, reading: &Reading, out: &mut Outbox)
+    fn take_reading(
+        &mut self,
+        config: &Config,
+        sender: Sender,
+        reading: &Reading,
+        out: &mut StepEmits,
+    )
         requires config { IsConfig config.now }
         requires source { sender.source < 254 }
         requires valid { IsValid reading.now }
-        requires room { length out.old.emits + length (ranked_emits (settings_of config.now) self.old (message_from sender) reading.now
-            (rank_by (settings_of config.now) (message_from sender) reading.now)) ≤ most_emits }
-        requires before { has_datagram out.old.emits ≡ false }
         ensures after { self.new ≡ ranked_after (settings_of config.now) self.old (message_from sender) reading.now
             (rank_by (settings_of config.now) (message_from sender) reading.now) }
-        ensures emits { out.new ≡ and_emits out.old (ranked_emits (settings_of config.now) self.old (message_from sender) reading.now
+        ensures emits { out.new ≡ and_posted out.old (ranked_emits (settings_of config.now) self.old (message_from sender) reading.now
             (rank_by (settings_of config.now) (message_from sender) reading.now)) }
     {
         match rank_in(config, row(reading), sender.name) {
@@ -125,16 +131,13 @@ impl Said {
         sender: Sender,
         rank: Rank,
         reading: &Reading,
-        out: &mut Outbox,
+        out: &mut StepEmits,
     )
         requires config { IsConfig config.now }
         requires source { sender.source < 254 }
         requires valid { IsValid reading.now }
-        requires room { length out.old.emits
-            + length (ranked_emits (settings_of config.now) self.old (message_from sender) reading.now (Some rank)) ≤ most_emits }
-        requires before { has_datagram out.old.emits ≡ false }
         ensures after { self.new ≡ ranked_after (settings_of config.now) self.old (message_from sender) reading.now (Some rank) }
-        ensures emits { out.new ≡ and_emits out.old
+        ensures emits { out.new ≡ and_posted out.old
             (ranked_emits (settings_of config.now) self.old (message_from sender) reading.now (Some rank)) }
     {
         if self.is_chosen(sender, rank, reading) {
@@ -169,13 +172,11 @@ impl Said {
     }
 
     /// Says a reading in one datagram, and counts its lines.
-    fn say(&mut self, config: &Config, reading: &Reading, out: &mut Outbox)
+    fn say(&mut self, config: &Config, reading: &Reading, out: &mut StepEmits)
         requires config { IsConfig config.now }
         requires valid { IsValid reading.now }
-        requires room { length out.old.emits < most_emits }
-        requires before { has_datagram out.old.emits ≡ false }
         ensures after { self.new ≡ counted (settings_of config.now) self.old reading.now }
-        ensures emits { out.new ≡ and_emits out.old (net (rule_of (settings_of config.now) (row_of reading.now)).group
+        ensures emits { out.new ≡ with_posted out.old (net (rule_of (settings_of config.now) (row_of reading.now)).group
             (datagram_by (settings_of config.now) self.old reading.now) ∷ []) }
     {
         let row = row(reading);

@@ -5,11 +5,11 @@ ghost use Rattle.readings.specs.Ranges.{IsValid};
 ghost use Rattle.fast_packet.specs.FastFrames.{longest, need_of};
 ghost use Rattle.fast_packet.specs.Splitting.{frames_of};
 ghost use Rattle.history.specs.Opens.{is_fast};
-ghost use Rattle.gate_outbox.specs.Output.{Output, and_emits, most_emits, has_datagram};
+ghost use Rattle.gate_outbox.specs.Output.{and_told, most_told};
 ghost use Rattle.row_traffic.specs.Sending.{reading_frames, sent_with};
 
 use fast_packet::{FrameList, split};
-use gate_outbox::Outbox;
+use gate_outbox::StepEmits;
 use gate_outbox::frames::frame_of;
 use n2k_id::Parts;
 use n2k_id::address::ALL;
@@ -17,13 +17,10 @@ use pgn_profile::{Kind, Payload, kind, priority, write};
 use readings::{Reading, row};
 
 /// Sends the reading from the address, as a fast packet of this sequence where its PGN has those.
-pub(crate) fn send_reading(address: u8, sequence: u8, reading: &Reading, out: &mut Outbox)
+pub(crate) fn send_reading(address: u8, sequence: u8, reading: &Reading, out: &mut StepEmits)
     requires valid { IsValid reading.now }
     requires sequence { sequence ≤ 7 }
-    requires room { length out.old.emits + length (reading_frames address sequence reading.now) ≤ most_emits }
-    requires before { has_datagram out.old.emits ≡ false }
-    ensures emits { out.new ≡ and_emits out.old (reading_frames address sequence reading.now) }
-    ensures before { has_datagram out.new.emits ≡ false }
+    ensures emits { out.new ≡ and_told most_told out.old (reading_frames address sequence reading.now) }
 {
     let mut payload = Payload::new();
     let pgn = write(reading, &mut payload);
@@ -48,27 +45,21 @@ fn is_fast(kind: Kind) -> bool
 }
 
 /// Sends a message in one frame.
-fn send_single(parts: Parts, payload: &[u8], out: &mut Outbox)
+fn send_single(parts: Parts, payload: &[u8], out: &mut StepEmits)
     requires parts { CanJoin parts }
     requires fits { length payload.now ≤ 8 }
-    requires room { length out.old.emits < most_emits }
-    requires before { has_datagram out.old.emits ≡ false }
-    ensures emits { out.new ≡ and_emits out.old (sent_with parts payload.now ∷ []) }
-    ensures before { has_datagram out.new.emits ≡ false }
+    ensures emits { out.new ≡ and_told most_told out.old (sent_with parts payload.now ∷ []) }
 {
     out.send(frame_of(parts, payload));
 }
 
 /// Sends a message as a fast packet.
-fn send_fast(parts: Parts, sequence: u8, payload: &[u8], out: &mut Outbox)
+fn send_fast(parts: Parts, sequence: u8, payload: &[u8], out: &mut StepEmits)
     requires parts { CanJoin parts }
     requires sequence { sequence ≤ 7 }
     requires some { 1 ≤ length payload.now }
     requires fits { length payload.now ≤ longest }
-    requires room { length out.old.emits + length (map (sent_with parts) (frames_of sequence payload.now)) ≤ most_emits }
-    requires before { has_datagram out.old.emits ≡ false }
-    ensures emits { out.new ≡ and_emits out.old (map (sent_with parts) (frames_of sequence payload.now)) }
-    ensures before { has_datagram out.new.emits ≡ false }
+    ensures emits { out.new ≡ and_told most_told out.old (map (sent_with parts) (frames_of sequence payload.now)) }
 {
     let mut pieces = FrameList::new();
     let _fits = split(sequence, payload, &mut pieces);
@@ -76,12 +67,9 @@ fn send_fast(parts: Parts, sequence: u8, payload: &[u8], out: &mut Outbox)
 }
 
 /// Sends a frame for each piece.
-fn send_pieces(parts: Parts, pieces: &[[u8; 8]], out: &mut Outbox)
+fn send_pieces(parts: Parts, pieces: &[[u8; 8]], out: &mut StepEmits)
     requires parts { CanJoin parts }
-    requires room { length out.old.emits + length (map (sent_with parts) pieces.now) ≤ most_emits }
-    requires before { has_datagram out.old.emits ≡ false }
-    ensures emits { out.new ≡ and_emits out.old (map (sent_with parts) pieces.now) }
-    ensures before { has_datagram out.new.emits ≡ false }
+    ensures emits { out.new ≡ and_told most_told out.old (map (sent_with parts) pieces.now) }
 {
     for piece in pieces {
         send_single(parts, piece, out);

@@ -7,12 +7,12 @@ ghost use Rattle.history.specs.Choice.{is_usable};
 ghost use Rattle.history.specs.NetReadings.{is_fast_row};
 ghost use Rattle.gate_model.specs.Net.{rank_by, is_chosen, sequence_at, sent_by, reading_after, reading_emits, readings_after, readings_emit};
 ghost use Rattle.row_traffic.specs.NetCalls.{line_of, none_sent};
-ghost use Rattle.gate_outbox.specs.Output.{Output, and_emits, most_emits, has_datagram};
+ghost use Rattle.gate_outbox.specs.Output.{and_told, most_told};
 
 use crate::network::heard::Heard;
 use crate::rows::{number, says_something};
 use crate::sending::send_reading;
-use gate_outbox::Outbox;
+use gate_outbox::StepEmits;
 use gate_outbox::reports::at_place;
 use readings::{ROWS, Reading, Row, row};
 use report_rules::NOT_READY;
@@ -59,14 +59,11 @@ impl Readings {
     }
 
     /// Takes a reading: where it is selected it is sent on, or reported where the gateway isn't ready; and it is noted.
-    pub(crate) fn take(&mut self, line: Heard, reading: &Reading, out: &mut Outbox)
+    pub(crate) fn take(&mut self, line: Heard, reading: &Reading, out: &mut StepEmits)
         requires valid { IsValid reading.now }
         requires source { line.source < self.old.choices.sources }
-        requires room { length out.old.emits + length (reading_emits line.came.own self.old (line_of line) reading.now) ≤ most_emits }
-        requires before { has_datagram out.old.emits ≡ false }
         ensures after { self.new ≡ reading_after self.old (line_of line) reading.now }
-        ensures emits { out.new ≡ and_emits out.old (reading_emits line.came.own self.old (line_of line) reading.now) }
-        ensures before { has_datagram out.new.emits ≡ false }
+        ensures emits { out.new ≡ and_told most_told out.old (reading_emits line.came.own self.old (line_of line) reading.now) }
     {
         let chosen = self.is_chosen(line, reading);
         self.pass_on(line, reading, chosen, out);
@@ -74,14 +71,12 @@ impl Readings {
     }
 
     /// Takes the readings of a sentence, in their order.
-    pub(crate) fn take_all(&mut self, line: Heard, readings: &[Reading], out: &mut Outbox)
+    #[tactic(auto, using(gate_outbox::proofs::Telling::told_more, std::proofs::lemmas::Grind::common_steps))]
+    pub(crate) fn take_all(&mut self, line: Heard, readings: &[Reading], out: &mut StepEmits)
         requires valid { All IsValid readings.now }
         requires source { line.source < self.old.choices.sources }
-        requires room { length out.old.emits + length (readings_emit line.came.own self.old (line_of line) readings.now) ≤ most_emits }
-        requires before { has_datagram out.old.emits ≡ false }
         ensures after { self.new ≡ readings_after self.old (line_of line) readings.now }
-        ensures emits { out.new ≡ and_emits out.old (readings_emit line.came.own self.old (line_of line) readings.now) }
-        ensures before { has_datagram out.new.emits ≡ false }
+        ensures emits { out.new ≡ and_told most_told out.old (readings_emit line.came.own self.old (line_of line) readings.now) }
     {
         for reading in readings {
             self.take(line, reading, out);
@@ -98,13 +93,10 @@ impl Readings {
     }
 
     /// Sends a reading that is selected on, or reports it where the gateway isn't ready.
-    fn pass_on(&self, line: Heard, reading: &Reading, chosen: bool, out: &mut Outbox)
+    fn pass_on(&self, line: Heard, reading: &Reading, chosen: bool, out: &mut StepEmits)
         requires valid { IsValid reading.now }
         requires chosen { chosen ≡ is_chosen self.now (line_of line) reading.now }
-        requires room { length out.old.emits + length (reading_emits line.came.own self.now (line_of line) reading.now) ≤ most_emits }
-        requires before { has_datagram out.old.emits ≡ false }
-        ensures emits { out.new ≡ and_emits out.old (reading_emits line.came.own self.now (line_of line) reading.now) }
-        ensures before { has_datagram out.new.emits ≡ false }
+        ensures emits { out.new ≡ and_told most_told out.old (reading_emits line.came.own self.now (line_of line) reading.now) }
     {
         if !chosen {
             return;
@@ -117,12 +109,9 @@ impl Readings {
     }
 
     /// Sends a reading from the own address, where there is one.
-    fn send(&self, own: Option<u8>, reading: &Reading, out: &mut Outbox)
+    fn send(&self, own: Option<u8>, reading: &Reading, out: &mut StepEmits)
         requires valid { IsValid reading.now }
-        requires room { length out.old.emits + length (sent_by own self.now reading.now) ≤ most_emits }
-        requires before { has_datagram out.old.emits ≡ false }
-        ensures emits { out.new ≡ and_emits out.old (sent_by own self.now reading.now) }
-        ensures before { has_datagram out.new.emits ≡ false }
+        ensures emits { out.new ≡ and_told most_told out.old (sent_by own self.now reading.now) }
     {
         match own {
             Some(address) => {

@@ -7,24 +7,22 @@ ghost use Rattle.datagram450.specs.Datagram.{cut};
 ghost use Rattle.history.specs.NetReadings.{read_sentence};
 ghost use Rattle.gate_model.specs.Net.{fault_emits, said_after, said_emits, sentences_after, sentences_emit};
 ghost use Rattle.row_traffic.specs.NetCalls.{IsLineBefore, line_of};
-ghost use Rattle.gate_outbox.specs.Output.{Output, and_emits, most_emits, has_datagram};
+ghost use Rattle.gate_outbox.specs.Output.{and_told, most_told};
 
 use crate::network::heard::Heard;
 use crate::network::rows::Readings;
 use gate_events::{Detail, Report};
-use gate_outbox::Outbox;
+use gate_outbox::StepEmits;
 use report_rules::{FIELD_FORM, FIELD_RANGE};
 use sentence_rows::{FieldFault, read_rows};
 use sentence_text::Sentence;
 
 /// Takes the sentences that a group of lines holds, one after the other.
-pub(crate) fn take_joined(readings: &mut Readings, line: Heard, joined: &[u8], out: &mut Outbox)
+#[tactic(auto, using(gate_outbox::proofs::Telling::told_more))]
+pub(crate) fn take_joined(readings: &mut Readings, line: Heard, joined: &[u8], out: &mut StepEmits)
     requires source { line.source < readings.old.choices.sources }
-    requires room { length out.old.emits + length (sentences_emit line.came.own readings.old (line_of line) (cut joined.now).lines) ≤ most_emits }
-    requires before { has_datagram out.old.emits ≡ false }
     ensures after { readings.new ≡ sentences_after readings.old (line_of line) (cut joined.now).lines }
-    ensures emits { out.new ≡ and_emits out.old (sentences_emit line.came.own readings.old (line_of line) (cut joined.now).lines) }
-    ensures before { has_datagram out.new.emits ≡ false }
+    ensures emits { out.new ≡ and_told most_told out.old (sentences_emit line.came.own readings.old (line_of line) (cut joined.now).lines) }
 {
     let mut rest = joined;
     while let Some((text, behind)) = first_line(rest) {
@@ -54,13 +52,10 @@ fn first_line<'a>(bytes: &'a [u8]) -> Option<(&'a [u8], &'a [u8])>
 }
 
 /// Takes the text of a sentence.
-fn take_text(readings: &mut Readings, line: Heard, text: &[u8], out: &mut Outbox)
+fn take_text(readings: &mut Readings, line: Heard, text: &[u8], out: &mut StepEmits)
     requires source { line.source < readings.old.choices.sources }
-    requires room { length out.old.emits + length (said_emits line.came.own readings.old (line_of line) (read_sentence text.now)) ≤ most_emits }
-    requires before { has_datagram out.old.emits ≡ false }
     ensures after { readings.new ≡ said_after readings.old (line_of line) (read_sentence text.now) }
-    ensures emits { out.new ≡ and_emits out.old (said_emits line.came.own readings.old (line_of line) (read_sentence text.now)) }
-    ensures before { has_datagram out.new.emits ≡ false }
+    ensures emits { out.new ≡ and_told most_told out.old (said_emits line.came.own readings.old (line_of line) (read_sentence text.now)) }
 {
     match sentence_text::read(text) {
         Ok(sentence) => take_sentence(readings, line, &sentence, out),
@@ -74,14 +69,11 @@ pub(crate) fn take_sentence(
     readings: &mut Readings,
     line: Heard,
     sentence: &Sentence<'_>,
-    out: &mut Outbox,
+    out: &mut StepEmits,
 )
     requires source { line.source < readings.old.choices.sources }
-    requires room { length out.old.emits + length (said_emits line.came.own readings.old (line_of line) (read_row (parts sentence.now))) ≤ most_emits }
-    requires before { has_datagram out.old.emits ≡ false }
     ensures after { readings.new ≡ said_after readings.old (line_of line) (read_row (parts sentence.now)) }
-    ensures emits { out.new ≡ and_emits out.old (said_emits line.came.own readings.old (line_of line) (read_row (parts sentence.now))) }
-    ensures before { has_datagram out.new.emits ≡ false }
+    ensures emits { out.new ≡ and_told most_told out.old (said_emits line.came.own readings.old (line_of line) (read_row (parts sentence.now))) }
 {
     let mut given = sentence_rows::Readings::new();
     match read_rows(sentence, &mut given) {
@@ -91,11 +83,8 @@ pub(crate) fn take_sentence(
 }
 
 /// Reports the fault of a sentence; one that is none of the profile has none.
-fn tell_fault(place: u16, fault: FieldFault, out: &mut Outbox)
-    requires room { length out.old.emits + length (fault_emits place fault) ≤ most_emits }
-    requires before { has_datagram out.old.emits ≡ false }
-    ensures emits { out.new ≡ and_emits out.old (fault_emits place fault) }
-    ensures before { has_datagram out.new.emits ≡ false }
+fn tell_fault(place: u16, fault: FieldFault, out: &mut StepEmits)
+    ensures emits { out.new ≡ and_told most_told out.old (fault_emits place fault) }
 {
     let (rule, field) = match fault {
         FieldFault::Outside => return,

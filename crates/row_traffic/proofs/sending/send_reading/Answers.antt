@@ -1,10 +1,10 @@
-use Rattle.std.proofs.Common.{◌≡◌, ◌≤◌, false, ap, sym, ◌∙◌, length, subst, arith}
+use Rattle.std.proofs.Common.{◌≡◌, ◌≤◌, false, ap, sym, ◌∙◌, length, subst}
 use Rattle.readings.specs.Rows.{row_of}
 use Rattle.history.specs.Opens.{is_fast}
 use Rattle.history.specs.NetReadings.{is_fast_row}
 use Rattle.pgn_profile.specs.Profiled.{kind_of}
 use Rattle.pgn_profile.specs.Payload.{priority_of}
-use Rattle.row_traffic.proofs.Pieces.{can_send_as, fits_a_frame, one_frame}
+use Rattle.row_traffic.proofs.Pieces.{can_send_as, fits_a_frame}
 use Rattle.row_traffic.proofs.sending.send_reading.Goals as goal
 
 pub send_fast-requires-clause-parts : goal.send_fast-requires-clause-parts
@@ -22,6 +22,4 @@ send_single-requires c =
           can_send_as (row_of r) c.args.address c.priority.result c.write-pgn.result
           (c.priority.ensures ∙ ap priority_of c.row.ensures) c.write-pgn.ensures.pgn;
       fits = subst (λ p. length p ≤ 8) (sym (c.deref-else-is_fast.ensures.0 ∙ c.write-pgn.ensures.payload)) (fits_a_frame r single);
-      room = let one = one_frame c.args.address c.args.sequence r single in let room = c.requires.room in omega (arith, one, room);
-      before = c.requires.before;
     }

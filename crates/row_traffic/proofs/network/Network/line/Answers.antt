@@ -1,31 +1,13 @@
 -- The sentence of a line in no group is the line's own.
-use Rattle.std.proofs.Common.{◌+◌, ◌≤◌, length, sym, ap, ◌∙◌, subst}
+use Rattle.std.proofs.Common.{sym, ap, ◌∙◌}
 use Rattle.sentence_text.specs.Reading.{parts}
 use Rattle.tag_block.specs.Reading.{said}
 use Rattle.tag_block.specs.contracts.group_key.GroupKeyOrd as key
 use Rattle.gate_model.specs.NetLines.{NetKept}
 use Rattle.row_traffic.specs.NetCalls.{after_line, line_gives}
-use Rattle.gate_outbox.specs.Output.{and_emits, most_emits}
+use Rattle.gate_outbox.specs.Output.{and_told, most_told}
 use Rattle.row_traffic.proofs.TakenLines.{IsAlone, alone_leaves, alone_gives}
 use Rattle.row_traffic.proofs.network.Network.line.Goals as goal
-
-pub take_sentence-requires-clause-room : goal.take_sentence-requires-clause-room
-take_sentence-requires-clause-room c =
-    let cmp = key.TheImpl.ghosts.cmp in
-    let h = c.args.hearing.now in
-    let s = said c.args.tag.now in
-    let k : NetKept = record { groups = c.self.inside.groups; readings = c.self.inside.readings } in
-    let alone : IsAlone cmp h k c.args.place s c.args.text.now (parts c.args.sentence.now) c.in-Some.source = record {
-      own = sym c.is_own-own.ensures ∙ c.if-not-own.true;
-      elsewhere = sym c.is_elsewhere-elsewhere.ensures ∙ c.if-not-elsewhere.true;
-      at = sym c.place_of-source.ensures.place ∙ c.in-Some.is;
-      group = sym c.several.ensures ∙ c.in-None.is;
-      sentence = c.requires.is.sentence;
-    } in
-    subst (λ es. length c.args.out.now.emits + length es ≤ most_emits)
-    (ap (λ z. line_gives cmp h z c.args.place s c.args.text.now) (sym c.self.view_is)
-    ∙ alone_gives cmp h k c.args.place s c.args.text.now (parts c.args.sentence.now) c.in-Some.source alone)
-    c.requires.room
 
 pub returns-in-None-clause-after : goal.returns-in-None-clause-after
 returns-in-None-clause-after c =
@@ -58,6 +40,6 @@ returns-in-None-clause-emits c =
       sentence = c.requires.is.sentence;
     } in
     c.take_sentence.ensures.emits
-    ∙ ap (and_emits c.args.out.now)
+    ∙ ap (and_told most_told c.args.out.now)
     (sym (alone_gives cmp h k c.args.place s c.args.text.now (parts c.args.sentence.now) c.in-Some.source alone)
     ∙ ap (λ z. line_gives cmp h z c.args.place s c.args.text.now) c.self.view_is)

@@ -1,9 +1,9 @@
 -- What was taken and what is still to be taken make up the whole.
-use Rattle.std.proofs.Common.{◌≡◌, ◌+◌, ◌<◌, ◌≤◌, false, length}
+use Rattle.std.proofs.Common.{◌≡◌, ◌<◌, length}
 use Rattle.datagram450.specs.Datagram.{cut}
 use Rattle.gate_model.specs.Net.{sentences_after, sentences_emit}
 use Rattle.row_traffic.specs.NetCalls.{line_of}
-use Rattle.gate_outbox.specs.Output.{and_emits, most_emits, has_datagram}
+use Rattle.gate_outbox.specs.Output.{and_told, most_told}
 use Rattle.row_traffic.proofs.network.sentences.take_joined.Given as goal
 
 abbrev pub invariant-loop-text : goal.invariant-loop-text
@@ -14,10 +14,9 @@ invariant-loop-text l =
     let left = (cut l.rest).lines in
     record {
       after : sentences_after l.readings line left ≡ sentences_after l.initial.readings line all;
-      whole : and_emits l.out (sentences_emit own l.readings line left) ≡ and_emits l.initial.out (sentences_emit own l.initial.readings line all);
-      room : length l.out.emits + length (sentences_emit own l.readings line left) ≤ most_emits;
+      whole : and_told most_told l.out (sentences_emit own l.readings line left)
+          ≡ and_told most_told l.initial.out (sentences_emit own l.initial.readings line all);
       source : l.line.source < l.readings.choices.sources;
-      before : has_datagram l.out.emits ≡ false;
     }
 
 abbrev pub decreases-loop-text : goal.decreases-loop-text

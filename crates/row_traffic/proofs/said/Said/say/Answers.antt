@@ -7,7 +7,7 @@ use Rattle.gate_model.specs.Said.{SaidKept, sentences_by}
 use Rattle.gate_model.specs.SaidFits.{AreCounts}
 use Rattle.config_values.specs.Settings.{settings_of}
 use Rattle.row_traffic.specs.Saying.{texts}
-use Rattle.gate_outbox.specs.Output.{and_emits}
+use Rattle.gate_outbox.specs.Output.{with_posted}
 use Rattle.row_traffic.proofs.Saying.{same_datagram, fits}
 use Rattle.row_traffic.proofs.said.Said.say.Goals as goal
 
@@ -38,5 +38,5 @@ returns-clause-emits c =
     let same = same_datagram settings k r c.speaker.result (c.from.result + 1) _ c.deref.result.now c.speaker.ensures.sfi code lines said in
     let group = ap (λ d. d.group) c.post-datagram.ensures.empty
     ∙ ap (λ rule. rule.group) (c.row_config.ensures.rule ∙ ap (rule_of settings) c.row-row.ensures) in
-    ap (λ g. and_emits c.args.out.now (net g c.write_datagram.new.packet.items ∷ [])) group
-    ∙ ap (λ bytes. and_emits c.args.out.now (net (rule_of settings (row_of r)).group bytes ∷ [])) (c.write_datagram.ensures ∙ same)
+    ap (λ g. with_posted c.args.out.now (net g c.write_datagram.new.packet.items ∷ [])) group
+    ∙ ap (λ bytes. with_posted c.args.out.now (net (rule_of settings (row_of r)).group bytes ∷ [])) (c.write_datagram.ensures ∙ same)

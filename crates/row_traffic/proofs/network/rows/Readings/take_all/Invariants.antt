@@ -1,8 +1,8 @@
 -- What was taken and what is still to be taken make up the whole.
-use Rattle.std.proofs.Common.{◌≡◌, ◌+◌, ◌<◌, ◌≤◌, false, length, drop}
+use Rattle.std.proofs.Common.{◌≡◌, ◌<◌, drop}
 use Rattle.gate_model.specs.Net.{readings_after, readings_emit}
 use Rattle.row_traffic.specs.NetCalls.{line_of}
-use Rattle.gate_outbox.specs.Output.{and_emits, most_emits, has_datagram}
+use Rattle.gate_outbox.specs.Output.{and_told, most_told}
 use Rattle.row_traffic.proofs.network.rows.Readings.take_all.Given as goal
 
 abbrev pub invariant-loop-reading : goal.invariant-loop-reading
@@ -12,8 +12,7 @@ invariant-loop-reading l =
     let left = drop l.reading-index l.readings in
     record {
       after : readings_after l.self line left ≡ readings_after l.initial.self line l.readings;
-      whole : and_emits l.out (readings_emit own l.self line left) ≡ and_emits l.initial.out (readings_emit own l.initial.self line l.readings);
-      room : length l.out.emits + length (readings_emit own l.self line left) ≤ most_emits;
+      whole : and_told most_told l.out (readings_emit own l.self line left)
+          ≡ and_told most_told l.initial.out (readings_emit own l.initial.self line l.readings);
       source : l.line.source < l.self.choices.sources;
-      before : has_datagram l.out.emits ≡ false;
     }
