@@ -6,7 +6,7 @@ use Rattle.history.proofs.Computed.{cases}
 use Rattle.capture_text.specs.Reading.{seconds_at, micros_at, time_at, bytes_before_end, bytes_at, number_of, frame_at, seen_behind, read}
 
 -- and what a line unfolds
-unfoldable lines : ⊤
+unfoldable pub lines : ⊤
 unfolding seconds_at micros_at time_at bytes_before_end bytes_at number_of frame_at seen_behind read
 lines = tt
 

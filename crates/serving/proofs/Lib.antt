@@ -4,3 +4,4 @@ pub mod Items
 pub mod Passing
 pub mod Turning
 pub mod Runs
+pub mod TurnCases

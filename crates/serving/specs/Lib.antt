@@ -1,3 +1,4 @@
 pub mod Handing
 pub mod Served
 pub mod Turns
+pub mod TurnCases

@@ -4,6 +4,7 @@
 #![tactic(auto)]
 
 mod arrival;
+pub mod cases;
 mod handing;
 mod turns;
 
