@@ -1,6 +1,7 @@
 -- What is told one after another; and one entry that passes a test ends after another, and is told of, until none is left.
 use Rattle.std.proofs.Common.{◌≡◌, ℕ, ◌+◌, ◌<◌, ◌≤◌, Bool, true, false, Option, Some, None, option_map, List, [], ◌∷◌, ◌++◌, length, filter, refl, sym, ap, ◌∙◌, subst, append_assoc, append-nil, length-append, arith}
 use Rattle.std.proofs.lemmas.Bool.Decides.{nat_tests}
+use Rattle.std.proofs.lemmas.List.{map-append}
 use Rattle.std.specs.List.{find, flat_map}
 use Rattle.slot_views.specs.Slots.{Entry, SlotMap, without_first, without, remaining}
 use Rattle.slot_views.proofs.Endings.{all_stay, one_fewer}
@@ -9,8 +10,9 @@ use Rattle.gate_events.specs.declared.emit.Detail.TheVariants as detail
 use Rattle.fast_packet.specs.declared.key.FastKey.{FastKey}
 use Rattle.iso_transport.specs.declared.answers.IsoEnded.{IsoEnded}
 use Rattle.tag_block.specs.declared.group_key.GroupKey.{GroupKey}
-use Rattle.gate_events.specs.Emit.{Emit}
-use Rattle.history.specs.Emits.{broken, of_source}
+use Rattle.gate_events.specs.declared.emit.Report.{Report}
+use Rattle.gate_events.specs.Emit.{Emit, report}
+use Rattle.history.specs.Emits.{broken, of_source, reported}
 use Rattle.gate_outbox.specs.Output.{Emitted, and_told, one_told, told_with}
 
 -- ---- what is told in two parts is told as one
@@ -21,6 +23,9 @@ told_twice room es (e ∷ a) b = told_twice room (one_told room es e) a b
 
 pub told_more : (room : ℕ) (x : Emitted) (a b : List Emit) → and_told room (and_told room x a) b ≡ and_told room x (a ++ b)
 told_more room x a b = ap (λ es. let y : Emitted = record { told = es; posted = x.posted } in y) (told_twice room x.told a b)
+
+pub reported_more : (room : ℕ) (x : Emitted) (a b : List Report) → and_told room (and_told room x (reported a)) (reported b) ≡ and_told room x (reported (a ++ b))
+reported_more room x a b = told_more room x (reported a) (reported b) ∙ ap (and_told room x) (sym (map-append report a b))
 
 -- all is told where there is room for it
 pub told_fits : (room : ℕ) (es a : List Emit) → length es + length a ≤ room → told_with room es a ≡ es ++ a
@@ -106,21 +111,21 @@ module _ {K Y : Type 0} (room : ℕ) (p : K × Entry → Bool) (f : K × Entry �
     pub whole : and_told room x (to_tell s) ≡ and_told room x₀ (to_tell s₀)
 
 module _ {K Y : Type 0} {room : ℕ} {p : K × Entry → Bool} {f : K × Entry → Y} {say : Y → List Emit} {s₀ s : SlotMap K} {x₀ x : Emitted}
-    (ending : IsEnding room p f say s₀ x₀ s x) where
+    (ending : IsEnding room p f say s₀ x₀ s x) {o : Option Y} (answer : o ≡ option_map f (find p s.entries)) {s' : SlotMap K} (after : s' ≡ without s p) where
   abbrev with_slots : List (K × Entry) → SlotMap K
   with_slots es = record { limit = s.limit; entries = es }
 
-  -- ---- an entry is there: it was taken out, and told of
+  -- ---- an entry was there: it was taken out, and is told of
 
-  module _ {y : Y} (is : option_map f (find p s.entries) ≡ Some y) {s' : SlotMap K} (after : s' ≡ without s p) where
+  module _ {y : Y} (is : o ≡ Some y) where
+    found : (e : K × Entry) × (find p s.entries ≡ Some e) × (f e ≡ y)
+    found = found_of f (find p s.entries) y (sym answer ∙ is)
+
     pub fewer : length s'.entries < length s.entries
-    fewer =
-        let found = found_of f (find p s.entries) y is in
-        subst (λ z. length z.entries < length s.entries) (sym after) (fewer_left p (λ e. say (f e)) s.entries found.0 found.1)
+    fewer = subst (λ z. length z.entries < length s.entries) (sym after) (fewer_left p (λ e. say (f e)) s.entries found.0 found.1)
 
     first : to_tell room p f say s ≡ say y ++ to_tell room p f say (without s p)
     first =
-        let found = found_of f (find p s.entries) y is in
         told_first p (λ e. say (f e)) s.entries found.0 found.1 ∙ ap (λ z. say z ++ to_tell room p f say (without s p)) found.2
 
     goes_on : IsEnding room p f say s₀ x₀ (without s p) (and_told room x (say y))
@@ -132,14 +137,14 @@ module _ {K Y : Type 0} {room : ℕ} {p : K × Entry → Bool} {f : K × Entry �
     pub one_ended : {x' : Emitted} → x' ≡ and_told room x (say y) → IsEnding room p f say s₀ x₀ s' x'
     one_ended {x'} emits = subst (λ z. IsEnding room p f say s₀ x₀ z x') (sym after) (subst (λ z. IsEnding room p f say s₀ x₀ (without s p) z) (sym emits) goes_on)
 
-  -- ---- none is left
+  -- ---- none was left
 
-  module _ (is : option_map f (find p s.entries) ≡ None) where
+  module _ (is : o ≡ None) where
     none : find p s.entries ≡ None
-    none = none_found f (find p s.entries) is
+    none = none_found f (find p s.entries) (sym answer ∙ is)
 
-    pub ends_slots : {s' : SlotMap K} → s' ≡ without s p → s' ≡ remaining p s₀
-    ends_slots after =
+    pub ends_slots : s' ≡ remaining p s₀
+    ends_slots =
         after
         ∙ ap with_slots (all_left p (λ e. say (f e)) s.entries none ∙ sym (all_stay p s.entries none))
         ∙ ending.rest
