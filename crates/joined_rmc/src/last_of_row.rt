@@ -1,0 +1,113 @@
+//! The last message of a row that was selected.
+ghost use Rattle.std.specs.Prelude.{◌≡◌, None, IfSome, if◌then◌else◌};
+ghost use Rattle.readings.specs.Ranges.{IsValid};
+ghost use Rattle.history.specs.Settings.{same_row};
+ghost use Rattle.gate_model.specs.AddressStands.{name_held};
+ghost use Rattle.joined_rmc.specs.Chosen.{unless_old};
+ghost use Rattle.joined_rmc.specs.Kept.{IsMessageValid, none_yet, held_in, in_last, is_named, message_within, lent, newer_message, last_after};
+
+use crate::selected_message::SelectedMessage;
+use gate_core::Gateway;
+use n2k_id::Name;
+use readings::{Reading, Row};
+
+/// The last message of a row that was selected, while its sender holds its address.
+#[derive(Clone, Copy)]
+pub(crate) struct LastOfRow {
+    /// How long it counts, in milliseconds.
+    pub(crate) timeout: u32,
+    pub(crate) message: Option<SelectedMessage>,
+}
+
+impl LastOfRow {
+    /// With nothing kept.
+    pub(crate) fn new(timeout: u32) -> LastOfRow
+        ensures { result ≡ none_yet timeout }
+    {
+        LastOfRow {
+            timeout,
+            message: None,
+        }
+    }
+
+    /// Takes what a step of the gateway selected, a message or none: no message stays whose sender lost its address.
+    pub(crate) fn keep(&mut self, gateway: &Gateway, row: Row, new: &Option<SelectedMessage>)
+        requires message { IsMessageValid self.old.message }
+        requires new { IsMessageValid new.now }
+        ensures after { self.new ≡ last_after (name_held gateway.now.addresses.claims.holders) row new.now self.old }
+        ensures valid { IsMessageValid self.new.message }
+    {
+        self.forget_lost(gateway);
+        self.keep_newer(row, new);
+    }
+
+    /// Forgets a message whose sender lost its address.
+    fn forget_lost(&mut self, gateway: &Gateway)
+        requires { IsMessageValid self.old.message }
+        ensures after { self.new ≡ record self.old { message = held_in (name_held gateway.now.addresses.claims.holders) self.old.message } }
+        ensures valid { IsMessageValid self.new.message }
+    {
+        if is_lost(&self.message, gateway) {
+            self.message = None;
+        }
+    }
+
+    /// Keeps a newer message of the row.
+    fn keep_newer(&mut self, row: Row, new: &Option<SelectedMessage>)
+        requires message { IsMessageValid self.old.message }
+        requires new { IsMessageValid new.now }
+        ensures after { self.new ≡ record self.old { message = newer_message row new.now self.old.message } }
+        ensures valid { IsMessageValid self.new.message }
+    {
+        match new {
+            Some(message) if message.is_of(row) => {
+                self.message = Some(*message);
+            }
+            _ => {}
+        }
+    }
+
+    /// What it says at a moment.
+    pub(crate) fn says(&self, moment: u64) -> Option<&Reading>
+        requires { IsMessageValid self.now.message }
+        ensures says { lent result ≡ in_last moment self.now }
+        ensures valid { IfSome result (λ r. IsValid r.now) }
+    {
+        match &self.message {
+            None => None,
+            Some(message) => unless_old(self.timeout, moment, message),
+        }
+    }
+}
+
+/// What the message says, where it isn't older at the moment than the timeout.
+fn unless_old(timeout: u32, moment: u64, message: &SelectedMessage) -> Option<&Reading>
+    requires { IsValid message.now.reading }
+    ensures says { lent result ≡ unless_old timeout moment message.now.moment message.now.reading }
+    ensures valid { IfSome result (λ r. IsValid r.now) }
+{
+    if moment.saturating_sub(message.moment) <= 1000 * u64::from(timeout) {
+        Some(&message.reading)
+    } else {
+        None
+    }
+}
+
+/// Whether a message is kept whose sender lost its address.
+fn is_lost(message: &Option<SelectedMessage>, gateway: &Gateway) -> bool
+    ensures { held_in (name_held gateway.now.addresses.claims.holders) message.now ≡ (if result then None else message.now) }
+{
+    let Some(message) = message else {
+        return false;
+    };
+    !is_named(message.name, gateway.holder(message.source))
+}
+
+fn is_named(name: Name, holder: Option<Name>) -> bool
+    ensures { result ≡ is_named name holder }
+{
+    match holder {
+        None => false,
+        Some(other) => other == name,
+    }
+}
