@@ -1,16 +1,16 @@
 //! The messages that end before they are complete: what is overdue, and what was open of an address that changes hands.
-ghost use Rattle.std.specs.Prelude.{◌≡◌, ◌+◌, ◌^◌, ◌<◌, ◌≤◌, [], ◌∷◌, false, length};
-ghost use Rattle.report_rules.specs.Rules as rules;
+ghost use Rattle.std.specs.Prelude.{◌≡◌, ◌^◌, ◌<◌};
 ghost use Rattle.slot_views.specs.Slots.{remaining};
 ghost use Rattle.slot_views.specs.Traces.{unexpired};
 ghost use Rattle.fast_packet.specs.Assembly.{is_from as is_fast_from};
 ghost use Rattle.iso_transport.specs.Assembly.{is_from, is_addressed};
-ghost use Rattle.gate_model.specs.Endings.{fast_overdue, sessions_overdue, fast_lost, sessions_lost};
-ghost use Rattle.gate_outbox.specs.Output.{and_emits, most_emits, has_datagram};
+ghost use Rattle.gate_model.specs.Endings.{sessions_overdue, sessions_lost};
+ghost use Rattle.gate_outbox.specs.Output.{and_told, most_told};
 ghost use Rattle.bus_messages.specs.Overdue.{overdue_session, lost_of};
 
+use crate::fast;
 use fast_packet::FastAssembler;
-use gate_outbox::Outbox;
+use gate_outbox::StepEmits;
 use gate_outbox::frames::reply_from;
 use gate_outbox::reports::of_source;
 use iso_transport::{IsoAssembler, IsoEnded, Reply};
@@ -19,27 +19,11 @@ use report_rules::{CLAIM_LOST, EXPIRED};
 /// The reason of an abort: a time limit (ISO 11783-3).
 const TIMED_OUT: u8 = 3;
 
-/// Ends the fast packets that are overdue at the moment, in the order of their keys.
-pub fn end_fast(fast: &mut FastAssembler, moment: u64, out: &mut Outbox)
-    requires room { length out.old.emits + length (fast_overdue fast.old moment) ≤ most_emits }
-    requires before { has_datagram out.old.emits ≡ false }
-    ensures fast { fast.new ≡ unexpired moment fast.old }
-    ensures emits { out.new ≡ and_emits out.old (fast_overdue fast.old moment) }
-    ensures before { has_datagram out.new.emits ≡ false }
-{
-    while let Some(key) = fast.expire_one(moment) {
-        out.tell(of_source(EXPIRED, key.source, key.pgn));
-    }
-}
-
 /// Ends the sessions that are overdue at the moment, in the order of their keys. Where the gateway has an address, it tells the
 /// sender of an addressed session.
-pub fn end_sessions(sessions: &mut IsoAssembler, own: Option<u8>, moment: u64, out: &mut Outbox)
-    requires room { length out.old.emits + length (sessions_overdue own sessions.old moment) ≤ most_emits }
-    requires before { has_datagram out.old.emits ≡ false }
+pub fn end_sessions(sessions: &mut IsoAssembler, own: Option<u8>, moment: u64, out: &mut StepEmits)
     ensures sessions { sessions.new ≡ unexpired moment sessions.old }
-    ensures emits { out.new ≡ and_emits out.old (sessions_overdue own sessions.old moment) }
-    ensures before { has_datagram out.new.emits ≡ false }
+    ensures emits { out.new ≡ and_told most_told out.old (sessions_overdue own sessions.old moment) }
 {
     while let Some(ended) = sessions.expire_one(moment) {
         tell_overdue(own, ended, out);
@@ -47,12 +31,9 @@ pub fn end_sessions(sessions: &mut IsoAssembler, own: Option<u8>, moment: u64, o
 }
 
 /// Tells of a session that was overdue.
-fn tell_overdue(own: Option<u8>, ended: IsoEnded, out: &mut Outbox)
+fn tell_overdue(own: Option<u8>, ended: IsoEnded, out: &mut StepEmits)
     requires pgn { ended.pgn < 2 ^ 24 }
-    requires room { length out.old.emits + length (overdue_session own ended) ≤ most_emits }
-    requires before { has_datagram out.old.emits ≡ false }
-    ensures emits { out.new ≡ and_emits out.old (overdue_session own ended) }
-    ensures before { has_datagram out.new.emits ≡ false }
+    ensures emits { out.new ≡ and_told most_told out.old (overdue_session own ended) }
 {
     out.tell(of_source(EXPIRED, ended.source, ended.pgn));
     match own {
@@ -68,43 +49,25 @@ fn tell_overdue(own: Option<u8>, ended: IsoEnded, out: &mut Outbox)
 }
 
 /// Drops all that is open of an address that changes hands.
+#[tactic(auto, using(gate_outbox::proofs::Telling::told_more))]
 pub fn drop_source(
     fast: &mut FastAssembler,
     sessions: &mut IsoAssembler,
     source: u8,
-    out: &mut Outbox,
+    out: &mut StepEmits,
 )
-    requires room { length out.old.emits + length (lost_of source fast.old sessions.old) ≤ most_emits }
-    requires before { has_datagram out.old.emits ≡ false }
     ensures fast { fast.new ≡ remaining (is_fast_from source) fast.old }
     ensures sessions { sessions.new ≡ remaining (is_from source) sessions.old }
-    ensures emits { out.new ≡ and_emits out.old (lost_of source fast.old sessions.old) }
-    ensures before { has_datagram out.new.emits ≡ false }
+    ensures emits { out.new ≡ and_told most_told out.old (lost_of source fast.old sessions.old) }
 {
-    drop_fast(fast, source, out);
+    fast::drop_source(fast, source, out);
     drop_sessions(sessions, source, out);
 }
 
-/// Drops the fast packets of an address that changes hands, in the order of their keys.
-fn drop_fast(fast: &mut FastAssembler, source: u8, out: &mut Outbox)
-    requires room { length out.old.emits + length (fast_lost (is_fast_from source) fast.old) ≤ most_emits }
-    requires before { has_datagram out.old.emits ≡ false }
-    ensures fast { fast.new ≡ remaining (is_fast_from source) fast.old }
-    ensures emits { out.new ≡ and_emits out.old (fast_lost (is_fast_from source) fast.old) }
-    ensures before { has_datagram out.new.emits ≡ false }
-{
-    while let Some(key) = fast.drop_source(source) {
-        out.tell(of_source(CLAIM_LOST, key.source, key.pgn));
-    }
-}
-
 /// Drops the sessions of an address that changes hands: the one to all before the one to the gateway.
-fn drop_sessions(sessions: &mut IsoAssembler, source: u8, out: &mut Outbox)
-    requires room { length out.old.emits + length (sessions_lost (is_from source) sessions.old) ≤ most_emits }
-    requires before { has_datagram out.old.emits ≡ false }
+fn drop_sessions(sessions: &mut IsoAssembler, source: u8, out: &mut StepEmits)
     ensures sessions { sessions.new ≡ remaining (is_from source) sessions.old }
-    ensures emits { out.new ≡ and_emits out.old (sessions_lost (is_from source) sessions.old) }
-    ensures before { has_datagram out.new.emits ≡ false }
+    ensures emits { out.new ≡ and_told most_told out.old (sessions_lost (is_from source) sessions.old) }
 {
     while let Some(ended) = sessions.drop_source(source) {
         out.tell(of_source(CLAIM_LOST, ended.source, ended.pgn));
@@ -112,12 +75,9 @@ fn drop_sessions(sessions: &mut IsoAssembler, source: u8, out: &mut Outbox)
 }
 
 /// Drops the sessions to the gateway, whose own address changes, in the order of their senders.
-pub fn drop_addressed(sessions: &mut IsoAssembler, out: &mut Outbox)
-    requires room { length out.old.emits + length (sessions_lost is_addressed sessions.old) ≤ most_emits }
-    requires before { has_datagram out.old.emits ≡ false }
+pub fn drop_addressed(sessions: &mut IsoAssembler, out: &mut StepEmits)
     ensures sessions { sessions.new ≡ remaining is_addressed sessions.old }
-    ensures emits { out.new ≡ and_emits out.old (sessions_lost is_addressed sessions.old) }
-    ensures before { has_datagram out.new.emits ≡ false }
+    ensures emits { out.new ≡ and_told most_told out.old (sessions_lost is_addressed sessions.old) }
 {
     while let Some(ended) = sessions.drop_addressed() {
         out.tell(of_source(CLAIM_LOST, ended.source, ended.pgn));

@@ -1,120 +1,90 @@
-//! A frame of a fast packet from a source that holds its address.
-ghost use Rattle.std.specs.Prelude.{◌≡◌, ◌+◌, ◌≤◌, [], false, length, option_map, IfSome};
+//! The receiver of fast packets: what the gateway hears by it, and whoever else reads messages of the bus.
+ghost use Rattle.std.specs.Prelude.{◌≡◌, option_map, IfSome};
+ghost use Rattle.std.specs.Borrow.{sem};
 ghost use Rattle.n2k_id.specs.Frame.{IsFrame, held_bytes};
 ghost use Rattle.pgn_profile.specs.Profiled.{GivesValid};
+ghost use Rattle.slot_views.specs.Slots.{remaining};
+ghost use Rattle.slot_views.specs.Traces.{unexpired};
+ghost use Rattle.fast_packet.specs.Assembly.{fed_after, is_from};
+ghost use Rattle.fast_packet.specs.Rows.{ends_as};
 ghost use Rattle.history.specs.Emits.{reported};
 ghost use Rattle.history.specs.RuleLaws.{fast_rule, fast_refusal_breaks};
-ghost use Rattle.gate_model.specs.FastPackets.{answer_of, fast_step, restarted_reports, sender_of};
-ghost use Rattle.bus_messages.specs.Contents.{content_of, content_in};
-ghost use Rattle.bus_messages.specs.FastTold.{told_of, told_reports};
-ghost use Rattle.gate_outbox.specs.Output.{and_emits, most_emits, has_datagram};
+ghost use Rattle.gate_model.specs.Endings.{fast_lost, fast_overdue};
+ghost use Rattle.gate_model.specs.FastPackets.{answer_of, fast_answer, fast_step, key_of, payload_in, refusal_in, restarted_reports, sender_of};
+ghost use Rattle.gate_outbox.specs.Output.{and_told, most_told};
+ghost use Rattle.bus_messages.specs.Contents.{content_in, content_of};
+ghost use Rattle.bus_messages.specs.Heard.{heard_reports, lent_payload};
 
 use crate::messages::{Content, read_content, tell_short};
 use fast_packet::{FastAssembler, FastFed, FastKey, FastOutcome, FastRefusal};
-use gate_outbox::Outbox;
 use gate_outbox::reports::of_source;
+use gate_outbox::{Emits, StepEmits};
 use n2k_id::{Frame, Name, Parts};
-use report_rules::{FAST_LENGTH, FAST_ORDER, FAST_ORPHAN, RESTARTED, SLOTS_FULL};
+use report_rules::{
+    CLAIM_LOST, EXPIRED, FAST_LENGTH, FAST_ORDER, FAST_ORPHAN, RESTARTED, SLOTS_FULL,
+};
 
-/// What the assembler answers, with what the message says in the place of its payload.
-#[derive(Clone, Copy)]
-struct Told {
-    restarted: bool,
-    refused: Option<FastRefusal>,
-    message: Option<Content>,
-}
-
-/// Takes a frame of a fast packet, and reports what it breaks. The message that it completes may be a command to the gateway of this
-/// NAME.
-pub fn feed(
-    fast: &mut FastAssembler,
-    name: Name,
+/// Takes a frame of a fast packet, reports what it breaks, and lends the payload that it completes.
+#[tactic(auto, using(crate::proofs::FastTelling::answered))]
+pub fn hear<'a, const ROOM: usize>(
+    fast: &'a mut FastAssembler,
     parts: &Parts,
     frame: &Frame,
     moment: u64,
-    out: &mut Outbox,
-) -> Option<Content>
-    requires valid { IsFrame frame.now }
-    requires room { length out.old.emits
-        + length (fast_step ⟦<FastKey as Ord>⟧.cmp fast.old parts.now (held_bytes frame.now) moment).reports ≤ most_emits }
-    requires before { has_datagram out.old.emits ≡ false }
-    ensures fast { fast.new ≡ (fast_step ⟦<FastKey as Ord>⟧.cmp fast.old parts.now (held_bytes frame.now) moment).slots }
-    ensures emits { out.new ≡ and_emits out.old
-        (reported (fast_step ⟦<FastKey as Ord>⟧.cmp fast.old parts.now (held_bytes frame.now) moment).reports) }
-    ensures message { result
-        ≡ option_map (content_in name.0) (fast_step ⟦<FastKey as Ord>⟧.cmp fast.old parts.now (held_bytes frame.now) moment).done }
-    ensures says { IfSome result (λ message. GivesValid message.profiled) }
-    ensures before { has_datagram out.new.emits ≡ false }
+    out: &mut Emits<ROOM>,
+) -> Option<&'a [u8]>
+    requires { IsFrame frame.now }
+    ensures* after { sem 𝓛 (ends_as fast.entry
+        (fed_after ⟦<FastKey as Ord>⟧.cmp fast.old (key_of parts.now) (held_bytes frame.now) moment)) }
+    ensures emits { out.new ≡ and_told ROOM out.old (reported (heard_reports parts.now
+        (fast_answer ⟦<FastKey as Ord>⟧.cmp fast.old (key_of parts.now) (held_bytes frame.now) moment))) }
+    ensures payload { lent_payload result
+        ≡ (fast_answer ⟦<FastKey as Ord>⟧.cmp fast.old (key_of parts.now) (held_bytes frame.now) moment).payload }
 {
-    let told = answered(
-        name,
-        parts.pgn,
-        fast.feed(parts.source, parts.pgn, frame, moment),
-    );
-    tell(parts, &told, out);
-    told.message
+    let fed = fast.feed(parts.source, parts.pgn, frame, moment);
+    tell_broken(parts, &fed, out);
+    lent(fed.outcome)
 }
 
-/// What is told of the answer.
-fn answered(name: Name, pgn: u32, fed: FastFed<'_>) -> Told
-    ensures told { result ≡ told_of name.0 pgn (answer_of fed.entry) }
-    ensures says { IfSome result.message (λ message. GivesValid message.profiled) }
+/// The payload of the message that a frame completes.
+fn lent<'a>(outcome: FastOutcome<'a>) -> Option<&'a [u8]>
+    ensures { lent_payload result ≡ payload_in outcome.entry }
 {
-    let restarted = fed.restarted;
-    match fed.outcome {
-        FastOutcome::Held | FastOutcome::Repeat => Told {
-            restarted,
-            refused: None,
-            message: None,
-        },
-        FastOutcome::Complete(view) => Told {
-            restarted,
-            refused: None,
-            message: Some(read_content(name, pgn, view.bytes)),
-        },
-        FastOutcome::Refused(refusal) => Told {
-            restarted,
-            refused: Some(refusal),
-            message: None,
-        },
+    match outcome {
+        FastOutcome::Complete(view) => Some(view.bytes),
+        FastOutcome::Held | FastOutcome::Repeat | FastOutcome::Refused(_) => None,
     }
 }
 
-/// Reports what the frame breaks: that a message begins again, why the frame is refused, and that the message is too short.
-fn tell(parts: &Parts, told: &Told, out: &mut Outbox)
-    requires room { length out.old.emits + length (told_reports parts.now told.now) ≤ most_emits }
-    requires before { has_datagram out.old.emits ≡ false }
-    ensures emits { out.new ≡ and_emits out.old (reported (told_reports parts.now told.now)) }
-    ensures before { has_datagram out.new.emits ≡ false }
+/// Reports that a message begins again, and why the frame is refused.
+#[tactic(auto, using(gate_outbox::proofs::Telling::reported_more))]
+fn tell_broken<const ROOM: usize>(parts: &Parts, fed: &FastFed<'_>, out: &mut Emits<ROOM>)
+    ensures { out.new ≡ and_told ROOM out.old (reported (heard_reports parts.now (answer_of fed.now))) }
 {
-    tell_restarted(parts, told.restarted, out);
-    tell_refused(parts, told.refused, out);
-    tell_short(parts.source, told.message, out);
+    tell_restarted(parts, fed.restarted, out);
+    tell_refused(parts, &fed.outcome, out);
 }
 
-fn tell_restarted(parts: &Parts, restarted: bool, out: &mut Outbox)
-    requires room { length out.old.emits + length (restarted_reports parts.now restarted) ≤ most_emits }
-    requires before { has_datagram out.old.emits ≡ false }
-    ensures emits { out.new ≡ and_emits out.old (reported (restarted_reports parts.now restarted)) }
-    ensures before { has_datagram out.new.emits ≡ false }
+fn tell_restarted<const ROOM: usize>(parts: &Parts, restarted: bool, out: &mut Emits<ROOM>)
+    ensures { out.new ≡ and_told ROOM out.old (reported (restarted_reports parts.now restarted)) }
 {
     if restarted {
         out.tell(of_source(RESTARTED, parts.source, parts.pgn));
     }
 }
 
-fn tell_refused(parts: &Parts, refused: Option<FastRefusal>, out: &mut Outbox)
-    requires room { length out.old.emits + length (fast_refusal_breaks (sender_of parts.now) refused) ≤ most_emits }
-    requires before { has_datagram out.old.emits ≡ false }
-    ensures emits { out.new ≡ and_emits out.old (reported (fast_refusal_breaks (sender_of parts.now) refused)) }
-    ensures before { has_datagram out.new.emits ≡ false }
+fn tell_refused<const ROOM: usize>(parts: &Parts, outcome: &FastOutcome<'_>, out: &mut Emits<ROOM>)
+    ensures { out.new ≡ and_told ROOM out.old (reported (fast_refusal_breaks (sender_of parts.now) (refusal_in outcome.now))) }
 {
-    match refused {
-        Some(refusal) => out.tell(of_source(rule_of(refusal), parts.source, parts.pgn)),
-        None => {}
+    match outcome {
+        FastOutcome::Refused(refusal) => {
+            out.tell(of_source(rule_of(*refusal), parts.source, parts.pgn));
+        }
+        _ => {}
     }
 }
 
+/// The rule by which a frame is refused.
 fn rule_of(refusal: FastRefusal) -> u8
     ensures { result ≡ fast_rule refusal }
 {
@@ -123,5 +93,60 @@ fn rule_of(refusal: FastRefusal) -> u8
         FastRefusal::Orphan => FAST_ORPHAN,
         FastRefusal::Length => FAST_LENGTH,
         FastRefusal::Full => SLOTS_FULL,
+    }
+}
+
+/// Takes a frame of a fast packet, and reports what it breaks. The message that it completes may be a command to the gateway of this
+/// NAME.
+#[tactic(auto, using(crate::proofs::FastTelling::same_message))]
+pub fn feed(
+    fast: &mut FastAssembler,
+    name: Name,
+    parts: &Parts,
+    frame: &Frame,
+    moment: u64,
+    out: &mut StepEmits,
+) -> Option<Content>
+    requires valid { IsFrame frame.now }
+    ensures fast { fast.new ≡ (fast_step ⟦<FastKey as Ord>⟧.cmp fast.old parts.now (held_bytes frame.now) moment).slots }
+    ensures emits { out.new ≡ and_told most_told out.old
+        (reported (fast_step ⟦<FastKey as Ord>⟧.cmp fast.old parts.now (held_bytes frame.now) moment).reports) }
+    ensures message { result
+        ≡ option_map (content_in name.0) (fast_step ⟦<FastKey as Ord>⟧.cmp fast.old parts.now (held_bytes frame.now) moment).done }
+    ensures says { IfSome result (λ message. GivesValid message.profiled) }
+{
+    let payload = hear(fast, parts, frame, moment, out);
+    let message = read_lent(name, parts.pgn, payload);
+    tell_short(parts.source, message, out);
+    message
+}
+
+fn read_lent(name: Name, pgn: u32, payload: Option<&[u8]>) -> Option<Content>
+    ensures content { result ≡ option_map (λ p. content_of name.0 pgn p) (lent_payload payload.entry) }
+    ensures says { IfSome result (λ message. GivesValid message.profiled) }
+{
+    match payload {
+        Some(payload) => Some(read_content(name, pgn, payload)),
+        None => None,
+    }
+}
+
+/// Ends the fast packets that are overdue at the moment, in the order of their keys.
+pub fn end_overdue<const ROOM: usize>(fast: &mut FastAssembler, moment: u64, out: &mut Emits<ROOM>)
+    ensures fast { fast.new ≡ unexpired moment fast.old }
+    ensures emits { out.new ≡ and_told ROOM out.old (fast_overdue fast.old moment) }
+{
+    while let Some(key) = fast.expire_one(moment) {
+        out.tell(of_source(EXPIRED, key.source, key.pgn));
+    }
+}
+
+/// Drops the fast packets of an address that changes hands, in the order of their keys.
+pub fn drop_source<const ROOM: usize>(fast: &mut FastAssembler, source: u8, out: &mut Emits<ROOM>)
+    ensures fast { fast.new ≡ remaining (is_from source) fast.old }
+    ensures emits { out.new ≡ and_told ROOM out.old (fast_lost (is_from source) fast.old) }
+{
+    while let Some(key) = fast.drop_source(source) {
+        out.tell(of_source(CLAIM_LOST, key.source, key.pgn));
     }
 }

@@ -1,21 +1,19 @@
 //! What a frame is to the gateway, and what a frame breaks that is neither of a fast packet nor of the transport protocol.
-ghost use Rattle.std.specs.Prelude.{◌≡◌, ◌+◌, ◌≤◌, ◌||◌, ◌∷◌, [], false, nat_lt, length, option_map, if◌then◌else◌, IfSome, is_some};
+ghost use Rattle.std.specs.Prelude.{◌≡◌, option_map, if◌then◌else◌, IfSome};
 ghost use Rattle.pgn_profile.specs.Profiled.{GivesValid, kind_of};
-ghost use Rattle.claim_table.specs.Claims.{holder_at};
 ghost use Rattle.iso_transport.specs.Audience.{is_own, is_to};
-ghost use Rattle.gate_events.specs.Emit.{report};
 ghost use Rattle.history.specs.Emits.{reported};
 ghost use Rattle.history.specs.Meanings.{address_claim, request, if_held, by_kind, meaning_of};
 ghost use Rattle.history.specs.Traces.{is_transport};
-ghost use Rattle.gate_model.specs.Addresses.{is_malformed, has_own_name, plain_reports, plain_done};
+ghost use Rattle.gate_model.specs.Addresses.{is_malformed, plain_reports, plain_done};
 ghost use Rattle.bus_messages.specs.Contents.{content_in};
 ghost use Rattle.bus_messages.specs.MeaningOf.{meant};
-ghost use Rattle.gate_outbox.specs.Output.{and_emits, most_emits, has_datagram};
+ghost use Rattle.gate_outbox.specs.Output.{and_told, most_told};
 
 use crate::messages::{Content, read_content, tell_short};
 use claim_table::ClaimTable;
 use gate_events::{Detail, Report};
-use gate_outbox::Outbox;
+use gate_outbox::StepEmits;
 use gate_outbox::reports::of_source;
 use n2k_id::address::ALL;
 use n2k_id::pgn::{ADDRESS_CLAIMED, CONNECTION_MANAGEMENT, DATA_TRANSFER, REQUEST};
@@ -70,7 +68,7 @@ pub fn meaning_of(claims: &ClaimTable, parts: &Parts) -> Meaning
 }
 
 /// Whether the address is the gateway's.
-fn is_own(own: Option<u8>, address: u8) -> bool
+pub fn is_own(own: Option<u8>, address: u8) -> bool
     ensures { result ≡ is_own own address }
 {
     match own {
@@ -123,14 +121,11 @@ pub fn tell_plain(
     meaning: Meaning,
     parts: &Parts,
     bytes: &[u8],
-    out: &mut Outbox,
+    out: &mut StepEmits,
 ) -> Option<Content>
-    requires room { length out.old.emits + length (plain_reports name.0 (meant meaning) parts.now bytes.now) ≤ most_emits }
-    requires before { has_datagram out.old.emits ≡ false }
-    ensures emits { out.new ≡ and_emits out.old (reported (plain_reports name.0 (meant meaning) parts.now bytes.now)) }
+    ensures emits { out.new ≡ and_told most_told out.old (reported (plain_reports name.0 (meant meaning) parts.now bytes.now)) }
     ensures message { result ≡ option_map (content_in name.0) (plain_done (meant meaning) parts.now bytes.now) }
     ensures says { IfSome result (λ message. GivesValid message.profiled) }
-    ensures before { has_datagram out.new.emits ≡ false }
 {
     match meaning {
         Meaning::AddressClaim => {
@@ -159,11 +154,8 @@ pub fn tell_plain(
 }
 
 /// Reports a claim with the gateway's own NAME, and one that is none.
-fn tell_claim(name: Name, parts: &Parts, bytes: &[u8], out: &mut Outbox)
-    requires room { length out.old.emits + length (plain_reports name.0 address_claim parts.now bytes.now) ≤ most_emits }
-    requires before { has_datagram out.old.emits ≡ false }
-    ensures emits { out.new ≡ and_emits out.old (reported (plain_reports name.0 address_claim parts.now bytes.now)) }
-    ensures before { has_datagram out.new.emits ≡ false }
+fn tell_claim(name: Name, parts: &Parts, bytes: &[u8], out: &mut StepEmits)
+    ensures emits { out.new ≡ and_told most_told out.old (reported (plain_reports name.0 address_claim parts.now bytes.now)) }
 {
     if is_malformed(parts, bytes) {
         out.tell(of_source(CLAIM_OR_REQUEST_MALFORMED, parts.source, parts.pgn));
@@ -183,11 +175,8 @@ fn is_malformed(parts: &Parts, bytes: &[u8]) -> bool
 }
 
 /// Reports a request that doesn't say for what.
-fn tell_request(parts: &Parts, bytes: &[u8], out: &mut Outbox)
-    requires room { length out.old.emits + length (plain_reports 0 request parts.now bytes.now) ≤ most_emits }
-    requires before { has_datagram out.old.emits ≡ false }
-    ensures emits { out.new ≡ and_emits out.old (reported (plain_reports 0 request parts.now bytes.now)) }
-    ensures before { has_datagram out.new.emits ≡ false }
+fn tell_request(parts: &Parts, bytes: &[u8], out: &mut StepEmits)
+    ensures emits { out.new ≡ and_told most_told out.old (reported (plain_reports 0 request parts.now bytes.now)) }
 {
     if bytes.len() < REQUEST_BYTES {
         out.tell(of_source(CLAIM_OR_REQUEST_MALFORMED, parts.source, parts.pgn));

@@ -1,12 +1,12 @@
 //! What a complete message says, read while its payload is lent.
-ghost use Rattle.std.specs.Prelude.{◌≡◌, ◌+◌, ◌≤◌, false, length, IfSome};
+ghost use Rattle.std.specs.Prelude.{◌≡◌};
 ghost use Rattle.pgn_profile.specs.Profiled.{GivesValid};
 ghost use Rattle.history.specs.BusRules.{is_short};
 ghost use Rattle.history.specs.Emits.{reported};
 ghost use Rattle.bus_messages.specs.Contents.{content_of, ordered_in, is_for, short_reports};
-ghost use Rattle.gate_outbox.specs.Output.{and_emits, most_emits, has_datagram};
+ghost use Rattle.gate_outbox.specs.Output.{and_told, most_told};
 
-use gate_outbox::Outbox;
+use gate_outbox::StepEmits;
 use gate_outbox::reports::of_source;
 use n2k_id::pgn::COMMANDED_ADDRESS;
 use n2k_id::{Name, read_name};
@@ -66,11 +66,8 @@ fn is_short(profiled: Profiled) -> bool
 }
 
 /// Reports a message that has too few bytes for what its PGN says.
-pub(crate) fn tell_short(source: u8, message: Option<Content>, out: &mut Outbox)
-    requires room { length out.old.emits + length (short_reports source message) ≤ most_emits }
-    requires before { has_datagram out.old.emits ≡ false }
-    ensures emits { out.new ≡ and_emits out.old (reported (short_reports source message)) }
-    ensures before { has_datagram out.new.emits ≡ false }
+pub(crate) fn tell_short(source: u8, message: Option<Content>, out: &mut StepEmits)
+    ensures emits { out.new ≡ and_told most_told out.old (reported (short_reports source message)) }
 {
     match message {
         Some(content) if is_short(content.profiled) => {

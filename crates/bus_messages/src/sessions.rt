@@ -1,18 +1,18 @@
 //! A frame of the transport protocol (ISO 11783-3), to all or to the gateway, from a source that holds its address.
-ghost use Rattle.std.specs.Prelude.{◌≡◌, ◌+◌, ◌^◌, ◌<◌, ◌≤◌, ◌&&◌, ◌==◌, nat_le, [], false, length, option_map, IfSome};
+ghost use Rattle.std.specs.Prelude.{◌≡◌, ◌^◌, ◌<◌, ◌&&◌, ◌==◌, nat_le, length, option_map, IfSome};
 ghost use Rattle.n2k_id.specs.Frame.{IsFrame, held_bytes};
 ghost use Rattle.pgn_profile.specs.Profiled.{GivesValid};
 ghost use Rattle.iso_transport.specs.Connection.{control_at};
 ghost use Rattle.iso_transport.specs.Replies.{named_pgn};
 ghost use Rattle.history.specs.Emits.{reported, replied};
-ghost use Rattle.gate_model.specs.Sessions.{IsAnswer, SessionAnswer, session_step, fed_step, restarted_reports, refused_reports, refusal_report};
+ghost use Rattle.gate_model.specs.Sessions.{session_step, fed_step, restarted_reports, refused_reports, refusal_report};
 ghost use Rattle.bus_messages.specs.Contents.{content_in};
-ghost use Rattle.bus_messages.specs.SessionTold.{told_of, told_reports, step_emits, comes_early};
-ghost use Rattle.gate_outbox.specs.Output.{and_emits, most_emits, has_datagram};
+ghost use Rattle.bus_messages.specs.SessionTold.{answer_in, comes_early, content_by, message_in, refusal_in, step_emits, told_reports};
+ghost use Rattle.gate_outbox.specs.Output.{and_told, most_told};
 
 use crate::messages::{Content, read_content, tell_short};
 use gate_events::Report;
-use gate_outbox::Outbox;
+use gate_outbox::StepEmits;
 use gate_outbox::frames::reply_from;
 use gate_outbox::reports::of_source;
 use iso_transport::{IsoAssembler, IsoFed, IsoKey, IsoOutcome, IsoRefusal, Reply};
@@ -28,15 +28,6 @@ const REQUEST_TO_SEND: u8 = 16;
 
 /// How many bytes a frame has that manages a connection.
 const MANAGEMENT_BYTES: usize = 8;
-
-/// What the assembler answers, with what the message says in the place of its payload.
-#[derive(Clone, Copy)]
-struct Told {
-    restarted: Option<u32>,
-    refused: Option<IsoRefusal>,
-    reply: Option<Reply>,
-    message: Option<Content>,
-}
 
 /// The gateway as a node of the bus: its NAME, its address, and whether it may send.
 #[derive(Clone, Copy)]
@@ -54,20 +45,16 @@ pub fn feed(
     parts: &Parts,
     frame: &Frame,
     moment: u64,
-    out: &mut Outbox,
+    out: &mut StepEmits,
 ) -> Option<Content>
     requires valid { IsFrame frame.now }
-    requires room { length out.old.emits + length (step_emits node.own parts.now.source
-        (session_step ⟦<IsoKey as Ord>⟧.cmp sessions.old node.own parts.now (held_bytes frame.now) moment node.ready)) ≤ most_emits }
-    requires before { has_datagram out.old.emits ≡ false }
     ensures sessions { sessions.new
         ≡ (session_step ⟦<IsoKey as Ord>⟧.cmp sessions.old node.own parts.now (held_bytes frame.now) moment node.ready).slots }
-    ensures emits { out.new ≡ and_emits out.old (step_emits node.own parts.now.source
+    ensures emits { out.new ≡ and_told most_told out.old (step_emits node.own parts.now.source
         (session_step ⟦<IsoKey as Ord>⟧.cmp sessions.old node.own parts.now (held_bytes frame.now) moment node.ready)) }
     ensures message { result ≡ option_map (content_in node.name.0)
         (session_step ⟦<IsoKey as Ord>⟧.cmp sessions.old node.own parts.now (held_bytes frame.now) moment node.ready).done }
     ensures says { IfSome result (λ message. GivesValid message.profiled) }
-    ensures before { has_datagram out.new.emits ≡ false }
 {
     if comes_early(node.ready, parts, frame) {
         out.tell(of_source(NOT_READY, parts.source, parts.pgn));
@@ -93,78 +80,52 @@ fn asks_to_send(bytes: &[u8]) -> bool
 }
 
 /// Takes a frame that the gateway may answer.
+#[tactic(auto, using(gate_outbox::proofs::Telling::told_more, crate::proofs::SessionTelling::answered, crate::proofs::SessionTelling::reply_named, crate::proofs::SessionTelling::same_reports, crate::proofs::SessionTelling::same_message))]
 fn feed_on(
     sessions: &mut IsoAssembler,
     node: Node,
     parts: &Parts,
     frame: &Frame,
     moment: u64,
-    out: &mut Outbox,
+    out: &mut StepEmits,
 ) -> Option<Content>
     requires valid { IsFrame frame.now }
-    requires room { length out.old.emits + length (step_emits node.own parts.now.source
-        (fed_step ⟦<IsoKey as Ord>⟧.cmp sessions.old node.own parts.now (held_bytes frame.now) moment)) ≤ most_emits }
-    requires before { has_datagram out.old.emits ≡ false }
     ensures sessions { sessions.new ≡ (fed_step ⟦<IsoKey as Ord>⟧.cmp sessions.old node.own parts.now (held_bytes frame.now) moment).slots }
-    ensures emits { out.new ≡ and_emits out.old (step_emits node.own parts.now.source
+    ensures emits { out.new ≡ and_told most_told out.old (step_emits node.own parts.now.source
         (fed_step ⟦<IsoKey as Ord>⟧.cmp sessions.old node.own parts.now (held_bytes frame.now) moment)) }
     ensures message { result ≡ option_map (content_in node.name.0)
         (fed_step ⟦<IsoKey as Ord>⟧.cmp sessions.old node.own parts.now (held_bytes frame.now) moment).done }
     ensures says { IfSome result (λ message. GivesValid message.profiled) }
-    ensures before { has_datagram out.new.emits ≡ false }
 {
-    let told = answered(node.name, sessions.feed(node.own, parts, frame, moment));
-    tell(parts, &told, out);
-    reply(node.own, parts.source, told.reply, out);
-    told.message
+    let fed = sessions.feed(node.own, parts, frame, moment);
+    let message = read_lent(node.name, &fed.outcome);
+    tell(parts, &fed, message, out);
+    reply(node.own, parts.source, fed.reply, out);
+    message
 }
 
-/// What is told of the answer.
-fn answered(name: Name, fed: IsoFed<'_>) -> Told
-    ensures told { (answer : SessionAnswer) → IsAnswer answer fed.entry → result ≡ told_of name.0 answer }
-    ensures says { IfSome result.message (λ message. GivesValid message.profiled) }
+fn read_lent(name: Name, outcome: &IsoOutcome<'_>) -> Option<Content>
+    ensures content { result ≡ content_by name.0 (message_in outcome.now) }
+    ensures says { IfSome result (λ message. GivesValid message.profiled) }
 {
-    let restarted = fed.restarted;
-    let reply = fed.reply;
-    match fed.outcome {
-        IsoOutcome::Ignored | IsoOutcome::Held | IsoOutcome::Repeat => Told {
-            restarted,
-            refused: None,
-            reply,
-            message: None,
-        },
-        IsoOutcome::Complete { pgn, view } => Told {
-            restarted,
-            refused: None,
-            reply,
-            message: Some(read_content(name, pgn, view.bytes)),
-        },
-        IsoOutcome::Refused(refusal) => Told {
-            restarted,
-            refused: Some(refusal),
-            reply,
-            message: None,
-        },
+    match outcome {
+        IsoOutcome::Complete { pgn, view } => Some(read_content(name, *pgn, view.bytes)),
+        _ => None,
     }
 }
 
 /// Reports what the frame breaks: that a message begins again, why the frame is refused, and that the message is too short.
-fn tell(parts: &Parts, told: &Told, out: &mut Outbox)
-    requires room { length out.old.emits + length (told_reports parts.now told.now) ≤ most_emits }
-    requires before { has_datagram out.old.emits ≡ false }
-    ensures emits { out.new ≡ and_emits out.old (reported (told_reports parts.now told.now)) }
-    ensures before { has_datagram out.new.emits ≡ false }
+#[tactic(auto, using(gate_outbox::proofs::Telling::reported_more))]
+fn tell(parts: &Parts, fed: &IsoFed<'_>, message: Option<Content>, out: &mut StepEmits)
+    ensures { out.new ≡ and_told most_told out.old (reported (told_reports parts.now (answer_in fed.now) message)) }
 {
-    tell_restarted(parts.source, told.restarted, out);
-    tell_refused(parts, told.refused, out);
-    tell_short(parts.source, told.message, out);
+    tell_restarted(parts.source, fed.restarted, out);
+    tell_refused(parts, &fed.outcome, out);
+    tell_short(parts.source, message, out);
 }
 
-fn tell_restarted(source: u8, restarted: Option<u32>, out: &mut Outbox)
-    requires room { length out.old.emits + length (restarted_reports source restarted) ≤ most_emits }
-    requires before { has_datagram out.old.emits ≡ false }
-    ensures emits { out.new ≡ and_emits out.old (reported (restarted_reports source restarted)) }
-    ensures before { has_datagram out.new.emits ≡ false }
+fn tell_restarted(source: u8, restarted: Option<u32>, out: &mut StepEmits)
+    ensures emits { out.new ≡ and_told most_told out.old (reported (restarted_reports source restarted)) }
 {
     match restarted {
         Some(pgn) => out.tell(of_source(RESTARTED, source, pgn)),
@@ -172,15 +133,12 @@ fn tell_restarted(source: u8, restarted: Option<u32>, out: &mut Outbox)
     }
 }
 
-fn tell_refused(parts: &Parts, refused: Option<IsoRefusal>, out: &mut Outbox)
-    requires room { length out.old.emits + length (refused_reports parts.now refused) ≤ most_emits }
-    requires before { has_datagram out.old.emits ≡ false }
-    ensures emits { out.new ≡ and_emits out.old (reported (refused_reports parts.now refused)) }
-    ensures before { has_datagram out.new.emits ≡ false }
+fn tell_refused(parts: &Parts, outcome: &IsoOutcome<'_>, out: &mut StepEmits)
+    ensures { out.new ≡ and_told most_told out.old (reported (refused_reports parts.now (refusal_in outcome.now))) }
 {
-    match refused {
-        Some(refusal) => out.tell(refusal_report(parts, refusal)),
-        None => {}
+    match outcome {
+        IsoOutcome::Refused(refusal) => out.tell(refusal_report(parts, *refusal)),
+        _ => {}
     }
 }
 
@@ -199,12 +157,9 @@ fn refusal_report(parts: &Parts, refusal: IsoRefusal) -> Report
 }
 
 /// Sends the reply from the own address, where there is one.
-fn reply(own: Option<u8>, destination: u8, reply: Option<Reply>, out: &mut Outbox)
+fn reply(own: Option<u8>, destination: u8, reply: Option<Reply>, out: &mut StepEmits)
     requires pgn { IfSome reply (λ r. named_pgn r < 2 ^ 24) }
-    requires room { length out.old.emits + length (replied own destination reply) ≤ most_emits }
-    requires before { has_datagram out.old.emits ≡ false }
-    ensures emits { out.new ≡ and_emits out.old (replied own destination reply) }
-    ensures before { has_datagram out.new.emits ≡ false }
+    ensures emits { out.new ≡ and_told most_told out.old (replied own destination reply) }
 {
     match (own, reply) {
         (Some(own), Some(reply)) => out.send(reply_from(own, destination, &reply)),

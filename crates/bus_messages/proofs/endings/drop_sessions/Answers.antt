@@ -1,21 +1,17 @@
-use Rattle.std.proofs.Common.{[], ◌∷◌, ap, sym, ◌∙◌, arith}
-use Rattle.gate_outbox.specs.Output.{and_emits}
-use Rattle.gate_outbox.proofs.Telling.{has_room, fewer, one_told, ends_slots, ends_emits}
+use Rattle.std.proofs.Common.{[], ◌∷◌, ap, ◌∙◌}
+use Rattle.gate_outbox.specs.Output.{and_told, most_told}
+use Rattle.gate_outbox.proofs.Telling.{fewer, one_ended, ends_slots, ends_emits}
 use Rattle.bus_messages.proofs.endings.drop_sessions.Goals as goal
 
-pub tell-requires-clause-room : goal.tell-requires-clause-room
-tell-requires-clause-room c = let room = has_room c.loop-ended.invariant (sym c.drop_source.ensures.answer ∙ c.in-Some.is) in omega (arith, room)
-
 pub loop-ended-smaller : goal.loop-ended-smaller
-loop-ended-smaller c = fewer c.loop-ended.invariant (sym c.drop_source.ensures.answer ∙ c.in-Some.is) c.drop_source.ensures.after
+loop-ended-smaller c = fewer c.loop-ended.invariant c.drop_source.ensures.answer c.drop_source.ensures.after c.in-Some.is
 
 pub loop-ended-preserved : goal.loop-ended-preserved
 loop-ended-preserved c =
-    let emits = c.tell.ensures.emits ∙ ap (λ r. and_emits c.loop-ended.out (r ∷ [])) c.of_source.ensures in
-    one_told c.loop-ended.invariant (sym c.drop_source.ensures.answer ∙ c.in-Some.is) c.drop_source.ensures.after emits c.tell.ensures.before
+    one_ended c.loop-ended.invariant c.drop_source.ensures.answer c.drop_source.ensures.after c.in-Some.is (c.tell.ensures ∙ ap (λ r. and_told most_told c.loop-ended.out (r ∷ [])) c.of_source.ensures)
 
 pub returns-clause-sessions : goal.returns-clause-sessions
-returns-clause-sessions c = ends_slots c.loop-ended.invariant (sym c.drop_source.ensures.answer ∙ c.in_default.is) c.drop_source.ensures.after
+returns-clause-sessions c = ends_slots c.loop-ended.invariant c.drop_source.ensures.answer c.drop_source.ensures.after c.in_default.is
 
 pub returns-clause-emits : goal.returns-clause-emits
-returns-clause-emits c = ends_emits c.loop-ended.invariant (sym c.drop_source.ensures.answer ∙ c.in_default.is)
+returns-clause-emits c = ends_emits c.loop-ended.invariant c.drop_source.ensures.answer c.drop_source.ensures.after c.in_default.is

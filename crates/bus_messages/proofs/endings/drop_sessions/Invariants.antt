@@ -3,6 +3,7 @@ use Rattle.std.proofs.Common.{length}
 use Rattle.report_rules.specs.Rules as rules
 use Rattle.iso_transport.specs.Assembly.{is_from}
 use Rattle.iso_transport.specs.Answers.{ended_of}
+use Rattle.gate_outbox.specs.Output.{most_told}
 use Rattle.gate_outbox.proofs.Telling.{IsEnding, said_session}
 use Rattle.bus_messages.proofs.endings.drop_sessions.Given as goal
 
@@ -10,4 +11,4 @@ abbrev pub decreases-loop-ended : goal.decreases-loop-ended
 decreases-loop-ended l = length l.sessions.entries
 
 abbrev pub invariant-loop-ended : goal.invariant-loop-ended
-invariant-loop-ended l = IsEnding (is_from l.source) ended_of (said_session rules.claim_lost) l.initial.sessions l.initial.out l.sessions l.out
+invariant-loop-ended l = IsEnding most_told (is_from l.source) ended_of (said_session rules.claim_lost) l.initial.sessions l.initial.out l.sessions l.out

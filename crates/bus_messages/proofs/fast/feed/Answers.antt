@@ -1,25 +1,14 @@
-use Rattle.std.proofs.Common.{◌+◌, ◌≤◌, length, ap, sym, ◌∙◌, subst}
+use Rattle.std.proofs.Common.{ap, ◌∙◌, option_map}
 use Rattle.n2k_id.specs.Frame.{held_bytes}
-use Rattle.history.specs.Emits.{reported}
-use Rattle.gate_outbox.specs.Output.{and_emits, most_emits}
-use Rattle.bus_messages.proofs.FastTelling.{reports_are, message_is}
+use Rattle.fast_packet.specs.contracts.key.FastKeyOrd as key
+use Rattle.gate_model.specs.FastPackets.{fast_answer, key_of}
+use Rattle.bus_messages.specs.Contents.{content_of}
+use Rattle.bus_messages.proofs.FastTelling.{frame_told}
 use Rattle.bus_messages.proofs.fast.feed.Goals as goal
-
-pub tell-requires-clause-room : goal.tell-requires-clause-room
-tell-requires-clause-room c =
-    let same =
-    reports_are c.args.fast.now c.args.name.0 c.args.parts.now (held_bytes c.args.frame.now) c.args.moment c.feed.result c.answered-told.result
-    c.feed.ensures.answer c.answered-told.ensures.told in
-    subst (λ rs. length c.args.out.now.emits + length rs ≤ most_emits) (sym same) c.requires.room
 
 pub returns-clause-emits : goal.returns-clause-emits
 returns-clause-emits c =
-    let same =
-    reports_are c.args.fast.now c.args.name.0 c.args.parts.now (held_bytes c.args.frame.now) c.args.moment c.feed.result c.answered-told.result
-    c.feed.ensures.answer c.answered-told.ensures.told in
-    c.tell.ensures.emits ∙ ap (λ rs. and_emits c.args.out.now (reported rs)) same
-
-pub returns-clause-message : goal.returns-clause-message
-returns-clause-message c =
-    message_is c.args.fast.now c.args.name.0 c.args.parts.now (held_bytes c.args.frame.now) c.args.moment c.feed.result c.answered-told.result
-    c.feed.ensures.answer c.answered-told.ensures.told
+    frame_told c.args.out.now c.hear-payload.new.out c.tell_short.new.out c.args.parts.now c.args.name.0
+    (fast_answer key.TheImpl.ghosts.cmp c.args.fast.now (key_of c.args.parts.now) (held_bytes c.args.frame.now) c.args.moment)
+    c.read_lent-message.result c.hear-payload.ensures.emits c.tell_short.ensures.emits
+    (c.read_lent-message.ensures.content ∙ ap (option_map (λ p. content_of c.args.name.0 c.args.parts.now.pgn p)) c.hear-payload.ensures.payload)
