@@ -1,0 +1,14 @@
+-- The rows that have been gone over are counted.
+use Rattle.std.proofs.Common.{◌≡◌, ℕ, ◌<◌, ◌≤◌, length, slice_index_or}
+use Rattle.gate_model.specs.Said.{lines_more}
+use Rattle.readings.specs.About.{rows_count}
+use Rattle.config_values.specs.Settings.{settings_of}
+use Rattle.row_traffic.proofs.said.Said.count_lines.Given as goal
+
+abbrev pub invariant-loop-number : goal.invariant-loop-number
+invariant-loop-number l = record {
+  same : l.self ≡ record l.initial.self { lines = l.self.lines };
+  long : 1 ≤ l.number → length l.self.lines ≡ rows_count;
+  counted : (k : ℕ) → k < l.number → slice_index_or l.self.lines k 0 ≡ lines_more (settings_of l.config) l.initial.self l.group l.count k;
+  rest : (k : ℕ) → l.number ≤ k → slice_index_or l.self.lines k 0 ≡ slice_index_or l.initial.self.lines k 0;
+}
