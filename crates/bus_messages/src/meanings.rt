@@ -154,7 +154,7 @@ pub fn tell_plain(
 }
 
 /// Reports a claim with the gateway's own NAME, and one that is none.
-fn tell_claim(name: Name, parts: &Parts, bytes: &[u8], out: &mut StepEmits)
+pub fn tell_claim(name: Name, parts: &Parts, bytes: &[u8], out: &mut StepEmits)
     ensures emits { out.new ≡ and_told most_told out.old (reported (plain_reports name.0 address_claim parts.now bytes.now)) }
 {
     if is_malformed(parts, bytes) {

@@ -1,8 +1,13 @@
 -- A message that was read while its payload was lent leaves what the message with its payload leaves.
 use Rattle.std.proofs.Common.{◌≡◌, ℕ, Bool, true, false, Option, Some, None, option_map, refl, if◌then◌else◌}
-use Rattle.std.specs.Prelude.{slice_index}
+use Rattle.std.specs.Prelude.{IfSome, slice_index}
 use Rattle.claim_table.specs.declared.answer.Holder.{Holder}
 use Rattle.readings.specs.declared.reading.Reading.{Reading}
+use Rattle.readings.specs.Ranges.{IsValid}
+use Rattle.pgn_profile.specs.declared.profiled.Profiled.{Profiled}
+use Rattle.pgn_profile.specs.declared.profiled.Profiled.TheVariants as says
+use Rattle.pgn_profile.specs.Profiled.{GivesValid}
+use Rattle.history.specs.Choice.{reading_in}
 use Rattle.source_choice.specs.declared.rank.Rank.{Rank}
 use Rattle.history.specs.Messages.{Carried}
 use Rattle.history.specs.Settings.{Settings}
@@ -10,8 +15,15 @@ use Rattle.gate_model.specs.Said.{SaidKept, Complete, complete_by, reading_by, m
 use Rattle.bus_messages.specs.Contents.{content_in}
 use Rattle.gate_outbox.specs.declared.done.Command.{Command}
 use Rattle.row_traffic.specs.Saying.{message_from}
-use Rattle.gate_core.specs.Steps.{done_of, command_of}
-use Rattle.gate_core.specs.Completing.{sender_by, said_after, said_emits, done_by, command_by}
+use Rattle.gate_outbox.specs.Output.{Output}
+use Rattle.row_traffic.specs.Saying.{and_posted}
+use Rattle.gate_core.specs.Steps.{done_of, command_of, first_there}
+use Rattle.gate_core.specs.Completing.{sender_by, said_after, said_emits, done_by, command_by, and_message}
+
+pub valid_reading : (p : Profiled) → GivesValid p → IfSome (reading_in p) IsValid
+valid_reading (says.Reading r) valid = valid
+valid_reading says.Outside valid = tt
+valid_reading says.Short valid = tt
 
 module _ (c : Settings) (k : SaidKept) (m source name : ℕ) where
   -- a message of the holder, with the payload or without
@@ -67,3 +79,13 @@ module _ (c : Settings) (k : SaidKept) (m source name : ℕ) where
   command_same None what = refl
   command_same (Some holder) None = refl
   command_same (Some holder) (Some x) = if_ordered (orders name (whole holder x)) (slice_index x.payload 8)
+
+  -- all that it leaves in an outbox
+  pub message_output : (holder : Option Holder) (what : Option Carried) (o : Output)
+      → and_message c o k m source holder (option_map (content_in name) what)
+      ≡ record {
+        emits = and_posted o.emits (message_emits c k (complete_by m source holder what));
+        done = first_there (option_map done_of (complete_by m source holder what)) o.done;
+        command = first_there (option_map command_of (ordered_by name (complete_by m source holder what))) o.command;
+      }
+  message_output holder what o = rw (emits_same holder what, done_same holder what, command_same holder what) refl

@@ -12,14 +12,18 @@ use Rattle.gate_events.specs.declared.emit.Detail.TheVariants as detail
 use Rattle.history.specs.Entries as entry
 use Rattle.history.specs.Entries.{Entry, History, IsHistory, IsOffered, is_accepted, moment_of, now}
 use Rattle.history.specs.EntryLaws.{IsEvent}
+use Rattle.claim_table.specs.Claims.{is_ready}
+use Rattle.history.specs.Known.{known}
 use Rattle.history.specs.Receiver.{receiver_of}
 use Rattle.history.specs.Messages.{Message, done}
 use Rattle.history.specs.Emits.{broken}
+use Rattle.gate_model.specs.AddressStands.{TellsAlike, name_held}
 use Rattle.gate_model.specs.Said.{Complete, Ordered, complete_of, ordered_by}
 use Rattle.gate_model.specs.Machine.{Machine, Step, opened_machine, started_at}
 use Rattle.gate_model.specs.MachineSteps.{stepped, entered, commanded}
 use Rattle.gate_model.specs.Stands.{AreOrders, Stands, IsReached}
 use Rattle.gate_model.specs.StandsLaws.{IsStepOf, StepFits, CommandFits}
+use Rattle.gate_model.proofs.AddressTells.{standing_tells_alike}
 use Rattle.gate_model.proofs.KeyOrders.{fast_in_order, iso_in_order, groups_in_order}
 use Rattle.gate_model.proofs.SaidTold.{messages_are_told}
 use Rattle.gate_model.proofs.StandsTimes.{opening_stands}
@@ -30,7 +34,9 @@ use Rattle.config_values.specs.declared.config.Config.{Config}
 use Rattle.config_values.specs.Configs.{IsConfig}
 use Rattle.config_values.specs.Settings.{settings_of}
 use Rattle.config_values.proofs.SettingsLemmas.{are_settings}
-use Rattle.gate_core.specs.Steps.{by_keys, entry_of, IsEventValid, Stays, done_of, command_of, output_of}
+use Rattle.gate_outbox.specs.Output.{Output, nothing}
+use Rattle.gate_core.specs.Steps.{by_keys, entry_of, IsEventValid, Stays, done_of, command_of, and_step, output_of}
+use Rattle.gate_core.proofs.Entering.{output_fits}
 use Rattle.gate_core.specs.Promises.{done_told, entry_by, IsTaken, IsTooEarly, IsStep, IsCommandStep}
 
 pub orders : AreOrders by_keys
@@ -62,6 +68,17 @@ step_fits g e it valid = steps_fit by_keys g (entry_of e) orders it (is_event e)
 pub command_fits : (g : Machine) (source address : ℕ) → IsReached by_keys g → source < 256 → CommandFits by_keys g source address
 command_fits g source address it from = commands_fit by_keys g source address orders it from
 
+-- by an outbox in which there was nothing, all that is told finds room
+pub step_left : (g : Machine) (e : Event) → IsReached by_keys g → IsEventValid e → (o left : Output) → o ≡ nothing
+    → left ≡ and_step g.settings.name o (stepped by_keys g (entry_of e)) → left ≡ output_of g.settings.name (stepped by_keys g (entry_of e))
+step_left g e it valid o left empty gives =
+    output_fits g.settings.name o left (stepped by_keys g (entry_of e)) empty (step_fits g e it valid).room gives
+
+pub command_left : (g : Machine) (source address : ℕ) → IsReached by_keys g → source < 256 → (o left : Output) → o ≡ nothing
+    → left ≡ and_step g.settings.name o (commanded g source address) → left ≡ output_of g.settings.name (commanded g source address)
+command_left g source address it from o left empty gives =
+    output_fits g.settings.name o left (commanded g source address) empty (command_fits g source address it from).room gives
+
 pub opened_reached : (config : Config) → IsConfig config → IsReached by_keys (opened_machine (settings_of config))
 opened_reached config valid = let are = are_settings config valid in (opening_is_reached by_keys (settings_of config) are.settings are.limits).opened
 
@@ -88,6 +105,7 @@ module _ (g : Machine) (s : ℕ) (h : History) where
   taken_by e x is = record {
     stands = is.stands;
     emits = is.emits;
+    selected = is.selected;
     told = ap (option_map done_of) is.complete ∙ told_same (done (receiver_of g.settings) s h e);
     ordered =
         ap (λ (d : Option Complete). option_map (entry_by (moment_of e)) (option_map command_of (ordered_by g.settings.name d))) is.complete
@@ -107,7 +125,7 @@ is_step g e it valid s h could stands = (taken, early)
 
     told : stepped by_keys g next
         ≡ (if is_accepted h next then entered by_keys g next
-        else record { after = g; emits = broken rules.moment_back detail.Nothing ∷ []; complete = None })
+        else record { after = g; told = broken rules.moment_back detail.Nothing ∷ []; posted = []; complete = None })
     told = too_early_is_told by_keys g.settings s h next g stands
 
     taken : is_accepted h next ≡ true
@@ -120,7 +138,7 @@ is_step g e it valid s h could stands = (taken, early)
 
     early : is_accepted h next ≡ false → IsTooEarly g (stepped by_keys g next).after (output_of g.settings.name (stepped by_keys g next))
     early refused =
-        let x : Step = record { after = g; emits = broken rules.moment_back detail.Nothing ∷ []; complete = None } in
+        let x : Step = record { after = g; told = broken rules.moment_back detail.Nothing ∷ []; posted = []; complete = None } in
         let so : stepped by_keys g next ≡ x = told ∙ rw refused refl in
         subst (λ y. IsTooEarly g y.after (output_of g.settings.name y)) (sym so) (record { unchanged = refl; reported = refl })
 
@@ -129,3 +147,18 @@ pub is_command_step : (g : Machine) (source address : ℕ) → IsReached by_keys
 is_command_step g source address it from s h could stands =
     let e : Entry = entry.command (now h) source address in
     taken_by g s h e (commanded g source address) (commands_stand by_keys g.settings s h source address g orders it.settings (from, refl, could) stands)
+
+-- ---- what is told at any time
+
+module _ (g : Machine) (s : ℕ) (h : History) (stands : Stands by_keys g.settings s h g) where
+  abbrev tells : TellsAlike g.addresses.claims (known (receiver_of g.settings) s h).claims
+  tells = standing_tells_alike (receiver_of g.settings) s h g.addresses stands.addresses
+
+  pub own_is_known : g.addresses.claims.own ≡ (known (receiver_of g.settings) s h).claims.own
+  own_is_known = tells.own
+
+  pub holder_is_known : (address : ℕ) → name_held g.addresses.claims.holders address ≡ name_held (known (receiver_of g.settings) s h).claims.holders address
+  holder_is_known address = tells.names address
+
+  pub ready_is_known : is_ready g.addresses.claims g.moment ≡ is_ready (known (receiver_of g.settings) s h).claims (now h)
+  ready_is_known = ap (is_ready g.addresses.claims) stands.moment ∙ tells.ready (now h)

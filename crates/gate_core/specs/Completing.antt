@@ -1,5 +1,5 @@
 -- What becomes of a message that a frame completes, by who holds its source (ISO 11783-5): from an address that nobody holds there is none.
-use Rattle.std.specs.Prelude.{ℕ, List, [], ◌++◌, Option, Some, None, option_map}
+use Rattle.std.specs.Prelude.{ℕ, List, [], Option, Some, None, option_map}
 use Rattle.claim_table.specs.declared.answer.Holder.{Holder}
 use Rattle.history.specs.Choice.{reading_in}
 use Rattle.gate_events.specs.Emit.{Emit}
@@ -10,7 +10,7 @@ use Rattle.gate_outbox.specs.declared.done.Command.{Command}
 use Rattle.bus_messages.specs.declared.messages.Content.{Content}
 use Rattle.row_traffic.specs.declared.said.Sender.{Sender}
 use Rattle.gate_outbox.specs.Output.{Output}
-use Rattle.row_traffic.specs.Saying.{message_from}
+use Rattle.row_traffic.specs.Saying.{and_posted, message_from}
 use Rattle.gate_core.specs.Steps.{first_there}
 
 abbrev pub sender_by : ℕ → ℕ → Holder → Sender
@@ -41,7 +41,7 @@ command_by source (Some holder) (Some message) = option_map (λ address. record 
 -- an outbox with all that the message leaves
 abbrev pub and_message : Settings → Output → SaidKept → ℕ → ℕ → Option Holder → Option Content → Output
 and_message c o k m source holder message = record {
-  emits = o.emits ++ said_emits c k m source holder message;
+  emits = and_posted o.emits (said_emits c k m source holder message);
   done = first_there (done_by source holder message) o.done;
   command = first_there (command_by source holder message) o.command;
 }

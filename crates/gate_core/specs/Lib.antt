@@ -1,3 +1,4 @@
+pub mod Changes
 pub mod Steps
 pub mod Completing
 pub mod Promises

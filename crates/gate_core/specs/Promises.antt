@@ -1,5 +1,5 @@
 -- What each call of the gateway gives, in the words of the history: of everything that ever came.
-use Rattle.std.specs.Prelude.{◌≡◌, ℕ, true, false, [], ◌∷◌, Option, None, option_map}
+use Rattle.std.specs.Prelude.{◌≡◌, ℕ, true, false, [], ◌∷◌, option_map, is_some}
 use Rattle.report_rules.specs.Rules as rules
 use Rattle.gate_events.specs.declared.emit.Detail.TheVariants as detail
 use Rattle.history.specs.Entries as entry
@@ -7,15 +7,17 @@ use Rattle.history.specs.Entries.{Entry, History, IsHistory, is_accepted, moment
 use Rattle.history.specs.Settings.{Settings}
 use Rattle.history.specs.Receiver.{receiver_of}
 use Rattle.history.specs.Choice.{reading_of}
-use Rattle.history.specs.Messages.{Message, done}
+use Rattle.history.specs.Known.{known}
+use Rattle.history.specs.Messages.{Message, done, messages_of}
+use Rattle.history.specs.FromBus.{chosen}
 use Rattle.history.specs.Emits.{broken}
 use Rattle.history.specs.Gate.{out, command_in}
 use Rattle.gate_model.specs.Machine.{Machine}
 use Rattle.gate_model.specs.Stands.{Stands}
 use Rattle.gate_outbox.specs.declared.done.Command.{Command}
 use Rattle.gate_outbox.specs.declared.done.Done.{Done}
-use Rattle.gate_outbox.specs.Output.{Output}
-use Rattle.gate_core.specs.Steps.{by_keys}
+use Rattle.gate_outbox.specs.Output.{Output, emits_of, is_there}
+use Rattle.gate_core.specs.Steps.{by_keys, only_told}
 
 -- what is told of a message
 abbrev pub done_told : Message → Done
@@ -25,18 +27,20 @@ done_told d = record { source = d.source; name = record { 0 = d.name }; pgn = d.
 abbrev pub entry_by : ℕ → Command → Entry
 entry_by m o = entry.command m o.source o.address
 
--- one more entry was taken: the gateway stands for the history with it, all that the history says was emitted, in its order; and the message
--- that it completes is told, with the command that this message gives
+-- one more entry was taken: the gateway stands for the history with it, all that the history says was emitted, in its order, with a datagram
+-- behind where the message is selected that it completes; and this message is told, with the command that it gives
 pub record IsTaken (c : Settings) (s : ℕ) (h : History) (e : Entry) (after : Machine) (left : Output) : Type 0 where
   pub stands : Stands by_keys c s (e ∷ h) after
-  pub emits : left.emits ≡ out c s h e
+  pub emits : emits_of left.emits ≡ out c s h e
+  pub selected : let r = receiver_of c in
+      is_there left.emits.posted ≡ is_some (chosen c (known r s h).claims.holders (messages_of r s h) (done r s h e))
   pub told : left.done ≡ option_map done_told (done (receiver_of c) s h e)
   pub ordered : option_map (entry_by (moment_of e)) left.command ≡ command_in c s (done (receiver_of c) s h e) (moment_of e)
 
 -- an event that is earlier than the last entry changes nothing, and is reported (rule 3)
 pub record IsTooEarly (before after : Machine) (left : Output) : Type 0 where
   pub unchanged : after ≡ before
-  pub reported : left ≡ record { emits = broken rules.moment_back detail.Nothing ∷ []; done = None; command = None }
+  pub reported : left ≡ only_told (broken rules.moment_back detail.Nothing ∷ [])
 
 -- for every history for which the gateway stands before
 abbrev pub IsStep : Entry → Machine → Machine → Output → Type 0

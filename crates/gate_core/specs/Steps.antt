@@ -1,5 +1,5 @@
 -- What a step of the gateway takes, and what it leaves (the bus: ISO 11783-3; the network: IEC 61162-450).
-use Rattle.std.specs.Prelude.{◌≡◌, ℕ, ◌++◌, length, Option, Some, None, option_map}
+use Rattle.std.specs.Prelude.{◌≡◌, ℕ, List, [], length, Option, Some, None, option_map}
 use Rattle.n2k_id.specs.Frame.{IsFrame, bus_frame}
 use Rattle.gate_events.specs.declared.event.Event.{Event}
 use Rattle.gate_events.specs.declared.event.Event.TheVariants as event
@@ -11,7 +11,9 @@ use Rattle.history.specs.Entries as entry
 use Rattle.history.specs.Entries.{Entry}
 use Rattle.gate_model.specs.Said.{Complete, Ordered, reading_by, ordered_by}
 use Rattle.gate_model.specs.Machine.{Compared, Machine, Step}
-use Rattle.gate_outbox.specs.Output.{Output}
+use Rattle.gate_events.specs.Emit.{Emit}
+use Rattle.gate_outbox.specs.Output.{Output, and_told, most_told}
+use Rattle.row_traffic.specs.Saying.{and_posted}
 use Rattle.gate_outbox.specs.declared.done.Done.{Done}
 use Rattle.gate_outbox.specs.declared.done.Command.{Command}
 
@@ -49,14 +51,22 @@ abbrev pub first_there : {T : Type 0} → Option T → Option T → Option T
 first_there None before = before
 first_there (Some there) before = Some there
 
--- an outbox with all that a step leaves behind what was in it
+-- an outbox with all that a step leaves behind what was in it, as far as there is room
 abbrev pub and_step : ℕ → Output → Step → Output
 and_step name o x = record {
-  emits = o.emits ++ x.emits;
+  emits = and_posted (and_told most_told o.emits x.told) x.posted;
   done = first_there (option_map done_of x.complete) o.done;
   command = first_there (option_map command_of (ordered_by name x.complete)) o.command;
 }
 
--- by the NAME of the gateway
+-- one in which there was nothing, by the NAME of the gateway
 abbrev pub output_of : ℕ → Step → Output
-output_of name x = record { emits = x.emits; done = option_map done_of x.complete; command = option_map command_of (ordered_by name x.complete) }
+output_of name x = record {
+  emits = record { told = x.told; posted = x.posted };
+  done = option_map done_of x.complete;
+  command = option_map command_of (ordered_by name x.complete);
+}
+
+-- one that completes no message
+abbrev pub only_told : List Emit → Output
+only_told told = record { emits = record { told = told; posted = [] }; done = None; command = None }

@@ -1,19 +1,19 @@
 //! The gateway.
-ghost use Rattle.std.specs.Prelude.{◌≡◌, ℕ, ◌∷◌, [], IfOk, Some};
+ghost use Rattle.std.specs.Prelude.{◌≡◌, ℕ, [], IfOk};
 ghost use Rattle.claim_table.specs.Claims.{is_ready};
 ghost use Rattle.history.specs.AddressLaws.{AreSettings};
-ghost use Rattle.history.specs.Emits.{own_claim, request_for_claims};
 ghost use Rattle.history.specs.Entries.{History, now};
+ghost use Rattle.history.specs.Gate.{opening_emits};
 ghost use Rattle.history.specs.Known.{known};
 ghost use Rattle.history.specs.Receiver.{receiver_of};
-ghost use Rattle.gate_model.specs.AddressStands.{name_held};
+ghost use Rattle.gate_model.specs.AddressStands.{changes_in, name_held};
 ghost use Rattle.gate_model.specs.Machine.{opened_machine, started_at};
 ghost use Rattle.gate_model.specs.MachineSteps.{stepped, commanded};
 ghost use Rattle.gate_model.specs.Stands.{Stands};
 ghost use Rattle.config_values.specs.Configs.{IsConfig};
 ghost use Rattle.config_values.specs.Settings.{settings_of};
-ghost use Rattle.gate_outbox.specs.Output.{nothing, and_emits};
-ghost use Rattle.gate_core.specs.Steps.{IsEventValid, by_keys, entry_of, output_of};
+ghost use Rattle.gate_outbox.specs.Output.{nothing};
+ghost use Rattle.gate_core.specs.Steps.{IsEventValid, by_keys, entry_of, only_told, output_of};
 ghost use Rattle.gate_core.specs.Holding.{IsHeld, IsWithin};
 ghost use Rattle.gate_core.specs.Promises.{IsStep, IsCommandStep};
 
@@ -70,10 +70,9 @@ impl Gateway {
         requires empty { out.old ≡ nothing }
         ensures after { self.new ≡ started_at moment self.old }
         ensures stands { Stands by_keys self.new.settings moment [] self.new }
-        ensures emits { out.new ≡ and_emits nothing
-            (own_claim self.old.settings.name (Some self.old.settings.address) ∷ request_for_claims self.old.settings.address ∷ []) }
+        ensures emits { out.new ≡ only_told (opening_emits self.old.settings) }
     {
-        self.state.start(moment, out);
+        self.state.start(moment, &mut out.emits);
     }
 
     /// Takes an event: where it isn't earlier than the last entry, all that the history says is emitted, told and noted; else it is
@@ -137,6 +136,7 @@ impl Gateway {
     }
 
     /// The gateway's own address.
+    #[tactic(auto, using(crate::proofs::Promises::own_is_known))]
     pub fn own(&self) -> Option<u8>
         ensures own { result ≡ self.now.addresses.claims.own }
         ensures history { (s : ℕ) (h : History) → Stands by_keys self.now.settings s h self.now
@@ -145,7 +145,26 @@ impl Gateway {
         self.state.own()
     }
 
+    /// The address that a NAME left by the last entry, for another one.
+    pub fn left(&self) -> Option<u8>
+        ensures left { result ≡ self.now.addresses.changed.left }
+        ensures history { (s : ℕ) (h : History) → Stands by_keys self.now.settings s h self.now
+            → result ≡ (changes_in (receiver_of self.now.settings) s h).left }
+    {
+        self.state.changed().left
+    }
+
+    /// The address that was won by the last entry, from another NAME.
+    pub fn won(&self) -> Option<u8>
+        ensures won { result ≡ self.now.addresses.changed.won }
+        ensures history { (s : ℕ) (h : History) → Stands by_keys self.now.settings s h self.now
+            → result ≡ (changes_in (receiver_of self.now.settings) s h).won }
+    {
+        self.state.changed().won
+    }
+
     /// Whether the gateway may send, at the moment of the last entry.
+    #[tactic(auto, using(crate::proofs::Promises::ready_is_known))]
     pub fn ready(&self) -> bool
         ensures ready { result ≡ is_ready self.now.addresses.claims self.now.moment }
         ensures history { (s : ℕ) (h : History) → Stands by_keys self.now.settings s h self.now
@@ -155,6 +174,7 @@ impl Gateway {
     }
 
     /// The NAME that holds an address.
+    #[tactic(auto, using(crate::proofs::Promises::holder_is_known))]
     pub fn holder(&self, address: u8) -> Option<Name>
         ensures holder { result ≡ name_held self.now.addresses.claims.holders address }
         ensures history { (s : ℕ) (h : History) → Stands by_keys self.now.settings s h self.now

@@ -1,9 +1,10 @@
 //! All that the gateway keeps, and what each entry makes of it.
-ghost use Rattle.std.specs.Prelude.{◌≡◌, ◌+◌, ◌≤◌, [], ◌∷◌, false, length, IfOk, Some};
+ghost use Rattle.std.specs.Prelude.{◌≡◌, length, IfOk};
 ghost use Rattle.slot_views.specs.Traces.{unexpired};
 ghost use Rattle.claim_table.specs.Claims.{is_ready};
-ghost use Rattle.history.specs.Emits.{own_claim, request_for_claims};
 ghost use Rattle.history.specs.Entries.{moment_of};
+ghost use Rattle.history.specs.Gate.{opening_emits};
+ghost use Rattle.gate_model.specs.Addresses.{changes_after};
 ghost use Rattle.gate_model.specs.AddressStands.{name_held};
 ghost use Rattle.gate_model.specs.Endings.{fast_overdue, sessions_overdue, groups_overdue};
 ghost use Rattle.gate_model.specs.NetLines.{kept_until};
@@ -11,17 +12,19 @@ ghost use Rattle.gate_model.specs.Machine.{counted_in, later, opened_machine, ov
 ghost use Rattle.gate_model.specs.MachineSteps.{stepped, entered, handled, commanded};
 ghost use Rattle.config_values.specs.Configs.{IsConfig};
 ghost use Rattle.config_values.specs.Settings.{settings_of};
-ghost use Rattle.gate_outbox.specs.Output.{nothing, and_emits, most_emits, has_datagram};
-ghost use Rattle.gate_core.specs.Steps.{IsEventValid, Stays, by_keys, and_step, entry_of, output_of};
+ghost use Rattle.gate_outbox.specs.Output.{and_told, most_told};
+ghost use Rattle.gate_core.specs.Changes.{changed_of};
+ghost use Rattle.gate_core.specs.Steps.{IsEventValid, Stays, by_keys, and_step, entry_of};
 
-use crate::addresses::Addresses;
+use crate::addresses::{Addresses, Changed};
 use crate::state::opening::{addresses_of, copy_of, fast_of, network_of, said_of, sessions_of};
-use bus_messages::endings::{end_fast, end_sessions};
+use bus_messages::endings::end_sessions;
+use bus_messages::fast::end_overdue;
 use config_values::Config;
 use fast_packet::FastAssembler;
 use gate_events::{Detail, Event, Report};
 use gate_outbox::frames::{own_claim, request_for_claims};
-use gate_outbox::{Command, Outbox};
+use gate_outbox::{Command, Outbox, StepEmits};
 use iso_transport::IsoAssembler;
 use n2k_id::Name;
 use report_rules::MOMENT_BACK;
@@ -87,12 +90,10 @@ impl State {
     }
 
     /// Counts readiness from the moment, claims the gateway's address and asks all for theirs.
-    pub(crate) fn start(&mut self, moment: u64, out: &mut Outbox)
-        requires room { length out.old.emits + 2 ≤ most_emits }
-        requires before { has_datagram out.old.emits ≡ false }
+    #[tactic(auto, using(gate_outbox::proofs::Telling::told_more))]
+    pub(crate) fn start(&mut self, moment: u64, out: &mut StepEmits)
         ensures after { self.new ≡ started_at moment self.old }
-        ensures emits { out.new ≡ and_emits out.old
-            (own_claim self.old.settings.name (Some self.old.settings.address) ∷ request_for_claims self.old.settings.address ∷ []) }
+        ensures emits { out.new ≡ and_told most_told out.old (opening_emits self.old.settings) }
     {
         self.addresses.start(moment);
         let address = self.address();
@@ -134,16 +135,14 @@ impl State {
     pub(crate) fn step(&mut self, event: &Event<'_>, out: &mut Outbox)
         requires valid { IsEventValid event.now }
         requires stays { Stays self.old }
-        requires empty { out.old ≡ nothing }
-        requires room { length (stepped by_keys self.old (entry_of event.now)).emits ≤ most_emits }
         ensures after { self.new ≡ (stepped by_keys self.old (entry_of event.now)).after }
-        ensures output { out.new ≡ output_of self.old.settings.name (stepped by_keys self.old (entry_of event.now)) }
+        ensures output { out.new ≡ and_step self.old.settings.name out.old (stepped by_keys self.old (entry_of event.now)) }
     {
         let moment = moment_of(event);
         if self.moment <= moment {
             self.enter(event, moment, out);
         } else {
-            out.tell(Report {
+            out.emits.tell(Report {
                 rule: MOMENT_BACK,
                 detail: Detail::Nothing,
             });
@@ -151,27 +150,24 @@ impl State {
     }
 
     /// Takes an event that isn't earlier than the last entry: what is overdue ends first.
+    #[tactic(auto, using(gate_outbox::proofs::Telling::told_more))]
     fn enter(&mut self, event: &Event<'_>, moment: u64, out: &mut Outbox)
         requires valid { IsEventValid event.now }
         requires stays { Stays self.old }
         requires moment { moment ≡ moment_of (entry_of event.now) }
-        requires empty { out.old ≡ nothing }
-        requires room { length (entered by_keys self.old (entry_of event.now)).emits ≤ most_emits }
         ensures after { self.new ≡ (entered by_keys self.old (entry_of event.now)).after }
-        ensures output { out.new ≡ output_of self.old.settings.name (entered by_keys self.old (entry_of event.now)) }
+        ensures output { out.new ≡ and_step self.old.settings.name out.old (entered by_keys self.old (entry_of event.now)) }
     {
-        self.pass_time(moment, out);
-        self.handle(event, moment, out);
-        self.count_entry();
+        self.pass_time(moment, &mut out.emits);
+        let changed = self.handle(event, moment, out);
+        self.count_entry(changed);
     }
 
     /// Ends what is overdue at a later moment, and tells it.
-    fn pass_time(&mut self, moment: u64, out: &mut Outbox)
-        requires room { length out.old.emits + length (overdue moment self.old) ≤ most_emits }
-        requires before { has_datagram out.old.emits ≡ false }
+    #[tactic(auto, using(gate_outbox::proofs::Telling::told_more))]
+    fn pass_time(&mut self, moment: u64, out: &mut StepEmits)
         ensures after { self.new ≡ later moment self.old }
-        ensures emits { out.new ≡ and_emits out.old (overdue moment self.old) }
-        ensures before { has_datagram out.new.emits ≡ false }
+        ensures emits { out.new ≡ and_told most_told out.old (overdue moment self.old) }
     {
         self.end_fast(moment, out);
         self.end_sessions(moment, out);
@@ -179,67 +175,58 @@ impl State {
     }
 
     /// Ends the fast packets that are overdue.
-    fn end_fast(&mut self, moment: u64, out: &mut Outbox)
-        requires room { length out.old.emits + length (fast_overdue self.old.fast moment) ≤ most_emits }
-        requires before { has_datagram out.old.emits ≡ false }
+    fn end_fast(&mut self, moment: u64, out: &mut StepEmits)
         ensures after { self.new ≡ record self.old { fast = unexpired moment self.old.fast } }
-        ensures emits { out.new ≡ and_emits out.old (fast_overdue self.old.fast moment) }
-        ensures before { has_datagram out.new.emits ≡ false }
+        ensures emits { out.new ≡ and_told most_told out.old (fast_overdue self.old.fast moment) }
     {
-        end_fast(&mut self.fast, moment, out);
+        end_overdue(&mut self.fast, moment, out);
     }
 
     /// Ends the sessions of the transport protocol that are overdue.
-    fn end_sessions(&mut self, moment: u64, out: &mut Outbox)
-        requires room { length out.old.emits + length (sessions_overdue self.old.addresses.claims.own self.old.sessions moment) ≤ most_emits }
-        requires before { has_datagram out.old.emits ≡ false }
+    fn end_sessions(&mut self, moment: u64, out: &mut StepEmits)
         ensures after { self.new ≡ record self.old { sessions = unexpired moment self.old.sessions } }
-        ensures emits { out.new ≡ and_emits out.old (sessions_overdue self.old.addresses.claims.own self.old.sessions moment) }
-        ensures before { has_datagram out.new.emits ≡ false }
+        ensures emits { out.new ≡ and_told most_told out.old (sessions_overdue self.old.addresses.claims.own self.old.sessions moment) }
     {
         let own = self.own();
         end_sessions(&mut self.sessions, own, moment, out);
     }
 
     /// Ends the groups of lines that are overdue, the last of what can be.
-    fn end_groups(&mut self, moment: u64, out: &mut Outbox)
-        requires room { length out.old.emits + length (groups_overdue self.old.network.groups moment) ≤ most_emits }
-        requires before { has_datagram out.old.emits ≡ false }
+    fn end_groups(&mut self, moment: u64, out: &mut StepEmits)
         ensures after { self.new ≡ record self.old { moment = moment; network = kept_until moment self.old.network } }
-        ensures emits { out.new ≡ and_emits out.old (groups_overdue self.old.network.groups moment) }
-        ensures before { has_datagram out.new.emits ≡ false }
+        ensures emits { out.new ≡ and_told most_told out.old (groups_overdue self.old.network.groups moment) }
     {
         self.network.end_overdue(moment, out);
         self.moment = moment;
     }
 
-    /// Takes an event when nothing is overdue.
-    fn handle(&mut self, event: &Event<'_>, moment: u64, out: &mut Outbox)
+    /// Takes an event when nothing is overdue, and answers which addresses change hands by it.
+    fn handle(&mut self, event: &Event<'_>, moment: u64, out: &mut Outbox) -> Changed
         requires valid { IsEventValid event.now }
         requires stays { Stays self.old }
         requires moment { moment ≡ moment_of (entry_of event.now) }
-        requires room { length out.old.emits + length (handled by_keys self.old (entry_of event.now)).emits ≤ most_emits }
-        requires before { has_datagram out.old.emits ≡ false }
         ensures after { self.new ≡ (handled by_keys self.old (entry_of event.now)).after }
         ensures output { out.new ≡ and_step self.old.settings.name out.old (handled by_keys self.old (entry_of event.now)) }
+        ensures changed { changed_of result ≡ changes_after self.old.addresses (entry_of event.now) }
     {
         match event {
             Event::Frame { frame, .. } => self.frame(frame, moment, out),
-            Event::Datagram { bytes, .. } => self.datagram(bytes, moment, out),
-            Event::Tick { .. } => {}
+            Event::Datagram { bytes, .. } => {
+                self.datagram(bytes, moment, &mut out.emits);
+                Changed::NONE
+            }
+            Event::Tick { .. } => Changed::NONE,
         }
     }
 
     /// Takes a command to go to an address, at the moment of the last entry.
     pub(crate) fn obey(&mut self, command: Command, out: &mut Outbox)
-        requires empty { out.old ≡ nothing }
-        requires room { length (commanded self.old command.source command.address).emits ≤ most_emits }
         ensures after { self.new ≡ (commanded self.old command.source command.address).after }
-        ensures output { out.new ≡ output_of self.old.settings.name (commanded self.old command.source command.address) }
+        ensures output { out.new ≡ and_step self.old.settings.name out.old (commanded self.old command.source command.address) }
     {
         let moment = self.moment();
-        self.command(command, moment, out);
-        self.count_entry();
+        self.command(command, moment, &mut out.emits);
+        self.count_entry(Changed::NONE);
     }
 
     /// The moment of the last entry.
@@ -280,11 +267,18 @@ impl State {
         self.network.count()
     }
 
-    /// One more entry has come.
-    fn count_entry(&mut self)
-        ensures { self.new ≡ counted_in self.old }
+    /// Which addresses changed hands by the last entry.
+    pub(crate) fn changed(&self) -> Changed
+        ensures { changed_of result ≡ self.now.addresses.changed }
     {
-        self.addresses.count_entry();
+        self.addresses.changed()
+    }
+
+    /// One more entry has come, by which these addresses changed hands.
+    fn count_entry(&mut self, changed: Changed)
+        ensures { self.new ≡ counted_in (changed_of changed) self.old }
+    {
+        self.addresses.count_entry(changed);
     }
 }
 

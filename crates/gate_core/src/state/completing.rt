@@ -1,12 +1,11 @@
 //! A message that a frame completes: it is said where it is selected, and told with the command that it gives.
-ghost use Rattle.std.specs.Prelude.{◌≡◌, ◌+◌, ◌≤◌, false, length, option_map, IfSome, Some};
+ghost use Rattle.std.specs.Prelude.{◌≡◌, option_map, IfSome, Some};
 ghost use Rattle.readings.specs.Ranges.{IsValid};
 ghost use Rattle.pgn_profile.specs.Profiled.{GivesValid};
 ghost use Rattle.claim_table.specs.Claims.{holder_at};
 ghost use Rattle.history.specs.Choice.{reading_in};
-ghost use Rattle.gate_core.specs.Completing.{said_after, said_emits, sender_by, and_message};
+ghost use Rattle.gate_core.specs.Completing.{said_after, and_message};
 ghost use Rattle.gate_core.specs.Steps.{Stays, first_there};
-ghost use Rattle.gate_outbox.specs.Output.{most_emits, has_datagram};
 
 use crate::state::State;
 use bus_messages::messages::Content;
@@ -17,6 +16,7 @@ use row_traffic::said::Sender;
 
 impl State {
     /// Takes the message that a frame from this source completes.
+    #[tactic(auto, using(crate::proofs::Completing::valid_reading))]
     pub(crate) fn complete(
         &mut self,
         source: u8,
@@ -26,9 +26,6 @@ impl State {
     )
         requires stays { Stays self.old }
         requires says { IfSome message (λ message. GivesValid message.profiled) }
-        requires room { length out.old.emits + length (said_emits self.old.settings self.old.said moment source
-            (holder_at self.old.addresses.claims.holders source) message) ≤ most_emits }
-        requires before { has_datagram out.old.emits ≡ false }
         ensures after { self.new ≡ record self.old {
           said = said_after self.old.settings self.old.said moment source
               (holder_at self.old.addresses.claims.holders source) message;
@@ -43,7 +40,8 @@ impl State {
                     source,
                     name: holder.name,
                 };
-                self.said.take(&self.config, sender, &message.profiled, out);
+                self.said
+                    .take(&self.config, sender, &message.profiled, &mut out.emits);
                 tell(sender, &message, out);
             }
             _ => {}

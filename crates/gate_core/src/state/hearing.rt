@@ -1,5 +1,5 @@
 //! A datagram of the network (IEC 61162-450).
-ghost use Rattle.std.specs.Prelude.{◌≡◌, ◌+◌, ◌≤◌, false, length};
+ghost use Rattle.std.specs.Prelude.{◌≡◌, ◌≤◌, length};
 ghost use Rattle.claim_table.specs.Claims.{is_ready};
 ghost use Rattle.datagram450.specs.Datagram.{read};
 ghost use Rattle.gate_model.specs.NetLines.{datagram_after, datagram_emits};
@@ -7,21 +7,19 @@ ghost use Rattle.gate_model.specs.MachineSteps.{datagram_here};
 ghost use Rattle.config_values.specs.Settings.{settings_of};
 ghost use Rattle.row_traffic.specs.NetCalls.{IsHeardBy};
 ghost use Rattle.gate_core.specs.Steps.{Stays, by_keys};
-ghost use Rattle.gate_outbox.specs.Output.{and_emits, most_emits, has_datagram};
+ghost use Rattle.gate_outbox.specs.Output.{and_told, most_told};
 
 use crate::state::State;
 use config_values::Config;
-use gate_outbox::Outbox;
+use gate_outbox::StepEmits;
 use row_traffic::network::{Came, Hearing};
 
 impl State {
     /// Takes a datagram.
-    pub(crate) fn datagram(&mut self, bytes: &[u8], moment: u64, out: &mut Outbox)
+    pub(crate) fn datagram(&mut self, bytes: &[u8], moment: u64, out: &mut StepEmits)
         requires stays { Stays self.old }
-        requires room { length out.old.emits + length (datagram_here by_keys self.old moment bytes.now).emits ≤ most_emits }
-        requires before { has_datagram out.old.emits ≡ false }
         ensures after { self.new ≡ (datagram_here by_keys self.old moment bytes.now).after }
-        ensures emits { out.new ≡ and_emits out.old (datagram_here by_keys self.old moment bytes.now).emits }
+        ensures emits { out.new ≡ and_told most_told out.old (datagram_here by_keys self.old moment bytes.now).told }
     {
         let came = self.came(moment);
         self.hear(came, bytes, out);
@@ -39,16 +37,13 @@ impl State {
     }
 
     /// Hears a datagram that came so.
-    fn hear(&mut self, came: Came, bytes: &[u8], out: &mut Outbox)
+    fn hear(&mut self, came: Came, bytes: &[u8], out: &mut StepEmits)
         requires stays { Stays self.old }
-        requires room { length out.old.emits
-            + length (datagram_emits by_keys.groups self.old.settings came.moment came.ready came.own self.old.network (read bytes.now)) ≤ most_emits }
-        requires before { has_datagram out.old.emits ≡ false }
         ensures after { self.new ≡ record self.old {
           network =
               datagram_after by_keys.groups self.old.settings came.moment came.ready self.old.network (read bytes.now);
         } }
-        ensures emits { out.new ≡ and_emits out.old
+        ensures emits { out.new ≡ and_told most_told out.old
             (datagram_emits by_keys.groups self.old.settings came.moment came.ready came.own self.old.network (read bytes.now)) }
     {
         let hearing = hearing_of(&self.config, came);

@@ -1,15 +1,15 @@
-use Rattle.std.proofs.Common.{◌+◌, ◌≤◌, length, sym, ap, subst, ◌∙◌}
+use Rattle.std.proofs.Common.{sym, ap, subst, ◌∙◌}
 use Rattle.datagram450.specs.Datagram.{read}
 use Rattle.gate_model.specs.Machine.{Machine}
 use Rattle.gate_model.specs.NetLines.{NetKept, datagram_after, datagram_emits}
 use Rattle.config_values.specs.Settings.{settings_of}
-use Rattle.gate_outbox.specs.Output.{and_emits, most_emits}
+use Rattle.gate_outbox.specs.Output.{and_told, most_told}
 use Rattle.gate_core.specs.Steps.{Stays, by_keys}
-use Rattle.gate_core.proofs.Hearing.{still_listed, same_gives}
+use Rattle.gate_core.proofs.Hearing.{still_listed}
 use Rattle.gate_core.proofs.state.State.hear.Goals as goal
 
-pub datagram-requires-clause-hears : goal.datagram-requires-clause-hears
-datagram-requires-clause-hears c =
+pub datagram-requires : goal.datagram-requires
+datagram-requires c =
     let g : Machine = record {
       settings = settings_of c.self.inside.config;
       addresses = c.self.inside.addresses;
@@ -19,19 +19,11 @@ datagram-requires-clause-hears c =
       said = c.self.inside.said;
       network = c.self.inside.network;
     } in
-    still_listed g c.hearing_of-hearing.result (subst (λ z. Stays z) (sym c.self.view_is) c.requires.stays) c.hearing_of-hearing.ensures.heard
-    c.hearing_of-hearing.ensures.few
-
-pub datagram-requires-clause-room : goal.datagram-requires-clause-room
-datagram-requires-clause-room c =
-    let settings = settings_of c.self.inside.config in
-    let net : NetKept = c.self.inside.network in
-    let room = subst (λ z. length c.args.out.now.emits + length (datagram_emits by_keys.groups z.settings c.args.came.moment c.args.came.ready c.args.came.own
-    z.network (read c.args.bytes.now)) ≤ most_emits) (sym c.self.view_is) c.requires.room in
-    subst (λ es. length c.args.out.now.emits + length es ≤ most_emits)
-    (ap (λ came. datagram_emits by_keys.groups settings came.moment came.ready came.own net (read c.args.bytes.now)) (sym c.hearing_of-hearing.ensures.came)
-    ∙ same_gives settings c.hearing_of-hearing.result net (read c.args.bytes.now) c.hearing_of-hearing.ensures.heard)
-    room
+    record {
+      hears =
+          still_listed g c.hearing_of-hearing.result (subst (λ z. Stays z) (sym c.self.view_is) c.requires.stays) c.hearing_of-hearing.ensures.heard
+          c.hearing_of-hearing.ensures.few;
+    }
 
 pub returns-clause-after : goal.returns-clause-after
 returns-clause-after c =
@@ -56,7 +48,7 @@ returns-clause-emits c =
     let settings = settings_of c.self.inside.config in
     let net : NetKept = c.self.inside.network in
     c.datagram.ensures.emits settings c.hearing_of-hearing.ensures.heard
-    ∙ ap (λ came. and_emits c.args.out.now (datagram_emits by_keys.groups settings came.moment came.ready came.own net (read c.args.bytes.now)))
+    ∙ ap (λ came. and_told most_told c.args.out.now (datagram_emits by_keys.groups settings came.moment came.ready came.own net (read c.args.bytes.now)))
     c.hearing_of-hearing.ensures.came
-    ∙ ap (λ z. and_emits c.args.out.now (datagram_emits by_keys.groups z.settings c.args.came.moment c.args.came.ready c.args.came.own z.network
+    ∙ ap (λ z. and_told most_told c.args.out.now (datagram_emits by_keys.groups z.settings c.args.came.moment c.args.came.ready c.args.came.own z.network
     (read c.args.bytes.now))) c.self.view_is
