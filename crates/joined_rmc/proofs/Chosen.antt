@@ -1,9 +1,8 @@
 -- What is known of a message that was selected: which entry completed it, and whose NAME it has.
-use Rattle.std.proofs.Common.{◌≡◌, ℕ, suc, ◌<◌, ◌≤◌, Bool, true, false, List, [], ◌∷◌, length, All, refl, sym, ap, subst, ◌∙◌, ◌==◌, arith}
-use Rattle.std.specs.Prelude.{Option, Some, None, is_some, option_map, nat_le, if◌then◌else◌}
+use Rattle.std.proofs.Common.{◌≡◌, ℕ, ◌<◌, ◌≤◌, Bool, true, false, List, [], ◌∷◌, length, All, refl, sym, ap, subst, ◌∙◌, ◌==◌, arith}
+use Rattle.std.specs.Prelude.{Option, Some, None, is_some, option_map, if◌then◌else◌}
 use Rattle.std.specs.List.{AllByRecursion}
 use Rattle.std.proofs.lemmas.Bool.{eq-eqb, le-leb}
-use Rattle.n2k_id.specs.Frame.{BusFrame}
 use Rattle.n2k_id.specs.Identifier.{parts_of}
 use Rattle.readings.specs.declared.reading.Reading.{Reading}
 use Rattle.readings.specs.declared.rows.Row.{Row}
@@ -12,12 +11,9 @@ use Rattle.claim_table.specs.declared.answer.Holder.{Holder}
 use Rattle.claim_table.specs.Claims.{IsSinceBy, holder_at}
 use Rattle.claim_table.proofs.SoundLemmas.{held_within}
 use Rattle.history.specs.AddressLaws.{IsReceiver}
-use Rattle.history.specs.Choice.{is_first, rank_of, reading_of, selected, selected_reading}
-use Rattle.history.specs.ChoiceLaws.{IsOfHolder}
+use Rattle.history.specs.Choice.{is_first, rank_of, reading_of, selected_reading}
 use Rattle.history.specs.Entries.{Entry, History, frame, datagram, tick, command, moment_of}
-use Rattle.gate_events.specs.Emit.{Emit}
 use Rattle.history.specs.FromBus.{chosen}
-use Rattle.history.specs.Gate.{out}
 use Rattle.history.specs.Known.{Known, known, is_claim}
 use Rattle.history.specs.Messages.{Carried, Message, completed_by, done, messages_of, said_by, with_message}
 use Rattle.history.specs.Opens.{note_of, notes_of}
@@ -28,12 +24,11 @@ use Rattle.history.proofs.ChoiceSteps.{messages_are_of_holders}
 use Rattle.history.proofs.FreshSteps.{below, claim_says_none}
 use Rattle.history.proofs.KeySteps.{known_same}
 use Rattle.gate_core.specs.Promises.{done_told}
-use Rattle.gate_outbox.specs.declared.done.Done.{Done}
+use Rattle.gate_outbox.specs.Output.{Output, is_there}
 use Rattle.joined_rmc.specs.Chosen.{Chosen, chosen_at, chosen_of, held_by, last_of, newer, saying, still_held}
-use Rattle.joined_rmc.specs.JoinStands.{kept_of}
-use Rattle.joined_rmc.specs.Kept.{is_said, picked, picked_of, read_at}
-use Rattle.joined_rmc.specs.declared.kept.Kept.{Kept}
-use Rattle.joined_rmc.proofs.Datagrams.{said_is_chosen}
+use Rattle.joined_rmc.specs.JoinStands.{message_of}
+use Rattle.joined_rmc.specs.Kept.{picked, picked_of, read_at}
+use Rattle.joined_rmc.specs.declared.selected_message.SelectedMessage.{SelectedMessage}
 
 -- ---- the last one of a row is one of all messages
 
@@ -169,10 +164,10 @@ chosen_holds c s h e x are is =
 -- ---- what a step leaves tells which message was selected
 
 told : (m : ℕ) (d : Message) (r : Reading) → d.moment ≡ m → reading_of d ≡ Some r
-    → picked_of m (Some (done_told d)) ≡ option_map kept_of (saying d (Some r))
+    → picked_of m (Some (done_told d)) ≡ option_map message_of (saying d (Some r))
 told m d r at reads =
     ap (λ (q : Option Reading). read_at m (done_told d) q) reads
-    ∙ ap (λ n. let k : Kept = record { source = d.source; name = record { 0 = d.name }; moment = n; reading = r } in Some k) (sym at)
+    ∙ ap (λ n. let k : SelectedMessage = record { source = d.source; name = record { 0 = d.name }; moment = n; reading = r } in Some k) (sym at)
 
 module _ (c : Settings) (s : ℕ) (h : History) where
   none_picked : (m : ℕ) (b : Bool) → (if b then picked_of m None else None) ≡ None
@@ -183,26 +178,24 @@ module _ (c : Settings) (s : ℕ) (h : History) where
   choice d = chosen c (known (receiver_of c) s h).claims.holders (messages_of (receiver_of c) s h) d
 
   by_done : (m : ℕ) (b : Bool) (d : Option Message) → (b ≡ is_some (choice d)) → ((y : Message) → d ≡ Some y → y.moment ≡ m)
-      → (if b then picked_of m (option_map done_told d) else None) ≡ option_map kept_of (chosen_of d (choice d))
+      → (if b then picked_of m (option_map done_told d) else None) ≡ option_map message_of (chosen_of d (choice d))
   by_done m b None said at = none_picked m b
   by_done m b (Some d) said at = by (choice (Some d)) refl
     where
       by : (q : Option Reading) → choice (Some d) ≡ q
-          → (if b then picked_of m (Some (done_told d)) else None) ≡ option_map kept_of (saying d (choice (Some d)))
+          → (if b then picked_of m (Some (done_told d)) else None) ≡ option_map message_of (saying d (choice (Some d)))
       by None is =
-          ap (λ t. if t then picked_of m (Some (done_told d)) else None) (said ∙ ap is_some is) ∙ ap (λ q. option_map kept_of (saying d q)) (sym is)
+          ap (λ t. if t then picked_of m (Some (done_told d)) else None) (said ∙ ap is_some is) ∙ ap (λ q. option_map message_of (saying d q)) (sym is)
       by (Some r) is =
           ap (λ t. if t then picked_of m (Some (done_told d)) else None) (said ∙ ap is_some is)
           ∙ told m d r (at d refl) (is_read c (known (receiver_of c) s h).claims.holders (messages_of (receiver_of c) s h) d (reading_of d) r is)
-          ∙ ap (λ q. option_map kept_of (saying d q)) (sym is)
+          ∙ ap (λ q. option_map message_of (saying d q)) (sym is)
 
-  pub picked_is_chosen : (e : Entry) (emits : List Emit) (told_done : Option Done) → emits ≡ out c s h e
-      → told_done ≡ option_map done_told (done (receiver_of c) s h e)
-      → picked (moment_of e) emits told_done ≡ option_map kept_of (chosen_at c s h e)
-  picked_is_chosen (frame m f) emits told_done out_is done_is =
-      ap (λ es. picked m es told_done) out_is ∙ ap (picked m (out c s h (frame m f))) done_is
-      ∙ by_done m (is_said (out c s h (frame m f))) (done (receiver_of c) s h (frame m f)) (said_is_chosen c s h m f)
-      (λ y is. (done_by (receiver_of c) s h (frame m f) y is).moment)
-  picked_is_chosen (datagram m bytes) emits told_done out_is done_is = ap (picked m emits) done_is ∙ none_picked m (is_said emits)
-  picked_is_chosen (tick m) emits told_done out_is done_is = ap (picked m emits) done_is ∙ none_picked m (is_said emits)
-  picked_is_chosen (command m source address) emits told_done out_is done_is = ap (picked m emits) done_is ∙ none_picked m (is_said emits)
+  -- the datagram of the step is there exactly where the message is selected
+  pub picked_is_chosen : (e : Entry) (left : Output) → is_there left.emits.posted ≡ is_some (choice (done (receiver_of c) s h e))
+      → left.done ≡ option_map done_told (done (receiver_of c) s h e)
+      → picked (moment_of e) left ≡ option_map message_of (chosen_at c s h e)
+  picked_is_chosen e left selects done_is =
+      ap (λ d. if is_there left.emits.posted then picked_of (moment_of e) d else None) done_is
+      ∙ by_done (moment_of e) (is_there left.emits.posted) (done (receiver_of c) s h e) selects
+      (λ y is. (done_by (receiver_of c) s h e y is).moment)

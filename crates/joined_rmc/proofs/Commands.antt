@@ -1,5 +1,5 @@
 -- A command is no message, and changes no holder.
-use Rattle.std.proofs.Common.{◌≡◌, ℕ, List, ◌∷◌, sym, ap, ◌∙◌}
+use Rattle.std.proofs.Common.{ℕ, List, ◌∷◌, sym, ap, ◌∙◌}
 use Rattle.std.specs.Prelude.{Option, option_map}
 use Rattle.readings.specs.declared.rows.Row.{Row}
 use Rattle.readings.specs.declared.rows.Row.TheVariants as row
@@ -10,17 +10,17 @@ use Rattle.history.specs.Receiver.{receiver_of}
 use Rattle.history.specs.Settings.{Settings}
 use Rattle.history.proofs.TraceMoves.{commanded_holders}
 use Rattle.joined_rmc.specs.Chosen.{last_of, still_held}
-use Rattle.joined_rmc.specs.JoinStands.{CommandsKeepJoins, SlotStands, kept_of}
+use Rattle.joined_rmc.specs.JoinStands.{CommandsKeepJoins, LastStands, message_of}
 use Rattle.joined_rmc.specs.RmcOut.{timeout_of}
-use Rattle.joined_rmc.specs.declared.slot.Slot.{Slot}
+use Rattle.joined_rmc.specs.declared.last_of_row.LastOfRow.{LastOfRow}
 
-slot_stays : (timeout : ℕ) (c : Settings) (s : ℕ) (row : Row) (h : History) (m source address : ℕ) (slot : Slot)
-    → SlotStands timeout c s row h slot → SlotStands timeout c s row (command m source address ∷ h) slot
-slot_stays timeout c s row h m source address slot stands = record {
+last_stays : (timeout : ℕ) (c : Settings) (s : ℕ) (row : Row) (h : History) (m source address : ℕ) (last : LastOfRow)
+    → LastStands timeout c s row h last → LastStands timeout c s row (command m source address ∷ h) last
+last_stays timeout c s row h m source address last stands = record {
   timeout_is = stands.timeout_is;
   kept =
       stands.kept
-      ∙ ap (λ (holders : List (Option Holder)). option_map kept_of (still_held holders (last_of c s row h)))
+      ∙ ap (λ (holders : List (Option Holder)). option_map message_of (still_held holders (last_of c s row h)))
       (sym (commanded_holders (known (receiver_of c) s h).claims address m));
 }
 
@@ -28,9 +28,9 @@ pub commands_keep_joins : CommandsKeepJoins
 commands_keep_joins r c s h m source address j stands = record {
   talker = stands.talker;
   sfi = stands.sfi;
-  time = slot_stays (timeout_of r.timeouts row.Time) c s row.Time h m source address j.time stands.time;
-  position = slot_stays (timeout_of r.timeouts row.Position) c s row.Position h m source address j.position stands.position;
-  motion = slot_stays (timeout_of r.timeouts row.CourseSpeed) c s row.CourseSpeed h m source address j.motion stands.motion;
-  heading = slot_stays (timeout_of r.timeouts row.HeadingMagnetic) c s row.HeadingMagnetic h m source address j.heading stands.heading;
+  time = last_stays (timeout_of r.timeouts row.Time) c s row.Time h m source address j.time stands.time;
+  position = last_stays (timeout_of r.timeouts row.Position) c s row.Position h m source address j.position stands.position;
+  motion = last_stays (timeout_of r.timeouts row.CourseSpeed) c s row.CourseSpeed h m source address j.motion stands.motion;
+  heading = last_stays (timeout_of r.timeouts row.HeadingMagnetic) c s row.HeadingMagnetic h m source address j.heading stands.heading;
   count = stands.count;
 }

@@ -1,9 +1,9 @@
 -- Who holds an address after one more entry (ISO 11783-5): as before, or nobody, or another NAME since this entry.
-use Rattle.std.proofs.Common.{◌≡◌, ◌≢◌, ℕ, ◌<◌, ◌≤◌, ◌⊎◌, inl, inr, Bool, true, false, List, [], ◌∷◌, length, refl, sym, ap, subst, ◌∙◌, arith}
+use Rattle.std.proofs.Common.{◌≡◌, ◌≢◌, ℕ, ◌<◌, inl, inr, Bool, true, false, List, [], ◌∷◌, length, refl, sym, ap, subst, ◌∙◌, arith}
 use Rattle.std.specs.Prelude.{Option, Some, None}
 use Rattle.claim_table.specs.declared.answer.Holder.{Holder}
 use Rattle.claim_table.specs.Claims.{Claims, Claim, claim, holder_at, holder_by}
-use Rattle.claim_table.specs.Laws.{IsSound, TakesFromGreater}
+use Rattle.claim_table.specs.Laws.{IsSound}
 use Rattle.claim_table.proofs.StepLemmas.{smaller_names_keep}
 use Rattle.history.specs.AddressLaws.{IsReceiver}
 use Rattle.history.specs.Entries.{Entry, History, frame, datagram, tick, command}

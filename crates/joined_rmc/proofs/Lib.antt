@@ -1,6 +1,5 @@
-pub mod Datagrams
 pub mod Holders
 pub mod Chosen
-pub mod Slots
+pub mod Rows
 pub mod Steps
 pub mod Commands

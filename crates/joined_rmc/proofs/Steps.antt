@@ -1,16 +1,14 @@
 -- What is kept for RMC stands for the history with one more entry, and gives what the definition over the whole history says.
-use Rattle.std.proofs.Common.{◌≡◌, ℕ, ◌+◌, ◌%◌, Bool, true, false, List, [], ◌∷◌, ◌++◌, refl, sym, ap, subst, ◌∙◌, arith}
+use Rattle.std.proofs.Common.{◌≡◌, ℕ, ◌+◌, ◌%◌, Bool, true, false, List, ◌∷◌, ◌++◌, refl, sym, ap, subst, ◌∙◌, arith}
 use Rattle.std.specs.Prelude.{Option, Some, None, is_some, option_map, if◌then◌else◌}
 use Rattle.n2k_id.specs.declared.name.Name.{Name}
-use Rattle.readings.specs.declared.reading.Reading.{Reading}
 use Rattle.readings.specs.declared.rows.Row.{Row}
 use Rattle.readings.specs.declared.rows.Row.TheVariants as row
-use Rattle.claim_table.specs.declared.answer.Holder.{Holder}
 use Rattle.sentence_rows.specs.declared.rmc.Minimum.{Minimum}
 use Rattle.sentence_rows.specs.Rmc.{rmc_text}
 use Rattle.datagram450.specs.Datagram.{header}
 use Rattle.datagram450.specs.Writing.{line_text}
-use Rattle.history.specs.AddressLaws.{AreSettings, IsReceiver}
+use Rattle.history.specs.AddressLaws.{IsReceiver}
 use Rattle.history.specs.Entries.{Entry, History, moment_of}
 use Rattle.history.specs.Known.{known}
 use Rattle.history.specs.Receiver.{receiver_of}
@@ -20,42 +18,41 @@ use Rattle.gate_model.specs.AddressStands.{name_held}
 use Rattle.gate_model.specs.Machine.{Machine}
 use Rattle.gate_model.proofs.AddressTells.{standing_tells_alike}
 use Rattle.gate_outbox.specs.Output.{Output}
-use Rattle.gate_core.specs.Promises.{IsTaken}
 use Rattle.joined_rmc.specs.Chosen.{Chosen, chosen_at, is_due, last_of, said_within, still_held}
-use Rattle.joined_rmc.specs.JoinStands.{IsJoinStep, IsJoined, JoinStands, SlotStands, kept_of}
-use Rattle.joined_rmc.specs.Kept.{Join, bytes_in, counted, in_slot, is_due_kept, join_after, join_says, kept_within, minimum_in, picked, slots_after}
+use Rattle.joined_rmc.specs.JoinStands.{IsJoinStep, IsJoined, JoinStands, LastStands, message_of}
+use Rattle.joined_rmc.specs.Kept.{Join, bytes_in, counted, in_last, is_due_message, join_after, join_says, message_within, minimum_in, picked, rows_after}
 use Rattle.joined_rmc.specs.RmcOut.{RmcRule, datagram_by, joined_in, lines_before, minimum, minimum_of, rmc_datagram, timeout_of}
-use Rattle.joined_rmc.specs.declared.kept.Kept.{Kept}
-use Rattle.joined_rmc.specs.declared.slot.Slot.{Slot}
+use Rattle.joined_rmc.specs.declared.selected_message.SelectedMessage.{SelectedMessage}
+use Rattle.joined_rmc.specs.declared.last_of_row.LastOfRow.{LastOfRow}
 use Rattle.joined_rmc.proofs.Chosen.{picked_is_chosen}
-use Rattle.joined_rmc.proofs.Slots.{slot_steps}
+use Rattle.joined_rmc.proofs.Rows.{last_steps}
 
 -- ---- what is kept of a row says what the history joins
 
-within_same : (timeout m : ℕ) (x : Option Chosen) → kept_within timeout m (option_map kept_of x) ≡ said_within timeout m x
+within_same : (timeout m : ℕ) (x : Option Chosen) → message_within timeout m (option_map message_of x) ≡ said_within timeout m x
 within_same timeout m None = refl
 within_same timeout m (Some x) = refl
 
-slot_says : (timeout : ℕ) (c : Settings) (s : ℕ) (row : Row) (h : History) (slot : Slot) (m : ℕ) → SlotStands timeout c s row h slot
-    → in_slot m slot ≡ said_within timeout m (still_held (known (receiver_of c) s h).claims.holders (last_of c s row h))
-slot_says timeout c s row h slot m stands =
-    ap (λ t. kept_within t m slot.kept) stands.timeout_is ∙ ap (kept_within timeout m) stands.kept
+last_says : (timeout : ℕ) (c : Settings) (s : ℕ) (row : Row) (h : History) (last : LastOfRow) (m : ℕ) → LastStands timeout c s row h last
+    → in_last m last ≡ said_within timeout m (still_held (known (receiver_of c) s h).claims.holders (last_of c s row h))
+last_says timeout c s row h last m stands =
+    ap (λ t. message_within t m last.message) stands.timeout_is ∙ ap (message_within timeout m) stands.kept
     ∙ within_same timeout m (still_held (known (receiver_of c) s h).claims.holders (last_of c s row h))
 
 pub says_minimum : (r : RmcRule) (c : Settings) (s : ℕ) (h : History) (j : Join) (m : ℕ) → JoinStands r c s h j → minimum_in m j ≡ minimum r c s h m
 says_minimum r c s h j m stands =
-    let t = slot_says (timeout_of r.timeouts row.Time) c s row.Time h j.time m stands.time in
-    let p = slot_says (timeout_of r.timeouts row.Position) c s row.Position h j.position m stands.position in
-    let v = slot_says (timeout_of r.timeouts row.CourseSpeed) c s row.CourseSpeed h j.motion m stands.motion in
-    let g = slot_says (timeout_of r.timeouts row.HeadingMagnetic) c s row.HeadingMagnetic h j.heading m stands.heading in
-    ap (λ o. minimum_of o (in_slot m j.position) (in_slot m j.motion) (in_slot m j.heading)) t
-    ∙ ap (λ o. minimum_of (joined_in r c s row.Time h m) o (in_slot m j.motion) (in_slot m j.heading)) p
-    ∙ ap (λ o. minimum_of (joined_in r c s row.Time h m) (joined_in r c s row.Position h m) o (in_slot m j.heading)) v
+    let t = last_says (timeout_of r.timeouts row.Time) c s row.Time h j.time m stands.time in
+    let p = last_says (timeout_of r.timeouts row.Position) c s row.Position h j.position m stands.position in
+    let v = last_says (timeout_of r.timeouts row.CourseSpeed) c s row.CourseSpeed h j.motion m stands.motion in
+    let g = last_says (timeout_of r.timeouts row.HeadingMagnetic) c s row.HeadingMagnetic h j.heading m stands.heading in
+    ap (λ o. minimum_of o (in_last m j.position) (in_last m j.motion) (in_last m j.heading)) t
+    ∙ ap (λ o. minimum_of (joined_in r c s row.Time h m) o (in_last m j.motion) (in_last m j.heading)) p
+    ∙ ap (λ o. minimum_of (joined_in r c s row.Time h m) (joined_in r c s row.Position h m) o (in_last m j.heading)) v
     ∙ ap (λ o. minimum_of (joined_in r c s row.Time h m) (joined_in r c s row.Position h m) (joined_in r c s row.CourseSpeed h m) o) g
 
 -- ---- a step
 
-due_same : (x : Option Chosen) → is_due_kept (option_map kept_of x) ≡ is_due x
+due_same : (x : Option Chosen) → is_due_message (option_map message_of x) ≡ is_due x
 due_same None = refl
 due_same (Some x) = refl
 
@@ -71,19 +68,19 @@ datagram_some false bytes = refl
 
 module _ (r : RmcRule) (c : Settings) (s : ℕ) (h : History) (e : Entry) (are : IsReceiver (receiver_of c)) (holder : ℕ → Option Name)
     (tells : (a : ℕ) → holder a ≡ name_held (known (receiver_of c) s (e ∷ h)).claims.holders a)
-    (new : Option Kept) (picks : new ≡ option_map kept_of (chosen_at c s h e)) (j : Join) (stands : JoinStands r c s h j) where
-  due : is_due_kept new ≡ is_due (chosen_at c s h e)
-  due = ap is_due_kept picks ∙ due_same (chosen_at c s h e)
+    (new : Option SelectedMessage) (picks : new ≡ option_map message_of (chosen_at c s h e)) (j : Join) (stands : JoinStands r c s h j) where
+  due : is_due_message new ≡ is_due (chosen_at c s h e)
+  due = ap is_due_message picks ∙ due_same (chosen_at c s h e)
 
   -- but for the count
-  with_count : (count : ℕ) → count ≡ lines_before r c s (e ∷ h) % 999 → JoinStands r c s (e ∷ h) (record (slots_after holder new j) { count = count })
+  with_count : (count : ℕ) → count ≡ lines_before r c s (e ∷ h) % 999 → JoinStands r c s (e ∷ h) (record (rows_after holder new j) { count = count })
   with_count count is = record {
     talker = stands.talker;
     sfi = stands.sfi;
-    time = slot_steps c s h e are holder tells row.Time (timeout_of r.timeouts row.Time) j.time new picks stands.time;
-    position = slot_steps c s h e are holder tells row.Position (timeout_of r.timeouts row.Position) j.position new picks stands.position;
-    motion = slot_steps c s h e are holder tells row.CourseSpeed (timeout_of r.timeouts row.CourseSpeed) j.motion new picks stands.motion;
-    heading = slot_steps c s h e are holder tells row.HeadingMagnetic (timeout_of r.timeouts row.HeadingMagnetic) j.heading new picks stands.heading;
+    time = last_steps c s h e are holder tells row.Time (timeout_of r.timeouts row.Time) j.time new picks stands.time;
+    position = last_steps c s h e are holder tells row.Position (timeout_of r.timeouts row.Position) j.position new picks stands.position;
+    motion = last_steps c s h e are holder tells row.CourseSpeed (timeout_of r.timeouts row.CourseSpeed) j.motion new picks stands.motion;
+    heading = last_steps c s h e are holder tells row.HeadingMagnetic (timeout_of r.timeouts row.HeadingMagnetic) j.heading new picks stands.heading;
     count = is;
   }
 
@@ -95,22 +92,22 @@ module _ (r : RmcRule) (c : Settings) (s : ℕ) (h : History) (e : Entry) (are :
     where
       by : (b : Bool) → is_due (chosen_at c s h e) ≡ b → JoinStands r c s (e ∷ h) (join_after holder new j)
       by true is =
-          subst (λ t. JoinStands r c s (e ∷ h) (if t then counted (slots_after holder new j) else slots_after holder new j)) (sym (due ∙ is))
+          subst (λ t. JoinStands r c s (e ∷ h) (if t then counted (rows_after holder new j) else rows_after holder new j)) (sym (due ∙ is))
           (with_count ((j.count + 1) % 999)
           (ap (λ n. (n + 1) % 999) stands.count ∙ one_line (lines_before r c s h) ∙ ap (λ n. n % 999) (sym (lines_after true is))))
       by false is =
-          subst (λ t. JoinStands r c s (e ∷ h) (if t then counted (slots_after holder new j) else slots_after holder new j)) (sym (due ∙ is))
+          subst (λ t. JoinStands r c s (e ∷ h) (if t then counted (rows_after holder new j) else rows_after holder new j)) (sym (due ∙ is))
           (with_count j.count (stands.count ∙ ap (λ n. n % 999) (sym (lines_after false is))))
 
-  -- the slots say at the moment of the entry what is joined then
-  minimum_is : minimum_in (moment_of e) (slots_after holder new j) ≡ minimum r c s (e ∷ h) (moment_of e)
+  -- the rows say at the moment of the entry what is joined then
+  minimum_is : minimum_in (moment_of e) (rows_after holder new j) ≡ minimum r c s (e ∷ h) (moment_of e)
   minimum_is =
-      says_minimum r c s (e ∷ h) (record (slots_after holder new j) { count = lines_before r c s (e ∷ h) % 999 }) (moment_of e)
+      says_minimum r c s (e ∷ h) (record (rows_after holder new j) { count = lines_before r c s (e ∷ h) % 999 }) (moment_of e)
       (with_count (lines_before r c s (e ∷ h) % 999) refl)
 
   says_so : join_says (moment_of e) holder new j ≡ rmc_datagram r c s h e
   says_so =
-      let x = minimum_in (moment_of e) (slots_after holder new j) in
+      let x = minimum_in (moment_of e) (rows_after holder new j) in
       let y = minimum r c s (e ∷ h) (moment_of e) in
       ap (λ t. if t then Some (datagram_by j.sfi j.talker j.count x) else None) due
       ∙ ap (λ (bytes : List ℕ). if is_due (chosen_at c s h e) then Some bytes else None)
@@ -122,7 +119,7 @@ module _ (r : RmcRule) (c : Settings) (s : ℕ) (h : History) (e : Entry) (are :
       same_header : (n : ℕ) (x : Minimum) → datagram_by r.sfi r.talker (n % 999) x ≡ datagram_by r.sfi r.talker n x
       same_header n x = ap (λ k. header ++ line_text (record { group = None; source = r.sfi; count = k + 1 }) (rmc_text r.talker x)) (same_count n)
 
-  joined_so : (after : Join) (said : Bool) (packet : List ℕ) → after ≡ join_after holder new j → said ≡ is_due_kept new
+  joined_so : (after : Join) (said : Bool) (packet : List ℕ) → after ≡ join_after holder new j → said ≡ is_due_message new
       → packet ≡ bytes_in (join_says (moment_of e) holder new j) → IsJoined r c s h e after said packet
   joined_so after said packet after_is said_is packet_is = record {
     stands = subst (JoinStands r c s (e ∷ h)) (sym after_is) stands_after;
@@ -131,16 +128,16 @@ module _ (r : RmcRule) (c : Settings) (s : ℕ) (h : History) (e : Entry) (are :
   }
 
 pub joins : (g : Machine) (left : Output) (before after : Join) (said : Bool) (packet : List ℕ)
-    → after ≡ join_after (name_held g.addresses.claims.holders) (picked g.moment left.emits left.done) before
-    → said ≡ is_due_kept (picked g.moment left.emits left.done)
-    → packet ≡ bytes_in (join_says g.moment (name_held g.addresses.claims.holders) (picked g.moment left.emits left.done) before)
+    → after ≡ join_after (name_held g.addresses.claims.holders) (picked g.moment left) before
+    → said ≡ is_due_message (picked g.moment left)
+    → packet ≡ bytes_in (join_says g.moment (name_held g.addresses.claims.holders) (picked g.moment left) before)
     → IsJoinStep g left before after said packet
 joins g left before after said packet after_is said_is packet_is r c s h e settings taken stands =
     let at : g.moment ≡ moment_of e = taken.stands.moment in
     let holder = name_held g.addresses.claims.holders in
-    let new = picked g.moment left.emits left.done in
+    let new = picked g.moment left in
     let are = gateways_receive c settings in
     let tells = (standing_tells_alike (receiver_of c) s (e ∷ h) g.addresses taken.stands.addresses).names in
-    let picks = ap (λ m. picked m left.emits left.done) at ∙ picked_is_chosen c s h e left.emits left.done taken.emits taken.told in
+    let picks = ap (λ m. picked m left) at ∙ picked_is_chosen c s h e left taken.selected taken.told in
     joined_so r c s h e are holder tells new picks before stands after said packet after_is said_is
     (packet_is ∙ ap (λ m. bytes_in (join_says m holder new before)) at)

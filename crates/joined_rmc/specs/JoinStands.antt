@@ -1,5 +1,5 @@
 -- When what is kept for RMC stands for everything that ever came, and what each step makes of it and gives.
-use Rattle.std.specs.Prelude.{◌≡◌, ℕ, ◌%◌, Bool, List, [], ◌∷◌, Option, option_map, is_some}
+use Rattle.std.specs.Prelude.{◌≡◌, ℕ, ◌%◌, Bool, List, ◌∷◌, option_map, is_some}
 use Rattle.readings.specs.declared.rows.Row.{Row}
 use Rattle.readings.specs.declared.rows.Row.TheVariants as row
 use Rattle.tag_block.specs.Numbers.{most_count}
@@ -11,28 +11,28 @@ use Rattle.history.specs.Settings.{Settings}
 use Rattle.gate_model.specs.Machine.{Machine}
 use Rattle.gate_outbox.specs.Output.{Output}
 use Rattle.gate_core.specs.Promises.{IsTaken}
-use Rattle.joined_rmc.specs.declared.kept.Kept.{Kept}
-use Rattle.joined_rmc.specs.declared.slot.Slot.{Slot}
+use Rattle.joined_rmc.specs.declared.selected_message.SelectedMessage.{SelectedMessage}
+use Rattle.joined_rmc.specs.declared.last_of_row.LastOfRow.{LastOfRow}
 use Rattle.joined_rmc.specs.Chosen.{Chosen, last_of, still_held}
 use Rattle.joined_rmc.specs.Kept.{Join, bytes_in}
 use Rattle.joined_rmc.specs.RmcOut.{RmcRule, lines_before, rmc_datagram, timeout_of}
 
 -- without the entry by which it was complete
-abbrev pub kept_of : Chosen → Kept
-kept_of x = record { source = x.source; name = record { 0 = x.name }; moment = x.moment; reading = x.reading }
+abbrev pub message_of : Chosen → SelectedMessage
+message_of x = record { source = x.source; name = record { 0 = x.name }; moment = x.moment; reading = x.reading }
 
 -- of a row: the last message that was selected, where its sender holds its address ever since
-pub record SlotStands (timeout : ℕ) (c : Settings) (s : ℕ) (row : Row) (h : History) (slot : Slot) : Type 0 where
-  pub timeout_is : slot.timeout ≡ timeout
-  pub kept : slot.kept ≡ option_map kept_of (still_held (known (receiver_of c) s h).claims.holders (last_of c s row h))
+pub record LastStands (timeout : ℕ) (c : Settings) (s : ℕ) (row : Row) (h : History) (last : LastOfRow) : Type 0 where
+  pub timeout_is : last.timeout ≡ timeout
+  pub kept : last.message ≡ option_map message_of (still_held (known (receiver_of c) s h).claims.holders (last_of c s row h))
 
 pub record JoinStands (r : RmcRule) (c : Settings) (s : ℕ) (h : History) (j : Join) : Type 0 where
   pub talker : j.talker ≡ r.talker
   pub sfi : j.sfi ≡ r.sfi
-  pub time : SlotStands (timeout_of r.timeouts row.Time) c s row.Time h j.time
-  pub position : SlotStands (timeout_of r.timeouts row.Position) c s row.Position h j.position
-  pub motion : SlotStands (timeout_of r.timeouts row.CourseSpeed) c s row.CourseSpeed h j.motion
-  pub heading : SlotStands (timeout_of r.timeouts row.HeadingMagnetic) c s row.HeadingMagnetic h j.heading
+  pub time : LastStands (timeout_of r.timeouts row.Time) c s row.Time h j.time
+  pub position : LastStands (timeout_of r.timeouts row.Position) c s row.Position h j.position
+  pub motion : LastStands (timeout_of r.timeouts row.CourseSpeed) c s row.CourseSpeed h j.motion
+  pub heading : LastStands (timeout_of r.timeouts row.HeadingMagnetic) c s row.HeadingMagnetic h j.heading
   pub count : j.count ≡ lines_before r c s h % most_count
 
 -- one more entry was joined: the join stands for the history with it; and a datagram is there exactly where the history says so, as it says

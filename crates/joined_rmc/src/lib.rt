@@ -4,12 +4,11 @@
 //! No call takes memory.
 #![tactic(auto)]
 
-mod kept;
+mod last_of_row;
 pub mod laws;
 mod minimum;
 mod rmc_join;
-mod selected;
-mod slot;
+mod selected_message;
 
 pub use rmc_join::RmcJoin;
 pub use settings::RmcConfig;

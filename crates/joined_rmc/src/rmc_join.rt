@@ -7,13 +7,12 @@ ghost use Rattle.sentence_rows.specs.Rmc.{IsMinimum};
 ghost use Rattle.history.specs.Settings.{Settings};
 ghost use Rattle.gate_model.specs.AddressStands.{name_held};
 ghost use Rattle.joined_rmc.specs.JoinStands.{IsJoinStep, JoinStands};
-ghost use Rattle.joined_rmc.specs.Kept.{IsKeptValid, Join, bytes_in, counted, datagram_in, is_due_kept, join_after, join_says, minimum_in, opened, picked, slots_after};
+ghost use Rattle.joined_rmc.specs.Kept.{IsMessageValid, Join, bytes_in, counted, datagram_in, is_due_message, join_after, join_says, minimum_in, opened, picked, rows_after};
 ghost use Rattle.joined_rmc.specs.RmcOut.{datagram_by, rule_by};
 
-use crate::kept::Kept;
+use crate::last_of_row::LastOfRow;
 use crate::minimum::minimum;
-use crate::selected::selected;
-use crate::slot::Slot;
+use crate::selected_message::SelectedMessage;
 use datagram450::{begin, push_line};
 use gate_core::{Gateway, Outbox};
 use readings::{ROWS, Row};
@@ -29,12 +28,12 @@ pub struct RmcJoin {
     talker: [u8; 2],
     /// The system function identifier by which the gateway speaks.
     sfi: Sfi,
-    time: Slot,
-    position: Slot,
+    time: LastOfRow,
+    position: LastOfRow,
     /// Course and speed over ground.
-    motion: Slot,
+    motion: LastOfRow,
     /// The magnetic heading, with the variation.
-    heading: Slot,
+    heading: LastOfRow,
     /// How many lines were said, from 0 to 998.
     count: u16,
 }
@@ -43,7 +42,7 @@ impl Model for RmcJoin {
     ghost use Rattle.std.specs.Prelude.{◌<◌, IsTrue};
     ghost use Rattle.std.specs.List.{list_all};
     ghost use Rattle.sentence_text.specs.Byte.{is_capital};
-    ghost use Rattle.joined_rmc.specs.Kept.{IsKeptValid, Join};
+    ghost use Rattle.joined_rmc.specs.Kept.{IsMessageValid, Join};
 
     ghost Value = { Join };
 
@@ -57,8 +56,8 @@ impl Model for RmcJoin {
       count = j.count;
     } };
 
-    ghost invariant = { λ j. IsTrue (list_all is_capital j.talker) × IsKeptValid j.time.kept × IsKeptValid j.position.kept
-        × IsKeptValid j.motion.kept × IsKeptValid j.heading.kept × (j.count < 999) };
+    ghost invariant = { λ j. IsTrue (list_all is_capital j.talker) × IsMessageValid j.time.message × IsMessageValid j.position.message
+        × IsMessageValid j.motion.message × IsMessageValid j.heading.message × (j.count < 999) };
 }
 
 impl RmcJoin {
@@ -72,10 +71,10 @@ impl RmcJoin {
         RmcJoin {
             talker: config.talker,
             sfi,
-            time: Slot::new(timeouts[Row::Time as usize]),
-            position: Slot::new(timeouts[Row::Position as usize]),
-            motion: Slot::new(timeouts[Row::CourseSpeed as usize]),
-            heading: Slot::new(timeouts[Row::HeadingMagnetic as usize]),
+            time: LastOfRow::new(timeouts[Row::Time as usize]),
+            position: LastOfRow::new(timeouts[Row::Position as usize]),
+            motion: LastOfRow::new(timeouts[Row::CourseSpeed as usize]),
+            heading: LastOfRow::new(timeouts[Row::HeadingMagnetic as usize]),
             count: 0,
         }
     }
@@ -86,7 +85,7 @@ impl RmcJoin {
         ensures history { IsJoinStep gateway.now emits.now self.old self.new result packet.new.items }
     {
         let moment = gateway.moment();
-        let new = selected(moment, emits);
+        let new = SelectedMessage::of(moment, emits);
         self.take(moment, gateway, &new, packet)
     }
 
@@ -95,13 +94,13 @@ impl RmcJoin {
         &mut self,
         moment: u64,
         gateway: &Gateway,
-        new: &Option<Kept>,
+        new: &Option<SelectedMessage>,
         packet: &mut Packet,
     ) -> bool
         requires empty { packet.old.items ≡ [] }
-        requires valid { IsKeptValid new.now }
+        requires valid { IsMessageValid new.now }
         ensures after { self.new ≡ join_after (name_held gateway.now.addresses.claims.holders) new.now self.old }
-        ensures says { result ≡ is_due_kept new.now }
+        ensures says { result ≡ is_due_message new.now }
         ensures packet { packet.new.items ≡ bytes_in (join_says moment (name_held gateway.now.addresses.claims.holders) new.now self.old) }
     {
         self.keep(gateway, new);
@@ -113,9 +112,9 @@ impl RmcJoin {
     }
 
     /// Keeps the newer message of each row, and no message whose sender lost its address.
-    fn keep(&mut self, gateway: &Gateway, new: &Option<Kept>)
-        requires { IsKeptValid new.now }
-        ensures { self.new ≡ slots_after (name_held gateway.now.addresses.claims.holders) new.now self.old }
+    fn keep(&mut self, gateway: &Gateway, new: &Option<SelectedMessage>)
+        requires { IsMessageValid new.now }
+        ensures { self.new ≡ rows_after (name_held gateway.now.addresses.claims.holders) new.now self.old }
     {
         self.time.keep(gateway, Row::Time, new);
         self.position.keep(gateway, Row::Position, new);
@@ -148,12 +147,12 @@ impl RmcJoin {
     }
 }
 
-fn is_due(new: &Option<Kept>) -> bool
-    ensures { result ≡ is_due_kept new.now }
+fn is_due(new: &Option<SelectedMessage>) -> bool
+    ensures { result ≡ is_due_message new.now }
 {
     match new {
         None => false,
-        Some(kept) => kept.says_position(),
+        Some(message) => message.says_position(),
     }
 }
 

@@ -1,6 +1,6 @@
 use Rattle.std.proofs.Common.{◌≡◌, ap, ◌∙◌}
 use Rattle.gate_model.specs.AddressStands.{name_held}
-use Rattle.joined_rmc.specs.Kept.{bytes_in, is_due_kept, join_after, join_says, picked}
+use Rattle.joined_rmc.specs.Kept.{bytes_in, is_due_message, join_after, join_says, picked}
 use Rattle.joined_rmc.proofs.Steps.{joins}
 use Rattle.joined_rmc.proofs.rmc_join.RmcJoin.after.Goals as goal
 
@@ -11,13 +11,13 @@ returns c =
     let before = c.args.self.now in
     let holder = name_held g.addresses.claims.holders in
     let at = c.moment-moment.ensures.moment in
-    let message : c.selected-new.result ≡ picked g.moment left.emits left.done =
-    c.selected-new.ensures.selected ∙ ap (λ m. picked m left.emits left.done) at in
+    let message : c.of-new.result ≡ picked g.moment left =
+    c.of-new.ensures.selected ∙ ap (λ m. picked m left) at in
     record {
       history =
           joins g left before c.take.new.self c.take.result c.take.new.packet.items
           (c.take.ensures.after ∙ ap (λ k. join_after holder k before) message)
-          (c.take.ensures.says ∙ ap is_due_kept message)
-          (c.take.ensures.packet ∙ ap (λ m. bytes_in (join_says m holder c.selected-new.result before)) at
+          (c.take.ensures.says ∙ ap is_due_message message)
+          (c.take.ensures.packet ∙ ap (λ m. bytes_in (join_says m holder c.of-new.result before)) at
           ∙ ap (λ k. bytes_in (join_says g.moment holder k before)) message);
     }
