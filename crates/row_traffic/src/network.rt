@@ -102,6 +102,7 @@ impl Network {
     }
 
     /// Takes the items of a datagram, in their order.
+    #[tactic(auto, using(gate_outbox::proofs::Telling::told_more, crate::proofs::Sources::still_hears))]
     fn items(&mut self, hearing: &Hearing<'_>, items: LineIter<'_>, out: &mut StepEmits)
         requires each { AllByRecursion IsItem items }
         requires hears { Hears hearing.now self.old }
