@@ -18,7 +18,7 @@ use Rattle.history.specs.Settings.{Settings}
 use Rattle.gate_model.specs.Machine.{Machine, opened_machine, started_at}
 use Rattle.gate_model.specs.Stands.{Stands}
 use Rattle.gate_outbox.specs.declared.done.Command.{Command}
-use Rattle.gate_outbox.specs.Output.{Output, and_emits, nothing}
+use Rattle.gate_outbox.specs.Output.{Output, emits_of}
 use Rattle.gate_core.specs.Promises.{IsCommandStep, IsStep, IsTaken, IsTooEarly, entry_by}
 use Rattle.gate_core.specs.Steps.{IsEventValid, by_keys, entry_of}
 use Rattle.demo.specs.declared.input.Input.{Input}
@@ -46,7 +46,7 @@ goes_on e h valid could accepted = (offered e valid, in_time e h accepted, could
 -- ---- the command
 
 pub ordered : (o : Command) (g g' : Machine) (left : Output) (before after : Tally) (m : ℕ) → o.source < 256 → IsCommandStep o.source o.address g g' left
-    → m ≡ g'.moment → after ≡ and_all before (at m left.emits) → IsOrdered o g g' before after
+    → m ≡ g'.moment → after ≡ and_all before (at m (emits_of left.emits)) → IsOrdered o g g' before after
 ordered o g g' left before after m from step moment counted c s h could stands =
     let here : Stands by_keys g.settings s h g = subst (λ (z : Settings). Stands by_keys z s h g) (sym stands.settings) stands in
     let taken : IsTaken c s h (entry_by (now h) o) g' left =
@@ -54,7 +54,7 @@ ordered o g g' left before after m from step moment counted c s h could stands =
     record {
       could = (from, refl, could);
       stands = taken.stands;
-      counted = counted ∙ ap (λ (n : ℕ). and_all before (at n left.emits)) (moment ∙ taken.stands.moment)
+      counted = counted ∙ ap (λ (n : ℕ). and_all before (at n (emits_of left.emits))) (moment ∙ taken.stands.moment)
           ∙ ap (λ (es : List Emit). and_all before (at (now h) es)) taken.emits;
     }
 
@@ -73,7 +73,7 @@ refused_so c s h e refused =
     else record { emits = at (now h) (broken rules.moment_back detail.Nothing ∷ []); after = h }) (sym refused)
 
 module _ (e : Event) (g g' : Machine) (left : Output) (before between : Tally) (m : ℕ) (valid : IsEventValid e) (step : IsStep (entry_of e) g g' left)
-    (moment : m ≡ g'.moment) (counted : between ≡ and_all before (at m left.emits)) where
+    (moment : m ≡ g'.moment) (counted : between ≡ and_all before (at m (emits_of left.emits))) where
   abbrev next : Entry
   next = entry_of e
 
@@ -90,7 +90,7 @@ module _ (e : Event) (g g' : Machine) (left : Output) (before between : Tally) (
   -- what is counted of it, where it was taken
   of_taken : (c : Settings) (s : ℕ) (h : History) → IsTaken c s h next g' left → between ≡ and_all before (at (moment_of next) (out c s h next))
   of_taken c s h t =
-      counted ∙ ap (λ (n : ℕ). and_all before (at n left.emits)) (moment ∙ t.stands.moment)
+      counted ∙ ap (λ (n : ℕ). and_all before (at n (emits_of left.emits))) (moment ∙ t.stands.moment)
       ∙ ap (λ (es : List Emit). and_all before (at (moment_of next) es)) t.emits
 
   alone : (c : Settings) (s : ℕ) (h : History) → left.command ≡ None → IsHistory h → Stands by_keys c s h g → is_accepted h next ≡ true
@@ -110,8 +110,8 @@ module _ (e : Event) (g g' : Machine) (left : Output) (before between : Tally) (
       (record {
         could = could;
         stands = subst (λ (z : Machine). Stands by_keys c s h z) (sym x.unchanged) stands;
-        counted = counted ∙ ap (λ (n : ℕ). and_all before (at n left.emits)) (moment ∙ ap (λ (z : Machine). z.moment) x.unchanged ∙ stands.moment)
-            ∙ ap (λ (o : Output). and_all before (at (now h) o.emits)) x.reported;
+        counted = counted ∙ ap (λ (n : ℕ). and_all before (at n (emits_of left.emits))) (moment ∙ ap (λ (z : Machine). z.moment) x.unchanged ∙ stands.moment)
+            ∙ ap (λ (o : Output). and_all before (at (now h) (emits_of o.emits))) x.reported;
       })
 
   pub run_alone : left.command ≡ None → IsRun next g g' before between
@@ -175,16 +175,16 @@ pub record HasRun (seed k : ℕ) (gateway : Machine) (tally : Tally) : Type 0 wh
 
 pub started_run : (seed : ℕ) (g g' : Machine) (left : Output) (before after : Tally) → g ≡ opened_machine demo_settings → g' ≡ started_at 0 g
     → Stands by_keys g'.settings 0 [] g'
-    → left ≡ and_emits nothing (own_claim g.settings.name (Some g.settings.address) ∷ request_for_claims g.settings.address ∷ [])
-    → before ≡ tally_of [] → after ≡ and_all before (at 0 left.emits) → HasRun seed 0 g' after
+    → emits_of left.emits ≡ own_claim g.settings.name (Some g.settings.address) ∷ request_for_claims g.settings.address ∷ []
+    → before ≡ tally_of [] → after ≡ and_all before (at 0 (emits_of left.emits)) → HasRun seed 0 g' after
 started_run seed g g' left before after new started stands emitted none counted =
     let was : g.settings ≡ demo_settings = ap (λ (z : Machine). z.settings) new in
     let is : g'.settings ≡ demo_settings = ap (λ (z : Machine). z.settings) started ∙ was in
     record {
       could = tt;
       stands = subst (λ (z : Settings). Stands by_keys z 0 [] g') is stands;
-      counted = counted ∙ ap (λ (y : Tally). and_all y (at 0 left.emits)) none
-          ∙ ap (λ (z : Output). and_all (tally_of []) (at 0 z.emits)) emitted
+      counted = counted ∙ ap (λ (y : Tally). and_all y (at 0 (emits_of left.emits))) none
+          ∙ ap (λ (es : List Emit). and_all (tally_of []) (at 0 es)) emitted
           ∙ ap (λ (z : Settings). and_all (tally_of []) (at 0 (own_claim z.name (Some z.address) ∷ request_for_claims z.address ∷ []))) was
           ∙ ap (and_all (tally_of [])) (sym (append-nil (opening demo_settings 0)));
     }

@@ -1,5 +1,5 @@
 -- How the gateway is configured that takes the made-up input, as plain values.
-use Rattle.std.specs.Prelude.{ℕ, true, false, List, [], ◌∷◌, map, codes}
+use Rattle.std.specs.Prelude.{true, false, [], ◌∷◌, map, codes}
 use Rattle.readings.specs.declared.rows.Row.{Row}
 use Rattle.readings.specs.About.{about_of, rows}
 use Rattle.history.specs.Settings.{RowRule, Settings}

@@ -2,7 +2,7 @@
 ghost use Rattle.std.specs.Prelude.{◌≡◌, ◌+◌, ◌<◌, ◌≤◌, ◌^◌, [], drop, take};
 ghost use Rattle.std.specs.List.{fold};
 ghost use Rattle.gate_events.specs.Emit.{CanWrite};
-ghost use Rattle.gate_outbox.specs.Output.{emit_of};
+ghost use Rattle.gate_outbox.specs.Output.{emit_of, emits_of};
 ghost use Rattle.history.specs.Emits.{at};
 ghost use Rattle.demo.specs.Tally.{and_all, and_one, counted, folded, tally_of, total};
 
@@ -44,7 +44,7 @@ impl Tally {
     /// Counts all that a call of the gateway left, at this moment.
     pub(crate) fn add_all(&mut self, emits: &Outbox, moment: u64)
         requires { total self.old < 2 ^ 63 }
-        ensures tally { self.new ≡ and_all self.old (at moment emits.now.emits) }
+        ensures tally { self.new ≡ and_all self.old (at moment (emits_of emits.now.emits)) }
         ensures few { total self.new ≤ total self.old + 4096 }
     {
         let mut line = Line::new();
@@ -56,7 +56,7 @@ impl Tally {
     /// Counts the emit at a place: nothing beyond the list.
     fn add_at(&mut self, emits: &Outbox, place: usize, moment: u64, line: &mut Line)
         requires { total self.old + 1 < 2 ^ 64 }
-        ensures { self.new ≡ and_all self.old (at moment (take 1 (drop place emits.now.emits))) }
+        ensures { self.new ≡ and_all self.old (at moment (take 1 (drop place (emits_of emits.now.emits)))) }
     {
         match emits.item(place) {
             Some(emit) => self.add(&emit, moment, line),

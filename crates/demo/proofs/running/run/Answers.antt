@@ -1,4 +1,5 @@
 use Rattle.std.proofs.Common.{◌≡◌, ℕ, ap, subst, ◌∙◌, arith}
+use Rattle.gate_outbox.specs.Output.{Output, emits_of}
 use Rattle.history.specs.Gate.{gate}
 use Rattle.demo.specs.Input.{events}
 use Rattle.demo.specs.Setup.{demo_settings}
@@ -10,7 +11,7 @@ use Rattle.demo.proofs.running.run.Goals as goal
 pub loop-number-init : goal.loop-number-init
 loop-number-init c = record {
   ran = started_run c.args.seed c.args.gateway.now c.start.new.self c.start.new.out c.new-tally.result c.add_all.new.self c.requires.new c.start.ensures.after
-      c.start.ensures.stands c.start.ensures.emits c.new-tally.ensures c.add_all.ensures.tally;
+      c.start.ensures.stands (ap (λ (o : Output). emits_of o.emits) c.start.ensures.emits) c.new-tally.ensures c.add_all.ensures.tally;
   few = omega (arith, c.add_all.ensures.few, ap total c.new-tally.ensures);
   before = c.new-input.ensures;
 }
