@@ -15,8 +15,7 @@ use Rattle.gate_model.specs.Said.{SaidKept, Complete, complete_by, reading_by, m
 use Rattle.bus_messages.specs.Contents.{content_in}
 use Rattle.gate_outbox.specs.declared.done.Command.{Command}
 use Rattle.row_traffic.specs.Saying.{message_from}
-use Rattle.gate_outbox.specs.Output.{Output}
-use Rattle.row_traffic.specs.Saying.{and_posted}
+use Rattle.gate_outbox.specs.Output.{and_posted, Output}
 use Rattle.gate_core.specs.Steps.{done_of, command_of, first_there}
 use Rattle.gate_core.specs.Completing.{sender_by, said_after, said_emits, done_by, command_by, and_message}
 

@@ -1,16 +1,14 @@
 -- An entry when what was overdue has ended, and one that is taken by an outbox in which there is nothing.
-use Rattle.std.proofs.Common.{◌≡◌, ℕ, ◌≤◌, List, [], ◌∷◌, length, Option, Some, None, option_map, refl, ap, arith}
+use Rattle.std.proofs.Common.{◌≡◌, ℕ, ◌≤◌, length, Option, Some, None, option_map, refl, ap}
 use Rattle.history.specs.Entries.{Entry, moment_of}
-use Rattle.gate_events.specs.Emit.{Emit}
 use Rattle.gate_model.specs.Addresses.{Changed, changes_after}
 use Rattle.gate_model.specs.Machine.{Machine, Step, counted_in, later, overdue}
 use Rattle.gate_model.specs.MachineSteps.{entered, handled}
 use Rattle.gate_model.specs.Said.{ordered_by}
 use Rattle.gate_outbox.specs.declared.done.Done.{Done}
 use Rattle.gate_outbox.specs.declared.done.Command.{Command}
-use Rattle.gate_outbox.specs.Output.{Emitted, Output, and_told, told_with, most_told, nothing}
-use Rattle.gate_outbox.proofs.Telling.{told_more, told_fits}
-use Rattle.row_traffic.specs.Saying.{and_posted}
+use Rattle.gate_outbox.specs.Output.{Emitted, Output, and_told, most_told, nothing}
+use Rattle.gate_outbox.proofs.Telling.{left_behind, left_first}
 use Rattle.gate_core.specs.Steps.{by_keys, and_step, output_of, first_there, done_of, command_of}
 
 module _ (g g₁ : Machine) (e : Entry) (m : ℕ) (now : m ≡ moment_of e) (passed : g₁ ≡ later m g) where
@@ -26,16 +24,12 @@ module _ (g g₁ : Machine) (e : Entry) (m : ℕ) (now : m ≡ moment_of e) (pas
       let h : Step = handled by_keys (later (moment_of e) g) e in
       rw (gives, tells, passed, now, ← view)
       (ap (λ x. let all : Output = record {
-        emits = and_posted x h.posted;
+        emits = x;
         done = first_there (option_map done_of h.complete) done;
         command = first_there (option_map command_of (ordered_by g.settings.name h.complete)) command;
-      } in all) (told_more most_told told (overdue (moment_of e) g) h.told))
+      } in all) (left_behind most_told told (record { told = h.told; posted = h.posted }) (overdue (moment_of e) g)))
 
 -- ---- where nothing was in the outbox, there is room for what a step leaves
-
-posted_alone : (told posted : List Emit) → and_posted (record { told = told; posted = [] }) posted ≡ record { told = told; posted = posted }
-posted_alone told [] = refl
-posted_alone told (e ∷ es) = refl
 
 first_alone : {T : Type 0} (o : Option T) → first_there o None ≡ o
 first_alone None = refl
@@ -43,12 +37,10 @@ first_alone (Some there) = refl
 
 pub output_fits : (name : ℕ) (o left : Output) (x : Step) → o ≡ nothing → length x.told ≤ 4095 → left ≡ and_step name o x → left ≡ output_of name x
 output_fits name o left x empty room gives =
-    let all : told_with most_told [] x.told ≡ x.told = told_fits most_told [] x.told (omega (arith, room)) in
     rw (
       gives,
       empty,
-      all,
-      posted_alone x.told x.posted,
+      left_first most_told (record { told = x.told; posted = x.posted }) room,
       first_alone (option_map done_of x.complete),
       first_alone (option_map command_of (ordered_by name x.complete)),
     ) refl

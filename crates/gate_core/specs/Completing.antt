@@ -9,8 +9,8 @@ use Rattle.gate_outbox.specs.declared.done.Done.{Done}
 use Rattle.gate_outbox.specs.declared.done.Command.{Command}
 use Rattle.bus_messages.specs.declared.messages.Content.{Content}
 use Rattle.row_traffic.specs.declared.said.Sender.{Sender}
-use Rattle.gate_outbox.specs.Output.{Output}
-use Rattle.row_traffic.specs.Saying.{and_posted, message_from}
+use Rattle.gate_outbox.specs.Output.{and_posted, Output}
+use Rattle.row_traffic.specs.Saying.{message_from}
 use Rattle.gate_core.specs.Steps.{first_there}
 
 abbrev pub sender_by : ℕ → ℕ → Holder → Sender

@@ -12,8 +12,7 @@ use Rattle.history.specs.Entries.{Entry}
 use Rattle.gate_model.specs.Said.{Complete, Ordered, reading_by, ordered_by}
 use Rattle.gate_model.specs.Machine.{Compared, Machine, Step}
 use Rattle.gate_events.specs.Emit.{Emit}
-use Rattle.gate_outbox.specs.Output.{Output, and_told, most_told}
-use Rattle.row_traffic.specs.Saying.{and_posted}
+use Rattle.gate_outbox.specs.Output.{Output, and_left, most_told}
 use Rattle.gate_outbox.specs.declared.done.Done.{Done}
 use Rattle.gate_outbox.specs.declared.done.Command.{Command}
 
@@ -54,7 +53,7 @@ first_there (Some there) before = Some there
 -- an outbox with all that a step leaves behind what was in it, as far as there is room
 abbrev pub and_step : ℕ → Output → Step → Output
 and_step name o x = record {
-  emits = and_posted (and_told most_told o.emits x.told) x.posted;
+  emits = and_left most_told o.emits (record { told = x.told; posted = x.posted });
   done = first_there (option_map done_of x.complete) o.done;
   command = first_there (option_map command_of (ordered_by name x.complete)) o.command;
 }

@@ -13,7 +13,7 @@ use Rattle.tag_block.specs.declared.group_key.GroupKey.{GroupKey}
 use Rattle.gate_events.specs.declared.emit.Report.{Report}
 use Rattle.gate_events.specs.Emit.{Emit, report}
 use Rattle.history.specs.Emits.{broken, of_source, reported}
-use Rattle.gate_outbox.specs.Output.{Emitted, and_told, one_told, told_with}
+use Rattle.gate_outbox.specs.Output.{Emitted, and_left, and_posted, and_told, no_emits, one_told, told_with, with_posted}
 
 -- ---- what is told in two parts is told as one
 
@@ -34,6 +34,23 @@ told_fits room es (e ∷ a) fits =
     let first : one_told room es e ≡ es ++ e ∷ [] = grind (arith, nat_tests) in
     let more = length-append es (e ∷ []) in
     rw first (told_fits room (es ++ e ∷ []) a (omega (arith, fits, more)) ∙ append_assoc es (e ∷ []) a)
+
+-- ---- what is left behind what was told
+
+pub left_behind : (room : ℕ) (x more : Emitted) (told : List Emit)
+    → and_left room (and_told room x told) more ≡ and_left room x (record { told = told ++ more.told; posted = more.posted })
+left_behind room x more told = ap (λ y. and_posted y more.posted) (told_more room x told more.told)
+
+-- and where nothing was, it is all that is there
+pub left_first : (room : ℕ) (more : Emitted) → length more.told ≤ room → and_left room no_emits more ≡ more
+left_first room more fits = posted_alone more.posted
+  where
+    told_alone : and_told room no_emits more.told ≡ record { told = more.told; posted = [] }
+    told_alone = ap (λ told. record { told = told; posted = [] }) (told_fits room [] more.told (omega (arith, fits)))
+
+    posted_alone : (posted : List Emit) → and_posted (and_told room no_emits more.told) posted ≡ record { told = more.told; posted = posted }
+    posted_alone [] = told_alone
+    posted_alone (e ∷ es) = ap (λ x. with_posted x (e ∷ es)) told_alone
 
 module _ {X : Type 0} (p : X → Bool) (tell : X → List Emit) where
   told_first : (xs : List X) (x : X) → find p xs ≡ Some x

@@ -39,6 +39,15 @@ and_told room x more = record { told = told_with room x.told more; posted = x.po
 abbrev pub with_posted : Emitted → List Emit → Emitted
 with_posted x posted = record { told = x.told; posted = posted }
 
+-- what is posted, where it is there; else all stays
+abbrev pub and_posted : Emitted → List Emit → Emitted
+and_posted x [] = x
+and_posted x (e ∷ es) = with_posted x (e ∷ es)
+
+-- all that is left, behind what was there before
+abbrev pub and_left : ℕ → Emitted → Emitted → Emitted
+and_left room x more = and_posted (and_told room x more.told) more.posted
+
 abbrev pub is_there : List Emit → Bool
 is_there [] = false
 is_there (e ∷ es) = true

@@ -1,9 +1,7 @@
 -- What the code hands over of a message that is said on the network, and of its sender.
-use Rattle.std.specs.Prelude.{ℕ, Bool, List, [], ◌∷◌, map, Option, Some, None, if◌then◌else◌}
+use Rattle.std.specs.Prelude.{ℕ, Bool, List, [], map, Option, Some, None, if◌then◌else◌}
 use Rattle.sentence_rows.specs.declared.lines.SentenceText.{SentenceText}
-use Rattle.gate_events.specs.Emit.{Emit}
 use Rattle.gate_model.specs.Said.{Complete}
-use Rattle.gate_outbox.specs.Output.{Emitted, with_posted}
 use Rattle.row_traffic.specs.declared.said.Sender.{Sender}
 
 -- a message from it; what it says is read already
@@ -17,8 +15,3 @@ texts sentences = map (λ text. text.bytes.items) sentences
 abbrev pub or_last : Bool → ℕ → Option ℕ → Option ℕ
 or_last others last (Some place) = Some place
 or_last others last None = if others then Some last else None
-
--- the datagram that is said is posted; where none is, all stays
-abbrev pub and_posted : Emitted → List Emit → Emitted
-and_posted x [] = x
-and_posted x (e ∷ es) = with_posted x (e ∷ es)

@@ -13,8 +13,8 @@ ghost use Rattle.gate_model.specs.Said.{SaidKept, is_chosen, noted_by, counted, 
 ghost use Rattle.gate_model.specs.Said.{ranked_after, ranked_emits, profiled_after, profiled_emits};
 ghost use Rattle.config_values.specs.Configs.{IsConfig};
 ghost use Rattle.config_values.specs.Settings.{settings_of, rule_of_row};
-ghost use Rattle.row_traffic.specs.Saying.{and_posted, message_from};
-ghost use Rattle.gate_outbox.specs.Output.{with_posted};
+ghost use Rattle.row_traffic.specs.Saying.{message_from};
+ghost use Rattle.gate_outbox.specs.Output.{and_posted, with_posted};
 
 use crate::rows::{number, row_at, row_config, says_something};
 use crate::said::ranks::rank_in;
