@@ -1,13 +1,10 @@
 -- A bridge that stands for a history stands for it with a command as well.
-use Rattle.std.proofs.Common.{◌≡◌, ℕ, ◌+◌, ◌%◌, sym, ap, ◌∙◌, arith}
+use Rattle.std.proofs.Common.{ℕ, ◌%◌, ap, ◌∙◌, arith}
 use Rattle.tag_block.specs.Numbers.{most_count}
-use Rattle.claim_table.proofs.LawLemmas.{command_keeps_holders}
 use Rattle.history.specs.Entries.{now}
-use Rattle.history.specs.Known.{known}
 use Rattle.gate_model.proofs.FastLosses.{commands_leave_fast}
 use Rattle.gate_core.specs.Steps.{by_keys}
-use Rattle.ais_bridge.specs.AisOut.{ais_receiver, lines_said}
-use Rattle.ais_bridge.specs.AisKept.{names_of}
+use Rattle.ais_bridge.specs.AisOut.{ais_receiver}
 use Rattle.ais_bridge.specs.Promises.{CommandsLeaveAis}
 use Rattle.ais_bridge.proofs.KnownLemmas.{is_receiver}
 
@@ -16,6 +13,5 @@ commands_leave_ais a c s h source address k settings it = let r = ais_receiver a
   group = it.group;
   sfi = it.sfi;
   slots = commands_leave_fast by_keys.fast r s h (now h) (now h) source address k.slots (is_receiver a c settings) it.slots;
-  names = it.names ∙ ap names_of (sym (command_keeps_holders (known r s h).claims address (now h)));
   lines = it.lines ∙ ap (λ (n : ℕ). n % most_count) (omega arith);
 }

@@ -1,6 +1,5 @@
 -- What a frame is to the bridge, by its parts, and what a frame of a report breaks and completes.
-use Rattle.std.proofs.Common.{◌≡◌, ℕ, Bool, true, false, ◌&&◌, ◌||◌, not, ◌==◌, min, List, [], ◌∷◌, ◌++◌, length, Option, Some, None, option_map, is_some, if◌then◌else◌, refl, sym, ap, ◌∙◌, append-nil, arith}
-use Rattle.std.specs.declared.cmp.Ordering.{Ordering}
+use Rattle.std.proofs.Common.{◌≡◌, ℕ, Bool, true, false, ◌&&◌, not, ◌==◌, min, List, [], ◌∷◌, ◌++◌, length, Option, Some, None, option_map, is_some, if◌then◌else◌, refl, ap, ◌∙◌, append-nil, arith}
 use Rattle.report_rules.specs.Rules as rules
 use Rattle.n2k_id.specs.Frame.{BusFrame}
 use Rattle.n2k_id.specs.Identifier.{parts_of}
@@ -10,7 +9,6 @@ use Rattle.claim_table.specs.Claims.{holder_at}
 use Rattle.claim_table.specs.Laws.{capped}
 use Rattle.claim_table.specs.declared.answer.Holder.{Holder}
 use Rattle.pgn_profile.specs.Profiled.{profiled, messages}
-use Rattle.pgn_profile.specs.declared.kinds.Kind.{Kind}
 use Rattle.pgn_profile.specs.declared.kinds.Kind.TheVariants.{Fast, Outside}
 use Rattle.history.specs.BusRules.{is_short}
 use Rattle.history.specs.Meanings as meaning
@@ -18,19 +16,19 @@ use Rattle.history.specs.Meanings.{Meaning, by_kind, fast_packet, from_nobody, i
 use Rattle.history.specs.Traces.{is_transport}
 use Rattle.history.specs.Entries.{History, frame}
 use Rattle.history.specs.Receiver.{Receiver}
-use Rattle.history.specs.Known.{known, is_claim}
-use Rattle.history.specs.Messages.{Carried, Message, carried, done, said_by}
+use Rattle.history.specs.Known.{known}
+use Rattle.history.specs.Messages.{carried, done, said_by}
 use Rattle.history.specs.Emits.{report_of}
 use Rattle.history.specs.FromBus.{frame_refused, meaning_after}
 use Rattle.history.specs.AddressLaws.{IsReceiver}
 use Rattle.history.specs.RuleLaws.{fast_refusal_breaks}
-use Rattle.gate_model.specs.AddressStands.{FrameIsTold, StandsAddresses}
+use Rattle.gate_model.specs.AddressStands.{FrameIsTold, changes_in}
 use Rattle.gate_model.specs.Addresses.{AddressesKept, last_index, plain_done, plain_reports}
 use Rattle.gate_model.specs.FastPackets.{FastAnswer, answer_reports, carried_by, restarted_reports, sender_of}
 use Rattle.gate_model.specs.Said.{short_reports}
 use Rattle.gate_model.proofs.AddressFrames.{frames_are_told}
+use Rattle.bus_messages.specs.Heard.{heard_reports}
 use Rattle.ais_bridge.specs.AisOut.{is_heard, report_kinds, report_pgn}
-use Rattle.ais_bridge.specs.AisKept.{answer_breaks}
 
 -- ---- by its parts
 
@@ -96,7 +94,7 @@ unfolding messages
 not_short payload = refl
 
 pub reports_are : (parts : Parts) (answer : FastAnswer) → parts.pgn ≡ 129038
-    → answer_reports parts answer (carried_by parts.pgn answer) ≡ answer_breaks parts answer
+    → answer_reports parts answer (carried_by parts.pgn answer) ≡ heard_reports parts answer
 reports_are parts answer is =
     ap (λ more. restarted_reports parts answer.restarted ++ (fast_refusal_breaks (sender_of parts) answer.refused ++ more))
     (ap (λ pgn. short_reports parts.source (carried_by pgn answer)) is ∙ none answer.payload)
@@ -109,12 +107,12 @@ reports_are parts answer is =
 -- ---- a frame from nobody
 
 abbrev kept_for : Receiver → ℕ → History → AddressesKept
-kept_for r s h = record { claims = capped last_index (known r s h).claims; count = min last_index (length h) }
+kept_for r s h = record { claims = capped last_index (known r s h).claims; count = min last_index (length h); changed = changes_in r s h }
 
 module _ (r : Receiver) (s : ℕ) (h : History) (m : ℕ) (f : BusFrame) (are : IsReceiver r) (is : meaning_after r s h m f ≡ from_nobody) where
   told : FrameIsTold r s h m f (kept_for r s h)
   told =
-      frames_are_told r s h m f (kept_for r s h) are (record { claims = refl; count = refl }) (ap is_of_session is) (ap is_of_fast_packet is)
+      frames_are_told r s h m f (kept_for r s h) are (record { claims = refl; count = refl; changed = refl }) (ap is_of_session is) (ap is_of_fast_packet is)
 
   pub nobody_refused : frame_refused r s h m f ≡ report_of rules.unclaimed (sender_of (parts_of f.id)) ∷ []
   nobody_refused = told.reports ∙ ap (λ what. plain_reports r.name what (parts_of f.id) f.held) (told.meaning ∙ is)

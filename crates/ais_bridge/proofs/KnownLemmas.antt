@@ -1,16 +1,38 @@
 -- What the bridge knows of the addresses is what the gateway knows.
-use Rattle.std.proofs.Common.{◌≡◌, ℕ, [], ◌∷◌, length, refl, ap}
+use Rattle.std.proofs.Common.{◌≡◌, ℕ, [], ◌∷◌, length, if◌then◌else◌, refl, ap, ◌∙◌}
+use Rattle.claim_table.specs.Claims.{claim}
+use Rattle.claim_table.specs.Laws.{capped}
 use Rattle.settings.specs.declared.ais.AisConfig.{AisConfig}
 use Rattle.history.specs.AddressLaws.{AreSettings, IsReceiver}
+use Rattle.history.specs.Entries as entry
 use Rattle.history.specs.Entries.{Entry, History}
-use Rattle.history.specs.Known.{known, known_after}
+use Rattle.history.specs.Known.{claim_by, is_claim, known, known_after}
 use Rattle.history.specs.Receiver.{receiver_of}
 use Rattle.history.specs.Settings.{Settings}
+use Rattle.gate_model.specs.Addresses.{AddressesKept, changed_by, last_index, no_change}
+use Rattle.gate_model.specs.AddressStands.{StandsAddresses, changes_in}
 use Rattle.ais_bridge.specs.AisOut.{ais_receiver}
 
-pub same_known : (a : AisConfig) (c : Settings) (s : ℕ) (h : History) → known (ais_receiver a c) s h ≡ known (receiver_of c) s h
-same_known a c s [] = refl
-same_known a c s (e ∷ h) = ap (λ k. known_after (length h) k e) (same_known a c s h)
+module _ (a : AisConfig) (c : Settings) (s : ℕ) where
+  same_known : (h : History) → known (receiver_of c) s h ≡ known (ais_receiver a c) s h
+  same_known [] = refl
+  same_known (e ∷ h) = ap (λ k. known_after (length h) k e) (same_known h)
+
+  same_changes : (h : History) → changes_in (receiver_of c) s h ≡ changes_in (ais_receiver a c) s h
+  same_changes [] = refl
+  same_changes (entry.frame m f ∷ h) =
+      ap (λ k. if is_claim f then changed_by (claim k.claims (claim_by (length h) m f)).step else no_change) (same_known h)
+  same_changes (entry.datagram m bytes ∷ h) = refl
+  same_changes (entry.tick m ∷ h) = refl
+  same_changes (entry.command m source address ∷ h) = refl
+
+  -- what the gateway keeps of them stands for what the bridge heard
+  pub gateway_stands : (h : History) (g : AddressesKept) → StandsAddresses (receiver_of c) s h g → StandsAddresses (ais_receiver a c) s h g
+  gateway_stands h g it = record {
+    claims = it.claims ∙ ap (λ k. capped last_index k.claims) (same_known h);
+    count = it.count;
+    changed = it.changed ∙ same_changes h;
+  }
 
 pub is_receiver : (a : AisConfig) (c : Settings) → AreSettings c → IsReceiver (ais_receiver a c)
 is_receiver a c it = record {

@@ -1,12 +1,6 @@
-pub mod NameLemmas
 pub mod KnownLemmas
-pub mod ClaimLemmas
 pub mod FrameLemmas
 pub mod CommandLemmas
 pub mod StepLemmas
 pub mod EventLemmas
 pub mod RoomLemmas
-pub mod OpeningLemmas
-pub mod TellingLemmas
-pub mod EmittedLemmas
-pub mod FeedLemmas

@@ -15,8 +15,7 @@ use Rattle.gate_model.specs.Machine.{Machine}
 use Rattle.gate_model.specs.Stands.{Stands}
 use Rattle.gate_core.specs.Steps.{by_keys}
 use Rattle.ais_bridge.specs.AisOut.{ais_receiver, ais_out, lines_said}
-use Rattle.gate_model.specs.AddressStands.{name_held}
-use Rattle.ais_bridge.specs.AisKept.{AisKept, AisStep, ais_step, names_of}
+use Rattle.ais_bridge.specs.AisKept.{AisKept, AisStep, ais_step}
 
 -- what the bridge keeps stands for a history of the gateway with these settings
 pub record StandsAis (a : AisConfig) (c : Settings) (s : ℕ) (h : History) (k : AisKept) : Type 0 where
@@ -24,12 +23,11 @@ pub record StandsAis (a : AisConfig) (c : Settings) (s : ℕ) (h : History) (k :
   pub sfi : k.sfi ≡ c.sfi
   -- the reports in the making are those that are open at the moment of the last entry, each with the frames of it that came
   pub slots : StandsFastFor by_keys.fast (ais_receiver a c) s h (now h) k.slots
-  pub names : k.names ≡ names_of (known (ais_receiver a c) s h).claims.holders
   pub lines : k.lines ≡ lines_said a c s h % most_count
 
 -- what an event makes of it and gives, after the gateway has taken it
 abbrev pub step_by : Machine → AisKept → Entry → AisStep
-step_by gateway k e = ais_step by_keys.fast gateway.addresses.claims.own (name_held gateway.addresses.claims.holders) k e
+step_by gateway k e = ais_step by_keys.fast gateway.addresses k e
 
 -- ---- the start
 

@@ -1,6 +1,6 @@
 -- How a position report of a ship (NMEA 2000 PGN 129038; ITU-R M.1371) is told to the network: the rules that it can break, and the datagram
 -- in which it is passed on (IEC 61162-1, VDM; IEC 61162-450).
-use Rattle.std.specs.Prelude.{ℕ, ◌+◌, ◌%◌, Bool, true, false, List, [], ◌∷◌, ◌++◌, Option, Some, None, Result, Ok, Err}
+use Rattle.std.specs.Prelude.{ℕ, ◌+◌, ◌%◌, List, [], ◌∷◌, ◌++◌, Option, Some, None, option_map, Result, Ok, Err}
 use Rattle.report_rules.specs.Rules as rules
 use Rattle.sentence_text.specs.Sentence.{SentenceParts, sentence}
 use Rattle.tag_block.specs.Numbers.{most_count}
@@ -13,7 +13,7 @@ use Rattle.ais_report.specs.Armour.{armour_of}
 use Rattle.ais_report.specs.Converted.{converted}
 use Rattle.gate_events.specs.Emit.{Emit, net}
 use Rattle.history.specs.Emits.{of_source}
-use Rattle.history.specs.Messages.{Carried}
+use Rattle.gate_outbox.specs.Output.{Emitted, emits_of, no_emits}
 
 -- ---- the sentence: one of one, without a number of its own; the channel's letter, the report, and no bit that fills it up
 
@@ -33,25 +33,25 @@ report_sentence x = sentence (report_parts x)
 unfoldable pub report_datagram : List ℕ → ℕ → AisReport × ℕ → List ℕ
 report_datagram sfi before x = header ++ line_text (record { group = None; source = sfi; count = before % most_count + 1 }) (report_sentence x)
 
--- ---- a payload: a datagram, or the rule that it breaks
+-- ---- a payload that was converted: a datagram, or the rule that it breaks; nothing where there is none
 
 module _ (group sfi : List ℕ) (before source pgn : ℕ) where
-  abbrev pub converted_gives : Result (AisReport × ℕ) AisFault → List Emit
-  converted_gives (Ok x) = net group (report_datagram sfi before x) ∷ []
-  converted_gives (Err Short) = of_source rules.short_message source pgn ∷ []
-  converted_gives (Err Outside) = of_source rules.ais_report_outside source pgn ∷ []
+  abbrev pub said_gives : Option (Result (AisReport × ℕ) AisFault) → Emitted
+  said_gives None = no_emits
+  said_gives (Some (Ok x)) = record { told = []; posted = net group (report_datagram sfi before x) ∷ [] }
+  said_gives (Some (Err Short)) = record { told = of_source rules.short_message source pgn ∷ []; posted = [] }
+  said_gives (Some (Err Outside)) = record { told = of_source rules.ais_report_outside source pgn ∷ []; posted = [] }
 
   -- where there is a message
   abbrev pub carried_gives : Option (List ℕ) → List Emit
-  carried_gives None = []
-  carried_gives (Some payload) = converted_gives (converted payload)
+  carried_gives payload = emits_of (said_gives (option_map (λ p. converted p) payload))
 
 -- ---- how many lines it is told in
 
-abbrev pub lines_of_converted : Result (AisReport × ℕ) AisFault → ℕ
-lines_of_converted (Ok x) = 1
-lines_of_converted (Err fault) = 0
+abbrev pub lines_of_said : Option (Result (AisReport × ℕ) AisFault) → ℕ
+lines_of_said None = 0
+lines_of_said (Some (Ok x)) = 1
+lines_of_said (Some (Err fault)) = 0
 
 abbrev pub lines_of : Option (List ℕ) → ℕ
-lines_of None = 0
-lines_of (Some payload) = lines_of_converted (converted payload)
+lines_of payload = lines_of_said (option_map (λ p. converted p) payload)

@@ -1,19 +1,15 @@
 //! The bridge for ships around: position reports of the bus (NMEA 2000 PGN 129038, AIS class A) to the network, as `VDM` sentences with a
 //! report of ITU-R M.1371.
 //!
-//! It acts after each step of the gateway, and asks it who holds an address. No call but [`AisBridge::new`] takes memory.
+//! It acts after each step of the gateway, and asks it who holds an address, and which addresses changed hands. No call but [`AisBridge::new`] takes memory.
 #![tactic(auto)]
 
 mod bridge;
-mod claims;
-mod emits;
-mod feeding;
+mod hearing;
 mod laws;
-mod told;
 mod writing;
 
 pub use ais_report::{AisFault, AisReport, armour, convert, read_armour};
-pub use bridge::AisBridge;
-pub use emits::AisEmits;
+pub use bridge::{AisBridge, AisEmits};
 pub use laws::{commands_leave_the_bridge, open_reports_keep_the_limit};
 pub use settings::AisConfig;

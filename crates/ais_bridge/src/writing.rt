@@ -1,7 +1,6 @@
 //! The datagram of a report.
 ghost use Rattle.std.specs.Prelude.{◌≡◌, ◌+◌, ◌<◌, ◌≤◌, [], ◌++◌, length};
 ghost use Rattle.arrayvec.specs.ArrayVec.{array_vec_len};
-ghost use Rattle.sentence_text.specs.Names.{IsSfi};
 ghost use Rattle.ais_report.specs.Fields.{IsReport};
 ghost use Rattle.ais_bridge.specs.Reports.{report_datagram, report_sentence};
 
@@ -24,7 +23,6 @@ pub(crate) fn write_report(
     packet: &mut Packet,
 )
     requires valid { IsReport report.now }
-    requires form { IsSfi source }
     requires count { before < 999 }
     requires empty { packet.old.items ≡ [] }
     ensures { packet.new.items ≡ report_datagram source before (report.now, channel) }
