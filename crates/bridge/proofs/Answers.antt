@@ -1,57 +1,34 @@
 -- What is answered is what the definition over all that ever came says.
-use Rattle.std.proofs.Common.{◌≡◌, ℕ, ◌+◌, ◌*◌, Bool, true, false, List, [], ◌∷◌, ◌++◌, refl, sym, ap, subst, ◌∙◌, arith}
-use Rattle.std.specs.Prelude.{◌%◌, ◌&&◌, ◌==◌, Option, map, if◌then◌else◌}
+use Rattle.std.proofs.Common.{◌≡◌, ℕ, ◌+◌, ◌*◌, ◌≤◌, Bool, true, false, List, [], ◌∷◌, length, refl, sym, ap, subst, ◌∙◌, arith}
+use Rattle.std.specs.Prelude.{◌%◌, ◌&&◌, ◌==◌, Option, if◌then◌else◌}
 use Rattle.std.proofs.lemmas.Bool.{eqb-true}
 use Rattle.std.proofs.lemmas.List.{append-nil}
 use Rattle.n2k_id.specs.declared.frame.Frame.{Frame}
 use Rattle.n2k_id.specs.Frame.{BusFrame, bus_frame}
-use Rattle.n2k_id.specs.Identifier.{parts_of}
 use Rattle.gate_events.specs.declared.event.Event.{Event}
 use Rattle.gate_events.specs.declared.event.Event.TheVariants as event
 use Rattle.claim_table.specs.Claims.{is_ready}
-use Rattle.report_rules.specs.Rules as rules
-use Rattle.history.specs.Pgns as pgns
-use Rattle.gate_events.specs.Emit.{Emit, can}
-use Rattle.history.specs.Emits.{of_source}
+use Rattle.gate_events.specs.Emit.{Emit}
 use Rattle.history.specs.Entries as entry
 use Rattle.history.specs.Entries.{Entry, History}
 use Rattle.history.specs.Receiver.{receiver_of}
 use Rattle.history.specs.Settings.{Settings}
 use Rattle.gate_model.specs.Machine.{Machine}
 use Rattle.gate_model.proofs.AddressTells.{standing_tells_alike}
-use Rattle.gate_outbox.specs.Output.{Output}
+use Rattle.gate_outbox.specs.Output.{Emitted, Output, and_told, emits_of, no_emits, told_with}
+use Rattle.gate_outbox.proofs.Telling.{told_fits}
 use Rattle.gate_core.specs.Steps.{entry_of}
-use Rattle.bus_identity.specs.Answers.{Kept, answer_frames, answered, answered_by, frames_from, kept_after}
+use Rattle.bus_identity.specs.Answers.{Kept, kept_after}
 use Rattle.bus_identity.specs.Pgns.{product_information, pgn_lists}
 use Rattle.bus_identity.specs.Requests.{asked_of, is_due}
 use Rattle.bridge.specs.Answered.{answer_by, answered_before, own_after, ready_after, sent_before}
 use Rattle.bridge.specs.Beside.{AnsweringStands, IsAnswered, IsAnswering, IsStepped}
-use Rattle.bridge.specs.Kept.{Answering, early_report, frames_left, quiet_answering, report_left}
 
--- ---- what was left
+-- ---- what is told
 
-can_each : (items : List Frame) → frames_left items ≡ map can (map bus_frame items)
-can_each [] = refl
-can_each (f ∷ items) = ap (λ (es : List Emit). can (bus_frame f) ∷ es) (can_each items)
-
-left_by : (due ready : Bool) (frames : List BusFrame) (items : List Frame) (f : BusFrame)
-    → map bus_frame items ≡ (if due && ready then frames else [])
-    → frames_left items ++ report_left (early_report (answered_by due ready) f)
-    ≡ (if due then (if ready then map can frames else of_source rules.not_ready (parts_of f.id).source pgns.request ∷ []) else [])
-left_by true true frames items f e = append-nil (frames_left items) ∙ can_each items ∙ ap (map can) e
-left_by true false frames items f e =
-    ap (λ (es : List Emit). es ++ of_source rules.not_ready (parts_of f.id).source pgns.request ∷ []) (can_each items ∙ ap (map can) e)
-left_by false ready frames items f e = append-nil (frames_left items) ∙ can_each items ∙ ap (map can) e
-
-pub left_answered : (k : Kept) (own : Option ℕ) (ready : Bool) (f : BusFrame) (items : List Frame)
-    → map bus_frame items ≡ answer_frames k own ready f
-    → frames_left items ++ report_left (early_report (answered own ready f) f) ≡ answer_by k own ready f
-left_answered k own ready f items e = left_by (is_due own f) ready (frames_from k own f) items f e
-
--- nothing was left before
-pub nothing_left : (items : List Frame) (rest : List Emit) → frames_left items ++ rest ≡ [] → items ≡ []
-nothing_left [] rest e = refl
-nothing_left (f ∷ items) rest e = absurd cc
+-- what is told where nothing was, and there is room
+all_told : (room : ℕ) (es : List Emit) → length es ≤ room → emits_of (and_told room no_emits es) ≡ es
+all_told room es few = append-nil (told_with room [] es) ∙ told_fits room [] es (omega (arith, few))
 
 -- ---- what is counted
 
@@ -92,11 +69,11 @@ sent_then c s information h m f =
 
 -- ---- an entry that the gateway has taken
 
-module _ (information : List ℕ) (c : Settings) (s : ℕ) (h : History) (g : Machine) (left : Output) (before after : Answering) where
-  pub frame_answered : (m : ℕ) (f : BusFrame) → IsStepped c s h (entry.frame m f) g left → AnsweringStands information c s h before
-      → after.kept ≡ kept_after before.kept g.addresses.claims.own (is_ready g.addresses.claims g.moment) f
-      → after.left ≡ answer_by before.kept g.addresses.claims.own (is_ready g.addresses.claims g.moment) f
-      → IsAnswered information c s h (entry.frame m f) after
+module _ (information : List ℕ) (c : Settings) (s : ℕ) (h : History) (g : Machine) (left : Output) (before after : Kept) (given : Emitted) where
+  frame_answered : (m : ℕ) (f : BusFrame) → IsStepped c s h (entry.frame m f) g left → AnsweringStands information c s h before
+      → after ≡ kept_after before g.addresses.claims.own (is_ready g.addresses.claims g.moment) f
+      → emits_of given ≡ answer_by before g.addresses.claims.own (is_ready g.addresses.claims g.moment) f
+      → IsAnswered information c s h (entry.frame m f) after given
   frame_answered m f step stands kept is =
       let e : Entry = entry.frame m f in
       let standing = step.taken.stands in
@@ -114,12 +91,15 @@ module _ (information : List ℕ) (c : Settings) (s : ℕ) (h : History) (g : Ma
             ∙ ap (λ (r : Bool). answer_by (sent_before c s information h) (own_after c s h e) r f) ready;
       }
 
--- a frame is answered when the last answer was forgotten
-pub event_answered : (e : Event) (m : ℕ) (f : Frame) (g : Machine) (before quiet after : Answering) → e ≡ event.Frame m f → quiet ≡ quiet_answering before
-    → after.kept ≡ kept_after quiet.kept g.addresses.claims.own (is_ready g.addresses.claims g.moment) (bus_frame f)
-    → after.left ≡ answer_by quiet.kept g.addresses.claims.own (is_ready g.addresses.claims g.moment) (bus_frame f)
-    → (left : Output) → IsAnswering g left (entry_of e) before after
-event_answered e m f g before quiet after is same kept left_is left =
-    subst (λ (x : Event). IsAnswering g left (entry_of x) before after) (sym is)
+-- a frame is answered where nothing was told before
+pub event_answered : (room : ℕ) (e : Event) (m : ℕ) (f : Frame) (g : Machine) (before after : Kept) (empty given : Emitted) → e ≡ event.Frame m f → empty ≡ no_emits
+    → after ≡ kept_after before g.addresses.claims.own (is_ready g.addresses.claims g.moment) (bus_frame f)
+    → given ≡ and_told room empty (answer_by before g.addresses.claims.own (is_ready g.addresses.claims g.moment) (bus_frame f))
+    → length (answer_by before g.addresses.claims.own (is_ready g.addresses.claims g.moment) (bus_frame f)) ≤ room
+    → (left : Output) → IsAnswering g left (entry_of e) before after given
+event_answered room e m f g before after empty given is nothing kept told few left =
+    let es = answer_by before g.addresses.claims.own (is_ready g.addresses.claims g.moment) (bus_frame f) in
+    subst (λ (x : Event). IsAnswering g left (entry_of x) before after given) (sym is)
     (λ information c s h step stands.
-    frame_answered information c s h g left quiet after m (bus_frame f) step (ap (λ (a : Answering). a.kept) same ∙ stands) kept left_is)
+    frame_answered information c s h g left before after given m (bus_frame f) step stands kept
+    (ap emits_of (told ∙ ap (λ x. and_told room x es) nothing) ∙ all_told room es few))

@@ -1,53 +1,54 @@
 -- What RMC gives beside the gateway is what the definition over all that ever came says.
-use Rattle.std.proofs.Common.{◌≡◌, ℕ, Bool, List, [], ◌∷◌, refl, ap, ◌∙◌}
+use Rattle.std.proofs.Common.{◌≡◌, ℕ, Bool, true, false, List, [], ◌∷◌, ◌++◌, refl, sym, ap, ◌∙◌}
 use Rattle.std.specs.Prelude.{Option, Some, None, is_some}
 use Rattle.history.specs.Entries as entry
 use Rattle.history.specs.Entries.{Entry, History}
 use Rattle.history.specs.Settings.{Settings}
 use Rattle.gate_model.specs.Machine.{Machine}
-use Rattle.gate_outbox.specs.Output.{Output}
+use Rattle.gate_events.specs.Emit.{net}
+use Rattle.gate_outbox.specs.Output.{Emitted, Output, emits_of, no_emits, with_posted}
 use Rattle.joined_rmc.specs.JoinStands.{IsJoinStep}
 use Rattle.joined_rmc.specs.Kept.{bytes_in}
 use Rattle.joined_rmc.specs.RmcOut.{RmcRule, rmc_datagram, sent_to}
 use Rattle.joined_rmc.proofs.Commands.{commands_keep_joins}
-use Rattle.bridge.specs.Beside.{IsJoinedBeside, IsStepped, JoiningStands}
-use Rattle.bridge.specs.Kept.{Joining, datagram_left, joined_left, quiet_joining}
+use Rattle.bridge.specs.Beside.{IsJoining, JoiningStands}
+use Rattle.bridge.specs.declared.joining.Joining.{Joining}
 
-sent_as : (r : RmcRule) (c : Settings) (s : ℕ) (group : List ℕ) (d : Option (List ℕ)) → datagram_left (is_some d) group (bytes_in d) ≡ sent_to r c s group d
-sent_as r c s group None = refl
-sent_as r c s group (Some bytes) = refl
+-- it is said exactly where the history says so, as it says
+sent_as : (r : RmcRule) (c : Settings) (s : ℕ) (group packet : List ℕ) (d : Option (List ℕ)) → group ≡ r.group → packet ≡ bytes_in d → true ≡ is_some d
+    → net group packet ∷ [] ≡ sent_to r c s r.group d
+sent_as r c s group packet None same is said = absurd cc
+sent_as r c s group packet (Some bytes) same is said = ap (λ x. net x packet ∷ []) same ∙ ap (λ x. net r.group x ∷ []) is
 
-module _ (c : Settings) (s : ℕ) (h : History) (e : Entry) (g : Machine) (left : Output) where
-  pub rmc_joined : (rmc : Option RmcRule) (before after : Joining) (said : Bool) (packet : List ℕ) → IsStepped c s h e g left
-      → JoiningStands rmc c s h (Some before) → IsJoinStep g left before.join after.join said packet → after.group ≡ before.group
-      → after.left ≡ datagram_left said before.group packet → IsJoinedBeside rmc c s h e (Some after)
-  rmc_joined None before after said packet step stands is same emits = absurd stands
-  rmc_joined (Some r) before after said packet step stands is same emits =
+none_sent : (r : RmcRule) (c : Settings) (s : ℕ) (d : Option (List ℕ)) → false ≡ is_some d → [] ≡ sent_to r c s r.group d
+none_sent r c s None said = refl
+none_sent r c s (Some bytes) said = absurd cc
+
+module _ (g : Machine) (left : Output) (e : Entry) (before after : Joining) (said : Bool) (packet : List ℕ)
+    (is : IsJoinStep g left before.join after.join said packet) (same : after.group ≡ before.group) where
+  pub rmc_said : (out : Emitted) (group : List ℕ) → out ≡ no_emits → group ≡ before.group → said ≡ true
+      → IsJoining g left e (Some before) (Some after) (with_posted out (net group packet ∷ []))
+  rmc_said out group empty to there None c s h step stands = absurd stands
+  rmc_said out group empty to there (Some r) c s h step stands =
       let j = is r c s h e step.settings step.taken stands.1 in
       record {
         stands = (same ∙ stands.0, j.stands);
-        emits = emits
-            ∙ ap (λ (x : Bool). datagram_left x before.group packet) j.said_is
-            ∙ ap (λ (x : List ℕ). datagram_left (is_some (rmc_datagram r c s h e)) before.group x) j.packet_is
-            ∙ ap (λ (x : List ℕ). datagram_left (is_some (rmc_datagram r c s h e)) x (bytes_in (rmc_datagram r c s h e))) stands.0
-            ∙ sent_as r c s r.group (rmc_datagram r c s h e);
+        emits = ap (λ x. x.told ++ net group packet ∷ []) empty
+            ∙ sent_as r c s group packet (rmc_datagram r c s h e) (to ∙ stands.0) j.packet_is (sym there ∙ j.said_is);
       }
 
-  pub none_joined : (rmc : Option RmcRule) → JoiningStands rmc c s h None → IsJoinedBeside rmc c s h e None
-  none_joined None stands = record { stands = tt; emits = refl }
-  none_joined (Some r) stands = absurd stands
+  pub rmc_silent : (given : Emitted) → given ≡ no_emits → said ≡ false → IsJoining g left e (Some before) (Some after) given
+  rmc_silent given empty none None c s h step stands = absurd stands
+  rmc_silent given empty none (Some r) c s h step stands =
+      let j = is r c s h e step.settings step.taken stands.1 in
+      record {
+        stands = (same ∙ stands.0, j.stands);
+        emits = ap emits_of empty ∙ none_sent r c s (rmc_datagram r c s h e) (sym none ∙ j.said_is);
+      }
 
--- ---- with nothing left
-
-pub quiet_joins : (rmc : Option RmcRule) (c : Settings) (s : ℕ) (h : History) (j : Option Joining) → JoiningStands rmc c s h j → JoiningStands rmc c s h (quiet_joining j)
-quiet_joins None c s h None stands = stands
-quiet_joins None c s h (Some j) stands = stands
-quiet_joins (Some r) c s h None stands = stands
-quiet_joins (Some r) c s h (Some j) stands = stands
-
-pub joined_quiet : (j : Option Joining) → joined_left (quiet_joining j) ≡ []
-joined_quiet None = refl
-joined_quiet (Some j) = refl
+pub none_joined : (g : Machine) (left : Output) (e : Entry) → IsJoining g left e None None no_emits
+none_joined g left e None c s h step stands = record { stands = tt; emits = refl }
+none_joined g left e (Some r) c s h step stands = absurd stands
 
 -- ---- a command
 

@@ -1,4 +1,3 @@
-pub mod Places
 pub mod Answers
 pub mod Joins
 pub mod Lengths

@@ -83,10 +83,10 @@ module _ (p : Parts) (s : ℕ) (h : History) (e : Entry) where
   accepted b after text accepts is order =
       let c = command_in p.gateway s (done (receiver_of p.gateway) s h e) (moment_of e) in
       let so : stepped p s h e ≡ with_command p s h e c = rw accepts refl in
-      let same : option_map (entry_by (moment_of e)) b.out.command ≡ c = is.ordered in
+      let same : option_map (entry_by (moment_of e)) b.left.outbox.command ≡ c = is.ordered in
       subst (λ (x : Stepped p.gateway s). Reached x (left_text b.gateway.moment b ++ text) after)
       (ap (with_command p s h e) same ∙ sym so)
-      (ordered b.out.command b after text is.could is.stands is.emits order.order order.text_is)
+      (ordered b.left.outbox.command b after text is.could is.stands is.emits order.order order.text_is)
 
   refused : (b after : Bridged) (text : List ℕ) → IsHistory h → is_accepted h e ≡ false → IsRefused p s h b → IsOrdered b text after
       → Reached (stepped p s h e) (left_text b.gateway.moment b ++ text) after

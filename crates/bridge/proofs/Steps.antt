@@ -13,17 +13,21 @@ use Rattle.history.specs.Settings.{Settings}
 use Rattle.gate_model.specs.Machine.{Machine}
 use Rattle.gate_model.specs.Stands.{Stands}
 use Rattle.gate_outbox.specs.declared.done.Command.{Command}
-use Rattle.gate_outbox.specs.Output.{Output, and_emits, nothing}
+use Rattle.gate_outbox.specs.Output.{Output, emits_of}
 use Rattle.gate_core.specs.Promises.{IsTaken, IsTooEarly, IsStep, IsCommandStep, entry_by}
-use Rattle.gate_core.specs.Steps.{by_keys, entry_of, IsEventValid}
+use Rattle.gate_core.specs.Steps.{by_keys, entry_of, only_told, IsEventValid}
 use Rattle.bridge.specs.Beside.{IsStepped}
 use Rattle.bridge.specs.BridgeStands.{BridgeStands, IsBesideStep, IsBridged, IsBridgeStep, IsCommanded, IsObeyed, IsRefused, IsStart}
 use Rattle.bridge.specs.Answered.{answers}
 use Rattle.bridge.specs.Gate.{rmc_of}
-use Rattle.bridge.specs.Kept.{Answering, Bridged, joined_left, left_beside, left_of, quiet, quiet_joining, quiet_watching, watched_left}
+use Rattle.ais_bridge.specs.AisKept.{AisKept}
+use Rattle.bus_identity.specs.Answers.{Kept as Counted}
+use Rattle.bridge.specs.declared.joining.Joining.{Joining}
+use Rattle.bridge.specs.declared.left.Left.{Left}
+use Rattle.bridge.specs.Kept.{Bridged, all_left, left_by, nothing_left}
 use Rattle.bridge.specs.Parts.{Parts}
-use Rattle.bridge.proofs.Joins.{commanded_joins, joined_quiet, quiet_joins}
-use Rattle.bridge.proofs.Ships.{commanded_ships, quiet_ships, watched_quiet}
+use Rattle.bridge.proofs.Joins.{commanded_joins}
+use Rattle.bridge.proofs.Ships.{commanded_ships}
 
 -- ---- an event may follow
 
@@ -40,25 +44,22 @@ in_time (event.Tick moment) h accepted = leb-true (now h) moment accepted
 pub goes_on : (e : Event) (h : History) → IsEventValid e → IsHistory h → is_accepted h (entry_of e) ≡ true → IsHistory (entry_of e ∷ h)
 goes_on e h valid could accepted = (offered e valid, in_time e h accepted, could)
 
--- ---- with nothing left beside the gateway
+-- ---- the gateway was called, and left this
 
-pub quiet_left : (b : Bridged) → left_of (quiet b) ≡ b.out.emits
-quiet_left b =
-    ap (λ (es : List Emit). b.out.emits ++ es)
-    (ap (λ (es : List Emit). es ++ watched_left (quiet_watching b.watching)) (joined_quiet b.joining) ∙ watched_quiet b.watching)
-    ∙ append-nil b.out.emits
-
--- ---- the gateway was called
+abbrev pub bridge_of : Bool → Machine → Counted → Option Joining → Option AisKept → Left → Bridged
+bridge_of started g answering joining watching left =
+    record { started = started; gateway = g; answering = answering; joining = joining; watching = watching; left = left }
 
 abbrev pub with_gateway : Bool → Machine → Output → Bridged → Bridged
-with_gateway started g o b = record {
-  started = started;
-  gateway = g;
-  out = o;
-  answering = b.answering;
-  joining = b.joining;
-  watching = b.watching;
-}
+with_gateway started g o b = bridge_of started g b.answering b.joining b.watching (left_by o)
+
+-- what is left is forgotten before
+pub left_after : (forgotten : Left) (o : Output) → forgotten ≡ nothing_left → record forgotten { outbox = o } ≡ left_by o
+left_after forgotten o is = ap (λ (l : Left). let left : Left = record l { outbox = o } in left) is
+
+-- nothing is left beside it
+alone_left : (o : Output) → all_left (left_by o) ≡ emits_of o.emits
+alone_left o = append-nil (emits_of o.emits)
 
 -- ---- no command is left where none would be an entry
 
@@ -69,25 +70,19 @@ none_mapped f (Some x) is = cc
 -- ---- the start
 
 pub is_start : (s : ℕ) (before : Bridged) (g : Machine) (o : Output) → Stands by_keys g.settings s [] g → g.settings ≡ before.gateway.settings
-    → o ≡ and_emits nothing (opening_emits before.gateway.settings) → IsStart s before (with_gateway true g o before)
+    → o ≡ only_told (opening_emits before.gateway.settings) → IsStart s before (with_gateway true g o before)
 is_start s before g o stands settings is p new =
     let here : before.gateway.settings ≡ p.gateway = ap (λ (x : Machine). x.settings) new.gateway in
-    let emits : o.emits ≡ opening_emits p.gateway = ap (λ (x : Output). x.emits) is ∙ ap opening_emits here in
     record {
       stands = record {
         settings = new.settings;
         started = refl;
         gateway = subst (λ (z : Settings). Stands by_keys z s [] g) (settings ∙ here) stands;
-        answering = ap (λ (a : Answering). a.kept) new.answering;
-        joining = new.joining.1 p.gateway s;
-        watching = new.watching.1 s;
+        answering = new.answering;
+        joining = new.joining p.gateway s;
+        watching = new.watching s;
       };
-      emits =
-          ap (λ (es : List Emit). es ++ left_beside before) emits
-          ∙ ap (λ (es : List Emit). opening_emits p.gateway ++ (es ++ (joined_left before.joining ++ watched_left before.watching)))
-          (ap (λ (a : Answering). a.left) new.answering)
-          ∙ ap (λ (es : List Emit). opening_emits p.gateway ++ (es ++ watched_left before.watching)) new.joining.0
-          ∙ ap (λ (es : List Emit). opening_emits p.gateway ++ es) new.watching.0;
+      emits = alone_left o ∙ ap (λ (x : Output). emits_of x.emits) is ∙ ap opening_emits here;
       unordered = ap (λ (x : Output). x.command) is;
     }
 
@@ -101,6 +96,7 @@ module _ (p : Parts) (s : ℕ) (h : History) (before : Bridged) (stands : Bridge
       let answered = step.answering p.information p.gateway s h stepped stands.answering in
       let joined = step.joining p.rmc p.gateway s h stepped stands.joining in
       let watched = step.watching p.ais p.gateway s h stepped stands.watching in
+      let x = after.left in
       record {
         could = could;
         stands = record {
@@ -112,35 +108,31 @@ module _ (p : Parts) (s : ℕ) (h : History) (before : Bridged) (stands : Bridge
           watching = watched.stands;
         };
         emits =
-            ap (λ (es : List Emit). es ++ left_beside after) (ap (λ (x : Output). x.emits) step.out ∙ taken.emits)
-            ∙ ap (λ (es : List Emit). out p.gateway s h e ++ (es ++ (joined_left after.joining ++ watched_left after.watching))) answered.emits
-            ∙ ap (λ (es : List Emit). out p.gateway s h e ++ (answers p.gateway s p.information h e ++ (es ++ watched_left after.watching))) joined.emits
-            ∙ ap (λ (es : List Emit). out p.gateway s h e
-            ++ (answers p.gateway s p.information h e ++ (rmc_of p.rmc p.gateway s h e ++ es))) watched.emits;
-        ordered = ap (λ (x : Output). option_map (entry_by (moment_of e)) x.command) step.out ∙ taken.ordered;
+            ap (λ (o : Output). emits_of o.emits ++ (emits_of x.answer ++ (emits_of x.joined ++ emits_of x.ships))) step.outbox
+            ∙ ap (λ (es : List Emit). es ++ (emits_of x.answer ++ (emits_of x.joined ++ emits_of x.ships))) taken.emits
+            ∙ ap (λ (es : List Emit). out p.gateway s h e ++ (es ++ (emits_of x.joined ++ emits_of x.ships))) answered.emits
+            ∙ ap (λ (es : List Emit). out p.gateway s h e ++ (answers p.gateway s p.information h e ++ (es ++ emits_of x.ships))) joined.emits
+            ∙ ap (λ (es : List Emit). out p.gateway s h e ++ (answers p.gateway s p.information h e ++ (rmc_of p.rmc p.gateway s h e ++ es)))
+            watched.emits;
+        ordered = ap (λ (o : Output). option_map (entry_by (moment_of e)) o.command) step.outbox ∙ taken.ordered;
       }
 
-  quiet_stands : (g : Machine) (o : Output) → Stands by_keys p.gateway s h g → BridgeStands p s h (quiet (with_gateway before.started g o before))
-  quiet_stands g o standing = record {
-    settings = stands.settings;
-    started = stands.started;
-    gateway = standing;
-    answering = stands.answering;
-    joining = quiet_joins p.rmc p.gateway s h before.joining stands.joining;
-    watching = quiet_ships p.ais p.gateway s h before.watching stands.watching;
+  pub refused : (g : Machine) (o : Output) → IsTooEarly before.gateway g o → IsRefused p s h (with_gateway before.started g o before)
+  refused g o early = record {
+    stands = record {
+      settings = stands.settings;
+      started = stands.started;
+      gateway = subst (λ (z : Machine). Stands by_keys p.gateway s h z) (sym early.unchanged) stands.gateway;
+      answering = stands.answering;
+      joining = stands.joining;
+      watching = stands.watching;
+    };
+    emits = alone_left o ∙ ap (λ (x : Output). emits_of x.emits) early.reported;
+    unordered = ap (λ (x : Output). x.command) early.reported;
   }
 
-  pub refused : (g : Machine) (o : Output) → IsTooEarly before.gateway g o → IsRefused p s h (quiet (with_gateway before.started g o before))
-  refused g o early =
-      let same : before.gateway ≡ g = sym early.unchanged in
-      record {
-        stands = quiet_stands g o (subst (λ (z : Machine). Stands by_keys p.gateway s h z) same stands.gateway);
-        emits = quiet_left (with_gateway before.started g o before) ∙ ap (λ (x : Output). x.emits) early.reported;
-        unordered = ap (λ (x : Output). x.command) early.reported;
-      }
-
   pub obeyed : (c : Command) (g : Machine) (o : Output) → IsHistory (entry_by (now h) c ∷ h) → IsTaken p.gateway s h (entry_by (now h) c) g o
-      → IsObeyed p s h (entry_by (now h) c) (quiet (with_gateway before.started g o before))
+      → IsObeyed p s h (entry_by (now h) c) (with_gateway before.started g o before)
   obeyed c g o could taken = record {
     could = could;
     stands = record {
@@ -148,12 +140,10 @@ module _ (p : Parts) (s : ℕ) (h : History) (before : Bridged) (stands : Bridge
       started = stands.started;
       gateway = taken.stands;
       answering = stands.answering;
-      joining = commanded_joins p.rmc p.gateway s h (now h) c.source c.address (quiet_joining before.joining)
-          (quiet_joins p.rmc p.gateway s h before.joining stands.joining);
-      watching = commanded_ships p.ais p.gateway s h c.source c.address (quiet_watching before.watching) stands.settings
-          (quiet_ships p.ais p.gateway s h before.watching stands.watching);
+      joining = commanded_joins p.rmc p.gateway s h (now h) c.source c.address before.joining stands.joining;
+      watching = commanded_ships p.ais p.gateway s h c.source c.address before.watching stands.settings stands.watching;
     };
-    emits = quiet_left (with_gateway before.started g o before) ∙ taken.emits;
+    emits = alone_left o ∙ taken.emits;
     unordered = none_mapped (entry_by (now h)) o.command taken.ordered;
   }
 
@@ -183,7 +173,7 @@ accepted_step e before g o after valid step accepted beside p s h could stands =
     declines refuses = let never : true ≡ false = sym is ∙ refuses in absurd cc
 
 pub refused_step : (e : Event) (before : Bridged) (g : Machine) (o : Output) → IsStep (entry_of e) before.gateway g o
-    → nat_le before.gateway.moment (moment_of (entry_of e)) ≡ false → IsBridgeStep (entry_of e) before (quiet (with_gateway before.started g o before))
+    → nat_le before.gateway.moment (moment_of (entry_of e)) ≡ false → IsBridgeStep (entry_of e) before (with_gateway before.started g o before)
 refused_step e before g o step early p s h could stands = (takes, declines)
   where
     next : Entry
@@ -195,14 +185,14 @@ refused_step e before g o step early p s h could stands = (takes, declines)
     is : is_accepted h next ≡ false
     is = subst (λ (m : ℕ). nat_le m (moment_of next) ≡ false) stands.gateway.moment early
 
-    takes : is_accepted h next ≡ true → IsBridged p s h next (quiet (with_gateway before.started g o before))
+    takes : is_accepted h next ≡ true → IsBridged p s h next (with_gateway before.started g o before)
     takes accepts = let never : true ≡ false = sym accepts ∙ is in absurd cc
 
-    declines : is_accepted h next ≡ false → IsRefused p s h (quiet (with_gateway before.started g o before))
+    declines : is_accepted h next ≡ false → IsRefused p s h (with_gateway before.started g o before)
     declines refuses = refused p s h before stands g o ((step s h could here).1 refuses)
 
 pub commanded : (c : Command) (before : Bridged) (g : Machine) (o : Output) → c.source < 256 → IsCommandStep c.source c.address before.gateway g o
-    → IsCommanded c before (quiet (with_gateway before.started g o before))
+    → IsCommanded c before (with_gateway before.started g o before)
 commanded c before g o from step p s h could stands =
     let here : Stands by_keys before.gateway.settings s h before.gateway =
     subst (λ (z : Settings). Stands by_keys z s h before.gateway) (sym stands.gateway.settings) stands.gateway in

@@ -1,23 +1,25 @@
--- When each part beside the gateway stands for everything that ever came, and what one more entry makes of it and gives.
+-- When each part beside the gateway stands for everything that ever came, and what one more entry makes of it and makes it give.
 use Rattle.std.specs.Prelude.{◌≡◌, ℕ, List, ◌∷◌, Option, Some, None}
 use Rattle.history.specs.AddressLaws.{AreSettings}
 use Rattle.history.specs.Entries.{Entry, History, IsHistory}
 use Rattle.history.specs.Settings.{Settings}
 use Rattle.settings.specs.declared.ais.AisConfig.{AisConfig}
 use Rattle.gate_model.specs.Machine.{Machine}
-use Rattle.gate_outbox.specs.Output.{Output}
+use Rattle.gate_outbox.specs.Output.{Emitted, Output, emits_of}
 use Rattle.gate_core.specs.Promises.{IsTaken}
 use Rattle.joined_rmc.specs.JoinStands.{JoinStands}
 use Rattle.joined_rmc.specs.RmcOut.{RmcRule}
+use Rattle.ais_bridge.specs.AisKept.{AisKept}
 use Rattle.ais_bridge.specs.Promises.{StandsAis}
+use Rattle.bus_identity.specs.Answers.{Kept as Counted}
+use Rattle.bridge.specs.declared.joining.Joining.{Joining}
 use Rattle.bridge.specs.Answered.{answers, sent_before}
 use Rattle.bridge.specs.Gate.{rmc_of, ships_of}
-use Rattle.bridge.specs.Kept.{Answering, Joining, Watching, joined_left, watched_left}
 
 -- ---- a part stands for a history of the gateway with these settings
 
-abbrev pub AnsweringStands : List ℕ → Settings → ℕ → History → Answering → Type 0
-AnsweringStands information c s h a = a.kept ≡ sent_before c s information h
+abbrev pub AnsweringStands : List ℕ → Settings → ℕ → History → Counted → Type 0
+AnsweringStands information c s h kept = kept ≡ sent_before c s information h
 
 -- RMC is joined exactly where it is configured
 abbrev pub JoiningStands : Option RmcRule → Settings → ℕ → History → Option Joining → Type 0
@@ -27,9 +29,9 @@ JoiningStands None c s h (Some j) = ⊥
 JoiningStands (Some r) c s h None = ⊥
 
 -- reports of ships around are passed on exactly where that is configured
-abbrev pub WatchingStands : Option AisConfig → Settings → ℕ → History → Option Watching → Type 0
+abbrev pub WatchingStands : Option AisConfig → Settings → ℕ → History → Option AisKept → Type 0
 WatchingStands None c s h None = Unit {0}
-WatchingStands (Some a) c s h (Some w) = StandsAis a c s h w.kept
+WatchingStands (Some a) c s h (Some w) = StandsAis a c s h w
 WatchingStands None c s h (Some w) = ⊥
 WatchingStands (Some a) c s h None = ⊥
 
@@ -40,30 +42,30 @@ pub record IsStepped (c : Settings) (s : ℕ) (h : History) (e : Entry) (gateway
   pub could : IsHistory (e ∷ h)
   pub taken : IsTaken c s h e gateway left
 
-pub record IsAnswered (information : List ℕ) (c : Settings) (s : ℕ) (h : History) (e : Entry) (after : Answering) : Type 0 where
+pub record IsAnswered (information : List ℕ) (c : Settings) (s : ℕ) (h : History) (e : Entry) (after : Counted) (given : Emitted) : Type 0 where
   pub stands : AnsweringStands information c s (e ∷ h) after
-  pub emits : after.left ≡ answers c s information h e
+  pub emits : emits_of given ≡ answers c s information h e
 
-pub record IsJoinedBeside (rmc : Option RmcRule) (c : Settings) (s : ℕ) (h : History) (e : Entry) (after : Option Joining) : Type 0 where
+pub record IsJoinedBeside (rmc : Option RmcRule) (c : Settings) (s : ℕ) (h : History) (e : Entry) (after : Option Joining) (given : Emitted) : Type 0 where
   pub stands : JoiningStands rmc c s (e ∷ h) after
-  pub emits : joined_left after ≡ rmc_of rmc c s h e
+  pub emits : emits_of given ≡ rmc_of rmc c s h e
 
-pub record IsWatched (ais : Option AisConfig) (c : Settings) (s : ℕ) (h : History) (e : Entry) (after : Option Watching) : Type 0 where
+pub record IsWatched (ais : Option AisConfig) (c : Settings) (s : ℕ) (h : History) (e : Entry) (after : Option AisKept) (given : Emitted) : Type 0 where
   pub stands : WatchingStands ais c s (e ∷ h) after
-  pub emits : watched_left after ≡ ships_of ais c s h e
+  pub emits : emits_of given ≡ ships_of ais c s h e
 
 -- for every history for which the part stands before the entry
-abbrev pub IsAnswering : Machine → Output → Entry → Answering → Answering → Type 0
-IsAnswering gateway left e before after =
+abbrev pub IsAnswering : Machine → Output → Entry → Counted → Counted → Emitted → Type 0
+IsAnswering gateway left e before after given =
     (information : List ℕ) (c : Settings) (s : ℕ) (h : History) → IsStepped c s h e gateway left → AnsweringStands information c s h before
-    → IsAnswered information c s h e after
+    → IsAnswered information c s h e after given
 
-abbrev pub IsJoining : Machine → Output → Entry → Option Joining → Option Joining → Type 0
-IsJoining gateway left e before after =
+abbrev pub IsJoining : Machine → Output → Entry → Option Joining → Option Joining → Emitted → Type 0
+IsJoining gateway left e before after given =
     (rmc : Option RmcRule) (c : Settings) (s : ℕ) (h : History) → IsStepped c s h e gateway left → JoiningStands rmc c s h before
-    → IsJoinedBeside rmc c s h e after
+    → IsJoinedBeside rmc c s h e after given
 
-abbrev pub IsWatching : Machine → Output → Entry → Option Watching → Option Watching → Type 0
-IsWatching gateway left e before after =
+abbrev pub IsWatching : Machine → Output → Entry → Option AisKept → Option AisKept → Emitted → Type 0
+IsWatching gateway left e before after given =
     (ais : Option AisConfig) (c : Settings) (s : ℕ) (h : History) → IsStepped c s h e gateway left → WatchingStands ais c s h before
-    → IsWatched ais c s h e after
+    → IsWatched ais c s h e after given

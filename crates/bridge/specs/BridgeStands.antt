@@ -13,13 +13,14 @@ use Rattle.settings.specs.declared.ais.AisConfig.{AisConfig}
 use Rattle.gate_model.specs.Machine.{opened_machine}
 use Rattle.gate_model.specs.Stands.{Stands}
 use Rattle.gate_outbox.specs.declared.done.Command.{Command}
-use Rattle.gate_outbox.specs.Output.{nothing}
 use Rattle.gate_core.specs.Promises.{entry_by}
 use Rattle.gate_core.specs.Steps.{by_keys}
 use Rattle.joined_rmc.specs.RmcOut.{RmcRule}
+use Rattle.ais_bridge.specs.AisKept.{AisKept}
+use Rattle.bridge.specs.declared.joining.Joining.{Joining}
 use Rattle.bridge.specs.Beside.{AnsweringStands, JoiningStands, WatchingStands, IsAnswering, IsJoining, IsWatching}
 use Rattle.bridge.specs.Gate.{all_out}
-use Rattle.bridge.specs.Kept.{Bridged, Joining, Watching, joined_left, left_of, unanswered, watched_left}
+use Rattle.bridge.specs.Kept.{Bridged, left_of, nothing_left, unanswered}
 use Rattle.bridge.specs.Parts.{Parts}
 
 pub record BridgeStands (p : Parts) (s : ℕ) (h : History) (b : Bridged) : Type 0 where
@@ -33,15 +34,15 @@ pub record BridgeStands (p : Parts) (s : ℕ) (h : History) (b : Bridged) : Type
 -- ---- a bridge that wasn't started, whenever it will be
 
 abbrev pub IsOpenedJoining : Option RmcRule → Option Joining → Type 0
-IsOpenedJoining rmc joining = (joined_left joining ≡ []) × ((c : Settings) (s : ℕ) → JoiningStands rmc c s [] joining)
+IsOpenedJoining rmc joining = (c : Settings) (s : ℕ) → JoiningStands rmc c s [] joining
 
-abbrev pub IsOpenedWatching : Settings → Option AisConfig → Option Watching → Type 0
-IsOpenedWatching c ais watching = (watched_left watching ≡ []) × ((s : ℕ) → WatchingStands ais c s [] watching)
+abbrev pub IsOpenedWatching : Settings → Option AisConfig → Option AisKept → Type 0
+IsOpenedWatching c ais watching = (s : ℕ) → WatchingStands ais c s [] watching
 
 pub record IsNew (p : Parts) (b : Bridged) : Type 0 where
   pub settings : AreSettings p.gateway
   pub waits : b.started ≡ false
-  pub left : b.out ≡ nothing
+  pub left : b.left ≡ nothing_left
   pub gateway : b.gateway ≡ opened_machine p.gateway
   pub answering : b.answering ≡ unanswered p.information
   pub joining : IsOpenedJoining p.rmc b.joining
@@ -51,7 +52,7 @@ pub record IsNew (p : Parts) (b : Bridged) : Type 0 where
 pub record IsStarted (p : Parts) (s : ℕ) (after : Bridged) : Type 0 where
   pub stands : BridgeStands p s [] after
   pub emits : left_of after ≡ opening_emits p.gateway
-  pub unordered : after.out.command ≡ None
+  pub unordered : after.left.outbox.command ≡ None
 
 abbrev pub IsStart : ℕ → Bridged → Bridged → Type 0
 IsStart s before after = (p : Parts) → IsNew p before → IsStarted p s after
@@ -62,13 +63,13 @@ pub record IsBridged (p : Parts) (s : ℕ) (h : History) (e : Entry) (after : Br
   pub could : IsHistory (e ∷ h)
   pub stands : BridgeStands p s (e ∷ h) after
   pub emits : left_of after ≡ all_out p s h e
-  pub ordered : option_map (entry_by (moment_of e)) after.out.command ≡ command_in p.gateway s (done (receiver_of p.gateway) s h e) (moment_of e)
+  pub ordered : option_map (entry_by (moment_of e)) after.left.outbox.command ≡ command_in p.gateway s (done (receiver_of p.gateway) s h e) (moment_of e)
 
 -- an event that is earlier than the last entry changes nothing, and is reported (rule 3)
 pub record IsRefused (p : Parts) (s : ℕ) (h : History) (after : Bridged) : Type 0 where
   pub stands : BridgeStands p s h after
   pub emits : left_of after ≡ broken rules.moment_back detail.Nothing ∷ []
-  pub unordered : after.out.command ≡ None
+  pub unordered : after.left.outbox.command ≡ None
 
 -- for every history for which the bridge stands before
 abbrev pub IsBridgeStep : Entry → Bridged → Bridged → Type 0
@@ -80,10 +81,10 @@ IsBridgeStep e before after =
 pub record IsBesideStep (e : Entry) (before after : Bridged) : Type 0 where
   pub started : after.started ≡ before.started
   pub gateway : after.gateway ≡ before.gateway
-  pub out : after.out ≡ before.out
-  pub answering : IsAnswering before.gateway before.out e before.answering after.answering
-  pub joining : IsJoining before.gateway before.out e before.joining after.joining
-  pub watching : IsWatching before.gateway before.out e before.watching after.watching
+  pub outbox : after.left.outbox ≡ before.left.outbox
+  pub answering : IsAnswering before.gateway before.left.outbox e before.answering after.answering after.left.answer
+  pub joining : IsJoining before.gateway before.left.outbox e before.joining after.joining after.left.joined
+  pub watching : IsWatching before.gateway before.left.outbox e before.watching after.watching after.left.ships
 
 -- ---- the command that the last event left, which is left no more once it was taken
 
@@ -91,7 +92,7 @@ pub record IsObeyed (p : Parts) (s : ℕ) (h : History) (e : Entry) (after : Bri
   pub could : IsHistory (e ∷ h)
   pub stands : BridgeStands p s (e ∷ h) after
   pub emits : left_of after ≡ out p.gateway s h e
-  pub unordered : after.out.command ≡ None
+  pub unordered : after.left.outbox.command ≡ None
 
 abbrev pub IsCommanded : Command → Bridged → Bridged → Type 0
 IsCommanded c before after =

@@ -3,8 +3,8 @@
 -- (ISO 11783-5).
 use Rattle.std.specs.Prelude.{ℕ, List, [], ◌++◌, Option, Some, None}
 use Rattle.gate_events.specs.Emit.{Emit, Emitted}
-use Rattle.history.specs.Emits.{at}
 use Rattle.history.specs.Entries.{Entry, History}
+use Rattle.history.specs.Gate as of_gateway
 use Rattle.history.specs.Gate.{Stepped, out, opening_emits, with_command_by, stepped_by, events_by, gate_by}
 use Rattle.history.specs.Settings.{Settings}
 use Rattle.settings.specs.declared.ais.AisConfig.{AisConfig}
@@ -29,6 +29,9 @@ module _ (p : Parts) (s : ℕ) where
 
   abbrev pub all_out : History → Entry → List Emit
   all_out h e = out p.gateway s h e ++ beside h e
+
+  abbrev pub opening : List Emitted
+  opening = of_gateway.opening p.gateway s
 
   -- ---- events that are offered, with the commands that they complete
 

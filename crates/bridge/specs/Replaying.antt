@@ -40,5 +40,5 @@ ordered_text None after = []
 ordered_text (Some c) after = left_text after.gateway.moment after
 
 pub record IsOrdered (before : Bridged) (text : List ℕ) (after : Bridged) : Type 0 where
-  pub order : IsOrder before.out.command before after
-  pub text_is : text ≡ ordered_text before.out.command after
+  pub order : IsOrder before.left.outbox.command before after
+  pub text_is : text ≡ ordered_text before.left.outbox.command after

@@ -1,18 +1,20 @@
 //! The gateway with the parts beside it.
-ghost use Rattle.std.specs.Prelude.{◌≡◌, ◌≤◌, ◌++◌, true, false, length, option_map, slice_get, is_some, nat_le, IfOk, IfSome};
+ghost use Rattle.std.specs.Prelude.{◌≡◌, true, false, length, option_map, slice_get, is_some, nat_le, IfOk, IfSome};
 ghost use Rattle.gate_events.specs.Emit.{CanWrite};
 ghost use Rattle.gate_outbox.specs.Output.{emit_of};
 ghost use Rattle.gate_core.specs.Steps.{IsEventValid, entry_of};
 ghost use Rattle.history.specs.Entries.{moment_of};
 ghost use Rattle.settings.specs.Settings.{IsSettings};
 ghost use Rattle.bridge.specs.BridgeStands.{IsBesideStep, IsBridgeStep, IsCommanded, IsNew, IsOrder, IsStart};
-ghost use Rattle.bridge.specs.Kept.{joined_left, left_beside, left_of, quiet, watched_left};
+ghost use Rattle.bridge.specs.Kept.{left_by, left_of};
 ghost use Rattle.bridge.specs.Parts.{parts_of};
 
 use crate::answering::Answering;
-use crate::joining::{self, Joining};
-use crate::watching::{self, Watching};
-use gate_core::{Command, Gateway, Outbox};
+use crate::joining::{Joining, join, joining_of};
+use crate::left::Left;
+use crate::watching::{watch, watching_of};
+use ais_bridge::AisBridge;
+use gate_core::{Command, Gateway};
 use gate_events::{Emit, Event};
 use settings::Settings;
 use std::alloc::{AllocError, Global};
@@ -23,10 +25,10 @@ use std::marker::Model;
 pub struct Bridge {
     gateway: Gateway,
     started: bool,
-    outbox: Outbox,
     answering: Answering,
     joining: Option<Joining>,
-    watching: Option<Watching>,
+    watching: Option<AisBridge>,
+    left: Left,
 }
 
 impl Model for Bridge {
@@ -39,10 +41,10 @@ impl Model for Bridge {
     ghost view = { λ b. record {
       started = b.started;
       gateway = b.gateway;
-      out = b.outbox;
-      answering = b.answering;
+      answering = b.answering.identity;
       joining = b.joining;
       watching = b.watching;
+      left = b.left;
     } };
 
     ghost invariant = { λ b. b.started ≡ false → b.gateway ≡ opened_machine b.gateway.settings };
@@ -55,16 +57,14 @@ impl Bridge {
         ensures { IfOk result (IsNew (parts_of settings.now)) }
     {
         let gateway = Gateway::new(alloc, &settings.config)?;
-        let watching = watching::watching_of(alloc, &settings.ais, &settings.config)?;
-        let answering = Answering::new(&settings.product);
-        let joining = joining::joining_of(&settings.rmc, &settings.config);
+        let watching = watching_of(alloc, &settings.ais, &settings.config)?;
         Ok(Bridge {
             gateway,
             started: false,
-            outbox: Outbox::new(),
-            answering,
-            joining,
+            answering: Answering::new(&settings.product),
+            joining: joining_of(&settings.rmc, &settings.config),
             watching,
+            left: Left::new(),
         })
     }
 
@@ -81,8 +81,8 @@ impl Bridge {
         ensures start { IsStart moment self.old self.new }
         ensures started { self.new.started ≡ true }
     {
-        self.outbox.clear();
-        self.gateway.start(moment, &mut self.outbox);
+        self.left.clear();
+        self.gateway.start(moment, &mut self.left.outbox);
         self.started = true;
     }
 
@@ -95,42 +95,39 @@ impl Bridge {
         ensures started { self.new.started ≡ true }
     {
         let accepted = accepts(&self.gateway, event);
-        self.outbox.clear();
-        self.gateway.step(event, &mut self.outbox);
+        self.left.clear();
+        self.gateway.step(event, &mut self.left.outbox);
         if accepted {
             self.take_beside(event);
-        } else {
-            self.clear_beside();
         }
     }
 
     /// Lets the parts beside the gateway take an event that it has taken.
     fn take_beside(&mut self, event: &Event<'_>)
-        requires { IsEventValid event.now }
+        requires valid { IsEventValid event.now }
+        requires quiet { self.old.left ≡ left_by self.old.left.outbox }
         ensures { IsBesideStep (entry_of event.now) self.old self.new }
     {
-        self.answering.answer(&self.gateway, event);
-        joining::join(&mut self.joining, &self.gateway, &self.outbox);
-        watching::watch(&mut self.watching, &self.gateway, event);
-    }
-
-    /// Forgets what the parts beside the gateway left.
-    fn clear_beside(&mut self)
-        ensures { self.new ≡ quiet self.old }
-    {
-        self.answering.clear();
-        joining::clear(&mut self.joining);
-        watching::clear(&mut self.watching);
+        let left = &mut self.left;
+        self.answering
+            .answer(&self.gateway, event, &mut left.answer);
+        join(
+            &mut self.joining,
+            &self.gateway,
+            &left.outbox,
+            &mut left.joined,
+        );
+        watch(&mut self.watching, &self.gateway, event, &mut left.ships);
     }
 
     /// Takes the command that the last event left, where it left one, as an entry of its own at the same moment. Says whether it did.
     pub fn obey(&mut self) -> bool
         requires { self.old.started ≡ true }
-        ensures order { IsOrder self.old.out.command self.old self.new }
-        ensures was { result ≡ is_some self.old.out.command }
+        ensures order { IsOrder self.old.left.outbox.command self.old self.new }
+        ensures was { result ≡ is_some self.old.left.outbox.command }
         ensures started { self.new.started ≡ true }
     {
-        match self.outbox.command() {
+        match self.left.outbox.command() {
             Some(command) => {
                 self.order(command.source, command.address);
                 true
@@ -145,10 +142,9 @@ impl Bridge {
         ensures order { IsCommanded (record { source = source; address = address }) self.old self.new }
         ensures started { self.new.started ≡ true }
     {
-        self.clear_beside();
-        self.outbox.clear();
+        self.left.clear();
         self.gateway
-            .command(Command { source, address }, &mut self.outbox);
+            .command(Command { source, address }, &mut self.left.outbox);
     }
 
     /// The moment of the last entry, in microseconds; 0 before any.
@@ -162,15 +158,7 @@ impl Bridge {
     pub fn len(&self) -> usize
         ensures { result ≡ length (left_of self.now) }
     {
-        self.outbox.len() + self.len_beside()
-    }
-
-    /// How many of them the parts beside the gateway left.
-    fn len_beside(&self) -> usize
-        ensures len { result ≡ length (left_beside self.now) }
-        ensures few { result ≤ 322 }
-    {
-        self.answering.len() + joining::len(&self.joining) + watching::len(&self.watching)
+        self.left.len()
     }
 
     /// The emit at this place of all that the last call left, in its order, from 0; None exactly beyond the list.
@@ -178,38 +166,7 @@ impl Bridge {
         ensures emit { option_map emit_of result ≡ slice_get (left_of self.now) place }
         ensures valid { IfSome result CanWrite }
     {
-        let count = self.outbox.len();
-        if place < count {
-            self.outbox.item(place)
-        } else {
-            self.emit_beside(place - count)
-        }
-    }
-
-    /// The emit at this place of what the parts beside the gateway left.
-    fn emit_beside(&self, place: usize) -> Option<Emit<'_>>
-        ensures emit { option_map emit_of result ≡ slice_get (left_beside self.now) place }
-        ensures valid { IfSome result CanWrite }
-    {
-        let answers = self.answering.len();
-        if place < answers {
-            self.answering.item(place)
-        } else {
-            self.emit_behind_answers(place - answers)
-        }
-    }
-
-    /// The emit at this place of RMC and the reports of ships around.
-    fn emit_behind_answers(&self, place: usize) -> Option<Emit<'_>>
-        ensures emit { option_map emit_of result ≡ slice_get (joined_left self.now.joining ++ watched_left self.now.watching) place }
-        ensures valid { IfSome result CanWrite }
-    {
-        let joined = joining::len(&self.joining);
-        if place < joined {
-            joining::item(&self.joining, place)
-        } else {
-            watching::item(&self.watching, place - joined)
-        }
+        self.left.item(place)
     }
 }
 

@@ -9,6 +9,7 @@ mod bridge;
 pub mod cases;
 mod joining;
 pub mod laws;
+mod left;
 mod replaying;
 mod watching;
 

@@ -9,7 +9,7 @@ returns-then-obey g c = (
   left_text c.moment.result c.obey.new.self,
   record {
     order = c.obey.ensures.order;
-    text_is = ordered_some c.args.bridge.now.out.command c.obey.new.self c.moment.result (sym c.obey.ensures.was ∙ c.if-obey.true) c.moment.ensures;
+    text_is = ordered_some c.args.bridge.now.left.outbox.command c.obey.new.self c.moment.result (sym c.obey.ensures.was ∙ c.if-obey.true) c.moment.ensures;
   },
   c.send_left.ensures,
 )
@@ -19,7 +19,7 @@ returns-else-obey g c = (
   [],
   record {
     order = c.obey.ensures.order;
-    text_is = ordered_none c.args.bridge.now.out.command c.obey.new.self (sym c.obey.ensures.was ∙ c.if-obey.false);
+    text_is = ordered_none c.args.bridge.now.left.outbox.command c.obey.new.self (sym c.obey.ensures.was ∙ c.if-obey.false);
   },
   λ told faults waiting before s.
       sent_still told (g.K.Sink.taken c.args.out.now) faults (g.K.Sink.fault_count c.args.out.now) waiting before c.args.writer.now c.args.sent s,

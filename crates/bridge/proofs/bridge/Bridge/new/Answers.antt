@@ -8,9 +8,9 @@ unfolding parts_of
 returns c = record {
   settings = (are_settings c.args.settings.now.config c.requires.config).settings;
   waits = refl;
-  left = c.new-2.ensures;
+  left = c.new-3.ensures;
   gateway = c.in_ok-gateway.ensures;
-  answering = c.new-answering.ensures;
-  joining = c.joining_of-joining.ensures;
+  answering = c.new-2.ensures;
+  joining = c.joining_of.ensures;
   watching = c.in_ok-watching.ensures;
 }

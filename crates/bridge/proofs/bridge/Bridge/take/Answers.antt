@@ -1,42 +1,38 @@
 use Rattle.std.proofs.Common.{sym, ap, subst, ◌∙◌}
 use Rattle.gate_core.specs.Steps.{entry_of}
-use Rattle.bridge.specs.BridgeStands.{IsBridgeStep}
-use Rattle.bridge.specs.Kept.{Bridged, quiet}
-use Rattle.bridge.proofs.Steps.{accepted_step, refused_step, with_gateway}
+use Rattle.bridge.specs.declared.left.Left.{Left}
+use Rattle.bridge.specs.BridgeStands.{IsBesideStep, IsBridgeStep}
+use Rattle.bridge.specs.Kept.{Bridged}
+use Rattle.bridge.proofs.Steps.{accepted_step, bridge_of, left_after, refused_step, with_gateway}
 use Rattle.bridge.proofs.bridge.Bridge.take.Goals as goal
 
 pub returns-then-accepted : goal.returns-then-accepted
 returns-then-accepted c =
     let i = c.self.inside in
-    let before : Bridged = record {
-      started = i.started;
-      gateway = i.gateway;
-      out = i.outbox;
-      answering = i.answering;
-      joining = i.joining;
-      watching = i.watching;
-    } in
+    let e = entry_of c.args.event.now in
+    let g = c.step.new.self in
+    let o = c.step.new.out in
+    let after = c.take_beside.new.self in
+    let before = bridge_of i.started i.gateway i.answering.identity i.joining i.watching i.left in
+    let beside = subst (λ (l : Left). IsBesideStep e (record (with_gateway i.started g o before) { left = l }) after) (left_after c.clear.new.self o c.clear.ensures) c.take_beside.ensures in
     record {
-      step = subst (λ (b : Bridged). IsBridgeStep (entry_of c.args.event.now) b c.take_beside.new.self) c.self.view_is
-          (accepted_step c.args.event.now before c.step.new.self c.step.new.out c.take_beside.new.self c.requires.valid c.step.ensures.history
-          (sym c.accepts-accepted.ensures ∙ c.if-accepted.true) c.take_beside.ensures);
+      step = subst (λ (b : Bridged). IsBridgeStep e b after) c.self.view_is
+          (accepted_step c.args.event.now before g o after c.requires.valid c.step.ensures.history
+          (sym c.accepts-accepted.ensures ∙ c.if-accepted.true) beside);
       started = c.take_beside.ensures.started ∙ ap (λ (b : Bridged). b.started) c.self.view_is ∙ c.requires.started;
     }
 
 pub returns-else-accepted : goal.returns-else-accepted
 returns-else-accepted c =
     let i = c.self.inside in
-    let before : Bridged = record {
-      started = i.started;
-      gateway = i.gateway;
-      out = i.outbox;
-      answering = i.answering;
-      joining = i.joining;
-      watching = i.watching;
-    } in
+    let e = entry_of c.args.event.now in
+    let g = c.step.new.self in
+    let o = c.step.new.out in
+    let before = bridge_of i.started i.gateway i.answering.identity i.joining i.watching i.left in
+    let after = with_gateway i.started g o before in
     record {
-      step = subst (λ (a : Bridged). IsBridgeStep (entry_of c.args.event.now) c.args.self.now a) (sym c.clear_beside.ensures)
-          (subst (λ (b : Bridged). IsBridgeStep (entry_of c.args.event.now) b (quiet (with_gateway i.started c.step.new.self c.step.new.out before))) c.self.view_is
-          (refused_step c.args.event.now before c.step.new.self c.step.new.out c.step.ensures.history (sym c.accepts-accepted.ensures ∙ c.if-accepted.false)));
-      started = ap (λ (b : Bridged). b.started) c.clear_beside.ensures ∙ ap (λ (b : Bridged). b.started) c.self.view_is ∙ c.requires.started;
+      step = subst (λ (l : Left). IsBridgeStep e c.args.self.now (record after { left = l })) (sym (left_after c.clear.new.self o c.clear.ensures))
+          (subst (λ (b : Bridged). IsBridgeStep e b after) c.self.view_is
+          (refused_step c.args.event.now before g o c.step.ensures.history (sym c.accepts-accepted.ensures ∙ c.if-accepted.false)));
+      started = ap (λ (b : Bridged). b.started) c.self.view_is ∙ c.requires.started;
     }

@@ -1,18 +1,14 @@
-use Rattle.std.proofs.Common.{refl, subst, sym}
-use Rattle.std.specs.Prelude.{Some}
-use Rattle.bridge.specs.Beside.{JoiningStands}
-use Rattle.bridge.specs.Kept.{Joining, datagram_left}
-use Rattle.bridge.proofs.Joins.{rmc_joined}
+use Rattle.std.proofs.Common.{refl, ap}
+use Rattle.bridge.proofs.Joins.{rmc_said, rmc_silent}
 use Rattle.bridge.proofs.joining.Joining.join.Goals as goal
 
-pub returns : goal.returns
-returns c = λ e rmc c' s h step stands.
-    let i = c.self.inside in
-    let before : Joining = record { group = i.group; join = i.join; left = datagram_left i.said i.group i.packet.items } in
-    let after : Joining = record {
-      group = i.group;
-      join = c.after-self-inside.new.self;
-      left = datagram_left c.after-self-inside.result i.group c.after-self-inside.new.packet.items;
-    } in
-    rmc_joined c' s h e c.args.gateway.now c.args.emits.now rmc before after c.after-self-inside.result c.after-self-inside.new.packet.items step
-    (subst (λ (j : Joining). JoiningStands rmc c' s h (Some j)) (sym c.self.view_is) stands) c.after-self-inside.ensures.history refl refl
+pub returns-then-not-said : goal.returns-then-not-said
+returns-then-not-said c = λ e.
+    rmc_silent c.args.gateway.now c.args.outbox.now e c.args.self.now (record { group = c.args.self.now.group; join = c.after-said.new.self })
+    c.after-said.result c.after-said.new.packet.items c.after-said.ensures.history refl c.clear.new.self c.clear.ensures c.if-not-said.true
+
+pub returns-else-not-said : goal.returns-else-not-said
+returns-else-not-said c = λ e.
+    rmc_said c.args.gateway.now c.args.outbox.now e c.args.self.now (record { group = c.args.self.now.group; join = c.after-said.new.self })
+    c.after-said.result c.after-said.new.packet.items c.after-said.ensures.history refl c.args.out.now c.post-datagram.result.now.group c.requires
+    (ap (λ d. d.group) c.post-datagram.ensures.empty) c.if-not-said.false

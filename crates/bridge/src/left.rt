@@ -1,0 +1,68 @@
+//! All that a call of the bridge leaves.
+ghost use Rattle.std.specs.Prelude.{◌≡◌, length, option_map, slice_get, IfSome};
+ghost use Rattle.gate_events.specs.Emit.{CanWrite};
+ghost use Rattle.gate_outbox.specs.Output.{emit_of};
+ghost use Rattle.bridge.specs.Kept.{all_left, nothing_left};
+
+use crate::answering::Answer;
+use crate::joining::Joined;
+use ais_bridge::AisEmits;
+use gate_core::Outbox;
+use gate_events::Emit;
+
+/// All that a call leaves, each part's emits behind those of the one before.
+#[derive(Drop)]
+pub(crate) struct Left {
+    /// Of the gateway itself.
+    pub(crate) outbox: Outbox,
+    pub(crate) answer: Answer,
+    pub(crate) joined: Joined,
+    pub(crate) ships: AisEmits,
+}
+
+impl Left {
+    pub(crate) fn new() -> Left
+        ensures { result ≡ nothing_left }
+    {
+        Left {
+            outbox: Outbox::new(),
+            answer: Answer::new(),
+            joined: Joined::new(),
+            ships: AisEmits::new(),
+        }
+    }
+
+    /// Forgets all.
+    pub(crate) fn clear(&mut self)
+        ensures { self.new ≡ nothing_left }
+    {
+        self.outbox.clear();
+        self.answer.clear();
+        self.joined.clear();
+        self.ships.clear();
+    }
+
+    /// How many emits there are.
+    pub(crate) fn len(&self) -> usize
+        ensures { result ≡ length (all_left self.now) }
+    {
+        self.outbox.len() + self.answer.len() + self.joined.len() + self.ships.len()
+    }
+
+    /// The emit at this place, from 0; None exactly beyond the list.
+    pub(crate) fn item(&self, place: usize) -> Option<Emit<'_>>
+        ensures emit { option_map emit_of result ≡ slice_get (all_left self.now) place }
+        ensures valid { IfSome result CanWrite }
+    {
+        let Some(place) = place.checked_sub(self.outbox.len()) else {
+            return self.outbox.item(place);
+        };
+        let Some(place) = place.checked_sub(self.answer.len()) else {
+            return self.answer.item(place);
+        };
+        let Some(place) = place.checked_sub(self.joined.len()) else {
+            return self.joined.item(place);
+        };
+        self.ships.item(place)
+    }
+}
