@@ -66,22 +66,22 @@ module _ (p : Parts) (s : ℕ) (h : History) (e : Entry) where
         stands = obeyed.stands;
       }
 
-  accepted : (b after : Bridged) → is_accepted h e ≡ true → IsBridged p s h e b → IsOrder b.out.command b after
-      → Reached (stepped p s h e) (left_at b.gateway.moment b ++ ordered_left b.out.command after) after
+  accepted : (b after : Bridged) → is_accepted h e ≡ true → IsBridged p s h e b → IsOrder b.left.outbox.command b after
+      → Reached (stepped p s h e) (left_at b.gateway.moment b ++ ordered_left b.left.outbox.command after) after
   accepted b after accepts is order =
       let c = command_in p.gateway s (done (receiver_of p.gateway) s h e) (moment_of e) in
       let so : stepped p s h e ≡ with_command p s h e c = rw accepts refl in
-      subst (λ (x : Stepped p.gateway s). Reached x (left_at b.gateway.moment b ++ ordered_left b.out.command after) after)
+      subst (λ (x : Stepped p.gateway s). Reached x (left_at b.gateway.moment b ++ ordered_left b.left.outbox.command after) after)
       (ap (with_command p s h e) is.ordered ∙ sym so)
-      (ordered b.out.command b after is.could is.stands is.emits order)
+      (ordered b.left.outbox.command b after is.could is.stands is.emits order)
 
-  refused : (b after : Bridged) → IsHistory h → is_accepted h e ≡ false → IsRefused p s h b → IsOrder b.out.command b after
-      → Reached (stepped p s h e) (left_at b.gateway.moment b ++ ordered_left b.out.command after) after
+  refused : (b after : Bridged) → IsHistory h → is_accepted h e ≡ false → IsRefused p s h b → IsOrder b.left.outbox.command b after
+      → Reached (stepped p s h e) (left_at b.gateway.moment b ++ ordered_left b.left.outbox.command after) after
   refused b after could refuses is order =
       let same : after ≡ b = subst (λ (c : Option Command). IsOrder c b after) is.unordered order in
       let early : Stepped p.gateway s = record { emits = at (now h) (broken rules.moment_back detail.Nothing ∷ []); after = h } in
       let so : stepped p s h e ≡ early = rw refuses refl in
-      subst (λ (x : Stepped p.gateway s). Reached x (left_at b.gateway.moment b ++ ordered_left b.out.command after) after) (sym so)
+      subst (λ (x : Stepped p.gateway s). Reached x (left_at b.gateway.moment b ++ ordered_left b.left.outbox.command after) after) (sym so)
       (record {
         due_is =
             ap (λ (c : Option Command). left_at b.gateway.moment b ++ ordered_left c after) is.unordered
@@ -92,12 +92,12 @@ module _ (p : Parts) (s : ℕ) (h : History) (e : Entry) where
       })
 
   reached_by : (answer : Bool) → is_accepted h e ≡ answer → (before b after : Bridged) → IsHistory h → BridgeStands p s h before → IsBridgeStep e before b
-      → IsOrder b.out.command b after → Reached (stepped p s h e) (left_at b.gateway.moment b ++ ordered_left b.out.command after) after
+      → IsOrder b.left.outbox.command b after → Reached (stepped p s h e) (left_at b.gateway.moment b ++ ordered_left b.left.outbox.command after) after
   reached_by true accepts before b after could stands step order = accepted b after accepts ((step p s h could stands).0 accepts) order
   reached_by false refuses before b after could stands step order = refused b after could refuses ((step p s h could stands).1 refuses) order
 
-  pub reached : (before b after : Bridged) → IsHistory h → BridgeStands p s h before → IsBridgeStep e before b → IsOrder b.out.command b after
-      → Reached (stepped p s h e) (left_at b.gateway.moment b ++ ordered_left b.out.command after) after
+  pub reached : (before b after : Bridged) → IsHistory h → BridgeStands p s h before → IsBridgeStep e before b → IsOrder b.left.outbox.command b after
+      → Reached (stepped p s h e) (left_at b.gateway.moment b ++ ordered_left b.left.outbox.command after) after
   reached before b after could stands step order = reached_by (is_accepted h e) refl before b after could stands step order
 
   -- what the event itself left comes first
@@ -144,11 +144,11 @@ ordered_none (Some c) after none = absurd cc
 
 module _ (e : Entry) (before b : Bridged) (step : IsBridgeStep e before b) (m : ℕ) (is : m ≡ b.gateway.moment) where
   -- the event and the command that it completes went out whole
-  pub taken_all : (after : Bridged) (old between new : Outside) (more : List Emitted) → IsOrder b.out.command b after → more ≡ ordered_left b.out.command after
+  pub taken_all : (after : Bridged) (old between new : Outside) (more : List Emitted) → IsOrder b.left.outbox.command b after → more ≡ ordered_left b.left.outbox.command after
       → HandsAll old between (left_at m b) → HandsAll between new more → DoesAll RunStands (λ p g. with_entry p e g) [] [] before after old new
   taken_all after old between new more order same x y =
       let all = hands_then old between new (left_at m b) more x y in
-      let due : left_at m b ++ more ≡ left_at b.gateway.moment b ++ ordered_left b.out.command after =
+      let due : left_at m b ++ more ≡ left_at b.gateway.moment b ++ ordered_left b.left.outbox.command after =
       ap (λ (k : ℕ). left_at k b ++ more) is ∙ ap (λ (z : List Emitted). left_at b.gateway.moment b ++ z) same in
       record {
         tried = all.tried;
@@ -170,11 +170,11 @@ module _ (e : Entry) (before b : Bridged) (step : IsBridgeStep e before b) (m : 
   }
 
   -- a write failed in what the command left
-  pub taken_second : (after : Bridged) (old between new : Outside) (more : List Emitted) → IsOrder b.out.command b after → more ≡ ordered_left b.out.command after
+  pub taken_second : (after : Bridged) (old between new : Outside) (more : List Emitted) → IsOrder b.left.outbox.command b after → more ≡ ordered_left b.left.outbox.command after
       → HandsAll old between (left_at m b) → HandsSome between new more → DoesSome RunStands (λ p g. with_entry p e g) [] [] before old new
   taken_second after old between new more order same x y =
       let all = hands_some_then old between new (left_at m b) more x y in
-      let due : left_at m b ++ more ≡ left_at b.gateway.moment b ++ ordered_left b.out.command after =
+      let due : left_at m b ++ more ≡ left_at b.gateway.moment b ++ ordered_left b.left.outbox.command after =
       ap (λ (k : ℕ). left_at k b ++ more) is ∙ ap (λ (z : List Emitted). left_at b.gateway.moment b ++ z) same in
       let front = all_due (all.tried ++ all.last ∷ []) in
       record {
@@ -186,8 +186,8 @@ module _ (e : Entry) (before b : Bridged) (step : IsBridgeStep e before b) (m : 
             (due ∙ (reached p g.start g.history e before b after stands.0 stands.1 step order).due_is) all.is_front;
       }
 
-  pub taken_then : (after : Bridged) (old between new : Outside) (more : List Emitted) (result : Result (Unit {0}) Failed) → IsOrder b.out.command b after
-      → more ≡ ordered_left b.out.command after → HandsAll old between (left_at m b) → Hands between new more result
+  pub taken_then : (after : Bridged) (old between new : Outside) (more : List Emitted) (result : Result (Unit {0}) Failed) → IsOrder b.left.outbox.command b after
+      → more ≡ ordered_left b.left.outbox.command after → HandsAll old between (left_at m b) → Hands between new more result
       → Does RunStands (λ p g. with_entry p e g) [] [] before after old new result
   taken_then after old between new more (Ok done) order same x y = taken_all after old between new more order same x y
   taken_then after old between new more (Err failed) order same x y = taken_second after old between new more order same x y

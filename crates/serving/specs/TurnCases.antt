@@ -3,7 +3,6 @@ use Rattle.std.specs.Prelude.{◌≡◌, Bool, true, false, List, [], ◌∷◌,
 use Rattle.std.specs.List.{flat_map}
 use Rattle.report_rules.specs.Rules.{capture_form, receive_failed, unclaimed}
 use Rattle.gate_events.specs.declared.emit.Detail.TheVariants.{Bus, Line, Net, Source}
-use Rattle.gate_events.specs.Emit.{Emitted}
 use Rattle.gate_outside.specs.Link.{Outcome}
 use Rattle.history.specs.Cases.{can_frame, emitted, navd, started}
 use Rattle.history.specs.Emits.{broken}

@@ -21,7 +21,7 @@ returns-then-obey-clause-does g c =
     (outside (g.B.Link.traffic c.hand_on-then-obey.new.bus) (g.E.Link.traffic c.hand_on-then-obey.new.net) (g.K.Sink.taken c.hand_on-then-obey.new.out)
     (g.K.Sink.fault_count c.hand_on-then-obey.new.out))
     (left_at c.moment-then-obey.result c.obey.new.self) c.hand_on-then-obey.result c.obey.ensures.order
-    (ordered_some c.take.new.self.out.command c.obey.new.self c.moment-then-obey.result (sym c.obey.ensures.was ∙ c.if-obey.true) c.moment-then-obey.ensures)
+    (ordered_some c.take.new.self.left.outbox.command c.obey.new.self c.moment-then-obey.result (sym c.obey.ensures.was ∙ c.if-obey.true) c.moment-then-obey.ensures)
     c.in-Ok.ensures c.hand_on-then-obey.ensures
 
 pub returns-else-obey-clause-does : goal.returns-else-obey-clause-does
@@ -31,4 +31,4 @@ returns-else-obey-clause-does g c =
     taken_all (entry_of c.args.event.now) c.args.bridge.now c.take.new.self c.take.ensures.step c.moment.result c.moment.ensures c.obey.new.self
     (outside (g.B.Link.traffic c.args.bus.now) (g.E.Link.traffic c.args.net.now) (g.K.Sink.taken c.args.out.now) (g.K.Sink.fault_count c.args.out.now))
     between between [] c.obey.ensures.order
-    (ordered_none c.take.new.self.out.command c.obey.new.self (sym c.obey.ensures.was ∙ c.if-obey.false)) c.in-Ok.ensures (hands_none between)
+    (ordered_none c.take.new.self.left.outbox.command c.obey.new.self (sym c.obey.ensures.was ∙ c.if-obey.false)) c.in-Ok.ensures (hands_none between)
