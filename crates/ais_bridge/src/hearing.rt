@@ -5,7 +5,6 @@ ghost use Rattle.ais_report.specs.Converted.{converted};
 ghost use Rattle.ais_report.specs.Fields.{IsReport};
 ghost use Rattle.bus_messages.specs.Heard.{lent_payload};
 ghost use Rattle.gate_core.specs.Steps.{IsEventValid, by_keys, entry_of};
-ghost use Rattle.history.specs.Entries.{moment_of};
 ghost use Rattle.gate_model.specs.FastPackets.{lost_of_source, without_source};
 ghost use Rattle.gate_outbox.specs.Output.{and_left, and_told};
 ghost use Rattle.ais_bridge.specs.AisOut.{is_heard};
@@ -18,7 +17,7 @@ use ais_report::{AisFault, AisReport, convert};
 use bus_messages::fast;
 use bus_messages::meanings::is_own;
 use fast_packet::FastAssembler;
-use gate_core::Gateway;
+use gate_core::{Gateway, moment_of};
 use gate_events::Event;
 use gate_outbox::reports::of_source;
 use n2k_id::{Frame, Parts, parts};
@@ -120,15 +119,6 @@ impl AisBridge {
             }
             None => {}
         }
-    }
-}
-
-fn moment_of(event: &Event<'_>) -> u64
-    ensures { result ≡ moment_of (entry_of event.now) }
-{
-    match event {
-        Event::Frame { moment, .. } | Event::Datagram { moment, .. } | Event::Tick { moment } =>
-            *moment,
     }
 }
 

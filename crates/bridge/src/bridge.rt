@@ -14,7 +14,7 @@ use crate::joining::{Joining, join, joining_of};
 use crate::left::Left;
 use crate::watching::{watch, watching_of};
 use ais_bridge::AisBridge;
-use gate_core::{Command, Gateway};
+use gate_core::{Command, Gateway, moment_of};
 use gate_events::{Emit, Event};
 use settings::Settings;
 use std::alloc::{AllocError, Global};
@@ -175,15 +175,4 @@ fn accepts(gateway: &Gateway, event: &Event<'_>) -> bool
     ensures { result ≡ nat_le gateway.now.moment (moment_of (entry_of event.now)) }
 {
     gateway.moment() <= moment_of(event)
-}
-
-/// The moment of an event, in microseconds.
-pub(crate) fn moment_of(event: &Event<'_>) -> u64
-    ensures { result ≡ moment_of (entry_of event.now) }
-{
-    match event {
-        Event::Frame { moment, .. } | Event::Datagram { moment, .. } | Event::Tick { moment } => {
-            *moment
-        }
-    }
 }

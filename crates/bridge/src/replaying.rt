@@ -7,9 +7,10 @@ ghost use Rattle.gate_outside.specs.Faults.{HasCause};
 ghost use Rattle.capture_text.specs.Emitted.{line_of};
 ghost use Rattle.bridge.specs.Replaying.{IsOpening, IsOrdered, IsSent, SendsThen, left_text, line_at};
 
-use crate::bridge::{Bridge, moment_of};
+use crate::bridge::Bridge;
 use capture_stream::{Answers, Writer};
 use capture_text::LineRule;
+use gate_core::moment_of;
 use gate_events::{Detail, Emit, Event, Report};
 use gate_outside::{Failed, Sink};
 

@@ -9,3 +9,4 @@ mod state;
 pub use config_values::{Config, Ends, RowConfig};
 pub use gate_outbox::{Command, Done, Outbox};
 pub use gateway::{Gateway, HeldCounts};
+pub use state::moment_of;

@@ -282,8 +282,8 @@ impl State {
     }
 }
 
-/// The moment of an event.
-fn moment_of(event: &Event<'_>) -> u64
+/// The moment of an event, in microseconds.
+pub fn moment_of(event: &Event<'_>) -> u64
     ensures { result ≡ moment_of (entry_of event.now) }
 {
     match event {
