@@ -1,3 +1,2 @@
-pub mod ReplyPgns
 pub mod FastTelling
 pub mod SessionTelling

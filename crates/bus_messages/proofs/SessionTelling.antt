@@ -1,7 +1,7 @@
 -- What is told of a frame of the transport protocol (ISO 11783-3) is what the frame makes.
-use Rattle.std.proofs.Common.{◌≡◌, ℕ, List, ◌++◌, Option, Some, None, option_map, refl, ap, sym, ◌∙◌, subst}
+use Rattle.std.proofs.Common.{◌≡◌, ℕ, List, ◌++◌, Option, Some, None, option_map, refl, ap, sym, ◌∙◌}
 use Rattle.n2k_id.specs.declared.identifier_parts.Parts.{Parts}
-use Rattle.slot_views.specs.Slots.{SlotMap, entry_at}
+use Rattle.slot_views.specs.Slots.{SlotMap}
 use Rattle.iso_transport.specs.declared.key.IsoKey.{IsoKey}
 use Rattle.iso_transport.specs.contracts.key.IsoKeyOrd as key
 use Rattle.iso_transport.specs.declared.answers.IsoFed.{IsoFed}
@@ -10,15 +10,12 @@ use Rattle.iso_transport.specs.declared.answers.IsoOutcome.TheVariants.{Ignored,
 use Rattle.iso_transport.specs.declared.answers.IsoRefusal.{IsoRefusal}
 use Rattle.iso_transport.specs.declared.reply.Reply.{Reply}
 use Rattle.iso_transport.specs.Answers.{FeedGives}
-use Rattle.iso_transport.specs.Assembly.{is_crowded}
-use Rattle.iso_transport.specs.Audience.{key_of}
 use Rattle.iso_transport.specs.RunVerdicts.{Message}
 use Rattle.gate_model.specs.Sessions.{SessionAnswer, IsAnswer, IsOutcome, answer_of, restarted_reports, refused_reports, answer_reports, carried_by}
 use Rattle.gate_model.specs.Said as said
 use Rattle.gate_model.proofs.SessionAnswers.{answers_are_told}
 use Rattle.bus_messages.specs.Contents.{content_in, short_reports}
 use Rattle.bus_messages.specs.SessionTold.{answer_in, content_by, message_in, refusal_in, told_reports}
-use Rattle.bus_messages.proofs.ReplyPgns.{NamesPgn, replies_name_pgns}
 
 outcome_is : (a : SessionAnswer) (outcome : IsoOutcome) → IsOutcome a outcome → (refusal_in outcome ≡ a.refusal) × (message_in outcome ≡ a.message)
 outcome_is a Ignored is = (sym is.0, sym is.1)
@@ -38,15 +35,9 @@ answer_is a fed is = let by = outcome_is a fed.outcome is.outcome in
     ∙ ap (λ m. made a.restarted a.refusal a.reply m) by.1
 
 -- by the order of the keys
-module _ (slots : SlotMap IsoKey) (own : Option ℕ) (parts : Parts) (bytes : List ℕ) (moment : ℕ) where
-  pub answered : (fed : IsoFed) → FeedGives key.TheImpl.ghosts.cmp slots own parts bytes moment fed
-      → answer_in fed ≡ answer_of key.TheImpl.ghosts.cmp slots own parts bytes moment
-  answered fed gives = answer_is _ fed (answers_are_told key.TheImpl.ghosts.cmp slots own parts bytes moment fed gives)
-
-  pub reply_named : (fed : IsoFed) → FeedGives key.TheImpl.ghosts.cmp slots own parts bytes moment fed → NamesPgn fed.reply
-  reply_named fed gives =
-      subst (λ a. NamesPgn a.reply) (sym (answered fed gives))
-      (replies_name_pgns own parts (is_crowded slots) (entry_at key.TheImpl.ghosts.cmp slots (key_of parts)) bytes)
+pub answered : (slots : SlotMap IsoKey) (own : Option ℕ) (parts : Parts) (bytes : List ℕ) (moment : ℕ) (fed : IsoFed)
+    → FeedGives key.TheImpl.ghosts.cmp slots own parts bytes moment fed → answer_in fed ≡ answer_of key.TheImpl.ghosts.cmp slots own parts bytes moment
+answered slots own parts bytes moment fed gives = answer_is _ fed (answers_are_told key.TheImpl.ghosts.cmp slots own parts bytes moment fed gives)
 
 -- ---- with what the message says
 

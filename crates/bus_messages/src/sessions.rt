@@ -3,7 +3,7 @@ ghost use Rattle.std.specs.Prelude.{◌≡◌, ◌^◌, ◌<◌, ◌&&◌, ◌==
 ghost use Rattle.n2k_id.specs.Frame.{IsFrame, held_bytes};
 ghost use Rattle.pgn_profile.specs.Profiled.{GivesValid};
 ghost use Rattle.iso_transport.specs.Connection.{control_at};
-ghost use Rattle.iso_transport.specs.Replies.{named_pgn};
+ghost use Rattle.iso_transport.specs.Replies.{NamesPgn};
 ghost use Rattle.history.specs.Emits.{reported, replied};
 ghost use Rattle.gate_model.specs.Sessions.{session_step, fed_step, restarted_reports, refused_reports, refusal_report};
 ghost use Rattle.bus_messages.specs.Contents.{content_in};
@@ -80,7 +80,7 @@ fn asks_to_send(bytes: &[u8]) -> bool
 }
 
 /// Takes a frame that the gateway may answer.
-#[tactic(auto, using(gate_outbox::proofs::Telling::told_more, crate::proofs::SessionTelling::answered, crate::proofs::SessionTelling::reply_named, crate::proofs::SessionTelling::same_reports, crate::proofs::SessionTelling::same_message))]
+#[tactic(auto, using(gate_outbox::proofs::Telling::told_more, crate::proofs::SessionTelling::answered, crate::proofs::SessionTelling::same_reports, crate::proofs::SessionTelling::same_message))]
 fn feed_on(
     sessions: &mut IsoAssembler,
     node: Node,
@@ -158,7 +158,7 @@ fn refusal_report(parts: &Parts, refusal: IsoRefusal) -> Report
 
 /// Sends the reply from the own address, where there is one.
 fn reply(own: Option<u8>, destination: u8, reply: Option<Reply>, out: &mut StepEmits)
-    requires pgn { IfSome reply (λ r. named_pgn r < 2 ^ 24) }
+    requires pgn { NamesPgn reply }
     ensures emits { out.new ≡ and_told most_told out.old (replied own destination reply) }
 {
     match (own, reply) {

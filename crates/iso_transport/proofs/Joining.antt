@@ -1,5 +1,5 @@
 -- What each call does to the sessions of single keys.
-use Rattle.std.proofs.Common.{◌≡◌, ℕ, ◌==◌, ◌&&◌, ◌||◌, not, nat_le, nat_lt, if◌then◌else◌, Bool, true, false, List, length, slice_index, Option, Some, None, option_map, refl, sym, ◌∙◌, ap, subst, arith}
+use Rattle.std.proofs.Common.{◌≡◌, ℕ, ◌==◌, ◌&&◌, ◌||◌, not, nat_le, nat_lt, if◌then◌else◌, Bool, true, false, List, length, slice_index, Option, Some, None, option_map, refl, sym, ◌∙◌, ap, subst}
 use Rattle.std.proofs.lemmas.Bool.{cond-true, cond-false, eqb-true, eq-eqb, le-leb, ltb-false}
 use Rattle.std.specs.Cmp.{IsTotalOrder, bool_cmp_total}
 use Rattle.std.proofs.lemmas.Cmp.{nat_cmp_total, on_total, then_total}
@@ -22,12 +22,12 @@ use Rattle.iso_transport.specs.Connection.{control_at, size_at, packets_at, limi
 use Rattle.iso_transport.specs.Cm.{cm_by, cm_of}
 use Rattle.iso_transport.specs.Sessions.{gap_after}
 use Rattle.iso_transport.specs.Audience.{is_data, key_of, bears, concerns}
-use Rattle.iso_transport.specs.IsoRuns.{IsoPiece, number_of, end_of}
-use Rattle.iso_transport.specs.Verdicts.{pgn_in, left_of, is_again, VerdictFits, packet_verdict, kind_verdict, management_verdict, frame_verdict}
+use Rattle.iso_transport.specs.IsoRuns.{IsoPiece}
+use Rattle.iso_transport.specs.Verdicts.{pgn_in, VerdictFits, kind_verdict, management_verdict, frame_verdict}
 use Rattle.iso_transport.specs.Assembly.{opening, is_crowded, part_to, fed_by, verdict_of, fed_after, key_fits, AreSessions}
 use Rattle.iso_transport.specs.RunVerdicts.{verdict_on, extended_by, left_by}
 use Rattle.iso_transport.specs.Joining.{piece_of, FeedsItsKey, OrdersKeys}
-use Rattle.iso_transport.proofs.Verdicts.{full_where, management_fits}
+use Rattle.iso_transport.proofs.Verdicts.{full_where, management_fits, packet_fits}
 
 -- ---- what a frame is to its key, whatever the other keys hold
 
@@ -49,27 +49,7 @@ frame_same addressed false None p bytes = refl
 frame_same addressed crowded (Some e) true bytes = refl
 frame_same addressed crowded (Some e) false bytes = management_same addressed crowded false (pgn_in e) bytes
 
--- the next packet has the number that is awaited
-packet_fits : (full addressed : Bool) (o : Option Entry) (bytes : List ℕ) → VerdictFits full o bytes (packet_verdict addressed o bytes)
-packet_fits full addressed None bytes = tt
-packet_fits full addressed (Some e) bytes = by_tests (nat_lt (length bytes) (end_of (left_of e))) (is_again e bytes) (number_of bytes == e.next) refl refl refl
-  where
-    by_tests : (t a n : Bool) → nat_lt (length bytes) (end_of (left_of e)) ≡ t → is_again e bytes ≡ a → (number_of bytes == e.next) ≡ n → VerdictFits full (Some e) bytes (packet_verdict addressed (Some e) bytes)
-    by_tests true a n et ea en = rw et tt
-    by_tests false true n et ea en = rw (et, ea) tt
-    by_tests false false false et ea en = rw (et, ea, en) tt
-    by_tests false false true et ea en =
-        rw (et, ea, en) (record {
-          small = record { size = omega arith; window = omega arith };
-          entry = e;
-          held = refl;
-          number_is = refl;
-          awaited = eqb-true _ _ en;
-          some = omega arith;
-          most = omega arith;
-          enough = ltb-false _ _ et;
-        })
-
+-- what a frame is fits what is kept
 pub frame_fits : (addressed crowded : Bool) (o : Option Entry) (p : Bool) (bytes : List ℕ) → VerdictFits (full_where crowded o) o bytes (frame_verdict addressed crowded o p bytes)
 frame_fits addressed crowded o true bytes = packet_fits (full_where crowded o) addressed o bytes
 frame_fits addressed crowded o false bytes = management_fits crowded o bytes addressed

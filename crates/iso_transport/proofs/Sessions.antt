@@ -44,7 +44,7 @@ pgn_by false false false false true e bytes = omega arith
 pgn_by false false false false false true bytes = omega arith
 pgn_by false false false false false false bytes = omega arith
 
-pgn_small : (bytes : List ℕ) → (announced (cm_of bytes)).pgn < 2 ^ 24
+pub pgn_small : (bytes : List ℕ) → (announced (cm_of bytes)).pgn < 2 ^ 24
 pgn_small bytes = pgn_by (nat_lt (length bytes) 8) (control_at bytes == 16) (control_at bytes == 17) (control_at bytes == 19) (control_at bytes == 32) (control_at bytes == 255) bytes
 
 pub opened_from : (addressed : Bool) (bytes : List ℕ) → opens addressed (cm_of bytes) ≡ true → Opened (announced (cm_of bytes))

@@ -1,5 +1,5 @@
 -- What follows from what a frame is.
-use Rattle.std.proofs.Common.{◌≡◌, ℕ, ◌≤◌, ◌==◌, ◌&&◌, not, nat_lt, Bool, true, false, if◌then◌else◌, List, length, Option, Some, None, option_map, is_some, refl, arith}
+use Rattle.std.proofs.Common.{◌≡◌, ℕ, ◌^◌, ◌<◌, ◌≤◌, ◌==◌, ◌&&◌, not, nat_lt, Bool, true, false, if◌then◌else◌, List, length, Option, Some, None, option_map, is_some, refl, arith}
 use Rattle.std.proofs.lemmas.Bool.{leb-true, eqb-true, ltb-false}
 use Rattle.std.specs.declared.cmp.Ordering.{Ordering}
 use Rattle.slot_views.specs.Slots.{Entry, SlotMap, entry_at}
@@ -16,7 +16,9 @@ use Rattle.iso_transport.specs.declared.session.Session.{Session}
 use Rattle.iso_transport.specs.declared.verdict.Verdict.{Verdict}
 use Rattle.iso_transport.specs.declared.verdict.Verdict.TheVariants.{Ignored, Again, Refused, Ends, Opens, Next}
 use Rattle.iso_transport.specs.Cm.{cm_of}
-use Rattle.iso_transport.specs.Sessions.{shortest, is_size, announced}
+use Rattle.iso_transport.specs.Sessions.{shortest, is_size, announced, abort_to}
+use Rattle.iso_transport.specs.Replies.{NamesPgn}
+use Rattle.iso_transport.proofs.Sessions.{pgn_small}
 use Rattle.iso_transport.specs.Verdicts.{IsSmall, VerdictFits, TellsSmall, opener_verdict, sized_verdict, abort_verdict, kind_verdict, management_verdict, left_of, is_again, packet_verdict, pgn_in}
 use Rattle.iso_transport.specs.IsoRuns.{number_of, end_of}
 
@@ -28,52 +30,56 @@ both_true false b h = cc
 abbrev pub full_where : Bool → Option Entry → Bool
 full_where crowded o = not (is_some o) && crowded
 
+abort_names : (addressed : Bool) (reason pgn : ℕ) → pgn < 2 ^ 24 → NamesPgn (abort_to addressed reason pgn)
+abort_names true reason pgn small = small
+abort_names false reason pgn small = tt
+
 module _ (crowded : Bool) (o : Option Entry) (bytes : List ℕ) where
   opener_fits : (addressed : Bool) (s : Session) → IsSmall s → shortest ≤ s.size → VerdictFits (full_where crowded o) o bytes (opener_verdict addressed crowded (option_map pgn_in o) s)
   opener_fits addressed s small size = by_room crowded o small size
     where
       by_room : (c : Bool) (o : Option Entry) → IsSmall s → shortest ≤ s.size → VerdictFits (full_where c o) o bytes (opener_verdict addressed c (option_map pgn_in o) s)
       by_room c (Some e) small size = record { small = small; size = size; room = refl }
-      by_room true None small size = tt
+      by_room true None small size = abort_names addressed 1 s.pgn small.pgn
       by_room false None small size = record { small = small; size = size; room = refl }
 
-  sized_fits : (addressed : Bool) (s : Session) (packets : ℕ) → 1 ≤ s.window → (b : Bool) → is_size s.size packets ≡ b → VerdictFits (full_where crowded o) o bytes (sized_verdict addressed crowded (option_map pgn_in o) s packets)
-  sized_fits addressed s packets window true is =
+  sized_fits : (addressed : Bool) (s : Session) (packets : ℕ) → s.pgn < 2 ^ 24 → 1 ≤ s.window → (b : Bool) → is_size s.size packets ≡ b → VerdictFits (full_where crowded o) o bytes (sized_verdict addressed crowded (option_map pgn_in o) s packets)
+  sized_fits addressed s packets pgn window true is =
       let one = both_true _ _ is in
       let two = both_true _ _ one.1 in
-      rw is (opener_fits addressed s (record { size = leb-true _ _ two.0; window = window }) (leb-true _ _ one.0))
-  sized_fits addressed s packets window false is = rw is tt
+      rw is (opener_fits addressed s (record { pgn = pgn; size = leb-true _ _ two.0; window = window }) (leb-true _ _ one.0))
+  sized_fits addressed s packets pgn window false is = rw is (abort_names addressed 2 s.pgn pgn)
 
   abort_fits : (p : Option ℕ) → VerdictFits (full_where crowded o) o bytes (abort_verdict p)
   abort_fits None = tt
   abort_fits (Some pgn) = tt
 
-  kind_fits : (addressed : Bool) (cm : Option Cm) → VerdictFits (full_where crowded o) o bytes (kind_verdict addressed crowded (option_map pgn_in o) cm)
-  kind_fits addressed None = tt
-  kind_fits true (Some (Rts size packets limit p)) = sized_fits true (announced (Some (Rts size packets limit p))) packets (omega arith) _ refl
-  kind_fits false (Some (Rts size packets limit p)) = tt
-  kind_fits addressed (Some (Cts count next p)) = tt
-  kind_fits addressed (Some (EndAck size packets p)) = tt
-  kind_fits true (Some (Bam size packets p)) = tt
-  kind_fits false (Some (Bam size packets p)) = sized_fits false (announced (Some (Bam size packets p))) packets (omega arith) _ refl
-  kind_fits true (Some (Abort reason p)) = abort_fits (option_map pgn_in o)
-  kind_fits false (Some (Abort reason p)) = tt
+  kind_fits : (addressed : Bool) (cm : Option Cm) → (announced cm).pgn < 2 ^ 24 → VerdictFits (full_where crowded o) o bytes (kind_verdict addressed crowded (option_map pgn_in o) cm)
+  kind_fits addressed None small = tt
+  kind_fits true (Some (Rts size packets limit p)) small = sized_fits true (announced (Some (Rts size packets limit p))) packets small (omega arith) _ refl
+  kind_fits false (Some (Rts size packets limit p)) small = tt
+  kind_fits addressed (Some (Cts count next p)) small = tt
+  kind_fits addressed (Some (EndAck size packets p)) small = tt
+  kind_fits true (Some (Bam size packets p)) small = tt
+  kind_fits false (Some (Bam size packets p)) small = sized_fits false (announced (Some (Bam size packets p))) packets small (omega arith) _ refl
+  kind_fits true (Some (Abort reason p)) small = abort_fits (option_map pgn_in o)
+  kind_fits false (Some (Abort reason p)) small = tt
 
-  by_test : (addressed b : Bool) (cm : Option Cm) → VerdictFits (full_where crowded o) o bytes (if b then Refused refusal.Size None else kind_verdict addressed crowded (option_map pgn_in o) cm)
-  by_test addressed true cm = tt
-  by_test addressed false cm = kind_fits addressed cm
+  by_test : (addressed b : Bool) (cm : Option Cm) → (announced cm).pgn < 2 ^ 24 → VerdictFits (full_where crowded o) o bytes (if b then Refused refusal.Size None else kind_verdict addressed crowded (option_map pgn_in o) cm)
+  by_test addressed true cm small = tt
+  by_test addressed false cm small = kind_fits addressed cm small
 
   pub management_fits : (addressed : Bool) → VerdictFits (full_where crowded o) o bytes (management_verdict addressed crowded (option_map pgn_in o) bytes)
-  management_fits addressed = by_test addressed (nat_lt (length bytes) 8) (cm_of bytes)
+  management_fits addressed = by_test addressed (nat_lt (length bytes) 8) (cm_of bytes) (pgn_small bytes)
 
 -- what a packet is
 packet_by : (full addressed : Bool) (e : Entry) (bytes : List ℕ) (t r n : Bool) → nat_lt (length bytes) (end_of (left_of e)) ≡ t → is_again e bytes ≡ r → (number_of bytes == e.next) ≡ n
     → VerdictFits full (Some e) bytes (packet_verdict addressed (Some e) bytes)
-packet_by full addressed e bytes true r n et er en = rw et tt
+packet_by full addressed e bytes true r n et er en = rw et (abort_names addressed 2 (pgn_in e) (omega arith))
 packet_by full addressed e bytes false true n et er en = rw (et, er) tt
-packet_by full addressed e bytes false false false et er en = rw (et, er, en) tt
+packet_by full addressed e bytes false false false et er en = rw (et, er, en) (abort_names addressed 2 (pgn_in e) (omega arith))
 packet_by full addressed e bytes false false true et er en = rw (et, er, en) record {
-  small = record { size = omega arith; window = omega arith };
+  small = record { pgn = omega arith; size = omega arith; window = omega arith };
   entry = e;
   held = refl;
   number_is = refl;
@@ -91,8 +97,8 @@ packet_fits full addressed (Some e) bytes = packet_by full addressed e bytes _ _
 pub tells_small : (full : Bool) (o : Option Entry) (bytes : List ℕ) (v : Verdict) → VerdictFits full o bytes v → TellsSmall v
 tells_small full o bytes Ignored fits = tt
 tells_small full o bytes Again fits = tt
-tells_small full o bytes (Refused reason reply) fits = tt
-tells_small full o bytes (Ends reason reply) fits = tt
+tells_small full o bytes (Refused reason reply) fits = fits
+tells_small full o bytes (Ends reason reply) fits = fits
 tells_small full o bytes (Opens s old) fits = fits.small
 tells_small full o bytes (Next s number end) fits = fits.small
 

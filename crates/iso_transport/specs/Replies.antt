@@ -1,5 +1,5 @@
 -- The bytes of the replies. What stands in no field is 255.
-use Rattle.std.specs.Prelude.{ℕ, ◌/◌, ◌%◌, List, [], ◌∷◌}
+use Rattle.std.specs.Prelude.{ℕ, ◌/◌, ◌%◌, ◌^◌, ◌<◌, List, [], ◌∷◌, Option, IfSome}
 use Rattle.iso_transport.specs.declared.connection.Cm.{Cm}
 use Rattle.iso_transport.specs.declared.connection.Cm.TheVariants as cm
 use Rattle.iso_transport.specs.declared.reply.Reply.{Reply}
@@ -25,3 +25,7 @@ abbrev pub named_pgn : Reply → ℕ
 named_pgn (Cts count next pgn) = pgn
 named_pgn (EndAck size packets pgn) = pgn
 named_pgn (Abort reason pgn) = pgn
+
+-- it has 24 bits
+abbrev pub NamesPgn : Option Reply → Type 0
+NamesPgn reply = IfSome reply (λ r. named_pgn r < 2 ^ 24)

@@ -1,6 +1,6 @@
 -- What a frame is to the session of its key.
 use Rattle.std.specs.Cmp.Lexicographic.{pointwise}
-use Rattle.std.specs.Prelude.{◌≡◌, ℕ, ◌-◌, ◌≤◌, Bool, false, ◌&&◌, ◌==◌, nat_eq, nat_le, nat_lt, if◌then◌else◌, List, ◌∷◌, length, drop, Option, Some, None, option_map}
+use Rattle.std.specs.Prelude.{◌≡◌, ℕ, ◌-◌, ◌^◌, ◌<◌, ◌≤◌, Bool, false, ◌&&◌, ◌==◌, nat_eq, nat_le, nat_lt, if◌then◌else◌, List, ◌∷◌, length, drop, Option, Some, None, option_map}
 use Rattle.slot_views.specs.Slots.{Entry}
 use Rattle.n2k_id.specs.declared.identifier_parts.Parts.{Parts}
 use Rattle.iso_transport.specs.declared.connection.Cm.{Cm}
@@ -11,6 +11,7 @@ use Rattle.iso_transport.specs.declared.verdict.Verdict.{Verdict}
 use Rattle.iso_transport.specs.declared.verdict.Verdict.TheVariants.{Ignored, Again, Refused, Ends, Opens, Next}
 use Rattle.iso_transport.specs.Cm.{cm_of}
 use Rattle.iso_transport.specs.Sessions.{longest, shortest, is_size, announced, abort_to, session_at}
+use Rattle.iso_transport.specs.Replies.{NamesPgn}
 use Rattle.iso_transport.specs.IsoRuns.{number_of, end_of}
 use Rattle.iso_transport.specs.Audience.{is_data, key_of, concerns}
 
@@ -83,6 +84,7 @@ verdict own parts crowded o bytes = if concerns own parts
 
 -- a session whose numbers fit a reply
 pub record IsSmall (s : Session) : Type 0 where
+  pub pgn : s.pgn < 2 ^ 24
   pub size : s.size ≤ longest
   pub window : 1 ≤ s.window
 
@@ -106,16 +108,16 @@ pub record IsNext (o : Option Entry) (bytes : List ℕ) (s : Session) (number : 
 abbrev pub VerdictFits : Bool → Option Entry → List ℕ → Verdict → Type 0
 VerdictFits full o bytes Ignored = Unit {0}
 VerdictFits full o bytes Again = Unit {0}
-VerdictFits full o bytes (Refused reason reply) = Unit {0}
-VerdictFits full o bytes (Ends reason reply) = Unit {0}
+VerdictFits full o bytes (Refused reason reply) = NamesPgn reply
+VerdictFits full o bytes (Ends reason reply) = NamesPgn reply
 VerdictFits full o bytes (Opens s old) = IsOpening full s
 VerdictFits full o bytes (Next s number end) = IsNext o bytes s number end
 
--- the session that a reply is about has such numbers
+-- what is replied, or the session that a reply is about, has such numbers
 abbrev pub TellsSmall : Verdict → Type 0
 TellsSmall Ignored = Unit {0}
 TellsSmall Again = Unit {0}
-TellsSmall (Refused reason reply) = Unit {0}
-TellsSmall (Ends reason reply) = Unit {0}
+TellsSmall (Refused reason reply) = NamesPgn reply
+TellsSmall (Ends reason reply) = NamesPgn reply
 TellsSmall (Opens s old) = IsSmall s
 TellsSmall (Next s number end) = IsSmall s

@@ -7,6 +7,7 @@ ghost use Rattle.slot_views.specs.Slots.{SlotMap, IsMap, grown, entry_at, is_ful
 ghost use Rattle.slot_views.specs.Places.{IsPlace};
 ghost use Rattle.iso_transport.specs.Audience.{key_of};
 ghost use Rattle.iso_transport.specs.Sessions.{gap_after};
+ghost use Rattle.iso_transport.specs.Replies.{NamesPgn};
 ghost use Rattle.iso_transport.specs.Verdicts.{VerdictFits, IsOpening, packet_verdict, pgn_in};
 ghost use Rattle.iso_transport.specs.Assembly.{verdict_of, fed_by, fed_after, is_from, is_addressed, is_crowded, least_of, opening, part_to};
 
@@ -73,6 +74,7 @@ impl IsoAssembler {
         ensures map { IsMap ⟦<IsoKey as Ord>⟧.cmp self.old }
         ensures* after { sem 𝓛 (ends_as self.entry (fed_after ⟦<IsoKey as Ord>⟧.cmp self.old own parts.now (held_bytes frame.now) moment)) }
         ensures answer { FeedGives ⟦<IsoKey as Ord>⟧.cmp self.old own parts.now (held_bytes frame.now) moment result }
+        ensures reply { NamesPgn result.reply }
     {
         let bytes = frame.held();
         let place = self.slots.find(IsoKey::of(parts));

@@ -1,5 +1,6 @@
 //! What is kept of an opener, and what follows from it.
 ghost use Rattle.std.specs.Prelude.{◌≡◌, ◌≤◌, ◌<◌, ◌^◌};
+ghost use Rattle.iso_transport.specs.Replies.{NamesPgn};
 ghost use Rattle.iso_transport.specs.Sessions as sessions;
 
 use crate::reply::Reply;
@@ -54,9 +55,11 @@ impl Session {
 
     // What its sender is told after so many packets; the opener counts as packet 0.
     pub fn reply_after(self, addressed: bool, number: u8) -> Option<Reply>
+        requires pgn { self.pgn < 2 ^ 24 }
         requires size { self.size ≤ 1785 }
         requires window { 1 ≤ self.window }
-        ensures { result ≡ sessions.reply_after addressed self number }
+        ensures reply { result ≡ sessions.reply_after addressed self number }
+        ensures names { NamesPgn result }
     {
         let packets = self.packets() as u8;
         if self.waits_after(addressed, number) {

@@ -37,6 +37,7 @@ const MISFIT: u8 = 2;
 
 impl Verdict {
     ghost use Rattle.iso_transport.specs.Answers.{reply_by, restarted_by};
+    ghost use Rattle.iso_transport.specs.Replies.{NamesPgn};
     ghost use Rattle.iso_transport.specs.Verdicts.{TellsSmall};
 
     /// The message that is given up for another one of its sender.
@@ -52,7 +53,8 @@ impl Verdict {
     /// What the sender is told.
     pub(crate) fn reply(self, addressed: bool) -> Option<Reply>
         requires { TellsSmall self }
-        ensures { result ≡ reply_by addressed self }
+        ensures reply { result ≡ reply_by addressed self }
+        ensures names { NamesPgn result }
     {
         match self {
             Verdict::Ignored | Verdict::Again => None,

@@ -17,5 +17,5 @@ returns c =
     let k = c.find-place.result.key in
     let k_is = c.find-place.ensures.key ∙ c.of.ensures in (
       (refl, λ _. tt, c.take-outcome.follows.holds-at-none ∙ fed_same cmp s c.args.own c.args.parts.now k _ held c.args.moment v k_is same is),
-      record { map = c.verdict-verdict.ensures.map; after = tt; answer = gives_same cmp s c.args.own c.args.parts.now k _ held c.args.moment v _ k_is same is c.restarted-restarted.ensures c.reply-reply.ensures c.take-outcome.ensures.answer },
+      record { map = c.verdict-verdict.ensures.map; after = tt; answer = gives_same cmp s c.args.own c.args.parts.now k _ held c.args.moment v _ k_is same is c.restarted-restarted.ensures c.reply-reply.ensures.reply c.take-outcome.ensures.answer; reply = c.reply-reply.ensures.names },
     )
