@@ -6,7 +6,7 @@ use Rattle.gate_outside.specs.Files.{largest_file}
 use Rattle.config_document.specs.declared.fault.ConfigFault.{ConfigFault}
 use Rattle.gate_config.specs.ConfigOf.{IsConfigOf, config_in, document_place}
 use Rattle.settings.specs.declared.settings.Settings.{Settings}
-use Rattle.config_check.specs.Check.{Accepts, ChecksBy, IsCheckStatus}
+use Rattle.config_check.specs.Check.{Accepts, ChecksBy}
 use Rattle.config_check.specs.Configuring.{ConfiguresBy, FileSays, IsToldAs}
 
 same_config : (bytes : List ℕ) (a b : Result Settings ConfigFault) → IsConfigOf bytes a → IsConfigOf bytes b → a ≡ b
@@ -47,26 +47,20 @@ configures content files files' told told' sink sink' status settings f done = r
 
 -- `check`
 
-check_status : (status : ℕ) → (status ≡ 0) ⊎ (status ≡ 4) → IsCheckStatus status
-check_status status (inl done) = inl done
-check_status status (inr failed) = inr (inr (inl failed))
+is_done : (status : ℕ) → (status ≡ 0) ⊎ (status ≡ 4) → IsDone status
+is_done status known = (λ is. grind (arith, known, is), λ is. grind (arith, known, is))
 
-check_done : (status : ℕ) → (status ≡ 0) ⊎ (status ≡ 4) → IsDone status
-check_done status (inl done) = (λ is. absurd (omega (arith, done, is)), λ is. absurd (omega (arith, done, is)))
-check_done status (inr failed) = (λ is. absurd (omega (arith, failed, is)), λ is. absurd (omega (arith, failed, is)))
-
-check_complete : (status sink sink' : ℕ) → (status ≡ 0) ⊎ (status ≡ 4) → (status ≡ 4 → Rose sink sink') → (Rose sink sink' → ⊥) → (status ≡ 0) ⊎ (status ≡ 7)
-check_complete status sink sink' (inl done) cause held = inl done
-check_complete status sink sink' (inr failed) cause held = absurd (held (cause failed))
+is_complete : (status sink sink' : ℕ) → (status ≡ 0) ⊎ (status ≡ 4) → (status ≡ 4 → Rose sink sink') → (Rose sink sink' → ⊥) → (status ≡ 0) ⊎ (status ≡ 7)
+is_complete status sink sink' known cause held = search (arith, known, cause, held)
 
 pub accepted : (content : Option (List ℕ)) (files files' : ℕ) (told told' : Option (List ℕ)) (sink sink' status : ℕ) (settings : Settings)
     → FileSays content (Ok settings) → Accepts told told' sink sink' status → ChecksBy content files files' told told' sink sink' status
 accepted content files files' told told' sink sink' status settings f a = record {
-  known = check_status status a.known;
-  configures = configures content files files' told told' sink sink' status settings f (check_done status a.known);
+  known = search (arith, a.known);
+  configures = configures content files files' told told' sink sink' status settings f (is_done status a.known);
   done = λ is. ((settings, f), a.done is);
   sink_failed = λ is. ((settings, f), a.sink_failed is);
   sink_cause = a.sink_cause;
   steady = a.steady;
-  complete = λ other t files_held sink_held. check_complete status sink sink' a.known a.sink_cause sink_held;
+  complete = λ other t files_held sink_held. is_complete status sink sink' a.known a.sink_cause sink_held;
 }

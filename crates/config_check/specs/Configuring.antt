@@ -9,7 +9,8 @@ use Rattle.settings.specs.Settings.{IsSettings}
 use Rattle.settings.specs.declared.settings.Settings.{Settings}
 use Rattle.config_check.specs.declared.configuring.Unconfigured.{Unconfigured}
 use Rattle.config_check.specs.declared.configuring.Unconfigured.TheVariants.{Unread, Refused, Memory}
-use Rattle.statuses.specs.Statuses.{Offers}
+use Rattle.statuses.specs.declared.Status.TheVariants as statuses
+use Rattle.statuses.specs.Statuses.{Offers, number}
 
 -- a line with its end
 abbrev pub with_end : List ℕ → List ℕ
@@ -58,16 +59,16 @@ SaysSettings bytes (Err Memory) = Unit {0}
 
 -- the status of a command without its settings; of a configuration that is refused the line of its fault was offered to the sink
 abbrev pub GivesUp : Unconfigured → Option (List ℕ) → Option (List ℕ) → ℕ → ℕ → ℕ → Type 0
-GivesUp Unread told told' before after status = status ≡ 6
-GivesUp (Refused line) told told' before after status = (status ≡ 3) × Offers told told' before after (with_end line.items)
-GivesUp Memory told told' before after status = status ≡ 7
+GivesUp Unread told told' before after status = status ≡ number statuses.Unread
+GivesUp (Refused line) told told' before after status = (status ≡ number statuses.Refused) × Offers told told' before after (with_end line.items)
+GivesUp Memory told told' before after status = status ≡ number statuses.NoMemory
 
 -- The statuses that come of a configuration's file, by its bytes, where they are told, by the counts of faults of the files and of the sink, and
 -- by what the sink took.
 pub record ConfiguresBy (content : Option (List ℕ)) (files files' : ℕ) (told told' : Option (List ℕ)) (sink sink' status : ℕ) : Type 0 where
   -- what each says
-  pub refused : status ≡ 3 → Refuses content told told' sink sink'
-  pub unread : status ≡ 6 → IsUnread content files files'
+  pub refused : status ≡ number statuses.Refused → Refuses content told told' sink sink'
+  pub unread : status ≡ number statuses.Unread → IsUnread content files files'
   -- and where it comes, unless memory ran out
-  pub refusal : (fault : ConfigFault) → IsToldAs content (Err fault) → (Rose files files' → ⊥) → (status ≡ 3) ⊎ (status ≡ 7)
-  pub too_long : (bytes : List ℕ) → content ≡ Some bytes → largest_file < length bytes → (status ≡ 6) ⊎ (status ≡ 7)
+  pub refusal : (fault : ConfigFault) → IsToldAs content (Err fault) → (Rose files files' → ⊥) → (status ≡ number statuses.Refused) ⊎ (status ≡ number statuses.NoMemory)
+  pub too_long : (bytes : List ℕ) → content ≡ Some bytes → largest_file < length bytes → (status ≡ number statuses.Unread) ⊎ (status ≡ number statuses.NoMemory)

@@ -1,23 +1,24 @@
 //! `check`: whether a file is an accepted configuration, or the first thing that is wrong with it.
 ghost use Rattle.std.specs.Prelude.{◌≡◌};
 ghost use Rattle.config_check.specs.Check.{Accepts, ChecksBy};
-ghost use Rattle.statuses.specs.Statuses.{IsEarly};
+ghost use Rattle.statuses.specs.Statuses.{IsEarly, number};
 
 use crate::configuring::{give_up, load_settings};
 use capture_stream::send_now;
 use gate_outside::{Failed, Files, Sink};
+use statuses::Status;
 use std::alloc::Global;
 
 /// What is written of an accepted configuration.
 const ACCEPTED: &[u8] = b"config ok\n";
 
 // Says that a configuration is accepted, and answers the status.
-fn accept<K: Sink>(out: &mut K) -> u8
-    ensures { Accepts (K.taken out.old) (K.taken out.new) (K.fault_count out.old) (K.fault_count out.new) result }
+fn accept<K: Sink>(out: &mut K) -> Status
+    ensures { Accepts (K.taken out.old) (K.taken out.new) (K.fault_count out.old) (K.fault_count out.new) (number result) }
 {
     match send_now(ACCEPTED, out) {
-        Ok(()) => 0,
-        Err(Failed) => 4,
+        Ok(()) => Status::Done,
+        Err(Failed) => Status::SinkFailed,
     }
 }
 
@@ -30,10 +31,10 @@ fn accept<K: Sink>(out: &mut K) -> u8
 /// | 4 | only where the sink's faults rose |
 /// | 6 | only where the files' faults rose, or the file has more than 1 MiB; nothing was written |
 /// | 7 | only for want of memory; nothing was written |
-pub fn check<F: Files, K: Sink>(alloc: Global, name: &str, files: &mut F, out: &mut K) -> u8
+pub fn check<F: Files, K: Sink>(alloc: Global, name: &str, files: &mut F, out: &mut K) -> Status
     ensures checks { ChecksBy (F.content files.old name.now) (F.fault_count files.old) (F.fault_count files.new)
-        (K.taken out.old) (K.taken out.new) (K.fault_count out.old) (K.fault_count out.new) result }
-    ensures quiet { IsEarly result → out.new ≡ out.old }
+        (K.taken out.old) (K.taken out.new) (K.fault_count out.old) (K.fault_count out.new) (number result) }
+    ensures quiet { IsEarly (number result) → out.new ≡ out.old }
 {
     match load_settings(alloc, name, files) {
         Ok(_) => accept(out),

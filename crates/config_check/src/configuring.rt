@@ -1,21 +1,15 @@
 //! A command's configuration, loaded from its file.
 ghost use Rattle.std.specs.Prelude.{◌≡◌, ◌≤◌, length};
 ghost use Rattle.config_check.specs.Configuring.{GivesUp, LoadsSettings, SaysSettings, with_end};
-ghost use Rattle.statuses.specs.Statuses.{IsEarly};
+ghost use Rattle.statuses.specs.Statuses.{IsEarly, number};
 
 use arrayvec::ArrayVec;
 use capture_stream::send_now;
 use gate_config::{FaultLine, read_all};
 use gate_outside::{Files, LoadFault, Sink};
 use settings::Settings;
-use statuses::NO_MEMORY;
+use statuses::Status;
 use std::alloc::Global;
-
-/// The status of a configuration that is refused.
-const REFUSED: u8 = 3;
-
-/// The status of a file that can't be read.
-const UNREAD: u8 = 6;
 
 /// Why there are no settings.
 #[derive(Drop)]
@@ -58,17 +52,17 @@ fn settings_of(alloc: Global, bytes: &[u8]) -> Result<Settings, Unconfigured>
 }
 
 /// The status of a command that has no settings. The line of a fault is offered, and the status stands whatever becomes of it.
-pub fn give_up<K: Sink>(why: &Unconfigured, out: &mut K) -> u8
-    ensures gives_up { GivesUp why.now (K.taken out.old) (K.taken out.new) (K.fault_count out.old) (K.fault_count out.new) result }
-    ensures quiet { IsEarly result → out.new ≡ out.old }
+pub fn give_up<K: Sink>(why: &Unconfigured, out: &mut K) -> Status
+    ensures gives_up { GivesUp why.now (K.taken out.old) (K.taken out.new) (K.fault_count out.old) (K.fault_count out.new) (number result) }
+    ensures quiet { IsEarly (number result) → out.new ≡ out.old }
 {
     match why {
-        Unconfigured::Unread => UNREAD,
+        Unconfigured::Unread => Status::Unread,
         Unconfigured::Refused(line) => {
             let _ = send_now(ended(line).as_slice(), out);
-            REFUSED
+            Status::Refused
         }
-        Unconfigured::Memory => NO_MEMORY,
+        Unconfigured::Memory => Status::NoMemory,
     }
 }
 

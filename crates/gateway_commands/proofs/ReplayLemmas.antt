@@ -11,12 +11,12 @@ use Rattle.bridge.specs.Kept.{Bridged}
 use Rattle.bridge.specs.Parts.{Parts}
 use Rattle.bridge.specs.Replayed.{GivesReplay, IsReplay}
 use Rattle.bridge.proofs.Replays.{replays}
-use Rattle.statuses.specs.Statuses.{EndsBy, status_of}
+use Rattle.statuses.specs.Statuses.{EndsBy, number, status_of}
 use Rattle.statuses.proofs.StatusLemmas.{ends_by}
 
 -- a capture that a new bridge answered
 pub replay_ends : (p : Parts) (b : Bridged) (left left' told told' : Option (List ℕ)) (ending : Ending) → IsNew p b
-    → Ends (IsTextFrom (LineGives GivesReplay) b) left left' told told' ending → EndsBy (IsReplay p) left left' told told' (status_of ending)
+    → Ends (IsTextFrom (LineGives GivesReplay) b) left left' told told' ending → EndsBy (IsReplay p) left left' told told' (number (status_of ending))
 replay_ends p b left left' told told' ending new ends =
     ends_by (IsReplay p) left left' told told' ending
     (ends_as (IsTextFrom (LineGives GivesReplay) b) (IsReplay p) left left' told told' ending (replays p b new) ends)

@@ -1,5 +1,5 @@
 -- What follows of the statuses of a gateway between two links.
-use Rattle.std.proofs.Common.{◌≡◌, ◌≢◌, ℕ, ◌⊎◌, List, refl, inl, inr, arith}
+use Rattle.std.proofs.Common.{◌≡◌, ◌≢◌, ℕ, ◌⊎◌, List, refl, inl, arith}
 use Rattle.std.specs.Prelude.{Option, Ok}
 use Rattle.settings.specs.declared.settings.Settings.{Settings}
 use Rattle.serving.specs.Served.{Outside}
@@ -13,26 +13,16 @@ abbrev Known : ℕ → Type 0
 Known status = (status ≡ 7) ⊎ ((status ≡ 9) ⊎ IsTurnsStatus status)
 
 is_done : (status : ℕ) → Known status → IsDone status
-is_done status (inl is) = (λ e. absurd (omega (arith, is, e)), λ e. absurd (omega (arith, is, e)))
-is_done status (inr (inl is)) = (λ e. absurd (omega (arith, is, e)), λ e. absurd (omega (arith, is, e)))
-is_done status (inr (inr (inl is))) = (λ e. absurd (omega (arith, is, e)), λ e. absurd (omega (arith, is, e)))
-is_done status (inr (inr (inr is))) = (λ e. absurd (omega (arith, is, e)), λ e. absurd (omega (arith, is, e)))
-
-is_known : (status : ℕ) → Known status → IsServeStatus status
-is_known status (inl is) = inr (inr (inl is))
-is_known status (inr rest) = inr (inr (inr rest))
+is_done status known = (λ is. grind (arith, known, is), λ is. grind (arith, known, is))
 
 is_complete : (status : ℕ) → Known status → (status ≢ 7 → status ≡ 0) → (status ≡ 0) ⊎ (status ≡ 7)
-is_complete status (inl is) complete = inr is
-is_complete status (inr (inl is)) complete = inl (complete (λ e. omega (arith, is, e)))
-is_complete status (inr (inr (inl is))) complete = inl is
-is_complete status (inr (inr (inr is))) complete = inl (complete (λ e. omega (arith, is, e)))
+is_complete status known complete = search (arith, known, complete)
 
 pub served : (turns : ℕ) (content : Option (List ℕ)) (files files' : ℕ) (clock clock' : Option (List ℕ)) (bus bus' net net' : ℕ) (old new : Outside) (status : ℕ)
     (settings : Settings) → FileSays content (Ok settings) → ServesWith settings turns clock clock' bus bus' net net' old new status
     → ServesBy turns content files files' clock clock' bus bus' net net' old new status
 served turns content files files' clock clock' bus bus' net net' old new status settings f s = record {
-  known = is_known status s.known;
+  known = search (arith, s.known);
   configures = configures content files files' old.taken new.taken old.faults new.faults status settings f (is_done status s.known);
   serves = λ is. (settings, f, s.serves is);
   unattached = λ is. (settings, f, s.unattached is);
@@ -42,12 +32,7 @@ served turns content files files' clock clock' bus bus' net net' old new status 
 
 -- no status of a gateway between two links is that of a read
 no_read : (status : ℕ) → IsServeStatus status → (status ≡ 5 → ⊥) × (status ≡ 8 → ⊥)
-no_read status (inl is) = (λ e. omega (arith, is, e), λ e. omega (arith, is, e))
-no_read status (inr (inl is)) = (λ e. omega (arith, is, e), λ e. omega (arith, is, e))
-no_read status (inr (inr (inl is))) = (λ e. omega (arith, is, e), λ e. omega (arith, is, e))
-no_read status (inr (inr (inr (inl is)))) = (λ e. omega (arith, is, e), λ e. omega (arith, is, e))
-no_read status (inr (inr (inr (inr (inl is))))) = (λ e. omega (arith, is, e), λ e. omega (arith, is, e))
-no_read status (inr (inr (inr (inr (inr is))))) = (λ e. omega (arith, is, e), λ e. omega (arith, is, e))
+no_read status known = (λ is. grind (arith, known, is), λ is. grind (arith, known, is))
 
 -- where all turns were taken, no write failed
 pub serve_steady : (turns : ℕ) (content : Option (List ℕ)) (files files' : ℕ) (clock clock' : Option (List ℕ)) (bus bus' net net' : ℕ) (old new : Outside)

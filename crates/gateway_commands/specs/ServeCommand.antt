@@ -8,6 +8,8 @@ use Rattle.settings.specs.declared.settings.Settings.{Settings}
 use Rattle.bridge.specs.Parts.{parts_of}
 use Rattle.serving.specs.Served.{Outside, EndsBy, outside}
 use Rattle.config_check.specs.Configuring.{ConfiguresBy, FileSays, IsToldAs}
+use Rattle.statuses.specs.declared.Status.TheVariants as statuses
+use Rattle.statuses.specs.Statuses.{number}
 
 -- ---- where the links listen and send
 
@@ -44,7 +46,7 @@ AttachesBoth ends bus bus' bus_faults bus_faults' net net' net_faults net_faults
 
 -- the statuses of a gateway that took turns
 abbrev pub IsTurnsStatus : ℕ → Type 0
-IsTurnsStatus status = (status ≡ 0) ⊎ (status ≡ 4)
+IsTurnsStatus status = (status ≡ number statuses.Done) ⊎ (status ≡ number statuses.SinkFailed)
 
 -- Both links were attached by the settings, and then told this. A gateway of the settings took turns between them, which says this by its
 -- status.
@@ -57,18 +59,18 @@ pub record TakesTurns (settings : Settings) (turns : ℕ) (clock clock' : Option
 
 -- What each status of a gateway of these settings says. Want of memory is free.
 pub record ServesWith (settings : Settings) (turns : ℕ) (clock clock' : Option (List ℕ)) (bus bus' net net' : ℕ) (old new : Outside) (status : ℕ) : Type 0 where
-  pub known : (status ≡ 7) ⊎ ((status ≡ 9) ⊎ IsTurnsStatus status)
+  pub known : (status ≡ number statuses.NoMemory) ⊎ ((status ≡ number statuses.Unattached) ⊎ IsTurnsStatus status)
   pub serves : IsTurnsStatus status → TakesTurns settings turns clock clock' old new status
-  pub unattached : status ≡ 9 → FailsToAttach settings.config.ends old.bus new.bus bus bus' old.net new.net net net'
-  pub sink_cause : status ≡ 4 → Rose old.faults new.faults
+  pub unattached : status ≡ number statuses.Unattached → FailsToAttach settings.config.ends old.bus new.bus bus bus' old.net new.net net net'
+  pub sink_cause : status ≡ number statuses.SinkFailed → Rose old.faults new.faults
   -- where memory was found and nothing fails, all turns are taken
-  pub complete : status ≢ 7 → (Rose bus bus' → ⊥) → (Rose net net' → ⊥) → (Rose old.faults new.faults → ⊥) → status ≡ 0
+  pub complete : status ≢ number statuses.NoMemory → (Rose bus bus' → ⊥) → (Rose net net' → ⊥) → (Rose old.faults new.faults → ⊥) → status ≡ number statuses.Done
 
 -- ---- the command
 
 -- the statuses of a gateway that took turns, of links that can't be attached, and of a configuration that it can't run with
 abbrev pub IsServeStatus : ℕ → Type 0
-IsServeStatus status = (status ≡ 3) ⊎ ((status ≡ 6) ⊎ ((status ≡ 7) ⊎ ((status ≡ 9) ⊎ IsTurnsStatus status)))
+IsServeStatus status = (status ≡ number statuses.Refused) ⊎ ((status ≡ number statuses.Unread) ⊎ ((status ≡ number statuses.NoMemory) ⊎ ((status ≡ number statuses.Unattached) ⊎ IsTurnsStatus status)))
 
 -- the gateway was one of the settings that the file says
 abbrev pub Serves : ℕ → Option (List ℕ) → Option (List ℕ) → Option (List ℕ) → Outside → Outside → ℕ → Type 0
@@ -85,8 +87,8 @@ pub record ServesBy (turns : ℕ) (content : Option (List ℕ)) (files files' : 
   pub known : IsServeStatus status
   pub configures : ConfiguresBy content files files' old.taken new.taken old.faults new.faults status
   pub serves : IsTurnsStatus status → Serves turns content clock clock' old new status
-  pub unattached : status ≡ 9 → Unattached content bus bus' net net' old new
-  pub sink_cause : status ≡ 4 → Rose old.faults new.faults
+  pub unattached : status ≡ number statuses.Unattached → Unattached content bus bus' net net' old new
+  pub sink_cause : status ≡ number statuses.SinkFailed → Rose old.faults new.faults
   -- where nothing fails, a gateway of an accepted configuration takes all turns, unless memory ran out
   pub complete : (settings : Settings) → IsToldAs content (Ok settings) → (Rose files files' → ⊥) → (Rose bus bus' → ⊥) → (Rose net net' → ⊥)
-      → (Rose old.faults new.faults → ⊥) → (status ≡ 0) ⊎ (status ≡ 7)
+      → (Rose old.faults new.faults → ⊥) → (status ≡ number statuses.Done) ⊎ (status ≡ number statuses.NoMemory)

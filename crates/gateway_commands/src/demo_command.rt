@@ -1,11 +1,12 @@
 //! The gateway over a made-up input that a seed gives.
 ghost use Rattle.std.specs.Prelude.{◌≡◌, ◌≤◌};
 ghost use Rattle.gateway_commands.specs.DemoCommand.{DemosBy};
+ghost use Rattle.statuses.specs.Statuses.{number};
 
-use capture_stream::{Ending, send_now};
+use capture_stream::send_now;
 use demo::demo_line;
 use gate_outside::{Failed, Sink};
-use statuses::{NO_MEMORY, status_of};
+use statuses::Status;
 use std::alloc::Global;
 
 /// Runs a gateway over so many events, at most 1,000,000, of the made-up input of a seed, writes the line that sums up what it emits,
@@ -21,11 +22,20 @@ pub fn demo_with<K: Sink>(alloc: Global, seed: u64, count: u32, out: &mut K) -> 
     ensures demos { DemosBy seed count (K.taken out.old) (K.taken out.new) (K.fault_count out.old) (K.fault_count out.new) result }
     ensures memory { result ≡ 7 → out.new ≡ out.old }
 {
+    demo(alloc, seed, count, out).number()
+}
+
+/// [`demo_with`], with the status whose number that answers.
+pub(crate) fn demo<K: Sink>(alloc: Global, seed: u64, count: u32, out: &mut K) -> Status
+    requires { count ≤ 1000000 }
+    ensures demos { DemosBy seed count (K.taken out.old) (K.taken out.new) (K.fault_count out.old) (K.fault_count out.new) (number result) }
+    ensures memory { number result ≡ 7 → out.new ≡ out.old }
+{
     match demo_line(alloc, seed, count) {
         Ok(line) => match send_now(line.as_slice(), out) {
-            Ok(()) => status_of(Ending::Done),
-            Err(Failed) => status_of(Ending::SinkFailed),
+            Ok(()) => Status::Done,
+            Err(Failed) => Status::SinkFailed,
         },
-        Err(_) => NO_MEMORY,
+        Err(_) => Status::NoMemory,
     }
 }

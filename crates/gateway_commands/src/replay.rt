@@ -5,12 +5,13 @@ ghost use Rattle.settings.specs.Settings.{IsSettings};
 ghost use Rattle.bridge.specs.BridgeStands.{IsNew};
 ghost use Rattle.bridge.specs.Parts.{Parts, parts_of};
 ghost use Rattle.bridge.specs.Replayed.{IsReplay};
-ghost use Rattle.statuses.specs.Statuses.{EndsBy, IsReplayStatus, IsStreamStatus, IsUnhindered, SteadyBy};
+ghost use Rattle.gateway_commands.specs.ReplayCommand.{RunsBy};
+ghost use Rattle.statuses.specs.Statuses.{EndsBy, IsReplayStatus, IsStreamStatus, IsUnhindered, SteadyBy, number};
 
 use bridge::{Bridge, Settings};
 use capture_stream::answer_capture;
 use gate_outside::{Sink, Source};
-use statuses::{NO_MEMORY, status_of};
+use statuses::{Status, status_of};
 use std::alloc::Global;
 
 /// Runs a new bridge over a capture, whose first event starts it, and answers a status.
@@ -33,6 +34,21 @@ pub fn stream<S: Source, K: Sink>(bridge: &mut Bridge, input: &mut S, out: &mut 
     ensures complete { (p : Parts) → IsNew p bridge.old
         → IsUnhindered (S.left input.old) (S.fault_count input.old) (S.fault_count input.new) (K.fault_count out.old) (K.fault_count out.new)
         → result ≡ 0 }
+{
+    answer(bridge, input, out).number()
+}
+
+/// [`stream`], with the status whose number that answers.
+fn answer<S: Source, K: Sink>(bridge: &mut Bridge, input: &mut S, out: &mut K) -> Status
+    ensures status { IsStreamStatus (number result) }
+    ensures ends { (p : Parts) → IsNew p bridge.old
+        → EndsBy (IsReplay p) (S.left input.old) (S.left input.new) (K.taken out.old) (K.taken out.new) (number result) }
+    ensures sink_cause { number result ≡ 4 → Rose (K.fault_count out.old) (K.fault_count out.new) }
+    ensures source_cause { number result ≡ 5 → Rose (S.fault_count input.old) (S.fault_count input.new) }
+    ensures steady { SteadyBy (S.fault_count input.old) (S.fault_count input.new) (K.fault_count out.old) (K.fault_count out.new) (number result) }
+    ensures complete { (p : Parts) → IsNew p bridge.old
+        → IsUnhindered (S.left input.old) (S.fault_count input.old) (S.fault_count input.new) (K.fault_count out.old) (K.fault_count out.new)
+        → number result ≡ 0 }
 {
     status_of(answer_capture(bridge, input, out))
 }
@@ -60,11 +76,26 @@ pub fn replay_with<S: Source, K: Sink>(
         → IsUnhindered (S.left input.old) (S.fault_count input.old) (S.fault_count input.new) (K.fault_count out.old) (K.fault_count out.new)
         → result ≡ 0 }
 {
+    replay_settings(alloc, settings, input, out).number()
+}
+
+/// [`replay_with`], with the status whose number that answers.
+pub(crate) fn replay_settings<S: Source, K: Sink>(
+    alloc: Global,
+    settings: &Settings,
+    input: &mut S,
+    out: &mut K,
+) -> Status
+    requires { IsSettings settings.now }
+    ensures runs { RunsBy settings.now (S.left input.old) (S.left input.new) (S.fault_count input.old) (S.fault_count input.new)
+        (K.taken out.old) (K.taken out.new) (K.fault_count out.old) (K.fault_count out.new) (number result) }
+    ensures memory { number result ≡ 7 → (input.new ≡ input.old) × (out.new ≡ out.old) }
+{
     match Bridge::new(alloc, settings) {
         Ok(bridge) => {
             let mut bridge = bridge;
-            stream(&mut bridge, input, out)
+            answer(&mut bridge, input, out)
         }
-        Err(_) => NO_MEMORY,
+        Err(_) => Status::NoMemory,
     }
 }

@@ -1,11 +1,12 @@
 //! `replay`: the gateway of a configuration over a capture.
 ghost use Rattle.std.specs.Prelude.{◌≡◌};
 ghost use Rattle.gateway_commands.specs.ReplayCommand.{ReplaysBy};
-ghost use Rattle.statuses.specs.Statuses.{IsEarly};
+ghost use Rattle.statuses.specs.Statuses.{IsEarly, number};
 
-use crate::replay::replay_with;
+use crate::replay::replay_settings;
 use config_check::{give_up, load_settings};
 use gate_outside::{Files, Sink, Source};
+use statuses::Status;
 use std::alloc::Global;
 
 /// Runs a gateway of the configuration in the file of this name over a capture, and answers the status.
@@ -15,15 +16,15 @@ pub(crate) fn replay<F: Files, S: Source, K: Sink>(
     files: &mut F,
     input: &mut S,
     out: &mut K,
-) -> u8
+) -> Status
     ensures replays { ReplaysBy (F.content files.old name.now) (F.fault_count files.old) (F.fault_count files.new)
         (S.left input.old) (S.left input.new) (S.fault_count input.old) (S.fault_count input.new)
-        (K.taken out.old) (K.taken out.new) (K.fault_count out.old) (K.fault_count out.new) result }
-    ensures refused { result ≡ 3 → input.new ≡ input.old }
-    ensures quiet { IsEarly result → (input.new ≡ input.old) × (out.new ≡ out.old) }
+        (K.taken out.old) (K.taken out.new) (K.fault_count out.old) (K.fault_count out.new) (number result) }
+    ensures refused { number result ≡ 3 → input.new ≡ input.old }
+    ensures quiet { IsEarly (number result) → (input.new ≡ input.old) × (out.new ≡ out.old) }
 {
     match load_settings(alloc, name, files) {
-        Ok(settings) => replay_with(alloc, &settings, input, out),
+        Ok(settings) => replay_settings(alloc, &settings, input, out),
         Err(why) => give_up(&why, out),
     }
 }

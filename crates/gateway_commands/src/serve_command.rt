@@ -2,7 +2,7 @@
 ghost use Rattle.std.specs.Prelude.{◌≡◌, []};
 ghost use Rattle.serving.specs.Served.{outside};
 ghost use Rattle.settings.specs.Settings.{IsSettings};
-ghost use Rattle.statuses.specs.Statuses.{IsEarly};
+ghost use Rattle.statuses.specs.Statuses.{IsEarly, number};
 ghost use Rattle.gateway_commands.specs.ServeCommand.{AttachesBoth, ServesBy, ServesWith};
 
 use arrayvec::ArrayVec;
@@ -11,12 +11,9 @@ use config_check::{give_up, load_settings};
 use config_values::Ends;
 use gate_outside::{Clock, Failed, Files, Link, Sink};
 use network_routes::{Address, Routes};
-use serving::serve_turns;
-use statuses::NO_MEMORY;
+use serving::take_turns;
+use statuses::Status;
 use std::alloc::Global;
-
-/// The status of a link that can't be attached.
-const UNATTACHED: u8 = 9;
 
 /// Runs a gateway of the configuration in the file of this name between two links, for so many turns, and answers the status.
 pub(crate) fn serve<F: Files, K: Sink, B: Link, E: Link, C: Clock>(
@@ -28,14 +25,14 @@ pub(crate) fn serve<F: Files, K: Sink, B: Link, E: Link, C: Clock>(
     bus: &mut B,
     net: &mut E,
     clock: &mut C,
-) -> u8
+) -> Status
     ensures serves { ServesBy turns (F.content files.old name.now) (F.fault_count files.old) (F.fault_count files.new)
         (C.readings clock.old) (C.readings clock.new) (B.fault_count bus.old) (B.fault_count bus.new) (E.fault_count net.old) (E.fault_count net.new)
         (outside (B.traffic bus.old) (E.traffic net.old) (K.taken out.old) (K.fault_count out.old))
-        (outside (B.traffic bus.new) (E.traffic net.new) (K.taken out.new) (K.fault_count out.new)) result }
-    ensures quiet { IsEarly result → (out.new ≡ out.old) × (bus.new ≡ bus.old) × (net.new ≡ net.old) × (clock.new ≡ clock.old) }
-    ensures refused { result ≡ 3 → (bus.new ≡ bus.old) × (net.new ≡ net.old) × (clock.new ≡ clock.old) }
-    ensures unattached { result ≡ 9 → (out.new ≡ out.old) × (clock.new ≡ clock.old) }
+        (outside (B.traffic bus.new) (E.traffic net.new) (K.taken out.new) (K.fault_count out.new)) (number result) }
+    ensures quiet { IsEarly (number result) → (out.new ≡ out.old) × (bus.new ≡ bus.old) × (net.new ≡ net.old) × (clock.new ≡ clock.old) }
+    ensures refused { number result ≡ 3 → (bus.new ≡ bus.old) × (net.new ≡ net.old) × (clock.new ≡ clock.old) }
+    ensures unattached { number result ≡ 9 → (out.new ≡ out.old) × (clock.new ≡ clock.old) }
 {
     match load_settings(alloc, name, files) {
         Ok(settings) => serve_with(alloc, &settings, turns, out, bus, net, clock),
@@ -52,24 +49,24 @@ fn serve_with<K: Sink, B: Link, E: Link, C: Clock>(
     bus: &mut B,
     net: &mut E,
     clock: &mut C,
-) -> u8
+) -> Status
     requires { IsSettings settings.now }
     ensures serves { ServesWith settings.now turns (C.readings clock.old) (C.readings clock.new)
         (B.fault_count bus.old) (B.fault_count bus.new) (E.fault_count net.old) (E.fault_count net.new)
         (outside (B.traffic bus.old) (E.traffic net.old) (K.taken out.old) (K.fault_count out.old))
-        (outside (B.traffic bus.new) (E.traffic net.new) (K.taken out.new) (K.fault_count out.new)) result }
-    ensures memory { result ≡ 7 → (out.new ≡ out.old) × (bus.new ≡ bus.old) × (net.new ≡ net.old) × (clock.new ≡ clock.old) }
-    ensures unattached { result ≡ 9 → (out.new ≡ out.old) × (clock.new ≡ clock.old) }
+        (outside (B.traffic bus.new) (E.traffic net.new) (K.taken out.new) (K.fault_count out.new)) (number result) }
+    ensures memory { number result ≡ 7 → (out.new ≡ out.old) × (bus.new ≡ bus.old) × (net.new ≡ net.old) × (clock.new ≡ clock.old) }
+    ensures unattached { number result ≡ 9 → (out.new ≡ out.old) × (clock.new ≡ clock.old) }
 {
     match Bridge::new(alloc, settings) {
         Ok(bridge) => {
             let mut bridge = bridge;
             match attach_both(&settings.config.ends, bus, net) {
-                Ok(()) => serve_turns(&mut bridge, turns, out, bus, net, clock),
-                Err(Failed) => UNATTACHED,
+                Ok(()) => take_turns(&mut bridge, turns, out, bus, net, clock),
+                Err(Failed) => Status::Unattached,
             }
         }
-        Err(_) => NO_MEMORY,
+        Err(_) => Status::NoMemory,
     }
 }
 

@@ -10,7 +10,7 @@ ghost use Rattle.gateway_commands.specs.ServeCommand.{ServesBy};
 ghost use Rattle.command_words.specs.Words.{AreNumbers, IsNoForm, IsNotServe, IsTurns, line_words, check_words, replay_words, serve_words, demo_words, usage_line};
 ghost use Rattle.statuses.specs.Statuses.{Offers, IsEarly, IsStatus, IsStreamStatus, EndsBy, IsUnhindered, SteadyBy};
 
-use crate::demo_command::demo_with;
+use crate::demo_command::demo;
 use crate::replay_command::replay;
 use crate::serve_command::serve;
 use capture_stream::send_now;
@@ -18,6 +18,7 @@ use command_words::{Command, LineCommand, USAGE, command_of};
 use config_check::check;
 use gate_outside::{Clock, Files, Link, Sink, Source};
 use line_commands::answer_lines;
+use statuses::Status;
 use std::alloc::Global;
 
 /// Runs the command that the words name, without the program's own name, and answers its status.
@@ -100,14 +101,14 @@ pub fn run<F: Files, S: Source, K: Sink, B: Link, E: Link, C: Clock>(
         None => {
             // The words decide the status, whatever becomes of the line.
             let _ = send_now(USAGE, out);
-            2
+            Status::NoCommand.number()
         }
-        Some(Command::Lines(command)) => answer_lines(command, input, out),
-        Some(Command::Check(file)) => check(alloc, file, files, out),
-        Some(Command::Replay(file)) => replay(alloc, file, files, input, out),
+        Some(Command::Lines(command)) => answer_lines(command, input, out).number(),
+        Some(Command::Check(file)) => check(alloc, file, files, out).number(),
+        Some(Command::Replay(file)) => replay(alloc, file, files, input, out).number(),
         Some(Command::Serve { file, turns }) => {
-            serve(alloc, file, turns, files, out, bus, net, clock)
+            serve(alloc, file, turns, files, out, bus, net, clock).number()
         }
-        Some(Command::Demo { seed, count }) => demo_with(alloc, seed, count, out),
+        Some(Command::Demo { seed, count }) => demo(alloc, seed, count, out).number(),
     }
 }

@@ -4,7 +4,7 @@ ghost use Rattle.gate_outside.specs.Faults.{HasCause, Rose};
 ghost use Rattle.gate_events.specs.Event.{view, IsValid};
 ghost use Rattle.capture_stream.specs.Writer.{SendsText};
 ghost use Rattle.line_commands.specs.LineCommand.{IsTextOf, AreTextsOf};
-ghost use Rattle.statuses.specs.Statuses.{EndsBy, IsStreamStatus, IsUnhindered, SteadyBy};
+ghost use Rattle.statuses.specs.Statuses.{EndsBy, IsStreamStatus, IsUnhindered, SteadyBy, number};
 
 use crate::{convert, show};
 use capture_stream::{Answers, Writer, answer_capture};
@@ -12,7 +12,7 @@ use capture_text::LineRule;
 use command_words::LineCommand;
 use gate_events::Event;
 use gate_outside::{Failed, Sink, Source};
-use statuses::status_of;
+use statuses::{Status, status_of};
 
 // Sends what a line gives that says something.
 fn send_event<K: Sink>(
@@ -91,14 +91,14 @@ impl Answers for Lines {
 /// | 8 | exactly where more than 2^40 bytes were read, and no call failed before |
 ///
 /// Of 4, 5 and 8 the first call that fails decides: with 0 and 8 no call failed, with 4 no read did, and with 5 no write.
-pub fn answer_lines<S: Source, K: Sink>(command: LineCommand, input: &mut S, out: &mut K) -> u8
-    ensures status { IsStreamStatus result }
-    ensures ends { EndsBy (AreTextsOf command) (S.left input.old) (S.left input.new) (K.taken out.old) (K.taken out.new) result }
-    ensures sink_cause { result ≡ 4 → Rose (K.fault_count out.old) (K.fault_count out.new) }
-    ensures source_cause { result ≡ 5 → Rose (S.fault_count input.old) (S.fault_count input.new) }
-    ensures steady { SteadyBy (S.fault_count input.old) (S.fault_count input.new) (K.fault_count out.old) (K.fault_count out.new) result }
+pub fn answer_lines<S: Source, K: Sink>(command: LineCommand, input: &mut S, out: &mut K) -> Status
+    ensures status { IsStreamStatus (number result) }
+    ensures ends { EndsBy (AreTextsOf command) (S.left input.old) (S.left input.new) (K.taken out.old) (K.taken out.new) (number result) }
+    ensures sink_cause { number result ≡ 4 → Rose (K.fault_count out.old) (K.fault_count out.new) }
+    ensures source_cause { number result ≡ 5 → Rose (S.fault_count input.old) (S.fault_count input.new) }
+    ensures steady { SteadyBy (S.fault_count input.old) (S.fault_count input.new) (K.fault_count out.old) (K.fault_count out.new) (number result) }
     ensures complete { IsUnhindered (S.left input.old) (S.fault_count input.old) (S.fault_count input.new) (K.fault_count out.old) (K.fault_count out.new)
-        → result ≡ 0 }
+        → number result ≡ 0 }
 {
     let mut lines = Lines { command };
     status_of(answer_capture(&mut lines, input, out))

@@ -1,14 +1,18 @@
 //! What standard error says of a run that didn't do its work: why, and where words are no command, what the commands are.
 //!
-//! What a process says there no clause of std tells, so that there is no clause here: the examples compare each line.
+//! What a process says there no clause of std tells: a clause has the words for a status that says all, and the examples compare the
+//! other lines.
 #![tactic(auto)]
 
 mod links;
+mod reasons;
 mod words;
 
 use crate::links::explain_links;
+use crate::reasons::reason_of;
 use crate::words::explain_words;
 use live_outside::Unattached;
+use statuses::Status;
 use std::alloc::AllocError;
 use std::io::ErrorKind;
 
@@ -28,20 +32,25 @@ pub struct Kept<'a> {
 }
 
 /// Says why a run ended with a status that isn't 0. Where standard error is closed too, the status says it.
-pub fn explain_run(rt: &impl Eprint, status: &Result<u8, AllocError>, kept: &Kept<'_>) {
-    let why = match status {
-        Ok(2) => return explain_words(rt, kept.words.as_slice()),
-        Ok(3) => "the configuration is refused",
-        Ok(4) => return explain_write(rt, kept.unwritten),
-        Ok(5) => "the input can't be read",
-        Ok(6) => return explain_file(rt, kept.words.as_slice(), kept.unread),
-        Ok(7) => "there is no memory for the configuration or the gateway",
-        Ok(8) => "the input has more than 2^40 bytes",
-        Ok(9) => return explain_links(rt, kept),
-        Ok(_) => return,
-        Err(AllocError) => "there is no memory to begin with",
+pub fn explain_run(rt: &impl Eprint, ended: &Result<u8, AllocError>, kept: &Kept<'_>) {
+    let status = match ended {
+        Ok(number) => Status::of(*number).unwrap_or(Status::Done),
+        Err(AllocError) => {
+            let _ = eprintln!(rt; "shipgate: there is no memory to begin with");
+            return;
+        }
     };
-    let _ = eprintln!(rt; "shipgate: {why}");
+    match status {
+        Status::NoCommand => explain_words(rt, kept.words.as_slice()),
+        Status::SinkFailed => explain_write(rt, kept.unwritten),
+        Status::Unread => explain_file(rt, kept.words.as_slice(), kept.unread),
+        Status::Unattached => explain_links(rt, kept),
+        _ => {
+            if let Some(why) = reason_of(status) {
+                let _ = eprintln!(rt; "shipgate: {why}");
+            }
+        }
+    }
 }
 
 // Why standard output wasn't written. A closed pipe is how its reader says that it has enough.

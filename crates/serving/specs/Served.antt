@@ -13,6 +13,8 @@ use Rattle.gate_events.specs.Emit.{Emit, Emitted}
 use Rattle.history.specs.Emits.{broken}
 use Rattle.capture_text.specs.Emitted.{line_of}
 use Rattle.bridge.specs.Parts.{Parts}
+use Rattle.statuses.specs.declared.Status.TheVariants.{Done, SinkFailed}
+use Rattle.statuses.specs.Statuses.{number}
 use Rattle.serving.specs.Turns.{due_of}
 
 -- ---- an item, and what became of it
@@ -171,5 +173,5 @@ pub record Breaks (p : Parts) (turns : ℕ) (clock clock' : Option (List ℕ)) (
 
 -- what each status of a run says
 pub record EndsBy (p : Parts) (turns : ℕ) (clock clock' : Option (List ℕ)) (old new : Outside) (status : ℕ) : Type 0 where
-  pub done : status ≡ 0 → Serves p turns clock clock' old new
-  pub sink_failed : status ≡ 4 → Breaks p turns clock clock' old new
+  pub done : status ≡ number Done → Serves p turns clock clock' old new
+  pub sink_failed : status ≡ number SinkFailed → Breaks p turns clock clock' old new

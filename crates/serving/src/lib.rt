@@ -8,4 +8,4 @@ pub mod cases;
 mod handing;
 mod turns;
 
-pub use turns::serve_turns;
+pub use turns::{serve_turns, take_turns};

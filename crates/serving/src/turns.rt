@@ -7,6 +7,7 @@ ghost use Rattle.bridge.specs.Replayed.{RunningStands};
 ghost use Rattle.serving.specs.Handing.{Does, Ends, Hears, RunStands, TakesTurn};
 ghost use Rattle.serving.specs.Served.{outside};
 ghost use Rattle.serving.specs.Turns.{from_bus, from_net, opened, tick_behind, with_came, with_entry};
+ghost use Rattle.statuses.specs.Statuses.{number};
 
 use crate::arrival::receive_frame;
 use crate::handing::{hand_on, write_report};
@@ -14,15 +15,13 @@ use bridge::Bridge;
 use gate_events::{Detail, Event, Report};
 use gate_outside::{Arrival, Clock, Failed, Link, Sink};
 use report_rules::RECEIVE_FAILED;
+use statuses::Status;
 
 /// What can't be received from the network is reported.
 const UNHEARD: Report = Report {
     rule: RECEIVE_FAILED,
     detail: Detail::Net,
 };
-
-/// A write failed.
-const SINK_FAILED: u8 = 4;
 
 /// Takes so many turns of a bridge between two links that the caller has attached, and answers a status.
 ///
@@ -51,13 +50,32 @@ pub fn serve_turns<K: Sink, B: Link, E: Link, C: Clock>(
     ensures cause { result ≡ 4 → Rose (K.fault_count out.old) (K.fault_count out.new) }
     ensures complete { (Rose (K.fault_count out.old) (K.fault_count out.new) → ⊥) → result ≡ 0 }
 {
+    take_turns(bridge, turns, out, bus, net, clock).number()
+}
+
+/// Takes so many turns of a bridge between two links, as [`serve_turns`] says, whose number the status has.
+pub fn take_turns<K: Sink, B: Link, E: Link, C: Clock>(
+    bridge: &mut Bridge,
+    turns: u32,
+    out: &mut K,
+    bus: &mut B,
+    net: &mut E,
+    clock: &mut C,
+) -> Status
+    ensures status { (number result ≡ 0) ⊎ (number result ≡ 4) }
+    ensures ends { Ends turns bridge.old (C.readings clock.old) (C.readings clock.new)
+        (outside (B.traffic bus.old) (E.traffic net.old) (K.taken out.old) (K.fault_count out.old))
+        (outside (B.traffic bus.new) (E.traffic net.new) (K.taken out.new) (K.fault_count out.new)) (number result) }
+    ensures cause { number result ≡ 4 → Rose (K.fault_count out.old) (K.fault_count out.new) }
+    ensures complete { (Rose (K.fault_count out.old) (K.fault_count out.new) → ⊥) → number result ≡ 0 }
+{
     for turn in 0..turns {
         match take_turn(bridge, u64::from(turn) + 1, out, bus, net, clock) {
             Ok(()) => {}
-            Err(Failed) => return SINK_FAILED,
+            Err(Failed) => return Status::SinkFailed,
         }
     }
-    0
+    Status::Done
 }
 
 /// Takes the turn of this number, counted from 1.

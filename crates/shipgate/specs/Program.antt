@@ -8,7 +8,8 @@ use Rattle.config_check.specs.Check.{ChecksBy}
 use Rattle.gateway_commands.specs.DemoCommand.{DemosBy}
 use Rattle.line_commands.specs.LineCommand.{AreTextsOf}
 use Rattle.gateway_commands.specs.ReplayCommand.{ReplaysBy}
-use Rattle.statuses.specs.Statuses.{EndsBy, IsStatus}
+use Rattle.statuses.specs.declared.Status.TheVariants.{NoCommand}
+use Rattle.statuses.specs.Statuses.{EndsBy, IsStatus, number}
 use Rattle.gateway_commands.specs.ServeCommand.{ServesBy}
 use Rattle.command_words.specs.Words.{AreNumbers, IsNoForm, IsTurns, line_words, check_words, replay_words, serve_words, demo_words}
 
@@ -25,7 +26,7 @@ live bus bus_faults net net_faults readings = record { bus = bus; bus_faults = b
 
 pub record RunsOver (words : List (List ℕ)) (content : List ℕ → Option (List ℕ)) (files files' : ℕ) (left : Option (List ℕ)) (old new : Live) (status : ℕ) : Type 0 where
   pub known : IsStatus status
-  pub usage : (status ≡ 2) ↔ IsNoForm words
+  pub usage : (status ≡ number NoCommand) ↔ IsNoForm words
   pub ends : (command : LineCommand) → words ≡ line_words command → (left' : Option (List ℕ)) × EndsBy (AreTextsOf command) left left' None None status
   pub checks : (file : List ℕ) → words ≡ check_words file → (sink sink' : ℕ) × ChecksBy (content file) files files' None None sink sink' status
   pub replays : (file : List ℕ) → words ≡ replay_words file

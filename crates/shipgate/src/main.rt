@@ -17,7 +17,7 @@ pub use gateway_commands::{demo_with, replay_with, run, stream};
 use live_outside::{Activity, DiskFiles, SystemClock, ToldWriter, UdpLink};
 use run_failures::{Kept, explain_run};
 pub use serving::serve_turns;
-use statuses::NO_MEMORY;
+use statuses::Status;
 use std::alloc::{AllocError, Global};
 use std::cell::Cell;
 use std::env::{Args, Env};
@@ -115,7 +115,7 @@ fn exit_code(status: Result<u8, AllocError>) -> ExitCode
 {
     match status {
         Ok(status) => ExitCode::from(status),
-        Err(AllocError) => ExitCode::from(NO_MEMORY),
+        Err(AllocError) => ExitCode::from(Status::NoMemory.number()),
     }
 }
 
@@ -124,8 +124,11 @@ fn words_to_tell<R: Env + Alloc<A = Global>>(
     rt: &R,
     status: &Result<u8, AllocError>,
 ) -> Vec<String> {
-    match status {
-        Ok(2 | 6) => words_of(rt.alloc(), env::args(rt)).unwrap_or(Vec::new(rt.alloc())),
+    match status.map(Status::of) {
+        Ok(Some(Status::NoCommand | Status::Unread)) => words_of(
+            rt.alloc(),
+            env::args(rt),
+        ).unwrap_or(Vec::new(rt.alloc())),
         _ => Vec::new(rt.alloc()),
     }
 }

@@ -1,11 +1,12 @@
-use Rattle.std.proofs.Common.{ℕ, subst, sym}
+use Rattle.std.proofs.Common.{subst, sym}
 use Rattle.capture_stream.specs.Answering.{LineGives}
 use Rattle.capture_stream.specs.Lines.{IsTextFrom}
 use Rattle.capture_stream.proofs.EndLemmas.{ends_as}
 use Rattle.line_commands.specs.declared.line_command.Lines.{Lines}
 use Rattle.line_commands.specs.LineCommand.{IsAnswer, AreTextsOf}
 use Rattle.line_commands.proofs.LineCommandLemmas.{are_texts_of}
-use Rattle.statuses.specs.Statuses.{EndsBy, SteadyBy}
+use Rattle.statuses.specs.declared.Status.{Status}
+use Rattle.statuses.specs.Statuses.{EndsBy, SteadyBy, number}
 use Rattle.statuses.proofs.StatusLemmas.{ends_by, steady_by}
 use Rattle.line_commands.proofs.line_command.answer_lines.Goals as goal
 
@@ -16,7 +17,7 @@ returns-clause-ends g c =
     let left' = g.S.Source.left c.answer_capture.new.input in
     let told = g.K.Sink.taken c.args.out.now in
     let told' = g.K.Sink.taken c.answer_capture.new.out in
-    subst (λ (s : ℕ). EndsBy (AreTextsOf c.args.command) left left' told told' s) (sym c.status_of.ensures.status)
+    subst (λ (s : Status). EndsBy (AreTextsOf c.args.command) left left' told told' (number s)) (sym c.status_of.ensures.status)
     (ends_by (AreTextsOf c.args.command) left left' told told' c.answer_capture.result
     (ends_as (IsTextFrom (LineGives IsAnswer) lines) (AreTextsOf c.args.command) left left' told told' c.answer_capture.result (are_texts_of lines) c.answer_capture.ensures.ends))
 
@@ -26,5 +27,5 @@ returns-clause-steady g c =
     let source' = g.S.Source.fault_count c.answer_capture.new.input in
     let sink = g.K.Sink.fault_count c.args.out.now in
     let sink' = g.K.Sink.fault_count c.answer_capture.new.out in
-    subst (λ (s : ℕ). SteadyBy source source' sink sink' s) (sym c.status_of.ensures.status)
+    subst (λ (s : Status). SteadyBy source source' sink sink' (number s)) (sym c.status_of.ensures.status)
     (steady_by source source' sink sink' c.answer_capture.result c.answer_capture.ensures.steady)

@@ -2,7 +2,7 @@ use Rattle.std.proofs.Common.{ℕ, ◌+◌, subst, arith}
 use Rattle.serving.specs.Handing.{TurnsAll, TurnsSome}
 use Rattle.serving.specs.Served.{outside}
 use Rattle.serving.proofs.Runs.{progress_breaks, progress_ends, progress_more, progress_none}
-use Rattle.serving.proofs.turns.serve_turns.Goals as goal
+use Rattle.serving.proofs.turns.take_turns.Goals as goal
 
 pub loop-turn-init : goal.loop-turn-init
 loop-turn-init g c =

@@ -1,7 +1,7 @@
 -- The turns before this one were taken, and all that they make went out.
 use Rattle.serving.specs.Served.{outside}
 use Rattle.serving.proofs.Runs.{Progress}
-use Rattle.serving.proofs.turns.serve_turns.Given as goal
+use Rattle.serving.proofs.turns.take_turns.Given as goal
 
 abbrev pub invariant-loop-turn : goal.invariant-loop-turn
 invariant-loop-turn g l =

@@ -1,9 +1,10 @@
-use Rattle.std.proofs.Common.{ℕ, subst, sym}
+use Rattle.std.proofs.Common.{subst, sym}
 use Rattle.bridge.specs.Replayed.{IsReplay}
-use Rattle.statuses.specs.Statuses.{EndsBy, SteadyBy}
+use Rattle.statuses.specs.declared.Status.{Status}
+use Rattle.statuses.specs.Statuses.{EndsBy, SteadyBy, number}
 use Rattle.statuses.proofs.StatusLemmas.{steady_by}
 use Rattle.gateway_commands.proofs.ReplayLemmas.{replay_ends}
-use Rattle.gateway_commands.proofs.replay.stream.Goals as goal
+use Rattle.gateway_commands.proofs.replay.answer.Goals as goal
 
 pub returns-clause-ends : goal.returns-clause-ends
 returns-clause-ends g c = λ p new.
@@ -11,7 +12,7 @@ returns-clause-ends g c = λ p new.
     let left' = g.S.Source.left c.answer_capture.new.input in
     let told = g.K.Sink.taken c.args.out.now in
     let told' = g.K.Sink.taken c.answer_capture.new.out in
-    subst (λ (s : ℕ). EndsBy (IsReplay p) left left' told told' s) (sym c.status_of.ensures.status)
+    subst (λ (s : Status). EndsBy (IsReplay p) left left' told told' (number s)) (sym c.status_of.ensures.status)
     (replay_ends p c.args.bridge.now left left' told told' c.answer_capture.result new c.answer_capture.ensures.ends)
 
 pub returns-clause-steady : goal.returns-clause-steady
@@ -20,5 +21,5 @@ returns-clause-steady g c =
     let source' = g.S.Source.fault_count c.answer_capture.new.input in
     let sink = g.K.Sink.fault_count c.args.out.now in
     let sink' = g.K.Sink.fault_count c.answer_capture.new.out in
-    subst (λ (s : ℕ). SteadyBy source source' sink sink' s) (sym c.status_of.ensures.status)
+    subst (λ (s : Status). SteadyBy source source' sink sink' (number s)) (sym c.status_of.ensures.status)
     (steady_by source source' sink sink' c.answer_capture.result c.answer_capture.ensures.steady)

@@ -1,0 +1,15 @@
+use Rattle.std.proofs.Common.{inr}
+use Rattle.bridge.specs.Parts.{parts_of}
+use Rattle.gateway_commands.proofs.replay.replay_settings.Goals as goal
+
+pub returns-in-Ok-clause-runs : goal.returns-in-Ok-clause-runs
+returns-in-Ok-clause-runs g c =
+    let a = c.answer.ensures in
+    record {
+      known = inr a.status;
+      ends = a.ends (parts_of c.args.settings.now) c.in-Ok.ensures;
+      sink_cause = a.sink_cause;
+      source_cause = a.source_cause;
+      steady = a.steady;
+      complete = λ no. a.complete (parts_of c.args.settings.now) c.in-Ok.ensures;
+    }
