@@ -1,12 +1,12 @@
 -- Where the reader of a line stops, its bytes stop to begin blocks.
-use Rattle.std.proofs.Common.{◌≡◌, ◌⊎◌, ℕ, zero, suc, ◌+◌, ◌-◌, ◌*◌, ◌<◌, ◌≤◌, Bool, true, false, cond, List, [], ◌∷◌, ◌++◌, length, get_or, take, drop, drop-cons, Option, Some, None, Result, Ok, Err, refl, sym, ap, subst, ◌∙◌, append_assoc, length-append, add-one, add-zero, arith, inl, inr}
+use Rattle.std.proofs.Common.{◌≡◌, ◌⊎◌, ℕ, zero, suc, ◌+◌, ◌-◌, ◌*◌, ◌<◌, ◌≤◌, Bool, true, false, cond, List, [], ◌∷◌, ◌++◌, length, take, drop, Option, Some, None, Result, Ok, Err, refl, sym, ap, subst, ◌∙◌, append_assoc, length-append, add-zero, arith, inl, inr}
 use Rattle.std.specs.Prelude.{◌==◌, nat_le, slice_index}
 use Rattle.std.specs.Char.{digit_value}
-use Rattle.std.specs.List.{prefix_len, list_all}
+use Rattle.std.specs.List.{prefix_len}
 use Rattle.std.proofs.lemmas.Bool.{cases_Bool, cases_lt, and_parts, eqb-true, eqb-false}
-use Rattle.std.proofs.lemmas.List.{take-append-drop, take_at, get_or-drop, length-drop, get_or_past}
+use Rattle.std.proofs.lemmas.List.{drop_more, take-append-drop, take_at, get_or-drop, length-drop, get_or_past}
 use Rattle.std.proofs.lemmas.List.Folds.{length-prefix_len}
-use Rattle.std.proofs.lemmas.List.Sums.{prefix_len-le-length}
+use Rattle.std.proofs.lemmas.List.Sums.{prefix_len-le-length, prefix_len_stops}
 use Rattle.sentence_text.proofs.Bytes.{front_passes}
 use Rattle.sentence_text.specs.Sum.{sum_fault}
 use Rattle.tag_block.specs.declared.fault.TagFault.{TagFault}
@@ -25,17 +25,33 @@ some_state s = Some s
 
 -- ---- a reader in a line
 
-record At (line : List ℕ) (s : State) (rest : List ℕ) : Type 0 where
+-- a reader is here, behind what stands in front of these bytes and n of them
+record At (line : List ℕ) (s : State) (rest : List ℕ) (n : ℕ) : Type 0 where
   front : List ℕ
-  whole : line ≡ front ++ rest
+  whole : line ≡ front ++ drop n rest
   ran : run (Some Outside) front ≡ some_state s
+  fits : n ≤ length rest
+  less : length rest ≤ length line
 
-goes_over : (line : List ℕ) (s t : State) (rest bytes tail : List ℕ) → At line s rest → rest ≡ bytes ++ tail → run (Some s) bytes ≡ some_state t → At line t tail
-goes_over line s t rest bytes tail at e r = record {
-  front = at.front ++ bytes;
-  whole = at.whole ∙ ap (λ (x : List ℕ). at.front ++ x) e ∙ sym (append_assoc at.front bytes tail);
-  ran = run-append (Some Outside) at.front bytes ∙ ap (λ (o : Option State). run o bytes) at.ran ∙ r;
+-- the bytes behind its place are the rest now
+moves : (line : List ℕ) (s : State) (rest : List ℕ) (n : ℕ) → At line s rest n → At line s (drop n rest) 0
+moves line s rest n at = record { front = at.front; whole = at.whole; ran = at.ran; fits = omega arith; less = omega (arith, at.less, length-drop n rest) }
+
+goes_over : (line : List ℕ) (s t : State) (rest : List ℕ) (n : ℕ) → At line s rest 0 → n ≤ length rest → run (Some s) (take n rest) ≡ some_state t → At line t rest n
+goes_over line s t rest n at fits r = record {
+  front = at.front ++ take n rest;
+  whole = at.whole ∙ ap (λ (x : List ℕ). at.front ++ x) (sym (take-append-drop n rest)) ∙ sym (append_assoc at.front (take n rest) (drop n rest));
+  ran = run-append (Some Outside) at.front (take n rest) ∙ ap (λ (o : Option State). run o (take n rest)) at.ran ∙ r;
+  fits = fits;
+  less = at.less;
 }
+
+one_more : (line front rest : List ℕ) (n : ℕ) → line ≡ front ++ drop n rest → n < length rest → line ≡ (front ++ slice_index rest n ∷ []) ++ drop (n + 1) rest
+one_more line front rest n whole lt =
+    whole ∙ ap (λ (x : List ℕ). front ++ x) (drop_more rest n 0 lt) ∙ sym (append_assoc front (slice_index rest n ∷ []) (drop (n + 1) rest))
+
+one_step : (front : List ℕ) (s : State) (c : ℕ) → run (Some Outside) front ≡ some_state s → run (Some Outside) (front ++ c ∷ []) ≡ step s c
+one_step front s c ran = run-append (Some Outside) front (c ∷ []) ∙ ap (λ (o : Option State). run o (c ∷ [])) ran
 
 -- no state goes on with 0, which is read behind the end of a line
 no_zero : (s : State) → step s 0 ≡ None
@@ -53,42 +69,29 @@ within s t rest n e = elim (cases_lt n (length rest)) [
   | inr le ↦ let z : step s (slice_index rest n) ≡ None = ap (step s) (get_or_past rest n 0 le) ∙ no_zero s in absurd cc
 ]
 
-goes_on : (line : List ℕ) (s t : State) (rest : List ℕ) (n : ℕ) → At line s (drop n rest) → step s (slice_index rest n) ≡ some_state t → At line t (drop (n + 1) rest)
+goes_on : (line : List ℕ) (s t : State) (rest : List ℕ) (n : ℕ) → At line s rest n → step s (slice_index rest n) ≡ some_state t → At line t rest (n + 1)
 goes_on line s t rest n at e =
-    let here : drop n rest ≡ slice_index rest n ∷ drop (n + 1) rest =
-    drop-cons rest n 0 (within s t rest n e) ∙ ap (λ (k : ℕ). slice_index rest n ∷ drop k rest) (sym (add-one n)) in
-    goes_over line s t (drop n rest) (slice_index rest n ∷ []) (drop (n + 1) rest) at here e
-
-head_of_drop : (bytes : List ℕ) (n c : ℕ) (cs : List ℕ) → drop n bytes ≡ c ∷ cs → slice_index bytes n ≡ c
-head_of_drop bytes n c cs e =
-    sym (get_or-drop n bytes 0 0 ∙ ap (λ (k : ℕ). get_or bytes k 0) (add-zero n)) ∙ ap (λ (x : List ℕ). get_or x 0 0) e
-
-stuck : (line : List ℕ) (s : State) (rest : List ℕ) (place : ℕ) → At line s rest → place + length rest ≡ length line
-    → ((c : ℕ) (cs : List ℕ) → rest ≡ c ∷ cs → step s c ≡ None) → EndsAt line place
-stuck line s [] place at p none = record {
-  before = subst Begins (sym (ap (take place) at.whole ∙ take_at at.front [] place (omega (arith, p, ap length at.whole, length-append at.front [])))) (begins at.front s at.ran);
-  with_it = λ lt b. absurd (omega (arith, lt, p));
-}
-stuck line s (c ∷ cs) place at p none =
-    let len : length at.front ≡ place = omega (arith, p, ap length at.whole, length-append at.front (c ∷ cs)) in
-    let one = at.front ++ c ∷ [] in
-    let whole : line ≡ one ++ cs = at.whole ∙ sym (append_assoc at.front (c ∷ []) cs) in
-    let longer : length one ≡ place + 1 = omega (arith, len, length-append at.front (c ∷ [])) in
-    let dead : run (Some Outside) one ≡ None = run-append (Some Outside) at.front (c ∷ []) ∙ ap (λ (o : Option State). run o (c ∷ [])) at.ran ∙ none c cs refl in
+    let lt : n < length rest = within s t rest n e in
     record {
-      before = subst Begins (sym (ap (take place) at.whole ∙ take_at at.front (c ∷ cs) place len)) (begins at.front s at.ran);
-      with_it = λ lt b. begins_none one dead (subst Begins (ap (take (place + 1)) whole ∙ take_at one cs (place + 1) longer) b);
+      front = at.front ++ slice_index rest n ∷ [];
+      whole = one_more line at.front rest n at.whole lt;
+      ran = one_step at.front s (slice_index rest n) at.ran ∙ e;
+      fits = omega (arith, lt);
+      less = at.less;
     }
 
-rest_fits : (line : List ℕ) (s : State) (rest : List ℕ) → At line s rest → length rest ≤ length line
-rest_fits line s rest at = omega (arith, ap length at.whole, length-append at.front rest)
-
--- the reader stops n bytes behind the start of these
-stops_at : (line : List ℕ) (s : State) (rest : List ℕ) (n place : ℕ) → At line s (drop n rest) → n ≤ length rest → length rest ≤ length line
-    → place ≡ length line - length rest + n → step s (slice_index rest n) ≡ None → EndsAt line place
-stops_at line s rest n place at fits less p none =
-    stuck line s (drop n rest) place at (omega (arith, p, length-drop n rest, fits, less))
-    (λ c cs e. subst (λ (x : ℕ). step s x ≡ None) (head_of_drop rest n c cs e) none)
+stops : (line : List ℕ) (s : State) (rest : List ℕ) (n place : ℕ) → At line s rest n → place ≡ length line - length rest + n → step s (slice_index rest n) ≡ None → EndsAt line place
+stops line s rest n place at p none =
+    let len : length at.front ≡ place = omega (arith, p, at.fits, at.less, ap length at.whole, length-append at.front (drop n rest), length-drop n rest) in
+    record {
+      before = subst Begins (sym (ap (take place) at.whole ∙ take_at at.front (drop n rest) place len)) (begins at.front s at.ran);
+      with_it = λ lt b.
+          let one = at.front ++ slice_index rest n ∷ [] in
+          let front : take (place + 1) line ≡ one =
+          ap (take (place + 1)) (one_more line at.front rest n at.whole (omega (arith, lt, p, at.fits, at.less)))
+          ∙ take_at one (drop (n + 1) rest) (place + 1) (omega (arith, len, length-append at.front (slice_index rest n ∷ []))) in
+          begins_none one (one_step at.front s (slice_index rest n) at.ran ∙ none) (subst Begins front b);
+    }
 
 -- ---- the steps of the reader
 
@@ -106,29 +109,24 @@ record ArePlaced (line : List ℕ) (v : Values) : Type 0 where
   count : (x : Placed) → v.count ≡ Some x → StandsAt line 110 x.text x.place
 
 record Reader (line : List ℕ) (s : State) (t : Scan) : Type 0 where
-  at : At line s t.rest
+  at : At line s t.rest 0
   placed : ArePlaced line t.values
 
 stop_byte : (p : ℕ → Bool) → p 0 ≡ false → (xs : List ℕ) → p (slice_index xs (prefix_len p xs)) ≡ false
-stop_byte p z [] = z
-stop_byte p z (c ∷ cs) = elim (cases_Bool (p c)) [
-  | inl e ↦
-      let len : prefix_len p (c ∷ cs) ≡ suc (prefix_len p cs) = rw e (omega arith) in
-      ap (λ (n : ℕ). p (slice_index (c ∷ cs) n)) len ∙ stop_byte p z cs
-  | inr e ↦
-      let len : prefix_len p (c ∷ cs) ≡ 0 = rw e refl in
-      ap (λ (n : ℕ). p (slice_index (c ∷ cs) n)) len ∙ e
+stop_byte p z xs = elim (cases_lt (prefix_len p xs) (length xs)) [
+  | inl lt ↦ prefix_len_stops p xs 0 lt
+  | inr le ↦ ap p (get_or_past xs (prefix_len p xs) 0 le) ∙ z
 ]
 
-only_one : (x : ℕ) (ys : List ℕ) → length (x ∷ ys) ≡ 1 → ys ≡ []
-only_one x [] e = refl
-only_one x (y ∷ ys) e = absurd (omega (arith, e))
+no_value : (text : List ℕ) → is_value_byte (slice_index (drop (prefix_len is_value_byte text) text) 0) ≡ false
+no_value text =
+    let v = prefix_len is_value_byte text in
+    ap is_value_byte (get_or-drop v text 0 0 ∙ ap (λ (k : ℕ). slice_index text k) (add-zero v)) ∙ stop_byte is_value_byte refl text
 
 code_is : (c : ℕ) (code : List ℕ) → is_code c code ≡ true → code ≡ c ∷ []
 code_is c [] h = absurd cc
-code_is c (x ∷ xs) h =
-    let p = and_parts (length (x ∷ xs) == 1) (x == c) h in
-    ap (λ (y : ℕ). y ∷ xs) (eqb-true x c p.1) ∙ ap (λ (ys : List ℕ). c ∷ ys) (only_one x xs (eqb-true (length (x ∷ xs)) 1 p.0))
+code_is c (x ∷ []) h = let p = and_parts (length (x ∷ []) == 1) (x == c) h in ap (λ (y : ℕ). y ∷ []) (eqb-true x c p.1)
+code_is c (x ∷ y ∷ ys) h = let p = and_parts (length (x ∷ y ∷ ys) == 1) (x == c) h in absurd (omega (arith, eqb-true (length (x ∷ y ∷ ys)) 1 p.0))
 
 kept_by : (line : List ℕ) (s d g n : Bool) (v : Values) (value : Placed) → ArePlaced line v
     → (g ≡ true → StandsAt line 103 value.text value.place) → (n ≡ true → StandsAt line 110 value.text value.place)
@@ -147,40 +145,39 @@ kept_by line false false false false v value h hg hn = h
 
 -- a reader behind the `\\` or the comma before a parameter
 record Opened (line rest : List ℕ) : Type 0 where
-  at : At line Opening rest
+  at : At line Opening rest 0
   before : List ℕ
   divider : ℕ
   divides : (divider ≡ 92) ⊎ (divider ≡ 44)
-  is : at.front ≡ before ++ divider ∷ []
+  is : line ≡ before ++ divider ∷ rest
 
-opens : (line : List ℕ) (s : State) (rest : List ℕ) → At line s rest → step s (slice_index rest 0) ≡ some_state Opening
+opens : (line : List ℕ) (s : State) (rest : List ℕ) → At line s rest 0 → step s (slice_index rest 0) ≡ some_state Opening
     → (slice_index rest 0 ≡ 92) ⊎ (slice_index rest 0 ≡ 44) → Opened line (drop 1 rest)
-unfolding goes_on goes_over
 opens line s rest at e divides = record {
-  at = goes_on line s Opening rest 0 at e;
+  at = moves line Opening rest 1 (goes_on line s Opening rest 0 at e);
   before = at.front;
   divider = slice_index rest 0;
   divides = divides;
-  is = refl;
+  is = at.whole ∙ ap (λ (x : List ℕ). at.front ++ x) (drop_more rest 0 0 (within s Opening rest 0 e));
 }
 
-stands_at : (line s_rest code text rest : List ℕ) (c place : ℕ) (o : Opened line s_rest) → line ≡ o.at.front ++ (code ++ 58 ∷ (text ++ rest))
-    → place + length (text ++ rest) ≡ length line → list_all is_value_byte text ≡ true → is_value_byte (slice_index rest 0) ≡ false → is_code c code ≡ true
-    → StandsAt line c text place
-stands_at line s_rest code text rest c place o e p passes stops h =
-    let behind = c ∷ 58 ∷ (text ++ rest) in
-    let one : line ≡ (o.before ++ o.divider ∷ []) ++ behind =
-    e ∙ ap (λ (x : List ℕ). o.at.front ++ (x ++ 58 ∷ (text ++ rest))) (code_is c code h) ∙ ap (λ (x : List ℕ). x ++ behind) o.is in
-    let whole : line ≡ o.before ++ o.divider ∷ behind = one ∙ append_assoc o.before (o.divider ∷ []) behind in
+stands_at : (line rest code text : List ℕ) (c : ℕ) (o : Opened line rest) → rest ≡ code ++ 58 ∷ text → is_code c code ≡ true
+    → StandsAt line c (take (prefix_len is_value_byte text) text) (length line - length text)
+stands_at line rest code text c o e h =
+    let v = prefix_len is_value_byte text in
+    let behind = o.divider ∷ c ∷ 58 ∷ (take v text ++ drop v text) in
+    let whole : line ≡ o.before ++ behind =
+    o.is ∙ ap (λ (x : List ℕ). o.before ++ o.divider ∷ x) (e ∙ ap (λ (x : List ℕ). x ++ 58 ∷ text) (code_is c code h))
+    ∙ ap (λ (x : List ℕ). o.before ++ o.divider ∷ c ∷ 58 ∷ x) (sym (take-append-drop v text)) in
     record {
       front = o.before;
       divider = o.divider;
-      rest = rest;
+      rest = drop v text;
       spelled = whole;
-      place_is = omega (arith, p, ap length whole, length-append o.before (o.divider ∷ behind));
+      place_is = omega (arith, ap length whole, length-append o.before behind, ap length (take-append-drop v text));
       divides = o.divides;
-      passes = passes;
-      stops = stops;
+      passes = front_passes is_value_byte text;
+      stops = no_value text;
     }
 
 -- behind one parameter
@@ -193,47 +190,35 @@ parameter_good : (line : List ℕ) (s : Scan) → Opened line s.rest → ArePlac
 unfolding parameter_at
 parameter_good line s r placed =
     let n = prefix_len is_code_byte s.rest in
-    let less = rest_fits line Opening s.rest r.at in
     let no_code : is_code_byte (slice_index s.rest n) ≡ false = stop_byte is_code_byte refl s.rest in
-    let fits : n ≤ length s.rest = prefix_len-le-length is_code_byte s.rest in
-    let parted : s.rest ≡ take n s.rest ++ drop n s.rest = sym (take-append-drop n s.rest) in
     elim (cases_Bool (n == 0)) [
       | inl none ↦ rw none (λ rule.
-          let z : n ≡ 0 = eqb-true n 0 none in
-          stops_at line Opening s.rest 0 (length line - length s.rest) r.at (omega arith) less (omega arith)
-          (rw (subst (λ (k : ℕ). is_code_byte (slice_index s.rest k) ≡ false) z no_code) refl))
+          let first = subst (λ (k : ℕ). is_code_byte (slice_index s.rest k) ≡ false) (eqb-true n 0 none) no_code in
+          stops line Opening s.rest 0 (length line - length s.rest) r.at (omega arith) (rw first refl))
       | inr some ↦
-          let len : length (take n s.rest) ≡ n = length-prefix_len is_code_byte s.rest in
-          let at : At line Coding (drop n s.rest) = goes_over line Opening Coding s.rest (take n s.rest) (drop n s.rest) r.at parted
-          (some_codes_run (take n s.rest) (omega (arith, len, eqb-false n 0 some)) (front_passes is_code_byte s.rest)) in
+          let code = take n s.rest in
+          let at : At line Coding s.rest n = goes_over line Opening Coding s.rest n r.at (prefix_len-le-length is_code_byte s.rest)
+          (some_codes_run code (omega (arith, length-prefix_len is_code_byte s.rest, eqb-false n 0 some)) (front_passes is_code_byte s.rest)) in
           elim (cases_Bool (slice_index s.rest n == 58)) [
             | inl colon ↦ rw (some, colon) (
                 let text = drop (n + 1) s.rest in
                 let v = prefix_len is_value_byte text in
                 let value : Placed = record { place = length line - length text; text = take v text } in
                 let goes : step Coding (slice_index s.rest n) ≡ some_state Valuing = rw (no_code, colon) refl in
-                let behind : At line Valuing text = goes_on line Coding Valuing s.rest n at goes in
                 let lt : n < length s.rest = within Coding Valuing s.rest n goes in
-                let end : At line Valuing (drop v text) = goes_over line Valuing Valuing text (take v text) (drop v text) behind (sym (take-append-drop v text)) (values_run (take v text) (front_passes is_value_byte text)) in
-                let here : drop n s.rest ≡ 58 ∷ (take v text ++ drop v text) =
-                drop-cons s.rest n 0 lt ∙ ap (λ (k : ℕ). slice_index s.rest n ∷ drop k s.rest) (sym (add-one n)) ∙ ap (λ (c : ℕ). c ∷ text) (eqb-true (slice_index s.rest n) 58 colon)
-                ∙ ap (λ (x : List ℕ). 58 ∷ x) (sym (take-append-drop v text)) in
-                let whole : line ≡ r.at.front ++ (take n s.rest ++ 58 ∷ (take v text ++ drop v text)) =
-                r.at.whole ∙ ap (λ (x : List ℕ). r.at.front ++ x) (parted ∙ ap (λ (x : List ℕ). take n s.rest ++ x) here) in
-                let place : length line - length text + length (take v text ++ drop v text) ≡ length line =
-                omega (arith, ap length (take-append-drop v text), length-drop (n + 1) s.rest, less) in
-                let stops : is_value_byte (slice_index (drop v text) 0) ≡ false =
-                ap is_value_byte (get_or-drop v text 0 0 ∙ ap (λ (k : ℕ). get_or text k 0) (add-zero v)) ∙ stop_byte is_value_byte refl text in
-                let stands = λ (c : ℕ) (h : is_code c (take n s.rest) ≡ true). stands_at line s.rest (take n s.rest) (take v text) (drop v text) c (length line - length text) r whole place (front_passes is_value_byte text) stops h in
+                let behind = moves line Valuing s.rest (n + 1) (goes_on line Coding Valuing s.rest n at goes) in
+                let parted : s.rest ≡ code ++ 58 ∷ text =
+                sym (take-append-drop n s.rest) ∙ ap (λ (x : List ℕ). code ++ x) (drop_more s.rest n 0 lt ∙ ap (λ (c : ℕ). c ∷ text) (eqb-true (slice_index s.rest n) 58 colon)) in
+                let stands = λ (c : ℕ) (h : is_code c code ≡ true). stands_at line s.rest code text c r parted h in
                 record {
                   reader = record {
-                    at = end;
-                    placed = kept_by line (is_code 115 (take n s.rest)) (is_code 100 (take n s.rest)) (is_code 103 (take n s.rest)) (is_code 110 (take n s.rest)) s.values value placed (stands 103) (stands 110);
+                    at = moves line Valuing text v (goes_over line Valuing Valuing text v behind (prefix_len-le-length is_value_byte text) (values_run (take v text) (front_passes is_value_byte text)));
+                    placed = kept_by line (is_code 115 code) (is_code 100 code) (is_code 103 code) (is_code 110 code) s.values value placed (stands 103) (stands 110);
                   };
                   shorter = omega (arith, lt, length-drop v text, length-drop (n + 1) s.rest);
-                  no_value = stops;
+                  no_value = no_value text;
                 })
-            | inr other ↦ rw (some, other) (λ rule. stops_at line Coding s.rest n (length line - length s.rest + n) at fits less refl (rw (no_code, other) refl))
+            | inr other ↦ rw (some, other) (λ rule. stops line Coding s.rest n (length line - length s.rest + n) at refl (rw (no_code, other) refl))
           ]
     ]
 
@@ -261,33 +246,28 @@ parameters_good (suc n) line s enough r placed =
 block_end_good : (line : List ℕ) (sum : ℕ) (s : Scan) → AllRead line s → Good line (Reader line Outside) (block_end_at (length line) sum s)
 unfolding block_end_at sum_fault
 block_end_good line sum s all =
-    let r = all.reader in
-    let less = rest_fits line Valuing s.rest r.at in
+    let place = length line - length s.rest in
+    let at0 = all.reader.at in
     elim (cases_Bool (slice_index s.rest 0 == 42)) [
-      | inr other ↦ rw other (λ rule. stops_at line Valuing s.rest 0 (length line - length s.rest) r.at (omega arith) less (omega arith) (rw (all.no_value, all.no_comma, other) refl))
+      | inr other ↦ rw other (λ rule. stops line Valuing s.rest 0 place at0 (omega arith) (rw (all.no_value, all.no_comma, other) refl))
       | inl star ↦
-          let goes : step Valuing (slice_index s.rest 0) ≡ some_state High = rw (all.no_value, all.no_comma, star) refl in
-          let at1 : At line High (drop 1 s.rest) = goes_on line Valuing High s.rest 0 r.at goes in
-          let lt0 : 0 < length s.rest = within Valuing High s.rest 0 goes in
+          let at1 = goes_on line Valuing High s.rest 0 at0 (rw (all.no_value, all.no_comma, star) refl) in
           elim (cases_Bool (nat_le 16 (digit_value (slice_index s.rest 1)))) [
-            | inl bad ↦ rw (star, bad) (λ rule. stops_at line High s.rest 1 (length line - length s.rest + 1) at1 (omega (arith, lt0)) less refl (rw bad refl))
+            | inl bad ↦ rw (star, bad) (λ rule. stops line High s.rest 1 (place + 1) at1 refl (rw bad refl))
             | inr high ↦
-                let goes1 : step High (slice_index s.rest 1) ≡ some_state Low = rw high refl in
-                let at2 : At line Low (drop 2 s.rest) = goes_on line High Low s.rest 1 at1 goes1 in
-                let lt1 : 1 < length s.rest = within High Low s.rest 1 goes1 in
+                let at2 = goes_on line High Low s.rest 1 at1 (rw high refl) in
                 elim (cases_Bool (nat_le 16 (digit_value (slice_index s.rest 2)))) [
-                  | inl bad ↦ rw (star, high, bad) (λ rule. stops_at line Low s.rest 2 (length line - length s.rest + 2) at2 (omega (arith, lt1)) less refl (rw bad refl))
+                  | inl bad ↦ rw (star, high, bad) (λ rule. stops line Low s.rest 2 (place + 2) at2 refl (rw bad refl))
                   | inr low ↦
-                      let goes2 : step Low (slice_index s.rest 2) ≡ some_state Closing = rw low refl in
-                      let at3 : At line Closing (drop 3 s.rest) = goes_on line Low Closing s.rest 2 at2 goes2 in
-                      let lt2 : 2 < length s.rest = within Low Closing s.rest 2 goes2 in
+                      let at3 = goes_on line Low Closing s.rest 2 at2 (rw low refl) in
                       elim (cases_Bool (digit_value (slice_index s.rest 1) * 16 + digit_value (slice_index s.rest 2) == sum)) [
                         | inr differs ↦ rw (star, high, low, differs) (λ rule. absurd cc)
                         | inl same ↦ elim (cases_Bool (slice_index s.rest 3 == 92)) [
-                          | inr other ↦ rw (star, high, low, same, other) (λ rule. stops_at line Closing s.rest 3 (length line - length s.rest + 3) at3 (omega (arith, lt2)) less refl (rw other refl))
-                          | inl close ↦ rw (star, high, low, same, close) (
-                              let goes3 : step Closing (slice_index s.rest 3) ≡ some_state Outside = rw close refl in
-                              record { at = goes_on line Closing Outside s.rest 3 at3 goes3; placed = r.placed })
+                          | inr other ↦ rw (star, high, low, same, other) (λ rule. stops line Closing s.rest 3 (place + 3) at3 refl (rw other refl))
+                          | inl close ↦ rw (star, high, low, same, close) (record {
+                            at = moves line Outside s.rest 4 (goes_on line Closing Outside s.rest 3 at3 (rw close refl));
+                            placed = all.reader.placed;
+                          })
                         ]
                       ]
                 ]
@@ -342,35 +322,26 @@ no_form_of_source end (Some v) f e rule = elim (cases_Bool (is_sfi v.text)) [
   | inr other ↦ let no = rw other at e in absurd cc
 ]
 
-record NoGroup (o : Option Placed) (place : ℕ) : Type 0 where
+-- a value is kept of which this finds nothing, and stands at the place
+record Unfound {A : Type 0} (find : List ℕ → Option A) (o : Option Placed) (place : ℕ) : Type 0 where
   value : Placed
   is : o ≡ Some value
-  none : group_in value.text ≡ None
+  none : find value.text ≡ None
   place_is : value.place ≡ place
 
-record NoCount (o : Option Placed) (place : ℕ) : Type 0 where
-  value : Placed
-  is : o ≡ Some value
-  none : number_in 3 value.text ≡ None
-  place_is : value.place ≡ place
+unfound : {A : Type 0} (find : List ℕ → Option A) (v : Placed) (place : ℕ) (found : Option A) → find v.text ≡ found → found_or v.place found ≡ form place → Unfound find (Some v) place
+unfound find v place None is e = record { value = v; is = refl; none = is; place_is = ap (λ (f : TagFault). f.place) (fault_is (record { rule = rules.Form; place = v.place }) place e) }
+unfound find v place (Some x) is e = absurd cc
 
-refused : {A : Type 0} (o : Option A) (at place : ℕ) → found_or at o ≡ form place → (o ≡ None) × (at ≡ place)
-refused None at place e = (refl, ap (λ (f : TagFault). f.place) (fault_is (record { rule = rules.Form; place = at }) place e))
-refused (Some x) at place e = absurd cc
-
-group_refused : (o : Option Placed) (place : ℕ) → group_said o ≡ form place → NoGroup o place
+group_refused : (o : Option Placed) (place : ℕ) → group_said o ≡ form place → Unfound group_in o place
 group_refused None place e = absurd cc
-group_refused (Some v) place e =
-    let r = refused (group_in v.text) v.place place e in
-    record { value = v; is = refl; none = r.0; place_is = r.1 }
+group_refused (Some v) place e = unfound group_in v place (group_in v.text) refl e
 
-count_refused : (o : Option Placed) (place : ℕ) → count_said o ≡ form place → NoCount o place
+count_refused : (o : Option Placed) (place : ℕ) → count_said o ≡ form place → Unfound (number_in 3) o place
 count_refused None place e = absurd cc
-count_refused (Some v) place e =
-    let r = refused (number_in 3 v.text) v.place place e in
-    record { value = v; is = refl; none = r.0; place_is = r.1 }
+count_refused (Some v) place e = unfound (number_in 3) v place (number_in 3 v.text) refl e
 
-settle_refused : (total place : ℕ) (s : Scan) → settle total s ≡ form place → NoGroup s.values.group place ⊎ NoCount s.values.count place
+settle_refused : (total place : ℕ) (s : Scan) → settle total s ≡ form place → Unfound group_in s.values.group place ⊎ Unfound (number_in 3) s.values.count place
 unfolding settle
 settle_refused total place s e =
     let end = total - length s.rest in
@@ -387,12 +358,12 @@ none_placed : (line : List ℕ) → ArePlaced line no_values
 none_placed line = record { group = λ x e. absurd cc; count = λ x e. absurd cc }
 
 starts : (line : List ℕ) → Reader line Outside (start line)
-starts line = record { at = record { front = []; whole = refl; ran = refl }; placed = none_placed line }
+starts line = record { at = record { front = []; whole = refl; ran = refl; fits = omega arith; less = omega arith }; placed = none_placed line }
 
 are_front : (line : List ℕ) (t : Scan) (b : BlocksRead (start line) t) → AreFront line b.blocks
 are_front line t b = record { each = b.are; rest = t.rest; spelled = b.spelled; stops = b.stops }
 
-no_group : (line : List ℕ) (t : Scan) (place : ℕ) → BlocksRead (start line) t → ArePlaced line t.values → NoGroup t.values.group place → HasNoGroupAt line place
+no_group : (line : List ℕ) (t : Scan) (place : ℕ) → BlocksRead (start line) t → ArePlaced line t.values → Unfound group_in t.values.group place → HasNoGroupAt line place
 no_group line t place b placed n = record {
   blocks = b.blocks;
   are = are_front line t b;
@@ -402,7 +373,7 @@ no_group line t place b placed n = record {
   stands = subst (StandsAt line 103 n.value.text) n.place_is (placed.group n.value n.is);
 }
 
-no_count : (line : List ℕ) (t : Scan) (place : ℕ) → BlocksRead (start line) t → ArePlaced line t.values → NoCount t.values.count place → HasNoCountAt line place
+no_count : (line : List ℕ) (t : Scan) (place : ℕ) → BlocksRead (start line) t → ArePlaced line t.values → Unfound (number_in 3) t.values.count place → HasNoCountAt line place
 no_count line t place b placed n = record {
   blocks = b.blocks;
   are = are_front line t b;
