@@ -1,5 +1,6 @@
 //! The files of the system.
-ghost use Rattle.std.specs.Prelude.{◌≢◌, None};
+ghost use Rattle.std.specs.Prelude.{◌≡◌, ◌≢◌, None};
+ghost use Rattle.std.specs.declared.io.ErrorKind.{ErrorKind};
 ghost use Rattle.gate_outside.specs.Files.{Loads};
 ghost use Rattle.gate_outside.specs.declared.load_fault.LoadFault.{LoadFault};
 
@@ -47,7 +48,9 @@ impl<'a, R: std::fs::Files> DiskFiles<'a, R> {
 
 // The fault that an error of the system is.
 fn fault_of(kind: ErrorKind) -> LoadFault
-    ensures { result ≢ LoadFault.TooLong }
+    ensures memory { kind ≡ ErrorKind.OutOfMemory → result ≡ LoadFault.Memory }
+    ensures failure { kind ≢ ErrorKind.OutOfMemory → result ≡ LoadFault.Failed }
+    ensures loaded_short { result ≢ LoadFault.TooLong }
 {
     if kind == ErrorKind::OutOfMemory {
         LoadFault::Memory

@@ -1,5 +1,8 @@
 //! A UDP socket as a link uses it.
+ghost use Rattle.std.specs.Prelude.{◌≡◌, Ok, IsErr};
+ghost use Rattle.gate_outside.specs.declared.link.Arrival.{Arrival};
 ghost use Rattle.gate_outside.specs.Link.{Fits};
+ghost use Rattle.live_outside.specs.Failures.{IsSilence};
 
 use crate::destinations::Destinations;
 use gate_outside::{Arrival, Failed};
@@ -32,6 +35,19 @@ fn bound<R: Net>(rt: &R, listen: SocketAddrV4) -> io::Result<UdpSocket> {
     socket.set_multicast_ttl_v4(MULTICAST_TTL)?;
     socket.set_multicast_loop_v4(true)?;
     Ok(socket)
+}
+
+// What a receive is that gave no datagram, for this reason: silence, or a failure.
+fn without_arrival(kind: ErrorKind) -> Result<Arrival, Failed>
+    ensures silence { IsSilence kind → result ≡ Ok Arrival.Nothing }
+    ensures failure { (IsSilence kind → ⊥) → IsErr result }
+{
+    match kind {
+        ErrorKind::WouldBlock | ErrorKind::TimedOut | ErrorKind::Interrupted => {
+            Ok(Arrival::Nothing)
+        }
+        _ => Err(Failed),
+    }
 }
 
 impl Socket {
@@ -73,12 +89,7 @@ impl Socket {
         }
         match self.socket.recv_from(buf) {
             Ok((count, _)) => Ok(Arrival::Bytes(count)),
-            Err(error) => match error.kind() {
-                ErrorKind::WouldBlock | ErrorKind::TimedOut | ErrorKind::Interrupted => {
-                    Ok(Arrival::Nothing)
-                }
-                _ => Err(Failed),
-            },
+            Err(error) => without_arrival(error.kind()),
         }
     }
 
