@@ -1,8 +1,8 @@
 -- The words of a command.
-use Rattle.std.proofs.Common.{◌≡◌, ℕ, Bool, true, false, ◌&&◌, eqb, List, [], ◌∷◌, length, get_or, map, refl, sym, ap, subst, ◌∙◌, arith}
+use Rattle.std.proofs.Common.{◌≡◌, ℕ, true, eqb, List, [], ◌∷◌, length, get_or, map, refl, sym, ap, subst, ◌∙◌, arith}
 use Rattle.std.specs.Prelude.{Option, Some, None, MatchOption, codes}
 use Rattle.std.specs.Cmp.Lexicographic.{pointwise}
-use Rattle.std.proofs.lemmas.Bool.{eqb-true}
+use Rattle.std.proofs.lemmas.Bool.{and_parts, eqb-true}
 use Rattle.std.proofs.lemmas.Fmt.{decimal_injective}
 use Rattle.command_words.specs.declared.words.Command.{Command}
 use Rattle.command_words.specs.declared.words.Command.TheVariants.{Lines, Check, Replay, Serve, Demo}
@@ -25,16 +25,12 @@ map_two f (x ∷ y ∷ []) u v t s two a b is_t is_s =
     cc
 map_two f (x ∷ y ∷ z ∷ words) u v t s two a b is_t is_s = absurd (omega (arith, two))
 
-both : (a b : Bool) → (a && b) ≡ true → (a ≡ true) × (b ≡ true)
-both true b h = (refl, h)
-both false b h = absurd cc
-
 pub same_bytes : (xs ys : List ℕ) → true ≡ pointwise eqb xs ys → xs ≡ ys
 same_bytes [] [] h = refl
 same_bytes [] (y ∷ ys) h = absurd cc
 same_bytes (x ∷ xs) [] h = absurd cc
 same_bytes (x ∷ xs) (y ∷ ys) h =
-    let b = both (eqb x y) (pointwise eqb xs ys) (sym h) in
+    let b = and_parts (eqb x y) (pointwise eqb xs ys) (sym h) in
     let head : x ≡ y = eqb-true x y b.0 in
     ap (λ (z : ℕ). z ∷ xs) head ∙ ap (λ (zs : List ℕ). y ∷ zs) (same_bytes xs ys (sym b.1))
 
@@ -48,14 +44,14 @@ map_three f (x ∷ y ∷ z ∷ t ∷ words) u v w three a b d = absurd (omega ar
 
 -- ---- the words of a demonstration
 
-same_words : (words : List (List ℕ)) (a b c d : List ℕ) → words ≡ demo_words a b → words ≡ demo_words c d → (a ≡ c) × (b ≡ d)
-same_words words a b c d is is' = let same : demo_words a b ≡ demo_words c d = sym is ∙ is' in let first : a ≡ c = cc in let second : b ≡ d = cc in (first, second)
+behind_name : (words : List (List ℕ)) (name a b c d : List ℕ) → words ≡ name ∷ a ∷ b ∷ [] → words ≡ name ∷ c ∷ d ∷ [] → (a ≡ c) × (b ≡ d)
+behind_name words name a b c d is is' = let same : name ∷ a ∷ b ∷ [] ≡ name ∷ c ∷ d ∷ [] = sym is ∙ is' in let first : a ≡ c = cc in let second : b ≡ d = cc in (first, second)
 
 -- words are of one demonstration at most
 pub one_demo : (words : List (List ℕ)) (seed count seed' count' : ℕ) (first second : List ℕ) → IsDemo words seed count
     → words ≡ demo_words first second → AreNumbers seed' count' first second → (seed ≡ seed') × (count ≡ count')
 one_demo words seed count seed' count' first second d are numbers =
-    let same = same_words words d.first d.second first second d.are are in (
+    let same = behind_name words (codes "demo") d.first d.second first second d.are are in (
       decimal_injective seed seed' (omega (arith, d.numbers.is_seed.below)) (omega (arith, numbers.is_seed.below))
           (sym d.numbers.is_seed.spelled ∙ same.0 ∙ numbers.is_seed.spelled),
       decimal_injective count count' (omega (arith, d.numbers.is_count.below)) (omega (arith, numbers.is_count.below))
@@ -74,7 +70,7 @@ demo_or_none words first second None are none = record {
   replay = λ file form. let two : demo_words first second ≡ _ ∷ file ∷ [] = sym are ∙ form in absurd cc;
   serve = λ file second' form. absurd (serve_is_no_demo words file second' first second form are);
   demo = λ a b form seed count numbers.
-      let same = same_words words first second a b are form in
+      let same = behind_name words (codes "demo") first second a b are form in
       none seed count (subst (λ (t : List ℕ). AreNumbers seed count t second) (sym same.0) (subst (λ (t : List ℕ). AreNumbers seed count a t) (sym same.1) numbers));
 }
 demo_or_none words first second (Some (Lines command)) are said = absurd said
@@ -85,14 +81,11 @@ demo_or_none words first second (Some (Demo seed count)) are numbers = record { 
 
 -- ---- the words of a gateway between two links
 
-same_serve : (words : List (List ℕ)) (a b c d : List ℕ) → words ≡ serve_words a b → words ≡ serve_words c d → (a ≡ c) × (b ≡ d)
-same_serve words a b c d is is' = let same : serve_words a b ≡ serve_words c d = sym is ∙ is' in let first : a ≡ c = cc in let second : b ≡ d = cc in (first, second)
-
 -- words are of one file and one number of turns at most
 pub one_serve : (words : List (List ℕ)) (turns turns' : ℕ) (file file' second : List ℕ) → IsServe words file turns → words ≡ serve_words file' second
     → IsTurns turns' second → (file ≡ file') × (turns ≡ turns')
 one_serve words turns turns' file file' second s are number =
-    let same = same_serve words file s.second file' second s.are are in (
+    let same = behind_name words (codes "serve") file s.second file' second s.are are in (
       same.0,
       decimal_injective turns turns' (omega (arith, s.number.below)) (omega (arith, number.below)) (sym s.number.spelled ∙ same.1 ∙ number.spelled),
     )
@@ -104,7 +97,7 @@ serve_or_none words first second None are none = record {
   check = λ file form. let two : serve_words first second ≡ _ ∷ file ∷ [] = sym are ∙ form in absurd cc;
   replay = λ file form. let two : serve_words first second ≡ _ ∷ file ∷ [] = sym are ∙ form in absurd cc;
   serve = λ file second' form turns number.
-      none turns (subst (λ (t : List ℕ). IsTurns turns t) (sym (same_serve words first second file second' are form).1) number);
+      none turns (subst (λ (t : List ℕ). IsTurns turns t) (sym (behind_name words (codes "serve") first second file second' are form).1) number);
   demo = λ a b form seed count numbers. absurd (serve_is_no_demo words first second a b are form);
 }
 serve_or_none words first second (Some (Lines command)) are said = absurd said
