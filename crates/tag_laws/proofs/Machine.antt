@@ -108,9 +108,6 @@ Left High xs = AtHigh xs
 Left Low xs = AtLow xs
 Left Closing xs = AtClosing xs
 
-head_is : (c d : ℕ) (cs : List ℕ) → c ≡ d → c ∷ cs ≡ d ∷ cs
-head_is c d cs e = ap (λ (x : ℕ). x ∷ cs) e
-
 one_code : (c : ℕ) (cs : List ℕ) → is_code_byte c ≡ true → AtCode cs → AtOpening (c ∷ cs)
 one_code c cs h left = record {
   whole = record { code = c ∷ left.code; passes = and_from (is_code_byte c) (list_all is_code_byte left.code) h left.passes; rest = left.rest; tail = left.tail; is = ap (λ (x : List ℕ). c ∷ x) left.is };
@@ -232,36 +229,28 @@ sound Closing (c ∷ cs) e = elim (cases_Bool (c == 92)) [
 
 -- ---- every reader can come to the end of a block
 
--- one more block, so that there is one: `\a:*00\`
-abbrev block : List ℕ
-block = 92 ∷ 97 ∷ 58 ∷ 42 ∷ 48 ∷ 48 ∷ 92 ∷ []
+-- what ends a block that is begun
+abbrev closing : State → List ℕ
+closing Outside = []
+closing Opening = 97 ∷ 58 ∷ 42 ∷ 48 ∷ 48 ∷ 92 ∷ []
+closing Coding = 58 ∷ 42 ∷ 48 ∷ 48 ∷ 92 ∷ []
+closing Valuing = 42 ∷ 48 ∷ 48 ∷ 92 ∷ []
+closing High = 48 ∷ 48 ∷ 92 ∷ []
+closing Low = 48 ∷ 92 ∷ []
+closing Closing = 92 ∷ []
 
+closes : (s : State) → run (Some s) (closing s) ≡ some_state Outside
+closes Outside = refl
+closes Opening = refl
+closes Coding = refl
+closes Valuing = refl
+closes High = refl
+closes Low = refl
+closes Closing = refl
+
+-- and one block more, so that there is one: `\a:*00\`
 abbrev ending : State → List ℕ
-ending Outside = block
-ending Opening = 97 ∷ 58 ∷ 42 ∷ 48 ∷ 48 ∷ 92 ∷ block
-ending Coding = 58 ∷ 42 ∷ 48 ∷ 48 ∷ 92 ∷ block
-ending Valuing = 42 ∷ 48 ∷ 48 ∷ 92 ∷ block
-ending High = 48 ∷ 48 ∷ 92 ∷ block
-ending Low = 48 ∷ 92 ∷ block
-ending Closing = 92 ∷ block
-
-ends : (s : State) → run (Some s) (ending s) ≡ some_state Outside
-ends Outside = refl
-ends Opening = refl
-ends Coding = refl
-ends Valuing = refl
-ends High = refl
-ends Low = refl
-ends Closing = refl
-
-ending_some : (s : State) → 1 ≤ length (ending s)
-ending_some Outside = omega arith
-ending_some Opening = omega arith
-ending_some Coding = omega arith
-ending_some Valuing = omega arith
-ending_some High = omega arith
-ending_some Low = omega arith
-ending_some Closing = omega arith
+ending s = closing s ++ 92 ∷ closing Opening
 
 some_blocks : (blocks : List Block) (bytes : List ℕ) → bytes ≡ flat_map block_text blocks → 1 ≤ length bytes → 1 ≤ length blocks
 some_blocks [] bytes e some = absurd (omega (arith, ap length e, some))
@@ -269,13 +258,17 @@ some_blocks (b ∷ bs) bytes e some = omega arith
 
 pub begins : (front : List ℕ) (s : State) → run (Some Outside) front ≡ some_state s → Begins front
 begins front s e =
-    let ran : run (Some Outside) (front ++ ending s) ≡ some_state Outside = run-append (Some Outside) front (ending s) ∙ ap (λ (o : Option State). run o (ending s)) e ∙ ends s in
-    let t : Tail (front ++ ending s) = sound Outside (front ++ ending s) ran in
+    let front' = front ++ closing s in
+    let ran : run (Some Outside) front' ≡ some_state Outside = run-append (Some Outside) front (closing s) ∙ ap (λ (o : Option State). run o (closing s)) e ∙ closes s in
+    let all : run (Some Outside) (front ++ ending s) ≡ some_state Outside =
+    ap (run (Some Outside)) (sym (append_assoc front (closing s) (92 ∷ closing Opening))) ∙ run-append (Some Outside) front' (92 ∷ closing Opening)
+    ∙ ap (λ (o : Option State). run o (92 ∷ closing Opening)) ran in
+    let t : Tail (front ++ ending s) = sound Outside (front ++ ending s) all in
     record {
       tail = ending s;
       whole = record {
         blocks = t.blocks;
-        some = some_blocks t.blocks (front ++ ending s) t.is (omega (arith, length-append front (ending s), ending_some s));
+        some = some_blocks t.blocks (front ++ ending s) t.is (omega (arith, length-append front (ending s), length-append (closing s) (92 ∷ closing Opening)));
         each = t.each;
         spelled = t.is;
       };
@@ -315,7 +308,7 @@ content_runs : (first : Parameter) (others : List Parameter) → IsParameter fir
 content_runs first others h hs =
     run-append (Some Opening) (parameter_text first) (flat_map tail_text others) ∙ ap (λ (o : Option State). run o (flat_map tail_text others)) (parameter_runs first h) ∙ others_run others hs
 
-pub digit_test : (c : ℕ) → digit_value c < 16 → nat_le 16 (digit_value c) ≡ false
+digit_test : (c : ℕ) → digit_value c < 16 → nat_le 16 (digit_value c) ≡ false
 digit_test c h = grind arith
 
 sum_runs : (high low : ℕ) → digit_value high < 16 → digit_value low < 16 → run (Some Valuing) (42 ∷ high ∷ low ∷ 92 ∷ []) ≡ some_state Outside
