@@ -85,13 +85,6 @@ whole_is_bytes most text bytes e =
     ap (bytes_before_end most) (sym (append-nil text))
     ∙ bytes_again most text [] bytes (leb-true (length text) (2 * most) made.0) (result_some (decode_of text) bytes made.1) refl
 
--- the bytes of sixteen digits
-pub eight_are_data : (text bytes : List ℕ) → length text ≡ 16 → decode_of text ≡ Ok bytes → data_at text ≡ Some bytes
-eight_are_data text bytes len written =
-    let fits : leb (length text) 16 ≡ true = le-leb (length text) 16 (omega arith) in
-    let made : bytes_of 8 text ≡ Some bytes = rw (fits, written) refl in
-    whole_is_bytes 8 text bytes made
-
 pub data_found : (behind held : List ℕ) → data_at behind ≡ Some held → IsData held behind
 data_found behind held e =
     let f = bytes_found 8 behind held e in
@@ -111,6 +104,14 @@ plain_start (c ∷ cs) rest d e = plain_digit c (and_parts (is_ascii_hexdigit c)
 
 pub data_plain : (behind held : List ℕ) → IsData held behind → is_other_kind behind ≡ false
 data_plain behind held h = ap is_other_kind h.spelled ∙ plain_start h.digits h.rest (written_digits h.digits held h.written) h.ends
+
+-- the bytes of sixteen digits
+pub eight_are_data : (text bytes : List ℕ) → length text ≡ 16 → decode_of text ≡ Ok bytes → (data_at text ≡ Some bytes) × (is_other_kind text ≡ false)
+eight_are_data text bytes len written =
+    let fits : leb (length text) 16 ≡ true = le-leb (length text) 16 (omega arith) in
+    let made : bytes_of 8 text ≡ Some bytes = rw (fits, written) refl in
+    let whole = whole_is_bytes 8 text bytes made in
+    (whole, data_plain text bytes (data_found text bytes whole))
 
 -- ---- the number of eight digits
 

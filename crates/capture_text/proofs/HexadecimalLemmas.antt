@@ -1,18 +1,22 @@
 -- Hexadecimal digits that are read and written many at once.
-use Rattle.std.proofs.Common.{◌≡◌, ℕ, ◌+◌, ◌-◌, ◌*◌, ◌%◌, ◌<◌, ◌≤◌, Bool, true, false, ◌&&◌, cond, ltb, leb, List, [], ◌∷◌, ◌++◌, length, get_or, set, take, drop, Ok, Some, None, refl, sym, ap, subst, ◌∙◌, arith, inl, inr}
-use Rattle.std.specs.Prelude.{◌||◌, All, map, Result, Err, option_map}
+use Rattle.std.proofs.Common.{◌≡◌, ℕ, ◌+◌, ◌-◌, ◌*◌, ◌/◌, ◌%◌, ◌<◌, ◌≤◌, Bool, true, false, ◌&&◌, cond, ltb, leb, List, [], ◌∷◌, ◌++◌, length, get_or, set, take, drop, Ok, Some, None, refl, sym, ap, subst, ◌∙◌, length-append, arith, inl, inr}
+use Rattle.std.specs.Prelude.{◌||◌, All, map, MatchResult, Result, Err, option_map}
 use Rattle.std.specs.Char.{digit_value, is_ascii_hexdigit}
 use Rattle.std.specs.Result.{result_ok}
 use Rattle.std.specs.Int.{w32, from_be_bytes}
 use Rattle.std.specs.List.{list_all, range_with_len}
 use Rattle.std.proofs.lemmas.Bool.{and_parts, le-leb, leb-true, or_cases}
-use Rattle.std.proofs.lemmas.List.{append_assoc, append-nil, drop_all, map_more, take_all, take_more_set}
+use Rattle.std.proofs.lemmas.List.{append_assoc, append-nil, drop_all, length-drop, length-map, length-take, map-append, map_more, take-append-drop, take_all, take_more_set}
+use Rattle.std.proofs.lemmas.Slice.{take-put_mid}
+use Rattle.std.proofs.Math.Seq.{take-add}
+use borrow.Rule.Slice.PartMut.{put_mid}
 use Rattle.std.proofs.lemmas.List.FromFn.{get_or-map-range_with_len}
 use Rattle.std.proofs.lemmas.List.Elements.{All-nil, All-cons, All-get_or}
 use Rattle.std.proofs.lemmas.List.Sums.{AllPass-from_list_all}
-use Rattle.hex.specs.Hex.{decode_of, decode_pairs, digit_or_error, hex_digit_value, pair_value, upper_digits, value_at}
+use Rattle.hex.specs.Hex.{decode_of, decode_pairs, decode_sized, digit_or_error, hex_digit_value, pair_value, upper_digits, value_at}
 use Rattle.hex.specs.declared.error.FromHexError.{FromHexError}
-use Rattle.hex.proofs.HexLemmas.{decode_of-even}
+use Rattle.hex.proofs.HexLemmas.{decode_of-even, decode_of-ok}
+use Rattle.sentence_text.proofs.Bytes.{all_append, all_parts}
 use Rattle.hex.proofs.Pairs.{cons_byte, decode_pairs-ok_pair, drop-pair}
 use Rattle.capture_text.specs.Hexadecimal.{paired}
 use Rattle.capture_text.specs.Reading.{number_of}
@@ -127,6 +131,132 @@ pub sixteen_decoded : (digits bytes values : List ℕ) → length digits ≡ 16 
 sixteen_decoded digits bytes values len h v e =
     let even : length digits % 2 ≡ 0 = omega arith in
     decoded digits even h ∙ ap (λ (x : List ℕ). Ok (paired x)) (sym v) ∙ ap (λ (x : List ℕ). Ok x) (sym e)
+
+-- the bytes of digits behind one another
+
+paired_append : (xs ys : List ℕ) → length xs % 2 ≡ 0 → paired (xs ++ ys) ≡ paired xs ++ paired ys
+paired_append [] ys even = refl
+paired_append (x ∷ []) ys even = absurd (omega arith)
+paired_append (x ∷ y ∷ xs) ys even = ap (λ (l : List ℕ). (x * 16 + y) ∷ l) (paired_append xs ys (omega arith))
+
+-- what digits are that are read
+record Read (digits bytes : List ℕ) : Type 0 where
+  pub all : list_all is_ascii_hexdigit digits ≡ true
+  pub even : length digits % 2 ≡ 0
+  pub bytes_are : bytes ≡ paired (map digit_value digits)
+
+abbrev Answer : Type 0
+Answer = Result (List ℕ) FromHexError
+
+abbrev given : List ℕ → Answer
+given bytes = Ok bytes
+
+ok_is : (x y : List ℕ) → given x ≡ given y → x ≡ y
+ok_is x y e = cc
+
+read_is : (digits bytes : List ℕ) → decode_of digits ≡ Ok bytes → Read digits bytes
+read_is digits bytes e =
+    let even = (decode_of-ok digits bytes e).0 in
+    let all = written_digits digits bytes e in
+    record { all = all; even = even; bytes_are = ok_is bytes (paired (map digit_value digits)) (sym e ∙ decoded digits even all) }
+
+both_read : (a b x y : List ℕ) → Read a x → Read b y → decode_of (a ++ b) ≡ Ok (x ++ y)
+both_read a b x y r s =
+    let even : length (a ++ b) % 2 ≡ 0 = omega (arith, length-append a b, r.even, s.even) in
+    let all = all_append is_ascii_hexdigit a b r.all s.all in
+    let front_even : length (map digit_value a) % 2 ≡ 0 = omega (arith, length-map a digit_value, r.even) in
+    let same : paired (map digit_value (a ++ b)) ≡ x ++ y =
+    ap paired (map-append digit_value a b) ∙ paired_append (map digit_value a) (map digit_value b) front_even ∙ ap (λ (l : List ℕ). l ++ paired (map digit_value b)) (sym r.bytes_are) ∙ ap (λ (l : List ℕ). x ++ l) (sym s.bytes_are) in
+    decoded (a ++ b) even all ∙ ap (λ (l : List ℕ). Ok l) same
+
+pub both_decoded : (a b x y : List ℕ) → decode_of a ≡ Ok x → decode_of b ≡ Ok y → decode_of (a ++ b) ≡ Ok (x ++ y)
+both_decoded a b x y e f = both_read a b x y (read_is a x e) (read_is b y f)
+
+-- where all digits are read, those behind the first are
+pub rest_decoded : (a b x z : List ℕ) → decode_of a ≡ Ok x → decode_of (a ++ b) ≡ Ok z → decode_of b ≡ Ok (paired (map digit_value b))
+rest_decoded a b x z e f =
+    let r = read_is a x e in
+    let s = read_is (a ++ b) z f in
+    decoded b (omega (arith, length-append a b, r.even, s.even)) (all_parts is_ascii_hexdigit a b s.all).1
+
+pub none_decoded : (digits room : List ℕ) → decode_of (take (2 * 0) digits) ≡ Ok (take 0 room)
+unfolding decode_pairs
+none_decoded digits room = refl
+
+-- eight bytes more, in a room of which they are written
+pub eight_more : (digits room bytes : List ℕ) (done k : ℕ) → done ≤ length room → length bytes ≡ 8 → 2 * done + 16 - 2 * done ≡ k
+    → decode_of (take (2 * done) digits) ≡ Ok (take done room) → decode_of (take k (drop (2 * done) digits)) ≡ Ok bytes
+    → decode_of (take (2 * (done + 8)) digits) ≡ Ok (take (done + 8) (put_mid done (done + 8 - done) room bytes))
+eight_more digits room bytes done k within len eq front more =
+    let sixteen : k ≡ 16 = omega (arith, eq) in
+    let both : 2 * (done + 8) ≡ 2 * done + 16 = omega arith in
+    let next : decode_of (take 16 (drop (2 * done) digits)) ≡ Ok bytes = ap (λ (n : ℕ). decode_of (take n (drop (2 * done) digits))) (sym sixteen) ∙ more in
+    let place : done + 8 ≡ done + length bytes = omega (arith, len) in
+    ap (λ (n : ℕ). decode_of (take n digits)) both
+    ∙ ap decode_of (take-add (2 * done) 16 digits)
+    ∙ both_decoded (take (2 * done) digits) (take 16 (drop (2 * done) digits)) (take done room) bytes front next
+    ∙ ap given (sym (take-put_mid done (done + 8 - done) room bytes (done + 8) place within))
+
+-- the rest is decoded into a room of its size
+
+abbrev Outcome : Type 0
+Outcome = Result (Unit {0}) FromHexError
+
+abbrev Tells : Answer → Outcome → List ℕ → Type 0
+Tells answer outcome out = MatchResult answer (λ bytes. (outcome ≡ Ok tt) × (out ≡ bytes)) (λ e. outcome ≡ Err e)
+
+sized_is : (digits : List ℕ) (n : ℕ) → length digits / 2 ≡ n → decode_sized digits n ≡ decode_of digits
+sized_is digits n len = rw len (grind arith)
+
+told_bytes : (answer : Answer) (outcome : Outcome) (out : List ℕ) → Tells answer outcome out → outcome ≡ Ok tt → answer ≡ Ok out
+told_bytes (Ok bytes) outcome out t e = ap given (sym t.1)
+told_bytes (Err fault) outcome out t e = absurd cc
+
+told_fault : (answer : Answer) (outcome : Outcome) (out : List ℕ) (fault : FromHexError) → Tells answer outcome out → outcome ≡ Err fault → result_ok answer ≡ None
+told_fault (Ok bytes) outcome out fault t e = absurd cc
+told_fault (Err other) outcome out fault t e = refl
+
+put_end : (room bytes : List ℕ) (done : ℕ) → put_mid done (length room - done) room bytes ≡ take done room ++ bytes
+put_end room bytes done =
+    let none : drop (length room - done) (drop done room) ≡ [] = drop_all (length room - done) (drop done room) (omega (arith, length-drop done room)) in
+    ap (λ (x : List ℕ). take done room ++ (bytes ++ x)) none ∙ ap (λ (x : List ℕ). take done room ++ x) (append-nil bytes)
+
+-- the first bytes are in their place, and what is decoded behind them is put behind them
+pub record Rest (digits room rest : List ℕ) (done n : ℕ) (outcome : Outcome) (out : List ℕ) : Type 0 where
+  pub rest_is : rest ≡ take (length digits - 2 * done) (drop (2 * done) digits)
+  pub n_is : n ≡ length (take (length room - done) (drop done room))
+  pub fits : length digits / 2 ≡ length room
+  pub within : done ≤ length room
+  pub front : decode_of (take (2 * done) digits) ≡ Ok (take done room)
+  pub tells : Tells (decode_sized rest n) outcome out
+
+rest_tells : (digits room rest : List ℕ) (done n : ℕ) (outcome : Outcome) (out : List ℕ) → Rest digits room rest done n outcome out
+    → Tells (decode_of (drop (2 * done) digits)) outcome out
+rest_tells digits room rest done n outcome out r =
+    let behind : rest ≡ drop (2 * done) digits = r.rest_is ∙ take_all (length digits - 2 * done) (drop (2 * done) digits) (omega (arith, length-drop (2 * done) digits)) in
+    let place : n ≡ length room - done = omega (arith, r.n_is, length-take (length room - done) (drop done room), length-drop done room) in
+    let half : length rest / 2 ≡ n = omega (arith, ap length behind, length-drop (2 * done) digits, place, r.fits, r.within) in
+    subst (λ (x : List ℕ). Tells (decode_of x) outcome out) behind (subst (λ (x : Answer). Tells x outcome out) (sized_is rest n half) r.tells)
+
+pub all_put : (digits room rest : List ℕ) (done n : ℕ) (outcome : Outcome) (out : List ℕ) → Rest digits room rest done n outcome out → outcome ≡ Ok tt
+    → decode_of digits ≡ Ok (put_mid done (length room - done) room out)
+all_put digits room rest done n outcome out r e =
+    let behind = told_bytes (decode_of (drop (2 * done) digits)) outcome out (rest_tells digits room rest done n outcome out r) e in
+    ap decode_of (sym (take-append-drop (2 * done) digits))
+    ∙ both_decoded (take (2 * done) digits) (drop (2 * done) digits) (take done room) out r.front behind
+    ∙ ap given (sym (put_end room out done))
+
+pub none_put : (digits room rest : List ℕ) (done n : ℕ) (outcome : Outcome) (out : List ℕ) (fault : FromHexError) → Rest digits room rest done n outcome out → outcome ≡ Err fault
+    → result_ok (decode_of digits) ≡ None
+none_put digits room rest done n outcome out fault r e = by_answer (decode_of digits) refl
+  where
+    by_answer : (x : Answer) → decode_of digits ≡ x → result_ok x ≡ None
+    by_answer (Ok bytes) h =
+        let whole : decode_of (take (2 * done) digits ++ drop (2 * done) digits) ≡ Ok bytes = ap decode_of (take-append-drop (2 * done) digits) ∙ h in
+        let behind = rest_decoded (take (2 * done) digits) (drop (2 * done) digits) (take done room) bytes r.front whole in
+        let bad = told_fault (decode_of (drop (2 * done) digits)) outcome out fault (rest_tells digits room rest done n outcome out r) e in
+        absurd (let f : Some (paired (map digit_value (drop (2 * done) digits))) ≡ None = ap result_ok (sym behind) ∙ bad in cc)
+    by_answer (Err other) h = refl
 
 pub number_decoded : (digits bytes values : List ℕ) → length digits ≡ 8 → list_all is_ascii_hexdigit (take 8 digits) ≡ true → values ≡ map digit_value (take 8 digits) → bytes ≡ paired values
     → number_of digits ≡ Some (from_be_bytes w32 bytes)

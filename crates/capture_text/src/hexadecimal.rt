@@ -2,9 +2,10 @@
 //!
 //! What is to be fast here goes over all digits without a choice between one and the next, so that the compiler does many at once: one
 //! loop that tests them, one that takes their values and one that puts them together.
-ghost use Rattle.std.specs.Prelude.{◌≡◌, ◌*◌, ◌<◌, All, length, map, slice_index, true, Ok, IfSome};
+ghost use Rattle.std.specs.Prelude.{◌≡◌, ◌*◌, ◌/◌, ◌<◌, ◌≤◌, All, length, map, slice_index, take, true, false, Ok, None};
 ghost use Rattle.std.specs.Char.{digit_value, is_ascii_hexdigit};
 ghost use Rattle.std.specs.List.{list_all};
+ghost use Rattle.std.specs.Result.{result_ok};
 ghost use Rattle.hex.specs.Hex.{decode_of, encode_upper, upper_digits};
 ghost use Rattle.capture_text.specs.Hexadecimal.{paired};
 ghost use Rattle.capture_text.specs.Reading.{number_of};
@@ -53,19 +54,52 @@ fn put_pairs(values: &[u8], room: &mut [u8])
     }
 }
 
-/// The bytes of sixteen digits.
-pub(crate) fn eight_bytes(digits: &[u8]) -> Option<[u8; 8]>
-    requires { length digits.now ≡ 16 }
-    ensures { IfSome result (λ bytes. decode_of digits.now ≡ Ok bytes) }
+/// Puts the bytes of sixteen digits into the room, and says whether they are digits.
+///
+/// It is kept apart, as `number` is, and the bytes go by way of memory: in registers the compiler would put them together one by one.
+#[inline(never)]
+pub(crate) fn put_eight(digits: &[u8], room: &mut [u8]) -> bool
+    requires digits { length digits.now ≡ 16 }
+    requires room { length room.old ≡ 8 }
+    ensures { result ≡ true → decode_of digits.now ≡ Ok room.new }
 {
     if !all_hexadecimal(digits) {
-        return None;
+        return false;
     }
     let mut values = [0; 16];
     put_values(digits, &mut values);
-    let mut bytes = [0; 8];
-    put_pairs(&values, &mut bytes);
-    Some(bytes)
+    put_pairs(&values, room);
+    true
+}
+
+/// Puts bytes into the room, eight at a time, for as long as sixteen digits are there and the room has place for them. Says how many bytes
+/// it put.
+fn put_eights(digits: &[u8], room: &mut [u8]) -> usize
+    requires { 2 * length room.old ≤ length digits.now }
+    ensures within { result ≤ length room.old }
+    ensures bytes { decode_of (take (2 * result) digits.now) ≡ Ok (take result room.new) }
+{
+    let mut done = 0;
+    while room.len() - done >= 8 {
+        if !put_eight(&digits[2 * done..2 * done + 16], &mut room[done..done + 8]) {
+            return done;
+        }
+        done += 8;
+    }
+    done
+}
+
+/// Puts the bytes of all digits into the room, and says whether they are digits.
+pub(crate) fn put_all(digits: &[u8], room: &mut [u8]) -> bool
+    requires { length digits.now / 2 ≡ length room.old }
+    ensures put { result ≡ true → decode_of digits.now ≡ Ok room.new }
+    ensures none { result ≡ false → result_ok (decode_of digits.now) ≡ None }
+{
+    let done = put_eights(digits, room);
+    match hex::decode_to_slice(&digits[2 * done..], &mut room[done..]) {
+        Ok(()) => true,
+        Err(_) => false,
+    }
 }
 
 /// The number that eight digits write.

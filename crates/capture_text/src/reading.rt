@@ -7,7 +7,7 @@ ghost use Rattle.gate_events.specs.Event.{Seen, IsValid, view};
 ghost use Rattle.capture_text.specs.Reading as spec;
 
 use crate::byte::{is_end, is_group, name_run, up_to_space};
-use crate::hexadecimal::{all_hexadecimal, eight_bytes, number};
+use crate::hexadecimal::{all_hexadecimal, number, put_all, put_eight};
 use crate::line_rule::LineRule;
 use crate::time::time;
 use gate_events::Event;
@@ -25,9 +25,10 @@ fn put_bytes(digits: &[u8], room: &mut [u8]) -> Option<usize>
         return None;
     }
     let count = digits.len() / 2;
-    match hex::decode_to_slice(digits, &mut room[..count]) {
-        Ok(()) => Some(count),
-        Err(_) => None,
+    if put_all(digits, &mut room[..count]) {
+        Some(count)
+    } else {
+        None
     }
 }
 
@@ -98,18 +99,19 @@ fn frame_of(id: u32, held: &[u8]) -> Result<Frame, LineRule>
     }
 }
 
-/// The frame of an identifier, and of the data behind its `#`.
+/// Puts the data of a frame into the room, if they are eight bytes and nothing is behind them, as in most frames. Says whether they are.
 #[tactic(auto, using(crate::proofs::Data::eight_are_data))]
+fn put_eight_data(behind: &[u8], room: &mut [u8; 8]) -> bool
+    ensures { result ≡ true → (spec.data_at behind.now ≡ Some room.new) × (spec.is_other_kind behind.now ≡ false) }
+{
+    behind.len() == 16 && put_eight(behind, &mut room[..])
+}
+
+/// The frame of an identifier, and of the data behind its `#`.
 fn frame_with(id: u32, behind: &[u8]) -> Result<Frame, LineRule>
     ensures reads { spec.bus_frame_in result ≡ spec.frame_with id (spec.data_at behind.now) }
     ensures valid { IfOk result IsFrame }
 {
-    // Most frames have eight bytes, and nothing behind them.
-    if behind.len() == 16
-        && let Some(bytes) = eight_bytes(behind)
-    {
-        return frame_of(id, &bytes);
-    }
     let mut room = [0; 8];
     match put_data(behind, &mut room) {
         None => Err(LineRule::Form),
@@ -123,15 +125,17 @@ fn wide_frame(identifier: &[u8], behind: &[u8]) -> Result<Frame, LineRule>
     ensures reads { spec.bus_frame_in result ≡ spec.wide_frame (spec.number_of identifier.now) behind.now }
     ensures valid { IfOk result IsFrame }
 {
-    match number(identifier) {
-        None => Err(LineRule::Form),
-        Some(id) => {
-            if is_other_kind(behind) {
-                return Err(LineRule::NotExtended);
-            }
-            frame_with(id, behind)
-        }
+    let Some(id) = number(identifier) else {
+        return Err(LineRule::Form);
+    };
+    let mut room = [0; 8];
+    if put_eight_data(behind, &mut room) {
+        return frame_of(id, &room);
     }
+    if is_other_kind(behind) {
+        return Err(LineRule::NotExtended);
+    }
+    frame_with(id, behind)
 }
 
 /// What stands before and behind a `#` at this place, if one stands there.

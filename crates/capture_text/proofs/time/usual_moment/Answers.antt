@@ -1,4 +1,4 @@
-use Rattle.std.proofs.Common.{◌∙◌, ◌≡◌, true, drop, sym, arith}
+use Rattle.std.proofs.Common.{◌∙◌, drop, sym, arith}
 use Rattle.std.proofs.lemmas.Bool.{and_parts}
 use Rattle.capture_text.proofs.Digits.{micros_fit, ten_fit}
 use Rattle.capture_text.proofs.Times.{usual_read}
