@@ -1,9 +1,10 @@
 -- Lists that are cut at a byte, and tests that have passed.
-use Rattle.std.proofs.Common.{◌≡◌, ℕ, suc, ◌+◌, ◌<◌, Bool, true, false, cond, List, [], ◌∷◌, ◌++◌, length, get_or, take, drop, drop-cons, Option, Some, None, Result, Ok, Err, refl, sym, ap, ◌∙◌, append_assoc, length-append, add-one, arith, inl, inr}
+use Rattle.std.proofs.Common.{◌≡◌, ℕ, suc, ◌+◌, ◌-◌, ◌<◌, Bool, true, false, cond, List, [], ◌∷◌, ◌++◌, length, get_or, take, drop, drop-cons, Option, Some, None, Result, Ok, Err, refl, sym, ap, ◌∙◌, append_assoc, length-append, add-one, arith, inl, inr}
 use Rattle.std.specs.Result.{result_ok}
 use Rattle.std.specs.Prelude.{◌==◌}
 use Rattle.std.proofs.lemmas.Bool.{cases_lt, eqb-true}
-use Rattle.std.proofs.lemmas.List.{take-append-drop, take_at, drop_at, get_or_past}
+use Rattle.std.proofs.lemmas.List.{append-nil, drop_all, length-drop, take-append-drop, take_at, drop_at, get_or_past}
+use borrow.Rule.Slice.PartMut.{put_mid}
 use Rattle.std.proofs.Math.Seq.{get_or-append_seam}
 
 pub within : (text : List ℕ) (n c : ℕ) → get_or text n 0 ≡ suc c → n < length text
@@ -33,6 +34,12 @@ cut_at front c behind n e = record {
   byte_is = ap (λ (k : ℕ). get_or (front ++ c ∷ behind) k 0) (sym e) ∙ get_or-append_seam front c behind 0;
   behind_is = ap (drop (n + 1)) (sym (append_assoc front (c ∷ []) behind)) ∙ drop_at (front ++ c ∷ []) behind (n + 1) (length-append front (c ∷ []) ∙ ap (λ (k : ℕ). k + 1) e);
 }
+
+-- a list that ends with what was put there
+pub put_end : (room bytes : List ℕ) (done : ℕ) → put_mid done (length room - done) room bytes ≡ take done room ++ bytes
+put_end room bytes done =
+    let none : drop (length room - done) (drop done room) ≡ [] = drop_all (length room - done) (drop done room) (omega (arith, length-drop done room)) in
+    ap (λ (x : List ℕ). take done room ++ (bytes ++ x)) none ∙ ap (λ (x : List ℕ). take done room ++ x) (append-nil bytes)
 
 pub four : (xs : List ℕ) → length xs ≡ 4 → (a b c d : ℕ) × (xs ≡ a ∷ b ∷ c ∷ d ∷ [])
 four [] e = absurd (omega arith)

@@ -20,6 +20,7 @@ use Rattle.sentence_text.proofs.Bytes.{all_append, all_parts}
 use Rattle.hex.proofs.Pairs.{cons_byte, decode_pairs-ok_pair, drop-pair}
 use Rattle.capture_text.specs.Hexadecimal.{paired}
 use Rattle.capture_text.specs.Reading.{number_of}
+use Rattle.capture_text.proofs.Cuts.{put_end}
 use Rattle.capture_text.proofs.Data.{written_digits}
 
 -- ---- read
@@ -215,11 +216,6 @@ told_bytes (Err fault) outcome out t e = absurd cc
 told_fault : (answer : Answer) (outcome : Outcome) (out : List ℕ) (fault : FromHexError) → Tells answer outcome out → outcome ≡ Err fault → result_ok answer ≡ None
 told_fault (Ok bytes) outcome out fault t e = absurd cc
 told_fault (Err other) outcome out fault t e = refl
-
-put_end : (room bytes : List ℕ) (done : ℕ) → put_mid done (length room - done) room bytes ≡ take done room ++ bytes
-put_end room bytes done =
-    let none : drop (length room - done) (drop done room) ≡ [] = drop_all (length room - done) (drop done room) (omega (arith, length-drop done room)) in
-    ap (λ (x : List ℕ). take done room ++ (bytes ++ x)) none ∙ ap (λ (x : List ℕ). take done room ++ x) (append-nil bytes)
 
 -- the first bytes are in their place, and what is decoded behind them is put behind them
 pub record Rest (digits room rest : List ℕ) (done n : ℕ) (outcome : Outcome) (out : List ℕ) : Type 0 where

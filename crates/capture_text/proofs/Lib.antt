@@ -1,6 +1,7 @@
 pub mod Again
 pub mod Cuts
 pub mod Data
+pub mod Decimals
 pub mod Digits
 pub mod Frames
 pub mod HexadecimalLemmas

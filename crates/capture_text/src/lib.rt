@@ -6,6 +6,7 @@
 #![tactic(auto)]
 
 mod byte;
+mod decimal;
 mod hexadecimal;
 mod line_rule;
 mod reading;

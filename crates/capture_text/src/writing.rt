@@ -10,6 +10,7 @@ ghost use Rattle.capture_text.specs.Reading.{read};
 ghost use Rattle.capture_text.specs.Writing.{time_text, part, detail_text, report_text, frame_text, datagram_text, line_text, said};
 ghost use Rattle.gate_events.specs.Emit.{CanWrite, most_written};
 
+use crate::decimal::put_sixteen;
 use crate::hexadecimal::put_digits;
 use arrayvec::ArrayVec;
 use gate_events::{Detail, Emit, Report};
@@ -62,12 +63,29 @@ fn append_hex(bytes: &[u8], out: &mut Line)
     put_from(start, bytes, out.as_mut_slice());
 }
 
+/// The time of a line whose seconds have ten digits, as all have from 2001 to 2286, and a space.
+fn usual_time(moment: u64) -> [u8; 20]
+    requires late { 10 ^ 15 ≤ moment }
+    requires early { moment < 10 ^ 16 }
+    ensures { result ≡ time_text moment }
+{
+    let mut digits = [0; 16];
+    put_sixteen(moment, &mut digits);
+    let mut text = *b"(0000000000.000000) ";
+    text[1..11].copy_from_slice(&digits[..10]);
+    text[12..18].copy_from_slice(&digits[10..]);
+    text
+}
+
 /// The time of a line, and a space.
 fn append_time(moment: u64, out: &mut Line)
     requires { out.old.items ≡ [] }
     ensures text { out.new.items ≡ time_text moment }
     ensures len { array_vec_len out.new ≤ 30 }
 {
+    if moment >= 1_000_000_000_000_000 && moment < 10_000_000_000_000_000 {
+        return append(&usual_time(moment), out);
+    }
     append(b"(", out);
     append_decimal(moment, 6, out);
     append(b") ", out);

@@ -1,0 +1,144 @@
+-- Decimal digits that are written two at a time.
+use Rattle.std.proofs.Common.{◌≡◌, ℕ, zero, suc, ◌+◌, ◌-◌, ◌*◌, ◌/◌, ◌%◌, ◌^◌, ◌<◌, ◌≤◌, Bool, true, ◌&&◌, T, eqb, eqb→eq, eq-zero-or-pos, List, [], ◌∷◌, ◌++◌, length, get_or, set, take, drop, refl, sym, ap, ◌∙◌, append_assoc, arith, inl, inr}
+use Rattle.std.specs.Prelude.{codes}
+use Rattle.std.specs.Fmt.{decimal}
+use Rattle.std.proofs.lemmas.Fmt.{decimal_digit, decimal_step}
+use Rattle.std.proofs.lemmas.List.{append-nil, take_at, drop_at}
+use Rattle.std.proofs.Math.Nat.{div-div-eq-div-mul, pow-suc, pow-succ'}
+use Rattle.std.proofs.Math.Arith.{mod-mul}
+use lib.Ieee.Fits.{and_l, and_r}
+use Rattle.unit_fraction.specs.Text.{decimals}
+use Rattle.capture_text.specs.declared.decimal.TheConstants.{PAIRS}
+use Rattle.capture_text.specs.Writing.{time_text}
+use Rattle.capture_text.proofs.Cuts.{four, put_end}
+use borrow.Rule.Slice.PartMut.{put_mid}
+use Rattle.capture_text.proofs.Numbers.{length-decimals}
+
+-- ---- the table
+
+abbrev are_pairs : ℕ → Bool
+are_pairs zero = true
+are_pairs (suc p) = (eqb (get_or PAIRS (2 * p) 0) (48 + p / 10) && eqb (get_or PAIRS (2 * p + 1) 0) (48 + p % 10)) && are_pairs p
+
+below : (n p : ℕ) → T (are_pairs n) → p < n → (get_or PAIRS (2 * p) 0 ≡ 48 + p / 10) × (get_or PAIRS (2 * p + 1) 0 ≡ 48 + p % 10)
+below zero p t h = absurd (omega arith)
+below (suc n) p t h =
+    elim (eq-zero-or-pos (n - p)) [
+      | inl z ↦ let e : p ≡ n = omega arith in let a = and_l _ (are_pairs n) t in rw e (eqb→eq _ _ (and_l _ _ a), eqb→eq _ _ (and_r _ _ a))
+      | inr g ↦ below n p (and_r _ (are_pairs n) t) (omega arith)
+    ]
+
+pub pair_at : (p : ℕ) → p < 100 → (get_or PAIRS (2 * p) 0 ≡ 48 + p / 10) × (get_or PAIRS (2 * p + 1) 0 ≡ 48 + p % 10)
+pair_at p h = below 100 p tt h
+
+-- ---- digits behind one another
+
+four_are : (n : ℕ) → n < 10 ^ 4 → (48 + n / 100 / 10) ∷ (48 + n / 100 % 10) ∷ (48 + n % 100 / 10) ∷ (48 + n % 100 % 10) ∷ [] ≡ decimals 4 n
+four_are n small =
+    let a : n / 100 / 10 ≡ n / 10 / 10 / 10 % 10 = omega arith in
+    let b : n / 100 % 10 ≡ n / 10 / 10 % 10 = omega arith in
+    let c : n % 100 / 10 ≡ n / 10 % 10 = omega arith in
+    let d : n % 100 % 10 ≡ n % 10 = omega arith in
+    rw (a, b, c, d) refl
+
+set_four : (room : List ℕ) (a b c d : ℕ) → length room ≡ 4 → set (set (set (set room 0 a) 1 b) 2 c) 3 d ≡ a ∷ b ∷ c ∷ d ∷ []
+set_four room a b c d len =
+    let f = four room len in
+    rw (f.4) refl
+
+pub four_put : (n : ℕ) (room : List ℕ) → n < 10 ^ 4 → length room ≡ 4
+    → set (set (set (set room 0 (get_or PAIRS (2 * (n / 100)) 0)) 1 (get_or PAIRS (2 * (n / 100) + 1) 0)) 2 (get_or PAIRS (2 * (n % 100)) 0)) 3 (get_or PAIRS (2 * (n % 100) + 1) 0) ≡ decimals 4 n
+four_put n room small len =
+    let high = pair_at (n / 100) (omega arith) in
+    let low = pair_at (n % 100) (omega arith) in
+    set_four room _ _ _ _ len ∙ rw (high.0, high.1, low.0, low.1) (four_are n small)
+
+cut : (a b t n : ℕ) → t ≡ a + b → decimals t n ≡ decimals a (n / 10 ^ b) ++ decimals b n
+cut a zero t n e =
+    let one : n / 10 ^ 0 ≡ n = omega arith in
+    let same : t ≡ a = omega (arith, e) in
+    rw (same, one) (sym (append-nil (decimals a n)))
+cut a (suc b) zero n e = absurd (omega (arith, e))
+cut a (suc b) (suc t) n e =
+    let power : 10 ^ suc b ≡ 10 * 10 ^ b = pow-succ' 10 b in
+    let same : n / 10 ^ suc b ≡ n / 10 / 10 ^ b = rw power (sym (div-div-eq-div-mul n 10 (10 ^ b))) in
+    let last = (48 + n % 10) ∷ [] in
+    ap (λ (x : List ℕ). x ++ last) (cut a b t (n / 10) (omega (arith, e)))
+    ∙ append_assoc (decimals a (n / 10 / 10 ^ b)) (decimals b (n / 10)) last
+    ∙ ap (λ (q : ℕ). decimals a q ++ (decimals b (n / 10) ++ last)) (sym same)
+
+some_power : (b : ℕ) → 0 < 10 ^ b
+some_power zero = omega arith
+some_power (suc b) = let power : 10 ^ suc b ≡ 10 ^ b * 10 = pow-suc 10 b in omega (arith, power, some_power b)
+
+low_digits : (b n : ℕ) → decimals b (n % 10 ^ b) ≡ decimals b n
+low_digits zero n = refl
+low_digits (suc b) n =
+    let power : 10 ^ suc b ≡ 10 ^ b * 10 = pow-suc 10 b in
+    let parts : n % 10 ^ suc b ≡ (n / 10 % 10 ^ b) * 10 + n % 10 = rw power (mod-mul n {m = 10 ^ b} {c = 10} (some_power b) (omega arith)) in
+    let front : n % 10 ^ suc b / 10 ≡ n / 10 % 10 ^ b = omega (arith, parts) in
+    let last : n % 10 ^ suc b % 10 ≡ n % 10 = omega (arith, parts) in
+    ap (λ (q : ℕ). decimals b q ++ (48 + n % 10 ^ suc b % 10) ∷ []) front
+    ∙ ap (λ (d : ℕ). decimals b (n / 10 % 10 ^ b) ++ (48 + d) ∷ []) last
+    ∙ ap (λ (x : List ℕ). x ++ (48 + n % 10) ∷ []) (low_digits b (n / 10))
+
+-- two parts that are put behind one another
+halves_put : (room x y : List ℕ) (h : ℕ) → length x ≡ h → put_mid h (length (x ++ drop h room) - h) (x ++ drop h room) y ≡ x ++ y
+halves_put room x y h len = put_end (x ++ drop h room) y h ∙ ap (λ (z : List ℕ). z ++ y) (take_at x (drop h room) h len)
+
+eight_is : (n : ℕ) → decimals 8 n ≡ decimals 4 (n / 10 ^ 4) ++ decimals 4 (n % 10 ^ 4)
+eight_is n = cut 4 4 8 n refl ∙ ap (λ (x : List ℕ). decimals 4 (n / 10 ^ 4) ++ x) (sym (low_digits 4 n))
+
+sixteen_is : (n : ℕ) → decimals 16 n ≡ decimals 8 (n / 10 ^ 8) ++ decimals 8 (n % 10 ^ 8)
+sixteen_is n = cut 8 8 16 n refl ∙ ap (λ (x : List ℕ). decimals 8 (n / 10 ^ 8) ++ x) (sym (low_digits 8 n))
+
+pub eight_put : (n : ℕ) (room x y : List ℕ) → x ≡ decimals 4 (n / 10 ^ 4) → y ≡ decimals 4 (n % 10 ^ 4)
+    → put_mid 4 (length (x ++ drop 4 room) - 4) (x ++ drop 4 room) y ≡ decimals 8 n
+eight_put n room x y e f =
+    halves_put room x y 4 (ap length e)
+    ∙ ap (λ (z : List ℕ). z ++ y) e
+    ∙ ap (λ (z : List ℕ). decimals 4 (n / 10 ^ 4) ++ z) f
+    ∙ sym (eight_is n)
+
+pub sixteen_put : (n : ℕ) (room x y : List ℕ) → x ≡ decimals 8 (n / 10 ^ 8) → y ≡ decimals 8 (n % 10 ^ 8)
+    → put_mid 8 (length (x ++ drop 8 room) - 8) (x ++ drop 8 room) y ≡ decimals 16 n
+sixteen_put n room x y e f =
+    halves_put room x y 8 (ap length e)
+    ∙ ap (λ (z : List ℕ). z ++ y) e
+    ∙ ap (λ (z : List ℕ). decimals 8 (n / 10 ^ 8) ++ z) f
+    ∙ sym (sixteen_is n)
+
+-- ---- all digits of a number
+
+all_are : (k n : ℕ) → 10 ^ k ≤ n → n < 10 ^ suc k → n < 2 ^ 64 → decimal n ≡ decimals (suc k) n
+all_are zero n from to fits =
+    let same : n % 10 ≡ n = omega arith in
+    decimal_digit n (omega arith) ∙ ap (λ (d : ℕ). (48 + d) ∷ []) (sym same)
+all_are (suc k) n from to fits =
+    let power : 10 ^ suc k ≡ 10 ^ k * 10 = pow-suc 10 k in
+    let next : 10 ^ suc (suc k) ≡ 10 ^ suc k * 10 = pow-suc 10 (suc k) in
+    decimal_step n (omega (arith, power, some_power k, from)) fits
+    ∙ ap (λ (x : List ℕ). x ++ (48 + n % 10) ∷ []) (all_are k (n / 10) (omega (arith, power, from)) (omega (arith, next, to)) (omega (arith, fits)))
+
+usual_is : (moment : ℕ) (digits : List ℕ) → 10 ^ 15 ≤ moment → moment < 10 ^ 16 → digits ≡ decimals 16 moment
+    → 40 ∷ (take 10 digits ++ 46 ∷ (drop 10 digits ++ 41 ∷ 32 ∷ [])) ≡ time_text moment
+usual_is moment digits late early e =
+    let seconds = moment / 10 ^ 6 in
+    let whole : decimal seconds ≡ decimals 10 seconds = all_are 9 seconds (omega arith) (omega arith) (omega arith) in
+    let both : digits ≡ decimals 10 seconds ++ decimals 6 moment = e ∙ cut 10 6 16 moment refl in
+    let front : take 10 digits ≡ decimals 10 seconds = ap (take 10) both ∙ take_at (decimals 10 seconds) (decimals 6 moment) 10 (length-decimals 10 seconds) in
+    let behind : drop 10 digits ≡ decimals 6 moment = ap (drop 10) both ∙ drop_at (decimals 10 seconds) (decimals 6 moment) 10 (length-decimals 10 seconds) in
+    let point = 46 ∷ (decimals 6 moment ++ 41 ∷ 32 ∷ []) in
+    ap (λ (x : List ℕ). 40 ∷ (x ++ 46 ∷ (drop 10 digits ++ 41 ∷ 32 ∷ []))) front
+    ∙ ap (λ (x : List ℕ). 40 ∷ (decimals 10 seconds ++ 46 ∷ (x ++ 41 ∷ 32 ∷ []))) behind
+    ∙ ap (λ (x : List ℕ). 40 ∷ (x ++ point)) (sym whole)
+    ∙ ap (λ (x : List ℕ). 40 ∷ x) (sym (append_assoc (decimal seconds) (46 ∷ decimals 6 moment) (41 ∷ 32 ∷ [])))
+
+-- the text of a time with other digits in it
+pub time_put : (moment : ℕ) (digits seconds micros : List ℕ) → 10 ^ 15 ≤ moment → moment < 10 ^ 16 → digits ≡ decimals 16 moment → seconds ≡ take 10 digits → micros ≡ take 6 (drop 10 digits)
+    → put_mid 12 6 (40 ∷ (seconds ++ codes ".000000) ")) micros ≡ time_text moment
+time_put moment digits seconds micros late early e first second =
+    let all = decimals 16 moment in
+    ap (λ (x : List ℕ). put_mid 12 6 (40 ∷ (x ++ codes ".000000) ")) micros) (first ∙ ap (take 10) e)
+    ∙ ap (λ (x : List ℕ). put_mid 12 6 (40 ∷ (take 10 all ++ codes ".000000) ")) x) (second ∙ ap (λ (x : List ℕ). take 6 (drop 10 x)) e)
+    ∙ usual_is moment all late early refl
