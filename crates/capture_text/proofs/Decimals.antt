@@ -1,9 +1,9 @@
 -- Decimal digits that are written two at a time.
-use Rattle.std.proofs.Common.{◌≡◌, ℕ, zero, suc, ◌+◌, ◌-◌, ◌*◌, ◌/◌, ◌%◌, ◌^◌, ◌<◌, ◌≤◌, Bool, true, ◌&&◌, T, eqb, eqb→eq, eq-zero-or-pos, List, [], ◌∷◌, ◌++◌, length, get_or, set, take, drop, refl, sym, ap, ◌∙◌, append_assoc, arith, inl, inr}
+use Rattle.std.proofs.Common.{◌≡◌, ℕ, zero, suc, ◌+◌, ◌-◌, ◌*◌, ◌/◌, ◌%◌, ◌^◌, ◌<◌, ◌≤◌, Bool, true, ◌&&◌, T, eqb, eqb→eq, eq-zero-or-pos, List, [], ◌∷◌, ◌++◌, length, get_or, set, take, drop, refl, sym, ap, ◌∙◌, append_assoc, length-append, length-drop, length-set, arith, inl, inr}
 use Rattle.std.specs.Prelude.{codes}
 use Rattle.std.specs.Fmt.{decimal}
-use Rattle.std.proofs.lemmas.Fmt.{decimal_digit, decimal_step}
-use Rattle.std.proofs.lemmas.List.{append-nil, take_at, drop_at}
+use Rattle.std.proofs.lemmas.Fmt.{decimal_digit, decimal_nonempty, decimal_step}
+use Rattle.std.proofs.lemmas.List.{append-nil, drop-set, drop_at, set_comm, take_at}
 use Rattle.std.proofs.Math.Nat.{div-div-eq-div-mul, pow-suc, pow-succ'}
 use Rattle.std.proofs.Math.Arith.{mod-mul}
 use lib.Ieee.Fits.{and_l, and_r}
@@ -12,7 +12,7 @@ use Rattle.capture_text.specs.declared.decimal.TheConstants.{PAIRS}
 use Rattle.capture_text.specs.Writing.{time_text}
 use Rattle.capture_text.proofs.Cuts.{four, put_end}
 use borrow.Rule.Slice.PartMut.{put_mid}
-use Rattle.capture_text.proofs.Numbers.{length-decimals}
+use Rattle.capture_text.proofs.Numbers.{length-decimals, length_decimal}
 
 -- ---- the table
 
@@ -133,6 +133,71 @@ usual_is moment digits late early e =
     ∙ ap (λ (x : List ℕ). 40 ∷ (decimals 10 seconds ++ 46 ∷ (x ++ 41 ∷ 32 ∷ []))) behind
     ∙ ap (λ (x : List ℕ). 40 ∷ (x ++ point)) (sym whole)
     ∙ ap (λ (x : List ℕ). 40 ∷ x) (sym (append_assoc (decimal seconds) (46 ∷ decimals 6 moment) (41 ∷ 32 ∷ [])))
+
+-- ---- digits of which the last are written first
+
+pub two_put : (number place : ℕ) (room : List ℕ) → number < 100 → place + 2 ≤ length room
+    → drop place (set (set room place (get_or PAIRS (2 * number) 0)) (place + 1) (get_or PAIRS (2 * number + 1) 0)) ≡ (48 + number / 10) ∷ (48 + number % 10) ∷ drop (place + 2) room
+two_put number place room small fits =
+    let p = pair_at number small in
+    let e : place + 1 + 1 ≡ place + 2 = omega arith in
+    rw (p.0, p.1, set_comm room place (place + 1) _ _ (λ x. omega arith), drop-set (set room (place + 1) (48 + number % 10)) place _ (omega (arith, fits, length-set room (place + 1) (48 + number % 10))), drop-set room (place + 1) _ (omega (arith, fits)), e)
+
+decimal_pair : (n : ℕ) → 100 ≤ n → n < 2 ^ 64 → decimal n ≡ decimal (n / 100) ++ (48 + n % 100 / 10) ∷ (48 + n % 100 % 10) ∷ []
+decimal_pair n more fits =
+    let a : n / 10 / 10 ≡ n / 100 = omega arith in
+    let b : n / 10 % 10 ≡ n % 100 / 10 = omega arith in
+    let c : n % 10 ≡ n % 100 % 10 = omega arith in
+    rw (decimal_step n (omega arith) fits, decimal_step (n / 10) (omega arith) (omega arith), append_assoc, a, b, ← c) refl
+
+-- the digits of the rest are to be written in front of those that were
+pub record Written (n rest start : ℕ) (room : List ℕ) : Type 0 where
+  pub within : start ≤ length room
+  pub text : decimal rest ++ drop start room ≡ decimal n
+
+rest_fits : (n rest start : ℕ) (room : List ℕ) → n < 2 ^ 64 → length room ≡ 20 → Written n rest start room → length (decimal rest) ≤ start
+rest_fits n rest start room fits len w = omega (arith, len, w.within, ap length w.text, length-append (decimal rest) (drop start room), length-drop start room, length_decimal n fits)
+
+pub two_fit : (n rest start : ℕ) (room : List ℕ) → n < 2 ^ 64 → rest < 2 ^ 64 → 10 ≤ rest → length room ≡ 20 → Written n rest start room → 2 ≤ start
+two_fit n rest start room fits small more len w =
+    omega (
+      arith,
+      rest_fits n rest start room fits len w,
+      ap length (decimal_step rest more small),
+      length-append (decimal (rest / 10)) ((48 + rest % 10) ∷ []),
+      decimal_nonempty (rest / 10) (omega (arith, small)),
+    )
+
+pub one_fits : (n rest start : ℕ) (room : List ℕ) → n < 2 ^ 64 → rest < 2 ^ 64 → length room ≡ 20 → Written n rest start room → 1 ≤ start
+one_fits n rest start room fits small len w = omega (arith, rest_fits n rest start room fits len w, decimal_nonempty rest small)
+
+pub pair_written : (n rest start : ℕ) (room room' : List ℕ) → rest < 2 ^ 64 → 100 ≤ rest → 2 ≤ start → length room' ≡ length room → Written n rest start room
+    → drop (start - 2) room' ≡ (48 + rest % 100 / 10) ∷ (48 + rest % 100 % 10) ∷ drop (start - 2 + 2) room → Written n (rest / 100) (start - 2) room'
+pair_written n rest start room room' small more place len w e =
+    let back : start - 2 + 2 ≡ start = omega (arith, place) in
+    let two = (48 + rest % 100 / 10) ∷ (48 + rest % 100 % 10) ∷ [] in
+    record {
+      within = omega (arith, len, w.within);
+      text = ap (λ (x : List ℕ). decimal (rest / 100) ++ x) (e ∙ ap (λ (k : ℕ). two ++ drop k room) back)
+          ∙ sym (append_assoc (decimal (rest / 100)) two (drop start room))
+          ∙ ap (λ (x : List ℕ). x ++ drop start room) (sym (decimal_pair rest more small))
+          ∙ w.text;
+    }
+
+pub last_two : (n rest start : ℕ) (room room' : List ℕ) → rest < 2 ^ 64 → 10 ≤ rest → rest < 100 → 2 ≤ start → Written n rest start room
+    → drop (start - 2) room' ≡ (48 + rest / 10) ∷ (48 + rest % 10) ∷ drop (start - 2 + 2) room → drop (start - 2) room' ≡ decimal n
+last_two n rest start room room' small more less place w e =
+    let back : start - 2 + 2 ≡ start = omega (arith, place) in
+    let both : decimal rest ≡ (48 + rest / 10) ∷ (48 + rest % 10) ∷ [] = rw (decimal_step rest more small, decimal_digit (rest / 10) (omega arith)) refl in
+    e ∙ ap (λ (k : ℕ). (48 + rest / 10) ∷ (48 + rest % 10) ∷ drop k room) back ∙ ap (λ (x : List ℕ). x ++ drop start room) (sym both) ∙ w.text
+
+pub last_one : (n rest start : ℕ) (room : List ℕ) → rest < 10 → 1 ≤ start → Written n rest start room → drop (start - 1) (set room (start - 1) (48 + rest)) ≡ decimal n
+last_one n rest start room less place w =
+    let back : start - 1 + 1 ≡ start = omega (arith, place) in
+    drop-set room (start - 1) (48 + rest) (omega (arith, place, w.within))
+    ∙ ap (λ (k : ℕ). (48 + rest) ∷ drop k room) back
+    ∙ ap (λ (x : List ℕ). x ++ drop start room) (sym (decimal_digit rest less))
+    ∙ w.text
 
 -- the text of a time with other digits in it
 pub time_put : (moment : ℕ) (digits seconds micros : List ℕ) → 10 ^ 15 ≤ moment → moment < 10 ^ 16 → digits ≡ decimals 16 moment → seconds ≡ take 10 digits → micros ≡ take 6 (drop 10 digits)

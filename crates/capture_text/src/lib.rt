@@ -15,5 +15,5 @@ mod writing;
 
 pub use gate_events::{Detail, Emit, Event, Report};
 pub use line_rule::LineRule;
-pub use reading::read_line;
+pub use reading::{LONGEST_LINE, read_line};
 pub use writing::write_emit;

@@ -14,8 +14,8 @@ use gate_events::Event;
 use n2k_id::Frame;
 use sentence_text::byte_at;
 
-/// The most bytes of a line.
-const LONGEST: usize = 4096;
+/// The most bytes of a line. A longer one is refused unread.
+pub const LONGEST_LINE: usize = 4096;
 
 /// Puts the bytes that the digits write into the room, and says how many there are.
 fn put_bytes(digits: &[u8], room: &mut [u8]) -> Option<usize>
@@ -216,7 +216,7 @@ fn parse<'a>(line: &[u8], room: &'a mut [u8; 2048]) -> Result<Event<'a>, LineRul
     ensures reads { spec.seen result ≡ spec.read line.now }
     ensures valid { IfOk result IsValid }
 {
-    if line.len() > LONGEST {
+    if line.len() > LONGEST_LINE {
         return Err(LineRule::Long);
     }
     let Some((moment, rest)) = time(line) else {

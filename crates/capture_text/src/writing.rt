@@ -1,4 +1,5 @@
 ghost use Rattle.std.specs.Prelude.{◌≡◌, ◌+◌, ◌*◌, ◌<◌, ◌≤◌, ◌^◌, [], ◌++◌, length, take, false, Ok, IfSome};
+ghost use Rattle.std.specs.Fmt.{decimal};
 ghost use Rattle.arrayvec.specs.ArrayVec.{array_vec_len};
 ghost use Rattle.hex.specs.Hex.{encode_upper, IsBytes};
 ghost use Rattle.n2k_id.specs.Frame.{IsFrame, bus_frame, held_bytes};
@@ -10,18 +11,19 @@ ghost use Rattle.capture_text.specs.Reading.{read};
 ghost use Rattle.capture_text.specs.Writing.{time_text, part, detail_text, report_text, frame_text, datagram_text, line_text, said};
 ghost use Rattle.gate_events.specs.Emit.{CanWrite, most_written};
 
-use crate::decimal::put_sixteen;
+use crate::decimal::{put_number, put_sixteen};
 use crate::hexadecimal::put_digits;
+use crate::reading::LONGEST_LINE;
 use arrayvec::ArrayVec;
 use gate_events::{Detail, Emit, Report};
 use n2k_id::Frame;
 use sentence_text::Group;
 use unit_fraction::write_decimal;
 
-type Line = ArrayVec<u8, 4096>;
+type Line = ArrayVec<u8, LONGEST_LINE>;
 
 /// What makes room for digits that are put there.
-static ZEROS: [u8; 4096] = [0; 4096];
+static ZEROS: [u8; LONGEST_LINE] = [0; LONGEST_LINE];
 
 fn append(piece: &[u8], out: &mut Line)
     requires { array_vec_len out.old + length piece.now ≤ longest_line }
@@ -31,17 +33,16 @@ fn append(piece: &[u8], out: &mut Line)
     let _fits = out.try_extend_from_slice(piece);
 }
 
-/// The number with so many decimals.
-#[tactic(auto, using(crate::proofs::Numbers::decimal_len))]
-fn append_decimal(number: u64, places: u8, out: &mut Line)
-    requires places { places ≤ 6 }
-    requires room { array_vec_len out.old ≤ 4000 }
-    ensures text { out.new.items ≡ out.old.items ++ decimal_text false number places }
-    ensures len { array_vec_len out.new ≤ array_vec_len out.old + 27 }
+/// The number in decimal digits.
+#[tactic(auto, using(crate::proofs::Numbers::length_decimal))]
+fn append_number(number: u64, out: &mut Line)
+    requires { array_vec_len out.old ≤ 4000 }
+    ensures text { out.new.items ≡ out.old.items ++ decimal number }
+    ensures len { array_vec_len out.new ≤ array_vec_len out.old + 20 }
 {
-    let mut text = ArrayVec::new();
-    write_decimal(false, number, places, &mut text);
-    append(text.as_slice(), out);
+    let mut digits = [0; 20];
+    let start = put_number(number, &mut digits);
+    append(&digits[start..], out);
 }
 
 /// Puts the digits of the bytes into the text, from a place to its end.
@@ -77,22 +78,44 @@ fn usual_time(moment: u64) -> [u8; 20]
     text
 }
 
+/// The number with so many decimals.
+#[tactic(auto, using(crate::proofs::Numbers::decimal_len))]
+fn append_decimal(number: u64, places: u8, out: &mut Line)
+    requires places { places ≤ 6 }
+    requires room { array_vec_len out.old ≤ 4000 }
+    ensures text { out.new.items ≡ out.old.items ++ decimal_text false number places }
+    ensures len { array_vec_len out.new ≤ array_vec_len out.old + 27 }
+{
+    let mut text = ArrayVec::new();
+    write_decimal(false, number, places, &mut text);
+    append(text.as_slice(), out);
+}
+
+/// The time of a line with any number of seconds, and a space.
+fn append_any_time(moment: u64, out: &mut Line)
+    requires { out.old.items ≡ [] }
+    ensures text { out.new.items ≡ time_text moment }
+    ensures len { array_vec_len out.new ≤ 30 }
+{
+    append(b"(", out);
+    append_decimal(moment, 6, out);
+    append(b") ", out);
+}
+
 /// The time of a line, and a space.
 fn append_time(moment: u64, out: &mut Line)
     requires { out.old.items ≡ [] }
     ensures text { out.new.items ≡ time_text moment }
     ensures len { array_vec_len out.new ≤ 30 }
 {
-    if moment >= 1_000_000_000_000_000 && moment < 10_000_000_000_000_000 {
-        return append(&usual_time(moment), out);
+    if 1_000_000_000_000_000 <= moment && moment < 10_000_000_000_000_000 {
+        append(&usual_time(moment), out);
+    } else {
+        append_any_time(moment, out);
     }
-    append(b"(", out);
-    append_decimal(moment, 6, out);
-    append(b") ", out);
 }
 
 /// A key and its number.
-#[tactic(auto, using(crate::proofs::Numbers::plain_decimal))]
 fn append_part(key: &[u8], number: u64, out: &mut Line)
     requires key { length key.now ≤ 5 }
     requires room { array_vec_len out.old ≤ 3000 }
@@ -102,7 +125,7 @@ fn append_part(key: &[u8], number: u64, out: &mut Line)
     append(b" ", out);
     append(key, out);
     append(b"=", out);
-    append_decimal(number, 0, out);
+    append_number(number, out);
 }
 
 fn append_detail(detail: &Detail, out: &mut Line)
@@ -132,13 +155,12 @@ fn append_detail(detail: &Detail, out: &mut Line)
     }
 }
 
-#[tactic(auto, using(crate::proofs::Numbers::plain_decimal))]
 fn append_report(report: &Report, out: &mut Line)
     requires { array_vec_len out.old ≤ 1000 }
     ensures { out.new.items ≡ out.old.items ++ report_text report.now }
 {
     append(b"rule ", out);
-    append_decimal(u64::from(report.rule), 0, out);
+    append_number(u64::from(report.rule), out);
     append_detail(&report.detail, out);
 }
 
@@ -167,7 +189,7 @@ fn append_datagram(group: &Group, bytes: &[u8], out: &mut Line)
 }
 
 /// Leaves the line of an emit at a moment in microseconds, without a line end.
-pub fn write_emit(emit: &Emit<'_>, moment: u64, out: &mut ArrayVec<u8, 4096>)
+pub fn write_emit(emit: &Emit<'_>, moment: u64, out: &mut ArrayVec<u8, LONGEST_LINE>)
     requires empty { out.old.items ≡ [] }
     requires can { CanWrite emit.now }
     ensures text { out.new.items ≡ line_text emit.now moment }
