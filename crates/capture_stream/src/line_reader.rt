@@ -1,16 +1,13 @@
 //! Cuts an input that comes in pieces into its lines, within fixed memory.
-ghost use Rattle.std.specs.Prelude.{◌≡◌, ◌+◌, ◌<◌, ◌≤◌, ◌||◌, false, length, take, drop, slice_index, IfOk, MatchOption};
-ghost use Rattle.std.specs.List.{fold};
-ghost use Rattle.capture_text.specs.Lines.{is_lf, without_cr};
+ghost use Rattle.std.specs.Prelude.{◌≡◌, ◌+◌, ◌<◌, ◌≤◌, length, take, drop, slice_index, IfOk, MatchOption};
+ghost use Rattle.capture_text.specs.Lines.{without_cr};
 ghost use Rattle.gate_outside.specs.Faults.{HasCause};
 ghost use Rattle.capture_stream.specs.LineReader.{HasNoLf, ReadsBehind};
 
+use capture_text::LONGEST_LINE;
 use gate_outside::{Failed, Source};
 use memchr::memchr;
 use std::marker::Model;
-
-/// The length of the longest line. A longer one is refused unread.
-const LONGEST: usize = 4096;
 
 /// How many bytes are held, and so read at once, at most.
 const PIECE: usize = 65536;
@@ -187,7 +184,7 @@ impl LineReader {
         ensures starts { self.new.skipping ≡ false }
         ensures answer { result ≡ (if self.old.skipping || nat_lt longest_line len then Next.Long else Next.Line) }
     {
-        let long = self.skipping || len > LONGEST;
+        let long = self.skipping || len > LONGEST_LINE;
         self.line_start = self.start;
         self.line_end = self.start + len;
         self.start += count;
@@ -200,7 +197,7 @@ impl LineReader {
         ensures kept { length self.old.unread ≤ most_unread → self.new ≡ self.old }
         ensures dropped { most_unread < length self.old.unread → (self.new.unread ≡ []) × (self.new.skipping ≡ true) }
     {
-        if self.end - self.start > LONGEST + 1 {
+        if self.end - self.start > LONGEST_LINE + 1 {
             self.start = self.end;
             self.skipping = true;
         }

@@ -4,7 +4,7 @@ ghost use Rattle.gate_outside.specs.Faults.{HasCause};
 ghost use Rattle.capture_stream.specs.Writer.{Writes};
 
 use arrayvec::ArrayVec;
-use capture_text::write_emit;
+use capture_text::{LONGEST_LINE, write_emit};
 use gate_events::Emit;
 use gate_outside::{Failed, Sink};
 use std::marker::Model;
@@ -12,15 +12,12 @@ use std::marker::Model;
 /// How many bytes may wait.
 const ROOM: usize = 32768;
 
-/// How many bytes the line of an emit has at most.
-const LONGEST: usize = 4096;
-
 /// Bytes that wait to be written.
 #[derive(Drop)]
 pub struct Writer {
     waiting: ArrayVec<u8, ROOM>,
     /// Room for the line of an emit, kept so that it isn't made anew for each.
-    line: ArrayVec<u8, LONGEST>,
+    line: ArrayVec<u8, LONGEST_LINE>,
 }
 
 impl Model for Writer {
@@ -109,7 +106,7 @@ impl Writer {
         ensures room { OnOk result (length self.new + 4096 < 32768) }
         ensures cause { HasCause (K.fault_count out.old) (K.fault_count out.new) result }
     {
-        if self.waiting.remaining_capacity() > LONGEST {
+        if self.waiting.remaining_capacity() > LONGEST_LINE {
             return Ok(());
         }
         self.flush(out)
