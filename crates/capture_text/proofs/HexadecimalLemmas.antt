@@ -1,5 +1,5 @@
 -- Hexadecimal digits that are read and written many at once.
-use Rattle.std.proofs.Common.{◌≡◌, ℕ, ◌+◌, ◌-◌, ◌*◌, ◌/◌, ◌%◌, ◌<◌, ◌≤◌, Bool, true, false, ◌&&◌, cond, ltb, leb, List, [], ◌∷◌, ◌++◌, length, get_or, set, take, drop, Ok, Some, None, refl, sym, ap, subst, ◌∙◌, length-append, arith, inl, inr}
+use Rattle.std.proofs.Common.{◌≡◌, ℕ, zero, suc, ◌+◌, ◌-◌, ◌*◌, ◌/◌, ◌%◌, ◌<◌, ◌≤◌, Bool, true, false, ◌&&◌, cond, ltb, leb, List, [], ◌∷◌, ◌++◌, length, get_or, set, take, drop, Ok, Some, None, refl, sym, ap, subst, ◌∙◌, length-append, arith, inl, inr}
 use Rattle.std.specs.Prelude.{◌||◌, All, map, MatchResult, Result, Err, option_map}
 use Rattle.std.specs.Char.{digit_value, is_ascii_hexdigit}
 use Rattle.std.specs.Result.{result_ok}
@@ -13,7 +13,7 @@ use borrow.Rule.Slice.PartMut.{put_mid}
 use Rattle.std.proofs.lemmas.List.FromFn.{get_or-map-range_with_len}
 use Rattle.std.proofs.lemmas.List.Elements.{All-nil, All-cons, All-get_or}
 use Rattle.std.proofs.lemmas.List.Sums.{AllPass-from_list_all}
-use Rattle.hex.specs.Hex.{decode_of, decode_pairs, decode_sized, digit_or_error, hex_digit_value, pair_value, upper_digits, value_at}
+use Rattle.hex.specs.Hex.{decode_of, decode_pairs, decode_sized, digit_or_error, encode_upper, encode_with, hex_digit_value, pair_value, upper_digits, value_at}
 use Rattle.hex.specs.declared.error.FromHexError.{FromHexError}
 use Rattle.hex.proofs.HexLemmas.{decode_of-even, decode_of-ok}
 use Rattle.sentence_text.proofs.Bytes.{all_append, all_parts}
@@ -284,3 +284,17 @@ digit_is value lt =
     let all : upper_digits ≡ map digit_of (range_with_len 0 16) = refl in
     let here : 0 + value ≡ value = omega arith in
     ap (λ (x : List ℕ). get_or x value 0) all ∙ get_or-map-range_with_len digit_of 0 16 value value 0 lt here
+
+front_encoded : (table bytes : List ℕ) (n : ℕ) → take (2 * n) (encode_with table bytes) ≡ encode_with table (take n bytes)
+unfolding encode_with
+front_encoded table bytes zero = refl
+front_encoded table [] (suc n) =
+    let two : 2 * suc n ≡ suc (suc (2 * n)) = omega arith in
+    rw two refl
+front_encoded table (b ∷ bytes) (suc n) =
+    let two : 2 * suc n ≡ suc (suc (2 * n)) = omega arith in
+    rw two (ap (λ (x : List ℕ). get_or table (b / 16) 0 ∷ get_or table (b % 16) 0 ∷ x) (front_encoded table bytes n))
+
+-- the digits of the first bytes
+pub held_encoded : (held bytes digits : List ℕ) → held ≡ take (length held) bytes → digits ≡ encode_upper bytes → take (2 * length held) digits ≡ encode_upper held
+held_encoded held bytes digits front e = ap (take (2 * length held)) e ∙ front_encoded upper_digits bytes (length held) ∙ ap encode_upper (sym front)

@@ -1,4 +1,4 @@
-ghost use Rattle.std.specs.Prelude.{◌≡◌, ◌+◌, ◌*◌, ◌<◌, ◌≤◌, ◌^◌, [], ◌++◌, length, take, false, Ok, IfSome};
+ghost use Rattle.std.specs.Prelude.{◌≡◌, ◌+◌, ◌*◌, ◌<◌, ◌≤◌, ◌^◌, [], ◌∷◌, ◌++◌, codes, length, take, false, Ok, IfSome};
 ghost use Rattle.std.specs.Fmt.{decimal};
 ghost use Rattle.arrayvec.specs.ArrayVec.{array_vec_len};
 ghost use Rattle.hex.specs.Hex.{encode_upper, IsBytes};
@@ -164,16 +164,38 @@ fn append_report(report: &Report, out: &mut Line)
     append_detail(&report.detail, out);
 }
 
+/// What comes before the data of a frame whose identifier has these bytes.
+fn frame_head(identifier: &[u8; 4]) -> [u8; 14]
+    ensures text { result ≡ codes "can0 " ++ (encode_upper identifier.now ++ 35 ∷ []) }
+    ensures fit { IsBytes identifier.now }
+{
+    let mut head = *b"can0 00000000#";
+    put_digits(identifier, &mut head[5..13]);
+    head
+}
+
+/// The digits of the data of a frame, which are the first of these bytes. Digits of all eight are made, so that the compiler makes them at
+/// once.
+fn append_data(held: &[u8], bytes: &[u8; 8], out: &mut Line)
+    requires front { held.now ≡ take (length held.now) bytes.now }
+    requires few { length held.now ≤ 8 }
+    requires room { array_vec_len out.old ≤ 2000 }
+    ensures text { out.new.items ≡ out.old.items ++ encode_upper held.now }
+    ensures fit { IsBytes held.now }
+{
+    let mut digits = [0; 16];
+    put_digits(bytes, &mut digits);
+    append(&digits[..2 * held.len()], out);
+}
+
 fn append_frame(frame: &Frame, out: &mut Line)
     requires valid { IsFrame frame.now }
     requires room { array_vec_len out.old ≤ 1000 }
     ensures text { out.new.items ≡ out.old.items ++ frame_text (bus_frame frame.now) }
     ensures fit { IsBytes (to_be_bytes w32 frame.now.id) × IsBytes (held_bytes frame.now) }
 {
-    append(b"can0 ", out);
-    append_hex(&frame.id.to_be_bytes(), out);
-    append(b"#", out);
-    append_hex(frame.held(), out);
+    append(&frame_head(&frame.id.to_be_bytes()), out);
+    append_data(frame.held(), &frame.bytes, out);
 }
 
 fn append_datagram(group: &Group, bytes: &[u8], out: &mut Line)
