@@ -29,7 +29,7 @@ fn moment_of(line: &[u8]) -> Result<u64, LineRule> {
 const HEADING: [u8; 8] = [0x00, 0x5C, 0x3D, 0xFF, 0x7F, 0xFF, 0x7F, 0xFC];
 
 /// Lines, and what they say: a moment, and a frame's identifier and bytes, or a datagram's bytes.
-const LINES: [(&[u8], u64, Option<(u32, &[u8])>, Option<&[u8]>); 9] = [
+const LINES: [(&[u8], u64, Option<(u32, &[u8])>, Option<&[u8]>); 10] = [
     (
         b"(1700000000.000000) can0 09F11217#005C3DFF7FFF7FFC",
         1_700_000_000_000_000,
@@ -69,6 +69,13 @@ const LINES: [(&[u8], u64, Option<(u32, &[u8])>, Option<&[u8]>); 9] = [
         None,
         Some(b"\r\n"),
     ),
+    // Bytes that are read eight at a time, and three behind them.
+    (
+        b"(1.000000) udp0 NAVD#000102030405060708090a0B0c0D0e0F5C3D7F",
+        1_000_000,
+        None,
+        Some(b"\x00\x01\x02\x03\x04\x05\x06\x07\x08\x09\x0A\x0B\x0C\x0D\x0E\x0F\x5C\x3D\x7F"),
+    ),
 ];
 
 /// Whether a line says this.
@@ -89,7 +96,7 @@ fn lines_say_frames_datagrams_and_ticks(rt: HostRuntime) {
 }
 
 /// Lines that say nothing, and the rule that each breaks.
-const OTHER_LINES: [(&[u8], LineRule); 37] = [
+const OTHER_LINES: [(&[u8], LineRule); 40] = [
     (b"", LineRule::Form),
     (b"hello", LineRule::Form),
     (b"(1.000000)", LineRule::Form),
@@ -116,6 +123,7 @@ const OTHER_LINES: [(&[u8], LineRule); 37] = [
         LineRule::Form,
     ),
     (b"(1.000000) can0 09F11217#00x", LineRule::Form),
+    (b"(1.000000) can0 09F11217#001122334455667g", LineRule::Form),
     (b"(1.000000) can0 123#0", LineRule::Form),
     (b"(1.000000) can0 20000000#0", LineRule::Form),
     (b"(1.000000) udp0 navd#", LineRule::Form),
@@ -123,6 +131,11 @@ const OTHER_LINES: [(&[u8], LineRule); 37] = [
     (b"(1.000000) udp0 NAVDX#", LineRule::Form),
     (b"(1.000000) udp0 NAVD#5", LineRule::Form),
     (b"(1.000000) udp0 NAVD#5G", LineRule::Form),
+    (
+        b"(1.000000) udp0 NAVD#000102030405060708090A0B0C0D0E0G",
+        LineRule::Form,
+    ),
+    (b"(1.000000) udp0 NAVD#00010203040506070", LineRule::Form),
     (b"(1.000000) can0 123#00", LineRule::NotExtended),
     (b"(1.000000) can0 123#R", LineRule::NotExtended),
     (b"(1.000000) can0 123##", LineRule::NotExtended),
@@ -201,7 +214,7 @@ fn emits_are_written_as_lines(rt: HostRuntime) -> Result<(), Fail> {
 #[test]
 fn reports_are_written_as_lines(rt: HostRuntime) -> Result<(), Fail> {
     let sfi = Sfi::of(b"II0002").ok_or("an SFI")?;
-    let rows: [(u8, Detail, u64, &[u8]); 9] = [
+    let rows: [(u8, Detail, u64, &[u8]); 13] = [
         (3, Detail::Nothing, 5_000_000, b"(5.000000) rule 3"),
         (
             10,
@@ -231,6 +244,31 @@ fn reports_are_written_as_lines(rt: HostRuntime) -> Result<(), Fail> {
             Detail::Line(u64::MAX),
             u64::MAX,
             b"(18446744073709.551615) rule 1 line=18446744073709551615",
+        ),
+        // Ten digits of seconds are written otherwise than more or fewer, and the digits of a number two at a time.
+        (
+            1,
+            Detail::Line(99),
+            999_999_999_999_999,
+            b"(999999999.999999) rule 1 line=99",
+        ),
+        (
+            1,
+            Detail::Line(100),
+            1_000_000_000_000_000,
+            b"(1000000000.000000) rule 1 line=100",
+        ),
+        (
+            1,
+            Detail::Line(10),
+            9_876_543_210_123_456,
+            b"(9876543210.123456) rule 1 line=10",
+        ),
+        (
+            255,
+            Detail::Line(0),
+            10_000_000_000_000_000,
+            b"(10000000000.000000) rule 255 line=0",
         ),
         (50, Detail::Bus, 0, b"(0.000000) rule 50 link=bus"),
         (51, Detail::Net, 0, b"(0.000000) rule 51 link=net"),
