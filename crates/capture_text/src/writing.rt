@@ -8,7 +8,7 @@ ghost use Rattle.sentence_text.specs.Names.{IsGroup};
 ghost use Rattle.unit_fraction.specs.Text.{decimal_text};
 ghost use Rattle.capture_text.specs.Capture.{IsLine, longest_line};
 ghost use Rattle.capture_text.specs.Reading.{read};
-ghost use Rattle.capture_text.specs.Writing.{time_text, part, detail_text, report_text, frame_text, datagram_text, line_text, said};
+ghost use Rattle.capture_text.specs.Writing.{time_text, detail_text, report_text, frame_text, datagram_text, line_text, said};
 ghost use Rattle.gate_events.specs.Emit.{CanWrite, most_written};
 
 use crate::decimal::{put_number, put_sixteen};
@@ -115,16 +115,14 @@ fn append_time(moment: u64, out: &mut Line)
     }
 }
 
-/// A key and its number.
+/// A key between a space and `=`, and its number.
 fn append_part(key: &[u8], number: u64, out: &mut Line)
-    requires key { length key.now ≤ 5 }
+    requires key { length key.now ≤ 7 }
     requires room { array_vec_len out.old ≤ 3000 }
-    ensures text { out.new.items ≡ out.old.items ++ part key.now number }
+    ensures text { out.new.items ≡ out.old.items ++ (key.now ++ decimal number) }
     ensures len { array_vec_len out.new ≤ array_vec_len out.old + 40 }
 {
-    append(b" ", out);
     append(key, out);
-    append(b"=", out);
     append_number(number, out);
 }
 
@@ -135,21 +133,21 @@ fn append_detail(detail: &Detail, out: &mut Line)
     match detail {
         Detail::Nothing => {}
         Detail::Source { address, pgn } => {
-            append_part(b"src", u64::from(*address), out);
-            append_part(b"pgn", u64::from(*pgn), out);
+            append_part(b" src=", u64::from(*address), out);
+            append_part(b" pgn=", u64::from(*pgn), out);
         }
-        Detail::Address(address) => append_part(b"addr", u64::from(*address), out),
-        Detail::At(at) => append_part(b"at", u64::from(*at), out),
+        Detail::Address(address) => append_part(b" addr=", u64::from(*address), out),
+        Detail::At(at) => append_part(b" at=", u64::from(*at), out),
         Detail::AtField { at, field } => {
-            append_part(b"at", u64::from(*at), out);
-            append_part(b"field", u64::from(*field), out);
+            append_part(b" at=", u64::from(*at), out);
+            append_part(b" field=", u64::from(*field), out);
         }
         Detail::GroupKey { sfi, code } => {
             append(b" sfi=", out);
             append(sfi.as_bytes(), out);
-            append_part(b"group", u64::from(*code), out);
+            append_part(b" group=", u64::from(*code), out);
         }
-        Detail::Line(line) => append_part(b"line", *line, out),
+        Detail::Line(line) => append_part(b" line=", *line, out),
         Detail::Bus => append(b" link=bus", out),
         Detail::Net => append(b" link=net", out),
     }
@@ -198,15 +196,23 @@ fn append_frame(frame: &Frame, out: &mut Line)
     append_data(frame.held(), &frame.bytes, out);
 }
 
+/// What comes before the bytes of a datagram.
+fn datagram_head(group: &Group) -> [u8; 10]
+    ensures text { result ≡ codes "udp0 " ++ (group.now ++ 35 ∷ []) }
+    ensures fit { IsGroup group.now }
+{
+    let mut head = *b"udp0 0000#";
+    head[5..9].copy_from_slice(group.as_bytes());
+    head
+}
+
 fn append_datagram(group: &Group, bytes: &[u8], out: &mut Line)
     requires few { length bytes.now ≤ most_written }
     requires room { array_vec_len out.old ≤ 1000 }
     ensures text { out.new.items ≡ out.old.items ++ datagram_text group.now bytes.now }
     ensures fit { IsGroup group.now × IsBytes bytes.now }
 {
-    append(b"udp0 ", out);
-    append(group.as_bytes(), out);
-    append(b"#", out);
+    append(&datagram_head(group), out);
     append_hex(bytes, out);
 }
 
