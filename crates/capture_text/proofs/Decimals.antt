@@ -150,49 +150,56 @@ decimal_pair n more fits =
     let c : n % 10 ≡ n % 100 % 10 = omega arith in
     rw (decimal_step n (omega arith) fits, decimal_step (n / 10) (omega arith) (omega arith), append_assoc, a, b, ← c) refl
 
--- the digits of the rest are to be written in front of those that were
+-- in room for the longest number: the digits of the rest are to be written in front of those that were
 pub record Written (n rest start : ℕ) (room : List ℕ) : Type 0 where
+  pub fits : n < 2 ^ 64
+  pub small : rest < 2 ^ 64
+  pub room_len : length room ≡ 20
   pub within : start ≤ length room
   pub text : decimal rest ++ drop start room ≡ decimal n
 
-rest_fits : (n rest start : ℕ) (room : List ℕ) → n < 2 ^ 64 → length room ≡ 20 → Written n rest start room → length (decimal rest) ≤ start
-rest_fits n rest start room fits len w = omega (arith, len, w.within, ap length w.text, length-append (decimal rest) (drop start room), length-drop start room, length_decimal n fits)
+rest_fits : (n rest start : ℕ) (room : List ℕ) → Written n rest start room → length (decimal rest) ≤ start
+rest_fits n rest start room w = omega (arith, w.room_len, w.within, ap length w.text, length-append (decimal rest) (drop start room), length-drop start room, length_decimal n w.fits)
 
-pub two_fit : (n rest start : ℕ) (room : List ℕ) → n < 2 ^ 64 → rest < 2 ^ 64 → 10 ≤ rest → length room ≡ 20 → Written n rest start room → 2 ≤ start
-two_fit n rest start room fits small more len w =
+pub one_fits : (n rest start : ℕ) (room : List ℕ) → Written n rest start room → 1 ≤ start
+one_fits n rest start room w = omega (arith, rest_fits n rest start room w, decimal_nonempty rest w.small)
+
+pub two_fit : (n rest start : ℕ) (room : List ℕ) → Written n rest start room → 10 ≤ rest → 2 ≤ start
+two_fit n rest start room w more =
     omega (
       arith,
-      rest_fits n rest start room fits len w,
-      ap length (decimal_step rest more small),
+      rest_fits n rest start room w,
+      ap length (decimal_step rest more w.small),
       length-append (decimal (rest / 10)) ((48 + rest % 10) ∷ []),
-      decimal_nonempty (rest / 10) (omega (arith, small)),
+      decimal_nonempty (rest / 10) (omega (arith, w.small)),
     )
 
-pub one_fits : (n rest start : ℕ) (room : List ℕ) → n < 2 ^ 64 → rest < 2 ^ 64 → length room ≡ 20 → Written n rest start room → 1 ≤ start
-one_fits n rest start room fits small len w = omega (arith, rest_fits n rest start room fits len w, decimal_nonempty rest small)
-
-pub pair_written : (n rest start : ℕ) (room room' : List ℕ) → rest < 2 ^ 64 → 100 ≤ rest → 2 ≤ start → length room' ≡ length room → Written n rest start room
+pub pair_written : (n rest start : ℕ) (room room' : List ℕ) → Written n rest start room → 100 ≤ rest → length room' ≡ length room
     → drop (start - 2) room' ≡ (48 + rest % 100 / 10) ∷ (48 + rest % 100 % 10) ∷ drop (start - 2 + 2) room → Written n (rest / 100) (start - 2) room'
-pair_written n rest start room room' small more place len w e =
-    let back : start - 2 + 2 ≡ start = omega (arith, place) in
+pair_written n rest start room room' w more len e =
+    let back : start - 2 + 2 ≡ start = omega (arith, two_fit n rest start room w (omega arith)) in
     let two = (48 + rest % 100 / 10) ∷ (48 + rest % 100 % 10) ∷ [] in
     record {
+      fits = w.fits;
+      small = omega (arith, w.small);
+      room_len = len ∙ w.room_len;
       within = omega (arith, len, w.within);
       text = ap (λ (x : List ℕ). decimal (rest / 100) ++ x) (e ∙ ap (λ (k : ℕ). two ++ drop k room) back)
           ∙ sym (append_assoc (decimal (rest / 100)) two (drop start room))
-          ∙ ap (λ (x : List ℕ). x ++ drop start room) (sym (decimal_pair rest more small))
+          ∙ ap (λ (x : List ℕ). x ++ drop start room) (sym (decimal_pair rest more w.small))
           ∙ w.text;
     }
 
-pub last_two : (n rest start : ℕ) (room room' : List ℕ) → rest < 2 ^ 64 → 10 ≤ rest → rest < 100 → 2 ≤ start → Written n rest start room
+pub last_two : (n rest start : ℕ) (room room' : List ℕ) → Written n rest start room → 10 ≤ rest → rest < 100
     → drop (start - 2) room' ≡ (48 + rest / 10) ∷ (48 + rest % 10) ∷ drop (start - 2 + 2) room → drop (start - 2) room' ≡ decimal n
-last_two n rest start room room' small more less place w e =
-    let back : start - 2 + 2 ≡ start = omega (arith, place) in
-    let both : decimal rest ≡ (48 + rest / 10) ∷ (48 + rest % 10) ∷ [] = rw (decimal_step rest more small, decimal_digit (rest / 10) (omega arith)) refl in
+last_two n rest start room room' w more less e =
+    let back : start - 2 + 2 ≡ start = omega (arith, two_fit n rest start room w more) in
+    let both : decimal rest ≡ (48 + rest / 10) ∷ (48 + rest % 10) ∷ [] = rw (decimal_step rest more w.small, decimal_digit (rest / 10) (omega arith)) refl in
     e ∙ ap (λ (k : ℕ). (48 + rest / 10) ∷ (48 + rest % 10) ∷ drop k room) back ∙ ap (λ (x : List ℕ). x ++ drop start room) (sym both) ∙ w.text
 
-pub last_one : (n rest start : ℕ) (room : List ℕ) → rest < 10 → 1 ≤ start → Written n rest start room → drop (start - 1) (set room (start - 1) (48 + rest)) ≡ decimal n
-last_one n rest start room less place w =
+pub last_one : (n rest start : ℕ) (room : List ℕ) → Written n rest start room → rest < 10 → drop (start - 1) (set room (start - 1) (48 + rest)) ≡ decimal n
+last_one n rest start room w less =
+    let place = one_fits n rest start room w in
     let back : start - 1 + 1 ≡ start = omega (arith, place) in
     drop-set room (start - 1) (48 + rest) (omega (arith, place, w.within))
     ∙ ap (λ (k : ℕ). (48 + rest) ∷ drop k room) back
