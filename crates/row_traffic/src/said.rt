@@ -1,5 +1,6 @@
 //! What is said on the network of the messages of the bus (IEC 61162-450): whose messages are said, and how many lines were.
-ghost use Rattle.std.specs.Prelude.{◌≡◌, ◌+◌, ◌<◌, ◌≤◌, ◌++◌, ◌∷◌, [], false, length, map, slice_set, IfOk, IfSome, Some};
+ghost use Rattle.std.specs.Prelude.{◌≡◌, ◌+◌, ◌*◌, ◌%◌, ◌<◌, ◌≤◌, ◌++◌, ◌∷◌, [], false, length, map, IfOk, IfSome, Some};
+ghost use Rattle.std.specs.List.{AllByRecursion};
 ghost use Rattle.readings.specs.Ranges.{IsValid};
 ghost use Rattle.readings.specs.Rows.{row_of};
 ghost use Rattle.sentence_text.specs.Byte.{is_capital};
@@ -209,22 +210,35 @@ impl Said {
         requires { count ≤ 2 }
         ensures { self.new ≡ record self.old { lines = map (lines_more (settings_of config.now) self.old group count) row_numbers } }
     {
-        for number in 0..ROWS {
-            self.count_row(config, group, count, number);
-        }
+        self.lines = self.counted_lines(config, group, count);
     }
 
-    /// Counts so many lines for the row with this number, where it is said on the transmission group.
-    fn count_row(&mut self, config: &Config, group: Group, count: u16, number: usize)
+    /// How many lines were said on the transmission group of each row, with so many more on a transmission group.
+    fn counted_lines(&self, config: &Config, group: Group, count: u16) -> [u16; ROWS]
+        requires { count ≤ 2 }
+        ensures lines { result ≡ map (lines_more (settings_of config.now) self.now group count) row_numbers }
+        ensures small { AllByRecursion (λ n. n < 999) result }
+    {
+        let mut lines = [0; ROWS];
+        for number in 0..ROWS {
+            lines[number] = self.lines_more(config, group, count, number);
+        }
+        lines
+    }
+
+    /// How many lines were said on the transmission group of a row, with so many more on a transmission group.
+    fn lines_more(&self, config: &Config, group: Group, count: u16, number: usize) -> u16
         requires row { number < ROWS }
         requires few { count ≤ 2 }
-        ensures after { self.new ≡ record self.old {
-          lines = slice_set self.old.lines number (lines_more (settings_of config.now) self.old group count number);
-        } }
-        ensures rows { length self.new.lines ≡ ROWS }
+        ensures lines { result ≡ lines_more (settings_of config.now) self.now group count number }
+        ensures within { result < 999 }
     {
+        let before = self.lines[number];
+        let after = wrapped(before + count);
         if group == row_at(config, number).group {
-            self.lines[number] = (self.lines[number] + count) % MOST_COUNT;
+            after
+        } else {
+            before
         }
     }
 
@@ -242,5 +256,17 @@ impl Said {
         ensures { self.new ≡ record self.old { choices = forgotten self.old.choices source } }
     {
         self.choice.forget(source);
+    }
+}
+
+/// Behind the greatest count comes 0; this is found without a division.
+fn wrapped(count: u16) -> u16
+    requires { count < 2 * 999 }
+    ensures { result ≡ count % 999 }
+{
+    if count < MOST_COUNT {
+        count
+    } else {
+        count - MOST_COUNT
     }
 }
