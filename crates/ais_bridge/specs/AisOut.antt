@@ -20,9 +20,8 @@ use Rattle.history.specs.Opens.{notes_of}
 use Rattle.history.specs.Messages.{Message, done}
 use Rattle.gate_events.specs.Emit.{Emit}
 use Rattle.history.specs.Emits.{reported}
-use Rattle.history.specs.Endings.{fast_expired}
+use Rattle.history.specs.Endings.{fast_expired, fast_lost_at}
 use Rattle.history.specs.FromBus.{frame_refused}
-use Rattle.gate_model.specs.FastLaws.{fast_lost_at}
 use Rattle.ais_bridge.specs.Reports.{carried_gives, lines_of}
 
 abbrev pub report_pgn : ℕ

@@ -5,7 +5,7 @@ use Rattle.n2k_id.specs.Frame.{BusFrame}
 use Rattle.n2k_id.specs.Identifier.{parts_of}
 use Rattle.report_rules.specs.Rules as rules
 use Rattle.claim_table.specs.Claims.{is_ready}
-use Rattle.history.specs.Pgns as pgns
+use Rattle.n2k_id.specs.Pgns as pgns
 use Rattle.gate_events.specs.Emit.{Emit, can}
 use Rattle.history.specs.Emits.{of_source}
 use Rattle.history.specs.Entries as entry

@@ -2,20 +2,9 @@
 use Rattle.std.specs.Prelude.{ℕ, ◌==◌, nat_lt, List, [], ◌∷◌, if◌then◌else◌}
 use Rattle.std.specs.List.{flat_map}
 use Rattle.std.specs.Option.{option_to_list}
+use Rattle.n2k_id.specs.Pgns.{address_claimed, request, acknowledgement, connection_management, data_transfer, commanded_address}
 use Rattle.readings.specs.declared.rows.Row.{Row}
 use Rattle.readings.specs.About.{about_of, every_row}
-
--- a device asks for a parameter group (ISO 11783-3)
-abbrev pub request : ℕ
-request = 59904
-
--- a device answers that it doesn't have what was asked for (ISO 11783-3)
-abbrev pub acknowledgement : ℕ
-acknowledgement = 59392
-
--- a device claims an address (ISO 11783-5)
-abbrev pub address_claimed : ℕ
-address_claimed = 60928
 
 -- which parameter groups a device sends, and which it takes in
 abbrev pub pgn_lists : ℕ
@@ -24,17 +13,6 @@ pgn_lists = 126464
 -- what a device is
 abbrev pub product_information : ℕ
 product_information = 126996
-
--- long messages are announced, and sent in parts (ISO 11783-3)
-abbrev pub connection_management : ℕ
-connection_management = 60416
-
-abbrev pub data_transfer : ℕ
-data_transfer = 60160
-
--- a device is told its address (ISO 11783-5)
-abbrev pub address_commanded : ℕ
-address_commanded = 65240
 
 -- ---- the lists
 
@@ -60,4 +38,4 @@ sent = ascending (acknowledgement ∷ request ∷ connection_management ∷ addr
 
 -- those that it takes in
 unfoldable pub received : List ℕ
-received = ascending (request ∷ data_transfer ∷ connection_management ∷ address_claimed ∷ address_commanded ∷ flat_map taken_by every_row)
+received = ascending (request ∷ data_transfer ∷ connection_management ∷ address_claimed ∷ commanded_address ∷ flat_map taken_by every_row)

@@ -3,7 +3,8 @@ use Rattle.std.specs.Prelude.{◌≡◌, ◌≢◌, ℕ, ◌+◌, ◌*◌, ◌�
 use Rattle.n2k_id.specs.Frame.{BusFrame}
 use Rattle.n2k_id.specs.declared.identifier_parts.Parts.{Parts}
 use Rattle.n2k_id.specs.Identifier.{parts_of}
-use Rattle.bus_identity.specs.Pgns.{request, address_claimed, pgn_lists, product_information}
+use Rattle.bus_identity.specs.Pgns.{pgn_lists, product_information}
+use Rattle.n2k_id.specs.Pgns.{request, address_claimed}
 
 -- the parameter group that a request asks for is in its first three bytes, low byte first
 abbrev pub asked_of : List ℕ → ℕ

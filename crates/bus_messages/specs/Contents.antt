@@ -6,7 +6,7 @@ use Rattle.n2k_id.specs.Name.{name_at}
 use Rattle.gate_events.specs.declared.emit.Report.{Report}
 use Rattle.gate_events.specs.declared.emit.Detail.TheVariants as detail
 use Rattle.pgn_profile.specs.Profiled.{profiled}
-use Rattle.history.specs.Pgns as pgns
+use Rattle.n2k_id.specs.Pgns as pgns
 use Rattle.history.specs.BusRules.{is_short}
 use Rattle.history.specs.Emits.{report_of}
 use Rattle.history.specs.Messages.{Carried}

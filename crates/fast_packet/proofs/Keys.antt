@@ -22,12 +22,12 @@ use Rattle.fast_packet.specs.declared.answers.FastRefusal.TheVariants.{Order, Or
 use Rattle.fast_packet.specs.declared.verdict.Verdict.{Verdict}
 use Rattle.fast_packet.specs.declared.verdict.Verdict.TheVariants.{Short, Opens, Orphan, Again, OutOfOrder, Next}
 use Rattle.fast_packet.specs.FastFrames.{gap, longest, counter_of, sequence_of, length_of, need_of, left_after, is_opener, is_no_later, first_piece, later_piece}
-use Rattle.fast_packet.specs.FastRuns.{FastPiece, is_next, is_repeat, fast_rules, joined as joined_bytes, payload}
+use Rattle.fast_packet.specs.FastRuns.{FastPiece, is_next, is_repeat, fast_rules, joined as joined_bytes, payload, is_awaited}
 use Rattle.fast_packet.specs.Assembly.{left_of, is_again as is_again_of, follows, is_enough, verdict, opening, part_to, extended, fed_by, fed_after, key_fits, AreAssemblies}
 use Rattle.fast_packet.specs.Answers.{OpensGives, NextGives, FeedGivesBy, FeedGives}
 use Rattle.fast_packet.specs.Verdicts.{VerdictFits}
 use Rattle.fast_packet.specs.RunAssemblies.{assembly_of, assembly_at, grown_by, left_by, filling}
-use Rattle.fast_packet.specs.Keys.{is_awaited, refused, is_again, Carries, OutcomeIs, AnswerIs, is_open_at, AreFed, fed_one, assemblies, FollowsRuns, AnswersRuns}
+use Rattle.fast_packet.specs.Keys.{refused, is_again, Carries, OutcomeIs, AnswerIs, is_open_at, AreFed, fed_one, assemblies, FollowsRuns, AnswersRuns}
 use Rattle.fast_packet.specs.Joining.{FeedsItsKey, StepsWithRuns}
 use Rattle.fast_packet.proofs.Counts.{need_is}
 use Rattle.fast_packet.proofs.Lawful.{lawful, both_true, no_next}

@@ -10,6 +10,11 @@ pub record FastPiece : Type 0 where
   pub bytes : List ℕ
   pub admitted : Bool
 
+-- the frame has the sequence of the frames that are open and the counter of the next one
+abbrev pub is_awaited : List FastPiece → FastPiece → Bool
+is_awaited [] x = false
+is_awaited (y ∷ ys) x = (counter_of x.bytes == length (y ∷ ys)) && (sequence_of x.bytes == sequence_of (opener_of y ys).bytes)
+
 -- the next frame has the number of frames so far as its counter, the sequence of frame 0, and what it owes
 abbrev pub is_next : List FastPiece → FastPiece → Bool
 is_next [] x = false

@@ -11,16 +11,11 @@ use Rattle.fast_packet.specs.declared.answers.FastOutcome.{FastOutcome}
 use Rattle.fast_packet.specs.declared.answers.FastOutcome.TheVariants.{Held, Complete, Repeat, Refused}
 use Rattle.fast_packet.specs.declared.answers.FastRefusal.{FastRefusal}
 use Rattle.fast_packet.specs.declared.answers.FastRefusal.TheVariants.{Order, Orphan, Length, Full}
-use Rattle.fast_packet.specs.FastFrames.{counter_of, sequence_of, length_of, is_opener, is_no_later}
-use Rattle.fast_packet.specs.FastRuns.{FastPiece, is_next, is_repeat, fast_rules, payload}
+use Rattle.fast_packet.specs.FastFrames.{length_of, is_opener, is_no_later}
+use Rattle.fast_packet.specs.FastRuns.{FastPiece, is_awaited, is_next, is_repeat, fast_rules, payload}
 use Rattle.fast_packet.specs.Assembly.{fed_after}
 use Rattle.fast_packet.specs.Answers.{FeedGives}
 use Rattle.fast_packet.specs.RunAssemblies.{assembly_at, filling}
-
--- the frame has the sequence of the frames that are open and the counter of the next one
-abbrev pub is_awaited : List FastPiece → FastPiece → Bool
-is_awaited [] x = false
-is_awaited (y ∷ ys) x = (counter_of x.bytes == length (y ∷ ys)) && (sequence_of x.bytes == sequence_of (opener_of y ys).bytes)
 
 -- why a frame is refused, by the frames of its key that are open just before it: an opener for want of room alone; another frame
 -- 0, or none, for its length; a later frame where nothing is open; and one that is neither a repeat nor the next, for its length

@@ -4,7 +4,7 @@ use Rattle.n2k_id.specs.Frame.{BusFrame}
 use Rattle.n2k_id.specs.Identifier.{parts_of}
 use Rattle.pgn_profile.specs.Profiled.{kind_of}
 use Rattle.history.specs.Known.{is_claim}
-use Rattle.history.specs.Pgns as pgns
+use Rattle.n2k_id.specs.Pgns as pgns
 use Rattle.history.specs.Meanings.{address_claim, meaning_of}
 use Rattle.gate_model.specs.Machine.{Compared, Machine}
 use Rattle.gate_model.specs.MachineSteps.{claim_frame, frame_here, frame_step}

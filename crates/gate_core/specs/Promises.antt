@@ -10,13 +10,13 @@ use Rattle.history.specs.Choice.{reading_of}
 use Rattle.history.specs.Known.{known}
 use Rattle.history.specs.Messages.{Message, done, messages_of}
 use Rattle.history.specs.FromBus.{chosen}
-use Rattle.history.specs.Emits.{broken}
+use Rattle.history.specs.Emits.{broken, is_there}
 use Rattle.history.specs.Gate.{out, command_in}
 use Rattle.gate_model.specs.Machine.{Machine}
 use Rattle.gate_model.specs.Stands.{Stands}
 use Rattle.gate_outbox.specs.declared.done.Command.{Command}
 use Rattle.gate_outbox.specs.declared.done.Done.{Done}
-use Rattle.gate_outbox.specs.Output.{Output, emits_of, is_there}
+use Rattle.gate_outbox.specs.Output.{Output, emits_of}
 use Rattle.gate_core.specs.Steps.{by_keys, only_told}
 
 -- what is told of a message

@@ -34,7 +34,8 @@ use Rattle.history.proofs.FastCounts.{same_is}
 use Rattle.history.proofs.TraceMoves.{claims_move_traces, commands_move_traces}
 use Rattle.gate_model.specs.Orders.{OrdersFast}
 use Rattle.gate_model.specs.FastPackets.{without_source, lost_of_source, is_given_up, fast_kept}
-use Rattle.gate_model.specs.FastLaws.{StandsFastFor, GivesUpFast, ClaimsGiveUpFast, CommandsLeaveFast, fast_lost_at}
+use Rattle.gate_model.specs.FastLaws.{StandsFastFor, GivesUpFast, ClaimsGiveUpFast, CommandsLeaveFast}
+use Rattle.history.specs.Endings.{fast_lost_at}
 use Rattle.gate_model.proofs.FastMaps.{filtered_twice, filtered_same, filtered_all, told_of_keys, remaining_map, remaining_at}
 use Rattle.gate_model.proofs.FastTimes.{is_held, none_is, found_fast, found_open, holds_all}
 

@@ -17,9 +17,9 @@ use Rattle.tag_block.specs.declared.group_verdict.GroupVerdict.TheVariants.{Open
 use Rattle.tag_block.specs.declared.group_answers.GroupFed.{GroupFed}
 use Rattle.tag_block.specs.declared.group_answers.GroupOutcome.{GroupOutcome}
 use Rattle.tag_block.specs.declared.group_answers.GroupOutcome.TheVariants.{Held, Complete, Order, Full}
-use Rattle.tag_block.specs.Groups.{IsGroupPart, follows, verdict, opening, group_gap}
+use Rattle.tag_block.specs.Groups.{IsGroupPart, follows, verdict, opening}
 use Rattle.tag_block.specs.GroupAnswers.{OpensGives, FollowsGives, FeedGivesBy}
-use Rattle.tag_block.specs.GroupRuns.{GroupLine, is_next, group_rules, sentences_of}
+use Rattle.tag_block.specs.GroupRuns.{GroupLine, is_next, group_rules, sentences_of, group_gap}
 use Rattle.tag_block.specs.GroupLaws.{group_at}
 use Rattle.tag_block.proofs.GroupPrefixes.{lawful, entry, tests_next, far_by, more_of, all_front}
 use Rattle.datagram450.specs.Datagram.{IsLine}

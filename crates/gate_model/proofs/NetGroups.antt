@@ -13,8 +13,8 @@ use Rattle.slot_views.specs.Traces.{left_at, unexpired}
 use Rattle.slot_views.proofs.Tied.{unexpired_at, ordered_filtered}
 use Rattle.tag_block.specs.declared.group_key.GroupKey.{GroupKey}
 use Rattle.tag_block.specs.declared.group_part.GroupPart.{GroupPart}
-use Rattle.tag_block.specs.Groups.{IsGroupPart, fed_after, group_gap}
-use Rattle.tag_block.specs.GroupRuns.{GroupLine, is_next, group_rules}
+use Rattle.tag_block.specs.Groups.{IsGroupPart, fed_after}
+use Rattle.tag_block.specs.GroupRuns.{GroupLine, is_next, group_rules, group_gap}
 use Rattle.tag_block.specs.GroupLaws.{group_at}
 use Rattle.tag_block.proofs.GroupPrefixes.{kept_is}
 use Rattle.tag_block.proofs.GroupKeys.{steps_with_runs}

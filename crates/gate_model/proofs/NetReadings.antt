@@ -14,7 +14,8 @@ use Rattle.sentence_rows.specs.declared.fault.FieldFault.{FieldFault}
 use Rattle.sentence_rows.specs.declared.fault.FieldFault.TheVariants.{Outside, Form, Range}
 use Rattle.source_choice.specs.declared.note.Note.{Note}
 use Rattle.source_choice.specs.Notes.{RowNotes, note_of, with_note}
-use Rattle.source_choice.specs.Choices.{row_number, row_at, nothing, noted, with_noted}
+use Rattle.source_choice.specs.Choices.{row_at, nothing, noted, with_noted}
+use Rattle.readings.specs.About.{row_number}
 use Rattle.source_choice.proofs.NoteLemmas.{from_with, noted_here, others_noted}
 use Rattle.history.specs.Settings.{Settings}
 use Rattle.report_rules.specs.Rules.{not_ready}

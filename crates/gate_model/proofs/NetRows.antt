@@ -7,7 +7,8 @@ use Rattle.readings.specs.declared.rows.Row.{Row}
 use Rattle.readings.specs.declared.rows.Row.TheVariants as row
 use Rattle.pgn_profile.specs.Payload.{pgn_of}
 use Rattle.pgn_profile.specs.Profiled.{messages}
-use Rattle.source_choice.specs.Choices.{row_number, row_at, nothing}
+use Rattle.source_choice.specs.Choices.{row_at, nothing}
+use Rattle.readings.specs.About.{row_number}
 use Rattle.history.specs.Settings.{Settings, rule_of}
 use Rattle.history.specs.Heard.{same_text, place_of}
 use Rattle.history.specs.NetReadings.{is_fast_row}

@@ -5,7 +5,7 @@ use Rattle.readings.specs.declared.reading.Reading.{Reading}
 use Rattle.readings.specs.declared.rows.Row.{Row}
 use Rattle.readings.specs.declared.rows.Row.TheVariants as row
 use Rattle.readings.specs.Rows.{row_of}
-use Rattle.source_choice.specs.Choices.{row_number}
+use Rattle.readings.specs.About.{row_number}
 use Rattle.datagram450.specs.Datagram.{header}
 use Rattle.datagram450.specs.Writing.{line_text}
 use Rattle.history.specs.Settings.{Settings, rule_of}

@@ -10,7 +10,8 @@ use Rattle.readings.specs.Rows.{row_of}
 use Rattle.source_choice.specs.declared.note.Note.{Note}
 use Rattle.source_choice.specs.declared.rank.Rank.{Rank}
 use Rattle.source_choice.specs.Notes.{RowNotes, note_of, with_note}
-use Rattle.source_choice.specs.Choices.{Choices, row_number, row_at, nothing, noted, with_noted}
+use Rattle.source_choice.specs.Choices.{Choices, row_at, nothing, noted, with_noted}
+use Rattle.readings.specs.About.{row_number}
 use Rattle.source_choice.proofs.NoteLemmas.{from_with, noted_here, others_noted}
 use Rattle.claim_table.specs.Claims.{places, holder_at}
 use Rattle.claim_table.specs.declared.answer.Holder.{Holder}

@@ -26,7 +26,8 @@ use Rattle.iso_transport.specs.Verdicts.{pgn_in}
 use Rattle.iso_transport.specs.Assembly.{extended, verdict_of}
 use Rattle.iso_transport.specs.Answers.{OutcomeBy, NextGives, restarted_by}
 use Rattle.iso_transport.specs.Keys.{refusal_of}
-use Rattle.iso_transport.specs.RunVerdicts.{Message, run_verdict, message_of, is_request, reply_to}
+use Rattle.iso_transport.specs.RunVerdicts.{Message, run_verdict, message_of}
+use Rattle.iso_transport.specs.RunReplies.{is_request, reply_to}
 use Rattle.iso_transport.specs.Joining.{piece_of}
 use Rattle.history.specs.Traces.{Note, iso_piece}
 use Rattle.history.specs.Messages.{Message as Said, Carried, said_by, iso_carried}

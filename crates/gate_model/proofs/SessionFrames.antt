@@ -24,7 +24,8 @@ use Rattle.iso_transport.specs.Audience as audience
 use Rattle.iso_transport.specs.IsoRuns.{IsoPiece, iso_rules}
 use Rattle.iso_transport.specs.Assembly.{verdict_of, fed_after, is_crowded}
 use Rattle.iso_transport.specs.Answers.{reply_by}
-use Rattle.iso_transport.specs.RunVerdicts.{run_verdict, reply_to, message_of, verdict_on, completed_by, assembly_at}
+use Rattle.iso_transport.specs.RunVerdicts.{run_verdict, message_of, verdict_on, completed_by, assembly_at}
+use Rattle.iso_transport.specs.RunReplies.{reply_to}
 use Rattle.iso_transport.specs.Joining.{piece_of}
 use Rattle.iso_transport.specs.Laws.{IsTrace}
 use Rattle.iso_transport.proofs.Lawful.{lawful}

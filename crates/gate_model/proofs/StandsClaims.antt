@@ -19,7 +19,7 @@ use Rattle.history.specs.Messages.{done, messages_of}
 use Rattle.gate_events.specs.Emit.{Emit}
 use Rattle.history.specs.Emits.{reported}
 use Rattle.history.specs.Endings as endings
-use Rattle.history.specs.Endings.{lost_elsewhere}
+use Rattle.history.specs.Endings.{lost_elsewhere, fast_lost_at}
 use Rattle.history.specs.FromBus.{meaning_after, frame_refused, answers_by, own_answer, step_gives, chosen, said_in}
 use Rattle.history.specs.Gate.{spoken_of}
 use Rattle.history.specs.AddressLaws.{IsReceiver, AreSettings}
@@ -28,7 +28,7 @@ use Rattle.history.proofs.TraceMoves.{known_after_claim}
 use Rattle.gate_model.specs.Addresses.{claimed, plain_reports}
 use Rattle.gate_model.specs.AddressStands.{FrameIsTold}
 use Rattle.gate_model.specs.FastPackets.{fast_kept}
-use Rattle.gate_model.specs.FastLaws.{StandsFastFor, GivesUpFast, fast_lost_at}
+use Rattle.gate_model.specs.FastLaws.{StandsFastFor, GivesUpFast}
 use Rattle.gate_model.specs.Sessions.{sessions_kept, lost_addressed}
 use Rattle.gate_model.specs.SessionLaws.{StandsFor, GivesUp, is_moved, iso_lost_at}
 use Rattle.gate_model.specs.Said.{complete_of, claimed_after}

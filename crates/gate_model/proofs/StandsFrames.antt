@@ -10,7 +10,7 @@ use Rattle.claim_table.specs.Claims.{holder_at, is_ready}
 use Rattle.slot_views.specs.Slots.{SlotMap}
 use Rattle.fast_packet.specs.declared.key.FastKey.{FastKey}
 use Rattle.iso_transport.specs.declared.key.IsoKey.{IsoKey}
-use Rattle.history.specs.Pgns as pgns
+use Rattle.n2k_id.specs.Pgns as pgns
 use Rattle.history.specs.Settings.{Settings}
 use Rattle.history.specs.Receiver.{Receiver, receiver_of}
 use Rattle.history.specs.Entries.{Entry, History, IsHistory, frame, moment_of}
@@ -19,7 +19,7 @@ use Rattle.history.specs.Meanings as meanings
 use Rattle.history.specs.Meanings.{Meaning, meaning_of, is_address_claim, is_of_session, is_of_fast_packet}
 use Rattle.history.specs.Messages.{Carried, done, messages_of, said_by}
 use Rattle.gate_events.specs.Emit.{Emit}
-use Rattle.history.specs.Emits.{reported, replied}
+use Rattle.history.specs.Emits.{reported, replied, is_there}
 use Rattle.history.specs.Datagrams.{Spoken}
 use Rattle.history.specs.FromBus.{meaning_after, frame_refused, answers_by, chosen, said_in}
 use Rattle.history.specs.Gate as gate
@@ -34,7 +34,7 @@ use Rattle.gate_model.specs.Sessions.{session_step}
 use Rattle.gate_model.specs.SessionLaws.{StandsFor}
 use Rattle.gate_model.specs.Said.{Complete, complete_of, complete_by, message_after, message_emits}
 use Rattle.gate_model.specs.SaidStands.{SaidStandsFor}
-use Rattle.gate_model.specs.Machine.{Compared, Machine, Step, gives, is_there, counted_in}
+use Rattle.gate_model.specs.Machine.{Compared, Machine, Step, gives, counted_in}
 use Rattle.gate_model.specs.MachineSteps.{with_message, plain_frame, session_frame, fast_frame}
 use Rattle.gate_model.specs.Stands.{AreOrders, StandsAt}
 use Rattle.gate_model.proofs.AddressSteps.{entries_stand_addresses}

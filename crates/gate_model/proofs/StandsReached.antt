@@ -6,14 +6,13 @@ use Rattle.std.specs.declared.cmp.Ordering.{Ordering}
 use Rattle.std.proofs.lemmas.List.{length-map, get_or_past}
 use Rattle.std.proofs.lemmas.Bool.{and_parts, ltb-true, ltb-false}
 use Rattle.readings.specs.declared.rows.Row.{Row}
-use Rattle.readings.specs.About.{every_row}
+use Rattle.readings.specs.About.{every_row, row_number}
 use Rattle.claim_table.specs.declared.answer.Holder.{Holder}
 use Rattle.claim_table.specs.Claims.{Claims, holder_at}
 use Rattle.claim_table.specs.Presets.{opened}
 use Rattle.claim_table.specs.Laws.{IsSound, capped, capped_holder, claimed, commanded}
 use Rattle.claim_table.proofs.LawLemmas.{name_stays}
 use Rattle.slot_views.specs.Slots.{SlotMap, IsMap}
-use Rattle.source_choice.specs.Choices.{row_number}
 use Rattle.tag_block.specs.Numbers.{most_count}
 use Rattle.history.specs.Receiver.{Receiver, receiver_of}
 use Rattle.history.specs.Entries as entry

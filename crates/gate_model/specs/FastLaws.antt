@@ -79,11 +79,6 @@ TimeEndsFastPackets =
 
 -- ---- claims and commands
 
--- the fast packets of one address among what a claim ends
-abbrev pub fast_lost_at : List (Option Holder) → List (Option Holder) → List Note → ℕ → (ℕ → Kind) → Option ℕ → List Emit
-fast_lost_at holders later notes m kinds None = []
-fast_lost_at holders later notes m kinds (Some a) = endings.fast_lost holders later notes m kinds (λ key. key.source == a)
-
 -- by a claim by which these addresses change hands, the fast packets of them end, and no others
 module _ (cmp : FastKey → FastKey → Ordering) (r : Receiver) (s : ℕ) (h : History) (e : Entry) (m : ℕ) (slots : SlotMap FastKey) (left won : Option ℕ) where
   pub record GivesUpFast : Type 0 where

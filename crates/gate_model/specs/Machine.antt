@@ -71,11 +71,6 @@ pub record Step : Type 0 where
 abbrev pub gives : Step → List Emit
 gives x = x.told ++ x.posted
 
--- whether a datagram is posted
-abbrev pub is_there : List Emit → Bool
-is_there [] = false
-is_there (e ∷ es) = true
-
 -- one more entry has come, by which these addresses changed hands
 abbrev pub counted_in : Changed → Machine → Machine
 counted_in changed g = record g { addresses = record g.addresses { count = counted g.addresses.count; changed = changed } }

@@ -5,7 +5,7 @@ use Rattle.report_rules.specs.Rules as rules
 use Rattle.readings.specs.declared.reading.Reading.{Reading}
 use Rattle.readings.specs.declared.rows.Row.{Row}
 use Rattle.readings.specs.Rows.{row_of}
-use Rattle.readings.specs.About.{every_row}
+use Rattle.readings.specs.About.{every_row, row_number}
 use Rattle.pgn_profile.specs.Payload.{payload_of, pgn_of, priority_of}
 use Rattle.fast_packet.specs.Splitting.{frames_of}
 use Rattle.sentence_rows.specs.declared.fault.FieldFault.{FieldFault}
@@ -13,7 +13,7 @@ use Rattle.sentence_rows.specs.declared.fault.FieldFault.TheVariants.{Outside, F
 use Rattle.source_choice.specs.declared.rank.Rank.{Rank}
 use Rattle.source_choice.specs.declared.note.Note.{Note}
 use Rattle.source_choice.specs.Notes.{is_selected}
-use Rattle.source_choice.specs.Choices.{Choices, row_number, opened, row_at, with_noted}
+use Rattle.source_choice.specs.Choices.{Choices, opened, row_at, with_noted}
 use Rattle.gate_events.specs.declared.emit.Detail.TheVariants as detail
 use Rattle.history.specs.Settings.{Settings, rule_at}
 use Rattle.gate_events.specs.Emit.{Emit}

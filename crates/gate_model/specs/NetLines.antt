@@ -12,7 +12,8 @@ use Rattle.tag_block.specs.declared.group_verdict.GroupVerdict.TheVariants.{Open
 use Rattle.tag_block.specs.declared.group_answers.GroupFed.{GroupFed}
 use Rattle.tag_block.specs.declared.group_answers.GroupOutcome.{GroupOutcome}
 use Rattle.tag_block.specs.declared.group_answers.GroupOutcome.TheVariants.{Held, Complete, Order, Full}
-use Rattle.tag_block.specs.Groups.{key_of, verdict, opening, fed_after, group_gap}
+use Rattle.tag_block.specs.Groups.{key_of, verdict, opening, fed_after}
+use Rattle.tag_block.specs.GroupRuns.{group_gap}
 use Rattle.tag_block.specs.Tag.{Said}
 use Rattle.datagram450.specs.declared.fault.DatagramFault.{DatagramFault}
 use Rattle.datagram450.specs.Datagram.{cut}

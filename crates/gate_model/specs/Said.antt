@@ -15,12 +15,13 @@ use Rattle.pgn_profile.specs.Profiled.{profiled}
 use Rattle.source_choice.specs.declared.rank.Rank.{Rank}
 use Rattle.source_choice.specs.declared.note.Note.{Note}
 use Rattle.source_choice.specs.Notes.{is_selected}
-use Rattle.source_choice.specs.Choices.{Choices, row_number, opened, row_at, with_noted, forgotten}
+use Rattle.source_choice.specs.Choices.{Choices, opened, row_at, with_noted, forgotten}
+use Rattle.readings.specs.About.{row_number}
 use Rattle.sentence_rows.specs.Writing.{sentences_of}
 use Rattle.tag_block.specs.Numbers.{most_count}
 use Rattle.tag_block.specs.Writing.{most_written_code}
 use Rattle.datagram450.specs.Datagram.{header}
-use Rattle.history.specs.Pgns as pgns
+use Rattle.n2k_id.specs.Pgns as pgns
 use Rattle.history.specs.Settings.{Settings, rule_at, rule_of}
 use Rattle.history.specs.Known.{address_left, address_won}
 use Rattle.history.specs.Messages.{Message, Carried}

@@ -11,13 +11,13 @@ use Rattle.report_rules.specs.Rules as rules
 use Rattle.gate_events.specs.declared.emit.Detail.TheVariants as detail
 use Rattle.history.specs.Known.{known}
 use Rattle.history.specs.Messages.{done, messages_of}
-use Rattle.history.specs.Emits.{broken}
+use Rattle.history.specs.Emits.{broken, is_there}
 use Rattle.history.specs.FromBus.{chosen}
 use Rattle.history.specs.Gate.{out, expired}
 use Rattle.history.specs.AddressLaws.{AreSettings}
 use Rattle.history.specs.FitLaws.{IsWithinLimits}
 use Rattle.gate_model.specs.Said.{complete_of}
-use Rattle.gate_model.specs.Machine.{Compared, Machine, Step, gives, is_there, opened_machine, started_at, later, overdue}
+use Rattle.gate_model.specs.Machine.{Compared, Machine, Step, gives, opened_machine, started_at, later, overdue}
 use Rattle.gate_model.specs.MachineSteps.{stepped, entered, commanded}
 use Rattle.gate_model.specs.Stands.{AreOrders, StandsAt, Stands, IsReached}
 

@@ -48,10 +48,6 @@ and_posted x (e ∷ es) = with_posted x (e ∷ es)
 abbrev pub and_left : ℕ → Emitted → Emitted → Emitted
 and_left room x more = and_posted (and_told room x more.told) more.posted
 
-abbrev pub is_there : List Emit → Bool
-is_there [] = false
-is_there (e ∷ es) = true
-
 abbrev pub is_datagram : Emit → Bool
 is_datagram (can frame) = false
 is_datagram (net group bytes) = true

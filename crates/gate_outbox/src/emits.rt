@@ -3,7 +3,8 @@ ghost use Rattle.std.specs.Prelude.{◌≡◌, ◌<◌, ◌↔◌, ◌∷◌, []
 ghost use Rattle.std.specs.Borrow.{sem};
 ghost use Rattle.n2k_id.specs.Frame.{IsFrame, bus_frame};
 ghost use Rattle.gate_events.specs.Emit.{CanWrite, can, report};
-ghost use Rattle.gate_outbox.specs.Output.{IsEmitted, and_told, emit_of, emits_of, is_there, no_emits};
+ghost use Rattle.gate_outbox.specs.Output.{IsEmitted, and_told, emit_of, emits_of, no_emits};
+ghost use Rattle.history.specs.Emits.{is_there};
 
 use crate::datagram::Datagram;
 use crate::kept::Kept;

@@ -10,8 +10,8 @@ use Rattle.slot_views.specs.Runs.{opener_of}
 use Rattle.fast_packet.specs.declared.answers.FastRefusal.{FastRefusal}
 use Rattle.fast_packet.specs.declared.answers.FastRefusal.TheVariants.{Order, Orphan, Length, Full}
 use Rattle.fast_packet.specs.FastFrames.{counter_of, sequence_of, length_of, is_opener, is_no_later}
-use Rattle.fast_packet.specs.FastRuns.{FastPiece, is_next, is_repeat}
-use Rattle.fast_packet.specs.Keys.{refused, is_awaited}
+use Rattle.fast_packet.specs.FastRuns.{FastPiece, is_next, is_repeat, is_awaited}
+use Rattle.fast_packet.specs.Keys.{refused}
 use Rattle.fast_packet.proofs.Assemblies.{counter_zero}
 use Rattle.fast_packet.proofs.Lawful.{repeat_counter}
 use Rattle.history.specs.Emits.{Rule, breaks, broken_of}

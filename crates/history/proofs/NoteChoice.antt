@@ -7,7 +7,8 @@ use Rattle.readings.specs.declared.rows.Row.{Row}
 use Rattle.claim_table.specs.Claims.{holder_at}
 use Rattle.source_choice.specs.declared.note.Note.{Note}
 use Rattle.source_choice.specs.declared.rank.Rank.{Rank}
-use Rattle.source_choice.specs.Notes.{RowNotes, AreFrom, note_of, is_before, outranks, is_fresh}
+use Rattle.source_choice.specs.Notes.{RowNotes, AreFrom, note_of, outranks, is_fresh}
+use Rattle.source_choice.specs.Ranks.{is_before}
 use Rattle.readings.specs.Rows.{row_of}
 use Rattle.history.specs.Settings.{Settings, RowRule, rule_of}
 use Rattle.history.specs.Heard.{same_text, place_of}

@@ -7,8 +7,8 @@ use Rattle.slot_views.proofs.RunSuffixes.{one_suffix_of}
 use Rattle.fast_packet.specs.declared.answers.FastRefusal.{FastRefusal}
 use Rattle.fast_packet.specs.declared.answers.FastRefusal.TheVariants.{Order, Length}
 use Rattle.fast_packet.specs.FastFrames.{counter_of, is_opener, is_no_later}
-use Rattle.fast_packet.specs.FastRuns.{FastPiece, fast_rules, is_next, is_repeat}
-use Rattle.fast_packet.specs.Keys.{refused, is_awaited}
+use Rattle.fast_packet.specs.FastRuns.{FastPiece, fast_rules, is_next, is_repeat, is_awaited}
+use Rattle.fast_packet.specs.Keys.{refused}
 use Rattle.fast_packet.proofs.Lawful.{lawful, no_next, no_repeat}
 use Rattle.fast_packet.proofs.Assemblies.{counter_zero}
 use Rattle.iso_transport.specs.declared.connection.Cm.TheVariants.{Rts, Bam, Abort}
@@ -19,10 +19,10 @@ use Rattle.iso_transport.specs.Connection.{control_at, size_at, packets_at, limi
 use Rattle.iso_transport.specs.Cm.{cm_of}
 use Rattle.iso_transport.specs.Sessions.{is_size, opens, announced}
 use Rattle.iso_transport.specs.IsoRuns as iso
-use Rattle.iso_transport.specs.IsoRuns.{IsoPiece, iso_rules, end_of, session_of}
+use Rattle.iso_transport.specs.IsoRuns.{IsoPiece, iso_rules, end_of, session_of, pgn_of, left_of_run}
 use Rattle.iso_transport.specs.Audience.{bears}
 use Rattle.iso_transport.specs.Verdicts.{sized_verdict, kind_verdict, management_verdict}
-use Rattle.iso_transport.specs.RunVerdicts.{run_verdict, packet_run_verdict, pgn_of, left_of_run}
+use Rattle.iso_transport.specs.RunVerdicts.{run_verdict, packet_run_verdict}
 use Rattle.iso_transport.proofs.Lawful as iso_lawful
 use Rattle.iso_transport.proofs.Lawful.{and_false}
 use Rattle.history.specs.Traces.{fast_trace, iso_trace}

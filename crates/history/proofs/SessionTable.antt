@@ -9,8 +9,8 @@ use Rattle.gate_events.specs.declared.emit.Detail.TheVariants as detail
 use Rattle.iso_transport.specs.Audience.{key_of}
 use Rattle.iso_transport.specs.Connection.{control_at, size_at, packets_at}
 use Rattle.iso_transport.specs.Sessions.{is_size}
-use Rattle.iso_transport.specs.IsoRuns.{IsoPiece, end_of, session_of, is_next, is_repeat}
-use Rattle.iso_transport.specs.RunVerdicts.{left_of_run, run_verdict}
+use Rattle.iso_transport.specs.IsoRuns.{IsoPiece, end_of, session_of, is_next, is_repeat, left_of_run}
+use Rattle.iso_transport.specs.RunVerdicts.{run_verdict}
 use Rattle.history.specs.Emits.{Rule, breaks, broken_of}
 use Rattle.history.specs.Traces.{Note, iso_piece}
 use Rattle.history.specs.BusRules.{is_early, is_rts, is_abort, opens_session, is_wrong_kind, is_wrong_size, is_short_packet, is_packet_out_of_order, is_cut_management, session_pgn, message_rule}

@@ -3,7 +3,7 @@ use Rattle.std.specs.Prelude.{◌≡◌, ℕ, ◌<◌, ◌≤◌, false, length,
 use Rattle.claim_table.specs.Claims.{IsSinceBy, move_places}
 use Rattle.claim_table.specs.Laws.{IsSound}
 use Rattle.claim_table.specs.Presets.{repeats, takes}
-use Rattle.history.specs.Pgns as pgns
+use Rattle.n2k_id.specs.Pgns as pgns
 use Rattle.history.specs.Entries.{History}
 use Rattle.pgn_profile.specs.declared.kinds.Kind.TheVariants.{Outside}
 use Rattle.history.specs.Settings.{Settings}

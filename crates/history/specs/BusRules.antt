@@ -9,13 +9,12 @@ use Rattle.pgn_profile.specs.declared.profiled.Profiled.{Profiled}
 use Rattle.pgn_profile.specs.declared.profiled.Profiled.TheVariants as says
 use Rattle.fast_packet.specs.FastFrames as fast
 use Rattle.fast_packet.specs.FastRuns as fast_runs
-use Rattle.fast_packet.specs.FastRuns.{FastPiece}
-use Rattle.fast_packet.specs.Keys.{is_awaited}
+use Rattle.fast_packet.specs.FastRuns.{FastPiece, is_awaited}
 use Rattle.iso_transport.specs.Audience.{key_of}
+use Rattle.iso_transport.specs.Connection as control
 use Rattle.iso_transport.specs.Connection.{control_at}
 use Rattle.iso_transport.specs.IsoRuns as iso_runs
-use Rattle.iso_transport.specs.IsoRuns.{IsoPiece, end_of, session_of}
-use Rattle.iso_transport.specs.RunVerdicts.{left_of_run}
+use Rattle.iso_transport.specs.IsoRuns.{IsoPiece, end_of, session_of, left_of_run}
 use Rattle.gate_events.specs.declared.emit.Report.{Report}
 use Rattle.gate_events.specs.declared.emit.Detail.{Detail}
 use Rattle.gate_events.specs.declared.emit.Detail.TheVariants as detail
@@ -61,16 +60,16 @@ is_out_of_order (Some acc) x = is_later_frame x && (not (fast_runs.is_repeat acc
 
 -- a connection management frame of 8 bytes with this control byte: an RTS, a BAM, an abort
 abbrev pub has_control : ℕ → IsoPiece → Bool
-has_control control x = not x.packet && (nat_le 8 (length x.bytes) && (control_at x.bytes == control))
+has_control kind x = not x.packet && (nat_le 8 (length x.bytes) && (control_at x.bytes == kind))
 
 abbrev pub is_rts : IsoPiece → Bool
-is_rts x = has_control 16 x
+is_rts x = has_control control.rts x
 
 abbrev pub is_bam : IsoPiece → Bool
-is_bam x = has_control 32 x
+is_bam x = has_control control.bam x
 
 abbrev pub is_abort : IsoPiece → Bool
-is_abort x = has_control 255 x
+is_abort x = has_control control.abort x
 
 -- an RTS to the gateway before it is ready opens nothing, and has no reply
 abbrev pub is_early : Bool → Bool → IsoPiece → Bool

@@ -10,7 +10,7 @@ use Rattle.pgn_profile.specs.Profiled.{profiled}
 use Rattle.pgn_profile.specs.declared.profiled.Profiled.{Profiled}
 use Rattle.pgn_profile.specs.declared.profiled.Profiled.TheVariants as says
 use Rattle.source_choice.specs.declared.rank.Rank.{Rank}
-use Rattle.source_choice.specs.Notes.{is_before}
+use Rattle.source_choice.specs.Ranks.{is_before}
 use Rattle.claim_table.specs.Claims.{holder_at}
 use Rattle.claim_table.specs.declared.answer.Holder.{Holder}
 use Rattle.history.specs.Settings.{Settings, RowRule, same_row, rule_of}

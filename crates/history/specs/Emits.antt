@@ -1,5 +1,5 @@
 -- What a gateway emits: reports, claims, requests and replies.
-use Rattle.std.specs.Prelude.{ℕ, Bool, List, [], ◌∷◌, ◌++◌, map, Option, Some, None, if◌then◌else◌}
+use Rattle.std.specs.Prelude.{ℕ, Bool, true, false, List, [], ◌∷◌, ◌++◌, map, Option, Some, None, if◌then◌else◌}
 use Rattle.n2k_id.specs.Identifier.{identifier_of}
 use Rattle.n2k_id.specs.Name.{name_bytes}
 use Rattle.gate_events.specs.declared.emit.Detail.{Detail}
@@ -8,7 +8,7 @@ use Rattle.gate_events.specs.declared.emit.Report.{Report}
 use Rattle.gate_events.specs.Emit.{Emit, Emitted, can, report}
 use Rattle.iso_transport.specs.declared.reply.Reply.{Reply}
 use Rattle.iso_transport.specs.Replies.{reply_bytes}
-use Rattle.history.specs.Pgns as pgns
+use Rattle.n2k_id.specs.Pgns as pgns
 
 abbrev pub at : ℕ → List Emit → List Emitted
 at m emits = map (λ e. record { moment = m; emit = e }) emits
@@ -64,3 +64,8 @@ reply_from (Some own) destination reply = sent 7 pgns.connection_management dest
 abbrev pub replied : Option ℕ → ℕ → Option Reply → List Emit
 replied own destination None = []
 replied own destination (Some reply) = reply_from own destination reply
+
+-- whether anything is emitted
+abbrev pub is_there : List Emit → Bool
+is_there [] = false
+is_there (e ∷ es) = true

@@ -72,6 +72,11 @@ module _ (holders after : List (Option Holder)) (notes : List Note) (m : ℕ) wh
       flat_map (λ key. of_source rules.claim_lost key.source key.pgn ∷ [])
       (filter (λ key. is_meant key && fast_ended holders m after m notes key) (fast_keys kinds notes))
 
+  -- those of one address
+  abbrev pub fast_lost_at : (ℕ → Kind) → Option ℕ → List Emit
+  fast_lost_at kinds None = []
+  fast_lost_at kinds (Some a) = fast_lost kinds (λ key. key.source == a)
+
 module _ (k after : Known) (notes : List Note) (m : ℕ) where
   abbrev pub iso_lost : (IsoKey → Bool) → List Emit
   iso_lost is_meant =

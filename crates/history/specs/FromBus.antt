@@ -17,10 +17,10 @@ use Rattle.fast_packet.specs.FastRuns.{FastPiece}
 use Rattle.iso_transport.specs.declared.reply.Reply.{Reply}
 use Rattle.iso_transport.specs.Audience.{key_of}
 use Rattle.iso_transport.specs.IsoRuns.{IsoPiece}
-use Rattle.iso_transport.specs.RunVerdicts.{reply_to}
+use Rattle.iso_transport.specs.RunReplies.{reply_to}
 use Rattle.gate_events.specs.declared.emit.Report.{Report}
 use Rattle.gate_events.specs.declared.emit.Detail.TheVariants as detail
-use Rattle.history.specs.Pgns as pgns
+use Rattle.n2k_id.specs.Pgns as pgns
 use Rattle.history.specs.Entries as entry
 use Rattle.history.specs.Entries.{Entry, History}
 use Rattle.pgn_profile.specs.declared.kinds.Kind.{Kind}

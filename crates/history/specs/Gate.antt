@@ -12,7 +12,7 @@ use Rattle.datagram450.specs.Item.{Item}
 use Rattle.gate_events.specs.declared.emit.Report.{Report}
 use Rattle.gate_events.specs.declared.emit.Detail.TheVariants as detail
 use Rattle.report_rules.specs.Rules as rules
-use Rattle.history.specs.Pgns as pgns
+use Rattle.n2k_id.specs.Pgns as pgns
 use Rattle.history.specs.Entries as entry
 use Rattle.history.specs.Entries.{Entry, History, now, moment_of, is_accepted}
 use Rattle.pgn_profile.specs.Profiled.{kind_of}

@@ -1,5 +1,4 @@
 pub mod Entries
-pub mod Pgns
 pub mod Settings
 pub mod Receiver
 pub mod Known

@@ -3,7 +3,7 @@ use Rattle.std.specs.Prelude.{ℕ, zero, suc, Bool, false, ◌==◌, List, [], �
 use Rattle.n2k_id.specs.declared.pattern.Pattern.{Pattern}
 use Rattle.claim_table.specs.declared.preset.Preset.{Preset}
 use Rattle.readings.specs.declared.rows.Row.{Row}
-use Rattle.source_choice.specs.Choices.{row_number}
+use Rattle.readings.specs.About.{row_number}
 
 -- whom a row is taken from, and to whom it is said
 pub record RowRule : Type 0 where

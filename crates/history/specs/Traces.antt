@@ -5,7 +5,7 @@ use Rattle.n2k_id.specs.declared.identifier_parts.Parts.{Parts}
 use Rattle.fast_packet.specs.FastRuns.{FastPiece}
 use Rattle.iso_transport.specs.IsoRuns.{IsoPiece}
 use Rattle.iso_transport.specs.Audience.{is_data, is_management, bears}
-use Rattle.iso_transport.specs.Connection.{control_at}
+use Rattle.iso_transport.specs.Connection.{rts, control_at}
 use Rattle.history.specs.Known.{Known, held_since}
 use Rattle.claim_table.specs.declared.answer.Holder.{Holder}
 
@@ -42,9 +42,9 @@ fast_trace holders source pgn notes = fast_trace_since (held_since holders sourc
 abbrev pub is_transport : Parts → Bool
 is_transport p = is_management p || is_data p
 
--- it can open, extend or end a session; an RTS (control byte 16) only where the gateway was ready to answer it
+-- it can open, extend or end a session; an RTS only where the gateway was ready to answer it
 abbrev pub is_bearing : Bool → Note → Bool
-is_bearing addressed n = is_transport n.parts && (bears addressed (is_data n.parts) n.bytes && (is_data n.parts || (not (control_at n.bytes == 16) || n.ready)))
+is_bearing addressed n = is_transport n.parts && (bears addressed (is_data n.parts) n.bytes && (is_data n.parts || (not (control_at n.bytes == rts) || n.ready)))
 
 abbrev pub iso_piece : Note → IsoPiece
 iso_piece n = record { moment = n.moment; packet = is_data n.parts; bytes = n.bytes; admitted = n.admitted }

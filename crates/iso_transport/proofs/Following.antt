@@ -21,10 +21,11 @@ use Rattle.iso_transport.specs.Cm.{cm_by, cm_of}
 use Rattle.iso_transport.specs.Sessions.{packets_of, is_size, opens, announced, gap_after, reply_after, abort_to}
 use Rattle.iso_transport.specs.Answers.{reply_by}
 use Rattle.iso_transport.specs.Audience.{bears}
-use Rattle.iso_transport.specs.IsoRuns.{IsoPiece, number_of, end_of, part_of, session_of, need_of, is_opener, is_next, is_repeat, iso_rules, joined, payload}
+use Rattle.iso_transport.specs.IsoRuns.{IsoPiece, number_of, end_of, part_of, session_of, need_of, is_opener, is_next, is_repeat, iso_rules, joined, payload, pgn_of, left_of_run}
 use Rattle.iso_transport.specs.Verdicts.{session_in, pgn_in, left_of, is_again, packet_verdict, opener_verdict, sized_verdict, abort_verdict, kind_verdict, management_verdict}
 use Rattle.iso_transport.specs.Assembly.{extended}
-use Rattle.iso_transport.specs.RunVerdicts.{Message, pgn_of, left_of_run, packet_run_verdict, run_verdict, reply_to_next, reply_to_packet, reply_to_opener, is_request, reply_to, message_of, verdict_on, left_by, completed_by, assembly_of, assembly_at}
+use Rattle.iso_transport.specs.RunVerdicts.{Message, packet_run_verdict, run_verdict, message_of, verdict_on, left_by, completed_by, assembly_of, assembly_at}
+use Rattle.iso_transport.specs.RunReplies.{reply_to_next, reply_to_packet, reply_to_opener, is_request, reply_to}
 use Rattle.iso_transport.specs.Laws.{IsOfTrace, IsTrace, assembly_after, FollowsRuns, HasItsSize}
 use Rattle.iso_transport.proofs.Lawful.{lawful, both_true, and_false, no_next, no_repeat}
 use Rattle.iso_transport.proofs.Sessions.{Opened, opened_from, session_kept}

@@ -25,11 +25,11 @@ use Rattle.iso_transport.specs.declared.verdict.Verdict.TheVariants.{Ignored, Ag
 use Rattle.iso_transport.specs.Cm.{cm_of}
 use Rattle.iso_transport.specs.Sessions.{is_size, opens, announced, gap_after, abort_to}
 use Rattle.iso_transport.specs.Audience.{key_of, is_data, concerns}
-use Rattle.iso_transport.specs.IsoRuns.{IsoPiece, number_of, end_of, session_of, is_next, is_repeat, iso_rules}
+use Rattle.iso_transport.specs.IsoRuns.{IsoPiece, number_of, end_of, session_of, is_next, is_repeat, iso_rules, pgn_of, left_of_run}
 use Rattle.iso_transport.specs.Verdicts.{VerdictFits, opener_verdict, abort_verdict, kind_verdict, frame_verdict}
 use Rattle.iso_transport.specs.Assembly.{opening, extended, part_to, is_crowded, fed_by, verdict_of, fed_after}
 use Rattle.iso_transport.specs.Answers.{restarted_by, reply_by, NextGives, OutcomeBy, FeedGives}
-use Rattle.iso_transport.specs.RunVerdicts.{Message, pgn_of, left_of_run, packet_run_verdict, run_verdict, message_of, verdict_on, extended_by, left_by, completed_by, completed_with, assembly_at}
+use Rattle.iso_transport.specs.RunVerdicts.{Message, packet_run_verdict, run_verdict, message_of, verdict_on, extended_by, left_by, completed_by, completed_with, assembly_at}
 use Rattle.iso_transport.specs.Laws.{IsOfTrace, IsTrace, assembly_after}
 use Rattle.iso_transport.specs.Joining.{StepsWithRuns}
 use Rattle.iso_transport.specs.Keys.{is_open_at, given_up, OutcomeIs, AnswerIs, open_keys, other_open_keys, IsNoted, sessions_after, AreFed, sessions, AllFollow, AllAnswered}

@@ -1,5 +1,21 @@
--- Where the numbers of a connection management frame (TP.CM) lie in its 8 bytes (ISO 11783-3).
+-- The control bytes of connection management frames (TP.CM), and where their numbers lie in their 8 bytes (ISO 11783-3).
 use Rattle.std.specs.Prelude.{ℕ, ◌+◌, ◌*◌, ◌%◌, ◌^◌, List, slice_index}
+
+-- a request to send, a clearance to send, the acknowledgement of the end of a message, an announcement to all, an abort
+abbrev pub rts : ℕ
+rts = 16
+
+abbrev pub cts : ℕ
+cts = 17
+
+abbrev pub end_ack : ℕ
+end_ack = 19
+
+abbrev pub bam : ℕ
+bam = 32
+
+abbrev pub abort : ℕ
+abort = 255
 
 -- the kind of the frame
 abbrev pub control_at : List ℕ → ℕ

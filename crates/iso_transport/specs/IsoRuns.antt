@@ -35,6 +35,14 @@ abbrev pub session_of : List IsoPiece → Session
 session_of [] = announced (cm_of [])
 session_of (y ∷ ys) = announced (cm_of (opener_of y ys).bytes)
 
+-- the message of the run
+abbrev pub pgn_of : List IsoPiece → ℕ
+pgn_of acc = (session_of acc).pgn
+
+-- how many bytes of it are still to come
+abbrev pub left_of_run : List IsoPiece → ℕ
+left_of_run acc = left_after (session_of acc).size (length acc - 1)
+
 -- as many frames as the message has packets, and its opener
 abbrev pub need_of : IsoPiece → ℕ
 need_of x = packets_of (announced (cm_of x.bytes)).size + 1

@@ -16,11 +16,12 @@ use Rattle.iso_transport.specs.declared.answers.IsoOutcome.TheVariants as became
 use Rattle.iso_transport.specs.declared.verdict.Verdict.{Verdict}
 use Rattle.iso_transport.specs.declared.verdict.Verdict.TheVariants.{Ignored, Again, Refused, Ends, Opens, Next}
 use Rattle.iso_transport.specs.Audience.{key_of}
-use Rattle.iso_transport.specs.IsoRuns.{IsoPiece, is_opener, iso_rules}
+use Rattle.iso_transport.specs.IsoRuns.{IsoPiece, is_opener, iso_rules, pgn_of}
 use Rattle.iso_transport.specs.Verdicts.{frame_verdict}
 use Rattle.iso_transport.specs.Assembly.{is_crowded, fed_by, fed_after}
 use Rattle.iso_transport.specs.Answers.{FeedGives}
-use Rattle.iso_transport.specs.RunVerdicts.{Message, pgn_of, run_verdict, reply_to, message_of, assembly_at}
+use Rattle.iso_transport.specs.RunVerdicts.{Message, run_verdict, message_of, assembly_at}
+use Rattle.iso_transport.specs.RunReplies.{reply_to}
 use Rattle.iso_transport.specs.Laws.{IsOfTrace}
 
 -- the frames of the key are open at the moment

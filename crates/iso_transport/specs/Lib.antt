@@ -4,6 +4,7 @@ pub mod Replies
 pub mod Sessions
 pub mod Audience
 pub mod IsoRuns
+pub mod RunReplies
 pub mod Verdicts
 pub mod Assembly
 pub mod Answers

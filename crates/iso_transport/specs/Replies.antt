@@ -2,6 +2,7 @@
 use Rattle.std.specs.Prelude.{ℕ, ◌/◌, ◌%◌, ◌^◌, ◌<◌, List, [], ◌∷◌, Option, IfSome}
 use Rattle.iso_transport.specs.declared.connection.Cm.{Cm}
 use Rattle.iso_transport.specs.declared.connection.Cm.TheVariants as cm
+use Rattle.iso_transport.specs.Connection as control
 use Rattle.iso_transport.specs.declared.reply.Reply.{Reply}
 use Rattle.iso_transport.specs.declared.reply.Reply.TheVariants.{Cts, EndAck, Abort}
 
@@ -10,9 +11,9 @@ abbrev pub pgn_bytes : ℕ → List ℕ
 pgn_bytes pgn = pgn % 256 ∷ pgn / 256 % 256 ∷ pgn / 65536 ∷ []
 
 abbrev pub reply_bytes : Reply → List ℕ
-reply_bytes (Cts count next pgn) = 17 ∷ count ∷ next ∷ 255 ∷ 255 ∷ pgn_bytes pgn
-reply_bytes (EndAck size packets pgn) = 19 ∷ size % 256 ∷ size / 256 ∷ packets ∷ 255 ∷ pgn_bytes pgn
-reply_bytes (Abort reason pgn) = 255 ∷ reason ∷ 255 ∷ 255 ∷ 255 ∷ pgn_bytes pgn
+reply_bytes (Cts count next pgn) = control.cts ∷ count ∷ next ∷ 255 ∷ 255 ∷ pgn_bytes pgn
+reply_bytes (EndAck size packets pgn) = control.end_ack ∷ size % 256 ∷ size / 256 ∷ packets ∷ 255 ∷ pgn_bytes pgn
+reply_bytes (Abort reason pgn) = control.abort ∷ reason ∷ 255 ∷ 255 ∷ 255 ∷ pgn_bytes pgn
 
 -- what a reply says, as a connection management frame
 abbrev pub as_cm : Reply → Cm

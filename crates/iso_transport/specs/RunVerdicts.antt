@@ -1,30 +1,17 @@
 -- What a frame is to its key, said twice: by the frames of the run that is open, and by the session that stands for it.
-use Rattle.std.specs.Prelude.{ℕ, ◌+◌, ◌-◌, ◌%◌, Bool, true, false, not, ◌==◌, nat_lt, min, if◌then◌else◌, List, [], ◌∷◌, length, Option, Some, None, option_map}
+use Rattle.std.specs.Prelude.{ℕ, ◌+◌, ◌-◌, Bool, not, nat_lt, if◌then◌else◌, List, [], ◌∷◌, length, Option, Some, None, option_map}
 use Rattle.slot_views.specs.Slots.{Entry, is_complete}
 use Rattle.slot_views.specs.Traces.{if_incomplete}
 use Rattle.iso_transport.specs.declared.answers.IsoRefusal.TheVariants as refusal
 use Rattle.iso_transport.specs.declared.session.Session.{Session}
 use Rattle.iso_transport.specs.declared.verdict.Verdict.{Verdict}
 use Rattle.iso_transport.specs.declared.verdict.Verdict.TheVariants.{Ignored, Again, Refused, Ends, Opens, Next}
-use Rattle.iso_transport.specs.declared.connection.Cm.{Cm}
-use Rattle.iso_transport.specs.declared.connection.Cm.TheVariants.{Rts, Cts, EndAck, Bam, Abort}
-use Rattle.iso_transport.specs.declared.reply.Reply.{Reply}
-use Rattle.iso_transport.specs.declared.reply.Reply.TheVariants as reply
-use Rattle.iso_transport.specs.Cm.{cm_of}
 use Rattle.iso_transport.specs.Sessions.{packets_of, gap_after, abort_to, mark_of}
-use Rattle.iso_transport.specs.IsoRuns.{IsoPiece, number_of, end_of, left_after, session_of, is_opener, is_next, is_repeat, joined, payload}
+use Rattle.iso_transport.specs.IsoRuns.{IsoPiece, number_of, end_of, session_of, pgn_of, left_of_run, is_next, is_repeat, joined, payload}
 use Rattle.iso_transport.specs.Verdicts.{management_verdict, frame_verdict}
 use Rattle.iso_transport.specs.Assembly.{opening, extended}
 
 -- ---- by the frames accepted so far of the run that is open
-
--- the message of the run
-abbrev pub pgn_of : List IsoPiece → ℕ
-pgn_of acc = (session_of acc).pgn
-
--- how many bytes of it are still to come
-abbrev pub left_of_run : List IsoPiece → ℕ
-left_of_run acc = left_after (session_of acc).size (length acc - 1)
 
 -- a packet is too short, or else a repeat, or the next one, or out of order
 abbrev pub packet_run_verdict : Bool → Option (List IsoPiece) → IsoPiece → Verdict
@@ -38,37 +25,6 @@ packet_run_verdict addressed (Some acc) x =
 -- a frame that is no packet is told by what it says and the message that is open
 abbrev pub run_verdict : Bool → Option (List IsoPiece) → IsoPiece → Verdict
 run_verdict addressed o x = if x.packet then packet_run_verdict addressed o x else management_verdict addressed (not x.admitted) (option_map pgn_of o) x.bytes
-
--- the reply to the next packet: the acknowledgement after the last one, and a grant after each multiple of the window
-abbrev pub reply_to_next : Session → ℕ → Option Reply
-reply_to_next s number = if number == packets_of s.size then Some (reply.EndAck s.size (packets_of s.size) s.pgn)
-    else if number % s.window == 0 then Some (reply.Cts (min s.window (packets_of s.size - number)) (number + 1) s.pgn) else None
-
--- to any packet of an open session: nothing to a repeat, and an abort to one that is short or out of order
-abbrev pub reply_to_packet : Option (List IsoPiece) → IsoPiece → Option Reply
-reply_to_packet None x = None
-reply_to_packet (Some acc) x = if is_next acc x then reply_to_next (session_of acc) (number_of x.bytes)
-    else if is_repeat acc x then None else Some (reply.Abort 2 (pgn_of acc))
-
--- to an opener: the first grant, or an abort where there is no room
-abbrev pub reply_to_opener : Session → Bool → Reply
-reply_to_opener s admitted = if admitted then reply.Cts (min s.window (packets_of s.size)) 1 s.pgn else reply.Abort 1 s.pgn
-
--- the frame is an RTS
-abbrev pub is_request : Option Cm → Bool
-is_request None = false
-is_request (Some (Rts size packets limit pgn)) = true
-is_request (Some (Cts count next pgn)) = false
-is_request (Some (EndAck size packets pgn)) = false
-is_request (Some (Bam size packets pgn)) = false
-is_request (Some (Abort why pgn)) = false
-
--- to any frame of a trace: only the sender of a message to this node has a reply
-abbrev pub reply_to : Bool → Option (List IsoPiece) → IsoPiece → Option Reply
-reply_to false o x = None
-reply_to true o x = if x.packet then reply_to_packet o x
-    else if is_opener true x then Some (reply_to_opener (session_of (x ∷ [])) x.admitted)
-    else if is_request (cm_of x.bytes) then Some (reply.Abort 2 (pgn_of (x ∷ []))) else None
 
 -- a message, by its PGN and its bytes
 pub record Message : Type 0 where

@@ -24,7 +24,8 @@ use Rattle.history.proofs.ChoiceSteps.{messages_are_of_holders}
 use Rattle.history.proofs.FreshSteps.{below, claim_says_none}
 use Rattle.history.proofs.KeySteps.{known_same}
 use Rattle.gate_core.specs.Promises.{done_told}
-use Rattle.gate_outbox.specs.Output.{Output, is_there}
+use Rattle.gate_outbox.specs.Output.{Output}
+use Rattle.history.specs.Emits.{is_there}
 use Rattle.joined_rmc.specs.Chosen.{Chosen, chosen_at, chosen_of, held_by, last_of, newer, saying, still_held}
 use Rattle.joined_rmc.specs.JoinStands.{message_of}
 use Rattle.joined_rmc.specs.Kept.{picked, picked_of, read_at}

@@ -12,7 +12,8 @@ use Rattle.sentence_rows.specs.declared.rmc.Minimum.{Minimum}
 use Rattle.tag_block.specs.Numbers.{most_count}
 use Rattle.history.specs.Settings.{same_row}
 use Rattle.gate_outbox.specs.declared.done.Done.{Done}
-use Rattle.gate_outbox.specs.Output.{Output, is_there}
+use Rattle.gate_outbox.specs.Output.{Output}
+use Rattle.history.specs.Emits.{is_there}
 use Rattle.joined_rmc.specs.declared.selected_message.SelectedMessage.{SelectedMessage}
 use Rattle.joined_rmc.specs.declared.last_of_row.LastOfRow.{LastOfRow}
 use Rattle.joined_rmc.specs.Chosen.{says_position, unless_old}

@@ -37,6 +37,10 @@ about_of row.WindNorth = about 14 (codes "wind_north") (codes "WI") 130306 None 
 about_of row.WaterTemperature = about 15 (codes "water_temperature") (codes "YX") 130316 (Some 130312) 5
 about_of row.CrossTrack = about 16 (codes "cross_track") (codes "II") 129283 None 3
 
+-- the row's place among the rows
+abbrev pub row_number : Row → ℕ
+row_number row = (about_of row).number
+
 -- all rows, in their order
 abbrev pub every_row : List Row
 every_row =

@@ -6,8 +6,9 @@ use Rattle.std.proofs.lemmas.List.Sums.{prefix_len-le-length}
 use Rattle.std.proofs.lemmas.Bool.Decides.{nat_tests}
 use Rattle.std.proofs.lemmas.Bool.{eqb-true, eq-eqb, and_parts, leb-true, le-leb}
 use Rattle.source_choice.specs.declared.note.Note.{Note}
-use Rattle.source_choice.specs.Notes.{RowNotes, AreFrom, is_before, is_fresh, is_selected, note_of, outranks, with_note, without}
-use Rattle.source_choice.specs.Choices.{IsBefore, IsFirst, IsFresh}
+use Rattle.source_choice.specs.Notes.{RowNotes, AreFrom, is_fresh, is_selected, note_of, outranks, with_note, without}
+use Rattle.source_choice.specs.Ranks.{is_before, IsBefore}
+use Rattle.source_choice.specs.Choices.{IsFirst, IsFresh}
 use Rattle.source_choice.specs.declared.rank.Rank.{Rank}
 
 abbrev pub not_before : ℕ → Note → Bool

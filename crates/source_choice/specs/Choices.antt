@@ -1,19 +1,16 @@
 -- What was noted of all rows.
 use Rattle.std.specs.Prelude.{◌≡◌, ◌≢◌, ℕ, ◌+◌, ◌*◌, ◌<◌, ◌≤◌, ◌⊎◌, IsTrue, List, [], ◌∷◌, map, slice_index_or, slice_set, Option, Some}
 use Rattle.readings.specs.declared.rows.Row.{Row}
-use Rattle.readings.specs.About.{about_of}
+use Rattle.readings.specs.About.{row_number}
 use Rattle.source_choice.specs.declared.rank.Rank.{Rank}
 use Rattle.source_choice.specs.declared.note.Note.{Note}
+use Rattle.source_choice.specs.Ranks.{IsBefore}
 use Rattle.source_choice.specs.Notes.{RowNotes, note_of, with_note, without}
 
 -- the notes of each row, in the order of the rows
 pub record Choices : Type 0 where
   pub sources : ℕ
   pub rows : List RowNotes
-
--- the row's place among the rows
-abbrev pub row_number : Row → ℕ
-row_number row = (about_of row).number
 
 -- with nothing noted yet
 abbrev pub nothing : ℕ → ℕ → RowNotes
@@ -36,10 +33,6 @@ forgotten_in source r = record r { notes = without source r.notes }
 
 abbrev pub forgotten : Choices → ℕ → Choices
 forgotten c source = record c { rows = map (forgotten_in source) c.rows }
-
--- the smaller rank
-abbrev pub IsBefore : Rank → Rank → Type 0
-IsBefore a b = (a.place < b.place) ⊎ ((a.place ≡ b.place) × (a.name < b.name))
 
 -- usable, and at most the timeout older than the moment
 abbrev pub IsFresh : ℕ → ℕ → Note → Type 0

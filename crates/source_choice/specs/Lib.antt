@@ -1,3 +1,4 @@
+pub mod Ranks
 pub mod Notes
 pub mod Choices
 pub mod Laws

@@ -1,8 +1,9 @@
 -- What was noted of the sources of a row, and whose message is selected.
-use Rattle.std.specs.Prelude.{◌≡◌, ℕ, ◌+◌, ◌*◌, ◌<◌, ◌≤◌, Bool, ◌&&◌, ◌||◌, not, ◌==◌, nat_lt, nat_le, List, [], ◌∷◌, filter, find, Option, if◌then◌else◌}
+use Rattle.std.specs.Prelude.{◌≡◌, ℕ, ◌+◌, ◌*◌, ◌<◌, ◌≤◌, Bool, ◌&&◌, not, ◌==◌, nat_lt, nat_le, List, [], ◌∷◌, filter, find, Option, if◌then◌else◌}
 use Rattle.std.specs.List.{list_any}
 use Rattle.source_choice.specs.declared.rank.Rank.{Rank}
 use Rattle.source_choice.specs.declared.note.Note.{Note}
+use Rattle.source_choice.specs.Ranks.{is_before}
 
 -- the notes of a row, the least source first
 pub record RowNotes : Type 0 where
@@ -15,10 +16,6 @@ pub record RowNotes : Type 0 where
 abbrev pub AreFrom : ℕ → ℕ → List Note → Type 0
 AreFrom low top [] = Unit {0}
 AreFrom low top (n ∷ ns) = (low ≤ n.source) × (n.source < top) × AreFrom (n.source + 1) top ns
-
--- ranks are compared by place, then by NAME
-abbrev pub is_before : Rank → Rank → Bool
-is_before a b = nat_lt a.place b.place || ((a.place == b.place) && nat_lt a.name b.name)
 
 -- a note is fresh where it is usable and at most the timeout older than the moment
 abbrev pub is_fresh : ℕ → ℕ → Note → Bool

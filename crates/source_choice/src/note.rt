@@ -1,5 +1,6 @@
 ghost use Rattle.std.specs.Prelude.{◌≡◌};
-ghost use Rattle.source_choice.specs.Notes.{is_before, is_fresh, outranks};
+ghost use Rattle.source_choice.specs.Notes.{is_fresh, outranks};
+ghost use Rattle.source_choice.specs.Ranks.{is_before};
 
 use crate::rank::Rank;
 

@@ -21,9 +21,9 @@ use Rattle.tag_block.specs.declared.group_verdict.GroupVerdict.TheVariants.{Open
 use Rattle.tag_block.specs.declared.group_answers.GroupFed.{GroupFed}
 use Rattle.tag_block.specs.declared.group_answers.GroupOutcome.{GroupOutcome}
 use Rattle.tag_block.specs.declared.group_answers.GroupOutcome.TheVariants.{Held, Complete, Order, Full}
-use Rattle.tag_block.specs.Groups.{IsGroupPart, VerdictFits, follows, verdict, opening, fed_by, fed_after, group_gap}
+use Rattle.tag_block.specs.Groups.{IsGroupPart, VerdictFits, follows, verdict, opening, fed_by, fed_after}
 use Rattle.tag_block.specs.GroupAnswers.{OpensGives, FollowsGives, FeedGivesBy, FeedGives}
-use Rattle.tag_block.specs.GroupRuns.{GroupLine, is_next, group_rules}
+use Rattle.tag_block.specs.GroupRuns.{GroupLine, is_next, group_rules, group_gap}
 use Rattle.slot_views.specs.Laws.{TellsApart}
 use Rattle.tag_block.specs.contracts.group_key.GroupKeyOrd as key
 use Rattle.tag_block.specs.GroupJoining.{FeedsItsKey, StepsWithRuns}

@@ -8,8 +8,8 @@ use Rattle.slot_views.proofs.RunSuffixes.{one_suffix_of}
 use Rattle.slot_views.specs.Slots.{Entry, grown}
 use Rattle.slot_views.specs.Traces.{left_at, entry_after}
 use Rattle.tag_block.specs.declared.group_verdict.GroupVerdict.TheVariants.{Follows, Breaks}
-use Rattle.tag_block.specs.Groups.{IsGroupPart, follows, verdict, group_gap}
-use Rattle.tag_block.specs.GroupRuns.{GroupLine, is_next, group_rules, sentences_of}
+use Rattle.tag_block.specs.Groups.{IsGroupPart, follows, verdict}
+use Rattle.tag_block.specs.GroupRuns.{GroupLine, is_next, group_rules, sentences_of, group_gap}
 use Rattle.tag_block.specs.GroupLaws.{group_of, group_at, left_by, group_after}
 
 both_true : (a b : Bool) → (a && b) ≡ true → (a ≡ true) × (b ≡ true)

@@ -10,7 +10,8 @@ use Rattle.tag_block.specs.declared.group_verdict.GroupVerdict.TheVariants.{Open
 use Rattle.tag_block.specs.declared.group_answers.GroupFed.{GroupFed}
 use Rattle.tag_block.specs.declared.group_answers.GroupOutcome.{GroupOutcome}
 use Rattle.tag_block.specs.declared.group_answers.GroupOutcome.TheVariants.{Held, Complete, Order, Full}
-use Rattle.tag_block.specs.Groups.{verdict, opening, group_gap}
+use Rattle.tag_block.specs.Groups.{verdict, opening}
+use Rattle.tag_block.specs.GroupRuns.{group_gap}
 
 -- the group that was taken out
 abbrev pub ended_of : GroupKey × Entry → GroupKey

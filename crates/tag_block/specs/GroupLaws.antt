@@ -11,9 +11,9 @@ use Rattle.tag_block.specs.declared.group_verdict.GroupVerdict.TheVariants.{Open
 use Rattle.tag_block.specs.declared.group_answers.GroupFed.{GroupFed}
 use Rattle.tag_block.specs.declared.group_answers.GroupOutcome.{GroupOutcome}
 use Rattle.tag_block.specs.declared.group_answers.GroupOutcome.TheVariants.{Held, Complete, Order, Full}
-use Rattle.tag_block.specs.Groups.{IsGroupPart, verdict, opening, fed_after, group_gap}
+use Rattle.tag_block.specs.Groups.{IsGroupPart, verdict, opening, fed_after}
 use Rattle.tag_block.specs.GroupAnswers.{FeedGives}
-use Rattle.tag_block.specs.GroupRuns.{GroupLine, is_next, group_rules, sentences_of}
+use Rattle.tag_block.specs.GroupRuns.{GroupLine, is_next, group_rules, sentences_of, group_gap}
 
 -- the group that the lines accepted so far make
 abbrev pub group_of : List GroupLine → Option Entry

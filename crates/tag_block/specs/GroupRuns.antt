@@ -2,7 +2,10 @@
 use Rattle.std.specs.Prelude.{ℕ, ◌+◌, Bool, false, ◌&&◌, ◌==◌, nat_lt, List, [], ◌∷◌, ◌++◌, length}
 use Rattle.slot_views.specs.Runs.{Rules, opener_of}
 use Rattle.tag_block.specs.declared.group_part.GroupPart.{GroupPart}
-use Rattle.tag_block.specs.Groups.{group_gap}
+
+-- how long the next line of a group may take, in microseconds
+abbrev pub group_gap : ℕ
+group_gap = 750000
 
 -- a line, as it is to its group
 pub record GroupLine : Type 0 where

@@ -6,6 +6,7 @@ use Rattle.slot_views.specs.Slots.{Entry, SlotMap, opened, entry_at, released, b
 use Rattle.tag_block.specs.declared.group_key.GroupKey.{GroupKey}
 use Rattle.tag_block.specs.declared.group_part.GroupPart.{GroupPart}
 use Rattle.tag_block.specs.Numbers.{most_lines}
+use Rattle.tag_block.specs.GroupRuns.{group_gap}
 use Rattle.tag_block.specs.declared.group_verdict.GroupVerdict.{GroupVerdict}
 use Rattle.tag_block.specs.declared.group_verdict.GroupVerdict.TheVariants.{Opens, Follows, Breaks}
 
@@ -19,10 +20,6 @@ pub record IsGroupPart (part : GroupPart) : Type 0 where
 -- which group a line belongs to
 abbrev pub key_of : List ℕ → GroupPart → GroupKey
 key_of sfi part = record { sfi = sfi; code = part.code }
-
--- how long the next line of a group may take, in microseconds
-abbrev pub group_gap : ℕ
-group_gap = 750000
 
 -- the line has the group's total, and the number after those of its lines so far
 abbrev pub follows : Entry → GroupPart → Bool

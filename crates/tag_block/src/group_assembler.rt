@@ -4,7 +4,8 @@ ghost use Rattle.std.specs.List.{find};
 ghost use Rattle.std.specs.Borrow.{sem};
 ghost use Rattle.sentence_text.specs.Sentence.{longest_line};
 ghost use Rattle.slot_views.specs.Slots.{SlotMap, IsMap, grown, entry_at, without, begun_after, grown_after, has_expired};
-ghost use Rattle.tag_block.specs.Groups.{IsGroupPart, IsNext, VerdictFits, group_gap, key_of, verdict, opening, fed_by, fed_after};
+ghost use Rattle.tag_block.specs.Groups.{IsGroupPart, IsNext, VerdictFits, key_of, verdict, opening, fed_by, fed_after};
+ghost use Rattle.tag_block.specs.GroupRuns.{group_gap};
 
 use crate::group_answers::{GroupFed, GroupOutcome};
 use crate::group_key::GroupKey;

@@ -7,7 +7,7 @@ ghost use Rattle.claim_table.specs.Claims.{claim, claim_of};
 ghost use Rattle.history.specs.Emits.{own_claim};
 ghost use Rattle.history.specs.FromBus.{own_answer};
 ghost use Rattle.history.specs.Known.{address_won, is_claim};
-ghost use Rattle.history.specs.Pgns as pgns;
+ghost use Rattle.n2k_id.specs.Pgns as pgns;
 ghost use Rattle.history.specs.TraceLaws.{same_own};
 ghost use Rattle.gate_model.specs.Addresses.{changed_by, claimed};
 ghost use Rattle.gate_model.specs.Said as said;

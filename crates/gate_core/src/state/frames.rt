@@ -1,6 +1,6 @@
 //! A frame of the bus, by what it is to the gateway.
 ghost use Rattle.std.specs.Prelude.{◌≡◌, ◌&&◌, ◌==◌, not, nat_lt, [], false, length, option_map, IfSome};
-ghost use Rattle.history.specs.Pgns as pgns;
+ghost use Rattle.n2k_id.specs.Pgns as pgns;
 ghost use Rattle.n2k_id.specs.Frame.{IsFrame, bus_frame, held_bytes};
 ghost use Rattle.n2k_id.specs.Identifier.{parts_of};
 ghost use Rattle.pgn_profile.specs.Profiled.{GivesValid};

@@ -2,7 +2,8 @@
 ghost use Rattle.std.specs.Prelude.{◌≡◌, ◌+◌, ◌<◌, ◌≤◌, [], ◌∷◌, false, length, All, IfOk, Some};
 ghost use Rattle.readings.specs.Ranges.{IsValid};
 ghost use Rattle.readings.specs.Rows.{row_of};
-ghost use Rattle.source_choice.specs.Choices.{row_number, opened};
+ghost use Rattle.source_choice.specs.Choices.{opened};
+ghost use Rattle.readings.specs.About.{row_number};
 ghost use Rattle.history.specs.Choice.{is_usable};
 ghost use Rattle.history.specs.NetReadings.{is_fast_row};
 ghost use Rattle.gate_model.specs.Net.{rank_by, is_chosen, sequence_at, sent_by, reading_after, reading_emits, readings_after, readings_emit};
