@@ -7,9 +7,8 @@ use Rattle.history.specs.Entries.{Entry, History, IsHistory, is_accepted, moment
 use Rattle.history.specs.Settings.{Settings}
 use Rattle.history.specs.Receiver.{receiver_of}
 use Rattle.history.specs.Choice.{reading_of}
-use Rattle.history.specs.Known.{known}
-use Rattle.history.specs.Messages.{Message, done, messages_of}
-use Rattle.history.specs.FromBus.{chosen}
+use Rattle.history.specs.Messages.{Message, done}
+use Rattle.history.specs.FromBus.{said_at}
 use Rattle.history.specs.Emits.{broken, is_there}
 use Rattle.history.specs.Gate.{out, command_in}
 use Rattle.gate_model.specs.Machine.{Machine}
@@ -32,8 +31,7 @@ entry_by m o = entry.command m o.source o.address
 pub record IsTaken (c : Settings) (s : ℕ) (h : History) (e : Entry) (after : Machine) (left : Output) : Type 0 where
   pub stands : Stands by_keys c s (e ∷ h) after
   pub emits : emits_of left.emits ≡ out c s h e
-  pub selected : let r = receiver_of c in
-      is_there left.emits.posted ≡ is_some (chosen c (known r s h).claims.holders (messages_of r s h) (done r s h e))
+  pub selected : is_there left.emits.posted ≡ is_some (said_at c s h e)
   pub told : left.done ≡ option_map done_told (done (receiver_of c) s h e)
   pub ordered : option_map (entry_by (moment_of e)) left.command ≡ command_in c s (done (receiver_of c) s h e) (moment_of e)
 

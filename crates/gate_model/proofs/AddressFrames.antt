@@ -149,10 +149,6 @@ module _ (r : Receiver) (are : IsReceiver r) (k : Known) (sound : IsSound k.clai
 
   -- ---- the rules that it breaks
 
-  or_none : (b : Bool) → (b || false) ≡ b
-  or_none true = refl
-  or_none false = refl
-
   -- by a message that it doesn't complete, or by the one that is a single frame
   abbrev Breaks : Meaning → Option Message → Type 0
   Breaks meaning d = frame_breaks r.name meaning n None None d ≡ plain_reports r.name meaning p n.bytes
@@ -168,7 +164,7 @@ module _ (r : Receiver) (are : IsReceiver r) (k : Known) (sound : IsSound k.clai
   breaks_by : (meaning : Meaning)
       → Follows meaning
       → is_of_session meaning ≡ false → is_of_fast_packet meaning ≡ false → (d : Option Message) → d ≡ said (plain_done meaning p n.bytes) → Breaks meaning d
-  breaks_by address_claim so a b = none_breaks address_claim (rw (or_none (is_malformed p n.bytes)) refl)
+  breaks_by address_claim so a b = none_breaks address_claim refl
   breaks_by own_source so a b = none_breaks own_source refl
   breaks_by request so a b = none_breaks request refl
   breaks_by from_nobody so a b = none_breaks from_nobody refl

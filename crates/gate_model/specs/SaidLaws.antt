@@ -11,12 +11,12 @@ use Rattle.history.specs.Entries.{History, frame, datagram, tick, command}
 use Rattle.history.specs.Settings.{Settings, rule_of}
 use Rattle.history.specs.Receiver.{receiver_of}
 use Rattle.history.specs.Known.{known, is_claim, claim_by, address_left, address_won}
-use Rattle.history.specs.Messages.{Message, Carried, done, said_by, messages_of}
+use Rattle.history.specs.Messages.{Message, Carried, done, said_by}
 use Rattle.history.specs.Choice.{reading_of}
 use Rattle.history.specs.Datagrams.{Spoken, datagram_of}
 use Rattle.history.specs.BusRules.{message_rule}
 use Rattle.history.specs.Emits.{broken_of}
-use Rattle.history.specs.FromBus.{chosen, said_in}
+use Rattle.history.specs.FromBus.{said_at, said_in}
 use Rattle.history.specs.Gate.{spoken_of, command_in}
 use Rattle.gate_model.specs.Said.{SaidKept, nothing_said, complete_by, complete_of, short_reports, told_by, ordered_by, sentences_by, datagram_by, message_after, message_emits, claimed_after}
 use Rattle.gate_model.specs.SaidStands.{StandsSaid, SaidStandsFor}
@@ -31,9 +31,7 @@ module _ (c : Settings) (s : ℕ) (h : History) (m : ℕ) (f : BusFrame) (k : Sa
   -- it leaves what stands for the history with the frame, and is said as the history says it
   pub record MessageStandsSaid : Type 0 where
     pub stands : SaidStandsFor c s (frame m f ∷ h) (message_after c k (option_map complete_of (done (receiver_of c) s h (frame m f))))
-    pub gives : let r = receiver_of c in
-        message_emits c k (option_map complete_of (done r s h (frame m f)))
-        ≡ said_in c (spoken_of c s h) (chosen c (known r s h).claims.holders (messages_of r s h) (done r s h (frame m f)))
+    pub gives : message_emits c k (option_map complete_of (done (receiver_of c) s h (frame m f))) ≡ said_in c (spoken_of c s h) (said_at c s h (frame m f))
 
   -- a claim completes none, and takes away what is noted of the addresses that it takes from others
   pub record ClaimStandsSaid : Type 0 where

@@ -9,10 +9,9 @@ use Rattle.history.specs.Entries.{Entry, History, IsHistory, IsOffered, moment_o
 use Rattle.history.specs.EntryLaws.{IsEvent}
 use Rattle.report_rules.specs.Rules as rules
 use Rattle.gate_events.specs.declared.emit.Detail.TheVariants as detail
-use Rattle.history.specs.Known.{known}
-use Rattle.history.specs.Messages.{done, messages_of}
+use Rattle.history.specs.Messages.{done}
 use Rattle.history.specs.Emits.{broken, is_there}
-use Rattle.history.specs.FromBus.{chosen}
+use Rattle.history.specs.FromBus.{said_at}
 use Rattle.history.specs.Gate.{out, expired}
 use Rattle.history.specs.AddressLaws.{AreSettings}
 use Rattle.history.specs.FitLaws.{IsWithinLimits}
@@ -45,8 +44,7 @@ module _ (o : Compared) (c : Settings) (s : ℕ) (h : History) (e : Entry) (x : 
   pub record IsStepOf : Type 0 where
     pub stands : Stands o c s (e ∷ h) x.after
     pub emits : gives x ≡ out c s h e
-    pub selected : let r = receiver_of c in
-        is_there x.posted ≡ is_some (chosen c (known r s h).claims.holders (messages_of r s h) (done r s h e))
+    pub selected : is_there x.posted ≡ is_some (said_at c s h e)
     pub complete : x.complete ≡ option_map complete_of (done (receiver_of c) s h e)
 
 abbrev pub EntriesStand : Type 0

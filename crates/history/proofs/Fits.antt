@@ -25,8 +25,10 @@ use Rattle.history.specs.Entries.{History, IsHistory, now, frame, tick, command}
 use Rattle.history.specs.Settings.{Settings}
 use Rattle.history.specs.Receiver.{receiver_of}
 use Rattle.history.specs.Known.{Known, known, known_after, is_claim, claim_by, address_left, address_won}
+use Rattle.fast_packet.specs.FastRuns.{FastPiece}
+use Rattle.iso_transport.specs.IsoRuns.{IsoPiece}
 use Rattle.history.specs.Meanings.{Meaning, address_claim, own_source, request, from_nobody, transport, single, fast_packet, passed}
-use Rattle.history.specs.Messages.{done, messages_of}
+use Rattle.history.specs.Messages.{Message, done, messages_of}
 use Rattle.history.specs.Traces.{Note}
 use Rattle.history.specs.Opens.{fast_keys, iso_keys, fast_open, iso_open, open_fast_keys, open_iso_keys, note_of, notes_of}
 use Rattle.history.specs.Heard.{Taken, group_keys, group_open, open_groups, lines_of}
@@ -34,7 +36,7 @@ use Rattle.gate_events.specs.Emit.{Emit}
 use Rattle.history.specs.Emits.{Rule, breaks, broken, broken_of, of_source, reported, own_claim, replied}
 use Rattle.history.specs.Endings.{fast_ended, iso_ended, group_ended, session_pgn, abort_reply, fast_expired, iso_expired, groups_expired, fast_lost, iso_lost, lost_at, lost_elsewhere}
 use Rattle.history.specs.Datagrams.{Spoken}
-use Rattle.history.specs.BusRules.{frame_table}
+use Rattle.history.specs.BusRules.{table_of}
 use Rattle.history.specs.FromBus.{asked, chosen, frames_before, packets_before, session_reply, own_answer, step_gives, said_in, command_gives, command_breaks, frame_refused, answers_by, meaning_after}
 use Rattle.history.specs.Gate.{heard, spoken_of, expired, out}
 use Rattle.history.specs.FitLaws.{room_of, AllEntriesFit}
@@ -89,6 +91,18 @@ pub two_lengths : (a b : List Emit) (n o : ℕ) → length a ≤ n → length b 
 two_lengths a b n o ea eb = rw (length-append a b) (omega (arith, ea, eb))
 
 -- ---- what ends
+
+-- no table of rules has more than eight
+table_length : (name : ℕ) (n : Note) (frames : Option (List FastPiece)) (packets : Option (List IsoPiece)) (message : Option Message) (meaning : Meaning)
+    → length (table_of name n frames packets message meaning) ≤ 8
+table_length name n frames packets message address_claim = omega arith
+table_length name n frames packets message own_source = omega arith
+table_length name n frames packets message request = omega arith
+table_length name n frames packets message from_nobody = omega arith
+table_length name n frames packets message transport = omega arith
+table_length name n frames packets message single = omega arith
+table_length name n frames packets message fast_packet = omega arith
+table_length name n frames packets message passed = omega arith
 
 module _ (k after : Known) (notes : List Note) (m n : ℕ) where
   fast_few : (kinds : ℕ → Kind) (is_meant : FastKey → Bool) → length (filter (λ key. is_meant key && fast_ended k.claims.holders m after.claims.holders n notes key) (fast_keys kinds notes)) ≤ length (open_fast_keys kinds k.claims.holders notes m)
@@ -219,15 +233,19 @@ module _ (c : Settings) (s : ℕ) (h : History) (m : ℕ) (are : IsReceiver (rec
   answers_length f fast_packet = omega arith
   answers_length f passed = omega arith
 
-  refused_length : (f : BusFrame) → length (reported (frame_refused (receiver_of c) s h m f)) ≤ 17
+  refused_length : (f : BusFrame) → length (reported (frame_refused (receiver_of c) s h m f)) ≤ 8
   refused_length f =
       let p = parts_of f.id in
       let n = note_of (receiver_of c) (length h) r_known r_notes m f in
       let meaning = meaning_after (receiver_of c) s h m f in
-      let table = frame_table c.name meaning n (frames_before meaning r_known.claims.holders r_notes m p) (packets_before meaning r_known r_notes m p) (done (receiver_of c) s h (frame m f)) in
+      let frames = frames_before meaning r_known.claims.holders r_notes m p in
+      let packets = packets_before meaning r_known r_notes m p in
+      let message = done (receiver_of c) s h (frame m f) in
+      let table = table_of c.name n frames packets message meaning in
       let same = reported_length (broken_of table) in
       let few = broken_length table in
-      omega (arith, same, few)
+      let short = table_length c.name n frames packets message meaning in
+      omega (arith, same, few, short)
 
   frame_length : (f : BusFrame) → length (out c s h (frame m f)) ≤ room_of c + (2 * c.fast_slots + 3 * c.iso_slots) + 20
   frame_length f =
@@ -236,9 +254,9 @@ module _ (c : Settings) (s : ℕ) (h : History) (m : ℕ) (are : IsReceiver (rec
       let answers = answers_by (receiver_of c) s h m f (meaning_after (receiver_of c) s h m f) in
       let o = chosen c k.claims.holders (messages_of (receiver_of c) s h) (done (receiver_of c) s h (frame m f)) in
       let said = said_in c (spoken_of c s h) o in
-      let both = two_lengths refused answers 17 (2 * c.fast_slots + 3 * c.iso_slots + 1) (refused_length f) (answers_length f (meaning_after (receiver_of c) s h m f)) in
-      let all = two_lengths (refused ++ answers) said (17 + (2 * c.fast_slots + 3 * c.iso_slots + 1)) 1 both (said_length c (spoken_of c s h) o) in
-      let whole = two_lengths (expired c s h m) (refused ++ answers ++ said) (room_of c) (17 + (2 * c.fast_slots + 3 * c.iso_slots + 1) + 1) expired_length all in
+      let both = two_lengths refused answers 8 (2 * c.fast_slots + 3 * c.iso_slots + 1) (refused_length f) (answers_length f (meaning_after (receiver_of c) s h m f)) in
+      let all = two_lengths (refused ++ answers) said (8 + (2 * c.fast_slots + 3 * c.iso_slots + 1)) 1 both (said_length c (spoken_of c s h) o) in
+      let whole = two_lengths (expired c s h m) (refused ++ answers ++ said) (room_of c) (8 + (2 * c.fast_slots + 3 * c.iso_slots + 1) + 1) expired_length all in
       omega (arith, whole)
 
   command_length : (source address : ℕ) → length (out c s h (command m source address)) ≤ room_of c + c.iso_slots + 2

@@ -22,11 +22,11 @@ use Rattle.history.specs.Entries.{History, frame, datagram, tick, command}
 use Rattle.history.specs.Receiver.{Receiver}
 use Rattle.history.specs.Known.{Known, known, held_since}
 use Rattle.history.specs.Emits.{Rule, broken_of}
-use Rattle.history.specs.Meanings.{Meaning, address_claim, own_source, request, transport, single, fast_packet, passed, if_held, by_kind, meaning_of, is_of_session, is_of_fast_packet}
+use Rattle.history.specs.Meanings.{Meaning, address_claim, own_source, request, from_nobody, transport, single, fast_packet, passed, if_held, by_kind, meaning_of, is_of_session, is_of_fast_packet}
 use Rattle.history.specs.Messages.{Message, done}
 use Rattle.history.specs.Opens.{is_fast, notes_of}
 use Rattle.history.specs.Traces.{Note, iso_piece, is_transport, is_bearing}
-use Rattle.history.specs.BusRules.{is_early, opens_session, frame_table, frame_breaks}
+use Rattle.history.specs.BusRules.{is_early, opens_session, table_of, frame_breaks}
 use Rattle.history.specs.FromBus.{meaning_after, frames_before, packets_before, frame_refused}
 use Rattle.history.specs.KeyLaws.{the_note, is_meant, concerns}
 use Rattle.history.specs.IsolationLaws.{opens_message, NoneRefused}
@@ -56,22 +56,33 @@ full_rows (x ∷ table) = by x.broken refl (full_rows table)
     by true e rest = rw (e, turn (x.report.rule == rules.slots_full), rest) refl
     by false e rest = rw (e, none (x.report.rule == rules.slots_full)) rest
 
-module _ (name : ℕ) (meaning : Meaning) (n : Note) (frames : Option (List FastPiece)) (packets : Option (List IsoPiece)) where
-  full_breaks : (message : Option Message)
-      → says_full (frame_breaks name meaning n frames packets message)
-      ≡ ((is_of_fast_packet meaning && (fast.is_opener n.bytes && not n.admitted))
-      || (is_of_session meaning && (opens_session (key_of n.parts).addressed n.ready (iso_piece n) && not n.admitted)))
+module _ (name : ℕ) (n : Note) (frames : Option (List FastPiece)) (packets : Option (List IsoPiece)) (message : Option Message) where
+  -- whether the opener of a fast packet, or of a session, finds no room
+  abbrev finds_none : Meaning → Bool
+  finds_none meaning =
+      (is_of_fast_packet meaning && (fast.is_opener n.bytes && not n.admitted))
+      || (is_of_session meaning && (opens_session (key_of n.parts).addressed n.ready (iso_piece n) && not n.admitted))
+
+  or_none : (b : Bool) → (b || false) ≡ b
+  or_none true = refl
+  or_none false = refl
+
+  full_by : (meaning : Meaning) (what : Option Message) → message ≡ what → list_any is_full (table_of name n frames packets message meaning) ≡ finds_none meaning
   unfolding is_full
-  full_breaks None = full_rows (frame_table name meaning n frames packets None) ∙ ap (λ (b : Bool). (is_of_fast_packet meaning && (fast.is_opener n.bytes && not n.admitted)) || b) (or_none _)
-    where
-      or_none : (b : Bool) → (b || false) ≡ b
-      or_none true = refl
-      or_none false = refl
-  full_breaks (Some d) = full_rows (frame_table name meaning n frames packets (Some d)) ∙ ap (λ (b : Bool). (is_of_fast_packet meaning && (fast.is_opener n.bytes && not n.admitted)) || b) (or_none _)
-    where
-      or_none : (b : Bool) → (b || false) ≡ b
-      or_none true = refl
-      or_none false = refl
+  full_by address_claim what e = refl
+  full_by own_source what e = refl
+  full_by request what e = refl
+  full_by from_nobody what e = refl
+  full_by transport None e = rw e (or_none _)
+  full_by transport (Some d) e = rw e (or_none _)
+  full_by single None e = rw e refl
+  full_by single (Some d) e = rw e refl
+  full_by fast_packet None e = rw e refl
+  full_by fast_packet (Some d) e = rw e refl
+  full_by passed what e = refl
+
+  full_breaks : (meaning : Meaning) → says_full (frame_breaks name meaning n frames packets message) ≡ finds_none meaning
+  full_breaks meaning = full_rows (table_of name n frames packets message meaning) ∙ full_by meaning message refl
 
 -- ---- what a frame is to the gateway
 
@@ -272,8 +283,8 @@ full_is_reported r s h m f are =
     let k = known r s h in
     let n = the_note r s h m f in
     let sound = (addresses_are_sound r s h are).sound in
-    full_breaks r.name (meaning_after r s h m f) n (frames_before (meaning_after r s h m f) k.claims.holders (notes_of r s h) m n.parts)
-    (packets_before (meaning_after r s h m f) k (notes_of r s h) m n.parts) (done r s h (frame m f))
+    full_breaks r.name n (frames_before (meaning_after r s h m f) k.claims.holders (notes_of r s h) m n.parts)
+    (packets_before (meaning_after r s h m f) k (notes_of r s h) m n.parts) (done r s h (frame m f)) (meaning_after r s h m f)
     ∙ ap (λ (b : Bool). (b && (fast.is_opener n.bytes && not n.admitted))
     || (is_of_session (meaning_after r s h m f) && (opens_session (key_of n.parts).addressed n.ready (iso_piece n) && not n.admitted))) (fast_is r are k sound n)
     ∙ ap (λ (b : Bool). ((is_some (held_since k.claims.holders n.parts.source) && is_fast (r.kinds n.parts.pgn)) && (fast.is_opener n.bytes && not n.admitted))

@@ -1,6 +1,6 @@
--- Which rules a frame from the bus breaks: one table, in the order of the rules' numbers. Each row is a condition on the frame and on
--- what is open of its key just before it. A repeat breaks none. What a frame leaves of the message that is open is no part of the table:
--- the rules of its run say that.
+-- Which rules a frame from the bus breaks: a table for each kind of frame, in the order of the rules' numbers. Each row is a condition on
+-- the frame and on what is open of its key just before it. A repeat breaks none. What a frame leaves of the message that is open is no
+-- part of the tables: the rules of its run say that.
 use Rattle.std.specs.Prelude.{ℕ, Bool, true, false, ◌&&◌, ◌||◌, not, ◌==◌, nat_le, nat_lt, List, [], ◌∷◌, length, Option, Some, None, is_some, is_none}
 use Rattle.n2k_id.specs.Name.{name_at}
 use Rattle.report_rules.specs.Rules as rules
@@ -18,7 +18,7 @@ use Rattle.iso_transport.specs.IsoRuns.{IsoPiece, end_of, session_of, left_of_ru
 use Rattle.gate_events.specs.declared.emit.Report.{Report}
 use Rattle.gate_events.specs.declared.emit.Detail.{Detail}
 use Rattle.gate_events.specs.declared.emit.Detail.TheVariants as detail
-use Rattle.history.specs.Meanings.{Meaning, is_address_claim, is_own_source, is_request, is_from_nobody, is_of_session, is_of_fast_packet}
+use Rattle.history.specs.Meanings.{Meaning, address_claim, own_source, request, from_nobody, transport, single, fast_packet, passed}
 use Rattle.history.specs.Traces.{Note, fast_piece, iso_piece}
 use Rattle.history.specs.Messages.{Message}
 use Rattle.history.specs.Emits.{Rule, breaks, broken_of}
@@ -118,10 +118,9 @@ abbrev pub message_rule : Option Message → Rule
 message_rule None = breaks false rules.short_message detail.Nothing
 message_rule (Some d) = breaks (is_short (profiled d.pgn d.payload)) rules.short_message (detail.Source d.source d.pgn)
 
--- ---- the table: by the gateway's NAME, what the frame is to it, what is open of its fast packet or of its session, and the message
--- that it completes
+-- ---- the tables: by the gateway's NAME, what is open of the frame's fast packet or of its session, and the message that it completes
 
-module _ (name : ℕ) (meaning : Meaning) (n : Note) (frames : Option (List FastPiece)) (packets : Option (List IsoPiece)) (message : Option Message) where
+module _ (name : ℕ) (n : Note) (frames : Option (List FastPiece)) (packets : Option (List IsoPiece)) (message : Option Message) where
   -- the sender, with the frame's PGN, or with that of a message
   abbrev pub of_frame : Detail
   of_frame = detail.Source n.parts.source n.parts.pgn
@@ -129,32 +128,43 @@ module _ (name : ℕ) (meaning : Meaning) (n : Note) (frames : Option (List Fast
   abbrev pub of_message : ℕ → Detail
   of_message pgn = detail.Source n.parts.source pgn
 
-  abbrev pub frame_table : List Rule
-  frame_table =
-      let fast_packet = is_of_fast_packet meaning in
-      let transport = is_of_session meaning in
-      let x = fast_piece n in
-      let y = iso_piece n in
-      let addressed = (key_of n.parts).addressed in
-      breaks (is_from_nobody meaning) rules.unclaimed of_frame
-      ∷ breaks (fast_packet && is_out_of_order frames x) rules.fast_order of_frame
-      ∷ breaks (fast_packet && (is_later_frame x && is_none frames)) rules.fast_orphan of_frame
-      ∷ breaks (fast_packet && is_wrong_length frames x) rules.fast_length of_frame
-      ∷ breaks (fast_packet && (fast.is_opener x.bytes && is_some frames)) rules.restarted of_frame
-      ∷ breaks (transport && (opens_session addressed n.ready y && is_some packets)) rules.restarted (of_message (session_pgn packets))
-      ∷ breaks (fast_packet && (fast.is_opener x.bytes && not n.admitted)) rules.slots_full of_frame
-      ∷ breaks (transport && (opens_session addressed n.ready y && not n.admitted)) rules.slots_full (of_message (session_of (y ∷ [])).pgn)
-      ∷ breaks (transport && (is_cut_management y || is_wrong_kind addressed y || is_wrong_size addressed n.ready y || is_short_packet packets y))
-      rules.iso_size of_frame
-      ∷ breaks (transport && is_packet_out_of_order packets y) rules.iso_order of_frame
-      ∷ breaks (transport && (y.packet && is_none packets)) rules.iso_orphan of_frame
-      ∷ breaks (transport && (addressed && (is_abort y && is_some packets))) rules.iso_aborted (of_message (session_pgn packets))
+  -- a frame of a fast packet, and the message that it completes
+  abbrev pub fast_table : FastPiece → List Rule
+  fast_table x =
+      breaks (is_out_of_order frames x) rules.fast_order of_frame
+      ∷ breaks (is_later_frame x && is_none frames) rules.fast_orphan of_frame
+      ∷ breaks (is_wrong_length frames x) rules.fast_length of_frame
+      ∷ breaks (fast.is_opener x.bytes && is_some frames) rules.restarted of_frame
+      ∷ breaks (fast.is_opener x.bytes && not x.admitted) rules.slots_full of_frame
       ∷ message_rule message
-      ∷ breaks (is_address_claim meaning && is_duplicate name n) rules.duplicate_name (detail.Address n.parts.source)
-      ∷ breaks (is_own_source meaning) rules.own_address_used of_frame
-      ∷ breaks ((is_address_claim meaning && is_malformed_claim n) || (is_request meaning && is_malformed_request n)) rules.claim_or_request_malformed of_frame
-      ∷ breaks (transport && is_early addressed n.ready y) rules.not_ready of_frame
       ∷ []
 
-  abbrev pub frame_breaks : List Report
-  frame_breaks = broken_of frame_table
+  -- a frame of the transport protocol, and the message that it completes
+  abbrev pub session_table : Bool → IsoPiece → List Rule
+  session_table addressed x =
+      breaks (opens_session addressed n.ready x && is_some packets) rules.restarted (of_message (session_pgn packets))
+      ∷ breaks (opens_session addressed n.ready x && not x.admitted) rules.slots_full (of_message (session_of (x ∷ [])).pgn)
+      ∷ breaks (is_cut_management x || is_wrong_kind addressed x || is_wrong_size addressed n.ready x || is_short_packet packets x) rules.iso_size of_frame
+      ∷ breaks (is_packet_out_of_order packets x) rules.iso_order of_frame
+      ∷ breaks (x.packet && is_none packets) rules.iso_orphan of_frame
+      ∷ breaks (addressed && (is_abort x && is_some packets)) rules.iso_aborted (of_message (session_pgn packets))
+      ∷ message_rule message
+      ∷ breaks (is_early addressed n.ready x) rules.not_ready of_frame
+      ∷ []
+
+  -- by what the frame is
+  abbrev pub table_of : Meaning → List Rule
+  table_of address_claim =
+      breaks (is_duplicate name n) rules.duplicate_name (detail.Address n.parts.source)
+      ∷ breaks (is_malformed_claim n) rules.claim_or_request_malformed of_frame
+      ∷ []
+  table_of own_source = breaks true rules.own_address_used of_frame ∷ []
+  table_of request = breaks (is_malformed_request n) rules.claim_or_request_malformed of_frame ∷ []
+  table_of from_nobody = breaks true rules.unclaimed of_frame ∷ []
+  table_of transport = session_table (key_of n.parts).addressed (iso_piece n)
+  table_of single = message_rule message ∷ []
+  table_of fast_packet = fast_table (fast_piece n)
+  table_of passed = []
+
+abbrev pub frame_breaks : ℕ → Meaning → Note → Option (List FastPiece) → Option (List IsoPiece) → Option Message → List Report
+frame_breaks name meaning n frames packets message = broken_of (table_of name n frames packets message meaning)

@@ -81,6 +81,10 @@ abbrev pub chosen : Settings → List (Option Holder) → List Message → Optio
 chosen c holders older None = None
 chosen c holders older (Some d) = selected c holders older d
 
+-- the reading of the message that an entry completes, where it is selected
+abbrev pub said_at : Settings → ℕ → History → Entry → Option Reading
+said_at c s h e = let r = receiver_of c in chosen c (known r s h).claims.holders (messages_of r s h) (done r s h e)
+
 abbrev pub said_in : Settings → List Spoken → Option Reading → List Emit
 said_in c before None = []
 said_in c before (Some r) = let rule = rule_of c (row_of r) in
@@ -123,7 +127,7 @@ abbrev pub from_frame : Settings → ℕ → History → ℕ → BusFrame → Li
 from_frame c s h m f before =
     let r = receiver_of c in
     reported (frame_refused r s h m f) ++ answers_by r s h m f (meaning_after r s h m f)
-    ++ said_in c before (chosen c (known r s h).claims.holders (messages_of r s h) (done r s h (entry.frame m f)))
+    ++ said_in c before (said_at c s h (entry.frame m f))
 
 -- ---- a command to go to an address (ISO 11783-5), which is obeyed or is rule 26
 

@@ -20,14 +20,14 @@ use Rattle.history.specs.Settings.{Settings, rule_of}
 use Rattle.history.specs.Receiver.{receiver_of}
 use Rattle.history.specs.Known.{known}
 use Rattle.history.specs.Opens.{notes_of}
-use Rattle.history.specs.Messages.{Message, done, messages_of}
+use Rattle.history.specs.Messages.{Message, done}
 use Rattle.gate_events.specs.Emit.{Emit, Emitted, can, net, report}
 use Rattle.history.specs.Emits.{at, broken, own_claim, request_for_claims}
 use Rattle.history.specs.Endings.{fast_expired, iso_expired, groups_expired}
 use Rattle.history.specs.Datagrams.{Spoken}
 use Rattle.history.specs.Heard.{Came, came_at, with_items, lines_of}
 use Rattle.history.specs.FromNet.{items_in, datagram_gives}
-use Rattle.history.specs.FromBus.{chosen, frame_refused, from_frame, command_breaks, from_command}
+use Rattle.history.specs.FromBus.{said_at, frame_refused, from_frame, command_breaks, from_command}
 
 -- at the start: the own claim, and the request for the claims of all
 abbrev pub opening_emits : Settings → List Emit
@@ -42,7 +42,7 @@ module _ (c : Settings) (s : ℕ) where
 
   abbrev pub spoken_of : History → List Spoken
   spoken_of [] = []
-  spoken_of (e ∷ h) = with_spoken (chosen c (known (receiver_of c) s h).claims.holders (messages_of (receiver_of c) s h) (done (receiver_of c) s h e)) (spoken_of h)
+  spoken_of (e ∷ h) = with_spoken (said_at c s h e) (spoken_of h)
 
   -- the items of a datagram that comes after a history
   abbrev pub came : History → ℕ → Result (List Item) DatagramFault → List Came

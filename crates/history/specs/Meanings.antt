@@ -51,18 +51,6 @@ abbrev pub is_address_claim : Meaning → Bool
 is_address_claim address_claim = true
 is_address_claim _ = false
 
-abbrev pub is_own_source : Meaning → Bool
-is_own_source own_source = true
-is_own_source _ = false
-
-abbrev pub is_request : Meaning → Bool
-is_request request = true
-is_request _ = false
-
-abbrev pub is_from_nobody : Meaning → Bool
-is_from_nobody from_nobody = true
-is_from_nobody _ = false
-
 abbrev pub is_of_session : Meaning → Bool
 is_of_session transport = true
 is_of_session _ = false

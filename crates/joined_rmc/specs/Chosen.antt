@@ -8,9 +8,9 @@ use Rattle.readings.specs.Rows.{row_of}
 use Rattle.claim_table.specs.declared.answer.Holder.{Holder}
 use Rattle.history.specs.Choice.{is_usable}
 use Rattle.history.specs.Entries.{Entry, History}
-use Rattle.history.specs.FromBus.{chosen}
+use Rattle.history.specs.FromBus.{said_at}
 use Rattle.history.specs.Known.{known, held_since}
-use Rattle.history.specs.Messages.{Message, done, messages_of}
+use Rattle.history.specs.Messages.{Message, done}
 use Rattle.history.specs.Receiver.{receiver_of}
 use Rattle.history.specs.Settings.{Settings, same_row}
 
@@ -63,9 +63,7 @@ is_due (Some x) = says_position x.reading
 module _ (c : Settings) (s : ℕ) where
   -- the message that an entry completes, where it is selected
   abbrev pub chosen_at : History → Entry → Option Chosen
-  chosen_at h e =
-      let r = receiver_of c in
-      chosen_of (done r s h e) (chosen c (known r s h).claims.holders (messages_of r s h) (done r s h e))
+  chosen_at h e = chosen_of (done (receiver_of c) s h e) (said_at c s h e)
 
   -- the last one of a row
   abbrev pub last_of : Row → History → Option Chosen
