@@ -3,7 +3,8 @@ ghost use Rattle.std.specs.Prelude.{◌≡◌};
 ghost use Rattle.pgn_profile.specs.Profiled.{GivesValid};
 ghost use Rattle.history.specs.BusRules.{is_short};
 ghost use Rattle.history.specs.Emits.{reported};
-ghost use Rattle.bus_messages.specs.Contents.{content_of, ordered_in, is_for, short_reports};
+ghost use Rattle.bus_messages.specs.Contents.{content_of, short_reports};
+ghost use Rattle.history.specs.Messages.{is_for, ordered_in};
 ghost use Rattle.gate_outbox.specs.Output.{and_told, most_told};
 
 use gate_outbox::StepEmits;

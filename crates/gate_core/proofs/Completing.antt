@@ -1,6 +1,6 @@
 -- A message that was read while its payload was lent leaves what the message with its payload leaves.
 use Rattle.std.proofs.Common.{◌≡◌, ℕ, Bool, true, false, Option, Some, None, option_map, refl, if◌then◌else◌}
-use Rattle.std.specs.Prelude.{IfSome, slice_index}
+use Rattle.std.specs.Prelude.{IfSome}
 use Rattle.claim_table.specs.declared.answer.Holder.{Holder}
 use Rattle.readings.specs.declared.reading.Reading.{Reading}
 use Rattle.readings.specs.Ranges.{IsValid}
@@ -9,9 +9,9 @@ use Rattle.pgn_profile.specs.declared.profiled.Profiled.TheVariants as says
 use Rattle.pgn_profile.specs.Profiled.{GivesValid}
 use Rattle.history.specs.Choice.{reading_in}
 use Rattle.source_choice.specs.declared.rank.Rank.{Rank}
-use Rattle.history.specs.Messages.{Carried}
+use Rattle.history.specs.Messages.{Carried, ordered_in}
 use Rattle.history.specs.Settings.{Settings}
-use Rattle.gate_model.specs.Said.{SaidKept, Complete, complete_by, reading_by, message_after, message_emits, profiled_after, profiled_emits, ranked_after, ranked_emits, rank_by, ordered_by, orders}
+use Rattle.gate_model.specs.Said.{SaidKept, Complete, complete_by, reading_by, message_after, message_emits, profiled_after, profiled_emits, ranked_after, ranked_emits, rank_by, Ordered, ordered_by}
 use Rattle.bus_messages.specs.Contents.{content_in}
 use Rattle.gate_outbox.specs.declared.done.Command.{Command}
 use Rattle.row_traffic.specs.Saying.{message_from}
@@ -67,17 +67,17 @@ module _ (c : Settings) (k : SaidKept) (m source name : ℕ) where
   done_same (Some holder) None = refl
   done_same (Some holder) (Some x) = refl
 
-  if_ordered : (b : Bool) (address : ℕ)
-      → option_map {U = Command} (λ a. record { source = source; address = a }) (if b then Some address else None)
-      ≡ option_map command_of (if b then Some (record { source = source; address = address }) else None)
-  if_ordered true address = refl
-  if_ordered false address = refl
+  if_ordered : (o : Option ℕ)
+      → option_map {U = Command} (λ a. record { source = source; address = a }) o
+      ≡ option_map command_of (option_map {U = Ordered} (λ a. record { source = source; address = a }) o)
+  if_ordered (Some address) = refl
+  if_ordered None = refl
 
   pub command_same : (holder : Option Holder) (what : Option Carried)
       → command_by source holder (option_map (content_in name) what) ≡ option_map command_of (ordered_by name (complete_by m source holder what))
   command_same None what = refl
   command_same (Some holder) None = refl
-  command_same (Some holder) (Some x) = if_ordered (orders name (whole holder x)) (slice_index x.payload 8)
+  command_same (Some holder) (Some x) = if_ordered (ordered_in name x.pgn x.payload)
 
   -- all that it leaves in an outbox
   pub message_output : (holder : Option Holder) (what : Option Carried) (o : Output)

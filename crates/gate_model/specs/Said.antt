@@ -1,8 +1,7 @@
 -- What a gateway keeps of whose messages are said, by the NAMEs of the bus (ISO 11783-5), and of what was said on the network
 -- (IEC 61162-450), as plain values; and what a message that is complete makes of it and gives. Nothing here speaks of what came before.
-use Rattle.std.specs.Prelude.{ℕ, ◌+◌, ◌%◌, Bool, ◌&&◌, ◌==◌, nat_le, List, [], ◌∷◌, ◌++◌, length, map, slice_index, Option, Some, None, option_map, if◌then◌else◌}
+use Rattle.std.specs.Prelude.{ℕ, ◌+◌, ◌%◌, Bool, nat_le, List, [], ◌∷◌, ◌++◌, length, map, slice_index, Option, Some, None, option_map, if◌then◌else◌}
 use Rattle.report_rules.specs.Rules as rules
-use Rattle.n2k_id.specs.Name.{name_at}
 use Rattle.gate_events.specs.declared.emit.Report.{Report}
 use Rattle.gate_events.specs.declared.emit.Detail.TheVariants as detail
 use Rattle.claim_table.specs.Claims.{places}
@@ -21,10 +20,9 @@ use Rattle.sentence_rows.specs.Writing.{sentences_of}
 use Rattle.tag_block.specs.Numbers.{most_count}
 use Rattle.tag_block.specs.Writing.{most_written_code}
 use Rattle.datagram450.specs.Datagram.{header}
-use Rattle.n2k_id.specs.Pgns as pgns
 use Rattle.history.specs.Settings.{Settings, rule_at, rule_of}
 use Rattle.history.specs.Known.{address_left, address_won}
-use Rattle.history.specs.Messages.{Message, Carried}
+use Rattle.history.specs.Messages.{Message, Carried, ordered_in}
 use Rattle.history.specs.Choice.{rank_of, reading_in, is_usable}
 use Rattle.history.specs.Heard.{same_text}
 use Rattle.history.specs.Datagrams.{lines_from}
@@ -92,12 +90,9 @@ pub record Ordered : Type 0 where
   pub source : ℕ
   pub address : ℕ
 
-abbrev pub orders : ℕ → Complete → Bool
-orders name d = (d.pgn == pgns.commanded_address) && (nat_le 9 (length d.payload) && (name_at d.payload == name))
-
 abbrev pub ordered_by : ℕ → Option Complete → Option Ordered
 ordered_by name None = None
-ordered_by name (Some d) = if orders name d then Some (record { source = d.source; address = slice_index d.payload 8 }) else None
+ordered_by name (Some d) = option_map (λ address. record { source = d.source; address = address }) (ordered_in name d.pgn d.payload)
 
 -- ---- the datagram in which a reading is said, and the counts after it
 

@@ -1,6 +1,6 @@
 -- What an accepted event leaves, and what an entry says.
 use Rattle.std.proofs.Common.{◌≡◌, ℕ, ◌<◌, ◌≤◌, ◌/◌, ◌%◌, ◌^◌, Bool, true, false, not, ◌&&◌, ◌||◌, List, [], ◌∷◌, ◌++◌, length, map, nat_le, refl, sym, ap, ◌∙◌, ◌==◌, arith}
-use Rattle.std.specs.Prelude.{Option, Some, None, Result, Ok, Err, if◌then◌else◌, filter, nat_lt, slice_index}
+use Rattle.std.specs.Prelude.{Option, Some, None, option_map, Result, Ok, Err, if◌then◌else◌, filter, nat_lt, slice_index}
 use Rattle.std.specs.List.{flat_map}
 use Rattle.std.proofs.lemmas.Bool.{leb-true}
 use Rattle.n2k_id.specs.declared.identifier_parts.Parts.{Parts}
@@ -31,7 +31,7 @@ use Rattle.history.specs.Settings.{Settings, rule_of}
 use Rattle.history.specs.Receiver.{Receiver, receiver_of}
 use Rattle.history.specs.Known.{Known, known, known_after, is_claim, claim_by, address_left, address_won}
 use Rattle.history.specs.Meanings.{Meaning, address_claim, own_source, request, from_nobody, transport, single, fast_packet, passed}
-use Rattle.history.specs.Messages.{Message, Carried, said_by, done, messages_of}
+use Rattle.history.specs.Messages.{Message, Carried, said_by, done, messages_of, ordered_in}
 use Rattle.history.specs.Traces.{Note}
 use Rattle.history.specs.Opens.{fast_keys, iso_keys, notes_of}
 use Rattle.history.specs.Endings.{fast_ended, iso_ended, group_ended, session_pgn, abort_reply, fast_expired, iso_expired, groups_expired, fast_lost, iso_lost, lost_at, lost_elsewhere}
@@ -77,11 +77,11 @@ done_fits r s h (command m source address) = tt
 module _ (c : Settings) (s : ℕ) (h : History) (e : Entry) (now_is : IsHistory (e ∷ h)) where
   ordered : (d : Option Message) → SourceFits d → IsHistory (with_command c s h e (command_in c s d (moment_of e))).after
   ordered None fits = now_is
-  ordered (Some d) fits = by ((d.pgn == 65240) && (nat_le 9 (length d.payload) && (name_at d.payload == c.name)))
+  ordered (Some d) fits = by (ordered_in c.name d.pgn d.payload)
     where
-      by : (b : Bool) → IsHistory (with_command c s h e (if b then Some (command (moment_of e) d.source (slice_index d.payload 8)) else None)).after
-      by true = (fits, refl, now_is)
-      by false = now_is
+      by : (o : Option ℕ) → IsHistory (with_command c s h e (option_map (λ address. command (moment_of e) d.source address) o)).after
+      by (Some address) = (fits, refl, now_is)
+      by None = now_is
 
 timely : (h : History) (e : Entry) → IsEvent e → now h ≤ moment_of e → IsTimely h e
 timely h (frame m f) event le = le

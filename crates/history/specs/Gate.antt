@@ -1,7 +1,6 @@
 -- What the gateway emits at each entry, over the history before it: what is overdue ends, then the entry is handled, and then the command
 -- that it completes (ISO 11783-5).
-use Rattle.std.specs.Prelude.{ℕ, ◌&&◌, ◌==◌, nat_le, List, [], ◌∷◌, ◌++◌, length, Option, Some, None, Result, slice_index, if◌then◌else◌}
-use Rattle.n2k_id.specs.Name.{name_at}
+use Rattle.std.specs.Prelude.{ℕ, List, [], ◌∷◌, ◌++◌, length, Option, Some, None, option_map, Result, if◌then◌else◌}
 use Rattle.claim_table.specs.Claims.{is_ready}
 use Rattle.readings.specs.declared.reading.Reading.{Reading}
 use Rattle.readings.specs.Rows.{row_of}
@@ -12,7 +11,6 @@ use Rattle.datagram450.specs.Item.{Item}
 use Rattle.gate_events.specs.declared.emit.Report.{Report}
 use Rattle.gate_events.specs.declared.emit.Detail.TheVariants as detail
 use Rattle.report_rules.specs.Rules as rules
-use Rattle.n2k_id.specs.Pgns as pgns
 use Rattle.history.specs.Entries as entry
 use Rattle.history.specs.Entries.{Entry, History, now, moment_of, is_accepted}
 use Rattle.pgn_profile.specs.Profiled.{kind_of}
@@ -20,7 +18,7 @@ use Rattle.history.specs.Settings.{Settings, rule_of}
 use Rattle.history.specs.Receiver.{receiver_of}
 use Rattle.history.specs.Known.{known}
 use Rattle.history.specs.Opens.{notes_of}
-use Rattle.history.specs.Messages.{Message, done}
+use Rattle.history.specs.Messages.{Message, done, ordered_in}
 use Rattle.gate_events.specs.Emit.{Emit, Emitted, can, net, report}
 use Rattle.history.specs.Emits.{at, broken, own_claim, request_for_claims}
 use Rattle.history.specs.Endings.{fast_expired, iso_expired, groups_expired}
@@ -92,11 +90,10 @@ module _ (c : Settings) (s : ℕ) where
   abbrev pub out : History → Entry → List Emit
   out h e = expired h (moment_of e) ++ handled h e
 
-  -- the command that an entry completes: a commanded address, whose first 8 bytes are the own NAME; the ninth is the address
+  -- the command to the gateway that an entry completes
   abbrev pub command_in : Option Message → ℕ → Option Entry
   command_in None m = None
-  command_in (Some d) m = if (d.pgn == pgns.commanded_address) && (nat_le 9 (length d.payload) && (name_at d.payload == c.name))
-      then Some (entry.command m d.source (slice_index d.payload 8)) else None
+  command_in (Some d) m = option_map (λ address. entry.command m d.source address) (ordered_in c.name d.pgn d.payload)
 
   abbrev pub opening : List Emitted
   opening = at s (opening_emits c)

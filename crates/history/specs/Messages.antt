@@ -1,5 +1,7 @@
 -- The messages that were complete: single frames, fast packets (canboat) and sessions of the transport protocol (ISO 11783-3).
-use Rattle.std.specs.Prelude.{ℕ, ◌&&◌, ◌||◌, not, List, [], ◌∷◌, length, Option, Some, None, option_map, if◌then◌else◌}
+use Rattle.std.specs.Prelude.{ℕ, Bool, ◌&&◌, ◌||◌, not, ◌==◌, nat_le, List, [], ◌∷◌, length, slice_index, Option, Some, None, option_map, if◌then◌else◌}
+use Rattle.n2k_id.specs.Name.{name_at}
+use Rattle.n2k_id.specs.Pgns as pgns
 use Rattle.claim_table.specs.Claims.{is_at, holder_at}
 use Rattle.claim_table.specs.declared.answer.Holder.{Holder}
 use Rattle.pgn_profile.specs.declared.kinds.Kind.{Kind}
@@ -83,3 +85,13 @@ with_message (Some d) older = d ∷ older
 abbrev pub messages_of : Receiver → ℕ → History → List Message
 messages_of r s [] = []
 messages_of r s (e ∷ h) = with_message (done r s h e) (messages_of r s h)
+
+-- ---- a message that tells a device to go to an address (ISO 11783-5, commanded address)
+
+-- its first 8 bytes are this NAME, and an address follows
+abbrev pub is_for : ℕ → List ℕ → Bool
+is_for name payload = nat_le 9 (length payload) && (name_at payload == name)
+
+-- where it tells the device of this NAME to go
+abbrev pub ordered_in : ℕ → ℕ → List ℕ → Option ℕ
+ordered_in name pgn payload = if (pgn == pgns.commanded_address) && is_for name payload then Some (slice_index payload 8) else None
