@@ -12,10 +12,10 @@ ghost use Rattle.history.specs.RuleLaws.{fast_rule, fast_refusal_breaks};
 ghost use Rattle.gate_model.specs.Endings.{fast_lost, fast_overdue};
 ghost use Rattle.gate_model.specs.FastPackets.{answer_of, fast_answer, fast_step, key_of, payload_in, refusal_in, restarted_reports, sender_of};
 ghost use Rattle.gate_outbox.specs.Output.{and_told, most_told};
-ghost use Rattle.bus_messages.specs.Contents.{content_in, content_of};
+ghost use Rattle.bus_messages.specs.Contents.{content_in, content_of, short_reports};
 ghost use Rattle.bus_messages.specs.Heard.{heard_reports, lent_payload};
 
-use crate::messages::{Content, read_content, tell_short};
+use crate::messages::{Content, take_message};
 use fast_packet::{FastAssembler, FastFed, FastKey, FastOutcome, FastRefusal};
 use gate_outbox::reports::of_source;
 use gate_outbox::{Emits, StepEmits};
@@ -116,17 +116,22 @@ pub fn feed(
     ensures says { IfSome result (λ message. GivesValid message.profiled) }
 {
     let payload = hear(fast, parts, frame, moment, out);
-    let message = read_lent(name, parts.pgn, payload);
-    tell_short(parts.source, message, out);
-    message
+    take_lent(name, parts, payload, out)
 }
 
-fn read_lent(name: Name, pgn: u32, payload: Option<&[u8]>) -> Option<Content>
-    ensures content { result ≡ option_map (λ p. content_of name.0 pgn p) (lent_payload payload.entry) }
+/// Takes the message whose payload is lent, where one is.
+fn take_lent(
+    name: Name,
+    parts: &Parts,
+    payload: Option<&[u8]>,
+    out: &mut StepEmits,
+) -> Option<Content>
+    ensures content { result ≡ option_map (λ p. content_of name.0 parts.now.pgn p) (lent_payload payload.entry) }
+    ensures emits { out.new ≡ and_told most_told out.old (reported (short_reports parts.now.source result)) }
     ensures says { IfSome result (λ message. GivesValid message.profiled) }
 {
     match payload {
-        Some(payload) => Some(read_content(name, pgn, payload)),
+        Some(payload) => Some(take_message(name, parts.source, parts.pgn, payload, out)),
         None => None,
     }
 }

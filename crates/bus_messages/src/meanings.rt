@@ -10,7 +10,7 @@ ghost use Rattle.bus_messages.specs.Contents.{content_in};
 ghost use Rattle.bus_messages.specs.MeaningOf.{meant};
 ghost use Rattle.gate_outbox.specs.Output.{and_told, most_told};
 
-use crate::messages::{Content, read_content, tell_short};
+use crate::messages::{Content, take_message};
 use claim_table::ClaimTable;
 use gate_events::{Detail, Report};
 use gate_outbox::StepEmits;
@@ -145,9 +145,8 @@ pub fn tell_plain(
             None
         }
         Meaning::Single => {
-            let message = Some(read_content(name, parts.pgn, bytes));
-            tell_short(parts.source, message, out);
-            message
+            let message = take_message(name, parts.source, parts.pgn, bytes, out);
+            Some(message)
         }
         Meaning::Transport | Meaning::FastPacket | Meaning::Passed => None,
     }

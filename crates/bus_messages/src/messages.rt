@@ -1,5 +1,5 @@
 //! What a complete message says, read while its payload is lent.
-ghost use Rattle.std.specs.Prelude.{◌≡◌};
+ghost use Rattle.std.specs.Prelude.{◌≡◌, Some};
 ghost use Rattle.pgn_profile.specs.Profiled.{GivesValid};
 ghost use Rattle.history.specs.BusRules.{is_short};
 ghost use Rattle.history.specs.Emits.{reported};
@@ -27,7 +27,7 @@ pub struct Content {
 const ORDERED_AT: usize = 8;
 
 /// Reads the payload of a message of the PGN, which may be a command to the gateway of this NAME.
-pub(crate) fn read_content(name: Name, pgn: u32, payload: &[u8]) -> Content
+fn read_content(name: Name, pgn: u32, payload: &[u8]) -> Content
     ensures content { result ≡ content_of name.0 pgn payload.now }
     ensures valid { GivesValid result.profiled }
 {
@@ -57,8 +57,8 @@ fn is_for(name: Name, payload: &[u8]) -> bool
 }
 
 /// Whether the payload has too few bytes for what its PGN says.
-fn is_short(profiled: Profiled) -> bool
-    ensures { result ≡ is_short profiled }
+fn is_short(profiled: &Profiled) -> bool
+    ensures { result ≡ is_short profiled.now }
 {
     match profiled {
         Profiled::Short => true,
@@ -67,13 +67,27 @@ fn is_short(profiled: Profiled) -> bool
 }
 
 /// Reports a message that has too few bytes for what its PGN says.
-pub(crate) fn tell_short(source: u8, message: Option<Content>, out: &mut StepEmits)
-    ensures emits { out.new ≡ and_told most_told out.old (reported (short_reports source message)) }
+fn tell_short(source: u8, content: &Content, out: &mut StepEmits)
+    ensures { out.new ≡ and_told most_told out.old (reported (short_reports source (Some content.now))) }
 {
-    match message {
-        Some(content) if is_short(content.profiled) => {
-            out.tell(of_source(SHORT_MESSAGE, source, content.pgn));
-        }
-        _ => {}
+    if is_short(&content.profiled) {
+        out.tell(of_source(SHORT_MESSAGE, source, content.pgn));
     }
+}
+
+/// Reads the payload of a message of the PGN from the source, and reports it where it has too few bytes.
+pub(crate) fn take_message(
+    name: Name,
+    source: u8,
+    pgn: u32,
+    payload: &[u8],
+    out: &mut StepEmits,
+) -> Content
+    ensures content { result ≡ content_of name.0 pgn payload.now }
+    ensures emits { out.new ≡ and_told most_told out.old (reported (short_reports source (Some result))) }
+    ensures valid { GivesValid result.profiled }
+{
+    let content = read_content(name, pgn, payload);
+    tell_short(source, &content, out);
+    content
 }

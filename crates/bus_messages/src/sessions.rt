@@ -6,11 +6,11 @@ ghost use Rattle.iso_transport.specs.Connection.{control_at};
 ghost use Rattle.iso_transport.specs.Replies.{NamesPgn};
 ghost use Rattle.history.specs.Emits.{reported, replied};
 ghost use Rattle.gate_model.specs.Sessions.{session_step, fed_step, restarted_reports, refused_reports, refusal_report};
-ghost use Rattle.bus_messages.specs.Contents.{content_in};
+ghost use Rattle.bus_messages.specs.Contents.{content_in, short_reports};
 ghost use Rattle.bus_messages.specs.SessionTold.{answer_in, comes_early, content_by, message_in, refusal_in, step_emits, told_reports};
 ghost use Rattle.gate_outbox.specs.Output.{and_told, most_told};
 
-use crate::messages::{Content, read_content, tell_short};
+use crate::messages::{Content, take_message};
 use gate_events::Report;
 use gate_outbox::StepEmits;
 use gate_outbox::frames::reply_from;
@@ -98,30 +98,40 @@ fn feed_on(
     ensures says { IfSome result (λ message. GivesValid message.profiled) }
 {
     let fed = sessions.feed(node.own, parts, frame, moment);
-    let message = read_lent(node.name, &fed.outcome);
-    tell(parts, &fed, message, out);
+    let message = take(node.name, parts, &fed, out);
     reply(node.own, parts.source, fed.reply, out);
     message
 }
 
-fn read_lent(name: Name, outcome: &IsoOutcome<'_>) -> Option<Content>
-    ensures content { result ≡ content_by name.0 (message_in outcome.now) }
-    ensures says { IfSome result (λ message. GivesValid message.profiled) }
-{
-    match outcome {
-        IsoOutcome::Complete { pgn, view } => Some(read_content(name, *pgn, view.bytes)),
-        _ => None,
-    }
-}
-
-/// Reports what the frame breaks: that a message begins again, why the frame is refused, and that the message is too short.
+/// Reports that a message begins again, and why the frame is refused, and takes the message that it completes.
 #[tactic(auto, using(gate_outbox::proofs::Telling::reported_more))]
-fn tell(parts: &Parts, fed: &IsoFed<'_>, message: Option<Content>, out: &mut StepEmits)
-    ensures { out.new ≡ and_told most_told out.old (reported (told_reports parts.now (answer_in fed.now) message)) }
+fn take(name: Name, parts: &Parts, fed: &IsoFed<'_>, out: &mut StepEmits) -> Option<Content>
+    ensures content { result ≡ content_by name.0 (message_in fed.now.outcome) }
+    ensures emits { out.new ≡ and_told most_told out.old (reported (told_reports parts.now (answer_in fed.now) result)) }
+    ensures says { IfSome result (λ message. GivesValid message.profiled) }
 {
     tell_restarted(parts.source, fed.restarted, out);
     tell_refused(parts, &fed.outcome, out);
-    tell_short(parts.source, message, out);
+    take_lent(name, parts.source, &fed.outcome, out)
+}
+
+/// Takes the message whose payload is lent, where one is.
+fn take_lent(
+    name: Name,
+    source: u8,
+    outcome: &IsoOutcome<'_>,
+    out: &mut StepEmits,
+) -> Option<Content>
+    ensures content { result ≡ content_by name.0 (message_in outcome.now) }
+    ensures emits { out.new ≡ and_told most_told out.old (reported (short_reports source result)) }
+    ensures says { IfSome result (λ message. GivesValid message.profiled) }
+{
+    match outcome {
+        IsoOutcome::Complete { pgn, view } => {
+            Some(take_message(name, source, *pgn, view.bytes, out))
+        }
+        _ => None,
+    }
 }
 
 fn tell_restarted(source: u8, restarted: Option<u32>, out: &mut StepEmits)

@@ -8,7 +8,7 @@ use Rattle.bus_messages.proofs.fast.feed.Goals as goal
 
 pub returns-clause-emits : goal.returns-clause-emits
 returns-clause-emits c =
-    frame_told c.args.out.now c.hear-payload.new.out c.tell_short.new.out c.args.parts.now c.args.name.0
+    frame_told c.args.out.now c.hear-payload.new.out c.take_lent.new.out c.args.parts.now c.args.name.0
     (fast_answer key.TheImpl.ghosts.cmp c.args.fast.now (key_of c.args.parts.now) (held_bytes c.args.frame.now) c.args.moment)
-    c.read_lent-message.result c.hear-payload.ensures.emits c.tell_short.ensures.emits
-    (c.read_lent-message.ensures.content ∙ ap (option_map (λ p. content_of c.args.name.0 c.args.parts.now.pgn p)) c.hear-payload.ensures.payload)
+    c.take_lent.result c.hear-payload.ensures.emits c.take_lent.ensures.emits
+    (c.take_lent.ensures.content ∙ ap (option_map (λ p. content_of c.args.name.0 c.args.parts.now.pgn p)) c.hear-payload.ensures.payload)
