@@ -10,7 +10,7 @@ use Rattle.sentence_rows.specs.declared.written_unit.WrittenUnit.{WrittenUnit}
 use Rattle.sentence_rows.specs.Field.{count, is_sound, IsPrintable, is_negative, text_of, width_of, body_text, body_width, degrees_text, time_text}
 use Rattle.std.specs.Fmt.{decimal}
 use Rattle.std.proofs.lemmas.Fmt.{decimal_digit, decimal_step, length-decimal-le, digits_decimal}
-use Rattle.unit_fraction.specs.Digits.{spelling}
+use Rattle.unit_fraction.specs.Digits.{minus, spelling}
 use Rattle.unit_fraction.specs.Text.{behind_point, decimal_text, decimals, shows_minus}
 use Rattle.sentence_rows.specs.WrittenUnits.{degrees}
 use Rattle.sentence_rows.specs.declared.field.Field.{Field}
@@ -130,20 +130,58 @@ two_digits n some few =
     let front : n / 10 % 10 ≡ n / 10 = omega arith in
     decimal_step n some (omega arith) ∙ ap (λ (ds : List ℕ). ds ++ (48 + n % 10) ∷ []) (one_digit (n / 10) (omega arith)) ∙ (rw front refl)
 
-pub three_digits : (before : List ℕ) (n : ℕ) → 100 ≤ n → n < 1000 → (before ++ (48 + n / 100) ∷ []) ++ decimals 2 n ≡ before ++ decimal n
-three_digits before n some few =
-    let first : n / 10 / 10 % 10 ≡ n / 100 = omega arith in
-    let digits : decimal n ≡ (48 + n / 100) ∷ decimals 2 n =
-    decimal_step n (omega arith) (omega arith) ∙ ap (λ (ds : List ℕ). ds ++ (48 + n % 10) ∷ []) (two_digits (n / 10) (omega arith) (omega arith)) ∙ (rw first refl) in
-    append_assoc before ((48 + n / 100) ∷ []) (decimals 2 n) ∙ ap (λ (ds : List ℕ). before ++ ds) (sym digits)
+pub three_digits : (n : ℕ) → 100 ≤ n → n < 1000 → decimal n ≡ decimals 3 n
+three_digits n some few =
+    let front : n / 10 / 10 % 10 ≡ n / 10 / 10 = omega arith in
+    decimal_step n (omega arith) (omega arith) ∙ ap (λ (ds : List ℕ). ds ++ (48 + n % 10) ∷ []) (two_digits (n / 10) (omega arith) (omega arith))
 
-pub two_more : (before : List ℕ) (k n : ℕ) → 2 ≤ k → (before ++ decimals (k - 2) (n / 100)) ++ decimals 2 n ≡ before ++ decimals k n
-two_more before zero n some = absurd (omega arith)
-two_more before (suc zero) n some = absurd (omega arith)
-two_more before (suc (suc k)) n some =
-    let less : suc (suc k) - 2 ≡ k = omega arith in
-    let hundreds : n / 100 ≡ n / 10 / 10 = omega arith in
-    rw (less, hundreds) (simp append_assoc)
+-- all digits but the last three, and these
+pub thousands : (n : ℕ) → 1000 ≤ n → n < 10 ^ 6 → decimal n ≡ decimal (n / 1000) ++ decimals 3 n
+thousands n some few =
+    let front : n / 10 / 10 / 10 ≡ n / 1000 = omega arith in
+    let shorter : decimal (n / 10 / 10) ≡ decimal (n / 1000) ++ (48 + n / 10 / 10 % 10) ∷ [] = decimal_step (n / 10 / 10) (omega arith) (omega arith) ∙ (rw front refl) in
+    let short : decimal (n / 10) ≡ (decimal (n / 1000) ++ (48 + n / 10 / 10 % 10) ∷ []) ++ (48 + n / 10 % 10) ∷ [] =
+    decimal_step (n / 10) (omega arith) (omega arith) ∙ ap (λ (ds : List ℕ). ds ++ (48 + n / 10 % 10) ∷ []) shorter in
+    decimal_step n (omega arith) (omega arith) ∙ ap (λ (ds : List ℕ). ds ++ (48 + n % 10) ∷ []) short ∙ (simp append_assoc)
+
+pub length_thousands : (n : ℕ) → 1000 ≤ n → n < 10 ^ 6 → length (decimal n) ≡ length (decimal (n / 1000)) + 3
+length_thousands n some few = ap length (thousands n some few) ∙ length-append (decimal (n / 1000)) (decimals 3 n)
+
+pub few_digits : (n : ℕ) → n < 1000 → length (decimal n) ≤ 3
+few_digits n few = length-decimal-le 3 n (omega arith) (omega arith) (omega arith)
+
+pub two_at_least : (n : ℕ) → 10 ≤ n → n < 100 → length (decimal n) ≡ 2
+two_at_least n some few = ap length (two_digits n some few)
+
+pub three_at_least : (n : ℕ) → 100 ≤ n → n < 1000 → length (decimal n) ≡ 3
+three_at_least n some few = ap length (three_digits n some few)
+
+pub one_at_least : (n : ℕ) → n < 10 → length (decimal n) ≡ 1
+one_at_least n few = ap length (one_digit n few)
+
+pub one_more : (before : List ℕ) (k n : ℕ) → 1 ≤ k → (before ++ decimals (k - 1) (n / 10)) ++ (48 + n % 10) ∷ [] ≡ before ++ decimals k n
+one_more before zero n some = absurd (omega arith)
+one_more before (suc k) n some =
+    let less : suc k - 1 ≡ k = omega arith in
+    rw less (simp append_assoc)
+
+-- ---- a sign, digits, a point and decimals
+
+pub tenths_room : (t : ℕ) → length (decimal_text false t 1) ≡ length (decimal (t / 10)) + 2
+tenths_room t = length-append (decimal (t / 10)) (46 ∷ decimals 1 t)
+
+pub hundredths_room : (t : ℕ) → length (decimal_text false t 2) ≡ length (decimal (t / 100)) + 3
+hundredths_room t = length-append (decimal (t / 100)) (46 ∷ decimals 2 t)
+
+pub angle_room : (t : ℕ) → t < 3600 → length (decimal_text false t 1) ≤ 5
+angle_room t small = length_unsigned_text 4 1 t (omega arith) (omega arith) (omega arith)
+
+pub sign_first : (before : List ℕ) (negative : Bool) (n places : ℕ)
+    → (before ++ minus (shows_minus negative n)) ++ decimal_text false n places ≡ before ++ decimal_text negative n places
+sign_first before negative n places = append_assoc before (minus (shows_minus negative n)) (decimal_text false n places)
+
+pub sign_room : (negative : Bool) (n places : ℕ) → length (decimal_text negative n places) ≡ length (minus (shows_minus negative n)) + length (decimal_text false n places)
+sign_room negative n places = length-append (minus (shows_minus negative n)) (decimal_text false n places)
 
 -- ---- the width of a field
 

@@ -4,8 +4,9 @@ use Rattle.std.specs.Prelude.{nat_le}
 use Rattle.std.proofs.lemmas.Bool.{both_ways, cases_Bool, leb-true, and_parts, le-leb}
 use Rattle.std.proofs.lemmas.Bool.Decides.{nat_tests}
 use Rattle.std.proofs.lemmas.Int.{ints}
-use Rattle.jiff.specs.Types.{Date}
-use Rattle.jiff.specs.Words.{IsDate, IsYear, IsYmd, days_in_month, epoch_day}
+use Rattle.jiff_core.specs.declared.civil.date.Date.{Date}
+use Rattle.jiff_core.specs.Calendar.{IsDate, IsYear, days_in_month}
+use Rattle.jiff_core.specs.Date.{IsYmd, epoch_day}
 use Rattle.readings.specs.Ranges.{Holds, date as date_range}
 use Rattle.sentence_rows.specs.Calendar.{is_year, is_month, is_day, date_if, date_of}
 use Rattle.sentence_rows.specs.Columns.{day_number, day_of, day_within}

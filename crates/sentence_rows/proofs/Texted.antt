@@ -35,10 +35,10 @@ use Rattle.unit_fraction.proofs.Text.{length-decimals, own}
 use Rattle.sentence_rows.specs.declared.digits.Fixed.{Fixed}
 use Rattle.sentence_rows.proofs.DigitNumbers.{list_all_digits}
 use Rattle.std.specs.Int.{IsInRange}
-use Rattle.jiff.specs.Types.{Date}
-use Rattle.jiff.specs.Words.{days_in_month, is_leap_year, epoch_day}
-use Rattle.jiff.proofs.Family.{epoch_day-lt}
-use Rattle.jiff_core.specs.Calendar.{day_count, days_from_civil}
+use Rattle.jiff_core.specs.declared.civil.date.Date.{Date}
+use Rattle.jiff_core.specs.Date.{epoch_day}
+use Rattle.jiff_core.proofs.DateLemmas.{epoch_day-lt}
+use Rattle.jiff_core.specs.Calendar.{days_in_month, is_leap_year, day_count, days_from_civil}
 use Rattle.sentence_rows.proofs.CivilDates.{no_months, years_least}
 use Rattle.sentence_rows.proofs.Dates.{dated, inside}
 

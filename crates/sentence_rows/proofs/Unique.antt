@@ -3,15 +3,15 @@ use Rattle.std.proofs.Common.{◌≡◌, ℕ, ℤ, Bool, List, [], ◌∷◌, �
 use Rattle.std.specs.Prelude.{codes, unsigned_abs}
 use Rattle.std.specs.List.{AllByRecursion}
 use Rattle.arrayvec.specs.ArrayVec.{ArrayVec}
-use Rattle.jiff.specs.Types.{Date}
-use Rattle.jiff.specs.Words.{epoch_day}
+use Rattle.jiff_core.specs.declared.civil.date.Date.{Date}
+use Rattle.jiff_core.specs.Date.{epoch_day}
 use Rattle.readings.specs.declared.reading.Reading.{Reading}
 use Rattle.readings.specs.declared.reading.Reading.TheVariants as reading
 use Rattle.sentence_rows.specs.declared.lines.SentenceText.{SentenceText}
 use Rattle.sentence_rows.specs.Lines.{lines_of, sentence_by}
 use Rattle.sentence_rows.specs.Stable.{IsReadBack, IsSaid}
 use Rattle.sentence_rows.specs.Writing.{Dated, IsText, day_said, said, zda, zda_on}
-use Rattle.jiff.proofs.Family.{epoch_day_injective}
+use Rattle.jiff_core.proofs.DateLemmas.{epoch_day_injective}
 use Rattle.readings.specs.Ranges.{Holds, date as date_range}
 use Rattle.sentence_rows.specs.Calendar.{civil_date}
 use Rattle.sentence_rows.specs.Laws.{SaidInOneWay}

@@ -4,8 +4,9 @@ use lib.Dec.{T}
 use lib.Signed.{le_z_yes}
 use Rattle.std.specs.Int.{IsInRange}
 use Rattle.std.proofs.lemmas.Bool.{leb-true, and_parts, false≢true}
-use Rattle.jiff.specs.Types.{Date}
-use Rattle.jiff.specs.Words.{days_in_month, days_in_year, epoch_day, IsYear}
+use Rattle.jiff_core.specs.declared.civil.date.Date.{Date}
+use Rattle.jiff_core.specs.Calendar.{days_in_month, days_in_year, IsYear}
+use Rattle.jiff_core.specs.Date.{epoch_day}
 
 -- the calendar has such a year, month and day
 abbrev pub is_year : ℕ → Bool

@@ -1,7 +1,7 @@
 -- The sentences that each reading is said in.
 use Rattle.std.specs.Prelude.{◌≡◌, ℕ, ◌+◌, ℤ, pos, ◌-ℤ◌, unsigned_abs, Bool, not, ◌||◌, List, [], ◌∷◌, map, codes, Option, Some, None, is_some, if◌then◌else◌}
-use Rattle.jiff.specs.Words.{epoch_day}
-use Rattle.jiff.specs.Types.{Date}
+use Rattle.jiff_core.specs.Date.{epoch_day}
+use Rattle.jiff_core.specs.declared.civil.date.Date.{Date}
 use Rattle.readings.specs.declared.reading.Reading.{Reading}
 use Rattle.readings.specs.declared.reading.Reading.TheVariants as reading
 use Rattle.sentence_rows.specs.WrittenUnits.{degrees, degrees_per_minute, knots, kilometres_per_hour, metres_per_second, metres, feet, fathoms, offset_metres, range_metres, nautical_miles, track_miles, minutes, fix_minutes, altitude_metres, separation_metres, dilution, celsius}

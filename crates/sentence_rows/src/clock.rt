@@ -1,18 +1,15 @@
 //! The time of day and the date.
 
-ghost use Rattle.std.specs.Prelude.{◌≡◌, ◌<◌, ◌≤◌, ◌^◌, ◌+ℤ◌, pos, IsTrue};
-ghost use Rattle.jiff.specs.Words.{epoch_day};
+ghost use Rattle.std.specs.Prelude.{◌≡◌, ◌<◌, ◌≤◌, ◌^◌, IsTrue};
+ghost use Rattle.jiff_core.specs.Date.{epoch_day};
 ghost use Rattle.sentence_rows.specs.Columns as spec;
 
 use crate::column::{field, is_blank};
 use crate::digits::{Fixed, digits, fixed_in};
 use crate::fault::FieldFault;
-use jiff::civil::Date;
+use jiff_core::civil::Date;
 use readings::range::DATE;
 use sentence_text::Sentence;
-
-/// The days from the first date of the calendar, -9999-01-01, to 1970-01-01.
-pub(crate) const DAYS_BEFORE_1970: i64 = 4_371_587;
 
 /// Hours, minutes and seconds are of the day.
 fn is_time(fixed: &Fixed) -> bool
@@ -71,7 +68,7 @@ pub(crate) fn time(sentence: &Sentence<'_>, at: u8) -> Result<Option<i64>, Field
 fn days_since_1970(date: Date) -> i64
     ensures { result ≡ epoch_day date }
 {
-    date.duration_since(Date::MIN).as_hours() / 24 - DAYS_BEFORE_1970
+    i64::from(date.to_unix_epoch_day())
 }
 
 /// The day's number, where the calendar has the day and the bus can say it.

@@ -1,7 +1,8 @@
 ghost use Rattle.std.specs.Prelude.{◌≡◌, ◌+◌, ◌/◌, ◌%◌, ◌≤◌, ◌<◌, ◌^◌, ◌++◌, length, IsTrue, false, nat_lt, unsigned_abs};
 ghost use Rattle.std.specs.Fmt.{decimal};
+ghost use Rattle.unit_fraction.specs.Digits.{minus};
 ghost use Rattle.unit_fraction.specs.Text.{decimal_text, decimals};
-ghost use Rattle.sentence_rows.specs.Field.{IsCounted, IsPrintable, count, degrees_text, is_sound, text_of, width_of};
+ghost use Rattle.sentence_rows.specs.Field.{IsCounted, IsPrintable, count, degrees_text, is_negative, is_sound, text_of, width_of};
 ghost use Rattle.sentence_rows.specs.WrittenUnits.{degrees};
 
 use crate::written_unit::{DEGREES, WrittenUnit};
@@ -35,28 +36,28 @@ pub enum Field {
 
 impl Field {
     /// Appends the field's text.
-    pub(crate) fn append(self, out: &mut ArrayVec<u8, 82>)
-        requires printable { IsPrintable self }
-        requires room { length out.old.items + width_of self ≤ 82 }
-        ensures { out.new.items ≡ out.old.items ++ text_of self }
+    pub(crate) fn append(&self, out: &mut ArrayVec<u8, 82>)
+        requires printable { IsPrintable self.now }
+        requires room { length out.old.items + width_of self.now ≤ 82 }
+        ensures { out.new.items ≡ out.old.items ++ text_of self.now }
     {
         match self {
             Field::Empty => {}
-            Field::Letter(letter) => out.push(letter),
-            Field::Decimal(raw, unit) => append_decimal(raw, unit, out),
-            Field::Magnitude(raw, unit) => append_magnitude(raw, unit, out),
+            Field::Letter(letter) => out.push(*letter),
+            Field::Decimal(raw, unit) => append_decimal(*raw, *unit, out),
+            Field::Magnitude(raw, unit) => append_magnitude(*raw, *unit, out),
             Field::Side(raw, unit, positive, negative) => append_side(
-                raw, unit, positive, negative, out,
+                *raw, *unit, *positive, *negative, out,
             ),
-            Field::Angle(raw) => append_angle(raw, out),
-            Field::Degrees(raw, unit, width) => append_degrees(raw, unit, width, out),
-            Field::Time(raw) => append_time(raw, out),
+            Field::Angle(raw) => append_angle(*raw, out),
+            Field::Degrees(raw, unit, width) => append_degrees(*raw, *unit, *width, out),
+            Field::Time(raw) => append_time(*raw, out),
             Field::Digits(number, width) => {
                 if let Some(number) = number {
-                    append_digits(number, width, out);
+                    append_digits(*number, *width, out);
                 }
             }
-            Field::Satellites(raw) => append_satellites(raw, out),
+            Field::Satellites(raw) => append_satellites(*raw, out),
         }
     }
 }
@@ -73,23 +74,69 @@ fn count(raw: i64, unit: WrittenUnit) -> i128
     scale(fraction, raw)
 }
 
-/// The same without its sign.
-fn size(raw: i64, unit: WrittenUnit) -> u64
+/// Whether that count is below zero, and how large it is.
+fn signed_size(raw: i64, unit: WrittenUnit) -> (bool, u64)
     requires sound { IsTrue (is_sound unit) }
     requires counted { unsigned_abs raw ≤ unit.largest }
-    ensures value { result ≡ unsigned_abs (count unit raw) }
-    ensures small { result < 10 ^ unit.digits }
+    ensures sign { result.0 ≡ is_negative (count unit raw) }
+    ensures value { result.1 ≡ unsigned_abs (count unit raw) }
+    ensures small { result.1 < 10 ^ unit.digits }
 {
-    count(raw, unit).unsigned_abs() as u64
+    let counted = count(raw, unit);
+    (counted < 0, counted.unsigned_abs() as u64)
 }
 
-/// Appends the decimal, for which there is room.
+/// Appends the decimal, for which there is room. One of few digits with one or two decimals, as nearly all are, is put where it stands.
+#[tactic(auto, using(crate::proofs::Bodies::sign_first, crate::proofs::Bodies::sign_room))]
 fn append_number(negative: bool, digits: u64, places: u8, out: &mut ArrayVec<u8, 82>)
     requires places { places ≤ 12 }
     requires room { length out.old.items + length (decimal_text negative digits places) ≤ 82 }
     ensures { out.new.items ≡ out.old.items ++ decimal_text negative digits places }
 {
-    let _fits = write_decimal(negative, digits, places, out);
+    if digits >= 10_000_000 || places == 0 || places > 2 {
+        let _fits = write_decimal(negative, digits, places, out);
+        return;
+    }
+    append_minus(negative && digits != 0, out);
+    if places == 1 {
+        append_tenths(digits, out);
+    } else {
+        append_hundredths(digits, out);
+    }
+}
+
+/// Appends a minus, where there is one.
+fn append_minus(negative: bool, out: &mut ArrayVec<u8, 82>)
+    requires { length out.old.items + length (minus negative) ≤ 82 }
+    ensures { out.new.items ≡ out.old.items ++ minus negative }
+{
+    if negative {
+        out.push(b'-');
+    }
+}
+
+/// Appends a number of which these are the tenths.
+#[tactic(auto, using(crate::proofs::Bodies::tenths_room))]
+fn append_tenths(tenths: u64, out: &mut ArrayVec<u8, 82>)
+    requires few { tenths < 10 ^ 7 }
+    requires room { length out.old.items + length (decimal_text false tenths 1) ≤ 82 }
+    ensures { out.new.items ≡ out.old.items ++ decimal_text false tenths 1 }
+{
+    append_whole(tenths / 10, out);
+    out.push(b'.');
+    out.push(b'0' + (tenths % 10) as u8);
+}
+
+/// Appends a number of which these are the hundredths.
+#[tactic(auto, using(crate::proofs::Bodies::hundredths_room))]
+fn append_hundredths(hundredths: u64, out: &mut ArrayVec<u8, 82>)
+    requires few { hundredths < 10 ^ 7 }
+    requires room { length out.old.items + length (decimal_text false hundredths 2) ≤ 82 }
+    ensures { out.new.items ≡ out.old.items ++ decimal_text false hundredths 2 }
+{
+    append_whole(hundredths / 100, out);
+    out.push(b'.');
+    append_two(hundredths, out);
 }
 
 /// Appends the raw value, with its sign where that is asked for.
@@ -100,8 +147,8 @@ fn append_decimal(raw: Option<i64>, unit: WrittenUnit, out: &mut ArrayVec<u8, 82
     ensures { out.new.items ≡ out.old.items ++ text_of (Field.Decimal raw unit) }
 {
     if let Some(raw) = raw {
-        let negative = count(raw, unit) < 0;
-        append_number(negative, size(raw, unit), unit.places, out);
+        let (negative, size) = signed_size(raw, unit);
+        append_number(negative, size, unit.places, out);
     }
 }
 
@@ -113,7 +160,8 @@ fn append_magnitude(raw: Option<i64>, unit: WrittenUnit, out: &mut ArrayVec<u8, 
     ensures { out.new.items ≡ out.old.items ++ text_of (Field.Magnitude raw unit) }
 {
     if let Some(raw) = raw {
-        append_number(false, size(raw, unit), unit.places, out);
+        let (_, size) = signed_size(raw, unit);
+        append_number(false, size, unit.places, out);
     }
 }
 
@@ -147,6 +195,7 @@ fn tenths(raw: i64) -> u64
 }
 
 /// Appends the angle.
+#[tactic(auto, using(crate::proofs::Bodies::angle_room))]
 fn append_angle(raw: Option<i64>, out: &mut ArrayVec<u8, 82>)
     requires { length out.old.items + 5 ≤ 82 }
     ensures { out.new.items ≡ out.old.items ++ text_of (Field.Angle raw) }
@@ -154,17 +203,6 @@ fn append_angle(raw: Option<i64>, out: &mut ArrayVec<u8, 82>)
     if let Some(raw) = raw {
         append_tenths(tenths(raw), out);
     }
-}
-
-/// Appends a number below 360, of which these are the tenths.
-fn append_tenths(tenths: u64, out: &mut ArrayVec<u8, 82>)
-    requires below { tenths < 3600 }
-    requires room { length out.old.items + 5 ≤ 82 }
-    ensures { out.new.items ≡ out.old.items ++ decimal_text false tenths 1 }
-{
-    append_whole(tenths / 10, out);
-    out.push(b'.');
-    out.push(b'0' + (tenths % 10) as u8);
 }
 
 /// Appends degrees, and minutes with four decimals.
@@ -175,7 +213,8 @@ fn append_degrees(raw: Option<i64>, unit: WrittenUnit, width: u8, out: &mut Arra
     ensures { out.new.items ≡ out.old.items ++ text_of (Field.Degrees raw unit width) }
 {
     if let Some(raw) = raw {
-        append_minutes(size(raw, unit), width, out);
+        let (_, size) = signed_size(raw, unit);
+        append_minutes(size, width, out);
     }
 }
 
@@ -187,7 +226,7 @@ fn append_minutes(minutes: u64, width: u8, out: &mut ArrayVec<u8, 82>)
     append_digits(minutes / 600_000, width, out);
     append_two(minutes % 600_000 / 10_000, out);
     out.push(b'.');
-    append_digits(minutes % 10_000, 4, out);
+    append_four(minutes % 10_000, out);
 }
 
 /// Appends the time of day, cut off to hundredths of a second.
@@ -206,6 +245,7 @@ fn append_time(raw: Option<i64>, out: &mut ArrayVec<u8, 82>)
 }
 
 /// Appends the number of satellites.
+#[tactic(auto, using(crate::proofs::Bodies::few_digits))]
 fn append_satellites(raw: Option<i64>, out: &mut ArrayVec<u8, 82>)
     requires few { IsPrintable (Field.Satellites raw) }
     requires room { length out.old.items + 3 ≤ 82 }
@@ -216,27 +256,47 @@ fn append_satellites(raw: Option<i64>, out: &mut ArrayVec<u8, 82>)
         if number < 10 {
             append_two(number, out);
         } else {
-            append_whole(number, out);
+            append_few(number, out);
         }
     }
 }
 
-/// Appends a number below 1,000 without needless zeros.
-#[tactic(auto, using(crate::proofs::Bodies::one_digit, crate::proofs::Bodies::two_digits))]
+/// Appends a number below a million without needless zeros.
 fn append_whole(number: u64, out: &mut ArrayVec<u8, 82>)
-    requires below { number < 1000 }
-    requires room { length out.old.items + 3 ≤ 82 }
+    requires below { number < 10 ^ 6 }
+    requires room { length out.old.items + length (decimal number) ≤ 82 }
     ensures text { out.new.items ≡ out.old.items ++ decimal number }
-    ensures short { length out.new.items ≤ length out.old.items + 3 }
+{
+    if number < 1_000 {
+        append_few(number, out);
+    } else {
+        append_few(number / 1_000, out);
+        append_three(number, out);
+    }
+}
+
+/// Appends a number below a thousand without needless zeros.
+#[tactic(auto, using(crate::proofs::Bodies::one_digit, crate::proofs::Bodies::two_digits, crate::proofs::Bodies::three_digits, crate::proofs::Bodies::one_at_least, crate::proofs::Bodies::two_at_least, crate::proofs::Bodies::three_at_least))]
+fn append_few(number: u64, out: &mut ArrayVec<u8, 82>)
+    requires below { number < 1000 }
+    requires room { length out.old.items + length (decimal number) ≤ 82 }
+    ensures text { out.new.items ≡ out.old.items ++ decimal number }
 {
     match number {
         0..=9 => out.push(b'0' + number as u8),
         10..=99 => append_two(number, out),
-        _ => {
-            out.push(b'0' + (number / 100) as u8);
-            append_two(number, out);
-        }
+        _ => append_three(number, out),
     }
+}
+
+/// Appends the last three digits of the number.
+fn append_three(number: u64, out: &mut ArrayVec<u8, 82>)
+    requires { length out.old.items + 3 ≤ 82 }
+    ensures text { out.new.items ≡ out.old.items ++ decimals 3 number }
+    ensures len { length out.new.items ≡ length out.old.items + 3 }
+{
+    out.push(b'0' + (number / 100 % 10) as u8);
+    append_two(number, out);
 }
 
 /// Appends the last two digits of the number.
@@ -249,16 +309,30 @@ fn append_two(number: u64, out: &mut ArrayVec<u8, 82>)
     out.push(b'0' + (number % 10) as u8);
 }
 
+/// Appends the last four digits of the number.
+fn append_four(number: u64, out: &mut ArrayVec<u8, 82>)
+    requires { length out.old.items + 4 ≤ 82 }
+    ensures text { out.new.items ≡ out.old.items ++ decimals 4 number }
+    ensures len { length out.new.items ≡ length out.old.items + 4 }
+{
+    append_two(number / 100, out);
+    append_two(number, out);
+}
+
 /// Appends the last `width` digits of the number.
 fn append_digits(number: u64, width: u8, out: &mut ArrayVec<u8, 82>)
     requires { length out.old.items + width ≤ 82 }
     ensures text { out.new.items ≡ out.old.items ++ decimals width number }
     ensures len { length out.new.items ≡ length out.old.items + width }
 {
-    if width >= 2 {
-        append_digits(number / 100, width - 2, out);
-        append_two(number, out);
-    } else if width == 1 {
-        out.push(b'0' + (number % 10) as u8);
+    match width {
+        0 => {}
+        2 => append_two(number, out),
+        3 => append_three(number, out),
+        4 => append_four(number, out),
+        _ => {
+            append_digits(number / 10, width - 1, out);
+            out.push(b'0' + (number % 10) as u8);
+        }
     }
 }

@@ -45,6 +45,9 @@ fn append_fields(fields: &[Field], out: &mut ArrayVec<u8, 82>)
 }
 
 /// Leaves the sentence of the fields.
+///
+/// Each of its two callers has a copy of it, so that what is put together lies in the caller's frame and not behind a reference.
+#[inline(always)]
 pub(crate) fn write_sentence(
     talker: [u8; 2],
     formatter: [u8; 3],

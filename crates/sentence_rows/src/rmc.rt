@@ -14,7 +14,7 @@ ghost use Rattle.sentence_rows.specs.Rmc.{IsMinimum, date_number, date_said, rmc
 use crate::field::Field::{Angle, Decimal, Degrees, Digits, Letter, Magnitude, Side, Time};
 use crate::lines::{SentenceText, write_sentence};
 use crate::written_unit::{DEGREES, KNOTS, MINUTES};
-use crate::zda::{civil_date, day_of, month_of, year_of};
+use crate::zda::{civil_date, year_of};
 
 /// What RMC says, as raw values in the units of readings. A value is `None` where it isn't available.
 #[derive(Clone, Copy)]
@@ -37,7 +37,7 @@ fn date_number(day: i64) -> u64
     ensures { result ≡ date_number (civil day) }
 {
     let date = civil_date(day);
-    day_of(date) % 100 * 10_000 + month_of(date) % 100 * 100 + year_of(date) % 100
+    date.day as u64 % 100 * 10_000 + date.month as u64 % 100 * 100 + year_of(date) % 100
 }
 
 fn date_said(day: Option<i64>) -> Option<u64>

@@ -2,9 +2,9 @@
 //!
 //! 1 time as hhmmss.ss, 2 day, 3 month, 4 year, 5 and 6 the local zone, which is always UTC.
 
-ghost use Rattle.std.specs.Prelude.{◌≡◌, ◌<◌, ◌≤◌, ◌+ℤ◌, [], ◌∷◌, ◌++◌, codes, length, unsigned_abs, IsTrue};
+ghost use Rattle.std.specs.Prelude.{◌≡◌, ◌<◌, [], ◌∷◌, ◌++◌, codes, length, unsigned_abs, IsTrue};
 ghost use Rattle.std.specs.List.{list_all};
-ghost use Rattle.jiff.specs.Words.{IsEpochDay, epoch_day};
+ghost use Rattle.jiff_core.specs.Date.{epoch_day};
 ghost use Rattle.readings.specs.Ranges.{Admits, Holds, date as date_range};
 ghost use Rattle.sentence_text.specs.Byte.{is_capital};
 ghost use Rattle.sentence_rows.specs.Lines.{lines_of, sentence_by};
@@ -13,49 +13,31 @@ ghost use Rattle.sentence_rows.specs.Writing as text;
 ghost use Rattle.sentence_rows.specs.Columns.{fields_in};
 ghost use Rattle.sentence_rows.specs.Reading as spec;
 
-use crate::clock::{DAYS_BEFORE_1970, date, time};
+use crate::clock::{date, time};
 use crate::fault::FieldFault;
 use crate::field::Field::{Digits, Time};
 use crate::lines::{Lines, append};
 use crate::read_unit;
-use jiff::ToSpan;
-use jiff::civil::Date;
+use jiff_core::civil::Date;
 use readings::Reading;
 use sentence_text::Sentence;
+
+/// The days from the first date of the calendar, -9999-01-01, to 1970-01-01.
+const DAYS_BEFORE_1970: u32 = 4_371_587;
 
 /// The date of a day, counted from 1970-01-01.
 pub(crate) fn civil_date(day: i64) -> Date
     requires { Holds date_range day }
     ensures { epoch_day result ≡ day }
 {
-    days_after(Date::MIN, DAYS_BEFORE_1970 + day)
+    Date::from_days_since_min(DAYS_BEFORE_1970 + day as u32)
 }
 
-/// The date so many days after the first.
-fn days_after(first: Date, days: i64) -> Date
-    requires few { unsigned_abs days ≤ 5_000_000 }
-    requires inside { IsEpochDay (epoch_day first +ℤ days) }
-    ensures { epoch_day result ≡ epoch_day first +ℤ days }
-{
-    first + days.days()
-}
-
-pub(crate) fn day_of(date: Date) -> u64
-    ensures { result ≡ date.day }
-{
-    date.day() as u64
-}
-
-pub(crate) fn month_of(date: Date) -> u64
-    ensures { result ≡ date.month }
-{
-    date.month() as u64
-}
-
+/// The year of a day that a message can name.
 pub(crate) fn year_of(date: Date) -> u64
     ensures { result ≡ unsigned_abs date.year }
 {
-    u64::from(date.year().unsigned_abs())
+    u64::from(date.year.unsigned_abs())
 }
 
 fn append_date(talker: [u8; 2], time: Option<i64>, date: Date, out: &mut Lines)
@@ -66,8 +48,8 @@ fn append_date(talker: [u8; 2], time: Option<i64>, date: Date, out: &mut Lines)
 {
     let fields = [
         Time(time),
-        Digits(Some(day_of(date)), 2),
-        Digits(Some(month_of(date)), 2),
+        Digits(Some(date.day as u64), 2),
+        Digits(Some(date.month as u64), 2),
         Digits(Some(year_of(date)), 4),
         Digits(Some(0), 2),
         Digits(Some(0), 2),

@@ -8,4 +8,4 @@ pub returns : goal.returns
 returns c =
     let fits : FitsSigned w64 c.args.day = search rules in
     let on = c.civil_date-date.ensures ∙ to_z-of_z w64 c.args.day fits in
-    rw (c.day_of.ensures, c.month_of.ensures, c.year_of.ensures) (same_number c.args.day c.civil_date-date.result c.requires on)
+    rw c.year_of.ensures (same_number c.args.day c.civil_date-date.result c.requires on)

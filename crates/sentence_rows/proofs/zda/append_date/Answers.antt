@@ -1,8 +1,8 @@
--- Day, month and year are those of the date.
+-- The year is that of the date.
 use Rattle.sentence_rows.proofs.zda.append_date.Goals as goal
 
 pub returns-clause-said : goal.returns-clause-said
-returns-clause-said c = rw (← c.day_of.ensures, ← c.month_of.ensures, ← c.year_of.ensures) c.append.ensures.said
+returns-clause-said c = rw (← c.year_of.ensures) c.append.ensures.said
 
 pub returns-clause-again : goal.returns-clause-again
-returns-clause-again c = rw (← c.day_of.ensures, ← c.month_of.ensures, ← c.year_of.ensures) c.append.ensures.again
+returns-clause-again c = rw (← c.year_of.ensures) c.append.ensures.again

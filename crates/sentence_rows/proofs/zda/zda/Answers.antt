@@ -1,4 +1,4 @@
--- The date of the day is the one that jiff gives.
+-- The date of the day is the one whose number the day is.
 use Rattle.std.proofs.Common.{FitsSigned, w64, rules, ◌∙◌}
 use Rattle.std.proofs.lemmas.Int.{to_z-of_z}
 use Rattle.sentence_rows.proofs.Unique.{dated_zda}

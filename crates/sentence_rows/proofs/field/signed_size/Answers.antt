@@ -6,7 +6,7 @@ use Rattle.std.specs.Prelude.{unsigned_abs}
 use Rattle.sentence_rows.specs.declared.written_unit.WrittenUnit.{WrittenUnit}
 use Rattle.sentence_rows.specs.Field.{count}
 use Rattle.sentence_rows.proofs.Bodies.{count_below, count_fits}
-use Rattle.sentence_rows.proofs.field.size.Goals as goal
+use Rattle.sentence_rows.proofs.field.signed_size.Goals as goal
 
 -- what is counted without its sign
 of_count : (unit : WrittenUnit) (raw : ℤ) (counted : ℤ) (size : ℕ) → FitsSigned w64 raw → FitsSigned w128 counted → counted ≡ count unit (to_z w64 (of_z w64 raw))
@@ -16,14 +16,14 @@ of_count unit raw counted size small fits is value =
 
 pub overflow_cast-result : goal.overflow_cast-result
 overflow_cast-result c =
-    let fits : FitsSigned w128 c.count.result = search rules in
-    let size = of_count c.args.unit c.args.raw c.count.result c.unsigned_abs.result c.ranges.raw fits c.count.ensures c.unsigned_abs.ensures.value in
+    let fits : FitsSigned w128 c.count-counted.result = search rules in
+    let size = of_count c.args.unit c.args.raw c.count-counted.result c.unsigned_abs.result c.ranges.raw fits c.count-counted.ensures c.unsigned_abs.ensures.value in
     let small = count_fits c.args.unit c.args.raw c.requires.sound c.requires.counted in
     omega (arith, size, small)
 
 pub returns-clause-small : goal.returns-clause-small
 returns-clause-small c =
-    let fits : FitsSigned w128 c.count.result = search rules in
-    let size = of_count c.args.unit c.args.raw c.count.result c.unsigned_abs.result c.ranges.raw fits c.count.ensures c.unsigned_abs.ensures.value in
+    let fits : FitsSigned w128 c.count-counted.result = search rules in
+    let size = of_count c.args.unit c.args.raw c.count-counted.result c.unsigned_abs.result c.ranges.raw fits c.count-counted.ensures c.unsigned_abs.ensures.value in
     let small = count_below c.args.unit c.args.raw c.requires.sound c.requires.counted in
     omega (arith, size, small)
