@@ -1,6 +1,5 @@
 -- What the bridge gives, in the words of the history: of all that ever came.
 use Rattle.std.specs.Prelude.{◌≡◌, ℕ, ◌%◌, ◌≤◌, List, [], ◌∷◌, length}
-use Rattle.claim_table.specs.declared.preset.Preset.{Preset}
 use Rattle.tag_block.specs.Numbers.{most_count}
 use Rattle.settings.specs.declared.ais.AisConfig.{AisConfig}
 use Rattle.history.specs.Entries as entry
@@ -31,8 +30,8 @@ step_by gateway k e = ais_step by_keys.fast gateway.addresses k e
 
 -- ---- the start
 
-abbrev pub IsAisOpening : AisConfig → List ℕ → List Preset → AisKept → Type 0
-IsAisOpening a sfi presets k = (c : Settings) (s : ℕ) → c.sfi ≡ sfi → c.presets ≡ presets → StandsAis a c s [] k
+abbrev pub IsAisOpening : AisConfig → List ℕ → AisKept → Type 0
+IsAisOpening a sfi k = (c : Settings) (s : ℕ) → c.sfi ≡ sfi → StandsAis a c s [] k
 
 -- ---- an event that the gateway has taken: it leaves what stands for the history with it, and all that the history says is emitted
 

@@ -6,7 +6,6 @@ ghost use Rattle.gate_core.specs.Steps.{IsEventValid, entry_of};
 ghost use Rattle.ais_bridge.specs.AisKept.{ais_opened};
 ghost use Rattle.ais_bridge.specs.Promises.{IsAisOpening, IsAisStep, step_by};
 
-use claim_table::Preset;
 use fast_packet::FastAssembler;
 use gate_core::Gateway;
 use gate_events::Event;
@@ -44,17 +43,11 @@ impl Model for AisBridge {
 }
 
 impl AisBridge {
-    /// A bridge of this configuration, by the system function identifier of a gateway with these presets. Who holds an address is asked of
-    /// the gateway.
-    pub fn new(
-        alloc: Global,
-        config: &AisConfig,
-        sfi: Sfi,
-        presets: &[Preset],
-    ) -> Result<AisBridge, AllocError>
+    /// A bridge of this configuration, by the system function identifier of a gateway. Who holds an address is asked of the gateway.
+    pub fn new(alloc: Global, config: &AisConfig, sfi: Sfi) -> Result<AisBridge, AllocError>
         requires { IsInRange 1 256 config.now.slots }
         ensures value { IfOk result (λ b. b ≡ ais_opened config.now sfi) }
-        ensures history { IfOk result (IsAisOpening config.now sfi presets.now) }
+        ensures history { IfOk result (IsAisOpening config.now sfi) }
     {
         let reports = FastAssembler::new(alloc, config.slots)?;
         Ok(AisBridge {

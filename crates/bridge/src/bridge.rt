@@ -28,7 +28,8 @@ pub struct Bridge {
     answering: Answering,
     joining: Option<Joining>,
     watching: Option<AisBridge>,
-    left: Left,
+    /// Most of all that is kept, and so not on the stack.
+    left: Box<Left>,
 }
 
 impl Model for Bridge {
@@ -44,7 +45,7 @@ impl Model for Bridge {
       answering = b.answering.identity;
       joining = b.joining;
       watching = b.watching;
-      left = b.left;
+      left = b.left.value;
     } };
 
     ghost invariant = { λ b. b.started ≡ false → b.gateway ≡ opened_machine b.gateway.settings };
@@ -58,13 +59,14 @@ impl Bridge {
     {
         let gateway = Gateway::new(alloc, &settings.config)?;
         let watching = watching_of(alloc, &settings.ais, &settings.config)?;
+        let left = Left::boxed(alloc)?;
         Ok(Bridge {
             gateway,
             started: false,
             answering: Answering::new(&settings.product),
             joining: joining_of(&settings.rmc, &settings.config),
             watching,
-            left: Left::new(),
+            left,
         })
     }
 
@@ -81,8 +83,9 @@ impl Bridge {
         ensures start { IsStart moment self.old self.new }
         ensures started { self.new.started ≡ true }
     {
-        self.left.clear();
-        self.gateway.start(moment, &mut self.left.outbox);
+        let left = self.left.as_mut();
+        left.clear();
+        self.gateway.start(moment, &mut left.outbox);
         self.started = true;
     }
 
@@ -95,8 +98,9 @@ impl Bridge {
         ensures started { self.new.started ≡ true }
     {
         let accepted = accepts(&self.gateway, event);
-        self.left.clear();
-        self.gateway.step(event, &mut self.left.outbox);
+        let left = self.left.as_mut();
+        left.clear();
+        self.gateway.step(event, &mut left.outbox);
         if accepted {
             self.take_beside(event);
         }
@@ -108,7 +112,7 @@ impl Bridge {
         requires quiet { self.old.left ≡ left_by self.old.left.outbox }
         ensures { IsBesideStep (entry_of event.now) self.old self.new }
     {
-        let left = &mut self.left;
+        let left = self.left.as_mut();
         self.answering
             .answer(&self.gateway, event, &mut left.answer);
         join(
@@ -142,9 +146,10 @@ impl Bridge {
         ensures order { IsCommanded (record { source = source; address = address }) self.old self.new }
         ensures started { self.new.started ≡ true }
     {
-        self.left.clear();
+        let left = self.left.as_mut();
+        left.clear();
         self.gateway
-            .command(Command { source, address }, &mut self.left.outbox);
+            .command(Command { source, address }, &mut left.outbox);
     }
 
     /// The moment of the last entry, in microseconds; 0 before any.

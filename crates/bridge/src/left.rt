@@ -1,5 +1,5 @@
 //! All that a call of the bridge leaves.
-ghost use Rattle.std.specs.Prelude.{◌≡◌, length, option_map, slice_get, IfSome};
+ghost use Rattle.std.specs.Prelude.{◌≡◌, length, option_map, slice_get, IfOk, IfSome};
 ghost use Rattle.gate_events.specs.Emit.{CanWrite};
 ghost use Rattle.gate_outbox.specs.Output.{emit_of};
 ghost use Rattle.bridge.specs.Kept.{all_left, nothing_left};
@@ -9,6 +9,7 @@ use crate::joining::Joined;
 use ais_bridge::AisEmits;
 use gate_core::Outbox;
 use gate_events::Emit;
+use std::alloc::{AllocError, Global};
 
 /// All that a call leaves, each part's emits behind those of the one before.
 #[derive(Drop)]
@@ -21,15 +22,20 @@ pub(crate) struct Left {
 }
 
 impl Left {
-    pub(crate) fn new() -> Left
-        ensures { result ≡ nothing_left }
+    /// Nothing, in a place of its own. The stack has it but once, while it is made, and not below the caller's values.
+    #[inline(never)]
+    pub(crate) fn boxed(alloc: Global) -> Result<Box<Left>, AllocError>
+        ensures { IfOk result (λ b. b.value ≡ nothing_left) }
     {
-        Left {
-            outbox: Outbox::new(),
-            answer: Answer::new(),
-            joined: Joined::new(),
-            ships: AisEmits::new(),
-        }
+        Ok(Box::new(
+            alloc,
+            Left {
+                outbox: Outbox::new(),
+                answer: Answer::new(),
+                joined: Joined::new(),
+                ships: AisEmits::new(),
+            },
+        )?)
     }
 
     /// Forgets all.

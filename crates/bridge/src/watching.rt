@@ -25,7 +25,7 @@ pub(crate) fn watching_of(
     ensures { IfOk result (λ w. IsOpenedWatching (settings_of config.now) ais.now w) }
 {
     match ais {
-        Some(ais) => Ok(Some(AisBridge::new(alloc, ais, config.sfi, config.presets.as_slice())?)),
+        Some(ais) => Ok(Some(AisBridge::new(alloc, ais, config.sfi)?)),
         None => Ok(None),
     }
 }

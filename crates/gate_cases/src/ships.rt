@@ -75,7 +75,7 @@ fn bridge_of(alloc: Global, slots: u16) -> Result<AisBridge, Fail> {
         group: Group::of(b"TGTD").unwrap_or_default(),
         slots,
     };
-    Ok(AisBridge::new(alloc, &ais, config.sfi, &config.presets)?)
+    Ok(AisBridge::new(alloc, &ais, config.sfi)?)
 }
 
 /// Whether a gateway and a bridge of so many slots give at each frame what stands beside it.

@@ -9,4 +9,4 @@ pub returns-in_ok-new-in-Some : goal.returns-in_ok-new-in-Some
 unfolding settings_of
 returns-in_ok-new-in-Some c =
     subst (λ (a : Option AisConfig). IsOpenedWatching (settings_of c.args.config.now) a (Some c.in_ok-new-in-Some.field-0)) (sym c.in-Some.is)
-    (λ s. c.in_ok-new-in-Some.ensures.history (settings_of c.args.config.now) s refl (sym c.as_slice.ensures.value))
+    (λ s. c.in_ok-new-in-Some.ensures.history (settings_of c.args.config.now) s refl)

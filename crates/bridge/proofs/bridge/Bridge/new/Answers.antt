@@ -8,7 +8,7 @@ unfolding parts_of
 returns c = record {
   settings = (are_settings c.args.settings.now.config c.requires.config).settings;
   waits = refl;
-  left = c.new-3.ensures;
+  left = c.in_ok-left.ensures;
   gateway = c.in_ok-gateway.ensures;
   answering = c.new-2.ensures;
   joining = c.joining_of.ensures;

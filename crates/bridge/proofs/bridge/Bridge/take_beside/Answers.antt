@@ -1,5 +1,6 @@
 use Rattle.std.proofs.Common.{refl, subst}
 use Rattle.gate_core.specs.Steps.{entry_of}
+use Rattle.bridge.specs.declared.left.Left.{Left}
 use Rattle.bridge.specs.BridgeStands.{IsBesideStep}
 use Rattle.bridge.specs.Kept.{Bridged}
 use Rattle.bridge.proofs.Steps.{bridge_of}
@@ -9,16 +10,17 @@ pub returns : goal.returns
 returns c =
     let i = c.self.inside in
     let e = entry_of c.args.event.now in
-    let before = bridge_of i.started i.gateway i.answering.identity i.joining i.watching i.left in
+    let was = c.as_mut-left.result.now in
     let after =
     bridge_of i.started i.gateway c.answer.new.self.identity c.join.new.joining c.watch.new.watching
-    (record { outbox = i.left.outbox; answer = c.answer.new.out; joined = c.join.new.out; ships = c.watch.new.out }) in
-    let step : IsBesideStep e before after = record {
+    (record { outbox = was.outbox; answer = c.answer.new.out; joined = c.join.new.out; ships = c.watch.new.out }) in
+    let step : IsBesideStep e (bridge_of i.started i.gateway i.answering.identity i.joining i.watching was) after = record {
       started = refl;
       gateway = refl;
       outbox = refl;
-      answering = c.answer.ensures i.left.outbox;
+      answering = c.answer.ensures was.outbox;
       joining = c.join.ensures e;
-      watching = c.watch.ensures i.left.outbox;
+      watching = c.watch.ensures was.outbox;
     } in
-    subst (λ (b : Bridged). IsBesideStep e b after) c.self.view_is step
+    subst (λ (b : Bridged). IsBesideStep e b after) c.self.view_is
+    (subst (λ (l : Left). IsBesideStep e (bridge_of i.started i.gateway i.answering.identity i.joining i.watching l) after) c.as_mut-left.ensures.value step)
