@@ -6,10 +6,8 @@ mod claiming;
 mod fault;
 pub mod laws;
 mod preset;
-mod table;
 
 pub use answer::{ClaimStep, Holder, OwnAnswer};
-pub use claiming::MOVE_PLACES;
+pub use claiming::{ClaimTable, MOVE_PLACES};
 pub use fault::ClaimFault;
 pub use preset::Preset;
-pub use table::ClaimTable;

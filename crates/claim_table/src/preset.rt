@@ -1,7 +1,11 @@
-ghost use Rattle.std.specs.Prelude.{◌≡◌};
+ghost use Rattle.std.specs.Prelude.{◌≡◌, ◌<◌, All, IfOk, None, length, replicate};
+ghost use Rattle.claim_table.specs.Presets.{placed};
 ghost use Rattle.std.specs.List.{list_any};
 
+use crate::answer::Holder;
 use n2k_id::Name;
+use n2k_id::address::ADDRESSES;
+use std::alloc::{AllocError, Global};
 
 /// A device whose address is known before it claims.
 #[derive(Clone, Copy, Debug, Default, PartialEq, Eq)]
@@ -47,4 +51,21 @@ impl Preset {
     {
         self.address == other.address || self.name == other.name
     }
+}
+
+/// The presets, each at its address.
+#[tactic(auto, using(crate::proofs::PresetLemmas::placed_further, crate::proofs::PresetLemmas::placed_end))]
+pub(crate) fn placed(alloc: Global, presets: &[Preset]) -> Result<Vec<Option<Holder>>, AllocError>
+    requires { All (λ p. p.address < 254) presets.now }
+    ensures holders { IfOk result (λ holders. holders.items ≡ placed (replicate 254 None) presets.now) }
+    ensures room { IfOk result (λ holders. length holders.items ≡ 254) }
+{
+    let mut holders = vec![in alloc; None; ADDRESSES]?;
+    for preset in presets {
+        holders[usize::from(preset.address)] = Some(Holder {
+            name: preset.name,
+            since: 0,
+        });
+    }
+    Ok(holders)
 }

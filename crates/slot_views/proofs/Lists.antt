@@ -1,5 +1,6 @@
 -- What holds of each element, after an edit.
-use Rattle.std.proofs.Common.{◌≡◌, ℕ, zero, suc, ◌+◌, ◌-◌, ◌*◌, ◌<◌, ◌≤◌, List, [], ◌∷◌, ◌++◌, length, get_or, set, take, arith}
+use Rattle.std.proofs.Common.{◌≡◌, ℕ, zero, suc, ◌+◌, ◌-◌, ◌*◌, ◌<◌, ◌≤◌, List, [], ◌∷◌, ◌++◌, length, get_or, set, take, ◌∙◌, subst, arith}
+use Rattle.std.proofs.lemmas.List.{get_or_default}
 use Rattle.std.specs.List.{AllByRecursion, insert, remove}
 
 module _ {X : Type 0} (P : X → Type 0) where
@@ -19,6 +20,10 @@ module _ {X : Type 0} (P : X → Type 0) where
   all_get [] i d all in_range = absurd (omega arith)
   all_get (x ∷ xs) zero d all in_range = all.0
   all_get (x ∷ xs) (suc i) d all in_range = all_get xs i d all.1 (omega arith)
+
+  -- what holds of an element that was read at its place
+  pub holds_read : (xs : List X) (i : ℕ) (x d : X) → i < length xs → x ≡ get_or xs i x → P x → P (get_or xs i d)
+  holds_read xs i x d in_range read holds = subst P (read ∙ get_or_default xs i x d in_range) holds
 
   pub all_remove : (xs : List X) (i : ℕ) → AllByRecursion P xs → AllByRecursion P (remove xs i)
   all_remove [] zero all = tt

@@ -1,16 +1,17 @@
 -- A shelf stands for a map after each edit.
-use Rattle.std.proofs.Common.{◌≡◌, ℕ, ◌+◌, ◌-◌, ◌*◌, ◌<◌, ◌≤◌, List, [], ◌∷◌, ◌++◌, length, get_or, set, refl, sym, ◌∙◌, ap, subst, Option, Some, arith}
+use Rattle.std.proofs.Common.{◌≡◌, ◌≢◌, ℕ, ◌+◌, ◌-◌, ◌*◌, ◌<◌, ◌≤◌, List, [], ◌∷◌, ◌++◌, length, get_or, set, refl, sym, ◌∙◌, ap, subst, Option, Some, arith}
 use Rattle.std.specs.Vec.{vec_len, vec_capacity}
 use Rattle.std.specs.List.{AllByRecursion, insert}
-use Rattle.std.proofs.lemmas.List.{get_or_default, length-map}
+use Rattle.std.specs.Global.{Vec}
+use Rattle.std.proofs.lemmas.List.{get_or_default, get_or_push, length-map}
 use Rattle.std.specs.Option.{option_to_list}
 use Rattle.std.specs.Cmp.{IsTotalOrder}
 use Rattle.std.specs.declared.cmp.Ordering.{Ordering}
 use Rattle.slot_views.specs.declared.slot.Slot.{Slot}
 use Rattle.slot_views.specs.declared.shelf.Shelf.{Shelf}
 use Rattle.slot_views.specs.Slots.{Entry, SlotMap, IsMap, with_entries, grown}
-use Rattle.slot_views.specs.Shelf.{entry_of, entries_of, HasRoom, seen, IsSound, IsGap, Extends}
-use Rattle.slot_views.proofs.Lists.{all_set, all_insert, all_map, all_get, all_front, all_back, room_left}
+use Rattle.slot_views.specs.Shelf.{entry_of, entries_of, HasRoom, HasFinished, seen, IsSound, IsGap, Extends}
+use Rattle.slot_views.proofs.Lists.{all_set, all_insert, all_map, all_front, all_back, room_left}
 use Rattle.slot_views.proofs.Order.{ordered_set, ordered_insert}
 
 module _ {K : Type 0} {cap piece : ℕ} where
@@ -27,12 +28,26 @@ module _ {K : Type 0} {cap piece : ℕ} where
         fits = rw (len, next, need) (room_left (vec_len old.bytes) (length more) old.next old.need piece cap awaits fits room.fits);
       }
 
+  -- a slot has room for its next piece
+  pub room_for_piece : (s : Slot K) → HasRoom cap piece s → vec_len s.bytes + piece ≤ vec_capacity s.bytes
+  room_for_piece s room =
+      let left : s.need - s.next ≡ (s.need - (s.next + 1)) + 1 = omega arith in
+      let fits : vec_len s.bytes + ((s.need - (s.next + 1)) + 1) * piece ≤ cap = rw left at room.fits in
+      omega (arith, fits, room.reserved)
+
   -- the slot with its first piece has the room for the rest
   pub room_opened : (s : Slot K) (more : List ℕ) → cap ≤ vec_capacity s.bytes → s.next ≡ 1 → 1 < s.need → vec_len s.bytes ≡ length more → length more ≤ piece → s.need * piece ≤ cap → HasRoom cap piece s
   room_opened s more reserved next need len fits room =
       let split : s.need ≡ (s.need - 1) + 1 = omega arith in
       let whole : ((s.need - 1) + 1) * piece ≤ cap = rw split at room in
       record { reserved = reserved; started = omega arith; awaits = omega arith; fits = rw (len, next) (omega (arith, whole)) }
+
+  -- the buffer that came last has the bytes
+  pub finished_from : (new : Shelf K cap piece) (spare : List (Vec ℕ)) (last : Vec ℕ) (bytes : List ℕ) → new.spare.items ≡ spare ++ last ∷ [] → length spare + 1 ≡ vec_len new.spare → last.items ≡ bytes → HasFinished new bytes
+  finished_from new spare last bytes items len same = record {
+    some = omega arith;
+    last = λ d. ap (λ (xs : List (Vec ℕ)). (get_or xs (vec_len new.spare - 1) d).items) items ∙ (ap (λ (x : Vec ℕ). x.items) (get_or_push spare last d (vec_len new.spare - 1) (omega arith)) ∙ same);
+  }
 
   -- the map that a shelf stands for, by its parts
   pub seen_is : (old new : Shelf K cap piece) (es : List (K × Entry)) → new.limit ≡ old.limit → entries_of new.slots.items ≡ es → seen new ≡ with_entries (seen old) es
@@ -56,14 +71,14 @@ module _ {K : Type 0} {cap piece : ℕ} where
     }
 
     -- the slot that was read at its place has one more piece
-    pub sound_extended : (old new : Shelf K cap piece) (at : ℕ) (slot s : Slot K) (more : List ℕ) (moment gap : ℕ) → IsSound cmp old → at < length old.slots.items
-        → slot ≡ get_or old.slots.items at slot → (get_or old.slots.items at slot).next + 1 < (get_or old.slots.items at slot).need → length more ≤ piece
+    pub sound_extended : (old new : Shelf K cap piece) (at : ℕ) (slot s : Slot K) (more : List ℕ) (moment gap : ℕ) → IsSound cmp old → HasRoom cap piece slot
+        → slot ≡ get_or old.slots.items at slot → (get_or old.slots.items at slot).next + 1 ≢ (get_or old.slots.items at slot).need → length more ≤ piece
         → entry_of s ≡ (slot.key, grown (entry_of slot).1 more moment gap) → vec_capacity slot.bytes ≤ vec_capacity s.bytes → vec_len s.bytes ≡ vec_len slot.bytes + length more
         → new.quiet_until ≤ old.quiet_until → new.quiet_until ≤ moment + gap
         → new.limit ≡ old.limit → new.slots.items ≡ set old.slots.items at s → vec_len new.slots ≡ vec_len old.slots → vec_capacity old.slots ≤ vec_capacity new.slots → new.spare ≡ old.spare → IsSound cmp new
-    sound_extended old new at slot s more moment gap sound in_range read awaits fits shows capacity len others this =
-        let there : HasRoom cap piece slot = rw read (all_get (HasRoom cap piece) old.slots.items at slot sound.rooms in_range) in
-        let waits : slot.next + 1 < slot.need = subst (λ (x : Slot K). x.next + 1 < x.need) (sym read) awaits in
+    sound_extended old new at slot s more moment gap sound there read more_to_come fits shows capacity len others this =
+        let other : slot.next + 1 ≢ slot.need = subst (λ (x : Slot K). x.next + 1 ≢ x.need) (sym read) more_to_come in
+        let waits : slot.next + 1 < slot.need = omega (arith, there.awaits, other) in
         let last : s.last ≡ moment = ap (λ e. e.1.last) shows in
         let far : s.gap ≡ gap = ap (λ e. e.1.gap) shows in
         sound_set old new at s slot sound (ap (λ e. e.0) shows ∙ ap (λ (x : Slot K). x.key) read) (room_grown slot s more moment gap there waits fits shows capacity len) others (omega arith)

@@ -123,7 +123,11 @@ pub told_found : {K A : Type 0} (cmp : K → K → Ordering) (k : K) (f : Entry 
 told_found cmp k f [] i r at told = absurd (omega (arith, at.in_range))
 told_found cmp k f (x ∷ xs) i r at told = ap Some (told x) ∙ sym (ap (option_map f) (lookup_found cmp k (x ∷ xs) i x at))
 
--- what follows from a fact on the value
+-- what follows from a fact on the value, and where that names no value
 pub on_some : {X : Type 0} (o : Option X) (P Q : X → Type 0) → ((x : X) → P x → Q x) → IsSomeAnd o P → IsSomeAnd o Q
 on_some None P Q step holds = holds
 on_some (Some x) P Q step holds = step x holds
+
+pub from_some : {X : Type 0} (o : Option X) (P : X → Type 0) (Q : Type 0) → ((x : X) → P x → Q) → IsSomeAnd o P → Q
+from_some None P Q step holds = absurd holds
+from_some (Some x) P Q step holds = step x holds

@@ -1,5 +1,5 @@
 //! How an entry grows.
-ghost use Rattle.std.specs.Prelude.{◌≡◌, min, ◌+◌, ◌<◌, ◌≤◌, length, slice_index_or};
+ghost use Rattle.std.specs.Prelude.{◌≡◌, ◌≢◌, min, ◌+◌, ◌<◌, ◌≤◌, length, slice_index_or};
 ghost use Rattle.slot_views.specs.Slots.{grown, grown_after};
 ghost use Rattle.slot_views.specs.Places.{IsPlace};
 ghost use Rattle.slot_views.specs.Shelf.{entry_of, seen, IsSound, Extends, GrowsAs};
@@ -56,7 +56,7 @@ impl<K: Copy + Ord, const CAP: usize, const PIECE: usize> Shelf<K, CAP, PIECE> {
         requires sound { IsSound K.cmp self.old }
         requires in_range { at < length self.old.slots.items }
         requires piece_fits { length piece.now ≤ PIECE }
-        requires awaits { (d : _) → (slice_index_or self.old.slots.items at d).next + 1 < (slice_index_or self.old.slots.items at d).need }
+        requires more { (d : _) → (slice_index_or self.old.slots.items at d).next + 1 ≢ (slice_index_or self.old.slots.items at d).need }
         ensures sound { IsSound K.cmp self.new }
         ensures limit { self.new.limit ≡ self.old.limit }
         ensures quiet { self.new.quiet_until ≡ min self.old.quiet_until (moment + gap) }

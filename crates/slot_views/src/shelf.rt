@@ -112,10 +112,11 @@ impl<K: Copy + Ord, const CAP: usize, const PIECE: usize> Shelf<K, CAP, PIECE> {
     pub fn retire(&mut self, at: usize, rest: &[u8])
         requires sound { IsSound K.cmp self.old }
         requires in_range { at < length self.old.slots.items }
-        requires fits { (d : _) → vec_len (slice_index_or self.old.slots.items at d).bytes + length rest.now ≤ CAP }
+        requires piece_fits { length rest.now ≤ PIECE }
         ensures sound { IsSound K.cmp self.new }
         ensures limit { self.new.limit ≡ self.old.limit }
         ensures slots { self.new.slots.items ≡ remove self.old.slots.items at }
+        ensures some { 0 < vec_len self.new.spare }
         ensures finished { (d : _) → HasFinished self.new ((slice_index_or self.old.slots.items at d).bytes.items ++ rest.now) }
     {
         let Slot { mut bytes, .. } = self.slots.remove(at);

@@ -16,6 +16,9 @@ returns-in-Ok-clause-replaced g c = sym (held_found g.K.Ord.cmp c.args.place.key
 pub returns-in-Ok-clause-gap : goal.returns-in-Ok-clause-gap
 returns-in-Ok-clause-gap g c = rw c.retire.ensures.slots (gap_removed g.met.K.Ord.total c.args.place.key c.args.self.now.slots.items c.in-Ok.at c.requires.sound.ordered c.in-Ok.ensures.found)
 
+pub returns-in-Ok-clause-room : goal.returns-in-Ok-clause-room
+returns-in-Ok-clause-room g c = λ _. c.retire.ensures.some
+
 pub returns-in-Err-clause-after : goal.returns-in-Err-clause-after
 returns-in-Err-clause-after g c =
     seen_is c.args.self.now c.args.self.now _ refl

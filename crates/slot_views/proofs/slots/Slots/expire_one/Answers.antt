@@ -1,11 +1,17 @@
-use Rattle.std.proofs.Common.{◌≡◌, refl, sym, ◌∙◌, ap, option_map}
+use Rattle.std.proofs.Common.{◌≡◌, refl, sym, ◌∙◌, ap, option_map, arith}
 use Rattle.std.specs.List.{remove}
 use Rattle.slot_views.specs.Answers.{ended_of}
 use Rattle.slot_views.specs.Slots.{SlotMap, has_expired}
 use Rattle.slot_views.specs.Shelf.{entries_of}
-use Rattle.slot_views.proofs.Sound.{seen_is}
+use Rattle.slot_views.proofs.Sound.{seen_is, map_seen}
 use Rattle.slot_views.proofs.Steps.{without_first_at, without_none, find_none, ended_first}
 use Rattle.slot_views.proofs.slots.Slots.expire_one.Goals as goal
+
+pub end-requires : goal.end-requires
+end-requires g c = (omega arith, (c.in-Some.ensures.sound, rw c.in-Some.ensures.slots c.in-Some.ensures.found.in_range))
+
+pub returns-in-Some-clause-map : goal.returns-in-Some-clause-map
+returns-in-Some-clause-map g c = rw (← c.self.view_is) (map_seen c.self.inside.shelf c.self.invariant)
 
 pub returns-in-Some-clause-after : goal.returns-in-Some-clause-after
 returns-in-Some-clause-after g c =
@@ -17,6 +23,9 @@ returns-in-Some-clause-after g c =
 pub returns-in-Some-clause-answer : goal.returns-in-Some-clause-answer
 returns-in-Some-clause-answer g c =
     rw (← c.self.view_is) (ended_first (has_expired c.args.moment) c.self.inside.shelf.slots.items c.in-Some.at c.end.result c.in-Some.ensures.found (λ d. rw (← c.in-Some.ensures.slots) (c.end.ensures.ended d)))
+
+pub returns-in-None-clause-map : goal.returns-in-None-clause-map
+returns-in-None-clause-map g c = rw (← c.self.view_is) (map_seen c.self.inside.shelf c.self.invariant)
 
 pub returns-in-None-clause-after : goal.returns-in-None-clause-after
 returns-in-None-clause-after g c =

@@ -1,7 +1,7 @@
 use Rattle.std.proofs.Common.{ap}
 use Rattle.claim_table.specs.Claims.{Outcome, claim_of}
 use Rattle.claim_table.proofs.SearchLemmas.{gives_way, gives_way_tells}
-use Rattle.claim_table.proofs.table.ClaimTable.give_way.Goals as goal
+use Rattle.claim_table.proofs.claiming.ClaimTable.give_way.Goals as goal
 
 pub returns-clause-after : goal.returns-clause-after
 returns-clause-after c =

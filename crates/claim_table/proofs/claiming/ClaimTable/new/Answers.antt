@@ -1,6 +1,6 @@
 use Rattle.claim_table.specs.Presets.{opened}
 use Rattle.claim_table.proofs.OpenedLemmas.{opened_dated}
-use Rattle.claim_table.proofs.table.ClaimTable.new.Goals as goal
+use Rattle.claim_table.proofs.claiming.ClaimTable.new.Goals as goal
 
 pub returns-in-Ok-clause-dated : goal.returns-in-Ok-clause-dated
 unfolding opened

@@ -2,7 +2,7 @@ use Rattle.std.proofs.Common.{arith}
 use Rattle.claim_table.specs.Claims.{claim_of}
 use Rattle.claim_table.proofs.CaseLemmas.{claim_case}
 use Rattle.claim_table.proofs.LawLemmas.{latest_after_claim}
-use Rattle.claim_table.proofs.table.ClaimTable.claim.Goals as goal
+use Rattle.claim_table.proofs.claiming.ClaimTable.claim.Goals as goal
 
 pub returns-clause-cases : goal.returns-clause-cases
 returns-clause-cases c =

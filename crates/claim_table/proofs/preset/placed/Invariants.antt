@@ -1,6 +1,6 @@
 use Rattle.std.proofs.Common.{◌≡◌, None, drop, length, replicate}
 use Rattle.claim_table.specs.Presets.{placed}
-use Rattle.claim_table.proofs.table.placed.Given as goal
+use Rattle.claim_table.proofs.preset.placed.Given as goal
 
 abbrev pub invariant-loop-preset : goal.invariant-loop-preset
 invariant-loop-preset l = record {

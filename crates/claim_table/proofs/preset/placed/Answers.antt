@@ -2,7 +2,7 @@ use Rattle.std.proofs.Common.{rules, ◌≡◌, None, Option, replicate, length,
 use Rattle.std.proofs.lemmas.List.{length-replicate}
 use Rattle.claim_table.specs.declared.answer.Holder.{Holder}
 use Rattle.claim_table.specs.Presets.{placed}
-use Rattle.claim_table.proofs.table.placed.Goals as goal
+use Rattle.claim_table.proofs.preset.placed.Goals as goal
 
 pub loop-preset-init : goal.loop-preset-init
 loop-preset-init c =

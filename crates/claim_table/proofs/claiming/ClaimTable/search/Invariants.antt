@@ -1,5 +1,5 @@
 use Rattle.claim_table.proofs.SearchLemmas.{IsHeldSoFar, IsNearestSoFar}
-use Rattle.claim_table.proofs.table.ClaimTable.search.Given as goal
+use Rattle.claim_table.proofs.claiming.ClaimTable.search.Given as goal
 
 abbrev pub invariant-loop-place : goal.invariant-loop-place
 invariant-loop-place l = record {

@@ -1,8 +1,8 @@
 use Rattle.std.proofs.Common.{◌≡◌, ◌<◌, ◌&&◌, is_none, length, ap, sym, ◌∙◌, arith}
 use Rattle.claim_table.specs.Claims.{holder_at, is_held_by, other_than}
 use Rattle.claim_table.proofs.SearchLemmas.{closed_where, held_further, held_here, held_is_position, nearest_further, nearest_here, next_reached, open_where}
-use Rattle.claim_table.proofs.table.ClaimTable.search.Goals.{then-leaves, else-leaves, then-is_open, else-is_open}
-use Rattle.claim_table.proofs.table.ClaimTable.search.Goals as goal
+use Rattle.claim_table.proofs.claiming.ClaimTable.search.Goals.{then-leaves, else-leaves, then-is_open, else-is_open}
+use Rattle.claim_table.proofs.claiming.ClaimTable.search.Goals as goal
 
 pub loop-place-preserved : goal.loop-place-preserved
 loop-place-preserved c =
