@@ -51,19 +51,22 @@ module _ (c : Settings) (k : SaidKept) (m source name : ℕ) where
 
   pub after_same : (holder : Option Holder) (what : Option Carried)
       → said_after c k m source holder (option_map (content_in name) what) ≡ message_after c k (complete_by m source holder what)
-  after_same None what = refl
+  after_same None None = refl
+  after_same None (Some x) = refl
   after_same (Some holder) None = refl
   after_same (Some holder) (Some x) = profiled_same holder x (reading_by (whole holder x))
 
   pub emits_same : (holder : Option Holder) (what : Option Carried)
       → said_emits c k m source holder (option_map (content_in name) what) ≡ message_emits c k (complete_by m source holder what)
-  emits_same None what = refl
+  emits_same None None = refl
+  emits_same None (Some x) = refl
   emits_same (Some holder) None = refl
   emits_same (Some holder) (Some x) = profiled_tells_same holder x (reading_by (whole holder x))
 
   pub done_same : (holder : Option Holder) (what : Option Carried)
       → done_by source holder (option_map (content_in name) what) ≡ option_map done_of (complete_by m source holder what)
-  done_same None what = refl
+  done_same None None = refl
+  done_same None (Some x) = refl
   done_same (Some holder) None = refl
   done_same (Some holder) (Some x) = refl
 
@@ -75,7 +78,8 @@ module _ (c : Settings) (k : SaidKept) (m source name : ℕ) where
 
   pub command_same : (holder : Option Holder) (what : Option Carried)
       → command_by source holder (option_map (content_in name) what) ≡ option_map command_of (ordered_by name (complete_by m source holder what))
-  command_same None what = refl
+  command_same None None = refl
+  command_same None (Some x) = refl
   command_same (Some holder) None = refl
   command_same (Some holder) (Some x) = if_ordered (ordered_in name x.pgn x.payload)
 

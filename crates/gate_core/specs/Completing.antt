@@ -18,24 +18,24 @@ sender_by m source holder = record { moment = m; source = source; name = holder.
 
 module _ (c : Settings) (k : SaidKept) (m source : ℕ) where
   abbrev pub said_after : Option Holder → Option Content → SaidKept
-  said_after None message = k
-  said_after (Some holder) None = k
+  said_after holder None = k
+  said_after None (Some message) = k
   said_after (Some holder) (Some message) = profiled_after c k (message_from (sender_by m source holder)) (reading_in message.profiled)
 
   abbrev pub said_emits : Option Holder → Option Content → List Emit
-  said_emits None message = []
-  said_emits (Some holder) None = []
+  said_emits holder None = []
+  said_emits None (Some message) = []
   said_emits (Some holder) (Some message) = profiled_emits c k (message_from (sender_by m source holder)) (reading_in message.profiled)
 
 abbrev pub done_by : ℕ → Option Holder → Option Content → Option Done
-done_by source None message = None
-done_by source (Some holder) None = None
+done_by source holder None = None
+done_by source None (Some message) = None
 done_by source (Some holder) (Some message) =
     Some (record { source = source; name = holder.name; pgn = message.pgn; reading = reading_in message.profiled })
 
 abbrev pub command_by : ℕ → Option Holder → Option Content → Option Command
-command_by source None message = None
-command_by source (Some holder) None = None
+command_by source holder None = None
+command_by source None (Some message) = None
 command_by source (Some holder) (Some message) = option_map (λ address. record { source = source; address = address }) message.ordered
 
 -- an outbox with all that the message leaves

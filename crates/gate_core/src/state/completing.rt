@@ -15,26 +15,43 @@ use readings::Reading;
 use row_traffic::said::Sender;
 
 impl State {
-    /// Takes the message that a frame from this source completes.
-    #[tactic(auto, using(crate::proofs::Completing::valid_reading))]
+    /// Takes the message that a frame from this source completes, where it completes one.
     pub(crate) fn complete(
         &mut self,
         source: u8,
-        message: Option<Content>,
+        message: &Option<Content>,
         moment: u64,
         out: &mut Outbox,
     )
         requires stays { Stays self.old }
-        requires says { IfSome message (λ message. GivesValid message.profiled) }
+        requires says { IfSome message.now (λ message. GivesValid message.profiled) }
         ensures after { self.new ≡ record self.old {
           said = said_after self.old.settings self.old.said moment source
-              (holder_at self.old.addresses.claims.holders source) message;
+              (holder_at self.old.addresses.claims.holders source) message.now;
         } }
         ensures output { out.new ≡ and_message self.old.settings out.old self.old.said moment source
-            (holder_at self.old.addresses.claims.holders source) message }
+            (holder_at self.old.addresses.claims.holders source) message.now }
     {
-        match (self.addresses.claims().holder(source), message) {
-            (Some(holder), Some(message)) => {
+        match message {
+            Some(message) => self.take_message(source, message, moment, out),
+            None => {}
+        }
+    }
+
+    /// Takes a message that is complete, from this source.
+    #[tactic(auto, using(crate::proofs::Completing::valid_reading))]
+    fn take_message(&mut self, source: u8, message: &Content, moment: u64, out: &mut Outbox)
+        requires stays { Stays self.old }
+        requires says { GivesValid message.now.profiled }
+        ensures after { self.new ≡ record self.old {
+          said = said_after self.old.settings self.old.said moment source
+              (holder_at self.old.addresses.claims.holders source) (Some message.now);
+        } }
+        ensures output { out.new ≡ and_message self.old.settings out.old self.old.said moment source
+            (holder_at self.old.addresses.claims.holders source) (Some message.now) }
+    {
+        match self.addresses.claims().holder(source) {
+            Some(holder) => {
                 let sender = Sender {
                     moment,
                     source,
@@ -42,9 +59,9 @@ impl State {
                 };
                 self.said
                     .take(&self.config, sender, &message.profiled, &mut out.emits);
-                tell(sender, &message, out);
+                tell(sender, message, out);
             }
-            _ => {}
+            None => {}
         }
     }
 }

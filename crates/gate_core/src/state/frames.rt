@@ -101,7 +101,7 @@ impl State {
             (plain_frame by_keys self.old moment (bus_frame frame.now) (meant meaning) []) }
     {
         let message = tell_plain(self.name(), meaning, parts, frame.held(), &mut out.emits);
-        self.complete(parts.source, message, moment, out);
+        self.complete(parts.source, &message, moment, out);
     }
 
     /// Takes a request (ISO 11783-5).
@@ -116,7 +116,7 @@ impl State {
         let name = self.name();
         let message = tell_plain(name, Meaning::Request, parts, frame.held(), &mut out.emits);
         answer_request(name, self.own(), frame.held(), &mut out.emits);
-        self.complete(parts.source, message, moment, out);
+        self.complete(parts.source, &message, moment, out);
     }
 
     /// Takes a frame of the transport protocol (ISO 11783-3).
@@ -129,7 +129,7 @@ impl State {
         ensures output { out.new ≡ and_step self.old.settings.name out.old (session_frame by_keys self.old moment (bus_frame frame.now)) }
     {
         let message = self.feed_session(parts, frame, moment, &mut out.emits);
-        self.complete(parts.source, message, moment, out);
+        self.complete(parts.source, &message, moment, out);
     }
 
     /// Takes a frame of the transport protocol, and reads the message that it completes.
@@ -181,7 +181,7 @@ impl State {
         ensures output { out.new ≡ and_step self.old.settings.name out.old (fast_frame by_keys self.old moment (bus_frame frame.now)) }
     {
         let message = self.feed_fast(parts, frame, moment, &mut out.emits);
-        self.complete(parts.source, message, moment, out);
+        self.complete(parts.source, &message, moment, out);
     }
 
     /// Takes a frame of a fast packet, and reads the message that it completes.
