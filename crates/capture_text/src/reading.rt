@@ -229,6 +229,9 @@ fn parse<'a>(line: &[u8], room: &'a mut [u8; 2048]) -> Result<Event<'a>, LineRul
 }
 
 /// What a line of a capture says, without its line end. The bytes of a datagram are put into the room.
+///
+/// Each of its few callers has a copy of it: one that doesn't use the moment doesn't count it, and the event stays in registers.
+#[inline(always)]
 pub fn read_line<'a>(line: &[u8], room: &'a mut [u8; 2048]) -> Result<Event<'a>, LineRule>
     // What is read is spelled so.
     ensures found { IfOk result (λ e. IsLine (view e) line.now) }

@@ -30,6 +30,9 @@ pub fn kind(pgn: u32) -> Kind
 }
 
 /// Reads the payload of a message of the PGN.
+///
+/// Each of its two callers has a copy of it, so that the reading need not go by way of memory.
+#[inline(always)]
 #[tactic(auto, unfolding(crate::specs::Profiled::messages), using(crate::proofs::Law::what_is_profiled_is_valid))]
 pub fn read(pgn: u32, payload: &[u8]) -> Profiled
     ensures value { result ≡ profiled pgn payload.now }
