@@ -10,7 +10,7 @@ use Rattle.slot_views.specs.Runs.{open_at}
 use Rattle.fast_packet.specs.declared.key.FastKey.{FastKey}
 use Rattle.fast_packet.specs.FastRuns.{FastPiece, fast_rules}
 use Rattle.pgn_profile.specs.declared.kinds.Kind.{Kind}
-use Rattle.history.specs.Known.{Known, held_since}
+use Rattle.history.specs.Known.{held_since}
 use Rattle.history.specs.Traces.{Note, fast_trace, fast_trace_since}
 use Rattle.history.specs.Opens.{placed, is_fast, same_fast, precedes_fast, fast_keys, fast_open}
 use Rattle.history.specs.CountLaws.{HoldsFast, CountsFast, SlotsCountFast}

@@ -13,7 +13,6 @@ use Rattle.readings.specs.Rows.{row_of}
 use Rattle.history.specs.Settings.{Settings, RowRule, rule_of}
 use Rattle.history.specs.Heard.{same_text, place_of}
 use Rattle.history.specs.NetReadings.{NetReading, net_rank, last_heard, counts_still, is_net_fresh, is_net_first}
-use Rattle.history.specs.Known.{Known}
 use Rattle.history.specs.Messages.{Message}
 use Rattle.history.specs.Choice as choice
 use Rattle.history.specs.Choice.{is_better, is_row, is_usable, reading_of, holder_rank, still_counts}

@@ -12,7 +12,7 @@ use Rattle.history.specs.AddressLaws.{IsReceiver}
 use Rattle.history.specs.Entries.{History}
 use Rattle.history.specs.Settings.{Settings, RowRule, rule_of}
 use Rattle.history.specs.Receiver.{Receiver}
-use Rattle.history.specs.Known.{Known, known}
+use Rattle.history.specs.Known.{known}
 use Rattle.history.specs.Messages.{Message, messages_of}
 use Rattle.history.specs.Choice.{is_better, is_usable, reading_of, holder_rank, still_counts, is_first}
 use Rattle.history.specs.Heard.{place_of}

@@ -1,9 +1,9 @@
 -- Cases that one word of the definition decides: each would come out otherwise if that word were another.
-use Rattle.std.specs.Prelude.{List, [], ◌∷◌, ◌++◌, codes}
+use Rattle.std.specs.Prelude.{[], ◌∷◌, ◌++◌, codes}
 use Rattle.gate_events.specs.declared.emit.Detail.TheVariants as detail
 use Rattle.datagram450.specs.Datagram.{header}
 use Rattle.report_rules.specs.Rules.{claim_lost, claim_or_request_malformed, expired, fast_length, fast_orphan, group_order, not_ready, restarted, short_message}
-use Rattle.history.specs.Entries.{Entry, datagram, frame, tick}
+use Rattle.history.specs.Entries.{datagram, frame, tick}
 use Rattle.history.specs.Settings.{Settings}
 use Rattle.history.specs.Emits.{broken, of_source}
 use Rattle.history.specs.Cases.{Emits, IsSilent, full, can_frame, emitted, lined, navd, two_devices, fix, fix_said}

@@ -8,7 +8,7 @@ use Rattle.history.specs.TraceLaws.{is_lost}
 use Rattle.history.specs.Entries.{History, frame, command}
 use Rattle.history.specs.Settings.{RowRule}
 use Rattle.history.specs.Receiver.{Receiver}
-use Rattle.history.specs.Known.{Known, known, held_since, is_claim, claim_by}
+use Rattle.history.specs.Known.{known, held_since, is_claim, claim_by}
 use Rattle.history.specs.Messages.{Message, done, messages_of}
 use Rattle.history.specs.Choice.{is_row, reading_of, is_of, is_fresh, still_counts}
 use Rattle.history.specs.Heard.{same_text}

@@ -8,7 +8,7 @@ use Rattle.iso_transport.specs.IsoRuns as iso
 use Rattle.history.specs.AddressLaws.{IsReceiver}
 use Rattle.history.specs.Entries.{Entry, History, frame, datagram, tick, command}
 use Rattle.history.specs.Receiver.{Receiver}
-use Rattle.history.specs.Known.{Known, known, is_claim, held_since}
+use Rattle.history.specs.Known.{known, is_claim, held_since}
 use Rattle.history.specs.Traces.{Note, iso_piece}
 use Rattle.history.specs.Opens.{is_fast}
 use Rattle.history.specs.KeyLaws.{concerns, the_note}

@@ -5,7 +5,7 @@ use Rattle.n2k_id.specs.Identifier.{parts_of}
 use Rattle.n2k_id.specs.Name.{name_at}
 use Rattle.claim_table.specs.Presets.{opened}
 use Rattle.claim_table.specs.declared.answer.ClaimStep.{ClaimStep}
-use Rattle.claim_table.specs.Claims.{Claims, Claim, claim_of, started, claim, command, holder_at, is_at}
+use Rattle.claim_table.specs.Claims.{Claims, Claim, claim_of, started, claim, command, holder_at}
 use Rattle.claim_table.specs.declared.answer.Holder.{Holder}
 use Rattle.n2k_id.specs.Pgns as pgns
 use Rattle.history.specs.Entries as entry
