@@ -1,8 +1,6 @@
 -- What the code hands over of a message that is said on the network, and of its sender.
 use Rattle.std.specs.Prelude.{ℕ, Bool, List, [], map, Option, Some, None, if◌then◌else◌}
 use Rattle.sentence_rows.specs.declared.lines.SentenceText.{SentenceText}
-use Rattle.history.specs.Heard.{same_text}
-use Rattle.history.specs.Settings.{Settings, rule_at}
 use Rattle.gate_model.specs.Said.{Complete}
 use Rattle.row_traffic.specs.declared.said.Sender.{Sender}
 
@@ -17,7 +15,3 @@ texts sentences = map (λ text. text.bytes.items) sentences
 abbrev pub or_last : Bool → ℕ → Option ℕ → Option ℕ
 or_last others last (Some place) = Some place
 or_last others last None = if others then Some last else None
-
--- so many lines more on the transmission group of the row with this number, where they are said on it
-abbrev pub more_at : Settings → List ℕ → ℕ → ℕ → ℕ
-more_at c group count number = if same_text group (rule_at c.rows number).group then count else 0

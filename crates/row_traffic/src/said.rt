@@ -15,7 +15,7 @@ ghost use Rattle.gate_model.specs.Said.{SaidKept, is_chosen, noted_by, counted, 
 ghost use Rattle.gate_model.specs.Said.{ranked_after, ranked_emits, profiled_after, profiled_emits};
 ghost use Rattle.config_values.specs.Configs.{IsConfig};
 ghost use Rattle.config_values.specs.Settings.{settings_of, rule_of_row};
-ghost use Rattle.row_traffic.specs.Saying.{message_from, more_at};
+ghost use Rattle.row_traffic.specs.Saying.{message_from};
 ghost use Rattle.gate_outbox.specs.Output.{and_posted, with_posted};
 
 use crate::rows::{number, row_at, row_config, says_something};
@@ -201,12 +201,27 @@ impl Said {
         ensures lines { result ≡ map (lines_more (settings_of config.now) self.now group count) row_numbers }
         ensures small { AllByRecursion (λ n. n < 999) result }
     {
-        let more = more_of_rows(config, group, count);
         let mut lines = [0; ROWS];
         for number in 0..ROWS {
-            lines[number] = wrapped(self.lines[number] + more[number]);
+            lines[number] = self.lines_more(config, group, count, number);
         }
         lines
+    }
+
+    /// How many lines were said on the transmission group of a row, with so many more on a transmission group.
+    fn lines_more(&self, config: &Config, group: Group, count: u16, number: usize) -> u16
+        requires row { number < ROWS }
+        requires few { count ≤ 2 }
+        ensures lines { result ≡ lines_more (settings_of config.now) self.now group count number }
+        ensures within { result < 999 }
+    {
+        let before = self.lines[number];
+        let after = wrapped(before + count);
+        if group == row_at(config, number).group {
+            after
+        } else {
+            before
+        }
     }
 
     fn count_groups(&mut self, count: u16)
@@ -223,34 +238,6 @@ impl Said {
         ensures { self.new ≡ record self.old { choices = forgotten self.old.choices source } }
     {
         self.choice.forget(source);
-    }
-}
-
-/// How many lines more were said on the transmission group of each row, by its number. They are found apart from the counts, so that
-/// each of the two loops is simple enough for many rows at once.
-fn more_of_rows(config: &Config, group: Group, count: u16) -> [u16; ROWS]
-    requires { count ≤ 2 }
-    ensures more { result ≡ map (more_at (settings_of config.now) group count) row_numbers }
-    ensures few { AllByRecursion (λ n. n < 3) result }
-{
-    let mut more = [0; ROWS];
-    for number in 0..ROWS {
-        more[number] = more_at(config, group, count, number);
-    }
-    more
-}
-
-/// How many lines more were said on the transmission group of a row.
-fn more_at(config: &Config, group: Group, count: u16, number: usize) -> u16
-    requires row { number < ROWS }
-    requires few { count ≤ 2 }
-    ensures more { result ≡ more_at (settings_of config.now) group count number }
-    ensures few { result < 3 }
-{
-    if group == row_at(config, number).group {
-        count
-    } else {
-        0
     }
 }
 

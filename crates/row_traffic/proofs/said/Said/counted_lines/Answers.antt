@@ -1,20 +1,17 @@
-use Rattle.std.proofs.Common.{◌∙◌, arith}
+use Rattle.std.proofs.Common.{arith}
 use Rattle.gate_model.specs.Said.{lines_more}
 use Rattle.config_values.specs.Settings.{settings_of}
-use Rattle.row_traffic.proofs.Counts.{all_counted, all_below, counted_so}
+use Rattle.row_traffic.proofs.Counts.{all_counted, all_small}
 use Rattle.row_traffic.proofs.said.Said.counted_lines.Goals as goal
 
 pub returns-clause-lines : goal.returns-clause-lines
 returns-clause-lines c =
     let ends = c.loop-number-test.false in
-    let settings = settings_of c.args.config.now in
-    all_counted (lines_more settings c.args.self.now c.args.group c.args.count) c.loop-number.lines c.loop-number.invariant.long
-    (λ k below. c.loop-number.invariant.counted k (omega (arith, below, ends))
-    ∙ counted_so settings c.args.self.now c.args.group c.args.count k c.more_of_rows-more.result c.more_of_rows-more.ensures.more below
-    (c.loop-number.invariant.before k (omega (arith, below, ends))))
+    all_counted (lines_more (settings_of c.args.config.now) c.args.self.now c.args.group c.args.count) c.loop-number.lines c.loop-number.invariant.long
+    (λ k below. c.loop-number.invariant.counted k (omega (arith, below, ends)))
 
 pub returns-clause-small : goal.returns-clause-small
 returns-clause-small c =
     let ends = c.loop-number-test.false in
     let long = c.loop-number.invariant.long in
-    all_below 999 c.loop-number.lines (λ k below. c.loop-number.invariant.small k (omega (arith, below, ends, long)))
+    all_small c.loop-number.lines (λ k below. c.loop-number.invariant.small k (omega (arith, below, ends, long)))
