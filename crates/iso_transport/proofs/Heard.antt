@@ -1,6 +1,6 @@
 -- Frames that bear on no session leave no trace.
 use Rattle.std.proofs.Common.{◌≡◌, ℕ, ◌-◌, ◌≤◌, not, Bool, true, false, List, [], ◌∷◌, Option, refl, sym, ◌∙◌, ap, arith}
-use Rattle.std.proofs.lemmas.Bool.{ltb-true, lt-ltb}
+use Rattle.std.proofs.lemmas.Bool.{and_parts, ltb-true, lt-ltb}
 use Rattle.std.specs.List.{filter}
 use Rattle.std.specs.Cmp.{IsTotalOrder}
 use Rattle.std.specs.declared.cmp.Ordering.{Ordering}
@@ -12,7 +12,6 @@ use Rattle.iso_transport.specs.Verdicts.{frame_verdict}
 use Rattle.iso_transport.specs.Assembly.{is_crowded, fed_by, fed_after}
 use Rattle.iso_transport.specs.Keys.{fed_one, sessions_after}
 use Rattle.iso_transport.specs.Heard.{HeardFrame, is_bearing, bearing_frames, newest, AreInOrder, heard_after, HearsWhatBears}
-use Rattle.iso_transport.proofs.Lawful.{both_true}
 use Rattle.iso_transport.proofs.Joining.{concerned, feeds_its_key}
 
 -- what has expired stays so
@@ -48,7 +47,7 @@ module _ {cmp : IsoKey → IsoKey → Ordering} (o : IsTotalOrder cmp) (own : Op
       → unexpired m (fed_after cmp (unexpired n.piece.moment s) own n.parts n.piece.bytes n.piece.moment) ≡ unexpired m (sessions_after cmp limit (bearing_frames own (n ∷ h)))
   unfolding sessions_after
   one_more n h s m kind le before later true eb =
-      let ours = (both_true (concerns own n.parts) (bears (key_of n.parts).addressed (is_data n.parts) n.piece.bytes) eb).0 in
+      let ours = (and_parts (concerns own n.parts) (bears (key_of n.parts).addressed (is_data n.parts) n.piece.bytes) eb).0 in
       rw eb (ap (unexpired m) (ap (λ t. fed_after cmp t own n.parts n.piece.bytes n.piece.moment) before ∙ called_one (unexpired n.piece.moment (sessions_after cmp limit (bearing_frames own h))) n ours kind))
   one_more n h s m kind le before later false eb =
       let passed = (feeds_its_key cmp o).passed (unexpired n.piece.moment s) own n.parts n.piece.bytes n.piece.moment eb in

@@ -2,6 +2,8 @@ pub mod Verdicts
 pub mod Lawful
 pub mod Sessions
 pub mod Prefixes
+pub mod Packets
+pub mod Openers
 pub mod Following
 pub mod Joining
 pub mod Keys

@@ -1,5 +1,5 @@
 -- What holds of frames that are a prefix so far, none of them a repeat.
-use Rattle.std.proofs.lemmas.Bool.{eqb-true, leb-true, ltb-true}
+use Rattle.std.proofs.lemmas.Bool.{and_parts, eqb-true, leb-true, ltb-true}
 use Rattle.std.proofs.lemmas.List.{take_all}
 use Rattle.std.proofs.Common.{◌≡◌, ℕ, ◌+◌, ◌-◌, ◌*◌, ◌<◌, ◌≤◌, min, Bool, true, false, List, [], ◌∷◌, ◌++◌, length, drop, slice_index, Option, Some, None, length-drop, length-append, refl, sym, ◌∙◌, ap, subst, arith}
 use Rattle.slot_views.specs.Runs.{accepted, accepted_after, accepted_more, in_time, opener_of}
@@ -8,7 +8,6 @@ use Rattle.iso_transport.specs.Sessions.{packets_of, opens, gap_after, mark_of}
 use Rattle.iso_transport.specs.IsoRuns.{IsoPiece, number_of, end_of, part_of, session_of, need_of, is_opener, is_next, is_repeat, iso_rules, joined, left_of_run}
 use Rattle.iso_transport.specs.Verdicts.{last_packet}
 use Rattle.iso_transport.specs.Laws.{IsTrace}
-use Rattle.iso_transport.proofs.Lawful.{both_true}
 use Rattle.iso_transport.proofs.Sessions.{Opened, opened_from}
 
 abbrev pub size_of : IsoPiece → List IsoPiece → ℕ
@@ -35,9 +34,9 @@ pub record NextFacts (z : IsoPiece) (zs : List IsoPiece) (y : IsoPiece) : Type 0
 
 pub next_facts : (z : IsoPiece) (zs : List IsoPiece) (y : IsoPiece) → is_next (z ∷ zs) y ≡ true → NextFacts z zs y
 next_facts z zs y next =
-    let one = both_true _ _ next in
-    let two = both_true _ _ one.1 in
-    let three = both_true _ _ two.1 in
+    let one = and_parts _ _ next in
+    let two = and_parts _ _ one.1 in
+    let three = and_parts _ _ two.1 in
     record { packet = one.0; number = eqb-true _ _ two.0; fewer = ltb-true _ _ three.0; enough = leb-true _ _ three.1 }
 
 module _ (addressed : Bool) where
@@ -55,7 +54,7 @@ module _ (addressed : Bool) where
   first_facts : (y : IsoPiece) → is_opener addressed y ≡ true → Facts y []
   first_facts y opens =
       record {
-        opened = opened_from addressed y.bytes (both_true _ _ opens).1;
+        opened = opened_from addressed y.bytes (and_parts _ _ opens).1;
         joined_length = λ more. refl;
         last_number = λ many. absurd (omega (arith, many));
         last_is = λ many more. absurd (omega (arith, many));

@@ -1,13 +1,12 @@
 -- What an opener announces, and that it is read back from a session's mark.
 use Rattle.std.proofs.Common.{◌≡◌, ℕ, ◌^◌, ◌<◌, ◌≤◌, ◌==◌, nat_lt, if◌then◌else◌, Bool, true, false, List, length, slice_index, Option, Some, None, refl, arith}
-use Rattle.std.proofs.lemmas.Bool.{leb-true}
+use Rattle.std.proofs.lemmas.Bool.{and_parts, leb-true}
 use Rattle.iso_transport.specs.declared.connection.Cm.{Cm}
 use Rattle.iso_transport.specs.declared.connection.Cm.TheVariants.{Rts, Cts, EndAck, Bam, Abort}
 use Rattle.iso_transport.specs.declared.session.Session.{Session}
 use Rattle.iso_transport.specs.Connection.{control_at, size_at, packets_at, limit_at, pgn_at}
 use Rattle.iso_transport.specs.Cm.{cm_of}
 use Rattle.iso_transport.specs.Sessions.{greatest_window, longest, shortest, is_size, opens, announced, mark_of, session_at}
-use Rattle.iso_transport.proofs.Lawful.{both_true}
 
 -- the numbers of a session that was opened
 pub record Opened (s : Session) : Type 0 where
@@ -19,16 +18,16 @@ pub record Opened (s : Session) : Type 0 where
 
 sized : (s : Session) (packets : ℕ) → is_size s.size packets ≡ true → 1 ≤ s.window → s.window ≤ greatest_window → s.pgn < 2 ^ 24 → Opened s
 sized s packets is some few pgn =
-    let one = both_true _ _ is in
-    let two = both_true _ _ one.1 in
+    let one = and_parts _ _ is in
+    let two = and_parts _ _ one.1 in
     record { least = leb-true _ _ one.0; most = leb-true _ _ two.0; some = some; few = few; pgn = pgn }
 
 pub opened_by : (addressed : Bool) (cm : Option Cm) → opens addressed cm ≡ true → (announced cm).pgn < 2 ^ 24 → Opened (announced cm)
 opened_by addressed None opens pgn = cc
-opened_by addressed (Some (Rts size packets limit p)) opens pgn = sized (announced (Some (Rts size packets limit p))) packets (both_true _ _ opens).1 (omega arith) (omega arith) pgn
+opened_by addressed (Some (Rts size packets limit p)) opens pgn = sized (announced (Some (Rts size packets limit p))) packets (and_parts _ _ opens).1 (omega arith) (omega arith) pgn
 opened_by addressed (Some (Cts count next p)) opens pgn = cc
 opened_by addressed (Some (EndAck size packets p)) opens pgn = cc
-opened_by addressed (Some (Bam size packets p)) opens pgn = sized (announced (Some (Bam size packets p))) packets (both_true _ _ opens).1 (omega arith) (omega arith) pgn
+opened_by addressed (Some (Bam size packets p)) opens pgn = sized (announced (Some (Bam size packets p))) packets (and_parts _ _ opens).1 (omega arith) (omega arith) pgn
 opened_by addressed (Some (Abort reason p)) opens pgn = cc
 
 -- a PGN has 24 bits

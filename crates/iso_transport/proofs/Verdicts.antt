@@ -1,6 +1,6 @@
 -- What follows from what a frame is.
 use Rattle.std.proofs.Common.{◌≡◌, ℕ, ◌^◌, ◌<◌, ◌≤◌, ◌==◌, ◌&&◌, not, nat_lt, Bool, true, false, if◌then◌else◌, List, length, Option, Some, None, option_map, is_some, refl, arith}
-use Rattle.std.proofs.lemmas.Bool.{leb-true, eqb-true, ltb-false}
+use Rattle.std.proofs.lemmas.Bool.{and_parts, leb-true, eqb-true, ltb-false}
 use Rattle.std.specs.declared.cmp.Ordering.{Ordering}
 use Rattle.slot_views.specs.Slots.{Entry, SlotMap, entry_at}
 use Rattle.n2k_id.specs.declared.identifier_parts.Parts.{Parts}
@@ -22,10 +22,6 @@ use Rattle.iso_transport.proofs.Sessions.{pgn_small}
 use Rattle.iso_transport.specs.Verdicts.{IsSmall, VerdictFits, TellsSmall, opener_verdict, sized_verdict, abort_verdict, kind_verdict, management_verdict, left_of, is_again, packet_verdict, pgn_in}
 use Rattle.iso_transport.specs.IsoRuns.{number_of, end_of}
 
-both_true : (a b : Bool) → (a && b) ≡ true → (a ≡ true) × (b ≡ true)
-both_true true b h = (refl, h)
-both_true false b h = cc
-
 -- there is no room exactly where none of the key is open, and as many are as the limit
 abbrev pub full_where : Bool → Option Entry → Bool
 full_where crowded o = not (is_some o) && crowded
@@ -45,8 +41,8 @@ module _ (crowded : Bool) (o : Option Entry) (bytes : List ℕ) where
 
   sized_fits : (addressed : Bool) (s : Session) (packets : ℕ) → s.pgn < 2 ^ 24 → 1 ≤ s.window → (b : Bool) → is_size s.size packets ≡ b → VerdictFits (full_where crowded o) o bytes (sized_verdict addressed crowded (option_map pgn_in o) s packets)
   sized_fits addressed s packets pgn window true is =
-      let one = both_true _ _ is in
-      let two = both_true _ _ one.1 in
+      let one = and_parts _ _ is in
+      let two = and_parts _ _ one.1 in
       rw is (opener_fits addressed s (record { pgn = pgn; size = leb-true _ _ two.0; window = window }) (leb-true _ _ one.0))
   sized_fits addressed s packets pgn window false is = rw is (abort_names addressed 2 s.pgn pgn)
 
