@@ -31,6 +31,7 @@ fn accept<K: Sink>(out: &mut K) -> Status
 /// | 4 | only where the sink's faults rose |
 /// | 6 | only where the files' faults rose, or the file has more than 1 MiB; nothing was written |
 /// | 7 | only for want of memory; nothing was written |
+#[inline(never)]
 pub fn check<F: Files, K: Sink>(alloc: Global, name: &str, files: &mut F, out: &mut K) -> Status
     ensures checks { ChecksBy (F.content files.old name.now) (F.fault_count files.old) (F.fault_count files.new)
         (K.taken out.old) (K.taken out.new) (K.fault_count out.old) (K.fault_count out.new) (number result) }

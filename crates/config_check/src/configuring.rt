@@ -23,6 +23,7 @@ pub enum Unconfigured {
 }
 
 /// The settings that the file of this name says.
+#[inline(never)]
 pub fn load_settings<F: Files>(
     alloc: Global,
     name: &str,

@@ -26,6 +26,7 @@ pub fn demo_with<K: Sink>(alloc: Global, seed: u64, count: u32, out: &mut K) -> 
 }
 
 /// [`demo_with`], with the status whose number that answers.
+#[inline(never)]
 pub(crate) fn demo<K: Sink>(alloc: Global, seed: u64, count: u32, out: &mut K) -> Status
     requires { count ≤ 1000000 }
     ensures demos { DemosBy seed count (K.taken out.old) (K.taken out.new) (K.fault_count out.old) (K.fault_count out.new) (number result) }

@@ -80,6 +80,7 @@ pub fn replay_with<S: Source, K: Sink>(
 }
 
 /// [`replay_with`], with the status whose number that answers.
+#[inline(never)]
 pub(crate) fn replay_settings<S: Source, K: Sink>(
     alloc: Global,
     settings: &Settings,

@@ -10,6 +10,7 @@ use statuses::Status;
 use std::alloc::Global;
 
 /// Runs a gateway of the configuration in the file of this name over a capture, and answers the status.
+#[inline(never)]
 pub(crate) fn replay<F: Files, S: Source, K: Sink>(
     alloc: Global,
     name: &str,

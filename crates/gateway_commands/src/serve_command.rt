@@ -16,6 +16,7 @@ use statuses::Status;
 use std::alloc::Global;
 
 /// Runs a gateway of the configuration in the file of this name between two links, for so many turns, and answers the status.
+#[inline(never)]
 pub(crate) fn serve<F: Files, K: Sink, B: Link, E: Link, C: Clock>(
     alloc: Global,
     name: &str,
@@ -41,6 +42,7 @@ pub(crate) fn serve<F: Files, K: Sink, B: Link, E: Link, C: Clock>(
 }
 
 /// Runs a gateway of these settings between two links, for so many turns, and answers the status.
+#[inline(never)]
 fn serve_with<K: Sink, B: Link, E: Link, C: Clock>(
     alloc: Global,
     settings: &Settings,

@@ -91,6 +91,7 @@ impl Answers for Lines {
 /// | 8 | exactly where more than 2^40 bytes were read, and no call failed before |
 ///
 /// Of 4, 5 and 8 the first call that fails decides: with 0 and 8 no call failed, with 4 no read did, and with 5 no write.
+#[inline(never)]
 pub fn answer_lines<S: Source, K: Sink>(command: LineCommand, input: &mut S, out: &mut K) -> Status
     ensures status { IsStreamStatus (number result) }
     ensures ends { EndsBy (AreTextsOf command) (S.left input.old) (S.left input.new) (K.taken out.old) (K.taken out.new) (number result) }
