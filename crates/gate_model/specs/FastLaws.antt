@@ -20,8 +20,7 @@ use Rattle.history.specs.Traces.{Note}
 use Rattle.history.specs.Opens.{is_fast, fast_open, notes_of}
 use Rattle.history.specs.Meanings.{fast_packet, is_of_fast_packet}
 use Rattle.gate_events.specs.Emit.{Emit}
-use Rattle.history.specs.Endings as endings
-use Rattle.history.specs.Endings.{fast_expired}
+use Rattle.history.specs.Endings.{fast_expired, fast_lost_at}
 use Rattle.history.specs.Messages.{done, said_by}
 use Rattle.history.specs.FromBus.{meaning_after, frame_refused}
 use Rattle.history.specs.AddressLaws.{IsReceiver}

@@ -11,6 +11,7 @@ use Rattle.gate_events.specs.declared.emit.Emit.TheVariants as lent
 use Rattle.gate_events.specs.Emit.{Emit, can, net, report}
 use Rattle.gate_outbox.specs.declared.done.Done.{Done}
 use Rattle.gate_outbox.specs.declared.done.Command.{Command}
+use Rattle.history.specs.Emits.{is_there}
 
 -- what is told, in its order, and the datagram behind it, where it is there
 pub record Emitted : Type 0 where
