@@ -1,6 +1,6 @@
 -- A bridge that stands for a history stands for it with a command as well.
 use Rattle.std.proofs.Common.{ℕ, ◌%◌, ap, ◌∙◌, arith}
-use Rattle.tag_block.specs.Numbers.{most_count}
+use Rattle.tag_block.specs.Tag.{most_count}
 use Rattle.history.specs.Entries.{now}
 use Rattle.gate_model.proofs.FastLosses.{commands_leave_fast}
 use Rattle.gate_core.specs.Steps.{by_keys}

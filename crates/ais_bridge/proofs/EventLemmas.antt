@@ -2,7 +2,7 @@
 use Rattle.std.proofs.Common.{◌≡◌, ℕ, ◌+◌, ◌%◌, ◌∷◌, sym, ap, subst, ◌∙◌, append_assoc, append-nil, arith}
 use Rattle.gate_events.specs.declared.event.Event.{Event}
 use Rattle.gate_events.specs.declared.event.Event.TheVariants as event
-use Rattle.tag_block.specs.Numbers.{most_count}
+use Rattle.tag_block.specs.Tag.{most_count}
 use Rattle.n2k_id.specs.Frame.{bus_frame}
 use Rattle.history.specs.Entries.{now}
 use Rattle.gate_model.specs.Endings.{fast_overdue}

@@ -2,9 +2,8 @@
 use Rattle.std.proofs.Common.{◌≡◌, ℕ, Bool, true, false, ◌&&◌, not, ◌==◌, min, List, [], ◌∷◌, ◌++◌, length, Option, Some, None, option_map, is_some, if◌then◌else◌, refl, ap, ◌∙◌, append-nil, arith}
 use Rattle.report_rules.specs.Rules as rules
 use Rattle.n2k_id.specs.Frame.{BusFrame}
-use Rattle.n2k_id.specs.Identifier.{parts_of}
+use Rattle.n2k_id.specs.Identifier.{parts_of, is_own, is_to}
 use Rattle.n2k_id.specs.declared.identifier_parts.Parts.{Parts}
-use Rattle.iso_transport.specs.Audience.{is_own, is_to}
 use Rattle.claim_table.specs.Claims.{holder_at}
 use Rattle.claim_table.specs.Laws.{capped}
 use Rattle.claim_table.specs.declared.answer.Holder.{Holder}
@@ -15,11 +14,11 @@ use Rattle.history.specs.Meanings as meaning
 use Rattle.history.specs.Meanings.{Meaning, by_kind, fast_packet, from_nobody, if_held, is_of_fast_packet, is_of_session, meaning_of}
 use Rattle.history.specs.Traces.{is_transport}
 use Rattle.history.specs.Entries.{History, frame}
-use Rattle.history.specs.Receiver.{Receiver}
+use Rattle.history.specs.Settings.{Receiver}
 use Rattle.history.specs.Known.{known}
 use Rattle.history.specs.Messages.{carried, done, said_by}
 use Rattle.history.specs.Emits.{report_of}
-use Rattle.history.specs.FromBus.{frame_refused, meaning_after}
+use Rattle.history.specs.FromBus.{frame_refused, meaning_at}
 use Rattle.history.specs.AddressLaws.{IsReceiver}
 use Rattle.history.specs.RuleLaws.{fast_refusal_breaks}
 use Rattle.gate_model.specs.AddressStands.{FrameIsTold, changes_in}
@@ -109,7 +108,7 @@ reports_are parts answer is =
 abbrev kept_for : Receiver → ℕ → History → AddressesKept
 kept_for r s h = record { claims = capped last_index (known r s h).claims; count = min last_index (length h); changed = changes_in r s h }
 
-module _ (r : Receiver) (s : ℕ) (h : History) (m : ℕ) (f : BusFrame) (are : IsReceiver r) (is : meaning_after r s h m f ≡ from_nobody) where
+module _ (r : Receiver) (s : ℕ) (h : History) (m : ℕ) (f : BusFrame) (are : IsReceiver r) (is : meaning_at r s h m f ≡ from_nobody) where
   told : FrameIsTold r s h m f (kept_for r s h)
   told =
       frames_are_told r s h m f (kept_for r s h) are (record { claims = refl; count = refl; changed = refl }) (ap is_of_session is) (ap is_of_fast_packet is)

@@ -5,10 +5,9 @@ use Rattle.claim_table.specs.Laws.{capped}
 use Rattle.settings.specs.declared.ais.AisConfig.{AisConfig}
 use Rattle.history.specs.AddressLaws.{AreSettings, IsReceiver}
 use Rattle.history.specs.Entries as entry
-use Rattle.history.specs.Entries.{Entry, History}
+use Rattle.history.specs.Entries.{History}
 use Rattle.history.specs.Known.{claim_by, is_claim, known, known_after}
-use Rattle.history.specs.Receiver.{receiver_of}
-use Rattle.history.specs.Settings.{Settings}
+use Rattle.history.specs.Settings.{receiver_of, Settings}
 use Rattle.gate_model.specs.Addresses.{AddressesKept, changed_by, last_index, no_change}
 use Rattle.gate_model.specs.AddressStands.{StandsAddresses, changes_in}
 use Rattle.ais_bridge.specs.AisOut.{ais_receiver}

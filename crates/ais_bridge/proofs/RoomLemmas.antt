@@ -9,7 +9,7 @@ use Rattle.n2k_id.specs.declared.name.Name.{Name}
 use Rattle.n2k_id.specs.declared.identifier_parts.Parts.{Parts}
 use Rattle.n2k_id.specs.Identifier.{parts_of}
 use Rattle.slot_views.specs.Slots.{Entry as Slot, SlotMap, IsMap, entry_at, grown, grown_from, has_expired, is_complete, is_full}
-use Rattle.fast_packet.specs.FastFrames.{counter_of, gap}
+use Rattle.fast_packet.specs.FastRuns.{counter_of, gap}
 use Rattle.fast_packet.specs.Assembly.{fed_after, fed_by, is_from, opening, part_to, verdict}
 use Rattle.fast_packet.specs.declared.verdict.Verdict.{Verdict}
 use Rattle.fast_packet.specs.declared.verdict.Verdict.TheVariants.{Short as Cut, Opens, Orphan, Again, OutOfOrder, Next}

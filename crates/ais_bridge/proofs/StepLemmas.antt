@@ -7,9 +7,8 @@ use Rattle.gate_events.specs.declared.emit.Report.{Report}
 use Rattle.claim_table.specs.Claims.{claim, holder_at}
 use Rattle.claim_table.specs.declared.answer.Holder.{Holder}
 use Rattle.claim_table.specs.declared.answer.ClaimStep.{ClaimStep}
-use Rattle.tag_block.specs.Numbers.{most_count}
-use Rattle.datagram450.specs.Datagram.{header}
-use Rattle.datagram450.specs.Writing.{line_text}
+use Rattle.tag_block.specs.Tag.{most_count}
+use Rattle.datagram450.specs.Datagram.{header, line_text}
 use Rattle.ais_report.specs.declared.report.AisReport.{AisReport}
 use Rattle.ais_report.specs.declared.report.AisFault.{AisFault}
 use Rattle.ais_report.specs.declared.report.AisFault.TheVariants.{Short, Outside}
@@ -23,9 +22,8 @@ use Rattle.history.specs.Emits.{reported}
 use Rattle.history.specs.Known.{known, is_claim, claim_by, address_left, address_won}
 use Rattle.history.specs.Meanings.{if_held, fast_packet, from_nobody, is_of_fast_packet}
 use Rattle.history.specs.Messages.{carried, done, said_by}
-use Rattle.history.specs.FromBus.{frame_refused, meaning_after}
-use Rattle.history.specs.Receiver.{Receiver}
-use Rattle.history.specs.Settings.{Settings}
+use Rattle.history.specs.FromBus.{frame_refused, meaning_at}
+use Rattle.history.specs.Settings.{Receiver, Settings}
 use Rattle.gate_model.specs.Addresses.{AddressesKept, Changed, changed_by, no_change}
 use Rattle.gate_model.specs.AddressStands.{StandsAddresses, TellsAlike, name_held}
 use Rattle.gate_model.specs.FastLaws.{FastFramesStand, GivesUpFast, StandsFastFor}
@@ -42,7 +40,7 @@ use Rattle.bus_messages.specs.Heard.{heard_reports}
 use Rattle.ais_bridge.specs.AisOut.{ais_done, ais_receiver, ais_refused, claim_loses, hears, is_heard, lines_said, payload_of, report_gives, step_loses}
 use Rattle.ais_bridge.specs.AisKept.{AisKept, AisStep, answer_here, as_it_was, behind, fed, fed_from, framed, given_up, heard, lost}
 use Rattle.ais_bridge.specs.Promises.{StandsAis}
-use Rattle.ais_bridge.specs.Reports.{carried_gives, lines_of, report_datagram, report_sentence, said_gives}
+use Rattle.ais_bridge.specs.Reports.{carried_gives, line_count, report_datagram, report_sentence, said_gives}
 use Rattle.ais_bridge.proofs.FrameLemmas.{heard_is, nobody_done, nobody_refused, not_heard, report_is, reports_are}
 use Rattle.ais_bridge.proofs.KnownLemmas.{is_receiver}
 
@@ -123,14 +121,14 @@ module _ (a : AisConfig) (c : Settings) (s : ℕ) (h : History) (m : ℕ) (f : B
   loses_nothing unclaimed = rw unclaimed refl
 
   lines_are : (k : AisKept) (payload : Option (List ℕ)) → Stood k → payload_of (ais_done a c s h m f) ≡ payload
-      → (k.lines + lines_of payload) % most_count ≡ lines_said a c s (e ∷ h) % most_count
+      → (k.lines + line_count payload) % most_count ≡ lines_said a c s (e ∷ h) % most_count
   lines_are k payload it is =
-      ap (λ n. (n + lines_of payload) % most_count) it.lines
-      ∙ (count_on (lines_said a c s h) (lines_of payload) ∙ ap (λ o. (lines_said a c s h + lines_of o) % most_count) (sym is))
+      ap (λ n. (n + line_count payload) % most_count) it.lines
+      ∙ (count_on (lines_said a c s h) (line_count payload) ∙ ap (λ o. (lines_said a c s h + line_count o) % most_count) (sym is))
 
   unsaid_lines : (k : AisKept) → Stood k → payload_of (ais_done a c s h m f) ≡ None → k.lines ≡ lines_said a c s (e ∷ h) % most_count
   unsaid_lines k it is =
-      it.lines ∙ (ap (λ n. n % most_count) (omega arith) ∙ ap (λ o. (lines_said a c s h + lines_of o) % most_count) (sym is))
+      it.lines ∙ (ap (λ n. n % most_count) (omega arith) ∙ ap (λ o. (lines_said a c s h + line_count o) % most_count) (sym is))
 
   -- ---- a claim
 
@@ -180,13 +178,13 @@ module _ (a : AisConfig) (c : Settings) (s : ℕ) (h : History) (m : ℕ) (f : B
 
     -- of a report
     module _ (hearing : hears a c s h f ≡ true) where
-      means : meaning_after r s h m f ≡ if_held (is_some (holder_at holders p.source)) fast_packet
+      means : meaning_at r s h m f ≡ if_held (is_some (holder_at holders p.source)) fast_packet
       means = heard_is (known r s h).claims.own holders p hearing
 
       -- from an address that nobody holds
       from_none : is_some (holder_at holders p.source) ≡ false → Taken (fed_from by_keys.fast k p f.held m None)
       from_none free =
-          let is : meaning_after r s h m f ≡ from_nobody = means ∙ ap (λ b. if_held b fast_packet) free in
+          let is : meaning_at r s h m f ≡ from_nobody = means ∙ ap (λ b. if_held b fast_packet) free in
           let nothing_done = ap payload_of (heard_done hearing ∙ nobody_done r s h m f (is_receiver a c settings) is) in
           record {
             stands = record {

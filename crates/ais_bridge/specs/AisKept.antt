@@ -13,7 +13,7 @@ use Rattle.fast_packet.specs.declared.key.FastKey.{FastKey}
 use Rattle.ais_report.specs.declared.report.AisReport.{AisReport}
 use Rattle.ais_report.specs.declared.report.AisFault.{AisFault}
 use Rattle.ais_report.specs.Converted.{converted}
-use Rattle.tag_block.specs.Numbers.{most_count}
+use Rattle.tag_block.specs.Tag.{most_count}
 use Rattle.settings.specs.declared.ais.AisConfig.{AisConfig}
 use Rattle.history.specs.Entries as entry
 use Rattle.history.specs.Entries.{Entry, moment_of}
@@ -26,7 +26,7 @@ use Rattle.gate_model.specs.FastPackets.{FastAnswer, fast_answer, fast_kept, key
 use Rattle.bus_messages.specs.Heard.{heard_reports}
 use Rattle.gate_outbox.specs.Output.{Emitted, no_emits}
 use Rattle.ais_bridge.specs.AisOut.{is_heard}
-use Rattle.ais_bridge.specs.Reports.{lines_of_said, said_gives}
+use Rattle.ais_bridge.specs.Reports.{line_count_of, said_gives}
 
 pub record AisKept : Type 0 where
   -- the transmission group, and the system function identifier by which it speaks
@@ -61,7 +61,7 @@ behind told x = record { after = x.after; emits = record { told = told ++ x.emit
 -- a payload that was converted is passed on, or breaks a rule
 abbrev pub passed_on : AisKept → Parts → Option (Result (AisReport × ℕ) AisFault) → AisStep
 passed_on k parts x = record {
-  after = record k { lines = (k.lines + lines_of_said x) % most_count };
+  after = record k { lines = (k.lines + line_count_of x) % most_count };
   emits = said_gives k.group k.sfi k.lines parts.source parts.pgn x;
 }
 

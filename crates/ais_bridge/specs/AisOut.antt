@@ -2,9 +2,8 @@
 -- are fast packets of devices that hold their address (ISO 11783-5), and says each report once.
 use Rattle.std.specs.Prelude.{ℕ, ◌+◌, Bool, ◌&&◌, not, ◌==◌, List, [], ◌∷◌, ◌++◌, length, Option, None, option_map, if◌then◌else◌}
 use Rattle.n2k_id.specs.Frame.{BusFrame}
-use Rattle.n2k_id.specs.Identifier.{parts_of}
+use Rattle.n2k_id.specs.Identifier.{parts_of, is_own}
 use Rattle.n2k_id.specs.declared.identifier_parts.Parts.{Parts}
-use Rattle.iso_transport.specs.Audience.{is_own}
 use Rattle.gate_events.specs.declared.emit.Report.{Report}
 use Rattle.claim_table.specs.Claims.{claim}
 use Rattle.claim_table.specs.declared.answer.ClaimStep.{ClaimStep}
@@ -13,16 +12,15 @@ use Rattle.pgn_profile.specs.declared.kinds.Kind.TheVariants.{Fast, Outside}
 use Rattle.settings.specs.declared.ais.AisConfig.{AisConfig}
 use Rattle.history.specs.Entries as entry
 use Rattle.history.specs.Entries.{Entry, History, now}
-use Rattle.history.specs.Settings.{Settings}
-use Rattle.history.specs.Receiver.{Receiver}
+use Rattle.history.specs.Settings.{Settings, Receiver}
 use Rattle.history.specs.Known.{known, is_claim, claim_by, address_left, address_won}
 use Rattle.history.specs.Opens.{notes_of}
 use Rattle.history.specs.Messages.{Message, done}
 use Rattle.gate_events.specs.Emit.{Emit}
 use Rattle.history.specs.Emits.{reported}
-use Rattle.history.specs.Endings.{fast_expired, fast_lost_at}
+use Rattle.history.specs.Endings.{fast_expired, fast_lost_at, side}
 use Rattle.history.specs.FromBus.{frame_refused}
-use Rattle.ais_bridge.specs.Reports.{carried_gives, lines_of}
+use Rattle.ais_bridge.specs.Reports.{carried_gives, line_count}
 
 abbrev pub report_pgn : ℕ
 report_pgn = 129038
@@ -62,7 +60,7 @@ module _ (a : AisConfig) (c : Settings) (s : ℕ) where
 
   -- how many lines were said in a history
   abbrev pub lines_in : History → Entry → ℕ
-  lines_in h (entry.frame m f) = lines_of (payload_of (ais_done h m f))
+  lines_in h (entry.frame m f) = line_count (payload_of (ais_done h m f))
   lines_in h (entry.datagram m bytes) = 0
   lines_in h (entry.tick m) = 0
   lines_in h (entry.command m source address) = 0
@@ -73,15 +71,15 @@ module _ (a : AisConfig) (c : Settings) (s : ℕ) where
 
   -- rule 16, for each report whose next frame is overdue, by source
   abbrev pub ais_expired : History → ℕ → List Emit
-  ais_expired h m = let r = ais_receiver a c in fast_expired (known r s h).claims.holders (notes_of r s h) (now h) m r.kinds
+  ais_expired h m = let r = ais_receiver a c in let k = known r s h in fast_expired (side k (now h)) (side k m) (notes_of r s h) r.kinds
 
   -- rule 17, for what is open of an address that changes hands: the one that was left before the one that was won
   abbrev pub step_loses : History → Entry → ℕ → ClaimStep → List Emit
   step_loses h e m step =
       let r = ais_receiver a c in
-      let holders = (known r s h).claims.holders in
-      let later = (known r s (e ∷ h)).claims.holders in
-      fast_lost_at holders later (notes_of r s h) m r.kinds (address_left step) ++ fast_lost_at holders later (notes_of r s h) m r.kinds (address_won step)
+      let before = side (known r s h) m in
+      let after = side (known r s (e ∷ h)) m in
+      fast_lost_at before after (notes_of r s h) r.kinds (address_left step) ++ fast_lost_at before after (notes_of r s h) r.kinds (address_won step)
 
   abbrev pub claim_loses : History → ℕ → BusFrame → List Emit
   claim_loses h m f =

@@ -3,9 +3,8 @@
 use Rattle.std.specs.Prelude.{ℕ, ◌+◌, ◌%◌, List, [], ◌∷◌, ◌++◌, Option, Some, None, option_map, Result, Ok, Err}
 use Rattle.report_rules.specs.Rules as rules
 use Rattle.sentence_text.specs.Sentence.{SentenceParts, sentence}
-use Rattle.tag_block.specs.Numbers.{most_count}
-use Rattle.datagram450.specs.Datagram.{header}
-use Rattle.datagram450.specs.Writing.{line_text}
+use Rattle.tag_block.specs.Tag.{most_count}
+use Rattle.datagram450.specs.Datagram.{header, line_text}
 use Rattle.ais_report.specs.declared.report.AisReport.{AisReport}
 use Rattle.ais_report.specs.declared.report.AisFault.{AisFault}
 use Rattle.ais_report.specs.declared.report.AisFault.TheVariants.{Short, Outside}
@@ -48,10 +47,10 @@ module _ (group sfi : List ℕ) (before source pgn : ℕ) where
 
 -- ---- how many lines it is told in
 
-abbrev pub lines_of_said : Option (Result (AisReport × ℕ) AisFault) → ℕ
-lines_of_said None = 0
-lines_of_said (Some (Ok x)) = 1
-lines_of_said (Some (Err fault)) = 0
+abbrev pub line_count_of : Option (Result (AisReport × ℕ) AisFault) → ℕ
+line_count_of None = 0
+line_count_of (Some (Ok x)) = 1
+line_count_of (Some (Err fault)) = 0
 
-abbrev pub lines_of : Option (List ℕ) → ℕ
-lines_of payload = lines_of_said (option_map (λ p. converted p) payload)
+abbrev pub line_count : Option (List ℕ) → ℕ
+line_count payload = line_count_of (option_map (λ p. converted p) payload)

@@ -11,8 +11,7 @@ use Rattle.claim_table.specs.Claims.{is_ready}
 use Rattle.gate_events.specs.Emit.{Emit}
 use Rattle.history.specs.Entries as entry
 use Rattle.history.specs.Entries.{Entry, History}
-use Rattle.history.specs.Receiver.{receiver_of}
-use Rattle.history.specs.Settings.{Settings}
+use Rattle.history.specs.Settings.{receiver_of, Settings}
 use Rattle.gate_model.specs.Machine.{Machine}
 use Rattle.gate_model.proofs.AddressTells.{standing_tells_alike}
 use Rattle.gate_outbox.specs.Output.{Emitted, Output, and_told, emits_of, no_emits, told_with}
@@ -20,7 +19,8 @@ use Rattle.gate_outbox.proofs.Telling.{told_fits}
 use Rattle.gate_core.specs.Steps.{entry_of}
 use Rattle.bus_identity.specs.Answers.{Kept, kept_after}
 use Rattle.bus_identity.specs.Pgns.{product_information, pgn_lists}
-use Rattle.bus_identity.specs.Requests.{asked_of, is_due}
+use Rattle.n2k_id.specs.Pgns.{asked_of}
+use Rattle.bus_identity.specs.Requests.{is_due}
 use Rattle.bridge.specs.Answered.{answer_by, answered_before, own_after, ready_after, sent_before}
 use Rattle.bridge.specs.Beside.{AnsweringStands, IsAnswered, IsAnswering, IsStepped}
 

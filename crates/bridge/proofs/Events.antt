@@ -6,7 +6,7 @@ use Rattle.capture_text.specs.declared.line_rule.LineRule.{LineRule}
 use Rattle.gate_events.specs.Event.{Seen}
 use Rattle.gate_events.specs.Emit.{Emitted}
 use Rattle.history.specs.Entries.{History, moment_of}
-use Rattle.bridge.specs.Replayed.{entry_of, AreRead, EventsAreReplayed, Replayed, event_in, events_in, gate_of, lines_of, replayed_from, with_read}
+use Rattle.bridge.specs.Replayed.{entry_of, AreRead, EventsAreReplayed, Replayed, event_in, events_in, gate_of, emitted_text, replayed_from, with_read}
 use Rattle.bridge.specs.Gate.{from_events, opening, stepped}
 use Rattle.bridge.specs.Parts.{Parts}
 
@@ -37,4 +37,4 @@ module _ (p : Parts) where
       ∙ ap (λ (r : Result Seen LineRule). gate_of p (event_in r ++ events_in ls)) (sym are.0.1)
 
 pub events_are_replayed : EventsAreReplayed
-events_are_replayed p lines are = ap lines_of (waiting p 1 lines are)
+events_are_replayed p lines are = ap emitted_text (waiting p 1 lines are)

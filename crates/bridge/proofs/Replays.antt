@@ -21,8 +21,8 @@ use Rattle.history.specs.Emits.{at, broken}
 use Rattle.history.specs.Entries.{Entry, History, IsHistory, is_accepted, moment_of, now}
 use Rattle.history.specs.Gate.{Stepped, command_in, out}
 use Rattle.history.specs.Messages.{done}
-use Rattle.history.specs.Receiver.{receiver_of}
-use Rattle.bridge.specs.Replayed.{Running, moment_in, GivesReplay, IsReplay, IsReplayed, RunningStands, lines_of, replayed_from, with_event, with_line}
+use Rattle.history.specs.Settings.{receiver_of}
+use Rattle.bridge.specs.Replayed.{Running, GivesReplay, IsReplay, IsReplayed, RunningStands, emitted_text, replayed_from, with_event, with_line}
 use Rattle.capture_text.specs.Emitted.{line_of}
 use Rattle.bridge.specs.Replayed as replay
 use Rattle.bridge.specs.BridgeStands.{BridgeStands, IsBridged, IsBridgeStep, IsNew, IsOrder, IsRefused}
@@ -36,19 +36,19 @@ use Rattle.bridge.specs.Replaying.{IsOpening, IsOrdered, left_text, ordered_text
 abbrev emitted : ℕ → Emit → Emitted
 emitted m e = record { moment = m; emit = e }
 
-both_texts : (m : ℕ) (xs ys : List Emit) → lines_of (at m xs) ++ lines_of (at m ys) ≡ lines_of (at m (xs ++ ys))
+both_texts : (m : ℕ) (xs ys : List Emit) → emitted_text (at m xs) ++ emitted_text (at m ys) ≡ emitted_text (at m (xs ++ ys))
 both_texts m xs ys =
-    sym (flat_map-append line_of (at m xs) (at m ys)) ∙ ap lines_of (sym (map-append (emitted m) xs ys))
+    sym (flat_map-append line_of (at m xs) (at m ys)) ∙ ap emitted_text (sym (map-append (emitted m) xs ys))
 
-text_at : (b : Bridged) (k m : ℕ) (emits : List Emit) → k ≡ m → left_of b ≡ emits → left_text k b ≡ lines_of (at m emits)
-text_at b k m emits same is = ap (λ (x : ℕ). left_text x b) same ∙ ap (λ (es : List Emit). lines_of (at m es)) is
+text_at : (b : Bridged) (k m : ℕ) (emits : List Emit) → k ≡ m → left_of b ≡ emits → left_text k b ≡ emitted_text (at m emits)
+text_at b k m emits same is = ap (λ (x : ℕ). left_text x b) same ∙ ap (λ (es : List Emit). emitted_text (at m es)) is
 
 -- ---- an event
 
 module _ (p : Parts) (s : ℕ) (h : History) (e : Entry) where
   -- it is what was offered, and the bridge stands for what came then
   record Reached (x : Stepped p.gateway s) (text : List ℕ) (after : Bridged) : Type 0 where
-    pub text_is : text ≡ lines_of x.emits
+    pub text_is : text ≡ emitted_text x.emits
     pub could : IsHistory x.after
     pub stands : BridgeStands p s x.after after
 
@@ -71,7 +71,7 @@ module _ (p : Parts) (s : ℕ) (h : History) (e : Entry) where
         text_is =
             ap (λ (x : List ℕ). left_text b.gateway.moment b ++ x)
             (is ∙ text_at after after.gateway.moment m (out p.gateway s (e ∷ h) next) obeyed.stands.gateway.moment obeyed.emits)
-            ∙ ap (λ (x : List ℕ). x ++ lines_of (at m (out p.gateway s (e ∷ h) next)))
+            ∙ ap (λ (x : List ℕ). x ++ emitted_text (at m (out p.gateway s (e ∷ h) next)))
             (text_at b b.gateway.moment m (all_out p s h e) stands.gateway.moment left)
             ∙ both_texts m (all_out p s h e) (out p.gateway s (e ∷ h) next);
         could = obeyed.could;
@@ -122,12 +122,12 @@ entry_same (event.Datagram moment bytes) = refl
 entry_same (event.Tick moment) = refl
 
 -- behind what the start gives, where it was the first
-from_start : (before xs : List Emitted) (first b text : List ℕ) → first ≡ lines_of before → b ++ text ≡ lines_of xs
-    → (first ++ b) ++ text ≡ lines_of (before ++ xs)
+from_start : (before xs : List Emitted) (first b text : List ℕ) → first ≡ emitted_text before → b ++ text ≡ emitted_text xs
+    → (first ++ b) ++ text ≡ emitted_text (before ++ xs)
 from_start before xs first b text start is =
     append_assoc first b text
     ∙ ap (λ (t : List ℕ). t ++ (b ++ text)) start
-    ∙ ap (λ (t : List ℕ). lines_of before ++ t) is
+    ∙ ap (λ (t : List ℕ). emitted_text before ++ t) is
     ∙ sym (flat_map-append line_of before xs)
 
 module _ (e : Entry) (number : ℕ) (before opened b after : Bridged) (first text : List ℕ) (opens : IsOpening (moment_of e) before first opened)
@@ -142,7 +142,7 @@ module _ (e : Entry) (number : ℕ) (before opened b after : Bridged) (first tex
       record {
         text_is =
             from_start (opening p s) (stepped p s [] e).emits first (left_text b.gateway.moment b) text
-            (x.0 ∙ ap (λ (es : List Emit). lines_of (at s es)) start.emits) r.text_is;
+            (x.0 ∙ ap (λ (es : List Emit). emitted_text (at s es)) start.emits) r.text_is;
         stands = (r.could, r.stands);
       }
   entry_given p (Some g) stands =
@@ -166,7 +166,7 @@ gives_event e number before opened b after first text opens step order p g stand
 -- ---- a line that breaks a rule
 
 refusal_at : (number k m : ℕ) (rule : LineRule) → k ≡ m
-    → line_of (record { moment = k; emit = broken (rule_number rule) (detail.Line number) }) ≡ lines_of (at m (broken (rule_number rule) (detail.Line number) ∷ []))
+    → line_of (record { moment = k; emit = broken (rule_number rule) (detail.Line number) }) ≡ emitted_text (at m (broken (rule_number rule) (detail.Line number) ∷ []))
 refusal_at number k m rule same =
     ap (λ (x : ℕ). line_of (record { moment = x; emit = broken (rule_number rule) (detail.Line number) })) same
     ∙ sym (append-nil (line_of (record { moment = m; emit = broken (rule_number rule) (detail.Line number) })))
@@ -191,13 +191,13 @@ line_given p g n [] text b after stands gives = record { text_is = gives.0; stan
 line_given p g n (c ∷ bytes) text b after stands gives = gives p g stands
 
 lines_given : (p : Parts) (g : Option Running) (n : ℕ) (lines : List (List ℕ)) (text : List ℕ) (b after : Bridged) → RunningStands p g b
-    → AreTexts (LineGives GivesReplay) b n lines text after → text ≡ lines_of (replayed_from p n g lines)
+    → AreTexts (LineGives GivesReplay) b n lines text after → text ≡ emitted_text (replayed_from p n g lines)
 lines_given p g n [] text b after stands a = a.0
 lines_given p g n (line ∷ lines) text b after stands a =
     let y = with_line p n g line in
     let x : IsReplayed p y a.0 a.2 = line_given p g n line a.0 b a.2 stands a.3 in
     let more = lines_given p y.after (n + 1) lines a.1 a.2 after x.stands a.4 in
-    a.5 ∙ ap (λ (t : List ℕ). t ++ a.1) x.text_is ∙ ap (λ (t : List ℕ). lines_of y.emits ++ t) more
+    a.5 ∙ ap (λ (t : List ℕ). t ++ a.1) x.text_is ∙ ap (λ (t : List ℕ). emitted_text y.emits ++ t) more
     ∙ sym (flat_map-append line_of y.emits (replayed_from p (n + 1) y.after lines))
 
 -- what a new bridge gives of the lines of a capture

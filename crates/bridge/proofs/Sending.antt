@@ -14,7 +14,7 @@ use Rattle.gate_outbox.specs.Output.{emit_of}
 use Rattle.gate_events.specs.Emit.{Emit}
 use Rattle.history.specs.Emits.{at}
 use Rattle.capture_text.specs.Emitted.{emit_text as text_of, line_of}
-use Rattle.bridge.specs.Replayed.{lines_of}
+use Rattle.bridge.specs.Replayed.{emitted_text}
 use Rattle.bridge.specs.Replaying.{IsSent}
 
 -- ---- the causes of failures, one call behind the other
@@ -89,29 +89,29 @@ same_line m e = ap (λ (x : List ℕ). (time_text m ++ x) ++ 10 ∷ []) (same_te
 -- ---- the lines of a list of emits, from a place on
 
 abbrev pub lines_at : ℕ → ℕ → List Emit → List ℕ
-lines_at m place emits = lines_of (at m (drop place emits))
+lines_at m place emits = emitted_text (at m (drop place emits))
 
-next_after : (m : ℕ) (emits : List Emit) (place : ℕ) → lines_at m place emits ≡ lines_of (at m (take 1 (drop place emits))) ++ lines_at m (suc place) emits
+next_after : (m : ℕ) (emits : List Emit) (place : ℕ) → lines_at m place emits ≡ emitted_text (at m (take 1 (drop place emits))) ++ lines_at m (suc place) emits
 next_after m [] zero = refl
 next_after m [] (suc place) = refl
 next_after m (e ∷ emits) zero =
-    ap (λ (x : List ℕ). x ++ lines_of (at m emits)) (sym (append-nil (line_of (record { moment = m; emit = e }))))
+    ap (λ (x : List ℕ). x ++ emitted_text (at m emits)) (sym (append-nil (line_of (record { moment = m; emit = e }))))
 next_after m (e ∷ emits) (suc place) = next_after m emits place
 
-pub next_line : (m : ℕ) (emits : List Emit) (place : ℕ) → lines_at m place emits ≡ lines_of (at m (take 1 (drop place emits))) ++ lines_at m (place + 1) emits
+pub next_line : (m : ℕ) (emits : List Emit) (place : ℕ) → lines_at m place emits ≡ emitted_text (at m (take 1 (drop place emits))) ++ lines_at m (place + 1) emits
 next_line m emits place =
-    subst (λ (k : ℕ). lines_at m place emits ≡ lines_of (at m (take 1 (drop place emits))) ++ lines_at m k emits) (sym (add-one place))
+    subst (λ (k : ℕ). lines_at m place emits ≡ emitted_text (at m (take 1 (drop place emits))) ++ lines_at m k emits) (sym (add-one place))
     (next_after m emits place)
 
 pub one_line : (m : ℕ) (emits : List Emit) (place : ℕ) (x : Emit) → slice_get emits place ≡ Some x
-    → line_of (record { moment = m; emit = x }) ≡ lines_of (at m (take 1 (drop place emits)))
+    → line_of (record { moment = m; emit = x }) ≡ emitted_text (at m (take 1 (drop place emits)))
 one_line m [] place x is = absurd cc
 one_line m (e ∷ emits) zero x is =
     let same : e ≡ x = cc in
     ap (λ (y : Emit). line_of (record { moment = m; emit = y })) (sym same) ∙ sym (append-nil (line_of (record { moment = m; emit = e })))
 one_line m (e ∷ emits) (suc place) x is = one_line m emits place x is
 
-pub nothing_there : (m : ℕ) (emits : List Emit) (place : ℕ) → slice_get emits place ≡ None → lines_of (at m (take 1 (drop place emits))) ≡ []
+pub nothing_there : (m : ℕ) (emits : List Emit) (place : ℕ) → slice_get emits place ≡ None → emitted_text (at m (take 1 (drop place emits))) ≡ []
 nothing_there m [] zero is = refl
 nothing_there m [] (suc place) is = refl
 nothing_there m (e ∷ emits) zero is = absurd cc

@@ -11,11 +11,11 @@ use Rattle.history.specs.Emits.{of_source}
 use Rattle.history.specs.Entries as entry
 use Rattle.history.specs.Entries.{Entry, History, moment_of}
 use Rattle.history.specs.Known.{known}
-use Rattle.history.specs.Receiver.{receiver_of}
-use Rattle.history.specs.Settings.{Settings}
+use Rattle.history.specs.Settings.{receiver_of, Settings}
 use Rattle.bus_identity.specs.Answers.{Kept, frames_from}
 use Rattle.bus_identity.specs.Pgns.{product_information, pgn_lists}
-use Rattle.bus_identity.specs.Requests.{asked_of, is_due}
+use Rattle.n2k_id.specs.Pgns.{asked_of}
+use Rattle.bus_identity.specs.Requests.{is_due}
 
 -- the answer of a gateway with this address; a request that comes before it is ready is reported
 abbrev pub answer_by : Kept → Option ℕ → Bool → BusFrame → List Emit

@@ -7,8 +7,7 @@ use Rattle.history.specs.Emits.{broken}
 use Rattle.history.specs.Entries.{Entry, History, IsHistory, is_accepted, moment_of, now}
 use Rattle.history.specs.Gate.{out, opening_emits, command_in}
 use Rattle.history.specs.Messages.{done}
-use Rattle.history.specs.Receiver.{receiver_of}
-use Rattle.history.specs.Settings.{Settings}
+use Rattle.history.specs.Settings.{receiver_of, Settings}
 use Rattle.settings.specs.declared.ais.AisConfig.{AisConfig}
 use Rattle.gate_model.specs.Machine.{opened_machine}
 use Rattle.gate_model.specs.Stands.{Stands}

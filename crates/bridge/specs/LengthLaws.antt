@@ -1,4 +1,4 @@
--- What is given for lines of captures that are too long: of any such one, since none of them computes as a case.
+-- What is given for lines of captures that are too long: of any such one, for none of them computes as a case.
 use Rattle.std.specs.Prelude.{◌≡◌, ℕ, ◌<◌, List, [], ◌∷◌, length, Option}
 use Rattle.gate_events.specs.declared.emit.Detail.TheVariants as detail
 use Rattle.capture_text.specs.Capture.{longest_line}

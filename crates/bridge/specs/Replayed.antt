@@ -20,8 +20,8 @@ use Rattle.bridge.specs.Kept.{Bridged}
 use Rattle.bridge.specs.Parts.{Parts}
 
 -- the lines of what was emitted
-abbrev pub lines_of : List Emitted → List ℕ
-lines_of emits = flat_map line_of emits
+abbrev pub emitted_text : List Emitted → List ℕ
+emitted_text emits = flat_map line_of emits
 
 -- ---- the events of a capture
 
@@ -73,7 +73,7 @@ module _ (p : Parts) where
 
   -- the text of the lines of a capture, which are counted from 1
   abbrev pub replay_text : List (List ℕ) → List ℕ
-  replay_text lines = lines_of (replayed_from 1 None lines)
+  replay_text lines = emitted_text (replayed_from 1 None lines)
 
   abbrev pub IsReplay : List (List ℕ) → List ℕ → Type 0
   IsReplay lines text = text ≡ replay_text lines
@@ -103,7 +103,7 @@ gate_of p (e ∷ es) = gate p (moment_of e) (e ∷ es)
 
 -- its text is all that is emitted at these events, a line each
 abbrev pub EventsAreReplayed : Type 0
-EventsAreReplayed = (p : Parts) (lines : List (List ℕ)) → AreRead lines → replay_text p lines ≡ lines_of (gate_of p (events_in lines))
+EventsAreReplayed = (p : Parts) (lines : List (List ℕ)) → AreRead lines → replay_text p lines ≡ emitted_text (gate_of p (events_in lines))
 
 -- ---- what is kept from line to line
 
@@ -112,7 +112,7 @@ RunningStands p None b = IsNew p b
 RunningStands p (Some g) b = IsHistory g.history × BridgeStands p g.start g.history b
 
 pub record IsReplayed (p : Parts) (x : Replayed) (text : List ℕ) (after : Bridged) : Type 0 where
-  pub text_is : text ≡ lines_of x.emits
+  pub text_is : text ≡ emitted_text x.emits
   pub stands : RunningStands p x.after after
 
 -- whatever came before

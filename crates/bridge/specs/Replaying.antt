@@ -6,7 +6,7 @@ use Rattle.capture_stream.specs.Writer.{Writes}
 use Rattle.history.specs.Emits.{at}
 use Rattle.bridge.specs.BridgeStands.{IsOrder, IsStart}
 use Rattle.bridge.specs.Kept.{Bridged, left_of}
-use Rattle.bridge.specs.Replayed.{lines_of}
+use Rattle.bridge.specs.Replayed.{emitted_text}
 
 -- a text waits behind what waited, or some of both was written and the count of faults says why not all
 pub record IsSent {E : Type 0} (told : Option (List ℕ)) (faults : ℕ) (waiting text : List ℕ) (told' : Option (List ℕ)) (faults' : ℕ) (waiting' : List ℕ)
@@ -22,11 +22,11 @@ SendsThen text told' faults' waiting' sent told'' faults'' waiting'' result =
 
 -- the lines of all that a call left
 abbrev pub left_text : ℕ → Bridged → List ℕ
-left_text m b = lines_of (at m (left_of b))
+left_text m b = emitted_text (at m (left_of b))
 
 -- the line of the emit at a place, and nothing beyond the list
 abbrev pub line_at : ℕ → ℕ → Bridged → List ℕ
-line_at m place b = lines_of (at m (take 1 (drop place (left_of b))))
+line_at m place b = emitted_text (at m (take 1 (drop place (left_of b))))
 
 -- the first event starts the gateway
 pub record IsOpening (m : ℕ) (before : Bridged) (text : List ℕ) (after : Bridged) : Type 0 where

@@ -4,7 +4,8 @@ use Rattle.std.proofs.Common.{◌≡◌, ◌≢◌, ℕ, ◌+◌, ◌%◌, Bool,
 use Rattle.n2k_id.specs.Frame.{BusFrame}
 use Rattle.n2k_id.specs.Identifier.{parts_of}
 use Rattle.bus_identity.specs.Pgns.{pgn_lists, product_information}
-use Rattle.bus_identity.specs.Requests.{asked_of, is_due, IsDue}
+use Rattle.n2k_id.specs.Pgns.{asked_of}
+use Rattle.bus_identity.specs.Requests.{is_due, IsDue}
 use Rattle.bus_identity.specs.Answers.{Kept}
 use Rattle.bus_identity.specs.Laws.{Gives, HasOneAnswer, Call, kept_by, products_sent, lists_sent, Counts}
 use Rattle.bus_identity.proofs.RequestLemmas.{due_tells}

@@ -4,8 +4,7 @@ use Rattle.std.proofs.Common.{◌≡◌, ℕ, zero, suc, ◌+◌, ◌-◌, ◌<�
 use Rattle.n2k_id.specs.declared.frame.Frame.{Frame}
 use Rattle.n2k_id.specs.Frame.{bus_frame, BusFrame}
 use Rattle.n2k_id.specs.Identifier.{CanJoin, has_destination}
-use Rattle.fast_packet.specs.FastFrames.{need_of}
-use Rattle.fast_packet.specs.Splitting.{frames_to, frames_of, later_frame}
+use Rattle.fast_packet.specs.FastRuns.{need_of, frames_to, frames_of, later_frame}
 use Rattle.bus_identity.specs.Pgns.{pgn_lists, product_information, sent, received}
 use Rattle.n2k_id.specs.Pgns.{acknowledgement}
 use Rattle.bus_identity.specs.Payloads.{sent_list, received_list}

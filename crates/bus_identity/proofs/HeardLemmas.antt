@@ -5,7 +5,7 @@ use Rattle.n2k_id.specs.Frame.{BusFrame}
 use Rattle.n2k_id.specs.declared.identifier_parts.Parts.{Parts}
 use Rattle.n2k_id.specs.Identifier.{identifier_of, parts_of}
 use Rattle.n2k_id.proofs.PartsLemmas.{parts_of_identifier_of}
-use Rattle.fast_packet.specs.Splitting.{frames_of}
+use Rattle.fast_packet.specs.FastRuns.{frames_of}
 use Rattle.fast_packet.proofs.SplitRuns.{split_runs}
 use Rattle.bus_identity.specs.Answers.{frame_by}
 use Rattle.bus_identity.specs.Laws.{MessagesAreHeard}

@@ -3,13 +3,13 @@ use Rattle.std.specs.Prelude.{ℕ, ◌+◌, ◌%◌, Bool, ◌&&◌, ◌==◌, n
 use Rattle.n2k_id.specs.Frame.{BusFrame}
 use Rattle.n2k_id.specs.declared.identifier_parts.Parts.{Parts}
 use Rattle.n2k_id.specs.Identifier.{identifier_of, parts_of}
-use Rattle.fast_packet.specs.Splitting.{frames_of}
+use Rattle.fast_packet.specs.FastRuns.{frames_of}
 use Rattle.bus_identity.specs.declared.identity.Answered.{Answered}
 use Rattle.bus_identity.specs.declared.identity.Answered.TheVariants.{Nothing, Sent, NotReady}
 use Rattle.bus_identity.specs.Pgns.{pgn_lists, product_information}
-use Rattle.n2k_id.specs.Pgns.{acknowledgement}
+use Rattle.n2k_id.specs.Pgns.{acknowledgement, asked_of}
 use Rattle.bus_identity.specs.Payloads.{sent_list, received_list, refusal_of}
-use Rattle.bus_identity.specs.Requests.{asked_of, is_due}
+use Rattle.bus_identity.specs.Requests.{is_due}
 
 -- what is kept: the payload of product information, and how many messages of it and how many lists were sent, modulo 8
 pub record Kept : Type 0 where

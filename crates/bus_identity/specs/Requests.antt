@@ -1,23 +1,15 @@
 -- Requests (ISO 11783-3, PGN 59904), and which of them have to be answered.
-use Rattle.std.specs.Prelude.{◌≡◌, ◌≢◌, ℕ, ◌+◌, ◌*◌, ◌≤◌, ◌⊎◌, Bool, false, ◌&&◌, ◌||◌, not, ◌==◌, nat_le, List, length, slice_index, Option, Some, None}
+use Rattle.std.specs.Prelude.{◌≡◌, ◌≢◌, ℕ, ◌≤◌, ◌⊎◌, Bool, ◌&&◌, ◌||◌, not, ◌==◌, nat_le, List, length, Option, Some}
 use Rattle.n2k_id.specs.Frame.{BusFrame}
 use Rattle.n2k_id.specs.declared.identifier_parts.Parts.{Parts}
-use Rattle.n2k_id.specs.Identifier.{parts_of}
+use Rattle.n2k_id.specs.Identifier.{parts_of, is_own, is_to}
 use Rattle.bus_identity.specs.Pgns.{pgn_lists, product_information}
-use Rattle.n2k_id.specs.Pgns.{request, address_claimed}
-
--- the parameter group that a request asks for is in its first three bytes, low byte first
-abbrev pub asked_of : List ℕ → ℕ
-asked_of held = slice_index held 0 + 256 * slice_index held 1 + 65536 * slice_index held 2
-
-abbrev pub is_own : Option ℕ → ℕ → Bool
-is_own None address = false
-is_own (Some own) address = own == address
+use Rattle.n2k_id.specs.Pgns.{request, address_claimed, asked_of}
 
 -- a request to all or to this device, from another one
 abbrev pub concerns : Option ℕ → Parts → List ℕ → Bool
 concerns own parts held =
-    (parts.pgn == request) && (nat_le 3 (length held) && (((parts.destination == 255) || is_own own parts.destination) && not (is_own own parts.source)))
+    (parts.pgn == request) && (nat_le 3 (length held) && (is_to own parts.destination && not (is_own own parts.source)))
 
 -- What this device has is due to all, and a refusal to who asks it alone. A request for the claim of its address is answered
 -- with that claim, and not here.

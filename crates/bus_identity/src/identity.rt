@@ -3,7 +3,8 @@ ghost use Rattle.std.specs.List.{AllByRecursion};
 ghost use Rattle.n2k_id.specs.Frame.{IsFrame, bus_frame};
 ghost use Rattle.bus_identity.specs.Answers as answers;
 ghost use Rattle.bus_identity.specs.Payloads as payloads;
-ghost use Rattle.bus_identity.specs.Requests.{IsDue, asked_of};
+ghost use Rattle.n2k_id.specs.Pgns.{asked_of};
+ghost use Rattle.bus_identity.specs.Requests.{IsDue};
 
 use crate::lists::{received_list, sent_list};
 use crate::pgn;

@@ -1,6 +1,8 @@
 //! Requests (ISO 11783-3, PGN 59904): bytes 0 to 2 are the parameter group that is asked for, low byte first.
 
 ghost use Rattle.std.specs.Prelude.{◌≡◌, ◌≤◌, ◌↔◌, IsTrue, length};
+ghost use Rattle.n2k_id.specs.Identifier.{is_own};
+ghost use Rattle.n2k_id.specs.Pgns.{asked_of};
 ghost use Rattle.bus_identity.specs.Requests as requests;
 
 use crate::pgn;
@@ -39,10 +41,10 @@ fn is_answered(own: Option<u8>, destination: u8, asked: u32) -> bool
 }
 
 fn is_own(own: Option<u8>, address: u8) -> bool
-    ensures { result ≡ requests.is_own own address }
+    ensures { result ≡ is_own own address }
 {
     match own {
-        Some(own) => own == address,
+        Some(own) => address == own,
         None => false,
     }
 }
@@ -50,7 +52,7 @@ fn is_own(own: Option<u8>, address: u8) -> bool
 /// What is asked for.
 pub(crate) fn asked_of(held: &[u8]) -> u32
     requires { 3 ≤ length held.now }
-    ensures { result ≡ requests.asked_of held.now }
+    ensures { result ≡ asked_of held.now }
 {
     u32::from_le_bytes([held[0], held[1], held[2], 0])
 }

@@ -4,8 +4,7 @@ ghost use Rattle.std.specs.Prelude.{◌≡◌, ◌+◌, ◌^◌, ◌<◌, ◌≤
 ghost use Rattle.std.specs.List.{AllByRecursion};
 ghost use Rattle.n2k_id.specs.Frame.{IsFrame, bus_frame};
 ghost use Rattle.n2k_id.specs.Identifier.{CanJoin, identifier_of};
-ghost use Rattle.fast_packet.specs.FastFrames.{need_of};
-ghost use Rattle.fast_packet.specs.Splitting.{frames_of};
+ghost use Rattle.fast_packet.specs.FastRuns.{need_of, frames_of};
 ghost use Rattle.bus_identity.specs.Answers.{answer_parts, answered_address, frame_of};
 
 use arrayvec::ArrayVec;

@@ -1,7 +1,7 @@
 //! What a frame is to the gateway, and what a frame breaks that is neither of a fast packet nor of the transport protocol.
 ghost use Rattle.std.specs.Prelude.{◌≡◌, option_map, if◌then◌else◌, IfSome};
 ghost use Rattle.pgn_profile.specs.Profiled.{GivesValid, kind_of};
-ghost use Rattle.iso_transport.specs.Audience.{is_own, is_to};
+ghost use Rattle.n2k_id.specs.Identifier.{is_own, is_to};
 ghost use Rattle.history.specs.Emits.{reported};
 ghost use Rattle.history.specs.Meanings.{address_claim, request, if_held, by_kind, meaning_of};
 ghost use Rattle.history.specs.Traces.{is_transport};

@@ -4,9 +4,8 @@ use Rattle.std.proofs.lemmas.List.{get_or-set_other, length-replicate}
 use Rattle.claim_table.specs.declared.answer.Holder.{Holder}
 use Rattle.claim_table.specs.declared.preset.Preset.{Preset}
 use Rattle.std.proofs.lemmas.List.Elements.{All-set, All-replicate}
-use Rattle.claim_table.specs.Claims.{Claims, Claim, IsSinceBy, holder_at}
+use Rattle.claim_table.specs.Claims.{Claims, Claim, IsSinceBy, holder_at, claims_at_start, with_presets, preset_holder, repeats, shares, takes}
 use Rattle.claim_table.specs.Laws.{IsSound}
-use Rattle.claim_table.specs.Presets.{opened, placed, preset_holder, repeats, shares, takes}
 use Rattle.claim_table.proofs.CaseLemmas.{not_eqb}
 use Rattle.claim_table.proofs.SoundLemmas.{taken_holder, taken_sound}
 
@@ -59,7 +58,7 @@ fresh_rest holders p ps fresh apart a h e = by (taken_holder holders p.address (
     by (inl new) = rw new.1 (unshared p ps apart)
     by (inr old) = (neither (h.name.0 == p.name.0) (lacks h.name.0 ps) (fresh a h old.1)).1
 
-placed_sound : (c : Claims) (ps : List Preset) (own : ℕ) → IsSound c → c.own ≡ Some own → Fresh c.holders ps → repeats ps ≡ false → takes c.name own ps ≡ false → IsSound (record c { holders = placed c.holders ps })
+placed_sound : (c : Claims) (ps : List Preset) (own : ℕ) → IsSound c → c.own ≡ Some own → Fresh c.holders ps → repeats ps ≡ false → takes c.name own ps ≡ false → IsSound (record c { holders = with_presets c.holders ps })
 placed_sound c [] own sound at fresh r t = sound
 placed_sound c (p ∷ ps) own sound at fresh r t =
     let apart = neither (list_any (shares p) ps) (repeats ps) r in
@@ -86,17 +85,17 @@ unfolding Fresh
 nobody_fresh n ps a h e = let both : None ≡ Some h = sym (nobody_at n a) ∙ e in cc
 
 -- what is known before the first event is sound, where `new` doesn't refuse it
-pub opened_sound : (name own : ℕ) (ps : List Preset) → own < 252 → repeats ps ≡ false → takes name own ps ≡ false → IsSound (opened name own ps)
-unfolding opened
+pub opened_sound : (name own : ℕ) (ps : List Preset) → own < 252 → repeats ps ≡ false → takes name own ps ≡ false → IsSound (claims_at_start name own ps)
+unfolding claims_at_start
 opened_sound name own ps within r t =
     placed_sound (record { name = name; holders = replicate 254 None; own = Some own; counted_from = 0 }) ps own (empty_sound name own 254 refl within) refl (nobody_fresh 254 ps) r t
 
-placed_dated : (holders : List (Option Holder)) (ps : List Preset) → All (IsSinceBy 0) holders → All (IsSinceBy 0) (placed holders ps)
+placed_dated : (holders : List (Option Holder)) (ps : List Preset) → All (IsSinceBy 0) holders → All (IsSinceBy 0) (with_presets holders ps)
 placed_dated holders [] all = all
 placed_dated holders (p ∷ ps) all =
     placed_dated (with_preset holders p) ps (All-set (IsSinceBy 0) holders p.address (Some (preset_holder p)) (omega arith) all)
 
 -- every preset's device holds its address since index 0
-pub opened_dated : (name own : ℕ) (ps : List Preset) → All (IsSinceBy 0) (opened name own ps).holders
-unfolding opened
+pub opened_dated : (name own : ℕ) (ps : List Preset) → All (IsSinceBy 0) (claims_at_start name own ps).holders
+unfolding claims_at_start
 opened_dated name own ps = placed_dated (replicate 254 None) ps (All-replicate (IsSinceBy 0) 254 None tt)

@@ -4,7 +4,7 @@ use Rattle.std.proofs.Math.Seq.{drop-cons}
 use Rattle.std.proofs.lemmas.List.{drop_all}
 use Rattle.claim_table.specs.declared.answer.Holder.{Holder}
 use Rattle.claim_table.specs.declared.preset.Preset.{Preset}
-use Rattle.claim_table.specs.Presets.{placed, preset_holder, repeats, shares}
+use Rattle.claim_table.specs.Claims.{with_presets, preset_holder, repeats, shares}
 
 -- the presets from one place on, one by one
 next_from : (ps : List Preset) (i : ℕ) (d : Preset) → i < length ps → drop i ps ≡ get_or ps i d ∷ drop (i + 1) ps
@@ -19,8 +19,8 @@ repeats_further ps i d h e = rw (next_from ps i d h, e)
 pub repeats_end : (ps : List Preset) (i : ℕ) → length ps ≤ i → repeats (drop i ps) ≡ false
 repeats_end ps i h = rw (drop_all i ps h)
 
-pub placed_further : (holders : List (Option Holder)) (ps : List Preset) (i : ℕ) (d : Preset) → i < length ps → placed holders (drop i ps) ≡ placed (set holders (get_or ps i d).address (Some (preset_holder (get_or ps i d)))) (drop (i + 1) ps)
+pub placed_further : (holders : List (Option Holder)) (ps : List Preset) (i : ℕ) (d : Preset) → i < length ps → with_presets holders (drop i ps) ≡ with_presets (set holders (get_or ps i d).address (Some (preset_holder (get_or ps i d)))) (drop (i + 1) ps)
 placed_further holders ps i d h = rw (next_from ps i d h)
 
-pub placed_end : (holders : List (Option Holder)) (ps : List Preset) (i : ℕ) → length ps ≤ i → placed holders (drop i ps) ≡ holders
+pub placed_end : (holders : List (Option Holder)) (ps : List Preset) (i : ℕ) → length ps ≤ i → with_presets holders (drop i ps) ≡ holders
 placed_end holders ps i h = rw (drop_all i ps h)

@@ -1,10 +1,13 @@
-use Rattle.std.specs.Prelude.{ℕ, zero, suc, ◌+◌, ◌%◌, ◌==◌, ◌&&◌, ◌≤◌, Bool, true, false, not, nat_lt, nat_le, Option, None, Some, is_some, is_none, List, position, slice_index_or, slice_set}
+-- Who holds which address (ISO 11783-5): what is known before anything came, and what a claim and a command change.
+use Rattle.std.specs.Prelude.{ℕ, zero, suc, ◌+◌, ◌%◌, ◌==◌, ◌&&◌, ◌≤◌, Bool, true, false, not, nat_lt, nat_le, Option, None, Some, is_some, is_none, List, position, slice_index_or, slice_set, ◌||◌, [], ◌∷◌, replicate}
 use Rattle.n2k_id.specs.declared.name.Name.{Name}
 use Rattle.n2k_id.specs.Name.{is_arbitrary}
 use Rattle.claim_table.specs.declared.answer.Holder.{Holder}
 use Rattle.claim_table.specs.declared.answer.ClaimStep.{ClaimStep}
 use Rattle.claim_table.specs.declared.answer.OwnAnswer.{OwnAnswer}
 use Rattle.claim_table.specs.declared.answer.OwnAnswer.TheVariants.{Silent, Defend, Move, CannotClaim, Duplicate}
+use Rattle.std.specs.List.{list_any}
+use Rattle.claim_table.specs.declared.preset.Preset.{Preset}
 
 -- a device can hold an address of 0 to 253
 abbrev pub places : ℕ
@@ -187,3 +190,33 @@ is_ready c m = is_some c.own && nat_le (c.counted_from + claim_wait) m
 abbrev pub answer_to_request : Option ℕ → OwnAnswer
 answer_to_request None = CannotClaim
 answer_to_request (Some a) = Defend
+
+abbrev pub shares : Preset → Preset → Bool
+shares p q = p.address == q.address || p.name.0 == q.name.0
+
+-- two presets share an address or a NAME
+abbrev pub repeats : List Preset → Bool
+repeats [] = false
+repeats (p ∷ ps) = list_any (shares p) ps || repeats ps
+
+-- a preset has this NAME or this address
+abbrev pub takes : ℕ → ℕ → List Preset → Bool
+takes name address ps = list_any (λ p. p.address == address || p.name.0 == name) ps
+
+-- a preset's device holds its address since the first index
+abbrev pub preset_holder : Preset → Holder
+preset_holder p = record { name = p.name; since = 0 }
+
+-- the presets put into a table
+abbrev pub with_presets : List (Option Holder) → List Preset → List (Option Holder)
+with_presets holders [] = holders
+with_presets holders (p ∷ ps) = with_presets (slice_set holders p.address (Some (preset_holder p))) ps
+
+-- what is known before the first event
+unfoldable pub claims_at_start : ℕ → ℕ → List Preset → Claims
+claims_at_start name preferred ps = record {
+  name = name;
+  holders = with_presets (replicate places None) ps;
+  own = Some preferred;
+  counted_from = 0;
+}

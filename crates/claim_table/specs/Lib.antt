@@ -1,4 +1,3 @@
 pub mod Cases
 pub mod Claims
 pub mod Laws
-pub mod Presets

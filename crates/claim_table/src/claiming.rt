@@ -2,10 +2,8 @@
 ghost use Rattle.std.specs.Prelude.{◌≡◌, ◌<◌, ◌+◌, ◌%◌, ◌↔◌, ◌==◌, ◌&&◌, ◌||◌, ℕ, true, false, not, nat_lt};
 ghost use Rattle.std.specs.Prelude.{is_none, length, All, Err, IfOk, IfSome, IsTrue, None, Some, position, slice_set};
 ghost use Rattle.claim_table.specs.Cases.{CanGoTo, IsCase, IsReady};
-ghost use Rattle.claim_table.specs.Claims.{IsSinceBy, answer_to_request, at_other, at_own, claim, claim_of, command, holder_at, is_held_by, is_obeyed, is_ready};
-ghost use Rattle.claim_table.specs.Claims.{left_by, moved, next_free, next_own, other_than, settled, started, step_of, vacated, with_released, with_taken, without_left};
+ghost use Rattle.claim_table.specs.Claims.{IsSinceBy, answer_to_request, at_other, at_own, claim, claim_of, command, holder_at, is_held_by, is_obeyed, is_ready, left_by, moved, next_free, next_own, other_than, settled, started, step_of, vacated, with_released, with_taken, without_left, claims_at_start, repeats, takes};
 ghost use Rattle.claim_table.specs.Laws.{IsSound};
-ghost use Rattle.claim_table.specs.Presets.{opened, repeats, takes};
 
 use crate::answer::{ClaimStep, Holder, OwnAnswer};
 use crate::fault::ClaimFault;
@@ -54,7 +52,7 @@ impl ClaimTable {
     ///
     /// It fails with `PresetTwice` exactly where two presets share an address or a NAME, and else with
     /// `OwnTaken` exactly where a preset has the preferred address or the own NAME.
-    #[tactic(auto, using(crate::proofs::OpenedLemmas::opened_sound), unfolding(crate::specs::Presets::opened))]
+    #[tactic(auto, using(crate::proofs::OpenedLemmas::opened_sound), unfolding(crate::specs::Claims::claims_at_start))]
     pub fn new(
         alloc: Global,
         own: Name,
@@ -65,7 +63,7 @@ impl ClaimTable {
         requires presets { All (λ p. p.address < 254) presets.now }
         ensures twice { (result ≡ Err ClaimFault.PresetTwice) ↔ (repeats presets.now ≡ true) }
         ensures taken { (result ≡ Err ClaimFault.OwnTaken) ↔ ((repeats presets.now ≡ false) × (takes own.0 preferred presets.now ≡ true)) }
-        ensures opened { IfOk result (λ table. table ≡ opened own.0 preferred presets.now) }
+        ensures opened { IfOk result (λ table. table ≡ claims_at_start own.0 preferred presets.now) }
         ensures sound { IfOk result IsSound }
         ensures dated { IfOk result (λ table. All (IsSinceBy 0) table.holders) }
     {

@@ -1,5 +1,5 @@
 ghost use Rattle.std.specs.Prelude.{◌≡◌, ◌<◌, All, IfOk, None, length, replicate};
-ghost use Rattle.claim_table.specs.Presets.{placed};
+ghost use Rattle.claim_table.specs.Claims.{with_presets};
 ghost use Rattle.std.specs.List.{list_any};
 
 use crate::answer::Holder;
@@ -16,7 +16,7 @@ pub struct Preset {
 }
 
 impl Preset {
-    ghost use Rattle.claim_table.specs.Presets.{repeats, shares, takes};
+    ghost use Rattle.claim_table.specs.Claims.{repeats, shares, takes};
 
     /// Whether two of them share an address or a NAME.
     #[tactic(auto, using(crate::proofs::PresetLemmas::repeats_shared, crate::proofs::PresetLemmas::repeats_further, crate::proofs::PresetLemmas::repeats_end))]
@@ -57,7 +57,7 @@ impl Preset {
 #[tactic(auto, using(crate::proofs::PresetLemmas::placed_further, crate::proofs::PresetLemmas::placed_end))]
 pub(crate) fn placed(alloc: Global, presets: &[Preset]) -> Result<Vec<Option<Holder>>, AllocError>
     requires { All (λ p. p.address < 254) presets.now }
-    ensures holders { IfOk result (λ holders. holders.items ≡ placed (replicate 254 None) presets.now) }
+    ensures holders { IfOk result (λ holders. holders.items ≡ with_presets (replicate 254 None) presets.now) }
     ensures room { IfOk result (λ holders. length holders.items ≡ 254) }
 {
     let mut holders = vec![in alloc; None; ADDRESSES]?;

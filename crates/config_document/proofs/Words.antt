@@ -2,8 +2,7 @@
 use Rattle.std.proofs.Common.{ℕ, ◌/◌, ◌^◌, ◌<◌, Some, subst, arith}
 use Rattle.std.proofs.Math.Nat.{mod-lt, one-le-pow}
 use Rattle.std.proofs.lemmas.Option.{same_Some}
-use Rattle.n2k_id.specs.Name.{bits_at, fields_of}
-use Rattle.n2k_id.specs.Pattern.{stating}
+use Rattle.n2k_id.specs.Name.{bits_at, fields_of, stating}
 use Rattle.config_document.specs.Patterns.{Fits, IsStated}
 
 fits_at : (low width name : ℕ) → Fits width (Some (bits_at low width name))

@@ -5,8 +5,7 @@ use Rattle.std.specs.List.{list_all, position, position_or_len}
 use Rattle.std.specs.Option.{ForSome}
 use Rattle.n2k_id.specs.declared.name.Name.{Name}
 use Rattle.n2k_id.specs.declared.pattern.Pattern.{Pattern}
-use Rattle.n2k_id.specs.Name.{fields_of}
-use Rattle.n2k_id.specs.Pattern.{stating}
+use Rattle.n2k_id.specs.Name.{fields_of, stating}
 use Rattle.sentence_text.specs.Byte.{is_digit}
 use Rattle.unit_fraction.specs.Digits.{number}
 use Rattle.config_document.specs.Texts.{name_in}

@@ -4,7 +4,7 @@ use Rattle.std.specs.List.{AllPairs, list_any}
 use Rattle.std.proofs.lemmas.List.Folds.{list_any_none}
 use Rattle.n2k_id.specs.declared.name.Name.{Name}
 use Rattle.claim_table.specs.declared.preset.Preset.{Preset}
-use Rattle.claim_table.specs.Presets.{repeats, shares, takes}
+use Rattle.claim_table.specs.Claims.{repeats, shares, takes}
 use Rattle.config_values.specs.Laws.{TablesOpen}
 use Rattle.config_values.specs.Presets.{AreApart}
 

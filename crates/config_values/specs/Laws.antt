@@ -1,8 +1,7 @@
 -- What holds of each valid configuration, in the words of the crates that a gateway is made of.
 use Rattle.std.specs.Prelude.{◌≡◌, ℕ, ◌<◌, ◌≤◌, false, length, slice_index_or, All}
 use Rattle.std.specs.Int.{IsInRange}
-use Rattle.claim_table.specs.Claims.{move_places, places}
-use Rattle.claim_table.specs.Presets.{repeats, takes}
+use Rattle.claim_table.specs.Claims.{move_places, places, repeats, takes}
 use Rattle.history.specs.AddressLaws.{AreSettings}
 use Rattle.history.specs.FitLaws.{IsWithinLimits}
 use Rattle.history.specs.Settings.{rule_at}

@@ -5,8 +5,7 @@ use Rattle.std.specs.List.{position_or_len}
 use Rattle.std.proofs.lemmas.Bool.{cases_Bool}
 use Rattle.std.proofs.lemmas.List.{append-nil}
 use Rattle.report_rules.specs.Rules.{line_form, too_many_lines}
-use Rattle.datagram450.specs.Item.{Item, bad, item}
-use Rattle.datagram450.specs.Datagram.{IsLine, Cut, before, cut, items_at, items_from}
+use Rattle.datagram450.specs.Datagram.{Item, bad, item, IsLine, Cut, before, cut, items_at, items_from}
 use Rattle.datagram450.proofs.Cuts.{line_is}
 
 abbrev pub end_place : List ℕ → ℕ

@@ -4,8 +4,7 @@ use Rattle.std.specs.Prelude.{◌==◌, nat_lt, IfOk}
 use Rattle.std.proofs.lemmas.Bool.{eqb-true, eq-eqb}
 use Rattle.datagram450.specs.declared.fault.DatagramFault.{DatagramFault}
 use Rattle.datagram450.specs.declared.fault.DatagramFault.TheVariants.{Header, Long}
-use Rattle.datagram450.specs.Item.{Item}
-use Rattle.datagram450.specs.Datagram.{header, Cut, items_at, items_from, cut, read, DatagramOf, longest_datagram, most_lines}
+use Rattle.datagram450.specs.Datagram.{Item, header, Cut, items_at, items_from, cut, read, DatagramOf, longest_datagram, most_lines}
 use Rattle.datagram450.proofs.CommonRun.{common_len}
 use Rattle.datagram450.proofs.Cuts.{is_cut, only_cut}
 

@@ -12,8 +12,7 @@ use Rattle.sentence_text.specs.declared.fault.SentenceFault.{SentenceFault}
 use Rattle.sentence_text.specs.Sentence.{SentenceParts}
 use Rattle.sentence_text.specs.Reading as sentences
 use Rattle.datagram450.specs.declared.fault.DatagramFault.{DatagramFault}
-use Rattle.datagram450.specs.Item.{Item, with_sentence, with_tag, item}
-use Rattle.datagram450.specs.Datagram.{longest_datagram, most_lines, all_of, items_at, DatagramOf, IsItem, header}
+use Rattle.datagram450.specs.Datagram.{Item, with_sentence, with_tag, item, longest_datagram, most_lines, all_of, items_at, DatagramOf, IsItem, header}
 use Rattle.datagram450.proofs.TagPlaces.{tag_fault}
 use Rattle.datagram450.proofs.SentencePlaces.{sentence_fault}
 use Rattle.datagram450.proofs.Spelled.{sentence_of}

@@ -10,10 +10,8 @@ use Rattle.std.proofs.lemmas.List.Elements.{All-head, All-tail}
 use Rattle.sentence_text.specs.Byte.{is_address_byte, is_field_byte}
 use Rattle.sentence_text.specs.Sentence.{SentenceParts, IsSentence, body_of}
 use Rattle.sentence_text.proofs.Bytes.{all_append, all_weaker, all_parts}
-use Rattle.tag_block.specs.Byte.{is_code_byte, is_value_byte}
-use Rattle.tag_block.specs.Tag.{Parameter, IsParameter, parameter_text, Block, IsBlock, block_text, content, Said, IsTag}
-use Rattle.datagram450.specs.Datagram.{IsLine, HasNoEnd}
-use Rattle.datagram450.specs.Item.{LineOf, line, item}
+use Rattle.tag_block.specs.Tag.{is_code_byte, is_value_byte, Parameter, IsParameter, parameter_text, Block, IsBlock, block_text, content, Said, IsTag}
+use Rattle.datagram450.specs.Datagram.{IsLine, HasNoEnd, LineOf, line, item}
 use Rattle.datagram450.proofs.Spelled.{line_found}
 
 abbrev inner : ℕ → Bool

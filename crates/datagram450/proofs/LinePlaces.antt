@@ -6,9 +6,7 @@ use Rattle.std.proofs.lemmas.List.Concat.{flat_map-cons}
 use Rattle.std.proofs.lemmas.List.Elements.{All-head, All-tail}
 use Rattle.tag_block.specs.Tag.{Said}
 use Rattle.sentence_text.specs.Sentence.{SentenceParts}
-use Rattle.datagram450.specs.Item.{Item, line, LineOf, item}
-use Rattle.datagram450.specs.Datagram.{header, Cut, IsLine, all_of, items_at, items_from, read, longest_datagram, most_lines}
-use Rattle.datagram450.specs.Writing.{GivesAt}
+use Rattle.datagram450.specs.Datagram.{Item, line, LineOf, item, header, Cut, IsLine, all_of, items_at, items_from, read, longest_datagram, most_lines, GivesAt}
 use Rattle.datagram450.proofs.CommonRun.{common_len}
 use Rattle.datagram450.proofs.Cuts.{line_is}
 use Rattle.datagram450.proofs.Datagrams.{header_common, read_by}

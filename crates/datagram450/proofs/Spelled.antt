@@ -11,7 +11,7 @@ use Rattle.sentence_text.specs.Sentence.{SentenceParts, IsSentence}
 use Rattle.sentence_text.specs.Reading as sentences
 use Rattle.sentence_text.proofs.Found.{found}
 use Rattle.sentence_text.proofs.Only.{only}
-use Rattle.datagram450.specs.Item.{line, LineOf, with_sentence, with_tag, item}
+use Rattle.datagram450.specs.Datagram.{line, LineOf, with_sentence, with_tag, item}
 
 begins_no_block : (parts : SentenceParts) (text : List ℕ) → IsSentence parts text → slice_index text 0 ≡ 92 → ⊥
 begins_no_block parts text h e =

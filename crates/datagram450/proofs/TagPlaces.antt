@@ -11,8 +11,7 @@ use Rattle.sentence_text.proofs.Sums.{sum_found, first_digit, is_there, digit_th
 use Rattle.tag_block.specs.declared.fault.TagFault.{TagFault}
 use Rattle.tag_block.specs.declared.fault.TagRule.TheVariants as rules
 use Rattle.tag_block.specs.declared.tag.Tag.{Tag}
-use Rattle.tag_block.specs.Byte.{is_code_byte, is_value_byte}
-use Rattle.tag_block.specs.Tag.{Said, is_code, xor_of}
+use Rattle.tag_block.specs.Tag.{is_code_byte, is_value_byte, Said, is_code, xor_of}
 use Rattle.tag_block.specs.Reading.{Placed, Values, Scan, no_values, parameter_at, parameters_at, behind_sum, block_end_at, block_at, blocks_at, group_in, number_in, found_or, is_sfi, group_said, count_said, source_said, text_of, settle, read, seen, ◌>>=◌}
 
 -- what is read is as P says, and a fault is at most this far

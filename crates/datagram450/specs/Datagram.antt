@@ -1,12 +1,72 @@
--- What a datagram of IEC 61162-450 is: the header and lines; and what its lines give, in order.
-use Rattle.std.specs.Prelude.{◌≡◌, ℕ, zero, suc, ◌+◌, ◌<◌, ◌≤◌, ◌==◌, not, nat_lt, List, [], ◌∷◌, ◌++◌, length, drop, All, IsTrue, Result, Ok, Err, if◌then◌else◌}
-use Rattle.std.specs.List.{common_prefix_len, list_all, flat_map}
-use Rattle.report_rules.specs.Rules.{line_form, too_many_lines}
+-- What a datagram of IEC 61162-450 is: the header and lines; and what its lines give, in order: of each what its TAG blocks and its
+-- sentence say, or the first rule that it breaks.
+use Rattle.std.specs.Prelude.{◌≡◌, ℕ, ◌+◌, List, ◌++◌, drop, Result, Ok, Err, zero, suc, ◌<◌, ◌≤◌, ◌==◌, not, nat_lt, [], ◌∷◌, length, All, IsTrue, if◌then◌else◌, Some, slice_get}
+use Rattle.report_rules.specs.Rules.{tag_form, tag_sum, no_source, sentence_form, sentence_sum, line_form, too_many_lines}
+use Rattle.tag_block.specs.declared.fault.TagFault.{TagFault}
+use Rattle.tag_block.specs.declared.fault.TagRule.{TagRule}
+use Rattle.tag_block.specs.declared.fault.TagRule.TheVariants as tag_rules
+use Rattle.tag_block.specs.Tag.{Said, IsTag, IsSaid, block_text}
+use Rattle.tag_block.specs.Reading as tags
+use Rattle.sentence_text.specs.declared.fault.SentenceFault.{SentenceFault}
+use Rattle.sentence_text.specs.declared.fault.SentenceRule.{SentenceRule}
+use Rattle.sentence_text.specs.declared.fault.SentenceRule.TheVariants as sentence_rules
 use Rattle.sentence_text.specs.Sentence.{SentenceParts, IsSentence}
-use Rattle.tag_block.specs.Tag.{Said, IsSaid}
+use Rattle.sentence_text.specs.Reading as sentences
+use Rattle.datagram450.specs.declared.item.LineItem.{LineItem}
+use Rattle.datagram450.specs.declared.item.LineItem.TheVariants.{Line, Bad}
+use Rattle.std.specs.List.{common_prefix_len, list_all, flat_map}
 use Rattle.datagram450.specs.declared.fault.DatagramFault.{DatagramFault}
 use Rattle.datagram450.specs.declared.fault.DatagramFault.TheVariants.{Header, Long}
-use Rattle.datagram450.specs.Item.{Item, line, bad, item}
+use Rattle.tag_block.specs.declared.writing.TagParts.{TagParts}
+use Rattle.tag_block.specs.Writing.{block_of}
+
+-- a line's start, what its TAG blocks say, the bytes of its sentence and the sentence's parts; or a rule and the place
+-- where it is broken
+pub data Item : Type 0 where
+  line : ℕ → Said → List ℕ → SentenceParts → Item
+  bad : ℕ → ℕ → Item
+
+-- line is TAG blocks that say this, and then text, a sentence of these parts
+pub record LineOf (said : Said) (text : List ℕ) (parts : SentenceParts) (line : List ℕ) : Type 0 where
+  pub front : List ℕ
+  pub tag : IsTag said front
+  pub sentence : IsSentence parts text
+  pub spelled : line ≡ front ++ text
+
+abbrev pub tag_rule : TagRule → ℕ
+tag_rule tag_rules.Form = tag_form
+tag_rule tag_rules.Sum = tag_sum
+tag_rule tag_rules.NoSource = no_source
+
+abbrev pub sentence_rule : SentenceRule → ℕ
+sentence_rule sentence_rules.Long = sentence_form
+sentence_rule sentence_rules.Start = sentence_form
+sentence_rule sentence_rules.Address = sentence_form
+sentence_rule sentence_rules.NoSum = sentence_form
+sentence_rule sentence_rules.Byte = sentence_form
+sentence_rule sentence_rules.Sum = sentence_sum
+sentence_rule sentence_rules.End = sentence_form
+
+-- the sentence behind n bytes of TAG blocks of the line that begins at this place
+abbrev pub with_sentence : ℕ → ℕ → Said → List ℕ → Result SentenceParts SentenceFault → Item
+with_sentence at n said text (Ok parts) = line at said text parts
+with_sentence at n said text (Err f) = bad (sentence_rule f.rule) (at + n + f.place)
+
+abbrev pub with_tag : ℕ → List ℕ → Result (Said × ℕ) TagFault → Item
+with_tag at bytes (Ok t) = with_sentence at t.1 t.0 (drop t.1 bytes) (sentences.read (drop t.1 bytes))
+with_tag at bytes (Err f) = bad (tag_rule f.rule) (at + f.place)
+
+-- what the line gives that begins at this place of the datagram: the place of a fault is that in the datagram
+unfoldable pub item : ℕ → List ℕ → Item
+item at bytes = with_tag at bytes (tags.read bytes)
+
+-- ---- what is given, in these terms
+
+abbrev pub item_view : LineItem → Item
+item_view (Line at tag text sentence) = line at (tags.said tag) text.now (sentences.parts sentence)
+item_view (Bad rule at) = bad rule at
+
+-- ---- the lines of a datagram
 
 -- `UdPbC` and NUL
 abbrev pub header : List ℕ
@@ -37,14 +97,14 @@ pub record Cut : Type 0 where
 abbrev pub all_of : List (List ℕ) → List ℕ
 all_of lines = flat_map (λ l. l) lines
 
-abbrev pub joined : Cut → List ℕ
-joined c = all_of c.lines ++ c.rest
+abbrev pub cut_bytes : Cut → List ℕ
+cut_bytes c = all_of c.lines ++ c.rest
 
 -- bytes are these lines and a rest without LF
 pub record IsCut (c : Cut) (bytes : List ℕ) : Type 0 where
   pub each : All IsLine c.lines
   pub last : HasNoEnd c.rest
-  pub spelled : bytes ≡ joined c
+  pub spelled : bytes ≡ cut_bytes c
 
 -- what lines and a rest give that begin at this place, where at most so many lines may come: a rest is no line, and
 -- a line too many ends the items
@@ -96,3 +156,20 @@ read bytes = let place = common_prefix_len (λ b c. b == c) header bytes in
     if nat_lt place 6 then Err (Header place)
     else if nat_lt longest_datagram (length bytes) then Err Long
     else Ok (items_from most_lines 6 (drop 6 bytes))
+
+-- ---- the line that is written of a TAG block and a sentence, and where it is read back
+
+abbrev pub line_text : TagParts → List ℕ → List ℕ
+line_text tag sentence = block_text (block_of tag) ++ sentence
+
+-- a datagram is read, and this is its item of this number, counted from 0
+pub record GivesAt (result : Result (List Item) DatagramFault) (number : ℕ) (item : Item) : Type 0 where
+  pub items : List Item
+  pub read : result ≡ Ok items
+  pub there : slice_get items number ≡ Some item
+
+-- bytes are the header and these lines, and another line is among the first 64
+pub record IsBehind (lines : List (List ℕ)) (bytes : List ℕ) : Type 0 where
+  pub each : All IsLine lines
+  pub few : length lines < most_lines
+  pub spelled : bytes ≡ header ++ all_of lines

@@ -1,3 +1,1 @@
-pub mod Item
 pub mod Datagram
-pub mod Writing

@@ -1,8 +1,7 @@
 ghost use Rattle.std.specs.Prelude.{◌≡◌, ◌+◌, ◌≤◌, length, IfOk, IfErr, IfSome};
 ghost use Rattle.tag_block.specs.Reading as tags;
 ghost use Rattle.sentence_text.specs.Reading as sentences;
-ghost use Rattle.datagram450.specs.Item.{item, item_view, tag_rule as rule_of_tag, sentence_rule as rule_of_sentence};
-ghost use Rattle.datagram450.specs.Datagram.{IsLine, longest_datagram};
+ghost use Rattle.datagram450.specs.Datagram.{item, item_view, tag_rule as rule_of_tag, sentence_rule as rule_of_sentence, IsLine, longest_datagram};
 
 use report_rules::{NO_SOURCE, SENTENCE_FORM, SENTENCE_SUM, TAG_FORM, TAG_SUM};
 use sentence_text::{Sentence, SentenceFault, SentenceRule};
@@ -74,7 +73,7 @@ fn read_sentence<'a>(text: &'a [u8]) -> Result<Sentence<'a>, SentenceFault>
 }
 
 /// What the line gives that begins at this place.
-#[tactic(auto, unfolding(crate::specs::Item::item))]
+#[tactic(auto, unfolding(crate::specs::Datagram::item))]
 pub(crate) fn read_line<'a>(at: u16, line: &'a [u8]) -> LineItem<'a>
     requires { at + length line.now ≤ longest_datagram }
     ensures { item_view result ≡ item at line.now }

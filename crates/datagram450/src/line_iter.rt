@@ -2,8 +2,7 @@ ghost use Rattle.std.specs.Prelude.{◌≡◌, ◌==◌, ◌+◌, ◌≤◌, ℕ
 ghost use Rattle.std.specs.List.{AllByRecursion, position_or_len, common_prefix_len};
 ghost use Rattle.tag_block.specs.Tag.{Said};
 ghost use Rattle.sentence_text.specs.Sentence.{SentenceParts};
-ghost use Rattle.datagram450.specs.Item.{Item, LineOf, item, line};
-ghost use Rattle.datagram450.specs.Datagram.{read, DatagramOf, IsItem};
+ghost use Rattle.datagram450.specs.Datagram.{Item, LineOf, item, line, read, DatagramOf, IsItem};
 
 use crate::fault::DatagramFault;
 use crate::header::HEADER;
@@ -29,8 +28,7 @@ pub struct LineIter<'a> {
 
 impl<'a> Model for LineIter<'a> {
     ghost use Rattle.std.specs.Prelude.{◌+◌, ◌≤◌, List, length};
-    ghost use Rattle.datagram450.specs.Item.{Item};
-    ghost use Rattle.datagram450.specs.Datagram.{items_from, longest_datagram};
+    ghost use Rattle.datagram450.specs.Datagram.{Item, items_from, longest_datagram};
 
     ghost Value = { List Item };
 
@@ -40,8 +38,8 @@ impl<'a> Model for LineIter<'a> {
 }
 
 impl<'a> Iterator for LineIter<'a> {
+    ghost use Rattle.datagram450.specs.Datagram.{item_view};
     ghost use Rattle.std.specs.Iterator.{item_count, YieldsFirstBy};
-    ghost use Rattle.datagram450.specs.Item.{item_view};
 
     type Item = LineItem<'a>;
 

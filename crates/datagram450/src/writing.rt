@@ -3,9 +3,7 @@ ghost use Rattle.arrayvec.specs.ArrayVec.{array_vec_len};
 ghost use Rattle.sentence_text.specs.Sentence.{SentenceParts, IsSentence};
 ghost use Rattle.tag_block.specs.Tag.{IsTag, block_text};
 ghost use Rattle.tag_block.specs.Writing.{IsWritable, block_of, longest_block, longest_packet, said_by};
-ghost use Rattle.datagram450.specs.Datagram.{header, longest_datagram, read};
-ghost use Rattle.datagram450.specs.Item.{line};
-ghost use Rattle.datagram450.specs.Writing.{line_text, GivesAt, IsBehind};
+ghost use Rattle.datagram450.specs.Datagram.{header, longest_datagram, read, line, line_text, GivesAt, IsBehind};
 
 use crate::header::HEADER;
 use tag_block::{Packet, TagParts};

@@ -13,8 +13,7 @@ use Rattle.history.specs.Emits.{at, broken, own_claim, request_for_claims}
 use Rattle.history.specs.Entries.{Entry, History, IsHistory, IsOffered, IsTimely, is_accepted, moment_of, now}
 use Rattle.history.specs.Gate.{Stepped, command_in, gate, from_events, opening, out, stepped, with_command}
 use Rattle.history.specs.Messages.{done}
-use Rattle.history.specs.Receiver.{receiver_of}
-use Rattle.history.specs.Settings.{Settings}
+use Rattle.history.specs.Settings.{receiver_of, Settings}
 use Rattle.gate_model.specs.Machine.{Machine, opened_machine, started_at}
 use Rattle.gate_model.specs.Stands.{Stands}
 use Rattle.gate_outbox.specs.declared.done.Command.{Command}

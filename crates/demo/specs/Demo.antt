@@ -7,8 +7,7 @@ use Rattle.history.specs.Entries.{Entry, History, IsHistory, now}
 use Rattle.history.specs.Gate.{Stepped, gate, out, stepped}
 use Rattle.history.specs.Known.{known}
 use Rattle.history.specs.Opens.{notes_of, open_fast_keys}
-use Rattle.history.specs.Receiver.{receiver_of}
-use Rattle.history.specs.Settings.{Settings}
+use Rattle.history.specs.Settings.{receiver_of, Settings}
 use Rattle.gate_model.specs.Machine.{Machine}
 use Rattle.gate_model.specs.Stands.{Stands}
 use Rattle.gate_outbox.specs.declared.done.Command.{Command}

@@ -5,7 +5,7 @@ use Rattle.n2k_id.specs.Frame.{BusFrame}
 use Rattle.n2k_id.specs.Identifier.{identifier_of}
 use Rattle.n2k_id.specs.Name.{name_bytes}
 use Rattle.readings.specs.declared.reading.Reading.TheVariants.{HeadingTrue}
-use Rattle.pgn_profile.specs.Payload.{payload_of}
+use Rattle.pgn_profile.specs.Profiled.{payload_of}
 use Rattle.history.specs.Entries.{Entry, frame, tick}
 use Rattle.demo.specs.declared.input.Input.{Input}
 use Rattle.demo.specs.declared.turns.Turn.{Turn}

@@ -4,7 +4,7 @@ ghost use Rattle.n2k_id.specs.Frame.{IsFrame, bus_frame};
 ghost use Rattle.n2k_id.specs.Identifier.{CanJoin};
 ghost use Rattle.n2k_id.specs.Name.{name_bytes};
 ghost use Rattle.readings.specs.declared.reading.Reading.TheVariants.{HeadingTrue};
-ghost use Rattle.pgn_profile.specs.Payload.{payload_of};
+ghost use Rattle.pgn_profile.specs.Profiled.{payload_of};
 ghost use Rattle.demo.specs.Input.{position_frame, to_all};
 
 use n2k_id::address::ALL;

@@ -3,13 +3,13 @@ use Rattle.std.specs.List.{AllByRecursion}
 use Rattle.std.proofs.lemmas.Bool.{eqb-true, eqb-false, le-leb, leb-true, leb-false, ltb-true, ne_eqb, lt-ltb, le-ltb}
 use Rattle.std.proofs.Common.{◌≡◌, ℕ, ◌+◌, ◌-◌, ◌*◌, ◌/◌, ◌%◌, ◌<◌, ◌≤◌, ◌==◌, ◌&&◌, nat_le, nat_lt, min, Bool, true, false, List, [], ◌∷◌, ◌++◌, length, take, drop, slice_index, Option, Some, None, length-take, length-drop, length-append, add-one, refl, sym, ◌∙◌, ap, subst, arith}
 use Rattle.std.proofs.lemmas.List.{take_all}
-use Rattle.slot_views.specs.Runs.{accepted, accepted_after, accepted_more, in_time, is_whole, is_admitted, opener_of, since_opener, if_open, kept_at, open_of, open_at, fed, fed_later}
+use Rattle.slot_views.specs.Runs.{accepted, accepted_after, accepted_more, in_time, is_whole, is_admitted, opener_of, since_opener, if_open, kept_at, open_of, open_at}
+use Rattle.slot_views.specs.RunLaws.{fed, fed_later}
 use Rattle.slot_views.proofs.RunSteps.{one_step_of}
 use Rattle.slot_views.proofs.RunSuffixes.{one_suffix_of}
 use Rattle.fast_packet.specs.declared.verdict.Verdict.TheVariants.{Next}
 use Rattle.slot_views.specs.Slots.{Entry, grown}
-use Rattle.fast_packet.specs.FastFrames.{gap, longest, counter_of, sequence_of, length_of, need_of, left_after, is_opener, is_no_later, later_piece}
-use Rattle.fast_packet.specs.FastRuns.{FastPiece, is_next, is_repeat, fast_rules, joined}
+use Rattle.fast_packet.specs.FastRuns.{gap, longest, counter_of, sequence_of, length_of, need_of, left_after, is_opener, is_no_later, later_piece, FastPiece, is_next, is_repeat, fast_rules, joined}
 use Rattle.fast_packet.specs.Assembly.{mark_of, last_frame, is_again, follows, is_enough, verdict, opener_sequence, left_of}
 use Rattle.slot_views.specs.Traces.{left_at, entry_after}
 use Rattle.fast_packet.specs.RunAssemblies.{assembly_of, assembly_at, left_by, assembly_after}

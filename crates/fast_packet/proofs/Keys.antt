@@ -4,7 +4,8 @@ use Rattle.std.proofs.lemmas.Bool.{eqb-true, eqb-false, eq-eqb, leb-true}
 use Rattle.std.specs.List.{AllByRecursion}
 use Rattle.std.specs.Cmp.{IsTotalOrder}
 use Rattle.std.specs.declared.cmp.Ordering.{Ordering}
-use Rattle.slot_views.specs.Runs.{opener_of, is_whole, is_admitted, since_opener, if_whole, open_of, open_at, run_of, fed, finished}
+use Rattle.slot_views.specs.Runs.{opener_of, is_whole, is_admitted, since_opener, if_whole, open_of, open_at, run_of}
+use Rattle.slot_views.specs.RunLaws.{fed, finished}
 use Rattle.slot_views.proofs.RunSteps.{one_step_of}
 use Rattle.slot_views.proofs.RunSuffixes.{one_suffix_of}
 use Rattle.slot_views.specs.Slots.{Entry, SlotMap, IsOrdered, IsMap, Changes, is_complete, is_held, is_full, entry_at, released, begun_after, grown_after}
@@ -21,8 +22,7 @@ use Rattle.fast_packet.specs.declared.answers.FastRefusal.{FastRefusal}
 use Rattle.fast_packet.specs.declared.answers.FastRefusal.TheVariants.{Order, Orphan as NoneOpen, Length}
 use Rattle.fast_packet.specs.declared.verdict.Verdict.{Verdict}
 use Rattle.fast_packet.specs.declared.verdict.Verdict.TheVariants.{Short, Opens, Orphan, Again, OutOfOrder, Next}
-use Rattle.fast_packet.specs.FastFrames.{gap, longest, counter_of, sequence_of, length_of, need_of, left_after, is_opener, is_no_later, first_piece, later_piece}
-use Rattle.fast_packet.specs.FastRuns.{FastPiece, is_next, is_repeat, fast_rules, joined as joined_bytes, payload, is_awaited}
+use Rattle.fast_packet.specs.FastRuns.{gap, longest, counter_of, sequence_of, length_of, need_of, left_after, is_opener, is_no_later, first_piece, later_piece, FastPiece, is_next, is_repeat, fast_rules, joined as joined_bytes, payload, is_awaited}
 use Rattle.fast_packet.specs.Assembly.{left_of, is_again as is_again_of, follows, is_enough, verdict, opening, part_to, extended, fed_by, fed_after, key_fits, AreAssemblies}
 use Rattle.fast_packet.specs.Answers.{OpensGives, NextGives, FeedGivesBy, FeedGives}
 use Rattle.fast_packet.specs.Verdicts.{VerdictFits}

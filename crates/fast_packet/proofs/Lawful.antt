@@ -2,9 +2,9 @@
 use Rattle.std.specs.Cmp.Lexicographic.{pointwise}
 use Rattle.std.proofs.Common.{◌≡◌, ℕ, ◌≤◌, ◌==◌, ◌&&◌, nat_eq, nat_lt, Bool, true, false, List, [], ◌∷◌, length, refl, ◌∙◌, ap, arith}
 use Rattle.std.proofs.lemmas.Bool.{eqb-true, ne_eqb, le-ltb}
-use Rattle.slot_views.specs.Runs.{IsLawful, is_whole, opener_of}
-use Rattle.fast_packet.specs.FastFrames.{counter_of, length_of, need_of, is_opener}
-use Rattle.fast_packet.specs.FastRuns.{FastPiece, is_next, is_repeat, fast_rules}
+use Rattle.slot_views.specs.Runs.{is_whole, opener_of}
+use Rattle.slot_views.specs.RunLaws.{IsLawful}
+use Rattle.fast_packet.specs.FastRuns.{counter_of, length_of, need_of, is_opener, FastPiece, is_next, is_repeat, fast_rules}
 
 pub both_true : (a b : Bool) → (a && b) ≡ true → (a ≡ true) × (b ≡ true)
 both_true true b h = (refl, h)

@@ -6,9 +6,7 @@ use Rattle.std.proofs.lemmas.Bool.{eq-eqb, le-leb, lt-ltb}
 use Rattle.fast_packet.proofs.Counts.{need_is}
 use Rattle.std.proofs.Common.{slice_index_or, add-one, length-drop, ◌≡◌, ℕ, zero, suc, ◌+◌, ◌-◌, ◌*◌, ◌/◌, ◌%◌, ◌<◌, ◌≤◌, ◌==◌, nat_le, nat_lt, min, true, List, [], ◌∷◌, ◌++◌, length, take, drop, map, reverse, Some, refl, sym, ◌∙◌, ap, arith}
 use Rattle.slot_views.specs.Runs.{accepted, accepted_after, in_time, is_whole, opener_of}
-use Rattle.fast_packet.specs.FastFrames.{longest, counter_of, sequence_of, length_of, need_of, left_after, is_opener, later_piece}
-use Rattle.fast_packet.specs.FastRuns.{FastPiece, is_next, fast_rules, joined, payload}
-use Rattle.fast_packet.specs.Splitting.{filled, first_frame, later_frame, frames_to, frames_of}
+use Rattle.fast_packet.specs.FastRuns.{longest, counter_of, sequence_of, length_of, need_of, left_after, is_opener, later_piece, FastPiece, is_next, fast_rules, joined, payload, filled, first_frame, later_frame, frames_to, frames_of}
 use Rattle.fast_packet.specs.Laws.{pieces_of, IsRunOf}
 
 -- a frame as a piece

@@ -6,7 +6,7 @@ use Rattle.slot_views.specs.Slots.{Entry}
 use Rattle.slot_views.specs.Answers.{kept_of, as_entry}
 use Rattle.fast_packet.specs.declared.verdict.Verdict.{Verdict}
 use Rattle.fast_packet.specs.declared.verdict.Verdict.TheVariants.{Short, Opens, Orphan, Again, OutOfOrder, Next}
-use Rattle.fast_packet.specs.FastFrames.{is_opener, is_no_later}
+use Rattle.fast_packet.specs.FastRuns.{is_opener, is_no_later}
 use Rattle.fast_packet.specs.Verdicts.{IsNext, IsOpener, VerdictFits}
 use Rattle.fast_packet.specs.Assembly.{left_of, is_again, follows, is_enough, later_verdict, verdict}
 

@@ -7,7 +7,7 @@ use Rattle.slot_views.specs.Slots.{Entry, SlotMap, IsMap, opened, grown, entry_a
 use Rattle.fast_packet.specs.declared.key.FastKey.{FastKey}
 use Rattle.fast_packet.specs.declared.verdict.Verdict.{Verdict}
 use Rattle.fast_packet.specs.declared.verdict.Verdict.TheVariants.{Short, Opens, Orphan, Again, OutOfOrder, Next}
-use Rattle.fast_packet.specs.FastFrames.{gap, counter_of, sequence_of, length_of, need_of, is_opener, is_no_later, first_piece}
+use Rattle.fast_packet.specs.FastRuns.{gap, counter_of, sequence_of, length_of, need_of, is_opener, is_no_later, first_piece}
 
 abbrev pub mark_of : ℕ → ℕ → ℕ
 mark_of sequence len = 256 * sequence + len

@@ -2,7 +2,8 @@
 use Rattle.std.specs.Prelude.{◌≡◌, ◌≤◌, not, List, ◌∷◌, length}
 use Rattle.std.specs.List.{AllByRecursion}
 use Rattle.std.specs.declared.cmp.Ordering.{Ordering}
-use Rattle.slot_views.specs.Runs.{open_at, fed, finished}
+use Rattle.slot_views.specs.Runs.{open_at}
+use Rattle.slot_views.specs.RunLaws.{fed, finished}
 use Rattle.slot_views.specs.Slots.{SlotMap, IsMap, Changes, entry_at, is_full}
 use Rattle.fast_packet.specs.declared.key.FastKey.{FastKey}
 use Rattle.fast_packet.specs.declared.answers.FastFed.{FastFed}

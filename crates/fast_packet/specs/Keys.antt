@@ -11,8 +11,7 @@ use Rattle.fast_packet.specs.declared.answers.FastOutcome.{FastOutcome}
 use Rattle.fast_packet.specs.declared.answers.FastOutcome.TheVariants.{Held, Complete, Repeat, Refused}
 use Rattle.fast_packet.specs.declared.answers.FastRefusal.{FastRefusal}
 use Rattle.fast_packet.specs.declared.answers.FastRefusal.TheVariants.{Order, Orphan, Length, Full}
-use Rattle.fast_packet.specs.FastFrames.{length_of, is_opener, is_no_later}
-use Rattle.fast_packet.specs.FastRuns.{FastPiece, is_awaited, is_next, is_repeat, fast_rules, payload}
+use Rattle.fast_packet.specs.FastRuns.{length_of, is_opener, is_no_later, FastPiece, is_awaited, is_next, is_repeat, fast_rules, payload}
 use Rattle.fast_packet.specs.Assembly.{fed_after}
 use Rattle.fast_packet.specs.Answers.{FeedGives}
 use Rattle.fast_packet.specs.RunAssemblies.{assembly_at, filling}

@@ -2,8 +2,7 @@
 use Rattle.std.specs.Prelude.{◌≡◌, ℕ, true, List, length, map, reverse, Some}
 use Rattle.std.specs.List.{AllByRecursion}
 use Rattle.slot_views.specs.Runs.{is_whole, accepted}
-use Rattle.fast_packet.specs.FastFrames.{sequence_of}
-use Rattle.fast_packet.specs.FastRuns.{FastPiece, fast_rules, payload}
+use Rattle.fast_packet.specs.FastRuns.{sequence_of, FastPiece, fast_rules, payload}
 
 -- the frames as they come one after another within a moment, the newest first
 abbrev pub pieces_of : List (List ℕ) → List FastPiece

@@ -1,10 +1,8 @@
-pub mod FastFrames
 pub mod FastRuns
 pub mod Assembly
 pub mod Answers
 pub mod Rows
 pub mod Verdicts
-pub mod Splitting
 pub mod RunAssemblies
 pub mod Laws
 pub mod Keys

@@ -5,8 +5,7 @@ use Rattle.slot_views.specs.Slots.{Entry}
 use Rattle.slot_views.specs.Traces.{Filling, if_incomplete, entry_after}
 use Rattle.fast_packet.specs.declared.verdict.Verdict.{Verdict}
 use Rattle.fast_packet.specs.declared.verdict.Verdict.TheVariants.{Short, Opens, Orphan, Again, OutOfOrder, Next}
-use Rattle.fast_packet.specs.FastFrames.{gap, sequence_of, length_of, need_of}
-use Rattle.fast_packet.specs.FastRuns.{FastPiece, joined}
+use Rattle.fast_packet.specs.FastRuns.{gap, sequence_of, length_of, need_of, FastPiece, joined}
 use Rattle.fast_packet.specs.Assembly.{mark_of, verdict, opening, extended}
 
 -- the assembly that the frames accepted so far make

@@ -3,7 +3,7 @@ use Rattle.std.specs.Prelude.{◌≡◌, ℕ, ◌+◌, ◌≤◌, min, List, len
 use Rattle.slot_views.specs.Slots.{Entry}
 use Rattle.fast_packet.specs.declared.verdict.Verdict.{Verdict}
 use Rattle.fast_packet.specs.declared.verdict.Verdict.TheVariants.{Short, Opens, Orphan, Again, OutOfOrder, Next}
-use Rattle.fast_packet.specs.FastFrames.{longest, counter_of, length_of}
+use Rattle.fast_packet.specs.FastRuns.{longest, counter_of, length_of}
 use Rattle.fast_packet.specs.Assembly.{left_of}
 
 -- it has the counter that the assembly waits for, and its part of the message lies within it

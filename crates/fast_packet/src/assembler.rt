@@ -6,7 +6,7 @@ ghost use Rattle.n2k_id.specs.Frame.{IsFrame, held_bytes};
 ghost use Rattle.slot_views.specs.Slots.{SlotMap, IsMap, entry_at, without, begun_after, grown_after, has_expired};
 ghost use Rattle.slot_views.specs.Places.{IsPlace};
 ghost use Rattle.slot_views.specs.Answers.{kept_of};
-ghost use Rattle.fast_packet.specs.FastFrames.{gap, counter_of};
+ghost use Rattle.fast_packet.specs.FastRuns.{gap, counter_of};
 ghost use Rattle.fast_packet.specs.Assembly.{verdict, opening, part_to, extended, fed_by, fed_after, is_from};
 ghost use Rattle.fast_packet.specs.Verdicts.{IsOpener, IsNext, VerdictFits};
 

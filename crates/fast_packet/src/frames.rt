@@ -1,6 +1,6 @@
 //! How the frames of a fast packet are laid out.
 ghost use Rattle.std.specs.Prelude.{◌≡◌, ◌/◌, ◌≤◌, length};
-ghost use Rattle.fast_packet.specs.FastFrames as frames;
+ghost use Rattle.fast_packet.specs.FastRuns as frames;
 ghost use Rattle.fast_packet.specs.Assembly as assembly;
 
 /// The longest message, in bytes.

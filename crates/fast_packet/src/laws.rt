@@ -1,11 +1,9 @@
 //! What is promised of fast packets, whoever assembles them.
 ghost use Rattle.slot_views.specs.RunLaws.{OneStep, OneSuffix};
-ghost use Rattle.fast_packet.specs.FastRuns.{FastPiece, fast_rules};
+ghost use Rattle.fast_packet.specs.FastRuns.{FastPiece, fast_rules, longest, frames_of};
 ghost use Rattle.fast_packet.specs.declared.key.FastKey.{FastKey};
 ghost use Rattle.std.specs.Prelude.{◌≡◌, ℕ, List, ◌∷◌, ◌≤◌, length};
 ghost use Rattle.slot_views.specs.Laws.{TellsApart, EndsTheFirst};
-ghost use Rattle.fast_packet.specs.FastFrames.{longest};
-ghost use Rattle.fast_packet.specs.Splitting.{frames_of};
 ghost use Rattle.fast_packet.specs.Joining.{FeedsItsKey, StepsWithRuns};
 ghost use Rattle.fast_packet.specs.Laws.{IsRunOf};
 ghost use Rattle.fast_packet.specs.RunAssemblies.{assembly_after, assembly_at};

@@ -1,9 +1,8 @@
 //! A message into its frames.
 ghost use Rattle.std.specs.Prelude.{◌≡◌, ◌+◌, ◌-◌, ◌<◌, ◌≤◌, ◌↔◌, ◌++◌, IsTrue, length, slice_index_or};
 ghost use Rattle.std.specs.Bool.{OnTrue, OnFalse};
-ghost use Rattle.fast_packet.specs.FastFrames.{longest};
-ghost use Rattle.fast_packet.specs.Splitting.{CanSplit, frames_of};
-ghost use Rattle.fast_packet.specs.Splitting as parts;
+ghost use Rattle.fast_packet.specs.FastRuns.{longest, CanSplit, frames_of};
+ghost use Rattle.fast_packet.specs.FastRuns as parts;
 
 use crate::frames::{LONGEST, need_of};
 use arrayvec::ArrayVec;

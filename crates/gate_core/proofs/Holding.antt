@@ -1,10 +1,10 @@
 -- As many messages are in the making as keys are open of all that came.
 use Rattle.std.proofs.Common.{◌≡◌, ℕ, length, ◌∙◌}
 use Rattle.history.specs.Entries.{History, now}
-use Rattle.history.specs.Receiver.{receiver_of}
+use Rattle.history.specs.Settings.{receiver_of}
 use Rattle.history.specs.Known.{known}
 use Rattle.history.specs.Opens.{notes_of}
-use Rattle.history.specs.Heard.{lines_of}
+use Rattle.history.specs.Heard.{taken_lines}
 use Rattle.history.specs.Gate.{heard}
 use Rattle.history.proofs.GroupCounts.{slots_count_groups}
 use Rattle.history.proofs.Receivers.{gateways_receive}
@@ -24,7 +24,7 @@ pub held_is : (g : Machine) (s : ℕ) (h : History) (x : HeldCounts) → IsReach
 held_is g s h x it stands fast iso group =
     let c = g.settings in
     let r = receiver_of c in
-    let lines = lines_of c (heard c s h) in
+    let lines = taken_lines c (heard c s h) in
     record {
       fast =
           fast

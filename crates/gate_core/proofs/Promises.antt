@@ -14,7 +14,7 @@ use Rattle.history.specs.Entries.{Entry, History, IsHistory, IsOffered, is_accep
 use Rattle.history.specs.EntryLaws.{IsEvent}
 use Rattle.claim_table.specs.Claims.{is_ready}
 use Rattle.history.specs.Known.{known}
-use Rattle.history.specs.Receiver.{receiver_of}
+use Rattle.history.specs.Settings.{receiver_of}
 use Rattle.history.specs.Messages.{Message, done}
 use Rattle.history.specs.Emits.{broken}
 use Rattle.gate_model.specs.AddressStands.{TellsAlike, name_held}

@@ -1,7 +1,6 @@
 //! Who holds which address of the bus, and how many entries there were.
 ghost use Rattle.std.specs.Prelude.{◌≡◌, ◌<◌, All, IfOk};
-ghost use Rattle.claim_table.specs.Claims.{claim, claim_of, command, is_obeyed, started};
-ghost use Rattle.claim_table.specs.Presets.{opened};
+ghost use Rattle.claim_table.specs.Claims.{claim, claim_of, command, is_obeyed, started, claims_at_start};
 ghost use Rattle.gate_model.specs.Addresses.{counted, no_change};
 ghost use Rattle.gate_core.specs.Changes.{changed_of};
 
@@ -56,7 +55,7 @@ impl Addresses {
     ) -> Result<Addresses, ClaimFault>
         requires preferred { preferred < 252 }
         requires presets { All (λ p. p.address < 254) presets.now }
-        ensures { IfOk result (λ a. a ≡ record { claims = opened name.0 preferred presets.now; count = 0; changed = no_change }) }
+        ensures { IfOk result (λ a. a ≡ record { claims = claims_at_start name.0 preferred presets.now; count = 0; changed = no_change }) }
     {
         let claims = ClaimTable::new(alloc, name, preferred, presets)?;
         Ok(Addresses {

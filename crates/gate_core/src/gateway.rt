@@ -5,7 +5,7 @@ ghost use Rattle.history.specs.AddressLaws.{AreSettings};
 ghost use Rattle.history.specs.Entries.{History, now};
 ghost use Rattle.history.specs.Gate.{opening_emits};
 ghost use Rattle.history.specs.Known.{known};
-ghost use Rattle.history.specs.Receiver.{receiver_of};
+ghost use Rattle.history.specs.Settings.{receiver_of};
 ghost use Rattle.gate_model.specs.AddressStands.{changes_in, name_held};
 ghost use Rattle.gate_model.specs.Machine.{opened_machine, started_at};
 ghost use Rattle.gate_model.specs.MachineSteps.{stepped, commanded};

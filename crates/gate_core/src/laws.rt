@@ -1,7 +1,7 @@
 //! What is promised of the gateway. Each law is a function that does nothing, and whose clauses are the law.
 ghost use Rattle.std.specs.Prelude.{◌≡◌, ℕ, List, Option, Some};
 ghost use Rattle.readings.specs.Rows.{row_of};
-ghost use Rattle.pgn_profile.specs.Payload.{pgn_of};
+ghost use Rattle.pgn_profile.specs.Profiled.{pgn_of};
 ghost use Rattle.history.specs.Settings.{Settings};
 ghost use Rattle.history.specs.NetReadings.{NetReading, next_sequence};
 ghost use Rattle.history.specs.FromNet.{sent_from};

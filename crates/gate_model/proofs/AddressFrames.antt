@@ -3,18 +3,18 @@ use Rattle.std.proofs.Common.{◌≡◌, ℕ, Bool, true, false, ◌||◌, List,
 use Rattle.std.specs.Prelude.{Option, Some, None, if◌then◌else◌}
 use Rattle.std.proofs.lemmas.Bool.{eqb-true, false≢true}
 use Rattle.n2k_id.specs.Frame.{BusFrame}
-use Rattle.n2k_id.specs.Identifier.{parts_of}
+use Rattle.n2k_id.specs.Identifier.{parts_of, is_own, is_to}
 use Rattle.n2k_id.specs.declared.identifier_parts.Parts.{Parts}
 use Rattle.claim_table.specs.declared.answer.Holder.{Holder}
 use Rattle.claim_table.specs.Claims.{holder_at, is_at}
 use Rattle.claim_table.specs.Laws.{IsSound}
 use Rattle.pgn_profile.specs.declared.kinds.Kind.{Kind}
 use Rattle.pgn_profile.specs.declared.kinds.Kind.TheVariants.{Single, Fast, Outside}
-use Rattle.iso_transport.specs.Audience.{is_own, is_to, key_of}
+use Rattle.iso_transport.specs.Audience.{key_of}
 use Rattle.history.specs.Entries.{History, frame}
-use Rattle.history.specs.Receiver.{Receiver}
+use Rattle.history.specs.Settings.{Receiver}
 use Rattle.history.specs.Known.{Known, known}
-use Rattle.history.specs.Traces.{Note, fast_trace, is_transport}
+use Rattle.history.specs.Traces.{NotedFrame, fast_trace, is_transport}
 use Rattle.history.specs.Opens.{fast_open, iso_open, notes_of}
 use Rattle.fast_packet.specs.FastRuns.{FastPiece}
 use Rattle.iso_transport.specs.IsoRuns.{IsoPiece}
@@ -23,12 +23,12 @@ use Rattle.history.specs.Messages.{Message, Carried, carried, done, said_by, by_
 use Rattle.history.specs.Messages as messages
 use Rattle.history.specs.Emits.{breaks}
 use Rattle.history.specs.BusRules.{frame_breaks}
-use Rattle.history.specs.FromBus.{request_gives, meaning_after, frame_refused}
+use Rattle.history.specs.FromBus.{request_gives, meaning_at, frame_refused}
 use Rattle.history.specs.AddressLaws.{IsReceiver}
 use Rattle.history.specs.KeyLaws.{the_note}
 use Rattle.history.proofs.Addresses.{addresses_are_sound}
 use Rattle.history.proofs.KeySteps.{eqb-sym}
-use Rattle.gate_model.specs.Addresses.{AddressesKept, is_malformed, plain_reports, plain_done}
+use Rattle.gate_model.specs.Addresses.{AddressesKept, plain_reports, plain_done}
 use Rattle.gate_model.specs.AddressStands.{StandsAddresses, TellsAlike, FrameIsTold, FramesAreTold, meaning_here}
 use Rattle.gate_model.proofs.SaidTold.{message_said}
 use Rattle.gate_model.proofs.FastOthers.{tested}
@@ -70,7 +70,7 @@ nobody : (index moment source : ℕ) (o : Option Holder) (what : Option Carried)
 nobody index moment source None what e = refl
 nobody index moment source (Some x) what e = cc
 
-module _ (r : Receiver) (are : IsReceiver r) (k : Known) (sound : IsSound k.claims) (n : Note) (older : List Note) (index moment : ℕ) where
+module _ (r : Receiver) (are : IsReceiver r) (k : Known) (sound : IsSound k.claims) (n : NotedFrame) (older : List NotedFrame) (index moment : ℕ) where
   abbrev p : Parts
   p = n.parts
 
@@ -181,7 +181,7 @@ module _ (r : Receiver) (are : IsReceiver r) (k : Known) (sound : IsSound k.clai
       (subst Follows is is_meaning) a b
 
 -- nothing is open of it that is looked at
-none_before : (meaning : Meaning) (r : Receiver) (n : Note) (frames : Option (List FastPiece)) (packets : Option (List IsoPiece)) (d : Option Message)
+none_before : (meaning : Meaning) (r : Receiver) (n : NotedFrame) (frames : Option (List FastPiece)) (packets : Option (List IsoPiece)) (d : Option Message)
     → is_of_session meaning ≡ false
     → is_of_fast_packet meaning ≡ false
     → frame_breaks r.name meaning n (if is_of_fast_packet meaning then frames else None)
@@ -190,7 +190,7 @@ none_before : (meaning : Meaning) (r : Receiver) (n : Note) (frames : Option (Li
 none_before meaning r n frames packets d a b = rw (a, b) refl
 
 module _ (r : Receiver) (s : ℕ) (h : History) (m : ℕ) (f : BusFrame) (k : AddressesKept) (are : IsReceiver r) (stands : StandsAddresses r s h k)
-    (a : is_of_session (meaning_after r s h m f) ≡ false) (b : is_of_fast_packet (meaning_after r s h m f) ≡ false) where
+    (a : is_of_session (meaning_at r s h m f) ≡ false) (b : is_of_fast_packet (meaning_at r s h m f) ≡ false) where
   abbrev here : Parts
   here = parts_of f.id
 
@@ -200,20 +200,20 @@ module _ (r : Receiver) (s : ℕ) (h : History) (m : ℕ) (f : BusFrame) (k : Ad
   alike : TellsAlike k.claims (known r s h).claims
   alike = standing_tells_alike r s h k stands
 
-  meaning_is : meaning_here r s h m f k ≡ meaning_after r s h m f
+  meaning_is : meaning_here r s h m f k ≡ meaning_at r s h m f
   meaning_is = alike.meaning r.kinds here
 
   message_is : done r s h (frame m f)
-      ≡ said_by (length h) m here.source (holder_at (known r s h).claims.holders here.source) (plain_done (meaning_after r s h m f) here f.held)
+      ≡ said_by (length h) m here.source (holder_at (known r s h).claims.holders here.source) (plain_done (meaning_at r s h m f) here f.held)
   message_is = plain_message r are (known r s h) sound (the_note r s h m f) (notes_of r s h) (length h) m a b
 
-  reports_are : frame_refused r s h m f ≡ plain_reports r.name (meaning_after r s h m f) here f.held
+  reports_are : frame_refused r s h m f ≡ plain_reports r.name (meaning_at r s h m f) here f.held
   reports_are =
-      none_before (meaning_after r s h m f) r (the_note r s h m f)
+      none_before (meaning_at r s h m f) r (the_note r s h m f)
       (fast_open (known r s h).claims.holders (notes_of r s h) (record { source = here.source; pgn = here.pgn }) m)
       (iso_open (known r s h) (notes_of r s h) (key_of here) m) (done r s h (frame m f)) a b
       ∙ plain_breaks r are (known r s h) sound (the_note r s h m f) (notes_of r s h) (length h) m
-      (meaning_after r s h m f) refl a b (done r s h (frame m f)) message_is
+      (meaning_at r s h m f) refl a b (done r s h (frame m f)) message_is
 
   pub frame_is_told : FrameIsTold r s h m f k
   frame_is_told = record {

@@ -3,14 +3,13 @@ use Rattle.std.proofs.Common.{◌≡◌, ℕ, suc, min, Bool, true, false, List,
 use Rattle.std.specs.Prelude.{Option, Some, None, All, if◌then◌else◌}
 use Rattle.n2k_id.specs.Frame.{BusFrame}
 use Rattle.claim_table.specs.declared.answer.Holder.{Holder}
-use Rattle.claim_table.specs.Claims.{Claims, Outcome, IsSinceBy, claim, command}
-use Rattle.claim_table.specs.Presets.{opened}
+use Rattle.claim_table.specs.Claims.{Claims, Outcome, IsSinceBy, claim, command, claims_at_start}
 use Rattle.claim_table.specs.Laws.{capped, capped_holder, capped_outcome}
 use Rattle.claim_table.proofs.CappedLemmas.{indices_may_stop}
 use Rattle.claim_table.proofs.OpenedLemmas.{opened_dated}
 use Rattle.history.specs.Entries as entry
 use Rattle.history.specs.Entries.{Entry, History}
-use Rattle.history.specs.Receiver.{Receiver}
+use Rattle.history.specs.Settings.{Receiver}
 use Rattle.history.specs.Known.{known, is_claim, claim_by}
 use Rattle.gate_model.specs.Addresses.{AddressesKept, last_index, no_change, changed_by, counted, claimed, claims_after, changes_after, addresses_after}
 use Rattle.gate_model.specs.AddressStands.{StandsAddresses, OpeningStandsAddresses, EntriesStandAddresses, changes_in}
@@ -34,7 +33,7 @@ pub opening_stands_addresses : OpeningStandsAddresses
 opening_stands_addresses r s = record {
   claims =
       ap made
-      (sym (none_counted last_index (opened r.name r.address r.presets).holders (opened_dated r.name r.address r.presets)));
+      (sym (none_counted last_index (claims_at_start r.name r.address r.presets).holders (opened_dated r.name r.address r.presets)));
   count = let least : 0 ≡ min last_index 0 = omega arith in least;
   changed = refl;
 }

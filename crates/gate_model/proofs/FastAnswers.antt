@@ -7,7 +7,8 @@ use Rattle.std.specs.declared.cmp.Ordering.{Ordering}
 use Rattle.report_rules.specs.Rules as rules
 use Rattle.gate_events.specs.declared.emit.Detail.TheVariants as detail
 use Rattle.n2k_id.specs.declared.identifier_parts.Parts.{Parts}
-use Rattle.slot_views.specs.Runs.{open_at, finished}
+use Rattle.slot_views.specs.Runs.{open_at}
+use Rattle.slot_views.specs.RunLaws.{finished}
 use Rattle.slot_views.specs.declared.answers.View.{View}
 use Rattle.slot_views.specs.Slots.{Entry, SlotMap, entry_at, is_held, is_full, is_complete}
 use Rattle.slot_views.specs.Answers.{Shows}
@@ -19,8 +20,7 @@ use Rattle.fast_packet.specs.declared.answers.FastOutcome.{FastOutcome}
 use Rattle.fast_packet.specs.declared.answers.FastOutcome.TheVariants.{Held, Complete, Repeat, Refused}
 use Rattle.fast_packet.specs.declared.answers.FastRefusal.{FastRefusal}
 use Rattle.fast_packet.specs.declared.answers.FastRefusal.TheVariants as refusal
-use Rattle.fast_packet.specs.FastFrames.{is_opener, is_no_later}
-use Rattle.fast_packet.specs.FastRuns.{FastPiece, fast_rules, payload}
+use Rattle.fast_packet.specs.FastRuns.{is_opener, is_no_later, FastPiece, fast_rules, payload}
 use Rattle.fast_packet.specs.Assembly.{verdict, opening, extended}
 use Rattle.fast_packet.specs.Answers.{OpensGives, NextGives, FeedGivesBy, FeedGives}
 use Rattle.fast_packet.specs.Keys.{refused, Carries, OutcomeIs}

@@ -5,7 +5,7 @@ use Rattle.std.specs.List.{AllByRecursion}
 use Rattle.std.specs.BTreeMap.{is_at}
 use Rattle.std.specs.declared.cmp.Ordering.{Ordering}
 use Rattle.std.proofs.lemmas.Bool.{false≢true}
-use Rattle.slot_views.specs.Runs.{fed, finished}
+use Rattle.slot_views.specs.RunLaws.{fed, finished}
 use Rattle.n2k_id.specs.declared.identifier_parts.Parts.{Parts}
 use Rattle.n2k_id.specs.Frame.{BusFrame}
 use Rattle.n2k_id.specs.Identifier.{parts_of}
@@ -15,22 +15,21 @@ use Rattle.claim_table.specs.declared.answer.Holder.{Holder}
 use Rattle.claim_table.specs.Claims.{holder_at}
 use Rattle.slot_views.specs.Slots.{SlotMap, Changes, entry_at, is_full}
 use Rattle.fast_packet.specs.declared.key.FastKey.{FastKey}
-use Rattle.fast_packet.specs.FastFrames.{is_opener}
-use Rattle.fast_packet.specs.FastRuns.{FastPiece, fast_rules}
+use Rattle.fast_packet.specs.FastRuns.{is_opener, FastPiece, fast_rules}
 use Rattle.fast_packet.specs.Assembly.{fed_after}
 use Rattle.fast_packet.specs.RunAssemblies.{assembly_at}
 use Rattle.fast_packet.proofs.Keys.{steps_with_runs}
 use Rattle.history.specs.Entries.{History, IsHistory, frame}
-use Rattle.history.specs.Receiver.{Receiver}
+use Rattle.history.specs.Settings.{Receiver}
 use Rattle.history.specs.Known.{known, is_claim, held_since}
-use Rattle.history.specs.Traces.{Note, fast_piece, fast_trace}
+use Rattle.history.specs.Traces.{NotedFrame, fast_piece, fast_trace}
 use Rattle.history.specs.Opens.{is_fast, same_fast, is_fast_admitted, fast_open, notes_of}
 use Rattle.history.specs.Meanings.{Meaning, fast_packet}
 use Rattle.history.specs.Messages.{Message, done, said_by, fast_carried}
 use Rattle.history.specs.Emits.{broken_of}
 use Rattle.history.specs.BusRules.{message_rule, frame_breaks}
 use Rattle.history.specs.RuleLaws.{fast_refusal_breaks}
-use Rattle.history.specs.FromBus.{frames_before, packets_before, meaning_after, frame_refused}
+use Rattle.history.specs.FromBus.{frames_before, packets_before, meaning_at, frame_refused}
 use Rattle.history.specs.AddressLaws.{IsReceiver}
 use Rattle.history.specs.KeyLaws.{StepsFast, the_note}
 use Rattle.history.proofs.FastCounts.{same_is}
@@ -51,17 +50,17 @@ holder_of (Some x) e = (x, refl)
 
 module _ (cmp : FastKey → FastKey → Ordering) (orders : OrdersFast cmp) (r : Receiver) (s : ℕ) (h : History) (m : ℕ) (f : BusFrame) (slots : SlotMap FastKey)
     (are : IsReceiver r)
-    (is : IsHistory (frame m f ∷ h)) (means : meaning_after r s h m f ≡ fast_packet) (stands : StandsFastFor cmp r s h m slots) where
+    (is : IsHistory (frame m f ∷ h)) (means : meaning_at r s h m f ≡ fast_packet) (stands : StandsFastFor cmp r s h m slots) where
   abbrev holders : List (Option Holder)
   holders = (known r s h).claims.holders
 
-  abbrev notes : List Note
+  abbrev notes : List NotedFrame
   notes = notes_of r s h
 
   abbrev p : Parts
   p = parts_of f.id
 
-  abbrev n : Note
+  abbrev n : NotedFrame
   n = the_note r s h m f
 
   abbrev x : FastPiece

@@ -19,9 +19,9 @@ use Rattle.fast_packet.specs.Assembly.{is_from}
 use Rattle.fast_packet.specs.RunAssemblies.{assembly_at}
 use Rattle.history.specs.Entries as entry
 use Rattle.history.specs.Entries.{History}
-use Rattle.history.specs.Receiver.{Receiver}
+use Rattle.history.specs.Settings.{Receiver}
 use Rattle.history.specs.Known.{known, is_claim, claim_by, held_since, address_left, address_won}
-use Rattle.history.specs.Traces.{Note, fast_trace}
+use Rattle.history.specs.Traces.{NotedFrame, fast_trace}
 use Rattle.history.specs.Opens.{is_fast, fast_open, notes_of}
 use Rattle.gate_events.specs.Emit.{Emit}
 use Rattle.history.specs.Emits.{of_source}
@@ -35,7 +35,7 @@ use Rattle.history.proofs.TraceMoves.{claims_move_traces, commands_move_traces}
 use Rattle.gate_model.specs.Orders.{OrdersFast}
 use Rattle.gate_model.specs.FastPackets.{without_source, lost_of_source, is_given_up, fast_kept}
 use Rattle.gate_model.specs.FastLaws.{StandsFastFor, GivesUpFast, ClaimsGiveUpFast, CommandsLeaveFast}
-use Rattle.history.specs.Endings.{fast_lost_at}
+use Rattle.history.specs.Endings.{Side, side, fast_lost_at}
 use Rattle.gate_model.proofs.FastMaps.{filtered_twice, filtered_same, filtered_all, told_of_keys, remaining_map, remaining_at}
 use Rattle.gate_model.proofs.FastTimes.{is_held, none_is, found_fast, found_open, holds_all}
 
@@ -133,8 +133,14 @@ module _ (cmp : FastKey → FastKey → Ordering) (orders : OrdersFast cmp) (r :
   abbrev after : List (Option Holder)
   after = (known r s (entry.frame m f ∷ h)).claims.holders
 
-  abbrev notes : List Note
+  abbrev notes : List NotedFrame
   notes = notes_of r s h
+
+  abbrev before_it : Side
+  before_it = side (known r s h) m
+
+  abbrev after_it : Side
+  after_it = side (known r s (entry.frame m f ∷ h)) m
 
   abbrev given : FastKey → Bool
   given key = is_at key.source left || is_at key.source won
@@ -187,7 +193,7 @@ module _ (cmp : FastKey → FastKey → Ordering) (orders : OrdersFast cmp) (r :
 
   -- the entries that pass a test are told as the keys that are meant by it
   all_told : (q : FastKey × Entry → Bool) (meant : FastKey → Bool) → ((x : FastKey × Entry) → q x ≡ (meant x.0 && given x.0))
-      → flat_map (λ x. of_key x.0) (filter q slots.entries) ≡ endings.fast_lost holders after notes m r.kinds meant
+      → flat_map (λ x. of_key x.0) (filter q slots.entries) ≡ endings.fast_lost before_it after_it notes r.kinds meant
   all_told q meant passes =
       told_of_keys of_key (filter q slots.entries)
       ∙ ap (flat_map of_key)
@@ -203,7 +209,7 @@ module _ (cmp : FastKey → FastKey → Ordering) (orders : OrdersFast cmp) (r :
       by false eb = refl
       by true eb = let here : is_at x.0.source left ≡ true = ap (is_at x.0.source) there ∙ (sym (from_is a x) ∙ eb) in rw here refl
 
-  left_told : (o : Option ℕ) → left ≡ o → lost_of_source o slots ≡ fast_lost_at holders after notes m r.kinds o
+  left_told : (o : Option ℕ) → left ≡ o → lost_of_source o slots ≡ fast_lost_at before_it after_it notes r.kinds o
   left_told None there = refl
   left_told (Some a) there = all_told (is_from a) (λ key. key.source == a) (from_left a there)
 
@@ -223,7 +229,7 @@ module _ (cmp : FastKey → FastKey → Ordering) (orders : OrdersFast cmp) (r :
           let here : is_at x.0.source won ≡ true = ap (is_at x.0.source) there ∙ (sym (from_is b x) ∙ ec) in
           rw (stays, here) refl
 
-  won_told : (o : Option ℕ) → won ≡ o → lost_of_source o (without_source left slots) ≡ fast_lost_at holders after notes m r.kinds o
+  won_told : (o : Option ℕ) → won ≡ o → lost_of_source o (without_source left slots) ≡ fast_lost_at before_it after_it notes r.kinds o
   won_told None there = refl
   won_told (Some b) there =
       ap (λ (xs : List (FastKey × Entry)). flat_map (λ x. of_key x.0) (filter (is_from b) xs)) (source_gone left slots)

@@ -4,7 +4,7 @@ use Rattle.std.specs.Prelude.{Option, Some, None, option_map, if◌then◌else�
 use Rattle.std.specs.declared.cmp.Ordering.{Ordering}
 use Rattle.std.proofs.lemmas.Bool.{false≢true, eqb-true}
 use Rattle.n2k_id.specs.Frame.{BusFrame}
-use Rattle.n2k_id.specs.Identifier.{parts_of}
+use Rattle.n2k_id.specs.Identifier.{parts_of, is_own, is_to}
 use Rattle.n2k_id.specs.declared.identifier_parts.Parts.{Parts}
 use Rattle.claim_table.specs.declared.answer.Holder.{Holder}
 use Rattle.claim_table.specs.Claims.{holder_at}
@@ -13,17 +13,16 @@ use Rattle.pgn_profile.specs.declared.kinds.Kind.{Kind}
 use Rattle.pgn_profile.specs.declared.kinds.Kind.TheVariants.{Single, Fast, Outside}
 use Rattle.slot_views.specs.Runs.{open_at}
 use Rattle.slot_views.specs.Slots.{SlotMap}
-use Rattle.iso_transport.specs.Audience.{is_own, is_to}
 use Rattle.fast_packet.specs.declared.key.FastKey.{FastKey}
 use Rattle.fast_packet.specs.FastRuns.{FastPiece, fast_rules}
 use Rattle.fast_packet.specs.RunAssemblies.{assembly_at}
 use Rattle.history.specs.Entries.{History, frame}
-use Rattle.history.specs.Receiver.{Receiver}
+use Rattle.history.specs.Settings.{Receiver}
 use Rattle.history.specs.Known.{Known, known, is_claim}
-use Rattle.history.specs.Traces.{Note, fast_trace, fast_trace_since, is_transport}
+use Rattle.history.specs.Traces.{NotedFrame, fast_trace, fast_trace_since, is_transport}
 use Rattle.history.specs.Opens.{is_fast, same_fast, fast_open, notes_of}
 use Rattle.history.specs.Meanings.{Meaning, address_claim, own_source, request, transport, fast_packet, passed, if_held, by_kind, meaning_of, is_of_fast_packet}
-use Rattle.history.specs.FromBus.{meaning_after}
+use Rattle.history.specs.FromBus.{meaning_at}
 use Rattle.history.specs.AddressLaws.{IsReceiver}
 use Rattle.history.specs.KeyLaws.{fast_key, the_note}
 use Rattle.history.proofs.Addresses.{addresses_are_sound}
@@ -113,7 +112,7 @@ held_fast r are k sound p fast held =
 
 module _ (cmp : FastKey → FastKey → Ordering) (r : Receiver) (s : ℕ) (h : History) (m moment : ℕ) (f : BusFrame) (slots : SlotMap FastKey) (are : IsReceiver r)
     (other : is_claim f ≡ false)
-    (passes : is_of_fast_packet (meaning_after r s h moment f) ≡ false) (stands : StandsFastFor cmp r s h m slots) where
+    (passes : is_of_fast_packet (meaning_at r s h moment f) ≡ false) (stands : StandsFastFor cmp r s h m slots) where
   abbrev holders : List (Option Holder)
   holders = (known r s h).claims.holders
 
@@ -121,7 +120,7 @@ module _ (cmp : FastKey → FastKey → Ordering) (r : Receiver) (s : ℕ) (h : 
   open_then key = fast_open (known r s (frame moment f ∷ h)).claims.holders (notes_of r s (frame moment f ∷ h)) key m
 
   -- of a source that holds no address nothing is open
-  none_held : (a p : ℕ) (notes : List Note) (o : Option Holder) → holder_at holders a ≡ o → is_some o ≡ false → fast_trace holders a p notes ≡ []
+  none_held : (a p : ℕ) (notes : List NotedFrame) (o : Option Holder) → holder_at holders a ≡ o → is_some o ≡ false → fast_trace holders a p notes ≡ []
   none_held a p notes None e none = ap (λ (x : Option Holder). fast_trace_since (option_map (λ (y : Holder). y.since) x) a p notes) e
   none_held a p notes (Some x) e none = cc
 

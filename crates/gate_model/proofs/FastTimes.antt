@@ -1,6 +1,6 @@
 -- What is kept of the fast packets stands for the history from the start, and as time passes.
 use Rattle.std.proofs.Common.{◌≡◌, ℕ, ◌≤◌, Bool, true, false, ◌&&◌, not, List, [], ◌∷◌, refl, sym, ap, ◌∙◌, arith, is_some, is_none}
-use Rattle.std.specs.Prelude.{Option, Some, None, if◌then◌else◌}
+use Rattle.std.specs.Prelude.{Option, Some, None, filter, if◌then◌else◌}
 use Rattle.std.specs.List.{flat_map}
 use Rattle.std.specs.declared.cmp.Ordering.{Ordering}
 use Rattle.report_rules.specs.Rules as rules
@@ -15,11 +15,10 @@ use Rattle.fast_packet.specs.FastRuns.{FastPiece, fast_rules}
 use Rattle.fast_packet.specs.RunAssemblies.{assembly_at}
 use Rattle.fast_packet.proofs.Assemblies.{kept_is}
 use Rattle.history.specs.Known.{known, held_since}
-use Rattle.history.specs.Traces.{Note, fast_trace, fast_trace_since}
-use Rattle.history.specs.Opens.{is_fast, fast_open}
+use Rattle.history.specs.Traces.{NotedFrame, fast_trace, fast_trace_since}
+use Rattle.history.specs.Opens.{is_fast, fast_open, fast_keys}
 use Rattle.gate_events.specs.Emit.{Emit}
 use Rattle.history.specs.Emits.{of_source}
-use Rattle.history.specs.Endings.{fast_expired}
 use Rattle.history.specs.CountLaws.{HoldsFast}
 use Rattle.history.proofs.KeySteps.{fast_ends}
 use Rattle.history.proofs.FastCounts.{slots_count_fast}
@@ -52,7 +51,7 @@ pub none_is : {X : Type 0} (o : Option X) → is_none o ≡ not (is_some o)
 none_is None = refl
 none_is (Some x) = refl
 
-module _ (kinds : ℕ → Kind) (cmp : FastKey → FastKey → Ordering) (limit : ℕ) (holders : List (Option Holder)) (notes : List Note) (m : ℕ)
+module _ (kinds : ℕ → Kind) (cmp : FastKey → FastKey → Ordering) (limit : ℕ) (holders : List (Option Holder)) (notes : List NotedFrame) (m : ℕ)
     (slots : SlotMap FastKey)
     (orders : OrdersFast cmp) (stands : StandsFast kinds cmp limit holders notes m slots) where
   pub holds : HoldsFast kinds cmp holders notes m slots
@@ -123,7 +122,8 @@ module _ (kinds : ℕ → Kind) (cmp : FastKey → FastKey → Ordering) (limit 
     abbrev of_key : FastKey → List Emit
     of_key key = of_source rules.expired key.source key.pgn ∷ []
 
-    pub overdue_is : fast_overdue slots n ≡ fast_expired holders notes m n kinds
+    pub overdue_is : fast_overdue slots n
+        ≡ flat_map of_key (filter (λ key. is_some (fast_open holders notes key m) && is_none (fast_open holders notes key n)) (fast_keys kinds notes))
     overdue_is =
         told_of_keys of_key _ ∙ ap (flat_map of_key) (holds_all.lists.ending (λ key. true) holders n (has_expired n) ends_so)
 

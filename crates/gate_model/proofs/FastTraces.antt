@@ -3,12 +3,12 @@ use Rattle.std.proofs.Common.{◌≡◌, ℕ, ◌+◌, ◌≤◌, Bool, true, fa
 use Rattle.std.specs.Prelude.{Option, Some, None, filter, if◌then◌else◌}
 use Rattle.std.specs.List.{AllByRecursion}
 use Rattle.std.proofs.lemmas.Bool.{le-leb}
-use Rattle.slot_views.specs.Runs.{in_time, is_admitted, is_whole, if_open, kept_at, open_of, open_at, fed, fed_later}
-use Rattle.fast_packet.specs.FastFrames.{gap, is_opener}
-use Rattle.fast_packet.specs.FastRuns.{FastPiece, is_next, is_repeat, fast_rules}
+use Rattle.slot_views.specs.Runs.{in_time, is_admitted, is_whole, if_open, kept_at, open_of, open_at}
+use Rattle.slot_views.specs.RunLaws.{fed, fed_later}
+use Rattle.fast_packet.specs.FastRuns.{gap, is_opener, FastPiece, is_next, is_repeat, fast_rules}
 use Rattle.history.specs.Entries.{History, IsHistory, frame, datagram, tick, command}
-use Rattle.history.specs.Receiver.{Receiver}
-use Rattle.history.specs.Traces.{Note, is_since, fast_piece, fast_trace_since}
+use Rattle.history.specs.Settings.{Receiver}
+use Rattle.history.specs.Traces.{NotedFrame, is_since, fast_piece, fast_trace_since}
 use Rattle.history.specs.Opens.{notes_of}
 
 -- ---- every frame of a history has at most 8 bytes
@@ -20,7 +20,7 @@ notes_short r s (datagram m bytes ∷ h) is = notes_short r s h is.2
 notes_short r s (tick m ∷ h) is = notes_short r s h is.2
 notes_short r s (command m source address ∷ h) is = notes_short r s h is.2
 
-pub trace_short : (since : Option ℕ) (a p : ℕ) (notes : List Note) → AllByRecursion (λ n. length n.bytes ≤ 8) notes
+pub trace_short : (since : Option ℕ) (a p : ℕ) (notes : List NotedFrame) → AllByRecursion (λ n. length n.bytes ≤ 8) notes
     → AllByRecursion (λ x. length x.bytes ≤ 8) (fast_trace_since since a p notes)
 trace_short None a p notes short = tt
 trace_short (Some since) a p [] short = tt

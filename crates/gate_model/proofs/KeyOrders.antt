@@ -10,7 +10,8 @@ use Rattle.std.proofs.lemmas.Bool.{eqb-true, ltb-true}
 use Rattle.fast_packet.specs.contracts.key.FastKeyOrd as fast
 use Rattle.iso_transport.specs.contracts.key.IsoKeyOrd as iso
 use Rattle.tag_block.specs.contracts.group_key.GroupKeyOrd as groups
-use Rattle.history.specs.Heard.{same_text, precedes_text}
+use Rattle.history.specs.Heard.{precedes_text}
+use Rattle.history.specs.Settings.{same_text}
 use Rattle.gate_model.specs.Orders.{OrdersFast, OrdersIso, OrdersGroups}
 
 -- ---- numbers

@@ -5,7 +5,8 @@ use Rattle.std.specs.List.{AllByRecursion}
 use Rattle.std.specs.declared.cmp.Ordering.{Ordering}
 use Rattle.gate_events.specs.declared.emit.Detail.TheVariants as detail
 use Rattle.report_rules.specs.Rules as rules
-use Rattle.slot_views.specs.Runs.{accepted, accepted_after, in_time, is_admitted, if_whole, since_opener, opener_of, open_at, run_of, finished, finished_later}
+use Rattle.slot_views.specs.Runs.{accepted, accepted_after, in_time, is_admitted, if_whole, since_opener, opener_of, open_at, run_of}
+use Rattle.slot_views.specs.RunLaws.{finished, finished_later}
 use Rattle.slot_views.proofs.RunSteps.{one_step_of}
 use Rattle.slot_views.proofs.RunSuffixes.{one_suffix_of}
 use Rattle.slot_views.specs.Slots.{Entry, SlotMap, grown, entry_at, is_held, is_full, is_complete}

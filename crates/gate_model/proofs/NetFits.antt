@@ -8,7 +8,7 @@ use Rattle.readings.specs.Rows.{row_of}
 use Rattle.readings.specs.About.{row_number}
 use Rattle.tag_block.specs.declared.group_part.GroupPart.{GroupPart}
 use Rattle.tag_block.specs.Groups.{IsGroupPart}
-use Rattle.tag_block.specs.Numbers.{IsGroupRead}
+use Rattle.tag_block.specs.Tag.{IsGroupRead}
 use Rattle.history.specs.Settings.{Settings}
 use Rattle.history.specs.Heard.{several, place_of}
 use Rattle.gate_model.specs.Net.{ReadingsKept, LineHeard, sequence_at, is_counted, sequences_after}

@@ -7,7 +7,8 @@ use Rattle.std.specs.declared.cmp.Ordering.{Ordering}
 use Rattle.std.proofs.lemmas.Bool.{le-leb}
 use Rattle.gate_events.specs.declared.emit.Detail.TheVariants as detail
 use Rattle.report_rules.specs.Rules as rules
-use Rattle.slot_views.specs.Runs.{is_admitted, is_whole, if_open, kept_at, fed, fed_later}
+use Rattle.slot_views.specs.Runs.{is_admitted, is_whole, if_open, kept_at}
+use Rattle.slot_views.specs.RunLaws.{fed, fed_later}
 use Rattle.slot_views.specs.Slots.{Entry, SlotMap, Changes, entry_at, is_full, has_expired, is_expired}
 use Rattle.slot_views.specs.Traces.{left_at, unexpired}
 use Rattle.slot_views.proofs.Tied.{unexpired_at, ordered_filtered}

@@ -9,12 +9,11 @@ use Rattle.tag_block.specs.declared.group_part.GroupPart.{GroupPart}
 use Rattle.tag_block.specs.Groups.{IsGroupPart}
 use Rattle.tag_block.specs.GroupRuns.{GroupLine, group_rules}
 use Rattle.tag_block.specs.GroupLaws.{group_at}
-use Rattle.tag_block.specs.Numbers.{IsGroupRead}
+use Rattle.tag_block.specs.Tag.{IsGroupRead}
 use Rattle.tag_block.proofs.GroupPrefixes.{far_by}
-use Rattle.datagram450.specs.Datagram.{IsLine, IsItem}
-use Rattle.datagram450.specs.Item.{Item, line, bad}
+use Rattle.datagram450.specs.Datagram.{IsLine, IsItem, Item, line, bad}
 use Rattle.history.specs.Settings.{Settings}
-use Rattle.history.specs.Heard.{Came, Taken, same_group, several, group_line, group_trace, is_taken, taken_after, with_item, lines_of}
+use Rattle.history.specs.Heard.{HeardItem, Taken, same_group, several, group_line, group_trace, is_taken, taken_as, with_item, taken_lines}
 use Rattle.gate_model.proofs.NetSentences.{sentence_is_line}
 
 -- ---- what holds of every line that is taken
@@ -23,20 +22,20 @@ pub record IsHeard (t : Taken) : Type 0 where
   pub group : IfSome t.group IsGroupRead
   pub sentence : IsLine t.sentence
 
-item_heard : (c : Settings) (lines : List Taken) (x : Came) (i : Item) → IsItem i → AllByRecursion IsHeard lines → AllByRecursion IsHeard (with_item c lines x i)
+item_heard : (c : Settings) (lines : List Taken) (x : HeardItem) (i : Item) → IsItem i → AllByRecursion IsHeard lines → AllByRecursion IsHeard (with_item c lines x i)
 item_heard c lines x (line place said sentence parts) is all = by (is_taken c said)
   where
     t : Taken
-    t = taken_after c lines x place said sentence
+    t = taken_as c lines x place said sentence
 
     by : (b : Bool) → AllByRecursion IsHeard (if b then t ∷ lines else lines)
     by true = (record { group = is.ranges.group; sentence = sentence_is_line parts sentence is.sentence }, all)
     by false = all
 item_heard c lines x (bad rule place) is all = all
 
-pub all_heard : (c : Settings) (older : List Came) → AllByRecursion (λ x. IsItem x.item) older → AllByRecursion IsHeard (lines_of c older)
+pub all_heard : (c : Settings) (older : List HeardItem) → AllByRecursion (λ x. IsItem x.item) older → AllByRecursion IsHeard (taken_lines c older)
 all_heard c [] all = tt
-all_heard c (x ∷ older) all = item_heard c (lines_of c older) x x.item all.0 (all_heard c older all.1)
+all_heard c (x ∷ older) all = item_heard c (taken_lines c older) x x.item all.0 (all_heard c older all.1)
 
 pub several_is : (g : Option GroupPart) (part : GroupPart) → several g ≡ Some part → (g ≡ Some part) × (nat_le 2 part.total ≡ true)
 several_is None part e = cc

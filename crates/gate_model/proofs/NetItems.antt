@@ -11,17 +11,15 @@ use Rattle.tag_block.specs.Tag.{Said}
 use Rattle.sentence_text.specs.Sentence.{SentenceParts}
 use Rattle.datagram450.specs.declared.fault.DatagramFault.{DatagramFault}
 use Rattle.datagram450.specs.Datagram as datagrams
-use Rattle.datagram450.specs.Datagram.{IsItem}
-use Rattle.datagram450.specs.Item.{Item, line, bad}
+use Rattle.datagram450.specs.Datagram.{IsItem, Item, line, bad}
 use Rattle.datagram450.proofs.Datagrams.{is_found}
 use Rattle.datagram450.proofs.Items.{each_is}
-use Rattle.history.specs.Settings.{Settings}
-use Rattle.history.specs.Receiver.{receiver_of}
+use Rattle.history.specs.Settings.{Settings, receiver_of}
 use Rattle.history.specs.Known.{known}
 use Rattle.gate_events.specs.Emit.{Emit}
 use Rattle.history.specs.Emits.{reported}
 use Rattle.history.specs.Heard as heard_lines
-use Rattle.history.specs.Heard.{Came, Taken, came_at, with_items, several, place_of, is_taken, is_own_line, is_elsewhere, is_line_admitted, handed_over, lines_of}
+use Rattle.history.specs.Heard.{HeardItem, Taken, heard_items, with_items, several, place_of, is_taken, is_own_line, is_elsewhere, is_line_admitted, handed_over, taken_lines}
 use Rattle.history.specs.NetReadings.{with_sentences, readings_of}
 use Rattle.history.specs.NetRules.{datagram_breaks, part_breaks, line_breaks}
 use Rattle.history.specs.FromNet.{items_in, sentences_give, item_gives, items_give}
@@ -52,10 +50,10 @@ time_stands_net cmp c older earlier m k o later st =
     record {
       stands = record {
         items = st.items;
-        groups = later_stands cmp o c.group_slots (lines_of c older) all earlier k.groups st.groups m later;
+        groups = later_stands cmp o c.group_slots (taken_lines c older) all earlier k.groups st.groups m later;
         readings = st.readings;
       };
-      gives = overdue_same cmp o c.group_slots (lines_of c older) all earlier k.groups st.groups m later;
+      gives = overdue_same cmp o c.group_slots (taken_lines c older) all earlier k.groups st.groups m later;
     }
 
 -- ---- one more item
@@ -69,11 +67,11 @@ untaken c said e = ap (λ (o : Option ℕ). not (is_own_line c said) && (not (is
     by false true = refl
     by false false = refl
 
-module _ (cmp : GroupKey → GroupKey → Ordering) (c : Settings) (o : OrdersGroups cmp) (own : Option ℕ) (older : List Came) (m : ℕ) (ready : Bool) (k : NetKept) (st : StandsNet cmp c older m k) where
+module _ (cmp : GroupKey → GroupKey → Ordering) (c : Settings) (o : OrdersGroups cmp) (own : Option ℕ) (older : List HeardItem) (m : ℕ) (ready : Bool) (k : NetKept) (st : StandsNet cmp c older m k) where
   abbrev lines : List Taken
-  lines = lines_of c older
+  lines = taken_lines c older
 
-  abbrev came : Item → Came
+  abbrev came : Item → HeardItem
   came i = record { moment = m; ready = ready; item = i }
 
   -- ---- a line that isn't taken
@@ -82,12 +80,12 @@ module _ (cmp : GroupKey → GroupKey → Ordering) (c : Settings) (o : OrdersGr
     abbrev this : Item
     this = line place said sentence parts
 
-    passed_lines : lines_of c (came this ∷ older) ≡ lines
-    passed_lines = ap (λ (b : Bool). if b then heard_lines.taken_after c lines (came this) place said sentence ∷ lines else lines) not_taken
+    passed_lines : taken_lines c (came this ∷ older) ≡ lines
+    passed_lines = ap (λ (b : Bool). if b then heard_lines.taken_as c lines (came this) place said sentence ∷ lines else lines) not_taken
 
     passed_gives : reported (line_breaks c place said) ≡ item_gives c own older (came this)
     passed_gives =
-        let t = heard_lines.taken_after c lines (came this) place said sentence in
+        let t = heard_lines.taken_as c lines (came this) place said sentence in
         sym (append-nil (reported (line_breaks c place said)))
         ∙ ap (λ (b : Bool). reported (if b then part_breaks lines t (several said.group) else line_breaks c place said)
         ++ (if b then sentences_give c own t (readings_of lines) (handed_over t lines) else [])) (sym not_taken)
@@ -100,9 +98,9 @@ module _ (cmp : GroupKey → GroupKey → Ordering) (c : Settings) (o : OrdersGr
     it = line place said sentence parts
 
     abbrev t : Taken
-    t = heard_lines.taken_after c lines (came it) place said sentence
+    t = heard_lines.taken_as c lines (came it) place said sentence
 
-    more_lines : lines_of c (came it ∷ older) ≡ t ∷ lines
+    more_lines : taken_lines c (came it ∷ older) ≡ t ∷ lines
     more_lines = ap (λ (b : Bool). if b then t ∷ lines else lines) taken
 
     all : AllByRecursion IsHeard (t ∷ lines)
@@ -207,17 +205,17 @@ items_stand_net cmp c own older x k o is st = item_stands cmp c o own older x.mo
 -- ---- a datagram
 
 module _ (cmp : GroupKey → GroupKey → Ordering) (c : Settings) (o : OrdersGroups cmp) (own : Option ℕ) (m : ℕ) (ready : Bool) where
-  abbrev came_now : Item → Came
+  abbrev came_now : Item → HeardItem
   came_now i = record { moment = m; ready = ready; item = i }
 
-  all_stand : (items : List Item) (older : List Came) (k : NetKept) → AllByRecursion IsItem items → StandsNet cmp c older m k
-      → StandsNet cmp c (with_items older (came_at m ready items)) m (items_after cmp c m ready k items)
+  all_stand : (items : List Item) (older : List HeardItem) (k : NetKept) → AllByRecursion IsItem items → StandsNet cmp c older m k
+      → StandsNet cmp c (with_items older (heard_items m ready items)) m (items_after cmp c m ready k items)
   all_stand [] older k each st = st
   all_stand (i ∷ items) older k each st =
       all_stand items (came_now i ∷ older) (item_after cmp c m ready k i) each.1 (item_stands cmp c o own older m ready k st i each.0).stands
 
-  all_give : (items : List Item) (older : List Came) (k : NetKept) → AllByRecursion IsItem items → StandsNet cmp c older m k
-      → items_emit cmp c m ready own k items ≡ items_give c own older (came_at m ready items)
+  all_give : (items : List Item) (older : List HeardItem) (k : NetKept) → AllByRecursion IsItem items → StandsNet cmp c older m k
+      → items_emit cmp c m ready own k items ≡ items_give c own older (heard_items m ready items)
   all_give [] older k each st = refl
   all_give (i ∷ items) older k each st =
       let one = item_stands cmp c o own older m ready k st i each.0 in

@@ -8,8 +8,8 @@ use Rattle.std.proofs.lemmas.Bool.{and_parts, eqb-true, eqb-false, eq-eqb, ne_eq
 use Rattle.readings.specs.declared.reading.Reading.{Reading}
 use Rattle.readings.specs.declared.rows.Row.{Row}
 use Rattle.readings.specs.Rows.{row_of}
-use Rattle.pgn_profile.specs.Payload.{payload_of, pgn_of, priority_of}
-use Rattle.fast_packet.specs.Splitting.{frames_of}
+use Rattle.pgn_profile.specs.Profiled.{payload_of, pgn_of, priority_of}
+use Rattle.fast_packet.specs.FastRuns.{frames_of}
 use Rattle.sentence_rows.specs.declared.fault.FieldFault.{FieldFault}
 use Rattle.sentence_rows.specs.declared.fault.FieldFault.TheVariants.{Outside, Form, Range}
 use Rattle.source_choice.specs.declared.note.Note.{Note}
@@ -17,13 +17,13 @@ use Rattle.source_choice.specs.Notes.{RowNotes, note_of, with_note}
 use Rattle.source_choice.specs.Choices.{row_at, nothing, noted, with_noted}
 use Rattle.readings.specs.About.{row_number}
 use Rattle.source_choice.proofs.NoteLemmas.{from_with, noted_here, others_noted}
-use Rattle.history.specs.Settings.{Settings}
+use Rattle.history.specs.Settings.{Settings, same_text}
 use Rattle.report_rules.specs.Rules.{not_ready}
 use Rattle.gate_events.specs.declared.emit.Detail.TheVariants.{At}
 use Rattle.gate_events.specs.Emit.{Emit}
 use Rattle.history.specs.Emits.{broken, sent, reported}
 use Rattle.history.specs.Choice.{is_row}
-use Rattle.history.specs.Heard.{Taken, same_text, place_of}
+use Rattle.history.specs.Heard.{Taken, place_of}
 use Rattle.history.specs.NetReadings.{NetReading, read_sentence, with_readings, with_said, with_sentences, last_heard, is_net_selected, is_fast_row, fast_sent, next_sequence}
 use Rattle.history.specs.NetRules.{sentence_breaks, reading_breaks}
 use Rattle.history.specs.FromNet.{payload_frames, sent_from, reading_gives, readings_give, said_gives, sentences_give}

@@ -5,12 +5,11 @@ use Rattle.std.specs.List.{position_or_len}
 use Rattle.std.proofs.lemmas.Bool.{ltb-true, false≢true}
 use Rattle.readings.specs.declared.rows.Row.{Row}
 use Rattle.readings.specs.declared.rows.Row.TheVariants as row
-use Rattle.pgn_profile.specs.Payload.{pgn_of}
-use Rattle.pgn_profile.specs.Profiled.{messages}
+use Rattle.pgn_profile.specs.Profiled.{pgn_of, messages}
 use Rattle.source_choice.specs.Choices.{row_at, nothing}
 use Rattle.readings.specs.About.{row_number}
-use Rattle.history.specs.Settings.{Settings, rule_of}
-use Rattle.history.specs.Heard.{same_text, place_of}
+use Rattle.history.specs.Settings.{Settings, rule_of, same_text}
+use Rattle.history.specs.Heard.{place_of}
 use Rattle.history.specs.NetReadings.{is_fast_row}
 use Rattle.history.proofs.GroupCounts.{text_is}
 use Rattle.gate_model.specs.Net.{row_numbers, no_readings, sequence_at}

@@ -15,20 +15,18 @@ use Rattle.claim_table.specs.Claims.{Outcome, places, claim, holder_at, is_at}
 use Rattle.claim_table.specs.declared.answer.Holder.{Holder}
 use Rattle.history.specs.AddressLaws.{AreSettings}
 use Rattle.history.specs.Entries.{History, frame}
-use Rattle.history.specs.Settings.{Settings, rule_of}
-use Rattle.history.specs.Receiver.{receiver_of}
+use Rattle.history.specs.Settings.{Settings, rule_of, receiver_of}
 use Rattle.history.specs.Known.{Known, known, is_claim, claim_by, address_left, address_won}
 use Rattle.history.specs.Messages.{Message, done, messages_of, with_message}
-use Rattle.history.specs.Choice.{holder_rank}
-use Rattle.history.specs.FromBus.{chosen}
+use Rattle.history.specs.Choice.{holder_rank, last_of}
+use Rattle.history.specs.FromBus.{selected_in}
 use Rattle.history.specs.Gate.{with_spoken, spoken_of}
 use Rattle.history.specs.TraceLaws.{is_lost}
-use Rattle.history.specs.FreshLaws.{last_since, last_of}
 use Rattle.history.specs.ChoiceLaws.{noted_with, kept_note, HoldsNotes}
 use Rattle.history.proofs.Addresses.{addresses_are_sound}
 use Rattle.history.proofs.Fates as fates
 use Rattle.history.proofs.Fates.{Fate, fate}
-use Rattle.history.proofs.FreshSteps.{claims_forget, claim_says_none}
+use Rattle.history.proofs.FreshSteps.{claims_forget, claim_says_none, last_since}
 use Rattle.history.proofs.Receivers.{gateways_receive}
 use Rattle.history.proofs.TraceMoves.{known_after_claim, commanded_holders}
 use Rattle.gate_model.specs.Net.{row_numbers}
@@ -211,7 +209,7 @@ module _ (c : Settings) (s : ℕ) (h : History) (m : ℕ) (f : BusFrame) (k : Sa
         subst (λ (n : Known). StandsSaid c n.claims.holders (messages_of (receiver_of c) s (frame m f ∷ h)) (spoken_of c s (frame m f ∷ h))
         (claimed_after o.step k))
         (sym (known_after_claim (receiver_of c) s h m f claims))
-        (subst (λ (d : Option Message). StandsSaid c after (with_message d older) (with_spoken c s (chosen c holders older d) (spoken_of c s h))
+        (subst (λ (d : Option Message). StandsSaid c after (with_message d older) (with_spoken c s (selected_in c holders older d) (spoken_of c s h))
         (claimed_after o.step k)) (sym silent) stands_then);
     silent = silent;
   }

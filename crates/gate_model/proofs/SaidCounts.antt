@@ -6,11 +6,9 @@ use Rattle.readings.specs.declared.rows.Row.{Row}
 use Rattle.readings.specs.declared.rows.Row.TheVariants as row
 use Rattle.readings.specs.Rows.{row_of}
 use Rattle.readings.specs.About.{row_number}
-use Rattle.datagram450.specs.Datagram.{header}
-use Rattle.datagram450.specs.Writing.{line_text}
-use Rattle.history.specs.Settings.{Settings, rule_of}
-use Rattle.history.specs.Heard.{same_text}
-use Rattle.history.specs.Datagrams.{Spoken, lines_on, line_groups, part_of, lines_from}
+use Rattle.datagram450.specs.Datagram.{header, line_text}
+use Rattle.history.specs.Settings.{Settings, rule_of, same_text}
+use Rattle.history.specs.Emits.{Spoken, lines_on, line_groups, part_of, lines_from}
 use Rattle.gate_model.specs.Net.{row_numbers}
 use Rattle.gate_model.specs.Said.{SaidKept, sentences_by, lines_at, lines_more, groups_more, counted}
 use Rattle.gate_model.specs.SaidLaws.{DatagramsAreOfAll}

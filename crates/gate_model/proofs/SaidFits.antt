@@ -12,11 +12,10 @@ use Rattle.sentence_text.specs.Names.{IsSfi}
 use Rattle.tag_block.specs.declared.group_part.GroupPart.{GroupPart}
 use Rattle.tag_block.specs.Tag.{block_text}
 use Rattle.tag_block.specs.Writing.{IsWritable, IsWritableGroup, block_of, block_with}
-use Rattle.datagram450.specs.Writing.{line_text}
-use Rattle.history.specs.Settings.{Settings, rule_at, rule_of}
+use Rattle.datagram450.specs.Datagram.{line_text}
+use Rattle.history.specs.Settings.{Settings, rule_at, rule_of, same_text}
 use Rattle.history.specs.Known.{address_left, address_won}
-use Rattle.history.specs.Heard.{same_text}
-use Rattle.history.specs.Datagrams.{part_of, lines_from}
+use Rattle.history.specs.Emits.{part_of, lines_from}
 use Rattle.gate_model.specs.Net.{row_numbers}
 use Rattle.gate_model.specs.Said.{SaidKept, Complete, sentences_by, lines_at, message_after, lines_more, groups_more, counted, is_chosen, noted_by, ranked_after, rank_by, profiled_after, reading_by, without_source}
 use Rattle.gate_model.specs.SaidFits.{AreCounts, CountsFit, LinesFit, tag_of, ReadingsFit}

@@ -1,6 +1,6 @@
 -- What is kept of what was said stands for one more message as it does for those before it, and the message is said as the history says it.
 use Rattle.std.proofs.Common.{◌≡◌, ℕ, ◌<◌, Bool, true, false, List, [], ◌∷◌, length, refl, sym, ap, subst, ◌∙◌, arith}
-use Rattle.std.specs.Prelude.{Option, Some, None, IfSome, option_map, if◌then◌else◌}
+use Rattle.std.specs.Prelude.{Option, Some, None, IfSome, option_map, if◌then◌else◌, option_and_then}
 use Rattle.n2k_id.specs.Frame.{BusFrame}
 use Rattle.n2k_id.specs.Identifier.{parts_of}
 use Rattle.readings.specs.declared.reading.Reading.{Reading}
@@ -14,20 +14,19 @@ use Rattle.claim_table.specs.declared.answer.Holder.{Holder}
 use Rattle.claim_table.proofs.SoundLemmas.{held_within}
 use Rattle.history.specs.AddressLaws.{AreSettings}
 use Rattle.history.specs.Entries.{History, frame}
-use Rattle.history.specs.Settings.{Settings, RowRule, rule_of}
-use Rattle.history.specs.Receiver.{receiver_of}
+use Rattle.history.specs.Settings.{Settings, RowRule, rule_of, receiver_of}
 use Rattle.history.specs.Known.{Known, known, held_since, is_claim}
 use Rattle.history.specs.Messages.{Message, Carried, done, messages_of, said_by, with_message, completed_by}
 use Rattle.history.specs.Opens.{note_of, notes_of}
-use Rattle.history.specs.Choice.{reading_of, rank_of, holder_rank, is_first, selected_reading}
-use Rattle.history.specs.Datagrams.{Spoken}
+use Rattle.history.specs.Choice.{reading_of, rank_of, holder_rank, is_first, selected_reading, last_of}
+use Rattle.history.specs.Emits.{Spoken}
 use Rattle.gate_events.specs.Emit.{Emit, net}
-use Rattle.history.specs.FromBus.{chosen, said_in}
+use Rattle.history.specs.FromBus.{selected_in, said_in}
 use Rattle.history.specs.Gate.{with_spoken, spoken_of}
-use Rattle.history.specs.FreshLaws.{last_since, last_of, tells}
+use Rattle.history.specs.FreshLaws.{tells}
 use Rattle.history.specs.ChoiceLaws.{noted_with, kept_note, HoldsNotes}
 use Rattle.history.proofs.Addresses.{addresses_are_sound}
-use Rattle.history.proofs.FreshSteps.{messages_are_kept}
+use Rattle.history.proofs.FreshSteps.{messages_are_kept, last_since}
 use Rattle.history.proofs.KeySteps.{known_same}
 use Rattle.history.proofs.NoteChoice.{first_by_notes}
 use Rattle.history.proofs.Receivers.{gateways_receive}
@@ -137,11 +136,11 @@ module _ (c : Settings) (s : ℕ) (holders : List (Option Holder)) (older : List
         (noted_then c holders older (d ∷ older) d holder at named within keeps k.choices choices r is rank e))
 
   by_reading : (o : Option Reading) → reading_of d ≡ o
-      → Steps (profiled_after c k (complete_of d) o) (profiled_emits c k (complete_of d) o) (selected_reading c holders older d o)
+      → Steps (profiled_after c k (complete_of d) o) (profiled_emits c k (complete_of d) o) (option_and_then (selected_reading c holders older d) o)
   by_reading None e = record { stands = silent k.choices (unread c holders older (d ∷ older) d holder at named within keeps k.choices choices e); gives = refl }
   by_reading (Some r) e = by_rank r e (rank_of (rule_of c (row_of r)) d.name) refl
 
-  message_steps : Steps (message_after c k (Some (complete_of d))) (message_emits c k (Some (complete_of d))) (chosen c holders older (Some d))
+  message_steps : Steps (message_after c k (Some (complete_of d))) (message_emits c k (Some (complete_of d))) (selected_in c holders older (Some d))
   message_steps = by_reading (reading_of d) refl
 
 -- ---- a frame that is no claim
@@ -196,9 +195,9 @@ module _ (c : Settings) (s : ℕ) (h : History) (m : ℕ) (f : BusFrame) (are : 
 
     module _ (k : SaidKept) (st : SaidStandsFor c s h k) where
       record Stands (o : Option Message) : Type 0 where
-        stands : StandsSaid c holders (with_message o older) (with_spoken c s (chosen c holders older o) (spoken_of c s h))
+        stands : StandsSaid c holders (with_message o older) (with_spoken c s (selected_in c holders older o) (spoken_of c s h))
             (message_after c k (option_map complete_of o))
-        gives : message_emits c k (option_map complete_of o) ≡ said_in c (spoken_of c s h) (chosen c holders older o)
+        gives : message_emits c k (option_map complete_of o) ≡ said_in c (spoken_of c s h) (selected_in c holders older o)
 
       by_message : (o : Option Message) → IfSome o (IsHeldBy holders)
           → ((one : Row) (a : ℕ) → last_of holders one a (with_message o older) ≡ (if tells one a o then o else last_of holders one a older)) → Stands o
@@ -212,7 +211,7 @@ module _ (c : Settings) (s : ℕ) (h : History) (m : ℕ) (f : BusFrame) (are : 
           let all = by_message completed is_held keeps in
           record {
             stands = subst (λ (n : Known). StandsSaid c n.claims.holders (with_message completed older)
-                (with_spoken c s (chosen c holders older completed) (spoken_of c s h)) (message_after c k (option_map complete_of completed)))
+                (with_spoken c s (selected_in c holders older completed) (spoken_of c s h)) (message_after c k (option_map complete_of completed)))
                 (sym (known_same (receiver_of c) s h m f other)) all.stands;
             gives = all.gives;
           }

@@ -17,8 +17,8 @@ use Rattle.claim_table.specs.Claims.{places, holder_at}
 use Rattle.claim_table.specs.declared.answer.Holder.{Holder}
 use Rattle.history.specs.Settings.{Settings, RowRule, rule_at, rule_of}
 use Rattle.history.specs.Messages.{Message}
-use Rattle.history.specs.Choice.{reading_of, rank_of, holder_rank, is_row, is_usable}
-use Rattle.history.specs.FreshLaws.{last_of, tells}
+use Rattle.history.specs.Choice.{reading_of, rank_of, holder_rank, is_row, is_usable, last_of}
+use Rattle.history.specs.FreshLaws.{tells}
 use Rattle.history.specs.ChoiceLaws.{noted_with, kept_note, HoldsNotes}
 use Rattle.gate_model.specs.Net.{row_numbers}
 use Rattle.gate_model.specs.Said.{complete_of, note_by}

@@ -12,10 +12,9 @@ use Rattle.sentence_text.specs.Byte.{is_field_byte}
 use Rattle.sentence_rows.specs.declared.field.Field.{Field}
 use Rattle.sentence_rows.specs.declared.field.Field.TheVariants.{Decimal, Degrees, Empty, Letter, Satellites, Side}
 use Rattle.sentence_rows.specs.declared.written_unit.WrittenUnit.{WrittenUnit}
-use Rattle.sentence_rows.specs.Field.{IsCounted, IsPrintable, body_width, is_sound}
-use Rattle.sentence_rows.specs.Lines.{sentence_by}
+use Rattle.sentence_rows.specs.Field.{IsCounted, IsPrintable, body_width, is_sound, sentence_by}
 use Rattle.sentence_rows.specs.Writing.{letter_where, beside, above_freezing, dpt, day_said, said_on, sentences_of}
-use Rattle.sentence_rows.specs.WrittenUnits as unit
+use Rattle.sentence_rows.specs.Field as unit
 use Rattle.sentence_rows.proofs.Bodies.{sentence_fits}
 
 -- a formatter and fields that make a sentence of at most 82 bytes

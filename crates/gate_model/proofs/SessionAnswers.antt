@@ -16,20 +16,17 @@ use Rattle.iso_transport.specs.declared.answers.IsoRefusal.{IsoRefusal}
 use Rattle.iso_transport.specs.declared.answers.IsoRefusal.TheVariants as refusal
 use Rattle.iso_transport.specs.declared.answers.IsoOutcome.{IsoOutcome}
 use Rattle.iso_transport.specs.declared.answers.IsoOutcome.TheVariants.{Ignored, Held, Complete, Repeat, Refused}
-use Rattle.iso_transport.specs.Connection.{control_at, size_at, packets_at, limit_at, pgn_at}
-use Rattle.iso_transport.specs.Cm.{cm_by, cm_of}
-use Rattle.iso_transport.specs.Sessions.{opens}
-use Rattle.iso_transport.specs.Audience.{key_of, bears}
-use Rattle.iso_transport.specs.IsoRuns.{IsoPiece}
-use Rattle.iso_transport.specs.Verdicts.{management_verdict, kind_verdict, frame_verdict}
-use Rattle.iso_transport.specs.Verdicts.{pgn_in}
+use Rattle.iso_transport.specs.Connection.{control_at, size_at, packets_at, limit_at, pgn_at, cm_by, cm_of}
+use Rattle.iso_transport.specs.IsoRuns.{opens, IsoPiece}
+use Rattle.iso_transport.specs.Audience.{key_of}
+use Rattle.iso_transport.specs.Verdicts.{bears, management_verdict, kind_verdict, frame_verdict, pgn_in}
 use Rattle.iso_transport.specs.Assembly.{extended, verdict_of}
 use Rattle.iso_transport.specs.Answers.{OutcomeBy, NextGives, restarted_by}
 use Rattle.iso_transport.specs.Keys.{refusal_of}
 use Rattle.iso_transport.specs.RunVerdicts.{Message, run_verdict, message_of}
-use Rattle.iso_transport.specs.RunReplies.{is_request, reply_to}
+use Rattle.iso_transport.specs.Replies.{is_request, reply_to}
 use Rattle.iso_transport.specs.Joining.{piece_of}
-use Rattle.history.specs.Traces.{Note, iso_piece}
+use Rattle.history.specs.Traces.{NotedFrame, iso_piece}
 use Rattle.history.specs.Messages.{Message as Said, Carried, said_by, iso_carried}
 use Rattle.history.specs.Meanings.{transport}
 use Rattle.history.specs.Emits.{breaks, broken_of}
@@ -80,7 +77,7 @@ answers_are_told cmp slots own parts bytes moment fed gives = record {
 
 -- ---- what is reported
 
-pub verdict_reports : (n : Note) (v : Verdict) (rest : List Report)
+pub verdict_reports : (n : NotedFrame) (v : Verdict) (rest : List Report)
     → verdict_breaks n v ++ rest ≡ restarted_reports n.parts.source (restarted_by v) ++ (refused_reports n.parts (refusal_of v) ++ rest)
 verdict_reports n what.Ignored rest = refl
 verdict_reports n what.Again rest = refl
@@ -99,7 +96,7 @@ verdict_reports n (what.Opens s (Some old)) rest = refl
 verdict_reports n (what.Next s number end) rest = refl
 
 -- the rules that a frame breaks which is fed, by what it is to its session and the message that it completes
-pub told_reports : (name : ℕ) (n : Note) (q : Option (List IsoPiece)) (d : Option Said) (v : Verdict) (answer : SessionAnswer) (given : List Report)
+pub told_reports : (name : ℕ) (n : NotedFrame) (q : Option (List IsoPiece)) (d : Option Said) (v : Verdict) (answer : SessionAnswer) (given : List Report)
     → given ≡ frame_breaks name transport n None q d → (n.admitted ≡ false → q ≡ None)
     → is_early (key_of n.parts).addressed n.ready (iso_piece n) ≡ false → v ≡ run_verdict (key_of n.parts).addressed q (iso_piece n)
     → answer.restarted ≡ restarted_by v → answer.refusal ≡ refusal_of v
@@ -114,7 +111,7 @@ told_reports name n q d v answer given broken alone early told restarted refused
     ∙ (ap (λ (o : Option ℕ). restarted_reports n.parts.source o ++ (refused_reports n.parts (refusal_of v) ++ short_reports n.parts.source c)) (sym restarted)
     ∙ ap (λ (o : Option IsoRefusal). restarted_reports n.parts.source answer.restarted ++ (refused_reports n.parts o ++ short_reports n.parts.source c)) (sym refused))))))
 
-pub early_reports : (name : ℕ) (n : Note) (q : Option (List IsoPiece)) (d : Option Said) (given : List Report) → given ≡ frame_breaks name transport n None q d
+pub early_reports : (name : ℕ) (n : NotedFrame) (q : Option (List IsoPiece)) (d : Option Said) (given : List Report) → given ≡ frame_breaks name transport n None q d
     → is_early (key_of n.parts).addressed n.ready (iso_piece n) ≡ true → d ≡ None → given ≡ early_report n.parts ∷ []
 early_reports name n q d given broken early none =
     broken

@@ -2,7 +2,8 @@
 use Rattle.std.proofs.Common.{◌≡◌, ℕ, ◌+◌, Bool, true, false, ◌&&◌, not, List, [], ◌∷◌, refl, arith}
 use Rattle.std.specs.Prelude.{Option, Some, None, if◌then◌else◌}
 use Rattle.std.proofs.lemmas.Bool.{le-leb}
-use Rattle.slot_views.specs.Runs.{in_time, is_admitted, is_whole, if_open, kept_at, open_of, open_at, fed, fed_later}
+use Rattle.slot_views.specs.Runs.{in_time, is_admitted, is_whole, if_open, kept_at, open_of, open_at}
+use Rattle.slot_views.specs.RunLaws.{fed, fed_later}
 use Rattle.iso_transport.specs.IsoRuns.{IsoPiece, iso_rules}
 
 module _ (a : Bool) where

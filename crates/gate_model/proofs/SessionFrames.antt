@@ -1,14 +1,15 @@
 -- One frame of a session does to what is kept what the history says.
-use Rattle.std.proofs.Common.{◌≡◌, ℕ, Bool, true, false, ◌&&◌, ◌||◌, not, List, ◌∷◌, length, refl, sym, ap, subst, ◌∙◌, ◌==◌, is_some}
+use Rattle.std.proofs.Common.{◌≡◌, ℕ, Bool, true, false, ◌&&◌, not, List, ◌∷◌, length, refl, sym, ap, subst, ◌∙◌, ◌==◌, is_some}
 use Rattle.std.specs.Prelude.{Option, Some, None, if◌then◌else◌}
 use Rattle.std.specs.BTreeMap.{is_at}
 use Rattle.std.specs.declared.cmp.Ordering.{Ordering}
 use Rattle.std.proofs.lemmas.Bool.{false≢true}
-use Rattle.slot_views.specs.Runs.{kept_at, fed, finished}
+use Rattle.slot_views.specs.Runs.{kept_at}
+use Rattle.slot_views.specs.RunLaws.{fed, finished}
 use Rattle.slot_views.proofs.RunSteps.{one_step_of}
 use Rattle.n2k_id.specs.declared.identifier_parts.Parts.{Parts}
 use Rattle.n2k_id.specs.Frame.{BusFrame}
-use Rattle.n2k_id.specs.Identifier.{parts_of}
+use Rattle.n2k_id.specs.Identifier.{parts_of, is_to}
 use Rattle.claim_table.specs.declared.answer.Holder.{Holder}
 use Rattle.claim_table.specs.Claims.{holder_at, is_ready}
 use Rattle.claim_table.specs.Laws.{IsSound}
@@ -18,14 +19,14 @@ use Rattle.iso_transport.specs.declared.key.IsoKey.{IsoKey}
 use Rattle.iso_transport.specs.declared.verdict.Verdict.{Verdict}
 use Rattle.iso_transport.specs.declared.verdict.Verdict.TheVariants as what
 use Rattle.iso_transport.specs.declared.answers.IsoRefusal.TheVariants as refusal
-use Rattle.iso_transport.specs.Connection.{control_at}
-use Rattle.iso_transport.specs.Audience.{is_to, is_data, is_management, bears, key_of}
-use Rattle.iso_transport.specs.Audience as audience
+use Rattle.iso_transport.specs.Audience.{is_data, key_of}
+use Rattle.iso_transport.specs.Verdicts.{bears}
+use Rattle.iso_transport.specs.Verdicts as verdicts
 use Rattle.iso_transport.specs.IsoRuns.{IsoPiece, iso_rules}
 use Rattle.iso_transport.specs.Assembly.{verdict_of, fed_after, is_crowded}
 use Rattle.iso_transport.specs.Answers.{reply_by}
 use Rattle.iso_transport.specs.RunVerdicts.{run_verdict, message_of, verdict_on, completed_by, assembly_at}
-use Rattle.iso_transport.specs.RunReplies.{reply_to}
+use Rattle.iso_transport.specs.Replies.{reply_to}
 use Rattle.iso_transport.specs.Joining.{piece_of}
 use Rattle.iso_transport.specs.Laws.{IsTrace}
 use Rattle.iso_transport.proofs.Lawful.{lawful}
@@ -33,9 +34,9 @@ use Rattle.iso_transport.proofs.Following.{follows_runs}
 use Rattle.iso_transport.proofs.Joining.{feeds_its_key}
 use Rattle.iso_transport.proofs.Keys.{steps_with_runs}
 use Rattle.history.specs.Entries.{History, IsHistory, frame}
-use Rattle.history.specs.Receiver.{Receiver}
+use Rattle.history.specs.Settings.{Receiver}
 use Rattle.history.specs.Known.{Known, known, is_claim}
-use Rattle.history.specs.Traces.{Note, iso_piece, iso_trace, is_transport, is_bearing}
+use Rattle.history.specs.Traces.{NotedFrame, iso_piece, iso_trace, is_transport, is_bearing}
 use Rattle.history.specs.Opens.{iso_open, is_fast_admitted, is_iso_admitted, notes_of}
 use Rattle.history.specs.Meanings.{Meaning, transport}
 use Rattle.history.specs.Messages.{Carried, done, said_by, iso_carried}
@@ -51,7 +52,7 @@ use Rattle.history.proofs.SessionSteps.{iso_steps, iso_completes}
 use Rattle.gate_model.specs.Orders.{OrdersIso}
 use Rattle.gate_model.specs.Sessions.{SessionAnswer, SessionStep, answer_of, answer_reports, carried_by, fed_step, early_step}
 use Rattle.gate_model.specs.SessionLaws.{StandsFor, HoldsWhatIsOpen, IsSessionFrame, FramesStand, SessionFramesStand}
-use Rattle.gate_model.proofs.SessionTraces.{notes_short, traced}
+use Rattle.gate_model.proofs.SessionTraces.{notes_short, traced, bears_of}
 use Rattle.gate_model.proofs.SessionTimes.{standing_holds}
 use Rattle.gate_model.proofs.SessionOthers.{unconcerned}
 use Rattle.gate_model.proofs.SessionFeeding.{fed_now}
@@ -73,10 +74,6 @@ both_hold true true eb ec = refl
 both_hold true false eb ec = cc
 both_hold false c eb ec = cc
 
-first_fails : (b c : Bool) → b ≡ false → (b && c) ≡ false
-first_fails false c e = refl
-first_fails true c e = cc
-
 second_fails : (b c : Bool) → c ≡ false → (b && c) ≡ false
 second_fails true c e = e
 second_fails false c e = refl
@@ -93,13 +90,13 @@ module _ (cmp : IsoKey → IsoKey → Ordering) (orders : OrdersIso cmp) (r : Re
   abbrev k : Known
   k = known r s h
 
-  abbrev notes : List Note
+  abbrev notes : List NotedFrame
   notes = notes_of r s h
 
   abbrev p : Parts
   p = parts_of f.id
 
-  abbrev n : Note
+  abbrev n : NotedFrame
   n = the_note r s h m f
 
   abbrev x : IsoPiece
@@ -132,7 +129,7 @@ module _ (cmp : IsoKey → IsoKey → Ordering) (orders : OrdersIso cmp) (r : Re
   holder : (y : Holder) × (holder_at k.claims.holders p.source ≡ Some y)
   holder = holder_of (holder_at k.claims.holders p.source) facts.held
 
-  ours : audience.concerns k.claims.own p ≡ true
+  ours : verdicts.concerns k.claims.own p ≡ true
   ours = both_hold (is_to k.claims.own p.destination) (is_transport p) facts.ours facts.transports
 
   -- ---- room
@@ -241,7 +238,11 @@ module _ (cmp : IsoKey → IsoKey → Ordering) (orders : OrdersIso cmp) (r : Re
   -- a frame that bears on no session
   module _ (idle : bears a (is_data p) f.held ≡ false) where
     not_bearing : is_bearing a n ≡ false
-    not_bearing = second_fails (is_transport p) (bears a (is_data p) f.held && (is_data p || (not (control_at f.held == 16) || ready))) (first_fails (bears a (is_data p) f.held) _ idle)
+    not_bearing = by (is_bearing a n) refl
+      where
+        by : (b : Bool) → is_bearing a n ≡ b → b ≡ false
+        by true e = sym (bears_of a n e) ∙ idle
+        by false e = refl
 
     none : (j : IsoKey) → concerns k.claims n j ≡ false
     none = concerns_none k sound n not_bearing
@@ -261,7 +262,7 @@ module _ (cmp : IsoKey → IsoKey → Ordering) (orders : OrdersIso cmp) (r : Re
     idle_stands : StandsFor cmp r s (frame m f ∷ h) m (fed_after cmp slots k.claims.own p f.held m)
     idle_stands =
         subst (λ (t : SlotMap IsoKey). StandsFor cmp r s (frame m f ∷ h) m t)
-        (sym ((feeds_its_key cmp orders.order).passed slots k.claims.own p f.held m (second_fails (audience.concerns k.claims.own p) (bears a (is_data p) f.held) idle)))
+        (sym ((feeds_its_key cmp orders.order).passed slots k.claims.own p f.held m (second_fails (verdicts.concerns k.claims.own p) (bears a (is_data p) f.held) idle)))
         (unconcerned cmp r s h m m f slots are other stands none)
 
   -- ---- what is reported

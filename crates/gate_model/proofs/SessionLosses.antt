@@ -20,13 +20,13 @@ use Rattle.iso_transport.specs.Assembly.{is_from, is_addressed}
 use Rattle.iso_transport.specs.RunVerdicts.{assembly_at}
 use Rattle.history.specs.Entries as entry
 use Rattle.history.specs.Entries.{History, IsHistory}
-use Rattle.history.specs.Receiver.{Receiver}
+use Rattle.history.specs.Settings.{Receiver}
 use Rattle.history.specs.Known.{Known, known, is_claim, claim_by, address_left, address_won}
-use Rattle.history.specs.Traces.{Note, iso_trace, is_transport}
+use Rattle.history.specs.Traces.{NotedFrame, iso_trace, is_transport}
 use Rattle.history.specs.Opens.{iso_open, notes_of}
 use Rattle.gate_events.specs.Emit.{Emit}
 use Rattle.history.specs.Emits.{of_source}
-use Rattle.history.specs.Endings.{session_pgn, iso_lost, lost_elsewhere}
+use Rattle.history.specs.Endings.{session_pgn, iso_lost, lost_elsewhere, side, iso_lost_at}
 use Rattle.history.specs.AddressLaws.{IsReceiver}
 use Rattle.history.specs.TraceLaws.{same_own, LeavesTraces}
 use Rattle.history.specs.KeyLaws.{the_note}
@@ -34,7 +34,7 @@ use Rattle.history.proofs.IsoCounts.{same_is}
 use Rattle.history.proofs.TraceMoves.{claims_move_traces, commands_move_traces}
 use Rattle.gate_model.specs.Orders.{OrdersIso}
 use Rattle.gate_model.specs.Sessions.{without_source, lost_of_source, lost_addressed, is_given_up}
-use Rattle.gate_model.specs.SessionLaws.{StandsFor, GivesUp, ClaimsGiveUp, CommandsGiveUp, iso_lost_at}
+use Rattle.gate_model.specs.SessionLaws.{StandsFor, GivesUp, ClaimsGiveUp, CommandsGiveUp}
 use Rattle.gate_model.proofs.SessionKept.{at_source, from_is, filtered_none, source_gone, both_gone, kept_is}
 use Rattle.gate_model.proofs.SessionMaps.{filtered_twice, remaining_map, remaining_at, told}
 use Rattle.gate_model.proofs.SessionTraces.{and_no, is_held, message_is, past}
@@ -57,7 +57,7 @@ module _ (cmp : IsoKey → IsoKey → Ordering) (orders : OrdersIso cmp) (r : Re
   abbrev after : Known
   after = known r s (e ∷ h)
 
-  abbrev notes : List Note
+  abbrev notes : List NotedFrame
   notes = notes_of r s h
 
   abbrev moved : Bool
@@ -105,7 +105,7 @@ module _ (cmp : IsoKey → IsoKey → Ordering) (orders : OrdersIso cmp) (r : Re
   of_entry x = of_source rules.claim_lost x.0.source (pgn_in x.1) ∷ []
 
   abbrev of_key : IsoKey → List Emit
-  of_key key = of_source rules.claim_lost key.source (session_pgn k notes key m) ∷ []
+  of_key key = of_source rules.claim_lost key.source (session_pgn (side k m) notes key) ∷ []
 
   told_so : (key : IsoKey) (x : Entry) → entry_at cmp slots key ≡ Some x → of_entry (key, x) ≡ of_key key
   told_so key x there =
@@ -124,7 +124,7 @@ module _ (cmp : IsoKey → IsoKey → Ordering) (orders : OrdersIso cmp) (r : Re
 
   -- the entries that pass a test are told as the keys that are meant by it
   all_told : (q : IsoKey × Entry → Bool) (meant : IsoKey → Bool) → ((x : IsoKey × Entry) → q x ≡ (meant x.0 && given x.0))
-      → flat_map of_entry (filter q slots.entries) ≡ iso_lost k after notes m meant
+      → flat_map of_entry (filter q slots.entries) ≡ iso_lost (side k m) (side after m) notes meant
   all_told q meant passes =
       told orders.order slots stands.map of_entry of_key told_so q
       ∙ ap (flat_map of_key)
@@ -140,7 +140,7 @@ module _ (cmp : IsoKey → IsoKey → Ordering) (orders : OrdersIso cmp) (r : Re
       by false eb = refl
       by true eb = let here : is_at x.0.source left ≡ true = ap (is_at x.0.source) there ∙ (sym (from_is a x) ∙ eb) in rw here refl
 
-  left_told : (o : Option ℕ) → left ≡ o → lost_of_source o slots ≡ iso_lost_at k after notes m o
+  left_told : (o : Option ℕ) → left ≡ o → lost_of_source o slots ≡ iso_lost_at (side k m) (side after m) notes o
   left_told None there = refl
   left_told (Some a) there = all_told (is_from a) (λ key. key.source == a) (from_left a there)
 
@@ -160,7 +160,7 @@ module _ (cmp : IsoKey → IsoKey → Ordering) (orders : OrdersIso cmp) (r : Re
           let here : is_at x.0.source won ≡ true = ap (is_at x.0.source) there ∙ (sym (from_is b x) ∙ ec) in
           rw (stays, here) refl
 
-  won_told : (o : Option ℕ) → won ≡ o → lost_of_source o (without_source left slots) ≡ iso_lost_at k after notes m o
+  won_told : (o : Option ℕ) → won ≡ o → lost_of_source o (without_source left slots) ≡ iso_lost_at (side k m) (side after m) notes o
   won_told None there = refl
   won_told (Some b) there =
       ap (λ (xs : List (IsoKey × Entry)). flat_map of_entry (filter (is_from b) xs)) (source_gone left slots)
@@ -180,7 +180,7 @@ module _ (cmp : IsoKey → IsoKey → Ordering) (orders : OrdersIso cmp) (r : Re
   turned false false true = refl
   turned false false false = refl
 
-  elsewhere_told : (c : Bool) → moved ≡ c → lost_addressed c (without_source won (without_source left slots)) ≡ lost_elsewhere k after notes m left won
+  elsewhere_told : (c : Bool) → moved ≡ c → lost_addressed c (without_source won (without_source left slots)) ≡ lost_elsewhere (side k m) (side after m) notes left won
   elsewhere_told true there =
       ap (λ (xs : List (IsoKey × Entry)). flat_map of_entry (filter is_addressed xs)) (both_gone left won true slots)
       ∙ (ap (flat_map of_entry) (filtered_twice is_addressed (λ x. not (at_source left x || at_source won x)) (λ x. not (at_source left x || at_source won x) && is_addressed x) (λ x. refl) slots.entries)

@@ -11,10 +11,11 @@ use Rattle.pgn_profile.specs.declared.kinds.Kind.{Kind}
 use Rattle.pgn_profile.specs.declared.kinds.Kind.TheVariants.{Single, Fast, Outside}
 use Rattle.iso_transport.specs.declared.key.IsoKey.{IsoKey}
 use Rattle.iso_transport.specs.Connection.{control_at}
-use Rattle.iso_transport.specs.Audience.{is_to, is_data, is_management, bears, key_of}
-use Rattle.iso_transport.specs.Audience as audience
+use Rattle.n2k_id.specs.Identifier.{is_to, is_own}
+use Rattle.iso_transport.specs.Audience.{is_data, is_management, key_of}
+use Rattle.iso_transport.specs.Verdicts.{bears}
 use Rattle.history.specs.Known.{Known, held_since}
-use Rattle.history.specs.Traces.{Note, iso_piece, is_transport, is_bearing}
+use Rattle.history.specs.Traces.{NotedFrame, iso_piece, is_transport, is_bearing, bears_upon}
 use Rattle.history.specs.Meanings.{Meaning, address_claim, own_source, request, transport, passed, if_held, by_kind, meaning_of, is_of_session}
 use Rattle.history.specs.BusRules.{is_early}
 use Rattle.history.specs.KeyLaws.{is_meant, concerns}
@@ -58,13 +59,13 @@ tested_so false false false false ours held kind e = absurd (false≢true (sym (
 
 pub session_facts : (kinds : ℕ → Kind) (own : Option ℕ) (holders : List (Option Holder)) (p : Parts) → meaning_of kinds own holders p ≡ transport → SessionFacts own holders p
 session_facts kinds own holders p e =
-    let facts = tested_so (p.pgn == 60928) (audience.is_own own p.source) (p.pgn == 59904) (is_transport p) (is_to own p.destination) (is_some (holder_at holders p.source)) (kinds p.pgn) (ap is_of_session e) in
+    let facts = tested_so (p.pgn == 60928) (is_own own p.source) (p.pgn == 59904) (is_transport p) (is_to own p.destination) (is_some (holder_at holders p.source)) (kinds p.pgn) (ap is_of_session e) in
     record { no_claim = facts.0; transports = facts.1; ours = facts.2; held = facts.3 }
 
 -- ---- a frame that bears on a session is one of these
 
 -- whose address it is, said twice
-own_turned : (own : Option ℕ) (a : ℕ) → audience.is_own own a ≡ is_at a own
+own_turned : (own : Option ℕ) (a : ℕ) → is_own own a ≡ is_at a own
 own_turned None a = refl
 own_turned (Some b) a = eqb-sym a b
 
@@ -73,24 +74,24 @@ since_held None = refl
 since_held (Some x) = refl
 
 -- it is to all or to the gateway
-pub meant_ours : (k : Known) (n : Note) (addressed : Bool) → is_meant k.claims.own n addressed ≡ true → is_to k.claims.own n.parts.destination ≡ true
+pub meant_ours : (k : Known) (n : NotedFrame) (addressed : Bool) → is_meant k.claims.own n addressed ≡ true → is_to k.claims.own n.parts.destination ≡ true
 meant_ours k n true e = by (n.parts.destination == 255)
   where
-    by : (b : Bool) → (b || audience.is_own k.claims.own n.parts.destination) ≡ true
+    by : (b : Bool) → (b || is_own k.claims.own n.parts.destination) ≡ true
     by true = refl
     by false = own_turned k.claims.own n.parts.destination ∙ e
 meant_ours k n false e = rw e refl
 
 -- and so it is meant, by its own key
-pub ours_meant : (k : Known) (n : Note) → is_to k.claims.own n.parts.destination ≡ true → is_meant k.claims.own n (key_of n.parts).addressed ≡ true
+pub ours_meant : (k : Known) (n : NotedFrame) → is_to k.claims.own n.parts.destination ≡ true → is_meant k.claims.own n (key_of n.parts).addressed ≡ true
 ours_meant k n e = by (n.parts.destination == 255) refl e
   where
-    by : (b : Bool) → (n.parts.destination == 255) ≡ b → (b || audience.is_own k.claims.own n.parts.destination) ≡ true → (if not b then is_at n.parts.destination k.claims.own else (n.parts.destination == 255)) ≡ true
+    by : (b : Bool) → (n.parts.destination == 255) ≡ b → (b || is_own k.claims.own n.parts.destination) ≡ true → (if not b then is_at n.parts.destination k.claims.own else (n.parts.destination == 255)) ≡ true
     by true eb ours = eb
     by false eb ours = sym (own_turned k.claims.own n.parts.destination) ∙ ours
 
 -- a holder isn't the gateway
-not_own : (own : Option ℕ) (holders : List (Option Holder)) (a : ℕ) → ((b : ℕ) → own ≡ Some b → holder_at holders b ≡ None) → is_some (holder_at holders a) ≡ true → audience.is_own own a ≡ false
+not_own : (own : Option ℕ) (holders : List (Option Holder)) (a : ℕ) → ((b : ℕ) → own ≡ Some b → holder_at holders b ≡ None) → is_some (holder_at holders a) ≡ true → is_own own a ≡ false
 not_own None holders a free held = refl
 not_own (Some b) holders a free held = by (a == b) refl
   where
@@ -117,7 +118,7 @@ tested_is : (claims owned requests transports ours held : Bool) (kind : Kind) �
     → is_of_session (tested claims owned requests transports ours held kind) ≡ true
 tested_is claims owned requests transports ours held kind a b c d e f = rw (a, b, c, d, e, f) refl
 
-pub bearing_meant : (kinds : ℕ → Kind) (k : Known) → IsSound k.claims → (n : Note) (key : IsoKey) → concerns k.claims n key ≡ true
+pub bearing_meant : (kinds : ℕ → Kind) (k : Known) → IsSound k.claims → (n : NotedFrame) (key : IsoKey) → concerns k.claims n key ≡ true
     → is_of_session (meaning_of kinds k.claims.own k.claims.holders n.parts) ≡ true
 bearing_meant kinds k sound n key e =
     let first = and_parts (is_some (held_since k.claims.holders key.source)) ((n.parts.source == key.source) && (is_meant k.claims.own n key.addressed && is_bearing key.addressed n)) e in
@@ -126,51 +127,55 @@ bearing_meant kinds k sound n key e =
     let transports = (and_parts (is_transport n.parts) _ third.1).0 in
     let held : is_some (holder_at k.claims.holders n.parts.source) ≡ true =
     ap (λ (a : ℕ). is_some (holder_at k.claims.holders a)) (eqb-true n.parts.source key.source second.0) ∙ (sym (since_held (holder_at k.claims.holders key.source)) ∙ first.0) in
-    tested_is (n.parts.pgn == 60928) (audience.is_own k.claims.own n.parts.source) (n.parts.pgn == 59904) (is_transport n.parts) (is_to k.claims.own n.parts.destination)
+    tested_is (n.parts.pgn == 60928) (is_own k.claims.own n.parts.source) (n.parts.pgn == 59904) (is_transport n.parts) (is_to k.claims.own n.parts.destination)
     (is_some (holder_at k.claims.holders n.parts.source)) (kinds n.parts.pgn)
     (apart n.parts 60928 (λ x. omega arith) (λ x. omega arith) transports) (not_own k.claims.own k.claims.holders n.parts.source sound.own_free held)
     (apart n.parts 59904 (λ x. omega arith) (λ x. omega arith) transports) transports (meant_ours k n key.addressed third.0) held
 
 -- ---- which of them bear on their session
 
--- one that comes too early bears on none
-early_by : (addressed a packet large asks ready : Bool) → (a && ((not packet && (large && asks)) && not ready)) ≡ true → (packet || (not asks || ready)) ≡ false
-early_by addressed true false true true false e = refl
-early_by addressed true false true true true e = cc
-early_by addressed true false true false ready e = cc
-early_by addressed true false false asks ready e = cc
-early_by addressed true true large asks ready e = cc
-early_by addressed false packet large asks ready e = cc
+-- one that comes too early is a request to send, and bears on none
+early_by : (a packet large asks ready : Bool) → (a && ((not packet && (large && asks)) && not ready)) ≡ true → (packet ≡ false) × (asks ≡ true) × (ready ≡ false)
+early_by true false true true false e = (refl, refl, refl)
+early_by true false true true true e = cc
+early_by true false true false ready e = cc
+early_by true false false asks ready e = cc
+early_by true true large asks ready e = cc
+early_by false packet large asks ready e = cc
 
-pub early_idle : (n : Note) (a addressed : Bool) → is_early a n.ready (iso_piece n) ≡ true → is_bearing addressed n ≡ false
+pub early_idle : (n : NotedFrame) (a addressed : Bool) → is_early a n.ready (iso_piece n) ≡ true → is_bearing addressed n ≡ false
 early_idle n a addressed e =
-    rw (early_by addressed a (is_data n.parts) (nat_le 8 (length n.bytes)) (control_at n.bytes == 16) n.ready e, and_no (bears addressed (is_data n.parts) n.bytes), and_no (is_transport n.parts)) refl
+    let asks = early_by a (is_data n.parts) (nat_le 8 (length n.bytes)) (control_at n.bytes == 16) n.ready e in
+    rw (asks.0, eqb-true (control_at n.bytes) 16 asks.1, asks.2) (upon (is_management n.parts || false) (nat_le 8 (length n.bytes)) addressed)
+  where
+    upon : (moves large b : Bool) → (moves && (large && bears_upon b false 16)) ≡ false
+    upon moves large true = rw (and_no large, and_no moves) refl
+    upon moves large false = rw (and_no large, and_no moves) refl
 
 -- any other that can open, extend or end a session does
-timely_by : (a packet large rts bam ends ready : Bool) → (rts ≡ true → bam ≡ false) → (a && ((not packet && (large && rts)) && not ready)) ≡ false
-    → (packet || (large && ((not a && bam) || (a && (rts || ends))))) ≡ true → (packet || (not rts || ready)) ≡ true
-timely_by a true large rts bam ends ready other early bearing = refl
-timely_by a false large false bam ends ready other early bearing = refl
-timely_by a false large true bam ends true other early bearing = refl
-timely_by true false true true bam ends false other early bearing = cc
-timely_by true false false true bam ends false other early bearing = cc
-timely_by false false false true bam ends false other early bearing = cc
-timely_by false false true true true ends false other early bearing = let never : true ≡ false = other refl in cc
-timely_by false false true true false ends false other early bearing = cc
+timely_to_all : (packet large bam : Bool) → (packet || (large && (bam || false))) ≡ true → (packet || (large && bam)) ≡ true
+timely_to_all true large bam bearing = refl
+timely_to_all false false bam bearing = bearing
+timely_to_all false true true bearing = refl
+timely_to_all false true false bearing = bearing
 
-no_bam : (bytes : List ℕ) → (control_at bytes == 16) ≡ true → (control_at bytes == 32) ≡ false
-no_bam bytes e =
-    let is : control_at bytes ≡ 16 = eqb-true (control_at bytes) 16 e in
-    rw is refl
+timely_to_one : (packet large rts ends ready : Bool) → ((not packet && (large && rts)) && not ready) ≡ false → (packet || (large && (rts || ends))) ≡ true
+    → (packet || (large && (ends || (rts && ready)))) ≡ true
+timely_to_one true large rts ends ready early bearing = refl
+timely_to_one false false rts ends ready early bearing = bearing
+timely_to_one false true rts true ready early bearing = refl
+timely_to_one false true true false true early bearing = refl
+timely_to_one false true true false false early bearing = cc
+timely_to_one false true false false ready early bearing = bearing
 
-pub timely_bearing : (n : Note) (a : Bool) → is_transport n.parts ≡ true → is_early a n.ready (iso_piece n) ≡ false → bears a (is_data n.parts) n.bytes ≡ true → is_bearing a n ≡ true
-timely_bearing n a transports early bearing =
-    let timely : (is_data n.parts || (not (control_at n.bytes == 16) || n.ready)) ≡ true =
-    timely_by a (is_data n.parts) (nat_le 8 (length n.bytes)) (control_at n.bytes == 16) (control_at n.bytes == 32) (control_at n.bytes == 255) n.ready (no_bam n.bytes) early bearing in
-    rw (transports, bearing, timely) refl
+pub timely_bearing : (n : NotedFrame) (a : Bool) → is_transport n.parts ≡ true → is_early a n.ready (iso_piece n) ≡ false → bears a (is_data n.parts) n.bytes ≡ true → is_bearing a n ≡ true
+timely_bearing n true transports early bearing =
+    rw (transports, timely_to_one (is_data n.parts) (nat_le 8 (length n.bytes)) (control_at n.bytes == 16) (control_at n.bytes == 255) n.ready early bearing) refl
+timely_bearing n false transports early bearing =
+    rw (transports, timely_to_all (is_data n.parts) (nat_le 8 (length n.bytes)) (control_at n.bytes == 32) bearing) refl
 
 -- so it is with the session of its key alone
-module _ (k : Known) (sound : IsSound k.claims) (n : Note) where
+module _ (k : Known) (sound : IsSound k.claims) (n : NotedFrame) where
   pub concerns_its : (a : Bool) → (key_of n.parts).addressed ≡ a → is_some (holder_at k.claims.holders n.parts.source) ≡ true → is_to k.claims.own n.parts.destination ≡ true
       → is_bearing (key_of n.parts).addressed n ≡ true → concerns k.claims n (key_of n.parts) ≡ true
   concerns_its a is held ours bearing =

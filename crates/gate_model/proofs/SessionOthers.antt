@@ -7,10 +7,10 @@ use Rattle.slot_views.specs.Slots.{SlotMap}
 use Rattle.iso_transport.specs.declared.key.IsoKey.{IsoKey}
 use Rattle.iso_transport.specs.RunVerdicts.{assembly_at}
 use Rattle.history.specs.Entries.{History, frame}
-use Rattle.history.specs.Receiver.{Receiver}
+use Rattle.history.specs.Settings.{Receiver}
 use Rattle.history.specs.Known.{known, is_claim}
 use Rattle.history.specs.Meanings.{is_of_session}
-use Rattle.history.specs.FromBus.{meaning_after}
+use Rattle.history.specs.FromBus.{meaning_at}
 use Rattle.history.specs.AddressLaws.{IsReceiver}
 use Rattle.history.specs.KeyLaws.{concerns, the_note}
 use Rattle.history.proofs.Addresses.{addresses_are_sound}
@@ -27,7 +27,7 @@ module _ (cmp : IsoKey → IsoKey → Ordering) (r : Receiver) (s : ℕ) (h : Hi
     entries = λ key. stands.entries key ∙ ap (assembly_at key.addressed) (sym ((iso_steps r s h moment f are other).left key m ∙ rw (none key) refl));
   }
 
-  pub others : is_of_session (meaning_after r s h moment f) ≡ false → StandsFor cmp r s (frame moment f ∷ h) m slots
+  pub others : is_of_session (meaning_at r s h moment f) ≡ false → StandsFor cmp r s (frame moment f ∷ h) m slots
   others passes = unconcerned (λ key. by key (concerns (known r s h).claims (the_note r s h moment f) key) refl)
     where
       by : (key : IsoKey) (b : Bool) → concerns (known r s h).claims (the_note r s h moment f) key ≡ b → concerns (known r s h).claims (the_note r s h moment f) key ≡ false

@@ -10,11 +10,11 @@ use Rattle.slot_views.specs.Traces.{unexpired}
 use Rattle.iso_transport.specs.declared.key.IsoKey.{IsoKey}
 use Rattle.history.specs.Entries as entry
 use Rattle.history.specs.Entries.{Entry, History, IsHistory, moment_of, now}
-use Rattle.history.specs.Receiver.{Receiver}
+use Rattle.history.specs.Settings.{Receiver}
 use Rattle.history.specs.Known.{known, is_claim, claim_by, address_left, address_won}
 use Rattle.history.specs.Meanings.{Meaning, transport, is_of_session}
 use Rattle.history.specs.Meanings as meanings
-use Rattle.history.specs.FromBus.{meaning_after}
+use Rattle.history.specs.FromBus.{meaning_at}
 use Rattle.history.specs.AddressLaws.{IsReceiver}
 use Rattle.gate_model.specs.Orders.{OrdersIso}
 use Rattle.gate_model.specs.Sessions.{session_step, sessions_kept}
@@ -39,16 +39,16 @@ of_session meanings.passed e = cc
 module _ (cmp : IsoKey → IsoKey → Ordering) (orders : OrdersIso cmp) (r : Receiver) (s : ℕ) (are : IsReceiver r) where
   frame_stands : (h : History) (m : ℕ) (f : BusFrame) (slots : SlotMap IsoKey) → IsHistory (entry.frame m f ∷ h) → StandsFor cmp r s h m slots
       → StandsFor cmp r s (entry.frame m f ∷ h) m (after_frame cmp r s h m f slots)
-  frame_stands h m f slots is stands = by (is_claim f) refl (is_of_session (meaning_after r s h m f)) refl
+  frame_stands h m f slots is stands = by (is_claim f) refl (is_of_session (meaning_at r s h m f)) refl
     where
-      by : (c : Bool) → is_claim f ≡ c → (t : Bool) → is_of_session (meaning_after r s h m f) ≡ t
+      by : (c : Bool) → is_claim f ≡ c → (t : Bool) → is_of_session (meaning_at r s h m f) ≡ t
           → StandsFor cmp r s (entry.frame m f ∷ h) m
           (if c
           then sessions_kept (address_left (claim (known r s h).claims (claim_by (length h) m f)).step) (address_won (claim (known r s h).claims (claim_by (length h) m f)).step) (is_moved r s h (entry.frame m f)) slots
           else if t then (session_step cmp slots (known r s h).claims.own (parts_of f.id) f.held m (is_ready (known r s h).claims m)).slots else slots)
       by true claims t et = (claims_give_up cmp orders r s h m f slots are is.2 claims stands).stands
       by false other true session =
-          (session_frames_stand cmp orders r s h m f slots are is (of_session (meaning_after r s h m f) session) stands).stands
+          (session_frames_stand cmp orders r s h m f slots are is (of_session (meaning_at r s h m f) session) stands).stands
       by false other false passes = others_leave_sessions cmp r s h m m f slots are other passes stands
 
   entry_stands : (h : History) (e : Entry) (slots : SlotMap IsoKey) → IsHistory (e ∷ h) → StandsFor cmp r s h (moment_of e) slots

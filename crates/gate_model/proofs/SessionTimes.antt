@@ -14,13 +14,13 @@ use Rattle.iso_transport.specs.Verdicts.{pgn_in}
 use Rattle.iso_transport.specs.RunVerdicts.{assembly_at}
 use Rattle.iso_transport.proofs.Following.{later_is}
 use Rattle.history.specs.Entries.{History, IsHistory}
-use Rattle.history.specs.Receiver.{Receiver}
+use Rattle.history.specs.Settings.{Receiver}
 use Rattle.history.specs.Known.{Known, known}
-use Rattle.history.specs.Traces.{Note, iso_trace}
+use Rattle.history.specs.Traces.{NotedFrame, iso_trace}
 use Rattle.history.specs.Opens.{iso_open, notes_of}
 use Rattle.gate_events.specs.Emit.{Emit}
 use Rattle.history.specs.Emits.{of_source, replied}
-use Rattle.history.specs.Endings.{session_pgn, abort_reply, iso_expired}
+use Rattle.history.specs.Endings.{session_pgn, abort_reply, iso_expired, side}
 use Rattle.history.specs.AddressLaws.{IsReceiver}
 use Rattle.history.specs.CountLaws.{HoldsIso}
 use Rattle.history.proofs.Addresses.{addresses_are_sound}
@@ -70,7 +70,7 @@ module _ (cmp : IsoKey → IsoKey → Ordering) (orders : OrdersIso cmp) (r : Re
   abbrev k : Known
   k = known r s h
 
-  abbrev notes : List Note
+  abbrev notes : List NotedFrame
   notes = notes_of r s h
 
   -- what is left of a key is what is open of it later
@@ -103,15 +103,15 @@ module _ (cmp : IsoKey → IsoKey → Ordering) (orders : OrdersIso cmp) (r : Re
 
   abbrev of_key : IsoKey → List Emit
   of_key key =
-      of_source rules.expired key.source (session_pgn k notes key earlier)
-      ∷ replied k.claims.own key.source (abort_reply key.addressed (session_pgn k notes key earlier))
+      of_source rules.expired key.source (session_pgn (side k earlier) notes key)
+      ∷ replied k.claims.own key.source (abort_reply key.addressed (session_pgn (side k earlier) notes key))
 
   told_so : (key : IsoKey) (e : Entry) → entry_at cmp slots key ≡ Some e → of_entry (key, e) ≡ of_key key
   told_so key e there =
       ap (λ (pgn : ℕ). of_source rules.expired key.source pgn ∷ replied k.claims.own key.source (abort_reply key.addressed pgn))
       (message_is r s h is k key earlier e (sym (stands.entries key) ∙ there))
 
-  overdue_is : sessions_overdue k.claims.own slots m ≡ iso_expired k notes earlier m
+  overdue_is : sessions_overdue k.claims.own slots m ≡ iso_expired (side k earlier) (side k m) notes
   overdue_is =
       told orders.order slots stands.map of_entry of_key told_so (has_expired m)
       ∙ ap (flat_map of_key)

@@ -1,5 +1,5 @@
 -- What the frames of a history are to the sessions that stand for them.
-use Rattle.std.proofs.Common.{◌≡◌, ℕ, ◌≤◌, Bool, true, false, ◌&&◌, List, [], ◌∷◌, length, map, refl, sym, ap, ◌∙◌, ◌==◌, nat_le, is_some}
+use Rattle.std.proofs.Common.{◌≡◌, ℕ, ◌≤◌, Bool, true, false, ◌&&◌, ◌||◌, List, [], ◌∷◌, length, map, refl, sym, ap, ◌∙◌, ◌==◌, nat_le, is_some}
 use Rattle.std.specs.Prelude.{Option, Some, None, filter, if◌then◌else◌, option_map}
 use Rattle.std.specs.List.{AllByRecursion}
 use Rattle.std.proofs.lemmas.Bool.{and_parts}
@@ -7,23 +7,24 @@ use Rattle.slot_views.specs.Runs.{in_time, kept_at, open_of, open_at}
 use Rattle.slot_views.specs.Slots.{Entry}
 use Rattle.iso_transport.specs.declared.key.IsoKey.{IsoKey}
 use Rattle.iso_transport.specs.declared.session.Session.{Session}
-use Rattle.iso_transport.specs.Audience.{bears, is_data}
+use Rattle.iso_transport.specs.Audience.{is_data}
+use Rattle.iso_transport.specs.Connection.{control_at}
+use Rattle.iso_transport.specs.Verdicts.{bears, pgn_in}
 use Rattle.iso_transport.specs.IsoRuns.{IsoPiece, iso_rules, session_of}
-use Rattle.iso_transport.specs.Verdicts.{pgn_in}
 use Rattle.iso_transport.specs.RunVerdicts.{assembly_at}
 use Rattle.iso_transport.specs.Laws.{IsTrace}
 use Rattle.iso_transport.proofs.Sessions.{session_kept}
 use Rattle.iso_transport.proofs.Following.{Standing, standing_by}
 use Rattle.history.specs.Entries.{History, IsHistory, frame, datagram, tick, command}
-use Rattle.history.specs.Receiver.{Receiver}
+use Rattle.history.specs.Settings.{Receiver}
 use Rattle.history.specs.Known.{Known, held_since}
-use Rattle.history.specs.Traces.{Note, is_since, iso_piece, iso_trace, broadcast_since, addressed_since, is_transport, is_bearing}
-use Rattle.history.specs.Opens.{iso_open, notes_of}
-use Rattle.history.specs.Endings.{pgn_of, session_pgn}
+use Rattle.history.specs.Traces.{NotedFrame, is_since, iso_piece, iso_trace, broadcast_since, addressed_since, is_transport, is_bearing}
+use Rattle.history.specs.Opens.{iso_open, notes_of, open_pgn}
+use Rattle.history.specs.Endings.{session_pgn, side}
 
 -- ---- the frames of a trace have at most 8 bytes, and bear on a session
 
-abbrev pub IsShort : Note → Type 0
+abbrev pub IsShort : NotedFrame → Type 0
 IsShort n = length n.bytes ≤ 8
 
 pub notes_short : (r : Receiver) (s : ℕ) (h : History) → IsHistory h → AllByRecursion IsShort (notes_of r s h)
@@ -33,10 +34,25 @@ notes_short r s (datagram m bytes ∷ h) is = notes_short r s h is.2
 notes_short r s (tick m ∷ h) is = notes_short r s h is.2
 notes_short r s (command m source address ∷ h) is = notes_short r s h is.2
 
-bears_of : (addressed : Bool) (n : Note) → is_bearing addressed n ≡ true → bears addressed (is_data n.parts) n.bytes ≡ true
-bears_of addressed n e = (and_parts _ _ (and_parts (is_transport n.parts) _ e).1).0
+upon_all : (packet large bam : Bool) → (packet || (large && bam)) ≡ true → (packet || (large && (bam || false))) ≡ true
+upon_all true large bam e = refl
+upon_all false false bam e = e
+upon_all false true true e = refl
+upon_all false true false e = e
 
-of_trace : (addressed : Bool) (q : Note → Bool) → ((n : Note) → q n ≡ true → is_bearing addressed n ≡ true) → (notes : List Note) → AllByRecursion IsShort notes
+upon_one : (packet large rts ends ready : Bool) → (packet || (large && (ends || (rts && ready)))) ≡ true → (packet || (large && (rts || ends))) ≡ true
+upon_one true large rts ends ready e = refl
+upon_one false false rts ends ready e = e
+upon_one false true true ends ready e = refl
+upon_one false true false true ready e = refl
+upon_one false true false false ready e = e
+
+pub bears_of : (addressed : Bool) (n : NotedFrame) → is_bearing addressed n ≡ true → bears addressed (is_data n.parts) n.bytes ≡ true
+bears_of true n e =
+    upon_one (is_data n.parts) (nat_le 8 (length n.bytes)) (control_at n.bytes == 16) (control_at n.bytes == 255) n.ready (and_parts (is_transport n.parts) _ e).1
+bears_of false n e = upon_all (is_data n.parts) (nat_le 8 (length n.bytes)) (control_at n.bytes == 32) (and_parts (is_transport n.parts) _ e).1
+
+of_trace : (addressed : Bool) (q : NotedFrame → Bool) → ((n : NotedFrame) → q n ≡ true → is_bearing addressed n ≡ true) → (notes : List NotedFrame) → AllByRecursion IsShort notes
     → IsTrace addressed (map iso_piece (filter q notes))
 of_trace addressed q bearing [] short = tt
 of_trace addressed q bearing (n ∷ notes) short = by (q n) refl (of_trace addressed q bearing notes short.1)
@@ -45,20 +61,20 @@ of_trace addressed q bearing (n ∷ notes) short = by (q n) refl (of_trace addre
     by true e rest = (record { bearing = bears_of addressed n (bearing n e); valid = short.0 }, rest)
     by false e rest = rest
 
-broadcast_traced : (since : Option ℕ) (a : ℕ) (notes : List Note) → AllByRecursion IsShort notes → IsTrace false (broadcast_since since a notes)
+broadcast_traced : (since : Option ℕ) (a : ℕ) (notes : List NotedFrame) → AllByRecursion IsShort notes → IsTrace false (broadcast_since since a notes)
 broadcast_traced None a notes short = tt
 broadcast_traced (Some since) a notes short =
     of_trace false (λ n. is_since a since n && ((n.parts.destination == 255) && is_bearing false n))
     (λ n e. (and_parts (n.parts.destination == 255) (is_bearing false n) (and_parts (is_since a since n) _ e).1).1) notes short
 
-addressed_traced : (since own : Option ℕ) (own_since a : ℕ) (notes : List Note) → AllByRecursion IsShort notes → IsTrace true (addressed_since since own own_since a notes)
+addressed_traced : (since own : Option ℕ) (own_since a : ℕ) (notes : List NotedFrame) → AllByRecursion IsShort notes → IsTrace true (addressed_since since own own_since a notes)
 addressed_traced None own own_since a notes short = tt
 addressed_traced (Some since) None own_since a notes short = tt
 addressed_traced (Some since) (Some own) own_since a notes short =
     of_trace true (λ n. is_since a since n && ((n.parts.destination == own) && (nat_le own_since n.index && is_bearing true n)))
     (λ n e. (and_parts (nat_le own_since n.index) (is_bearing true n) (and_parts (n.parts.destination == own) _ (and_parts (is_since a since n) _ e).1).1).1) notes short
 
-pub traced : (k : Known) (addressed : Bool) (a : ℕ) (notes : List Note) → AllByRecursion IsShort notes → IsTrace addressed (iso_trace k addressed a notes)
+pub traced : (k : Known) (addressed : Bool) (a : ℕ) (notes : List NotedFrame) → AllByRecursion IsShort notes → IsTrace addressed (iso_trace k addressed a notes)
 traced k false a notes short = broadcast_traced (held_since k.claims.holders a) a notes short
 traced k true a notes short = addressed_traced (held_since k.claims.holders a) k.claims.own k.own_since a notes short
 
@@ -81,10 +97,10 @@ pub and_no : (x : Bool) → (x && false) ≡ false
 and_no true = refl
 and_no false = refl
 
-idle : (n : Note) (addressed : Bool) → is_transport n.parts ≡ false → is_bearing addressed n ≡ false
+idle : (n : NotedFrame) (addressed : Bool) → is_transport n.parts ≡ false → is_bearing addressed n ≡ false
 idle n addressed e = rw e refl
 
-pub past : (k : Known) (addressed : Bool) (a : ℕ) (n : Note) (notes : List Note) → is_transport n.parts ≡ false → iso_trace k addressed a (n ∷ notes) ≡ iso_trace k addressed a notes
+pub past : (k : Known) (addressed : Bool) (a : ℕ) (n : NotedFrame) (notes : List NotedFrame) → is_transport n.parts ≡ false → iso_trace k addressed a (n ∷ notes) ≡ iso_trace k addressed a notes
 past k false a n notes e = to_all (held_since k.claims.holders a)
   where
     to_all : (since : Option ℕ) → broadcast_since since a (n ∷ notes) ≡ broadcast_since since a notes
@@ -114,7 +130,7 @@ module _ (addressed : Bool) where
   is_held t m = kept_held (open_of (iso_rules addressed) t) m
 
   -- it is of the message that is open
-  pgn_by : (q : Option (List IsoPiece)) (e : Entry) → Standing addressed q → assembly_at addressed q ≡ Some e → pgn_in e ≡ pgn_of q
+  pgn_by : (q : Option (List IsoPiece)) (e : Entry) → Standing addressed q → assembly_at addressed q ≡ Some e → pgn_in e ≡ open_pgn q
   pgn_by None e stands is = cc
   pgn_by (Some []) e stands is = absurd stands
   pgn_by (Some (y ∷ ys)) e stands is =
@@ -122,7 +138,7 @@ module _ (addressed : Bool) where
       cc
 
 pub message_is : (r : Receiver) (s : ℕ) (h : History) → IsHistory h → (k : Known) (key : IsoKey) (m : ℕ) (e : Entry)
-    → assembly_at key.addressed (iso_open k (notes_of r s h) key m) ≡ Some e → pgn_in e ≡ session_pgn k (notes_of r s h) key m
+    → assembly_at key.addressed (iso_open k (notes_of r s h) key m) ≡ Some e → pgn_in e ≡ session_pgn (side k m) (notes_of r s h) key
 message_is r s h is k key m e there =
     pgn_by key.addressed (iso_open k (notes_of r s h) key m) e
     (standing_by key.addressed (iso_trace k key.addressed key.source (notes_of r s h)) m _ (traced k key.addressed key.source (notes_of r s h) (notes_short r s h is)) refl) there

@@ -1,16 +1,15 @@
 -- What a claim (ISO 11783-5) makes of what a gateway keeps stands for the history with it, and is what the history says.
 use Rattle.std.proofs.Common.{◌≡◌, ℕ, Bool, true, not, List, [], ◌∷◌, ◌++◌, length, refl, sym, ap, subst, ◌∙◌}
-use Rattle.std.specs.Prelude.{Option, Some, None, is_some, option_map, if◌then◌else◌}
+use Rattle.std.specs.Prelude.{Option, None, is_some, option_map, if◌then◌else◌}
 use Rattle.n2k_id.specs.Frame.{BusFrame}
 use Rattle.n2k_id.specs.Identifier.{parts_of}
 use Rattle.n2k_id.specs.declared.identifier_parts.Parts.{Parts}
 use Rattle.claim_table.specs.declared.answer.ClaimStep.{ClaimStep}
 use Rattle.claim_table.specs.Claims.{Outcome, claim}
-use Rattle.pgn_profile.specs.declared.kinds.Kind.{Kind}
-use Rattle.history.specs.Receiver.{Receiver, receiver_of}
+use Rattle.history.specs.Settings.{Receiver, receiver_of}
 use Rattle.history.specs.Entries.{History, IsHistory, frame}
 use Rattle.history.specs.Known.{Known, known, is_claim, claim_by, address_left, address_won}
-use Rattle.history.specs.Traces.{Note}
+use Rattle.history.specs.Traces.{NotedFrame}
 use Rattle.history.specs.TraceLaws.{same_own}
 use Rattle.history.specs.Opens.{notes_of}
 use Rattle.history.specs.Meanings as meanings
@@ -18,9 +17,7 @@ use Rattle.history.specs.Meanings.{Meaning, is_of_session, is_of_fast_packet}
 use Rattle.history.specs.Messages.{done, messages_of}
 use Rattle.gate_events.specs.Emit.{Emit}
 use Rattle.history.specs.Emits.{reported}
-use Rattle.history.specs.Endings as endings
-use Rattle.history.specs.Endings.{lost_elsewhere, fast_lost_at}
-use Rattle.history.specs.FromBus.{meaning_after, frame_refused, answers_by, own_answer, step_gives, chosen, said_in}
+use Rattle.history.specs.FromBus.{meaning_at, frame_refused, answers_by, own_answer, step_gives, selected_in, said_in}
 use Rattle.history.specs.Gate.{spoken_of}
 use Rattle.history.specs.AddressLaws.{IsReceiver, AreSettings}
 use Rattle.history.proofs.Receivers.{gateways_receive}
@@ -30,7 +27,7 @@ use Rattle.gate_model.specs.AddressStands.{FrameIsTold}
 use Rattle.gate_model.specs.FastPackets.{fast_kept}
 use Rattle.gate_model.specs.FastLaws.{StandsFastFor, GivesUpFast}
 use Rattle.gate_model.specs.Sessions.{sessions_kept, lost_addressed}
-use Rattle.gate_model.specs.SessionLaws.{StandsFor, GivesUp, is_moved, iso_lost_at}
+use Rattle.gate_model.specs.SessionLaws.{StandsFor, GivesUp, is_moved}
 use Rattle.gate_model.specs.Said.{complete_of, claimed_after}
 use Rattle.gate_model.specs.SaidLaws.{ClaimStandsSaid}
 use Rattle.gate_model.specs.SaidStands.{SaidStandsFor}
@@ -47,12 +44,6 @@ use Rattle.gate_model.proofs.NetItems.{other_entries_stand_net}
 use Rattle.gate_model.proofs.StandsTimes.{joined, three}
 use Rattle.gate_model.proofs.StandsFrames.{IsHandled, addresses_stand, claims_meant}
 
--- what ends of one address is cut into the fast packets and the sessions
-lost_cut : (k after : Known) (notes : List Note) (m : ℕ) (kinds : ℕ → Kind) (a : Option ℕ)
-    → fast_lost_at k.claims.holders after.claims.holders notes m kinds a ++ iso_lost_at k after notes m a ≡ endings.lost_at k after notes m kinds a
-lost_cut k after notes m kinds None = refl
-lost_cut k after notes m kinds (Some a) = refl
-
 four : {a b c x y z : List Emit} (d : List Emit) → a ≡ x → b ≡ y → c ≡ z → a ++ b ++ c ++ d ≡ x ++ y ++ z ++ d
 four d p q r = cc
 
@@ -67,7 +58,7 @@ module _ (o : Compared) (s : ℕ) (h : History) (m : ℕ) (f : BusFrame) (g : Ma
   abbrev after : Known
   after = known r s (frame m f ∷ h)
 
-  abbrev notes : List Note
+  abbrev notes : List NotedFrame
   notes = notes_of r s h
 
   abbrev parts : Parts
@@ -135,8 +126,8 @@ module _ (o : Compared) (s : ℕ) (h : History) (m : ℕ) (f : BusFrame) (g : Ma
   given_so : given step (is_moved r s h (frame m f)) after.claims.own ≡ step_gives r.kinds r.name k after notes m step
   given_so =
       four (own_answer g.settings.name step.own after.claims.own)
-      (joined fast_ends.left_told sessions_end.left_told ∙ lost_cut k after notes m r.kinds (address_left step))
-      (joined fast_ends.won_told sessions_end.won_told ∙ lost_cut k after notes m r.kinds (address_won step))
+      (joined fast_ends.left_told sessions_end.left_told)
+      (joined fast_ends.won_told sessions_end.won_told)
       sessions_end.elsewhere_told
 
   -- in the order of the model
@@ -144,7 +135,7 @@ module _ (o : Compared) (s : ℕ) (h : History) (m : ℕ) (f : BusFrame) (g : Ma
   unfolding claim_tells
   tells = refl
 
-  gives : claim_tells g.settings.name g x ≡ answers_by r s h m f (meaning_after r s h m f)
+  gives : claim_tells g.settings.name g x ≡ answers_by r s h m f (meaning_at r s h m f)
   gives =
       tells
       ∙ (ap (λ (st : ClaimStep). given st moved x.after.own) step_is
@@ -163,10 +154,10 @@ module _ (o : Compared) (s : ℕ) (h : History) (m : ℕ) (f : BusFrame) (g : Ma
       frames_are_told r s h m f g.addresses able stands.addresses (ap is_of_session meant) (ap is_of_fast_packet meant) in
       sym (told.reports ∙ ap (λ (meaning : Meaning). plain_reports g.settings.name meaning parts f.held) (told.meaning ∙ meant))
 
-  none_chosen : chosen g.settings k.claims.holders (messages_of r s h) (done r s h (frame m f)) ≡ None
-  none_chosen = ap (chosen g.settings k.claims.holders (messages_of r s h)) unsaid_here.silent
+  none_chosen : selected_in g.settings k.claims.holders (messages_of r s h) (done r s h (frame m f)) ≡ None
+  none_chosen = ap (selected_in g.settings k.claims.holders (messages_of r s h)) unsaid_here.silent
 
-  nothing_said : said_in g.settings (spoken_of g.settings s h) (chosen g.settings k.claims.holders (messages_of r s h) (done r s h (frame m f))) ≡ []
+  nothing_said : said_in g.settings (spoken_of g.settings s h) (selected_in g.settings k.claims.holders (messages_of r s h) (done r s h (frame m f))) ≡ []
   nothing_said = ap (said_in g.settings (spoken_of g.settings s h)) none_chosen
 
   abbrev claim_here : Step

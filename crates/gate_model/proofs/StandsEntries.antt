@@ -6,19 +6,17 @@ use Rattle.n2k_id.specs.Identifier.{parts_of}
 use Rattle.claim_table.specs.Claims.{command, is_obeyed, is_ready}
 use Rattle.pgn_profile.specs.Profiled.{kind_of}
 use Rattle.datagram450.specs.Datagram as datagrams
-use Rattle.history.specs.Settings.{Settings}
-use Rattle.history.specs.Receiver.{Receiver, receiver_of}
+use Rattle.history.specs.Settings.{Settings, Receiver, receiver_of}
 use Rattle.history.specs.Entries as entry
-use Rattle.history.specs.Entries.{Entry, History, IsHistory, moment_of, now, is_accepted}
+use Rattle.history.specs.Entries.{Entry, History, IsHistory, moment_of, now}
 use Rattle.history.specs.Known.{Known, known, is_claim}
 use Rattle.history.specs.Opens.{notes_of}
 use Rattle.history.specs.Meanings as meanings
 use Rattle.history.specs.Meanings.{Meaning}
 use Rattle.gate_events.specs.Emit.{Emit}
 use Rattle.history.specs.Emits.{own_claim, reported}
-use Rattle.history.specs.FromBus.{meaning_after, answers_by, command_gives, request_gives}
+use Rattle.history.specs.FromBus.{meaning_at, answers_by, command_gives, request_gives}
 use Rattle.history.specs.Gate as gate
-use Rattle.history.specs.Gate.{heard, expired, out}
 use Rattle.history.specs.AddressLaws.{IsReceiver, AreSettings}
 use Rattle.history.proofs.Receivers.{gateways_receive}
 use Rattle.gate_model.specs.Addresses.{no_change}
@@ -62,7 +60,7 @@ module _ (o : Compared) (s : ℕ) (h : History) (g : Machine) (orders : AreOrder
     abbrev Handled : Step → Type 0
     Handled x = IsHandled o g.settings s h (entry.frame m f) g.addresses x
 
-    of_claims : meaning_after r s h m f ≡ meanings.address_claim → Handled (claim_frame o g m f)
+    of_claims : meaning_at r s h m f ≡ meanings.address_claim → Handled (claim_frame o g m f)
     of_claims e = by (is_claim f) refl
       where
         by : (b : Bool) → is_claim f ≡ b → Handled (claim_frame o g m f)
@@ -70,14 +68,14 @@ module _ (o : Compared) (s : ℕ) (h : History) (g : Machine) (orders : AreOrder
         by false other =
             rw other (plain_handled o s h m f g orders are is stands meanings.address_claim e refl refl other [] (rw other refl))
 
-    plain : (meaning : Meaning) → meaning_after r s h m f ≡ meaning → meanings.is_of_session meaning ≡ false → meanings.is_of_fast_packet meaning ≡ false
+    plain : (meaning : Meaning) → meaning_at r s h m f ≡ meaning → meanings.is_of_session meaning ≡ false → meanings.is_of_fast_packet meaning ≡ false
         → meanings.is_address_claim meaning ≡ false
         → (answers : List Emit) → answers ≡ answers_by r s h m f meaning → Handled (plain_frame o g m f meaning answers)
     plain meaning e no_session no_fast no_claim answers given =
         plain_handled o s h m f g orders are is stands meaning e no_session no_fast
         (not_claimed r s h m f (ap meanings.is_address_claim e ∙ no_claim)) answers given
 
-    by_meaning : (meaning : Meaning) → meaning_after r s h m f ≡ meaning → Handled (frame_step o g m f meaning)
+    by_meaning : (meaning : Meaning) → meaning_at r s h m f ≡ meaning → Handled (frame_step o g m f meaning)
     by_meaning meanings.address_claim e = of_claims e
     by_meaning meanings.own_source e = plain meanings.own_source e refl refl refl [] refl
     by_meaning meanings.request e =
@@ -93,7 +91,7 @@ module _ (o : Compared) (s : ℕ) (h : History) (g : Machine) (orders : AreOrder
     frame_handled =
         subst (λ (meaning : Meaning). Handled (frame_step o g m f meaning))
         (sym ((standing_tells_alike r s h g.addresses stands.addresses).meaning kind_of (parts_of f.id)))
-        (by_meaning (meaning_after r s h m f) refl)
+        (by_meaning (meaning_at r s h m f) refl)
 
   -- ---- a datagram
 

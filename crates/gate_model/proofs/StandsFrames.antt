@@ -11,17 +11,15 @@ use Rattle.slot_views.specs.Slots.{SlotMap}
 use Rattle.fast_packet.specs.declared.key.FastKey.{FastKey}
 use Rattle.iso_transport.specs.declared.key.IsoKey.{IsoKey}
 use Rattle.n2k_id.specs.Pgns as pgns
-use Rattle.history.specs.Settings.{Settings}
-use Rattle.history.specs.Receiver.{Receiver, receiver_of}
+use Rattle.history.specs.Settings.{Settings, Receiver, receiver_of}
 use Rattle.history.specs.Entries.{Entry, History, IsHistory, frame, moment_of}
 use Rattle.history.specs.Known.{Known, known, is_claim}
 use Rattle.history.specs.Meanings as meanings
-use Rattle.history.specs.Meanings.{Meaning, meaning_of, is_address_claim, is_of_session, is_of_fast_packet}
+use Rattle.history.specs.Meanings.{Meaning, is_address_claim, is_of_session, is_of_fast_packet}
 use Rattle.history.specs.Messages.{Carried, done, messages_of, said_by}
 use Rattle.gate_events.specs.Emit.{Emit}
-use Rattle.history.specs.Emits.{reported, replied, is_there}
-use Rattle.history.specs.Datagrams.{Spoken}
-use Rattle.history.specs.FromBus.{meaning_after, frame_refused, answers_by, chosen, said_in}
+use Rattle.history.specs.Emits.{reported, replied, is_there, Spoken}
+use Rattle.history.specs.FromBus.{meaning_at, frame_refused, answers_by, selected_in, said_in}
 use Rattle.history.specs.Gate as gate
 use Rattle.history.specs.Gate.{spoken_of}
 use Rattle.history.specs.AddressLaws.{IsReceiver, AreSettings}
@@ -55,7 +53,7 @@ module _ (o : Compared) (c : Settings) (s : ℕ) (h : History) (e : Entry) (addr
     pub stands : StandsAt o c s (e ∷ h) (moment_of e) (counted_in (changes_after addresses e) x.after)
     pub emits : gives x ≡ gate.handled c s h e
     pub selected : let r = receiver_of c in
-        is_there x.posted ≡ is_some (chosen c (known r s h).claims.holders (messages_of r s h) (done r s h e))
+        is_there x.posted ≡ is_some (selected_in c (known r s h).claims.holders (messages_of r s h) (done r s h e))
     pub complete : x.complete ≡ option_map complete_of (done (receiver_of c) s h e)
 
 -- a datagram is there where a message is selected
@@ -69,13 +67,13 @@ and_first : (a b : Bool) → (a && b) ≡ true → a ≡ true
 and_first true b e = refl
 and_first false b e = e
 
-pub claims_meant : (r : Receiver) (s : ℕ) (h : History) (m : ℕ) (f : BusFrame) → is_claim f ≡ true → meaning_after r s h m f ≡ meanings.address_claim
+pub claims_meant : (r : Receiver) (s : ℕ) (h : History) (m : ℕ) (f : BusFrame) → is_claim f ≡ true → meaning_at r s h m f ≡ meanings.address_claim
 claims_meant r s h m f claims =
     let p = parts_of f.id in
     let is : (p.pgn == pgns.address_claimed) ≡ true =
     and_first (p.pgn == pgns.address_claimed) (nat_le 8 (length f.held) && not (p.source == 255)) claims in rw is refl
 
-pub not_claimed : (r : Receiver) (s : ℕ) (h : History) (m : ℕ) (f : BusFrame) → is_address_claim (meaning_after r s h m f) ≡ false → is_claim f ≡ false
+pub not_claimed : (r : Receiver) (s : ℕ) (h : History) (m : ℕ) (f : BusFrame) → is_address_claim (meaning_at r s h m f) ≡ false → is_claim f ≡ false
 not_claimed r s h m f none = by (is_claim f) refl
   where
     by : (b : Bool) → is_claim f ≡ b → b ≡ false
@@ -120,7 +118,7 @@ module _ (o : Compared) (s : ℕ) (h : History) (m : ℕ) (f : BusFrame) (g : Ma
       → is_claim f ≡ false
       → StandsFastFor o.fast r s (frame m f ∷ h) m fast → StandsFor o.sessions r s (frame m f ∷ h) m sessions
       → reports ≡ frame_refused r s h m f
-      → replies ≡ answers_by r s h m f (meaning_after r s h m f)
+      → replies ≡ answers_by r s h m f (meaning_at r s h m f)
       → d ≡ option_map complete_of (done r s h (frame m f))
       → Handled (with_message (record g { fast = fast; sessions = sessions }) reports replies d)
   message_handled fast sessions reports replies d other fast_stands session_stands reports_are replies_are d_is =
@@ -150,12 +148,12 @@ module _ (o : Compared) (s : ℕ) (h : History) (m : ℕ) (f : BusFrame) (g : Ma
 
   -- ---- a frame that is neither of a fast packet nor of a session
 
-  pub plain_handled : (meaning : Meaning) → meaning_after r s h m f ≡ meaning → is_of_session meaning ≡ false → is_of_fast_packet meaning ≡ false
+  pub plain_handled : (meaning : Meaning) → meaning_at r s h m f ≡ meaning → is_of_session meaning ≡ false → is_of_fast_packet meaning ≡ false
       → is_claim f ≡ false
       → (answers : List Emit) → answers ≡ answers_by r s h m f meaning → Handled (plain_frame o g m f meaning answers)
   plain_handled meaning is_meant no_session no_fast other answers given =
-      let a : is_of_session (meaning_after r s h m f) ≡ false = ap is_of_session is_meant ∙ no_session in
-      let b : is_of_fast_packet (meaning_after r s h m f) ≡ false = ap is_of_fast_packet is_meant ∙ no_fast in
+      let a : is_of_session (meaning_at r s h m f) ≡ false = ap is_of_session is_meant ∙ no_session in
+      let b : is_of_fast_packet (meaning_at r s h m f) ≡ false = ap is_of_fast_packet is_meant ∙ no_fast in
       let told : FrameIsTold r s h m f g.addresses = frames_are_told r s h m f g.addresses able stands.addresses a b in
       message_handled g.fast g.sessions (plain_reports g.settings.name meaning parts f.held) answers
       (complete_by m parts.source (holder_at g.addresses.claims.holders parts.source) (plain_done meaning parts f.held)) other
@@ -171,7 +169,7 @@ module _ (o : Compared) (s : ℕ) (h : History) (m : ℕ) (f : BusFrame) (g : Ma
 
   -- ---- a frame of a fast packet
 
-  pub fast_handled : meaning_after r s h m f ≡ meanings.fast_packet → Handled (fast_frame o g m f)
+  pub fast_handled : meaning_at r s h m f ≡ meanings.fast_packet → Handled (fast_frame o g m f)
   fast_handled is_meant =
       let law = frames_stand_fast o.fast orders.fast r s h m f g.fast able is is_meant stands.fast in
       let other : is_claim f ≡ false = not_claimed r s h m f (ap is_address_claim is_meant) in
@@ -188,7 +186,7 @@ module _ (o : Compared) (s : ℕ) (h : History) (m : ℕ) (f : BusFrame) (g : Ma
       with_message (record g { sessions = x.slots }) x.reports (replied own parts.source x.reply)
       (complete_by m parts.source (holder_at g.addresses.claims.holders parts.source) x.done)
 
-  by_known : meaning_after r s h m f ≡ meanings.transport → Handled (by_own k.claims.own (is_ready k.claims m))
+  by_known : meaning_at r s h m f ≡ meanings.transport → Handled (by_own k.claims.own (is_ready k.claims m))
   by_known is_meant =
       let law = session_frames_stand o.sessions orders.sessions r s h m f g.sessions able is is_meant stands.sessions in
       let other : is_claim f ≡ false = not_claimed r s h m f (ap is_address_claim is_meant) in
@@ -198,7 +196,7 @@ module _ (o : Compared) (s : ℕ) (h : History) (m : ℕ) (f : BusFrame) (g : Ma
       (others_leave_fast o.fast r s h m m f g.fast able other (ap is_of_fast_packet is_meant) stands.fast)
       law.stands (sym law.reports) (sym (ap (answers_by r s h m f) is_meant ∙ law.reply)) (completes x.done law.completed)
 
-  pub session_handled : meaning_after r s h m f ≡ meanings.transport → Handled (session_frame o g m f)
+  pub session_handled : meaning_at r s h m f ≡ meanings.transport → Handled (session_frame o g m f)
   session_handled is_meant =
       subst (λ (own : Option ℕ). Handled (by_own own (is_ready g.addresses.claims m))) (sym alike.own)
       (subst (λ (ready : Bool). Handled (by_own k.claims.own ready)) (sym (alike.ready m)) (by_known is_meant))

@@ -8,13 +8,12 @@ use Rattle.std.proofs.lemmas.Bool.{and_parts, ltb-true, ltb-false}
 use Rattle.readings.specs.declared.rows.Row.{Row}
 use Rattle.readings.specs.About.{every_row, row_number}
 use Rattle.claim_table.specs.declared.answer.Holder.{Holder}
-use Rattle.claim_table.specs.Claims.{Claims, holder_at}
-use Rattle.claim_table.specs.Presets.{opened}
+use Rattle.claim_table.specs.Claims.{Claims, holder_at, claims_at_start}
 use Rattle.claim_table.specs.Laws.{IsSound, capped, capped_holder, claimed, commanded}
 use Rattle.claim_table.proofs.LawLemmas.{name_stays}
 use Rattle.slot_views.specs.Slots.{SlotMap, IsMap}
-use Rattle.tag_block.specs.Numbers.{most_count}
-use Rattle.history.specs.Receiver.{Receiver, receiver_of}
+use Rattle.tag_block.specs.Tag.{most_count}
+use Rattle.history.specs.Settings.{Receiver, receiver_of}
 use Rattle.history.specs.Entries as entry
 use Rattle.history.specs.Entries.{History}
 use Rattle.history.specs.Known.{known, is_claim, claim_by}
@@ -69,7 +68,7 @@ placed holders a h e = by (nat_lt a (length holders)) refl
 
 -- no entry gives the gateway another NAME
 known_name : (r : Receiver) (s : ℕ) (h : History) → (known r s h).claims.name ≡ r.name
-unfolding opened
+unfolding claims_at_start
 known_name r s [] = refl
 known_name r s (entry.frame m f ∷ h) = by (is_claim f) refl (known_name r s h)
   where

@@ -5,8 +5,7 @@ use Rattle.std.proofs.lemmas.Bool.{leb-true}
 use Rattle.n2k_id.specs.Frame.{BusFrame}
 use Rattle.claim_table.specs.Claims.{places, is_ready}
 use Rattle.datagram450.specs.Datagram as datagrams
-use Rattle.history.specs.Settings.{Settings}
-use Rattle.history.specs.Receiver.{receiver_of}
+use Rattle.history.specs.Settings.{Settings, receiver_of}
 use Rattle.history.specs.Messages.{Message, done}
 use Rattle.history.specs.Entries as entry
 use Rattle.history.specs.Entries.{Entry, History, IsHistory, IsOffered, IsTimely, moment_of, now}

@@ -4,10 +4,9 @@ use Rattle.std.specs.Prelude.{Option, Some, None, option_map, nat_le}
 use Rattle.std.proofs.lemmas.Bool.{leb-true}
 use Rattle.report_rules.specs.Rules as rules
 use Rattle.gate_events.specs.declared.emit.Detail.TheVariants as detail
-use Rattle.history.specs.Settings.{Settings}
-use Rattle.history.specs.Receiver.{receiver_of}
+use Rattle.history.specs.Settings.{Settings, receiver_of}
 use Rattle.history.specs.Entries as entry
-use Rattle.history.specs.Entries.{Entry, History, IsHistory, IsOffered, IsTimely, moment_of, now, is_accepted}
+use Rattle.history.specs.Entries.{Entry, History, IsHistory, IsOffered, moment_of, now, is_accepted}
 use Rattle.history.specs.EntryLaws.{IsEvent}
 use Rattle.history.specs.Messages.{done}
 use Rattle.gate_events.specs.Emit.{Emitted}

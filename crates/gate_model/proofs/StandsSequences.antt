@@ -8,7 +8,7 @@ use Rattle.tag_block.specs.declared.group_key.GroupKey.{GroupKey}
 use Rattle.tag_block.specs.declared.group_part.GroupPart.{GroupPart}
 use Rattle.tag_block.specs.Groups.{key_of}
 use Rattle.tag_block.specs.Tag.{Said}
-use Rattle.datagram450.specs.Item.{Item, line, bad}
+use Rattle.datagram450.specs.Datagram.{Item, line, bad}
 use Rattle.history.specs.Settings.{Settings}
 use Rattle.history.specs.Heard.{several, place_of, is_taken}
 use Rattle.history.specs.NetReadings.{read_sentence}

@@ -8,16 +8,15 @@ use Rattle.fast_packet.specs.declared.key.FastKey.{FastKey}
 use Rattle.iso_transport.specs.declared.key.IsoKey.{IsoKey}
 use Rattle.tag_block.specs.declared.group_key.GroupKey.{GroupKey}
 use Rattle.pgn_profile.specs.Profiled.{kind_of}
-use Rattle.history.specs.Settings.{Settings}
-use Rattle.history.specs.Receiver.{receiver_of}
+use Rattle.history.specs.Settings.{Settings, receiver_of}
 use Rattle.history.specs.Entries.{History, now}
 use Rattle.history.specs.Known.{Known, known}
-use Rattle.history.specs.Traces.{Note}
+use Rattle.history.specs.Traces.{NotedFrame}
 use Rattle.history.specs.Opens.{fast_keys, iso_keys, fast_open, iso_open, notes_of}
-use Rattle.history.specs.Heard.{Taken, group_keys, group_open, lines_of}
+use Rattle.history.specs.Heard.{Taken, group_keys, group_open, taken_lines}
 use Rattle.gate_events.specs.Emit.{Emit}
 use Rattle.history.specs.Emits.{of_source, broken, replied}
-use Rattle.history.specs.Endings.{fast_ended, iso_ended, group_ended, session_pgn, abort_reply}
+use Rattle.history.specs.Endings.{fast_ended, iso_ended, group_ended, session_pgn, abort_reply, side}
 use Rattle.history.specs.Gate.{heard, expired}
 use Rattle.history.specs.AddressLaws.{IsReceiver}
 use Rattle.history.proofs.Receivers.{gateways_receive}
@@ -79,19 +78,19 @@ quiet : {X : Type 0} (f : X → List Emit) (p : X → Bool) → ((x : X) → p x
 quiet f p none [] = refl
 quiet f p none (x ∷ xs) = rw (none x) (quiet f p none xs)
 
-module _ (k : Known) (notes : List Note) (lines : List Taken) (m : ℕ) where
+module _ (k : Known) (notes : List NotedFrame) (lines : List Taken) (m : ℕ) where
   fast_stays : flat_map (λ (key : FastKey). of_source rules.expired key.source key.pgn ∷ [])
-      (filter (fast_ended k.claims.holders m k.claims.holders m notes) (fast_keys kind_of notes)) ≡ []
+      (filter (fast_ended (side k m) (side k m) notes) (fast_keys kind_of notes)) ≡ []
   fast_stays =
-      quiet (λ (key : FastKey). of_source rules.expired key.source key.pgn ∷ []) (fast_ended k.claims.holders m k.claims.holders m notes)
+      quiet (λ (key : FastKey). of_source rules.expired key.source key.pgn ∷ []) (fast_ended (side k m) (side k m) notes)
       (λ key. stays (fast_open k.claims.holders notes key m)) (fast_keys kind_of notes)
 
   abbrev told : IsoKey → List Emit
-  told key = let pgn = session_pgn k notes key m in
+  told key = let pgn = session_pgn (side k m) notes key in
       of_source rules.expired key.source pgn ∷ replied k.claims.own key.source (abort_reply key.addressed pgn)
 
-  sessions_stay : flat_map told (filter (iso_ended k m k m notes) (iso_keys notes)) ≡ []
-  sessions_stay = quiet told (iso_ended k m k m notes) (λ key. stays (iso_open k notes key m)) (iso_keys notes)
+  sessions_stay : flat_map told (filter (iso_ended (side k m) (side k m) notes) (iso_keys notes)) ≡ []
+  sessions_stay = quiet told (iso_ended (side k m) (side k m) notes) (λ key. stays (iso_open k notes key m)) (iso_keys notes)
 
   groups_stay : flat_map (λ (key : GroupKey). broken rules.group_expired (detail.GroupKey key.sfi key.code) ∷ [])
       (filter (group_ended lines m m) (group_keys lines)) ≡ []
@@ -102,6 +101,6 @@ module _ (k : Known) (notes : List Note) (lines : List Taken) (m : ℕ) where
 pub none_expires : (c : Settings) (s : ℕ) (h : History) → expired c s h (now h) ≡ []
 none_expires c s h =
     let k : Known = known (receiver_of c) s h in
-    let notes : List Note = notes_of (receiver_of c) s h in
-    let lines : List Taken = lines_of c (heard c s h) in
+    let notes : List NotedFrame = notes_of (receiver_of c) s h in
+    let lines : List Taken = taken_lines c (heard c s h) in
     three (fast_stays k notes lines (now h)) (sessions_stay k notes lines (now h)) (groups_stay k notes lines (now h))

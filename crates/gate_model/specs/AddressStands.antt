@@ -10,17 +10,19 @@ use Rattle.claim_table.specs.declared.answer.Holder.{Holder}
 use Rattle.claim_table.specs.Claims.{Claims, IsSinceBy, claim, holder_at, is_obeyed, is_ready}
 use Rattle.claim_table.specs.Laws.{capped}
 use Rattle.history.specs.Entries.{Entry, History, frame, datagram, tick, command}
-use Rattle.history.specs.Receiver.{Receiver}
-use Rattle.history.specs.Known.{known, is_claim, claim_by}
+use Rattle.history.specs.Settings.{Receiver}
+use Rattle.history.specs.Known.{known, is_claim, claim_by, address_left, address_won}
 use Rattle.history.specs.Meanings.{Meaning, request, meaning_of, is_of_session, is_of_fast_packet}
 use Rattle.history.specs.Messages.{Carried, done, said_by}
-use Rattle.history.specs.FromBus.{request_gives, own_answer, meaning_after, frame_refused, answers_by, command_breaks}
+use Rattle.history.specs.FromBus.{request_gives, own_answer, meaning_at, frame_refused, answers_by, command_breaks}
 use Rattle.history.specs.AddressLaws.{IsReceiver}
-use Rattle.gate_model.specs.Addresses.{AddressesKept, Changed, last_index, no_change, changed_by, addresses_at_start, claimed, addresses_after, claim_emits, plain_reports, plain_done}
+use Rattle.gate_model.specs.Addresses.{AddressesKept, Changed, last_index, no_change, addresses_at_start, claimed, addresses_after, claim_emits, plain_reports, plain_done}
 
 -- which addresses an entry takes from others: only a claim does
 abbrev pub changes_by : Receiver → ℕ → History → Entry → Changed
-changes_by r s h (frame m f) = if is_claim f then changed_by (claim (known r s h).claims (claim_by (length h) m f)).step else no_change
+changes_by r s h (frame m f) =
+    let step = (claim (known r s h).claims (claim_by (length h) m f)).step in
+    if is_claim f then record { left = address_left step; won = address_won step } else no_change
 changes_by r s h (datagram m bytes) = no_change
 changes_by r s h (tick m) = no_change
 changes_by r s h (command m source address) = no_change
@@ -108,7 +110,7 @@ module _ (r : Receiver) (s : ℕ) (h : History) (m : ℕ) (f : BusFrame) (k : Ad
   meaning_here = meaning_of r.kinds k.claims.own k.claims.holders (parts_of f.id)
 
   pub record FrameIsTold : Type 0 where
-    pub meaning : meaning_here ≡ meaning_after r s h m f
+    pub meaning : meaning_here ≡ meaning_at r s h m f
     pub reports : frame_refused r s h m f ≡ plain_reports r.name meaning_here (parts_of f.id) f.held
     pub completed : done r s h (frame m f)
         ≡ said_by (length h) m (parts_of f.id).source (holder_at k.claims.holders (parts_of f.id).source) (plain_done meaning_here (parts_of f.id) f.held)
@@ -117,4 +119,4 @@ module _ (r : Receiver) (s : ℕ) (h : History) (m : ℕ) (f : BusFrame) (k : Ad
 abbrev pub FramesAreTold : Type 0
 FramesAreTold =
     (r : Receiver) (s : ℕ) (h : History) (m : ℕ) (f : BusFrame) (k : AddressesKept) → IsReceiver r → StandsAddresses r s h k
-    → is_of_session (meaning_after r s h m f) ≡ false → is_of_fast_packet (meaning_after r s h m f) ≡ false → FrameIsTold r s h m f k
+    → is_of_session (meaning_at r s h m f) ≡ false → is_of_fast_packet (meaning_at r s h m f) ≡ false → FrameIsTold r s h m f k

@@ -8,11 +8,10 @@ use Rattle.n2k_id.specs.declared.identifier_parts.Parts.{Parts}
 use Rattle.n2k_id.specs.Frame.{BusFrame}
 use Rattle.n2k_id.specs.Name.{name_at}
 use Rattle.claim_table.specs.declared.answer.ClaimStep.{ClaimStep}
-use Rattle.claim_table.specs.Claims.{Claims, Outcome, started, claim, command}
-use Rattle.claim_table.specs.Presets.{opened}
+use Rattle.claim_table.specs.Claims.{Claims, Outcome, started, claim, command, claims_at_start}
 use Rattle.history.specs.Entries as entry
 use Rattle.history.specs.Entries.{Entry}
-use Rattle.history.specs.Receiver.{Receiver}
+use Rattle.history.specs.Settings.{Receiver}
 use Rattle.history.specs.Known.{is_claim, claim_by, address_left, address_won}
 use Rattle.history.specs.Meanings.{Meaning, address_claim, own_source, request, from_nobody, transport, single, fast_packet, passed}
 use Rattle.history.specs.Messages.{Carried, carried}
@@ -49,7 +48,7 @@ pub record AddressesKept : Type 0 where
 
 -- at the start, before any entry
 abbrev pub addresses_at_start : Receiver → ℕ → AddressesKept
-addresses_at_start r s = record { claims = started (opened r.name r.address r.presets) s; count = 0; changed = no_change }
+addresses_at_start r s = record { claims = started (claims_at_start r.name r.address r.presets) s; count = 0; changed = no_change }
 
 abbrev pub counted : ℕ → ℕ
 counted count = min last_index (count + 1)

@@ -27,7 +27,7 @@ sessions_overdue own slots m =
 abbrev pub groups_overdue : SlotMap GroupKey → ℕ → List Emit
 groups_overdue slots m = flat_map (λ e. broken rules.group_expired (detail.GroupKey e.0.sfi e.0.code) ∷ []) (filter (has_expired m) slots.entries)
 
--- ---- since an address changes hands: those that pass a test
+-- ---- because an address changes hands: those that pass a test
 
 abbrev pub fast_lost : (FastKey × Entry → Bool) → SlotMap FastKey → List Emit
 fast_lost p slots = flat_map (λ e. of_source rules.claim_lost e.0.source e.0.pgn ∷ []) (filter p slots.entries)

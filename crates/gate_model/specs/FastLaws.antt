@@ -1,6 +1,6 @@
 -- The fast packets (canboat) that a receiver keeps stand for the history: the slots hold for every key what is open of it, and what is made
 -- of them at an entry is what the history says of that entry.
-use Rattle.std.specs.Prelude.{◌≡◌, ℕ, ◌≤◌, true, false, not, ◌==◌, List, [], ◌∷◌, length, Option, Some, None, if◌then◌else◌}
+use Rattle.std.specs.Prelude.{◌≡◌, ℕ, ◌≤◌, true, false, not, List, [], ◌∷◌, length, Option, None, if◌then◌else◌}
 use Rattle.std.specs.declared.cmp.Ordering.{Ordering}
 use Rattle.n2k_id.specs.Frame.{BusFrame}
 use Rattle.n2k_id.specs.Identifier.{parts_of}
@@ -14,15 +14,14 @@ use Rattle.fast_packet.specs.declared.answers.FastFed.{FastFed}
 use Rattle.fast_packet.specs.Answers.{FeedGives}
 use Rattle.fast_packet.specs.RunAssemblies.{assembly_at}
 use Rattle.history.specs.Entries.{Entry, History, IsHistory, frame, datagram, tick, command}
-use Rattle.history.specs.Receiver.{Receiver}
+use Rattle.history.specs.Settings.{Receiver}
 use Rattle.history.specs.Known.{known, is_claim, claim_by, address_left, address_won}
-use Rattle.history.specs.Traces.{Note}
+use Rattle.history.specs.Traces.{NotedFrame}
 use Rattle.history.specs.Opens.{is_fast, fast_open, notes_of}
 use Rattle.history.specs.Meanings.{fast_packet, is_of_fast_packet}
-use Rattle.gate_events.specs.Emit.{Emit}
-use Rattle.history.specs.Endings.{fast_expired, fast_lost_at}
+use Rattle.history.specs.Endings.{fast_expired, fast_lost_at, side}
 use Rattle.history.specs.Messages.{done, said_by}
-use Rattle.history.specs.FromBus.{meaning_after, frame_refused}
+use Rattle.history.specs.FromBus.{meaning_at, frame_refused}
 use Rattle.history.specs.AddressLaws.{IsReceiver}
 use Rattle.history.specs.KeyLaws.{the_note}
 use Rattle.history.specs.CountLaws.{HoldsFast, CountsFast}
@@ -33,7 +32,7 @@ use Rattle.gate_model.specs.FastPackets.{FastStep, answer_of, fast_answer, key_o
 
 -- ---- what is kept
 
-module _ (kinds : ℕ → Kind) (cmp : FastKey → FastKey → Ordering) (limit : ℕ) (holders : List (Option Holder)) (notes : List Note) (m : ℕ)
+module _ (kinds : ℕ → Kind) (cmp : FastKey → FastKey → Ordering) (limit : ℕ) (holders : List (Option Holder)) (notes : List NotedFrame) (m : ℕ)
     (slots : SlotMap FastKey) where
   -- with this limit, at a moment: the entry of each key of fast packets is what stands for the frames of it that are open, and there is
   -- none where nothing is, nor at any other key
@@ -43,7 +42,7 @@ module _ (kinds : ℕ → Kind) (cmp : FastKey → FastKey → Ordering) (limit 
     pub entries : (key : FastKey) → entry_at cmp slots key ≡ (if is_fast (kinds key.pgn) then assembly_at (fast_open holders notes key m) else None)
 
 -- so it holds what is open, as the laws of history say it: it is full exactly where an opener finds no room, and lists the keys that are open
-module _ (kinds : ℕ → Kind) (cmp : FastKey → FastKey → Ordering) (holders : List (Option Holder)) (notes : List Note) (m : ℕ) (slots : SlotMap FastKey) where
+module _ (kinds : ℕ → Kind) (cmp : FastKey → FastKey → Ordering) (holders : List (Option Holder)) (notes : List NotedFrame) (m : ℕ) (slots : SlotMap FastKey) where
   pub record HoldsAllFast : Type 0 where
     pub holds : HoldsFast kinds cmp holders notes m slots
     pub counts : CountsFast kinds cmp holders notes m slots
@@ -51,7 +50,7 @@ module _ (kinds : ℕ → Kind) (cmp : FastKey → FastKey → Ordering) (holder
 
 abbrev pub StandingHoldsFast : Type 0
 StandingHoldsFast =
-    (kinds : ℕ → Kind) (cmp : FastKey → FastKey → Ordering) (limit : ℕ) (holders : List (Option Holder)) (notes : List Note) (m : ℕ) (slots : SlotMap FastKey)
+    (kinds : ℕ → Kind) (cmp : FastKey → FastKey → Ordering) (limit : ℕ) (holders : List (Option Holder)) (notes : List NotedFrame) (m : ℕ) (slots : SlotMap FastKey)
     → OrdersFast cmp → StandsFast kinds cmp limit holders notes m slots → HoldsAllFast kinds cmp holders notes m slots
 
 module _ (cmp : FastKey → FastKey → Ordering) (r : Receiver) (s : ℕ) where
@@ -69,7 +68,7 @@ NothingStandsFast =
 
 pub record EndsFastInTime (cmp : FastKey → FastKey → Ordering) (r : Receiver) (s : ℕ) (h : History) (earlier m : ℕ) (slots : SlotMap FastKey) : Type 0 where
   pub stands : StandsFastFor cmp r s h m (unexpired m slots)
-  pub told : fast_overdue slots m ≡ fast_expired (known r s h).claims.holders (notes_of r s h) earlier m r.kinds
+  pub told : fast_overdue slots m ≡ fast_expired (side (known r s h) earlier) (side (known r s h) m) (notes_of r s h) r.kinds
 
 abbrev pub TimeEndsFastPackets : Type 0
 TimeEndsFastPackets =
@@ -84,9 +83,9 @@ module _ (cmp : FastKey → FastKey → Ordering) (r : Receiver) (s : ℕ) (h : 
     pub stands : StandsFastFor cmp r s (e ∷ h) m (fast_kept left won slots)
     pub kept : fast_kept left won slots ≡ remaining (is_given_up left won) slots
     pub left_told : lost_of_source left slots
-        ≡ fast_lost_at (known r s h).claims.holders (known r s (e ∷ h)).claims.holders (notes_of r s h) m r.kinds left
+        ≡ fast_lost_at (side (known r s h) m) (side (known r s (e ∷ h)) m) (notes_of r s h) r.kinds left
     pub won_told : lost_of_source won (without_source left slots)
-        ≡ fast_lost_at (known r s h).claims.holders (known r s (e ∷ h)).claims.holders (notes_of r s h) m r.kinds won
+        ≡ fast_lost_at (side (known r s h) m) (side (known r s (e ∷ h)) m) (notes_of r s h) r.kinds won
 
 abbrev pub ClaimsGiveUpFast : Type 0
 ClaimsGiveUpFast =
@@ -117,7 +116,7 @@ module _ (cmp : FastKey → FastKey → Ordering) (r : Receiver) (s : ℕ) (h : 
 abbrev pub FramesStandFast : Type 0
 FramesStandFast =
     (cmp : FastKey → FastKey → Ordering) → OrdersFast cmp → (r : Receiver) (s : ℕ) (h : History) (m : ℕ) (f : BusFrame) (slots : SlotMap FastKey)
-    → IsReceiver r → IsHistory (frame m f ∷ h) → meaning_after r s h m f ≡ fast_packet → StandsFastFor cmp r s h m slots → FastFramesStand cmp r s h m f slots
+    → IsReceiver r → IsHistory (frame m f ∷ h) → meaning_at r s h m f ≡ fast_packet → StandsFastFor cmp r s h m slots → FastFramesStand cmp r s h m f slots
 
 -- every answer of the assembler of fast packets is the plain one
 abbrev pub FastAnswersArePlain : Type 0
@@ -130,7 +129,7 @@ FastAnswersArePlain =
 abbrev pub OthersLeaveFast : Type 0
 OthersLeaveFast =
     (cmp : FastKey → FastKey → Ordering) (r : Receiver) (s : ℕ) (h : History) (m moment : ℕ) (f : BusFrame) (slots : SlotMap FastKey) → IsReceiver r
-    → is_claim f ≡ false → is_of_fast_packet (meaning_after r s h moment f) ≡ false → StandsFastFor cmp r s h m slots
+    → is_claim f ≡ false → is_of_fast_packet (meaning_at r s h moment f) ≡ false → StandsFastFor cmp r s h m slots
     → StandsFastFor cmp r s (frame moment f ∷ h) m slots
 
 abbrev pub DatagramsLeaveFast : Type 0

@@ -1,5 +1,5 @@
 -- What a gateway keeps, as plain values, and how time passes over it. Nothing here speaks of what came before.
-use Rattle.std.specs.Prelude.{ℕ, Bool, true, false, List, [], ◌∷◌, ◌++◌, Option}
+use Rattle.std.specs.Prelude.{ℕ, List, [], ◌++◌, Option}
 use Rattle.std.specs.declared.cmp.Ordering.{Ordering}
 use Rattle.slot_views.specs.Slots.{SlotMap}
 use Rattle.slot_views.specs.Traces.{unexpired}
@@ -7,8 +7,7 @@ use Rattle.claim_table.specs.Claims.{started}
 use Rattle.fast_packet.specs.declared.key.FastKey.{FastKey}
 use Rattle.iso_transport.specs.declared.key.IsoKey.{IsoKey}
 use Rattle.tag_block.specs.declared.group_key.GroupKey.{GroupKey}
-use Rattle.history.specs.Settings.{Settings}
-use Rattle.history.specs.Receiver.{receiver_of}
+use Rattle.history.specs.Settings.{Settings, receiver_of}
 use Rattle.gate_events.specs.Emit.{Emit}
 use Rattle.gate_model.specs.Endings.{fast_overdue, sessions_overdue, groups_overdue}
 use Rattle.gate_model.specs.Addresses.{AddressesKept, Changed, addresses_at_start, counted}

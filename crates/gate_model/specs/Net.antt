@@ -6,8 +6,8 @@ use Rattle.readings.specs.declared.reading.Reading.{Reading}
 use Rattle.readings.specs.declared.rows.Row.{Row}
 use Rattle.readings.specs.Rows.{row_of}
 use Rattle.readings.specs.About.{every_row, row_number}
-use Rattle.pgn_profile.specs.Payload.{payload_of, pgn_of, priority_of}
-use Rattle.fast_packet.specs.Splitting.{frames_of}
+use Rattle.pgn_profile.specs.Profiled.{payload_of, pgn_of, priority_of}
+use Rattle.fast_packet.specs.FastRuns.{frames_of}
 use Rattle.sentence_rows.specs.declared.fault.FieldFault.{FieldFault}
 use Rattle.sentence_rows.specs.declared.fault.FieldFault.TheVariants.{Outside, Form, Range}
 use Rattle.source_choice.specs.declared.rank.Rank.{Rank}

@@ -16,14 +16,12 @@ use Rattle.tag_block.specs.Groups.{IsGroupPart}
 use Rattle.tag_block.specs.GroupAnswers.{FeedGives}
 use Rattle.tag_block.specs.Tag.{Said}
 use Rattle.datagram450.specs.Datagram as datagrams
-use Rattle.datagram450.specs.Datagram.{IsItem}
-use Rattle.datagram450.specs.Item.{line}
-use Rattle.history.specs.Settings.{Settings}
+use Rattle.datagram450.specs.Datagram.{IsItem, line}
+use Rattle.history.specs.Settings.{Settings, receiver_of}
 use Rattle.history.specs.Entries.{History, frame, datagram, tick, command}
-use Rattle.history.specs.Receiver.{receiver_of}
 use Rattle.history.specs.Known.{known}
 use Rattle.history.specs.Endings.{groups_expired}
-use Rattle.history.specs.Heard.{Came, several, place_of, lines_of}
+use Rattle.history.specs.Heard.{HeardItem, several, place_of, taken_lines}
 use Rattle.history.specs.FromNet.{item_gives}
 use Rattle.history.specs.Gate as gate
 use Rattle.history.specs.Gate.{heard}
@@ -37,25 +35,25 @@ use Rattle.gate_model.specs.NetStands.{StandsNet}
 abbrev pub OpeningStandsNet : Type 0
 OpeningStandsNet = (cmp : GroupKey → GroupKey → Ordering) (c : Settings) (m : ℕ) → StandsNet cmp c [] m (nothing_kept c)
 
-module _ (cmp : GroupKey → GroupKey → Ordering) (c : Settings) (older : List Came) where
+module _ (cmp : GroupKey → GroupKey → Ordering) (c : Settings) (older : List HeardItem) where
   -- at a later moment stands what isn't overdue, and what is, is reported
   pub record LaterStandsNet (earlier m : ℕ) (k : NetKept) : Type 0 where
     pub stands : StandsNet cmp c older m (kept_until m k)
-    pub gives : groups_overdue k.groups m ≡ groups_expired (lines_of c older) earlier m
+    pub gives : groups_overdue k.groups m ≡ groups_expired (taken_lines c older) earlier m
 
   -- one more item
-  pub record ItemStandsNet (own : Option ℕ) (x : Came) (k : NetKept) : Type 0 where
+  pub record ItemStandsNet (own : Option ℕ) (x : HeardItem) (k : NetKept) : Type 0 where
     pub stands : StandsNet cmp c (x ∷ older) x.moment (item_after cmp c x.moment x.ready k x.item)
     pub gives : item_emits cmp c x.moment x.ready own k x.item ≡ item_gives c own older x
 
 abbrev pub TimeStandsNet : Type 0
 TimeStandsNet =
-    (cmp : GroupKey → GroupKey → Ordering) (c : Settings) (older : List Came) (earlier m : ℕ) (k : NetKept) → OrdersGroups cmp → earlier ≤ m
+    (cmp : GroupKey → GroupKey → Ordering) (c : Settings) (older : List HeardItem) (earlier m : ℕ) (k : NetKept) → OrdersGroups cmp → earlier ≤ m
     → StandsNet cmp c older earlier k → LaterStandsNet cmp c older earlier m k
 
 abbrev pub ItemsStandNet : Type 0
 ItemsStandNet =
-    (cmp : GroupKey → GroupKey → Ordering) (c : Settings) (own : Option ℕ) (older : List Came) (x : Came) (k : NetKept) → OrdersGroups cmp
+    (cmp : GroupKey → GroupKey → Ordering) (c : Settings) (own : Option ℕ) (older : List HeardItem) (x : HeardItem) (k : NetKept) → OrdersGroups cmp
     → IsItem x.item → StandsNet cmp c older x.moment k → ItemStandsNet cmp c older own x k
 
 -- a datagram that comes after a history
@@ -64,7 +62,7 @@ module _ (cmp : GroupKey → GroupKey → Ordering) (c : Settings) (s : ℕ) (h 
     pub stands : let claims = (known (receiver_of c) s h).claims in
         StandsNet cmp c (heard c s (datagram m bytes ∷ h)) m (datagram_after cmp c m (is_ready claims m) k (datagrams.read bytes))
     pub gives : let claims = (known (receiver_of c) s h).claims in
-        datagram_emits cmp c m (is_ready claims m) claims.own k (datagrams.read bytes) ≡ gate.datagram_after c s h m bytes
+        datagram_emits cmp c m (is_ready claims m) claims.own k (datagrams.read bytes) ≡ gate.datagram_at c s h m bytes
 
   -- nothing else is heard from the network
   pub record OthersStandNet (k : NetKept) : Type 0 where

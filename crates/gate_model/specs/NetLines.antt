@@ -16,8 +16,7 @@ use Rattle.tag_block.specs.Groups.{key_of, verdict, opening, fed_after}
 use Rattle.tag_block.specs.GroupRuns.{group_gap}
 use Rattle.tag_block.specs.Tag.{Said}
 use Rattle.datagram450.specs.declared.fault.DatagramFault.{DatagramFault}
-use Rattle.datagram450.specs.Datagram.{cut}
-use Rattle.datagram450.specs.Item.{Item, line, bad}
+use Rattle.datagram450.specs.Datagram.{cut, Item, line, bad}
 use Rattle.gate_events.specs.declared.emit.Report.{Report}
 use Rattle.gate_events.specs.declared.emit.Detail.TheVariants as detail
 use Rattle.history.specs.Settings.{Settings}

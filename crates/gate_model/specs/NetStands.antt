@@ -3,14 +3,14 @@ use Rattle.std.specs.Prelude.{◌≡◌, ℕ, true, List, length}
 use Rattle.std.specs.List.{AllByRecursion}
 use Rattle.std.specs.declared.cmp.Ordering.{Ordering}
 use Rattle.readings.specs.declared.rows.Row.{Row}
-use Rattle.pgn_profile.specs.Payload.{pgn_of}
+use Rattle.pgn_profile.specs.Profiled.{pgn_of}
 use Rattle.slot_views.specs.Slots.{SlotMap, IsMap, entry_at}
 use Rattle.source_choice.specs.Choices.{row_at}
 use Rattle.tag_block.specs.declared.group_key.GroupKey.{GroupKey}
 use Rattle.tag_block.specs.GroupLaws.{group_at}
 use Rattle.datagram450.specs.Datagram.{IsItem}
 use Rattle.history.specs.Settings.{Settings}
-use Rattle.history.specs.Heard.{Came, Taken, group_open, lines_of}
+use Rattle.history.specs.Heard.{HeardItem, Taken, group_open, taken_lines}
 use Rattle.history.specs.NetReadings.{NetReading, readings_of, is_fast_row, next_sequence}
 use Rattle.history.specs.ChoiceLaws.{HoldsNetNotes}
 use Rattle.gate_model.specs.Net.{ReadingsKept, sequence_at, row_numbers}
@@ -33,7 +33,7 @@ pub record StandsGroups (cmp : GroupKey → GroupKey → Ordering) (limit : ℕ)
   pub entries : (key : GroupKey) → entry_at cmp s key ≡ group_at (group_open lines key m)
 
 -- over the items that came, each of which is one of a datagram, at a moment
-pub record StandsNet (cmp : GroupKey → GroupKey → Ordering) (c : Settings) (older : List Came) (m : ℕ) (k : NetKept) : Type 0 where
+pub record StandsNet (cmp : GroupKey → GroupKey → Ordering) (c : Settings) (older : List HeardItem) (m : ℕ) (k : NetKept) : Type 0 where
   pub items : AllByRecursion (λ x. IsItem x.item) older
-  pub groups : StandsGroups cmp c.group_slots (lines_of c older) m k.groups
-  pub readings : StandsReadings c (readings_of (lines_of c older)) k.readings
+  pub groups : StandsGroups cmp c.group_slots (taken_lines c older) m k.groups
+  pub readings : StandsReadings c (readings_of (taken_lines c older)) k.readings

@@ -17,18 +17,16 @@ use Rattle.source_choice.specs.Notes.{is_selected}
 use Rattle.source_choice.specs.Choices.{Choices, opened, row_at, with_noted, forgotten}
 use Rattle.readings.specs.About.{row_number}
 use Rattle.sentence_rows.specs.Writing.{sentences_of}
-use Rattle.tag_block.specs.Numbers.{most_count}
+use Rattle.tag_block.specs.Tag.{most_count}
 use Rattle.tag_block.specs.Writing.{most_written_code}
 use Rattle.datagram450.specs.Datagram.{header}
-use Rattle.history.specs.Settings.{Settings, rule_at, rule_of}
+use Rattle.history.specs.Settings.{Settings, rule_at, rule_of, same_text}
 use Rattle.history.specs.Known.{address_left, address_won}
 use Rattle.history.specs.Messages.{Message, Carried, ordered_in}
 use Rattle.history.specs.Choice.{rank_of, reading_in, is_usable}
-use Rattle.history.specs.Heard.{same_text}
-use Rattle.history.specs.Datagrams.{lines_from}
+use Rattle.history.specs.Emits.{lines_from, report_of}
 use Rattle.history.specs.BusRules.{is_short}
 use Rattle.gate_events.specs.Emit.{Emit, net}
-use Rattle.history.specs.Emits.{report_of}
 use Rattle.gate_model.specs.Net.{row_numbers, timeouts}
 
 -- ---- what is kept

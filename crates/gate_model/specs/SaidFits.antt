@@ -9,11 +9,11 @@ use Rattle.claim_table.specs.declared.answer.ClaimStep.{ClaimStep}
 use Rattle.sentence_text.specs.Names.{IsSfi}
 use Rattle.sentence_text.specs.Sentence.{longest_written}
 use Rattle.tag_block.specs.declared.writing.TagParts.{TagParts}
-use Rattle.tag_block.specs.Numbers.{most_count}
+use Rattle.tag_block.specs.Tag.{most_count}
 use Rattle.tag_block.specs.Writing.{IsWritable, most_written_code, longest_block, longest_packet}
-use Rattle.datagram450.specs.Writing.{line_text}
+use Rattle.datagram450.specs.Datagram.{line_text}
 use Rattle.history.specs.Settings.{Settings, rule_of}
-use Rattle.history.specs.Datagrams.{part_of}
+use Rattle.history.specs.Emits.{part_of}
 use Rattle.gate_model.specs.Said.{SaidKept, Complete, nothing_said, sentences_by, datagram_by, message_after, claimed_after}
 
 -- ---- the counts are from 0 to 998, and from 0 to 98

@@ -8,14 +8,12 @@ use Rattle.claim_table.specs.Claims.{Claims, Claim, places, claim}
 use Rattle.claim_table.specs.declared.answer.Holder.{Holder}
 use Rattle.history.specs.AddressLaws.{AreSettings}
 use Rattle.history.specs.Entries.{History, frame, datagram, tick, command}
-use Rattle.history.specs.Settings.{Settings, rule_of}
-use Rattle.history.specs.Receiver.{receiver_of}
+use Rattle.history.specs.Settings.{Settings, rule_of, receiver_of}
 use Rattle.history.specs.Known.{known, is_claim, claim_by, address_left, address_won}
 use Rattle.history.specs.Messages.{Message, Carried, done, said_by}
 use Rattle.history.specs.Choice.{reading_of}
-use Rattle.history.specs.Datagrams.{Spoken, datagram_of}
+use Rattle.history.specs.Emits.{Spoken, datagram_of, broken_of}
 use Rattle.history.specs.BusRules.{message_rule}
-use Rattle.history.specs.Emits.{broken_of}
 use Rattle.history.specs.FromBus.{said_at, said_in}
 use Rattle.history.specs.Gate.{spoken_of, command_in}
 use Rattle.gate_model.specs.Said.{SaidKept, nothing_said, complete_by, complete_of, short_reports, told_by, ordered_by, sentences_by, datagram_by, message_after, message_emits, claimed_after}

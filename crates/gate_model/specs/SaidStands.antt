@@ -2,16 +2,15 @@
 use Rattle.std.specs.Prelude.{◌≡◌, ℕ, ◌%◌, List, length, Option}
 use Rattle.readings.specs.declared.rows.Row.{Row}
 use Rattle.source_choice.specs.Choices.{row_at}
-use Rattle.tag_block.specs.Numbers.{most_count}
+use Rattle.tag_block.specs.Tag.{most_count}
 use Rattle.tag_block.specs.Writing.{most_written_code}
 use Rattle.claim_table.specs.Claims.{places}
 use Rattle.claim_table.specs.declared.answer.Holder.{Holder}
 use Rattle.history.specs.Entries.{History}
-use Rattle.history.specs.Settings.{Settings, rule_of}
-use Rattle.history.specs.Receiver.{receiver_of}
+use Rattle.history.specs.Settings.{Settings, rule_of, receiver_of}
 use Rattle.history.specs.Known.{known}
 use Rattle.history.specs.Messages.{Message, messages_of}
-use Rattle.history.specs.Datagrams.{Spoken, lines_on, line_groups}
+use Rattle.history.specs.Emits.{Spoken, lines_on, line_groups}
 use Rattle.history.specs.Gate.{spoken_of}
 use Rattle.history.specs.ChoiceLaws.{HoldsNotes}
 use Rattle.gate_model.specs.Net.{row_numbers}

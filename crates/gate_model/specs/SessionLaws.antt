@@ -1,6 +1,6 @@
 -- The sessions that the gateway keeps stand for the history: each map holds for every key what is open of it (ISO 11783-3), and what is made
 -- of the map at an entry is what the history says of that entry.
-use Rattle.std.specs.Prelude.{◌≡◌, ℕ, ◌≤◌, Bool, true, false, not, ◌==◌, List, [], ◌∷◌, length, Option, Some, None}
+use Rattle.std.specs.Prelude.{◌≡◌, ℕ, ◌≤◌, Bool, true, false, not, List, [], ◌∷◌, length, Option, None}
 use Rattle.std.specs.declared.cmp.Ordering.{Ordering}
 use Rattle.n2k_id.specs.declared.identifier_parts.Parts.{Parts}
 use Rattle.n2k_id.specs.Frame.{BusFrame}
@@ -14,16 +14,15 @@ use Rattle.iso_transport.specs.Audience.{key_of}
 use Rattle.iso_transport.specs.Answers.{FeedGives}
 use Rattle.iso_transport.specs.RunVerdicts.{assembly_at}
 use Rattle.history.specs.Entries.{Entry, History, IsHistory, frame, datagram, tick, command}
-use Rattle.history.specs.Receiver.{Receiver}
+use Rattle.history.specs.Settings.{Receiver}
 use Rattle.history.specs.Known.{Known, known, is_claim, claim_by, address_left, address_won}
-use Rattle.history.specs.Traces.{Note}
+use Rattle.history.specs.Traces.{NotedFrame}
 use Rattle.history.specs.Opens.{iso_open, notes_of}
 use Rattle.history.specs.Meanings.{transport, is_of_session}
-use Rattle.gate_events.specs.Emit.{Emit}
 use Rattle.history.specs.Emits.{replied}
-use Rattle.history.specs.Endings.{iso_expired, iso_lost, lost_elsewhere}
+use Rattle.history.specs.Endings.{iso_expired, lost_elsewhere, side, iso_lost_at}
 use Rattle.history.specs.Messages.{done, said_by}
-use Rattle.history.specs.FromBus.{meaning_after, frame_refused, answers_by}
+use Rattle.history.specs.FromBus.{meaning_at, frame_refused, answers_by}
 use Rattle.history.specs.AddressLaws.{IsReceiver}
 use Rattle.history.specs.TraceLaws.{same_own}
 use Rattle.history.specs.KeyLaws.{the_note}
@@ -37,7 +36,7 @@ use Rattle.gate_model.specs.Sessions.{is_move, without_source, lost_of_source, l
 -- ---- what is kept
 
 -- with this limit, at a moment: the entry of each key is what stands for the frames of it that are open, and there is none where nothing is
-pub record StandsIso (cmp : IsoKey → IsoKey → Ordering) (limit : ℕ) (k : Known) (notes : List Note) (m : ℕ) (slots : SlotMap IsoKey) : Type 0 where
+pub record StandsIso (cmp : IsoKey → IsoKey → Ordering) (limit : ℕ) (k : Known) (notes : List NotedFrame) (m : ℕ) (slots : SlotMap IsoKey) : Type 0 where
   pub limited : slots.limit ≡ limit
   pub map : IsMap cmp slots
   pub entries : (key : IsoKey) → entry_at cmp slots key ≡ assembly_at key.addressed (iso_open k notes key m)
@@ -49,7 +48,7 @@ module _ (cmp : IsoKey → IsoKey → Ordering) (r : Receiver) (s : ℕ) where
 
 -- so it holds what is open, as the laws of history say it: there are as many entries as keys that are open, it is full exactly where an
 -- opener finds no room, and its keys are listed in the order of the reports
-pub record HoldsWhatIsOpen (cmp : IsoKey → IsoKey → Ordering) (k : Known) (notes : List Note) (m : ℕ) (slots : SlotMap IsoKey) : Type 0 where
+pub record HoldsWhatIsOpen (cmp : IsoKey → IsoKey → Ordering) (k : Known) (notes : List NotedFrame) (m : ℕ) (slots : SlotMap IsoKey) : Type 0 where
   pub holds : HoldsIso cmp k notes m slots
   pub counts : CountsIso cmp k notes m slots
   pub lists : ListsIso cmp k notes m slots
@@ -70,7 +69,7 @@ NothingStands =
 -- what is overdue at a later moment ends, and is told as the history says
 pub record EndsInTime (cmp : IsoKey → IsoKey → Ordering) (r : Receiver) (s : ℕ) (h : History) (earlier m : ℕ) (slots : SlotMap IsoKey) : Type 0 where
   pub stands : StandsFor cmp r s h m (unexpired m slots)
-  pub told : sessions_overdue (known r s h).claims.own slots m ≡ iso_expired (known r s h) (notes_of r s h) earlier m
+  pub told : sessions_overdue (known r s h).claims.own slots m ≡ iso_expired (side (known r s h) earlier) (side (known r s h) m) (notes_of r s h)
 
 abbrev pub TimeEndsSessions : Type 0
 TimeEndsSessions =
@@ -93,20 +92,15 @@ abbrev pub CommandsTellMoves : Type 0
 CommandsTellMoves =
     (r : Receiver) (s : ℕ) (h : History) (m source address : ℕ) → is_moved r s h (command m source address) ≡ is_obeyed (known r s h).claims address
 
--- the sessions of one address among what a claim ends
-abbrev pub iso_lost_at : Known → Known → List Note → ℕ → Option ℕ → List Emit
-iso_lost_at k after notes m None = []
-iso_lost_at k after notes m (Some a) = iso_lost k after notes m (λ key. key.source == a)
-
 -- by an entry by which these addresses change hands, and the own one maybe, the sessions end that bear on them, and no others
 module _ (cmp : IsoKey → IsoKey → Ordering) (r : Receiver) (s : ℕ) (h : History) (e : Entry) (m : ℕ) (slots : SlotMap IsoKey) (left won : Option ℕ) where
   pub record GivesUp : Type 0 where
     pub stands : StandsFor cmp r s (e ∷ h) m (sessions_kept left won (is_moved r s h e) slots)
     pub kept : sessions_kept left won (is_moved r s h e) slots ≡ remaining (is_given_up left won (is_moved r s h e)) slots
-    pub left_told : lost_of_source left slots ≡ iso_lost_at (known r s h) (known r s (e ∷ h)) (notes_of r s h) m left
-    pub won_told : lost_of_source won (without_source left slots) ≡ iso_lost_at (known r s h) (known r s (e ∷ h)) (notes_of r s h) m won
+    pub left_told : lost_of_source left slots ≡ iso_lost_at (side (known r s h) m) (side (known r s (e ∷ h)) m) (notes_of r s h) left
+    pub won_told : lost_of_source won (without_source left slots) ≡ iso_lost_at (side (known r s h) m) (side (known r s (e ∷ h)) m) (notes_of r s h) won
     pub elsewhere_told : lost_addressed (is_moved r s h e) (without_source won (without_source left slots))
-        ≡ lost_elsewhere (known r s h) (known r s (e ∷ h)) (notes_of r s h) m left won
+        ≡ lost_elsewhere (side (known r s h) m) (side (known r s (e ∷ h)) m) (notes_of r s h) left won
 
 abbrev pub ClaimsGiveUp : Type 0
 ClaimsGiveUp =
@@ -123,7 +117,7 @@ CommandsGiveUp =
 
 -- a frame to all or to the gateway of a source that holds its address
 abbrev pub IsSessionFrame : Receiver → ℕ → History → ℕ → BusFrame → Type 0
-IsSessionFrame r s h m f = meaning_after r s h m f ≡ transport
+IsSessionFrame r s h m f = meaning_at r s h m f ≡ transport
 
 -- what is made of it is what the history says
 module _ (cmp : IsoKey → IsoKey → Ordering) (r : Receiver) (s : ℕ) (h : History) (m : ℕ) (f : BusFrame) (slots : SlotMap IsoKey) where
@@ -156,7 +150,7 @@ AnswersAreTold =
 abbrev pub OthersLeaveSessions : Type 0
 OthersLeaveSessions =
     (cmp : IsoKey → IsoKey → Ordering) (r : Receiver) (s : ℕ) (h : History) (m moment : ℕ) (f : BusFrame) (slots : SlotMap IsoKey) → IsReceiver r
-    → is_claim f ≡ false → is_of_session (meaning_after r s h moment f) ≡ false → StandsFor cmp r s h m slots → StandsFor cmp r s (frame moment f ∷ h) m slots
+    → is_claim f ≡ false → is_of_session (meaning_at r s h moment f) ≡ false → StandsFor cmp r s h m slots → StandsFor cmp r s (frame moment f ∷ h) m slots
 
 abbrev pub DatagramsLeaveSessions : Type 0
 DatagramsLeaveSessions =

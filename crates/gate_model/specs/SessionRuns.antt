@@ -9,10 +9,10 @@ use Rattle.slot_views.specs.Slots.{SlotMap}
 use Rattle.slot_views.specs.Traces.{unexpired}
 use Rattle.iso_transport.specs.declared.key.IsoKey.{IsoKey}
 use Rattle.history.specs.Entries.{Entry, History, IsHistory, moment_of, now, frame, datagram, tick, command}
-use Rattle.history.specs.Receiver.{Receiver}
+use Rattle.history.specs.Settings.{Receiver}
 use Rattle.history.specs.Known.{known, is_claim, claim_by, address_left, address_won}
 use Rattle.history.specs.Meanings.{is_of_session}
-use Rattle.history.specs.FromBus.{meaning_after}
+use Rattle.history.specs.FromBus.{meaning_at}
 use Rattle.history.specs.AddressLaws.{IsReceiver}
 use Rattle.gate_model.specs.Orders.{OrdersIso}
 use Rattle.gate_model.specs.Sessions.{session_step, sessions_kept}
@@ -25,7 +25,7 @@ module _ (cmp : IsoKey → IsoKey → Ordering) (r : Receiver) (s : ℕ) where
       if is_claim f
       then (let step = (claim (known r s h).claims (claim_by (length h) m f)).step in
       sessions_kept (address_left step) (address_won step) (is_moved r s h (frame m f)) slots)
-      else if is_of_session (meaning_after r s h m f)
+      else if is_of_session (meaning_at r s h m f)
       then (session_step cmp slots (known r s h).claims.own (parts_of f.id) f.held m (is_ready (known r s h).claims m)).slots
       else slots
 

@@ -1,7 +1,6 @@
 -- When what a gateway keeps stands for all that ever came.
 use Rattle.std.specs.Prelude.{◌≡◌, ℕ}
-use Rattle.history.specs.Settings.{Settings}
-use Rattle.history.specs.Receiver.{receiver_of}
+use Rattle.history.specs.Settings.{Settings, receiver_of}
 use Rattle.history.specs.Entries.{History, IsHistory, now}
 use Rattle.history.specs.Gate.{heard}
 use Rattle.history.specs.AddressLaws.{AreSettings}

@@ -2,10 +2,9 @@
 -- whole history says.
 use Rattle.std.specs.Prelude.{◌≡◌, ℕ, ◌<◌, ◌≤◌, [], ◌∷◌, None, option_map, IfSome, is_some, length, if◌then◌else◌}
 use Rattle.claim_table.specs.Claims.{places}
-use Rattle.history.specs.Settings.{Settings}
-use Rattle.history.specs.Receiver.{receiver_of}
+use Rattle.history.specs.Settings.{Settings, receiver_of}
 use Rattle.history.specs.Entries as entry
-use Rattle.history.specs.Entries.{Entry, History, IsHistory, IsOffered, moment_of, now, is_accepted}
+use Rattle.history.specs.Entries.{Entry, History, IsHistory, IsOffered, now, is_accepted}
 use Rattle.history.specs.EntryLaws.{IsEvent}
 use Rattle.report_rules.specs.Rules as rules
 use Rattle.gate_events.specs.declared.emit.Detail.TheVariants as detail

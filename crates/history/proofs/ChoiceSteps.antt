@@ -1,5 +1,5 @@
 -- Who is first in a row, and whose NAME a message is of.
-use Rattle.std.proofs.Common.{◌≡◌, ℕ, zero, suc, ◌<◌, Bool, true, false, ◌&&◌, ◌||◌, not, List, [], ◌∷◌, inl, inr, length, refl, sym, ap, subst, ◌∙◌, ◌==◌, arith}
+use Rattle.std.proofs.Common.{◌≡◌, ℕ, zero, suc, ◌<◌, Bool, true, false, ◌||◌, not, List, [], ◌∷◌, inl, inr, length, refl, sym, ap, subst, ◌∙◌, ◌==◌, arith}
 use Rattle.std.specs.Prelude.{Option, Some, None, find, if◌then◌else◌}
 use Rattle.std.specs.List.{AllByRecursion, list_any}
 use Rattle.std.proofs.lemmas.Bool.{and_parts, eqb-true, eqb-false, false≢true}
@@ -14,13 +14,12 @@ use Rattle.history.specs.Settings.{RowRule}
 use Rattle.history.specs.Known.{Known, known, held_since, is_claim, claim_by}
 use Rattle.history.specs.Messages.{Message, Carried, messages_of, said_by, with_message, completed_by}
 use Rattle.history.specs.Opens.{note_of, notes_of}
-use Rattle.history.specs.Choice.{is_better, holder_rank, still_counts, outranks, is_of}
-use Rattle.history.specs.FreshLaws.{last_since, last_of}
-use Rattle.history.specs.ChoiceLaws.{addresses, beats, FirstByAddresses, IsOfHolder, MessagesAreOfHolders}
+use Rattle.history.specs.Choice.{is_better, holder_rank, still_counts, outranks, is_of, last_of}
+use Rattle.history.specs.ChoiceLaws.{addresses, FirstByAddresses, IsOfHolder, MessagesAreOfHolders}
 use Rattle.history.proofs.Addresses.{addresses_are_sound}
 use Rattle.history.proofs.Fates.{fate, Fate}
 use Rattle.history.proofs.Fates as fates
-use Rattle.history.proofs.FreshSteps.{fresh_by_last, AreBelow, below, claim_says_none}
+use Rattle.history.proofs.FreshSteps.{AreBelow, below, claim_says_none, last_since}
 use Rattle.history.proofs.KeySteps.{known_same}
 use Rattle.history.proofs.TraceMoves.{known_after_claim, commanded_holders}
 
@@ -62,25 +61,22 @@ found_any q p (x ∷ older) d e agrees = by (q x) refl e (λ f. found_any q p ol
     by false eq e more = or_right (p x) (list_any p older) (more e)
 
 module _ (rule : RowRule) (holders : List (Option Holder)) (row : Row) (rank : Rank) (m : ℕ) (older : List Message) where
-  pub same_test : (a : ℕ) → outranks rule holders row rank m older a ≡ beats rule holders row rank m older a
-  same_test a = ap (λ (b : Bool). is_better rank (holder_rank rule (holder_at holders a)) && b) (fresh_by_last rule holders row a m older)
-
-  held : (a : ℕ) → beats rule holders row rank m older a ≡ true → a < length holders
+  held : (a : ℕ) → outranks rule holders row rank m older a ≡ true → a < length holders
   held a e = by (holder_at holders a) refl (and_parts (is_better rank (holder_rank rule (holder_at holders a))) (still_counts rule.timeout m (last_of holders row a older)) e).0
     where
       by : (x : Option Holder) → holder_at holders a ≡ x → is_better rank (holder_rank rule x) ≡ true → a < length holders
       by None e better = absurd (false≢true better)
       by (Some x) e better = held_within holders a x e
 
-  -- an address that beats the ranholders has sent a message
-  pub has_sent : (a : ℕ) → beats rule holders row rank m older a ≡ true → list_any (λ d. outranks rule holders row rank m older d.source) older ≡ true
+  -- an address that outranks the rank has sent a message
+  pub has_sent : (a : ℕ) → outranks rule holders row rank m older a ≡ true → list_any (λ d. outranks rule holders row rank m older d.source) older ≡ true
   has_sent a e =
       by (held_since holders a) refl (and_parts (is_better rank (holder_rank rule (holder_at holders a))) (still_counts rule.timeout m (last_of holders row a older)) e).1
     where
       from_it : (x : Message) (since : ℕ) → is_of row a since x ≡ true → outranks rule holders row rank m older x.source ≡ true
       from_it x since is =
           let same = eqb-true x.source a (and_parts (x.source == a) _ is).0 in
-          subst (λ (y : ℕ). outranks rule holders row rank m older y ≡ true) (sym same) (same_test a ∙ e)
+          subst (λ (y : ℕ). outranks rule holders row rank m older y ≡ true) (sym same) e
 
       last : (since : ℕ) (o : Option Message) → find (is_of row a since) older ≡ o → still_counts rule.timeout m o ≡ true
           → list_any (λ d. outranks rule holders row rank m older d.source) older ≡ true
@@ -95,15 +91,14 @@ module _ (rule : RowRule) (holders : List (Option Holder)) (row : Row) (rank : R
 pub first_by_addresses : FirstByAddresses
 first_by_addresses rule holders row rank m older n enough = ap not (both_ways _ _ there back)
   where
-    there : list_any (λ d. outranks rule holders row rank m older d.source) older ≡ true → list_any (beats rule holders row rank m older) (addresses n) ≡ true
+    there : list_any (λ d. outranks rule holders row rank m older d.source) older ≡ true → list_any (outranks rule holders row rank m older) (addresses n) ≡ true
     there e =
         let one = some_one (λ d. outranks rule holders row rank m older d.source) older e in
-        let beaten : beats rule holders row rank m older one.0.source ≡ true = sym (same_test rule holders row rank m older one.0.source) ∙ one.1 in
-        let within = held rule holders row rank m older one.0.source beaten in
-        below_any (beats rule holders row rank m older) n one.0.source (omega (arith, within, enough)) beaten
+        let within = held rule holders row rank m older one.0.source one.1 in
+        below_any (outranks rule holders row rank m older) n one.0.source (omega (arith, within, enough)) one.1
 
-    back : list_any (beats rule holders row rank m older) (addresses n) ≡ true → list_any (λ d. outranks rule holders row rank m older d.source) older ≡ true
-    back e = let one = some_one (beats rule holders row rank m older) (addresses n) e in has_sent rule holders row rank m older one.0 one.1
+    back : list_any (outranks rule holders row rank m older) (addresses n) ≡ true → list_any (λ d. outranks rule holders row rank m older d.source) older ≡ true
+    back e = let one = some_one (outranks rule holders row rank m older) (addresses n) e in has_sent rule holders row rank m older one.0 one.1
 
 -- ---- the NAME of a message
 

@@ -10,7 +10,7 @@ use Rattle.std.proofs.lemmas.Bool.{cases_Bool, eqb-true, eqb-false, and_parts, l
 use Rattle.slot_views.specs.Slots.{SlotMap, IsOrdered, entry_at, is_full}
 use Rattle.slot_views.proofs.Traces.{counted_once, as_many}
 use Rattle.slot_views.proofs.Tied.{same_turned}
-use Rattle.history.specs.Opens.{inserted, placed}
+use Rattle.history.specs.Opens.{inserted, with_key}
 
 pub or_parts : (a b : Bool) → (a || b) ≡ false → (a ≡ false) × (b ≡ false)
 or_parts false b e = (refl, e)
@@ -24,7 +24,7 @@ all_inserted P before k (x ∷ ks) one all = by (before k x) (all_inserted P bef
     by true rest = (one, all)
     by false rest = (all.0, rest)
 
-pub all_placed : {K : Type 0} (P : K → Type 0) (same before : K → K → Bool) (k : K) (ks : List K) → P k → AllByRecursion P ks → AllByRecursion P (placed same before k ks)
+pub all_placed : {K : Type 0} (P : K → Type 0) (same before : K → K → Bool) (k : K) (ks : List K) → P k → AllByRecursion P ks → AllByRecursion P (with_key same before k ks)
 all_placed P same before k ks one all = by (list_any (same k) ks)
   where
     by : (b : Bool) → AllByRecursion P (if b then ks else inserted before k ks)
@@ -65,7 +65,7 @@ module _ {K : Type 0} {cmp : K → K → Ordering} (o : IsTotalOrder cmp) (same 
       by true apart rest = (others k (x ∷ ks) none, distinct)
       by false apart rest = (all_inserted (λ y. eq_by_cmp cmp x y ≡ false) before k ks (same_turned o x k ∙ apart) distinct.0, rest)
 
-  pub distinct_placed : (k : K) (ks : List K) → IsDistinct (eq_by_cmp cmp) ks → IsDistinct (eq_by_cmp cmp) (placed same before k ks)
+  pub distinct_placed : (k : K) (ks : List K) → IsDistinct (eq_by_cmp cmp) ks → IsDistinct (eq_by_cmp cmp) (with_key same before k ks)
   distinct_placed k ks distinct = by (list_any (same k) ks) refl
     where
       by : (b : Bool) → list_any (same k) ks ≡ b → IsDistinct (eq_by_cmp cmp) (if b then ks else inserted before k ks)
@@ -89,7 +89,7 @@ agreed P p q same (k ∷ ks) all = rw (same k all.0, agreed P p q same ks all.1)
 
 -- a key put to others that another isn't among
 module _ {K : Type 0} (same before : K → K → Bool) (same_is : (a b : K) → same a b ≡ true → a ≡ b) where
-  pub any_placed : (key one : K) (ks : List K) → list_any (same key) (placed same before one ks) ≡ false → (same key one ≡ false) × (list_any (same key) ks ≡ false)
+  pub any_placed : (key one : K) (ks : List K) → list_any (same key) (with_key same before one ks) ≡ false → (same key one ≡ false) × (list_any (same key) ks ≡ false)
   any_placed key one ks = by (list_any (same one) ks) refl
     where
       by : (b : Bool) → list_any (same one) ks ≡ b → list_any (same key) (if b then ks else inserted before one ks) ≡ false → (same key one ≡ false) × (list_any (same key) ks ≡ false)

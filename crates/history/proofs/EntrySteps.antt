@@ -24,24 +24,24 @@ use Rattle.tag_block.specs.declared.group_key.GroupKey.{GroupKey}
 use Rattle.gate_events.specs.declared.emit.Detail.TheVariants as detail
 use Rattle.gate_events.specs.declared.emit.Report.{Report}
 use Rattle.datagram450.specs.Datagram as datagrams
-use Rattle.datagram450.specs.Item.{Item, line, bad}
+use Rattle.datagram450.specs.Datagram.{Item, line, bad}
 use Rattle.history.specs.Entries.{Entry, History, frame, datagram, tick, command, moment_of, now, is_accepted, IsTimely, IsHistory}
-use Rattle.history.specs.Settings.{Settings, rule_of}
-use Rattle.history.specs.Receiver.{Receiver, receiver_of}
+use Rattle.history.specs.Settings.{Settings, rule_of, Receiver, receiver_of}
 use Rattle.history.specs.Known.{Known, known, known_after, is_claim, claim_by, address_left, address_won}
 use Rattle.history.specs.Meanings.{Meaning, address_claim, own_source, request, from_nobody, transport, single, fast_packet, passed}
 use Rattle.history.specs.Messages.{Message, Carried, said_by, done, messages_of, ordered_in}
-use Rattle.history.specs.Traces.{Note}
+use Rattle.history.specs.Traces.{NotedFrame}
 use Rattle.history.specs.Opens.{fast_keys, iso_keys, notes_of}
-use Rattle.history.specs.Endings.{fast_ended, iso_ended, group_ended, session_pgn, abort_reply, fast_expired, iso_expired, groups_expired, fast_lost, iso_lost, lost_at, lost_elsewhere}
+use Rattle.history.specs.Endings.{fast_ended, iso_ended, group_ended, session_pgn, abort_reply, fast_expired, iso_expired, groups_expired, fast_lost, iso_lost, lost_at, lost_elsewhere, side}
 use Rattle.gate_events.specs.Emit.{Emit, can, net, report}
 use Rattle.history.specs.Emits.{broken, of_source, reported, replied, own_claim}
-use Rattle.history.specs.Heard.{Came, Taken, group_keys, handed_over, is_taken, taken_after, lines_of}
+use Rattle.history.specs.Heard.{HeardItem, Taken, group_keys, handed_over, is_taken, taken_as, taken_lines}
 use Rattle.history.specs.NetRules.{datagram_breaks, item_breaks, sentence_breaks, reading_breaks}
 use Rattle.history.specs.NetReadings.{NetReading, read_sentence, with_said, readings_of, is_net_selected}
-use Rattle.history.specs.FromBus.{chosen, asked, command_gives, said_in, own_answer, step_gives, from_command, frame_refused, answers_by, meaning_after, command_breaks}
+use Rattle.n2k_id.specs.Pgns.{asked_of}
+use Rattle.history.specs.FromBus.{selected_in, command_gives, said_in, own_answer, step_gives, from_command, frame_refused, answers_by, meaning_at, command_breaks}
 use Rattle.history.specs.FromNet.{payload_frames, sent_from, reading_gives, readings_give, said_gives, sentences_give, handed_gives, item_gives, items_give}
-use Rattle.history.specs.Gate.{out, came, heard, with_spoken, spoken_of, stepped, with_command, command_in, expired}
+use Rattle.history.specs.Gate.{out, items_at, heard, with_spoken, spoken_of, stepped, with_command, command_in, expired}
 use Rattle.history.specs.EntryLaws.{IsEvent, StepsKeepHistory, nets_in, SaysOne, nothing, one, EntriesSayOne}
 
 -- ---- a history that goes on
@@ -136,35 +136,35 @@ if_none false x y ex ey = ey
 
 -- ---- what ends
 
-no_fast_expired : (k : Known) (notes : List Note) (earlier m : ℕ) (kinds : ℕ → Kind) → nets_in (fast_expired k.claims.holders notes earlier m kinds) ≡ []
+no_fast_expired : (k : Known) (notes : List NotedFrame) (earlier m : ℕ) (kinds : ℕ → Kind) → nets_in (fast_expired (side k earlier) (side k m) notes kinds) ≡ []
 no_fast_expired k notes earlier m kinds =
-    no_flat (λ (key : FastKey). of_source rules.expired key.source key.pgn ∷ []) (λ key. refl) (filter (fast_ended k.claims.holders earlier k.claims.holders m notes) (fast_keys kinds notes))
+    no_flat (λ (key : FastKey). of_source rules.expired key.source key.pgn ∷ []) (λ key. refl) (filter (fast_ended (side k earlier) (side k m) notes) (fast_keys kinds notes))
 
-no_iso_expired : (k : Known) (notes : List Note) (earlier m : ℕ) → nets_in (iso_expired k notes earlier m) ≡ []
-no_iso_expired k notes earlier m = no_flat ends (λ key. no_reply k.claims.own key.source (abort_reply key.addressed (session_pgn k notes key earlier))) (filter (iso_ended k earlier k m notes) (iso_keys notes))
+no_iso_expired : (k : Known) (notes : List NotedFrame) (earlier m : ℕ) → nets_in (iso_expired (side k earlier) (side k m) notes) ≡ []
+no_iso_expired k notes earlier m = no_flat ends (λ key. no_reply k.claims.own key.source (abort_reply key.addressed (session_pgn (side k earlier) notes key))) (filter (iso_ended (side k earlier) (side k m) notes) (iso_keys notes))
   where
     ends : IsoKey → List Emit
-    ends key = of_source rules.expired key.source (session_pgn k notes key earlier) ∷ replied k.claims.own key.source (abort_reply key.addressed (session_pgn k notes key earlier))
+    ends key = of_source rules.expired key.source (session_pgn (side k earlier) notes key) ∷ replied k.claims.own key.source (abort_reply key.addressed (session_pgn (side k earlier) notes key))
 
 no_groups_expired : (lines : List Taken) (earlier m : ℕ) → nets_in (groups_expired lines earlier m) ≡ []
 no_groups_expired lines earlier m =
     no_flat (λ (key : GroupKey). broken rules.group_expired (detail.GroupKey key.sfi key.code) ∷ []) (λ key. refl) (filter (group_ended lines earlier m) (group_keys lines))
 
-module _ (k after : Known) (notes : List Note) (m : ℕ) where
-  no_iso_lost : (is_meant : IsoKey → Bool) → nets_in (iso_lost k after notes m is_meant) ≡ []
+module _ (k after : Known) (notes : List NotedFrame) (m : ℕ) where
+  no_iso_lost : (is_meant : IsoKey → Bool) → nets_in (iso_lost (side k m) (side after m) notes is_meant) ≡ []
   no_iso_lost is_meant =
-      no_flat (λ (key : IsoKey). of_source rules.claim_lost key.source (session_pgn k notes key m) ∷ []) (λ key. refl)
-      (filter (λ key. is_meant key && iso_ended k m after m notes key) (iso_keys notes))
+      no_flat (λ (key : IsoKey). of_source rules.claim_lost key.source (session_pgn (side k m) notes key) ∷ []) (λ key. refl)
+      (filter (λ key. is_meant key && iso_ended (side k m) (side after m) notes key) (iso_keys notes))
 
-  no_fast_lost : (kinds : ℕ → Kind) (is_meant : FastKey → Bool) → nets_in (fast_lost k.claims.holders after.claims.holders notes m kinds is_meant) ≡ []
+  no_fast_lost : (kinds : ℕ → Kind) (is_meant : FastKey → Bool) → nets_in (fast_lost (side k m) (side after m) notes kinds is_meant) ≡ []
   no_fast_lost kinds is_meant =
       no_flat (λ (key : FastKey). of_source rules.claim_lost key.source key.pgn ∷ []) (λ key. refl)
-      (filter (λ key. is_meant key && fast_ended k.claims.holders m after.claims.holders m notes key) (fast_keys kinds notes))
+      (filter (λ key. is_meant key && fast_ended (side k m) (side after m) notes key) (fast_keys kinds notes))
 
-  no_lost : (kinds : ℕ → Kind) (a : Option ℕ) → nets_in (lost_at k after notes m kinds a) ≡ []
+  no_lost : (kinds : ℕ → Kind) (a : Option ℕ) → nets_in (lost_at (side k m) (side after m) notes kinds a) ≡ []
   no_lost kinds None = refl
   no_lost kinds (Some a) =
-      none (fast_lost k.claims.holders after.claims.holders notes m kinds (λ key. key.source == a)) (iso_lost k after notes m (λ key. key.source == a))
+      none (fast_lost (side k m) (side after m) notes kinds (λ key. key.source == a)) (iso_lost (side k m) (side after m) notes (λ key. key.source == a))
       (no_fast_lost kinds (λ key. key.source == a)) (no_iso_lost (λ key. key.source == a))
 
 -- ---- a frame and a command
@@ -176,11 +176,11 @@ no_own_answer name (Move address) own = no_own name own
 no_own_answer name CannotClaim own = no_own name own
 no_own_answer name Duplicate own = refl
 
-no_step : (kinds : ℕ → Kind) (name : ℕ) (k after : Known) (notes : List Note) (m : ℕ) (step : ClaimStep) → nets_in (step_gives kinds name k after notes m step) ≡ []
+no_step : (kinds : ℕ → Kind) (name : ℕ) (k after : Known) (notes : List NotedFrame) (m : ℕ) (step : ClaimStep) → nets_in (step_gives kinds name k after notes m step) ≡ []
 no_step kinds name k after notes m step =
-    let left = lost_at k after notes m kinds (address_left step) in
-    let won = lost_at k after notes m kinds (address_won step) in
-    let elsewhere = lost_elsewhere k after notes m (address_left step) (address_won step) in
+    let left = lost_at (side k m) (side after m) notes kinds (address_left step) in
+    let won = lost_at (side k m) (side after m) notes kinds (address_won step) in
+    let elsewhere = lost_elsewhere (side k m) (side after m) notes (address_left step) (address_won step) in
     let own = own_answer name step.own after.claims.own in
     none (left ++ won ++ elsewhere) own
     (none (left ++ won) elsewhere (none left won (no_lost k after notes m kinds (address_left step)) (no_lost k after notes m kinds (address_won step)))
@@ -196,7 +196,7 @@ module _ (c : Settings) (s : ℕ) (h : History) (m : ℕ) where
   no_answers f own_source = refl
   no_answers f request =
       let own = (known (receiver_of c) s h).claims.own in
-      if_none (not (nat_lt (length f.held) 3) && (asked f.held == 60928)) (own_claim c.name own ∷ []) [] (no_own c.name own) refl
+      if_none (not (nat_lt (length f.held) 3) && (asked_of f.held == 60928)) (own_claim c.name own ∷ []) [] (no_own c.name own) refl
   no_answers f from_nobody = refl
   no_answers f transport = no_reply _ _ _
   no_answers f single = refl
@@ -209,7 +209,7 @@ module _ (c : Settings) (s : ℕ) (h : History) (m : ℕ) where
       let after = known_after (length h) k (command m source address) in
       let notes = notes_of (receiver_of c) s h in
       let gives = command_gives c.name (length h) k notes m source address in
-      let ends = lost_elsewhere k after notes m None None in
+      let ends = lost_elsewhere (side k m) (side after m) notes None None in
       none (reported (command_breaks k.claims source address)) gives (no_reports (command_breaks k.claims source address))
       (if_none (is_obeyed k.claims address) (ends ++ own_claim c.name after.claims.own ∷ []) []
       (none ends (own_claim c.name after.claims.own ∷ []) (no_iso_lost k after notes m (λ key. key.addressed && not (is_at key.source None || is_at key.source None))) (no_own c.name after.claims.own)) refl)
@@ -218,9 +218,9 @@ module _ (c : Settings) (s : ℕ) (h : History) (m : ℕ) where
   no_expired =
       let k = known (receiver_of c) s h in
       let notes = notes_of (receiver_of c) s h in
-      let lines = lines_of c (heard c s h) in
-      none (fast_expired k.claims.holders notes (now h) m kind_of ++ iso_expired k notes (now h) m) (groups_expired lines (now h) m)
-      (none (fast_expired k.claims.holders notes (now h) m kind_of) (iso_expired k notes (now h) m) (no_fast_expired k notes (now h) m kind_of) (no_iso_expired k notes (now h) m))
+      let lines = taken_lines c (heard c s h) in
+      none (fast_expired (side k (now h)) (side k m) notes kind_of ++ iso_expired (side k (now h)) (side k m) notes) (groups_expired lines (now h) m)
+      (none (fast_expired (side k (now h)) (side k m) notes kind_of) (iso_expired (side k (now h)) (side k m) notes) (no_fast_expired k notes (now h) m kind_of) (no_iso_expired k notes (now h) m))
       (no_groups_expired lines (now h) m)
 
 -- ---- a datagram
@@ -251,18 +251,18 @@ module _ (c : Settings) (own : Option ℕ) where
       none (said_gives c own t older (read_sentence x)) (sentences_give c own t (with_said t older (read_sentence x)) xs)
       (no_said t older (read_sentence x)) (no_sentences t (with_said t older (read_sentence x)) xs)
 
-  no_handed : (lines : List Taken) (x : Came) (i : Item) → nets_in (handed_gives c own lines x i) ≡ []
+  no_handed : (lines : List Taken) (x : HeardItem) (i : Item) → nets_in (handed_gives c own lines x i) ≡ []
   no_handed lines x (bad rule place) = refl
   no_handed lines x (line place said sentence parts) =
-      let t = taken_after c lines x place said sentence in
+      let t = taken_as c lines x place said sentence in
       if_none (is_taken c said) (sentences_give c own t (readings_of lines) (handed_over t lines)) [] (no_sentences t (readings_of lines) (handed_over t lines)) refl
 
-  no_items : (older items : List Came) → nets_in (items_give c own older items) ≡ []
+  no_items : (older items : List HeardItem) → nets_in (items_give c own older items) ≡ []
   no_items older [] = refl
   no_items older (x ∷ xs) =
-      let breaks = item_breaks c (lines_of c older) x in
+      let breaks = item_breaks c (taken_lines c older) x in
       none (item_gives c own older x) (items_give c own (x ∷ older) xs)
-      (none (reported breaks) (handed_gives c own (lines_of c older) x x.item) (no_reports breaks) (no_handed (lines_of c older) x x.item)) (no_items (x ∷ older) xs)
+      (none (reported breaks) (handed_gives c own (taken_lines c older) x x.item) (no_reports breaks) (no_handed (taken_lines c older) x x.item)) (no_items (x ∷ older) xs)
 
 -- ---- an entry
 
@@ -277,22 +277,22 @@ module _ (c : Settings) (s : ℕ) (h : History) where
 pub entries_say_one : EntriesSayOne
 entries_say_one c s h (frame m f) =
     let breaks = reported (frame_refused (receiver_of c) s h m f) in
-    let answers = answers_by (receiver_of c) s h m f (meaning_after (receiver_of c) s h m f) in
-    let o = chosen c (known (receiver_of c) s h).claims.holders (messages_of (receiver_of c) s h) (done (receiver_of c) s h (frame m f)) in
+    let answers = answers_by (receiver_of c) s h m f (meaning_at (receiver_of c) s h m f) in
+    let o = selected_in c (known (receiver_of c) s h).claims.holders (messages_of (receiver_of c) s h) (done (receiver_of c) s h (frame m f)) in
     let said = said_in c (spoken_of c s h) o in
     let quiet : nets_in (expired c s h m ++ (breaks ++ answers)) ≡ [] =
     none (expired c s h m) (breaks ++ answers) (no_expired c s h m)
-    (none breaks answers (no_reports (frame_refused (receiver_of c) s h m f)) (no_answers c s h m f (meaning_after (receiver_of c) s h m f))) in
+    (none breaks answers (no_reports (frame_refused (receiver_of c) s h m f)) (no_answers c s h m f (meaning_at (receiver_of c) s h m f))) in
     says c s h (frame m f) (expired c s h m ++ (breaks ++ answers)) o
     (nets_append (expired c s h m) (breaks ++ answers ++ said) ∙ rw (no_expired c s h m)
-    (nets_append (breaks ++ answers) said ∙ ap (λ (l : List (List ℕ × List ℕ)). l ++ nets_in said) (none breaks answers (no_reports (frame_refused (receiver_of c) s h m f)) (no_answers c s h m f (meaning_after (receiver_of c) s h m f)) ∙ sym quiet)))
+    (nets_append (breaks ++ answers) said ∙ ap (λ (l : List (List ℕ × List ℕ)). l ++ nets_in said) (none breaks answers (no_reports (frame_refused (receiver_of c) s h m f)) (no_answers c s h m f (meaning_at (receiver_of c) s h m f)) ∙ sym quiet)))
     quiet refl
 entries_say_one c s h (datagram m bytes) =
     let own = (known (receiver_of c) s h).claims.own in
     let read = datagrams.read bytes in
     let breaks = reported (datagram_breaks read) in
-    let items = items_give c own (heard c s h) (came c s h m read) in
-    nothing (none (expired c s h m) (breaks ++ items) (no_expired c s h m) (none breaks items (no_reports (datagram_breaks read)) (no_items c own (heard c s h) (came c s h m read)))) refl
+    let items = items_give c own (heard c s h) (items_at c s h m read) in
+    nothing (none (expired c s h m) (breaks ++ items) (no_expired c s h m) (none breaks items (no_reports (datagram_breaks read)) (no_items c own (heard c s h) (items_at c s h m read)))) refl
 entries_say_one c s h (tick m) = nothing (none (expired c s h m) [] (no_expired c s h m) refl) refl
 entries_say_one c s h (command m source address) =
     nothing (none (expired c s h m) (from_command c s h m source address) (no_expired c s h m) (no_command c s h m source address)) refl

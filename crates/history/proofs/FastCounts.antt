@@ -11,20 +11,20 @@ use Rattle.fast_packet.specs.declared.key.FastKey.{FastKey}
 use Rattle.fast_packet.specs.FastRuns.{FastPiece, fast_rules}
 use Rattle.pgn_profile.specs.declared.kinds.Kind.{Kind}
 use Rattle.history.specs.Known.{held_since}
-use Rattle.history.specs.Traces.{Note, fast_trace, fast_trace_since}
-use Rattle.history.specs.Opens.{placed, is_fast, same_fast, precedes_fast, fast_keys, fast_open}
+use Rattle.history.specs.Traces.{NotedFrame, fast_trace, fast_trace_since}
+use Rattle.history.specs.Opens.{with_key, is_fast, same_fast, precedes_fast, fast_keys, fast_open}
 use Rattle.history.specs.CountLaws.{HoldsFast, CountsFast, SlotsCountFast}
 use Rattle.history.proofs.KeySteps.{eqb-sym, other_piece}
 use Rattle.history.proofs.Counts.{all_placed, any_placed, distinct_placed, Held, counted, room}
 use Rattle.claim_table.specs.declared.answer.Holder.{Holder}
 
 -- each key that came has a PGN of fast packets
-pub fast_all : (kinds : ℕ → Kind) (notes : List Note) → AllByRecursion (λ key. is_fast (kinds key.pgn) ≡ true) (fast_keys kinds notes)
+pub fast_all : (kinds : ℕ → Kind) (notes : List NotedFrame) → AllByRecursion (λ key. is_fast (kinds key.pgn) ≡ true) (fast_keys kinds notes)
 fast_all kinds [] = tt
 fast_all kinds (n ∷ notes) = by (is_fast (kinds n.parts.pgn)) refl (fast_all kinds notes)
   where
     by : (b : Bool) → is_fast (kinds n.parts.pgn) ≡ b → AllByRecursion (λ key. is_fast (kinds key.pgn) ≡ true) (fast_keys kinds notes)
-        → AllByRecursion (λ key. is_fast (kinds key.pgn) ≡ true) (if b then placed same_fast precedes_fast (record { source = n.parts.source; pgn = n.parts.pgn }) (fast_keys kinds notes) else fast_keys kinds notes)
+        → AllByRecursion (λ key. is_fast (kinds key.pgn) ≡ true) (if b then with_key same_fast precedes_fast (record { source = n.parts.source; pgn = n.parts.pgn }) (fast_keys kinds notes) else fast_keys kinds notes)
     by true e rest = all_placed (λ key. is_fast (kinds key.pgn) ≡ true) same_fast precedes_fast (record { source = n.parts.source; pgn = n.parts.pgn }) (fast_keys kinds notes) e rest
     by false e rest = rest
 
@@ -42,7 +42,7 @@ same_is key one e =
     made : ℕ → ℕ → FastKey
     made source pgn = record { source = source; pgn = pgn }
 
-pub no_frames : (kinds : ℕ → Kind) (key : FastKey) (since : Option ℕ) (notes : List Note) → is_fast (kinds key.pgn) ≡ true → list_any (same_fast key) (fast_keys kinds notes) ≡ false
+pub no_frames : (kinds : ℕ → Kind) (key : FastKey) (since : Option ℕ) (notes : List NotedFrame) → is_fast (kinds key.pgn) ≡ true → list_any (same_fast key) (fast_keys kinds notes) ≡ false
     → fast_trace_since since key.source key.pgn notes ≡ []
 no_frames kinds key None notes fast none = refl
 no_frames kinds key (Some since) [] fast none = refl
@@ -62,7 +62,7 @@ no_frames kinds key (Some since) (n ∷ notes) fast none = by (is_fast (kinds n.
     and_no false = refl
 
     by : (b : Bool) → is_fast (kinds n.parts.pgn) ≡ b
-        → list_any (same_fast key) (if b then placed same_fast precedes_fast (record { source = n.parts.source; pgn = n.parts.pgn }) (fast_keys kinds notes) else fast_keys kinds notes) ≡ false
+        → list_any (same_fast key) (if b then with_key same_fast precedes_fast (record { source = n.parts.source; pgn = n.parts.pgn }) (fast_keys kinds notes) else fast_keys kinds notes) ≡ false
         → (list_any (same_fast key) (fast_keys kinds notes) ≡ false → fast_trace_since (Some since) key.source key.pgn notes ≡ [])
         → fast_trace_since (Some since) key.source key.pgn (n ∷ notes) ≡ []
     by true e absent rest =
@@ -70,14 +70,14 @@ no_frames kinds key (Some since) (n ∷ notes) fast none = by (is_fast (kinds n.
         other (sym (same_fast_as key (record { source = n.parts.source; pgn = n.parts.pgn })) ∙ parts.0) (rest parts.1)
     by false e absent rest = other (rw (other_kind e) (and_no (n.parts.source == key.source))) (rest absent)
 
-module _ (kinds : ℕ → Kind) (cmp : FastKey → FastKey → Ordering) (holders : List (Option Holder)) (notes : List Note) (m : ℕ) (slots : SlotMap FastKey) (h : HoldsFast kinds cmp holders notes m slots) where
-  distinct_keys : (ns : List Note) → IsDistinct (eq_by_cmp cmp) (fast_keys kinds ns)
+module _ (kinds : ℕ → Kind) (cmp : FastKey → FastKey → Ordering) (holders : List (Option Holder)) (notes : List NotedFrame) (m : ℕ) (slots : SlotMap FastKey) (h : HoldsFast kinds cmp holders notes m slots) where
+  distinct_keys : (ns : List NotedFrame) → IsDistinct (eq_by_cmp cmp) (fast_keys kinds ns)
   unfolding IsDistinct
   distinct_keys [] = tt
   distinct_keys (n ∷ ns) = by (is_fast (kinds n.parts.pgn)) (distinct_keys ns)
     where
       by : (b : Bool) → IsDistinct (eq_by_cmp cmp) (fast_keys kinds ns)
-          → IsDistinct (eq_by_cmp cmp) (if b then placed same_fast precedes_fast (record { source = n.parts.source; pgn = n.parts.pgn }) (fast_keys kinds ns) else fast_keys kinds ns)
+          → IsDistinct (eq_by_cmp cmp) (if b then with_key same_fast precedes_fast (record { source = n.parts.source; pgn = n.parts.pgn }) (fast_keys kinds ns) else fast_keys kinds ns)
       by true rest = distinct_placed h.order same_fast precedes_fast h.tells (record { source = n.parts.source; pgn = n.parts.pgn }) (fast_keys kinds ns) rest
       by false rest = rest
 

@@ -9,14 +9,15 @@ use Rattle.claim_table.specs.declared.answer.Holder.{Holder}
 use Rattle.claim_table.specs.Claims.{holder_at}
 use Rattle.pgn_profile.specs.declared.kinds.Kind.{Kind}
 use Rattle.pgn_profile.specs.declared.kinds.Kind.TheVariants.{Single, Fast, Outside}
-use Rattle.slot_views.specs.Runs.{fed, open_at}
+use Rattle.slot_views.specs.Runs.{open_at}
+use Rattle.slot_views.specs.RunLaws.{fed}
 use Rattle.fast_packet.specs.declared.key.FastKey.{FastKey}
 use Rattle.fast_packet.specs.FastRuns.{FastPiece, fast_rules}
-use Rattle.history.specs.Entries.{Entry, History, IsHistory, now, frame, datagram, tick}
+use Rattle.history.specs.Entries.{History, IsHistory, now, frame, datagram, tick}
 use Rattle.history.specs.Entries as entry
-use Rattle.history.specs.Receiver.{Receiver}
+use Rattle.history.specs.Settings.{Receiver}
 use Rattle.history.specs.Known.{Known, known, is_claim}
-use Rattle.history.specs.Traces.{Note, fast_piece, fast_trace, fast_trace_since}
+use Rattle.history.specs.Traces.{NotedFrame, fast_piece, fast_trace, fast_trace_since}
 use Rattle.history.specs.Opens.{is_fast, same_fast, fast_keys, fast_open, open_fast_keys, is_fast_admitted, notes_of}
 use Rattle.history.specs.AddressLaws.{IsReceiver}
 use Rattle.history.specs.KeyLaws.{fast_key, the_note}
@@ -37,15 +38,15 @@ fast_is Single e = cc
 fast_is Fast e = refl
 fast_is Outside e = cc
 
-among_open : (kinds : ℕ → Kind) (holders : List (Option Holder)) (notes : List Note) (n : ℕ) (key : FastKey) → IsFast kinds key → is_some (fast_open holders notes key n) ≡ true → list_any (same_fast key) (open_fast_keys kinds holders notes n) ≡ true
+among_open : (kinds : ℕ → Kind) (holders : List (Option Holder)) (notes : List NotedFrame) (n : ℕ) (key : FastKey) → IsFast kinds key → is_some (fast_open holders notes key n) ≡ true → list_any (same_fast key) (open_fast_keys kinds holders notes n) ≡ true
 among_open kinds holders notes n key kind is =
     among_filtered same_fast same_is fast_turn fast_itself (λ x. is_some (fast_open holders notes x n)) key (fast_keys kinds notes) is (fast_came kinds holders notes n key kind is)
 
-earlier : (holders : List (Option Holder)) (notes : List Note) (key : FastKey) (m n : ℕ) → m ≤ n → is_some (fast_open holders notes key n) ≡ true → is_some (fast_open holders notes key m) ≡ true
+earlier : (holders : List (Option Holder)) (notes : List NotedFrame) (key : FastKey) (m n : ℕ) → m ≤ n → is_some (fast_open holders notes key n) ≡ true → is_some (fast_open holders notes key m) ≡ true
 earlier holders notes key m n le is = kept_some fast_rules (fast_open holders notes key m) n (sym (ap is_some (fast_ends holders notes key m n le)) ∙ is)
 
 -- no more keys are open than before
-no_more : (kinds : ℕ → Kind) (holders later : List (Option Holder)) (older notes : List Note) (m n limit : ℕ) → ((key : FastKey) → IsFast kinds key → is_some (fast_open later notes key n) ≡ true → is_some (fast_open holders older key m) ≡ true)
+no_more : (kinds : ℕ → Kind) (holders later : List (Option Holder)) (older notes : List NotedFrame) (m n limit : ℕ) → ((key : FastKey) → IsFast kinds key → is_some (fast_open later notes key n) ≡ true → is_some (fast_open holders older key m) ≡ true)
     → length (open_fast_keys kinds holders older m) ≤ limit → length (open_fast_keys kinds later notes n) ≤ limit
 no_more kinds holders later older notes m n limit was few =
     omega (

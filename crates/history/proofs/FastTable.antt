@@ -9,8 +9,7 @@ use Rattle.gate_events.specs.declared.emit.Detail.TheVariants as detail
 use Rattle.slot_views.specs.Runs.{opener_of}
 use Rattle.fast_packet.specs.declared.answers.FastRefusal.{FastRefusal}
 use Rattle.fast_packet.specs.declared.answers.FastRefusal.TheVariants.{Order, Orphan, Length, Full}
-use Rattle.fast_packet.specs.FastFrames.{counter_of, sequence_of, length_of, is_opener, is_no_later}
-use Rattle.fast_packet.specs.FastRuns.{FastPiece, is_next, is_repeat, is_awaited}
+use Rattle.fast_packet.specs.FastRuns.{counter_of, sequence_of, length_of, is_opener, is_no_later, FastPiece, is_next, is_repeat, is_awaited}
 use Rattle.fast_packet.specs.Keys.{refused}
 use Rattle.fast_packet.proofs.Assemblies.{counter_zero}
 use Rattle.fast_packet.proofs.Lawful.{repeat_counter}

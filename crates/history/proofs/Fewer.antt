@@ -4,7 +4,7 @@ use Rattle.std.specs.Prelude.{filter, if◌then◌else◌}
 use Rattle.std.specs.List.{AllByRecursion, list_any}
 use Rattle.std.proofs.lemmas.Bool.{false≢true}
 use Rattle.slot_views.specs.Slots.{without_first}
-use Rattle.history.specs.Opens.{inserted, placed}
+use Rattle.history.specs.Opens.{inserted, with_key}
 use Rattle.history.proofs.Counts.{all_inserted, or_parts}
 
 module _ {K : Type 0} (same : K → K → Bool) (same_is : (a b : K) → same a b ≡ true → a ≡ b) (turn : (a b : K) → same a b ≡ same b a) (itself : (a : K) → same a a ≡ true) where
@@ -27,7 +27,7 @@ module _ {K : Type 0} (same : K → K → Bool) (same_is : (a b : K) → same a 
       by true e rest = (apart_all k (x ∷ ks) none, apart)
       by false e rest = (all_inserted (λ y. same x y ≡ false) before k ks (turn x k ∙ e) apart.0, rest)
 
-  pub apart_placed : (before : K → K → Bool) (k : K) (ks : List K) → Apart ks → Apart (placed same before k ks)
+  pub apart_placed : (before : K → K → Bool) (k : K) (ks : List K) → Apart ks → Apart (with_key same before k ks)
   apart_placed before k ks apart = by (list_any (same k) ks) refl
     where
       by : (b : Bool) → list_any (same k) ks ≡ b → Apart (if b then ks else inserted before k ks)

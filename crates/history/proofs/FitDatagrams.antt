@@ -7,12 +7,12 @@ use Rattle.tag_block.specs.declared.group_key.GroupKey.{GroupKey}
 use Rattle.datagram450.specs.declared.fault.DatagramFault.{DatagramFault}
 use Rattle.datagram450.specs.declared.fault.DatagramFault.TheVariants.{Header, Long}
 use Rattle.datagram450.specs.Datagram as datagrams
-use Rattle.datagram450.specs.Item.{Item, line, bad}
+use Rattle.datagram450.specs.Datagram.{Item, line, bad}
 use Rattle.tag_block.specs.declared.group_part.GroupPart.{GroupPart}
 use Rattle.tag_block.specs.Tag.{Said}
 use Rattle.history.specs.Settings.{Settings}
 use Rattle.history.specs.Emits.{breaks, reported}
-use Rattle.history.specs.Heard.{Came, Taken, came_at, group_line, group_open, is_elsewhere, is_own_line, place_of, handed_over, is_taken, lines_of, several, taken_after, with_item, with_items}
+use Rattle.history.specs.Heard.{HeardItem, Taken, heard_items, group_line, group_open, is_elsewhere, is_own_line, place_of, handed_over, is_taken, taken_lines, several, taken_as, with_item, with_items}
 use Rattle.history.specs.Held.{lines_held}
 use Rattle.history.specs.NetReadings.{NetReading, read_sentence, readings_of, with_said}
 use Rattle.history.specs.NetRules.{continues, datagram_breaks, item_breaks_as, line_breaks, part_breaks}
@@ -66,16 +66,16 @@ module _ (c : Settings) (own : Option ℕ) where
       omega (arith, both)
 
   -- an item with what it leaves held gives no more than what was held and ten
-  item_few : (older : List Came) (x : Came) (i : Item) → length (reported (item_breaks_as c (lines_of c older) x i) ++ handed_gives c own (lines_of c older) x i) + 7 * lines_held (with_item c (lines_of c older) x i) x.moment
-      ≤ 7 * lines_held (lines_of c older) x.moment + 10
+  item_few : (older : List HeardItem) (x : HeardItem) (i : Item) → length (reported (item_breaks_as c (taken_lines c older) x i) ++ handed_gives c own (taken_lines c older) x i) + 7 * lines_held (with_item c (taken_lines c older) x i) x.moment
+      ≤ 7 * lines_held (taken_lines c older) x.moment + 10
   item_few older x (bad rule place) = omega arith
   item_few older x (line place said sentence parts) = by (is_taken c said) refl
     where
       lines : List Taken
-      lines = lines_of c older
+      lines = taken_lines c older
 
       t : Taken
-      t = taken_after c lines x place said sentence
+      t = taken_as c lines x place said sentence
 
       by : (b : Bool) → is_taken c said ≡ b → length (reported (if b then part_breaks lines t (several said.group) else line_breaks c place said) ++ (if b then sentences_give c own t (readings_of lines) (handed_over t lines) else []))
           + 7 * lines_held (if b then t ∷ lines else lines) x.moment ≤ 7 * lines_held lines x.moment + 10
@@ -93,23 +93,23 @@ module _ (c : Settings) (own : Option ℕ) where
           omega (arith, both)
 
   -- items that come at one moment
-  all_few : (older : List Came) (m : ℕ) (ready : Bool) (is : List Item) → length (items_give c own older (came_at m ready is)) + 7 * lines_held (lines_of c (with_items older (came_at m ready is))) m
-      ≤ 7 * lines_held (lines_of c older) m + 10 * length is
+  all_few : (older : List HeardItem) (m : ℕ) (ready : Bool) (is : List Item) → length (items_give c own older (heard_items m ready is)) + 7 * lines_held (taken_lines c (with_items older (heard_items m ready is))) m
+      ≤ 7 * lines_held (taken_lines c older) m + 10 * length is
   all_few older m ready [] = omega arith
   all_few older m ready (i ∷ is) =
-      let x : Came = record { moment = m; ready = ready; item = i } in
+      let x : HeardItem = record { moment = m; ready = ready; item = i } in
       let one = item_few older x i in
       let others = all_few (x ∷ older) m ready is in
-      let sum = length-append (item_gives c own older x) (items_give c own (x ∷ older) (came_at m ready is)) in
+      let sum = length-append (item_gives c own older x) (items_give c own (x ∷ older) (heard_items m ready is)) in
       omega (arith, one, others, sum)
 
-  pub datagram_few : (older : List Came) (m : ℕ) (ready : Bool) (read : Result (List Item) DatagramFault) → length (items_in read) ≤ 65
-      → length (datagram_gives c own older (came_at m ready (items_in read)) read) ≤ 7 * lines_held (lines_of c older) m + 651
+  pub datagram_few : (older : List HeardItem) (m : ℕ) (ready : Bool) (read : Result (List Item) DatagramFault) → length (items_in read) ≤ 65
+      → length (datagram_gives c own older (heard_items m ready (items_in read)) read) ≤ 7 * lines_held (taken_lines c older) m + 651
   datagram_few older m ready read few =
       let told = datagram_reports read in
       let same = reported_length (datagram_breaks read) in
       let given = all_few older m ready (items_in read) in
-      let both = length-append (reported (datagram_breaks read)) (items_give c own older (came_at m ready (items_in read))) in
+      let both = length-append (reported (datagram_breaks read)) (items_give c own older (heard_items m ready (items_in read))) in
       omega (arith, told, same, given, both, few)
 
 -- ---- the items of a datagram that is read

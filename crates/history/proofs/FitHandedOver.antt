@@ -4,13 +4,14 @@ use Rattle.std.specs.Prelude.{Option, Some, None, if◌then◌else◌}
 use Rattle.std.specs.List.{AllByRecursion, list_any, sum_by}
 use Rattle.std.proofs.lemmas.List.{length-reverse, length-map}
 use Rattle.std.proofs.lemmas.List.Sums.{sum_by-cons}
-use Rattle.slot_views.specs.Runs.{Rules, is_admitted, is_whole, in_time, if_open, if_whole, kept_at, fed, fed_later, finished, finished_later, open_at}
+use Rattle.slot_views.specs.Runs.{Rules, is_admitted, is_whole, in_time, if_open, if_whole, kept_at, open_at}
+use Rattle.slot_views.specs.RunLaws.{fed, fed_later, finished, finished_later}
 use Rattle.tag_block.specs.declared.group_key.GroupKey.{GroupKey}
 use Rattle.tag_block.specs.declared.group_part.GroupPart.{GroupPart}
 use Rattle.tag_block.specs.GroupRuns.{GroupLine, group_rules}
 use Rattle.history.specs.Heard.{Taken, same_group, precedes_group, several, group_line, key_with, group_keys, group_open, sentences_in, handed_over}
 use Rattle.history.specs.Held.{held_in, lines_held}
-use Rattle.history.specs.Opens.{inserted, placed}
+use Rattle.history.specs.Opens.{inserted, with_key}
 use Rattle.history.specs.GroupLaws.{group_key}
 use Rattle.history.proofs.GroupCounts.{same_is, no_lines}
 use Rattle.history.proofs.GroupSteps.{group_steps, lines_alone}
@@ -99,7 +100,7 @@ module _ {K : Type 0} (same : K → K → Bool) (same_is : (a b : K) → same a 
           omega (arith, sum_by-cons f x ks, sum_by-cons g x ks, here, others_sum ks (absent x ks one apart.0))
       by false e any rest = omega (arith, sum_by-cons f x ks, sum_by-cons g x ks, others x (turn x k ∙ e), rest any)
 
-  sum_placed : (ks : List K) → Apart same same_is turn itself ks → (list_any (same k) ks ≡ false → f k ≡ 0) → a + sum_by g (placed same before k ks) ≤ sum_by f ks + 1
+  sum_placed : (ks : List K) → Apart same same_is turn itself ks → (list_any (same k) ks ≡ false → f k ≡ 0) → a + sum_by g (with_key same before k ks) ≤ sum_by f ks + 1
   sum_placed ks apart new = by (list_any (same k) ks) refl
     where
       by : (b : Bool) → list_any (same k) ks ≡ b → a + sum_by g (if b then ks else inserted before k ks) ≤ sum_by f ks + 1
@@ -137,7 +138,7 @@ module _ (t : Taken) (older : List Taken) where
       let left : after_it key ≡ held_in (kept_at group_rules (fed group_rules o (group_line t part)) t.moment) = ap held_in (step.left t.moment) in
       let held = step_held group_rules o (group_line t part) t.moment in
       let own : length (handed_over t older) + after_it key ≤ before_it key + 1 = omega (arith, handed, left, held) in
-      let all : length (handed_over t older) + sum_by after_it (placed same_group precedes_group key (group_keys older)) ≤ sum_by before_it (group_keys older) + 1 =
+      let all : length (handed_over t older) + sum_by after_it (with_key same_group precedes_group key (group_keys older)) ≤ sum_by before_it (group_keys older) + 1 =
       sum_placed same_group same_is turn itself precedes_group key before_it after_it (length (handed_over t older))
       (λ j other. ap held_in (step.others j t.moment other)) own (group_keys older) (apart older)
       (λ none. ap (λ (lines : List GroupLine). held_in (open_at group_rules lines t.moment)) (no_lines key older none)) in

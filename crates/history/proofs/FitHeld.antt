@@ -11,20 +11,18 @@ use Rattle.tag_block.specs.declared.group_key.GroupKey.{GroupKey}
 use Rattle.tag_block.specs.declared.group_part.GroupPart.{GroupPart}
 use Rattle.tag_block.specs.Groups.{IsGroupPart}
 use Rattle.tag_block.specs.GroupRuns.{GroupLine, is_next, group_rules}
-use Rattle.tag_block.specs.Numbers.{IsGroupRead}
+use Rattle.tag_block.specs.Tag.{IsGroupRead}
 use Rattle.tag_block.proofs.GroupPrefixes.{lawful, all_front, far_by, more_of}
 use Rattle.datagram450.specs.declared.fault.DatagramFault.{DatagramFault}
 use Rattle.datagram450.specs.Datagram as datagrams
-use Rattle.datagram450.specs.Datagram.{IsItem}
-use Rattle.datagram450.specs.Item.{Item, line, bad}
+use Rattle.datagram450.specs.Datagram.{IsItem, Item, line, bad}
 use Rattle.datagram450.proofs.Datagrams.{is_found}
 use Rattle.datagram450.proofs.Items.{each_is}
 use Rattle.history.specs.Entries.{History, IsHistory, now, frame, datagram, tick}
 use Rattle.history.specs.Entries as entry
-use Rattle.history.specs.Settings.{Settings}
-use Rattle.history.specs.Receiver.{receiver_of}
+use Rattle.history.specs.Settings.{Settings, receiver_of}
 use Rattle.history.specs.Known.{known}
-use Rattle.history.specs.Heard.{Came, Taken, came_at, with_items, same_group, several, group_line, line_in, group_trace, group_keys, group_open, open_groups, is_taken, taken_after, with_item, lines_of}
+use Rattle.history.specs.Heard.{HeardItem, Taken, heard_items, with_items, same_group, several, group_line, line_in, group_trace, group_keys, group_open, open_groups, is_taken, taken_as, with_item, taken_lines}
 use Rattle.history.specs.FromNet.{items_in}
 use Rattle.history.specs.Gate.{heard}
 use Rattle.history.specs.Held.{held_in, lines_held}
@@ -100,30 +98,30 @@ trace_valid key (t ∷ older) read = by t.group refl read.0 (trace_valid key old
         two false few = rw (e, few) rest
 
 module _ (c : Settings) where
-  item_read : (lines : List Taken) (x : Came) (i : Item) → IsItem i → AllByRecursion IsRead lines → AllByRecursion IsRead (with_item c lines x i)
+  item_read : (lines : List Taken) (x : HeardItem) (i : Item) → IsItem i → AllByRecursion IsRead lines → AllByRecursion IsRead (with_item c lines x i)
   item_read lines x (line place said sentence parts) is read = by (is_taken c said)
     where
       t : Taken
-      t = taken_after c lines x place said sentence
+      t = taken_as c lines x place said sentence
 
       by : (b : Bool) → AllByRecursion IsRead (if b then t ∷ lines else lines)
       by true = (is.ranges.group, read)
       by false = read
   item_read lines x (bad rule place) is read = read
 
-  all_read : (older : List Came) (m : ℕ) (ready : Bool) (items : List Item) → AllByRecursion IsItem items → AllByRecursion IsRead (lines_of c older)
-      → AllByRecursion IsRead (lines_of c (with_items older (came_at m ready items)))
+  all_read : (older : List HeardItem) (m : ℕ) (ready : Bool) (items : List Item) → AllByRecursion IsItem items → AllByRecursion IsRead (taken_lines c older)
+      → AllByRecursion IsRead (taken_lines c (with_items older (heard_items m ready items)))
   all_read older m ready [] is read = read
   all_read older m ready (i ∷ items) is read =
       all_read (record { moment = m; ready = ready; item = i } ∷ older) m ready items is.1
-      (item_read (lines_of c older) (record { moment = m; ready = ready; item = i }) i is.0 read)
+      (item_read (taken_lines c older) (record { moment = m; ready = ready; item = i }) i is.0 read)
 
 items_are : (r : Result (List Item) DatagramFault) → IfOk r (AllByRecursion IsItem) → AllByRecursion IsItem (items_in r)
 items_are (Ok items) is = is
 items_are (Err fault) is = tt
 
 module _ (c : Settings) (s : ℕ) where
-  heard_read : (h : History) → AllByRecursion IsRead (lines_of c (heard c s h))
+  heard_read : (h : History) → AllByRecursion IsRead (taken_lines c (heard c s h))
   heard_read [] = tt
   heard_read (frame m f ∷ h) = heard_read h
   heard_read (datagram m bytes ∷ h) =
@@ -151,5 +149,5 @@ sum_few o few (k ∷ keys) = by (o k) refl (few k) (sum_few o few keys)
 held_by_open : (lines : List Taken) (m : ℕ) → AllByRecursion IsRead lines → lines_held lines m ≤ 8 * length (open_groups lines m)
 held_by_open lines m read = sum_few (λ key. group_open lines key m) (λ key. held_few (group_trace key lines) m (trace_valid key lines read) (group_open lines key m) refl) (group_keys lines)
 
-pub held_fits : (c : Settings) (s : ℕ) (h : History) (m : ℕ) → IsHistory h → now h ≤ m → lines_held (lines_of c (heard c s h)) m ≤ 8 * c.group_slots
-held_fits c s h m is le = omega (arith, held_by_open (lines_of c (heard c s h)) m (heard_read c s h), groups_within_limit c s h m is le)
+pub held_fits : (c : Settings) (s : ℕ) (h : History) (m : ℕ) → IsHistory h → now h ≤ m → lines_held (taken_lines c (heard c s h)) m ≤ 8 * c.group_slots
+held_fits c s h m is le = omega (arith, held_by_open (taken_lines c (heard c s h)) m (heard_read c s h), groups_within_limit c s h m is le)

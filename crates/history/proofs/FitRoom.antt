@@ -3,9 +3,9 @@ use Rattle.std.proofs.Common.{length-append, arith}
 use Rattle.datagram450.specs.Datagram as datagrams
 use Rattle.claim_table.specs.Claims.{is_ready}
 use Rattle.history.specs.Entries.{frame, datagram, tick, command}
-use Rattle.history.specs.Receiver.{receiver_of}
+use Rattle.history.specs.Settings.{receiver_of}
 use Rattle.history.specs.Known.{known}
-use Rattle.history.specs.Gate.{datagram_after, expired, heard}
+use Rattle.history.specs.Gate.{datagram_at, expired, heard}
 use Rattle.history.specs.FitLaws.{DatagramsFit, RoomSuffices}
 use Rattle.history.proofs.Fits.{all_entries_fit}
 use Rattle.history.proofs.FitHeld.{held_fits}
@@ -17,7 +17,7 @@ datagrams_fit c s h m bytes are is le =
     let ended = (all_entries_fit c s h m are is le).by_time in
     let given = datagram_few c k.claims.own (heard c s h) m (is_ready k.claims m) (datagrams.read bytes) (read_few bytes) in
     let kept = held_fits c s h m is le in
-    let both = length-append (expired c s h m) (datagram_after c s h m bytes) in
+    let both = length-append (expired c s h m) (datagram_at c s h m bytes) in
     omega (arith, ended, given, kept, both)
 
 pub room_suffices : RoomSuffices

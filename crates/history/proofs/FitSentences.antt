@@ -7,10 +7,9 @@ use Rattle.gate_events.specs.declared.emit.Detail.TheVariants as detail
 use Rattle.readings.specs.declared.reading.Reading.{Reading}
 use Rattle.readings.specs.declared.reading.Reading.TheVariants as reading
 use Rattle.readings.specs.Rows.{row_of}
-use Rattle.pgn_profile.specs.Payload.{payload_of, pgn_of, priority_of}
+use Rattle.pgn_profile.specs.Profiled.{payload_of, pgn_of, priority_of}
 use Rattle.fast_packet.proofs.Counts.{need_is}
-use Rattle.fast_packet.specs.FastFrames.{need_of}
-use Rattle.fast_packet.specs.Splitting.{later_frame, frames_to, frames_of}
+use Rattle.fast_packet.specs.FastRuns.{need_of, later_frame, frames_to, frames_of}
 use Rattle.sentence_text.specs.declared.fault.SentenceFault.{SentenceFault}
 use Rattle.sentence_text.specs.Sentence.{SentenceParts}
 use Rattle.sentence_text.specs.Fields.{fields_of}
@@ -20,12 +19,10 @@ use Rattle.sentence_rows.specs.declared.fault.FieldFault.TheVariants.{Outside, F
 use Rattle.sentence_rows.specs.declared.formatter.Formatter.{Formatter}
 use Rattle.sentence_rows.specs.declared.formatter.Formatter.TheVariants as formatter
 use Rattle.sentence_rows.specs.Writing.{only_if}
-use Rattle.sentence_rows.specs.Fault.{fault, value, holds, reads}
-use Rattle.sentence_rows.specs.ReadUnits as quantity
-use Rattle.sentence_rows.specs.Columns.{status, number}
-use Rattle.sentence_rows.specs.Formatters.{formatter_of}
+use Rattle.sentence_rows.specs.Columns.{fault, value, holds, reads, status, number}
+use Rattle.sentence_rows.specs.Columns as quantity
+use Rattle.sentence_rows.specs.Reading.{formatter_of, Found, alone, rudders, listed, read_as, read_behind}
 use Rattle.sentence_rows.specs.Reading as rows
-use Rattle.sentence_rows.specs.Reading.{Found, alone, rudders, listed, read_as, read_behind}
 use Rattle.history.specs.Settings.{Settings}
 use Rattle.history.specs.Emits.{sent, reported, breaks, broken_of}
 use Rattle.history.specs.Heard.{Taken}

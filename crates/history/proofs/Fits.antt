@@ -22,22 +22,21 @@ use Rattle.gate_events.specs.declared.emit.Report.{Report}
 use Rattle.gate_events.specs.declared.emit.Detail.TheVariants as detail
 use Rattle.history.specs.AddressLaws.{IsReceiver}
 use Rattle.history.specs.Entries.{History, IsHistory, now, frame, tick, command}
-use Rattle.history.specs.Settings.{Settings}
-use Rattle.history.specs.Receiver.{receiver_of}
+use Rattle.history.specs.Settings.{Settings, receiver_of}
 use Rattle.history.specs.Known.{Known, known, known_after, is_claim, claim_by, address_left, address_won}
 use Rattle.fast_packet.specs.FastRuns.{FastPiece}
 use Rattle.iso_transport.specs.IsoRuns.{IsoPiece}
 use Rattle.history.specs.Meanings.{Meaning, address_claim, own_source, request, from_nobody, transport, single, fast_packet, passed}
 use Rattle.history.specs.Messages.{Message, done, messages_of}
-use Rattle.history.specs.Traces.{Note}
+use Rattle.history.specs.Traces.{NotedFrame}
 use Rattle.history.specs.Opens.{fast_keys, iso_keys, fast_open, iso_open, open_fast_keys, open_iso_keys, note_of, notes_of}
-use Rattle.history.specs.Heard.{Taken, group_keys, group_open, open_groups, lines_of}
+use Rattle.history.specs.Heard.{Taken, group_keys, group_open, open_groups, taken_lines}
 use Rattle.gate_events.specs.Emit.{Emit}
-use Rattle.history.specs.Emits.{Rule, breaks, broken, broken_of, of_source, reported, own_claim, replied}
-use Rattle.history.specs.Endings.{fast_ended, iso_ended, group_ended, session_pgn, abort_reply, fast_expired, iso_expired, groups_expired, fast_lost, iso_lost, lost_at, lost_elsewhere}
-use Rattle.history.specs.Datagrams.{Spoken}
+use Rattle.history.specs.Emits.{Rule, breaks, broken, broken_of, of_source, reported, own_claim, replied, Spoken}
+use Rattle.history.specs.Endings.{fast_ended, iso_ended, group_ended, session_pgn, abort_reply, fast_expired, iso_expired, groups_expired, fast_lost, iso_lost, lost_at, lost_elsewhere, side}
 use Rattle.history.specs.BusRules.{table_of}
-use Rattle.history.specs.FromBus.{asked, chosen, frames_before, packets_before, session_reply, own_answer, step_gives, said_in, command_gives, command_breaks, frame_refused, answers_by, meaning_after}
+use Rattle.n2k_id.specs.Pgns.{asked_of}
+use Rattle.history.specs.FromBus.{selected_in, frames_before, packets_before, session_reply, own_answer, step_gives, said_in, command_gives, command_breaks, frame_refused, answers_by, meaning_at}
 use Rattle.history.specs.Gate.{heard, spoken_of, expired, out}
 use Rattle.history.specs.FitLaws.{room_of, AllEntriesFit}
 use Rattle.history.proofs.Receivers.{gateways_receive}
@@ -93,7 +92,7 @@ two_lengths a b n o ea eb = rw (length-append a b) (omega (arith, ea, eb))
 -- ---- what ends
 
 -- no table of rules has more than eight
-table_length : (name : ℕ) (n : Note) (frames : Option (List FastPiece)) (packets : Option (List IsoPiece)) (message : Option Message) (meaning : Meaning)
+table_length : (name : ℕ) (n : NotedFrame) (frames : Option (List FastPiece)) (packets : Option (List IsoPiece)) (message : Option Message) (meaning : Meaning)
     → length (table_of name n frames packets message meaning) ≤ 8
 table_length name n frames packets message address_claim = omega arith
 table_length name n frames packets message own_source = omega arith
@@ -104,30 +103,30 @@ table_length name n frames packets message single = omega arith
 table_length name n frames packets message fast_packet = omega arith
 table_length name n frames packets message passed = omega arith
 
-module _ (k after : Known) (notes : List Note) (m n : ℕ) where
-  fast_few : (kinds : ℕ → Kind) (is_meant : FastKey → Bool) → length (filter (λ key. is_meant key && fast_ended k.claims.holders m after.claims.holders n notes key) (fast_keys kinds notes)) ≤ length (open_fast_keys kinds k.claims.holders notes m)
+module _ (k after : Known) (notes : List NotedFrame) (m n : ℕ) where
+  fast_few : (kinds : ℕ → Kind) (is_meant : FastKey → Bool) → length (filter (λ key. is_meant key && fast_ended (side k m) (side after n) notes key) (fast_keys kinds notes)) ≤ length (open_fast_keys kinds k.claims.holders notes m)
   fast_few kinds is_meant =
-      fewer_pass (λ key. is_meant key && fast_ended k.claims.holders m after.claims.holders n notes key) (λ key. is_some (fast_open k.claims.holders notes key m))
-      (λ key e. (and_parts (is_some (fast_open k.claims.holders notes key m)) _ (and_parts (is_meant key) (fast_ended k.claims.holders m after.claims.holders n notes key) e).1).0) (fast_keys kinds notes)
+      fewer_pass (λ key. is_meant key && fast_ended (side k m) (side after n) notes key) (λ key. is_some (fast_open k.claims.holders notes key m))
+      (λ key e. (and_parts (is_some (fast_open k.claims.holders notes key m)) _ (and_parts (is_meant key) (fast_ended (side k m) (side after n) notes key) e).1).0) (fast_keys kinds notes)
 
-  iso_few : (is_meant : IsoKey → Bool) → length (filter (λ key. is_meant key && iso_ended k m after n notes key) (iso_keys notes)) ≤ length (open_iso_keys k notes m)
+  iso_few : (is_meant : IsoKey → Bool) → length (filter (λ key. is_meant key && iso_ended (side k m) (side after n) notes key) (iso_keys notes)) ≤ length (open_iso_keys k notes m)
   iso_few is_meant =
-      fewer_pass (λ key. is_meant key && iso_ended k m after n notes key) (λ key. is_some (iso_open k notes key m))
-      (λ key e. (and_parts (is_some (iso_open k notes key m)) _ (and_parts (is_meant key) (iso_ended k m after n notes key) e).1).0) (iso_keys notes)
+      fewer_pass (λ key. is_meant key && iso_ended (side k m) (side after n) notes key) (λ key. is_some (iso_open k notes key m))
+      (λ key e. (and_parts (is_some (iso_open k notes key m)) _ (and_parts (is_meant key) (iso_ended (side k m) (side after n) notes key) e).1).0) (iso_keys notes)
 
-module _ (k : Known) (notes : List Note) (earlier m : ℕ) where
-  fast_expired_length : (kinds : ℕ → Kind) → length (fast_expired k.claims.holders notes earlier m kinds) ≤ length (open_fast_keys kinds k.claims.holders notes earlier)
+module _ (k : Known) (notes : List NotedFrame) (earlier m : ℕ) where
+  fast_expired_length : (kinds : ℕ → Kind) → length (fast_expired (side k earlier) (side k m) notes kinds) ≤ length (open_fast_keys kinds k.claims.holders notes earlier)
   fast_expired_length kinds =
-      let one = flat_once (λ (key : FastKey). of_source rules.expired key.source key.pgn ∷ []) (λ key. omega arith) (filter (fast_ended k.claims.holders earlier k.claims.holders m notes) (fast_keys kinds notes)) in
+      let one = flat_once (λ (key : FastKey). of_source rules.expired key.source key.pgn ∷ []) (λ key. omega arith) (filter (fast_ended (side k earlier) (side k m) notes) (fast_keys kinds notes)) in
       let few = fast_few k k notes earlier m kinds (λ key. true) in
       omega (arith, one, few)
 
   abbrev ends : IsoKey → List Emit
-  ends key = of_source rules.expired key.source (session_pgn k notes key earlier) ∷ replied k.claims.own key.source (abort_reply key.addressed (session_pgn k notes key earlier))
+  ends key = of_source rules.expired key.source (session_pgn (side k earlier) notes key) ∷ replied k.claims.own key.source (abort_reply key.addressed (session_pgn (side k earlier) notes key))
 
-  iso_expired_length : length (iso_expired k notes earlier m) ≤ 2 * length (open_iso_keys k notes earlier)
+  iso_expired_length : length (iso_expired (side k earlier) (side k m) notes) ≤ 2 * length (open_iso_keys k notes earlier)
   iso_expired_length =
-      let two = flat_twice ends (λ key. let more = reply_length k.claims.own key.source (abort_reply key.addressed (session_pgn k notes key earlier)) in omega (arith, more)) (filter (iso_ended k earlier k m notes) (iso_keys notes)) in
+      let two = flat_twice ends (λ key. let more = reply_length k.claims.own key.source (abort_reply key.addressed (session_pgn (side k earlier) notes key)) in omega (arith, more)) (filter (iso_ended (side k earlier) (side k m) notes) (iso_keys notes)) in
       let few = iso_few k k notes earlier m (λ key. true) in
       omega (arith, two, few)
 
@@ -137,25 +136,25 @@ groups_expired_length lines earlier m =
     let few = fewer_pass (group_ended lines earlier m) (λ key. is_some (group_open lines key earlier)) (λ key e. (and_parts (is_some (group_open lines key earlier)) _ e).0) (group_keys lines) in
     omega (arith, one, few)
 
-module _ (k after : Known) (notes : List Note) (m : ℕ) where
-  iso_lost_length : (is_meant : IsoKey → Bool) → length (iso_lost k after notes m is_meant) ≤ length (open_iso_keys k notes m)
+module _ (k after : Known) (notes : List NotedFrame) (m : ℕ) where
+  iso_lost_length : (is_meant : IsoKey → Bool) → length (iso_lost (side k m) (side after m) notes is_meant) ≤ length (open_iso_keys k notes m)
   iso_lost_length is_meant =
-      let one = flat_once (λ (key : IsoKey). of_source rules.claim_lost key.source (session_pgn k notes key m) ∷ []) (λ key. omega arith)
-      (filter (λ key. is_meant key && iso_ended k m after m notes key) (iso_keys notes)) in
+      let one = flat_once (λ (key : IsoKey). of_source rules.claim_lost key.source (session_pgn (side k m) notes key) ∷ []) (λ key. omega arith)
+      (filter (λ key. is_meant key && iso_ended (side k m) (side after m) notes key) (iso_keys notes)) in
       let few = iso_few k after notes m m is_meant in
       omega (arith, one, few)
 
-  fast_lost_length : (kinds : ℕ → Kind) (is_meant : FastKey → Bool) → length (fast_lost k.claims.holders after.claims.holders notes m kinds is_meant) ≤ length (open_fast_keys kinds k.claims.holders notes m)
+  fast_lost_length : (kinds : ℕ → Kind) (is_meant : FastKey → Bool) → length (fast_lost (side k m) (side after m) notes kinds is_meant) ≤ length (open_fast_keys kinds k.claims.holders notes m)
   fast_lost_length kinds is_meant =
       let one = flat_once (λ (key : FastKey). of_source rules.claim_lost key.source key.pgn ∷ []) (λ key. omega arith)
-      (filter (λ key. is_meant key && fast_ended k.claims.holders m after.claims.holders m notes key) (fast_keys kinds notes)) in
+      (filter (λ key. is_meant key && fast_ended (side k m) (side after m) notes key) (fast_keys kinds notes)) in
       let few = fast_few k after notes m m kinds is_meant in
       omega (arith, one, few)
 
-  lost_length : (kinds : ℕ → Kind) (a : Option ℕ) → length (lost_at k after notes m kinds a) ≤ length (open_fast_keys kinds k.claims.holders notes m) + length (open_iso_keys k notes m)
+  lost_length : (kinds : ℕ → Kind) (a : Option ℕ) → length (lost_at (side k m) (side after m) notes kinds a) ≤ length (open_fast_keys kinds k.claims.holders notes m) + length (open_iso_keys k notes m)
   lost_length kinds None = omega arith
   lost_length kinds (Some a) =
-      two_lengths (fast_lost k.claims.holders after.claims.holders notes m kinds (λ key. key.source == a)) (iso_lost k after notes m (λ key. key.source == a))
+      two_lengths (fast_lost (side k m) (side after m) notes kinds (λ key. key.source == a)) (iso_lost (side k m) (side after m) notes (λ key. key.source == a))
       (length (open_fast_keys kinds k.claims.holders notes m)) (length (open_iso_keys k notes m)) (fast_lost_length kinds (λ key. key.source == a)) (iso_lost_length (λ key. key.source == a))
 
 -- ---- what a frame and a command give
@@ -171,12 +170,12 @@ said_length : (c : Settings) (before : List Spoken) (o : Option Reading) → len
 said_length c before None = omega arith
 said_length c before (Some r) = omega arith
 
-step_length : (kinds : ℕ → Kind) (name : ℕ) (k after : Known) (notes : List Note) (m fast iso : ℕ) (step : ClaimStep) → length (open_fast_keys kinds k.claims.holders notes m) ≤ fast
+step_length : (kinds : ℕ → Kind) (name : ℕ) (k after : Known) (notes : List NotedFrame) (m fast iso : ℕ) (step : ClaimStep) → length (open_fast_keys kinds k.claims.holders notes m) ≤ fast
     → length (open_iso_keys k notes m) ≤ iso → length (step_gives kinds name k after notes m step) ≤ 2 * fast + 3 * iso + 1
 step_length kinds name k after notes m fast iso step few_fast few_iso =
-    let left = lost_at k after notes m kinds (address_left step) in
-    let won = lost_at k after notes m kinds (address_won step) in
-    let elsewhere = lost_elsewhere k after notes m (address_left step) (address_won step) in
+    let left = lost_at (side k m) (side after m) notes kinds (address_left step) in
+    let won = lost_at (side k m) (side after m) notes kinds (address_won step) in
+    let elsewhere = lost_elsewhere (side k m) (side after m) notes (address_left step) (address_won step) in
     let own = own_answer name step.own after.claims.own in
     let one = lost_length k after notes m kinds (address_left step) in
     let two = lost_length k after notes m kinds (address_won step) in
@@ -191,7 +190,7 @@ module _ (c : Settings) (s : ℕ) (h : History) (m : ℕ) (are : IsReceiver (rec
   abbrev r_known : Known
   r_known = known (receiver_of c) s h
 
-  abbrev r_notes : List Note
+  abbrev r_notes : List NotedFrame
   r_notes = notes_of (receiver_of c) s h
 
   few_fast : length (open_fast_keys kind_of r_known.claims.holders r_notes m) ≤ c.fast_slots
@@ -204,13 +203,13 @@ module _ (c : Settings) (s : ℕ) (h : History) (m : ℕ) (are : IsReceiver (rec
   expired_length =
       let fast = fast_expired_length r_known r_notes (now h) m kind_of in
       let iso = iso_expired_length r_known r_notes (now h) m in
-      let groups = groups_expired_length (lines_of c (heard c s h)) (now h) m in
+      let groups = groups_expired_length (taken_lines c (heard c s h)) (now h) m in
       let fast_limit = fast_within_limit (receiver_of c) s h (now h) are is (omega arith) in
       let iso_limit = iso_within_limit (receiver_of c) s h (now h) are is (omega arith) in
       let group_limit = groups_within_limit c s h (now h) is (omega arith) in
-      two_lengths (fast_expired r_known.claims.holders r_notes (now h) m kind_of ++ iso_expired r_known r_notes (now h) m) (groups_expired (lines_of c (heard c s h)) (now h) m)
+      two_lengths (fast_expired (side r_known (now h)) (side r_known m) r_notes kind_of ++ iso_expired (side r_known (now h)) (side r_known m) r_notes) (groups_expired (taken_lines c (heard c s h)) (now h) m)
       (c.fast_slots + 2 * c.iso_slots) c.group_slots
-      (two_lengths (fast_expired r_known.claims.holders r_notes (now h) m kind_of) (iso_expired r_known r_notes (now h) m) c.fast_slots (2 * c.iso_slots)
+      (two_lengths (fast_expired (side r_known (now h)) (side r_known m) r_notes kind_of) (iso_expired (side r_known (now h)) (side r_known m) r_notes) c.fast_slots (2 * c.iso_slots)
       (omega (arith, fast, fast_limit)) (omega (arith, iso, iso_limit)))
       (omega (arith, groups, group_limit))
 
@@ -222,7 +221,7 @@ module _ (c : Settings) (s : ℕ) (h : History) (m : ℕ) (are : IsReceiver (rec
       (step_length kind_of c.name r_known after r_notes m c.fast_slots c.iso_slots step few_fast few_iso) (omega arith)
   answers_length f own_source = omega arith
   answers_length f request =
-      if_length (not (nat_lt (length f.held) 3) && (asked f.held == 60928)) (own_claim c.name r_known.claims.own ∷ []) [] (2 * c.fast_slots + 3 * c.iso_slots + 1) (omega arith) (omega arith)
+      if_length (not (nat_lt (length f.held) 3) && (asked_of f.held == 60928)) (own_claim c.name r_known.claims.own ∷ []) [] (2 * c.fast_slots + 3 * c.iso_slots + 1) (omega arith) (omega arith)
   answers_length f from_nobody = omega arith
   answers_length f transport =
       let p = parts_of f.id in
@@ -237,7 +236,7 @@ module _ (c : Settings) (s : ℕ) (h : History) (m : ℕ) (are : IsReceiver (rec
   refused_length f =
       let p = parts_of f.id in
       let n = note_of (receiver_of c) (length h) r_known r_notes m f in
-      let meaning = meaning_after (receiver_of c) s h m f in
+      let meaning = meaning_at (receiver_of c) s h m f in
       let frames = frames_before meaning r_known.claims.holders r_notes m p in
       let packets = packets_before meaning r_known r_notes m p in
       let message = done (receiver_of c) s h (frame m f) in
@@ -251,10 +250,10 @@ module _ (c : Settings) (s : ℕ) (h : History) (m : ℕ) (are : IsReceiver (rec
   frame_length f =
       let k = r_known in
       let refused = reported (frame_refused (receiver_of c) s h m f) in
-      let answers = answers_by (receiver_of c) s h m f (meaning_after (receiver_of c) s h m f) in
-      let o = chosen c k.claims.holders (messages_of (receiver_of c) s h) (done (receiver_of c) s h (frame m f)) in
+      let answers = answers_by (receiver_of c) s h m f (meaning_at (receiver_of c) s h m f) in
+      let o = selected_in c k.claims.holders (messages_of (receiver_of c) s h) (done (receiver_of c) s h (frame m f)) in
       let said = said_in c (spoken_of c s h) o in
-      let both = two_lengths refused answers 8 (2 * c.fast_slots + 3 * c.iso_slots + 1) (refused_length f) (answers_length f (meaning_after (receiver_of c) s h m f)) in
+      let both = two_lengths refused answers 8 (2 * c.fast_slots + 3 * c.iso_slots + 1) (refused_length f) (answers_length f (meaning_at (receiver_of c) s h m f)) in
       let all = two_lengths (refused ++ answers) said (8 + (2 * c.fast_slots + 3 * c.iso_slots + 1)) 1 both (said_length c (spoken_of c s h) o) in
       let whole = two_lengths (expired c s h m) (refused ++ answers ++ said) (room_of c) (8 + (2 * c.fast_slots + 3 * c.iso_slots + 1) + 1) expired_length all in
       omega (arith, whole)
@@ -263,7 +262,7 @@ module _ (c : Settings) (s : ℕ) (h : History) (m : ℕ) (are : IsReceiver (rec
   command_length source address =
       let k = r_known in
       let after = known_after (length h) k (command m source address) in
-      let ends = lost_elsewhere k after r_notes m None None in
+      let ends = lost_elsewhere (side k m) (side after m) r_notes None None in
       let own = own_claim c.name after.claims.own ∷ [] in
       let refused = command_breaks k.claims source address in
       let reports = reported_length refused in

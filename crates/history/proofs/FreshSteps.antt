@@ -1,8 +1,8 @@
 -- The laws of freshness.
 use Rattle.std.proofs.Common.{◌≡◌, ℕ, suc, ◌<◌, ◌≤◌, Bool, true, false, ◌&&◌, List, [], ◌∷◌, ◌⊎◌, inl, inr, length, refl, sym, ap, subst, ◌∙◌, ◌==◌, arith}
-use Rattle.std.specs.Prelude.{Option, Some, None, find, if◌then◌else◌, option_map}
+use Rattle.std.specs.Prelude.{Option, Some, None, find, if◌then◌else◌, option_map, option_and_then}
 use Rattle.std.specs.List.{AllByRecursion}
-use Rattle.history.specs.Traces.{Note}
+use Rattle.history.specs.Traces.{NotedFrame}
 use Rattle.std.proofs.lemmas.Bool.{and_parts, eqb-true, lt-leb, le-leb}
 use Rattle.n2k_id.specs.Frame.{BusFrame}
 use Rattle.n2k_id.specs.Identifier.{parts_of}
@@ -10,26 +10,23 @@ use Rattle.readings.specs.declared.rows.Row.{Row}
 use Rattle.claim_table.specs.declared.answer.Holder.{Holder}
 use Rattle.claim_table.specs.Claims.{holder_at, claim}
 use Rattle.history.specs.Entries.{History, frame, datagram, tick, command}
-use Rattle.history.specs.Receiver.{Receiver}
+use Rattle.history.specs.Settings.{Receiver}
 use Rattle.history.specs.Known.{Known, known, held_since, is_claim, claim_by, followed_by}
 use Rattle.history.specs.Messages.{Message, Carried, done, messages_of, said_by, with_message, completed_by}
 use Rattle.history.specs.Opens.{note_of, notes_of}
-use Rattle.history.specs.Choice.{is_row, reading_of, is_of, is_fresh_since, still_counts}
+use Rattle.history.specs.Choice.{is_row, reading_of, is_of, last_of}
 use Rattle.history.specs.AddressLaws.{IsReceiver}
 use Rattle.history.specs.TraceLaws.{is_lost}
-use Rattle.history.specs.FreshLaws.{last_since, last_of, tells, FreshByLast, MessagesAreKept, ClaimsForget, CommandsForgetNone, ReadingsAreKept}
+use Rattle.history.specs.FreshLaws.{tells, MessagesAreKept, ClaimsForget, CommandsForgetNone, ReadingsAreKept}
 use Rattle.history.proofs.Addresses.{addresses_are_sound}
 use Rattle.history.proofs.KeySteps.{dated_at, known_same}
 use Rattle.history.proofs.TraceMoves.{same_since, moved_since, known_after_claim}
 use Rattle.history.proofs.Moves.{Moved}
 use Rattle.history.proofs.Moves as moves
 
-pub fresh_by_last : FreshByLast
-fresh_by_last rule holders row source m older = by (held_since holders source)
-  where
-    by : (since : Option ℕ) → is_fresh_since rule row source m older since ≡ still_counts rule.timeout m (last_since row source older since)
-    by None = refl
-    by (Some since) = refl
+-- the last message of a row from a source since an index, where there is one
+abbrev pub last_since : Row → ℕ → List Message → Option ℕ → Option Message
+last_since row source older since = option_and_then (λ index. find (is_of row source index) older) since
 
 -- each message has the index of an entry of the history
 abbrev pub AreBelow : ℕ → List Message → Type 0
@@ -119,7 +116,7 @@ messages_are_kept c s h m f row source are other =
 
 -- ---- a claim
 
-claim_completes_none : (c : Receiver) → IsReceiver c → (k : Known) (n : Note) (older : List Note) → n.parts.pgn ≡ 60928 → completed_by c.kinds k n older ≡ None
+claim_completes_none : (c : Receiver) → IsReceiver c → (k : Known) (n : NotedFrame) (older : List NotedFrame) → n.parts.pgn ≡ 60928 → completed_by c.kinds k n older ≡ None
 claim_completes_none c are k n older e = rw (e, are.claims) refl
 
 says_none : (n m from : ℕ) (x : Option Holder) → said_by n m from x None ≡ None

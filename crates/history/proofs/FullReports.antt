@@ -9,25 +9,24 @@ use Rattle.claim_table.specs.declared.answer.Holder.{Holder}
 use Rattle.claim_table.specs.Laws.{IsSound}
 use Rattle.pgn_profile.specs.declared.kinds.Kind.{Kind}
 use Rattle.pgn_profile.specs.declared.kinds.Kind.TheVariants.{Single, Fast, Outside}
-use Rattle.fast_packet.specs.FastFrames as fast
+use Rattle.fast_packet.specs.FastRuns as fast
 use Rattle.fast_packet.specs.FastRuns.{FastPiece}
-use Rattle.iso_transport.specs.Audience as audience
-use Rattle.iso_transport.specs.Audience.{key_of, is_to, is_data, bears}
-use Rattle.iso_transport.specs.Connection.{control_at}
-use Rattle.iso_transport.specs.Cm.{cm_by, cm_of}
-use Rattle.iso_transport.specs.Sessions as sessions
+use Rattle.n2k_id.specs.Identifier.{is_own, is_to}
+use Rattle.iso_transport.specs.Audience.{key_of}
+use Rattle.iso_transport.specs.Connection.{control_at, cm_by, cm_of}
+use Rattle.iso_transport.specs.IsoRuns as iso
 use Rattle.iso_transport.specs.IsoRuns.{IsoPiece, is_opener}
 use Rattle.history.specs.AddressLaws.{IsReceiver}
 use Rattle.history.specs.Entries.{History, frame, datagram, tick, command}
-use Rattle.history.specs.Receiver.{Receiver}
+use Rattle.history.specs.Settings.{Receiver}
 use Rattle.history.specs.Known.{Known, known, held_since}
 use Rattle.history.specs.Emits.{Rule, broken_of}
 use Rattle.history.specs.Meanings.{Meaning, address_claim, own_source, request, from_nobody, transport, single, fast_packet, passed, if_held, by_kind, meaning_of, is_of_session, is_of_fast_packet}
 use Rattle.history.specs.Messages.{Message, done}
 use Rattle.history.specs.Opens.{is_fast, notes_of}
-use Rattle.history.specs.Traces.{Note, iso_piece, is_transport, is_bearing}
+use Rattle.history.specs.Traces.{NotedFrame, iso_piece, is_transport, is_bearing, bears_upon}
 use Rattle.history.specs.BusRules.{is_early, opens_session, table_of, frame_breaks}
-use Rattle.history.specs.FromBus.{meaning_after, frames_before, packets_before, frame_refused}
+use Rattle.history.specs.FromBus.{meaning_at, frames_before, packets_before, frame_refused}
 use Rattle.history.specs.KeyLaws.{the_note, is_meant, concerns}
 use Rattle.history.specs.IsolationLaws.{opens_message, NoneRefused}
 use Rattle.history.specs.RoomLaws.{says_full, FullIsReported, NoneFull, RefusalsAreReported}
@@ -56,7 +55,7 @@ full_rows (x ∷ table) = by x.broken refl (full_rows table)
     by true e rest = rw (e, turn (x.report.rule == rules.slots_full), rest) refl
     by false e rest = rw (e, none (x.report.rule == rules.slots_full)) rest
 
-module _ (name : ℕ) (n : Note) (frames : Option (List FastPiece)) (packets : Option (List IsoPiece)) (message : Option Message) where
+module _ (name : ℕ) (n : NotedFrame) (frames : Option (List FastPiece)) (packets : Option (List IsoPiece)) (message : Option Message) where
   -- whether the opener of a fast packet, or of a session, finds no room
   abbrev finds_none : Meaning → Bool
   finds_none meaning =
@@ -144,7 +143,7 @@ kind_test true control = control == 16
 kind_test false control = control == 32
 
 opens_by : (addressed : Bool) (control : ℕ) (bytes : List ℕ) (a b c d g : Bool) → (control == 16) ≡ a → (control == 17) ≡ b → (control == 19) ≡ c → (control == 32) ≡ d
-    → (control == 255) ≡ g → sessions.opens addressed (cm_by control bytes) ≡ true → kind_test addressed control ≡ true
+    → (control == 255) ≡ g → iso.opens addressed (cm_by control bytes) ≡ true → kind_test addressed control ≡ true
 opens_by true control bytes true b c d g ea eb ec ed eg e = ea
 opens_by true control bytes false true c d g ea eb ec ed eg e = absurd (false≢true (rw (ea, eb) at e))
 opens_by true control bytes false false true d g ea eb ec ed eg e = absurd (false≢true (rw (ea, eb, ec) at e))
@@ -169,10 +168,10 @@ pub record OpenerFacts (addressed : Bool) (y : IsoPiece) : Type 0 where
 
 opener_facts : (addressed : Bool) (y : IsoPiece) → is_opener addressed y ≡ true → OpenerFacts addressed y
 opener_facts addressed y e =
-    let parts = and_parts (not y.packet) (sessions.opens addressed (cm_of y.bytes)) e in
+    let parts = and_parts (not y.packet) (iso.opens addressed (cm_of y.bytes)) e in
     by (nat_lt (length y.bytes) 8) refl parts.1 (not_so y.packet parts.0)
   where
-    by : (b : Bool) → nat_lt (length y.bytes) 8 ≡ b → sessions.opens addressed (if b then None else cm_by (control_at y.bytes) y.bytes) ≡ true → y.packet ≡ false → OpenerFacts addressed y
+    by : (b : Bool) → nat_lt (length y.bytes) 8 ≡ b → iso.opens addressed (if b then None else cm_by (control_at y.bytes) y.bytes) ≡ true → y.packet ≡ false → OpenerFacts addressed y
     by true el opens ep = absurd (false≢true opens)
     by false el opens ep = record {
       managed = ep;
@@ -182,7 +181,7 @@ opener_facts addressed y e =
 
 -- an opener that isn't too early bears on its session
 bears_where : (addressed ready : Bool) (y : IsoPiece) → OpenerFacts addressed y
-    → (bears addressed y.packet y.bytes && (y.packet || (not (control_at y.bytes == 16) || ready))) ≡ not (is_early addressed ready y)
+    → (y.packet || (nat_le 8 (length y.bytes) && bears_upon addressed ready (control_at y.bytes))) ≡ not (is_early addressed ready y)
 bears_where true ready y f = let control = eqb-true (control_at y.bytes) 16 f.kind in rw (f.managed, f.enough, control) (twice ready)
   where
     twice : (b : Bool) → b ≡ not (not b)
@@ -206,7 +205,7 @@ spread true true false d e = refl
 spread true false c d e = refl
 spread false b c d e = refl
 
-module _ (r : Receiver) (are : IsReceiver r) (k : Known) (sound : IsSound k.claims) (n : Note) where
+module _ (r : Receiver) (are : IsReceiver r) (k : Known) (sound : IsSound k.claims) (n : NotedFrame) where
   since_held : (x : Option Holder) → is_some (option_map (λ (y : Holder). y.since) x) ≡ is_some x
   since_held None = refl
   since_held (Some x) = refl
@@ -214,13 +213,13 @@ module _ (r : Receiver) (are : IsReceiver r) (k : Known) (sound : IsSound k.clai
   held : Bool
   held = is_some (holder_at k.claims.holders n.parts.source)
 
-  own_nobody : (own : Option ℕ) → k.claims.own ≡ own → audience.is_own own n.parts.source ≡ true → is_some (holder_at k.claims.holders n.parts.source) ≡ false
+  own_nobody : (own : Option ℕ) → k.claims.own ≡ own → is_own own n.parts.source ≡ true → is_some (holder_at k.claims.holders n.parts.source) ≡ false
   own_nobody None e is = absurd (false≢true is)
   own_nobody (Some x) e is =
       let same = eqb-true n.parts.source x is in
       ap is_some (ap (holder_at k.claims.holders) same ∙ sound.own_free x e)
 
-  own_turn : (own : Option ℕ) (d : ℕ) → k.claims.own ≡ own → is_at d k.claims.own ≡ audience.is_own own d
+  own_turn : (own : Option ℕ) (d : ℕ) → k.claims.own ≡ own → is_at d k.claims.own ≡ is_own own d
   own_turn None d e = rw e refl
   own_turn (Some x) d e = rw e (eqb-sym x d)
 
@@ -246,14 +245,14 @@ module _ (r : Receiver) (are : IsReceiver r) (k : Known) (sound : IsSound k.clai
 
   fast_is : is_of_fast_packet (meaning_of r.kinds k.claims.own k.claims.holders n.parts) ≡ (is_some (held_since k.claims.holders n.parts.source) && is_fast (r.kinds n.parts.pgn))
   fast_is =
-      fast_of (n.parts.pgn == 60928) (audience.is_own k.claims.own n.parts.source) (n.parts.pgn == 59904) (is_transport n.parts) (is_to k.claims.own n.parts.destination)
+      fast_of (n.parts.pgn == 60928) (is_own k.claims.own n.parts.source) (n.parts.pgn == 59904) (is_transport n.parts) (is_to k.claims.own n.parts.destination)
       (is_some (holder_at k.claims.holders n.parts.source)) (r.kinds n.parts.pgn)
       (outside_of 60928 are.claims) (own_nobody k.claims.own refl) (outside_of 59904 are.requests) moved
       ∙ ap (λ (b : Bool). b && is_fast (r.kinds n.parts.pgn)) (sym (since_held (holder_at k.claims.holders n.parts.source)))
 
   session_is : is_of_session (meaning_of r.kinds k.claims.own k.claims.holders n.parts) ≡ (is_some (held_since k.claims.holders n.parts.source) && (is_meant k.claims.own n (key_of n.parts).addressed && is_transport n.parts))
   session_is =
-      session_of (n.parts.pgn == 60928) (audience.is_own k.claims.own n.parts.source) (n.parts.pgn == 59904) (is_transport n.parts) (is_to k.claims.own n.parts.destination)
+      session_of (n.parts.pgn == 60928) (is_own k.claims.own n.parts.source) (n.parts.pgn == 59904) (is_transport n.parts) (is_to k.claims.own n.parts.destination)
       (is_some (holder_at k.claims.holders n.parts.source)) (r.kinds n.parts.pgn)
       (still 60928 refl refl) (own_nobody k.claims.own refl) (still 59904 refl refl)
       ∙ ap (λ (b : Bool). b && (is_to k.claims.own n.parts.destination && is_transport n.parts)) (sym (since_held (holder_at k.claims.holders n.parts.source)))
@@ -283,10 +282,10 @@ full_is_reported r s h m f are =
     let k = known r s h in
     let n = the_note r s h m f in
     let sound = (addresses_are_sound r s h are).sound in
-    full_breaks r.name n (frames_before (meaning_after r s h m f) k.claims.holders (notes_of r s h) m n.parts)
-    (packets_before (meaning_after r s h m f) k (notes_of r s h) m n.parts) (done r s h (frame m f)) (meaning_after r s h m f)
+    full_breaks r.name n (frames_before (meaning_at r s h m f) k.claims.holders (notes_of r s h) m n.parts)
+    (packets_before (meaning_at r s h m f) k (notes_of r s h) m n.parts) (done r s h (frame m f)) (meaning_at r s h m f)
     ∙ ap (λ (b : Bool). (b && (fast.is_opener n.bytes && not n.admitted))
-    || (is_of_session (meaning_after r s h m f) && (opens_session (key_of n.parts).addressed n.ready (iso_piece n) && not n.admitted))) (fast_is r are k sound n)
+    || (is_of_session (meaning_at r s h m f) && (opens_session (key_of n.parts).addressed n.ready (iso_piece n) && not n.admitted))) (fast_is r are k sound n)
     ∙ ap (λ (b : Bool). ((is_some (held_since k.claims.holders n.parts.source) && is_fast (r.kinds n.parts.pgn)) && (fast.is_opener n.bytes && not n.admitted))
     || (b && (opens_session (key_of n.parts).addressed n.ready (iso_piece n) && not n.admitted))) (session_is r are k sound n)
     ∙ ap (λ (b : Bool). ((is_some (held_since k.claims.holders n.parts.source) && is_fast (r.kinds n.parts.pgn)) && (fast.is_opener n.bytes && not n.admitted)) || b)

@@ -10,7 +10,8 @@ use Rattle.slot_views.specs.Runs.{open_at}
 use Rattle.tag_block.specs.declared.group_key.GroupKey.{GroupKey}
 use Rattle.tag_block.specs.declared.group_part.GroupPart.{GroupPart}
 use Rattle.tag_block.specs.GroupRuns.{GroupLine, group_rules}
-use Rattle.history.specs.Heard.{Taken, same_text, same_group, precedes_group, several, line_in, group_trace, key_with, group_keys, group_open}
+use Rattle.history.specs.Heard.{Taken, same_group, precedes_group, several, line_in, group_trace, key_with, group_keys, group_open}
+use Rattle.history.specs.Settings.{same_text}
 use Rattle.history.specs.CountLaws.{HoldsGroups, CountsGroups, SlotsCountGroups}
 use Rattle.history.proofs.KeySteps.{eqb-sym}
 use Rattle.history.proofs.Counts.{any_placed, distinct_placed, Held, counted, room}

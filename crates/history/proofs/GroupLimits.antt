@@ -4,18 +4,18 @@ use Rattle.std.specs.Prelude.{Option, Some, None, if◌then◌else◌}
 use Rattle.std.specs.List.{AllByRecursion, list_any}
 use Rattle.std.proofs.lemmas.Bool.{eq-eqb, false≢true}
 use Rattle.claim_table.specs.Claims.{is_ready}
-use Rattle.slot_views.specs.Runs.{fed, open_at}
+use Rattle.slot_views.specs.Runs.{open_at}
+use Rattle.slot_views.specs.RunLaws.{fed}
 use Rattle.tag_block.specs.declared.group_key.GroupKey.{GroupKey}
 use Rattle.tag_block.specs.declared.group_part.GroupPart.{GroupPart}
 use Rattle.tag_block.specs.GroupRuns.{GroupLine, group_rules}
 use Rattle.datagram450.specs.Datagram as datagrams
-use Rattle.datagram450.specs.Item.{Item, line, bad}
-use Rattle.history.specs.Entries.{Entry, History, IsHistory, now, frame, datagram, tick}
+use Rattle.datagram450.specs.Datagram.{Item, line, bad}
+use Rattle.history.specs.Entries.{History, IsHistory, now, frame, datagram, tick}
 use Rattle.history.specs.Entries as entry
-use Rattle.history.specs.Settings.{Settings}
-use Rattle.history.specs.Receiver.{receiver_of}
+use Rattle.history.specs.Settings.{Settings, receiver_of}
 use Rattle.history.specs.Known.{known}
-use Rattle.history.specs.Heard.{Came, Taken, came_at, with_items, same_group, precedes_group, several, group_line, key_with, group_keys, group_open, open_groups, is_group_admitted, is_taken, is_line_admitted, taken_after, with_item, lines_of}
+use Rattle.history.specs.Heard.{HeardItem, Taken, heard_items, with_items, same_group, precedes_group, several, group_line, key_with, group_keys, group_open, open_groups, is_group_admitted, is_taken, is_line_admitted, taken_as, with_item, taken_lines}
 use Rattle.history.specs.FromNet.{items_in}
 use Rattle.history.specs.Gate.{heard}
 use Rattle.history.specs.GroupLaws.{group_key}
@@ -113,11 +113,11 @@ several_is (Some p) part e = by (nat_le 2 p.total) e
 
 module _ (c : Settings) (m : ℕ) where
   -- the lines after an item that came at the moment
-  item_within : (lines : List Taken) (x : Came) (i : Item) → x.moment ≡ m → Within c.group_slots m lines → Within c.group_slots m (with_item c lines x i)
+  item_within : (lines : List Taken) (x : HeardItem) (i : Item) → x.moment ≡ m → Within c.group_slots m lines → Within c.group_slots m (with_item c lines x i)
   item_within lines x (line place said sentence parts) now within = by (is_taken c said)
     where
       t : Taken
-      t = taken_after c lines x place said sentence
+      t = taken_as c lines x place said sentence
 
       by : (b : Bool) → Within c.group_slots m (if b then t ∷ lines else lines)
       by true =
@@ -128,15 +128,15 @@ module _ (c : Settings) (m : ℕ) where
   item_within lines x (bad rule place) now within = within
 
   -- after all items of a datagram
-  all_within : (older : List Came) (ready : Bool) (items : List Item) → Within c.group_slots m (lines_of c older)
-      → Within c.group_slots m (lines_of c (with_items older (came_at m ready items)))
+  all_within : (older : List HeardItem) (ready : Bool) (items : List Item) → Within c.group_slots m (taken_lines c older)
+      → Within c.group_slots m (taken_lines c (with_items older (heard_items m ready items)))
   all_within older ready [] within = within
   all_within older ready (i ∷ items) within =
       all_within (record { moment = m; ready = ready; item = i } ∷ older) ready items
-      (item_within (lines_of c older) (record { moment = m; ready = ready; item = i }) i refl within)
+      (item_within (taken_lines c older) (record { moment = m; ready = ready; item = i }) i refl within)
 
 module _ (c : Settings) (s : ℕ) where
-  limited : (h : History) → IsHistory h → Within c.group_slots (now h) (lines_of c (heard c s h))
+  limited : (h : History) → IsHistory h → Within c.group_slots (now h) (taken_lines c (heard c s h))
   limited [] is n le = omega arith
   limited (frame m f ∷ h) is n le = limited h is.2 n (omega (arith, is.1, le))
   limited (datagram m bytes ∷ h) is n le =

@@ -9,7 +9,8 @@ use Rattle.tag_block.specs.declared.group_part.GroupPart.{GroupPart}
 use Rattle.tag_block.specs.declared.group_key.GroupKey.{GroupKey}
 use Rattle.tag_block.specs.GroupRuns.{GroupLine, group_rules}
 use Rattle.tag_block.proofs.GroupPrefixes.{lawful}
-use Rattle.history.specs.Heard.{Taken, same_text, several, group_line, line_in, group_trace, group_open, sentences_in, handed_with}
+use Rattle.history.specs.Heard.{Taken, several, group_line, line_in, group_trace, group_open, sentences_in, handed_with}
+use Rattle.history.specs.Settings.{same_text}
 use Rattle.history.specs.GroupLaws.{group_key, StepsGroup, LinesStepGroup, LinesStandAlone, TimeEndsGroup}
 use Rattle.history.proofs.GroupCounts.{line_past, trace_past}
 

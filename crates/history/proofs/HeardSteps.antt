@@ -3,10 +3,10 @@ use Rattle.std.proofs.Common.{◌≡◌, ℕ, Bool, true, false, ◌&&◌, List,
 use Rattle.std.specs.Prelude.{Option, if◌then◌else◌}
 use Rattle.readings.specs.declared.reading.Reading.{Reading}
 use Rattle.readings.specs.Rows.{row_of}
-use Rattle.pgn_profile.specs.Payload.{pgn_of}
+use Rattle.pgn_profile.specs.Profiled.{pgn_of}
 use Rattle.history.specs.Settings.{Settings}
 use Rattle.gate_events.specs.Emit.{Emit}
-use Rattle.history.specs.Heard.{Came, Taken, with_items}
+use Rattle.history.specs.Heard.{HeardItem, Taken, with_items}
 use Rattle.history.specs.NetReadings.{NetReading, read_sentence, with_said, with_readings, with_sentences, is_net_selected, is_fast_row, fast_sent}
 use Rattle.history.specs.FromNet.{item_gives, items_give, reading_gives, readings_give, said_gives, sentences_give}
 use Rattle.history.specs.HeardLaws.{DatagramsGiveInOrder, ReadingsCountFast, goes_fast}
@@ -16,7 +16,7 @@ behind : (first some more all : List Emit) → all ≡ some ++ more → first ++
 behind first some more all e = rw (e, append_assoc) refl
 
 module _ (c : Settings) (own : Option ℕ) where
-  items : (older items more : List Came) → items_give c own older (items ++ more) ≡ items_give c own older items ++ items_give c own (with_items older items) more
+  items : (older items more : List HeardItem) → items_give c own older (items ++ more) ≡ items_give c own older items ++ items_give c own (with_items older items) more
   items older [] more = refl
   items older (x ∷ xs) more =
       behind (item_gives c own older x) (items_give c own (x ∷ older) xs) (items_give c own (with_items (x ∷ older) xs) more)

@@ -13,8 +13,8 @@ use Rattle.iso_transport.specs.IsoRuns.{IsoPiece, iso_rules}
 use Rattle.iso_transport.specs.Audience.{key_of}
 use Rattle.claim_table.specs.Laws.{IsSound}
 use Rattle.history.specs.Known.{Known, held_since}
-use Rattle.history.specs.Traces.{Note, iso_trace, broadcast_since, addressed_since, is_transport, is_bearing}
-use Rattle.history.specs.Opens.{placed, same_iso, precedes_iso, iso_keys, iso_open}
+use Rattle.history.specs.Traces.{NotedFrame, iso_trace, broadcast_since, addressed_since, is_transport, is_bearing}
+use Rattle.history.specs.Opens.{with_key, same_iso, precedes_iso, iso_keys, iso_open}
 use Rattle.history.specs.CountLaws.{HoldsIso, CountsIso, SlotsCountIso}
 use Rattle.history.proofs.KeySteps.{eqb-sym}
 use Rattle.history.proofs.Counts.{any_placed, distinct_placed, Held, counted, room}
@@ -55,11 +55,11 @@ and_no : (x : Bool) → (x && false) ≡ false
 and_no true = refl
 and_no false = refl
 
-or_no_transport : (n : Note) (addressed : Bool) → is_transport n.parts ≡ false → is_bearing addressed n ≡ false
+or_no_transport : (n : NotedFrame) (addressed : Bool) → is_transport n.parts ≡ false → is_bearing addressed n ≡ false
 or_no_transport n addressed e = rw e refl
 
 -- of frames of another key
-apart_all : (a : ℕ) (n : Note) → same_iso (record { addressed = false; source = a }) (key_of n.parts) ≡ false → ((n.parts.source == a) && ((n.parts.destination == 255) && is_bearing false n)) ≡ false
+apart_all : (a : ℕ) (n : NotedFrame) → same_iso (record { addressed = false; source = a }) (key_of n.parts) ≡ false → ((n.parts.source == a) && ((n.parts.destination == 255) && is_bearing false n)) ≡ false
 apart_all a n other = by (n.parts.source == a) refl (n.parts.destination == 255) refl
   where
     by : (x : Bool) → (n.parts.source == a) ≡ x → (y : Bool) → (n.parts.destination == 255) ≡ y → (x && (y && is_bearing false n)) ≡ false
@@ -69,7 +69,7 @@ apart_all a n other = by (n.parts.source == a) refl (n.parts.destination == 255)
         let same : same_iso (record { addressed = false; source = a }) (key_of n.parts) ≡ true = rw (ey, eqb-sym a n.parts.source, ex) refl in
         absurd (false≢true (sym other ∙ same))
 
-apart_own : (a own : ℕ) (n : Note) (late : Bool) → own < 252 → same_iso (record { addressed = true; source = a }) (key_of n.parts) ≡ false
+apart_own : (a own : ℕ) (n : NotedFrame) (late : Bool) → own < 252 → same_iso (record { addressed = true; source = a }) (key_of n.parts) ≡ false
     → ((n.parts.source == a) && ((n.parts.destination == own) && (late && is_bearing true n))) ≡ false
 apart_own a own n late small other = by (n.parts.source == a) refl (n.parts.destination == own) refl
   where
@@ -84,12 +84,12 @@ apart_own a own n late small other = by (n.parts.source == a) refl (n.parts.dest
 
 -- a session whose key didn't come has no frames
 module _ (k : Known) (sound : IsSound k.claims) where
-  broadcast_past : (since : Option ℕ) (a : ℕ) (n : Note) (notes : List Note) → ((n.parts.source == a) && ((n.parts.destination == 255) && is_bearing false n)) ≡ false
+  broadcast_past : (since : Option ℕ) (a : ℕ) (n : NotedFrame) (notes : List NotedFrame) → ((n.parts.source == a) && ((n.parts.destination == 255) && is_bearing false n)) ≡ false
       → broadcast_since since a (n ∷ notes) ≡ broadcast_since since a notes
   broadcast_past None a n notes e = refl
   broadcast_past (Some since) a n notes e = rw (unlike (n.parts.source == a) (nat_le since n.index) ((n.parts.destination == 255) && is_bearing false n) e) refl
 
-  addressed_past : (since own : Option ℕ) (own_since a : ℕ) (n : Note) (notes : List Note)
+  addressed_past : (since own : Option ℕ) (own_since a : ℕ) (n : NotedFrame) (notes : List NotedFrame)
       → ((x : ℕ) → own ≡ Some x → ((n.parts.source == a) && ((n.parts.destination == x) && (nat_le own_since n.index && is_bearing true n))) ≡ false)
       → addressed_since since own own_since a (n ∷ notes) ≡ addressed_since since own own_since a notes
   addressed_past None own own_since a n notes e = refl
@@ -97,14 +97,14 @@ module _ (k : Known) (sound : IsSound k.claims) where
   addressed_past (Some since) (Some own) own_since a n notes e =
       rw (unlike (n.parts.source == a) (nat_le since n.index) ((n.parts.destination == own) && (nat_le own_since n.index && is_bearing true n)) (e own refl)) refl
 
-  past : (addressed : Bool) (a : ℕ) (n : Note) (notes : List Note) → same_iso (record { addressed = addressed; source = a }) (key_of n.parts) ≡ false
+  past : (addressed : Bool) (a : ℕ) (n : NotedFrame) (notes : List NotedFrame) → same_iso (record { addressed = addressed; source = a }) (key_of n.parts) ≡ false
       → iso_trace k addressed a (n ∷ notes) ≡ iso_trace k addressed a notes
   past false a n notes other = broadcast_past (held_since k.claims.holders a) a n notes (apart_all a n other)
   past true a n notes other =
       addressed_past (held_since k.claims.holders a) k.claims.own k.own_since a n notes
       (λ own is. apart_own a own n (nat_le k.own_since n.index) (sound.own_within own is) other)
 
-  past_other : (addressed : Bool) (a : ℕ) (n : Note) (notes : List Note) → is_transport n.parts ≡ false → iso_trace k addressed a (n ∷ notes) ≡ iso_trace k addressed a notes
+  past_other : (addressed : Bool) (a : ℕ) (n : NotedFrame) (notes : List NotedFrame) → is_transport n.parts ≡ false → iso_trace k addressed a (n ∷ notes) ≡ iso_trace k addressed a notes
   past_other false a n notes e =
       broadcast_past (held_since k.claims.holders a) a n notes (rw (or_no_transport n false e, and_no (n.parts.destination == 255), and_no (n.parts.source == a)) refl)
   past_other true a n notes e =
@@ -124,12 +124,12 @@ module _ (k : Known) (sound : IsSound k.claims) where
       none_to_own (Some since) None = refl
       none_to_own (Some since) (Some own) = refl
 
-  pub no_frames : (key : IsoKey) (notes : List Note) → list_any (same_iso key) (iso_keys notes) ≡ false → iso_trace k key.addressed key.source notes ≡ []
+  pub no_frames : (key : IsoKey) (notes : List NotedFrame) → list_any (same_iso key) (iso_keys notes) ≡ false → iso_trace k key.addressed key.source notes ≡ []
   no_frames key [] none = no_trace key.addressed key.source
   no_frames key (n ∷ notes) none = by (is_transport n.parts) refl none (λ absent. no_frames key notes absent)
     where
       by : (b : Bool) → is_transport n.parts ≡ b
-          → list_any (same_iso key) (if b then placed same_iso precedes_iso (key_of n.parts) (iso_keys notes) else iso_keys notes) ≡ false
+          → list_any (same_iso key) (if b then with_key same_iso precedes_iso (key_of n.parts) (iso_keys notes) else iso_keys notes) ≡ false
           → (list_any (same_iso key) (iso_keys notes) ≡ false → iso_trace k key.addressed key.source notes ≡ [])
           → iso_trace k key.addressed key.source (n ∷ notes) ≡ []
       by true e absent rest =
@@ -137,13 +137,13 @@ module _ (k : Known) (sound : IsSound k.claims) where
           past key.addressed key.source n notes parts.0 ∙ rest parts.1
       by false e absent rest = past_other key.addressed key.source n notes e ∙ rest absent
 
-module _ (cmp : IsoKey → IsoKey → Ordering) (k : Known) (notes : List Note) (m : ℕ) (slots : SlotMap IsoKey) (h : HoldsIso cmp k notes m slots) where
-  distinct_keys : (ns : List Note) → IsDistinct (eq_by_cmp cmp) (iso_keys ns)
+module _ (cmp : IsoKey → IsoKey → Ordering) (k : Known) (notes : List NotedFrame) (m : ℕ) (slots : SlotMap IsoKey) (h : HoldsIso cmp k notes m slots) where
+  distinct_keys : (ns : List NotedFrame) → IsDistinct (eq_by_cmp cmp) (iso_keys ns)
   unfolding IsDistinct
   distinct_keys [] = tt
   distinct_keys (n ∷ ns) = by (is_transport n.parts) (distinct_keys ns)
     where
-      by : (b : Bool) → IsDistinct (eq_by_cmp cmp) (iso_keys ns) → IsDistinct (eq_by_cmp cmp) (if b then placed same_iso precedes_iso (key_of n.parts) (iso_keys ns) else iso_keys ns)
+      by : (b : Bool) → IsDistinct (eq_by_cmp cmp) (iso_keys ns) → IsDistinct (eq_by_cmp cmp) (if b then with_key same_iso precedes_iso (key_of n.parts) (iso_keys ns) else iso_keys ns)
       by true rest = distinct_placed h.order same_iso precedes_iso h.tells (key_of n.parts) (iso_keys ns) rest
       by false rest = rest
 

@@ -6,15 +6,16 @@ use Rattle.std.proofs.lemmas.Bool.{and_parts, false≢true}
 use Rattle.n2k_id.specs.Frame.{BusFrame}
 use Rattle.n2k_id.specs.Identifier.{parts_of}
 use Rattle.claim_table.specs.Laws.{IsSound}
-use Rattle.slot_views.specs.Runs.{fed, kept_at, open_at}
+use Rattle.slot_views.specs.Runs.{kept_at, open_at}
+use Rattle.slot_views.specs.RunLaws.{fed}
 use Rattle.iso_transport.specs.declared.key.IsoKey.{IsoKey}
 use Rattle.iso_transport.specs.Audience.{key_of}
 use Rattle.iso_transport.specs.IsoRuns.{IsoPiece, iso_rules}
-use Rattle.history.specs.Entries.{Entry, History, IsHistory, now, frame, datagram, tick}
+use Rattle.history.specs.Entries.{History, IsHistory, now, frame, datagram, tick}
 use Rattle.history.specs.Entries as entry
-use Rattle.history.specs.Receiver.{Receiver}
+use Rattle.history.specs.Settings.{Receiver}
 use Rattle.history.specs.Known.{Known, known, is_claim, held_since}
-use Rattle.history.specs.Traces.{Note, iso_piece, iso_trace, is_transport, is_bearing}
+use Rattle.history.specs.Traces.{NotedFrame, iso_piece, iso_trace, is_transport, is_bearing}
 use Rattle.history.specs.Opens.{same_iso, iso_keys, iso_open, open_iso_keys, notes_of}
 use Rattle.history.specs.AddressLaws.{IsReceiver}
 use Rattle.history.specs.KeyLaws.{is_meant, concerns, the_note}
@@ -35,15 +36,15 @@ any_all : (ks : List IsoKey) → AllByRecursion Any ks
 any_all [] = tt
 any_all (k ∷ ks) = (tt, any_all ks)
 
-among_open : (k : Known) → IsSound k.claims → (notes : List Note) (n : ℕ) (key : IsoKey) → is_some (iso_open k notes key n) ≡ true → list_any (same_iso key) (open_iso_keys k notes n) ≡ true
+among_open : (k : Known) → IsSound k.claims → (notes : List NotedFrame) (n : ℕ) (key : IsoKey) → is_some (iso_open k notes key n) ≡ true → list_any (same_iso key) (open_iso_keys k notes n) ≡ true
 among_open k sound notes n key is =
     among_filtered same_iso same_is iso_turn iso_itself (λ x. is_some (iso_open k notes x n)) key (iso_keys notes) is (iso_came k sound notes n key is)
 
-earlier : (k : Known) (notes : List Note) (key : IsoKey) (m n : ℕ) → m ≤ n → is_some (iso_open k notes key n) ≡ true → is_some (iso_open k notes key m) ≡ true
+earlier : (k : Known) (notes : List NotedFrame) (key : IsoKey) (m n : ℕ) → m ≤ n → is_some (iso_open k notes key n) ≡ true → is_some (iso_open k notes key m) ≡ true
 earlier k notes key m n le is = kept_some (iso_rules key.addressed) (iso_open k notes key m) n (sym (ap is_some (iso_ends k notes key m n le)) ∙ is)
 
 -- no more keys are open than before
-no_more : (k l : Known) → IsSound k.claims → (older notes : List Note) (m n limit : ℕ) → ((key : IsoKey) → is_some (iso_open l notes key n) ≡ true → is_some (iso_open k older key m) ≡ true)
+no_more : (k l : Known) → IsSound k.claims → (older notes : List NotedFrame) (m n limit : ℕ) → ((key : IsoKey) → is_some (iso_open l notes key n) ≡ true → is_some (iso_open k older key m) ≡ true)
     → length (open_iso_keys k older m) ≤ limit → length (open_iso_keys l notes n) ≤ limit
 no_more k l sound older notes m n limit was few =
     omega (
@@ -54,7 +55,7 @@ no_more k l sound older notes m n limit was few =
     )
 
 -- a frame that concerns a.claims session is of the transport protocol
-transports : (k : Known) (n : Note) (key : IsoKey) → concerns k.claims n key ≡ true → is_transport n.parts ≡ true
+transports : (k : Known) (n : NotedFrame) (key : IsoKey) → concerns k.claims n key ≡ true → is_transport n.parts ≡ true
 transports k n key e =
     (and_parts (is_transport n.parts) _
     (and_parts (is_meant k.claims.own n key.addressed) (is_bearing key.addressed n)

@@ -1,5 +1,5 @@
 -- A device is isolated: its messages in a history are those in the history of the claims, the commands and its own frames.
-use Rattle.std.proofs.Common.{◌≡◌, ◌<◌, ℕ, Bool, true, false, ◌&&◌, ◌||◌, not, List, [], ◌∷◌, length, map, refl, sym, ap, subst, ◌∙◌, ◌==◌}
+use Rattle.std.proofs.Common.{◌≡◌, ◌<◌, ℕ, Bool, true, false, ◌&&◌, ◌||◌, not, List, [], ◌∷◌, length, map, refl, sym, ap, subst, ◌∙◌, ◌==◌, nat_le}
 use Rattle.std.specs.Prelude.{Option, Some, None, filter, is_some, if◌then◌else◌, option_map}
 use Rattle.std.specs.List.{AllByRecursion}
 use Rattle.std.proofs.lemmas.Bool.{eqb-true, and_parts, false≢true}
@@ -7,24 +7,21 @@ use Rattle.n2k_id.specs.Frame.{BusFrame}
 use Rattle.n2k_id.specs.Identifier.{parts_of}
 use Rattle.claim_table.specs.declared.answer.Holder.{Holder}
 use Rattle.claim_table.specs.declared.answer.ClaimStep.{ClaimStep}
-use Rattle.claim_table.specs.Claims.{is_at, Claims, Claim, Outcome, claim, command, holder_at, is_ready, started}
-use Rattle.claim_table.specs.Presets.{opened, repeats}
+use Rattle.claim_table.specs.Claims.{is_at, Claims, Claim, Outcome, claim, command, holder_at, is_ready, started, claims_at_start, repeats}
 use Rattle.claim_table.specs.declared.preset.Preset.{Preset}
 use Rattle.pgn_profile.specs.declared.kinds.Kind.{Kind}
 use Rattle.pgn_profile.specs.declared.kinds.Kind.TheVariants.{Single, Fast, Outside}
 use Rattle.slot_views.specs.Runs.{run_of, open_at}
 use Rattle.fast_packet.specs.declared.key.FastKey.{FastKey}
-use Rattle.fast_packet.specs.FastRuns.{FastPiece, fast_rules}
-use Rattle.iso_transport.specs.Audience.{key_of, bears, is_data}
-use Rattle.iso_transport.specs.IsoRuns.{IsoPiece, iso_rules}
+use Rattle.fast_packet.specs.FastRuns.{FastPiece, fast_rules, is_opener}
+use Rattle.iso_transport.specs.Audience.{key_of, is_data}
+use Rattle.iso_transport.specs.IsoRuns.{IsoPiece, iso_rules, is_opener as iso_opener}
 use Rattle.iso_transport.specs.declared.key.IsoKey.{IsoKey}
 use Rattle.history.specs.Entries.{Entry, History, frame, datagram, tick}
 use Rattle.history.specs.Entries as entry
-use Rattle.history.specs.Receiver.{Receiver}
+use Rattle.history.specs.Settings.{Receiver}
 use Rattle.history.specs.Known.{Known, known, is_claim, claim_by, held_since}
-use Rattle.fast_packet.specs.FastFrames.{is_opener}
-use Rattle.iso_transport.specs.IsoRuns.{is_opener as iso_opener}
-use Rattle.history.specs.Traces.{Note, fast_piece, fast_trace, iso_piece, iso_trace, is_transport, is_bearing}
+use Rattle.history.specs.Traces.{NotedFrame, fast_piece, fast_trace, iso_piece, iso_trace, is_transport, is_bearing, bears_upon}
 use Rattle.history.specs.Opens.{is_fast, notes_of, fast_open, iso_open}
 use Rattle.history.specs.Messages.{Message, Carried, messages_of, said_by, with_message, completed_by, by_kind, by_session, fast_carried, iso_carried}
 use Rattle.history.specs.AddressLaws.{IsReceiver}
@@ -56,17 +53,17 @@ pub record Alike (c d : Receiver) (s a : ℕ) (h g : History) : Type 0 where
 
 -- ---- a claim
 
-claim_is_neither : (c : Receiver) → IsReceiver c → (n : Note) → n.parts.pgn ≡ 60928 → (is_fast (c.kinds n.parts.pgn) ≡ false) × (is_transport n.parts ≡ false)
+claim_is_neither : (c : Receiver) → IsReceiver c → (n : NotedFrame) → n.parts.pgn ≡ 60928 → (is_fast (c.kinds n.parts.pgn) ≡ false) × (is_transport n.parts ≡ false)
 claim_is_neither c are n e = (rw e (ap is_fast are.claims), rw e refl)
 
-claim_is_no_kind : (c : Receiver) → IsReceiver c → (a : ℕ) (n : Note) → n.parts.pgn ≡ 60928 → IsOwnKind c.kinds a n
+claim_is_no_kind : (c : Receiver) → IsReceiver c → (a : ℕ) (n : NotedFrame) → n.parts.pgn ≡ 60928 → IsOwnKind c.kinds a n
 claim_is_no_kind c are a n e = λ kind. let neither = claim_is_neither c are n e in absurd (false≢true (sym (rw (neither.0, neither.1) refl) ∙ kind))
 
-claim_is_no_opener : (c : Receiver) → IsReceiver c → (a : ℕ) (k : Known) (n : Note) → n.parts.pgn ≡ 60928 → FindsRoom c.kinds a k.claims n
+claim_is_no_opener : (c : Receiver) → IsReceiver c → (a : ℕ) (k : Known) (n : NotedFrame) → n.parts.pgn ≡ 60928 → FindsRoom c.kinds a k.claims n
 claim_is_no_opener c are a k n e = λ source opening.
     let neither = claim_is_neither c are n e in
     absurd (false≢true (sym (closed (is_some (held_since k.claims.holders n.parts.source)) (is_fast (c.kinds n.parts.pgn)) (is_opener n.bytes) (n.parts.source == n.parts.source) (is_meant k.claims.own n (key_of n.parts).addressed) (is_transport n.parts)
-    (bears (key_of n.parts).addressed (is_data n.parts) n.bytes && (is_data n.parts || (not (control_at n.bytes == 16) || n.ready))) (iso_opener (key_of n.parts).addressed (iso_piece n)) neither.0 neither.1) ∙ opening))
+    (is_data n.parts || (nat_le 8 (length n.bytes) && bears_upon (key_of n.parts).addressed n.ready (control_at n.bytes))) (iso_opener (key_of n.parts).addressed (iso_piece n)) neither.0 neither.1) ∙ opening))
   where
     closed : (held fast first own meant transport bearing opener : Bool) → fast ≡ false → transport ≡ false
         → ((held && (fast && first)) || ((held && (own && (meant && (transport && bearing)))) && opener)) ≡ false
@@ -208,10 +205,10 @@ said_same a i j m src (Some x) (Some y) v (Some w) t u e f same = rw f (by (src 
     by true = ap (λ (z : ℕ). made z ∷ from a t) names ∙ ap (λ (z : List Plain). made y.name.0 ∷ z) same
     by false = same
 
-abbrev own_trace : Known → Note → List Note → List FastPiece
+abbrev own_trace : Known → NotedFrame → List NotedFrame → List FastPiece
 own_trace k n older = fast_trace k.claims.holders n.parts.source n.parts.pgn (n ∷ older)
 
-not_session : (kinds : ℕ → Kind) (k : Known) (n : Note) (older : List Note) → is_transport n.parts ≡ false → completed_by kinds k n older ≡ by_kind (kinds n.parts.pgn) n (own_trace k n older)
+not_session : (kinds : ℕ → Kind) (k : Known) (n : NotedFrame) (older : List NotedFrame) → is_transport n.parts ≡ false → completed_by kinds k n older ≡ by_kind (kinds n.parts.pgn) n (own_trace k n older)
 not_session kinds k n older e = rw e refl
 
 module _ (c d : Receiver) (s a : ℕ) (h g : History) (m : ℕ) (f : BusFrame) (are : IsReceiver c) (too : IsReceiver d) (alike : Alike c d s a h g) (other : is_claim f ≡ false)
@@ -248,7 +245,7 @@ module _ (c d : Receiver) (s a : ℕ) (h g : History) (m : ℕ) (f : BusFrame) (
 
   bearing_same : (addressed : Bool) → is_bearing addressed (the_note c s h m f) ≡ is_bearing addressed (the_note d s g m f)
   bearing_same addressed =
-      ap (λ (b : Bool). is_transport (parts_of f.id) && (bears addressed (is_data (parts_of f.id)) f.held && (is_data (parts_of f.id) || (not (control_at f.held == 16) || b)))) ready_same
+      ap (λ (b : Bool). is_transport (parts_of f.id) && (is_data (parts_of f.id) || (nat_le 8 (length f.held) && bears_upon addressed b (control_at f.held)))) ready_same
 
   concerns_same : (addressed : Bool) → concerns (known c s h).claims (the_note c s h m f) (record { addressed = addressed; source = a }) ≡ concerns (known d s g).claims (the_note d s g m f) (record { addressed = addressed; source = a })
   concerns_same addressed =
@@ -410,7 +407,7 @@ dropped a i m src None w t e = refl
 dropped a i m src (Some x) None t e = refl
 dropped a i m src (Some x) (Some w) t e = rw e refl
 
-not_concerned : (k : Known) (n : Note) (a : ℕ) (addressed : Bool) → (n.parts.source == a) ≡ false → concerns k.claims n (record { addressed = addressed; source = a }) ≡ false
+not_concerned : (k : Known) (n : NotedFrame) (a : ℕ) (addressed : Bool) → (n.parts.source == a) ≡ false → concerns k.claims n (record { addressed = addressed; source = a }) ≡ false
 not_concerned k n a addressed e = rw e (and_no (is_some (held_since k.claims.holders a)))
   where
     and_no : (x : Bool) → (x && false) ≡ false
@@ -547,7 +544,7 @@ alike_start c d s name address presets =
     ap (λ (x : ℕ). begun x c.address c.presets) (sym name) ∙ ap (λ (x : ℕ). begun d.name x c.presets) (sym address) ∙ ap (begun d.name d.address) (sym presets)
   where
     begun : ℕ → ℕ → List Preset → Known
-    begun name address presets = record { claims = started (opened name address presets) s; own_since = 0 }
+    begun name address presets = record { claims = started (claims_at_start name address presets) s; own_since = 0 }
 
 pub isolation_of_two : IsolationOfTwo
 isolation_of_two c d s h g a are name address presets kinds same rooms_h rooms_g =

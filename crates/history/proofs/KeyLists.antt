@@ -11,7 +11,7 @@ use Rattle.std.specs.declared.cmp.Ordering.TheVariants.{Less, Equal, Greater}
 use Rattle.std.proofs.lemmas.Bool.{and_parts, false≢true}
 use Rattle.slot_views.specs.Slots.{Entry, SlotMap, IsOrdered, entry_at}
 use Rattle.slot_views.proofs.Tied.{same_itself}
-use Rattle.history.specs.Opens.{inserted, placed}
+use Rattle.history.specs.Opens.{inserted, with_key}
 use Rattle.history.proofs.Counts.{Held, all_inserted, any_tells, or_parts, filter_twice}
 use Rattle.history.proofs.Fewer.{among_filtered}
 
@@ -48,7 +48,7 @@ module _ {K : Type 0} (cmp : K → K → Ordering) (o : IsTotalOrder cmp) where
         by Equal e is other rest = let here : same k x ≡ true = sym (tells k x) ∙ rw e refl in absurd (false≢true (sym other ∙ here))
         by Greater e is other rest = rw (is, e) (all_inserted (λ d. cmp x d ≡ Less) before k ks (greater_turned k x e) sorted.0, rest)
 
-    pub sorted_placed : (k : K) (ks : List K) → IsSorted ks → IsSorted (placed same before k ks)
+    pub sorted_placed : (k : K) (ks : List K) → IsSorted ks → IsSorted (with_key same before k ks)
     sorted_placed k ks sorted = by (list_any (same k) ks) refl
       where
         by : (b : Bool) → list_any (same k) ks ≡ b → IsSorted (if b then ks else inserted before k ks)

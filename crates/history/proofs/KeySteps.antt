@@ -8,16 +8,16 @@ use Rattle.n2k_id.specs.Identifier.{parts_of}
 use Rattle.claim_table.specs.declared.answer.Holder.{Holder}
 use Rattle.claim_table.specs.Claims.{IsSinceBy, holder_at}
 use Rattle.pgn_profile.specs.declared.kinds.Kind.TheVariants.{Fast, Outside}
-use Rattle.slot_views.specs.Runs.{fed, finished, kept_at, open_at, run_of}
-use Rattle.slot_views.specs.RunLaws.{OneStep}
+use Rattle.slot_views.specs.Runs.{kept_at, open_at, run_of}
+use Rattle.slot_views.specs.RunLaws.{fed, finished, OneStep}
 use Rattle.slot_views.proofs.RunSteps.{one_step_of}
 use Rattle.fast_packet.specs.FastRuns.{FastPiece, fast_rules}
 use Rattle.fast_packet.proofs.Lawful.{lawful}
 use Rattle.fast_packet.specs.declared.key.FastKey.{FastKey}
 use Rattle.history.specs.Entries.{History, frame}
-use Rattle.history.specs.Receiver.{Receiver}
+use Rattle.history.specs.Settings.{Receiver}
 use Rattle.history.specs.Known.{Known, known, is_claim, held_since}
-use Rattle.history.specs.Traces.{Note, fast_piece, fast_trace, fast_trace_since, is_transport}
+use Rattle.history.specs.Traces.{NotedFrame, fast_piece, fast_trace, fast_trace_since, is_transport}
 use Rattle.history.specs.Opens.{same_fast, fast_open, notes_of}
 use Rattle.history.specs.Messages.{said_by, completed_by, fast_carried}
 use Rattle.history.specs.AddressLaws.{IsReceiver}
@@ -51,11 +51,11 @@ pub known_same : (c : Receiver) (s : ℕ) (h : History) (m : ℕ) (f : BusFrame)
 known_same c s h m f e = rw e refl
 
 -- the frame is one of its own key
-own_piece : (a p since : ℕ) (n : Note) (notes : List Note) → n.parts.source ≡ a → n.parts.pgn ≡ p → since ≤ n.index
+own_piece : (a p since : ℕ) (n : NotedFrame) (notes : List NotedFrame) → n.parts.source ≡ a → n.parts.pgn ≡ p → since ≤ n.index
     → fast_trace_since (Some since) a p (n ∷ notes) ≡ fast_piece n ∷ fast_trace_since (Some since) a p notes
 own_piece a p since n notes source pgn le = rw (source, pgn, eq-eqb a a refl, eq-eqb p p refl, le-leb since n.index le) refl
 
-completed_fast : (c : Receiver) → IsReceiver c → (k : Known) (n : Note) (older : List Note) → c.kinds n.parts.pgn ≡ Fast
+completed_fast : (c : Receiver) → IsReceiver c → (k : Known) (n : NotedFrame) (older : List NotedFrame) → c.kinds n.parts.pgn ≡ Fast
     → completed_by c.kinds k n older ≡ fast_carried n.parts.pgn (run_of fast_rules (fast_trace k.claims.holders n.parts.source n.parts.pgn (n ∷ older)))
 completed_fast c are k n older e = rw (no_transport c are n.parts e, e) refl
 
@@ -98,7 +98,7 @@ fast_steps c s h m f x are fast holds = step c s h m f x are fast holds
 
 -- ---- other keys
 
-pub other_piece : (since : Option ℕ) (a p : ℕ) (n : Note) (notes : List Note) → ((n.parts.source == a) && (n.parts.pgn == p)) ≡ false
+pub other_piece : (since : Option ℕ) (a p : ℕ) (n : NotedFrame) (notes : List NotedFrame) → ((n.parts.source == a) && (n.parts.pgn == p)) ≡ false
     → fast_trace_since since a p (n ∷ notes) ≡ fast_trace_since since a p notes
 other_piece None a p n notes e = refl
 other_piece (Some since) a p n notes e = rw (unlike (n.parts.source == a) (nat_le since n.index) (n.parts.pgn == p) e) refl

@@ -3,7 +3,8 @@ use Rattle.std.proofs.Common.{◌≡◌, ℕ, suc, ◌≤◌, Bool, true, false,
 use Rattle.std.specs.Prelude.{Option, Some, None, filter, if◌then◌else◌}
 use Rattle.std.specs.List.{AllByRecursion, list_any}
 use Rattle.std.proofs.lemmas.Bool.{false≢true, ltb-true}
-use Rattle.slot_views.specs.Runs.{Rules, if_open, kept_at, fed, fed_later, open_at}
+use Rattle.slot_views.specs.Runs.{Rules, if_open, kept_at, open_at}
+use Rattle.slot_views.specs.RunLaws.{fed, fed_later}
 use Rattle.history.proofs.Fewer.{Apart, apart_filtered, no_longer, among_filtered}
 
 -- ---- a run that is open later was open before

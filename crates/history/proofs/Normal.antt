@@ -3,8 +3,8 @@ use Rattle.std.proofs.Common.{◌≡◌, ℕ, Bool, true, false, ◌&&◌, not, 
 use Rattle.std.specs.Prelude.{Option, Some, None, if◌then◌else◌, option_map}
 use Rattle.std.specs.List.{AllByRecursion}
 use Rattle.std.proofs.lemmas.List.{length-map}
-use Rattle.slot_views.specs.Runs.{Rules, opener_of, is_whole, is_admitted, in_time, if_open, if_whole, kept_at, fed, fed_later, finished, finished_later, open_of, open_at, run_of}
-use Rattle.slot_views.specs.RunLaws.{OneStep}
+use Rattle.slot_views.specs.Runs.{Rules, opener_of, is_whole, is_admitted, in_time, if_open, if_whole, kept_at, open_of, open_at, run_of}
+use Rattle.slot_views.specs.RunLaws.{fed, fed_later, finished, finished_later, OneStep}
 
 -- a change of pieces that the rules don't see, and after which all found room
 pub record IsUnseen {X : Type 0} (r : Rules X) (norm : X → X) : Type 0 where

@@ -10,16 +10,15 @@ use Rattle.source_choice.specs.declared.rank.Rank.{Rank}
 use Rattle.source_choice.specs.Notes.{RowNotes, AreFrom, note_of, outranks, is_fresh}
 use Rattle.source_choice.specs.Ranks.{is_before}
 use Rattle.readings.specs.Rows.{row_of}
-use Rattle.history.specs.Settings.{Settings, RowRule, rule_of}
-use Rattle.history.specs.Heard.{same_text, place_of}
+use Rattle.history.specs.Settings.{Settings, RowRule, rule_of, same_text}
+use Rattle.history.specs.Heard.{place_of}
 use Rattle.history.specs.NetReadings.{NetReading, net_rank, last_heard, counts_still, is_net_fresh, is_net_first}
 use Rattle.history.specs.Messages.{Message}
 use Rattle.history.specs.Choice as choice
-use Rattle.history.specs.Choice.{is_better, is_row, is_usable, reading_of, holder_rank, still_counts}
-use Rattle.history.specs.FreshLaws.{last_of}
-use Rattle.history.specs.ChoiceLaws.{beats, noted_with, HoldsNotes, FirstByNotes, net_noted, HoldsNetNotes, FirstNetByNotes}
+use Rattle.history.specs.Choice.{is_better, is_row, is_usable, reading_of, holder_rank, still_counts, last_of}
+use Rattle.history.specs.ChoiceLaws.{noted_with, HoldsNotes, FirstByNotes, net_noted, HoldsNetNotes, FirstNetByNotes}
 use Rattle.history.proofs.GroupCounts.{text_is}
-use Rattle.history.proofs.ChoiceSteps.{both_ways, or_right, some_one, found_any, same_test, has_sent}
+use Rattle.history.proofs.ChoiceSteps.{both_ways, or_right, some_one, found_any, has_sent}
 use Rattle.claim_table.specs.declared.answer.Holder.{Holder}
 
 -- a note of the list is the one of its source
@@ -99,8 +98,7 @@ module _ (rule : RowRule) (holders : List (Option Holder)) (row : Row) (older : 
   from e =
       let one = some_one (λ d. choice.outranks rule holders row rank m older d.source) older e in
       let a = one.0.source in
-      let beaten : beats rule holders row rank m older a ≡ true = sym (same_test rule holders row rank m older a) ∙ one.1 in
-      let parts = and_parts (is_better rank (holder_rank rule (holder_at holders a))) (still_counts rule.timeout m (last_of holders row a older)) beaten in
+      let parts = and_parts (is_better rank (holder_rank rule (holder_at holders a))) (still_counts rule.timeout m (last_of holders row a older)) one.1 in
       let n = noted a (holder_rank rule (holder_at holders a)) (last_of holders row a older) parts.0 parts.1 in
       let is = says n.0 a (holder_rank rule (holder_at holders a)) (last_of holders row a older) n.1 in
       let before : is_before n.0.rank rank ≡ true = sym (ap (is_better rank) is.0) ∙ parts.0 in

@@ -4,9 +4,9 @@ use Rattle.std.specs.Prelude.{find, Some}
 use Rattle.std.proofs.lemmas.Bool.{eq-eqb, ne_eqb}
 use Rattle.n2k_id.specs.Frame.{BusFrame}
 use Rattle.history.specs.Entries.{Entry, History, frame, datagram, tick, command}
-use Rattle.history.specs.Receiver.{Receiver}
+use Rattle.history.specs.Settings.{Receiver}
 use Rattle.history.specs.Known.{known}
-use Rattle.history.specs.Traces.{Note}
+use Rattle.history.specs.Traces.{NotedFrame}
 use Rattle.history.specs.Opens.{note_of, notes_of}
 use Rattle.history.specs.NoteLaws.{FramesAreNoted}
 
@@ -15,7 +15,7 @@ longer [] e older = omega arith
 longer (x ∷ newer) e older = let more = longer newer e older in omega (arith, more)
 
 module _ (r : Receiver) (s : ℕ) (older : History) (m : ℕ) (f : BusFrame) where
-  abbrev one : Note
+  abbrev one : NotedFrame
   one = note_of r (length older) (known r s older) (notes_of r s older) m f
 
   there : (newer : History) → find (λ n. n.index == length older) (notes_of r s (newer ++ frame m f ∷ older)) ≡ Some one

@@ -2,12 +2,12 @@
 use Rattle.std.proofs.Common.{◌≡◌, ℕ, Bool, true, false, ◌&&◌, ◌||◌, not, ◌==◌, nat_le, nat_lt, List, [], ◌∷◌, length, is_some, is_none, refl, sym, ap, ◌∙◌, arith}
 use Rattle.std.specs.Prelude.{Option, Some, None, if◌then◌else◌, slice_index}
 use Rattle.std.proofs.lemmas.Bool.{eqb-true, ne_eqb, leb-true, ltb-true, le-ltb, lt-leb, and_parts, false≢true}
-use Rattle.slot_views.specs.Runs.{Rules, IsLawful, is_admitted, is_whole, if_open, if_whole, open_at}
+use Rattle.slot_views.specs.Runs.{Rules, is_admitted, is_whole, if_open, if_whole, open_at}
+use Rattle.slot_views.specs.RunLaws.{IsLawful}
 use Rattle.slot_views.proofs.RunSuffixes.{one_suffix_of}
 use Rattle.fast_packet.specs.declared.answers.FastRefusal.{FastRefusal}
 use Rattle.fast_packet.specs.declared.answers.FastRefusal.TheVariants.{Order, Length}
-use Rattle.fast_packet.specs.FastFrames.{counter_of, is_opener, is_no_later}
-use Rattle.fast_packet.specs.FastRuns.{FastPiece, fast_rules, is_next, is_repeat, is_awaited}
+use Rattle.fast_packet.specs.FastRuns.{counter_of, is_opener, is_no_later, FastPiece, fast_rules, is_next, is_repeat, is_awaited}
 use Rattle.fast_packet.specs.Keys.{refused}
 use Rattle.fast_packet.proofs.Lawful.{lawful, no_next, no_repeat}
 use Rattle.fast_packet.proofs.Assemblies.{counter_zero}
@@ -15,13 +15,10 @@ use Rattle.iso_transport.specs.declared.connection.Cm.TheVariants.{Rts, Bam, Abo
 use Rattle.iso_transport.specs.declared.session.Session.{Session}
 use Rattle.iso_transport.specs.declared.answers.IsoRefusal.TheVariants as refusal
 use Rattle.iso_transport.specs.declared.verdict.Verdict.TheVariants.{Refused}
-use Rattle.iso_transport.specs.Connection.{control_at, size_at, packets_at, limit_at, pgn_at}
-use Rattle.iso_transport.specs.Cm.{cm_of}
-use Rattle.iso_transport.specs.Sessions.{is_size, opens, announced}
+use Rattle.iso_transport.specs.Connection.{control_at, size_at, packets_at, limit_at, pgn_at, cm_of}
+use Rattle.iso_transport.specs.IsoRuns.{is_size, opens, announced, IsoPiece, iso_rules, end_of, pgn_of, left_of_run}
 use Rattle.iso_transport.specs.IsoRuns as iso
-use Rattle.iso_transport.specs.IsoRuns.{IsoPiece, iso_rules, end_of, session_of, pgn_of, left_of_run}
-use Rattle.iso_transport.specs.Audience.{bears}
-use Rattle.iso_transport.specs.Verdicts.{sized_verdict, kind_verdict, management_verdict}
+use Rattle.iso_transport.specs.Verdicts.{bears, sized_verdict, kind_verdict, management_verdict}
 use Rattle.iso_transport.specs.RunVerdicts.{run_verdict, packet_run_verdict}
 use Rattle.iso_transport.proofs.Lawful as iso_lawful
 use Rattle.iso_transport.proofs.Lawful.{and_false}

@@ -13,8 +13,8 @@ use Rattle.iso_transport.specs.Audience.{key_of}
 use Rattle.iso_transport.specs.IsoRuns.{IsoPiece, iso_rules}
 use Rattle.claim_table.specs.Laws.{IsSound}
 use Rattle.history.specs.Known.{Known, held_since}
-use Rattle.history.specs.Traces.{Note, fast_trace, is_transport}
-use Rattle.history.specs.Opens.{placed, is_fast, same_fast, precedes_fast, fast_keys, fast_open, open_fast_keys, is_fast_admitted, same_iso, precedes_iso, iso_keys, iso_open, open_iso_keys, is_iso_admitted}
+use Rattle.history.specs.Traces.{NotedFrame, fast_trace, is_transport}
+use Rattle.history.specs.Opens.{with_key, is_fast, same_fast, precedes_fast, fast_keys, fast_open, open_fast_keys, is_fast_admitted, same_iso, precedes_iso, iso_keys, iso_open, open_iso_keys, is_iso_admitted}
 use Rattle.history.proofs.KeySteps.{eqb-sym}
 use Rattle.history.proofs.Counts.{all_placed}
 use Rattle.history.proofs.FastCounts as fast
@@ -23,7 +23,7 @@ use Rattle.history.proofs.Fewer.{Apart, apart_placed, apart_filtered, among_filt
 use Rattle.claim_table.specs.declared.answer.Holder.{Holder}
 
 -- a frame of a fast packet or of the transport protocol is the device's
-abbrev pub IsOwnKind : (ℕ → Kind) → ℕ → Note → Type 0
+abbrev pub IsOwnKind : (ℕ → Kind) → ℕ → NotedFrame → Type 0
 IsOwnKind kinds a n = (is_fast (kinds n.parts.pgn) || is_transport n.parts) ≡ true → (n.parts.source == a) ≡ true
 
 or_true : (b : Bool) → (b || true) ≡ true
@@ -44,28 +44,28 @@ fast_turn a b = rw (eqb-sym a.source b.source, eqb-sym a.pgn b.pgn) refl
 pub fast_itself : (a : FastKey) → same_fast a a ≡ true
 fast_itself a = rw (eq-eqb a.source a.source refl, eq-eqb a.pgn a.pgn refl) refl
 
-pub fast_apart : (kinds : ℕ → Kind) (notes : List Note) → Apart same_fast fast.same_is fast_turn fast_itself (fast_keys kinds notes)
+pub fast_apart : (kinds : ℕ → Kind) (notes : List NotedFrame) → Apart same_fast fast.same_is fast_turn fast_itself (fast_keys kinds notes)
 fast_apart kinds [] = tt
 fast_apart kinds (n ∷ notes) = by (is_fast (kinds n.parts.pgn)) (fast_apart kinds notes)
   where
     by : (b : Bool) → Apart same_fast fast.same_is fast_turn fast_itself (fast_keys kinds notes)
-        → Apart same_fast fast.same_is fast_turn fast_itself (if b then placed same_fast precedes_fast (record { source = n.parts.source; pgn = n.parts.pgn }) (fast_keys kinds notes) else fast_keys kinds notes)
+        → Apart same_fast fast.same_is fast_turn fast_itself (if b then with_key same_fast precedes_fast (record { source = n.parts.source; pgn = n.parts.pgn }) (fast_keys kinds notes) else fast_keys kinds notes)
     by true rest = apart_placed same_fast fast.same_is fast_turn fast_itself precedes_fast (record { source = n.parts.source; pgn = n.parts.pgn }) (fast_keys kinds notes) rest
     by false rest = rest
 
 abbrev IsFastOf : (ℕ → Kind) → ℕ → FastKey → Type 0
 IsFastOf kinds a key = ((key.source == a) ≡ true) × (is_fast (kinds key.pgn) ≡ true)
 
-fast_own : (kinds : ℕ → Kind) (a : ℕ) (notes : List Note) → AllByRecursion (IsOwnKind kinds a) notes → AllByRecursion (IsFastOf kinds a) (fast_keys kinds notes)
+fast_own : (kinds : ℕ → Kind) (a : ℕ) (notes : List NotedFrame) → AllByRecursion (IsOwnKind kinds a) notes → AllByRecursion (IsFastOf kinds a) (fast_keys kinds notes)
 fast_own kinds a [] all = tt
 fast_own kinds a (n ∷ notes) all = by (is_fast (kinds n.parts.pgn)) refl (fast_own kinds a notes all.1)
   where
     by : (b : Bool) → is_fast (kinds n.parts.pgn) ≡ b → AllByRecursion (IsFastOf kinds a) (fast_keys kinds notes)
-        → AllByRecursion (IsFastOf kinds a) (if b then placed same_fast precedes_fast (record { source = n.parts.source; pgn = n.parts.pgn }) (fast_keys kinds notes) else fast_keys kinds notes)
+        → AllByRecursion (IsFastOf kinds a) (if b then with_key same_fast precedes_fast (record { source = n.parts.source; pgn = n.parts.pgn }) (fast_keys kinds notes) else fast_keys kinds notes)
     by true e rest = all_placed (IsFastOf kinds a) same_fast precedes_fast (record { source = n.parts.source; pgn = n.parts.pgn }) (fast_keys kinds notes) (all.0 (true_or (is_fast (kinds n.parts.pgn)) (is_transport n.parts) e), e) rest
     by false e rest = rest
 
-pub fast_came : (kinds : ℕ → Kind) (holders : List (Option Holder)) (notes : List Note) (m : ℕ) (key : FastKey) → is_fast (kinds key.pgn) ≡ true → is_some (fast_open holders notes key m) ≡ true → list_any (same_fast key) (fast_keys kinds notes) ≡ true
+pub fast_came : (kinds : ℕ → Kind) (holders : List (Option Holder)) (notes : List NotedFrame) (m : ℕ) (key : FastKey) → is_fast (kinds key.pgn) ≡ true → is_some (fast_open holders notes key m) ≡ true → list_any (same_fast key) (fast_keys kinds notes) ≡ true
 fast_came kinds holders notes m key kind is_open = by (list_any (same_fast key) (fast_keys kinds notes)) refl
   where
     by : (b : Bool) → list_any (same_fast key) (fast_keys kinds notes) ≡ b → list_any (same_fast key) (fast_keys kinds notes) ≡ true
@@ -76,7 +76,7 @@ fast_came kinds holders notes m key kind is_open = by (list_any (same_fast key) 
         absurd (false≢true (sym closed ∙ is_open))
 
 -- what is open of the device in one is open in the other
-module _ (kinds : ℕ → Kind) (a : ℕ) (holders others : List (Option Holder)) (notes kept : List Note) (m : ℕ) (own : AllByRecursion (IsOwnKind kinds a) kept)
+module _ (kinds : ℕ → Kind) (a : ℕ) (holders others : List (Option Holder)) (notes kept : List NotedFrame) (m : ℕ) (own : AllByRecursion (IsOwnKind kinds a) kept)
     (opens : (key : FastKey) → IsFastOf kinds a key → is_some (fast_open others kept key m) ≡ is_some (fast_open holders notes key m)) where
   fast_among : (key : FastKey) (ks : List FastKey) → AllByRecursion (IsFastOf kinds a) ks
       → AllByRecursion (λ x. list_any (same_fast x) (filter (λ other. not (same_fast other key)) (open_fast_keys kinds holders notes m)) ≡ true)
@@ -118,26 +118,26 @@ both_itself false = refl
 pub iso_itself : (a : IsoKey) → same_iso a a ≡ true
 iso_itself a = rw (both_itself a.addressed, eq-eqb a.source a.source refl) refl
 
-pub iso_apart : (notes : List Note) → Apart same_iso iso.same_is iso_turn iso_itself (iso_keys notes)
+pub iso_apart : (notes : List NotedFrame) → Apart same_iso iso.same_is iso_turn iso_itself (iso_keys notes)
 iso_apart [] = tt
 iso_apart (n ∷ notes) = by (is_transport n.parts) (iso_apart notes)
   where
-    by : (b : Bool) → Apart same_iso iso.same_is iso_turn iso_itself (iso_keys notes) → Apart same_iso iso.same_is iso_turn iso_itself (if b then placed same_iso precedes_iso (key_of n.parts) (iso_keys notes) else iso_keys notes)
+    by : (b : Bool) → Apart same_iso iso.same_is iso_turn iso_itself (iso_keys notes) → Apart same_iso iso.same_is iso_turn iso_itself (if b then with_key same_iso precedes_iso (key_of n.parts) (iso_keys notes) else iso_keys notes)
     by true rest = apart_placed same_iso iso.same_is iso_turn iso_itself precedes_iso (key_of n.parts) (iso_keys notes) rest
     by false rest = rest
 
 abbrev IsIsoOf : ℕ → IsoKey → Type 0
 IsIsoOf a key = (key.source == a) ≡ true
 
-iso_own : (kinds : ℕ → Kind) (a : ℕ) (notes : List Note) → AllByRecursion (IsOwnKind kinds a) notes → AllByRecursion (IsIsoOf a) (iso_keys notes)
+iso_own : (kinds : ℕ → Kind) (a : ℕ) (notes : List NotedFrame) → AllByRecursion (IsOwnKind kinds a) notes → AllByRecursion (IsIsoOf a) (iso_keys notes)
 iso_own kinds a [] all = tt
 iso_own kinds a (n ∷ notes) all = by (is_transport n.parts) refl (iso_own kinds a notes all.1)
   where
-    by : (b : Bool) → is_transport n.parts ≡ b → AllByRecursion (IsIsoOf a) (iso_keys notes) → AllByRecursion (IsIsoOf a) (if b then placed same_iso precedes_iso (key_of n.parts) (iso_keys notes) else iso_keys notes)
+    by : (b : Bool) → is_transport n.parts ≡ b → AllByRecursion (IsIsoOf a) (iso_keys notes) → AllByRecursion (IsIsoOf a) (if b then with_key same_iso precedes_iso (key_of n.parts) (iso_keys notes) else iso_keys notes)
     by true e rest = all_placed (IsIsoOf a) same_iso precedes_iso (key_of n.parts) (iso_keys notes) (all.0 (rw e (or_true (is_fast (kinds n.parts.pgn))))) rest
     by false e rest = rest
 
-pub iso_came : (k : Known) → IsSound k.claims → (notes : List Note) (m : ℕ) (key : IsoKey) → is_some (iso_open k notes key m) ≡ true → list_any (same_iso key) (iso_keys notes) ≡ true
+pub iso_came : (k : Known) → IsSound k.claims → (notes : List NotedFrame) (m : ℕ) (key : IsoKey) → is_some (iso_open k notes key m) ≡ true → list_any (same_iso key) (iso_keys notes) ≡ true
 iso_came k sound notes m key is_open = by (list_any (same_iso key) (iso_keys notes)) refl
   where
     by : (b : Bool) → list_any (same_iso key) (iso_keys notes) ≡ b → list_any (same_iso key) (iso_keys notes) ≡ true
@@ -146,7 +146,7 @@ iso_came k sound notes m key is_open = by (list_any (same_iso key) (iso_keys not
         let closed : is_some (iso_open k notes key m) ≡ false = ap (λ (t : List IsoPiece). is_some (open_at (iso_rules key.addressed) t m)) (iso.no_frames k sound key notes e) in
         absurd (false≢true (sym closed ∙ is_open))
 
-module _ (kinds : ℕ → Kind) (a : ℕ) (k l : Known) (sound : IsSound k.claims) (notes kept : List Note) (m : ℕ) (own : AllByRecursion (IsOwnKind kinds a) kept)
+module _ (kinds : ℕ → Kind) (a : ℕ) (k l : Known) (sound : IsSound k.claims) (notes kept : List NotedFrame) (m : ℕ) (own : AllByRecursion (IsOwnKind kinds a) kept)
     (opens : (key : IsoKey) → IsIsoOf a key → is_some (iso_open l kept key m) ≡ is_some (iso_open k notes key m)) where
   iso_among : (key : IsoKey) (ks : List IsoKey) → AllByRecursion (IsIsoOf a) ks
       → AllByRecursion (λ x. list_any (same_iso x) (filter (λ other. not (same_iso other key)) (open_iso_keys k notes m)) ≡ true)

@@ -10,17 +10,15 @@ use Rattle.claim_table.specs.Laws.{IsSound}
 use Rattle.pgn_profile.specs.declared.kinds.Kind.{Kind}
 use Rattle.pgn_profile.specs.declared.kinds.Kind.TheVariants.{Fast, Outside}
 use Rattle.slot_views.specs.Runs.{Rules}
-use Rattle.fast_packet.specs.FastFrames.{is_opener}
-use Rattle.fast_packet.specs.FastRuns.{fast_rules}
+use Rattle.fast_packet.specs.FastRuns.{is_opener, fast_rules}
 use Rattle.iso_transport.specs.Audience.{key_of}
-use Rattle.iso_transport.specs.IsoRuns.{iso_rules}
-use Rattle.iso_transport.specs.IsoRuns.{is_opener as iso_opener}
+use Rattle.iso_transport.specs.IsoRuns.{iso_rules, is_opener as iso_opener}
 use Rattle.iso_transport.specs.declared.key.IsoKey.{IsoKey}
-use Rattle.history.specs.Entries.{Entry, History, frame, datagram, tick}
+use Rattle.history.specs.Entries.{History, frame, datagram, tick}
 use Rattle.history.specs.Entries as entry
-use Rattle.history.specs.Receiver.{Receiver}
+use Rattle.history.specs.Settings.{Receiver}
 use Rattle.history.specs.Known.{Known, known, is_claim, held_since}
-use Rattle.history.specs.Traces.{Note, fast_piece, fast_trace, fast_trace_since, iso_piece, iso_trace, broadcast_since, addressed_since, is_bearing}
+use Rattle.history.specs.Traces.{NotedFrame, fast_piece, fast_trace, fast_trace_since, iso_piece, iso_trace, broadcast_since, addressed_since, is_bearing}
 use Rattle.history.specs.Opens.{is_fast, notes_of}
 use Rattle.history.specs.AddressLaws.{IsReceiver}
 use Rattle.history.specs.KeyLaws.{is_meant, concerns, the_note}
@@ -51,7 +49,7 @@ not_claims_pgn c are p fast e = let two : Outside ≡ Fast = sym are.claims ∙ 
 
 -- ---- the fast frames of a source, with one more
 
-pub fast_head : (k : Known) (a p : ℕ) (n : Note) (notes : List Note) → (n.parts.source == a) ≡ true → IsLate (held_since k.claims.holders a) n.index
+pub fast_head : (k : Known) (a p : ℕ) (n : NotedFrame) (notes : List NotedFrame) → (n.parts.source == a) ≡ true → IsLate (held_since k.claims.holders a) n.index
     → fast_trace k.claims.holders a p (n ∷ notes) ≡ (if is_some (held_since k.claims.holders a) && (n.parts.pgn == p) then fast_piece n ∷ fast_trace k.claims.holders a p notes else fast_trace k.claims.holders a p notes)
 fast_head k a p n notes source late = by (held_since k.claims.holders a) late
   where
@@ -65,12 +63,12 @@ fast_head k a p n notes source late = by (held_since k.claims.holders a) late
     by None le = refl
     by (Some since) le = with_pgn since le (n.parts.pgn == p) refl
 
-pub fast_past : (k : Known) (a p : ℕ) (n : Note) (notes : List Note) → (n.parts.source == a) ≡ false → fast_trace k.claims.holders a p (n ∷ notes) ≡ fast_trace k.claims.holders a p notes
+pub fast_past : (k : Known) (a p : ℕ) (n : NotedFrame) (notes : List NotedFrame) → (n.parts.source == a) ≡ false → fast_trace k.claims.holders a p (n ∷ notes) ≡ fast_trace k.claims.holders a p notes
 fast_past k a p n notes e = other_piece (held_since k.claims.holders a) a p n notes (rw e refl)
 
 -- ---- what counts and is an opener of its rules opens a message
 
-fast_opens : (c : Receiver) (k : Known) (n : Note) (a p : ℕ) → (n.parts.source == a) ≡ true → is_fast (c.kinds p) ≡ true → (is_some (held_since k.claims.holders a) && (n.parts.pgn == p)) ≡ true
+fast_opens : (c : Receiver) (k : Known) (n : NotedFrame) (a p : ℕ) → (n.parts.source == a) ≡ true → is_fast (c.kinds p) ≡ true → (is_some (held_since k.claims.holders a) && (n.parts.pgn == p)) ≡ true
     → fast_rules.opens (fast_piece n) ≡ true → opens_message c.kinds k.claims n ≡ true
 fast_opens c k n a p source kind counts opening =
     let parts = and_parts (is_some (held_since k.claims.holders a)) (n.parts.pgn == p) counts in
@@ -92,12 +90,12 @@ own_small k sound d (Some x) e is =
     let same : x ≡ d = eqb-true x d (rw e at is) in
     ne_eqb d 255 (λ f. omega (arith, small, same, f))
 
-concerned_source : (k : Known) (n : Note) (a : ℕ) (addressed : Bool) → concerns k.claims n (record { addressed = addressed; source = a }) ≡ true → (n.parts.source == a) ≡ true
+concerned_source : (k : Known) (n : NotedFrame) (a : ℕ) (addressed : Bool) → concerns k.claims n (record { addressed = addressed; source = a }) ≡ true → (n.parts.source == a) ≡ true
 concerned_source k n a addressed e =
     (and_parts (n.parts.source == a) (is_meant k.claims.own n addressed && is_bearing addressed n)
     (and_parts (is_some (held_since k.claims.holders a)) ((n.parts.source == a) && (is_meant k.claims.own n addressed && is_bearing addressed n)) e).1).0
 
-pub key_is : (k : Known) → IsSound k.claims → (n : Note) (a : ℕ) (addressed : Bool) → concerns k.claims n (record { addressed = addressed; source = a }) ≡ true
+pub key_is : (k : Known) → IsSound k.claims → (n : NotedFrame) (a : ℕ) (addressed : Bool) → concerns k.claims n (record { addressed = addressed; source = a }) ≡ true
     → key_of n.parts ≡ record { addressed = addressed; source = a }
 key_is k sound n a addressed e =
     let meant = (and_parts (is_meant k.claims.own n addressed) (is_bearing addressed n)
@@ -112,7 +110,7 @@ key_is k sound n a addressed e =
     to true f = ap not (own_small k sound n.parts.destination k.claims.own refl f)
     to false f = ap not f
 
-iso_opens : (kinds : ℕ → Kind) (k : Known) → IsSound k.claims → (n : Note) (a : ℕ) (addressed : Bool) → concerns k.claims n (record { addressed = addressed; source = a }) ≡ true
+iso_opens : (kinds : ℕ → Kind) (k : Known) → IsSound k.claims → (n : NotedFrame) (a : ℕ) (addressed : Bool) → concerns k.claims n (record { addressed = addressed; source = a }) ≡ true
     → (iso_rules addressed).opens (iso_piece n) ≡ true → opens_message kinds k.claims n ≡ true
 iso_opens kinds k sound n a addressed e opening =
     second _ (concerns k.claims n (key_of n.parts) && iso_opener (key_of n.parts).addressed (iso_piece n))

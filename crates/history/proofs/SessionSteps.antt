@@ -6,17 +6,17 @@ use Rattle.n2k_id.specs.Frame.{BusFrame}
 use Rattle.n2k_id.specs.Identifier.{parts_of}
 use Rattle.claim_table.specs.declared.answer.Holder.{Holder}
 use Rattle.claim_table.specs.Claims.{is_at, holder_at}
-use Rattle.slot_views.specs.Runs.{fed, finished, kept_at, open_at, run_of}
-use Rattle.slot_views.specs.RunLaws.{OneStep}
+use Rattle.slot_views.specs.Runs.{kept_at, open_at, run_of}
+use Rattle.slot_views.specs.RunLaws.{fed, finished, OneStep}
 use Rattle.slot_views.proofs.RunSteps.{one_step_of}
 use Rattle.iso_transport.specs.IsoRuns.{IsoPiece, iso_rules}
 use Rattle.iso_transport.proofs.Lawful.{lawful}
 use Rattle.iso_transport.specs.Audience.{key_of}
 use Rattle.pgn_profile.specs.declared.kinds.Kind.{Kind}
 use Rattle.history.specs.Entries.{History}
-use Rattle.history.specs.Receiver.{Receiver}
+use Rattle.history.specs.Settings.{Receiver}
 use Rattle.history.specs.Known.{Known, known, is_claim, held_since}
-use Rattle.history.specs.Traces.{Note, is_since, iso_piece, iso_trace, broadcast_since, addressed_since, is_transport, is_bearing}
+use Rattle.history.specs.Traces.{NotedFrame, is_since, iso_piece, iso_trace, broadcast_since, addressed_since, is_transport, is_bearing}
 use Rattle.history.specs.Opens.{iso_open, notes_of}
 use Rattle.history.specs.Messages.{said_by, completed_by, by_session, iso_carried}
 use Rattle.history.specs.AddressLaws.{IsReceiver}
@@ -27,11 +27,11 @@ use Rattle.history.proofs.KeySteps.{dated_at, known_same, eqb-sym}
 pub steps : (addressed : Bool) → OneStep (iso_rules addressed)
 steps addressed = one_step_of (iso_rules addressed) (lawful addressed)
 
-abbrev pub with_piece : Bool → Note → List IsoPiece → List IsoPiece
+abbrev pub with_piece : Bool → NotedFrame → List IsoPiece → List IsoPiece
 with_piece b n rest = if b then iso_piece n ∷ rest else rest
 
 -- a filter's answer on the newest frame, whose index is late enough
-kept_if : (q : Note → Bool) (n : Note) (notes : List Note) (b : Bool) → q n ≡ b → map iso_piece (filter q (n ∷ notes)) ≡ with_piece b n (map iso_piece (filter q notes))
+kept_if : (q : NotedFrame → Bool) (n : NotedFrame) (notes : List NotedFrame) (b : Bool) → q n ≡ b → map iso_piece (filter q (n ∷ notes)) ≡ with_piece b n (map iso_piece (filter q notes))
 kept_if q n notes true e = rw e refl
 kept_if q n notes false e = rw e refl
 
@@ -40,13 +40,13 @@ recent true true e = refl
 recent false true e = refl
 recent x false e = cc
 
-broadcast_head : (since a : ℕ) (n : Note) (notes : List Note) → since ≤ n.index
+broadcast_head : (since a : ℕ) (n : NotedFrame) (notes : List NotedFrame) → since ≤ n.index
     → broadcast_since (Some since) a (n ∷ notes) ≡ with_piece ((n.parts.source == a) && ((n.parts.destination == 255) && is_bearing false n)) n (broadcast_since (Some since) a notes)
 broadcast_head since a n notes le =
     kept_if (λ x. is_since a since x && ((x.parts.destination == 255) && is_bearing false x)) n notes ((n.parts.source == a) && ((n.parts.destination == 255) && is_bearing false n))
     (rw (le-leb since n.index le, recent (n.parts.source == a) true refl) refl)
 
-addressed_head : (since own own_since a : ℕ) (n : Note) (notes : List Note) → since ≤ n.index → own_since ≤ n.index
+addressed_head : (since own own_since a : ℕ) (n : NotedFrame) (notes : List NotedFrame) → since ≤ n.index → own_since ≤ n.index
     → addressed_since (Some since) (Some own) own_since a (n ∷ notes) ≡ with_piece ((n.parts.source == a) && ((own == n.parts.destination) && is_bearing true n)) n (addressed_since (Some since) (Some own) own_since a notes)
 addressed_head since own own_since a n notes le late =
     kept_if (λ x. is_since a since x && ((x.parts.destination == own) && (nat_le own_since x.index && is_bearing true x))) n notes ((n.parts.source == a) && ((own == n.parts.destination) && is_bearing true n))
@@ -54,20 +54,20 @@ addressed_head since own own_since a n notes le late =
 
 -- ---- the trace of a key with the newest frame
 
-piece_if : (k : Known) (since : Option ℕ) (a : ℕ) (addressed : Bool) (n : Note) → Bool
+piece_if : (k : Known) (since : Option ℕ) (a : ℕ) (addressed : Bool) (n : NotedFrame) → Bool
 piece_if k since a addressed n = is_some since && ((n.parts.source == a) && (is_meant k.claims.own n addressed && is_bearing addressed n))
 
 abbrev pub IsLate : Option ℕ → ℕ → Type 0
 IsLate None i = Unit {0}
 IsLate (Some since) i = since ≤ i
 
-broadcast_trace : (k : Known) (since : Option ℕ) (a : ℕ) (n : Note) (notes : List Note) → IsLate since n.index
+broadcast_trace : (k : Known) (since : Option ℕ) (a : ℕ) (n : NotedFrame) (notes : List NotedFrame) → IsLate since n.index
     → broadcast_since since a (n ∷ notes) ≡ with_piece (piece_if k since a false n) n (broadcast_since since a notes)
 unfolding piece_if
 broadcast_trace k None a n notes late = refl
 broadcast_trace k (Some since) a n notes late = broadcast_head since a n notes late
 
-addressed_trace : (k : Known) (since own : Option ℕ) (own_since a : ℕ) (n : Note) (notes : List Note) → k.claims.own ≡ own → IsLate since n.index → own_since ≤ n.index
+addressed_trace : (k : Known) (since own : Option ℕ) (own_since a : ℕ) (n : NotedFrame) (notes : List NotedFrame) → k.claims.own ≡ own → IsLate since n.index → own_since ≤ n.index
     → addressed_since since own own_since a (n ∷ notes) ≡ with_piece (piece_if k since a true n) n (addressed_since since own own_since a notes)
 unfolding piece_if
 addressed_trace k None own own_since a n notes e late own_late = refl
@@ -115,23 +115,23 @@ iso_ends k notes key m n le = (steps key.addressed).later (iso_trace k key.addre
 -- ---- what it completes
 
 -- the frame bears on the session of its own key where it is to all or to the gateway
-meant_is : (k : Known) (n : Note) → (not (key_of n.parts).addressed || is_at n.parts.destination k.claims.own) ≡ is_meant k.claims.own n (key_of n.parts).addressed
+meant_is : (k : Known) (n : NotedFrame) → (not (key_of n.parts).addressed || is_at n.parts.destination k.claims.own) ≡ is_meant k.claims.own n (key_of n.parts).addressed
 meant_is k n = by (n.parts.destination == 255) refl
   where
     by : (b : Bool) → (n.parts.destination == 255) ≡ b → (not (not (n.parts.destination == 255)) || is_at n.parts.destination k.claims.own) ≡ is_meant k.claims.own n (not (n.parts.destination == 255))
     by true e = rw e refl
     by false e = rw e refl
 
-held_and_own : (k : Known) (n : Note) (x : ℕ) → held_since k.claims.holders n.parts.source ≡ Some x → (addressed : Bool)
+held_and_own : (k : Known) (n : NotedFrame) (x : ℕ) → held_since k.claims.holders n.parts.source ≡ Some x → (addressed : Bool)
     → concerns k.claims n (record { addressed = addressed; source = n.parts.source }) ≡ (is_meant k.claims.own n addressed && is_bearing addressed n)
 held_and_own k n x e addressed = rw (e, eq-eqb n.parts.source n.parts.source refl) refl
 
-pub session_is : (k : Known) (n : Note) (older : List Note) (b : Bool) → ((not (key_of n.parts).addressed || is_at n.parts.destination k.claims.own) && is_bearing (key_of n.parts).addressed n) ≡ b
+pub session_is : (k : Known) (n : NotedFrame) (older : List NotedFrame) (b : Bool) → ((not (key_of n.parts).addressed || is_at n.parts.destination k.claims.own) && is_bearing (key_of n.parts).addressed n) ≡ b
     → by_session k n older ≡ (if b then iso_carried (run_of (iso_rules (key_of n.parts).addressed) (iso_trace k (key_of n.parts).addressed n.parts.source (n ∷ older))) else None)
 session_is k n older true e = rw e refl
 session_is k n older false e = rw e refl
 
-pub completed_iso : (kinds : ℕ → Kind) (k : Known) (n : Note) (older : List Note) → is_transport n.parts ≡ true → completed_by kinds k n older ≡ by_session k n older
+pub completed_iso : (kinds : ℕ → Kind) (k : Known) (n : NotedFrame) (older : List NotedFrame) → is_transport n.parts ≡ true → completed_by kinds k n older ≡ by_session k n older
 completed_iso kinds k n older e = rw e refl
 
 module _ (c : Receiver) (s : ℕ) (h : History) (m : ℕ) (f : BusFrame) (x : Holder) (are : IsReceiver c) (transport : is_transport (parts_of f.id) ≡ true)

@@ -8,19 +8,19 @@ use Rattle.gate_events.specs.declared.emit.Detail.{Detail}
 use Rattle.gate_events.specs.declared.emit.Detail.TheVariants as detail
 use Rattle.iso_transport.specs.Audience.{key_of}
 use Rattle.iso_transport.specs.Connection.{control_at, size_at, packets_at}
-use Rattle.iso_transport.specs.Sessions.{is_size}
-use Rattle.iso_transport.specs.IsoRuns.{IsoPiece, end_of, session_of, is_next, is_repeat, left_of_run}
+use Rattle.iso_transport.specs.IsoRuns.{is_size, IsoPiece, end_of, session_of, is_next, is_repeat, left_of_run}
 use Rattle.iso_transport.specs.RunVerdicts.{run_verdict}
 use Rattle.history.specs.Emits.{Rule, breaks, broken_of}
-use Rattle.history.specs.Traces.{Note, iso_piece}
-use Rattle.history.specs.BusRules.{is_early, is_rts, is_abort, opens_session, is_wrong_kind, is_wrong_size, is_short_packet, is_packet_out_of_order, is_cut_management, session_pgn, message_rule}
+use Rattle.history.specs.Traces.{NotedFrame, iso_piece}
+use Rattle.history.specs.BusRules.{is_early, is_rts, is_abort, opens_session, is_wrong_kind, is_wrong_size, is_short_packet, is_packet_out_of_order, is_cut_management, message_rule}
 use Rattle.history.specs.RuleLaws.{verdict_breaks, SessionRulesAreVerdicts, EarlyBreaksNotReady}
+use Rattle.history.specs.Opens.{open_pgn}
 
 not_so : (b : Bool) → not b ≡ true → b ≡ false
 not_so true e = cc
 not_so false e = refl
 
-module _ (n : Note) (rest : List Rule) (ready : Bool) (y : IsoPiece) where
+module _ (n : NotedFrame) (rest : List Rule) (ready : Bool) (y : IsoPiece) where
   abbrev who : ℕ → Detail
   who pgn = detail.Source n.parts.source pgn
 
@@ -28,12 +28,12 @@ module _ (n : Note) (rest : List Rule) (ready : Bool) (y : IsoPiece) where
   abbrev rows : Bool → Option (List IsoPiece) → List Report
   rows addressed q =
       broken_of
-      (breaks (opens_session addressed ready y && is_some q) rules.restarted (who (session_pgn q))
+      (breaks (opens_session addressed ready y && is_some q) rules.restarted (who (open_pgn q))
       ∷ breaks (opens_session addressed ready y && not y.admitted) rules.slots_full (who (session_of (y ∷ [])).pgn)
       ∷ breaks (is_cut_management y || is_wrong_kind addressed y || is_wrong_size addressed ready y || is_short_packet q y) rules.iso_size (who n.parts.pgn)
       ∷ breaks (is_packet_out_of_order q y) rules.iso_order (who n.parts.pgn)
       ∷ breaks (y.packet && is_none q) rules.iso_orphan (who n.parts.pgn)
-      ∷ breaks (addressed && (is_abort y && is_some q)) rules.iso_aborted (who (session_pgn q))
+      ∷ breaks (addressed && (is_abort y && is_some q)) rules.iso_aborted (who (open_pgn q))
       ∷ rest)
 
   abbrev Is : Bool → Option (List IsoPiece) → Type 0

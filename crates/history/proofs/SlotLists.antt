@@ -12,8 +12,8 @@ use Rattle.tag_block.specs.declared.group_key.GroupKey.{GroupKey}
 use Rattle.tag_block.specs.declared.group_part.GroupPart.{GroupPart}
 use Rattle.history.specs.Known.{Known}
 use Rattle.history.specs.Heard.{Taken, same_group, precedes_group, several, key_with, group_keys, group_open}
-use Rattle.history.specs.Traces.{Note, is_transport}
-use Rattle.history.specs.Opens.{is_fast, same_fast, same_iso, precedes_fast, precedes_iso, placed, fast_keys, iso_keys, fast_open, iso_open}
+use Rattle.history.specs.Traces.{NotedFrame, is_transport}
+use Rattle.history.specs.Opens.{is_fast, same_fast, same_iso, precedes_fast, precedes_iso, with_key, fast_keys, iso_keys, fast_open, iso_open}
 use Rattle.history.specs.CountLaws.{HoldsFast, HoldsIso, HoldsGroups}
 use Rattle.history.specs.ListLaws.{SlotsListFast, SlotsListIso, SlotsListGroups}
 use Rattle.history.proofs.KeyLists.{IsSorted, sorted_placed, listed, ended}
@@ -22,14 +22,14 @@ use Rattle.history.proofs.IsoCounts as iso
 use Rattle.history.proofs.GroupCounts as groups
 use Rattle.claim_table.specs.declared.answer.Holder.{Holder}
 
-module _ (kinds : ℕ → Kind) (cmp : FastKey → FastKey → Ordering) (holders : List (Option Holder)) (notes : List Note) (m : ℕ) (slots : SlotMap FastKey) (h : HoldsFast kinds cmp holders notes m slots)
+module _ (kinds : ℕ → Kind) (cmp : FastKey → FastKey → Ordering) (holders : List (Option Holder)) (notes : List NotedFrame) (m : ℕ) (slots : SlotMap FastKey) (h : HoldsFast kinds cmp holders notes m slots)
     (sorts : (a b : FastKey) → precedes_fast a b ≡ is_lt (cmp a b)) where
-  fast_sorted : (ns : List Note) → IsSorted cmp h.order (fast_keys kinds ns)
+  fast_sorted : (ns : List NotedFrame) → IsSorted cmp h.order (fast_keys kinds ns)
   fast_sorted [] = tt
   fast_sorted (n ∷ ns) = by (is_fast (kinds n.parts.pgn)) (fast_sorted ns)
     where
       by : (b : Bool) → IsSorted cmp h.order (fast_keys kinds ns)
-          → IsSorted cmp h.order (if b then placed same_fast precedes_fast (record { source = n.parts.source; pgn = n.parts.pgn }) (fast_keys kinds ns) else fast_keys kinds ns)
+          → IsSorted cmp h.order (if b then with_key same_fast precedes_fast (record { source = n.parts.source; pgn = n.parts.pgn }) (fast_keys kinds ns) else fast_keys kinds ns)
       by true rest = sorted_placed cmp h.order same_fast precedes_fast h.tells sorts (record { source = n.parts.source; pgn = n.parts.pgn }) (fast_keys kinds ns) rest
       by false rest = rest
 
@@ -40,13 +40,13 @@ slots_list_fast kinds cmp holders notes m slots h sorts = record {
       ended (fast.held kinds cmp holders notes m slots h) (fast_sorted kinds cmp holders notes m slots h sorts notes) is_meant (λ key. is_none (fast_open after notes key n)) q tests;
 }
 
-module _ (cmp : IsoKey → IsoKey → Ordering) (k : Known) (notes : List Note) (m : ℕ) (slots : SlotMap IsoKey) (h : HoldsIso cmp k notes m slots)
+module _ (cmp : IsoKey → IsoKey → Ordering) (k : Known) (notes : List NotedFrame) (m : ℕ) (slots : SlotMap IsoKey) (h : HoldsIso cmp k notes m slots)
     (sorts : (a b : IsoKey) → precedes_iso a b ≡ is_lt (cmp a b)) where
-  iso_sorted : (ns : List Note) → IsSorted cmp h.order (iso_keys ns)
+  iso_sorted : (ns : List NotedFrame) → IsSorted cmp h.order (iso_keys ns)
   iso_sorted [] = tt
   iso_sorted (n ∷ ns) = by (is_transport n.parts) (iso_sorted ns)
     where
-      by : (b : Bool) → IsSorted cmp h.order (iso_keys ns) → IsSorted cmp h.order (if b then placed same_iso precedes_iso (key_of n.parts) (iso_keys ns) else iso_keys ns)
+      by : (b : Bool) → IsSorted cmp h.order (iso_keys ns) → IsSorted cmp h.order (if b then with_key same_iso precedes_iso (key_of n.parts) (iso_keys ns) else iso_keys ns)
       by true rest = sorted_placed cmp h.order same_iso precedes_iso h.tells sorts (key_of n.parts) (iso_keys ns) rest
       by false rest = rest
 

@@ -10,35 +10,35 @@ use Rattle.claim_table.specs.Claims.{Claims, Claim, Outcome, claim, command, hol
 use Rattle.fast_packet.specs.FastRuns.{FastPiece}
 use Rattle.iso_transport.specs.IsoRuns.{IsoPiece}
 use Rattle.history.specs.Entries.{History, frame}
-use Rattle.history.specs.Receiver.{Receiver}
+use Rattle.history.specs.Settings.{Receiver}
 use Rattle.history.specs.Known.{Known, known, is_claim, claim_by, followed_by, held_since, since_own}
-use Rattle.history.specs.Traces.{Note, is_since, fast_piece, fast_trace_since, iso_piece, broadcast_since, addressed_since, is_transport, is_bearing}
+use Rattle.history.specs.Traces.{NotedFrame, is_since, fast_piece, fast_trace_since, iso_piece, broadcast_since, addressed_since, is_transport, is_bearing}
 use Rattle.history.specs.Opens.{note_of, notes_of}
 use Rattle.history.specs.AddressLaws.{IsReceiver}
 use Rattle.history.specs.TraceLaws.{is_lost, same_own, LeavesTraces, ClaimsMoveTraces, CommandsMoveTraces}
 use Rattle.history.proofs.Addresses.{addresses_are_sound}
 use Rattle.history.proofs.Fates.{Fate, stays, begins, fate}
 use Rattle.history.proofs.Moves as moves
-use Rattle.history.proofs.Moves.{AreBelow, notes_below, trace, Moved, moved_trace, none_of, passed_over, and_no}
+use Rattle.history.proofs.Moves.{AreBelow, notes_below, trace, Moved, moved_trace, passed_over, and_no}
 
 -- ---- the three kinds of traces as one
 
-fast_as : (since : Option ℕ) (a p : ℕ) (notes : List Note) → fast_trace_since since a p notes ≡ trace fast_piece (λ n. n.parts.pgn == p) a since notes
+fast_as : (since : Option ℕ) (a p : ℕ) (notes : List NotedFrame) → fast_trace_since since a p notes ≡ trace fast_piece (λ n. n.parts.pgn == p) a since notes
 fast_as None a p notes = refl
 fast_as (Some since) a p notes = refl
 
-broadcast_as : (since : Option ℕ) (a : ℕ) (notes : List Note) → broadcast_since since a notes ≡ trace iso_piece (λ n. (n.parts.destination == 255) && is_bearing false n) a since notes
+broadcast_as : (since : Option ℕ) (a : ℕ) (notes : List NotedFrame) → broadcast_since since a notes ≡ trace iso_piece (λ n. (n.parts.destination == 255) && is_bearing false n) a since notes
 broadcast_as None a notes = refl
 broadcast_as (Some since) a notes = refl
 
-abbrev to_own : ℕ → ℕ → Note → Bool
+abbrev to_own : ℕ → ℕ → NotedFrame → Bool
 to_own own own_since n = (n.parts.destination == own) && (nat_le own_since n.index && is_bearing true n)
 
-addressed_as : (since : Option ℕ) (own own_since a : ℕ) (notes : List Note) → addressed_since since (Some own) own_since a notes ≡ trace iso_piece (to_own own own_since) a since notes
+addressed_as : (since : Option ℕ) (own own_since a : ℕ) (notes : List NotedFrame) → addressed_since since (Some own) own_since a notes ≡ trace iso_piece (to_own own own_since) a since notes
 addressed_as None own own_since a notes = refl
 addressed_as (Some since) own own_since a notes = refl
 
-no_address : (since : Option ℕ) (own_since a : ℕ) (notes : List Note) → addressed_since since None own_since a notes ≡ []
+no_address : (since : Option ℕ) (own_since a : ℕ) (notes : List NotedFrame) → addressed_since since None own_since a notes ≡ []
 no_address None own_since a notes = refl
 no_address (Some since) own_since a notes = refl
 
@@ -47,24 +47,24 @@ no_address (Some since) own_since a notes = refl
 no_transport : (p : Parts) → p.pgn ≡ 60928 → is_transport p ≡ false
 no_transport p e = rw e refl
 
-bears_not : (addressed : Bool) (n : Note) → n.parts.pgn ≡ 60928 → is_bearing addressed n ≡ false
+bears_not : (addressed : Bool) (n : NotedFrame) → n.parts.pgn ≡ 60928 → is_bearing addressed n ≡ false
 bears_not addressed n e = rw (no_transport n.parts e) refl
 
-to_own_not : (own own_since : ℕ) (n : Note) → n.parts.pgn ≡ 60928 → to_own own own_since n ≡ false
+to_own_not : (own own_since : ℕ) (n : NotedFrame) → n.parts.pgn ≡ 60928 → to_own own own_since n ≡ false
 to_own_not own own_since n e = rw (bears_not true n e, and_no (nat_le own_since n.index), and_no (n.parts.destination == own)) refl
 
-to_all_not : (n : Note) → n.parts.pgn ≡ 60928 → ((n.parts.destination == 255) && is_bearing false n) ≡ false
+to_all_not : (n : NotedFrame) → n.parts.pgn ≡ 60928 → ((n.parts.destination == 255) && is_bearing false n) ≡ false
 to_all_not n e = rw (bears_not false n e, and_no (n.parts.destination == 255)) refl
 
 -- nothing was sent to the own address since an entry that comes after all
-late_own : (own i : ℕ) (n : Note) → n.index < i → to_own own i n ≡ false
+late_own : (own i : ℕ) (n : NotedFrame) → n.index < i → to_own own i n ≡ false
 late_own own i n h = rw (lt-leb i n.index h, and_no (n.parts.destination == own)) refl
 
-nothing_sent : (a since own i : ℕ) (notes : List Note) → AreBelow i notes → filter (λ n. is_since a since n && to_own own i n) notes ≡ []
+nothing_sent : (a since own i : ℕ) (notes : List NotedFrame) → AreBelow i notes → filter (λ n. is_since a since n && to_own own i n) notes ≡ []
 nothing_sent a since own i [] h = refl
 nothing_sent a since own i (n ∷ notes) h = rw (late_own own i n h.0, and_no (is_since a since n)) (nothing_sent a since own i notes h.1)
 
-nothing_to_new : (since : Option ℕ) (a own i : ℕ) (n : Note) (notes : List Note) → AreBelow i notes → n.parts.pgn ≡ 60928 → addressed_since since (Some own) i a (n ∷ notes) ≡ []
+nothing_to_new : (since : Option ℕ) (a own i : ℕ) (n : NotedFrame) (notes : List NotedFrame) → AreBelow i notes → n.parts.pgn ≡ 60928 → addressed_since since (Some own) i a (n ∷ notes) ≡ []
 nothing_to_new None a own i n notes h e = refl
 nothing_to_new (Some since) a own i n notes h e = passed_over iso_piece (to_own own i) a since n notes (to_own_not own i n e) ∙ ap (map iso_piece) (nothing_sent a since own i notes h)
 
@@ -76,7 +76,7 @@ or_false : (b : Bool) → (b || false) ≡ b
 or_false true = refl
 or_false false = refl
 
-module _ (a i own_since : ℕ) (n : Note) (notes : List Note) (below : AreBelow i notes) (claims : n.parts.pgn ≡ 60928) (lost : Bool) (since after : Option ℕ)
+module _ (a i own_since : ℕ) (n : NotedFrame) (notes : List NotedFrame) (below : AreBelow i notes) (claims : n.parts.pgn ≡ 60928) (lost : Bool) (since after : Option ℕ)
     (moved : Moved lost i since after) where
   changed : (rest : List IsoPiece) → [] ≡ (if lost || true then [] else rest)
   changed rest = rw (or_true lost) refl
@@ -135,7 +135,7 @@ module _ (c : Receiver) (s : ℕ) (h : History) (m : ℕ) (f : BusFrame) (are : 
   after : Known
   after = followed_by (length h) (known c s h) (claim (known c s h).claims (claim_by (length h) m f)).after
 
-  n : Note
+  n : NotedFrame
   n = note_of c (length h) (known c s h) (notes_of c s h) m f
 
   known_is : known c s (frame m f ∷ h) ≡ followed_by (length h) (known c s h) (claim (known c s h).claims (claim_by (length h) m f)).after
@@ -199,7 +199,7 @@ commanded_holders c a m = same_holders (is_obeyed c a) c a m
 pub same_since : (index : ℕ) (k : Known) (a m source : ℕ) → held_since (followed_by index k (command k.claims a m)).claims.holders source ≡ held_since k.claims.holders source
 same_since index k a m source = ap (λ (x : List (Option Holder)). option_map (λ (h : Holder). h.since) (holder_at x source)) (commanded_holders k.claims a m)
 
-module _ (a i own_since : ℕ) (notes : List Note) (below : AreBelow i notes) where
+module _ (a i own_since : ℕ) (notes : List NotedFrame) (below : AreBelow i notes) where
   none_to : (since : Option ℕ) (own : ℕ) → addressed_since since (Some own) i a notes ≡ []
   none_to None own = refl
   none_to (Some since) own = ap (map iso_piece) (nothing_sent a since own i notes below)

@@ -3,9 +3,8 @@ use Rattle.std.proofs.Common.{◌≡◌, ℕ, ◌-◌, Bool, true, List, [], ◌
 use Rattle.std.specs.Prelude.{Option, Some, None, option_map}
 use Rattle.std.proofs.lemmas.List.{length-map}
 use Rattle.slot_views.specs.Runs.{opener_of}
-use Rattle.fast_packet.specs.FastFrames.{length_of, left_after, later_piece}
+use Rattle.fast_packet.specs.FastRuns.{length_of, left_after, later_piece, FastPiece, fast_rules}
 use Rattle.fast_packet.specs.FastRuns as fast
-use Rattle.fast_packet.specs.FastRuns.{FastPiece, fast_rules}
 use Rattle.iso_transport.specs.IsoRuns as iso
 use Rattle.iso_transport.specs.IsoRuns.{IsoPiece, iso_rules, session_of}
 use Rattle.history.specs.Messages.{Carried, fast_carried, iso_carried, carried}

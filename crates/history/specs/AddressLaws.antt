@@ -1,13 +1,11 @@
 -- What holds of the addresses after every history.
 use Rattle.std.specs.Prelude.{◌≡◌, ℕ, ◌<◌, ◌≤◌, false, length, All}
-use Rattle.claim_table.specs.Claims.{IsSinceBy, move_places}
+use Rattle.claim_table.specs.Claims.{IsSinceBy, move_places, repeats, takes}
 use Rattle.claim_table.specs.Laws.{IsSound}
-use Rattle.claim_table.specs.Presets.{repeats, takes}
 use Rattle.n2k_id.specs.Pgns as pgns
 use Rattle.history.specs.Entries.{History}
 use Rattle.pgn_profile.specs.declared.kinds.Kind.TheVariants.{Outside}
-use Rattle.history.specs.Settings.{Settings}
-use Rattle.history.specs.Receiver.{Receiver, receiver_of}
+use Rattle.history.specs.Settings.{Settings, Receiver, receiver_of}
 use Rattle.history.specs.Known.{Known, known}
 
 -- settings of which a gateway can be made: it begins with an address that a device may move to, no two presets share an address

@@ -7,8 +7,7 @@ use Rattle.report_rules.specs.Rules as rules
 use Rattle.pgn_profile.specs.Profiled.{profiled}
 use Rattle.pgn_profile.specs.declared.profiled.Profiled.{Profiled}
 use Rattle.pgn_profile.specs.declared.profiled.Profiled.TheVariants as says
-use Rattle.fast_packet.specs.FastFrames as fast
-use Rattle.fast_packet.specs.FastRuns as fast_runs
+use Rattle.fast_packet.specs.FastRuns as fast
 use Rattle.fast_packet.specs.FastRuns.{FastPiece, is_awaited}
 use Rattle.iso_transport.specs.Audience.{key_of}
 use Rattle.iso_transport.specs.Connection as control
@@ -19,21 +18,23 @@ use Rattle.gate_events.specs.declared.emit.Report.{Report}
 use Rattle.gate_events.specs.declared.emit.Detail.{Detail}
 use Rattle.gate_events.specs.declared.emit.Detail.TheVariants as detail
 use Rattle.history.specs.Meanings.{Meaning, address_claim, own_source, request, from_nobody, transport, single, fast_packet, passed}
-use Rattle.history.specs.Traces.{Note, fast_piece, iso_piece}
+use Rattle.history.specs.Traces.{NotedFrame, fast_piece, iso_piece}
+use Rattle.history.specs.Opens.{open_pgn}
 use Rattle.history.specs.Messages.{Message}
 use Rattle.history.specs.Emits.{Rule, breaks, broken_of}
+use Rattle.history.specs.Settings.{is_some_that}
 
 -- ---- claims and requests (ISO 11783-5)
 
 -- the bytes are no NAME, or the address is none that can be claimed
-abbrev pub is_malformed_claim : Note → Bool
+abbrev pub is_malformed_claim : NotedFrame → Bool
 is_malformed_claim n = nat_lt (length n.bytes) 8 || (n.parts.source == 255)
 
-abbrev pub is_duplicate : ℕ → Note → Bool
+abbrev pub is_duplicate : ℕ → NotedFrame → Bool
 is_duplicate name n = not (is_malformed_claim n) && (name_at n.bytes == name)
 
 -- what is asked for has three bytes
-abbrev pub is_malformed_request : Note → Bool
+abbrev pub is_malformed_request : NotedFrame → Bool
 is_malformed_request n = nat_lt (length n.bytes) 3
 
 -- ---- a frame of a fast packet (canboat), by the frames of its message that are open
@@ -43,8 +44,7 @@ is_later_frame x = nat_lt 0 (fast.counter_of x.bytes)
 
 -- the frame that is awaited, but with fewer bytes than it owes
 abbrev pub is_cut_off : Option (List FastPiece) → FastPiece → Bool
-is_cut_off None x = false
-is_cut_off (Some acc) x = is_awaited acc x && not (fast_runs.is_next acc x)
+is_cut_off frames x = is_some_that (λ acc. is_awaited acc x && not (fast.is_next acc x)) frames
 
 -- it has no byte; it is a frame 0 that opens nothing; or it is cut off
 abbrev pub is_wrong_length : Option (List FastPiece) → FastPiece → Bool
@@ -53,8 +53,7 @@ is_wrong_length open_frames x =
 
 -- a later frame that is neither a repeat nor the awaited one
 abbrev pub is_out_of_order : Option (List FastPiece) → FastPiece → Bool
-is_out_of_order None x = false
-is_out_of_order (Some acc) x = is_later_frame x && (not (fast_runs.is_repeat acc x) && not (is_awaited acc x))
+is_out_of_order frames x = is_some_that (λ acc. is_later_frame x && (not (fast.is_repeat acc x) && not (is_awaited acc x))) frames
 
 -- ---- a frame of the transport protocol (ISO 11783-3), by the frames of its session that are open
 
@@ -89,23 +88,16 @@ is_wrong_size addressed ready x =
 
 -- a packet of an open session with fewer bytes than it owes
 abbrev pub is_short_packet : Option (List IsoPiece) → IsoPiece → Bool
-is_short_packet None x = false
-is_short_packet (Some acc) x = x.packet && nat_lt (length x.bytes) (end_of (left_of_run acc))
+is_short_packet packets x = is_some_that (λ acc. x.packet && nat_lt (length x.bytes) (end_of (left_of_run acc))) packets
 
 -- one that holds what it owes, and is neither a repeat nor the next
 abbrev pub is_packet_out_of_order : Option (List IsoPiece) → IsoPiece → Bool
-is_packet_out_of_order None x = false
-is_packet_out_of_order (Some acc) x =
-    x.packet && (not (nat_lt (length x.bytes) (end_of (left_of_run acc))) && (not (iso_runs.is_repeat acc x) && not (iso_runs.is_next acc x)))
+is_packet_out_of_order packets x =
+    is_some_that (λ acc. x.packet && (not (nat_lt (length x.bytes) (end_of (left_of_run acc))) && (not (iso_runs.is_repeat acc x) && not (iso_runs.is_next acc x)))) packets
 
 -- a connection management frame of fewer than 8 bytes
 abbrev pub is_cut_management : IsoPiece → Bool
 is_cut_management x = not x.packet && nat_lt (length x.bytes) 8
-
--- the message of a session that is open
-abbrev pub session_pgn : Option (List IsoPiece) → ℕ
-session_pgn None = 0
-session_pgn (Some acc) = (session_of acc).pgn
 
 -- ---- a message
 
@@ -120,7 +112,7 @@ message_rule (Some d) = breaks (is_short (profiled d.pgn d.payload)) rules.short
 
 -- ---- the tables: by the gateway's NAME, what is open of the frame's fast packet or of its session, and the message that it completes
 
-module _ (name : ℕ) (n : Note) (frames : Option (List FastPiece)) (packets : Option (List IsoPiece)) (message : Option Message) where
+module _ (name : ℕ) (n : NotedFrame) (frames : Option (List FastPiece)) (packets : Option (List IsoPiece)) (message : Option Message) where
   -- the sender, with the frame's PGN, or with that of a message
   abbrev pub of_frame : Detail
   of_frame = detail.Source n.parts.source n.parts.pgn
@@ -142,12 +134,12 @@ module _ (name : ℕ) (n : Note) (frames : Option (List FastPiece)) (packets : O
   -- a frame of the transport protocol, and the message that it completes
   abbrev pub session_table : Bool → IsoPiece → List Rule
   session_table addressed x =
-      breaks (opens_session addressed n.ready x && is_some packets) rules.restarted (of_message (session_pgn packets))
+      breaks (opens_session addressed n.ready x && is_some packets) rules.restarted (of_message (open_pgn packets))
       ∷ breaks (opens_session addressed n.ready x && not x.admitted) rules.slots_full (of_message (session_of (x ∷ [])).pgn)
       ∷ breaks (is_cut_management x || is_wrong_kind addressed x || is_wrong_size addressed n.ready x || is_short_packet packets x) rules.iso_size of_frame
       ∷ breaks (is_packet_out_of_order packets x) rules.iso_order of_frame
       ∷ breaks (x.packet && is_none packets) rules.iso_orphan of_frame
-      ∷ breaks (addressed && (is_abort x && is_some packets)) rules.iso_aborted (of_message (session_pgn packets))
+      ∷ breaks (addressed && (is_abort x && is_some packets)) rules.iso_aborted (of_message (open_pgn packets))
       ∷ message_rule message
       ∷ breaks (is_early addressed n.ready x) rules.not_ready of_frame
       ∷ []
@@ -166,5 +158,5 @@ module _ (name : ℕ) (n : Note) (frames : Option (List FastPiece)) (packets : O
   table_of fast_packet = fast_table (fast_piece n)
   table_of passed = []
 
-abbrev pub frame_breaks : ℕ → Meaning → Note → Option (List FastPiece) → Option (List IsoPiece) → Option Message → List Report
+abbrev pub frame_breaks : ℕ → Meaning → NotedFrame → Option (List FastPiece) → Option (List IsoPiece) → Option Message → List Report
 frame_breaks name meaning n frames packets message = broken_of (table_of name n frames packets message meaning)

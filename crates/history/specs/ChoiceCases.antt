@@ -1,8 +1,7 @@
 -- Whose messages are said.
 use Rattle.std.specs.Prelude.{ℕ, [], ◌∷◌, map, codes}
 use Rattle.n2k_id.specs.declared.pattern.Pattern.{Pattern}
-use Rattle.n2k_id.specs.Name.{fields_of}
-use Rattle.n2k_id.specs.Pattern.{stating}
+use Rattle.n2k_id.specs.Name.{fields_of, stating}
 use Rattle.readings.specs.declared.rows.Row.{Row}
 use Rattle.readings.specs.declared.rows.Row.TheVariants as row
 use Rattle.history.specs.Entries.{frame}

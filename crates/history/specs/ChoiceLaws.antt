@@ -1,5 +1,5 @@
 -- Who is first in a row, by what is kept of each address, and whose NAME a message is of.
-use Rattle.std.specs.Prelude.{◌≡◌, ℕ, zero, suc, ◌≤◌, Bool, true, ◌&&◌, not, ◌==◌, List, [], ◌∷◌, length, Option, Some, None}
+use Rattle.std.specs.Prelude.{◌≡◌, ℕ, zero, suc, ◌≤◌, true, not, ◌==◌, List, [], ◌∷◌, length, Option, Some, None}
 use Rattle.std.specs.List.{AllByRecursion, list_any}
 use Rattle.readings.specs.declared.rows.Row.{Row}
 use Rattle.readings.specs.Rows.{row_of}
@@ -10,29 +10,23 @@ use Rattle.source_choice.specs.declared.rank.Rank.{Rank}
 use Rattle.source_choice.specs.Notes.{RowNotes, AreFrom, note_of, is_selected}
 use Rattle.history.specs.AddressLaws.{IsReceiver}
 use Rattle.history.specs.Entries.{History}
-use Rattle.history.specs.Settings.{Settings, RowRule, rule_of}
-use Rattle.history.specs.Receiver.{Receiver}
+use Rattle.history.specs.Settings.{Settings, RowRule, rule_of, Receiver}
 use Rattle.history.specs.Known.{known}
 use Rattle.history.specs.Messages.{Message, messages_of}
-use Rattle.history.specs.Choice.{is_better, is_usable, reading_of, holder_rank, still_counts, is_first}
+use Rattle.history.specs.Choice.{is_usable, reading_of, last_of, holder_rank, outranks, is_first}
 use Rattle.history.specs.Heard.{place_of}
 use Rattle.history.specs.NetReadings.{NetReading, last_heard, is_net_selected}
-use Rattle.history.specs.FreshLaws.{last_of}
 
 -- the addresses below a number
 abbrev pub addresses : ℕ → List ℕ
 addresses zero = []
 addresses (suc n) = n ∷ addresses n
 
--- the holder of the address has a smaller rank, and its last message of the row counts still
-abbrev pub beats : RowRule → List (Option Holder) → Row → Rank → ℕ → List Message → ℕ → Bool
-beats rule holders row rank m older a = is_better rank (holder_rank rule (holder_at holders a)) && still_counts rule.timeout m (last_of holders row a older)
-
--- a rank is the first exactly where none of the addresses that can be held beats it
+-- a rank is the first exactly where none of the addresses that can be held outranks it
 abbrev pub FirstByAddresses : Type 0
 FirstByAddresses =
     (rule : RowRule) (holders : List (Option Holder)) (row : Row) (rank : Rank) (m : ℕ) (older : List Message) (n : ℕ) → length holders ≤ n
-    → is_first rule holders row m older (Some rank) ≡ not (list_any (beats rule holders row rank m older) (addresses n))
+    → is_first rule holders row m older (Some rank) ≡ not (list_any (outranks rule holders row rank m older) (addresses n))
 
 -- what is noted of an address in a row: its last message since its holder has it, where that NAME has a rank
 abbrev pub noted_with : ℕ → Option Rank → Option Message → Option Note

@@ -11,12 +11,12 @@ use Rattle.tag_block.specs.declared.group_key.GroupKey.{GroupKey}
 use Rattle.claim_table.specs.Laws.{IsSound}
 use Rattle.history.specs.Known.{Known}
 use Rattle.history.specs.Heard.{Taken, same_group, group_open, open_groups, is_group_admitted}
-use Rattle.history.specs.Traces.{Note}
+use Rattle.history.specs.Traces.{NotedFrame}
 use Rattle.history.specs.Opens.{is_fast, same_fast, same_iso, fast_open, iso_open, open_fast_keys, open_iso_keys, is_fast_admitted, is_iso_admitted}
 use Rattle.claim_table.specs.declared.answer.Holder.{Holder}
 
 -- the map holds a key exactly where it is one of fast packets and is open
-module _ (kinds : ℕ → Kind) (cmp : FastKey → FastKey → Ordering) (holders : List (Option Holder)) (notes : List Note) (m : ℕ) (slots : SlotMap FastKey) where
+module _ (kinds : ℕ → Kind) (cmp : FastKey → FastKey → Ordering) (holders : List (Option Holder)) (notes : List NotedFrame) (m : ℕ) (slots : SlotMap FastKey) where
   pub record HoldsFast : Type 0 where
     pub order : IsTotalOrder cmp
     pub tells : (a b : FastKey) → is_at (cmp a) b ≡ same_fast a b
@@ -31,11 +31,11 @@ module _ (kinds : ℕ → Kind) (cmp : FastKey → FastKey → Ordering) (holder
 
 abbrev pub SlotsCountFast : Type 0
 SlotsCountFast =
-    (kinds : ℕ → Kind) (cmp : FastKey → FastKey → Ordering) (holders : List (Option Holder)) (notes : List Note) (m : ℕ) (slots : SlotMap FastKey)
+    (kinds : ℕ → Kind) (cmp : FastKey → FastKey → Ordering) (holders : List (Option Holder)) (notes : List NotedFrame) (m : ℕ) (slots : SlotMap FastKey)
     → HoldsFast kinds cmp holders notes m slots → CountsFast kinds cmp holders notes m slots
 
 -- the same of sessions of the transport protocol, of a gateway whose addresses are sound
-module _ (cmp : IsoKey → IsoKey → Ordering) (k : Known) (notes : List Note) (m : ℕ) (slots : SlotMap IsoKey) where
+module _ (cmp : IsoKey → IsoKey → Ordering) (k : Known) (notes : List NotedFrame) (m : ℕ) (slots : SlotMap IsoKey) where
   pub record HoldsIso : Type 0 where
     pub sound : IsSound k.claims
     pub order : IsTotalOrder cmp
@@ -50,7 +50,7 @@ module _ (cmp : IsoKey → IsoKey → Ordering) (k : Known) (notes : List Note) 
 
 abbrev pub SlotsCountIso : Type 0
 SlotsCountIso =
-    (cmp : IsoKey → IsoKey → Ordering) (k : Known) (notes : List Note) (m : ℕ) (slots : SlotMap IsoKey)
+    (cmp : IsoKey → IsoKey → Ordering) (k : Known) (notes : List NotedFrame) (m : ℕ) (slots : SlotMap IsoKey)
     → HoldsIso cmp k notes m slots → CountsIso cmp k notes m slots
 
 -- and of groups of lines

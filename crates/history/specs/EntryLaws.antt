@@ -7,7 +7,7 @@ use Rattle.sentence_rows.specs.Writing.{sentences_of}
 use Rattle.history.specs.Entries.{Entry, History, frame, datagram, tick, command, IsOffered, IsHistory}
 use Rattle.history.specs.Settings.{Settings, RowRule, rule_of}
 use Rattle.gate_events.specs.Emit.{Emit, can, net, report}
-use Rattle.history.specs.Datagrams.{datagram_of}
+use Rattle.history.specs.Emits.{datagram_of}
 use Rattle.history.specs.Gate.{out, spoken_of, stepped}
 
 -- commands are made by the gateway, and come from nowhere else

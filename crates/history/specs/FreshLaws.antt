@@ -1,38 +1,21 @@
 -- By what is kept of each row and source, its freshness is known.
-use Rattle.std.specs.Prelude.{◌≡◌, ℕ, Bool, true, false, ◌&&◌, ◌==◌, List, ◌∷◌, length, find, Option, Some, None, if◌then◌else◌}
+use Rattle.std.specs.Prelude.{◌≡◌, ℕ, Bool, true, false, ◌&&◌, ◌==◌, List, ◌∷◌, length, Option, Some, None, if◌then◌else◌}
 use Rattle.n2k_id.specs.Frame.{BusFrame}
 use Rattle.readings.specs.declared.rows.Row.{Row}
 use Rattle.claim_table.specs.Claims.{claim}
 use Rattle.history.specs.AddressLaws.{IsReceiver}
 use Rattle.history.specs.TraceLaws.{is_lost}
 use Rattle.history.specs.Entries.{History, frame, command}
-use Rattle.history.specs.Settings.{RowRule}
-use Rattle.history.specs.Receiver.{Receiver}
-use Rattle.history.specs.Known.{known, held_since, is_claim, claim_by}
+use Rattle.history.specs.Settings.{RowRule, Receiver, same_text}
+use Rattle.history.specs.Known.{known, is_claim, claim_by}
 use Rattle.history.specs.Messages.{Message, done, messages_of}
-use Rattle.history.specs.Choice.{is_row, reading_of, is_of, is_fresh, still_counts}
-use Rattle.history.specs.Heard.{same_text}
+use Rattle.history.specs.Choice.{is_row, reading_of, last_of}
 use Rattle.history.specs.NetReadings.{NetReading, last_heard, counts_still, is_net_fresh}
-use Rattle.claim_table.specs.declared.answer.Holder.{Holder}
-
--- the last message of a row from a source since it holds its address
-abbrev pub last_since : Row → ℕ → List Message → Option ℕ → Option Message
-last_since row source older None = None
-last_since row source older (Some since) = find (is_of row source since) older
-
-abbrev pub last_of : List (Option Holder) → Row → ℕ → List Message → Option Message
-last_of holders row source older = last_since row source older (held_since holders source)
 
 -- the message is of the row, from the source
 abbrev pub tells : Row → ℕ → Option Message → Bool
 tells row source None = false
 tells row source (Some d) = (d.source == source) && is_row row (reading_of d)
-
--- whether a source is fresh depends on that message alone
-abbrev pub FreshByLast : Type 0
-FreshByLast =
-    (rule : RowRule) (holders : List (Option Holder)) (row : Row) (source m : ℕ) (older : List Message)
-    → is_fresh rule holders row source m older ≡ still_counts rule.timeout m (last_of holders row source older)
 
 -- a message takes the place of the one before, of its row and its source
 abbrev pub MessagesAreKept : Type 0

@@ -2,15 +2,15 @@
 use Rattle.std.specs.Prelude.{ℕ, not, List, [], ◌∷◌, ◌++◌, map, Option, Some, None, Result, Ok, Err, if◌then◌else◌}
 use Rattle.readings.specs.declared.reading.Reading.{Reading}
 use Rattle.readings.specs.Rows.{row_of}
-use Rattle.pgn_profile.specs.Payload.{payload_of, pgn_of, priority_of}
-use Rattle.fast_packet.specs.Splitting.{frames_of}
+use Rattle.pgn_profile.specs.Profiled.{payload_of, pgn_of, priority_of}
+use Rattle.fast_packet.specs.FastRuns.{frames_of}
 use Rattle.sentence_rows.specs.declared.fault.FieldFault.{FieldFault}
 use Rattle.datagram450.specs.declared.fault.DatagramFault.{DatagramFault}
-use Rattle.datagram450.specs.Item.{Item, line, bad}
+use Rattle.datagram450.specs.Datagram.{Item, line, bad}
 use Rattle.history.specs.Settings.{Settings}
 use Rattle.gate_events.specs.Emit.{Emit}
 use Rattle.history.specs.Emits.{sent, reported}
-use Rattle.history.specs.Heard.{Came, Taken, is_taken, taken_after, lines_of, handed_over}
+use Rattle.history.specs.Heard.{HeardItem, Taken, is_taken, taken_as, taken_lines, handed_over}
 use Rattle.history.specs.NetReadings.{NetReading, read_sentence, with_said, readings_of, is_net_selected, is_fast_row, next_sequence}
 use Rattle.history.specs.NetRules.{datagram_breaks, item_breaks, sentence_breaks, reading_breaks}
 
@@ -56,21 +56,21 @@ module _ (c : Settings) (own : Option ℕ) where
 
   -- ---- an item: its report, and what the sentences give that it hands over
 
-  abbrev pub handed_gives : List Taken → Came → Item → List Emit
+  abbrev pub handed_gives : List Taken → HeardItem → Item → List Emit
   handed_gives lines x (bad rule place) = []
   handed_gives lines x (line place said sentence parts) =
       if is_taken c said
-      then (let t = taken_after c lines x place said sentence in sentences_give t (readings_of lines) (handed_over t lines))
+      then (let t = taken_as c lines x place said sentence in sentences_give t (readings_of lines) (handed_over t lines))
       else []
 
-  abbrev pub item_gives : List Came → Came → List Emit
-  item_gives older x = let lines = lines_of c older in reported (item_breaks c lines x) ++ handed_gives lines x x.item
+  abbrev pub item_gives : List HeardItem → HeardItem → List Emit
+  item_gives older x = let lines = taken_lines c older in reported (item_breaks c lines x) ++ handed_gives lines x x.item
 
-  abbrev pub items_give : List Came → List Came → List Emit
+  abbrev pub items_give : List HeardItem → List HeardItem → List Emit
   items_give older [] = []
   items_give older (x ∷ items) = item_gives older x ++ items_give (x ∷ older) items
 
   -- ---- a datagram
 
-  abbrev pub datagram_gives : List Came → List Came → Result (List Item) DatagramFault → List Emit
+  abbrev pub datagram_gives : List HeardItem → List HeardItem → Result (List Item) DatagramFault → List Emit
   datagram_gives older items read = reported (datagram_breaks read) ++ items_give older items

@@ -1,29 +1,27 @@
 -- What the gateway emits at each entry, over the history before it: what is overdue ends, then the entry is handled, and then the command
 -- that it completes (ISO 11783-5).
-use Rattle.std.specs.Prelude.{ℕ, List, [], ◌∷◌, ◌++◌, length, Option, Some, None, option_map, Result, if◌then◌else◌}
+use Rattle.std.specs.Prelude.{ℕ, List, [], ◌∷◌, ◌++◌, length, Option, Some, None, option_map, option_and_then, Result, if◌then◌else◌}
 use Rattle.claim_table.specs.Claims.{is_ready}
 use Rattle.readings.specs.declared.reading.Reading.{Reading}
 use Rattle.readings.specs.Rows.{row_of}
 use Rattle.sentence_rows.specs.Writing.{sentences_of}
 use Rattle.datagram450.specs.declared.fault.DatagramFault.{DatagramFault}
 use Rattle.datagram450.specs.Datagram as datagrams
-use Rattle.datagram450.specs.Item.{Item}
+use Rattle.datagram450.specs.Datagram.{Item}
 use Rattle.gate_events.specs.declared.emit.Report.{Report}
 use Rattle.gate_events.specs.declared.emit.Detail.TheVariants as detail
 use Rattle.report_rules.specs.Rules as rules
 use Rattle.history.specs.Entries as entry
 use Rattle.history.specs.Entries.{Entry, History, now, moment_of, is_accepted}
 use Rattle.pgn_profile.specs.Profiled.{kind_of}
-use Rattle.history.specs.Settings.{Settings, rule_of}
-use Rattle.history.specs.Receiver.{receiver_of}
+use Rattle.history.specs.Settings.{Settings, rule_of, receiver_of}
 use Rattle.history.specs.Known.{known}
 use Rattle.history.specs.Opens.{notes_of}
 use Rattle.history.specs.Messages.{Message, done, ordered_in}
 use Rattle.gate_events.specs.Emit.{Emit, Emitted, can, net, report}
-use Rattle.history.specs.Emits.{at, broken, own_claim, request_for_claims}
-use Rattle.history.specs.Endings.{fast_expired, iso_expired, groups_expired}
-use Rattle.history.specs.Datagrams.{Spoken}
-use Rattle.history.specs.Heard.{Came, came_at, with_items, lines_of}
+use Rattle.history.specs.Emits.{at, broken, own_claim, request_for_claims, Spoken}
+use Rattle.history.specs.Endings.{fast_expired, iso_expired, groups_expired, side}
+use Rattle.history.specs.Heard.{HeardItem, heard_items, with_items, taken_lines}
 use Rattle.history.specs.FromNet.{items_in, datagram_gives}
 use Rattle.history.specs.FromBus.{said_at, frame_refused, from_frame, command_breaks, from_command}
 
@@ -43,17 +41,17 @@ module _ (c : Settings) (s : ℕ) where
   spoken_of (e ∷ h) = with_spoken (said_at c s h e) (spoken_of h)
 
   -- the items of a datagram that comes after a history
-  abbrev pub came : History → ℕ → Result (List Item) DatagramFault → List Came
-  came h m read = came_at m (is_ready (known (receiver_of c) s h).claims m) (items_in read)
+  abbrev pub items_at : History → ℕ → Result (List Item) DatagramFault → List HeardItem
+  items_at h m read = heard_items m (is_ready (known (receiver_of c) s h).claims m) (items_in read)
 
-  abbrev pub items_of : History → Entry → List Came
+  abbrev pub items_of : History → Entry → List HeardItem
   items_of h (entry.frame m f) = []
-  items_of h (entry.datagram m bytes) = came h m (datagrams.read bytes)
+  items_of h (entry.datagram m bytes) = items_at h m (datagrams.read bytes)
   items_of h (entry.tick m) = []
   items_of h (entry.command m source address) = []
 
   -- the items of all datagrams, the newest first
-  abbrev pub heard : History → List Came
+  abbrev pub heard : History → List HeardItem
   heard [] = []
   heard (e ∷ h) = with_items (heard h) (items_of h e)
 
@@ -62,7 +60,7 @@ module _ (c : Settings) (s : ℕ) where
   expired h m =
       let k = known (receiver_of c) s h in
       let notes = notes_of (receiver_of c) s h in
-      fast_expired k.claims.holders notes (now h) m kind_of ++ iso_expired k notes (now h) m ++ groups_expired (lines_of c (heard h)) (now h) m
+      fast_expired (side k (now h)) (side k m) notes kind_of ++ iso_expired (side k (now h)) (side k m) notes ++ groups_expired (taken_lines c (heard h)) (now h) m
 
   -- the rules that an entry breaks; of a datagram, the reports among what it gives
   abbrev pub reports_in : List Emit → List Report
@@ -71,19 +69,19 @@ module _ (c : Settings) (s : ℕ) where
   reports_in (can f ∷ emits) = reports_in emits
   reports_in (net group bytes ∷ emits) = reports_in emits
 
-  abbrev pub datagram_after : History → ℕ → List ℕ → List Emit
-  datagram_after h m bytes = let read = datagrams.read bytes in datagram_gives c (known (receiver_of c) s h).claims.own (heard h) (came h m read) read
+  abbrev pub datagram_at : History → ℕ → List ℕ → List Emit
+  datagram_at h m bytes = let read = datagrams.read bytes in datagram_gives c (known (receiver_of c) s h).claims.own (heard h) (items_at h m read) read
 
   abbrev pub broken_by : History → Entry → List Report
   broken_by h (entry.frame m f) = frame_refused (receiver_of c) s h m f
-  broken_by h (entry.datagram m bytes) = reports_in (datagram_after h m bytes)
+  broken_by h (entry.datagram m bytes) = reports_in (datagram_at h m bytes)
   broken_by h (entry.tick m) = []
   broken_by h (entry.command m source address) = command_breaks (known (receiver_of c) s h).claims source address
 
   -- what an entry gives by itself
   abbrev pub handled : History → Entry → List Emit
   handled h (entry.frame m f) = from_frame c s h m f (spoken_of h)
-  handled h (entry.datagram m bytes) = datagram_after h m bytes
+  handled h (entry.datagram m bytes) = datagram_at h m bytes
   handled h (entry.tick m) = []
   handled h (entry.command m source address) = from_command c s h m source address
 
@@ -92,8 +90,7 @@ module _ (c : Settings) (s : ℕ) where
 
   -- the command to the gateway that an entry completes
   abbrev pub command_in : Option Message → ℕ → Option Entry
-  command_in None m = None
-  command_in (Some d) m = option_map (λ address. entry.command m d.source address) (ordered_in c.name d.pgn d.payload)
+  command_in message m = option_and_then (λ d. option_map (λ address. entry.command m d.source address) (ordered_in c.name d.pgn d.payload)) message
 
   abbrev pub opening : List Emitted
   opening = at s (opening_emits c)

@@ -1,6 +1,7 @@
 -- What one more taken line does to what is open of its group.
 use Rattle.std.specs.Prelude.{◌≡◌, ℕ, ◌≤◌, false, List, [], ◌∷◌, Some, None}
-use Rattle.slot_views.specs.Runs.{fed, finished, kept_at}
+use Rattle.slot_views.specs.Runs.{kept_at}
+use Rattle.slot_views.specs.RunLaws.{fed, finished}
 use Rattle.tag_block.specs.declared.group_part.GroupPart.{GroupPart}
 use Rattle.tag_block.specs.declared.group_key.GroupKey.{GroupKey}
 use Rattle.tag_block.specs.GroupRuns.{group_rules}

@@ -1,18 +1,14 @@
 -- What is heard from the network (IEC 61162-450): the items of all datagrams, the lines that are taken of them, and the groups that
 -- these make. Every list has the newest first.
-use Rattle.std.specs.Prelude.{ℕ, Bool, true, false, ◌&&◌, ◌||◌, not, ◌==◌, nat_eq, nat_le, nat_lt, List, [], ◌∷◌, length, map, reverse, filter, filter_map, position, Option, Some, None, is_some, if◌then◌else◌}
-use Rattle.std.specs.Cmp.Lexicographic.{pointwise}
+use Rattle.std.specs.Prelude.{ℕ, Bool, true, false, ◌&&◌, ◌||◌, not, ◌==◌, nat_le, nat_lt, List, [], ◌∷◌, length, map, reverse, filter, filter_map, position, Option, Some, None, option_and_then, is_some, if◌then◌else◌}
 use Rattle.slot_views.specs.Runs.{open_at, run_of}
 use Rattle.tag_block.specs.declared.group_part.GroupPart.{GroupPart}
 use Rattle.tag_block.specs.declared.group_key.GroupKey.{GroupKey}
 use Rattle.tag_block.specs.Tag.{Said}
 use Rattle.tag_block.specs.GroupRuns.{GroupLine, group_rules}
-use Rattle.datagram450.specs.Item.{Item, line, bad}
-use Rattle.history.specs.Settings.{Settings}
-use Rattle.history.specs.Opens.{placed}
-
-abbrev pub same_text : List ℕ → List ℕ → Bool
-same_text a b = pointwise nat_eq a b
+use Rattle.datagram450.specs.Datagram.{Item, line, bad}
+use Rattle.history.specs.Settings.{Settings, same_text, is_some_that}
+use Rattle.history.specs.Opens.{with_key}
 
 -- of two texts the one whose first byte that differs is smaller, or that ends first
 abbrev pub precedes_text : List ℕ → List ℕ → Bool
@@ -22,17 +18,17 @@ precedes_text (x ∷ xs) [] = false
 precedes_text (x ∷ xs) (y ∷ ys) = nat_lt x y || ((x == y) && precedes_text xs ys)
 
 -- an item of a datagram, its place in it included: when it came, and whether the gateway was ready then
-pub record Came : Type 0 where
+pub record HeardItem : Type 0 where
   pub moment : ℕ
   pub ready : Bool
   pub item : Item
 
 -- the items of a datagram, in its order
-abbrev pub came_at : ℕ → Bool → List Item → List Came
-came_at m ready items = map (λ i. record { moment = m; ready = ready; item = i }) items
+abbrev pub heard_items : ℕ → Bool → List Item → List HeardItem
+heard_items m ready items = map (λ i. record { moment = m; ready = ready; item = i }) items
 
 -- with the items of one more datagram
-abbrev pub with_items : List Came → List Came → List Came
+abbrev pub with_items : List HeardItem → List HeardItem → List HeardItem
 with_items older [] = older
 with_items older (x ∷ items) = with_items (x ∷ older) items
 
@@ -57,16 +53,14 @@ precedes_group a b = precedes_text a.sfi b.sfi || (same_text a.sfi b.sfi && nat_
 
 -- the place in a group of two lines or more
 abbrev pub several : Option GroupPart → Option GroupPart
-several None = None
-several (Some part) = if nat_le 2 part.total then Some part else None
+several part = option_and_then (λ x. if nat_le 2 x.total then Some x else None) part
 
 abbrev pub group_line : Taken → GroupPart → GroupLine
 group_line t part = record { moment = t.moment; part = part; sentence = t.sentence; admitted = t.admitted }
 
 -- the line, where it is of the group
 abbrev pub line_in : GroupKey → Taken → Option GroupPart → Option GroupLine
-line_in key t None = None
-line_in key t (Some part) = if same_group key (record { sfi = t.source; code = part.code }) then Some (group_line t part) else None
+line_in key t part = option_and_then (λ x. if same_group key (record { sfi = t.source; code = x.code }) then Some (group_line t x) else None) part
 
 -- the lines of a group
 abbrev pub group_trace : GroupKey → List Taken → List GroupLine
@@ -74,7 +68,7 @@ group_trace key lines = filter_map (λ t. line_in key t (several t.group)) lines
 
 abbrev pub key_with : List ℕ → Option GroupPart → List GroupKey → List GroupKey
 key_with source None keys = keys
-key_with source (Some part) keys = placed same_group precedes_group (record { sfi = source; code = part.code }) keys
+key_with source (Some part) keys = with_key same_group precedes_group (record { sfi = source; code = part.code }) keys
 
 -- the groups whose lines came, by source and then by code
 abbrev pub group_keys : List Taken → List GroupKey
@@ -102,8 +96,7 @@ is_own_line c said = same_text said.source c.sfi
 
 -- a line without a destination is for all
 abbrev pub is_elsewhere : Settings → Option (List ℕ) → Bool
-is_elsewhere c None = false
-is_elsewhere c (Some destination) = not (same_text destination c.sfi)
+is_elsewhere c destination = is_some_that (λ x. not (same_text x c.sfi)) destination
 
 abbrev pub is_taken : Settings → Said → Bool
 is_taken c said = not (is_own_line c said) && (not (is_elsewhere c said.destination) && is_some (place_of c said.source))
@@ -114,8 +107,8 @@ is_line_admitted c lines source None m = true
 is_line_admitted c lines source (Some part) m = is_group_admitted c.group_slots lines (record { sfi = source; code = part.code }) m
 
 -- the line as it is taken after these
-abbrev pub taken_after : Settings → List Taken → Came → ℕ → Said → List ℕ → Taken
-taken_after c lines x place said sentence = record {
+abbrev pub taken_as : Settings → List Taken → HeardItem → ℕ → Said → List ℕ → Taken
+taken_as c lines x place said sentence = record {
   moment = x.moment;
   ready = x.ready;
   place = place;
@@ -125,14 +118,14 @@ taken_after c lines x place said sentence = record {
   admitted = is_line_admitted c lines said.source said.group x.moment;
 }
 
-abbrev pub with_item : Settings → List Taken → Came → Item → List Taken
-with_item c lines x (line place said sentence parts) = if is_taken c said then taken_after c lines x place said sentence ∷ lines else lines
+abbrev pub with_item : Settings → List Taken → HeardItem → Item → List Taken
+with_item c lines x (line place said sentence parts) = if is_taken c said then taken_as c lines x place said sentence ∷ lines else lines
 with_item c lines x (bad rule place) = lines
 
 -- of all items that came
-abbrev pub lines_of : Settings → List Came → List Taken
-lines_of c [] = []
-lines_of c (x ∷ older) = with_item c (lines_of c older) x x.item
+abbrev pub taken_lines : Settings → List HeardItem → List Taken
+taken_lines c [] = []
+taken_lines c (x ∷ older) = with_item c (taken_lines c older) x x.item
 
 -- ---- the sentences that the newest line hands over, in their order: its own, or those of the group that it ends
 

@@ -1,7 +1,7 @@
 -- A device's messages, with and without another device between them.
 use Rattle.std.specs.Prelude.{◌≡◌, ℕ, List, [], ◌∷◌, reverse, map}
 use Rattle.history.specs.Entries.{Entry, tick}
-use Rattle.history.specs.Receiver.{receiver_of}
+use Rattle.history.specs.Settings.{receiver_of}
 use Rattle.history.specs.Messages.{messages_of}
 use Rattle.history.specs.IsolationLaws.{from, NoneRefused}
 use Rattle.history.specs.Cases.{Emits, full, can_frame, emitted, two_devices, fix}

@@ -2,14 +2,14 @@
 use Rattle.std.specs.Prelude.{◌≡◌, ℕ, Bool, true, false, ◌&&◌, ◌||◌, ◌==◌, List, [], ◌∷◌, map, filter, is_some}
 use Rattle.n2k_id.specs.Identifier.{parts_of}
 use Rattle.pgn_profile.specs.declared.kinds.Kind.{Kind}
-use Rattle.fast_packet.specs.FastFrames as fast
+use Rattle.fast_packet.specs.FastRuns as fast
 use Rattle.iso_transport.specs.Audience.{key_of}
 use Rattle.iso_transport.specs.IsoRuns as iso
 use Rattle.history.specs.AddressLaws.{IsReceiver}
 use Rattle.history.specs.Entries.{Entry, History, frame, datagram, tick, command}
-use Rattle.history.specs.Receiver.{Receiver}
+use Rattle.history.specs.Settings.{Receiver}
 use Rattle.history.specs.Known.{known, is_claim, held_since}
-use Rattle.history.specs.Traces.{Note, iso_piece}
+use Rattle.history.specs.Traces.{NotedFrame, iso_piece}
 use Rattle.history.specs.Opens.{is_fast}
 use Rattle.history.specs.KeyLaws.{concerns, the_note}
 use Rattle.history.specs.Messages.{Message, messages_of}
@@ -40,13 +40,13 @@ abbrev pub from : ℕ → List Message → List Plain
 from a older = map plain (filter (λ d. d.source == a) older)
 
 -- a frame opens a message: it begins a fast packet of a source that holds its address, or a session that concerns the gateway
-abbrev pub opens_message : (ℕ → Kind) → Claims → Note → Bool
+abbrev pub opens_message : (ℕ → Kind) → Claims → NotedFrame → Bool
 opens_message kinds claims n =
     (is_some (held_since claims.holders n.parts.source) && (is_fast (kinds n.parts.pgn) && fast.is_opener n.bytes))
     || (concerns claims n (key_of n.parts) && iso.is_opener (key_of n.parts).addressed (iso_piece n))
 
 -- by what is known when it comes, the frame is no opener from the address, or finds room
-abbrev pub FindsRoom : (ℕ → Kind) → ℕ → Claims → Note → Type 0
+abbrev pub FindsRoom : (ℕ → Kind) → ℕ → Claims → NotedFrame → Type 0
 FindsRoom kinds a claims n = (n.parts.source == a) ≡ true → opens_message kinds claims n ≡ true → n.admitted ≡ true
 
 -- no opener from the address was refused for want of room

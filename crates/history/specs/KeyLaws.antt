@@ -5,7 +5,8 @@ use Rattle.n2k_id.specs.Identifier.{parts_of}
 use Rattle.claim_table.specs.Claims.{Claims, is_at, holder_at}
 use Rattle.claim_table.specs.declared.answer.Holder.{Holder}
 use Rattle.pgn_profile.specs.declared.kinds.Kind.TheVariants.{Fast}
-use Rattle.slot_views.specs.Runs.{fed, finished, kept_at}
+use Rattle.slot_views.specs.Runs.{kept_at}
+use Rattle.slot_views.specs.RunLaws.{fed, finished}
 use Rattle.fast_packet.specs.FastRuns.{fast_rules}
 use Rattle.iso_transport.specs.IsoRuns.{iso_rules}
 use Rattle.fast_packet.specs.declared.key.FastKey.{FastKey}
@@ -13,15 +14,15 @@ use Rattle.iso_transport.specs.declared.key.IsoKey.{IsoKey}
 use Rattle.iso_transport.specs.Audience.{key_of}
 use Rattle.history.specs.AddressLaws.{IsReceiver}
 use Rattle.history.specs.Entries.{History, frame}
-use Rattle.history.specs.Receiver.{Receiver}
+use Rattle.history.specs.Settings.{Receiver}
 use Rattle.history.specs.Known.{Known, known, is_claim, held_since}
-use Rattle.history.specs.Traces.{Note, fast_piece, iso_piece, is_transport, is_bearing}
+use Rattle.history.specs.Traces.{NotedFrame, fast_piece, iso_piece, is_transport, is_bearing}
 use Rattle.history.specs.Opens.{same_fast, fast_open, iso_open, note_of, notes_of}
 use Rattle.history.specs.Messages.{done, said_by, fast_carried, iso_carried}
 
 -- a frame that is no claim, from a source that holds its address
 module _ (c : Receiver) (s : ℕ) (h : History) (m : ℕ) (f : BusFrame) where
-  abbrev pub the_note : Note
+  abbrev pub the_note : NotedFrame
   the_note = note_of c (length h) (known c s h) (notes_of c s h) m f
 
   abbrev pub fast_key : FastKey
@@ -53,16 +54,16 @@ FramesKeepFast = (c : Receiver) (s : ℕ) (h : History) (m : ℕ) (f : BusFrame)
 -- what is open at a moment is what was open at an earlier one, but for what is overdue
 abbrev pub TimeEndsFast : Type 0
 TimeEndsFast =
-    (holders : List (Option Holder)) (notes : List Note) (key : FastKey) (m n : ℕ) → m ≤ n
+    (holders : List (Option Holder)) (notes : List NotedFrame) (key : FastKey) (m n : ℕ) → m ≤ n
     → fast_open holders notes key n ≡ kept_at fast_rules (fast_open holders notes key m) n
 
 -- ---- the transport protocol
 
 -- the frame bears on the session of this key: it is from the key's source, which holds its address, and to all or to the gateway
-abbrev pub is_meant : Option ℕ → Note → Bool → Bool
+abbrev pub is_meant : Option ℕ → NotedFrame → Bool → Bool
 is_meant own n addressed = if addressed then is_at n.parts.destination own else n.parts.destination == 255
 
-abbrev pub concerns : Claims → Note → IsoKey → Bool
+abbrev pub concerns : Claims → NotedFrame → IsoKey → Bool
 concerns claims n key =
     is_some (held_since claims.holders key.source)
     && ((n.parts.source == key.source) && (is_meant claims.own n key.addressed && is_bearing key.addressed n))
@@ -92,5 +93,5 @@ FramesCompleteIso =
 
 abbrev pub TimeEndsIso : Type 0
 TimeEndsIso =
-    (k : Known) (notes : List Note) (key : IsoKey) (m n : ℕ) → m ≤ n
+    (k : Known) (notes : List NotedFrame) (key : IsoKey) (m n : ℕ) → m ≤ n
     → iso_open k notes key n ≡ kept_at (iso_rules key.addressed) (iso_open k notes key m) n

@@ -3,14 +3,13 @@ use Rattle.std.specs.Prelude.{ℕ, Bool, ◌&&◌, not, ◌==◌, nat_le, List, 
 use Rattle.n2k_id.specs.Frame.{BusFrame}
 use Rattle.n2k_id.specs.Identifier.{parts_of}
 use Rattle.n2k_id.specs.Name.{name_at}
-use Rattle.claim_table.specs.Presets.{opened}
+use Rattle.claim_table.specs.Claims.{claims_at_start, Claims, Claim, claim_of, started, claim, command, holder_at}
 use Rattle.claim_table.specs.declared.answer.ClaimStep.{ClaimStep}
-use Rattle.claim_table.specs.Claims.{Claims, Claim, claim_of, started, claim, command, holder_at}
 use Rattle.claim_table.specs.declared.answer.Holder.{Holder}
 use Rattle.n2k_id.specs.Pgns as pgns
 use Rattle.history.specs.Entries as entry
 use Rattle.history.specs.Entries.{Entry, History}
-use Rattle.history.specs.Receiver.{Receiver}
+use Rattle.history.specs.Settings.{Receiver}
 
 -- what is known of the addresses: their holders and the own address, and the index of the entry by which that became the own one
 pub record Known : Type 0 where
@@ -56,7 +55,7 @@ known_after index k (entry.command m source address) = followed_by index k (comm
 module _ (r : Receiver) (s : ℕ) where
   -- what is known at the start: the presets, and the configured address, which may be used 250 ms later
   abbrev pub known_at_start : Known
-  known_at_start = record { claims = started (opened r.name r.address r.presets) s; own_since = 0 }
+  known_at_start = record { claims = started (claims_at_start r.name r.address r.presets) s; own_since = 0 }
 
   -- what is known after a history
   abbrev pub known : History → Known

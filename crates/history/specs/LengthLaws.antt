@@ -1,4 +1,4 @@
--- What is given for datagrams that are too long: of any such one, since none of them computes as a case.
+-- What is given for datagrams that are too long: of any such one, for none of them computes as a case.
 use Rattle.std.specs.Prelude.{◌≡◌, ℕ, ◌<◌, List, [], ◌∷◌, ◌++◌, length}
 use Rattle.gate_events.specs.declared.emit.Detail.TheVariants as detail
 use Rattle.datagram450.specs.Datagram.{header, longest_datagram}

@@ -1,6 +1,5 @@
 pub mod Entries
 pub mod Settings
-pub mod Receiver
 pub mod Known
 pub mod Traces
 pub mod Opens
@@ -8,7 +7,6 @@ pub mod Messages
 pub mod Choice
 pub mod Emits
 pub mod Endings
-pub mod Datagrams
 pub mod Meanings
 pub mod BusRules
 pub mod FromBus

@@ -2,11 +2,10 @@
 use Rattle.std.specs.Prelude.{ℕ, ◌≤◌, length}
 use Rattle.history.specs.AddressLaws.{IsReceiver}
 use Rattle.history.specs.Entries.{History, IsHistory, now}
-use Rattle.history.specs.Settings.{Settings}
-use Rattle.history.specs.Receiver.{Receiver}
+use Rattle.history.specs.Settings.{Settings, Receiver}
 use Rattle.history.specs.Known.{known}
 use Rattle.history.specs.Opens.{notes_of, open_fast_keys, open_iso_keys}
-use Rattle.history.specs.Heard.{lines_of, open_groups}
+use Rattle.history.specs.Heard.{taken_lines, open_groups}
 use Rattle.history.specs.Gate.{heard}
 
 abbrev pub FastWithinLimit : Type 0
@@ -20,4 +19,4 @@ IsoWithinLimit =
     → length (open_iso_keys (known c s h) (notes_of c s h) m) ≤ c.iso_slots
 
 abbrev pub GroupsWithinLimit : Type 0
-GroupsWithinLimit = (c : Settings) (s : ℕ) (h : History) (m : ℕ) → IsHistory h → now h ≤ m → length (open_groups (lines_of c (heard c s h)) m) ≤ c.group_slots
+GroupsWithinLimit = (c : Settings) (s : ℕ) (h : History) (m : ℕ) → IsHistory h → now h ≤ m → length (open_groups (taken_lines c (heard c s h)) m) ≤ c.group_slots

@@ -1,6 +1,6 @@
 -- A map that holds what is open of a kind, in the order of the reports, lists it in that order: its keys that pass a test, and those that
 -- end, by time or after a claim or a command.
-use Rattle.std.specs.Prelude.{Option, ◌≡◌, ℕ, Bool, ◌&&◌, List, map, filter, is_none, Some}
+use Rattle.std.specs.Prelude.{Option, ◌≡◌, ℕ, Bool, ◌&&◌, List, map, filter, is_some, is_none, Some}
 use Rattle.std.specs.Ordering.{is_lt}
 use Rattle.std.specs.declared.cmp.Ordering.{Ordering}
 use Rattle.slot_views.specs.Slots.{Entry, SlotMap, entry_at}
@@ -10,9 +10,9 @@ use Rattle.iso_transport.specs.declared.key.IsoKey.{IsoKey}
 use Rattle.tag_block.specs.declared.group_key.GroupKey.{GroupKey}
 use Rattle.history.specs.Known.{Known}
 use Rattle.history.specs.Heard.{Taken, precedes_group, group_keys, group_open, open_groups}
-use Rattle.history.specs.Traces.{Note}
+use Rattle.history.specs.Traces.{NotedFrame}
 use Rattle.history.specs.Opens.{precedes_fast, precedes_iso, fast_keys, iso_keys, fast_open, iso_open, open_fast_keys, open_iso_keys}
-use Rattle.history.specs.Endings.{fast_ended, iso_ended, group_ended}
+use Rattle.history.specs.Endings.{iso_ended, group_ended, side}
 use Rattle.history.specs.CountLaws.{HoldsFast, HoldsIso, HoldsGroups}
 use Rattle.claim_table.specs.declared.answer.Holder.{Holder}
 
@@ -24,28 +24,28 @@ Tests {K = K} cmp slots q p = (key : K) (e : Entry) → entry_at cmp slots key �
 abbrev pub keys_that : {K : Type 0} → (K × Entry → Bool) → SlotMap K → List K
 keys_that q slots = map (λ e. e.0) (filter q slots.entries)
 
-module _ (kinds : ℕ → Kind) (cmp : FastKey → FastKey → Ordering) (holders : List (Option Holder)) (notes : List Note) (m : ℕ) (slots : SlotMap FastKey) where
+module _ (kinds : ℕ → Kind) (cmp : FastKey → FastKey → Ordering) (holders : List (Option Holder)) (notes : List NotedFrame) (m : ℕ) (slots : SlotMap FastKey) where
   pub record ListsFast : Type 0 where
     pub passing : (p : FastKey → Bool) (q : FastKey × Entry → Bool) → Tests cmp slots q p → keys_that q slots ≡ filter p (open_fast_keys kinds holders notes m)
     pub ending : (is_meant : FastKey → Bool) (after : List (Option Holder)) (n : ℕ) (q : FastKey × Entry → Bool)
         → Tests cmp slots q (λ key. is_meant key && is_none (fast_open after notes key n))
-        → keys_that q slots ≡ filter (λ key. is_meant key && fast_ended holders m after n notes key) (fast_keys kinds notes)
+        → keys_that q slots ≡ filter (λ key. is_meant key && (is_some (fast_open holders notes key m) && is_none (fast_open after notes key n))) (fast_keys kinds notes)
 
 abbrev pub SlotsListFast : Type 0
 SlotsListFast =
-    (kinds : ℕ → Kind) (cmp : FastKey → FastKey → Ordering) (holders : List (Option Holder)) (notes : List Note) (m : ℕ) (slots : SlotMap FastKey)
+    (kinds : ℕ → Kind) (cmp : FastKey → FastKey → Ordering) (holders : List (Option Holder)) (notes : List NotedFrame) (m : ℕ) (slots : SlotMap FastKey)
     → HoldsFast kinds cmp holders notes m slots → ((a b : FastKey) → precedes_fast a b ≡ is_lt (cmp a b)) → ListsFast kinds cmp holders notes m slots
 
-module _ (cmp : IsoKey → IsoKey → Ordering) (k : Known) (notes : List Note) (m : ℕ) (slots : SlotMap IsoKey) where
+module _ (cmp : IsoKey → IsoKey → Ordering) (k : Known) (notes : List NotedFrame) (m : ℕ) (slots : SlotMap IsoKey) where
   pub record ListsIso : Type 0 where
     pub passing : (p : IsoKey → Bool) (q : IsoKey × Entry → Bool) → Tests cmp slots q p → keys_that q slots ≡ filter p (open_iso_keys k notes m)
     pub ending : (is_meant : IsoKey → Bool) (after : Known) (n : ℕ) (q : IsoKey × Entry → Bool)
         → Tests cmp slots q (λ key. is_meant key && is_none (iso_open after notes key n))
-        → keys_that q slots ≡ filter (λ key. is_meant key && iso_ended k m after n notes key) (iso_keys notes)
+        → keys_that q slots ≡ filter (λ key. is_meant key && iso_ended (side k m) (side after n) notes key) (iso_keys notes)
 
 abbrev pub SlotsListIso : Type 0
 SlotsListIso =
-    (cmp : IsoKey → IsoKey → Ordering) (k : Known) (notes : List Note) (m : ℕ) (slots : SlotMap IsoKey)
+    (cmp : IsoKey → IsoKey → Ordering) (k : Known) (notes : List NotedFrame) (m : ℕ) (slots : SlotMap IsoKey)
     → HoldsIso cmp k notes m slots → ((a b : IsoKey) → precedes_iso a b ≡ is_lt (cmp a b)) → ListsIso cmp k notes m slots
 
 module _ (cmp : GroupKey → GroupKey → Ordering) (lines : List Taken) (m : ℕ) (slots : SlotMap GroupKey) where

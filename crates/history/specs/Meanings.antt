@@ -5,7 +5,7 @@ use Rattle.claim_table.specs.Claims.{holder_at}
 use Rattle.claim_table.specs.declared.answer.Holder.{Holder}
 use Rattle.pgn_profile.specs.declared.kinds.Kind.{Kind}
 use Rattle.pgn_profile.specs.declared.kinds.Kind.TheVariants.{Single, Fast, Outside}
-use Rattle.iso_transport.specs.Audience.{is_own, is_to}
+use Rattle.n2k_id.specs.Identifier.{is_own, is_to}
 use Rattle.n2k_id.specs.Pgns as pgns
 use Rattle.history.specs.Traces.{is_transport}
 

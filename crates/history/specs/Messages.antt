@@ -10,14 +10,13 @@ use Rattle.slot_views.specs.Runs.{run_of}
 use Rattle.fast_packet.specs.FastRuns as fast
 use Rattle.fast_packet.specs.FastRuns.{FastPiece, fast_rules}
 use Rattle.iso_transport.specs.IsoRuns as iso
-use Rattle.iso_transport.specs.IsoRuns.{IsoPiece, iso_rules}
-use Rattle.iso_transport.specs.IsoRuns.{session_of}
+use Rattle.iso_transport.specs.IsoRuns.{IsoPiece, iso_rules, session_of}
 use Rattle.iso_transport.specs.Audience.{key_of}
 use Rattle.history.specs.Entries as entry
 use Rattle.history.specs.Entries.{Entry, History}
-use Rattle.history.specs.Receiver.{Receiver}
+use Rattle.history.specs.Settings.{Receiver}
 use Rattle.history.specs.Known.{Known, known}
-use Rattle.history.specs.Traces.{Note, fast_trace, iso_trace, is_transport, is_bearing}
+use Rattle.history.specs.Traces.{NotedFrame, fast_trace, iso_trace, is_transport, is_bearing}
 use Rattle.history.specs.Opens.{note_of, notes_of}
 
 -- a complete message: by which entry, when, from whom, and what it carries
@@ -44,19 +43,19 @@ abbrev pub iso_carried : Option (List IsoPiece) → Option Carried
 iso_carried run = option_map (λ r. carried (session_of r).pgn (iso.payload r)) run
 
 -- what a frame completes that is no transport frame: it is a message, or ends a run
-abbrev pub by_kind : Kind → Note → List FastPiece → Option Carried
+abbrev pub by_kind : Kind → NotedFrame → List FastPiece → Option Carried
 by_kind Single n trace = Some (carried n.parts.pgn n.bytes)
 by_kind Fast n trace = fast_carried n.parts.pgn (run_of fast_rules trace)
 by_kind Outside n trace = None
 
 -- and what a transport frame to all or to the gateway completes, where it bears on a session
-abbrev pub by_session : Known → Note → List Note → Option Carried
+abbrev pub by_session : Known → NotedFrame → List NotedFrame → Option Carried
 by_session k n older = let addressed = (key_of n.parts).addressed in
     if (not addressed || is_at n.parts.destination k.claims.own) && is_bearing addressed n
     then iso_carried (run_of (iso_rules addressed) (iso_trace k addressed n.parts.source (n ∷ older)))
     else None
 
-abbrev pub completed_by : (ℕ → Kind) → Known → Note → List Note → Option Carried
+abbrev pub completed_by : (ℕ → Kind) → Known → NotedFrame → List NotedFrame → Option Carried
 completed_by kinds k n older =
     if is_transport n.parts then by_session k n older
     else by_kind (kinds n.parts.pgn) n (fast_trace k.claims.holders n.parts.source n.parts.pgn (n ∷ older))

@@ -1,11 +1,10 @@
 -- What the lines from the network say, and which of it is selected and sent on. Every list has the newest first.
-use Rattle.std.specs.Prelude.{ℕ, ◌%◌, Bool, false, ◌&&◌, not, ◌==◌, List, [], ◌∷◌, map, filter, find, count_by, Option, Some, None, option_map, Result, Ok, Err, if◌then◌else◌}
+use Rattle.std.specs.Prelude.{ℕ, ◌%◌, Bool, ◌&&◌, not, ◌==◌, List, [], ◌∷◌, map, filter, find, count_by, Option, Some, option_map, Result, Ok, Err, if◌then◌else◌}
 use Rattle.std.specs.List.{list_any}
 use Rattle.readings.specs.declared.reading.Reading.{Reading}
 use Rattle.readings.specs.declared.rows.Row.{Row}
 use Rattle.readings.specs.Rows.{row_of}
-use Rattle.pgn_profile.specs.Payload.{pgn_of}
-use Rattle.pgn_profile.specs.Profiled.{kind_of}
+use Rattle.pgn_profile.specs.Profiled.{pgn_of, kind_of}
 use Rattle.sentence_text.specs.declared.fault.SentenceFault.{SentenceFault}
 use Rattle.sentence_text.specs.Sentence.{SentenceParts}
 use Rattle.sentence_text.specs.Reading as sentences
@@ -13,10 +12,10 @@ use Rattle.sentence_rows.specs.declared.fault.FieldFault.{FieldFault}
 use Rattle.sentence_rows.specs.declared.fault.FieldFault.TheVariants.{Outside}
 use Rattle.sentence_rows.specs.Reading.{read_row}
 use Rattle.source_choice.specs.declared.rank.Rank.{Rank}
-use Rattle.history.specs.Settings.{Settings, RowRule, rule_of}
+use Rattle.history.specs.Settings.{Settings, RowRule, rule_of, same_text, is_some_that}
 use Rattle.history.specs.Opens.{is_fast}
 use Rattle.history.specs.Choice.{is_better, is_row, is_current}
-use Rattle.history.specs.Heard.{Taken, same_text, place_of, handed_over}
+use Rattle.history.specs.Heard.{Taken, place_of, handed_over}
 
 -- a reading that was heard, with its line: of a group, the one that completed it
 pub record NetReading : Type 0 where
@@ -61,8 +60,7 @@ abbrev pub last_heard : Row → List ℕ → List NetReading → Option NetReadi
 last_heard row source older = find (λ n. same_text n.line.source source && is_row row (Some n.reading)) older
 
 abbrev pub counts_still : ℕ → ℕ → Option NetReading → Bool
-counts_still timeout m None = false
-counts_still timeout m (Some n) = is_current timeout m n.line.moment (Some n.reading)
+counts_still timeout m last = is_some_that (λ n. is_current timeout m n.line.moment (Some n.reading)) last
 
 -- a source is fresh where its last reading of the row counts still
 abbrev pub is_net_fresh : RowRule → Row → List ℕ → ℕ → List NetReading → Bool
@@ -70,9 +68,8 @@ is_net_fresh rule row source m older = counts_still rule.timeout m (last_heard r
 
 -- no source of a smaller rank is fresh
 abbrev pub is_net_first : Settings → List NetReading → NetReading → Option Rank → Bool
-is_net_first c older n None = false
-is_net_first c older n (Some rank) = let row = row_of n.reading in
-    not (list_any (λ o. is_better rank (net_rank c o.line.source) && is_net_fresh (rule_of c row) row o.line.source n.line.moment older) older)
+is_net_first c older n rank = let row = row_of n.reading in
+    is_some_that (λ x. not (list_any (λ o. is_better x (net_rank c o.line.source) && is_net_fresh (rule_of c row) row o.line.source n.line.moment older) older)) rank
 
 abbrev pub is_net_selected : Settings → List NetReading → NetReading → Bool
 is_net_selected c older n = is_net_first c older n (net_rank c n.line.source)

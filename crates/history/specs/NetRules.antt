@@ -1,6 +1,6 @@
 -- Which rules a datagram breaks (IEC 61162-450), and its items, sentences (IEC 61162-1) and readings: each part in the order of the
 -- rules' numbers.
-use Rattle.std.specs.Prelude.{ℕ, Bool, false, ◌&&◌, not, ◌==◌, List, [], ◌∷◌, Option, Some, None, is_some, is_none, Result, Ok, Err, if◌then◌else◌}
+use Rattle.std.specs.Prelude.{ℕ, Bool, ◌&&◌, not, ◌==◌, List, [], ◌∷◌, Option, Some, None, is_some, is_none, Result, Ok, Err, if◌then◌else◌}
 use Rattle.report_rules.specs.Rules as rules
 use Rattle.sentence_rows.specs.declared.fault.FieldFault.{FieldFault}
 use Rattle.sentence_rows.specs.declared.fault.FieldFault.TheVariants.{Outside, Form, Range}
@@ -10,13 +10,12 @@ use Rattle.tag_block.specs.Tag.{Said}
 use Rattle.tag_block.specs.GroupRuns.{GroupLine, is_next}
 use Rattle.datagram450.specs.declared.fault.DatagramFault.{DatagramFault}
 use Rattle.datagram450.specs.declared.fault.DatagramFault.TheVariants.{Header, Long}
-use Rattle.datagram450.specs.Datagram.{longest_datagram}
-use Rattle.datagram450.specs.Item.{Item, line, bad}
+use Rattle.datagram450.specs.Datagram.{longest_datagram, Item, line, bad}
 use Rattle.gate_events.specs.declared.emit.Report.{Report}
 use Rattle.gate_events.specs.declared.emit.Detail.TheVariants as detail
-use Rattle.history.specs.Settings.{Settings}
+use Rattle.history.specs.Settings.{Settings, is_some_that}
 use Rattle.history.specs.Emits.{breaks, broken_of, report_of}
-use Rattle.history.specs.Heard.{Came, Taken, several, group_line, group_open, place_of, is_own_line, is_elsewhere, is_taken, taken_after}
+use Rattle.history.specs.Heard.{HeardItem, Taken, several, group_line, group_open, place_of, is_own_line, is_elsewhere, is_taken, taken_as}
 use Rattle.history.specs.NetReadings.{NetReading}
 
 -- ---- a datagram: it has no header, or more bytes than a datagram may have
@@ -42,8 +41,7 @@ line_breaks c place said =
 
 -- the line is the next one of the group that is open
 abbrev pub continues : Option (List GroupLine) → GroupLine → Bool
-continues None x = false
-continues (Some acc) x = is_next acc x
+continues lines x = is_some_that (λ acc. is_next acc x) lines
 
 abbrev pub part_breaks : List Taken → Taken → Option GroupPart → List Report
 part_breaks lines t None = []
@@ -58,12 +56,12 @@ part_breaks lines t (Some part) =
 
 -- ---- an item after these lines: it is no line, or a line that isn't taken, or one of a group
 
-abbrev pub item_breaks_as : Settings → List Taken → Came → Item → List Report
+abbrev pub item_breaks_as : Settings → List Taken → HeardItem → Item → List Report
 item_breaks_as c lines x (bad rule place) = report_of rule (detail.At place) ∷ []
 item_breaks_as c lines x (line place said sentence parts) =
-    if is_taken c said then part_breaks lines (taken_after c lines x place said sentence) (several said.group) else line_breaks c place said
+    if is_taken c said then part_breaks lines (taken_as c lines x place said sentence) (several said.group) else line_breaks c place said
 
-abbrev pub item_breaks : Settings → List Taken → Came → List Report
+abbrev pub item_breaks : Settings → List Taken → HeardItem → List Report
 item_breaks c lines x = item_breaks_as c lines x x.item
 
 -- ---- a sentence that is handed over: a field isn't of its form, or out of its range

@@ -1,7 +1,7 @@
 -- Which messages are open, fast packets (canboat) and sessions of the transport protocol (ISO 11783-3), and which openers find room.
 -- Whether an opener finds room hangs on what is open just before it, and that on which openers found room: so it is noted of each frame
 -- by the history before it, and a note says no more than that history does.
-use Rattle.std.specs.Prelude.{ℕ, Bool, true, false, ◌&&◌, ◌||◌, not, ◌==◌, nat_lt, List, [], ◌∷◌, length, filter, Option, is_some, if◌then◌else◌}
+use Rattle.std.specs.Prelude.{ℕ, Bool, true, false, ◌&&◌, ◌||◌, not, ◌==◌, nat_lt, List, [], ◌∷◌, length, filter, Option, Some, None, is_some, if◌then◌else◌}
 use Rattle.std.specs.Bool.{beq}
 use Rattle.std.specs.List.{list_any}
 use Rattle.n2k_id.specs.declared.identifier_parts.Parts.{Parts}
@@ -12,15 +12,15 @@ use Rattle.pgn_profile.specs.declared.kinds.Kind.{Kind}
 use Rattle.pgn_profile.specs.declared.kinds.Kind.TheVariants.{Single, Fast, Outside}
 use Rattle.slot_views.specs.Runs.{open_at}
 use Rattle.fast_packet.specs.FastRuns.{FastPiece, fast_rules}
-use Rattle.iso_transport.specs.IsoRuns.{IsoPiece, iso_rules}
+use Rattle.iso_transport.specs.IsoRuns.{IsoPiece, iso_rules, session_of}
 use Rattle.fast_packet.specs.declared.key.FastKey.{FastKey}
 use Rattle.iso_transport.specs.declared.key.IsoKey.{IsoKey}
 use Rattle.iso_transport.specs.Audience.{key_of}
 use Rattle.history.specs.Entries as entry
 use Rattle.history.specs.Entries.{Entry, History}
-use Rattle.history.specs.Receiver.{Receiver}
+use Rattle.history.specs.Settings.{Receiver}
 use Rattle.history.specs.Known.{Known, known}
-use Rattle.history.specs.Traces.{Note, fast_trace, iso_trace, is_transport}
+use Rattle.history.specs.Traces.{NotedFrame, fast_trace, iso_trace, is_transport}
 use Rattle.claim_table.specs.declared.answer.Holder.{Holder}
 
 -- the message comes as a fast packet
@@ -50,49 +50,54 @@ abbrev pub inserted : {K : Type 0} → (K → K → Bool) → K → List K → L
 inserted precedes key [] = key ∷ []
 inserted precedes key (x ∷ xs) = if precedes key x then key ∷ x ∷ xs else x ∷ inserted precedes key xs
 
-abbrev pub placed : {K : Type 0} → (K → K → Bool) → (K → K → Bool) → K → List K → List K
-placed same precedes key xs = if list_any (same key) xs then xs else inserted precedes key xs
+abbrev pub with_key : {K : Type 0} → (K → K → Bool) → (K → K → Bool) → K → List K → List K
+with_key same precedes key xs = if list_any (same key) xs then xs else inserted precedes key xs
 
-abbrev pub fast_keys : (ℕ → Kind) → List Note → List FastKey
+abbrev pub fast_keys : (ℕ → Kind) → List NotedFrame → List FastKey
 fast_keys kinds [] = []
 fast_keys kinds (n ∷ notes) =
     if is_fast (kinds n.parts.pgn)
-    then placed same_fast precedes_fast (record { source = n.parts.source; pgn = n.parts.pgn }) (fast_keys kinds notes)
+    then with_key same_fast precedes_fast (record { source = n.parts.source; pgn = n.parts.pgn }) (fast_keys kinds notes)
     else fast_keys kinds notes
 
-abbrev pub iso_keys : List Note → List IsoKey
+abbrev pub iso_keys : List NotedFrame → List IsoKey
 iso_keys [] = []
 iso_keys (n ∷ notes) =
-    if is_transport n.parts then placed same_iso precedes_iso (key_of n.parts) (iso_keys notes) else iso_keys notes
+    if is_transport n.parts then with_key same_iso precedes_iso (key_of n.parts) (iso_keys notes) else iso_keys notes
 
 -- ---- what is open at a moment
 
-abbrev pub fast_open : List (Option Holder) → List Note → FastKey → ℕ → Option (List FastPiece)
+abbrev pub fast_open : List (Option Holder) → List NotedFrame → FastKey → ℕ → Option (List FastPiece)
 fast_open holders notes key m = open_at fast_rules (fast_trace holders key.source key.pgn notes) m
 
-abbrev pub iso_open : Known → List Note → IsoKey → ℕ → Option (List IsoPiece)
+abbrev pub iso_open : Known → List NotedFrame → IsoKey → ℕ → Option (List IsoPiece)
 iso_open k notes key m = open_at (iso_rules key.addressed) (iso_trace k key.addressed key.source notes) m
 
-abbrev pub open_fast_keys : (ℕ → Kind) → List (Option Holder) → List Note → ℕ → List FastKey
+-- the message of the session
+abbrev pub open_pgn : Option (List IsoPiece) → ℕ
+open_pgn None = 0
+open_pgn (Some acc) = (session_of acc).pgn
+
+abbrev pub open_fast_keys : (ℕ → Kind) → List (Option Holder) → List NotedFrame → ℕ → List FastKey
 open_fast_keys kinds holders notes m = filter (λ key. is_some (fast_open holders notes key m)) (fast_keys kinds notes)
 
-abbrev pub open_iso_keys : Known → List Note → ℕ → List IsoKey
+abbrev pub open_iso_keys : Known → List NotedFrame → ℕ → List IsoKey
 open_iso_keys k notes m = filter (λ key. is_some (iso_open k notes key m)) (iso_keys notes)
 
 -- ---- which openers find room: fewer of the other keys of the kind are open than the limit
 
-abbrev pub is_fast_admitted : (ℕ → Kind) → ℕ → List (Option Holder) → List Note → FastKey → ℕ → Bool
+abbrev pub is_fast_admitted : (ℕ → Kind) → ℕ → List (Option Holder) → List NotedFrame → FastKey → ℕ → Bool
 is_fast_admitted kinds limit holders notes key m = nat_lt (length (filter (λ other. not (same_fast other key)) (open_fast_keys kinds holders notes m))) limit
 
-abbrev pub is_iso_admitted : ℕ → Known → List Note → IsoKey → ℕ → Bool
+abbrev pub is_iso_admitted : ℕ → Known → List NotedFrame → IsoKey → ℕ → Bool
 is_iso_admitted limit k notes key m = nat_lt (length (filter (λ other. not (same_iso other key)) (open_iso_keys k notes m))) limit
 
-abbrev pub is_frame_admitted : Receiver → Known → List Note → Parts → ℕ → Bool
+abbrev pub is_frame_admitted : Receiver → Known → List NotedFrame → Parts → ℕ → Bool
 is_frame_admitted r k notes p m =
     if is_transport p then is_iso_admitted r.iso_slots k notes (key_of p) m
     else is_fast_admitted r.kinds r.fast_slots k.claims.holders notes (record { source = p.source; pgn = p.pgn }) m
 
-abbrev pub note_of : Receiver → ℕ → Known → List Note → ℕ → BusFrame → Note
+abbrev pub note_of : Receiver → ℕ → Known → List NotedFrame → ℕ → BusFrame → NotedFrame
 note_of r index k notes m f = let p = parts_of f.id in record {
   index = index;
   moment = m;
@@ -102,13 +107,13 @@ note_of r index k notes m f = let p = parts_of f.id in record {
   admitted = is_frame_admitted r k notes p m;
 }
 
-abbrev pub noted : Receiver → ℕ → Known → List Note → Entry → List Note
+abbrev pub noted : Receiver → ℕ → Known → List NotedFrame → Entry → List NotedFrame
 noted r index k notes (entry.frame m f) = note_of r index k notes m f ∷ notes
 noted r index k notes (entry.datagram m bytes) = notes
 noted r index k notes (entry.tick m) = notes
 noted r index k notes (entry.command m source address) = notes
 
 -- the frames of a history, each with what the history before it says of it
-abbrev pub notes_of : Receiver → ℕ → History → List Note
+abbrev pub notes_of : Receiver → ℕ → History → List NotedFrame
 notes_of r s [] = []
 notes_of r s (e ∷ h) = noted r (length h) (known r s h) (notes_of r s h) e

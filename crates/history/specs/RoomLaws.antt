@@ -7,7 +7,7 @@ use Rattle.report_rules.specs.Rules as rules
 use Rattle.gate_events.specs.declared.emit.Report.{Report}
 use Rattle.history.specs.AddressLaws.{IsReceiver}
 use Rattle.history.specs.Entries.{History, frame, datagram, tick, command}
-use Rattle.history.specs.Receiver.{Receiver}
+use Rattle.history.specs.Settings.{Receiver}
 use Rattle.history.specs.Known.{known}
 use Rattle.history.specs.FromBus.{frame_refused}
 use Rattle.history.specs.KeyLaws.{the_note}

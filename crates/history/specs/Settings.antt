@@ -1,9 +1,17 @@
 -- How a gateway is configured, as plain values.
-use Rattle.std.specs.Prelude.{ℕ, zero, suc, Bool, false, ◌==◌, List, [], ◌∷◌}
+use Rattle.std.specs.Cmp.Lexicographic.{pointwise}
+use Rattle.std.specs.Prelude.{nat_eq, ℕ, zero, suc, Bool, false, ◌==◌, List, [], ◌∷◌, Option, Some, None}
 use Rattle.n2k_id.specs.declared.pattern.Pattern.{Pattern}
 use Rattle.claim_table.specs.declared.preset.Preset.{Preset}
 use Rattle.readings.specs.declared.rows.Row.{Row}
 use Rattle.readings.specs.About.{row_number}
+use Rattle.pgn_profile.specs.Profiled.{kind_of}
+use Rattle.pgn_profile.specs.declared.kinds.Kind.{Kind}
+
+-- there is something that passes a test
+abbrev pub is_some_that : {A : Type 0} → (A → Bool) → Option A → Bool
+is_some_that passes None = false
+is_some_that passes (Some x) = passes x
 
 -- whom a row is taken from, and to whom it is said
 pub record RowRule : Type 0 where
@@ -34,6 +42,10 @@ pub record Settings : Type 0 where
   -- whom the network is heard from, in order of preference
   pub net_sources : List (List ℕ)
 
+-- two system function identifiers, or two transmission groups
+abbrev pub same_text : List ℕ → List ℕ → Bool
+same_text a b = pointwise nat_eq a b
+
 abbrev pub same_row : Row → Row → Bool
 same_row a b = row_number a == row_number b
 
@@ -48,3 +60,25 @@ rule_at (rule ∷ rules) (suc number) = rule_at rules number
 
 abbrev pub rule_of : Settings → Row → RowRule
 rule_of c row = rule_at c.rows (row_number row)
+
+-- what a device is that takes messages from the bus: its NAME and address, whose addresses it knows at first, which PGNs are messages,
+-- and how many may be open at once; the gateway is one
+pub record Receiver : Type 0 where
+  pub name : ℕ
+  pub address : ℕ
+  pub presets : List Preset
+  -- how the messages of a PGN come: in one frame, as a fast packet, or not at all
+  pub kinds : ℕ → Kind
+  -- how many fast packets, and how many sessions of the transport protocol
+  pub fast_slots : ℕ
+  pub iso_slots : ℕ
+
+abbrev pub receiver_of : Settings → Receiver
+receiver_of c = record {
+  name = c.name;
+  address = c.address;
+  presets = c.presets;
+  kinds = kind_of;
+  fast_slots = c.fast_slots;
+  iso_slots = c.iso_slots;
+}

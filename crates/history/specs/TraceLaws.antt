@@ -6,7 +6,7 @@ use Rattle.claim_table.specs.declared.answer.ClaimStep.{ClaimStep}
 use Rattle.n2k_id.specs.Pgns as pgns
 use Rattle.history.specs.AddressLaws.{IsReceiver}
 use Rattle.history.specs.Entries.{Entry, History, frame, command}
-use Rattle.history.specs.Receiver.{Receiver}
+use Rattle.history.specs.Settings.{Receiver}
 use Rattle.history.specs.Known.{known, is_claim, claim_by, address_left, address_won}
 use Rattle.history.specs.Traces.{fast_trace, iso_trace}
 use Rattle.history.specs.Opens.{notes_of}

@@ -1,7 +1,7 @@
 //! What is promised of every history. Each law is a function that does nothing, and whose clause is the law.
 ghost use Rattle.history.specs.AddressLaws.{AddressesAreSound, GatewaysReceive};
 ghost use Rattle.history.specs.CountLaws.{SlotsCountFast, SlotsCountIso, SlotsCountGroups};
-ghost use Rattle.history.specs.FreshLaws.{FreshByLast, MessagesAreKept, ClaimsForget, CommandsForgetNone, ReadingsAreKept};
+ghost use Rattle.history.specs.FreshLaws.{MessagesAreKept, ClaimsForget, CommandsForgetNone, ReadingsAreKept};
 ghost use Rattle.history.specs.IsolationLaws.{Isolation, IsolationOfTwo};
 ghost use Rattle.history.specs.LengthLaws.{LongDatagrams};
 ghost use Rattle.history.specs.LimitLaws.{FastWithinLimit, IsoWithinLimit, GroupsWithinLimit};
@@ -104,10 +104,9 @@ pub fn frames_are_noted()
     ensures { FramesAreNoted }
 {}
 
-/// Whether a source is fresh in a row is known by its last message of that row since it holds its address: the next one takes its place,
-/// and it is forgotten exactly where the address is lost.
+/// Whether a source is fresh in a row hangs on its last message of that row since it holds its address: the next one takes its place, and
+/// it is forgotten exactly where the address is lost.
 pub fn freshness_is_kept()
-    ensures last { FreshByLast }
     ensures messages { MessagesAreKept }
     ensures claims { ClaimsForget }
     ensures commands { CommandsForgetNone }

@@ -2,7 +2,8 @@
 use Rattle.std.specs.List.{AllByRecursion}
 use Rattle.std.proofs.lemmas.Bool.{and_parts, cond-true, cond-false, eqb-false, eqb-true}
 use Rattle.std.proofs.Common.{◌≡◌, ℕ, ◌<◌, ◌==◌, not, nat_lt, min, if◌then◌else◌, Bool, true, false, List, [], ◌∷◌, length, drop, Option, Some, None, option_map, length-append, length-take, length-drop, refl, sym, ◌∙◌, ap, subst, arith}
-use Rattle.slot_views.specs.Runs.{is_whole, is_admitted, opener_of, since_opener, kept_at, open_of, open_at, run_of, fed, fed_later, finished, finished_later}
+use Rattle.slot_views.specs.Runs.{is_whole, is_admitted, opener_of, since_opener, kept_at, open_of, open_at, run_of}
+use Rattle.slot_views.specs.RunLaws.{fed, fed_later, finished, finished_later}
 use Rattle.slot_views.specs.Traces.{left_at, entry_after}
 use Rattle.slot_views.proofs.Lists.{all_front}
 use Rattle.slot_views.proofs.RunSteps.{one_step_of}
@@ -11,13 +12,13 @@ use Rattle.iso_transport.specs.declared.answers.IsoRefusal.TheVariants as refusa
 use Rattle.iso_transport.specs.declared.session.Session.{Session}
 use Rattle.iso_transport.specs.declared.verdict.Verdict.{Verdict}
 use Rattle.iso_transport.specs.declared.verdict.Verdict.TheVariants.{Again, Refused, Ends, Next}
-use Rattle.iso_transport.specs.Cm.{cm_of}
+use Rattle.iso_transport.specs.Connection.{cm_of}
 use Rattle.iso_transport.specs.Sessions.{abort_to}
 use Rattle.iso_transport.specs.Answers.{reply_by}
 use Rattle.iso_transport.specs.IsoRuns.{IsoPiece, number_of, end_of, part_of, session_of, need_of, is_next, is_repeat, iso_rules, joined, payload, pgn_of, left_of_run}
 use Rattle.iso_transport.specs.Verdicts.{pgn_in, packet_verdict, kind_verdict, management_verdict}
 use Rattle.iso_transport.specs.RunVerdicts.{packet_run_verdict, run_verdict, message_of, verdict_on, left_by, completed_by, assembly_at}
-use Rattle.iso_transport.specs.RunReplies.{reply_to_packet, reply_to}
+use Rattle.iso_transport.specs.Replies.{reply_to_packet, reply_to}
 use Rattle.iso_transport.specs.Laws.{IsOfTrace, IsTrace, assembly_after, FollowsRuns, HasItsSize}
 use Rattle.iso_transport.proofs.Lawful.{lawful}
 use Rattle.iso_transport.proofs.Openers.{bears_by, kind_left, kind_completed, kind_quiet, kind_replied}

@@ -7,8 +7,8 @@ use Rattle.std.specs.declared.cmp.Ordering.{Ordering}
 use Rattle.slot_views.specs.Slots.{Entry, SlotMap, with_entries, is_expired, has_expired, entry_at}
 use Rattle.slot_views.specs.Traces.{unexpired}
 use Rattle.iso_transport.specs.declared.key.IsoKey.{IsoKey}
-use Rattle.iso_transport.specs.Audience.{key_of, is_data, bears, concerns}
-use Rattle.iso_transport.specs.Verdicts.{frame_verdict}
+use Rattle.iso_transport.specs.Audience.{key_of, is_data}
+use Rattle.iso_transport.specs.Verdicts.{bears, concerns, frame_verdict}
 use Rattle.iso_transport.specs.Assembly.{is_crowded, fed_by, fed_after}
 use Rattle.iso_transport.specs.Keys.{fed_one, sessions_after}
 use Rattle.iso_transport.specs.Heard.{HeardFrame, is_bearing, bearing_frames, newest, AreInOrder, heard_after, HearsWhatBears}

@@ -18,12 +18,10 @@ use Rattle.iso_transport.specs.declared.key.IsoKey.{IsoKey}
 use Rattle.iso_transport.specs.contracts.key.IsoKeyOrd as key
 use Rattle.iso_transport.specs.declared.verdict.Verdict.{Verdict}
 use Rattle.iso_transport.specs.declared.verdict.Verdict.TheVariants.{Ignored, Again, Refused, Ends, Opens, Next}
-use Rattle.iso_transport.specs.Connection.{control_at, size_at, packets_at, limit_at, pgn_at}
-use Rattle.iso_transport.specs.Cm.{cm_by, cm_of}
-use Rattle.iso_transport.specs.Sessions.{gap_after}
-use Rattle.iso_transport.specs.Audience.{is_data, key_of, bears, concerns}
-use Rattle.iso_transport.specs.IsoRuns.{IsoPiece}
-use Rattle.iso_transport.specs.Verdicts.{pgn_in, VerdictFits, kind_verdict, management_verdict, frame_verdict}
+use Rattle.iso_transport.specs.Connection.{control_at, size_at, packets_at, limit_at, pgn_at, cm_by, cm_of}
+use Rattle.iso_transport.specs.IsoRuns.{gap_after, IsoPiece}
+use Rattle.iso_transport.specs.Audience.{is_data, key_of}
+use Rattle.iso_transport.specs.Verdicts.{bears, concerns, pgn_in, VerdictFits, kind_verdict, management_verdict, frame_verdict}
 use Rattle.iso_transport.specs.Assembly.{opening, is_crowded, part_to, fed_by, verdict_of, fed_after, key_fits, AreSessions}
 use Rattle.iso_transport.specs.RunVerdicts.{verdict_on, extended_by, left_by}
 use Rattle.iso_transport.specs.Joining.{piece_of, FeedsItsKey, OrdersKeys}

@@ -5,7 +5,8 @@ use Rattle.std.specs.List.{AllByRecursion, filter, list_any}
 use Rattle.std.specs.Cmp.{IsTotalOrder}
 use Rattle.std.specs.BTreeMap.{is_at}
 use Rattle.std.specs.declared.cmp.Ordering.{Ordering}
-use Rattle.slot_views.specs.Runs.{open_at, run_of, fed}
+use Rattle.slot_views.specs.Runs.{open_at, run_of}
+use Rattle.slot_views.specs.RunLaws.{fed}
 use Rattle.slot_views.proofs.RunSteps.{one_step_of}
 use Rattle.slot_views.specs.Slots.{Entry, SlotMap, IsOrdered, IsMap, Changes, is_full, entry_at, released, begun_after, grown_after}
 use Rattle.slot_views.specs.Traces.{Filling, left_at, entry_after, if_incomplete, grown_entry, unexpired, now_of, pieces_at, keys_in, other_open_keys as other_open_entries, open_keys as open_entries, IsNoted as AreNoted, IsStep, map_after}
@@ -22,11 +23,11 @@ use Rattle.iso_transport.specs.declared.connection.Cm.TheVariants.{Rts, Cts, End
 use Rattle.iso_transport.specs.declared.session.Session.{Session}
 use Rattle.iso_transport.specs.declared.verdict.Verdict.{Verdict}
 use Rattle.iso_transport.specs.declared.verdict.Verdict.TheVariants.{Ignored, Again, Refused, Ends, Opens, Next}
-use Rattle.iso_transport.specs.Cm.{cm_of}
-use Rattle.iso_transport.specs.Sessions.{is_size, opens, announced, gap_after, abort_to}
-use Rattle.iso_transport.specs.Audience.{key_of, is_data, concerns}
-use Rattle.iso_transport.specs.IsoRuns.{IsoPiece, number_of, end_of, session_of, is_next, is_repeat, iso_rules, pgn_of, left_of_run}
-use Rattle.iso_transport.specs.Verdicts.{VerdictFits, opener_verdict, abort_verdict, kind_verdict, frame_verdict}
+use Rattle.iso_transport.specs.Connection.{cm_of}
+use Rattle.iso_transport.specs.Sessions.{abort_to}
+use Rattle.iso_transport.specs.IsoRuns.{is_size, opens, announced, gap_after, IsoPiece, number_of, end_of, session_of, is_next, is_repeat, iso_rules, pgn_of, left_of_run}
+use Rattle.iso_transport.specs.Audience.{key_of, is_data}
+use Rattle.iso_transport.specs.Verdicts.{concerns, VerdictFits, opener_verdict, abort_verdict, kind_verdict, frame_verdict}
 use Rattle.iso_transport.specs.Assembly.{opening, extended, part_to, is_crowded, fed_by, verdict_of, fed_after}
 use Rattle.iso_transport.specs.Answers.{restarted_by, reply_by, NextGives, OutcomeBy, FeedGives}
 use Rattle.iso_transport.specs.RunVerdicts.{Message, packet_run_verdict, run_verdict, message_of, verdict_on, extended_by, left_by, completed_by, completed_with, assembly_at}

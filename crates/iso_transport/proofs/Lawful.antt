@@ -2,7 +2,8 @@
 use Rattle.std.proofs.Common.{◌≡◌, ◌&&◌, ℕ, nat_lt, Bool, true, false, List, [], ◌∷◌, length, refl, arith}
 use Rattle.std.proofs.lemmas.Bool.{and_parts, eqb-true, le-ltb, not-true}
 use Rattle.std.proofs.Math.Bool.{and-false}
-use Rattle.slot_views.specs.Runs.{IsLawful, is_whole, opener_of}
+use Rattle.slot_views.specs.Runs.{is_whole, opener_of}
+use Rattle.slot_views.specs.RunLaws.{IsLawful}
 use Rattle.iso_transport.specs.IsoRuns.{IsoPiece, need_of, is_opener, is_next, is_repeat, iso_rules}
 
 pub and_false : (b : Bool) → (b && false) ≡ false

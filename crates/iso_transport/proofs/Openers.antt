@@ -2,21 +2,19 @@
 use Rattle.std.proofs.lemmas.Bool.{and_parts, cond-true, cond-false, leb-true, eqb-true, eq-eqb, ne_eqb, lt-ltb, le-ltb, or_cases}
 use Rattle.std.proofs.Common.{◌≡◌, ℕ, ◌-◌, ◌%◌, ◌==◌, ◌&&◌, ◌||◌, ◌⊎◌, inl, inr, not, nat_lt, min, if◌then◌else◌, Bool, true, false, List, [], ◌∷◌, length, Option, Some, None, option_map, refl, sym, ◌∙◌, ap, subst, arith}
 use Rattle.std.proofs.Math.Bool.{and-false, or-false}
-use Rattle.slot_views.specs.Runs.{fed, finished}
+use Rattle.slot_views.specs.RunLaws.{fed, finished}
 use Rattle.slot_views.specs.Slots.{Entry}
 use Rattle.iso_transport.specs.declared.connection.Cm.{Cm}
 use Rattle.iso_transport.specs.declared.session.Session.{Session}
 use Rattle.iso_transport.specs.declared.reply.Reply.{Reply}
 use Rattle.iso_transport.specs.declared.reply.Reply.TheVariants as reply
-use Rattle.iso_transport.specs.Connection.{control_at, packets_at}
-use Rattle.iso_transport.specs.Cm.{cm_by, cm_of}
-use Rattle.iso_transport.specs.Sessions.{packets_of, is_size, opens, announced, reply_after}
+use Rattle.iso_transport.specs.Connection.{control_at, packets_at, cm_by, cm_of}
+use Rattle.iso_transport.specs.Sessions.{reply_after}
+use Rattle.iso_transport.specs.IsoRuns.{packets_of, is_size, opens, announced, IsoPiece, session_of, need_of, is_opener, iso_rules, pgn_of}
 use Rattle.iso_transport.specs.Answers.{reply_by}
-use Rattle.iso_transport.specs.Audience.{bears}
-use Rattle.iso_transport.specs.IsoRuns.{IsoPiece, session_of, need_of, is_opener, iso_rules, pgn_of}
-use Rattle.iso_transport.specs.Verdicts.{opener_verdict, sized_verdict, abort_verdict, kind_verdict}
+use Rattle.iso_transport.specs.Verdicts.{bears, opener_verdict, sized_verdict, abort_verdict, kind_verdict}
 use Rattle.iso_transport.specs.RunVerdicts.{message_of, left_by, completed_by, assembly_at}
-use Rattle.iso_transport.specs.RunReplies.{reply_to_packet, reply_to_opener, is_request, reply_to}
+use Rattle.iso_transport.specs.Replies.{reply_to_packet, reply_to_opener, is_request, reply_to}
 use Rattle.iso_transport.proofs.Lawful.{no_next, no_repeat}
 use Rattle.iso_transport.proofs.Sessions.{Opened, opened_from}
 

@@ -3,20 +3,21 @@ use Rattle.std.specs.Cmp.Lexicographic.{pointwise}
 use Rattle.std.proofs.lemmas.Bool.{and_parts, eqb-false, leb-true, leb-false, ltb-true, ltb-false, eqb-true, ne_eqb, lt-ltb, le-ltb, le-leb, lt-leb}
 use Rattle.std.proofs.Common.{◌≡◌, ℕ, ◌+◌, ◌-◌, ◌%◌, ◌<◌, ◌≤◌, ◌==◌, ◌&&◌, not, nat_eq, nat_le, nat_lt, min, if◌then◌else◌, Bool, true, false, List, [], ◌∷◌, length, Option, Some, None, add-one, refl, sym, ◌∙◌, ap, arith}
 use Rattle.std.proofs.Math.Bool.{and-false, and-true}
-use Rattle.slot_views.specs.Runs.{is_admitted, opener_of, if_open, if_whole, kept_at, fed_later, finished_later}
+use Rattle.slot_views.specs.Runs.{is_admitted, opener_of, if_open, if_whole, kept_at}
+use Rattle.slot_views.specs.RunLaws.{fed_later, finished_later}
 use Rattle.slot_views.specs.Slots.{Entry, is_complete}
 use Rattle.slot_views.specs.Traces.{left_at}
 use Rattle.iso_transport.specs.declared.answers.IsoRefusal.TheVariants as refusal
 use Rattle.iso_transport.specs.declared.session.Session.{Session}
 use Rattle.iso_transport.specs.declared.verdict.Verdict.{Verdict}
 use Rattle.iso_transport.specs.declared.verdict.Verdict.TheVariants.{Again, Ends, Next}
-use Rattle.iso_transport.specs.Sessions.{packets_of, gap_after, reply_after, abort_to}
+use Rattle.iso_transport.specs.Sessions.{reply_after, abort_to}
+use Rattle.iso_transport.specs.IsoRuns.{packets_of, gap_after, IsoPiece, number_of, end_of, session_of, need_of, is_next, is_repeat, iso_rules, payload, pgn_of, left_of_run}
 use Rattle.iso_transport.specs.Answers.{reply_by}
-use Rattle.iso_transport.specs.IsoRuns.{IsoPiece, number_of, end_of, session_of, need_of, is_next, is_repeat, iso_rules, payload, pgn_of, left_of_run}
 use Rattle.iso_transport.specs.Verdicts.{session_in, left_of, is_again, packet_verdict}
 use Rattle.iso_transport.specs.Assembly.{extended}
 use Rattle.iso_transport.specs.RunVerdicts.{Message, packet_run_verdict, message_of, left_by, completed_by, assembly_of, assembly_at}
-use Rattle.iso_transport.specs.RunReplies.{reply_to_next, reply_to_packet}
+use Rattle.iso_transport.specs.Replies.{reply_to_next, reply_to_packet}
 use Rattle.iso_transport.proofs.Sessions.{session_kept}
 use Rattle.iso_transport.proofs.Prefixes.{size_of, entry, next_facts, Facts}
 

@@ -4,8 +4,8 @@ use Rattle.std.proofs.lemmas.List.{take_all}
 use Rattle.std.proofs.Common.{◌≡◌, ℕ, ◌+◌, ◌-◌, ◌*◌, ◌<◌, ◌≤◌, min, Bool, true, false, List, [], ◌∷◌, ◌++◌, length, drop, slice_index, Option, Some, None, length-drop, length-append, refl, sym, ◌∙◌, ap, subst, arith}
 use Rattle.slot_views.specs.Runs.{accepted, accepted_after, accepted_more, in_time, opener_of}
 use Rattle.slot_views.specs.Slots.{Entry}
-use Rattle.iso_transport.specs.Sessions.{packets_of, opens, gap_after, mark_of}
-use Rattle.iso_transport.specs.IsoRuns.{IsoPiece, number_of, end_of, part_of, session_of, need_of, is_opener, is_next, is_repeat, iso_rules, joined, left_of_run}
+use Rattle.iso_transport.specs.Sessions.{mark_of}
+use Rattle.iso_transport.specs.IsoRuns.{packets_of, opens, gap_after, IsoPiece, number_of, end_of, part_of, session_of, need_of, is_opener, is_next, is_repeat, iso_rules, joined, left_of_run}
 use Rattle.iso_transport.specs.Verdicts.{last_packet}
 use Rattle.iso_transport.specs.Laws.{IsTrace}
 use Rattle.iso_transport.proofs.Sessions.{Opened, opened_from}

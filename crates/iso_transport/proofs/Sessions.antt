@@ -4,9 +4,9 @@ use Rattle.std.proofs.lemmas.Bool.{and_parts, leb-true}
 use Rattle.iso_transport.specs.declared.connection.Cm.{Cm}
 use Rattle.iso_transport.specs.declared.connection.Cm.TheVariants.{Rts, Cts, EndAck, Bam, Abort}
 use Rattle.iso_transport.specs.declared.session.Session.{Session}
-use Rattle.iso_transport.specs.Connection.{control_at, size_at, packets_at, limit_at, pgn_at}
-use Rattle.iso_transport.specs.Cm.{cm_of}
-use Rattle.iso_transport.specs.Sessions.{greatest_window, longest, shortest, is_size, opens, announced, mark_of, session_at}
+use Rattle.iso_transport.specs.Connection.{control_at, size_at, packets_at, limit_at, pgn_at, cm_of}
+use Rattle.iso_transport.specs.Sessions.{mark_of, session_at}
+use Rattle.iso_transport.specs.IsoRuns.{greatest_window, longest, shortest, is_size, opens, announced}
 
 -- the numbers of a session that was opened
 pub record Opened (s : Session) : Type 0 where

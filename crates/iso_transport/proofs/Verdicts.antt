@@ -15,12 +15,12 @@ use Rattle.iso_transport.specs.declared.connection.Cm.TheVariants.{Rts, Cts, End
 use Rattle.iso_transport.specs.declared.session.Session.{Session}
 use Rattle.iso_transport.specs.declared.verdict.Verdict.{Verdict}
 use Rattle.iso_transport.specs.declared.verdict.Verdict.TheVariants.{Ignored, Again, Refused, Ends, Opens, Next}
-use Rattle.iso_transport.specs.Cm.{cm_of}
-use Rattle.iso_transport.specs.Sessions.{shortest, is_size, announced, abort_to}
+use Rattle.iso_transport.specs.Connection.{cm_of}
+use Rattle.iso_transport.specs.Sessions.{abort_to}
+use Rattle.iso_transport.specs.IsoRuns.{shortest, is_size, announced, number_of, end_of}
 use Rattle.iso_transport.specs.Replies.{NamesPgn}
 use Rattle.iso_transport.proofs.Sessions.{pgn_small}
 use Rattle.iso_transport.specs.Verdicts.{IsSmall, VerdictFits, TellsSmall, opener_verdict, sized_verdict, abort_verdict, kind_verdict, management_verdict, left_of, is_again, packet_verdict, pgn_in}
-use Rattle.iso_transport.specs.IsoRuns.{number_of, end_of}
 
 -- there is no room exactly where none of the key is open, and as many are as the limit
 abbrev pub full_where : Bool → Option Entry → Bool

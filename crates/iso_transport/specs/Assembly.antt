@@ -9,7 +9,8 @@ use Rattle.iso_transport.specs.declared.key.IsoKey.{IsoKey}
 use Rattle.iso_transport.specs.declared.session.Session.{Session}
 use Rattle.iso_transport.specs.declared.verdict.Verdict.{Verdict}
 use Rattle.iso_transport.specs.declared.verdict.Verdict.TheVariants.{Ignored, Again, Refused, Ends, Opens, Next}
-use Rattle.iso_transport.specs.Sessions.{packets_of, gap_after, mark_of}
+use Rattle.iso_transport.specs.Sessions.{mark_of}
+use Rattle.iso_transport.specs.IsoRuns.{packets_of, gap_after}
 use Rattle.iso_transport.specs.Audience.{key_of}
 use Rattle.iso_transport.specs.Verdicts.{verdict}
 

@@ -5,7 +5,8 @@ use Rattle.slot_views.specs.Slots.{SlotMap}
 use Rattle.slot_views.specs.Traces.{unexpired}
 use Rattle.n2k_id.specs.declared.identifier_parts.Parts.{Parts}
 use Rattle.iso_transport.specs.declared.key.IsoKey.{IsoKey}
-use Rattle.iso_transport.specs.Audience.{key_of, is_data, bears, concerns}
+use Rattle.iso_transport.specs.Audience.{key_of, is_data}
+use Rattle.iso_transport.specs.Verdicts.{bears, concerns}
 use Rattle.iso_transport.specs.IsoRuns.{IsoPiece}
 use Rattle.iso_transport.specs.Assembly.{fed_after}
 use Rattle.iso_transport.specs.Keys.{sessions}

@@ -1,10 +1,73 @@
--- What a message of the transport protocol is: a run of frames of one sender, all to this node (addressed) or all to all.
+-- What a message of the transport protocol (ISO 11783-3) is: what its opener announces, and a run of frames of one sender, all to this
+-- node (addressed) or all to all.
 use Rattle.std.specs.Cmp.Lexicographic.{pointwise}
-use Rattle.std.specs.Prelude.{ℕ, ◌+◌, ◌-◌, ◌*◌, Bool, false, ◌&&◌, not, ◌==◌, nat_eq, nat_le, nat_lt, min, List, [], ◌∷◌, ◌++◌, length, take, drop, slice_index}
+use Rattle.std.specs.Prelude.{ℕ, ◌+◌, ◌-◌, ◌*◌, ◌/◌, ◌%◌, Bool, false, ◌&&◌, not, ◌==◌, nat_eq, nat_le, nat_lt, min, max, if◌then◌else◌, List, [], ◌∷◌, ◌++◌, length, take, drop, slice_index, Option, Some, None}
+use Rattle.iso_transport.specs.declared.connection.Cm.{Cm}
+use Rattle.iso_transport.specs.declared.connection.Cm.TheVariants.{Rts, Cts, EndAck, Bam, Abort}
 use Rattle.slot_views.specs.Runs.{Rules, opener_of}
 use Rattle.iso_transport.specs.declared.session.Session.{Session}
-use Rattle.iso_transport.specs.Cm.{cm_of}
-use Rattle.iso_transport.specs.Sessions.{packets_of, opens, announced, gap_after}
+use Rattle.iso_transport.specs.Connection.{cm_of}
+
+-- ---- what an opener announces
+
+-- the sizes of messages, in bytes: a shorter one goes in one frame, and the longest has 255 packets of 7 bytes
+abbrev pub shortest : ℕ
+shortest = 9
+
+abbrev pub longest : ℕ
+longest = 1785
+
+-- how many packets are granted at once at most
+abbrev pub greatest_window : ℕ
+greatest_window = 8
+
+-- how long a packet may take after the one before it, and after a grant, in microseconds
+abbrev pub gap : ℕ
+gap = 750000
+
+abbrev pub granted_gap : ℕ
+granted_gap = 1250000
+
+-- how many packets a message has: 7 bytes are in each, the last one filled up
+abbrev pub packets_of : ℕ → ℕ
+packets_of size = (size + 6) / 7
+
+-- a size that a message may have, with its number of packets
+abbrev pub is_size : ℕ → ℕ → Bool
+is_size size packets = nat_le shortest size && (nat_le size longest && (packets == packets_of size))
+
+-- how many packets are granted at once, by the limit of the RTS
+abbrev pub window_of : ℕ → ℕ
+window_of limit = max 1 (min greatest_window limit)
+
+-- a frame opens a session: to this node an RTS, to all a BAM, with a size that a message may have
+abbrev pub opens : Bool → Option Cm → Bool
+opens addressed None = false
+opens addressed (Some (Rts size packets limit pgn)) = addressed && is_size size packets
+opens addressed (Some (Cts count next pgn)) = false
+opens addressed (Some (EndAck size packets pgn)) = false
+opens addressed (Some (Bam size packets pgn)) = not addressed && is_size size packets
+opens addressed (Some (Abort reason pgn)) = false
+
+-- what it announces
+abbrev pub announced : Option Cm → Session
+announced None = record { pgn = 0; size = 0; window = 1 }
+announced (Some (Rts size packets limit pgn)) = record { pgn = pgn; size = size; window = window_of limit }
+announced (Some (Cts count next pgn)) = record { pgn = pgn; size = 0; window = 1 }
+announced (Some (EndAck size packets pgn)) = record { pgn = pgn; size = size; window = 1 }
+announced (Some (Bam size packets pgn)) = record { pgn = pgn; size = size; window = 1 }
+announced (Some (Abort reason pgn)) = record { pgn = pgn; size = 0; window = 1 }
+
+-- the sender of a message to this node waits for a grant: after its RTS, which counts as packet 0, and after each packet whose
+-- number is a multiple of the window and isn't the last
+abbrev pub waits_after : Bool → Session → ℕ → Bool
+waits_after addressed s number = addressed && ((number % s.window == 0) && nat_lt number (packets_of s.size))
+
+-- how long the next packet may take, in microseconds
+abbrev pub gap_after : Bool → Session → ℕ → ℕ
+gap_after addressed s number = if waits_after addressed s number then granted_gap else gap
+
+-- ---- a message is a run of frames
 
 -- a frame, as it is to its run: a packet (TP.DT) or a connection management frame
 pub record IsoPiece : Type 0 where

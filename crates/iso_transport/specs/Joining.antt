@@ -2,12 +2,14 @@
 use Rattle.std.specs.Prelude.{◌≡◌, ℕ, true, false, not, ◌&&◌, List, ◌∷◌, Option}
 use Rattle.std.specs.declared.cmp.Ordering.{Ordering}
 use Rattle.std.specs.declared.cmp.Ordering.TheVariants.{Less}
-use Rattle.slot_views.specs.Runs.{open_at, fed, finished}
+use Rattle.slot_views.specs.Runs.{open_at}
+use Rattle.slot_views.specs.RunLaws.{fed, finished}
 use Rattle.slot_views.specs.Slots.{SlotMap, IsMap, Changes, entry_at, is_full}
 use Rattle.n2k_id.specs.declared.identifier_parts.Parts.{Parts}
 use Rattle.iso_transport.specs.declared.key.IsoKey.{IsoKey}
 use Rattle.iso_transport.specs.declared.answers.IsoFed.{IsoFed}
-use Rattle.iso_transport.specs.Audience.{is_data, key_of, bears, concerns}
+use Rattle.iso_transport.specs.Audience.{is_data, key_of}
+use Rattle.iso_transport.specs.Verdicts.{bears, concerns}
 use Rattle.iso_transport.specs.IsoRuns.{IsoPiece, iso_rules}
 use Rattle.iso_transport.specs.Assembly.{verdict_of, fed_after}
 use Rattle.iso_transport.specs.Answers.{FeedGives}

@@ -21,7 +21,7 @@ use Rattle.iso_transport.specs.Verdicts.{frame_verdict}
 use Rattle.iso_transport.specs.Assembly.{is_crowded, fed_by, fed_after}
 use Rattle.iso_transport.specs.Answers.{FeedGives}
 use Rattle.iso_transport.specs.RunVerdicts.{Message, run_verdict, message_of, assembly_at}
-use Rattle.iso_transport.specs.RunReplies.{reply_to}
+use Rattle.iso_transport.specs.Replies.{reply_to}
 use Rattle.iso_transport.specs.Laws.{IsOfTrace}
 
 -- the frames of the key are open at the moment

@@ -4,11 +4,11 @@ use Rattle.std.specs.List.{AllByRecursion}
 use Rattle.slot_views.specs.Slots.{Entry}
 use Rattle.slot_views.specs.Traces.{Filling, left_at, entry_after}
 use Rattle.slot_views.specs.Runs.{open_of, open_at, run_of}
-use Rattle.iso_transport.specs.Audience.{bears}
+use Rattle.iso_transport.specs.Verdicts.{bears}
 use Rattle.iso_transport.specs.IsoRuns.{IsoPiece, iso_rules, session_of, payload}
 use Rattle.iso_transport.specs.Answers.{reply_by}
 use Rattle.iso_transport.specs.RunVerdicts.{run_verdict, message_of, verdict_on, left_by, completed_by, assembly_at}
-use Rattle.iso_transport.specs.RunReplies.{reply_to}
+use Rattle.iso_transport.specs.Replies.{reply_to}
 
 -- a frame of a trace: one of at most 8 bytes that can open, extend or end a session
 pub record IsOfTrace (addressed : Bool) (x : IsoPiece) : Type 0 where

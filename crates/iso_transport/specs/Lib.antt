@@ -1,10 +1,8 @@
 pub mod Connection
-pub mod Cm
 pub mod Replies
 pub mod Sessions
 pub mod Audience
 pub mod IsoRuns
-pub mod RunReplies
 pub mod Verdicts
 pub mod Assembly
 pub mod Answers

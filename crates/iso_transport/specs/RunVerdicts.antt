@@ -6,8 +6,8 @@ use Rattle.iso_transport.specs.declared.answers.IsoRefusal.TheVariants as refusa
 use Rattle.iso_transport.specs.declared.session.Session.{Session}
 use Rattle.iso_transport.specs.declared.verdict.Verdict.{Verdict}
 use Rattle.iso_transport.specs.declared.verdict.Verdict.TheVariants.{Ignored, Again, Refused, Ends, Opens, Next}
-use Rattle.iso_transport.specs.Sessions.{packets_of, gap_after, abort_to, mark_of}
-use Rattle.iso_transport.specs.IsoRuns.{IsoPiece, number_of, end_of, session_of, pgn_of, left_of_run, is_next, is_repeat, joined, payload}
+use Rattle.iso_transport.specs.Sessions.{abort_to, mark_of}
+use Rattle.iso_transport.specs.IsoRuns.{packets_of, gap_after, IsoPiece, number_of, end_of, session_of, pgn_of, left_of_run, is_next, is_repeat, joined, payload}
 use Rattle.iso_transport.specs.Verdicts.{management_verdict, frame_verdict}
 use Rattle.iso_transport.specs.Assembly.{opening, extended}
 

@@ -1,6 +1,6 @@
 -- What a frame is to the session of its key.
 use Rattle.std.specs.Cmp.Lexicographic.{pointwise}
-use Rattle.std.specs.Prelude.{◌≡◌, ℕ, ◌-◌, ◌^◌, ◌<◌, ◌≤◌, Bool, false, ◌&&◌, ◌==◌, nat_eq, nat_le, nat_lt, if◌then◌else◌, List, ◌∷◌, length, drop, Option, Some, None, option_map}
+use Rattle.std.specs.Prelude.{◌≡◌, ℕ, ◌-◌, ◌^◌, ◌<◌, ◌≤◌, Bool, false, ◌&&◌, ◌==◌, nat_eq, nat_le, nat_lt, if◌then◌else◌, List, ◌∷◌, length, drop, Option, Some, None, option_map, ◌||◌, not}
 use Rattle.slot_views.specs.Slots.{Entry}
 use Rattle.n2k_id.specs.declared.identifier_parts.Parts.{Parts}
 use Rattle.iso_transport.specs.declared.connection.Cm.{Cm}
@@ -9,11 +9,22 @@ use Rattle.iso_transport.specs.declared.answers.IsoRefusal.TheVariants as refusa
 use Rattle.iso_transport.specs.declared.session.Session.{Session}
 use Rattle.iso_transport.specs.declared.verdict.Verdict.{Verdict}
 use Rattle.iso_transport.specs.declared.verdict.Verdict.TheVariants.{Ignored, Again, Refused, Ends, Opens, Next}
-use Rattle.iso_transport.specs.Cm.{cm_of}
-use Rattle.iso_transport.specs.Sessions.{longest, shortest, is_size, announced, abort_to, session_at}
+use Rattle.iso_transport.specs.Connection as control
+use Rattle.iso_transport.specs.Connection.{cm_of, control_at}
+use Rattle.iso_transport.specs.Sessions.{abort_to, session_at}
+use Rattle.iso_transport.specs.IsoRuns.{longest, shortest, is_size, announced, number_of, end_of}
 use Rattle.iso_transport.specs.Replies.{NamesPgn}
-use Rattle.iso_transport.specs.IsoRuns.{number_of, end_of}
-use Rattle.iso_transport.specs.Audience.{is_data, key_of, concerns}
+use Rattle.n2k_id.specs.Identifier.{is_to}
+use Rattle.iso_transport.specs.Audience.{is_data, is_management, key_of}
+
+-- a frame can open, extend or end a session of its kind: a packet; to all a BAM, and to this node an RTS or an abort, of 8 bytes
+abbrev pub bears : Bool → Bool → List ℕ → Bool
+bears addressed packet bytes = packet
+    || (nat_le 8 (length bytes) && ((not addressed && (control_at bytes == control.bam)) || (addressed && ((control_at bytes == control.rts) || (control_at bytes == control.abort)))))
+
+-- a frame of the transport protocol to this node or to all
+abbrev pub concerns : Option ℕ → Parts → Bool
+concerns own parts = is_to own parts.destination && (is_management parts || is_data parts)
 
 -- the message of a session, and how many of its bytes are still to come
 abbrev pub session_in : Entry → Session

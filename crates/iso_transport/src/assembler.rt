@@ -6,7 +6,7 @@ ghost use Rattle.n2k_id.specs.Frame.{IsFrame, held_bytes};
 ghost use Rattle.slot_views.specs.Slots.{SlotMap, IsMap, grown, entry_at, is_full, without, released, begun_after, grown_after, has_expired};
 ghost use Rattle.slot_views.specs.Places.{IsPlace};
 ghost use Rattle.iso_transport.specs.Audience.{key_of};
-ghost use Rattle.iso_transport.specs.Sessions.{gap_after};
+ghost use Rattle.iso_transport.specs.IsoRuns.{gap_after};
 ghost use Rattle.iso_transport.specs.Replies.{NamesPgn};
 ghost use Rattle.iso_transport.specs.Verdicts.{VerdictFits, IsOpening, packet_verdict, pgn_in};
 ghost use Rattle.iso_transport.specs.Assembly.{verdict_of, fed_by, fed_after, is_from, is_addressed, is_crowded, least_of, opening, part_to};

@@ -1,7 +1,6 @@
 //! Connection management frames, as they are read.
 ghost use Rattle.std.specs.Prelude.{◌≡◌, ◌≤◌, ◌<◌, ◌^◌, ◌↔◌, IsSome, IfSome, length};
-ghost use Rattle.iso_transport.specs.Connection.{size_at, pgn_at};
-ghost use Rattle.iso_transport.specs.Cm.{cm_of, IsCm};
+ghost use Rattle.iso_transport.specs.Connection.{size_at, pgn_at, cm_of, IsCm};
 
 /// What a connection management frame (TP.CM) says. `pgn` is the message's, of 24 bits; a size is in bytes.
 #[derive(Clone, Copy, Debug, PartialEq, Eq)]

@@ -3,7 +3,8 @@ ghost use Rattle.std.specs.Prelude.{◌≡◌, ℕ, true, false, List, ◌∷◌
 ghost use Rattle.slot_views.specs.RunLaws.{OneStep, OneSuffix};
 ghost use Rattle.n2k_id.specs.declared.identifier_parts.Parts.{Parts};
 ghost use Rattle.iso_transport.specs.declared.key.IsoKey.{IsoKey};
-ghost use Rattle.iso_transport.specs.Audience.{key_of, is_data, concerns};
+ghost use Rattle.iso_transport.specs.Audience.{key_of, is_data};
+ghost use Rattle.iso_transport.specs.Verdicts.{concerns};
 ghost use Rattle.iso_transport.specs.IsoRuns.{IsoPiece, iso_rules};
 ghost use Rattle.slot_views.specs.Laws.{TellsApart, EndsTheFirst};
 ghost use Rattle.iso_transport.specs.Joining.{FeedsItsKey, StepsWithRuns, OrdersKeys};

@@ -1,6 +1,6 @@
 //! Replies, as they are written.
 ghost use Rattle.std.specs.Prelude.{◌≡◌, ◌^◌, ◌<◌, ◌++◌};
-ghost use Rattle.iso_transport.specs.Cm.{cm_of};
+ghost use Rattle.iso_transport.specs.Connection.{cm_of};
 ghost use Rattle.iso_transport.specs.Replies.{reply_bytes, pgn_bytes, as_cm, named_pgn};
 
 use crate::connection::{ABORT, CTS, END_ACK};

@@ -1,6 +1,7 @@
 //! What is kept of an opener, and what follows from it.
 ghost use Rattle.std.specs.Prelude.{◌≡◌, ◌≤◌, ◌<◌, ◌^◌};
 ghost use Rattle.iso_transport.specs.Replies.{NamesPgn};
+ghost use Rattle.iso_transport.specs.IsoRuns as runs;
 ghost use Rattle.iso_transport.specs.Sessions as sessions;
 
 use crate::reply::Reply;
@@ -48,7 +49,7 @@ impl Session {
 
     // How many packets the message has.
     pub fn packets(self) -> u16
-        ensures { result ≡ sessions.packets_of self.size }
+        ensures { result ≡ runs.packets_of self.size }
     {
         self.size.div_ceil(7)
     }
@@ -82,7 +83,7 @@ impl Session {
     // How long the next packet may take after so many.
     pub fn gap_after(self, addressed: bool, number: u8) -> u32
         requires { 1 ≤ self.window }
-        ensures { result ≡ sessions.gap_after addressed self number }
+        ensures { result ≡ runs.gap_after addressed self number }
     {
         if self.waits_after(addressed, number) {
             GRANTED_GAP
@@ -94,7 +95,7 @@ impl Session {
     // Whether its sender waits for a grant after so many packets.
     fn waits_after(self, addressed: bool, number: u8) -> bool
         requires { 1 ≤ self.window }
-        ensures { result ≡ sessions.waits_after addressed self number }
+        ensures { result ≡ runs.waits_after addressed self number }
     {
         addressed && number % self.window == 0 && u16::from(number) < self.packets()
     }

@@ -1,8 +1,9 @@
 //! What a frame is to the session of its key.
 ghost use Rattle.std.specs.Prelude.{◌≡◌, ◌≤◌, []};
 ghost use Rattle.slot_views.specs.Answers.{as_entry};
+ghost use Rattle.iso_transport.specs.IsoRuns as runs;
 ghost use Rattle.iso_transport.specs.Sessions as sessions;
-ghost use Rattle.iso_transport.specs.Audience as audience;
+ghost use Rattle.n2k_id.specs.Identifier.{is_to};
 ghost use Rattle.iso_transport.specs.Verdicts as verdicts;
 
 use crate::answers::IsoRefusal;
@@ -67,7 +68,7 @@ impl Verdict {
 
 /// Whether the address is all nodes, or this one.
 pub(crate) fn is_to(own: Option<u8>, destination: u8) -> bool
-    ensures { result ≡ audience.is_to own destination }
+    ensures { result ≡ is_to own destination }
 {
     destination == ALL || own == Some(destination)
 }
@@ -133,7 +134,7 @@ fn sized_verdict(
 
 // Whether a message may have the size, and has so many packets.
 fn is_size(size: u16, packets: u8) -> bool
-    ensures { result ≡ sessions.is_size size packets }
+    ensures { result ≡ runs.is_size size packets }
 {
     9 <= size && size <= 1785 && u16::from(packets) == size.div_ceil(7)
 }

@@ -8,8 +8,7 @@ use Rattle.history.specs.AddressLaws.{AreSettings}
 use Rattle.history.specs.Entries.{History, is_accepted}
 use Rattle.history.specs.IsolationLaws.{Plain, plain, from, narrowed, NoneRefused}
 use Rattle.history.specs.Messages.{Message, messages_of}
-use Rattle.history.specs.Receiver.{receiver_of}
-use Rattle.history.specs.Settings.{Settings}
+use Rattle.history.specs.Settings.{receiver_of, Settings}
 use Rattle.history.proofs.Isolation.{isolation_of_two}
 use Rattle.history.proofs.Receivers.{gateways_receive}
 use Rattle.gate_model.specs.Machine.{Machine}

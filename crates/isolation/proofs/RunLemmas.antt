@@ -5,8 +5,7 @@ use Rattle.std.proofs.Math.Seq.{take-length, take-suc}
 use Rattle.std.proofs.lemmas.List.{append-nil, map-append, reverse-append, take_all}
 use Rattle.history.specs.Entries.{History, IsHistory, is_accepted}
 use Rattle.history.specs.Messages.{Message, done, messages_of, with_message}
-use Rattle.history.specs.Receiver.{receiver_of}
-use Rattle.history.specs.Settings.{Settings}
+use Rattle.history.specs.Settings.{receiver_of, Settings}
 use Rattle.gate_model.specs.Machine.{Machine}
 use Rattle.gate_model.specs.Stands.{Stands}
 use Rattle.gate_outbox.specs.declared.done.Done.{Done}

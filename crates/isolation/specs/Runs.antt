@@ -4,8 +4,7 @@ use Rattle.n2k_id.specs.declared.frame.Frame.{Frame}
 use Rattle.n2k_id.specs.Frame.{IsFrame, bus_frame}
 use Rattle.history.specs.Entries.{Entry, History, IsHistory, frame, tick, is_accepted}
 use Rattle.history.specs.Messages.{Message, done, messages_of}
-use Rattle.history.specs.Receiver.{receiver_of}
-use Rattle.history.specs.Settings.{Settings}
+use Rattle.history.specs.Settings.{receiver_of, Settings}
 use Rattle.gate_model.specs.Machine.{Machine}
 use Rattle.gate_model.specs.Stands.{Stands}
 use Rattle.gate_outbox.specs.declared.done.Done.{Done}

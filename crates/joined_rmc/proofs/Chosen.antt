@@ -1,6 +1,6 @@
 -- What is known of a message that was selected: which entry completed it, and whose NAME it has.
 use Rattle.std.proofs.Common.{◌≡◌, ℕ, ◌<◌, ◌≤◌, Bool, true, false, List, [], ◌∷◌, length, All, refl, sym, ap, subst, ◌∙◌, ◌==◌, arith}
-use Rattle.std.specs.Prelude.{Option, Some, None, is_some, option_map, if◌then◌else◌}
+use Rattle.std.specs.Prelude.{Option, Some, None, is_some, option_map, if◌then◌else◌, option_and_then}
 use Rattle.std.specs.List.{AllByRecursion}
 use Rattle.std.proofs.lemmas.Bool.{eq-eqb, le-leb}
 use Rattle.n2k_id.specs.Identifier.{parts_of}
@@ -13,12 +13,11 @@ use Rattle.claim_table.proofs.SoundLemmas.{held_within}
 use Rattle.history.specs.AddressLaws.{IsReceiver}
 use Rattle.history.specs.Choice.{is_first, rank_of, reading_of, selected_reading}
 use Rattle.history.specs.Entries.{Entry, History, frame, datagram, tick, command, moment_of}
-use Rattle.history.specs.FromBus.{chosen}
+use Rattle.history.specs.FromBus.{selected_in}
 use Rattle.history.specs.Known.{Known, known, is_claim}
 use Rattle.history.specs.Messages.{Carried, Message, completed_by, done, messages_of, said_by, with_message}
 use Rattle.history.specs.Opens.{note_of, notes_of}
-use Rattle.history.specs.Receiver.{Receiver, receiver_of}
-use Rattle.history.specs.Settings.{Settings, rule_of, same_row}
+use Rattle.history.specs.Settings.{Receiver, receiver_of, Settings, rule_of, same_row}
 use Rattle.history.proofs.Addresses.{addresses_are_sound}
 use Rattle.history.proofs.ChoiceSteps.{messages_are_of_holders}
 use Rattle.history.proofs.FreshSteps.{below, claim_says_none}
@@ -26,9 +25,9 @@ use Rattle.history.proofs.KeySteps.{known_same}
 use Rattle.gate_core.specs.Promises.{done_told}
 use Rattle.gate_outbox.specs.Output.{Output}
 use Rattle.history.specs.Emits.{is_there}
-use Rattle.joined_rmc.specs.Chosen.{Chosen, chosen_at, chosen_of, held_by, last_of, newer, saying, still_held}
+use Rattle.joined_rmc.specs.Selected.{Selected, selected_at, selected_with, held_by, last_of, newer, saying, still_held}
 use Rattle.joined_rmc.specs.JoinStands.{message_of}
-use Rattle.joined_rmc.specs.Kept.{picked, picked_of, read_at}
+use Rattle.joined_rmc.specs.Kept.{selected_by_step, selected_of, read_at}
 use Rattle.joined_rmc.specs.declared.selected_message.SelectedMessage.{SelectedMessage}
 
 -- ---- the last one of a row is one of all messages
@@ -37,33 +36,33 @@ module _ (row : Row) (P : ℕ → ℕ → ℕ → Type 0) where
   abbrev Of : List Message → Type 0
   Of older = AllByRecursion (λ d. P d.index d.source d.name) older
 
-  abbrev Is : Option Chosen → Type 0
-  Is before = (x : Chosen) → before ≡ Some x → P x.index x.source x.name
+  abbrev Is : Option Selected → Type 0
+  Is before = (x : Selected) → before ≡ Some x → P x.index x.source x.name
 
-  one_more : (d : Option Message) (says : Option Reading) (older : List Message) (before : Option Chosen)
-      → (Of older → Is before) → Of (with_message d older) → Is (newer row (chosen_of d says) before)
+  one_more : (d : Option Message) (says : Option Reading) (older : List Message) (before : Option Selected)
+      → (Of older → Is before) → Of (with_message d older) → Is (newer row (selected_with d says) before)
   one_more None says older before all of = all of
   one_more (Some d) None older before all of = all of.1
   one_more (Some d) (Some r) older before all of = by (same_row (row_of r) row)
     where
-      y : Chosen
+      y : Selected
       y = record { index = d.index; moment = d.moment; source = d.source; name = d.name; reading = r }
 
       by : (b : Bool) → Is (if b then Some y else before)
-      by true = λ x is. let same : y ≡ x = cc in subst (λ (z : Chosen). P z.index z.source z.name) same of.0
+      by true = λ x is. let same : y ≡ x = cc in subst (λ (z : Selected). P z.index z.source z.name) same of.0
       by false = all of.1
 
   pub last_is : (c : Settings) (s : ℕ) (h : History) → Of (messages_of (receiver_of c) s h) → Is (last_of c s row h)
   last_is c s [] of = λ x is. cc
   last_is c s (e ∷ h) of =
       let r = receiver_of c in
-      one_more (done r s h e) (chosen c (known r s h).claims.holders (messages_of r s h) (done r s h e)) (messages_of r s h) (last_of c s row h)
+      one_more (done r s h e) (selected_in c (known r s h).claims.holders (messages_of r s h) (done r s h e)) (messages_of r s h) (last_of c s row h)
       (last_is c s h) of
 
-pub index_before : (row : Row) (c : Settings) (s : ℕ) (h : History) (x : Chosen) → last_of c s row h ≡ Some x → x.index < length h
+pub index_before : (row : Row) (c : Settings) (s : ℕ) (h : History) (x : Selected) → last_of c s row h ≡ Some x → x.index < length h
 index_before row c s h x is = last_is row (λ i source name. i < length h) c s h (below (receiver_of c) s h) x is
 
-pub name_of_holder : (row : Row) (c : Settings) (s : ℕ) (h : History) (x : Chosen) → IsReceiver (receiver_of c) → last_of c s row h ≡ Some x
+pub name_of_holder : (row : Row) (c : Settings) (s : ℕ) (h : History) (x : Selected) → IsReceiver (receiver_of c) → last_of c s row h ≡ Some x
     → (y : Holder) → holder_at (known (receiver_of c) s h).claims.holders x.source ≡ Some y → y.since ≤ x.index → x.name ≡ y.name.0
 name_of_holder row c s h x are is y held since =
     last_is row (λ i source name. (source == x.source) ≡ true → y.since ≤ i → name ≡ y.name.0) c s h
@@ -116,7 +115,7 @@ same_holders r s h (command m source address) d are is = cc
 
 -- what is chosen is what is read
 is_read : (c : Settings) (holders : List (Option Holder)) (older : List Message) (d : Message) (q : Option Reading) (r : Reading)
-    → selected_reading c holders older d q ≡ Some r → q ≡ Some r
+    → option_and_then (selected_reading c holders older d) q ≡ Some r → q ≡ Some r
 is_read c holders older d None r is = cc
 is_read c holders older d (Some q) r is =
     by (is_first (rule_of c (row_of q)) holders (row_of q) d.moment older (rank_of (rule_of c (row_of q)) d.name)) is
@@ -127,31 +126,31 @@ is_read c holders older d (Some q) r is =
 
 -- ---- what was selected is held by its sender still
 
-chosen_from : (d : Option Message) (says : Option Reading) (x : Chosen) → chosen_of d says ≡ Some x
+chosen_from : (d : Option Message) (says : Option Reading) (x : Selected) → selected_with d says ≡ Some x
     → (y : Message) × (d ≡ Some y) × (x.index ≡ y.index) × (x.source ≡ y.source)
 chosen_from None says x is = cc
 chosen_from (Some y) None x is = cc
 chosen_from (Some y) (Some r) x is =
-    let z : Chosen = record { index = y.index; moment = y.moment; source = y.source; name = y.name; reading = r } in
+    let z : Selected = record { index = y.index; moment = y.moment; source = y.source; name = y.name; reading = r } in
     let same : z ≡ x = cc in
-    (y, refl, ap (λ (w : Chosen). w.index) (sym same), ap (λ (w : Chosen). w.source) (sym same))
+    (y, refl, ap (λ (w : Selected). w.index) (sym same), ap (λ (w : Selected). w.source) (sym same))
 
 since_by : (i : ℕ) (holders : List (Option Holder)) (a : ℕ) (y : Holder) → All (IsSinceBy i) holders → holder_at holders a ≡ Some y → y.since ≤ i
 since_by i holders a y all held = subst (IsSinceBy i) held (all a None (held_within holders a y held))
 
-held_now : (holders : List (Option Holder)) (x : Chosen) (y : Holder) → holder_at holders x.source ≡ Some y → y.since ≤ x.index
+held_now : (holders : List (Option Holder)) (x : Selected) (y : Holder) → holder_at holders x.source ≡ Some y → y.since ≤ x.index
     → still_held holders (Some x) ≡ Some x
 held_now holders x y held since =
     ap (λ (o : Option Holder). by_since (option_map (λ z. z.since) o)) held ∙ ap (λ b. if b then Some x else None) (le-leb y.since x.index since)
   where
-    by_since : Option ℕ → Option Chosen
+    by_since : Option ℕ → Option Selected
     by_since n = held_by n x
 
-pub chosen_holds : (c : Settings) (s : ℕ) (h : History) (e : Entry) (x : Chosen) → IsReceiver (receiver_of c) → chosen_at c s h e ≡ Some x
+pub chosen_holds : (c : Settings) (s : ℕ) (h : History) (e : Entry) (x : Selected) → IsReceiver (receiver_of c) → selected_at c s h e ≡ Some x
     → still_held (known (receiver_of c) s (e ∷ h)).claims.holders (Some x) ≡ Some x
 chosen_holds c s h e x are is =
     let r = receiver_of c in
-    let from = chosen_from (done r s h e) (chosen c (known r s h).claims.holders (messages_of r s h) (done r s h e)) x is in
+    let from = chosen_from (done r s h e) (selected_in c (known r s h).claims.holders (messages_of r s h) (done r s h e)) x is in
     let by = done_by r s h e from.0 from.1 in
     let same = same_holders r s h e from.0 are from.1 in
     let held : holder_at (known r s (e ∷ h)).claims.holders x.source ≡ Some by.holder =
@@ -165,38 +164,38 @@ chosen_holds c s h e x are is =
 -- ---- what a step leaves tells which message was selected
 
 told : (m : ℕ) (d : Message) (r : Reading) → d.moment ≡ m → reading_of d ≡ Some r
-    → picked_of m (Some (done_told d)) ≡ option_map message_of (saying d (Some r))
+    → selected_of m (Some (done_told d)) ≡ option_map message_of (saying d (Some r))
 told m d r at reads =
     ap (λ (q : Option Reading). read_at m (done_told d) q) reads
     ∙ ap (λ n. let k : SelectedMessage = record { source = d.source; name = record { 0 = d.name }; moment = n; reading = r } in Some k) (sym at)
 
 module _ (c : Settings) (s : ℕ) (h : History) where
-  none_picked : (m : ℕ) (b : Bool) → (if b then picked_of m None else None) ≡ None
+  none_picked : (m : ℕ) (b : Bool) → (if b then selected_of m None else None) ≡ None
   none_picked m true = refl
   none_picked m false = refl
 
   abbrev choice : Option Message → Option Reading
-  choice d = chosen c (known (receiver_of c) s h).claims.holders (messages_of (receiver_of c) s h) d
+  choice d = selected_in c (known (receiver_of c) s h).claims.holders (messages_of (receiver_of c) s h) d
 
   by_done : (m : ℕ) (b : Bool) (d : Option Message) → (b ≡ is_some (choice d)) → ((y : Message) → d ≡ Some y → y.moment ≡ m)
-      → (if b then picked_of m (option_map done_told d) else None) ≡ option_map message_of (chosen_of d (choice d))
+      → (if b then selected_of m (option_map done_told d) else None) ≡ option_map message_of (selected_with d (choice d))
   by_done m b None said at = none_picked m b
   by_done m b (Some d) said at = by (choice (Some d)) refl
     where
       by : (q : Option Reading) → choice (Some d) ≡ q
-          → (if b then picked_of m (Some (done_told d)) else None) ≡ option_map message_of (saying d (choice (Some d)))
+          → (if b then selected_of m (Some (done_told d)) else None) ≡ option_map message_of (saying d (choice (Some d)))
       by None is =
-          ap (λ t. if t then picked_of m (Some (done_told d)) else None) (said ∙ ap is_some is) ∙ ap (λ q. option_map message_of (saying d q)) (sym is)
+          ap (λ t. if t then selected_of m (Some (done_told d)) else None) (said ∙ ap is_some is) ∙ ap (λ q. option_map message_of (saying d q)) (sym is)
       by (Some r) is =
-          ap (λ t. if t then picked_of m (Some (done_told d)) else None) (said ∙ ap is_some is)
+          ap (λ t. if t then selected_of m (Some (done_told d)) else None) (said ∙ ap is_some is)
           ∙ told m d r (at d refl) (is_read c (known (receiver_of c) s h).claims.holders (messages_of (receiver_of c) s h) d (reading_of d) r is)
           ∙ ap (λ q. option_map message_of (saying d q)) (sym is)
 
   -- the datagram of the step is there exactly where the message is selected
   pub picked_is_chosen : (e : Entry) (left : Output) → is_there left.emits.posted ≡ is_some (choice (done (receiver_of c) s h e))
       → left.done ≡ option_map done_told (done (receiver_of c) s h e)
-      → picked (moment_of e) left ≡ option_map message_of (chosen_at c s h e)
+      → selected_by_step (moment_of e) left ≡ option_map message_of (selected_at c s h e)
   picked_is_chosen e left selects done_is =
-      ap (λ d. if is_there left.emits.posted then picked_of (moment_of e) d else None) done_is
+      ap (λ d. if is_there left.emits.posted then selected_of (moment_of e) d else None) done_is
       ∙ by_done (moment_of e) (is_there left.emits.posted) (done (receiver_of c) s h e) selects
       (λ y is. (done_by (receiver_of c) s h e y is).moment)

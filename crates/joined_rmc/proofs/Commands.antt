@@ -6,10 +6,9 @@ use Rattle.readings.specs.declared.rows.Row.TheVariants as row
 use Rattle.claim_table.specs.declared.answer.Holder.{Holder}
 use Rattle.history.specs.Entries.{History, command}
 use Rattle.history.specs.Known.{known}
-use Rattle.history.specs.Receiver.{receiver_of}
-use Rattle.history.specs.Settings.{Settings}
+use Rattle.history.specs.Settings.{receiver_of, Settings}
 use Rattle.history.proofs.TraceMoves.{commanded_holders}
-use Rattle.joined_rmc.specs.Chosen.{last_of, still_held}
+use Rattle.joined_rmc.specs.Selected.{last_of, still_held}
 use Rattle.joined_rmc.specs.JoinStands.{CommandsKeepJoins, LastStands, message_of}
 use Rattle.joined_rmc.specs.RmcOut.{timeout_of}
 use Rattle.joined_rmc.specs.declared.last_of_row.LastOfRow.{LastOfRow}

@@ -8,7 +8,7 @@ use Rattle.claim_table.proofs.StepLemmas.{smaller_names_keep}
 use Rattle.history.specs.AddressLaws.{IsReceiver}
 use Rattle.history.specs.Entries.{Entry, History, frame, datagram, tick, command}
 use Rattle.history.specs.Known.{Known, known, is_claim, claim_by}
-use Rattle.history.specs.Receiver.{Receiver}
+use Rattle.history.specs.Settings.{Receiver}
 use Rattle.history.proofs.Addresses.{addresses_are_sound}
 use Rattle.history.proofs.Fates.{Fate, fate}
 use Rattle.history.proofs.Fates as fates

@@ -10,10 +10,9 @@ use Rattle.claim_table.specs.Claims.{holder_at}
 use Rattle.history.specs.AddressLaws.{IsReceiver}
 use Rattle.history.specs.Entries.{Entry, History}
 use Rattle.history.specs.Known.{known}
-use Rattle.history.specs.Receiver.{receiver_of}
-use Rattle.history.specs.Settings.{Settings, same_row}
+use Rattle.history.specs.Settings.{receiver_of, Settings, same_row}
 use Rattle.gate_model.specs.AddressStands.{name_held}
-use Rattle.joined_rmc.specs.Chosen.{Chosen, chosen_at, held_by, last_of, newer, still_held}
+use Rattle.joined_rmc.specs.Selected.{Selected, selected_at, held_by, last_of, newer, still_held}
 use Rattle.joined_rmc.specs.JoinStands.{LastStands, message_of}
 use Rattle.joined_rmc.specs.Kept.{held_in, is_named, newer_message, last_after}
 use Rattle.joined_rmc.specs.declared.selected_message.SelectedMessage.{SelectedMessage}
@@ -23,7 +22,7 @@ use Rattle.joined_rmc.proofs.Holders.{Handed, stays, gone, new, handed}
 
 -- ---- one message, by who holds its source before the entry and after it
 
-module _ (holder : ℕ → Option Name) (x : Chosen) where
+module _ (holder : ℕ → Option Name) (x : Selected) where
   abbrev left : Option ℕ → Option SelectedMessage
   left since = held_in holder (option_map message_of (held_by since x))
 
@@ -86,8 +85,8 @@ module _ (holder : ℕ → Option Name) (x : Chosen) where
 
 -- ---- a row
 
-combined : (row : Row) (holders : List (Option Holder)) (x before : Option Chosen) (kept : Option SelectedMessage)
-    → ((y : Chosen) → x ≡ Some y → still_held holders (Some y) ≡ Some y) → kept ≡ option_map message_of (still_held holders before)
+combined : (row : Row) (holders : List (Option Holder)) (x before : Option Selected) (kept : Option SelectedMessage)
+    → ((y : Selected) → x ≡ Some y → still_held holders (Some y) ≡ Some y) → kept ≡ option_map message_of (still_held holders before)
     → newer_message row (option_map message_of x) kept ≡ option_map message_of (still_held holders (newer row x before))
 combined row holders None before kept holds is = is
 combined row holders (Some y) before kept holds is = by (same_row (row_of y.reading) row)
@@ -98,7 +97,7 @@ combined row holders (Some y) before kept holds is = by (same_row (row_of y.read
 
 module _ (c : Settings) (s : ℕ) (h : History) (e : Entry) (are : IsReceiver (receiver_of c)) (holder : ℕ → Option Name)
     (tells : (a : ℕ) → holder a ≡ name_held (known (receiver_of c) s (e ∷ h)).claims.holders a) where
-  older : (row : Row) (last : Option Chosen) → last_of c s row h ≡ last
+  older : (row : Row) (last : Option Selected) → last_of c s row h ≡ last
       → held_in holder (option_map message_of (still_held (known (receiver_of c) s h).claims.holders last))
       ≡ option_map message_of (still_held (known (receiver_of c) s (e ∷ h)).claims.holders last)
   older row None is = refl
@@ -107,13 +106,13 @@ module _ (c : Settings) (s : ℕ) (h : History) (e : Entry) (are : IsReceiver (r
       (holder_at (known (receiver_of c) s (e ∷ h)).claims.holders x.source) (tells x.source) (index_before row c s h x is)
       (name_of_holder row c s h x are is) (handed (receiver_of c) s h e are x.source)
 
-  pub last_steps : (row : Row) (timeout : ℕ) (last : LastOfRow) (chosen : Option SelectedMessage) → chosen ≡ option_map message_of (chosen_at c s h e)
+  pub last_steps : (row : Row) (timeout : ℕ) (last : LastOfRow) (chosen : Option SelectedMessage) → chosen ≡ option_map message_of (selected_at c s h e)
       → LastStands timeout c s row h last → LastStands timeout c s row (e ∷ h) (last_after holder row chosen last)
   last_steps row timeout last chosen is stands = record {
     timeout_is = stands.timeout_is;
     kept =
         ap (λ k. newer_message row k (held_in holder last.message)) is
-        ∙ combined row (known (receiver_of c) s (e ∷ h)).claims.holders (chosen_at c s h e) (last_of c s row h) (held_in holder last.message)
+        ∙ combined row (known (receiver_of c) s (e ∷ h)).claims.holders (selected_at c s h e) (last_of c s row h) (held_in holder last.message)
         (λ y there. chosen_holds c s h e y are there)
         (ap (held_in holder) stands.kept ∙ older row (last_of c s row h) refl);
   }

@@ -6,21 +6,19 @@ use Rattle.readings.specs.declared.rows.Row.{Row}
 use Rattle.readings.specs.declared.rows.Row.TheVariants as row
 use Rattle.sentence_rows.specs.declared.rmc.Minimum.{Minimum}
 use Rattle.sentence_rows.specs.Rmc.{rmc_text}
-use Rattle.datagram450.specs.Datagram.{header}
-use Rattle.datagram450.specs.Writing.{line_text}
+use Rattle.datagram450.specs.Datagram.{header, line_text}
 use Rattle.history.specs.AddressLaws.{IsReceiver}
 use Rattle.history.specs.Entries.{Entry, History, moment_of}
 use Rattle.history.specs.Known.{known}
-use Rattle.history.specs.Receiver.{receiver_of}
-use Rattle.history.specs.Settings.{Settings}
+use Rattle.history.specs.Settings.{receiver_of, Settings}
 use Rattle.history.proofs.Receivers.{gateways_receive}
 use Rattle.gate_model.specs.AddressStands.{name_held}
 use Rattle.gate_model.specs.Machine.{Machine}
 use Rattle.gate_model.proofs.AddressTells.{standing_tells_alike}
 use Rattle.gate_outbox.specs.Output.{Output}
-use Rattle.joined_rmc.specs.Chosen.{Chosen, chosen_at, is_due, last_of, said_within, still_held}
+use Rattle.joined_rmc.specs.Selected.{Selected, selected_at, is_due, last_of, said_within, still_held}
 use Rattle.joined_rmc.specs.JoinStands.{IsJoinStep, IsJoined, JoinStands, LastStands, message_of}
-use Rattle.joined_rmc.specs.Kept.{Join, bytes_in, counted, in_last, is_due_message, join_after, join_says, message_within, minimum_in, picked, rows_after}
+use Rattle.joined_rmc.specs.Kept.{Join, bytes_in, counted, in_last, is_due_message, join_after, join_says, message_within, minimum_in, selected_by_step, rows_after}
 use Rattle.joined_rmc.specs.RmcOut.{RmcRule, datagram_by, joined_in, lines_before, minimum, minimum_of, rmc_datagram, timeout_of}
 use Rattle.joined_rmc.specs.declared.selected_message.SelectedMessage.{SelectedMessage}
 use Rattle.joined_rmc.specs.declared.last_of_row.LastOfRow.{LastOfRow}
@@ -29,7 +27,7 @@ use Rattle.joined_rmc.proofs.Rows.{last_steps}
 
 -- ---- what is kept of a row says what the history joins
 
-within_same : (timeout m : ℕ) (x : Option Chosen) → message_within timeout m (option_map message_of x) ≡ said_within timeout m x
+within_same : (timeout m : ℕ) (x : Option Selected) → message_within timeout m (option_map message_of x) ≡ said_within timeout m x
 within_same timeout m None = refl
 within_same timeout m (Some x) = refl
 
@@ -52,7 +50,7 @@ says_minimum r c s h j m stands =
 
 -- ---- a step
 
-due_same : (x : Option Chosen) → is_due_message (option_map message_of x) ≡ is_due x
+due_same : (x : Option Selected) → is_due_message (option_map message_of x) ≡ is_due x
 due_same None = refl
 due_same (Some x) = refl
 
@@ -68,9 +66,9 @@ datagram_some false bytes = refl
 
 module _ (r : RmcRule) (c : Settings) (s : ℕ) (h : History) (e : Entry) (are : IsReceiver (receiver_of c)) (holder : ℕ → Option Name)
     (tells : (a : ℕ) → holder a ≡ name_held (known (receiver_of c) s (e ∷ h)).claims.holders a)
-    (new : Option SelectedMessage) (picks : new ≡ option_map message_of (chosen_at c s h e)) (j : Join) (stands : JoinStands r c s h j) where
-  due : is_due_message new ≡ is_due (chosen_at c s h e)
-  due = ap is_due_message picks ∙ due_same (chosen_at c s h e)
+    (new : Option SelectedMessage) (picks : new ≡ option_map message_of (selected_at c s h e)) (j : Join) (stands : JoinStands r c s h j) where
+  due : is_due_message new ≡ is_due (selected_at c s h e)
+  due = ap is_due_message picks ∙ due_same (selected_at c s h e)
 
   -- but for the count
   with_count : (count : ℕ) → count ≡ lines_before r c s (e ∷ h) % 999 → JoinStands r c s (e ∷ h) (record (rows_after holder new j) { count = count })
@@ -84,13 +82,13 @@ module _ (r : RmcRule) (c : Settings) (s : ℕ) (h : History) (e : Entry) (are :
     count = is;
   }
 
-  lines_after : (b : Bool) → is_due (chosen_at c s h e) ≡ b → lines_before r c s (e ∷ h) ≡ (if b then lines_before r c s h + 1 else lines_before r c s h)
+  lines_after : (b : Bool) → is_due (selected_at c s h e) ≡ b → lines_before r c s (e ∷ h) ≡ (if b then lines_before r c s h + 1 else lines_before r c s h)
   lines_after b is = ap (λ t. if t then lines_before r c s h + 1 else lines_before r c s h) is
 
   stands_after : JoinStands r c s (e ∷ h) (join_after holder new j)
-  stands_after = by (is_due (chosen_at c s h e)) refl
+  stands_after = by (is_due (selected_at c s h e)) refl
     where
-      by : (b : Bool) → is_due (chosen_at c s h e) ≡ b → JoinStands r c s (e ∷ h) (join_after holder new j)
+      by : (b : Bool) → is_due (selected_at c s h e) ≡ b → JoinStands r c s (e ∷ h) (join_after holder new j)
       by true is =
           subst (λ t. JoinStands r c s (e ∷ h) (if t then counted (rows_after holder new j) else rows_after holder new j)) (sym (due ∙ is))
           (with_count ((j.count + 1) % 999)
@@ -110,7 +108,7 @@ module _ (r : RmcRule) (c : Settings) (s : ℕ) (h : History) (e : Entry) (are :
       let x = minimum_in (moment_of e) (rows_after holder new j) in
       let y = minimum r c s (e ∷ h) (moment_of e) in
       ap (λ t. if t then Some (datagram_by j.sfi j.talker j.count x) else None) due
-      ∙ ap (λ (bytes : List ℕ). if is_due (chosen_at c s h e) then Some bytes else None)
+      ∙ ap (λ (bytes : List ℕ). if is_due (selected_at c s h e) then Some bytes else None)
       (ap (λ v. datagram_by v j.talker j.count x) stands.sfi ∙ ap (λ v. datagram_by r.sfi v j.count x) stands.talker
       ∙ ap (λ n. datagram_by r.sfi r.talker n x) stands.count
       ∙ same_header (lines_before r c s h) x
@@ -123,21 +121,21 @@ module _ (r : RmcRule) (c : Settings) (s : ℕ) (h : History) (e : Entry) (are :
       → packet ≡ bytes_in (join_says (moment_of e) holder new j) → IsJoined r c s h e after said packet
   joined_so after said packet after_is said_is packet_is = record {
     stands = subst (JoinStands r c s (e ∷ h)) (sym after_is) stands_after;
-    said_is = said_is ∙ due ∙ sym (datagram_some (is_due (chosen_at c s h e)) (datagram_by r.sfi r.talker (lines_before r c s h) (minimum r c s (e ∷ h) (moment_of e))));
+    said_is = said_is ∙ due ∙ sym (datagram_some (is_due (selected_at c s h e)) (datagram_by r.sfi r.talker (lines_before r c s h) (minimum r c s (e ∷ h) (moment_of e))));
     packet_is = packet_is ∙ ap bytes_in says_so;
   }
 
 pub joins : (g : Machine) (left : Output) (before after : Join) (said : Bool) (packet : List ℕ)
-    → after ≡ join_after (name_held g.addresses.claims.holders) (picked g.moment left) before
-    → said ≡ is_due_message (picked g.moment left)
-    → packet ≡ bytes_in (join_says g.moment (name_held g.addresses.claims.holders) (picked g.moment left) before)
+    → after ≡ join_after (name_held g.addresses.claims.holders) (selected_by_step g.moment left) before
+    → said ≡ is_due_message (selected_by_step g.moment left)
+    → packet ≡ bytes_in (join_says g.moment (name_held g.addresses.claims.holders) (selected_by_step g.moment left) before)
     → IsJoinStep g left before after said packet
 joins g left before after said packet after_is said_is packet_is r c s h e settings taken stands =
     let at : g.moment ≡ moment_of e = taken.stands.moment in
     let holder = name_held g.addresses.claims.holders in
-    let new = picked g.moment left in
+    let new = selected_by_step g.moment left in
     let are = gateways_receive c settings in
     let tells = (standing_tells_alike (receiver_of c) s (e ∷ h) g.addresses taken.stands.addresses).names in
-    let picks = ap (λ m. picked m left) at ∙ picked_is_chosen c s h e left taken.selected taken.told in
+    let picks = ap (λ m. selected_by_step m left) at ∙ picked_is_chosen c s h e left taken.selected taken.told in
     joined_so r c s h e are holder tells new picks before stands after said packet after_is said_is
     (packet_is ∙ ap (λ m. bytes_in (join_says m holder new before)) at)

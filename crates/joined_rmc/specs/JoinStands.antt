@@ -2,23 +2,22 @@
 use Rattle.std.specs.Prelude.{◌≡◌, ℕ, ◌%◌, Bool, List, ◌∷◌, option_map, is_some}
 use Rattle.readings.specs.declared.rows.Row.{Row}
 use Rattle.readings.specs.declared.rows.Row.TheVariants as row
-use Rattle.tag_block.specs.Numbers.{most_count}
+use Rattle.tag_block.specs.Tag.{most_count}
 use Rattle.history.specs.AddressLaws.{AreSettings}
 use Rattle.history.specs.Entries.{Entry, History, command}
 use Rattle.history.specs.Known.{known}
-use Rattle.history.specs.Receiver.{receiver_of}
-use Rattle.history.specs.Settings.{Settings}
+use Rattle.history.specs.Settings.{receiver_of, Settings}
 use Rattle.gate_model.specs.Machine.{Machine}
 use Rattle.gate_outbox.specs.Output.{Output}
 use Rattle.gate_core.specs.Promises.{IsTaken}
 use Rattle.joined_rmc.specs.declared.selected_message.SelectedMessage.{SelectedMessage}
 use Rattle.joined_rmc.specs.declared.last_of_row.LastOfRow.{LastOfRow}
-use Rattle.joined_rmc.specs.Chosen.{Chosen, last_of, still_held}
+use Rattle.joined_rmc.specs.Selected.{Selected, last_of, still_held}
 use Rattle.joined_rmc.specs.Kept.{Join, bytes_in}
 use Rattle.joined_rmc.specs.RmcOut.{RmcRule, lines_before, rmc_datagram, timeout_of}
 
 -- without the entry by which it was complete
-abbrev pub message_of : Chosen → SelectedMessage
+abbrev pub message_of : Selected → SelectedMessage
 message_of x = record { source = x.source; name = record { 0 = x.name }; moment = x.moment; reading = x.reading }
 
 -- of a row: the last message that was selected, where its sender holds its address ever since

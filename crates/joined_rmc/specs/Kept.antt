@@ -9,14 +9,14 @@ use Rattle.readings.specs.declared.rows.Row.TheVariants as row
 use Rattle.readings.specs.Ranges.{IsValid}
 use Rattle.readings.specs.Rows.{row_of}
 use Rattle.sentence_rows.specs.declared.rmc.Minimum.{Minimum}
-use Rattle.tag_block.specs.Numbers.{most_count}
+use Rattle.tag_block.specs.Tag.{most_count}
 use Rattle.history.specs.Settings.{same_row}
 use Rattle.gate_outbox.specs.declared.done.Done.{Done}
 use Rattle.gate_outbox.specs.Output.{Output}
 use Rattle.history.specs.Emits.{is_there}
 use Rattle.joined_rmc.specs.declared.selected_message.SelectedMessage.{SelectedMessage}
 use Rattle.joined_rmc.specs.declared.last_of_row.LastOfRow.{LastOfRow}
-use Rattle.joined_rmc.specs.Chosen.{says_position, unless_old}
+use Rattle.joined_rmc.specs.Selected.{says_position, unless_old}
 use Rattle.joined_rmc.specs.RmcOut.{datagram_by, minimum_of, timeout_of}
 
 -- a message of each row, and how many lines were said, from 0 to 998
@@ -36,8 +36,8 @@ lent reading = option_map (λ r. r.now) reading
 abbrev pub none_yet : ℕ → LastOfRow
 none_yet timeout = record { timeout = timeout; message = None }
 
-abbrev pub opened : List ℕ → List ℕ → List ℕ → Join
-opened talker sfi timeouts = record {
+abbrev pub empty_join : List ℕ → List ℕ → List ℕ → Join
+empty_join talker sfi timeouts = record {
   talker = talker;
   sfi = sfi;
   time = none_yet (timeout_of timeouts row.Time);
@@ -53,13 +53,13 @@ abbrev pub read_at : ℕ → Done → Option Reading → Option SelectedMessage
 read_at m d None = None
 read_at m d (Some r) = Some (record { source = d.source; name = d.name; moment = m; reading = r })
 
-abbrev pub picked_of : ℕ → Option Done → Option SelectedMessage
-picked_of m None = None
-picked_of m (Some d) = read_at m d d.reading
+abbrev pub selected_of : ℕ → Option Done → Option SelectedMessage
+selected_of m None = None
+selected_of m (Some d) = read_at m d d.reading
 
 -- what was complete at the moment, where it was selected: then its datagram is posted
-abbrev pub picked : ℕ → Output → Option SelectedMessage
-picked m left = if is_there left.emits.posted then picked_of m left.done else None
+abbrev pub selected_by_step : ℕ → Output → Option SelectedMessage
+selected_by_step m left = if is_there left.emits.posted then selected_of m left.done else None
 
 -- ---- the address of a message that is kept changes hands, or not
 

@@ -1,4 +1,4 @@
-pub mod Chosen
+pub mod Selected
 pub mod Kept
 pub mod RmcOut
 pub mod JoinStands

@@ -9,14 +9,13 @@ use Rattle.readings.specs.About.{row_number}
 use Rattle.sentence_rows.specs.Writing.{only_if}
 use Rattle.sentence_rows.specs.declared.rmc.Minimum.{Minimum}
 use Rattle.sentence_rows.specs.Rmc.{rmc_text}
-use Rattle.tag_block.specs.Numbers.{most_count}
-use Rattle.datagram450.specs.Datagram.{header}
-use Rattle.datagram450.specs.Writing.{line_text}
+use Rattle.tag_block.specs.Tag.{most_count}
+use Rattle.datagram450.specs.Datagram.{header, line_text}
 use Rattle.gate_events.specs.Emit.{Emit, net}
 use Rattle.history.specs.Entries.{Entry, History, moment_of}
 use Rattle.history.specs.Settings.{Settings}
 use Rattle.settings.specs.declared.rmc.RmcConfig.{RmcConfig}
-use Rattle.joined_rmc.specs.Chosen.{chosen_at, is_due, joined}
+use Rattle.joined_rmc.specs.Selected.{selected_at, is_due, lasting}
 
 -- how RMC is said
 pub record RmcRule : Type 0 where
@@ -85,10 +84,10 @@ module _ (r : RmcRule) (c : Settings) (s : ℕ) where
   -- how many such datagrams there were, each of one line
   abbrev pub lines_before : History → ℕ
   lines_before [] = 0
-  lines_before (e ∷ h) = if is_due (chosen_at c s h e) then lines_before h + 1 else lines_before h
+  lines_before (e ∷ h) = if is_due (selected_at c s h e) then lines_before h + 1 else lines_before h
 
   abbrev pub joined_in : Row → History → ℕ → Option Reading
-  joined_in row h m = joined c s (timeout_of r.timeouts row) row h m
+  joined_in row h m = lasting c s (timeout_of r.timeouts row) row h m
 
   -- what RMC says at a moment
   abbrev pub minimum : History → ℕ → Minimum
@@ -97,7 +96,7 @@ module _ (r : RmcRule) (c : Settings) (s : ℕ) where
   -- the datagram that an entry gives
   abbrev pub rmc_datagram : History → Entry → Option (List ℕ)
   rmc_datagram h e =
-      if is_due (chosen_at c s h e) then Some (datagram_by r.sfi r.talker (lines_before h) (minimum (e ∷ h) (moment_of e))) else None
+      if is_due (selected_at c s h e) then Some (datagram_by r.sfi r.talker (lines_before h) (minimum (e ∷ h) (moment_of e))) else None
 
   abbrev pub sent_to : List ℕ → Option (List ℕ) → List Emit
   sent_to group None = []

@@ -3,7 +3,7 @@ ghost use Rattle.std.specs.Prelude.{◌≡◌, None, IfSome, if◌then◌else◌
 ghost use Rattle.readings.specs.Ranges.{IsValid};
 ghost use Rattle.history.specs.Settings.{same_row};
 ghost use Rattle.gate_model.specs.AddressStands.{name_held};
-ghost use Rattle.joined_rmc.specs.Chosen.{unless_old};
+ghost use Rattle.joined_rmc.specs.Selected.{unless_old};
 ghost use Rattle.joined_rmc.specs.Kept.{IsMessageValid, none_yet, held_in, in_last, is_named, message_within, lent, newer_message, last_after};
 
 use crate::selected_message::SelectedMessage;

@@ -7,7 +7,7 @@ ghost use Rattle.sentence_rows.specs.Rmc.{IsMinimum};
 ghost use Rattle.history.specs.Settings.{Settings};
 ghost use Rattle.gate_model.specs.AddressStands.{name_held};
 ghost use Rattle.joined_rmc.specs.JoinStands.{IsJoinStep, JoinStands};
-ghost use Rattle.joined_rmc.specs.Kept.{IsMessageValid, Join, bytes_in, counted, datagram_in, is_due_message, join_after, join_says, minimum_in, opened, picked, rows_after};
+ghost use Rattle.joined_rmc.specs.Kept.{IsMessageValid, Join, bytes_in, counted, datagram_in, is_due_message, join_after, join_says, minimum_in, empty_join, selected_by_step, rows_after};
 ghost use Rattle.joined_rmc.specs.RmcOut.{datagram_by, rule_by};
 
 use crate::last_of_row::LastOfRow;
@@ -65,7 +65,7 @@ impl RmcJoin {
     /// counts, in milliseconds, by the row's number.
     pub fn new(config: &RmcConfig, sfi: Sfi, timeouts: &[u32; ROWS]) -> RmcJoin
         requires { IsTrue (list_all is_capital config.now.talker) }
-        ensures kept { result ≡ opened config.now.talker sfi timeouts.now }
+        ensures kept { result ≡ empty_join config.now.talker sfi timeouts.now }
         ensures stands { (c : Settings) (s : ℕ) → JoinStands (rule_by config.now sfi timeouts.now) c s [] result }
     {
         RmcJoin {

@@ -2,8 +2,8 @@
 ghost use Rattle.std.specs.Prelude.{◌≡◌};
 ghost use Rattle.readings.specs.Rows.{row_of};
 ghost use Rattle.history.specs.Settings.{same_row};
-ghost use Rattle.joined_rmc.specs.Chosen.{says_position};
-ghost use Rattle.joined_rmc.specs.Kept.{IsMessageValid, picked};
+ghost use Rattle.joined_rmc.specs.Selected.{says_position};
+ghost use Rattle.joined_rmc.specs.Kept.{IsMessageValid, selected_by_step};
 
 use gate_core::Outbox;
 use n2k_id::Name;
@@ -23,7 +23,7 @@ pub(crate) struct SelectedMessage {
 impl SelectedMessage {
     /// The message that a step at this moment selected.
     pub(crate) fn of(moment: u64, outbox: &Outbox) -> Option<SelectedMessage>
-        ensures selected { result ≡ picked moment outbox.now }
+        ensures selected { result ≡ selected_by_step moment outbox.now }
         ensures valid { IsMessageValid result }
     {
         if outbox.selected().is_none() {

@@ -6,7 +6,7 @@ use Rattle.tag_block.specs.declared.tag.Tag.{Tag}
 use Rattle.sentence_text.specs.declared.sentence.Sentence.{Sentence}
 use Rattle.datagram450.specs.declared.item.LineItem.{LineItem}
 use Rattle.datagram450.specs.declared.item.LineItem.TheVariants.{Line, Bad}
-use Rattle.datagram450.specs.Item.{item_view}
+use Rattle.datagram450.specs.Datagram.{item_view}
 use Rattle.line_commands.specs.Show.{place_text, text_or_dash, without_end, front_text, middle_text, item_text}
 
 pub line_is : (number at : ℕ) (tag : Tag) (text : Bor (List ℕ)) (sentence : Sentence) (item : LineItem) (front destination middle bared : List ℕ) → item ≡ Line at tag text sentence

@@ -8,9 +8,8 @@ use Rattle.tag_block.specs.declared.group_part.GroupPart.{GroupPart}
 use Rattle.tag_block.specs.Tag.{Said}
 use Rattle.datagram450.specs.declared.fault.DatagramFault.{DatagramFault}
 use Rattle.datagram450.specs.declared.fault.DatagramFault.TheVariants as faults
-use Rattle.datagram450.specs.Item.{Item, line, bad}
+use Rattle.datagram450.specs.Datagram.{Item, line, bad, longest_datagram}
 use Rattle.datagram450.specs.Datagram as datagrams
-use Rattle.datagram450.specs.Datagram.{longest_datagram}
 use Rattle.capture_text.specs.declared.line_rule.LineRule.{LineRule}
 use Rattle.capture_text.specs.LineRule.{rule_number}
 use Rattle.report_rules.specs.Rules.{datagram_header, datagram_long}

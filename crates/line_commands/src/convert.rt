@@ -6,7 +6,7 @@ ghost use Rattle.n2k_id.specs.Identifier.{parts_of};
 ghost use Rattle.readings.specs.Ranges.{IsValid as IsValidReading};
 ghost use Rattle.readings.specs.Rows.{row_of};
 ghost use Rattle.pgn_profile.specs.Profiled.{kind_of, GivesValid};
-ghost use Rattle.sentence_rows.specs.Lines.{lines_of};
+ghost use Rattle.sentence_rows.specs.Field.{texts_of};
 ghost use Rattle.sentence_rows.specs.Writing.{IsText};
 ghost use Rattle.gate_events.specs.Event.{view, IsValid};
 ghost use Rattle.gate_outside.specs.Faults.{HasCause};
@@ -55,7 +55,7 @@ fn send_report<K: Sink>(
 
 // Sends the sentences behind one another. A reading has one or two.
 fn send_lines<K: Sink>(lines: &Lines, writer: &mut Writer, out: &mut K) -> Result<(), Failed>
-    ensures sent { Writes (K.taken out.old) (K.taken out.new) (writer.old ++ flat_map (λ line. line) (lines_of lines.now)) writer.new result }
+    ensures sent { Writes (K.taken out.old) (K.taken out.new) (writer.old ++ flat_map (λ line. line) (texts_of lines.now)) writer.new result }
     ensures cause { HasCause (K.fault_count out.old) (K.fault_count out.new) result }
 {
     match lines.as_slice() {

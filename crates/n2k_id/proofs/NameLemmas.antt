@@ -2,16 +2,15 @@ use Rattle.std.proofs.Common.{◌≡◌, ℕ, Bool, ◌+◌, ◌*◌, ◌/◌, �
 use Rattle.std.proofs.lemmas.Nat.{mod-mul-add, div-mul-add, div-add-mod', pow-add, pow_pos}
 use Rattle.std.proofs.Math.Nat.{div-div-eq-div-mul, div-lt_iff_lt-mul, mul_comm}
 use Rattle.n2k_id.specs.declared.name.NameFields.{NameFields}
-use Rattle.n2k_id.specs.Widths.{cut, joined, FitEach}
-use Rattle.n2k_id.specs.Name.{IsMadeOf, bits_at, bit_of, fields_of, is_arbitrary, values, widths}
+use Rattle.n2k_id.specs.Name.{cut, number_of, FitEach, IsMadeOf, bits_at, bit_of, fields_of, is_arbitrary, values, widths}
 
 -- what is joined from fields that fit is cut into them
-pub cut-joined : (ws xs : List ℕ) → FitEach ws xs → cut ws (joined ws xs) ≡ xs
+pub cut-joined : (ws xs : List ℕ) → FitEach ws xs → cut ws (number_of ws xs) ≡ xs
 cut-joined [] [] fit = refl
 cut-joined [] (x ∷ xs) fit = elim fit [ ]
 cut-joined (w ∷ ws) [] fit = elim fit [ ]
 cut-joined (w ∷ ws) (x ∷ xs) fit =
-    rw (mod-mul-add (joined ws xs) (2 ^ w) x fit.0, div-mul-add (joined ws xs) (2 ^ w) x fit.0, cut-joined ws xs fit.1)
+    rw (mod-mul-add (number_of ws xs) (2 ^ w) x fit.0, div-mul-add (number_of ws xs) (2 ^ w) x fit.0, cut-joined ws xs fit.1)
 
 -- what is cut fits
 pub FitEach-cut : (ws : List ℕ) (n : ℕ) → FitEach ws (cut ws n)
@@ -27,7 +26,7 @@ bits_in [] = 0
 bits_in (w ∷ ws) = w + bits_in ws
 
 -- and is the number when it is joined again, where no bit lies beyond the fields
-pub joined-cut : (ws : List ℕ) (n : ℕ) → n < 2 ^ bits_in ws → joined ws (cut ws n) ≡ n
+pub joined-cut : (ws : List ℕ) (n : ℕ) → n < 2 ^ bits_in ws → number_of ws (cut ws n) ≡ n
 joined-cut [] n h = omega arith
 joined-cut (w ∷ ws) n h =
     let split : 2 ^ (w + bits_in ws) ≡ 2 ^ bits_in ws * 2 ^ w = pow-add 2 w (bits_in ws) ∙ mul_comm (2 ^ w) (2 ^ bits_in ws) in
@@ -103,4 +102,4 @@ fields_of_made name f made =
 -- NAMEs with the same fields are the same
 pub name_tells : (name other : ℕ) → name < 2 ^ 64 → other < 2 ^ 64 → fields_of name ≡ fields_of other → name ≡ other
 name_tells name other h k e =
-    (made_of_fields name h).number ∙ ap (λ f. joined widths (values f)) e ∙ sym (made_of_fields other k).number
+    (made_of_fields name h).number ∙ ap (λ f. number_of widths (values f)) e ∙ sym (made_of_fields other k).number

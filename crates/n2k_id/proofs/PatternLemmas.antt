@@ -4,8 +4,7 @@ use Rattle.std.specs.Bool.{beq}
 use Rattle.std.specs.Option.{ForSome}
 use Rattle.n2k_id.specs.declared.name.NameFields.{NameFields}
 use Rattle.n2k_id.specs.declared.pattern.Pattern.{Pattern}
-use Rattle.n2k_id.specs.Pattern.{Matches, allows, matches_fields, stating}
-use Rattle.n2k_id.specs.Name.{fields_of, values}
+use Rattle.n2k_id.specs.Name.{Matches, allows, matches_fields, stating, fields_of, values}
 use Rattle.n2k_id.proofs.NameLemmas.{of_values, of_values-values, name_tells}
 
 -- two tests tell two facts

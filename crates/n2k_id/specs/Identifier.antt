@@ -1,4 +1,4 @@
-use Rattle.std.specs.Prelude.{◌≡◌, ℕ, ◌+◌, ◌-◌, ◌*◌, ◌/◌, ◌%◌, ◌^◌, ◌<◌, Bool, MatchBool, nat_lt, if◌then◌else◌}
+use Rattle.std.specs.Prelude.{◌≡◌, ℕ, ◌+◌, ◌-◌, ◌*◌, ◌/◌, ◌%◌, ◌^◌, ◌<◌, Bool, false, ◌||◌, ◌==◌, MatchBool, nat_lt, Option, Some, None, if◌then◌else◌}
 use Rattle.n2k_id.specs.declared.identifier_parts.Parts.{Parts}
 
 -- From its top a 29-bit identifier holds the priority (3 bits), the extended data page (1), the data
@@ -37,3 +37,14 @@ identifier_of p = p.priority * 2 ^ 26 + group_of p * 2 ^ 8 + p.source
 pub record IsLaidOut (id : ℕ) (p : Parts) : Type 0 where
   pub joinable : CanJoin p
   pub identifier : id ≡ identifier_of p
+
+-- ---- from whom a frame is, and to whom, by the address of this device where it has one
+
+-- the address is this device's
+abbrev pub is_own : Option ℕ → ℕ → Bool
+is_own None address = false
+is_own (Some own) address = address == own
+
+-- a frame to this destination is to all, or to this device
+abbrev pub is_to : Option ℕ → ℕ → Bool
+is_to own destination = (destination == 255) || is_own own destination

@@ -1,5 +1,5 @@
 -- The parameter groups by which devices manage the network, by their numbers.
-use Rattle.std.specs.Prelude.{ℕ}
+use Rattle.std.specs.Prelude.{ℕ, ◌+◌, ◌*◌, List, slice_index}
 
 -- a device claims an address, or says that it can claim none (ISO 11783-5)
 abbrev pub address_claimed : ℕ
@@ -8,6 +8,10 @@ address_claimed = 60928
 -- a device asks for a parameter group (ISO 11783-3)
 abbrev pub request : ℕ
 request = 59904
+
+-- which one it asks for: the first three bytes of the request, low byte first
+abbrev pub asked_of : List ℕ → ℕ
+asked_of held = slice_index held 0 + 256 * slice_index held 1 + 65536 * slice_index held 2
 
 -- a device answers that it doesn't have what was asked for (ISO 11783-3)
 abbrev pub acknowledgement : ℕ

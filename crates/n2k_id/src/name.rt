@@ -1,6 +1,5 @@
 ghost use Rattle.std.specs.Prelude.{◌≡◌, ◌^◌, ◌<◌, ◌≤◌, ◌↔◌, length, take, IsTrue, IsSome, IfSome};
-ghost use Rattle.n2k_id.specs.Name.{IsMadeOf, bits_at, fields_of, name_at, name_bytes, values, widths};
-ghost use Rattle.n2k_id.specs.Widths.{FitEach, joined};
+ghost use Rattle.n2k_id.specs.Name.{IsMadeOf, bits_at, fields_of, name_at, name_bytes, values, widths, FitEach, number_of};
 
 /// The 64-bit NAME by which a device claims its address (ISO 11783-5). Of two devices that claim one
 /// address, the one whose NAME is the smaller number has it.
@@ -126,7 +125,7 @@ fn fit(f: NameFields) -> bool
 #[tactic(auto, unfolding(crate::specs::Name::widths, crate::specs::Name::values))]
 fn number(f: &NameFields) -> u64
     requires { FitEach widths (values f.now) }
-    ensures { result ≡ joined widths (values f.now) }
+    ensures { result ≡ number_of widths (values f.now) }
 {
     u64::from(f.unique)
         + (u64::from(f.manufacturer) << 21)

@@ -1,6 +1,5 @@
 ghost use Rattle.std.specs.Prelude.{◌≡◌, ◌^◌, ◌<◌, ◌↔◌, ℕ, IsTrue};
-ghost use Rattle.n2k_id.specs.Name.{fields_of};
-ghost use Rattle.n2k_id.specs.Pattern.{Matches, allows, matches, stating};
+ghost use Rattle.n2k_id.specs.Name.{fields_of, Matches, allows, matches, stating};
 
 use crate::name::{Name, NameFields};
 
@@ -29,7 +28,7 @@ impl Pattern {
     }
 
     /// Whether each stated field has that value in the NAME.
-    #[tactic(auto, using(crate::proofs::PatternLemmas::matches_tells), unfolding(crate::specs::Pattern::matches, crate::specs::Pattern::matches_fields))]
+    #[tactic(auto, using(crate::proofs::PatternLemmas::matches_tells), unfolding(crate::specs::Name::matches, crate::specs::Name::matches_fields))]
     pub fn matches(&self, name: Name) -> bool
         ensures value { result ≡ matches self.now name.0 }
         ensures fields { IsTrue result ↔ Matches self.now (fields_of name.0) }
@@ -48,7 +47,7 @@ impl Pattern {
     }
 }
 
-#[tactic(auto, unfolding(crate::specs::Pattern::stating))]
+#[tactic(auto, unfolding(crate::specs::Name::stating))]
 fn state(f: NameFields) -> Pattern
     ensures { result ≡ stating f }
 {

@@ -4,7 +4,7 @@ use Rattle.std.proofs.lemmas.Int.{ints}
 use Rattle.readings.specs.Numbers.{unsigned_at}
 use Rattle.readings.specs.declared.range.Range.{Range}
 use Rattle.readings.specs.Ranges.{Holds}
-use Rattle.pgn_profile.specs.Field.{available, largest_unsigned, unsigned_value}
+use Rattle.pgn_profile.specs.Part.{available, largest_unsigned, unsigned_value}
 
 pub available_within : (largest : ℤ) (range : Range) (value : ℤ) → range.high ≤ℤ (largest -ℤ pos 3) → Holds range value
     → available largest range value ≡ Some value

@@ -10,8 +10,7 @@ use Rattle.pgn_profile.specs.declared.profiled.Profiled.TheVariants as says
 use Rattle.pgn_profile.specs.Part.{AreIn, Values, values_in}
 use Rattle.pgn_profile.specs.Layout as rows
 use Rattle.pgn_profile.specs.Layout.{Layout, given, reading_by, written}
-use Rattle.pgn_profile.specs.Payload.{payload_of, pgn_of}
-use Rattle.pgn_profile.specs.Profiled.{GivesValid, Message, by_message, by_rows, message_in, messages, profiled}
+use Rattle.pgn_profile.specs.Profiled.{payload_of, pgn_of, GivesValid, Message, by_message, by_rows, message_in, messages, profiled}
 use Rattle.pgn_profile.proofs.Parts.{are_in, is_well_formed, written_back}
 
 -- ---- what is read is valid

@@ -12,8 +12,7 @@ use Rattle.std.specs.List.{list_all, splice}
 use Rattle.readings.specs.Numbers.{bits_of, signed_at, unsigned_at}
 use Rattle.readings.specs.declared.range.Range.{Range}
 use Rattle.readings.specs.Ranges.{Admits, from_to, up_to}
-use Rattle.pgn_profile.specs.Field.{available, largest_signed, largest_unsigned, signed_from, signed_value, unsigned_from, unsigned_value}
-use Rattle.pgn_profile.specs.Part.{AreIn, Content, IsIn, Part, ValueOf, Values, bits_at, bytes_in, code, filled, flag, known, multiple, signed_number, times, unsigned_number, value_in, values_in}
+use Rattle.pgn_profile.specs.Part.{available, largest_signed, largest_unsigned, signed_from, signed_value, unsigned_from, unsigned_value, AreIn, Content, IsIn, Part, ValueOf, Values, bits_at, bytes_in, code, filled, flag, known, multiple, signed_number, times, unsigned_number, value_in, values_in}
 use Rattle.pgn_profile.proofs.ReadBack.{signed_back, signed_fits, unsigned_back, unsigned_fits}
 use Rattle.pgn_profile.proofs.Pieces.{length_number_bytes}
 

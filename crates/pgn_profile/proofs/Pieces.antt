@@ -8,7 +8,7 @@ use Rattle.std.specs.List.{flat_map}
 use Rattle.byteorder.specs.Endian.{low_bytes}
 use Rattle.byteorder.specs.Numbers.{length-bytes_low_first}
 use Rattle.pgn_profile.specs.declared.piece.Piece.{Piece}
-use Rattle.pgn_profile.specs.Field.{number_bytes}
+use Rattle.pgn_profile.specs.Part.{number_bytes}
 use Rattle.pgn_profile.specs.Piece.{bytes_of}
 
 pub length_number_bytes : (width : ℕ) (value : ℤ) → length (number_bytes width value) ≡ width

@@ -12,7 +12,7 @@ use Rattle.byteorder.specs.Numbers.{length-bytes_low_first, little_from-cons, li
 use Rattle.readings.specs.Numbers.{field_at, little_endian, signed_at, signed_in, twos_complement, unsigned_at, unsigned_in}
 use Rattle.readings.specs.declared.range.Range.{Range}
 use Rattle.readings.specs.Ranges.{Admits, Holds}
-use Rattle.pgn_profile.specs.Field.{available, largest_signed, largest_unsigned, number_bytes, signed_bytes, signed_from, signed_value, unsigned_bytes, unsigned_from, unsigned_value}
+use Rattle.pgn_profile.specs.Part.{available, largest_signed, largest_unsigned, number_bytes, signed_bytes, signed_from, signed_value, unsigned_bytes, unsigned_from, unsigned_value}
 use Rattle.pgn_profile.proofs.Available.{available_outside, available_within}
 
 pow256 : (n : ℕ) → 256 ^ n ≡ 2 ^ (8 * n)

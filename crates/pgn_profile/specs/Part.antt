@@ -1,10 +1,56 @@
 -- The parts of a payload: where a value stands, what it may be, and how it is read and written.
-use Rattle.std.specs.Prelude.{ℕ, ◌+◌, ◌*◌, ◌^◌, ℤ, pos, ◌*ℤ◌, List, [], ◌∷◌, Bool, ◌==◌, nat_le, Option, Some, None, slice_index, if◌then◌else◌}
-use Rattle.std.specs.List.{splice}
+use Rattle.std.specs.Prelude.{ℕ, ◌-◌, ◌*◌, ◌^◌, ℤ, pos, ◌-ℤ◌, int_lt, List, Option, Some, None, unwrap_or, if◌then◌else◌, ◌+◌, ◌*ℤ◌, [], ◌∷◌, Bool, ◌==◌, nat_le, slice_index}
+use Rattle.std.specs.Int.{w64}
+use Rattle.byteorder.specs.Endian.{little_bytes, low_bytes}
 use Rattle.readings.specs.declared.range.Range.{Range}
-use Rattle.readings.specs.Numbers.{bits_of}
+use Rattle.readings.specs.Numbers.{unsigned_at, signed_at, bits_of}
+use Rattle.std.specs.List.{splice}
 use Rattle.readings.specs.Ranges.{Admits, from_to, up_to}
-use Rattle.pgn_profile.specs.Field.{unsigned_value, signed_value, unsigned_bytes, signed_bytes}
+
+-- ---- a number
+
+-- the largest value of so many bytes
+abbrev pub largest_unsigned : ℕ → ℤ
+largest_unsigned width = pos (2 ^ (8 * width) - 1)
+
+abbrev pub largest_signed : ℕ → ℤ
+largest_signed width = pos (2 ^ (8 * width - 1) - 1)
+
+-- A value is available where it is in its range and none of the three largest of its width, which
+-- say that there is no value.
+abbrev pub available : ℤ → Range → ℤ → Option ℤ
+available largest range value =
+    if int_lt value range.low then None
+    else if int_lt range.high value then None
+    else if int_lt value (largest -ℤ pos 2) then Some value
+    else None
+
+abbrev pub unsigned_from : ℕ → Range → Option ℕ → Option ℤ
+unsigned_from width range None = None
+unsigned_from width range (Some value) = available (largest_unsigned width) range (pos value)
+
+abbrev pub signed_from : ℕ → Range → Option ℤ → Option ℤ
+signed_from width range None = None
+signed_from width range (Some value) = available (largest_signed width) range value
+
+-- the value of the field of so many bytes at a place, in a payload
+abbrev pub unsigned_value : ℕ → ℕ → Range → List ℕ → Option ℤ
+unsigned_value place width range payload = unsigned_from width range (unsigned_at payload place width)
+
+abbrev pub signed_value : ℕ → ℕ → Range → List ℕ → Option ℤ
+signed_value place width range payload = signed_from width range (signed_at payload place width)
+
+-- the bytes of a value, those of the largest of their width where there is none
+abbrev pub number_bytes : ℕ → ℤ → List ℕ
+number_bytes width value = little_bytes width (low_bytes w64 width value)
+
+abbrev pub unsigned_bytes : ℕ → Option ℤ → List ℕ
+unsigned_bytes width value = number_bytes width (unwrap_or value (largest_unsigned width))
+
+abbrev pub signed_bytes : ℕ → Option ℤ → List ℕ
+signed_bytes width value = number_bytes width (unwrap_or value (largest_signed width))
+
+-- ---- a part
 
 -- What stands in the bytes of a part.
 pub data Content : Type 0 where

@@ -2,7 +2,7 @@
 use Rattle.std.specs.Prelude.{ℕ, ◌≤◌, List, [], ◌∷◌}
 use Rattle.pgn_profile.specs.declared.piece.Piece.{Piece}
 use Rattle.pgn_profile.specs.declared.piece.Piece.TheVariants.{Bytes, Byte, Unsigned, Signed}
-use Rattle.pgn_profile.specs.Field.{unsigned_bytes, signed_bytes}
+use Rattle.pgn_profile.specs.Part.{unsigned_bytes, signed_bytes}
 
 abbrev pub bytes_of : Piece → List ℕ
 bytes_of (Bytes bytes) = bytes.now

@@ -4,7 +4,7 @@
 //! below them, so the range alone tells whether a value is available.
 
 ghost use Rattle.std.specs.Prelude.{◌≡◌, ◌≤◌, ◌≤ℤ◌, ◌-ℤ◌, pos};
-ghost use Rattle.pgn_profile.specs.Field.{largest_signed, largest_unsigned, signed_value, unsigned_value};
+ghost use Rattle.pgn_profile.specs.Part.{largest_signed, largest_unsigned, signed_value, unsigned_value};
 
 use readings::{Range, read_signed, read_unsigned};
 

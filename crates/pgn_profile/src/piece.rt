@@ -3,7 +3,7 @@
 ghost use Rattle.std.specs.Prelude.{◌≡◌, ◌+◌, ◌≤◌, ◌++◌, length};
 ghost use Rattle.std.specs.List.{AllByRecursion, flat_map};
 ghost use Rattle.pgn_profile.specs.Piece.{HasWidth, bytes_of};
-ghost use Rattle.pgn_profile.specs.Field.{largest_signed, largest_unsigned, number_bytes};
+ghost use Rattle.pgn_profile.specs.Part.{largest_signed, largest_unsigned, number_bytes};
 
 use arrayvec::ArrayVec;
 use byteorder::{ByteOrder, LittleEndian};

@@ -1,9 +1,8 @@
 ghost use Rattle.std.specs.Prelude.{◌≡◌, [], ◌∷◌, ◌++◌};
 ghost use Rattle.readings.specs.Rows.{row_of};
 ghost use Rattle.readings.specs.Ranges.{IsValid};
-ghost use Rattle.pgn_profile.specs.Field.{unsigned_bytes};
-ghost use Rattle.pgn_profile.specs.Payload.{payload_of, pgn_of, priority_of};
-ghost use Rattle.pgn_profile.specs.Profiled.{profiled};
+ghost use Rattle.pgn_profile.specs.Part.{unsigned_bytes};
+ghost use Rattle.pgn_profile.specs.Profiled.{payload_of, pgn_of, priority_of, profiled};
 
 use crate::piece::Piece::{Byte, Bytes, Signed, Unsigned};
 use crate::piece::{Payload, append_all};

@@ -6,8 +6,7 @@ use Rattle.readings.specs.declared.reading.Reading.TheVariants as reading
 use Rattle.readings.specs.declared.rows.Row.{Row}
 use Rattle.readings.specs.declared.rows.Row.TheVariants as row
 use Rattle.readings.specs.Rows.{row_of}
-use Rattle.pgn_profile.specs.Profiled.{messages}
-use Rattle.pgn_profile.specs.Payload.{payload_of, pgn_of, priority_of}
+use Rattle.pgn_profile.specs.Profiled.{messages, payload_of, pgn_of, priority_of}
 use Rattle.history.specs.NetReadings.{is_fast_row}
 use Rattle.row_traffic.specs.Sending.{row_parts}
 

@@ -3,7 +3,7 @@ use Rattle.std.proofs.Common.{◌≡◌, ℕ, ◌+◌, Bool, true, false, List, 
 use Rattle.std.specs.List.{position, position_from}
 use Rattle.std.proofs.lemmas.Iterator.Adapters.{position_from-zero}
 use Rattle.n2k_id.specs.declared.pattern.Pattern.{Pattern}
-use Rattle.n2k_id.specs.Pattern.{matches}
+use Rattle.n2k_id.specs.Name.{matches}
 use Rattle.history.specs.Choice.{place_in}
 use Rattle.row_traffic.specs.Saying.{or_last}
 

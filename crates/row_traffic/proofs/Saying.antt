@@ -9,9 +9,8 @@ use Rattle.readings.specs.Ranges.{IsValid}
 use Rattle.readings.specs.Rows.{row_of}
 use Rattle.sentence_text.specs.Names.{IsSfi}
 use Rattle.tag_block.specs.Writing.{longest_packet}
-use Rattle.datagram450.specs.Datagram.{header}
-use Rattle.datagram450.specs.Writing.{line_text}
-use Rattle.history.specs.Datagrams.{lines_from, part_of}
+use Rattle.datagram450.specs.Datagram.{header, line_text}
+use Rattle.history.specs.Emits.{lines_from, part_of}
 use Rattle.history.specs.Settings.{Settings, rule_of}
 use Rattle.gate_model.specs.Said.{SaidKept, lines_at, sentences_by, datagram_by}
 use Rattle.gate_model.specs.SaidFits.{AreCounts}

@@ -5,8 +5,7 @@ use Rattle.source_choice.specs.Choices.{opened}
 use Rattle.tag_block.specs.declared.group_key.GroupKey.{GroupKey}
 use Rattle.tag_block.specs.Tag.{Said}
 use Rattle.datagram450.specs.declared.fault.DatagramFault.{DatagramFault}
-use Rattle.datagram450.specs.Item.{Item}
-use Rattle.datagram450.specs.Datagram.{cut}
+use Rattle.datagram450.specs.Datagram.{Item, cut}
 use Rattle.gate_events.specs.Emit.{Emit}
 use Rattle.history.specs.Heard.{place_of}
 use Rattle.history.specs.Settings.{Settings}

@@ -4,8 +4,8 @@ use Rattle.n2k_id.specs.declared.identifier_parts.Parts.{Parts}
 use Rattle.readings.specs.declared.reading.Reading.{Reading}
 use Rattle.readings.specs.declared.rows.Row.{Row}
 use Rattle.readings.specs.Rows.{row_of}
-use Rattle.pgn_profile.specs.Payload.{payload_of, pgn_of, priority_of}
-use Rattle.fast_packet.specs.Splitting.{frames_of}
+use Rattle.pgn_profile.specs.Profiled.{payload_of, pgn_of, priority_of}
+use Rattle.fast_packet.specs.FastRuns.{frames_of}
 use Rattle.gate_events.specs.Emit.{Emit}
 use Rattle.history.specs.Emits.{sent}
 use Rattle.history.specs.NetReadings.{is_fast_row}

@@ -3,8 +3,7 @@ ghost use Rattle.std.specs.Prelude.{◌≡◌, ◌+◌, ◌≤◌, [], ◌∷◌
 ghost use Rattle.std.specs.List.{AllByRecursion};
 ghost use Rattle.sentence_text.specs.Reading.{parts};
 ghost use Rattle.tag_block.specs.Reading.{said};
-ghost use Rattle.datagram450.specs.Item.{item_view, line};
-ghost use Rattle.datagram450.specs.Datagram.{IsItem, read};
+ghost use Rattle.datagram450.specs.Datagram.{item_view, line, IsItem, read};
 ghost use Rattle.history.specs.Heard.{several};
 ghost use Rattle.history.specs.Settings.{Settings};
 ghost use Rattle.gate_model.specs.Endings.{groups_overdue};

@@ -2,8 +2,7 @@
 ghost use Rattle.std.specs.Prelude.{◌≡◌, ◌+◌, ◌<◌, ◌≤◌, [], ◌∷◌, false, length, map};
 ghost use Rattle.n2k_id.specs.Identifier.{CanJoin};
 ghost use Rattle.readings.specs.Ranges.{IsValid};
-ghost use Rattle.fast_packet.specs.FastFrames.{longest, need_of};
-ghost use Rattle.fast_packet.specs.Splitting.{frames_of};
+ghost use Rattle.fast_packet.specs.FastRuns.{longest, need_of, frames_of};
 ghost use Rattle.history.specs.Opens.{is_fast};
 ghost use Rattle.gate_outbox.specs.Output.{and_told, most_told};
 ghost use Rattle.row_traffic.specs.Sending.{reading_frames, sent_with};

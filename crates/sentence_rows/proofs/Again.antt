@@ -19,9 +19,8 @@ use Rattle.unit_fraction.proofs.ThereAndBack.{sizes}
 use Rattle.sentence_rows.specs.declared.written_unit.WrittenUnit.{WrittenUnit}
 use Rattle.sentence_rows.specs.declared.read_unit.ReadUnit.{ReadUnit}
 use Rattle.sentence_rows.specs.declared.field.Field.TheVariants.{Decimal, Degrees, Magnitude, Side}
-use Rattle.sentence_rows.specs.ReadUnits.{range_of}
+use Rattle.sentence_rows.specs.Columns.{range_of, given}
 use Rattle.sentence_rows.specs.Field.{count, degrees_text, is_negative, text_of}
-use Rattle.sentence_rows.specs.Fault.{given}
 use Rattle.sentence_rows.specs.Columns as spec
 use Rattle.sentence_rows.proofs.Bodies.{abs-neg, abs-round}
 

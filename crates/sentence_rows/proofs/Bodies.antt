@@ -7,12 +7,11 @@ use Rattle.std.proofs.lemmas.Int.{unsigned_abs-mul}
 use Rattle.std.proofs.lemmas.Nat.{mul-le, pow-add}
 use Rattle.unit_fraction.specs.Round.{nearest, round}
 use Rattle.sentence_rows.specs.declared.written_unit.WrittenUnit.{WrittenUnit}
-use Rattle.sentence_rows.specs.Field.{count, is_sound, IsPrintable, is_negative, text_of, width_of, body_text, body_width, degrees_text, time_text}
+use Rattle.sentence_rows.specs.Field.{count, is_sound, IsPrintable, is_negative, text_of, width_of, body_text, body_width, degrees_text, time_text, degrees, sentence_by}
 use Rattle.std.specs.Fmt.{decimal}
 use Rattle.std.proofs.lemmas.Fmt.{decimal_digit, decimal_step, length-decimal-le, digits_decimal}
 use Rattle.unit_fraction.specs.Digits.{minus, spelling}
 use Rattle.unit_fraction.specs.Text.{behind_point, decimal_text, decimals, shows_minus}
-use Rattle.sentence_rows.specs.WrittenUnits.{degrees}
 use Rattle.sentence_rows.specs.declared.field.Field.{Field}
 use Rattle.sentence_rows.specs.declared.field.Field.TheVariants.{Empty, Letter, Decimal, Magnitude, Side, Angle, Degrees, Time, Digits, Satellites}
 use Rattle.std.specs.Char.{is_ascii_digit}
@@ -29,7 +28,6 @@ use Rattle.sentence_text.specs.Sentence.{body_of}
 use Rattle.sentence_text.proofs.Fields.{fields_before_comma}
 use Rattle.sentence_text.proofs.Spelling.{read_back}
 use Rattle.unit_fraction.proofs.Text.{length-decimals, own}
-use Rattle.sentence_rows.specs.Lines.{sentence_by}
 use Rattle.sentence_rows.specs.Stable.{IsReadBack, parts_by}
 
 -- what a sound conversion says of its numbers

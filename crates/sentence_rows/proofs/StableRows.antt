@@ -19,12 +19,10 @@ use Rattle.sentence_rows.specs.declared.formatter.Formatter.{Formatter}
 use Rattle.sentence_rows.specs.declared.formatter.Formatter.TheVariants as formatter
 use Rattle.sentence_rows.specs.declared.field.Field.{Field}
 use Rattle.sentence_rows.specs.declared.field.Field.TheVariants.{Angle, Decimal, Letter}
-use Rattle.sentence_rows.specs.WrittenUnits as unit
-use Rattle.sentence_rows.specs.ReadUnits as quantity
-use Rattle.sentence_rows.specs.Field.{body_text, text_of}
+use Rattle.sentence_rows.specs.Field as unit
+use Rattle.sentence_rows.specs.Field.{body_text, text_of, sentence_by}
 use Rattle.sentence_rows.specs.Columns as spec
-use Rattle.sentence_rows.specs.Formatters.{formatter_of, name_of}
-use Rattle.sentence_rows.specs.Lines.{sentence_by}
+use Rattle.sentence_rows.specs.Reading.{formatter_of, name_of}
 use Rattle.sentence_rows.specs.Reading as rows
 use Rattle.sentence_rows.specs.Stable.{IsReadBack, IsSaid, IsStable, parts_by}
 use Rattle.sentence_rows.specs.Writing as text
@@ -126,15 +124,15 @@ unfolding rows.hdg
 hdg ths h d v in_d in_v =
     let f = texts (text.hdg h d v) in
     let a = angle_back f 1 h refl in
-    let x = sided_back f 2 quantity.deviation unit.degrees d 69 87 refl in_d refl refl refl in
-    let y = sided_back f 4 quantity.deviation unit.degrees v 69 87 refl in_v refl refl refl in
+    let x = sided_back f 2 spec.deviation unit.degrees d 69 87 refl in_d refl refl refl in
+    let y = sided_back f 4 spec.deviation unit.degrees v 69 87 refl in_v refl refl refl in
     kept ths formatter.Hdg (text.hdg h d v) (text.hdg a.value x.value y.value) [] (reading.HeadingMagnetic a.value x.value y.value) (rw (a.is, x.is, y.is) refl) (λ talker. refl) (cc)
 
 rot : (ths : Bool) (r : Option ℤ) → Admits ranges.rate_of_turn r → Kept ths (codes "ROT", text.rot r)
 unfolding rows.rot
 rot ths r in_r =
     let f = texts (text.rot r) in
-    let a = number_back f 1 quantity.rate_of_turn unit.degrees_per_minute r refl in_r refl in
+    let a = number_back f 1 spec.rate_of_turn unit.degrees_per_minute r refl in_r refl in
     let m = status_of f 2 (is_none a.value) (is_some r) refl in
     let read : rows.read_as formatter.Rot f ≡ found (reading.RateOfTurn (only_if (is_some r) a.value)) = rw (a.is, m) refl in
     let same : texts (text.rot a.value) ≡ f = let t = same_letter a.value r 65 86 a.there in cc in
@@ -147,9 +145,9 @@ no_rudder : rows.rsa ([] ∷ (86 ∷ []) ∷ [] ∷ (86 ∷ []) ∷ []) ≡ foun
 unfolding rows.rsa
 no_rudder =
     let f : Fields = [] ∷ (86 ∷ []) ∷ [] ∷ (86 ∷ []) ∷ [] in
-    let e1 = number_of f 1 quantity.rudder [] None refl (reads_nothing quantity.rudder) in
+    let e1 = number_of f 1 spec.rudder [] None refl (reads_nothing spec.rudder) in
     let e2 = status_of f 2 true false refl in
-    let e3 = number_of f 3 quantity.rudder [] None refl (reads_nothing quantity.rudder) in
+    let e3 = number_of f 3 spec.rudder [] None refl (reads_nothing spec.rudder) in
     let e4 = status_of f 4 true false refl in
     rw (e1, e2, e3, e4) refl
 
@@ -157,9 +155,9 @@ rsa_first : (ths : Bool) (p : Option ℤ) → Admits ranges.rudder p → Kept th
 unfolding rows.rsa
 rsa_first ths p in_p =
     let f = texts (text.rsa_first p) in
-    let a = number_back f 1 quantity.rudder unit.degrees p refl in_p refl in
+    let a = number_back f 1 spec.rudder unit.degrees p refl in_p refl in
     let m = status_of f 2 (is_none a.value) (is_some p) refl in
-    let e = number_of f 3 quantity.rudder [] None refl (reads_nothing quantity.rudder) in
+    let e = number_of f 3 spec.rudder [] None refl (reads_nothing spec.rudder) in
     let n = status_of f 4 true false refl in
     let read : rows.read_as formatter.Rsa f ≡ found (reading.RudderFirst (only_if (is_some p) a.value)) = rw (a.is, m, e, n) refl in
     let same : texts (text.rsa_first a.value) ≡ f = let t = same_letter a.value p 65 86 a.there in cc in
@@ -172,14 +170,14 @@ unfolding rows.rsa
 rsa_second ths None in_p = kept ths formatter.Rsa (text.rsa_second None) (text.rsa_first None) [] (reading.RudderFirst None) no_rudder (λ talker. refl) refl
 rsa_second ths (Some raw) in_p =
     let f = texts (text.rsa_second (Some raw)) in
-    let p = back quantity.rudder unit.degrees (Some raw) in
-    let pair = paired unit.degrees quantity.rudder refl in
-    let e1 = number_of f 1 quantity.rudder [] None refl (reads_nothing quantity.rudder) in
+    let p = back spec.rudder unit.degrees (Some raw) in
+    let pair = paired unit.degrees spec.rudder refl in
+    let e1 = number_of f 1 spec.rudder [] None refl (reads_nothing spec.rudder) in
     let e2 = status_of f 2 true false refl in
-    let e3 = number_of f 3 quantity.rudder (text_of (Decimal (Some raw) unit.degrees)) p refl (reads_decimal quantity.rudder unit.degrees (Some raw) pair in_p) in
+    let e3 = number_of f 3 spec.rudder (text_of (Decimal (Some raw) unit.degrees)) p refl (reads_decimal spec.rudder unit.degrees (Some raw) pair in_p) in
     let e4 = status_of f 4 false true refl in
     kept ths formatter.Rsa (text.rsa_second (Some raw)) (text.rsa_second p) [] (reading.RudderSecond p) (rw (e1, e2, e3, e4) refl) (λ talker. refl)
-    (ap (λ (t : List ℕ). [] ∷ (86 ∷ []) ∷ t ∷ (65 ∷ []) ∷ []) (same_decimal unit.degrees quantity.rudder (Some raw) pair))
+    (ap (λ (t : List ℕ). [] ∷ (86 ∷ []) ∷ t ∷ (65 ∷ []) ∷ []) (same_decimal unit.degrees spec.rudder (Some raw) pair))
 
 -- ---- depths and distances
 
@@ -187,9 +185,9 @@ dpt : (ths : Bool) (d o r : Option ℤ) → Admits ranges.depth d → Admits ran
 unfolding rows.dpt rows.depth_range
 dpt ths d o r in_d in_o in_r =
     let f = texts (text.dpt d o r) in
-    let a = number_back f 1 quantity.metres unit.metres d refl in_d refl in
-    let b = number_back f 2 quantity.offset_metres unit.offset_metres o refl in_o refl in
-    let c = number_back f 3 quantity.range_metres unit.range_metres r refl in_r refl in
+    let a = number_back f 1 spec.metres unit.metres d refl in_d refl in
+    let b = number_back f 2 spec.offset_metres unit.offset_metres o refl in_o refl in
+    let c = number_back f 3 spec.range_metres unit.range_metres r refl in_r refl in
     kept ths formatter.Dpt (text.dpt d o r) (text.dpt a.value b.value c.value) ((codes "DBT", text.dbt a.value) ∷ []) (reading.Depth a.value b.value c.value) (rw (a.is, b.is, c.is) refl) (λ talker. refl) (cc)
 
 -- DBT comes behind DPT, and says all of the depth
@@ -197,8 +195,8 @@ dbt : (ths : Bool) (d : Option ℤ) → Admits ranges.depth d → Kept ths (code
 unfolding rows.dbt spec.unkept
 dbt ths d in_d =
     let f = texts (text.dbt d) in
-    let n = number_of f 3 quantity.metres (text_of (Decimal d unit.metres)) d refl (reads_exactly quantity.metres unit.metres d refl (omega arith) refl in_d) in
-    let m = measure_of f 3 quantity.metres 77 d n refl in
+    let n = number_of f 3 spec.metres (text_of (Decimal d unit.metres)) d refl (reads_exactly spec.metres unit.metres d refl (omega arith) refl in_d) in
+    let m = measure_of f 3 spec.metres 77 d n refl in
     kept_at ths formatter.Dbt (text.dbt d) (reading.Depth d None None) ((codes "DPT", text.dpt d None None) ∷ (codes "DBT", text.dbt d) ∷ []) (rw m refl) (λ talker. refl)
     (λ talker. (1, omega arith, refl))
 
@@ -206,7 +204,7 @@ vlw : (ths : Bool) (l t : Option ℤ) → Admits ranges.water_distance l → Adm
 unfolding rows.vlw
 vlw ths l t in_l in_t =
     let f = texts (text.vlw l t) in
-    let q = quantity.nautical_miles in
+    let q = spec.nautical_miles in
     let u = unit.nautical_miles in
     let a = measured f 1 q u 78 l refl in_l refl refl in
     let b = measured f 3 q u 78 t refl in_t refl refl in
@@ -224,7 +222,7 @@ mtw : (ths : Bool) (k : Option ℤ) → Admits ranges.water_temperature k → Ke
 unfolding rows.mtw
 mtw ths k in_k =
     let f = texts (text.mtw k) in
-    let q = quantity.celsius in
+    let q = spec.celsius in
     let c = text.above_freezing k in
     let a = measured f 1 q unit.celsius 67 c refl (celsius_within k in_k) refl refl in
     let kelvin = rows.from_freezing a.value in
@@ -242,7 +240,7 @@ xte ths x in_x =
     let f = texts (text.xte x) in
     let there = is_some x in
     let blank = spec.is_blank f 3 in
-    let a = sided_back f 3 quantity.track_miles unit.track_miles x 76 82 refl in_x refl refl refl in
+    let a = sided_back f 3 spec.track_miles unit.track_miles x 76 82 refl in_x refl refl refl in
     let m = status_of f 1 blank there refl in
     let n = status_of f 2 blank there refl in
     let u = unit_of f 5 78 (is_none a.value) refl in
@@ -253,26 +251,26 @@ xte ths x in_x =
 
 -- ---- speeds in two units
 
-reads_knots : (s : Option ℤ) → Admits ranges.speed s → ReadsAs quantity.knots (text_of (Decimal s unit.knots)) s
-reads_knots s in_s = reads_exactly quantity.knots unit.knots s refl (omega arith) refl in_s
+reads_knots : (s : Option ℤ) → Admits ranges.speed s → ReadsAs spec.knots (text_of (Decimal s unit.knots)) s
+reads_knots s in_s = reads_exactly spec.knots unit.knots s refl (omega arith) refl in_s
 
 speed_said : (f : Fields) (at : ℕ) (other : ReadUnit) (other_unit : WrittenUnit) (other_letter : ℕ) (s : Option ℤ) → Admits ranges.speed s
     → spec.field_at f at ≡ Some (text_of (Decimal s unit.knots)) → spec.field_at f (at + 1) ≡ Some (78 ∷ [])
     → spec.field_at f (at + 2) ≡ Some (text_of (Decimal s other_unit)) → spec.field_at f (at + 2 + 1) ≡ Some (other_letter ∷ [])
-    → at + 3 ≤ length f → spec.either_unit f at quantity.knots 78 other other_letter ≡ Ok s
+    → at + 3 ≤ length f → spec.either_unit f at spec.knots 78 other other_letter ≡ Ok s
 speed_said f at other other_unit other_letter None in_s e1 e2 e3 e4 long =
-    either_of f at quantity.knots 78 other other_letter None None
-    (measure_of f at quantity.knots 78 None (number_of f at quantity.knots [] None e1 (reads_nothing quantity.knots)) e2)
+    either_of f at spec.knots 78 other other_letter None None
+    (measure_of f at spec.knots 78 None (number_of f at spec.knots [] None e1 (reads_nothing spec.knots)) e2)
     (λ n. measure_of f (at + 2) other other_letter None (number_of f (at + 2) other [] None e3 (reads_nothing other)) e4) long
 speed_said f at other other_unit other_letter (Some x) in_s e1 e2 e3 e4 long =
-    either_of f at quantity.knots 78 other other_letter (Some x) None
-    (measure_of f at quantity.knots 78 (Some x) (number_of f at quantity.knots (text_of (Decimal (Some x) unit.knots)) (Some x) e1 (reads_knots (Some x) in_s)) e2) (λ n. cc) long
+    either_of f at spec.knots 78 other other_letter (Some x) None
+    (measure_of f at spec.knots 78 (Some x) (number_of f at spec.knots (text_of (Decimal (Some x) unit.knots)) (Some x) e1 (reads_knots (Some x) in_s)) e2) (λ n. cc) long
 
 vhw : (ths : Bool) (s : Option ℤ) → Admits ranges.speed s → Kept ths (codes "VHW", text.vhw s)
 unfolding rows.vhw spec.unkept
 vhw ths s in_s =
     let f = texts (text.vhw s) in
-    let e = speed_said f 5 quantity.kilometres_per_hour unit.kilometres_per_hour 75 s in_s refl refl refl refl (omega arith) in
+    let e = speed_said f 5 spec.kilometres_per_hour unit.kilometres_per_hour 75 s in_s refl refl refl refl (omega arith) in
     kept ths formatter.Vhw (text.vhw s) (text.vhw s) [] (reading.WaterSpeed s) (rw e refl) (λ talker. refl) refl
 
 -- ---- directions, true or else magnetic
@@ -285,7 +283,7 @@ magnetic m c = grind arith
 
 -- a direction is read from the north that it is said from, where it is there
 record Directed (f : Fields) (m : Bool) (c : Option ℤ) : Type 0 where
-  course : spec.either_unit f 1 quantity.angle 84 quantity.angle 77 ≡ Ok (back_angle c)
+  course : spec.either_unit f 1 spec.angle 84 spec.angle 77 ≡ Ok (back_angle c)
   from : spec.is_magnetic f ≡ (m && is_some c)
 
 abbrev said_value : Option ℤ → Result (Option ℤ) FieldFault
@@ -297,10 +295,10 @@ unfolding spec.is_magnetic
 directed f m c e1 e2 e3 e4 le =
     let a = only_if (not m) c in
     let b = only_if m c in
-    let one = measure_of f 1 quantity.angle 84 (back_angle a) (angle_of f 1 a e1) e2 in
-    let two = measure_of f 3 quantity.angle 77 (back_angle b) (angle_of f 3 b e3) e4 in
+    let one = measure_of f 1 spec.angle 84 (back_angle a) (angle_of f 1 a e1) e2 in
+    let two = measure_of f 3 spec.angle 77 (back_angle b) (angle_of f 3 b e3) e4 in
     record {
-      course = either_of f 1 quantity.angle 84 quantity.angle 77 (back_angle a) (back_angle b) one (λ n. two) le ∙ ap said_value (direction m c);
+      course = either_of f 1 spec.angle 84 spec.angle 77 (back_angle a) (back_angle b) one (λ n. two) le ∙ ap said_value (direction m c);
       from = rw (blank_angle f 1 a e1, blank_angle f 3 b e3) (magnetic m c);
     }
 
@@ -321,8 +319,8 @@ only_either c s = grind arith
 only_other : (c s : Option ℤ) → only_if (is_some c || is_some s) s ≡ s
 only_other c s = grind arith
 
-vtg_of : (f : Fields) (m there : Bool) (c s : Option ℤ) → spec.either_unit f 1 quantity.angle 84 quantity.angle 77 ≡ Ok c
-    → spec.either_unit f 5 quantity.knots 78 quantity.kilometres_per_hour 75 ≡ Ok s → spec.is_magnetic f ≡ m → spec.field_at f 9 ≡ Some (letter_where there 65 78 ∷ [])
+vtg_of : (f : Fields) (m there : Bool) (c s : Option ℤ) → spec.either_unit f 1 spec.angle 84 spec.angle 77 ≡ Ok c
+    → spec.either_unit f 5 spec.knots 78 spec.kilometres_per_hour 75 ≡ Ok s → spec.is_magnetic f ≡ m → spec.field_at f 9 ≡ Some (letter_where there 65 78 ∷ [])
     → rows.vtg f ≡ Ok (reading.CourseSpeed m (only_if there c) (only_if there s))
 unfolding rows.vtg rows.is_invalid_mode spec.text
 vtg_of f m true c s e1 e2 e3 e4 = rw (e1, e2, e3, e4) refl
@@ -338,7 +336,7 @@ vtg ths m c s in_s =
     let from = m && is_some c in
     let a = back_angle c in
     let d = directed f m c refl refl refl refl (omega arith) in
-    let e = speed_said f 5 quantity.kilometres_per_hour unit.kilometres_per_hour 75 s in_s refl refl refl refl (omega arith) in
+    let e = speed_said f 5 spec.kilometres_per_hour unit.kilometres_per_hour 75 s in_s refl refl refl refl (omega arith) in
     let is : rows.read_as formatter.Vtg f ≡ course_speed from a s =
     ap rows.alone (vtg_of f from there a s d.course e d.from refl) ∙ ap (λ (x : Option ℤ). course_speed from x (only_if there s)) (only_either c s) ∙ ap (course_speed from a) (only_other c s) in
     let same : texts (text.vtg from a s) ≡ f =
@@ -354,7 +352,7 @@ mwd ths m s c in_s =
     let from = m && is_some c in
     let a = back_angle c in
     let d = directed f m c refl refl refl refl (omega arith) in
-    let e = speed_said f 5 quantity.metres_per_second unit.metres_per_second 77 s in_s refl refl refl refl (omega arith) in
+    let e = speed_said f 5 spec.metres_per_second unit.metres_per_second 77 s in_s refl refl refl refl (omega arith) in
     let same : texts (text.mwd from s a) ≡ f = let s1 = same_true m c in let s2 = same_magnetic m c in cc in
     kept ths formatter.Mwd (text.mwd m s c) (text.mwd from s a) [] (reading.WindNorth from s a) (rw (d.course, e, d.from) refl) (λ talker. refl) same
 
@@ -409,8 +407,8 @@ unfolding rows.gll spec.unkept
 gll ths la lo in_la in_lo both =
     let f = texts (text.gll la lo) in
     let there = is_some la in
-    let a = coordinate_back f 1 2 quantity.latitude unit.minutes la 78 83 refl in_la refl (omega arith) refl refl refl in
-    let b = coordinate_back f 3 3 quantity.longitude unit.minutes lo 69 87 refl in_lo refl (omega arith) refl refl refl in
+    let a = coordinate_back f 1 2 spec.latitude unit.minutes la 78 83 refl in_la refl (omega arith) refl refl refl in
+    let b = coordinate_back f 3 3 spec.longitude unit.minutes lo 69 87 refl in_lo refl (omega arith) refl refl refl in
     let m = status_of f 6 (is_none a.value && is_none b.value) there refl in
     let together : Both a.value b.value = a.there ∙ both ∙ sym b.there in
     let y1 = beside_same a.value b.value together in
@@ -448,13 +446,13 @@ gga ths t la lo al m n h s in_t in_la in_lo in_al in_m in_n in_h in_s both =
     let g = method_of (is_some la) m in_m in
     let method = method_there (is_some la) m in
     let time = time_back f 1 t in_t refl in
-    let a = coordinate_back f 2 2 quantity.fix_latitude u la 78 83 refl in_la refl (omega arith) refl refl refl in
-    let b = coordinate_back f 4 3 quantity.fix_longitude u lo 69 87 refl in_lo refl (omega arith) refl refl refl in
+    let a = coordinate_back f 2 2 spec.fix_latitude u la 78 83 refl in_la refl (omega arith) refl refl refl in
+    let b = coordinate_back f 4 3 spec.fix_longitude u lo 69 87 refl in_lo refl (omega arith) refl refl refl in
     let quality = quality_of f 6 method g.small (ap one_letter g.letter) in
     let seen = satellites_back f 7 n in_n refl in
-    let hdop = number_back f 8 quantity.dilution unit.dilution h refl in_h refl in
-    let above = measured f 9 quantity.altitude_metres unit.altitude_metres 77 al refl in_al refl refl in
-    let apart = measured f 11 quantity.separation_metres unit.separation_metres 77 s refl in_s refl refl in
+    let hdop = number_back f 8 spec.dilution unit.dilution h refl in_h refl in
+    let above = measured f 9 spec.altitude_metres unit.altitude_metres 77 al refl in_al refl refl in
+    let apart = measured f 11 spec.separation_metres unit.separation_metres 77 s refl in_s refl refl in
     let together : Both a.value b.value = a.there ∙ both ∙ sym b.there in
     let y1 = beside_same a.value b.value together in
     let y2 = beside_same b.value a.value (sym together) in

@@ -11,11 +11,9 @@ use Rattle.sentence_rows.specs.declared.read_unit.ReadUnit.{ReadUnit}
 use Rattle.sentence_rows.specs.declared.fault.FieldFault.{FieldFault}
 use Rattle.sentence_rows.specs.declared.field.Field.{Field}
 use Rattle.sentence_rows.specs.declared.field.Field.TheVariants.{Angle, Decimal, Magnitude, Side, Degrees, Satellites, Time, Digits}
-use Rattle.sentence_rows.specs.ReadUnits as quantity
-use Rattle.sentence_rows.specs.ReadUnits.{range_of}
-use Rattle.sentence_rows.specs.WrittenUnits as unit
+use Rattle.sentence_rows.specs.Columns.{range_of, given}
+use Rattle.sentence_rows.specs.Field as unit
 use Rattle.sentence_rows.specs.Field.{count, is_negative, text_of, degrees_text, time_text}
-use Rattle.sentence_rows.specs.Fault.{given}
 use Rattle.sentence_rows.specs.Writing.{letter_where}
 use Rattle.sentence_rows.specs.Columns as spec
 use Rattle.sentence_rows.proofs.Again.{Paired, ReadsAs, back, exact, is_paired, nearest_mono, no_more_either, paired, printed, printed_read, read_size, reads_decimal, reads_digits, reads_magnitude, reads_nothing, same_decimal, same_sided, there_again, count_size, nearest_quotient, quotient, same_coordinate, scales, size_again}
@@ -176,40 +174,40 @@ tenths raw = unsigned_abs (count unit.degrees raw) % 3600
 
 abbrev pub back_angle : Option ℤ → Option ℤ
 back_angle None = None
-back_angle (Some raw) = Some (pos (read_size quantity.angle unit.degrees (tenths raw)))
+back_angle (Some raw) = Some (pos (read_size spec.angle unit.degrees (tenths raw)))
 
 whole_circle : nearest (3600 * 3141592653589793) 180000000000000 ≤ 62832
 unfolding nearest
 whole_circle = omega arith
 
-tenths_within : (t : ℕ) → t < 3600 → read_size quantity.angle unit.degrees t ≤ 62832
+tenths_within : (t : ℕ) → t < 3600 → read_size spec.angle unit.degrees t ≤ 62832
 tenths_within t h = omega (arith, whole_circle, nearest_mono (t * 3141592653589793) (3600 * 3141592653589793) 180000000000000 (omega arith) (omega arith))
 
-reads_angle : (h : Option ℤ) → ReadsAs quantity.angle (text_of (Angle h)) (back_angle h)
-reads_angle None = reads_nothing quantity.angle
-reads_angle (Some raw) = reads_digits quantity.angle unit.degrees false (tenths raw) (paired unit.degrees quantity.angle refl) refl refl (omega arith) (tenths_within (tenths raw) (omega arith))
+reads_angle : (h : Option ℤ) → ReadsAs spec.angle (text_of (Angle h)) (back_angle h)
+reads_angle None = reads_nothing spec.angle
+reads_angle (Some raw) = reads_digits spec.angle unit.degrees false (tenths raw) (paired unit.degrees spec.angle refl) refl refl (omega arith) (tenths_within (tenths raw) (omega arith))
 
 pub same_angle : (h : Option ℤ) → text_of (Angle (back_angle h)) ≡ text_of (Angle h)
 same_angle None = refl
 same_angle (Some raw) =
     let t = tenths raw in
-    let e : printed unit.degrees (read_size quantity.angle unit.degrees t) ≡ t = printed_read unit.degrees quantity.angle t (paired unit.degrees quantity.angle refl) (omega arith) in
+    let e : printed unit.degrees (read_size spec.angle unit.degrees t) ≡ t = printed_read unit.degrees spec.angle t (paired unit.degrees spec.angle refl) (omega arith) in
     ap (λ (n : ℕ). decimal_text false (n % 3600) 1) e ∙ ap (λ (n : ℕ). decimal_text false n 1) (let h : t % 3600 ≡ t = omega arith in h)
 
 angle_there : (h : Option ℤ) → is_some (back_angle h) ≡ is_some h
 angle_there h = grind arith
 
-pub angle_of : (f : Fields) (at : ℕ) (h : Option ℤ) → spec.field_at f at ≡ Some (text_of (Angle h)) → spec.number f at quantity.angle ≡ Ok (back_angle h)
-angle_of f at h e = number_of f at quantity.angle (text_of (Angle h)) (back_angle h) e (reads_angle h)
+pub angle_of : (f : Fields) (at : ℕ) (h : Option ℤ) → spec.field_at f at ≡ Some (text_of (Angle h)) → spec.number f at spec.angle ≡ Ok (back_angle h)
+angle_of f at h e = number_of f at spec.angle (text_of (Angle h)) (back_angle h) e (reads_angle h)
 
-pub angle_back : (f : Fields) (at : ℕ) (h : Option ℤ) → spec.field_at f at ≡ Some (text_of (Angle h)) → Back (spec.number f at quantity.angle) (λ x. Angle x ∷ []) h
+pub angle_back : (f : Fields) (at : ℕ) (h : Option ℤ) → spec.field_at f at ≡ Some (text_of (Angle h)) → Back (spec.number f at spec.angle) (λ x. Angle x ∷ []) h
 angle_back f at h e = record { value = back_angle h; is = angle_of f at h e; same = ap (λ (t : List ℕ). t ∷ []) (same_angle h); there = angle_there h }
 
 pub angle_measured : (f : Fields) (at letter : ℕ) (h : Option ℤ) → spec.field_at f at ≡ Some (text_of (Angle h)) → spec.field_at f (at + 1) ≡ Some (letter ∷ [])
-    → Back (spec.measure f at quantity.angle letter) (λ x. Angle x ∷ []) h
+    → Back (spec.measure f at spec.angle letter) (λ x. Angle x ∷ []) h
 angle_measured f at letter h e l =
     let n = angle_back f at h e in
-    record { value = n.value; is = measure_of f at quantity.angle letter n.value n.is l; same = n.same; there = n.there }
+    record { value = n.value; is = measure_of f at spec.angle letter n.value n.is l; same = n.same; there = n.there }
 
 -- ---- blank fields
 
@@ -232,15 +230,15 @@ blank_angle f at (Some raw) e = blank_some f at (text_of (Angle (Some raw))) e (
 
 -- ---- the wind's speed
 
-knots_at : (f : Fields) (at : ℕ) (beside_nothing : Bool) → spec.field_at f at ≡ Some (78 ∷ []) → spec.speed_unit f at beside_nothing ≡ Ok quantity.knots
+knots_at : (f : Fields) (at : ℕ) (beside_nothing : Bool) → spec.field_at f at ≡ Some (78 ∷ []) → spec.speed_unit f at beside_nothing ≡ Ok spec.knots
 unfolding spec.speed_unit
 knots_at f at beside_nothing e = rw e refl
 
-pub wind_of : (f : Fields) (at : ℕ) (bytes : List ℕ) (v : Option ℤ) → spec.field_at f at ≡ Some bytes → ReadsAs quantity.knots bytes v → spec.field_at f (at + 1) ≡ Some (78 ∷ [])
+pub wind_of : (f : Fields) (at : ℕ) (bytes : List ℕ) (v : Option ℤ) → spec.field_at f at ≡ Some bytes → ReadsAs spec.knots bytes v → spec.field_at f (at + 1) ≡ Some (78 ∷ [])
     → spec.wind_speed f at ≡ Ok v
 unfolding spec.wind_speed spec.decimal
 wind_of f at bytes v e h u =
-    let knots : (b : Bool) → spec.speed_unit f (at + 1) b ≡ Ok quantity.knots = λ b. knots_at f (at + 1) b u in
+    let knots : (b : Bool) → spec.speed_unit f (at + 1) b ≡ Ok spec.knots = λ b. knots_at f (at + 1) b u in
     rw e (simp knots (h at))
 
 -- ---- digits

@@ -8,7 +8,7 @@ use Rattle.jiff_core.specs.Date.{epoch_day}
 use Rattle.readings.specs.declared.reading.Reading.{Reading}
 use Rattle.readings.specs.declared.reading.Reading.TheVariants as reading
 use Rattle.sentence_rows.specs.declared.lines.SentenceText.{SentenceText}
-use Rattle.sentence_rows.specs.Lines.{lines_of, sentence_by}
+use Rattle.sentence_rows.specs.Field.{texts_of, sentence_by}
 use Rattle.sentence_rows.specs.Stable.{IsReadBack, IsSaid}
 use Rattle.sentence_rows.specs.Writing.{Dated, IsText, day_said, said, zda, zda_on}
 use Rattle.jiff_core.proofs.DateLemmas.{epoch_day_injective}
@@ -34,13 +34,13 @@ weaker None P Q f h = f None h
 weaker (Some day) P Q f h = (h.0, h.1, f (Some h.0) h.2)
 
 pub time_said : (r : Reading) (date time : Option ℤ) (talker : List ℕ) (with_ths : Bool) (lines : List (List ℕ)) (old : ArrayVec SentenceText)
-    → r ≡ reading.Time date time → old.items ≡ [] → Dated date (λ d. Adds talker lines (lines_of old) time d) → IsSaid r talker with_ths lines
+    → r ≡ reading.Time date time → old.items ≡ [] → Dated date (λ d. Adds talker lines (texts_of old) time d) → IsSaid r talker with_ths lines
 time_said r date time talker with_ths lines old is empty said =
     let P : Reading → Type 0 = λ q. IsSaid q talker with_ths lines in
     subst P (sym is)
-    (weaker date (λ d. Adds talker lines (lines_of old) time d)
+    (weaker date (λ d. Adds talker lines (texts_of old) time d)
     (λ d. (lines ≡ sentence_by talker (codes "ZDA") (zda time d) ∷ []) × (IsReadBack talker (codes "ZDA") (zda time d) × Unit {0}))
-    (λ d e. (e.0 ∙ ap (λ (texts : List SentenceText). lines_of (record { items = texts }) ++ sentence_by talker (codes "ZDA") (zda time d) ∷ []) empty, (e.1, tt))) said)
+    (λ d e. (e.0 ∙ ap (λ (texts : List SentenceText). texts_of (record { items = texts }) ++ sentence_by talker (codes "ZDA") (zda time d) ∷ []) empty, (e.1, tt))) said)
 
 -- what is said and read back is said
 pub is_text : (r : Reading) (talker : List ℕ) (with_ths : Bool) (lines : List (List ℕ)) → IsSaid r talker with_ths lines → IsText r talker with_ths lines

@@ -16,9 +16,7 @@ use Rattle.sentence_rows.specs.declared.formatter.Formatter.{Formatter}
 use Rattle.sentence_rows.specs.declared.formatter.Formatter.TheVariants as formatter
 use Rattle.sentence_rows.specs.declared.read_unit.ReadUnit.{ReadUnit}
 use Rattle.sentence_rows.specs.Columns as spec
-use Rattle.sentence_rows.specs.Columns.{IsFixed}
-use Rattle.sentence_rows.specs.Fault.{value}
-use Rattle.sentence_rows.specs.ReadUnits.{range_of}
+use Rattle.sentence_rows.specs.Columns.{IsFixed, value, range_of}
 use Rattle.sentence_rows.specs.Reading as rows
 use Rattle.sentence_rows.specs.Writing.{only_if, beside}
 use Rattle.sentence_rows.proofs.DigitNumbers.{decimals_below, small}

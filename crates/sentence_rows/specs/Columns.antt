@@ -1,7 +1,12 @@
 -- What the fields of a sentence say, field by field, and what is wrong with them. Fields are counted from 1.
 --
 -- A field that is missing has a fault of its form. Form comes before range, and what isn't kept is only counted.
-use Rattle.std.specs.Prelude.{ℕ, zero, suc, ◌+◌, ◌-◌, ◌*◌, ◌/◌, ◌%◌, ◌^◌, ◌<◌, ◌≤◌, ℤ, pos, negsuc, neg_ℤ, unsigned_abs, Bool, true, false, not, ◌&&◌, ◌==◌, nat_lt, nat_le, List, [], ◌∷◌, length, take, drop, slice_get, unwrap_or, Option, Some, None, is_none, Result, Ok, Err, if◌then◌else◌}
+use Rattle.std.specs.Prelude.{ℕ, Bool, false, List, [], ◌∷◌, Option, Some, None, Result, Ok, Err, if◌then◌else◌, true, ◌&&◌, nat_lt, nat_le, ◌^◌, unsigned_abs, zero, suc, ◌+◌, ◌-◌, ◌*◌, ◌/◌, ◌%◌, ◌<◌, ◌≤◌, ℤ, pos, negsuc, neg_ℤ, not, ◌==◌, length, take, drop, slice_get, unwrap_or, is_none}
+use Rattle.sentence_rows.specs.declared.fault.FieldFault.{FieldFault}
+use Rattle.sentence_rows.specs.declared.fault.FieldFault.TheVariants.{Form, Range}
+use Rattle.readings.specs.declared.range.Range.{Range as Bounds}
+use Rattle.readings.specs.Ranges as ranges
+use Rattle.sentence_rows.specs.declared.read_unit.ReadUnit.{ReadUnit}
 use Rattle.std.specs.Char.{is_ascii_digit}
 use Rattle.std.specs.List.{list_all}
 use Rattle.jiff_core.specs.Date.{epoch_day}
@@ -16,13 +21,115 @@ use Rattle.unit_fraction.specs.Round.{round, signed}
 use Rattle.sentence_text.specs.Byte.{is_capital}
 use Rattle.sentence_text.specs.Fields.{fields_of}
 use Rattle.sentence_text.specs.declared.sentence.Sentence.{Sentence}
-use Rattle.sentence_rows.specs.declared.fault.FieldFault.{FieldFault}
-use Rattle.sentence_rows.specs.declared.fault.FieldFault.TheVariants.{Form, Range}
 use Rattle.sentence_rows.specs.declared.digits.Fixed.{Fixed}
-use Rattle.sentence_rows.specs.declared.read_unit.ReadUnit.{ReadUnit}
 use Rattle.sentence_rows.specs.Calendar.{date_of}
-use Rattle.sentence_rows.specs.Fault.{fault, form_if, reads, given}
-use Rattle.sentence_rows.specs.ReadUnits.{knots, kilometres_per_hour, metres_per_second}
+
+-- ---- what is read of a field or of a sentence: the value, or the first fault with its field's number
+
+-- the fault of a part of a sentence, if it has one
+abbrev pub fault : {A : Type 0} → Result A FieldFault → Option FieldFault
+fault (Ok x) = None
+fault (Err f) = Some f
+
+-- the value that is read; none where there is a fault
+abbrev pub value : {A : Type 0} → Result (Option A) FieldFault → Option A
+value (Ok v) = v
+value (Err f) = None
+
+-- whether it is read that something holds
+abbrev pub holds : Result Bool FieldFault → Bool
+holds (Ok b) = b
+holds (Err f) = false
+
+-- a fault of its form where this is so
+abbrev pub form_if : Bool → ℕ → Option FieldFault
+form_if wrong at = if wrong then Some (Form at) else None
+
+-- the first of these faults, which stand in the order of the fields; where there is none, what is read
+abbrev pub reads : {A : Type 0} → List (Option FieldFault) → A → Result A FieldFault
+reads [] x = Ok x
+reads (None ∷ faults) x = reads faults x
+reads (Some f ∷ faults) x = Err f
+
+-- what is read behind a part that has no fault
+abbrev pub given : {A B : Type 0} → Result A FieldFault → (A → Result B FieldFault) → Result B FieldFault
+given (Ok x) next = next x
+given (Err f) next = Err f
+
+-- ---- the conversions from what sentences write to raw values: the fraction, the largest raw value without its sign, and whether a sign
+-- may be written; each range goes from zero, or as far to either side of it
+
+abbrev pub by : ℕ → ℕ → Bounds → Bool → ReadUnit
+by num den range signed = record { num = num; den = den; most = unsigned_abs range.high; signed = signed }
+
+abbrev pub angle : ReadUnit
+angle = by 3141592653589793 18000000000000 ranges.angle false
+
+abbrev pub deviation : ReadUnit
+deviation = by 3141592653589793 18000000000000 ranges.deviation false
+
+abbrev pub rudder : ReadUnit
+rudder = by 3141592653589793 18000000000000 ranges.rudder true
+
+abbrev pub rate_of_turn : ReadUnit
+rate_of_turn = by 3141592653589793 337500000000 ranges.rate_of_turn true
+
+abbrev pub knots : ReadUnit
+knots = by 463 9 ranges.speed false
+
+abbrev pub kilometres_per_hour : ReadUnit
+kilometres_per_hour = by 250 9 ranges.speed false
+
+abbrev pub metres_per_second : ReadUnit
+metres_per_second = by 100 1 ranges.speed false
+
+abbrev pub metres : ReadUnit
+metres = by 100 1 ranges.depth false
+
+abbrev pub offset_metres : ReadUnit
+offset_metres = by 1000 1 ranges.offset true
+
+abbrev pub range_metres : ReadUnit
+range_metres = by 1 10 ranges.depth_scale false
+
+abbrev pub nautical_miles : ReadUnit
+nautical_miles = by 1852 1 ranges.water_distance false
+
+abbrev pub track_miles : ReadUnit
+track_miles = by 185200 1 ranges.cross_track false
+
+abbrev pub latitude : ReadUnit
+latitude = by 500000 3 ranges.latitude false
+
+abbrev pub longitude : ReadUnit
+longitude = by 500000 3 ranges.longitude false
+
+abbrev pub fix_latitude : ReadUnit
+fix_latitude = by 500000000000000 3 ranges.fix_latitude false
+
+abbrev pub fix_longitude : ReadUnit
+fix_longitude = by 500000000000000 3 ranges.fix_longitude false
+
+abbrev pub altitude_metres : ReadUnit
+altitude_metres = by 1000000 1 ranges.altitude true
+
+abbrev pub separation_metres : ReadUnit
+separation_metres = by 100 1 ranges.separation true
+
+abbrev pub dilution : ReadUnit
+dilution = by 100 1 ranges.hdop false
+
+-- from the freezing point of water, as far to either side as kelvins go
+abbrev pub celsius : ReadUnit
+celsius = record { num = 1000; den = 1; most = 100000; signed = true }
+
+-- the raw values that a quantity has
+abbrev pub range_of : ReadUnit → Bounds
+range_of q = if q.signed then ranges.either_side q.most else ranges.up_to q.most
+
+-- the numbers are such that a decimal can be scaled by them
+abbrev pub is_fit : ReadUnit → Bool
+is_fit q = nat_lt 0 q.den && nat_le q.den (10 ^ 18) && nat_lt q.most (2 ^ 62)
 
 -- ---- the fields
 

@@ -1,13 +1,80 @@
--- The text of a sentence's field.
-use Rattle.std.specs.Prelude.{ℕ, ◌+◌, ◌*◌, ◌/◌, ◌%◌, ◌^◌, ◌≤◌, ◌<◌, ℤ, pos, negsuc, ◌*ℤ◌, unsigned_abs, Bool, true, false, ◌&&◌, nat_lt, nat_le, List, [], ◌∷◌, ◌++◌, Option, Some, None, IsTrue, if◌then◌else◌}
+-- The text of a sentence's field, and of a sentence of fields.
+use Rattle.std.specs.Prelude.{ℕ, unsigned_abs, ◌+◌, ◌*◌, ◌/◌, ◌%◌, ◌^◌, ◌≤◌, ◌<◌, ℤ, pos, negsuc, ◌*ℤ◌, Bool, true, false, ◌&&◌, nat_lt, nat_le, List, [], ◌∷◌, ◌++◌, Option, Some, None, IsTrue, if◌then◌else◌, map}
+use Rattle.readings.specs.declared.range.Range.{Range}
+use Rattle.readings.specs.Ranges as ranges
+use Rattle.sentence_rows.specs.declared.written_unit.WrittenUnit.{WrittenUnit}
 use Rattle.std.specs.Fmt.{decimal}
 use Rattle.unit_fraction.specs.Round.{round}
 use Rattle.unit_fraction.specs.Text.{decimal_text, decimals}
 use Rattle.sentence_text.specs.Byte.{is_field_byte}
-use Rattle.sentence_rows.specs.declared.written_unit.WrittenUnit.{WrittenUnit}
-use Rattle.sentence_rows.specs.WrittenUnits.{degrees}
 use Rattle.sentence_rows.specs.declared.field.Field.{Field}
 use Rattle.sentence_rows.specs.declared.field.Field.TheVariants.{Empty, Letter, Decimal, Magnitude, Side, Angle, Degrees, Time, Digits, Satellites}
+use Rattle.arrayvec.specs.ArrayVec.{ArrayVec}
+use Rattle.sentence_text.specs.Sentence.{sentence}
+use Rattle.sentence_rows.specs.declared.lines.SentenceText.{SentenceText}
+
+-- ---- the conversions from raw values to what sentences print: the fraction, the decimals, the largest raw value without its sign, and the
+-- most digits of what is printed
+
+abbrev pub by : ℕ → ℕ → ℕ → Range → ℕ → WrittenUnit
+by num den places range digits = record { num = num; den = den; places = places; largest = unsigned_abs range.high; digits = digits }
+
+abbrev pub degrees : WrittenUnit
+degrees = by 180000000000000 3141592653589793 1 ranges.deviation 4
+
+abbrev pub degrees_per_minute : WrittenUnit
+degrees_per_minute = by 3375000000000 3141592653589793 1 ranges.rate_of_turn 7
+
+abbrev pub knots : WrittenUnit
+knots = by 900 463 2 ranges.speed 6
+
+abbrev pub kilometres_per_hour : WrittenUnit
+kilometres_per_hour = by 18 5 2 ranges.speed 6
+
+abbrev pub metres_per_second : WrittenUnit
+metres_per_second = by 1 1 2 ranges.speed 5
+
+abbrev pub metres : WrittenUnit
+metres = by 1 1 2 ranges.depth 7
+
+abbrev pub feet : WrittenUnit
+feet = by 125 381 1 ranges.depth 6
+
+abbrev pub fathoms : WrittenUnit
+fathoms = by 125 2286 1 ranges.depth 5
+
+abbrev pub offset_metres : WrittenUnit
+offset_metres = by 1 10 2 ranges.offset 4
+
+abbrev pub range_metres : WrittenUnit
+range_metres = by 100 1 1 ranges.depth_scale 5
+
+abbrev pub nautical_miles : WrittenUnit
+nautical_miles = by 25 463 2 ranges.water_distance 9
+
+abbrev pub track_miles : WrittenUnit
+track_miles = by 5 926 3 ranges.cross_track 6
+
+abbrev pub minutes : WrittenUnit
+minutes = by 3 50 4 ranges.longitude 9
+
+abbrev pub fix_minutes : WrittenUnit
+fix_minutes = by 3 50000000000 4 ranges.fix_longitude 9
+
+abbrev pub altitude_metres : WrittenUnit
+altitude_metres = by 1 100000 1 ranges.altitude 5
+
+abbrev pub separation_metres : WrittenUnit
+separation_metres = by 1 10 1 ranges.separation 4
+
+abbrev pub dilution : WrittenUnit
+dilution = by 1 1 2 ranges.hdop 4
+
+-- from the freezing point of water, as far to either side as kelvins go
+abbrev pub celsius : WrittenUnit
+celsius = record { num = 1; den = 100; places = 1; largest = 100000; digits = 4 }
+
+-- ---- a field
 
 -- a raw value in a unit: the nearest count of the last decimals that are printed
 abbrev pub count : WrittenUnit → ℤ → ℤ
@@ -91,3 +158,13 @@ body_text (field ∷ fields) = (44 ∷ text_of field) ++ body_text fields
 abbrev pub body_width : List Field → ℕ
 body_width [] = 0
 body_width (field ∷ fields) = 1 + width_of field + body_width fields
+
+-- ---- sentences
+
+-- the bytes of each sentence
+abbrev pub texts_of : ArrayVec SentenceText → List (List ℕ)
+texts_of lines = map (λ text. text.bytes.items) lines.items
+
+-- the one sentence of a talker, a formatter and fields
+abbrev pub sentence_by : List ℕ → List ℕ → List Field → List ℕ
+sentence_by talker formatter fields = sentence (record { start = 36; talker = talker; formatter = formatter; body = body_text fields })

@@ -1,12 +1,7 @@
-pub mod WrittenUnits
 pub mod Field
-pub mod Lines
 pub mod Writing
-pub mod Fault
-pub mod ReadUnits
 pub mod Calendar
 pub mod Columns
-pub mod Formatters
 pub mod Reading
 pub mod Rmc
 pub mod Stable

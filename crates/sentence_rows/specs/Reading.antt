@@ -1,5 +1,8 @@
 -- The readings of each sentence: for each formatter its fields in order, and the values that they give.
-use Rattle.std.specs.Prelude.{◌≡◌, ℕ, ℤ, pos, ◌+ℤ◌, Bool, false, not, ◌&&◌, ◌==◌, nat_lt, List, [], ◌∷◌, length, Option, Some, None, is_none, IfSome, Result, Ok, Err, if◌then◌else◌}
+use Rattle.std.specs.Prelude.{ℕ, List, [], ◌∷◌, codes, Option, find, ◌≡◌, ℤ, pos, ◌+ℤ◌, Bool, false, not, ◌&&◌, ◌==◌, nat_lt, length, Some, None, is_none, IfSome, Result, Ok, Err, if◌then◌else◌}
+use Rattle.std.specs.Str.{bytes_eq}
+use Rattle.sentence_rows.specs.declared.formatter.Formatter.{Formatter}
+use Rattle.sentence_rows.specs.declared.formatter.Formatter.TheVariants as formatter
 use Rattle.std.specs.Option.{option_to_list}
 use Rattle.std.specs.Result.{result_unwrap_or}
 use Rattle.sentence_text.specs.Sentence.{SentenceParts}
@@ -9,13 +12,36 @@ use Rattle.readings.specs.declared.reading.Reading.{Reading}
 use Rattle.readings.specs.declared.reading.Reading.TheVariants as reading
 use Rattle.sentence_rows.specs.declared.fault.FieldFault.{FieldFault}
 use Rattle.sentence_rows.specs.declared.fault.FieldFault.TheVariants.{Outside}
-use Rattle.sentence_rows.specs.declared.formatter.Formatter.{Formatter}
-use Rattle.sentence_rows.specs.declared.formatter.Formatter.TheVariants as formatter
 use Rattle.sentence_rows.specs.Writing.{only_if, beside}
-use Rattle.sentence_rows.specs.Fault.{fault, value, holds, reads}
-use Rattle.sentence_rows.specs.ReadUnits as quantity
-use Rattle.sentence_rows.specs.Columns.{is_blank, is_magnetic, is_letter, text, unkept, unit_letter, status, reference, heading_mode, number, measure, either_unit, sided, wind_speed, coordinate, time, date, quality, satellites}
-use Rattle.sentence_rows.specs.Formatters.{formatter_of}
+use Rattle.sentence_rows.specs.Columns.{fault, value, holds, reads, is_blank, is_magnetic, is_letter, text, unkept, unit_letter, status, reference, heading_mode, number, measure, either_unit, sided, wind_speed, coordinate, time, date, quality, satellites}
+use Rattle.sentence_rows.specs.Columns as quantity
+
+abbrev pub all : List Formatter
+all =
+    formatter.Hdt ∷ formatter.Hdg ∷ formatter.Rot ∷ formatter.Rsa ∷ formatter.Vhw ∷ formatter.Dpt ∷ formatter.Dbt ∷ formatter.Vlw
+    ∷ formatter.Gll ∷ formatter.Vtg ∷ formatter.Gga ∷ formatter.Zda ∷ formatter.Mwv ∷ formatter.Mwd ∷ formatter.Mtw ∷ formatter.Xte ∷ formatter.Ths ∷ []
+
+abbrev pub name_of : Formatter → List ℕ
+name_of formatter.Hdt = codes "HDT"
+name_of formatter.Hdg = codes "HDG"
+name_of formatter.Rot = codes "ROT"
+name_of formatter.Rsa = codes "RSA"
+name_of formatter.Vhw = codes "VHW"
+name_of formatter.Dpt = codes "DPT"
+name_of formatter.Dbt = codes "DBT"
+name_of formatter.Vlw = codes "VLW"
+name_of formatter.Gll = codes "GLL"
+name_of formatter.Vtg = codes "VTG"
+name_of formatter.Gga = codes "GGA"
+name_of formatter.Zda = codes "ZDA"
+name_of formatter.Mwv = codes "MWV"
+name_of formatter.Mwd = codes "MWD"
+name_of formatter.Mtw = codes "MTW"
+name_of formatter.Xte = codes "XTE"
+name_of formatter.Ths = codes "THS"
+
+unfoldable pub formatter_of : List ℕ → Option Formatter
+formatter_of text = find (λ f. bytes_eq (name_of f) text) all
 
 -- heading, T
 unfoldable pub hdt : List (List ℕ) → Result Reading FieldFault

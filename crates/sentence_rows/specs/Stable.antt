@@ -6,8 +6,7 @@ use Rattle.sentence_text.specs.Fields.{fields_of}
 use Rattle.sentence_text.specs.Reading.{read}
 use Rattle.sentence_text.specs.Sentence.{SentenceParts}
 use Rattle.sentence_rows.specs.declared.field.Field.{Field}
-use Rattle.sentence_rows.specs.Field.{body_text, text_of}
-use Rattle.sentence_rows.specs.Lines.{sentence_by}
+use Rattle.sentence_rows.specs.Field.{body_text, text_of, sentence_by}
 use Rattle.sentence_rows.specs.Reading.{read_row}
 use Rattle.sentence_rows.specs.Writing.{Dated, IsText, day_said, said}
 

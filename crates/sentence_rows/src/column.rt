@@ -1,7 +1,7 @@
 //! The fields of a sentence by their numbers, counted from 1, and those that are letters.
 
 ghost use Rattle.std.specs.Prelude.{◌≡◌, option_map};
-ghost use Rattle.sentence_rows.specs.Fault.{fault};
+ghost use Rattle.sentence_rows.specs.Columns.{fault};
 ghost use Rattle.sentence_rows.specs.Columns as spec;
 
 use crate::fault::FieldFault;

@@ -5,8 +5,7 @@
 ghost use Rattle.std.specs.Prelude.{◌≡◌, ◌<◌, [], ◌∷◌, ◌++◌, codes, length, IsTrue};
 ghost use Rattle.std.specs.List.{list_all};
 ghost use Rattle.sentence_text.specs.Byte.{is_capital};
-ghost use Rattle.sentence_rows.specs.Field.{IsCounted};
-ghost use Rattle.sentence_rows.specs.Lines.{lines_of, sentence_by};
+ghost use Rattle.sentence_rows.specs.Field.{IsCounted, texts_of, sentence_by};
 ghost use Rattle.sentence_rows.specs.Stable.{IsReadBack};
 ghost use Rattle.sentence_rows.specs.Writing as text;
 ghost use Rattle.sentence_rows.specs.Columns.{fields_in};
@@ -28,7 +27,7 @@ pub(crate) fn dbt(talker: [u8; 2], depth: Option<i64>, out: &mut Lines)
     requires feet { IsCounted FEET depth }
     requires metres { IsCounted METRES depth }
     requires fathoms { IsCounted FATHOMS depth }
-    ensures said { lines_of out.new ≡ lines_of out.old ++ sentence_by talker (codes "DBT") (text.dbt depth) ∷ [] }
+    ensures said { texts_of out.new ≡ texts_of out.old ++ sentence_by talker (codes "DBT") (text.dbt depth) ∷ [] }
     ensures again { IsReadBack talker (codes "DBT") (text.dbt depth) }
 {
     append(

@@ -6,8 +6,7 @@
 ghost use Rattle.std.specs.Prelude.{◌≡◌, ◌<◌, [], ◌∷◌, ◌++◌, codes, length, IsTrue};
 ghost use Rattle.std.specs.List.{list_all};
 ghost use Rattle.sentence_text.specs.Byte.{is_capital};
-ghost use Rattle.sentence_rows.specs.Field.{IsCounted};
-ghost use Rattle.sentence_rows.specs.Lines.{lines_of, sentence_by};
+ghost use Rattle.sentence_rows.specs.Field.{IsCounted, texts_of, sentence_by};
 ghost use Rattle.sentence_rows.specs.Stable.{IsReadBack};
 ghost use Rattle.sentence_rows.specs.Writing as text;
 ghost use Rattle.sentence_rows.specs.Columns.{fields_in};
@@ -34,7 +33,7 @@ pub(crate) fn dpt(
     requires depth { IsCounted METRES depth }
     requires offset { IsCounted OFFSET_METRES offset }
     requires range { IsCounted RANGE_METRES range }
-    ensures said { lines_of out.new ≡ lines_of out.old ++ sentence_by talker (codes "DPT") (text.dpt depth offset range) ∷ [] }
+    ensures said { texts_of out.new ≡ texts_of out.old ++ sentence_by talker (codes "DPT") (text.dpt depth offset range) ∷ [] }
     ensures again { IsReadBack talker (codes "DPT") (text.dpt depth offset range) }
 {
     append(

@@ -2,8 +2,7 @@ ghost use Rattle.std.specs.Prelude.{◌≡◌, ◌+◌, ◌/◌, ◌%◌, ◌≤
 ghost use Rattle.std.specs.Fmt.{decimal};
 ghost use Rattle.unit_fraction.specs.Digits.{minus};
 ghost use Rattle.unit_fraction.specs.Text.{decimal_text, decimals};
-ghost use Rattle.sentence_rows.specs.Field.{IsCounted, IsPrintable, count, degrees_text, is_negative, is_sound, text_of, width_of};
-ghost use Rattle.sentence_rows.specs.WrittenUnits.{degrees};
+ghost use Rattle.sentence_rows.specs.Field.{IsCounted, IsPrintable, count, degrees_text, is_negative, is_sound, text_of, width_of, degrees};
 
 use crate::written_unit::{DEGREES, WrittenUnit};
 use arrayvec::ArrayVec;

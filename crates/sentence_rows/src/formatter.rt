@@ -1,5 +1,5 @@
 ghost use Rattle.std.specs.Prelude.{◌≡◌};
-ghost use Rattle.sentence_rows.specs.Formatters.{formatter_of, name_of};
+ghost use Rattle.sentence_rows.specs.Reading.{formatter_of, name_of};
 
 /// The sentences that are read, by the last three characters of their address.
 #[derive(Clone, Copy)]
@@ -69,7 +69,7 @@ impl Formatter {
     }
 
     /// The formatter of this name.
-    #[tactic(auto, unfolding(crate::specs::Formatters::formatter_of))]
+    #[tactic(auto, unfolding(crate::specs::Reading::formatter_of))]
     pub(crate) fn of(text: &[u8]) -> Option<Formatter>
         ensures { result ≡ formatter_of text.now }
     {

@@ -7,8 +7,7 @@
 ghost use Rattle.std.specs.Prelude.{◌≡◌, ◌<◌, ◌≤◌, [], ◌∷◌, ◌++◌, codes, length, IsTrue};
 ghost use Rattle.std.specs.List.{list_all};
 ghost use Rattle.sentence_text.specs.Byte.{is_capital};
-ghost use Rattle.sentence_rows.specs.Field.{IsCounted, IsPrintable};
-ghost use Rattle.sentence_rows.specs.Lines.{lines_of, sentence_by};
+ghost use Rattle.sentence_rows.specs.Field.{IsCounted, IsPrintable, texts_of, sentence_by};
 ghost use Rattle.sentence_rows.specs.Stable.{IsReadBack};
 ghost use Rattle.sentence_rows.specs.Writing as text;
 ghost use Rattle.sentence_rows.specs.Columns.{fields_in};
@@ -50,7 +49,7 @@ pub(crate) fn gga(talker: [u8; 2], fix: Fix, out: &mut Lines)
     requires satellites { IsPrintable (Field.Satellites fix.satellites) }
     requires hdop { IsCounted DILUTION fix.hdop }
     requires separation { IsCounted SEPARATION_METRES fix.separation }
-    ensures said { lines_of out.new ≡ lines_of out.old ++ sentence_by talker (codes "GGA") (text.gga fix.time fix.latitude fix.longitude fix.altitude fix.method
+    ensures said { texts_of out.new ≡ texts_of out.old ++ sentence_by talker (codes "GGA") (text.gga fix.time fix.latitude fix.longitude fix.altitude fix.method
         fix.satellites fix.hdop fix.separation) ∷ [] }
     ensures again { IsReadBack talker (codes "GGA") (text.gga fix.time fix.latitude fix.longitude fix.altitude fix.method fix.satellites fix.hdop fix.separation) }
 {

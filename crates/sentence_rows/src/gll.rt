@@ -6,8 +6,7 @@
 ghost use Rattle.std.specs.Prelude.{◌≡◌, ◌<◌, [], ◌∷◌, ◌++◌, codes, length, IsTrue};
 ghost use Rattle.std.specs.List.{list_all};
 ghost use Rattle.sentence_text.specs.Byte.{is_capital};
-ghost use Rattle.sentence_rows.specs.Field.{IsCounted};
-ghost use Rattle.sentence_rows.specs.Lines.{lines_of, sentence_by};
+ghost use Rattle.sentence_rows.specs.Field.{IsCounted, texts_of, sentence_by};
 ghost use Rattle.sentence_rows.specs.Stable.{IsReadBack};
 ghost use Rattle.sentence_rows.specs.Writing as text;
 ghost use Rattle.sentence_rows.specs.Columns.{fields_in};
@@ -29,7 +28,7 @@ pub(crate) fn gll(talker: [u8; 2], latitude: Option<i64>, longitude: Option<i64>
     requires talker { IsTrue (list_all is_capital talker) }
     requires latitude { IsCounted MINUTES latitude }
     requires longitude { IsCounted MINUTES longitude }
-    ensures said { lines_of out.new ≡ lines_of out.old ++ sentence_by talker (codes "GLL") (text.gll latitude longitude) ∷ [] }
+    ensures said { texts_of out.new ≡ texts_of out.old ++ sentence_by talker (codes "GLL") (text.gll latitude longitude) ∷ [] }
     ensures again { IsReadBack talker (codes "GLL") (text.gll latitude longitude) }
 {
     let status = letter_where(latitude.is_some(), b'A', b'V');

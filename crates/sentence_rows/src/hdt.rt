@@ -5,7 +5,7 @@
 ghost use Rattle.std.specs.Prelude.{◌≡◌, ◌<◌, [], ◌∷◌, ◌++◌, codes, length, IsTrue};
 ghost use Rattle.std.specs.List.{list_all};
 ghost use Rattle.sentence_text.specs.Byte.{is_capital};
-ghost use Rattle.sentence_rows.specs.Lines.{lines_of, sentence_by};
+ghost use Rattle.sentence_rows.specs.Field.{texts_of, sentence_by};
 ghost use Rattle.sentence_rows.specs.Stable.{IsReadBack};
 ghost use Rattle.sentence_rows.specs.Writing as text;
 ghost use Rattle.sentence_rows.specs.Columns.{fields_in};
@@ -22,7 +22,7 @@ use sentence_text::Sentence;
 pub(crate) fn hdt(talker: [u8; 2], heading: Option<i64>, out: &mut Lines)
     requires room { length out.old.items < 2 }
     requires talker { IsTrue (list_all is_capital talker) }
-    ensures said { lines_of out.new ≡ lines_of out.old ++ sentence_by talker (codes "HDT") (text.hdt heading) ∷ [] }
+    ensures said { texts_of out.new ≡ texts_of out.old ++ sentence_by talker (codes "HDT") (text.hdt heading) ∷ [] }
     ensures again { IsReadBack talker (codes "HDT") (text.hdt heading) }
 {
     append(talker, *b"HDT", &[Angle(heading), Letter(b'T')], out);

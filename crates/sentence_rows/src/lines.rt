@@ -2,8 +2,7 @@ ghost use Rattle.std.specs.Prelude.{◌≡◌, ◌≤◌, ◌<◌, [], ◌∷◌
 ghost use Rattle.std.specs.List.{AllByRecursion, list_all};
 ghost use Rattle.arrayvec.specs.ArrayVec.{array_vec_len};
 ghost use Rattle.sentence_text.specs.Byte.{is_address_byte, is_capital};
-ghost use Rattle.sentence_rows.specs.Field.{IsPrintable, body_text, body_width};
-ghost use Rattle.sentence_rows.specs.Lines.{lines_of, sentence_by};
+ghost use Rattle.sentence_rows.specs.Field.{IsPrintable, body_text, body_width, texts_of, sentence_by};
 ghost use Rattle.sentence_rows.specs.Stable.{IsReadBack};
 
 use crate::field::Field;
@@ -74,7 +73,7 @@ pub(crate) fn append(talker: [u8; 2], formatter: [u8; 3], fields: &[Field], out:
     requires formatter { IsTrue (list_all is_address_byte formatter) }
     requires printable { AllByRecursion IsPrintable fields.now }
     requires short { body_width fields.now ≤ 71 }
-    ensures said { lines_of out.new ≡ lines_of out.old ++ sentence_by talker formatter fields.now ∷ [] }
+    ensures said { texts_of out.new ≡ texts_of out.old ++ sentence_by talker formatter fields.now ∷ [] }
     ensures again { IsReadBack talker formatter fields.now }
 {
     let mut text = SentenceText::default();

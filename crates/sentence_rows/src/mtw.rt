@@ -6,8 +6,7 @@ ghost use Rattle.std.specs.Prelude.{◌≡◌, ◌<◌, [], ◌∷◌, ◌++◌,
 ghost use Rattle.std.specs.List.{list_all};
 ghost use Rattle.readings.specs.Ranges.{Admits, water_temperature as temperature_range};
 ghost use Rattle.sentence_text.specs.Byte.{is_capital};
-ghost use Rattle.sentence_rows.specs.Field.{IsCounted};
-ghost use Rattle.sentence_rows.specs.Lines.{lines_of, sentence_by};
+ghost use Rattle.sentence_rows.specs.Field.{IsCounted, texts_of, sentence_by};
 ghost use Rattle.sentence_rows.specs.Stable.{IsReadBack};
 ghost use Rattle.sentence_rows.specs.Writing as text;
 ghost use Rattle.sentence_rows.specs.Columns.{IsSmall, fields_in};
@@ -27,7 +26,7 @@ pub(crate) fn mtw(talker: [u8; 2], kelvin: Option<i64>, out: &mut Lines)
     requires talker { IsTrue (list_all is_capital talker) }
     requires kelvin { IsCounted CELSIUS (text.above_freezing kelvin) }
     requires range { Admits temperature_range kelvin }
-    ensures said { lines_of out.new ≡ lines_of out.old ++ sentence_by talker (codes "MTW") (text.mtw kelvin) ∷ [] }
+    ensures said { texts_of out.new ≡ texts_of out.old ++ sentence_by talker (codes "MTW") (text.mtw kelvin) ∷ [] }
     ensures again { IsReadBack talker (codes "MTW") (text.mtw kelvin) }
 {
     let celsius = match kelvin {

@@ -5,8 +5,7 @@
 ghost use Rattle.std.specs.Prelude.{◌≡◌, ◌<◌, [], ◌∷◌, ◌++◌, codes, length, IsTrue};
 ghost use Rattle.std.specs.List.{list_all};
 ghost use Rattle.sentence_text.specs.Byte.{is_capital};
-ghost use Rattle.sentence_rows.specs.Field.{IsCounted};
-ghost use Rattle.sentence_rows.specs.Lines.{lines_of, sentence_by};
+ghost use Rattle.sentence_rows.specs.Field.{IsCounted, texts_of, sentence_by};
 ghost use Rattle.sentence_rows.specs.Stable.{IsReadBack};
 ghost use Rattle.sentence_rows.specs.Writing as text;
 ghost use Rattle.sentence_rows.specs.Columns.{fields_in};
@@ -34,7 +33,7 @@ pub(crate) fn mwd(
     requires talker { IsTrue (list_all is_capital talker) }
     requires knots { IsCounted KNOTS speed }
     requires metres { IsCounted METRES_PER_SECOND speed }
-    ensures said { lines_of out.new ≡ lines_of out.old ++ sentence_by talker (codes "MWD") (text.mwd magnetic speed angle) ∷ [] }
+    ensures said { texts_of out.new ≡ texts_of out.old ++ sentence_by talker (codes "MWD") (text.mwd magnetic speed angle) ∷ [] }
     ensures again { IsReadBack talker (codes "MWD") (text.mwd magnetic speed angle) }
 {
     let from_true = only_if(!magnetic, angle);

@@ -6,8 +6,7 @@
 ghost use Rattle.std.specs.Prelude.{◌≡◌, ◌<◌, [], ◌∷◌, ◌++◌, codes, length, IsTrue};
 ghost use Rattle.std.specs.List.{list_all};
 ghost use Rattle.sentence_text.specs.Byte.{is_capital, is_field_byte};
-ghost use Rattle.sentence_rows.specs.Field.{IsCounted};
-ghost use Rattle.sentence_rows.specs.Lines.{lines_of, sentence_by};
+ghost use Rattle.sentence_rows.specs.Field.{IsCounted, texts_of, sentence_by};
 ghost use Rattle.sentence_rows.specs.Stable.{IsReadBack};
 ghost use Rattle.sentence_rows.specs.Writing as text;
 ghost use Rattle.sentence_rows.specs.Columns.{fields_in};
@@ -35,7 +34,7 @@ pub(crate) fn mwv(
     requires talker { IsTrue (list_all is_capital talker) }
     requires reference { IsTrue (is_field_byte reference) }
     requires speed { IsCounted KNOTS speed }
-    ensures said { lines_of out.new ≡ lines_of out.old ++ sentence_by talker (codes "MWV") (text.mwv reference speed angle) ∷ [] }
+    ensures said { texts_of out.new ≡ texts_of out.old ++ sentence_by talker (codes "MWV") (text.mwv reference speed angle) ∷ [] }
     ensures again { IsReadBack talker (codes "MWV") (text.mwv reference speed angle) }
 {
     let status = letter_where(angle.is_some() || speed.is_some(), b'A', b'V');

@@ -2,7 +2,7 @@
 
 ghost use Rattle.std.specs.Prelude.{◌≡◌, ◌+◌, ◌<◌, ◌≤◌, ◌^◌, IfOk, IsTrue, unsigned_abs};
 ghost use Rattle.sentence_rows.specs.Columns as spec;
-ghost use Rattle.sentence_rows.specs.ReadUnits.{is_fit};
+ghost use Rattle.sentence_rows.specs.Columns.{is_fit};
 
 use crate::column::{field, is_letter, side, unit_letter, unkept};
 use crate::fault::FieldFault;

@@ -2,7 +2,7 @@
 
 ghost use Rattle.std.specs.Prelude.{◌≡◌, ◌+◌, ◌*◌, ◌<◌, ◌≤◌, ◌^◌, IfOk, IsTrue};
 ghost use Rattle.sentence_rows.specs.Columns as spec;
-ghost use Rattle.sentence_rows.specs.ReadUnits.{is_fit};
+ghost use Rattle.sentence_rows.specs.Columns.{is_fit};
 
 use crate::column::{field, side};
 use crate::digits::{Fixed, fixed_in};

@@ -6,8 +6,7 @@
 ghost use Rattle.std.specs.Prelude.{◌≡◌, ◌<◌, [], ◌∷◌, ◌++◌, codes, length, IsTrue};
 ghost use Rattle.std.specs.List.{list_all};
 ghost use Rattle.sentence_text.specs.Byte.{is_capital};
-ghost use Rattle.sentence_rows.specs.Field.{IsCounted};
-ghost use Rattle.sentence_rows.specs.Lines.{lines_of, sentence_by};
+ghost use Rattle.sentence_rows.specs.Field.{IsCounted, texts_of, sentence_by};
 ghost use Rattle.sentence_rows.specs.Stable.{IsReadBack};
 ghost use Rattle.sentence_rows.specs.Writing as text;
 ghost use Rattle.sentence_rows.specs.Columns.{fields_in};
@@ -28,7 +27,7 @@ pub(crate) fn rsa_first(talker: [u8; 2], position: Option<i64>, out: &mut Lines)
     requires room { length out.old.items < 2 }
     requires talker { IsTrue (list_all is_capital talker) }
     requires position { IsCounted DEGREES position }
-    ensures said { lines_of out.new ≡ lines_of out.old ++ sentence_by talker (codes "RSA") (text.rsa_first position) ∷ [] }
+    ensures said { texts_of out.new ≡ texts_of out.old ++ sentence_by talker (codes "RSA") (text.rsa_first position) ∷ [] }
     ensures again { IsReadBack talker (codes "RSA") (text.rsa_first position) }
 {
     let status = letter_where(position.is_some(), b'A', b'V');
@@ -49,7 +48,7 @@ pub(crate) fn rsa_second(talker: [u8; 2], position: Option<i64>, out: &mut Lines
     requires room { length out.old.items < 2 }
     requires talker { IsTrue (list_all is_capital talker) }
     requires position { IsCounted DEGREES position }
-    ensures said { lines_of out.new ≡ lines_of out.old ++ sentence_by talker (codes "RSA") (text.rsa_second position) ∷ [] }
+    ensures said { texts_of out.new ≡ texts_of out.old ++ sentence_by talker (codes "RSA") (text.rsa_second position) ∷ [] }
     ensures again { IsReadBack talker (codes "RSA") (text.rsa_second position) }
 {
     let status = letter_where(position.is_some(), b'A', b'V');

@@ -6,8 +6,7 @@
 ghost use Rattle.std.specs.Prelude.{◌≡◌, ◌<◌, [], ◌∷◌, ◌++◌, codes, length, IsTrue};
 ghost use Rattle.std.specs.List.{list_all};
 ghost use Rattle.sentence_text.specs.Byte.{is_capital};
-ghost use Rattle.sentence_rows.specs.Field.{IsCounted};
-ghost use Rattle.sentence_rows.specs.Lines.{lines_of, sentence_by};
+ghost use Rattle.sentence_rows.specs.Field.{IsCounted, texts_of, sentence_by};
 ghost use Rattle.sentence_rows.specs.Stable.{IsReadBack};
 ghost use Rattle.sentence_rows.specs.Writing as text;
 ghost use Rattle.sentence_rows.specs.Columns.{fields_in};
@@ -35,7 +34,7 @@ pub(crate) fn vtg(
     requires talker { IsTrue (list_all is_capital talker) }
     requires knots { IsCounted KNOTS speed }
     requires kilometres { IsCounted KILOMETRES_PER_HOUR speed }
-    ensures said { lines_of out.new ≡ lines_of out.old ++ sentence_by talker (codes "VTG") (text.vtg magnetic course speed) ∷ [] }
+    ensures said { texts_of out.new ≡ texts_of out.old ++ sentence_by talker (codes "VTG") (text.vtg magnetic course speed) ∷ [] }
     ensures again { IsReadBack talker (codes "VTG") (text.vtg magnetic course speed) }
 {
     let from_true = only_if(!magnetic, course);

@@ -2,7 +2,7 @@ ghost use Rattle.std.specs.Prelude.{◌≡◌, [], All, IsTrue};
 ghost use Rattle.std.specs.List.{list_all};
 ghost use Rattle.readings.specs.Ranges.{IsValid};
 ghost use Rattle.sentence_text.specs.Byte.{is_capital};
-ghost use Rattle.sentence_rows.specs.Lines.{lines_of};
+ghost use Rattle.sentence_rows.specs.Field.{texts_of};
 ghost use Rattle.sentence_rows.specs.Stable.{IsSaid, IsStable};
 ghost use Rattle.sentence_rows.specs.Writing.{IsText};
 
@@ -16,7 +16,7 @@ fn say(reading: &Reading, talker: [u8; 2], ths: bool, out: &mut Lines)
     requires empty { out.old.items ≡ [] }
     requires valid { IsValid reading.now }
     requires talker { IsTrue (list_all is_capital talker) }
-    ensures { IsSaid reading.now talker ths (lines_of out.new) }
+    ensures { IsSaid reading.now talker ths (texts_of out.new) }
 {
     match *reading {
         Reading::HeadingTrue { heading } => {
@@ -106,9 +106,9 @@ pub fn sentences(reading: &Reading, talker: [u8; 2], ths: bool, out: &mut Lines)
     requires valid { IsValid reading.now }
     requires talker { IsTrue (list_all is_capital talker) }
     // The lines are the sentences of the reading.
-    ensures said { IsText reading.now talker ths (lines_of out.new) }
+    ensures said { IsText reading.now talker ths (texts_of out.new) }
     // Each line is read as one reading, which is said in it again.
-    ensures stable { All (IsStable talker ths) (lines_of out.new) }
+    ensures stable { All (IsStable talker ths) (texts_of out.new) }
 {
     say(reading, talker, ths, out);
 }

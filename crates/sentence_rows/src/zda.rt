@@ -7,7 +7,7 @@ ghost use Rattle.std.specs.List.{list_all};
 ghost use Rattle.jiff_core.specs.Date.{epoch_day};
 ghost use Rattle.readings.specs.Ranges.{Admits, Holds, date as date_range};
 ghost use Rattle.sentence_text.specs.Byte.{is_capital};
-ghost use Rattle.sentence_rows.specs.Lines.{lines_of, sentence_by};
+ghost use Rattle.sentence_rows.specs.Field.{texts_of, sentence_by};
 ghost use Rattle.sentence_rows.specs.Stable.{IsReadBack};
 ghost use Rattle.sentence_rows.specs.Writing as text;
 ghost use Rattle.sentence_rows.specs.Columns.{fields_in};
@@ -43,7 +43,7 @@ pub(crate) fn year_of(date: Date) -> u64
 fn append_date(talker: [u8; 2], time: Option<i64>, date: Date, out: &mut Lines)
     requires room { length out.old.items < 2 }
     requires talker { IsTrue (list_all is_capital talker) }
-    ensures said { lines_of out.new ≡ lines_of out.old ++ sentence_by talker (codes "ZDA") (text.zda time (Some date)) ∷ [] }
+    ensures said { texts_of out.new ≡ texts_of out.old ++ sentence_by talker (codes "ZDA") (text.zda time (Some date)) ∷ [] }
     ensures again { IsReadBack talker (codes "ZDA") (text.zda time (Some date)) }
 {
     let fields = [
@@ -60,7 +60,7 @@ fn append_date(talker: [u8; 2], time: Option<i64>, date: Date, out: &mut Lines)
 fn append_no_date(talker: [u8; 2], time: Option<i64>, out: &mut Lines)
     requires room { length out.old.items < 2 }
     requires talker { IsTrue (list_all is_capital talker) }
-    ensures said { lines_of out.new ≡ lines_of out.old ++ sentence_by talker (codes "ZDA") (text.zda time None) ∷ [] }
+    ensures said { texts_of out.new ≡ texts_of out.old ++ sentence_by talker (codes "ZDA") (text.zda time None) ∷ [] }
     ensures again { IsReadBack talker (codes "ZDA") (text.zda time None) }
 {
     let fields = [
@@ -78,7 +78,7 @@ pub(crate) fn zda(talker: [u8; 2], day: Option<i64>, time: Option<i64>, out: &mu
     requires room { length out.old.items < 2 }
     requires talker { IsTrue (list_all is_capital talker) }
     requires day { Admits date_range day }
-    ensures { text.Dated day (λ d. (lines_of out.new ≡ lines_of out.old ++ sentence_by talker (codes "ZDA") (text.zda time d) ∷ []) ×
+    ensures { text.Dated day (λ d. (texts_of out.new ≡ texts_of out.old ++ sentence_by talker (codes "ZDA") (text.zda time d) ∷ []) ×
         IsReadBack talker (codes "ZDA") (text.zda time d)) }
 {
     match day {

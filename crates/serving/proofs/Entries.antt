@@ -12,7 +12,7 @@ use Rattle.history.specs.Emits.{at, broken}
 use Rattle.history.specs.Entries.{Entry, History, IsHistory, is_accepted, moment_of, now}
 use Rattle.history.specs.Gate.{Stepped, command_in, out}
 use Rattle.history.specs.Messages.{done}
-use Rattle.history.specs.Receiver.{receiver_of}
+use Rattle.history.specs.Settings.{receiver_of}
 use Rattle.bridge.specs.BridgeStands.{BridgeStands, IsBridged, IsBridgeStep, IsOrder, IsRefused}
 use Rattle.bridge.specs.Gate.{all_out, stepped, with_command}
 use Rattle.bridge.specs.Kept.{Bridged, left_of}

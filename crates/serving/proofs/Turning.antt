@@ -6,7 +6,7 @@ use Rattle.gate_outside.specs.declared.Failed.{Failed}
 use Rattle.gate_outside.specs.Link.{Outcome}
 use Rattle.gate_outside.specs.Told.{Joins}
 use Rattle.gate_events.specs.Emit as emits
-use Rattle.gate_events.specs.Emit.{Emit, Emitted}
+use Rattle.gate_events.specs.Emit.{Emit}
 use Rattle.history.specs.Emits.{at}
 use Rattle.bridge.specs.Replayed.{Running, RunningStands}
 use Rattle.gate_model.specs.Machine.{Machine}
@@ -15,7 +15,7 @@ use Rattle.bridge.specs.Kept.{Bridged, left_of}
 use Rattle.bridge.specs.Parts.{Parts}
 use Rattle.serving.specs.Handing.{Does, DoesAll, DoesSome, Hands, HandsAll, HandsSome, RunStands, TakesTurn, passed}
 use Rattle.serving.specs.Served.{IsFront, Outside, Passes, all_due}
-use Rattle.serving.specs.Turns.{Came, Turned, came_in, from_bus, from_net, in_turn, is_event, moment_at, opened, tick_behind, turn, with_all, with_came}
+use Rattle.serving.specs.Turns.{Arrived, Turned, came_in, from_bus, from_net, in_turn, is_event, moment_at, with_start, tick_behind, turn, with_all, with_came}
 use Rattle.serving.proofs.Doing.{does_as, does_nothing, does_some_as, does_some_still, does_some_then, does_then}
 use Rattle.serving.proofs.Items.{due_now}
 use Rattle.serving.proofs.Passing.{front_as, passes_none, passes_then, stops_then}
@@ -23,28 +23,28 @@ use Rattle.serving.proofs.Passing.{front_as, passes_none, passes_then, stops_the
 -- ---- the start
 
 module _ (m : ℕ) where
-  started_due : (b : Bridged) → b.started ≡ true → (p : Parts) (g : Option Running) → RunningStands p g b → [] ≡ (opened p m g).due
+  started_due : (b : Bridged) → b.started ≡ true → (p : Parts) (g : Option Running) → RunningStands p g b → [] ≡ (with_start p m g).due
   started_due b is p None new = let never : true ≡ false = sym is ∙ new.waits in absurd cc
   started_due b is p (Some g) stands = refl
 
-  started_stands : (b : Bridged) → b.started ≡ true → (p : Parts) (g : Option Running) → RunningStands p g b → RunStands p (opened p m g).after b
+  started_stands : (b : Bridged) → b.started ≡ true → (p : Parts) (g : Option Running) → RunningStands p g b → RunStands p (with_start p m g).after b
   started_stands b is p None new = let never : true ≡ false = sym is ∙ new.waits in absurd cc
   started_stands b is p (Some g) stands = stands
 
-  pub opens_started : (b : Bridged) (o : Outside) → b.started ≡ true → DoesAll RunningStands (λ p g. opened p m g) [] [] b b o o
+  pub opens_started : (b : Bridged) (o : Outside) → b.started ≡ true → DoesAll RunningStands (λ p g. with_start p m g) [] [] b b o o
   opens_started b o is = record { tried = []; passes = passes_none o; is_due = started_due b is; stands = started_stands b is }
 
   module _ (before after : Bridged) (waits : before.started ≡ false) (start : IsStart m before after) where
-    opening_due : (p : Parts) (g : Option Running) → RunningStands p g before → at m (left_of after) ≡ (opened p m g).due
+    opening_due : (p : Parts) (g : Option Running) → RunningStands p g before → at m (left_of after) ≡ (with_start p m g).due
     opening_due p None new = ap (λ (es : List Emit). at m es) (start p new).emits
     opening_due p (Some g) stands = let never : true ≡ false = sym stands.1.started ∙ waits in absurd cc
 
-    opening_stands : (p : Parts) (g : Option Running) → RunningStands p g before → RunStands p (opened p m g).after after
+    opening_stands : (p : Parts) (g : Option Running) → RunningStands p g before → RunStands p (with_start p m g).after after
     opening_stands p None new = (tt, (start p new).stands)
     opening_stands p (Some g) stands = let never : true ≡ false = sym stands.1.started ∙ waits in absurd cc
 
     pub opens_new : (old new : Outside) (result : Result (Unit {0}) Failed) → Hands old new (at m (left_of after)) result
-        → Does RunningStands (λ p g. opened p m g) [] [] before after old new result
+        → Does RunningStands (λ p g. with_start p m g) [] [] before after old new result
     opens_new old new (Ok done) h = record {
       tried = h.tried;
       passes = h.passes;
@@ -56,13 +56,13 @@ module _ (m : ℕ) where
       last = h.last;
       stops = h.stops;
       is_front = λ p g stands.
-          front_as (all_due (h.tried ++ h.last ∷ [])) (all_due (h.tried ++ h.last ∷ [])) (at m (left_of after)) (opened p m g).due refl
+          front_as (all_due (h.tried ++ h.last ∷ [])) (all_due (h.tried ++ h.last ∷ [])) (at m (left_of after)) (with_start p m g).due refl
           (opening_due p g stands) h.is_front;
     }
 
 -- ---- what came by one link
 
-module _ (m : ℕ) {came came' : Came} (same : came ≡ came') {bus net : List Outcome} {before : Bridged} {old mid : Outside}
+module _ (m : ℕ) {came came' : Arrived} (same : came ≡ came') {bus net : List Outcome} {before : Bridged} {old mid : Outside}
     (receives : Passes old mid (passed bus net [])) where
   pub hears_all : {heard : Bool} {after : Bridged} {new : Outside} → heard ≡ is_event came
       → DoesAll RunStands (λ p g. with_came p m came g) [] [] before after mid new
@@ -72,8 +72,8 @@ module _ (m : ℕ) {came came' : Came} (same : came ≡ came') {bus net : List O
     record {
       tried = x.tried;
       passes = passes_then old mid new (passed bus net []) (passed [] [] x.tried) receives x.passes;
-      is_due = λ p g stands. x.is_due p g stands ∙ ap (λ (c : Came). (with_came p m c g).due) same;
-      stands = λ p g stands. subst (λ (c : Came). RunStands p (with_came p m c g).after after) same (x.stands p g stands);
+      is_due = λ p g stands. x.is_due p g stands ∙ ap (λ (c : Arrived). (with_came p m c g).due) same;
+      stands = λ p g stands. subst (λ (c : Arrived). RunStands p (with_came p m c g).after after) same (x.stands p g stands);
     },
   )
 
@@ -84,7 +84,7 @@ module _ (m : ℕ) {came came' : Came} (same : came ≡ came') {bus net : List O
     last = x.last;
     stops = stops_then old mid new (passed bus net []) (passed [] [] x.tried) x.last receives x.stops;
     is_front = λ p g stands.
-        subst (λ (c : Came). IsFront (all_due (x.tried ++ x.last ∷ [])) (with_came p m c g).due) same (x.is_front p g stands);
+        subst (λ (c : Arrived). IsFront (all_due (x.tried ++ x.last ∷ [])) (with_came p m c g).due) same (x.is_front p g stands);
   }
 
 -- a report of what couldn't be received or read
@@ -109,12 +109,12 @@ reports_some h = record {
 -- ---- the turn
 
 abbrev start_at : ℕ → Parts → Option Running → Turned
-start_at m p g = opened p m g
+start_at m p g = with_start p m g
 
-abbrev stage : ℕ → Came → Parts → Running → Turned
+abbrev stage : ℕ → Arrived → Parts → Running → Turned
 stage m came p g = with_came p m came g
 
-abbrev stages : ℕ → List Came → Parts → Running → Turned
+abbrev stages : ℕ → List Arrived → Parts → Running → Turned
 stages m cames p g = with_all p m cames g
 
 module _ (m reading number : ℕ) (before : Bridged) (is : m ≡ max reading before.gateway.moment) where
@@ -134,7 +134,7 @@ module _ (m reading number : ℕ) (before : Bridged) (is : m ≡ max reading bef
       (does_some_still RunningStands (start_at m) (stages m []) [] [] before old new x)
 
   module _ (opened_b : Bridged) (old one : Outside) (opens : DoesAll RunningStands (start_at m) [] [] before opened_b old one) (b : Outcome) where
-    abbrev bus_came : Came
+    abbrev bus_came : Arrived
     bus_came = from_bus m number b
 
     -- a write failed at what came by the bus
@@ -147,10 +147,10 @@ module _ (m reading number : ℕ) (before : Bridged) (is : m ≡ max reading bef
         (does_some_still RunStands (stage m bus_came) (stages m []) (b ∷ []) [] opened_b one new x))
 
     module _ (bus_b : Bridged) (two : Outside) (hears : DoesAll RunStands (stage m bus_came) (b ∷ []) [] opened_b bus_b one two) (n : Outcome) where
-      abbrev net_came : Came
+      abbrev net_came : Arrived
       net_came = from_net m n
 
-      abbrev tick_came : Came
+      abbrev tick_came : Arrived
       tick_came = tick_behind m (is_event bus_came || is_event net_came)
 
       -- a write failed at what came by the network

@@ -14,7 +14,7 @@ use Rattle.bridge.specs.BridgeStands.{IsNew}
 use Rattle.bridge.specs.Kept.{Bridged}
 use Rattle.bridge.specs.Parts.{Parts}
 use Rattle.serving.specs.Served.{EndsBy, IsCut, IsFront, Outside, Passed, Passes, Stops, Tried, all_due}
-use Rattle.serving.specs.Turns.{Came, Turned, is_event, turn, with_came}
+use Rattle.serving.specs.Turns.{Arrived, Turned, is_event, turn, with_came}
 
 -- ---- a text is written
 
@@ -80,17 +80,17 @@ Does Stands makes bus net before after old new (Ok done) = DoesAll Stands makes 
 Does Stands makes bus net before after old new (Err e) = DoesSome Stands makes bus net before old new
 
 -- whether what came was an event is answered besides
-abbrev pub Hears : ℕ → Came → List Outcome → List Outcome → Bridged → Bridged → Outside → Outside → Result Bool Failed → Type 0
+abbrev pub Hears : ℕ → Arrived → List Outcome → List Outcome → Bridged → Bridged → Outside → Outside → Result Bool Failed → Type 0
 Hears m came bus net before after old new (Ok heard) =
     (heard ≡ is_event came) × DoesAll RunStands (λ p g. with_came p m came g) bus net before after old new
 Hears m came bus net before after old new (Err e) = DoesSome RunStands (λ p g. with_came p m came g) bus net before old new
 
 -- what a receive on the bus gave, as its caller has it
-abbrev pub frame_came : ℕ → Result (Option Frame) Report → Came
+abbrev pub frame_came : ℕ → Result (Option Frame) Report → Arrived
 frame_came m (Ok frame) = Ok (option_map (λ f. entry.frame m (bus_frame f)) frame)
 frame_came m (Err r) = Err r
 
-abbrev pub frame_said : ℕ → Result Frame Report → Came
+abbrev pub frame_said : ℕ → Result Frame Report → Arrived
 frame_said m (Ok f) = Ok (Some (entry.frame m (bus_frame f)))
 frame_said m (Err r) = Err r
 

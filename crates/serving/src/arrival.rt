@@ -5,7 +5,7 @@ ghost use Rattle.n2k_id.specs.Frame.{IsFrame};
 ghost use Rattle.capture_text.specs.Reading.{read};
 ghost use Rattle.gate_outside.specs.Link.{GoesOn, Outcome, received_also};
 ghost use Rattle.serving.specs.Handing.{frame_came, frame_said};
-ghost use Rattle.serving.specs.Turns.{from_bus, refused, said, text_of};
+ghost use Rattle.serving.specs.Turns.{from_bus, refused, line_says, text_of};
 
 use capture_text::read_line;
 use gate_events::{Detail, Event, Report};
@@ -35,7 +35,7 @@ pub(crate) fn receive_frame<B: Link>(number: u64, bus: &mut B) -> Result<Option<
 
 /// The frame that a text says, or the report of a text that says none.
 fn frame_in(number: u64, text: &[u8]) -> Result<Frame, Report>
-    ensures came { (m : ℕ) → frame_said m result ≡ said m number (read text.now) }
+    ensures came { (m : ℕ) → frame_said m result ≡ line_says m number (read text.now) }
     ensures valid { IfOk result IsFrame }
 {
     let mut room = [0; 2048];

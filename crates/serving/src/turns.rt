@@ -6,7 +6,7 @@ ghost use Rattle.gate_outside.specs.Link.{Outcome};
 ghost use Rattle.bridge.specs.Replayed.{RunningStands};
 ghost use Rattle.serving.specs.Handing.{Does, Ends, Hears, RunStands, TakesTurn};
 ghost use Rattle.serving.specs.Served.{outside};
-ghost use Rattle.serving.specs.Turns.{from_bus, from_net, opened, tick_behind, with_came, with_entry};
+ghost use Rattle.serving.specs.Turns.{from_bus, from_net, with_start, tick_behind, with_came, with_entry};
 ghost use Rattle.statuses.specs.Statuses.{number};
 
 use crate::arrival::receive_frame;
@@ -115,7 +115,7 @@ fn open<K: Sink, B: Link, E: Link>(
     bus: &mut B,
     net: &mut E,
 ) -> Result<(), Failed>
-    ensures does { Does RunningStands (λ p g. opened p moment g) [] [] bridge.old bridge.new
+    ensures does { Does RunningStands (λ p g. with_start p moment g) [] [] bridge.old bridge.new
         (outside (B.traffic bus.old) (E.traffic net.old) (K.taken out.old) (K.fault_count out.old))
         (outside (B.traffic bus.new) (E.traffic net.new) (K.taken out.new) (K.fault_count out.new)) result }
     ensures started { bridge.new.started ≡ true }

@@ -1,8 +1,8 @@
 -- The laws of runs.
 use Rattle.std.proofs.Common.{◌≡◌, ℕ, ◌+◌, ◌≤◌, Bool, true, false, List, [], ◌∷◌, Option, Some, None, refl, ◌∙◌, ap, arith}
 use Rattle.std.proofs.lemmas.Bool.{leb-true, le-leb}
-use Rattle.slot_views.specs.Runs.{Rules, is_whole, is_admitted, in_time, accepted_more, accepted_after, accepted, since_opener, if_open, if_whole, kept_at, open_of, open_at, run_of, fed_later, fed, finished_later, finished, IsLawful}
-use Rattle.slot_views.specs.RunLaws.{OneStep}
+use Rattle.slot_views.specs.Runs.{Rules, is_whole, is_admitted, in_time, accepted_more, accepted_after, accepted, since_opener, if_open, if_whole, kept_at, open_of, open_at, run_of}
+use Rattle.slot_views.specs.RunLaws.{fed_later, fed, finished_later, finished, IsLawful, OneStep}
 
 module _ {X : Type 0} (r : Rules X) where
   -- one more piece keeps the opener; with none there is nothing

@@ -1,7 +1,7 @@
 -- There is one open prefix at most, and one run.
 use Rattle.std.proofs.Common.{◌≡◌, ℕ, Bool, true, false, if◌then◌else◌, List, [], ◌∷◌, ◌++◌, Option, Some, None, refl, sym, ◌∙◌, ap, subst}
-use Rattle.slot_views.specs.Runs.{Rules, is_whole, is_admitted, in_time, accepted_more, accepted_after, accepted, IsOpen, IsRun, since_opener, if_open, if_whole, kept_at, open_at, run_of, IsLawful}
-use Rattle.slot_views.specs.RunLaws.{OneSuffix}
+use Rattle.slot_views.specs.Runs.{Rules, is_whole, is_admitted, in_time, accepted_more, accepted_after, accepted, IsOpen, IsRun, since_opener, if_open, if_whole, kept_at, open_at, run_of}
+use Rattle.slot_views.specs.RunLaws.{IsLawful, OneSuffix}
 
 module _ {X : Type 0} (r : Rules X) where
   -- the pieces before the newest opener

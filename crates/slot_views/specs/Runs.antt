@@ -97,23 +97,3 @@ module _ {X : Type 0} (r : Rules X) where
 
   abbrev pub run_of : List X → Option (List X)
   run_of h = if_whole (accepted (since_opener h))
-
-  -- what one more piece leaves open, and what it makes whole
-  abbrev pub fed_later : Option (List X) → X → Option (List X)
-  fed_later None x = None
-  fed_later (Some acc) x = if r.is_next acc x then if_open (Some (x ∷ acc)) else if r.is_repeat acc x then Some acc else None
-
-  abbrev pub fed : Option (List X) → X → Option (List X)
-  fed o x = if r.opens x then if_open (Some (x ∷ [])) else fed_later o x
-
-  abbrev pub finished_later : Option (List X) → X → Option (List X)
-  finished_later None x = None
-  finished_later (Some acc) x = if r.is_next acc x then if_whole (Some (x ∷ acc)) else None
-
-  abbrev pub finished : Option (List X) → X → Option (List X)
-  finished o x = if r.opens x then if_whole (Some (x ∷ [])) else finished_later o x
-
-  -- an opener is neither next nor a repeat, and nothing follows what is whole
-  pub record IsLawful : Type 0 where
-    pub opener_is_new : (acc : List X) (x : X) → r.opens x ≡ true → (r.is_next acc x ≡ false) × (r.is_repeat acc x ≡ false)
-    pub whole_ends : (acc : List X) (x : X) → is_whole acc ≡ true → (r.is_next acc x ≡ false) × (r.is_repeat acc x ≡ false)

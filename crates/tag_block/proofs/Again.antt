@@ -11,8 +11,7 @@ use Rattle.std.proofs.lemmas.List.Concat.{flat_map-cons}
 use Rattle.sentence_text.proofs.Bytes.{Splits, splits}
 use Rattle.sentence_text.proofs.Sums.{sum_again}
 use Rattle.tag_block.specs.declared.fault.TagFault.{TagFault}
-use Rattle.tag_block.specs.Byte.{is_code_byte, is_value_byte}
-use Rattle.tag_block.specs.Tag.{Parameter, IsParameter, parameter_text, content, Block, IsBlock, block_text, Standing, stands, parameters, xor_of}
+use Rattle.tag_block.specs.Tag.{is_code_byte, is_value_byte, Parameter, IsParameter, parameter_text, content, Block, IsBlock, block_text, Standing, stands, parameters, xor_of}
 use Rattle.tag_block.specs.Reading.{Values, keep, Scan, parameter_at, parameters_at, block_end_at, block_at, blocks_at}
 use Rattle.tag_block.proofs.Found.{standing_of, standing_of-keep, content_taken}
 

@@ -11,8 +11,7 @@ use Rattle.std.proofs.lemmas.List.Sums.{fold-append}
 use Rattle.std.proofs.lemmas.List.Concat.{flat_map-cons}
 use Rattle.sentence_text.proofs.Bytes.{front_passes}
 use Rattle.tag_block.specs.declared.fault.TagFault.{TagFault}
-use Rattle.tag_block.specs.Byte.{is_code_byte, is_value_byte}
-use Rattle.tag_block.specs.Tag.{Parameter, IsParameter, parameter_text, content, Block, IsBlock, block_text, Standing, stands, is_code, parameters, xor_of}
+use Rattle.tag_block.specs.Tag.{is_code_byte, is_value_byte, Parameter, IsParameter, parameter_text, content, Block, IsBlock, block_text, Standing, stands, is_code, parameters, xor_of}
 use Rattle.sentence_text.specs.declared.sum.SumFault.{SumFault}
 use Rattle.sentence_text.specs.Sum.{sum_fault}
 use Rattle.sentence_text.proofs.Sums.{sum_found}

@@ -8,7 +8,8 @@ use Rattle.std.specs.declared.cmp.Ordering.TheVariants.{Less, Equal, Greater}
 use Rattle.std.specs.Ordering.{nat_cmp, is_eq, ordering_then}
 use Rattle.std.specs.Cmp.Lexicographic.{slice_cmp}
 use Rattle.std.proofs.lemmas.Map.Lookups.{exact_unsigned, exact_bytes}
-use Rattle.slot_views.specs.Runs.{opener_of, is_admitted, if_whole, open_of, open_at, run_of, fed, finished}
+use Rattle.slot_views.specs.Runs.{opener_of, is_admitted, if_whole, open_of, open_at, run_of}
+use Rattle.slot_views.specs.RunLaws.{fed, finished}
 use Rattle.slot_views.proofs.RunSteps.{one_step_of}
 use Rattle.slot_views.specs.Slots.{Entry, SlotMap, IsOrdered, IsMap, Changes, grown, is_complete, is_held, is_full, entry_at}
 use Rattle.slot_views.specs.Traces.{left_at, entry_after, if_incomplete, grown_entry, pieces_at, IsStep}

@@ -2,7 +2,8 @@
 use Rattle.std.specs.List.{AllByRecursion}
 use Rattle.std.proofs.lemmas.Bool.{eqb-true, eqb-false, leb-true, leb-false, ltb-true, ne_eqb, eq-eqb, lt-ltb, le-ltb}
 use Rattle.std.proofs.Common.{◌≡◌, ℕ, ◌+◌, ◌-◌, ◌<◌, ◌≤◌, ◌==◌, ◌&&◌, nat_le, nat_lt, Bool, true, false, List, [], ◌∷◌, ◌++◌, length, Option, Some, None, add-one, refl, sym, ◌∙◌, ap, subst, arith}
-use Rattle.slot_views.specs.Runs.{IsLawful, accepted, accepted_after, accepted_more, in_time, is_whole, is_admitted, opener_of, since_opener, if_open, kept_at, open_of, open_at, fed, fed_later}
+use Rattle.slot_views.specs.Runs.{accepted, accepted_after, accepted_more, in_time, is_whole, is_admitted, opener_of, since_opener, if_open, kept_at, open_of, open_at}
+use Rattle.slot_views.specs.RunLaws.{IsLawful, fed, fed_later}
 use Rattle.slot_views.proofs.RunSteps.{one_step_of}
 use Rattle.slot_views.proofs.RunSuffixes.{one_suffix_of}
 use Rattle.slot_views.specs.Slots.{Entry, grown}

@@ -5,8 +5,7 @@ use Rattle.std.proofs.lemmas.Str.Parse.{digits_value_short}
 use Rattle.tag_block.specs.declared.fault.TagFault.{TagFault}
 use Rattle.tag_block.specs.declared.tag.Tag.{Tag}
 use Rattle.tag_block.specs.declared.group_part.GroupPart.{GroupPart}
-use Rattle.tag_block.specs.Numbers.{IsNumber, IsGroupText, IsGroupRead, most_count}
-use Rattle.tag_block.specs.Tag.{Said, IsTag, IsGroupOf, IsCountOf, IsSaid, standing}
+use Rattle.tag_block.specs.Tag.{IsNumber, IsGroupText, IsGroupRead, most_count, Said, IsTag, IsGroupOf, IsCountOf, IsSaid, standing}
 use Rattle.tag_block.specs.Reading.{read, said, seen}
 use Rattle.tag_block.proofs.Laws.{fronts}
 use Rattle.tag_block.proofs.Written.{own}

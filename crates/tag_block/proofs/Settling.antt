@@ -7,8 +7,7 @@ use Rattle.sentence_text.specs.Byte.{is_capital, is_digit}
 use Rattle.sentence_text.specs.Names.{IsSfi}
 use Rattle.tag_block.specs.declared.fault.TagFault.{TagFault}
 use Rattle.tag_block.specs.declared.group_part.GroupPart.{GroupPart}
-use Rattle.tag_block.specs.Numbers.{number, IsNumber, IsGroupText}
-use Rattle.tag_block.specs.Tag.{IsGroupOf, IsCountOf}
+use Rattle.tag_block.specs.Tag.{number, IsNumber, IsGroupText, IsGroupOf, IsCountOf}
 use Rattle.tag_block.specs.Reading.{Placed, number_in, is_from_1, has_group_form, group_with, group_in, is_sfi, found_or, group_said, count_said, source_said, text_of}
 
 abbrev some : {A : Type 0} → A → Option A

@@ -14,10 +14,8 @@ use Rattle.sentence_text.specs.Byte.{is_capital, is_digit}
 use Rattle.sentence_text.proofs.Bytes.{all_weaker, all_append}
 use Rattle.tag_block.specs.declared.group_part.GroupPart.{GroupPart}
 use Rattle.tag_block.specs.declared.writing.TagParts.{TagParts}
-use Rattle.tag_block.specs.Byte.{is_value_byte}
-use Rattle.tag_block.specs.Numbers.{number, IsNumber}
+use Rattle.tag_block.specs.Tag.{is_value_byte, Parameter, IsParameter, content, xor_of, IsBlock, block_text, parameters, Standing, stands, nothing, standing, IsTag, IsGroupOf, IsCountOf, number, IsNumber}
 use Rattle.sentence_text.proofs.Spelling.{digit_value-capital_digit}
-use Rattle.tag_block.specs.Tag.{Parameter, IsParameter, content, xor_of, IsBlock, block_text, parameters, Standing, stands, nothing, standing, IsTag, IsGroupOf, IsCountOf}
 use Rattle.tag_block.specs.Writing.{IsWritable, IsWritableGroup, group_parameter, source_parameter, count_parameter, summed, block_with, block_of, said_by}
 
 pub own : IsNumeralModel (λ ds. list_all is_digit ds ≡ true) number

@@ -5,7 +5,7 @@ use Rattle.std.specs.declared.cmp.Ordering.{Ordering}
 use Rattle.slot_views.specs.Slots.{Entry, SlotMap, opened, entry_at, released, begun_after, grown_after}
 use Rattle.tag_block.specs.declared.group_key.GroupKey.{GroupKey}
 use Rattle.tag_block.specs.declared.group_part.GroupPart.{GroupPart}
-use Rattle.tag_block.specs.Numbers.{most_lines}
+use Rattle.tag_block.specs.Tag.{most_lines}
 use Rattle.tag_block.specs.GroupRuns.{group_gap}
 use Rattle.tag_block.specs.declared.group_verdict.GroupVerdict.{GroupVerdict}
 use Rattle.tag_block.specs.declared.group_verdict.GroupVerdict.TheVariants.{Opens, Follows, Breaks}

@@ -1,5 +1,3 @@
-pub mod Byte
-pub mod Numbers
 pub mod Tag
 pub mod Reading
 pub mod Content

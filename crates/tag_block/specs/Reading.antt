@@ -13,9 +13,7 @@ use Rattle.tag_block.specs.declared.tag.Tag.{Tag}
 use Rattle.tag_block.specs.declared.values.Value.{Value}
 use Rattle.tag_block.specs.declared.values.Values.{Values as TheValues}
 use Rattle.tag_block.specs.declared.values.Scan.{Scan as TheScan}
-use Rattle.tag_block.specs.Byte.{is_code_byte, is_value_byte}
-use Rattle.tag_block.specs.Numbers.{number}
-use Rattle.tag_block.specs.Tag.{Said, is_code, xor_of}
+use Rattle.tag_block.specs.Tag.{is_code_byte, is_value_byte, Said, is_code, xor_of, number}
 
 infixl 10 ◌>>=◌
 abbrev pub ◌>>=◌ : {A B : Type 0} → Result A TagFault → (A → Result B TagFault) → Result B TagFault

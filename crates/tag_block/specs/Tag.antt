@@ -1,12 +1,63 @@
 -- What TAG blocks of IEC 61162-450 are, as a relation between what they say and all of their bytes.
-use Rattle.std.specs.Prelude.{◌≡◌, ℕ, ◌+◌, ◌*◌, ◌<◌, ◌≤◌, ◌≢◌, Bool, ◌&&◌, ◌==◌, List, [], ◌∷◌, ◌++◌, length, take, drop, slice_index, All, Option, Some, None, IsTrue, IfSome, if◌then◌else◌}
-use Rattle.std.specs.List.{fold, flat_map, list_all}
+use Rattle.std.specs.Prelude.{ℕ, Bool, ◌&&◌, ◌||◌, ◌==◌, not, nat_le, ◌≡◌, ◌+◌, ◌-◌, ◌*◌, ◌≤◌, List, ◌∷◌, length, IsTrue, ◌<◌, ◌≢◌, [], ◌++◌, take, drop, slice_index, All, Option, Some, None, IfSome, if◌then◌else◌}
+use Rattle.sentence_text.specs.Byte.{is_digit}
+use Rattle.std.specs.List.{fold, list_all, flat_map}
+use Rattle.tag_block.specs.declared.group_part.GroupPart.{GroupPart}
 use Rattle.std.specs.Char.{digit_value}
 use Rattle.sentence_text.specs.Names.{IsSfi}
 pub use Rattle.sentence_text.specs.Sentence.{xor_of}
-use Rattle.tag_block.specs.declared.group_part.GroupPart.{GroupPart}
-use Rattle.tag_block.specs.Byte.{is_code_byte, is_value_byte}
-use Rattle.tag_block.specs.Numbers.{IsNumber, IsGroupText, IsGroupRead, most_count}
+
+-- a letter of either case, or a digit
+abbrev pub is_code_byte : ℕ → Bool
+is_code_byte c = is_digit c || (nat_le 65 c && nat_le c 90) || (nat_le 97 c && nat_le c 122)
+
+-- printable, but for the comma between parameters, `*` and `\`
+abbrev pub is_value_byte : ℕ → Bool
+is_value_byte c = nat_le 32 c && nat_le c 126 && not (c == 44 || c == 42 || c == 92)
+
+-- ---- the numbers in their values
+
+-- the number that decimal digits write
+abbrev pub number : List ℕ → ℕ
+number digits = fold (λ n c. n * 10 + (c - 48)) 0 digits
+
+-- one digit or more, at most so many
+pub record IsNumber (most : ℕ) (n : ℕ) (text : List ℕ) : Type 0 where
+  pub some : 1 ≤ length text
+  pub few : length text ≤ most
+  pub digits : IsTrue (list_all is_digit text)
+  pub value : n ≡ number text
+
+-- the greatest code of a group, of four digits, and the greatest count of a line, of three
+abbrev pub most_code : ℕ
+most_code = 9999
+
+abbrev pub most_count : ℕ
+most_count = 999
+
+-- the most lines of a group
+abbrev pub most_lines : ℕ
+most_lines = 9
+
+-- number, total and code of a group, divided by `-`: `1-2-34`
+pub record IsGroupText (part : GroupPart) (text : List ℕ) : Type 0 where
+  pub digits : List ℕ
+  pub spelled : text ≡ (48 + part.number) ∷ 45 ∷ (48 + part.total) ∷ 45 ∷ digits
+  pub first : 1 ≤ part.number
+  pub within : part.number ≤ part.total
+  pub most : part.total ≤ most_lines
+  pub code : IsNumber 4 part.code digits
+  pub positive : 1 ≤ part.code
+
+-- what holds of each group that is read
+pub record IsGroupRead (part : GroupPart) : Type 0 where
+  pub first : 1 ≤ part.number
+  pub within : part.number ≤ part.total
+  pub most : part.total ≤ most_lines
+  pub positive : 1 ≤ part.code
+  pub small : part.code ≤ most_code
+
+-- ---- the blocks
 
 -- a code, `:` and a value
 pub record Parameter : Type 0 where

@@ -4,8 +4,7 @@ use Rattle.std.specs.Fmt.{decimal}
 pub use Rattle.sentence_text.specs.Sentence.{capital_digit}
 use Rattle.tag_block.specs.declared.group_part.GroupPart.{GroupPart}
 use Rattle.tag_block.specs.declared.writing.TagParts.{TagParts}
-use Rattle.tag_block.specs.Numbers.{most_lines, most_count}
-use Rattle.tag_block.specs.Tag.{Parameter, Block, content, xor_of, Said}
+use Rattle.tag_block.specs.Tag.{most_lines, most_count, Parameter, Block, content, xor_of, Said}
 
 -- the most bytes of a block that is written, and of a datagram that is sent
 abbrev pub longest_block : ℕ

@@ -1,6 +1,6 @@
 ghost use Rattle.std.specs.Prelude.{◌≡◌, ◌≤◌, length, take, bit_xor};
 ghost use Rattle.std.specs.List.{fold, prefix_len};
-ghost use Rattle.tag_block.specs.Byte as bytes;
+ghost use Rattle.tag_block.specs.Tag as bytes;
 
 fn is_code_byte(byte: u8) -> bool
     ensures { result ≡ bytes.is_code_byte byte }

@@ -2,9 +2,8 @@ ghost use Rattle.std.specs.Prelude.{◌≡◌, ◌+◌, ◌/◌, ◌%◌, ◌<�
 ghost use Rattle.std.specs.Fmt.{decimal};
 ghost use Rattle.arrayvec.specs.ArrayVec.{array_vec_len};
 ghost use Rattle.sentence_text.specs.Names.{IsSfi};
-ghost use Rattle.tag_block.specs.Tag.{IsTag, BeginsNoBlock, block_text, content, parameter_text, xor_of};
+ghost use Rattle.tag_block.specs.Tag.{IsTag, BeginsNoBlock, block_text, content, parameter_text, xor_of, most_count};
 ghost use Rattle.tag_block.specs.Reading.{read};
-ghost use Rattle.tag_block.specs.Numbers.{most_count};
 ghost use Rattle.tag_block.specs.Writing.{IsWritable, IsWritableGroup, longest_block, longest_packet, group_parameter, source_parameter, count_parameter, capital_digit, block_with, block_of, said_by};
 
 use crate::group_part::GroupPart;

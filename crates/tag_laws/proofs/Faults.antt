@@ -12,8 +12,7 @@ use Rattle.sentence_text.specs.Sum.{sum_fault}
 use Rattle.tag_block.specs.declared.fault.TagFault.{TagFault}
 use Rattle.tag_block.specs.declared.fault.TagRule.TheVariants as rules
 use Rattle.tag_block.specs.declared.group_part.GroupPart.{GroupPart}
-use Rattle.tag_block.specs.Byte.{is_code_byte, is_value_byte}
-use Rattle.tag_block.specs.Tag.{xor_of, is_code, Said, Standing}
+use Rattle.tag_block.specs.Tag.{is_code_byte, is_value_byte, xor_of, is_code, Said, Standing}
 use Rattle.tag_block.specs.Reading.{Placed, Values, no_values, Scan, parameter_at, parameters_at, block_end_at, block_at, blocks_at, number_in, group_in, group_said, count_said, source_said, is_sfi, found_or, text_of, settle, read, ◌>>=◌}
 use Rattle.tag_block.proofs.Found.{blocks_found, BlocksRead}
 use Rattle.tag_block.proofs.Settling.{group_again, number_again}

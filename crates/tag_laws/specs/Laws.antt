@@ -4,9 +4,7 @@ use Rattle.std.specs.List.{flat_map, list_all}
 use Rattle.std.specs.Char.{digit_value}
 use Rattle.tag_block.specs.declared.group_part.GroupPart.{GroupPart}
 use Rattle.tag_block.specs.declared.fault.TagRule.TheVariants as rules
-use Rattle.tag_block.specs.Byte.{is_value_byte}
-use Rattle.tag_block.specs.Numbers.{IsNumber, IsGroupText}
-use Rattle.tag_block.specs.Tag.{IsParameter, Block, IsBlock, block_text, standing, BeginsNoBlock}
+use Rattle.tag_block.specs.Tag.{is_value_byte, IsParameter, Block, IsBlock, block_text, standing, BeginsNoBlock, IsNumber, IsGroupText}
 use Rattle.tag_block.specs.Reading.{read}
 
 -- a block whose two digits may write any sum

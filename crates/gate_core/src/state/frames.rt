@@ -6,7 +6,7 @@ ghost use Rattle.n2k_id.specs.Identifier.{parts_of};
 ghost use Rattle.pgn_profile.specs.Profiled.{GivesValid};
 ghost use Rattle.claim_table.specs.Claims.{is_ready};
 ghost use Rattle.history.specs.Emits.{reported};
-ghost use Rattle.history.specs.FromBus.{asked, request_gives};
+ghost use Rattle.history.specs.FromBus.{request_gives};
 ghost use Rattle.history.specs.Entries as entry;
 ghost use Rattle.history.specs.Known.{is_claim};
 ghost use Rattle.history.specs.Meanings as meanings;
@@ -217,7 +217,7 @@ fn answer_request(name: Name, own: Option<u8>, bytes: &[u8], out: &mut StepEmits
 
 /// Whether a request is for the claim of an address.
 fn asks_for_claim(bytes: &[u8]) -> bool
-    ensures { result ≡ (not (nat_lt (length bytes.now) 3) && (asked bytes.now == pgns.address_claimed)) }
+    ensures { result ≡ (not (nat_lt (length bytes.now) 3) && (pgns.asked_of bytes.now == pgns.address_claimed)) }
 {
     bytes.len() >= REQUEST_BYTES
         && u32::from(bytes[0]) + 256 * u32::from(bytes[1]) + 65536 * u32::from(bytes[2])

@@ -26,7 +26,7 @@ pub(crate) fn copy_of(config: &Config) -> Result<Config, AllocError>
 }
 
 /// The addresses of the bus as they are configured.
-#[tactic(auto, unfolding(config_values::specs::Settings::settings_of, claim_table::specs::Presets::opened))]
+#[tactic(auto, unfolding(config_values::specs::Settings::settings_of, claim_table::specs::Claims::claims_at_start))]
 pub(crate) fn addresses_of(alloc: Global, config: &Config) -> Result<Addresses, AllocError>
     requires { IsConfig config.now }
     ensures { IfOk result (λ a. a ≡ (opened_machine (settings_of config.now)).addresses) }

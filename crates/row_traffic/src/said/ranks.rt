@@ -1,6 +1,6 @@
 //! The ranks of the devices that a row is taken from.
 ghost use Rattle.std.specs.Prelude.{◌≡◌, ◌<◌, ◌≤◌, length, position, IfSome, None};
-ghost use Rattle.n2k_id.specs.Pattern.{matches};
+ghost use Rattle.n2k_id.specs.Name.{matches};
 ghost use Rattle.history.specs.Choice.{place_in, rank_of};
 ghost use Rattle.history.specs.Settings.{rule_of};
 ghost use Rattle.config_values.specs.Settings.{settings_of};

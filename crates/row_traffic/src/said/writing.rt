@@ -3,10 +3,10 @@ ghost use Rattle.std.specs.Prelude.{◌≡◌, ◌+◌, ◌<◌, ◌≤◌, ◌+
 ghost use Rattle.readings.specs.Ranges.{IsValid};
 ghost use Rattle.sentence_text.specs.Names.{IsSfi};
 ghost use Rattle.arrayvec.specs.ArrayVec.{array_vec_len};
-ghost use Rattle.sentence_rows.specs.Lines.{lines_of};
+ghost use Rattle.sentence_rows.specs.Field.{texts_of};
 ghost use Rattle.tag_block.specs.Writing.{longest_packet};
 ghost use Rattle.datagram450.specs.Datagram.{header};
-ghost use Rattle.history.specs.Datagrams.{lines_from, part_of};
+ghost use Rattle.history.specs.Emits.{lines_from, part_of};
 ghost use Rattle.gate_model.specs.Said.{sentences_by};
 ghost use Rattle.config_values.specs.Configs.{IsConfig};
 ghost use Rattle.config_values.specs.Settings.{settings_of};
@@ -35,7 +35,7 @@ pub(crate) fn sentences_in(config: &Config, reading: &Reading, out: &mut Lines)
     requires config { IsConfig config.now }
     requires valid { IsValid reading.now }
     requires empty { out.old.items ≡ [] }
-    ensures { lines_of out.new ≡ sentences_by (settings_of config.now) reading.now }
+    ensures { texts_of out.new ≡ sentences_by (settings_of config.now) reading.now }
 {
     sentences(reading, talker_of(config, row(reading)), config.ths, out);
 }

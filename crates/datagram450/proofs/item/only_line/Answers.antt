@@ -2,7 +2,7 @@ use Rattle.std.proofs.Common.{ap, sym, ◌∙◌}
 use Rattle.tag_block.specs.Reading as tags
 use Rattle.sentence_text.specs.Reading as sentences
 use Rattle.datagram450.specs.declared.item.LineItem.{LineItem}
-use Rattle.datagram450.specs.Item.{item_view}
+use Rattle.datagram450.specs.Datagram.{item_view}
 use Rattle.datagram450.proofs.LineBytes.{line_alone}
 use Rattle.datagram450.proofs.item.only_line.Goals as goal
 

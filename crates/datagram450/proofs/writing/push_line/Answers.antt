@@ -1,8 +1,7 @@
 use Rattle.std.proofs.Common.{refl}
 use Rattle.tag_block.specs.Tag.{block_text}
 use Rattle.tag_block.specs.Writing.{block_of, said_by}
-use Rattle.datagram450.specs.Item.{LineOf}
-use Rattle.datagram450.specs.Writing.{line_text}
+use Rattle.datagram450.specs.Datagram.{LineOf, line_text}
 use Rattle.datagram450.proofs.LinePlaces.{appended}
 use Rattle.datagram450.proofs.writing.push_line.Goals as goal
 

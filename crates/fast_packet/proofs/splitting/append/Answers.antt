@@ -1,5 +1,5 @@
 use Rattle.std.proofs.Common.{◌++◌, [], ◌∷◌, length, ap, ◌∙◌, append_assoc, add-one, length-append, arith}
-use Rattle.fast_packet.specs.Splitting.{frames_to}
+use Rattle.fast_packet.specs.FastRuns.{frames_to}
 use Rattle.fast_packet.proofs.splitting.append.Goals as goal
 
 pub loop-before-init : goal.loop-before-init

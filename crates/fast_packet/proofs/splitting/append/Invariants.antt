@@ -1,5 +1,5 @@
 use Rattle.std.proofs.Common.{◌≡◌, ◌+◌, ◌++◌, length}
-use Rattle.fast_packet.specs.Splitting.{frames_to}
+use Rattle.fast_packet.specs.FastRuns.{frames_to}
 use Rattle.fast_packet.proofs.splitting.append.Given as goal
 
 abbrev pub invariant-loop-before : goal.invariant-loop-before

@@ -1,8 +1,5 @@
-use Rattle.history.proofs.FreshSteps.{fresh_by_last, messages_are_kept, claims_forget, commands_forget_none, readings_are_kept}
+use Rattle.history.proofs.FreshSteps.{messages_are_kept, claims_forget, commands_forget_none, readings_are_kept}
 use Rattle.history.proofs.laws.freshness_is_kept.Goals as goal
-
-pub returns-clause-last : goal.returns-clause-last
-returns-clause-last c = fresh_by_last
 
 pub returns-clause-messages : goal.returns-clause-messages
 returns-clause-messages c = messages_are_kept

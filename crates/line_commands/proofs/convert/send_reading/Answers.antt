@@ -1,13 +1,13 @@
 use Rattle.std.proofs.Common.{List, ℕ, false, refl, subst}
 use Rattle.std.specs.List.{flat_map}
-use Rattle.sentence_rows.specs.Lines.{lines_of}
+use Rattle.sentence_rows.specs.Field.{texts_of}
 use Rattle.sentence_rows.specs.Writing.{IsText}
 use Rattle.readings.specs.About.{about_of}
 use Rattle.line_commands.proofs.convert.send_reading.Goals as goal
 
 pub returns-clause-sent : goal.returns-clause-sent
 returns-clause-sent g c =
-    let lines : List (List ℕ) = lines_of c.sentences.new.out in
+    let lines : List (List ℕ) = texts_of c.sentences.new.out in
     let said : IsText c.args.reading.now (about_of c.row.result).talker false lines =
     subst (λ (talker : List ℕ). IsText c.args.reading.now talker false lines) c.talker.ensures.talker c.sentences.ensures.said in (
       flat_map (λ (line : List ℕ). line) lines,

@@ -1,7 +1,7 @@
 use Rattle.std.proofs.Common.{ap, ◌∙◌}
 use Rattle.std.specs.List.{flat_map}
 use Rattle.std.proofs.lemmas.List.Concat.{flat_map-cons}
-use Rattle.datagram450.specs.Item.{item_view}
+use Rattle.datagram450.specs.Datagram.{item_view}
 use Rattle.line_commands.specs.Show.{item_text}
 use Rattle.capture_stream.proofs.WriterLemmas.{partly_more, partly_stopped}
 use Rattle.line_commands.proofs.show.send_items.Goals as goal

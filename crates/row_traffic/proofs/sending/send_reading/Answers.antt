@@ -2,8 +2,7 @@ use Rattle.std.proofs.Common.{◌≡◌, ◌≤◌, false, ap, sym, ◌∙◌, l
 use Rattle.readings.specs.Rows.{row_of}
 use Rattle.history.specs.Opens.{is_fast}
 use Rattle.history.specs.NetReadings.{is_fast_row}
-use Rattle.pgn_profile.specs.Profiled.{kind_of}
-use Rattle.pgn_profile.specs.Payload.{priority_of}
+use Rattle.pgn_profile.specs.Profiled.{kind_of, priority_of}
 use Rattle.row_traffic.proofs.Pieces.{can_send_as, fits_a_frame}
 use Rattle.row_traffic.proofs.sending.send_reading.Goals as goal
 

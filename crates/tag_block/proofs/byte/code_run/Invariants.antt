@@ -1,4 +1,4 @@
-use Rattle.tag_block.specs.Byte.{is_code_byte}
+use Rattle.tag_block.specs.Tag.{is_code_byte}
 use Rattle.tag_block.proofs.Run.{Run}
 use Rattle.tag_block.proofs.byte.code_run.Given as goal
 

@@ -1,4 +1,4 @@
-use Rattle.tag_block.specs.Byte.{is_value_byte}
+use Rattle.tag_block.specs.Tag.{is_value_byte}
 use Rattle.tag_block.proofs.Run.{Run}
 use Rattle.tag_block.proofs.byte.value_run.Given as goal
 

@@ -1,5 +1,5 @@
 use Rattle.std.proofs.Common.{◌≡◌, drop}
-use Rattle.claim_table.specs.Presets.{repeats}
+use Rattle.claim_table.specs.Claims.{repeats}
 use Rattle.claim_table.proofs.preset.Preset.repeat.Given as goal
 
 abbrev pub invariant-loop-place : goal.invariant-loop-place

@@ -1,7 +1,6 @@
 use Rattle.std.proofs.Common.{rules, ◌≡◌, ◌<◌, ◌+◌, ◌-◌, ◌∷◌, length, length-drop, sym, ap, ◌∙◌, arith}
 use Rattle.std.proofs.lemmas.Bool.{eqb-true}
-use Rattle.datagram450.specs.Item.{Item, item_view}
-use Rattle.datagram450.specs.Datagram.{items_from}
+use Rattle.datagram450.specs.Datagram.{Item, item_view, items_from}
 use Rattle.datagram450.proofs.Cutting.{end_place, is_some, no_items, rest_alone, line_alone, line_too_many, line_next}
 use Rattle.datagram450.proofs.line_iter.LineIterIterator.next.Goals as goal
 

@@ -1,6 +1,6 @@
 use Rattle.std.proofs.Common.{◌≡◌, ap, ◌∙◌}
 use Rattle.gate_model.specs.AddressStands.{name_held}
-use Rattle.joined_rmc.specs.Kept.{bytes_in, is_due_message, join_after, join_says, picked}
+use Rattle.joined_rmc.specs.Kept.{bytes_in, is_due_message, join_after, join_says, selected_by_step}
 use Rattle.joined_rmc.proofs.Steps.{joins}
 use Rattle.joined_rmc.proofs.rmc_join.RmcJoin.after.Goals as goal
 
@@ -11,8 +11,8 @@ returns c =
     let before = c.args.self.now in
     let holder = name_held g.addresses.claims.holders in
     let at = c.moment-moment.ensures.moment in
-    let message : c.of-new.result ≡ picked g.moment left =
-    c.of-new.ensures.selected ∙ ap (λ m. picked m left) at in
+    let message : c.of-new.result ≡ selected_by_step g.moment left =
+    c.of-new.ensures.selected ∙ ap (λ m. selected_by_step m left) at in
     record {
       history =
           joins g left before c.take.new.self c.take.result c.take.new.packet.items

@@ -1,7 +1,7 @@
 use Rattle.std.proofs.Common.{◌≡◌, ℕ, ◌+◌, ◌%◌, List, ◌++◌, length, ap, sym, ◌∙◌, length-append, arith}
 use Rattle.tag_block.specs.Writing.{longest_packet}
-use Rattle.datagram450.specs.Writing.{line_text}
-use Rattle.history.specs.Datagrams.{lines_from, part_of}
+use Rattle.datagram450.specs.Datagram.{line_text}
+use Rattle.history.specs.Emits.{lines_from, part_of}
 use Rattle.row_traffic.specs.Saying.{texts}
 use Rattle.row_traffic.proofs.Saying.{line_here, lines_after, next_line, goes_on, has_room}
 use Rattle.row_traffic.proofs.said.writing.write_lines.Goals as goal

@@ -1,6 +1,6 @@
 -- What is written and what is still to be written make up the whole.
 use Rattle.std.proofs.Common.{◌≡◌, ◌+◌, ◌++◌, length, drop}
-use Rattle.history.specs.Datagrams.{lines_from}
+use Rattle.history.specs.Emits.{lines_from}
 use Rattle.row_traffic.specs.Saying.{texts}
 use Rattle.row_traffic.proofs.said.writing.write_lines.Given as goal
 
