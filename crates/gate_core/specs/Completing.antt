@@ -1,6 +1,7 @@
 -- What a message leaves that a frame completes, by who holds its source (ISO 11783-5): from an address that nobody holds there is none.
 use Rattle.std.specs.Prelude.{ℕ, Option, option_map}
 use Rattle.n2k_id.specs.Frame.{BusFrame}
+use Rattle.readings.specs.declared.reading.Reading.{Reading}
 use Rattle.history.specs.Emits.{reported, replied}
 use Rattle.history.specs.Messages.{Carried}
 use Rattle.history.specs.Settings.{Settings}
@@ -8,6 +9,7 @@ use Rattle.gate_model.specs.Machine.{Machine, Step}
 use Rattle.gate_model.specs.MachineSteps.{complete_here, own_here, parts_here, with_message}
 use Rattle.gate_model.specs.Said.{Complete, SaidKept, message_emits, ordered_by, short_reports}
 use Rattle.gate_model.specs.Sessions.{SessionStep}
+use Rattle.gate_outbox.specs.declared.done.Done.{Done}
 use Rattle.gate_outbox.specs.Output.{Output, and_posted, and_told, most_told}
 use Rattle.row_traffic.specs.declared.said.Sender.{Sender}
 use Rattle.gate_core.specs.Steps.{by_keys, command_of, done_of, first_there}
@@ -15,6 +17,10 @@ use Rattle.gate_core.specs.Steps.{by_keys, command_of, done_of, first_there}
 -- the message of a sender that carries this
 abbrev pub whole : Sender → Carried → Complete
 whole sender what = record { moment = sender.moment; source = sender.source; name = sender.name.0; pgn = what.pgn; payload = what.payload }
+
+-- what is told of it, with its reading
+abbrev pub done_with : Sender → ℕ → Option Reading → Done
+done_with sender pgn reading = record { source = sender.source; name = sender.name; pgn = pgn; reading = reading }
 
 module _ (c : Settings) (k : SaidKept) where
   -- an outbox with the datagram in which a message is said, the message, and the command that it gives

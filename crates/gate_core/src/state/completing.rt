@@ -1,6 +1,5 @@
 //! A message that a frame completes: it is said where it is selected, and told with the command that it gives.
-ghost use Rattle.std.specs.Prelude.{◌≡◌, ◌<◌, length, option_map, IfSome, Some};
-ghost use Rattle.readings.specs.Ranges.{IsValid};
+ghost use Rattle.std.specs.Prelude.{◌≡◌, ◌<◌, length, option_map, Some};
 ghost use Rattle.pgn_profile.specs.Profiled.{GivesValid, profiled};
 ghost use Rattle.claim_table.specs.Claims.{holder_at, places};
 ghost use Rattle.config_values.specs.Configs.{IsConfig};
@@ -8,7 +7,7 @@ ghost use Rattle.config_values.specs.Settings.{settings_of};
 ghost use Rattle.history.specs.Choice.{reading_in};
 ghost use Rattle.gate_model.specs.Said.{complete_by, message_after, ordered_by};
 ghost use Rattle.bus_messages.specs.Lent.{carried_in, lent_message};
-ghost use Rattle.gate_core.specs.Completing.{and_complete, and_message, whole};
+ghost use Rattle.gate_core.specs.Completing.{and_complete, and_message, done_with, whole};
 ghost use Rattle.gate_core.specs.Steps.{command_of, first_there};
 
 use bus_messages::messages::{Message, ordered, read_message};
@@ -93,12 +92,7 @@ fn say(
     ensures output { out.new ≡ and_complete (settings_of config.now) said.old out.old (Some (whole sender (carried_in message.entry))) }
 {
     said.take(config, sender, says, &mut out.emits);
-    out.complete(Done {
-        source: sender.source,
-        name: sender.name,
-        pgn: message.pgn,
-        reading: reading_in(says),
-    });
+    tell(sender, message.pgn, says, out);
     order(config, sender, message, out);
 }
 
@@ -117,14 +111,25 @@ fn order(config: &Config, sender: Sender, message: Message<'_>, out: &mut Outbox
     }
 }
 
-/// The reading of a message, where it has one.
-fn reading_in(profiled: &Profiled) -> Option<Reading>
-    requires { GivesValid profiled.now }
-    ensures reading { result ≡ reading_in profiled.now }
-    ensures valid { IfSome result IsValid }
+/// Tells of a message of the PGN.
+fn tell(sender: Sender, pgn: u32, says: &Profiled, out: &mut Outbox)
+    requires { GivesValid says.now }
+    ensures { out.new ≡ record out.old { done = Some (done_with sender pgn (reading_in says.now)) } }
 {
-    match profiled {
-        Profiled::Reading(reading) => Some(*reading),
-        Profiled::Outside | Profiled::Short => None,
+    match says {
+        Profiled::Reading(reading) => out.complete(done_with(sender, pgn, Some(*reading))),
+        Profiled::Outside | Profiled::Short => out.complete(done_with(sender, pgn, None)),
+    }
+}
+
+/// A message of the PGN with its reading.
+fn done_with(sender: Sender, pgn: u32, reading: Option<Reading>) -> Done
+    ensures { result ≡ done_with sender pgn reading }
+{
+    Done {
+        source: sender.source,
+        name: sender.name,
+        pgn,
+        reading,
     }
 }
