@@ -27,7 +27,8 @@ pub record Said : Type 0 where
 abbrev pub said_of : Reason → Said
 said_of reason = record { words = reason.words.now; kind = reason.kind }
 
-abbrev told : List ℕ → Said
+-- these words tell all
+abbrev pub told : List ℕ → Said
 told words = record { words = words; kind = None }
 
 -- of the output; a closed pipe is how its reader says that it has enough

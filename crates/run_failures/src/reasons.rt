@@ -1,6 +1,6 @@
 //! The words for why a run didn't do its work.
 ghost use Rattle.std.specs.Prelude.{◌≡◌, option_map};
-ghost use Rattle.run_failures.specs.Reasons.{file_reason, link_reason, reason_of, said_of, write_reason};
+ghost use Rattle.run_failures.specs.Reasons.{file_reason, link_reason, reason_of, said_of, told, write_reason};
 
 use statuses::Status;
 use std::fmt;
@@ -35,8 +35,7 @@ pub(crate) struct Reason {
 impl Reason {
     /// These words tell all.
     fn told(words: &'static str) -> Reason
-        ensures words { result.words ≡ words }
-        ensures kind { result.kind ≡ None }
+        ensures { said_of result ≡ told words.now }
     {
         Reason { words, kind: None }
     }
