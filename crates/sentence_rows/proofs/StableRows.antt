@@ -1,5 +1,5 @@
 -- Each sentence that is written is read as one reading, which is said in it again.
-use Rattle.std.proofs.Common.{◌≡◌, ℕ, ◌+◌, ◌≤◌, ℤ, pos, Bool, true, false, Option, Some, None, Result, Ok, List, [], ◌∷◌, ◌++◌, All, length, map, refl, sym, ap, ◌∙◌, arith}
+use Rattle.std.proofs.Common.{rules, ◌≡◌, ℕ, ◌+◌, ◌≤◌, ℤ, pos, Bool, true, false, Option, Some, None, Result, Ok, List, [], ◌∷◌, ◌++◌, All, length, map, refl, sym, ap, ◌∙◌, arith}
 use Rattle.std.specs.Prelude.{◌&&◌, ◌||◌, not, codes, is_none, is_some, Contains, if◌then◌else◌}
 use Rattle.std.specs.List.{AllByRecursion}
 use Rattle.std.proofs.lemmas.Int.{ints}
@@ -505,10 +505,8 @@ each_kept (reading.Gnss da t la lo al m n h s) w d v on = (
       v.1.1.1.1.0 (few_methods m v.1.1.1.1.1.0) v.1.1.1.1.1.1.0 v.1.1.1.1.1.1.1.0 v.1.1.1.1.1.1.1.1.0 (both_beside la lo),
   tt,
 )
-each_kept (reading.CourseSpeed m c s) w d v on = (vtg w m c s v.1.0, tt)
-each_kept (reading.WindNorth m s a) w d v on = (mwd w m s a v.0, tt)
 each_kept (reading.Time da t) w d v on = (zda w da t d v.0 v.1.0 on, tt)
-each_kept _ w d v on = grind (arith, hdg, rot, rsa_first, rsa_second, vhw, dpt, dbt, vlw, mwv_apparent, mwv_true, mtw, xte)
+each_kept _ w d v on = search (rules, hdg, rot, rsa_first, rsa_second, vhw, dpt, dbt, vlw, vtg, mwv_apparent, mwv_true, mwd, mtw, xte)
 
 all_stable : (talker : List ℕ) (w : Bool) (sentences : List (List ℕ × List Field)) → AllByRecursion (λ s. IsReadBack talker s.0 s.1) sentences → AllByRecursion (Kept w) sentences
     → All (IsStable talker w) (lines_by talker sentences)
