@@ -1,6 +1,6 @@
 -- The notes of a row, the least source first.
-use Rattle.std.proofs.Common.{◌≡◌, ◌≢◌, ℕ, zero, suc, ◌+◌, ◌*◌, ◌<◌, ◌≤◌, ◌==◌, not, ◌&&◌, ◌||◌, ◌↔◌, IsTrue, inl, inr, nat_lt, nat_le, Bool, true, false, cond, Option, None, Some, List, [], ◌∷◌, length, get_or, set, refl, sym, ◌∙◌, ap, arith, if◌then◌else◌}
-use Rattle.std.specs.List.{position, position_or_len, insert, list_any, find}
+use Rattle.std.proofs.Common.{◌≡◌, ◌≢◌, ℕ, suc, ◌+◌, ◌*◌, ◌<◌, ◌≤◌, ◌==◌, not, ◌&&◌, ◌||◌, ◌↔◌, IsTrue, inl, inr, nat_lt, nat_le, Bool, true, false, cond, None, Some, List, [], ◌∷◌, length, get_or, set, refl, sym, ◌∙◌, ap, arith, if◌then◌else◌}
+use Rattle.std.specs.List.{position, position_or_len, insert, list_any}
 use Rattle.std.proofs.lemmas.List.Edits.{length-insert}
 use Rattle.std.proofs.lemmas.List.Sums.{prefix_len-le-length}
 use Rattle.std.proofs.lemmas.Bool.Decides.{nat_tests}
