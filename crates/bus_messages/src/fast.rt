@@ -14,15 +14,15 @@ ghost use Rattle.gate_outbox.specs.Output.{and_told};
 ghost use Rattle.bus_messages.specs.Heard.{heard_reports, lent_payload};
 
 use fast_packet::{FastAssembler, FastFed, FastKey, FastOutcome, FastRefusal};
-use gate_outbox::reports::of_source;
 use gate_outbox::Emits;
+use gate_outbox::reports::of_source;
 use n2k_id::{Frame, Parts};
 use report_rules::{
     CLAIM_LOST, EXPIRED, FAST_LENGTH, FAST_ORDER, FAST_ORPHAN, RESTARTED, SLOTS_FULL,
 };
 
 /// Takes a frame of a fast packet, reports what it breaks, and lends the payload that it completes.
-#[tactic(auto, using(crate::proofs::FastTelling::answered))]
+#[tactic(auto, using(gate_model::proofs::FastAnswers::fast_answers_are_plain))]
 pub fn hear<'a, const ROOM: usize>(
     fast: &'a mut FastAssembler,
     parts: &Parts,

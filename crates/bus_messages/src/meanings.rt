@@ -113,13 +113,7 @@ fn by_kind(kind: Kind, held: bool) -> Meaning
 }
 
 /// Reports what a frame breaks that completes no message and is neither of a fast packet nor of the transport protocol.
-pub fn tell_plain(
-    name: Name,
-    meaning: Meaning,
-    parts: &Parts,
-    bytes: &[u8],
-    out: &mut StepEmits,
-)
+pub fn tell_plain(name: Name, meaning: Meaning, parts: &Parts, bytes: &[u8], out: &mut StepEmits)
     requires { plain_done (meant meaning) parts.now bytes.now ≡ None }
     ensures { out.new ≡ and_told most_told out.old (reported (plain_reports name.0 (meant meaning) parts.now bytes.now)) }
 {

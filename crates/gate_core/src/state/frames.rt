@@ -72,10 +72,7 @@ impl State {
             Meaning::Transport => self.session_frame(parts, frame, moment, out),
             Meaning::Single => self.single_frame(parts, frame, moment, out),
             Meaning::FastPacket => self.fast_frame(parts, frame, moment, out),
-            Meaning::AddressClaim
-            | Meaning::OwnSource
-            | Meaning::FromNobody
-            | Meaning::Passed => {
+            Meaning::AddressClaim | Meaning::OwnSource | Meaning::FromNobody | Meaning::Passed => {
                 tell_plain(self.name(), meaning, parts, frame.held(), &mut out.emits);
             }
         }

@@ -30,7 +30,7 @@ returns-clause-output c =
     let f = bus_frame c.args.frame.now in
     let what = lent_message c.message_of.result in
     let gives = c.complete.ensures.output ∙ ap (λ (claims : Claims). and_message g.settings g.said (record o { emits = c.hear-payload.new.out }) p.source what
-        (complete_by m p.source (holder_at claims.holders p.source) what)) c.claims.ensures in
+    (complete_by m p.source (holder_at claims.holders p.source) what)) c.claims.ensures in
     subst (λ (z : Machine). c.complete.new.out ≡ and_step z.settings.name c.args.out.now (fast_frame by_keys z m f)) c.self.view_is
     (subst (λ (z : Output). c.complete.new.out ≡ and_step g.settings.name z (fast_frame by_keys g m f)) c.out.view_is
     (fast_output g m f p o c.requires.parts _ what c.hear-payload.new.out c.complete.new.out refl c.hear-payload.ensures.emits

@@ -36,12 +36,12 @@ returns-clause-output c =
     let answer = c.hear-fed.ensures.answer in
     let a = answer_in c.hear-fed.result in
     let gives = c.out-2.view_is ∙ c.complete.ensures.output ∙ ap (λ (claims : Claims). and_message g.settings g.said (record o { emits = c.hear-fed.new.out }) p.source what
-        (complete_by m p.source (holder_at claims.holders p.source) what)) c.claims.ensures in
+    (complete_by m p.source (holder_at claims.holders p.source) what)) c.claims.ensures in
     let tells = c.hear-fed.ensures.emits ∙ ap (λ (x : SessionAnswer). and_told most_told o.emits (reported (heard_reports p x))) (sym answer) in
     let replies = ap (λ (x : Emitted). let all : Output = record next { emits = x } in all)
-        (c.reply.ensures.emits ∙ ap (λ x. and_told most_told next.emits (replied x p.source a.reply)) own) in
+    (c.reply.ensures.emits ∙ ap (λ x. and_told most_told next.emits (replied x p.source a.reply)) own) in
     let made = session_output g m f p o c.requires.parts a what c.hear-fed.new.out next left
-        (answer ∙ ap (λ x. answer_of by_keys.sessions g.sessions x p f.held m) own) tells c.message_in.ensures gives replies in
+    (answer ∙ ap (λ x. answer_of by_keys.sessions g.sessions x p f.held m) own) tells c.message_in.ensures gives replies in
     subst (λ (z : Machine). left ≡ and_step z.settings.name c.args.out.now (session_by z m f (fed_step by_keys.sessions z.sessions z.addresses.claims.own p f.held m)))
     c.self.view_is
     (subst (λ (z : Output). left ≡ and_step g.settings.name z (session_by g m f (fed_step by_keys.sessions g.sessions g.addresses.claims.own p f.held m)))
