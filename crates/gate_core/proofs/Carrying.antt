@@ -1,6 +1,5 @@
--- What a frame leaves in an outbox with the message that it completes: alone, of a fast packet (canboat), and of the transport protocol
--- (ISO 11783-3).
-use Rattle.std.proofs.Common.{◌≡◌, ℕ, List, ◌++◌, [], Option, Some, option_map, refl, sym, ap, ◌∙◌, append-nil, append_assoc}
+-- What a frame of a fast packet (canboat) and of the transport protocol (ISO 11783-3) leaves in an outbox, with the message that it completes.
+use Rattle.std.proofs.Common.{◌≡◌, ℕ, List, ◌++◌, Option, option_map, refl, ◌∙◌, append-nil, append_assoc}
 use Rattle.n2k_id.specs.Frame.{BusFrame}
 use Rattle.n2k_id.specs.Identifier.{parts_of}
 use Rattle.n2k_id.specs.declared.identifier_parts.Parts.{Parts}
@@ -8,11 +7,10 @@ use Rattle.claim_table.specs.Claims.{holder_at}
 use Rattle.gate_events.specs.Emit.{Emit}
 use Rattle.gate_events.specs.declared.emit.Report.{Report}
 use Rattle.history.specs.Emits.{reported, replied}
-use Rattle.history.specs.Messages.{Carried, carried}
-use Rattle.history.specs.Meanings.{single}
+use Rattle.history.specs.Messages.{Carried}
 use Rattle.history.specs.RuleLaws.{fast_refusal_breaks}
 use Rattle.gate_model.specs.Machine.{Machine}
-use Rattle.gate_model.specs.MachineSteps.{fast_frame, frame_step}
+use Rattle.gate_model.specs.MachineSteps.{fast_frame}
 use Rattle.gate_model.specs.FastPackets as fast
 use Rattle.gate_model.specs.FastPackets.{FastAnswer, fast_answer, key_of, sender_of}
 use Rattle.gate_model.specs.Sessions as sessions
@@ -54,15 +52,6 @@ module _ (g : Machine) (o : Output) (source : ℕ) (what : Option Carried) (d : 
 module _ (g : Machine) (m : ℕ) (f : BusFrame) (p : Parts) (o : Output) (is : p ≡ parts_of f.id) where
   abbrev from_holder : Option Carried → Option Complete
   from_holder what = complete_by m p.source (holder_at g.addresses.claims.holders p.source) what
-
-  pub single_output : (out : Output) → out ≡ and_message g.settings g.said o p.source (Some (carried p.pgn f.held)) (from_holder (Some (carried p.pgn f.held)))
-      → out ≡ and_step g.settings.name o (frame_step by_keys g m f single)
-  single_output out gives =
-      let what = Some (carried p.pgn f.held) in
-      let short = short_reports p.source what in
-      message_left g o p.source what (from_holder what) [] o.emits out refl gives
-      ∙ ap (left g o p.source what (from_holder what)) (sym (append-nil (reported short)))
-      ∙ rw is refl
 
   pub fast_output : (a : FastAnswer) (what : Option Carried) (told' : Emitted) (out : Output) → a ≡ fast_answer by_keys.fast g.fast (key_of p) f.held m
       → told' ≡ and_told most_told o.emits (reported (heard_reports p a)) → what ≡ fast.carried_by p.pgn a

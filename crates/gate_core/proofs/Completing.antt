@@ -1,7 +1,6 @@
 -- A message leaves what is left of it with its payload, whether that is read before or not.
 use Rattle.std.proofs.Common.{◌≡◌, ℕ, List, [], ◌∷◌, Option, Some, None, refl}
 use Rattle.std.specs.Prelude.{IfSome}
-use Rattle.claim_table.specs.declared.answer.Holder.{Holder}
 use Rattle.readings.specs.declared.reading.Reading.{Reading}
 use Rattle.readings.specs.Ranges.{IsValid}
 use Rattle.pgn_profile.specs.declared.profiled.Profiled.{Profiled}
@@ -12,7 +11,7 @@ use Rattle.history.specs.Choice.{reading_in}
 use Rattle.source_choice.specs.declared.rank.Rank.{Rank}
 use Rattle.history.specs.Messages.{Carried}
 use Rattle.history.specs.Settings.{Settings}
-use Rattle.gate_model.specs.Said.{SaidKept, complete_by, profiled_after, profiled_emits, ranked_after, ranked_emits, rank_by}
+use Rattle.gate_model.specs.Said.{SaidKept, profiled_after, profiled_emits, ranked_after, ranked_emits, rank_by}
 use Rattle.gate_outbox.specs.Output.{Emitted, and_posted, and_told}
 use Rattle.row_traffic.specs.declared.said.Sender.{Sender}
 use Rattle.row_traffic.specs.Saying.{message_from}
@@ -39,11 +38,6 @@ module _ (c : Settings) (k : SaidKept) (sender : Sender) (what : Carried) where
   pub same_emits : (r : Option Reading) → profiled_emits c k (message_from sender) r ≡ profiled_emits c k (whole sender what) r
   same_emits None = refl
   same_emits (Some r) = ranked_emits_same r (rank_by c (whole sender what) r)
-
--- a frame that completes no message
-pub none_complete : (m source : ℕ) (holder : Option Holder) → complete_by m source holder None ≡ None
-none_complete m source None = refl
-none_complete m source (Some holder) = refl
 
 -- a datagram stands behind all that is told
 pub posted_last : (room : ℕ) (x : Emitted) (told posted : List Emit) → and_told room (and_posted x posted) told ≡ and_posted (and_told room x told) posted

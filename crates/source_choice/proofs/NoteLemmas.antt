@@ -1,10 +1,10 @@
 -- The notes of a row, the least source first.
-use Rattle.std.proofs.Common.{◌≡◌, ◌≢◌, ℕ, zero, suc, ◌+◌, ◌*◌, ◌<◌, ◌≤◌, ◌==◌, not, ◌&&◌, ◌||◌, ◌↔◌, IsTrue, inl, inr, nat_lt, nat_le, Bool, true, false, cond, Option, None, Some, List, [], ◌∷◌, length, get_or, set, refl, sym, ◌∙◌, ap, arith, if◌then◌else◌}
-use Rattle.std.specs.List.{position, position_or_len, insert, list_any, find}
+use Rattle.std.proofs.Common.{◌≡◌, ◌≢◌, ℕ, suc, ◌+◌, ◌*◌, ◌<◌, ◌≤◌, ◌==◌, not, ◌&&◌, ◌||◌, ◌↔◌, IsTrue, inl, inr, nat_lt, nat_le, Bool, true, false, cond, None, Some, List, [], ◌∷◌, length, get_or, set, refl, sym, ◌∙◌, ap, arith, if◌then◌else◌}
+use Rattle.std.specs.List.{position, position_or_len, insert, list_any}
 use Rattle.std.proofs.lemmas.List.Edits.{length-insert}
 use Rattle.std.proofs.lemmas.List.Sums.{prefix_len-le-length}
 use Rattle.std.proofs.lemmas.Bool.Decides.{nat_tests}
-use Rattle.std.proofs.lemmas.Bool.{eqb-true, eq-eqb, and_parts, leb-true, le-leb}
+use Rattle.std.proofs.lemmas.Bool.{eqb-true, eq-eqb, and_parts, leb-true, le-leb, not-true, or_parts}
 use Rattle.source_choice.specs.declared.note.Note.{Note}
 use Rattle.source_choice.specs.Notes.{RowNotes, AreFrom, is_fresh, is_selected, note_of, outranks, with_note, without}
 use Rattle.source_choice.specs.Ranks.{is_before, IsBefore}
@@ -140,15 +140,11 @@ skips n ns source other = by (n.source == source) refl
 first : (n : Note) (ns : List Note) → note_of n.source (n ∷ ns) ≡ Some n
 first n ns = rw (eq-eqb n.source n.source refl) refl
 
-both_false : (a b : Bool) → (a || b) ≡ false → (a ≡ false) × (b ≡ false)
-both_false true b e = cc
-both_false false b e = (refl, e)
-
 -- a test that no note passes is one that none passes that is found of a source
 none_found : (p : Note → Bool) (ns : List Note) → list_any p ns ≡ false → (source : ℕ) (m : Note) → note_of source ns ≡ Some m → p m ≡ false
 none_found p [] none source m e = cc
 none_found p (n ∷ ns) none source m e =
-    let parts = both_false (p n) (list_any p ns) none in by (n.source == source) parts.0 e (none_found p ns parts.1 source m)
+    let parts = or_parts (p n) (list_any p ns) none in by (n.source == source) parts.0 e (none_found p ns parts.1 source m)
   where
     by : (t : Bool) → p n ≡ false → cond t (Some n) (note_of source ns) ≡ Some m → (note_of source ns ≡ Some m → p m ≡ false) → p m ≡ false
     by true is f rest = let it : n ≡ m = cc in ap p (sym it) ∙ is
@@ -198,16 +194,12 @@ outranks_not timeout source m rank n never = by (n.source == source) refl (is_be
     by false isnt true f false g = refl
     by false isnt true f true g = absurd (never (λ same. let t = eq-eqb n.source source same in cc) ((before_tells n.rank rank).0 f) ((fresh_tells timeout m n).0 g))
 
-not_true : (b : Bool) → not b ≡ true → b ≡ false
-not_true true e = cc
-not_true false e = refl
-
 -- no other noted source of a smaller rank is fresh
 pub selected_is : (r : RowNotes) (top source : ℕ) (rank : Rank) (m : ℕ) → AreFrom 0 top r.notes → IsTrue (is_selected r source rank m) ↔ IsFirst r source rank m
 selected_is r top source rank m from = (
   λ e other n f apart lt fresh.
       let found = found_from 0 top other r.notes n from f in
-      let silent = none_found (outranks r.timeout source rank m) r.notes (not_true (list_any (outranks r.timeout source rank m) r.notes) e) other n f in
+      let silent = none_found (outranks r.timeout source rank m) r.notes (not-true (list_any (outranks r.timeout source rank m) r.notes) e) other n f in
       no_outranking r.timeout source m rank n silent (λ same. apart (sym found.1 ∙ same)) lt fresh,
   λ first_of.
       let none = none_passes 0 top (outranks r.timeout source rank m) r.notes from (λ other n f.

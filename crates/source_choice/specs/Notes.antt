@@ -1,5 +1,5 @@
 -- What was noted of the sources of a row, and whose message is selected.
-use Rattle.std.specs.Prelude.{◌≡◌, ℕ, ◌+◌, ◌*◌, ◌<◌, ◌≤◌, Bool, ◌&&◌, not, ◌==◌, nat_lt, nat_le, List, [], ◌∷◌, filter, find, Option, if◌then◌else◌}
+use Rattle.std.specs.Prelude.{ℕ, ◌+◌, ◌*◌, ◌<◌, ◌≤◌, Bool, ◌&&◌, not, ◌==◌, nat_lt, nat_le, List, [], ◌∷◌, filter, find, Option, if◌then◌else◌}
 use Rattle.std.specs.List.{list_any}
 use Rattle.source_choice.specs.declared.rank.Rank.{Rank}
 use Rattle.source_choice.specs.declared.note.Note.{Note}

@@ -1,6 +1,5 @@
 ghost use Rattle.std.specs.Prelude.{◌≡◌};
 ghost use Rattle.source_choice.specs.Notes.{is_fresh, outranks};
-ghost use Rattle.source_choice.specs.Ranks.{is_before};
 
 use crate::rank::Rank;
 
@@ -20,7 +19,7 @@ impl Note {
     pub fn outranks(&self, timeout: u32, source: u8, rank: Rank, moment: u64) -> bool
         ensures { result ≡ outranks timeout source rank moment self.now }
     {
-        self.source != source && is_before(self.rank, rank) && self.is_fresh(timeout, moment)
+        self.source != source && self.rank < rank && self.is_fresh(timeout, moment)
     }
 
     /// Whether it is usable, and at most the timeout, in milliseconds, older than the moment.
@@ -29,11 +28,4 @@ impl Note {
     {
         self.usable && moment.saturating_sub(self.moment) <= 1000 * u64::from(timeout)
     }
-}
-
-/// Whether the first rank is the smaller one.
-fn is_before(first: Rank, second: Rank) -> bool
-    ensures { result ≡ is_before first second }
-{
-    first.place < second.place || (first.place == second.place && first.name < second.name)
 }

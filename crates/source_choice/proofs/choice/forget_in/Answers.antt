@@ -1,6 +1,5 @@
-use Rattle.std.proofs.Common.{◌≡◌, ◌∙◌, ap, arith, ◌<◌, set, length}
+use Rattle.std.proofs.Common.{◌∙◌, ap, arith, ◌<◌, set, length}
 use Rattle.std.proofs.lemmas.List.{length-set}
-use Rattle.source_choice.specs.Choices.{forgotten_in}
 use Rattle.source_choice.proofs.ChoiceLemmas.{forgotten_more}
 use Rattle.source_choice.proofs.choice.forget_in.Goals as goal
 

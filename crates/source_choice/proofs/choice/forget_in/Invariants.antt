@@ -1,4 +1,4 @@
-use Rattle.std.proofs.Common.{◌≡◌, ◌≤◌, map, take, drop, ◌++◌, length, vec_len}
+use Rattle.std.proofs.Common.{◌≡◌, map, take, drop, ◌++◌, length}
 use Rattle.source_choice.specs.Choices.{forgotten_in}
 use Rattle.source_choice.proofs.choice.forget_in.Given as goal
 

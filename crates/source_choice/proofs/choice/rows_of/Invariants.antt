@@ -1,4 +1,4 @@
-use Rattle.std.proofs.Common.{◌≡◌, ◌≤◌, map, take, length}
+use Rattle.std.proofs.Common.{◌≡◌, map, take}
 use Rattle.source_choice.specs.Choices.{nothing}
 use Rattle.source_choice.proofs.choice.rows_of.Given as goal
 

@@ -1,5 +1,4 @@
-use Rattle.std.proofs.Common.{◌≡◌, ◌<◌, ◌∙◌, sym, ap, arith, ◌≤◌, length, vec_len, vec_capacity, subst}
-use Rattle.source_choice.specs.Notes.{AreFrom, with_note}
+use Rattle.std.proofs.Common.{◌∙◌, arith}
 use Rattle.source_choice.proofs.NoteLemmas.{from_with, insert_at, room_at, set_at}
 use Rattle.source_choice.proofs.row_notes.renew.Goals as goal
 

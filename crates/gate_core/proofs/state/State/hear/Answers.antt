@@ -4,24 +4,16 @@ use Rattle.gate_model.specs.Machine.{Machine}
 use Rattle.gate_model.specs.NetLines.{NetKept, datagram_after, datagram_emits}
 use Rattle.config_values.specs.Settings.{settings_of}
 use Rattle.gate_outbox.specs.Output.{and_told, most_told}
+use Rattle.gate_core.specs.contracts.state.State.{the_view}
 use Rattle.gate_core.specs.Steps.{Stays, by_keys}
 use Rattle.gate_core.proofs.Hearing.{still_listed}
 use Rattle.gate_core.proofs.state.State.hear.Goals as goal
 
 pub datagram-requires : goal.datagram-requires
 datagram-requires c =
-    let g : Machine = record {
-      settings = settings_of c.self.inside.config;
-      addresses = c.self.inside.addresses;
-      moment = c.self.inside.moment;
-      fast = c.self.inside.fast;
-      sessions = c.self.inside.sessions;
-      said = c.self.inside.said;
-      network = c.self.inside.network;
-    } in
     record {
       hears =
-          still_listed g c.hearing_of-hearing.result (subst (λ z. Stays z) (sym c.self.view_is) c.requires.stays) c.hearing_of-hearing.ensures.heard
+          still_listed (the_view c.self.inside) c.hearing_of-hearing.result (subst (λ z. Stays z) (sym c.self.view_is) c.requires.stays) c.hearing_of-hearing.ensures.heard
           c.hearing_of-hearing.ensures.few;
     }
 
@@ -29,15 +21,7 @@ pub returns-clause-after : goal.returns-clause-after
 returns-clause-after c =
     let settings = settings_of c.self.inside.config in
     let net : NetKept = c.self.inside.network in
-    ap (λ k. let g : Machine = record {
-      settings = settings;
-      addresses = c.self.inside.addresses;
-      moment = c.self.inside.moment;
-      fast = c.self.inside.fast;
-      sessions = c.self.inside.sessions;
-      said = c.self.inside.said;
-      network = k;
-    } in g)
+    ap (λ k. let g : Machine = record (the_view c.self.inside) { network = k } in g)
     (c.datagram.ensures.after settings c.hearing_of-hearing.ensures.heard
     ∙ ap (λ came. datagram_after by_keys.groups settings came.moment came.ready net (read c.args.bytes.now)) c.hearing_of-hearing.ensures.came)
     ∙ ap (λ z. let g : Machine = record z { network = datagram_after by_keys.groups z.settings c.args.came.moment c.args.came.ready z.network (read c.args.bytes.now) } in g)

@@ -1,6 +1,5 @@
-use Rattle.std.proofs.Common.{◌≡◌, ◌∙◌, ap, map, length}
+use Rattle.std.proofs.Common.{◌∙◌}
 use Rattle.std.proofs.lemmas.List.{length-map}
-use Rattle.source_choice.specs.Notes.{RowNotes}
 use Rattle.source_choice.specs.Choices.{forgotten_in}
 use Rattle.source_choice.proofs.ChoiceLemmas.{all_forgotten}
 use Rattle.source_choice.proofs.choice.Choice.forget.Goals as goal

@@ -1,4 +1,4 @@
-use Rattle.std.proofs.Common.{◌≡◌, ◌∙◌, ap, map, length}
+use Rattle.std.proofs.Common.{◌∙◌}
 use Rattle.std.proofs.lemmas.List.{length-map}
 use Rattle.source_choice.specs.Choices.{nothing}
 use Rattle.source_choice.proofs.ChoiceLemmas.{all_opened}
