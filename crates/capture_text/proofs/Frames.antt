@@ -1,10 +1,10 @@
 -- What follows the interface of a bus: what is read is spelled so, and what is spelled so is read.
-use Rattle.std.proofs.Common.{◌≡◌, ℕ, suc, ◌%◌, ◌<◌, ◌^◌, Bool, true, false, cond, ltb, List, [], ◌∷◌, ◌++◌, length, get_or, take, drop, Option, Some, None, Result, Ok, Err, refl, sym, ap, subst, ◌∙◌, arith, inl, inr}
+use Rattle.std.proofs.Common.{◌≡◌, ℕ, suc, ◌%◌, ◌<◌, ◌≤◌, ◌^◌, Bool, true, false, cond, ltb, List, [], ◌∷◌, ◌++◌, length, get_or, take, drop, Option, Some, None, Result, Ok, Err, refl, sym, ap, subst, ◌∙◌, arith, inl, inr}
 use Rattle.std.specs.Prelude.{◌==◌, ◌||◌, ◌⊎◌, is_some}
 use Rattle.std.specs.Char.{is_ascii_hexdigit}
 use Rattle.std.specs.Int.{w32, from_be_bytes}
 use Rattle.std.specs.List.{list_all}
-use Rattle.std.proofs.lemmas.Bool.{cases_Bool, or_left, or_right, eqb-true, eq-eqb, ltb-true, ltb-false, lt-ltb, le-ltb}
+use Rattle.std.proofs.lemmas.Bool.{cases_Bool, eqb-true, lt-ltb, le-ltb}
 use Rattle.std.proofs.lemmas.List.{length-take, get_or_append_left}
 use Rattle.std.proofs.lemmas.List.Elements.{All-get_or}
 use Rattle.std.proofs.lemmas.List.Sums.{AllPass-from_list_all}
@@ -140,25 +140,18 @@ record FrameMade (id : ℕ) (behind : List ℕ) (seen : BusFrame) : Type 0 where
 
 with_data : (id : ℕ) (behind : List ℕ) (held : Option (List ℕ)) (seen : BusFrame) → data_at behind ≡ held → frame_with id held ≡ Ok seen → FrameMade id behind seen
 with_data id behind None seen d e = absurd (let f : refused Form ≡ Ok seen = e in cc)
-with_data id behind (Some held) seen d e = elim (cases_Bool (ltb id (2 ^ 29))) [
-  | inl fits ↦
-      let one : FrameMade id behind (record { id = id; held = held }) = record { id_is = refl; fits = ltb-true id (2 ^ 29) fits; is_data = data_found behind held d } in
-      subst (FrameMade id behind) (given_is (record { id = id; held = held }) seen (rw fits at e)) one
-  | inr large ↦ absurd (let f : refused NotExtended ≡ Ok seen = rw large at e in cc)
-]
+with_data id behind (Some held) seen d e =
+    let is : (id < 2 ^ 29) × (seen ≡ record { id = id; held = held }) = grind arith in
+    rw is.1 (record { id_is = refl; fits = is.0; is_data = data_found behind held d })
 
 by_kind : (id : ℕ) (behind : List ℕ) (seen : BusFrame) → wide_frame (Some id) behind ≡ Ok seen → FrameMade id behind seen
-by_kind id behind seen e = elim (cases_Bool (is_other_kind behind)) [
-  | inl other ↦ absurd (let f : refused NotExtended ≡ Ok seen = rw other at e in cc)
-  | inr plain ↦ with_data id behind (data_at behind) seen refl (rw plain at e)
-]
+by_kind id behind seen e = with_data id behind (data_at behind) seen refl (grind arith)
 
 abbrev short_by : Bool → Answer
 short_by other = cond other (refused NotExtended) (refused Form)
 
 no_short_frame : (other : Bool) (seen : BusFrame) → short_by other ≡ Ok seen → ⊥
-no_short_frame true seen e = cc
-no_short_frame false seen e = cc
+no_short_frame other seen e = grind arith
 
 pub frame_found : (tail : List ℕ) (seen : BusFrame) → frame_at tail ≡ Ok seen → FrameRead tail seen
 frame_found tail seen e = elim (frame_kind tail) [
@@ -186,16 +179,7 @@ pub record OtherRead (tail : List ℕ) : Type 0 where
 
 other_kind : (identifier behind : List ℕ) → (length identifier ≡ 3) ⊎ (length identifier ≡ 8) → is_other_kind behind ≡ true → IsOtherKind identifier behind
 other_kind identifier [] len e = absurd cc
-other_kind identifier (c ∷ cs) len e = (
-  len,
-  c,
-  cs,
-  refl,
-  elim (cases_Bool (c == 82)) [
-    | inl remote ↦ inl (eqb-true c 82 remote)
-    | inr more ↦ inr (eqb-true c 35 (rw more at e))
-  ],
-)
+other_kind identifier (c ∷ cs) len e = (len, c, cs, refl, grind arith)
 
 short_data : (identifier behind : List ℕ) (held : Option (List ℕ)) → length identifier ≡ 3 → data_at behind ≡ held → short_by (is_some held) ≡ Err NotExtended → IsOtherFrame identifier behind
 short_data identifier behind None three d e = absurd (let f : refused Form ≡ Err NotExtended = e in cc)
@@ -209,10 +193,9 @@ other_short identifier behind three e = elim (cases_Bool (is_other_kind behind))
 
 wide_data : (identifier behind : List ℕ) (id : ℕ) (held : Option (List ℕ)) → IsNumber id identifier → data_at behind ≡ held → frame_with id held ≡ Err NotExtended → IsOtherFrame identifier behind
 wide_data identifier behind id None n d e = absurd (let f : refused Form ≡ Err NotExtended = e in cc)
-wide_data identifier behind id (Some held) n d e = elim (cases_Bool (ltb id (2 ^ 29))) [
-  | inl fits ↦ absurd (let f : given (record { id = id; held = held }) ≡ Err NotExtended = rw fits at e in cc)
-  | inr large ↦ inl (held, data_found behind held d, inr (id, n, ltb-false id (2 ^ 29) large))
-]
+wide_data identifier behind id (Some held) n d e =
+    let large : 2 ^ 29 ≤ id = grind arith in
+    inl (held, data_found behind held d, inr (id, n, large))
 
 other_wide : (identifier behind : List ℕ) (id : ℕ) → IsNumber id identifier → wide_frame (Some id) behind ≡ Err NotExtended → IsOtherFrame identifier behind
 other_wide identifier behind id n e = elim (cases_Bool (is_other_kind behind)) [
@@ -228,10 +211,7 @@ other_found tail e = elim (frame_kind tail) [
 ]
 
 kind_again : (behind : List ℕ) (kind : ℕ) (rest : List ℕ) → behind ≡ kind ∷ rest → (kind ≡ 82) ⊎ (kind ≡ 35) → is_other_kind behind ≡ true
-kind_again behind kind rest is h = ap is_other_kind is ∙ elim h [
-  | inl e ↦ or_left (kind == 82) (kind == 35) (eq-eqb kind 82 e)
-  | inr e ↦ or_right (kind == 82) (kind == 35) (eq-eqb kind 35 e)
-]
+kind_again behind kind rest is h = grind arith
 
 -- of either width
 kind_gives : (tail identifier behind : List ℕ) → Layout tail identifier behind → (length identifier ≡ 3) ⊎ (length identifier ≡ 8) → is_other_kind behind ≡ true → frame_at tail ≡ Err NotExtended
@@ -259,26 +239,15 @@ other_again tail identifier behind l h = elim h [
   | inr k ↦ kind_gives tail identifier behind l k.0 (kind_again behind k.1 k.2 k.3 k.4)
 ]
 
+never_long_short : (behind : List ℕ) → short_frame true behind ≡ Err Long → ⊥
+never_long_short behind e = grind arith
+
+never_long_wide : (id : ℕ) (behind : List ℕ) → wide_frame (Some id) behind ≡ Err Long → ⊥
+never_long_wide id behind e = grind arith
+
 pub frame_never_long : (tail : List ℕ) → frame_at tail ≡ Err Long → ⊥
 frame_never_long tail e = elim (frame_kind tail) [
-  | short identifier behind l three g ↦ by_short (is_other_kind behind || is_some (data_at behind)) (sym g ∙ e)
-  | wide identifier behind id l n g ↦ by_wide id behind (sym g ∙ e)
+  | short identifier behind l three g ↦ never_long_short behind (sym g ∙ e)
+  | wide identifier behind id l n g ↦ never_long_wide id behind (sym g ∙ e)
   | formless g ↦ (let f : refused Form ≡ Err Long = sym g ∙ e in cc)
 ]
-  where
-    by_short : (other : Bool) → short_by other ≡ Err Long → ⊥
-    by_short true e = cc
-    by_short false e = cc
-
-    by_data : (id : ℕ) (held : Option (List ℕ)) → frame_with id held ≡ Err Long → ⊥
-    by_data id None e = cc
-    by_data id (Some held) e = elim (cases_Bool (ltb id (2 ^ 29))) [
-      | inl fits ↦ (let f : given (record { id = id; held = held }) ≡ Err Long = rw fits at e in cc)
-      | inr large ↦ (let f : refused NotExtended ≡ Err Long = rw large at e in cc)
-    ]
-
-    by_wide : (id : ℕ) (behind : List ℕ) → wide_frame (Some id) behind ≡ Err Long → ⊥
-    by_wide id behind e = elim (cases_Bool (is_other_kind behind)) [
-      | inl other ↦ (let f : refused NotExtended ≡ Err Long = rw other at e in cc)
-      | inr plain ↦ by_data id (data_at behind) (rw plain at e)
-    ]

@@ -1,5 +1,5 @@
 -- The laws of a line: what is read is spelled so, what is spelled so is read, and which rule is broken.
-use Rattle.std.proofs.Common.{◌≡◌, ◌*◌, ◌≢◌, ℕ, ◌<◌, ◌≤◌, Bool, true, false, cond, ltb, leb, ◌&&◌, List, [], ◌∷◌, ◌++◌, length, get_or, take, drop, Option, Some, None, Result, Ok, Err, refl, sym, ap, subst, ◌∙◌, arith, inl, inr}
+use Rattle.std.proofs.Common.{◌≡◌, ◌*◌, ◌≢◌, ℕ, ◌<◌, ◌≤◌, true, false, cond, ltb, leb, ◌&&◌, List, [], ◌∷◌, ◌++◌, length, get_or, take, drop, Option, Some, None, Result, Ok, Err, refl, sym, ap, subst, ◌∙◌, arith, inl, inr}
 use Rattle.std.specs.Prelude.{◌==◌, codes}
 use Rattle.std.specs.Char.{is_ascii_graphic}
 use Rattle.std.specs.List.{prefix_len, list_all}
@@ -111,11 +111,7 @@ datagram_found tail bytes e =
 
 datagram_laid_out : (a b c d : ℕ) (behind : List ℕ) → bytes_at (32 ∷ a ∷ b ∷ c ∷ d ∷ 35 ∷ behind) ≡ cond (is_group (a ∷ b ∷ c ∷ d ∷ [])) (bytes_before_end most_bytes behind) None
 unfolding bytes_at
-datagram_laid_out a b c d behind = by_test (is_group (a ∷ b ∷ c ∷ d ∷ [])) (bytes_before_end most_bytes behind)
-  where
-    by_test : (p : Bool) (x : Option (List ℕ)) → cond (true && p && true) x None ≡ cond p x None
-    by_test true x = refl
-    by_test false x = refl
+datagram_laid_out a b c d behind = grind arith
 
 pub datagram_again : (group digits rest bytes : List ℕ) → IsGroup group → length digits ≤ 2 * most_bytes → decode_of digits ≡ Ok bytes → is_end rest ≡ true
     → bytes_at (32 ∷ (group ++ 35 ∷ (digits ++ rest))) ≡ Some bytes

@@ -1,5 +1,6 @@
 -- What the calls take of what is heard from the network (IEC 61162-450), as the plain values of the gateway's model.
-use Rattle.std.specs.Prelude.{◌≡◌, ◌<◌, ◌≤◌, ℕ, false, List, [], ◌∷◌, length, Result}
+use Rattle.std.specs.Prelude.{◌≡◌, ◌<◌, ◌≤◌, ℕ, false, List, [], ◌∷◌, length, Result, replicate}
+use Rattle.readings.specs.About.{rows_count}
 use Rattle.std.specs.declared.cmp.Ordering.{Ordering}
 use Rattle.source_choice.specs.Choices.{opened}
 use Rattle.tag_block.specs.declared.group_key.GroupKey.{GroupKey}
@@ -37,9 +38,9 @@ pub record IsHeardBy (c : Settings) (h : Hearing) : Type 0 where
   pub sfi : c.sfi ≡ h.sfi
   pub sources : c.net_sources ≡ h.sources.now
 
--- none of the fast packets of the seventeen rows was sent
+-- none of the fast packets of any row was sent
 abbrev pub none_sent : List ℕ
-none_sent = 0 ∷ 0 ∷ 0 ∷ 0 ∷ 0 ∷ 0 ∷ 0 ∷ 0 ∷ 0 ∷ 0 ∷ 0 ∷ 0 ∷ 0 ∷ 0 ∷ 0 ∷ 0 ∷ 0 ∷ []
+none_sent = replicate rows_count 0
 
 -- with nothing kept, where so many groups may be open, so many sources are listed, and a source counts so long in each row
 abbrev pub opened_net : ℕ → ℕ → List ℕ → NetKept
