@@ -1,2 +1,1 @@
-pub mod FastTelling
 pub mod SessionTelling

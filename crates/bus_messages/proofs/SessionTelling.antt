@@ -1,5 +1,5 @@
--- What is told of a frame of the transport protocol (ISO 11783-3) is what the frame makes.
-use Rattle.std.proofs.Common.{◌≡◌, ℕ, List, ◌++◌, Option, Some, None, option_map, refl, ap, sym, ◌∙◌}
+-- What the assembler of sessions (ISO 11783-3) answers, as plain values.
+use Rattle.std.proofs.Common.{◌≡◌, ℕ, List, Option, ap, sym, ◌∙◌}
 use Rattle.n2k_id.specs.declared.identifier_parts.Parts.{Parts}
 use Rattle.slot_views.specs.Slots.{SlotMap}
 use Rattle.iso_transport.specs.declared.key.IsoKey.{IsoKey}
@@ -11,11 +11,9 @@ use Rattle.iso_transport.specs.declared.answers.IsoRefusal.{IsoRefusal}
 use Rattle.iso_transport.specs.declared.reply.Reply.{Reply}
 use Rattle.iso_transport.specs.Answers.{FeedGives}
 use Rattle.iso_transport.specs.RunVerdicts.{Message}
-use Rattle.gate_model.specs.Sessions.{SessionAnswer, IsAnswer, IsOutcome, answer_of, restarted_reports, refused_reports, answer_reports, carried_by}
-use Rattle.gate_model.specs.Said as said
+use Rattle.gate_model.specs.Sessions.{SessionAnswer, IsAnswer, IsOutcome, answer_of}
 use Rattle.gate_model.proofs.SessionAnswers.{answers_are_told}
-use Rattle.bus_messages.specs.Contents.{content_in, short_reports}
-use Rattle.bus_messages.specs.SessionTold.{answer_in, content_by, message_in, refusal_in, told_reports}
+use Rattle.bus_messages.specs.SessionTold.{answer_in, message_in, refusal_in}
 
 outcome_is : (a : SessionAnswer) (outcome : IsoOutcome) → IsOutcome a outcome → (refusal_in outcome ≡ a.refusal) × (message_in outcome ≡ a.message)
 outcome_is a Ignored is = (sym is.0, sym is.1)
@@ -38,19 +36,3 @@ answer_is a fed is = let by = outcome_is a fed.outcome is.outcome in
 pub answered : (slots : SlotMap IsoKey) (own : Option ℕ) (parts : Parts) (bytes : List ℕ) (moment : ℕ) (fed : IsoFed)
     → FeedGives key.TheImpl.ghosts.cmp slots own parts bytes moment fed → answer_in fed ≡ answer_of key.TheImpl.ghosts.cmp slots own parts bytes moment
 answered slots own parts bytes moment fed gives = answer_is _ fed (answers_are_told key.TheImpl.ghosts.cmp slots own parts bytes moment fed gives)
-
--- ---- with what the message says
-
-same_short : (source name : ℕ) (message : Option Message)
-    → short_reports source (content_by name message) ≡ said.short_reports source (carried_by message)
-same_short source name None = refl
-same_short source name (Some x) = refl
-
-pub same_message : (name : ℕ) (message : Option Message) → content_by name message ≡ option_map (content_in name) (carried_by message)
-same_message name None = refl
-same_message name (Some x) = refl
-
-pub same_reports : (name : ℕ) (parts : Parts) (a : SessionAnswer)
-    → told_reports parts a (content_by name a.message) ≡ answer_reports parts a (carried_by a.message)
-same_reports name parts a =
-    ap (λ more. restarted_reports parts.source a.restarted ++ (refused_reports parts a.refusal ++ more)) (same_short parts.source name a.message)

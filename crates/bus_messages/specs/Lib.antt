@@ -1,5 +1,5 @@
 pub mod Overdue
-pub mod Contents
+pub mod Lent
 pub mod Heard
 pub mod SessionTold
 pub mod MeaningOf

@@ -1,8 +1,7 @@
 //! The receiver of fast packets: what the gateway hears by it, and whoever else reads messages of the bus.
-ghost use Rattle.std.specs.Prelude.{◌≡◌, option_map, IfSome};
+ghost use Rattle.std.specs.Prelude.{◌≡◌};
 ghost use Rattle.std.specs.Borrow.{sem};
 ghost use Rattle.n2k_id.specs.Frame.{IsFrame, held_bytes};
-ghost use Rattle.pgn_profile.specs.Profiled.{GivesValid};
 ghost use Rattle.slot_views.specs.Slots.{remaining};
 ghost use Rattle.slot_views.specs.Traces.{unexpired};
 ghost use Rattle.fast_packet.specs.Assembly.{fed_after, is_from};
@@ -10,22 +9,20 @@ ghost use Rattle.fast_packet.specs.Rows.{ends_as};
 ghost use Rattle.history.specs.Emits.{reported};
 ghost use Rattle.history.specs.RuleLaws.{fast_rule, fast_refusal_breaks};
 ghost use Rattle.gate_model.specs.Endings.{fast_lost, fast_overdue};
-ghost use Rattle.gate_model.specs.FastPackets.{answer_of, fast_answer, fast_step, key_of, payload_in, refusal_in, restarted_reports, sender_of};
-ghost use Rattle.gate_outbox.specs.Output.{and_told, most_told};
-ghost use Rattle.bus_messages.specs.Contents.{content_in, content_of, short_reports};
+ghost use Rattle.gate_model.specs.FastPackets.{answer_of, fast_answer, key_of, payload_in, refusal_in, restarted_reports, sender_of};
+ghost use Rattle.gate_outbox.specs.Output.{and_told};
 ghost use Rattle.bus_messages.specs.Heard.{heard_reports, lent_payload};
 
-use crate::messages::{Content, take_message};
 use fast_packet::{FastAssembler, FastFed, FastKey, FastOutcome, FastRefusal};
+use gate_outbox::Emits;
 use gate_outbox::reports::of_source;
-use gate_outbox::{Emits, StepEmits};
-use n2k_id::{Frame, Name, Parts};
+use n2k_id::{Frame, Parts};
 use report_rules::{
     CLAIM_LOST, EXPIRED, FAST_LENGTH, FAST_ORDER, FAST_ORPHAN, RESTARTED, SLOTS_FULL,
 };
 
 /// Takes a frame of a fast packet, reports what it breaks, and lends the payload that it completes.
-#[tactic(auto, using(crate::proofs::FastTelling::answered))]
+#[tactic(auto, using(gate_model::proofs::FastAnswers::fast_answers_are_plain))]
 pub fn hear<'a, const ROOM: usize>(
     fast: &'a mut FastAssembler,
     parts: &Parts,
@@ -93,46 +90,6 @@ fn rule_of(refusal: FastRefusal) -> u8
         FastRefusal::Orphan => FAST_ORPHAN,
         FastRefusal::Length => FAST_LENGTH,
         FastRefusal::Full => SLOTS_FULL,
-    }
-}
-
-/// Takes a frame of a fast packet, and reports what it breaks. The message that it completes may be a command to the gateway of this
-/// NAME.
-#[tactic(auto, using(crate::proofs::FastTelling::same_message))]
-pub fn feed(
-    fast: &mut FastAssembler,
-    name: Name,
-    parts: &Parts,
-    frame: &Frame,
-    moment: u64,
-    out: &mut StepEmits,
-) -> Option<Content>
-    requires valid { IsFrame frame.now }
-    ensures fast { fast.new ≡ (fast_step ⟦<FastKey as Ord>⟧.cmp fast.old parts.now (held_bytes frame.now) moment).slots }
-    ensures emits { out.new ≡ and_told most_told out.old
-        (reported (fast_step ⟦<FastKey as Ord>⟧.cmp fast.old parts.now (held_bytes frame.now) moment).reports) }
-    ensures message { result
-        ≡ option_map (content_in name.0) (fast_step ⟦<FastKey as Ord>⟧.cmp fast.old parts.now (held_bytes frame.now) moment).done }
-    ensures says { IfSome result (λ message. GivesValid message.profiled) }
-{
-    let payload = hear(fast, parts, frame, moment, out);
-    take_lent(name, parts, payload, out)
-}
-
-/// Takes the message whose payload is lent, where one is.
-fn take_lent(
-    name: Name,
-    parts: &Parts,
-    payload: Option<&[u8]>,
-    out: &mut StepEmits,
-) -> Option<Content>
-    ensures content { result ≡ option_map (λ p. content_of name.0 parts.now.pgn p) (lent_payload payload.entry) }
-    ensures emits { out.new ≡ and_told most_told out.old (reported (short_reports parts.now.source result)) }
-    ensures says { IfSome result (λ message. GivesValid message.profiled) }
-{
-    match payload {
-        Some(payload) => Some(take_message(name, parts.source, parts.pgn, payload, out)),
-        None => None,
     }
 }
 

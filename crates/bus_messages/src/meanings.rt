@@ -1,16 +1,14 @@
 //! What a frame is to the gateway, and what a frame breaks that is neither of a fast packet nor of the transport protocol.
-ghost use Rattle.std.specs.Prelude.{◌≡◌, option_map, if◌then◌else◌, IfSome};
-ghost use Rattle.pgn_profile.specs.Profiled.{GivesValid, kind_of};
+ghost use Rattle.std.specs.Prelude.{◌≡◌, if◌then◌else◌, None};
+ghost use Rattle.pgn_profile.specs.Profiled.{kind_of};
 ghost use Rattle.iso_transport.specs.Audience.{is_own, is_to};
 ghost use Rattle.history.specs.Emits.{reported};
 ghost use Rattle.history.specs.Meanings.{address_claim, request, if_held, by_kind, meaning_of};
 ghost use Rattle.history.specs.Traces.{is_transport};
 ghost use Rattle.gate_model.specs.Addresses.{is_malformed, plain_reports, plain_done};
-ghost use Rattle.bus_messages.specs.Contents.{content_in};
 ghost use Rattle.bus_messages.specs.MeaningOf.{meant};
 ghost use Rattle.gate_outbox.specs.Output.{and_told, most_told};
 
-use crate::messages::{Content, take_message};
 use claim_table::ClaimTable;
 use gate_events::{Detail, Report};
 use gate_outbox::StepEmits;
@@ -114,41 +112,17 @@ fn by_kind(kind: Kind, held: bool) -> Meaning
     }
 }
 
-/// Reports what a frame breaks that is neither of a fast packet nor of the transport protocol, and reads the message that it
-/// completes, which may be a command to the gateway of this NAME.
-pub fn tell_plain(
-    name: Name,
-    meaning: Meaning,
-    parts: &Parts,
-    bytes: &[u8],
-    out: &mut StepEmits,
-) -> Option<Content>
-    ensures emits { out.new ≡ and_told most_told out.old (reported (plain_reports name.0 (meant meaning) parts.now bytes.now)) }
-    ensures message { result ≡ option_map (content_in name.0) (plain_done (meant meaning) parts.now bytes.now) }
-    ensures says { IfSome result (λ message. GivesValid message.profiled) }
+/// Reports what a frame breaks that completes no message and is neither of a fast packet nor of the transport protocol.
+pub fn tell_plain(name: Name, meaning: Meaning, parts: &Parts, bytes: &[u8], out: &mut StepEmits)
+    requires { plain_done (meant meaning) parts.now bytes.now ≡ None }
+    ensures { out.new ≡ and_told most_told out.old (reported (plain_reports name.0 (meant meaning) parts.now bytes.now)) }
 {
     match meaning {
-        Meaning::AddressClaim => {
-            tell_claim(name, parts, bytes, out);
-            None
-        }
-        Meaning::OwnSource => {
-            out.tell(of_source(OWN_ADDRESS_USED, parts.source, parts.pgn));
-            None
-        }
-        Meaning::Request => {
-            tell_request(parts, bytes, out);
-            None
-        }
-        Meaning::FromNobody => {
-            out.tell(of_source(UNCLAIMED, parts.source, parts.pgn));
-            None
-        }
-        Meaning::Single => {
-            let message = take_message(name, parts.source, parts.pgn, bytes, out);
-            Some(message)
-        }
-        Meaning::Transport | Meaning::FastPacket | Meaning::Passed => None,
+        Meaning::AddressClaim => tell_claim(name, parts, bytes, out),
+        Meaning::OwnSource => out.tell(of_source(OWN_ADDRESS_USED, parts.source, parts.pgn)),
+        Meaning::Request => tell_request(parts, bytes, out),
+        Meaning::FromNobody => out.tell(of_source(UNCLAIMED, parts.source, parts.pgn)),
+        Meaning::Single | Meaning::Transport | Meaning::FastPacket | Meaning::Passed => {}
     }
 }
 

@@ -1,11 +1,13 @@
-//! What a complete message says, read while its payload is lent.
-ghost use Rattle.std.specs.Prelude.{◌≡◌, Some};
-ghost use Rattle.pgn_profile.specs.Profiled.{GivesValid};
+//! A message that is complete, read while its payload is lent.
+ghost use Rattle.std.specs.Prelude.{◌≡◌, option_map, Some};
+ghost use Rattle.pgn_profile.specs.Profiled.{GivesValid, profiled};
 ghost use Rattle.history.specs.BusRules.{is_short};
 ghost use Rattle.history.specs.Emits.{reported};
-ghost use Rattle.bus_messages.specs.Contents.{content_of, short_reports};
-ghost use Rattle.history.specs.Messages.{is_for, ordered_in};
+ghost use Rattle.history.specs.Messages.{carried, is_for, ordered_in};
+ghost use Rattle.gate_model.specs.Said.{short_reports};
 ghost use Rattle.gate_outbox.specs.Output.{and_told, most_told};
+ghost use Rattle.bus_messages.specs.Heard.{lent_payload};
+ghost use Rattle.bus_messages.specs.Lent.{carried_in, lent_message};
 
 use gate_outbox::StepEmits;
 use gate_outbox::reports::of_source;
@@ -14,46 +16,37 @@ use n2k_id::{Name, read_name};
 use pgn_profile::{Profiled, read};
 use report_rules::SHORT_MESSAGE;
 
-/// What the payload of a message says.
+/// A message that is complete, while its payload is lent.
 #[derive(Clone, Copy)]
-pub struct Content {
+pub struct Message<'a> {
     pub pgn: u32,
-    pub profiled: Profiled,
-    /// The address to which the gateway is told to go (ISO 11783-5, commanded address).
-    pub ordered: Option<u8>,
+    pub payload: &'a [u8],
 }
 
 /// Where the address stands in a command: behind the NAME that it is for.
 const ORDERED_AT: usize = 8;
 
-/// Reads the payload of a message of the PGN, which may be a command to the gateway of this NAME.
-fn read_content(name: Name, pgn: u32, payload: &[u8]) -> Content
-    ensures content { result ≡ content_of name.0 pgn payload.now }
-    ensures valid { GivesValid result.profiled }
+/// The message of the PGN whose payload is lent, where one is.
+pub fn message_of<'a>(pgn: u32, payload: Option<&'a [u8]>) -> Option<Message<'a>>
+    ensures { lent_message result ≡ option_map (carried pgn) (lent_payload payload.entry) }
 {
-    Content {
-        pgn,
-        profiled: read(pgn, payload),
-        ordered: ordered(name, pgn, payload),
+    match payload {
+        Some(payload) => Some(Message { pgn, payload }),
+        None => None,
     }
 }
 
-/// The address to which a message of the PGN tells the gateway of this NAME to go.
-fn ordered(name: Name, pgn: u32, payload: &[u8]) -> Option<u8>
-    ensures { result ≡ ordered_in name.0 pgn payload.now }
+/// Reads a message from the source, and reports it where it has too few bytes for what its PGN says.
+pub fn read_message(source: u8, message: Message<'_>, out: &mut StepEmits) -> Profiled
+    ensures profiled { result ≡ profiled message.entry.pgn message.entry.payload.now }
+    ensures emits { out.new ≡ and_told most_told out.old (reported (short_reports source (Some (carried_in message.entry)))) }
+    ensures valid { GivesValid result }
 {
-    if pgn == COMMANDED_ADDRESS && is_for(name, payload) {
-        Some(payload[ORDERED_AT])
-    } else {
-        None
+    let profiled = read(message.pgn, message.payload);
+    if is_short(&profiled) {
+        out.tell(of_source(SHORT_MESSAGE, source, message.pgn));
     }
-}
-
-/// Whether the first bytes are the NAME, and another byte follows.
-fn is_for(name: Name, payload: &[u8]) -> bool
-    ensures { result ≡ is_for name.0 payload.now }
-{
-    payload.len() > ORDERED_AT && read_name(payload) == Some(name)
+    profiled
 }
 
 /// Whether the payload has too few bytes for what its PGN says.
@@ -66,28 +59,20 @@ fn is_short(profiled: &Profiled) -> bool
     }
 }
 
-/// Reports a message that has too few bytes for what its PGN says.
-fn tell_short(source: u8, content: &Content, out: &mut StepEmits)
-    ensures { out.new ≡ and_told most_told out.old (reported (short_reports source (Some content.now))) }
+/// The address to which a message tells the gateway of this NAME to go (ISO 11783-5, commanded address).
+pub fn ordered(name: Name, message: Message<'_>) -> Option<u8>
+    ensures { result ≡ ordered_in name.0 message.entry.pgn message.entry.payload.now }
 {
-    if is_short(&content.profiled) {
-        out.tell(of_source(SHORT_MESSAGE, source, content.pgn));
+    if message.pgn == COMMANDED_ADDRESS && is_for(name, message.payload) {
+        Some(message.payload[ORDERED_AT])
+    } else {
+        None
     }
 }
 
-/// Reads the payload of a message of the PGN from the source, and reports it where it has too few bytes.
-pub(crate) fn take_message(
-    name: Name,
-    source: u8,
-    pgn: u32,
-    payload: &[u8],
-    out: &mut StepEmits,
-) -> Content
-    ensures content { result ≡ content_of name.0 pgn payload.now }
-    ensures emits { out.new ≡ and_told most_told out.old (reported (short_reports source (Some result))) }
-    ensures valid { GivesValid result.profiled }
+/// Whether the first bytes are the NAME, and another byte follows.
+fn is_for(name: Name, payload: &[u8]) -> bool
+    ensures { result ≡ is_for name.0 payload.now }
 {
-    let content = read_content(name, pgn, payload);
-    tell_short(source, &content, out);
-    content
+    payload.len() > ORDERED_AT && read_name(payload) == Some(name)
 }

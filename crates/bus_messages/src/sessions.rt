@@ -1,16 +1,18 @@
 //! A frame of the transport protocol (ISO 11783-3), to all or to the gateway, from a source that holds its address.
-ghost use Rattle.std.specs.Prelude.{◌≡◌, ◌^◌, ◌<◌, ◌&&◌, ◌==◌, nat_le, length, option_map, IfSome};
+ghost use Rattle.std.specs.Prelude.{◌≡◌, ◌&&◌, ◌==◌, ◌∷◌, [], nat_le, length};
+ghost use Rattle.std.specs.Borrow.{sem};
 ghost use Rattle.n2k_id.specs.Frame.{IsFrame, held_bytes};
-ghost use Rattle.pgn_profile.specs.Profiled.{GivesValid};
+ghost use Rattle.iso_transport.specs.Assembly.{fed_after};
 ghost use Rattle.iso_transport.specs.Connection.{control_at};
 ghost use Rattle.iso_transport.specs.Replies.{NamesPgn};
+ghost use Rattle.iso_transport.specs.Rows.{ends_as};
 ghost use Rattle.history.specs.Emits.{reported, replied};
-ghost use Rattle.gate_model.specs.Sessions.{session_step, fed_step, restarted_reports, refused_reports, refusal_report};
-ghost use Rattle.bus_messages.specs.Contents.{content_in, short_reports};
-ghost use Rattle.bus_messages.specs.SessionTold.{answer_in, comes_early, content_by, message_in, refusal_in, step_emits, told_reports};
+ghost use Rattle.gate_model.specs.Sessions.{answer_of, carried_by, early_report, restarted_reports, refused_reports, refusal_report};
+ghost use Rattle.bus_messages.specs.Lent.{lent_message};
+ghost use Rattle.bus_messages.specs.SessionTold.{answer_in, comes_early, heard_reports, message_in, refusal_in};
 ghost use Rattle.gate_outbox.specs.Output.{and_told, most_told};
 
-use crate::messages::{Content, take_message};
+use crate::messages::Message;
 use gate_events::Report;
 use gate_outbox::StepEmits;
 use gate_outbox::frames::reply_from;
@@ -18,7 +20,7 @@ use gate_outbox::reports::of_source;
 use iso_transport::{IsoAssembler, IsoFed, IsoKey, IsoOutcome, IsoRefusal, Reply};
 use n2k_id::address::ALL;
 use n2k_id::pgn::DATA_TRANSFER;
-use n2k_id::{Frame, Name, Parts};
+use n2k_id::{Frame, Parts};
 use report_rules::{
     ISO_ABORTED, ISO_ORDER, ISO_ORPHAN, ISO_SIZE, NOT_READY, RESTARTED, SLOTS_FULL,
 };
@@ -29,43 +31,8 @@ const REQUEST_TO_SEND: u8 = 16;
 /// How many bytes a frame has that manages a connection.
 const MANAGEMENT_BYTES: usize = 8;
 
-/// The gateway as a node of the bus: its NAME, its address, and whether it may send.
-#[derive(Clone, Copy)]
-pub struct Node {
-    pub name: Name,
-    pub own: Option<u8>,
-    pub ready: bool,
-}
-
-/// Takes a frame of the transport protocol, reports what it breaks, and replies. The message that it completes may be a command to the
-/// gateway. An RTS that comes before the gateway may answer it opens nothing.
-pub fn feed(
-    sessions: &mut IsoAssembler,
-    node: Node,
-    parts: &Parts,
-    frame: &Frame,
-    moment: u64,
-    out: &mut StepEmits,
-) -> Option<Content>
-    requires valid { IsFrame frame.now }
-    ensures sessions { sessions.new
-        ≡ (session_step ⟦<IsoKey as Ord>⟧.cmp sessions.old node.own parts.now (held_bytes frame.now) moment node.ready).slots }
-    ensures emits { out.new ≡ and_told most_told out.old (step_emits node.own parts.now.source
-        (session_step ⟦<IsoKey as Ord>⟧.cmp sessions.old node.own parts.now (held_bytes frame.now) moment node.ready)) }
-    ensures message { result ≡ option_map (content_in node.name.0)
-        (session_step ⟦<IsoKey as Ord>⟧.cmp sessions.old node.own parts.now (held_bytes frame.now) moment node.ready).done }
-    ensures says { IfSome result (λ message. GivesValid message.profiled) }
-{
-    if comes_early(node.ready, parts, frame) {
-        out.tell(of_source(NOT_READY, parts.source, parts.pgn));
-        None
-    } else {
-        feed_on(sessions, node, parts, frame, moment, out)
-    }
-}
-
 /// Whether an RTS comes to the gateway before it may answer it.
-fn comes_early(ready: bool, parts: &Parts, frame: &Frame) -> bool
+pub fn comes_early(ready: bool, parts: &Parts, frame: &Frame) -> bool
     requires { IsFrame frame.now }
     ensures { result ≡ comes_early ready parts.now (held_bytes frame.now) }
 {
@@ -79,59 +46,55 @@ fn asks_to_send(bytes: &[u8]) -> bool
     bytes.len() >= MANAGEMENT_BYTES && bytes[0] == REQUEST_TO_SEND
 }
 
-/// Takes a frame that the gateway may answer.
-#[tactic(auto, using(gate_outbox::proofs::Telling::told_more, crate::proofs::SessionTelling::answered, crate::proofs::SessionTelling::same_reports, crate::proofs::SessionTelling::same_message))]
-fn feed_on(
-    sessions: &mut IsoAssembler,
-    node: Node,
+/// Reports an RTS that comes before the gateway may answer it, and opens nothing.
+pub fn tell_early(parts: &Parts, out: &mut StepEmits)
+    ensures { out.new ≡ and_told most_told out.old (reported (early_report parts.now ∷ [])) }
+{
+    out.tell(of_source(NOT_READY, parts.source, parts.pgn));
+}
+
+/// Takes a frame that the gateway may answer, and reports what it breaks. The message that it completes is lent.
+#[tactic(auto, using(crate::proofs::SessionTelling::answered))]
+pub fn hear<'a>(
+    sessions: &'a mut IsoAssembler,
+    own: Option<u8>,
     parts: &Parts,
     frame: &Frame,
     moment: u64,
     out: &mut StepEmits,
-) -> Option<Content>
+) -> IsoFed<'a>
     requires valid { IsFrame frame.now }
-    ensures sessions { sessions.new ≡ (fed_step ⟦<IsoKey as Ord>⟧.cmp sessions.old node.own parts.now (held_bytes frame.now) moment).slots }
-    ensures emits { out.new ≡ and_told most_told out.old (step_emits node.own parts.now.source
-        (fed_step ⟦<IsoKey as Ord>⟧.cmp sessions.old node.own parts.now (held_bytes frame.now) moment)) }
-    ensures message { result ≡ option_map (content_in node.name.0)
-        (fed_step ⟦<IsoKey as Ord>⟧.cmp sessions.old node.own parts.now (held_bytes frame.now) moment).done }
-    ensures says { IfSome result (λ message. GivesValid message.profiled) }
+    ensures* after { sem 𝓛 (ends_as sessions.entry (fed_after ⟦<IsoKey as Ord>⟧.cmp sessions.old own parts.now (held_bytes frame.now) moment)) }
+    ensures answer { answer_in result ≡ answer_of ⟦<IsoKey as Ord>⟧.cmp sessions.old own parts.now (held_bytes frame.now) moment }
+    ensures emits { out.new ≡ and_told most_told out.old
+        (reported (heard_reports parts.now (answer_of ⟦<IsoKey as Ord>⟧.cmp sessions.old own parts.now (held_bytes frame.now) moment))) }
+    ensures reply { NamesPgn result.reply }
 {
-    let fed = sessions.feed(node.own, parts, frame, moment);
-    let message = take(node.name, parts, &fed, out);
-    reply(node.own, parts.source, fed.reply, out);
-    message
+    let fed = sessions.feed(own, parts, frame, moment);
+    tell_broken(parts, &fed, out);
+    fed
 }
 
-/// Reports that a message begins again, and why the frame is refused, and takes the message that it completes.
+/// The message that a frame completes.
+pub fn message_in<'a>(outcome: IsoOutcome<'a>) -> Option<Message<'a>>
+    ensures { lent_message result ≡ carried_by (message_in outcome.entry) }
+{
+    match outcome {
+        IsoOutcome::Complete { pgn, view } => Some(Message {
+            pgn,
+            payload: view.bytes,
+        }),
+        _ => None,
+    }
+}
+
+/// Reports that a message begins again, and why the frame is refused.
 #[tactic(auto, using(gate_outbox::proofs::Telling::reported_more))]
-fn take(name: Name, parts: &Parts, fed: &IsoFed<'_>, out: &mut StepEmits) -> Option<Content>
-    ensures content { result ≡ content_by name.0 (message_in fed.now.outcome) }
-    ensures emits { out.new ≡ and_told most_told out.old (reported (told_reports parts.now (answer_in fed.now) result)) }
-    ensures says { IfSome result (λ message. GivesValid message.profiled) }
+fn tell_broken(parts: &Parts, fed: &IsoFed<'_>, out: &mut StepEmits)
+    ensures { out.new ≡ and_told most_told out.old (reported (heard_reports parts.now (answer_in fed.now))) }
 {
     tell_restarted(parts.source, fed.restarted, out);
     tell_refused(parts, &fed.outcome, out);
-    take_lent(name, parts.source, &fed.outcome, out)
-}
-
-/// Takes the message whose payload is lent, where one is.
-fn take_lent(
-    name: Name,
-    source: u8,
-    outcome: &IsoOutcome<'_>,
-    out: &mut StepEmits,
-) -> Option<Content>
-    ensures content { result ≡ content_by name.0 (message_in outcome.now) }
-    ensures emits { out.new ≡ and_told most_told out.old (reported (short_reports source result)) }
-    ensures says { IfSome result (λ message. GivesValid message.profiled) }
-{
-    match outcome {
-        IsoOutcome::Complete { pgn, view } => {
-            Some(take_message(name, source, *pgn, view.bytes, out))
-        }
-        _ => None,
-    }
 }
 
 fn tell_restarted(source: u8, restarted: Option<u32>, out: &mut StepEmits)
@@ -167,7 +130,7 @@ fn refusal_report(parts: &Parts, refusal: IsoRefusal) -> Report
 }
 
 /// Sends the reply from the own address, where there is one.
-fn reply(own: Option<u8>, destination: u8, reply: Option<Reply>, out: &mut StepEmits)
+pub fn reply(own: Option<u8>, destination: u8, reply: Option<Reply>, out: &mut StepEmits)
     requires pgn { NamesPgn reply }
     ensures emits { out.new ≡ and_told most_told out.old (replied own destination reply) }
 {

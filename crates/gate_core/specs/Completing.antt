@@ -1,47 +1,42 @@
--- What becomes of a message that a frame completes, by who holds its source (ISO 11783-5): from an address that nobody holds there is none.
-use Rattle.std.specs.Prelude.{ℕ, List, [], Option, Some, None, option_map}
-use Rattle.claim_table.specs.declared.answer.Holder.{Holder}
-use Rattle.history.specs.Choice.{reading_in}
-use Rattle.gate_events.specs.Emit.{Emit}
+-- What a message leaves that a frame completes, by who holds its source (ISO 11783-5): from an address that nobody holds there is none.
+use Rattle.std.specs.Prelude.{ℕ, Option, option_map}
+use Rattle.n2k_id.specs.Frame.{BusFrame}
+use Rattle.readings.specs.declared.reading.Reading.{Reading}
+use Rattle.history.specs.Emits.{reported, replied}
+use Rattle.history.specs.Messages.{Carried}
 use Rattle.history.specs.Settings.{Settings}
-use Rattle.gate_model.specs.Said.{SaidKept, profiled_after, profiled_emits}
+use Rattle.gate_model.specs.Machine.{Machine, Step}
+use Rattle.gate_model.specs.MachineSteps.{complete_here, own_here, parts_here, with_message}
+use Rattle.gate_model.specs.Said.{Complete, SaidKept, message_emits, ordered_by, short_reports}
+use Rattle.gate_model.specs.Sessions.{SessionStep}
 use Rattle.gate_outbox.specs.declared.done.Done.{Done}
-use Rattle.gate_outbox.specs.declared.done.Command.{Command}
-use Rattle.bus_messages.specs.declared.messages.Content.{Content}
+use Rattle.gate_outbox.specs.Output.{Output, and_posted, and_told, most_told}
 use Rattle.row_traffic.specs.declared.said.Sender.{Sender}
-use Rattle.gate_outbox.specs.Output.{and_posted, Output}
-use Rattle.row_traffic.specs.Saying.{message_from}
-use Rattle.gate_core.specs.Steps.{first_there}
+use Rattle.gate_core.specs.Steps.{by_keys, command_of, done_of, first_there}
 
-abbrev pub sender_by : ℕ → ℕ → Holder → Sender
-sender_by m source holder = record { moment = m; source = source; name = holder.name }
+-- the message of a sender that carries this
+abbrev pub whole : Sender → Carried → Complete
+whole sender what = record { moment = sender.moment; source = sender.source; name = sender.name.0; pgn = what.pgn; payload = what.payload }
 
-module _ (c : Settings) (k : SaidKept) (m source : ℕ) where
-  abbrev pub said_after : Option Holder → Option Content → SaidKept
-  said_after holder None = k
-  said_after None (Some message) = k
-  said_after (Some holder) (Some message) = profiled_after c k (message_from (sender_by m source holder)) (reading_in message.profiled)
+-- what is told of it, with its reading
+abbrev pub done_with : Sender → ℕ → Option Reading → Done
+done_with sender pgn reading = record { source = sender.source; name = sender.name; pgn = pgn; reading = reading }
 
-  abbrev pub said_emits : Option Holder → Option Content → List Emit
-  said_emits holder None = []
-  said_emits None (Some message) = []
-  said_emits (Some holder) (Some message) = profiled_emits c k (message_from (sender_by m source holder)) (reading_in message.profiled)
+module _ (c : Settings) (k : SaidKept) where
+  -- an outbox with the datagram in which a message is said, the message, and the command that it gives
+  abbrev pub and_complete : Output → Option Complete → Output
+  and_complete o d = record {
+    emits = and_posted o.emits (message_emits c k d);
+    done = first_there (option_map done_of d) o.done;
+    command = first_there (option_map command_of (ordered_by c.name d)) o.command;
+  }
 
-abbrev pub done_by : ℕ → Option Holder → Option Content → Option Done
-done_by source holder None = None
-done_by source None (Some message) = None
-done_by source (Some holder) (Some message) =
-    Some (record { source = source; name = holder.name; pgn = message.pgn; reading = reading_in message.profiled })
+  -- behind the rule that is broken by what a frame from this source completes
+  abbrev pub and_message : Output → ℕ → Option Carried → Option Complete → Output
+  and_message o source what d = and_complete (record o { emits = and_told most_told o.emits (reported (short_reports source what)) }) d
 
-abbrev pub command_by : ℕ → Option Holder → Option Content → Option Command
-command_by source holder None = None
-command_by source None (Some message) = None
-command_by source (Some holder) (Some message) = option_map (λ address. record { source = source; address = address }) message.ordered
-
--- an outbox with all that the message leaves
-abbrev pub and_message : Settings → Output → SaidKept → ℕ → ℕ → Option Holder → Option Content → Output
-and_message c o k m source holder message = record {
-  emits = and_posted o.emits (said_emits c k m source holder message);
-  done = first_there (done_by source holder message) o.done;
-  command = first_there (command_by source holder message) o.command;
-}
+-- what a frame of the transport protocol (ISO 11783-3) makes of a gateway, by what it makes of the sessions
+abbrev pub session_by : Machine → ℕ → BusFrame → SessionStep → Step
+session_by g m f x =
+    with_message (record g { sessions = x.slots }) x.reports (replied (own_here by_keys g m f) (parts_here by_keys g m f).source x.reply)
+    (complete_here by_keys g m f x.done)

@@ -5,3 +5,4 @@ pub mod TakenLines
 pub mod Places
 pub mod Saying
 pub mod Counts
+pub mod Groups
