@@ -10,7 +10,8 @@ use crate::answering::Answers;
 use crate::ending::Ending;
 use crate::line_reader::{LineReader, Next};
 use crate::writer::Writer;
-use capture_text::{LineRule, read_line};
+use capture_text::{LineRule, read_line, usual_frame};
+use gate_events::Event;
 use gate_outside::{Failed, Sink, Source};
 
 /// How many bytes an input may have.
@@ -19,8 +20,9 @@ const LIMIT: u64 = 1 << 40;
 /// Room for the bytes of the datagram that a line holds.
 type Room = [u8; 2048];
 
-// Sends what a line gives that isn't empty.
-fn send_said<A: Answers, K: Sink>(
+// Sends what a line of any layout gives. It is kept apart from the way of nearly all lines, whose event then needn't go by way of memory.
+#[inline(never)]
+fn send_read<A: Answers, K: Sink>(
     answers: &mut A,
     number: u64,
     line: &[u8],
@@ -34,6 +36,26 @@ fn send_said<A: Answers, K: Sink>(
     match read_line(line, room) {
         Ok(event) => answers.answer_event(number, &event, writer, out),
         Err(rule) => answers.answer_refusal(number, rule, writer, out),
+    }
+}
+
+// Sends what a line gives that isn't empty.
+fn send_said<A: Answers, K: Sink>(
+    answers: &mut A,
+    number: u64,
+    line: &[u8],
+    room: &mut Room,
+    writer: &mut Writer,
+    out: &mut K,
+) -> Result<(), Failed>
+    ensures sent { Sent (A.gives answers.old number (read_as line.now)) (K.taken out.old) (K.taken out.new) writer.old writer.new answers.new result }
+    ensures cause { HasCause (K.fault_count out.old) (K.fault_count out.new) result }
+{
+    match usual_frame(line) {
+        Some((moment, frame)) => {
+            answers.answer_event(number, &Event::Frame { moment, frame }, writer, out)
+        }
+        None => send_read(answers, number, line, room, writer, out),
     }
 }
 

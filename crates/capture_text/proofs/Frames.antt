@@ -103,7 +103,7 @@ no_short identifier behind digits eight =
     let digit : is_ascii_hexdigit (get_or identifier 3 0) ≡ true = All-get_or (λ c. is_ascii_hexdigit c ≡ true) identifier 3 0 lt (AllPass-from_list_all is_ascii_hexdigit identifier digits) in
     ap (λ (c : ℕ). c == 35) (get_or_append_left identifier (35 ∷ behind) 0 3 lt) ∙ no_hash (get_or identifier 3 0) digit
 
-wide_again : (tail identifier behind : List ℕ) (id : ℕ) → Layout tail identifier behind → IsNumber id identifier → frame_at tail ≡ wide_frame (Some id) behind
+pub wide_again : (tail identifier behind : List ℕ) (id : ℕ) → Layout tail identifier behind → IsNumber id identifier → frame_at tail ≡ wide_frame (Some id) behind
 unfolding frame_at
 wide_again tail identifier behind id h n =
     let text = identifier ++ 35 ∷ behind in

@@ -10,3 +10,4 @@ pub mod LineEnds
 pub mod Lines
 pub mod Numbers
 pub mod Times
+mod UsualLines

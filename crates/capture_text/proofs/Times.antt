@@ -4,16 +4,17 @@ use Rattle.std.specs.Prelude.{◌==◌}
 use Rattle.std.specs.Char.{is_ascii_digit}
 use Rattle.std.specs.List.{prefix_len, list_all}
 use Rattle.std.proofs.lemmas.Bool.{and_parts, eqb-true, leb-true, le-leb}
-use Rattle.std.proofs.lemmas.List.{drop-drop, get_or-drop, length-take, take_more}
+use Rattle.std.proofs.lemmas.List.{drop-drop, get_or-drop, length-drop, length-take, take_at, take_more}
 use Rattle.std.proofs.lemmas.List.Sums.{prefix_len-le-length}
 use Rattle.std.proofs.Math.Seq.{take-append-add}
-use Rattle.sentence_text.proofs.Bytes.{front_passes, run_of}
+use Rattle.sentence_text.proofs.Bytes.{all_parts, front_passes, run_of}
 use Rattle.unit_fraction.specs.Digits.{number, number_after}
 use Rattle.unit_fraction.proofs.Number.{number_after_append}
+use borrow.Rule.Slice.PartMut.{put_mid}
 use Rattle.capture_text.specs.Capture.{IsTime}
-use Rattle.capture_text.specs.Reading.{Timed, seconds_at, micros_at, micros_behind, time_at}
-use Rattle.capture_text.proofs.Digits.{few_counted, micros_fit, seconds_fit}
-use Rattle.capture_text.proofs.Cuts.{within, cut_found, cut_by_test, cut_at, if_some, some_is}
+use Rattle.capture_text.specs.Reading.{HasUsualTime, Timed, seconds_at, micros_at, micros_behind, time_at}
+use Rattle.capture_text.proofs.Digits.{few_counted, micros_fit, seconds_fit, ten_fit}
+use Rattle.capture_text.proofs.Cuts.{within, cut_found, cut_by_test, cut_at, if_some, put_end, some_is}
 
 pub record TimeRead (line : List ℕ) (t : Timed) : Type 0 where
   pub time : List ℕ
@@ -218,9 +219,28 @@ usual_time line opened point closed space are_seconds are_micros =
     ∙ ap micros_behind (seconds_again seconds behind (omega (arith, ten)) (omega (arith, ten)) are_seconds)
     ∙ micros_again (number seconds) micros rest (omega (arith, length-take 6 (drop 12 line), within (drop 12 line) 6 40 end)) are_micros
 
-pub usual_read : (line : List ℕ) (seconds moment : ℕ) → get_or line 0 0 ≡ 40 → get_or line 11 0 ≡ 46 → get_or line 18 0 ≡ 41 → get_or line 19 0 ≡ 32
-    → list_all is_ascii_digit (take 10 (drop 1 line)) ≡ true → list_all is_ascii_digit (take 6 (drop 12 line)) ≡ true
-    → seconds ≡ number (take 10 (drop 1 line)) → moment ≡ number_after seconds (take 6 (drop 12 line)) → time_at line ≡ Some (record { moment = moment; rest = drop 20 line })
-usual_read line seconds moment opened point closed space are_seconds are_micros s m =
+-- its digits, put behind one another
+pub digits_put : (line seconds micros : List ℕ) → 20 ≤ length line → seconds ≡ take 10 (drop 1 line) → micros ≡ take 6 (drop 12 line)
+    → put_mid 10 6 (seconds ++ 0 ∷ 0 ∷ 0 ∷ 0 ∷ 0 ∷ 0 ∷ []) micros ≡ take 10 (drop 1 line) ++ take 6 (drop 12 line)
+digits_put line seconds micros long e f =
+    let room : List ℕ = 0 ∷ 0 ∷ 0 ∷ 0 ∷ 0 ∷ 0 ∷ [] in
+    let ten : length seconds ≡ 10 = omega (arith, ap length e, length-take 10 (drop 1 line), length-drop 1 line, long) in
+    let six : 6 ≡ length (seconds ++ room) - 10 = omega (arith, length-append seconds room, ten) in
+    ap (λ (n : ℕ). put_mid 10 n (seconds ++ room) micros) six
+    ∙ put_end (seconds ++ room) micros 10
+    ∙ ap (λ (x : List ℕ). x ++ micros) (take_at seconds room 10 ten)
+    ∙ rw (e, f) refl
+
+-- which are digits where all of them are
+pub both_digits : (line digits : List ℕ) → digits ≡ take 10 (drop 1 line) ++ take 6 (drop 12 line) → list_all is_ascii_digit digits ≡ true
+    → (list_all is_ascii_digit (take 10 (drop 1 line)) ≡ true) × (list_all is_ascii_digit (take 6 (drop 12 line)) ≡ true)
+both_digits line digits are all = all_parts is_ascii_digit (take 10 (drop 1 line)) (take 6 (drop 12 line)) (ap (list_all is_ascii_digit) (sym are) ∙ all)
+
+pub usual_read : (line : List ℕ) (seconds moment : ℕ) → HasUsualTime line → seconds ≡ number (take 10 (drop 1 line)) → moment ≡ number_after seconds (take 6 (drop 12 line))
+    → time_at line ≡ Some (record { moment = moment; rest = drop 20 line })
+usual_read line seconds moment h s m =
     let value : moment ≡ number_after (number (take 10 (drop 1 line))) (take 6 (drop 12 line)) = m ∙ ap (λ (n : ℕ). number_after n (take 6 (drop 12 line))) s in
-    rw value (usual_time line opened point closed space are_seconds are_micros)
+    rw value (usual_time line h.1.0 h.1.1 h.1.2 h.1.3 h.2.0 h.2.1)
+
+pub micros_small : (line : List ℕ) (seconds : ℕ) → HasUsualTime line → seconds ≡ number (take 10 (drop 1 line)) → number_after seconds (take 6 (drop 12 line)) < 2 ^ 64
+micros_small line seconds h s = micros_fit seconds (drop 12 line) (omega (arith, s, ten_fit (drop 1 line) h.2.0)) h.2.1

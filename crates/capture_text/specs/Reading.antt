@@ -1,5 +1,5 @@
 -- What a line of a capture reads as: what it says, or the rule that it breaks.
-use Rattle.std.specs.Prelude.{◌≡◌, ℕ, ◌+◌, ◌*◌, ◌^◌, ◌≤◌, ◌==◌, Bool, ◌&&◌, ◌||◌, not, nat_eq, nat_lt, nat_le, List, length, take, drop, codes, slice_index, Option, Some, None, is_some, option_map, Result, Ok, Err, if◌then◌else◌}
+use Rattle.std.specs.Prelude.{◌≡◌, ℕ, ◌+◌, ◌*◌, ◌^◌, ◌≤◌, ◌==◌, Bool, true, false, ◌&&◌, ◌||◌, not, nat_eq, nat_lt, nat_le, List, length, take, drop, codes, slice_index, Option, Some, None, is_some, option_map, Result, Ok, Err, if◌then◌else◌}
 use Rattle.std.specs.List.{prefix_len, list_all}
 use Rattle.std.specs.Cmp.Lexicographic.{pointwise}
 use Rattle.std.specs.Char.{is_ascii_digit, is_ascii_graphic, is_ascii_hexdigit}
@@ -38,6 +38,12 @@ micros_behind (Some t) = micros_at t.moment t.rest
 
 unfoldable pub time_at : List ℕ → Option Timed
 time_at line = if slice_index line 0 == 40 then micros_behind (seconds_at (drop 1 line)) else None
+
+-- a time of twenty bytes comes first, with the space behind it: ten digits of seconds, and six of microseconds
+abbrev pub HasUsualTime : List ℕ → Type 0
+HasUsualTime line = (20 ≤ length line)
+    × ((slice_index line 0 ≡ 40) × (slice_index line 11 ≡ 46) × (slice_index line 18 ≡ 41) × (slice_index line 19 ≡ 32))
+    × ((list_all is_ascii_digit (take 10 (drop 1 line)) ≡ true) × (list_all is_ascii_digit (take 6 (drop 12 line)) ≡ true))
 
 -- ---- the three kinds of lines, behind the interface
 
@@ -106,6 +112,10 @@ seen_frame moment (Err rule) = Err rule
 
 abbrev pub is_name : List ℕ → List ℕ → Bool
 is_name name text = pointwise nat_eq text name
+
+-- a bus with a name of four bytes comes first, and a space behind it
+abbrev pub HasBusOfFour : List ℕ → Type 0
+HasBusOfFour rest = (prefix_len is_ascii_graphic rest ≡ 4) × (slice_index rest 4 ≡ 32) × (is_name (codes "tick") (take 4 rest) ≡ false) × (is_name (codes "udp0") (take 4 rest) ≡ false)
 
 -- by the interface
 unfoldable pub seen_behind : ℕ → List ℕ → List ℕ → Result Seen LineRule

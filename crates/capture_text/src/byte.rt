@@ -1,4 +1,4 @@
-ghost use Rattle.std.specs.Prelude.{◌≡◌, ◌≤◌, length, true};
+ghost use Rattle.std.specs.Prelude.{◌≡◌, ◌≤◌, ◌&&◌, not, codes, length, slice_index, take, true, false};
 ghost use Rattle.std.specs.Char.{is_ascii_graphic};
 ghost use Rattle.std.specs.List.{list_all, prefix_len};
 ghost use Rattle.capture_text.specs.Capture as capture;
@@ -36,9 +36,24 @@ fn all_of_name(text: &[u8]) -> bool
 /// Whether a name of four bytes and a space come first, as in nearly every line.
 #[tactic(auto, using(crate::proofs::Lines::four_first))]
 fn is_name_of_four(text: &[u8]) -> bool
-    ensures { result ≡ true → (4 ≤ length text.now) × (prefix_len is_ascii_graphic text.now ≡ 4) }
+    ensures name { result ≡ true → (4 ≤ length text.now) × (prefix_len is_ascii_graphic text.now ≡ 4) }
+    ensures space { result ≡ true → slice_index text.now 4 ≡ 32 }
 {
     text.len() > 4 && text[4] == b' ' && all_of_name(&text[..4])
+}
+
+/// Whether a bus has this name.
+fn is_bus(name: &[u8]) -> bool
+    ensures { result ≡ (not (spec.is_name (codes "tick") name.now) && not (spec.is_name (codes "udp0") name.now)) }
+{
+    name != b"tick".as_slice() && name != b"udp0".as_slice()
+}
+
+/// Whether a bus with a name of four bytes and a space come first.
+pub(crate) fn is_bus_of_four(text: &[u8]) -> bool
+    ensures { result ≡ true → spec.HasBusOfFour text.now }
+{
+    is_name_of_four(text) && is_bus(&text[..4])
 }
 
 /// How many bytes of a name come first.

@@ -11,9 +11,11 @@ mod hexadecimal;
 mod line_rule;
 mod reading;
 mod time;
+mod usual;
 mod writing;
 
 pub use gate_events::{Detail, Emit, Event, Report};
 pub use line_rule::LineRule;
 pub use reading::{LONGEST_LINE, read_line};
+pub use usual::usual_frame;
 pub use writing::write_emit;

@@ -88,7 +88,7 @@ fn short_frame(identifier: &[u8], behind: &[u8]) -> LineRule
 }
 
 /// The frame of an identifier and of its data.
-fn frame_of(id: u32, held: &[u8]) -> Result<Frame, LineRule>
+pub(crate) fn frame_of(id: u32, held: &[u8]) -> Result<Frame, LineRule>
     requires { length held.now ≤ 8 }
     ensures reads { spec.bus_frame_in result ≡ spec.frame_with id (Some held.now) }
     ensures valid { IfOk result IsFrame }
@@ -101,7 +101,7 @@ fn frame_of(id: u32, held: &[u8]) -> Result<Frame, LineRule>
 
 /// Puts the data of a frame into the room, if they are eight bytes and nothing is behind them, as in most frames. Says whether they are.
 #[tactic(auto, using(crate::proofs::Data::eight_are_data))]
-fn put_eight_data(behind: &[u8], room: &mut [u8; 8]) -> bool
+pub(crate) fn put_eight_data(behind: &[u8], room: &mut [u8; 8]) -> bool
     ensures { result ≡ true → (spec.data_at behind.now ≡ Some room.new) × (spec.is_other_kind behind.now ≡ false) }
 {
     behind.len() == 16 && put_eight(behind, &mut room[..])
@@ -229,9 +229,6 @@ fn parse<'a>(line: &[u8], room: &'a mut [u8; 2048]) -> Result<Event<'a>, LineRul
 }
 
 /// What a line of a capture says, without its line end. The bytes of a datagram are put into the room.
-///
-/// Each of its few callers has a copy of it: one that doesn't use the moment doesn't count it, and the event stays in registers.
-#[inline(always)]
 pub fn read_line<'a>(line: &[u8], room: &'a mut [u8; 2048]) -> Result<Event<'a>, LineRule>
     // What is read is spelled so.
     ensures found { IfOk result (λ e. IsLine (view e) line.now) }

@@ -1,5 +1,5 @@
 //! The time at the front of a line.
-ghost use Rattle.std.specs.Prelude.{◌≡◌, ◌<◌, ◌≤◌, ◌^◌, length, take, drop, true, Some, None, IfSome, MatchOption};
+ghost use Rattle.std.specs.Prelude.{◌≡◌, ◌<◌, ◌≤◌, ◌^◌, ◌++◌, length, take, drop, true, Some, None, IfSome, MatchOption};
 ghost use Rattle.std.specs.Char.{is_ascii_digit};
 ghost use Rattle.std.specs.List.{list_all, prefix_len};
 ghost use Rattle.unit_fraction.specs.Digits.{number_after};
@@ -31,28 +31,47 @@ fn number(before: u64, digits: &[u8]) -> u64
 {
     let mut number = before;
     for digit in digits {
-        number = number * 10 + u64::from(*digit - b'0');
+        number = number * 10 + (u64::from(*digit) - u64::from(b'0'));
     }
     number
 }
 
-/// The moment of a time whose seconds have ten digits, as all have from 2001 to 2286.
-fn usual_moment(line: &[u8]) -> Option<u64>
-    ensures within { IfSome result (λ moment. 20 ≤ length line.now) }
-    ensures reads { IfSome result (λ moment. spec.time_at line.now ≡ Some (record { moment = moment; rest = drop 20 line.now })) }
+/// The digits of a time of twenty bytes, behind one another, so that one test has all of them.
+fn usual_digits(line: &[u8]) -> [u8; 16]
+    requires { 20 ≤ length line.now }
+    ensures { result ≡ take 10 (drop 1 line.now) ++ take 6 (drop 12 line.now) }
 {
-    if line.len() < USUAL_TIME {
-        return None;
+    let mut digits = [0; 16];
+    digits[..10].copy_from_slice(&line[1..11]);
+    digits[10..].copy_from_slice(&line[12..18]);
+    digits
+}
+
+/// Whether a time comes first whose seconds have ten digits, as all have from 2001 to 2286.
+///
+/// It is kept apart: behind a test of one of its bytes the compiler would take them one by one.
+#[inline(never)]
+pub(crate) fn has_usual_time(line: &[u8]) -> bool
+    ensures { result ≡ true → spec.HasUsualTime line.now }
+{
+    if line.len() < USUAL_TIME
+        || line[0] != b'('
+        || line[11] != b'.'
+        || line[18] != b')'
+        || line[19] != b' '
+    {
+        return false;
     }
-    let seconds = &line[1..11];
-    let micros = &line[12..18];
-    if line[0] != b'(' || line[11] != b'.' || line[18] != b')' || line[19] != b' ' {
-        return None;
-    }
-    if !(all_decimal(seconds) & all_decimal(micros)) {
-        return None;
-    }
-    Some(number(number(0, seconds), micros))
+    all_decimal(&usual_digits(line))
+}
+
+/// The moment of such a time.
+#[inline(always)]
+pub(crate) fn usual_moment(line: &[u8]) -> u64
+    requires { spec.HasUsualTime line.now }
+    ensures { spec.time_at line.now ≡ Some (record { moment = result; rest = drop 20 line.now }) }
+{
+    number(number(0, &line[1..11]), &line[12..18])
 }
 
 /// The first bytes, at most so many.
@@ -119,8 +138,8 @@ fn any_time(line: &[u8]) -> Option<(u64, &[u8])>
 pub(crate) fn time(line: &[u8]) -> Option<(u64, &[u8])>
     ensures reads { MatchOption result (spec.time_at line.now ≡ None) (λ t. spec.time_at line.now ≡ Some (record { moment = t.0; rest = t.1.now })) }
 {
-    match usual_moment(line) {
-        Some(moment) => Some((moment, &line[USUAL_TIME..])),
-        None => any_time(line),
+    if has_usual_time(line) {
+        return Some((usual_moment(line), &line[USUAL_TIME..]));
     }
+    any_time(line)
 }

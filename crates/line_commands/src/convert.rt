@@ -22,7 +22,7 @@ use capture_text::LineRule;
 use gate_events::Event;
 use gate_outside::{Failed, Sink};
 use n2k_id::{Frame, parts};
-use pgn_profile::{Kind, Profiled, kind, read};
+use pgn_profile::{Kind, Profiled, kind, read_in_place};
 use readings::{Reading, row};
 use report_rules::{NOT_CONVERTED, SHORT_MESSAGE};
 use sentence_rows::{Lines, sentences};
@@ -97,6 +97,7 @@ fn send_payload<K: Sink>(
 }
 
 // Sends what a message gives that came in one frame.
+#[inline(always)]
 fn send_message<K: Sink>(
     number: u64,
     pgn: u32,
@@ -108,7 +109,7 @@ fn send_message<K: Sink>(
     ensures cause { HasCause (K.fault_count out.old) (K.fault_count out.new) result }
 {
     match kind(pgn) {
-        Kind::Single => send_payload(number, &read(pgn, payload), writer, out),
+        Kind::Single => send_payload(number, &read_in_place(pgn, payload), writer, out),
         Kind::Fast | Kind::Outside => send_report(NOT_CONVERTED, number, writer, out),
     }
 }
@@ -124,6 +125,7 @@ fn pgn_of(frame: &Frame) -> u32
 }
 
 /// Sends what a line gives that says something.
+#[inline(always)]
 pub(crate) fn send_event<K: Sink>(
     number: u64,
     event: &Event<'_>,
@@ -136,7 +138,9 @@ pub(crate) fn send_event<K: Sink>(
 {
     match event {
         Event::Frame { frame, .. } => {
-            send_message(number, pgn_of(frame), frame.held(), writer, out)
+            // A frame of its own: a call that had a part of the event by reference would have the compiler keep its moment too.
+            let frame = *frame;
+            send_message(number, pgn_of(&frame), frame.held(), writer, out)
         }
         Event::Datagram { .. } | Event::Tick { .. } => {
             send_report(NOT_CONVERTED, number, writer, out)

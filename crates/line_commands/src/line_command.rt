@@ -15,6 +15,7 @@ use gate_outside::{Failed, Sink, Source};
 use statuses::{Status, status_of};
 
 // Sends what a line gives that says something.
+#[inline(always)]
 fn send_event<K: Sink>(
     command: LineCommand,
     number: u64,
@@ -60,6 +61,8 @@ impl Answers for Lines {
 
     ghost gives = { IsAnswer };
 
+    // Where lines of the usual layout are read a copy of it stands, which leaves out what the command doesn't ask of them.
+    #[inline(always)]
     fn answer_event<K: Sink>(
         &mut self,
         number: u64,

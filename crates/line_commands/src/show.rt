@@ -275,6 +275,7 @@ pub(crate) fn send_refusal<K: Sink>(
 }
 
 /// Sends what a line says.
+#[inline(always)]
 pub(crate) fn send_event<K: Sink>(
     number: u64,
     event: &Event<'_>,
@@ -287,8 +288,10 @@ pub(crate) fn send_event<K: Sink>(
 {
     match event {
         Event::Frame { frame, .. } => {
+            // As in convert.
+            let frame = *frame;
             let mut text = ArrayVec::new();
-            write_frame(number, frame, &mut text);
+            write_frame(number, &frame, &mut text);
             writer.send(text.as_slice(), out)
         }
         Event::Datagram { bytes, .. } => send_datagram(number, bytes, writer, out),

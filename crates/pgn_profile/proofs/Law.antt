@@ -1,5 +1,5 @@
 -- The laws of the table: what is read is valid, and what is written of a valid reading is read as that reading.
-use Rattle.std.proofs.Common.{◌≡◌, ℕ, Bool, true, false, List, [], ◌∷◌, length, nat_lt, ◌==◌, Some, refl, ap}
+use Rattle.std.proofs.Common.{◌≡◌, ℕ, Bool, true, false, List, [], ◌∷◌, length, nat_lt, ◌==◌, Some, refl, ap, ◌∙◌, arith}
 use Rattle.std.specs.Prelude.{if◌then◌else◌}
 use Rattle.readings.specs.declared.reading.Reading.{Reading}
 use Rattle.readings.specs.declared.reading.Reading.TheVariants as reading
@@ -8,33 +8,26 @@ use Rattle.readings.specs.Ranges.{IsValid}
 use Rattle.pgn_profile.specs.declared.profiled.Profiled.{Profiled}
 use Rattle.pgn_profile.specs.declared.profiled.Profiled.TheVariants as says
 use Rattle.pgn_profile.specs.Part.{AreIn, Values, values_in}
-use Rattle.pgn_profile.specs.Layout as rows
-use Rattle.pgn_profile.specs.Layout.{Layout, given, reading_by, written}
+use Rattle.pgn_profile.specs.Layout.{Layout, Message, filling, given, reading_by, written}
 use Rattle.pgn_profile.specs.Payload.{payload_of, pgn_of}
-use Rattle.pgn_profile.specs.Profiled.{GivesValid, Message, by_message, by_rows, message_in, messages, profiled}
+use Rattle.pgn_profile.specs.Profiled.{GivesValid, by_message, by_rows, message_in, messages, profiled}
 use Rattle.pgn_profile.proofs.Parts.{are_in, is_well_formed, written_back}
 
 -- ---- what is read is valid
 
+valid_by : (row : Layout) (p : List ℕ) → GivesValid (says.Reading (reading_by row p))
+valid_by row p = row.valid (values_in row.parts p) (are_in row.parts p)
+
 rows_valid : (rows : List Layout) (p : List ℕ) → GivesValid (by_rows rows p)
 rows_valid [] p = tt
-rows_valid (row ∷ rows) p = by (row.selects p) (rows_valid rows p)
-  where
-    by : (b : Bool) → GivesValid (by_rows rows p) → GivesValid (if b then says.Reading (reading_by row p) else by_rows rows p)
-    by true others = row.valid (values_in row.parts p) (are_in row.parts p)
-    by false others = others
+rows_valid (row ∷ rows) p = let here = valid_by row p in let others = rows_valid rows p in grind (arith, here, others)
+
+long_valid : (m : Message) (p : List ℕ) → GivesValid (by_message (Some m) p)
+long_valid m p = let here = rows_valid m.rows p in grind (arith, here)
 
 found_valid : (list : List Message) (pgn : ℕ) (p : List ℕ) → GivesValid (by_message (message_in list pgn) p)
 found_valid [] pgn p = tt
-found_valid (m ∷ list) pgn p = found (m.pgn == pgn) (found_valid list pgn p)
-  where
-    long : (b : Bool) → GivesValid (if b then says.Short else by_rows m.rows p)
-    long true = tt
-    long false = rows_valid m.rows p
-
-    found : (b : Bool) → GivesValid (by_message (message_in list pgn) p) → GivesValid (by_message (if b then Some m else message_in list pgn) p)
-    found true others = long (nat_lt (length p) m.least)
-    found false others = others
+found_valid (m ∷ list) pgn p = let here = long_valid m p in let others = found_valid list pgn p in grind (arith, here, others)
 
 pub profiled_valid : (pgn : ℕ) (p : List ℕ) → GivesValid (profiled pgn p)
 profiled_valid pgn p = found_valid messages pgn p
@@ -44,28 +37,29 @@ what_is_profiled_is_valid x pgn p is = rw is (profiled_valid pgn p)
 
 -- ---- what is written is read
 
-back : (row : Layout) (v : Values row.parts) → is_well_formed (length row.around) row.parts ≡ true → AreIn row.parts v
-    → says.Reading (reading_by row (written row v)) ≡ says.Reading (given row.parts row.reading v)
-back row v fits within = ap (λ (x : Values row.parts). says.Reading (given row.parts row.reading x)) (written_back row.parts v row.around fits within)
+formed : (r : Reading) → is_well_formed (length (filling r).row.around) (filling r).row.parts ≡ true
+formed (reading.HeadingTrue h) = refl
+formed _ = refl
+
+within : (r : Reading) → IsValid r → AreIn (filling r).row.parts (filling r).values
+within (reading.HeadingTrue h) valid = valid
+within _ valid = valid
+
+whole : (r : Reading) → given (filling r).row.parts (filling r).row.reading (filling r).values ≡ r
+whole (reading.HeadingTrue h) = refl
+whole _ = refl
+
+-- the first row that selects the payload is the one that it is written in
+selected : (r : Reading) → profiled (pgn_of (row_of r)) (payload_of r) ≡ says.Reading (reading_by (filling r).row (written (filling r).row (filling r).values))
+unfolding messages
+selected (reading.CourseSpeed false c s) = refl
+selected (reading.CourseSpeed true c s) = refl
+selected (reading.WindNorth false s a) = refl
+selected (reading.WindNorth true s a) = refl
+selected _ = refl
 
 pub law : (r : Reading) → IsValid r → profiled (pgn_of (row_of r)) (payload_of r) ≡ says.Reading r
-unfolding messages
-law (reading.HeadingTrue h) valid = back rows.heading_true (h, tt) refl valid
-law (reading.HeadingMagnetic h d v) valid = back rows.heading_magnetic (h, (d, (v, tt))) refl valid
-law (reading.RateOfTurn r) valid = back rows.turning (r, tt) refl valid
-law (reading.RudderFirst p) valid = back rows.rudder_first (p, tt) refl valid
-law (reading.RudderSecond p) valid = back rows.rudder_second (p, tt) refl valid
-law (reading.WaterSpeed s) valid = back rows.water_speed (s, tt) refl valid
-law (reading.Depth d o r) valid = back rows.water_depth (d, (o, (r, tt))) refl valid
-law (reading.DistanceLog l t) valid = back rows.distance_log (l, (t, tt)) refl valid
-law (reading.Position la lo) valid = back rows.position (la, (lo, tt)) refl valid
-law (reading.CourseSpeed false c s) valid = back rows.course_speed (false, (c, (s, tt))) refl valid
-law (reading.CourseSpeed true c s) valid = back rows.course_speed (true, (c, (s, tt))) refl valid
-law (reading.Gnss d t la lo al m n h s) valid = back rows.fix (d, (t, (la, (lo, (al, (m, (n, (h, (s, tt))))))))) refl valid
-law (reading.Time d t) valid = back rows.system_time (d, (t, tt)) refl valid
-law (reading.WindApparent s a) valid = back rows.wind_apparent (s, (a, tt)) refl valid
-law (reading.WindTrue s a) valid = back rows.wind_true (s, (a, tt)) refl valid
-law (reading.WindNorth false s a) valid = back rows.wind_north (false, (s, (a, tt))) refl valid
-law (reading.WindNorth true s a) valid = back rows.wind_north (true, (s, (a, tt))) refl valid
-law (reading.WaterTemperature k) valid = back rows.extended_temperature (k, tt) refl valid
-law (reading.CrossTrack d) valid = back rows.track (d, tt) refl valid
+law r valid =
+    let row = (filling r).row in
+    let back = written_back row.parts (filling r).values row.around (formed r) (within r valid) in
+    selected r ∙ ap (λ (v : Values row.parts). says.Reading (given row.parts row.reading v)) back ∙ ap says.Reading (whole r)

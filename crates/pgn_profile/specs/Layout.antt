@@ -1,9 +1,11 @@
--- The rows of the profile's messages: which payloads are of a row, and where its values stand in them.
+-- The rows of the profile's messages: which payloads are of a row, and where its values stand in them; and the messages, each with its rows.
 use Rattle.std.specs.Prelude.{ℕ, List, [], ◌∷◌, Bool, true, ◌==◌}
 use Rattle.std.specs.List.{list_any}
 use Rattle.readings.specs.declared.reading.Reading.{Reading}
 use Rattle.readings.specs.declared.reading.Reading.TheVariants as reading
 use Rattle.readings.specs.Ranges.{IsValid, angle, deviation, rate_of_turn, rudder, speed, depth, offset, depth_scale, water_distance, latitude, longitude, date, time, fix_latitude, fix_longitude, altitude, satellites, hdop, separation, water_temperature, cross_track}
+use Rattle.pgn_profile.specs.declared.kinds.Kind.{Kind}
+use Rattle.pgn_profile.specs.declared.kinds.Kind.TheVariants.{Single, Fast}
 use Rattle.pgn_profile.specs.Part.{AreIn, Part, ValueOf, Values, bits_at, code, filled, flag, multiple, part, signed, unsigned, values_in}
 
 -- a reading, once each value is given
@@ -130,3 +132,64 @@ extended_temperature =
 
 abbrev pub track : Layout
 track = layout always (signed 2 4 cross_track ∷ []) reading.CrossTrack (λ v is. is) (0xFF ∷ 0x30 ∷ 0 ∷ 0 ∷ 0 ∷ 0 ∷ 0xFF ∷ 0xFF ∷ [])
+
+-- ---- the messages
+
+-- A message: its PGN, how it comes, the least length of its payload, and its
+pub record Message : Type 0 where
+  pub pgn : ℕ
+  pub kind : Kind
+  pub least : ℕ
+  pub rows : List Layout
+
+abbrev pub message : ℕ → Kind → ℕ → List Layout → Message
+message pgn kind least rows = record { pgn = pgn; kind = kind; least = least; rows = rows }
+
+unfoldable pub messages : List Message
+messages =
+    message 127250 Single 8 (heading_true ∷ heading_magnetic ∷ [])
+    ∷ message 127251 Single 5 (turning ∷ [])
+    ∷ message 127245 Single 6 (rudder_first ∷ rudder_second ∷ [])
+    ∷ message 128259 Single 3 (water_speed ∷ [])
+    ∷ message 128267 Single 5 (water_depth ∷ [])
+    ∷ message 128275 Fast 10 (distance_log ∷ [])
+    ∷ message 129025 Single 8 (position ∷ [])
+    ∷ message 129026 Single 6 (course_speed ∷ [])
+    ∷ message 129029 Fast 32 (fix ∷ [])
+    ∷ message 126992 Single 8 (system_time ∷ [])
+    ∷ message 129033 Single 6 (time_and_date ∷ [])
+    ∷ message 130306 Single 6 (wind_apparent ∷ wind_true ∷ wind_north ∷ [])
+    ∷ message 130312 Single 5 (temperature ∷ [])
+    ∷ message 130316 Single 6 (extended_temperature ∷ [])
+    ∷ message 129283 Single 6 (track ∷ [])
+    ∷ []
+
+-- ---- the row that a reading is written in
+
+-- a row, a value for each of its parts, and the payload that says them
+pub record Filling : Type 0 where
+  pub row : Layout
+  pub values : Values row.parts
+  pub payload : List ℕ
+
+abbrev fill : (row : Layout) → Values row.parts → Filling
+fill row values = record { row = row; values = values; payload = written row values }
+
+abbrev pub filling : Reading → Filling
+filling (reading.HeadingTrue h) = fill heading_true (h, tt)
+filling (reading.HeadingMagnetic h d v) = fill heading_magnetic (h, (d, (v, tt)))
+filling (reading.RateOfTurn r) = fill turning (r, tt)
+filling (reading.RudderFirst p) = fill rudder_first (p, tt)
+filling (reading.RudderSecond p) = fill rudder_second (p, tt)
+filling (reading.WaterSpeed s) = fill water_speed (s, tt)
+filling (reading.Depth d o r) = fill water_depth (d, (o, (r, tt)))
+filling (reading.DistanceLog l t) = fill distance_log (l, (t, tt))
+filling (reading.Position la lo) = fill position (la, (lo, tt))
+filling (reading.CourseSpeed m c s) = fill course_speed (m, (c, (s, tt)))
+filling (reading.Gnss d t la lo al m n h s) = fill fix (d, (t, (la, (lo, (al, (m, (n, (h, (s, tt)))))))))
+filling (reading.Time d t) = fill system_time (d, (t, tt))
+filling (reading.WindApparent s a) = fill wind_apparent (s, (a, tt))
+filling (reading.WindTrue s a) = fill wind_true (s, (a, tt))
+filling (reading.WindNorth m s a) = fill wind_north (m, (s, (a, tt)))
+filling (reading.WaterTemperature k) = fill extended_temperature (k, tt)
+filling (reading.CrossTrack d) = fill track (d, tt)

@@ -13,7 +13,7 @@ use crate::profiled::Profiled;
 use readings::range::{ANGLE, DEVIATION, RATE_OF_TURN};
 use readings::{Reading, bits};
 
-#[tactic(auto, unfolding(crate::specs::Profiled::messages))]
+#[tactic(auto, unfolding(crate::specs::Layout::messages))]
 pub fn read_heading(payload: &[u8]) -> Profiled
     ensures { result ≡ profiled 127250 payload.now }
 {
@@ -33,7 +33,7 @@ pub fn read_heading(payload: &[u8]) -> Profiled
     }
 }
 
-#[tactic(auto, unfolding(crate::specs::Profiled::messages))]
+#[tactic(auto, unfolding(crate::specs::Layout::messages))]
 pub fn read_rate_of_turn(payload: &[u8]) -> Profiled
     ensures { result ≡ profiled 127251 payload.now }
 {

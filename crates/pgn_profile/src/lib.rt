@@ -8,7 +8,6 @@
 mod field;
 mod heading;
 mod kinds;
-mod pgn;
 mod piece;
 mod position;
 mod profiled;
@@ -22,5 +21,5 @@ mod writer;
 pub use kinds::Kind;
 pub use piece::Payload;
 pub use profiled::Profiled;
-pub use reader::{kind, read};
+pub use reader::{kind, read, read_in_place};
 pub use writer::{priority, write};

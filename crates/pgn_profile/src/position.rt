@@ -24,7 +24,7 @@ use readings::range::{
 };
 use readings::{Reading, bits};
 
-#[tactic(auto, unfolding(crate::specs::Profiled::messages))]
+#[tactic(auto, unfolding(crate::specs::Layout::messages))]
 pub fn read_position(payload: &[u8]) -> Profiled
     ensures { result ≡ profiled 129025 payload.now }
 {
@@ -37,7 +37,7 @@ pub fn read_position(payload: &[u8]) -> Profiled
     })
 }
 
-#[tactic(auto, unfolding(crate::specs::Profiled::messages))]
+#[tactic(auto, unfolding(crate::specs::Layout::messages))]
 pub fn read_course(payload: &[u8]) -> Profiled
     ensures { result ≡ profiled 129026 payload.now }
 {
@@ -71,7 +71,7 @@ fn method(byte: u8) -> u8
     }
 }
 
-#[tactic(auto, unfolding(crate::specs::Profiled::messages))]
+#[tactic(auto, unfolding(crate::specs::Layout::messages))]
 pub fn read_fix(payload: &[u8]) -> Profiled
     ensures { result ≡ profiled 129029 payload.now }
 {
@@ -91,7 +91,7 @@ pub fn read_fix(payload: &[u8]) -> Profiled
     })
 }
 
-#[tactic(auto, unfolding(crate::specs::Profiled::messages))]
+#[tactic(auto, unfolding(crate::specs::Layout::messages))]
 pub fn read_cross_track(payload: &[u8]) -> Profiled
     ensures { result ≡ profiled 129283 payload.now }
 {

@@ -9,7 +9,7 @@ use crate::profiled::Profiled;
 use readings::Reading;
 use readings::range::RUDDER;
 
-#[tactic(auto, unfolding(crate::specs::Profiled::messages))]
+#[tactic(auto, unfolding(crate::specs::Layout::messages))]
 pub fn read_rudder(payload: &[u8]) -> Profiled
     ensures { result ≡ profiled 127245 payload.now }
 {

@@ -13,7 +13,7 @@ use crate::profiled::Profiled;
 use readings::Reading;
 use readings::range::{DATE, TIME};
 
-#[tactic(auto, unfolding(crate::specs::Profiled::messages))]
+#[tactic(auto, unfolding(crate::specs::Layout::messages))]
 pub fn read_system_time(payload: &[u8]) -> Profiled
     ensures { result ≡ profiled 126992 payload.now }
 {
@@ -26,7 +26,7 @@ pub fn read_system_time(payload: &[u8]) -> Profiled
     })
 }
 
-#[tactic(auto, unfolding(crate::specs::Profiled::messages))]
+#[tactic(auto, unfolding(crate::specs::Layout::messages))]
 pub fn read_time_and_date(payload: &[u8]) -> Profiled
     ensures { result ≡ profiled 129033 payload.now }
 {

@@ -25,7 +25,7 @@ const WATER_TEMPERATURE_HUNDREDTHS: Range = Range {
     high: 37_315,
 };
 
-#[tactic(auto, unfolding(crate::specs::Profiled::messages))]
+#[tactic(auto, unfolding(crate::specs::Layout::messages))]
 pub fn read_water_speed(payload: &[u8]) -> Profiled
     ensures { result ≡ profiled 128259 payload.now }
 {
@@ -37,7 +37,7 @@ pub fn read_water_speed(payload: &[u8]) -> Profiled
     })
 }
 
-#[tactic(auto, unfolding(crate::specs::Profiled::messages))]
+#[tactic(auto, unfolding(crate::specs::Layout::messages))]
 pub fn read_depth(payload: &[u8]) -> Profiled
     ensures { result ≡ profiled 128267 payload.now }
 {
@@ -51,7 +51,7 @@ pub fn read_depth(payload: &[u8]) -> Profiled
     })
 }
 
-#[tactic(auto, unfolding(crate::specs::Profiled::messages))]
+#[tactic(auto, unfolding(crate::specs::Layout::messages))]
 pub fn read_distance_log(payload: &[u8]) -> Profiled
     ensures { result ≡ profiled 128275 payload.now }
 {
@@ -64,7 +64,7 @@ pub fn read_distance_log(payload: &[u8]) -> Profiled
     })
 }
 
-#[tactic(auto, unfolding(crate::specs::Profiled::messages))]
+#[tactic(auto, unfolding(crate::specs::Layout::messages))]
 pub fn read_temperature(payload: &[u8]) -> Profiled
     ensures { result ≡ profiled 130312 payload.now }
 {
@@ -81,7 +81,7 @@ pub fn read_temperature(payload: &[u8]) -> Profiled
     Profiled::Reading(Reading::WaterTemperature { kelvin })
 }
 
-#[tactic(auto, unfolding(crate::specs::Profiled::messages))]
+#[tactic(auto, unfolding(crate::specs::Layout::messages))]
 pub fn read_extended_temperature(payload: &[u8]) -> Profiled
     ensures { result ≡ profiled 130316 payload.now }
 {

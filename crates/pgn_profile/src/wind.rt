@@ -10,7 +10,7 @@ use crate::profiled::Profiled;
 use readings::range::{ANGLE, SPEED};
 use readings::{Reading, bits};
 
-#[tactic(auto, unfolding(crate::specs::Profiled::messages))]
+#[tactic(auto, unfolding(crate::specs::Layout::messages))]
 pub fn read_wind(payload: &[u8]) -> Profiled
     ensures { result ≡ profiled 130306 payload.now }
 {

@@ -6,16 +6,12 @@
 //! decimal.
 #![tactic(auto)]
 
-mod about;
 mod number;
 pub mod range;
 mod reading;
 mod rows;
-mod validity;
 
-pub use about::{ROWS, all_rows};
 pub use number::{bits, read_signed, read_unsigned};
 pub use range::Range;
-pub use reading::{Reading, row, usable};
-pub use rows::Row;
-pub use validity::valid;
+pub use reading::{Reading, row, usable, valid};
+pub use rows::{ROWS, Row, all_rows};
