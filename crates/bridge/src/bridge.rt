@@ -57,9 +57,10 @@ impl Bridge {
         requires { IsSettings settings.now }
         ensures { IfOk result (IsNew (parts_of settings.now)) }
     {
-        let gateway = Gateway::new(alloc, &settings.config)?;
         let watching = watching_of(alloc, &settings.ais, &settings.config)?;
         let left = Left::boxed(alloc)?;
+        // The largest part, last: what is kept while others are made lies on the stack once more.
+        let gateway = Gateway::new(alloc, &settings.config)?;
         Ok(Bridge {
             gateway,
             started: false,

@@ -22,7 +22,7 @@ pub(crate) struct Left {
 }
 
 impl Left {
-    /// Nothing, in a place of its own. The stack has it but once, while it is made, and not below the caller's values.
+    /// Nothing, in a place of its own. Most of it is zeros, which are written there: the stack doesn't have it while it is made.
     #[inline(never)]
     pub(crate) fn boxed(alloc: Global) -> Result<Box<Left>, AllocError>
         ensures { IfOk result (λ b. b.value ≡ nothing_left) }

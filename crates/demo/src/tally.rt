@@ -2,16 +2,16 @@
 ghost use Rattle.std.specs.Prelude.{◌≡◌, ◌+◌, ◌<◌, ◌≤◌, ◌^◌, [], drop, take};
 ghost use Rattle.std.specs.List.{fold};
 ghost use Rattle.gate_events.specs.Emit.{CanWrite};
-ghost use Rattle.gate_outbox.specs.Output.{emit_of, emits_of};
+ghost use Rattle.gate_outbox.specs.Output.{emit_of, emits_of, most_emits};
 ghost use Rattle.history.specs.Emits.{at};
 ghost use Rattle.demo.specs.Tally.{and_all, and_one, counted, folded, tally_of, total};
 
 use arrayvec::ArrayVec;
-use capture_text::write_emit;
+use capture_text::{LONGEST_LINE, write_emit};
 use gate_core::Outbox;
 use gate_events::Emit;
 
-type Line = ArrayVec<u8, 4096>;
+type Line = ArrayVec<u8, LONGEST_LINE>;
 
 /// What a byte is added to is multiplied by this before.
 const FACTOR: u128 = 31;
@@ -45,7 +45,7 @@ impl Tally {
     pub(crate) fn add_all(&mut self, emits: &Outbox, moment: u64)
         requires { total self.old < 2 ^ 63 }
         ensures tally { self.new ≡ and_all self.old (at moment (emits_of emits.now.emits)) }
-        ensures few { total self.new ≤ total self.old + 4096 }
+        ensures few { total self.new ≤ total self.old + most_emits }
     {
         let mut line = Line::new();
         for place in 0..emits.len() {

@@ -73,8 +73,7 @@ impl<const ROOM: usize> Emits<ROOM> {
         ensures valid { IfSome result CanWrite }
     {
         match self.kept.get(place) {
-            Some(Kept::Frame(frame)) => Some(Emit::Can(frame)),
-            Some(Kept::Report(report)) => Some(Emit::Report(report)),
+            Some(kept) => Some(kept.emit()),
             None if self.posted && place == self.kept.len() => {
                 Some(Emit::Net(self.datagram.group, self.datagram.packet.as_slice()))
             }
@@ -93,7 +92,7 @@ impl<const ROOM: usize> Emits<ROOM> {
     pub fn tell(&mut self, told: Report)
         ensures { self.new ≡ and_told ROOM self.old (report told ∷ []) }
     {
-        self.kept.push(Kept::Report(told));
+        self.kept.push(Kept::of_report(told));
     }
 
     /// Appends a frame, where there is room.
@@ -101,7 +100,7 @@ impl<const ROOM: usize> Emits<ROOM> {
         requires valid { IsFrame frame }
         ensures { self.new ≡ and_told ROOM self.old (can (bus_frame frame) ∷ []) }
     {
-        self.kept.push(Kept::Frame(frame));
+        self.kept.push(Kept::of_frame(frame));
     }
 
     /// The datagram for a transmission group, whose bytes are to be written in place. The one that was there is forgotten.

@@ -2,7 +2,7 @@
 ghost use Rattle.std.specs.Prelude.{◌≡◌, ◌≤◌, [], ◌∷◌, filter, length, option_map, slice_get, IfSome};
 ghost use Rattle.gate_outbox.specs.Output.{is_datagram, told_with};
 
-use crate::kept::Kept;
+use crate::kept::{BLANK, Kept};
 use std::marker::Model;
 
 /// A place for each, in a struct of its own: Rattle has no proof of a call of the list that leaves an array of the list's own untouched.
@@ -41,7 +41,7 @@ impl<const ROOM: usize> KeptList<ROOM> {
     {
         KeptList {
             places: Places {
-                cells: [Kept::default(); ROOM],
+                cells: [BLANK; ROOM],
             },
             count: 0,
         }

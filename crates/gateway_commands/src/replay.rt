@@ -38,7 +38,8 @@ pub fn stream<S: Source, K: Sink>(bridge: &mut Bridge, input: &mut S, out: &mut 
     answer(bridge, input, out).number()
 }
 
-/// [`stream`], with the status whose number that answers.
+/// [`stream`], with the status whose number that answers. The rooms for lines lie in its frame, and not below the making of a bridge.
+#[inline(never)]
 fn answer<S: Source, K: Sink>(bridge: &mut Bridge, input: &mut S, out: &mut K) -> Status
     ensures status { IsStreamStatus (number result) }
     ensures ends { (p : Parts) → IsNew p bridge.old

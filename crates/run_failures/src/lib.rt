@@ -1,7 +1,6 @@
 //! What standard error says of a run that didn't do its work: why, and where words are no command, what the commands are.
 //!
-//! What a process says there no clause of std tells: a clause has the words for a status that says all, and the examples compare the
-//! other lines.
+//! What a process says there no clause of std tells: clauses have the words for why, and the examples compare the lines.
 #![tactic(auto)]
 
 mod links;
@@ -9,7 +8,7 @@ mod reasons;
 mod words;
 
 use crate::links::explain_links;
-use crate::reasons::reason_of;
+use crate::reasons::{file_reason, reason_of, write_reason};
 use crate::words::explain_words;
 use live_outside::Unattached;
 use statuses::Status;
@@ -53,13 +52,11 @@ pub fn explain_run(rt: &impl Eprint, ended: &Result<u8, AllocError>, kept: &Kept
     }
 }
 
-// Why standard output wasn't written. A closed pipe is how its reader says that it has enough.
+// Why standard output wasn't written.
 fn explain_write(rt: &impl Eprint, unwritten: Option<ErrorKind>) {
-    let _ = match unwritten {
-        Some(ErrorKind::BrokenPipe) => return,
-        Some(kind) => eprintln!(rt; "shipgate: the output can't be written: {kind}"),
-        None => eprintln!(rt; "shipgate: the output can't be written"),
-    };
+    if let Some(reason) = write_reason(unwritten) {
+        let _ = eprintln!(rt; "shipgate: the output{reason}");
+    }
 }
 
 // What is wrong with the configuration's file, which the third word names.
@@ -68,17 +65,6 @@ fn explain_file(rt: &impl Eprint, words: &[String], unread: Option<ErrorKind>) {
         [_, _, file, ..] => file.as_str(),
         _ => "",
     };
-    let _ = match unread {
-        Some(ErrorKind::NotFound) => eprintln!(rt;
-            "shipgate: the configuration {file} isn't there"
-        ),
-        Some(ErrorKind::IsADirectory) => eprintln!(rt;
-            "shipgate: the configuration {file} is a folder"
-        ),
-        Some(ErrorKind::FileTooLarge) => {
-            eprintln!(rt; "shipgate: the configuration {file} has more than 1 MiB")
-        }
-        Some(kind) => eprintln!(rt; "shipgate: the configuration {file} can't be read: {kind}"),
-        None => eprintln!(rt; "shipgate: the configuration {file} can't be read"),
-    };
+    let reason = file_reason(unread);
+    let _ = eprintln!(rt; "shipgate: the configuration {file}{reason}");
 }

@@ -1,7 +1,7 @@
 //! Which link couldn't be attached, and why.
 use crate::Kept;
+use crate::reasons::link_reason;
 use live_outside::Unattached;
-use std::io::ErrorKind;
 use std::str;
 
 /// Which link couldn't be attached. The network is tried once the bus is attached.
@@ -16,13 +16,6 @@ pub(crate) fn explain_links(rt: &impl Eprint, kept: &Kept<'_>) {
 // Why a link couldn't be attached.
 fn explain_link(rt: &impl Eprint, link: &str, why: &Unattached) {
     let listen = str::from_utf8(why.listen.as_slice()).unwrap_or("");
-    let _ = match why.kind {
-        ErrorKind::AddrInUse => {
-            eprintln!(rt; "shipgate: {link}.listen {listen}: a program listens there already")
-        }
-        ErrorKind::AddrNotAvailable => {
-            eprintln!(rt; "shipgate: {link}.listen {listen}: this machine has no such address")
-        }
-        kind => eprintln!(rt; "shipgate: {link}.listen {listen}: {kind}"),
-    };
+    let reason = link_reason(why.kind);
+    let _ = eprintln!(rt; "shipgate: {link}.listen {listen}{reason}");
 }

@@ -15,14 +15,17 @@ ghost use Rattle.serving.specs.Served.{outside};
 
 use arrayvec::ArrayVec;
 use bridge::Bridge;
-use capture_text::write_emit;
+use capture_text::{LONGEST_LINE, write_emit};
 use gate_events::{Detail, Emit, Report};
 use gate_outside::{Failed, Link, Sink};
 use n2k_id::Frame;
 use report_rules::SEND_FAILED;
 use sentence_text::Group;
 
-type Line = ArrayVec<u8, 4096>;
+type Line = ArrayVec<u8, LONGEST_LINE>;
+
+/// The most bytes of a line with its LF.
+const LONGEST_ENDED: usize = LONGEST_LINE + 1;
 
 /// Hands on what the bridge's last call left, at this moment, in its order.
 pub(crate) fn hand_on<K: Sink, B: Link, E: Link>(
@@ -127,7 +130,7 @@ pub(crate) fn write_report<K: Sink>(report: Report, moment: u64, out: &mut K) ->
 }
 
 /// A line with its LF.
-fn with_line_end(line: &Line) -> ArrayVec<u8, 4097>
+fn with_line_end(line: &Line) -> ArrayVec<u8, LONGEST_ENDED>
     ensures { result.items ≡ line.now.items ++ 10 ∷ [] }
 {
     let mut text = ArrayVec::new();
