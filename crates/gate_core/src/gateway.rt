@@ -83,6 +83,7 @@ impl Gateway {
         ensures after { self.new ≡ (stepped by_keys self.old (entry_of event.now)).after }
         ensures output { out.new ≡ output_of self.old.settings.name (stepped by_keys self.old (entry_of event.now)) }
         ensures history { IsStep (entry_of event.now) self.old self.new out.new }
+        ensures settings { AreSettings self.old.settings }
     {
         self.state.step(event, out);
     }
@@ -105,13 +106,6 @@ impl Gateway {
         ensures history { IsCommandStep source address self.old self.new out.new }
     {
         self.state.obey(Command { source, address }, out);
-    }
-
-    /// The settings of a gateway are valid, before its start and after all that it took. This does nothing: what it says holds always.
-    pub fn settings_are_valid(&self)
-        ensures { AreSettings self.now.settings }
-    {
-        let _settings = &self.state;
     }
 
     /// The moment of the last entry, in microseconds; 0 before any.

@@ -1,5 +1,5 @@
 -- Two gateways that hear the same of a device tell the same of it.
-use Rattle.std.proofs.Common.{◌≡◌, ℕ, Bool, true, false, List, [], ◌∷◌, ◌++◌, map, refl, sym, ap, ◌∙◌}
+use Rattle.std.proofs.Common.{◌≡◌, ℕ, Bool, true, false, List, [], ◌∷◌, ◌++◌, map, inl, inr, refl, sym, ap, subst, ◌∙◌}
 use Rattle.std.specs.Prelude.{◌==◌, Option, None, Some, filter, reverse, if◌then◌else◌}
 use Rattle.std.proofs.lemmas.List.{append_cancel_right, map-append, reverse-append}
 use Rattle.std.proofs.lemmas.List.Elements.{filter-append}
@@ -16,8 +16,8 @@ use Rattle.gate_model.specs.Machine.{Machine}
 use Rattle.gate_outbox.specs.declared.done.Done.{Done}
 use Rattle.gate_core.specs.Promises.{done_told}
 use Rattle.isolation.specs.declared.running.FrameEvent.{FrameEvent}
-use Rattle.isolation.specs.Runs.{entry_of, entry_at, and_event, and_events, told_from, IsRun, Runs}
-use Rattle.isolation.specs.Isolated.{HearTheSame, TellTheSame}
+use Rattle.isolation.specs.Runs.{entry_of, entry_at, and_event, and_events, told_from, IsRun, IsRunValid, Runs}
+use Rattle.isolation.specs.Isolated.{AreAlike, HearTheSame, TellTheSame}
 
 -- ---- what wasn't refused with the events wasn't before
 
@@ -89,7 +89,32 @@ module _ (c d : Settings) (s : ℕ) (h g : History) (lefts rights : List FrameEv
       ∙ ap (λ (ps : List Plain). map told_plain (reverse ps)) (newer_alike left.newer right.newer left.complete right.complete)
       ∙ sym (told_is_of a right.newer) ∙ sym right.told_is
 
+-- ---- of which one at least was stepped, or neither tells anything
+
+-- settings that are alike are valid together
+valid_too : (c d : Settings) → AreAlike c d → AreSettings d → AreSettings c
+valid_too c d alike are = record {
+  address = rw (sym alike.address) are.address;
+  apart = rw (sym alike.presets) are.apart;
+  others = rw (sym alike.name, sym alike.address, sym alike.presets) are.others;
+}
+
+silent : (c : Settings) (s : ℕ) (h : History) (a : ℕ) (after : Machine) (told : List Done) → IsRun c s h [] a after told → told ≡ []
+silent c s h a after told run =
+    run.told_is ∙ ap (told_from a) (append_cancel_right run.newer [] (messages_of (receiver_of c) s h) (sym run.complete))
+
 pub tell_the_same : (left right left' right' : Machine) (lefts rights : List FrameEvent) (a : ℕ) (told told' : List Done)
-    → AreSettings left.settings → Runs left lefts a left' told → Runs right rights a right' told' → TellTheSame left right lefts rights a told told'
-tell_the_same left right left' right' lefts rights a told told' are runs runs' s h g is is' stands stands' same =
-    tell_alike left.settings right.settings s h g lefts rights a are same left' right' told told' (runs s h is stands) (runs' s g is' stands')
+    → IsRunValid left.settings lefts → IsRunValid right.settings rights → Runs left lefts a left' told → Runs right rights a right' told'
+    → TellTheSame left right lefts rights a told told'
+tell_the_same left right left' right' lefts rights a told told' valid valid' runs runs' s h g is is' stands stands' same =
+    by valid valid'
+  where
+    alike : AreSettings left.settings → told ≡ told'
+    alike are = tell_alike left.settings right.settings s h g lefts rights a are same left' right' told told' (runs s h is stands) (runs' s g is' stands')
+
+    by : IsRunValid left.settings lefts → IsRunValid right.settings rights → told ≡ told'
+    by (inr are) other = alike are
+    by (inl none) (inr are) = alike (valid_too left.settings right.settings same.alike are)
+    by (inl none) (inl none') =
+        silent left.settings s h a left' told (subst (λ (es : List FrameEvent). IsRun left.settings s h es a left' told) none (runs s h is stands))
+        ∙ sym (silent right.settings s g a right' told' (subst (λ (es : List FrameEvent). IsRun right.settings s g es a right' told') none' (runs' s g is' stands')))

@@ -1,8 +1,9 @@
 -- A run that goes on by one event.
-use Rattle.std.proofs.Common.{◌≡◌, ℕ, Bool, true, false, cond, List, [], ◌∷◌, ◌++◌, map, take, length, get_or, suc, ◌+◌, ◌<◌, ◌≤◌, arith, refl, sym, ap, subst, ◌∙◌}
-use Rattle.std.specs.Prelude.{◌==◌, Option, None, Some, option_map, filter, reverse, if◌then◌else◌}
+use Rattle.std.proofs.Common.{◌≡◌, ℕ, Bool, true, false, cond, List, [], ◌∷◌, ◌++◌, map, take, length, get_or, suc, ◌+◌, ◌<◌, ◌≤◌, arith, inl, inr, refl, sym, ap, subst, ◌∙◌}
+use Rattle.std.specs.Prelude.{◌==◌, ◌⊎◌, Option, None, Some, option_map, filter, reverse, if◌then◌else◌}
 use Rattle.std.proofs.Math.Seq.{take-length, take-suc}
 use Rattle.std.proofs.lemmas.List.{append-nil, map-append, reverse-append, take_all}
+use Rattle.history.specs.AddressLaws.{AreSettings}
 use Rattle.history.specs.Entries.{History, IsHistory, is_accepted}
 use Rattle.history.specs.Messages.{Message, done, messages_of, with_message}
 use Rattle.history.specs.Receiver.{receiver_of}
@@ -13,7 +14,7 @@ use Rattle.gate_outbox.specs.declared.done.Done.{Done}
 use Rattle.gate_core.specs.Promises.{done_told}
 use Rattle.gate_core.specs.Steps.{by_keys}
 use Rattle.isolation.specs.declared.running.FrameEvent.{FrameEvent}
-use Rattle.isolation.specs.Runs.{entry_of, and_event, and_events, told_from, done_by, kept_from, IsCut, IsRun, IsTurn, Runs, Turns}
+use Rattle.isolation.specs.Runs.{entry_of, and_event, and_events, told_from, done_by, kept_from, IsCut, IsRun, IsRunValid, IsTurn, Runs, Turns}
 
 and_events_last : (h : History) (es : List FrameEvent) (e : FrameEvent) → and_events h (es ++ e ∷ []) ≡ and_event (and_events h es) e
 and_events_last h [] e = refl
@@ -85,6 +86,20 @@ pub runs_all : (before after : Machine) (all : List FrameEvent) (i : ℕ) (addre
     → Runs before all address after told
 runs_all before after all i address told beyond runs =
     subst (λ (es : List FrameEvent). Runs before es address after told) (take_all i all beyond) runs
+
+-- ---- a gateway that was stepped has valid settings
+
+abbrev pub IsSteppedValid : ℕ → Machine → Machine → Type 0
+IsSteppedValid count before now = ((count ≡ 0) × (now ≡ before)) ⊎ AreSettings before.settings
+
+pub valid_more : (count : ℕ) (before now after : Machine) → IsSteppedValid count before now → AreSettings now.settings → IsSteppedValid (count + 1) before after
+valid_more count before now after (inl none) are = inr (subst (λ (g : Machine). AreSettings g.settings) none.1 are)
+valid_more count before now after (inr are) now_are = inr are
+
+pub valid_all : (count : ℕ) (before now : Machine) (all : List FrameEvent) → length all ≤ count → IsSteppedValid count before now → IsRunValid before.settings all
+valid_all count before now [] beyond valid = inl refl
+valid_all count before now (e ∷ es) beyond (inl none) = absurd (let is = none.0 in omega (arith, beyond, is))
+valid_all count before now (e ∷ es) beyond (inr are) = inr are
 
 -- ---- want of memory
 

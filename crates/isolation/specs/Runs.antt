@@ -1,7 +1,8 @@
 -- A gateway over a list of frames and ticks, and the messages that it completes of one device.
-use Rattle.std.specs.Prelude.{◌≡◌, ℕ, ◌==◌, List, [], ◌∷◌, ◌++◌, map, filter, reverse, take, Option, None, Some, option_map, IfSome, if◌then◌else◌}
+use Rattle.std.specs.Prelude.{◌≡◌, ◌⊎◌, ℕ, ◌==◌, List, [], ◌∷◌, ◌++◌, map, filter, reverse, take, Option, None, Some, option_map, IfSome, if◌then◌else◌}
 use Rattle.n2k_id.specs.declared.frame.Frame.{Frame}
 use Rattle.n2k_id.specs.Frame.{IsFrame, bus_frame}
+use Rattle.history.specs.AddressLaws.{AreSettings}
 use Rattle.history.specs.Entries.{Entry, History, IsHistory, frame, tick, is_accepted}
 use Rattle.history.specs.Messages.{Message, done, messages_of}
 use Rattle.history.specs.Receiver.{receiver_of}
@@ -49,6 +50,10 @@ pub record IsRun (c : Settings) (s : ℕ) (h : History) (events : List FrameEven
 abbrev pub Runs : Machine → List FrameEvent → ℕ → Machine → List Done → Type 0
 Runs before events address after told =
     (s : ℕ) (h : History) → IsHistory h → Stands by_keys before.settings s h before → IsRun before.settings s h events address after told
+
+-- a gateway that was stepped has valid settings
+abbrev pub IsRunValid : Settings → List FrameEvent → Type 0
+IsRunValid c events = (events ≡ []) ⊎ AreSettings c
 
 -- want of memory cut the run short: the gateway stands for the history with some first events
 pub record IsCut (before : Machine) (events : List FrameEvent) (after : Machine) : Type 0 where

@@ -29,8 +29,6 @@ pub fn same_from(
     ensures cut { IfErr result (λ _. IsCut left.old lefts.now left.new × IsCut right.old rights.now right.new) }
     ensures isolated { IfOk result (λ told. TellTheSame left.old right.old lefts.now rights.now address told.0.items told.1.items) }
 {
-    // The laws of histories hold of the receivers that valid settings make.
-    left.settings_are_valid();
     let from_left = match run(alloc, left, address, lefts) {
         Ok(told) => told,
         Err(error) => return Err(error),

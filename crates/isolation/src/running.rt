@@ -1,8 +1,9 @@
 //! A gateway over a list of frames, and what it completes of one device.
 ghost use Rattle.std.specs.Prelude.{◌≡◌, ◌++◌, All, IfErr, IfOk};
+ghost use Rattle.history.specs.AddressLaws.{AreSettings};
 ghost use Rattle.gate_core.specs.Steps.{IsEventValid};
 ghost use Rattle.gate_core.specs.Steps as steps;
-ghost use Rattle.isolation.specs.Runs.{IsCut, IsFrameEvent, Runs, Turns, entry_of, kept_from};
+ghost use Rattle.isolation.specs.Runs.{IsCut, IsFrameEvent, IsRunValid, Runs, Turns, entry_of, kept_from};
 
 use gate_core::{Done, Gateway, Outbox};
 use gate_events::Event;
@@ -33,7 +34,8 @@ fn event_of(event: &FrameEvent) -> Event<'static>
 /// Steps the gateway once, and gives the message that this completes.
 fn turn(gateway: &mut Gateway, outbox: &mut Outbox, event: &FrameEvent) -> Option<Done>
     requires { IsFrameEvent event.now }
-    ensures { Turns event.now gateway.old gateway.new result }
+    ensures turns { Turns event.now gateway.old gateway.new result }
+    ensures settings { AreSettings gateway.old.settings }
 {
     outbox.clear();
     gateway.step(&event_of(event), outbox);
@@ -60,6 +62,7 @@ pub(crate) fn run(
 ) -> Result<Vec<Done>, AllocError>
     requires { All IsFrameEvent events.now }
     ensures runs { IfOk result (λ told. Runs gateway.old events.now address gateway.new told.items) }
+    ensures settings { IfOk result (λ _. IsRunValid gateway.old.settings events.now) }
     ensures cut { IfErr result (λ _. IsCut gateway.old events.now gateway.new) }
 {
     let mut outbox = Outbox::new();
