@@ -1,5 +1,5 @@
 -- The laws of the table: what is read is valid, and what is written of a valid reading is read as that reading.
-use Rattle.std.proofs.Common.{◌≡◌, ℕ, Bool, true, false, List, [], ◌∷◌, length, nat_lt, ◌==◌, Some, refl, ap, ◌∙◌, arith}
+use Rattle.std.proofs.Common.{◌≡◌, ℕ, Bool, true, false, List, [], ◌∷◌, length, nat_lt, ◌==◌, Some, refl, ap, ◌∙◌}
 use Rattle.std.specs.Prelude.{if◌then◌else◌}
 use Rattle.readings.specs.declared.reading.Reading.{Reading}
 use Rattle.readings.specs.declared.reading.Reading.TheVariants as reading
@@ -15,19 +15,25 @@ use Rattle.pgn_profile.proofs.Parts.{are_in, is_well_formed, written_back}
 
 -- ---- what is read is valid
 
-valid_by : (row : Layout) (p : List ℕ) → GivesValid (says.Reading (reading_by row p))
-valid_by row p = row.valid (values_in row.parts p) (are_in row.parts p)
-
 rows_valid : (rows : List Layout) (p : List ℕ) → GivesValid (by_rows rows p)
 rows_valid [] p = tt
-rows_valid (row ∷ rows) p = let here = valid_by row p in let others = rows_valid rows p in grind (arith, here, others)
-
-long_valid : (m : Message) (p : List ℕ) → GivesValid (by_message (Some m) p)
-long_valid m p = let here = rows_valid m.rows p in grind (arith, here)
+rows_valid (row ∷ rows) p = by (row.selects p) (rows_valid rows p)
+  where
+    by : (b : Bool) → GivesValid (by_rows rows p) → GivesValid (if b then says.Reading (reading_by row p) else by_rows rows p)
+    by true others = row.valid (values_in row.parts p) (are_in row.parts p)
+    by false others = others
 
 found_valid : (list : List Message) (pgn : ℕ) (p : List ℕ) → GivesValid (by_message (message_in list pgn) p)
 found_valid [] pgn p = tt
-found_valid (m ∷ list) pgn p = let here = long_valid m p in let others = found_valid list pgn p in grind (arith, here, others)
+found_valid (m ∷ list) pgn p = found (m.pgn == pgn) (found_valid list pgn p)
+  where
+    long : (b : Bool) → GivesValid (if b then says.Short else by_rows m.rows p)
+    long true = tt
+    long false = rows_valid m.rows p
+
+    found : (b : Bool) → GivesValid (by_message (message_in list pgn) p) → GivesValid (by_message (if b then Some m else message_in list pgn) p)
+    found true others = long (nat_lt (length p) m.least)
+    found false others = others
 
 pub profiled_valid : (pgn : ℕ) (p : List ℕ) → GivesValid (profiled pgn p)
 profiled_valid pgn p = found_valid messages pgn p

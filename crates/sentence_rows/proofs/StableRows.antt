@@ -1,5 +1,5 @@
 -- Each sentence that is written is read as one reading, which is said in it again.
-use Rattle.std.proofs.Common.{◌≡◌, ℕ, ◌+◌, ◌≤◌, ℤ, pos, Bool, true, false, Option, Some, None, Result, Ok, List, [], ◌∷◌, ◌++◌, All, length, map, refl, sym, ap, ◌∙◌, arith}
+use Rattle.std.proofs.Common.{rules, ◌≡◌, ℕ, ◌+◌, ◌≤◌, ℤ, pos, Bool, true, false, Option, Some, None, Result, Ok, List, [], ◌∷◌, ◌++◌, All, length, map, refl, sym, ap, ◌∙◌, arith}
 use Rattle.std.specs.Prelude.{◌&&◌, ◌||◌, not, codes, is_none, is_some, Contains, if◌then◌else◌}
 use Rattle.std.specs.List.{AllByRecursion}
 use Rattle.std.proofs.lemmas.Int.{ints}
@@ -498,27 +498,15 @@ few_methods m h = omega (arith, ints, h.1)
 each_kept : (r : Reading) (with_ths : Bool) (d : Option Date) → IsValid r → IsOf (day_said r) d → AllByRecursion (Kept with_ths) (said with_ths d r)
 each_kept (reading.HeadingTrue h) false d v on = (hdt false h, tt)
 each_kept (reading.HeadingTrue h) true d v on = (hdt true h, (ths_behind h, tt))
-each_kept (reading.HeadingMagnetic h x y) w d v on = (hdg w h x y v.1.0 v.1.1.0, tt)
-each_kept (reading.RateOfTurn r) w d v on = (rot w r v.0, tt)
-each_kept (reading.RudderFirst p) w d v on = (rsa_first w p v.0, tt)
-each_kept (reading.RudderSecond p) w d v on = (rsa_second w p v.0, tt)
-each_kept (reading.WaterSpeed s) w d v on = (vhw w s v.0, tt)
-each_kept (reading.Depth x o r) w d v on = (dpt w x o r v.0 v.1.0 v.1.1.0, (dbt w x v.0, tt))
-each_kept (reading.DistanceLog l t) w d v on = (vlw w l t v.0 v.1.0, tt)
 each_kept (reading.Position la lo) w d v on =
     (gll w (beside la lo) (beside lo la) (beside_within ranges.latitude la lo v.0) (beside_within ranges.longitude lo la v.1.0) (both_beside la lo), tt)
-each_kept (reading.CourseSpeed m c s) w d v on = (vtg w m c s v.1.0, tt)
 each_kept (reading.Gnss da t la lo al m n h s) w d v on = (
   gga w t (beside la lo) (beside lo la) al m n h s v.1.0 (beside_within ranges.fix_latitude la lo v.1.1.0) (beside_within ranges.fix_longitude lo la v.1.1.1.0)
       v.1.1.1.1.0 (few_methods m v.1.1.1.1.1.0) v.1.1.1.1.1.1.0 v.1.1.1.1.1.1.1.0 v.1.1.1.1.1.1.1.1.0 (both_beside la lo),
   tt,
 )
 each_kept (reading.Time da t) w d v on = (zda w da t d v.0 v.1.0 on, tt)
-each_kept (reading.WindApparent s a) w d v on = (mwv_apparent w s a v.0, tt)
-each_kept (reading.WindTrue s a) w d v on = (mwv_true w s a v.0, tt)
-each_kept (reading.WindNorth m s a) w d v on = (mwd w m s a v.0, tt)
-each_kept (reading.WaterTemperature k) w d v on = (mtw w k v.0, tt)
-each_kept (reading.CrossTrack x) w d v on = (xte w x v.0, tt)
+each_kept _ w d v on = search (rules, hdg, rot, rsa_first, rsa_second, vhw, dpt, dbt, vlw, vtg, mwv_apparent, mwv_true, mwd, mtw, xte)
 
 all_stable : (talker : List ℕ) (w : Bool) (sentences : List (List ℕ × List Field)) → AllByRecursion (λ s. IsReadBack talker s.0 s.1) sentences → AllByRecursion (Kept w) sentences
     → All (IsStable talker w) (lines_by talker sentences)
