@@ -10,7 +10,7 @@ use Rattle.gate_outbox.specs.Output.{Emitted, IsEmitted, is_datagram}
 none_of : (ks : List Kept) → filter is_datagram (map kept_emit ks) ≡ []
 none_of [] = refl
 none_of (kept.Frame len id bytes ∷ ks) = none_of ks
-none_of (_ ∷ ks) = none_of ks
+none_of (kept.Report rule what ∷ ks) = none_of ks
 
 pub no_datagrams : (l : List Emit) (count : ℕ) (cells : List Kept) → first_emits count cells ≡ l → filter is_datagram l ≡ []
 no_datagrams l count cells view = subst (λ es. filter is_datagram es ≡ []) view (none_of (take count cells))

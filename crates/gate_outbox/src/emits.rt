@@ -73,7 +73,8 @@ impl<const ROOM: usize> Emits<ROOM> {
         ensures valid { IfSome result CanWrite }
     {
         match self.kept.get(place) {
-            Some(kept) => Some(kept.emit()),
+            Some(Kept::Frame { len, id, bytes }) => Some(Emit::Can(Frame { id, len, bytes })),
+            Some(Kept::Report { rule, detail }) => Some(Emit::Report(Report { rule, detail })),
             None if self.posted && place == self.kept.len() => {
                 Some(Emit::Net(self.datagram.group, self.datagram.packet.as_slice()))
             }
