@@ -5,10 +5,12 @@ use Rattle.std.specs.declared.net.ipv4_addr.Ipv4Addr.{Ipv4Addr}
 use Rattle.std.specs.Net.Grammar.{IsIpv4Text, Parses}
 use Rattle.std.specs.Net.Text.{dotted_text}
 use Rattle.std.proofs.NetLemmas.Alphabet.{IsDigitOrDot, All-ipv4_text}
-use Rattle.std.proofs.Math.Seq.{take-append_seam, drop-append-add}
+use Rattle.std.proofs.Math.Seq.{take-append_seam, drop-append-add, get_or-append_seam}
+use Rattle.std.proofs.lemmas.Bool.{false≢true}
 use Rattle.std.proofs.lemmas.List.{get_or_append_left, drop_more}
 use Rattle.std.proofs.lemmas.List.Quantifiers.{position-Some}
 use Rattle.std.proofs.lemmas.List.Sums.{position_or_len_is}
+use Rattle.std.proofs.lemmas.Option.{none-some}
 use Rattle.config_values.specs.Endpoints.{IsEndpoint, IsHost, IsPort}
 use Rattle.config_values.proofs.Pairs.{rest, rest_is}
 use Rattle.config_values.proofs.Failing.{never}
@@ -18,14 +20,9 @@ pub tells_host :
     {E : Type 0} → (text : List ℕ) (r : Result Ipv4Addr E) (b : Bool)
     → Parses IsIpv4Text text r → b ≡ is_ok r → (IsTrue b → IsHost text) × (IsHost text → IsTrue b)
 tells_host text (Ok a) true spells e = (λ _. record { octets = a.octets; dotted = spells }, λ _. refl)
-tells_host text (Ok a) false spells e = absurd (let no : ⊥ = cc in no)
-tells_host text (Err x) true spells e = absurd (let no : ⊥ = cc in no)
+tells_host text (Ok a) false spells e = absurd (false≢true e)
+tells_host text (Err x) true spells e = absurd (false≢true (sym e))
 tells_host text (Err x) false spells e = never (λ host. spells (record { octets = host.octets }) host.dotted)
-
--- what stands behind a list
-behind : (xs ys : List ℕ) → get_or (xs ++ ys) (length xs) 0 ≡ get_or ys 0 0
-behind [] ys = refl
-behind (x ∷ xs) ys = behind xs ys
 
 -- numbers of four octets
 small : (a b c d : ℕ) → (a < 256) × (b < 256) × (c < 256) × (d < 256) → (k : ℕ) → get_or (a ∷ b ∷ c ∷ d ∷ []) k 0 < 2 ^ 8
@@ -57,7 +54,7 @@ first_colon text e =
     ap (λ (t : List ℕ). is_colon (get_or t k 0)) e.spelled
     ∙ ap is_colon (get_or_append_left e.host (58 ∷ e.port) 0 k within) ∙ no_colon e.host e.at_host k within in
     let here : is_colon (get_or text (length e.host) 0) ≡ true =
-    ap (λ (t : List ℕ). is_colon (get_or t (length e.host) 0)) e.spelled ∙ ap is_colon (behind e.host (58 ∷ e.port)) in
+    ap (λ (t : List ℕ). is_colon (get_or t (length e.host) 0)) e.spelled ∙ ap is_colon (get_or-append_seam e.host 58 e.port 0) in
     position_or_len_is is_colon text (length e.host) 0 (omega arith) before (λ _. here)
 
 position_is : (text : List ℕ) (e : IsEndpoint text) → position is_colon text ≡ Some (length e.host)
@@ -67,14 +64,11 @@ position_is text e =
     rw (first_colon text e, lt-ltb (length e.host) (length text) within)
 
 -- a test that passes exactly where a fact holds
-abbrev Tells : Bool → Type 0 → Type 0
+abbrev pub Tells : Bool → Type 0 → Type 0
 Tells b P = (IsTrue b → P) × (P → IsTrue b)
 
 no_endpoint : (text : List ℕ) → position is_colon text ≡ None → IsEndpoint text → ⊥
-no_endpoint text none e =
-    let some = position_is text e in
-    let bad : ⊥ = cc in
-    bad
+no_endpoint text none e = none-some (length e.host) (sym none ∙ position_is text e)
 
 -- a text without a colon is no endpoint
 pub never_endpoint : (text : List ℕ) → position is_colon text ≡ None → Tells false (IsEndpoint text)
@@ -115,4 +109,4 @@ with_host text i a b at host is port =
 -- where none does, the text is no endpoint
 pub no_host : (text : List ℕ) (i : ℕ) (a : Bool) → position is_colon text ≡ Some i → Tells a (IsHost (take i text)) → a ≡ false → Tells a (IsEndpoint text)
 no_host text i a at host is =
-    (λ holds. absurd (let bad : ⊥ = cc in bad), λ e. host.1 (endpoint_to text i at e).0)
+    (λ holds. absurd (false≢true (sym is ∙ holds)), λ e. host.1 (endpoint_to text i at e).0)

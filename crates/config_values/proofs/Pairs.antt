@@ -1,7 +1,7 @@
 -- Pairs of a list: an element and a later one.
 use Rattle.std.proofs.Common.{◌≡◌, ℕ, ◌+◌, ◌-◌, ◌<◌, Bool, true, false, IsTrue, List, length, get_or, take, drop, All, sym, ap, ◌∙◌, subst, arith, inl, inr}
 use Rattle.std.specs.List.{AllPairs}
-use Rattle.std.proofs.lemmas.Bool.{cases_lt}
+use Rattle.std.proofs.lemmas.Bool.{cases_lt, false≢true}
 use Rattle.std.proofs.lemmas.List.{get_or-drop, get_or_default, length-drop, take_all}
 
 -- R holds of each of the first n elements and each later one
@@ -62,6 +62,4 @@ pub none_behind :
     → (IsTrue passes → All (R x) (rest xs n)) × (All (R x) (rest xs n) → IsTrue passes) → passes ≡ false → AllPairs R xs → ⊥
 none_behind {X} R xs n x passes is inside tells fails all =
     let here : All (R x) (rest xs n) = subst (λ (ys : List X). All (R x) ys) (sym (rest_is xs n)) (pairs_behind R xs n x is inside all) in
-    let passed : passes ≡ true = tells.1 here in
-    let no : ⊥ = cc in
-    no
+    false≢true (sym fails ∙ tells.1 here)

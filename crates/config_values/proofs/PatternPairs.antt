@@ -1,7 +1,8 @@
 -- Patterns that are equal.
-use Rattle.std.proofs.Common.{◌≡◌, ◌≢◌, ℕ, nat_eq, ◌&&◌, not, IsTrue, Bool, true, false, Option, None, Some, refl, ap, subst, eqb-true, eq-eqb}
+use Rattle.std.proofs.Common.{◌≡◌, ◌≢◌, ℕ, nat_eq, ◌&&◌, not, IsTrue, Bool, true, false, Option, None, Some, refl, sym, ap, ◌∙◌, subst, eqb-true, eq-eqb}
 use Rattle.std.specs.Bool.{beq}
 use Rattle.std.specs.Option.{option_eq}
+use Rattle.std.proofs.lemmas.Bool.{and_parts, false≢true}
 use Rattle.n2k_id.specs.declared.pattern.Pattern.{Pattern}
 use Rattle.n2k_id.specs.contracts.pattern.PatternPartialEq as pattern
 
@@ -13,25 +14,20 @@ same p q =
     && (option_eq nat_eq p.class q.class && (option_eq nat_eq p.system_instance q.system_instance
     && (option_eq nat_eq p.industry q.industry && option_eq beq p.arbitrary q.arbitrary))))))))
 
-both : (a b : Bool) → (a && b) ≡ true → (a ≡ true) × (b ≡ true)
-both true true e = (refl, refl)
-both true false e = absurd (let no : ⊥ = cc in no)
-both false b e = absurd (let no : ⊥ = cc in no)
-
 same_number : (a b : Option ℕ) → option_eq nat_eq a b ≡ true → a ≡ b
 same_number None None e = refl
-same_number None (Some y) e = absurd (let no : ⊥ = cc in no)
-same_number (Some x) None e = absurd (let no : ⊥ = cc in no)
+same_number None (Some y) e = absurd (false≢true e)
+same_number (Some x) None e = absurd (false≢true e)
 same_number (Some x) (Some y) e = ap (λ n. Some n) (eqb-true x y e)
 
 same_bit : (a b : Option Bool) → option_eq beq a b ≡ true → a ≡ b
 same_bit None None e = refl
-same_bit None (Some y) e = absurd (let no : ⊥ = cc in no)
-same_bit (Some x) None e = absurd (let no : ⊥ = cc in no)
+same_bit None (Some y) e = absurd (false≢true e)
+same_bit (Some x) None e = absurd (false≢true e)
 same_bit (Some true) (Some true) e = refl
 same_bit (Some false) (Some false) e = refl
-same_bit (Some true) (Some false) e = absurd (let no : ⊥ = cc in no)
-same_bit (Some false) (Some true) e = absurd (let no : ⊥ = cc in no)
+same_bit (Some true) (Some false) e = absurd (false≢true e)
+same_bit (Some false) (Some true) e = absurd (false≢true e)
 
 number_itself : (a : Option ℕ) → option_eq nat_eq a a ≡ true
 number_itself None = refl
@@ -74,15 +70,15 @@ made a b c d e f g h i j = record {
 equal : (p q : Pattern) → same p q ≡ true → p ≡ q
 unfolding made
 equal p q e =
-    let (unique, e1) = both _ _ e in
-    let (manufacturer, e2) = both _ _ e1 in
-    let (instance_lower, e3) = both _ _ e2 in
-    let (instance_upper, e4) = both _ _ e3 in
-    let (function, e5) = both _ _ e4 in
-    let (reserved, e6) = both _ _ e5 in
-    let (class, e7) = both _ _ e6 in
-    let (system_instance, e8) = both _ _ e7 in
-    let (industry, arbitrary) = both _ _ e8 in
+    let (unique, e1) = and_parts _ _ e in
+    let (manufacturer, e2) = and_parts _ _ e1 in
+    let (instance_lower, e3) = and_parts _ _ e2 in
+    let (instance_upper, e4) = and_parts _ _ e3 in
+    let (function, e5) = and_parts _ _ e4 in
+    let (reserved, e6) = and_parts _ _ e5 in
+    let (class, e7) = and_parts _ _ e6 in
+    let (system_instance, e8) = and_parts _ _ e7 in
+    let (industry, arbitrary) = and_parts _ _ e8 in
     let f1 = same_number p.unique q.unique unique in
     let f2 = same_number p.manufacturer q.manufacturer manufacturer in
     let f3 = same_number p.instance_lower q.instance_lower instance_lower in
@@ -99,18 +95,12 @@ equal p q e =
     cc in
     joined
 
-true_is_no : (r : Bool) → r ≡ false → IsTrue r → ⊥
-true_is_no r e holds = let no : ⊥ = cc in no
-
-other : (p q : Pattern) → same p q ≡ false → p ≡ q → ⊥
-other p q is e =
-    let one : same p q ≡ true = subst (λ (x : Pattern). same p x ≡ true) e (itself p) in
-    let no : ⊥ = cc in
-    no
+other : (p q : Pattern) → same p q ≡ false → p ≢ q
+other p q is e = false≢true (sym is ∙ subst (λ (x : Pattern). same p x ≡ true) e (itself p))
 
 by_test : (p q : Pattern) (b : Bool) → same p q ≡ b → (r : Bool) → r ≡ not b → (IsTrue r → p ≢ q) × (p ≢ q → IsTrue r)
-by_test p q true is r e = (λ holds same_one. true_is_no r e holds, λ differs. absurd (differs (equal p q is)))
-by_test p q false is r e = (λ holds same_one. other p q is same_one, λ differs. e)
+by_test p q true is r e = (λ holds same_one. false≢true (sym e ∙ holds), λ differs. absurd (differs (equal p q is)))
+by_test p q false is r e = (λ holds. other p q is, λ differs. e)
 
 -- the test that `!=` computes tells which patterns differ
 pub differ : (p q : Pattern) (r : Bool) → r ≡ not (pattern.TheImpl.ghosts.eq p q) → (IsTrue r → p ≢ q) × (p ≢ q → IsTrue r)

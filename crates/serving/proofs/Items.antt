@@ -3,7 +3,7 @@ use Rattle.std.proofs.Common.{◌≡◌, ◌≢◌, ℕ, ◌+◌, ◌-◌, ◌�
 use Rattle.std.specs.Prelude.{◌==◌, codes, Option, Some, None, Result, Ok, Err}
 use Rattle.std.specs.List.{slice_get}
 use Rattle.std.proofs.lemmas.Bool.{eqb-true}
-use Rattle.std.proofs.lemmas.List.{append-nil, take-append-drop, take_all, length-drop}
+use Rattle.std.proofs.lemmas.List.{append-nil, take-append-drop, take_all, length-drop, nil_from_length}
 use Rattle.n2k_id.specs.Frame.{BusFrame}
 use Rattle.report_rules.specs.Rules as rules
 use Rattle.gate_events.specs.declared.emit.Detail.TheVariants as detail
@@ -105,13 +105,9 @@ broken_off a b c faults faults' text rest t joins some rose = record {
   rose = rose;
 }
 
-empty : (xs : List ℕ) → length xs ≡ 0 → xs ≡ []
-empty [] none = refl
-empty (x ∷ xs) none = absurd (omega (arith, none))
-
 pub taken_all : (a b : Option (List ℕ)) (text rest : List ℕ) (answer : Bool) → Taken a b text rest → answer ≡ (length rest == 0) → answer ≡ true → Joins a b text
 taken_all a b text rest answer t is test =
-    let none : rest ≡ [] = empty rest (eqb-true (length rest) 0 (sym is ∙ test)) in
+    let none : rest ≡ [] = nil_from_length rest (eqb-true (length rest) 0 (sym is ∙ test)) in
     subst (λ (x : List ℕ). Joins a b x) (sym (append-nil t.part) ∙ ap (λ (x : List ℕ). t.part ++ x) (sym none) ∙ t.split) t.joins
 
 -- ---- an item

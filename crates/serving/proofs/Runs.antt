@@ -1,7 +1,7 @@
 -- A run of turns, one behind the other.
 use Rattle.std.proofs.Common.{◌≡◌, ℕ, ◌+◌, ◌<◌, suc, List, [], ◌∷◌, ◌++◌, length, map, refl, sym, ap, subst, ◌∙◌, append_assoc, arith, length-append}
 use Rattle.std.specs.Prelude.{Option, Some, None}
-use Rattle.std.proofs.lemmas.List.{append-nil, map-append}
+use Rattle.std.proofs.lemmas.List.{append-nil, length-map, map-append}
 use Rattle.gate_outside.specs.Faults.{Rose}
 use Rattle.gate_outside.specs.Link.{Outcome}
 use Rattle.gate_outside.specs.Told.{Joins}
@@ -30,10 +30,6 @@ by_bus heard = map (λ h. h.bus) heard
 
 abbrev pub by_net : List Heard → List Outcome
 by_net heard = map (λ h. h.net) heard
-
-as_many : {X : Type 0} (f : Heard → X) (heard : List Heard) → length (map f heard) ≡ length heard
-as_many f [] = refl
-as_many f (h ∷ heard) = ap (λ (k : ℕ). suc k) (as_many f heard)
 
 module _ (p : Parts) where
   abbrev pub turn_of : ℕ → Heard → Option Running → Turned
@@ -154,14 +150,14 @@ module _ (count : ℕ) (first now : Bridged) (a b c : Option (List ℕ)) (old be
               (front_then x.tried d.tried d.last before (turn p (1 + length x.heard) t.reading t.bus t.net g).due (x.is_due p is_new)
               (subst (λ (k : ℕ). IsFront (all_due (d.tried ++ d.last ∷ [])) (turn p k t.reading t.bus t.net g).due) number_is
               (d.is_front p g (x.stands p is_new))));
-          within = omega (arith, few, x.counted, length-append (readings x.heard) (t.reading ∷ []), as_many (λ (h : Heard). h.reading) x.heard);
+          within = omega (arith, few, x.counted, length-append (readings x.heard) (t.reading ∷ []), length-map x.heard (λ h. h.reading));
           cut =
               let r : length (readings x.heard ++ t.reading ∷ []) ≡ length x.heard + 1 =
-              omega (arith, length-append (readings x.heard) (t.reading ∷ []), as_many (λ (h : Heard). h.reading) x.heard) in
+              omega (arith, length-append (readings x.heard) (t.reading ∷ []), length-map x.heard (λ h. h.reading)) in
               let b : length (by_bus x.heard ++ t.bus) ≡ length x.heard + length t.bus =
-              omega (arith, length-append (by_bus x.heard) t.bus, as_many (λ (h : Heard). h.bus) x.heard) in
+              omega (arith, length-append (by_bus x.heard) t.bus, length-map x.heard (λ h. h.bus)) in
               let n : length (by_net x.heard ++ t.net) ≡ length x.heard + length t.net =
-              omega (arith, length-append (by_net x.heard) t.net, as_many (λ (h : Heard). h.net) x.heard) in
+              omega (arith, length-append (by_net x.heard) t.net, length-map x.heard (λ h. h.net)) in
               let few_net = t.cut.0 in
               let few_bus = t.cut.1 in
               let least = t.cut.2 in (omega (arith, b, n, few_net), omega (arith, r, b, few_bus), omega (arith, r, n, least));
@@ -181,9 +177,9 @@ progress_ends turns count first now a b old new all x p is_new = record {
     reads = x.reads;
     passes = x.passes;
     is_run = x.is_due p is_new;
-    each_reading = as_many (λ (h : Heard). h.reading) x.heard ∙ x.counted ∙ all;
-    each_bus = as_many (λ (h : Heard). h.bus) x.heard ∙ x.counted ∙ all;
-    each_net = as_many (λ (h : Heard). h.net) x.heard ∙ x.counted ∙ all;
+    each_reading = length-map x.heard (λ h. h.reading) ∙ x.counted ∙ all;
+    each_bus = length-map x.heard (λ h. h.bus) ∙ x.counted ∙ all;
+    each_net = length-map x.heard (λ h. h.net) ∙ x.counted ∙ all;
   };
   sink_failed = λ other. absurd cc;
 }

@@ -1,4 +1,4 @@
-use Rattle.std.proofs.Common.{List, [], sym, subst}
+use Rattle.std.proofs.Common.{List, sym, subst}
 use Rattle.gate_events.specs.Emit.{Emitted}
 use Rattle.gate_outbox.specs.Output.{emit_of}
 use Rattle.bridge.specs.Kept.{left_of}
@@ -17,5 +17,4 @@ returns-in-Some g c =
 
 pub returns-in-None : goal.returns-in-None
 returns-in-None g c =
-    let o = outside (g.B.Link.traffic c.args.bus.now) (g.E.Link.traffic c.args.net.now) (g.K.Sink.taken c.args.out.now) (g.K.Sink.fault_count c.args.out.now) in
-    hands_as o o [] _ (none_due c.args.moment (left_of c.args.bridge.now) c.args.place (sym c.in-None.ensures.emit)) (hands_none o)
+    hands_as _ _ _ _ (none_due c.args.moment (left_of c.args.bridge.now) c.args.place (sym c.in-None.ensures.emit)) (hands_none _)

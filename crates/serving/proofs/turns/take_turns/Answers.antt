@@ -5,9 +5,7 @@ use Rattle.serving.proofs.Runs.{progress_breaks, progress_ends, progress_more, p
 use Rattle.serving.proofs.turns.take_turns.Goals as goal
 
 pub loop-turn-init : goal.loop-turn-init
-loop-turn-init g c =
-    progress_none c.args.bridge.now (g.C.Clock.readings c.args.clock.now)
-    (outside (g.B.Link.traffic c.args.bus.now) (g.E.Link.traffic c.args.net.now) (g.K.Sink.taken c.args.out.now) (g.K.Sink.fault_count c.args.out.now))
+loop-turn-init g c = progress_none c.args.bridge.now _ _
 
 pub loop-turn-preserved : goal.loop-turn-preserved
 loop-turn-preserved g c =
@@ -33,7 +31,4 @@ returns-in-Err-clause-ends g c =
 
 pub returns-clause-ends : goal.returns-clause-ends
 returns-clause-ends g c =
-    let old = outside (g.B.Link.traffic c.args.bus.now) (g.E.Link.traffic c.args.net.now) (g.K.Sink.taken c.args.out.now) (g.K.Sink.fault_count c.args.out.now) in
-    let now = outside (g.B.Link.traffic c.loop-turn.bus) (g.E.Link.traffic c.loop-turn.net) (g.K.Sink.taken c.loop-turn.out) (g.K.Sink.fault_count c.loop-turn.out) in
-    progress_ends c.args.turns c.loop-turn.turn c.args.bridge.now c.loop-turn.bridge (g.C.Clock.readings c.args.clock.now) (g.C.Clock.readings c.loop-turn.clock)
-    old now (omega arith) c.loop-turn.invariant
+    progress_ends c.args.turns c.loop-turn.turn c.args.bridge.now c.loop-turn.bridge _ _ _ _ (omega arith) c.loop-turn.invariant
