@@ -19,10 +19,10 @@ use Rattle.history.specs.Known.{known}
 use Rattle.gate_events.specs.Emit.{Emit}
 use Rattle.history.specs.Emits.{reported}
 use Rattle.history.specs.Heard as heard_lines
-use Rattle.history.specs.Heard.{HeardItem, Taken, heard_items, with_items, several, place_of, is_taken, is_own_line, is_elsewhere, is_line_admitted, handed_over, taken_lines}
-use Rattle.history.specs.NetReadings.{with_sentences, readings_of}
+use Rattle.history.specs.Heard.{HeardItem, Taken, heard_items, with_each, several, place_of, is_taken, is_own_line, is_elsewhere, is_line_admitted, handed_over, taken_lines}
+use Rattle.history.specs.NetReadings.{line_says, with_readings, readings_of}
 use Rattle.history.specs.NetRules.{datagram_breaks, part_breaks, line_breaks}
-use Rattle.history.specs.FromNet.{items_in, sentences_give, item_gives, items_give}
+use Rattle.history.specs.FromNet.{items_in, said_gives, item_gives, items_give}
 use Rattle.history.specs.Gate.{heard}
 use Rattle.history.proofs.GroupSteps.{lines_alone}
 use Rattle.gate_model.specs.Orders.{OrdersGroups}
@@ -30,7 +30,7 @@ use Rattle.gate_model.specs.Net.{sentences_after, sentences_emit}
 use Rattle.gate_model.specs.NetLines.{NetKept, group_answer, sentences_within, line_at, taken_after, taken_emits, line_after, line_emits, item_after, item_emits, items_after, items_emit}
 use Rattle.gate_model.specs.NetStands.{StandsReadings, StandsGroups, StandsNet}
 use Rattle.gate_model.specs.NetLaws.{ItemStandsNet, OpeningStandsNet, TimeStandsNet, ItemsStandNet, DatagramsStandNet, OtherEntriesStandNet}
-use Rattle.gate_model.proofs.NetReadings.{no_readings_stand, sentences_stand, sentences_same}
+use Rattle.gate_model.proofs.NetReadings.{no_readings_stand, line_is}
 use Rattle.gate_model.proofs.NetHeard.{IsHeard, all_heard, several_is}
 use Rattle.gate_model.proofs.NetGroups.{later_stands, overdue_same, alone_stands, line_stands}
 use Rattle.gate_model.proofs.NetAnswers.{reports_same, sentences_handed}
@@ -88,7 +88,7 @@ module _ (cmp : GroupKey → GroupKey → Ordering) (c : Settings) (o : OrdersGr
         let t = heard_lines.taken_as c lines (came this) place said sentence in
         sym (append-nil (reported (line_breaks c place said)))
         ∙ ap (λ (b : Bool). reported (if b then part_breaks lines t (several said.group) else line_breaks c place said)
-        ++ (if b then sentences_give c own t (readings_of lines) (handed_over t lines) else [])) (sym not_taken)
+        ++ (if b then said_gives c own t (readings_of lines) (line_says t (handed_over t lines)) else [])) (sym not_taken)
 
   -- ---- a line that is taken
 
@@ -106,39 +106,40 @@ module _ (cmp : GroupKey → GroupKey → Ordering) (c : Settings) (o : OrdersGr
     all : AllByRecursion IsHeard (t ∷ lines)
     all = subst (AllByRecursion IsHeard) more_lines (all_heard c (came it ∷ older) (is, st.items))
 
-    line_gives : item_gives c own older (came it) ≡ reported (part_breaks lines t (several said.group)) ++ sentences_give c own t (readings_of lines) (handed_over t lines)
+    line_gives : item_gives c own older (came it) ≡ reported (part_breaks lines t (several said.group)) ++ said_gives c own t (readings_of lines) (line_says t (handed_over t lines))
     line_gives =
         ap (λ (b : Bool). reported (if b then part_breaks lines t (several said.group) else line_breaks c place said)
-        ++ (if b then sentences_give c own t (readings_of lines) (handed_over t lines) else [])) taken
+        ++ (if b then said_gives c own t (readings_of lines) (line_says t (handed_over t lines)) else [])) taken
 
     record Takes (group : Option GroupPart) : Type 0 where
       groups : StandsGroups cmp c.group_slots (t ∷ lines) m (taken_after cmp c m ready k (line_at cmp c m ready place source) said.source sentence group).groups
       readings : StandsReadings c (readings_of (t ∷ lines)) (taken_after cmp c m ready k (line_at cmp c m ready place source) said.source sentence group).readings
       gives : taken_emits cmp c m ready own k (line_at cmp c m ready place source) said.source sentence group
-          ≡ reported (part_breaks lines t group) ++ sentences_give c own t (readings_of lines) (handed_over t lines)
+          ≡ reported (part_breaks lines t group) ++ said_gives c own t (readings_of lines) (line_says t (handed_over t lines))
 
     takes : (group : Option GroupPart) → several said.group ≡ group → Takes group
     takes None e =
         let handed = (lines_alone t lines e).handed in
+        let says = line_is c own t source at (sentence ∷ []) (readings_of lines) k.readings st.readings in
         record {
           groups = alone_stands cmp c.group_slots lines t k.groups st.groups e;
-          readings = subst (λ (texts : List (List ℕ)). StandsReadings c (with_sentences t (readings_of lines) texts) (sentences_after k.readings (line_at cmp c m ready place source) (sentence ∷ []))) (sym handed)
-              (sentences_stand c own t source at (sentence ∷ []) (readings_of lines) k.readings st.readings);
-          gives = sentences_same c own t source at (sentence ∷ []) (readings_of lines) k.readings st.readings
-              ∙ ap (sentences_give c own t (readings_of lines)) (sym handed);
+          readings = subst (λ (texts : List (List ℕ)). StandsReadings c (with_readings (readings_of lines) (line_says t texts)) (sentences_after k.readings (line_at cmp c m ready place source) (sentence ∷ []))) (sym handed)
+              says.stands;
+          gives = says.gives ∙ ap (λ (x : List (List ℕ)). said_gives c own t (readings_of lines) (line_says t x)) (sym handed);
         }
     takes (Some part) e =
         let admits = ap (λ (g : Option GroupPart). is_line_admitted c lines said.source g m) (several_is said.group part e).0 in
         let handed = sentences_handed cmp o c.group_slots lines t part k.groups all e admits st.groups in
         let texts = sentences_within (group_answer cmp k.groups (record { sfi = said.source; code = part.code }) part sentence m).whole in
+        let says = line_is c own t source at texts (readings_of lines) k.readings st.readings in
         record {
           groups = line_stands cmp o c.group_slots lines t part k.groups all e admits st.groups;
-          readings = subst (λ (x : List (List ℕ)). StandsReadings c (with_sentences t (readings_of lines) x) (sentences_after k.readings (line_at cmp c m ready place source) texts)) handed
-              (sentences_stand c own t source at texts (readings_of lines) k.readings st.readings);
+          readings = subst (λ (x : List (List ℕ)). StandsReadings c (with_readings (readings_of lines) (line_says t x)) (sentences_after k.readings (line_at cmp c m ready place source) texts)) handed
+              says.stands;
           gives =
               ap (λ (r : List Report). reported r ++ sentences_emit own k.readings (line_at cmp c m ready place source) texts) (reports_same cmp o c.group_slots lines t part k.groups all e admits st.groups)
               ∙ ap (λ (x : List Emit). reported (part_breaks lines t (Some part)) ++ x)
-              (sentences_same c own t source at texts (readings_of lines) k.readings st.readings ∙ ap (sentences_give c own t (readings_of lines)) handed);
+              (says.gives ∙ ap (λ (x : List (List ℕ)). said_gives c own t (readings_of lines) (line_says t x)) handed);
         }
 
     stands_taken : ItemStandsNet cmp c older own (came it) k
@@ -209,7 +210,7 @@ module _ (cmp : GroupKey → GroupKey → Ordering) (c : Settings) (o : OrdersGr
   came_now i = record { moment = m; ready = ready; item = i }
 
   all_stand : (items : List Item) (older : List HeardItem) (k : NetKept) → AllByRecursion IsItem items → StandsNet cmp c older m k
-      → StandsNet cmp c (with_items older (heard_items m ready items)) m (items_after cmp c m ready k items)
+      → StandsNet cmp c (with_each older (heard_items m ready items)) m (items_after cmp c m ready k items)
   all_stand [] older k each st = st
   all_stand (i ∷ items) older k each st =
       all_stand items (came_now i ∷ older) (item_after cmp c m ready k i) each.1 (item_stands cmp c o own older m ready k st i each.0).stands

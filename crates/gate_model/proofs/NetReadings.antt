@@ -1,5 +1,5 @@
 -- What is kept of the readings stands for those that were heard, one after another.
-use Rattle.std.proofs.Common.{◌≡◌, ◌≢◌, ℕ, ◌+◌, ◌%◌, Bool, true, false, cond, ◌&&◌, not, List, [], ◌∷◌, ◌++◌, map, length, get_or, set, length-set, refl, sym, ap, subst, ◌∙◌, ◌==◌, arith}
+use Rattle.std.proofs.Common.{◌≡◌, ◌≢◌, ℕ, ◌+◌, ◌%◌, Bool, true, false, cond, ◌&&◌, not, List, [], ◌∷◌, ◌++◌, append-nil, map, length, get_or, set, length-set, refl, sym, ap, subst, ◌∙◌, ◌==◌, arith}
 use Rattle.std.specs.Prelude.{Option, Some, None, Result, Ok, Err, count_by, if◌then◌else◌}
 use Rattle.std.proofs.lemmas.List.{get_or-set_other}
 use Rattle.std.proofs.lemmas.Grind.{get_or-set_at}
@@ -24,15 +24,15 @@ use Rattle.gate_events.specs.Emit.{Emit}
 use Rattle.history.specs.Emits.{broken, sent, reported}
 use Rattle.history.specs.Choice.{is_row}
 use Rattle.history.specs.Heard.{Taken, place_of}
-use Rattle.history.specs.NetReadings.{NetReading, read_sentence, with_readings, with_said, with_sentences, last_heard, is_net_selected, is_fast_row, fast_sent, next_sequence}
+use Rattle.history.specs.NetReadings.{NetReading, read_sentence, sentence_says, line_says, with_readings, last_heard, is_net_selected, is_fast_row, fast_sent, next_sequence}
 use Rattle.history.specs.NetRules.{sentence_breaks, reading_breaks}
-use Rattle.history.specs.FromNet.{payload_frames, sent_from, reading_gives, readings_give, said_gives, sentences_give}
+use Rattle.history.specs.FromNet.{payload_frames, sent_from, reading_gives, said_gives}
 use Rattle.history.specs.HeardLaws.{goes_fast}
 use Rattle.history.specs.ChoiceLaws.{net_noted, HoldsNetNotes}
 use Rattle.history.proofs.GroupCounts.{text_is}
 use Rattle.history.proofs.GroupSteps.{text_same}
 use Rattle.history.proofs.NoteChoice.{first_net_by_notes}
-use Rattle.history.proofs.HeardSteps.{readings_count_fast}
+use Rattle.history.proofs.HeardSteps.{datagrams_give_in_order, readings_count_fast}
 use Rattle.gate_model.specs.Net.{ReadingsKept, LineHeard, row_numbers, no_readings, note_by, is_chosen, sequence_at, is_counted, sequences_after, reading_after, frames_by, sent_by, reading_emits, readings_after, readings_emit, fault_emits, said_after, said_emits, sentences_after, sentences_emit}
 use Rattle.gate_model.specs.NetStands.{StandsReadings}
 use Rattle.gate_model.proofs.NetRows.{place_below, one_source, row_below, opened_at, none_sent, by_number, by_pgn}
@@ -243,40 +243,42 @@ module _ (c : Settings) (own : Option ℕ) (t : Taken) (place : ℕ) (at : place
   abbrev from : LineHeard
   from = record { moment = t.moment; ready = t.ready; place = t.place; source = place }
 
-  abbrev with_one : List NetReading → Reading → List NetReading
-  with_one older r = record { line = t; reading = r } ∷ older
+  -- what is said, what is kept then and what was emitted: the one stands for the other
+  pub record Says (older : List NetReading) (said : List (Result NetReading FieldFault)) (after : ReadingsKept) (emits : List Emit) : Type 0 where
+    pub stands : StandsReadings c (with_readings older said) after
+    pub gives : emits ≡ said_gives c own t older said
 
-  readings_stand : (rs : List Reading) (older : List NetReading) (k : ReadingsKept) → StandsReadings c older k → StandsReadings c (with_readings t older rs) (readings_after k from rs)
-  readings_stand [] older k st = st
-  readings_stand (r ∷ rs) older k st = readings_stand rs (with_one older r) (reading_after k from r) (reading_stands c older k st t place r at)
-
-  readings_same : (rs : List Reading) (older : List NetReading) (k : ReadingsKept) → StandsReadings c older k → readings_emit own k from rs ≡ readings_give c own t older rs
-  readings_same [] older k st = refl
-  readings_same (r ∷ rs) older k st =
-      both (reading_emits own k from r) (reading_gives c own older (record { line = t; reading = r })) (readings_emit own (reading_after k from r) from rs) (readings_give c own t (with_one older r) rs)
-      (gives c older k st t place r at own) (readings_same rs (with_one older r) (reading_after k from r) (reading_stands c older k st t place r at))
-
-  said_stands : (said : Result (List Reading) FieldFault) (older : List NetReading) (k : ReadingsKept) → StandsReadings c older k → StandsReadings c (with_said t older said) (said_after k from said)
-  said_stands (Ok rs) older k st = readings_stand rs older k st
-  said_stands (Err fault) older k st = st
+  readings_say : (rs : List Reading) (older : List NetReading) (k : ReadingsKept) → StandsReadings c older k → Says older (sentence_says t (Ok rs)) (readings_after k from rs) (readings_emit own k from rs)
+  readings_say [] older k st = record { stands = st; gives = refl }
+  readings_say (r ∷ rs) older k st =
+      let n : NetReading = record { line = t; reading = r } in
+      let more = readings_say rs (n ∷ older) (reading_after k from r) (reading_stands c older k st t place r at) in
+      record {
+        stands = more.stands;
+        gives = both (reading_emits own k from r) (reading_gives c own older n) (readings_emit own (reading_after k from r) from rs)
+            (said_gives c own t (n ∷ older) (sentence_says t (Ok rs))) (gives c older k st t place r at own) more.gives;
+      }
 
   fault_same : (fault : FieldFault) → fault_emits t.place fault ≡ reported (sentence_breaks t fault)
   fault_same Outside = refl
   fault_same (Form field) = refl
   fault_same (Range field) = refl
 
-  said_same : (said : Result (List Reading) FieldFault) (older : List NetReading) (k : ReadingsKept) → StandsReadings c older k → said_emits own k from said ≡ said_gives c own t older said
-  said_same (Ok rs) older k st = readings_same rs older k st
-  said_same (Err fault) older k st = fault_same fault
+  sentence_is : (said : Result (List Reading) FieldFault) (older : List NetReading) (k : ReadingsKept) → StandsReadings c older k → Says older (sentence_says t said) (said_after k from said) (said_emits own k from said)
+  sentence_is (Ok rs) older k st = readings_say rs older k st
+  sentence_is (Err fault) older k st = record { stands = st; gives = fault_same fault ∙ sym (append-nil (reported (sentence_breaks t fault))) }
 
-  pub sentences_stand : (texts : List (List ℕ)) (older : List NetReading) (k : ReadingsKept) → StandsReadings c older k → StandsReadings c (with_sentences t older texts) (sentences_after k from texts)
-  sentences_stand [] older k st = st
-  sentences_stand (text ∷ texts) older k st =
-      sentences_stand texts (with_said t older (read_sentence text)) (said_after k from (read_sentence text)) (said_stands (read_sentence text) older k st)
-
-  pub sentences_same : (texts : List (List ℕ)) (older : List NetReading) (k : ReadingsKept) → StandsReadings c older k → sentences_emit own k from texts ≡ sentences_give c own t older texts
-  sentences_same [] older k st = refl
-  sentences_same (text ∷ texts) older k st =
-      both (said_emits own k from (read_sentence text)) (said_gives c own t older (read_sentence text))
-      (sentences_emit own (said_after k from (read_sentence text)) from texts) (sentences_give c own t (with_said t older (read_sentence text)) texts)
-      (said_same (read_sentence text) older k st) (sentences_same texts (with_said t older (read_sentence text)) (said_after k from (read_sentence text)) (said_stands (read_sentence text) older k st))
+  pub line_is : (texts : List (List ℕ)) (older : List NetReading) (k : ReadingsKept) → StandsReadings c older k → Says older (line_says t texts) (sentences_after k from texts) (sentences_emit own k from texts)
+  line_is [] older k st = record { stands = st; gives = refl }
+  line_is (text ∷ texts) older k st =
+      let said = read_sentence text in
+      let says = sentence_says t said in
+      let others = line_says t texts in
+      let one = sentence_is said older k st in
+      let more = line_is texts (with_readings older says) (said_after k from said) one.stands in
+      let order = datagrams_give_in_order c own in
+      record {
+        stands = subst (λ (x : List NetReading). StandsReadings c x (sentences_after k from (text ∷ texts))) (sym (order.readings older says others)) more.stands;
+        gives = both (said_emits own k from said) (said_gives c own t older says) (sentences_emit own (said_after k from said) from texts)
+            (said_gives c own t (with_readings older says) others) one.gives more.gives ∙ sym (order.said t older says others);
+      }

@@ -37,10 +37,10 @@ use Rattle.gate_events.specs.Emit.{Emit, can, net, report}
 use Rattle.history.specs.Emits.{broken, of_source, reported, replied, own_claim}
 use Rattle.history.specs.Heard.{HeardItem, Taken, group_keys, handed_over, is_taken, taken_as, taken_lines}
 use Rattle.history.specs.NetRules.{datagram_breaks, item_breaks, sentence_breaks, reading_breaks}
-use Rattle.history.specs.NetReadings.{NetReading, read_sentence, with_said, readings_of, is_net_selected}
+use Rattle.history.specs.NetReadings.{NetReading, line_says, readings_of, is_net_selected}
 use Rattle.n2k_id.specs.Pgns.{asked_of}
 use Rattle.history.specs.FromBus.{selected_in, command_gives, said_in, own_answer, step_gives, from_command, frame_refused, answers_by, meaning_at, command_breaks}
-use Rattle.history.specs.FromNet.{payload_frames, sent_from, reading_gives, readings_give, said_gives, sentences_give, handed_gives, item_gives, items_give}
+use Rattle.history.specs.FromNet.{payload_frames, sent_from, reading_gives, said_gives, handed_gives, item_gives, items_give}
 use Rattle.history.specs.Gate.{out, items_at, heard, with_spoken, spoken_of, stepped, with_command, command_in, expired}
 use Rattle.history.specs.EntryLaws.{IsEvent, StepsKeepHistory, nets_in, SaysOne, nothing, one, EntriesSayOne}
 
@@ -235,27 +235,17 @@ module _ (c : Settings) (own : Option ℕ) where
       if_none (not (is_net_selected c older n)) [] (if n.line.ready then sent_from c own own older n else reported (reading_breaks n)) refl
       (if_none n.line.ready (sent_from c own own older n) (reported (reading_breaks n)) (no_sent own older n) (no_reports (reading_breaks n)))
 
-  no_readings : (t : Taken) (older : List NetReading) (rs : List Reading) → nets_in (readings_give c own t older rs) ≡ []
-  no_readings t older [] = refl
-  no_readings t older (r ∷ rs) =
-      let n : NetReading = record { line = t; reading = r } in
-      none (reading_gives c own older n) (readings_give c own t (n ∷ older) rs) (no_reading older n) (no_readings t (n ∷ older) rs)
-
-  no_said : (t : Taken) (older : List NetReading) (said : Result (List Reading) FieldFault) → nets_in (said_gives c own t older said) ≡ []
-  no_said t older (Ok rs) = no_readings t older rs
-  no_said t older (Err fault) = no_reports (sentence_breaks t fault)
-
-  no_sentences : (t : Taken) (older : List NetReading) (texts : List (List ℕ)) → nets_in (sentences_give c own t older texts) ≡ []
-  no_sentences t older [] = refl
-  no_sentences t older (x ∷ xs) =
-      none (said_gives c own t older (read_sentence x)) (sentences_give c own t (with_said t older (read_sentence x)) xs)
-      (no_said t older (read_sentence x)) (no_sentences t (with_said t older (read_sentence x)) xs)
+  no_said : (t : Taken) (older : List NetReading) (said : List (Result NetReading FieldFault)) → nets_in (said_gives c own t older said) ≡ []
+  no_said t older [] = refl
+  no_said t older (Ok n ∷ said) = none (reading_gives c own older n) (said_gives c own t (n ∷ older) said) (no_reading older n) (no_said t (n ∷ older) said)
+  no_said t older (Err fault ∷ said) =
+      none (reported (sentence_breaks t fault)) (said_gives c own t older said) (no_reports (sentence_breaks t fault)) (no_said t older said)
 
   no_handed : (lines : List Taken) (x : HeardItem) (i : Item) → nets_in (handed_gives c own lines x i) ≡ []
   no_handed lines x (bad rule place) = refl
   no_handed lines x (line place said sentence parts) =
       let t = taken_as c lines x place said sentence in
-      if_none (is_taken c said) (sentences_give c own t (readings_of lines) (handed_over t lines)) [] (no_sentences t (readings_of lines) (handed_over t lines)) refl
+      if_none (is_taken c said) (said_gives c own t (readings_of lines) (line_says t (handed_over t lines))) [] (no_said t (readings_of lines) (line_says t (handed_over t lines))) refl
 
   no_items : (older items : List HeardItem) → nets_in (items_give c own older items) ≡ []
   no_items older [] = refl

@@ -12,13 +12,14 @@ use Rattle.tag_block.specs.declared.group_part.GroupPart.{GroupPart}
 use Rattle.tag_block.specs.Tag.{Said}
 use Rattle.history.specs.Settings.{Settings}
 use Rattle.history.specs.Emits.{breaks, reported}
-use Rattle.history.specs.Heard.{HeardItem, Taken, heard_items, group_line, group_open, is_elsewhere, is_own_line, place_of, handed_over, is_taken, taken_lines, several, taken_as, with_item, with_items}
+use Rattle.history.specs.Heard.{HeardItem, Taken, heard_items, group_line, group_open, is_elsewhere, is_own_line, place_of, handed_over, is_taken, taken_lines, several, taken_as, with_item, with_each}
 use Rattle.history.specs.Held.{lines_held}
-use Rattle.history.specs.NetReadings.{NetReading, read_sentence, readings_of, with_said}
+use Rattle.history.specs.NetReadings.{NetReading, read_sentence, sentence_says, line_says, with_readings, readings_of}
 use Rattle.history.specs.NetRules.{continues, datagram_breaks, item_breaks_as, line_breaks, part_breaks}
-use Rattle.history.specs.FromNet.{datagram_gives, handed_gives, item_gives, items_give, items_in, said_gives, sentences_give}
+use Rattle.history.specs.FromNet.{datagram_gives, handed_gives, item_gives, items_give, items_in, said_gives}
 use Rattle.history.proofs.FitHandedOver.{handed_by_lines}
 use Rattle.history.proofs.FitSentences.{sentence_gives_few}
+use Rattle.history.proofs.HeardSteps.{datagrams_give_in_order}
 use Rattle.history.proofs.Fits.{broken_length, reported_length, two_lengths}
 
 -- ---- reports
@@ -59,11 +60,14 @@ items_few zero at (l ∷ ls) rest = omega arith
 items_few (suc left) at (l ∷ ls) rest = let others = items_few left (at + length l) ls rest in omega (arith, others)
 
 module _ (c : Settings) (own : Option ℕ) where
-  sentences_few : (t : Taken) (older : List NetReading) (texts : List (List ℕ)) → length (sentences_give c own t older texts) ≤ 7 * length texts
+  sentences_few : (t : Taken) (older : List NetReading) (texts : List (List ℕ)) → length (said_gives c own t older (line_says t texts)) ≤ 7 * length texts
   sentences_few t older [] = omega arith
   sentences_few t older (text ∷ texts) =
-      let both = two_lengths (said_gives c own t older (read_sentence text)) (sentences_give c own t (with_said t older (read_sentence text)) texts) 7 (7 * length texts) (sentence_gives_few c own t older text) (sentences_few t (with_said t older (read_sentence text)) texts) in
-      omega (arith, both)
+      let says = sentence_says t (read_sentence text) in
+      let others = line_says t texts in
+      let in_order = (datagrams_give_in_order c own).said t older says others in
+      let both = two_lengths (said_gives c own t older says) (said_gives c own t (with_readings older says) others) 7 (7 * length texts) (sentence_gives_few c own t older text) (sentences_few t (with_readings older says) texts) in
+      rw in_order (omega (arith, both))
 
   -- an item with what it leaves held gives no more than what was held and ten
   item_few : (older : List HeardItem) (x : HeardItem) (i : Item) → length (reported (item_breaks_as c (taken_lines c older) x i) ++ handed_gives c own (taken_lines c older) x i) + 7 * lines_held (with_item c (taken_lines c older) x i) x.moment
@@ -77,14 +81,14 @@ module _ (c : Settings) (own : Option ℕ) where
       t : Taken
       t = taken_as c lines x place said sentence
 
-      by : (b : Bool) → is_taken c said ≡ b → length (reported (if b then part_breaks lines t (several said.group) else line_breaks c place said) ++ (if b then sentences_give c own t (readings_of lines) (handed_over t lines) else []))
+      by : (b : Bool) → is_taken c said ≡ b → length (reported (if b then part_breaks lines t (several said.group) else line_breaks c place said) ++ (if b then said_gives c own t (readings_of lines) (line_says t (handed_over t lines)) else []))
           + 7 * lines_held (if b then t ∷ lines else lines) x.moment ≤ 7 * lines_held lines x.moment + 10
       by true is =
           let told = part_reports lines t (several said.group) in
           let same = reported_length (part_breaks lines t (several said.group)) in
           let given = sentences_few t (readings_of lines) (handed_over t lines) in
           let step = handed_by_lines t lines in
-          let both = two_lengths (reported (part_breaks lines t (several said.group))) (sentences_give c own t (readings_of lines) (handed_over t lines)) 3 (7 * length (handed_over t lines)) (omega (arith, told, same)) given in
+          let both = two_lengths (reported (part_breaks lines t (several said.group))) (said_gives c own t (readings_of lines) (line_says t (handed_over t lines))) 3 (7 * length (handed_over t lines)) (omega (arith, told, same)) given in
           omega (arith, both, step)
       by false isnt =
           let told = line_reports c place said in
@@ -93,7 +97,7 @@ module _ (c : Settings) (own : Option ℕ) where
           omega (arith, both)
 
   -- items that come at one moment
-  all_few : (older : List HeardItem) (m : ℕ) (ready : Bool) (is : List Item) → length (items_give c own older (heard_items m ready is)) + 7 * lines_held (taken_lines c (with_items older (heard_items m ready is))) m
+  all_few : (older : List HeardItem) (m : ℕ) (ready : Bool) (is : List Item) → length (items_give c own older (heard_items m ready is)) + 7 * lines_held (taken_lines c (with_each older (heard_items m ready is))) m
       ≤ 7 * lines_held (taken_lines c older) m + 10 * length is
   all_few older m ready [] = omega arith
   all_few older m ready (i ∷ is) =

@@ -22,7 +22,7 @@ use Rattle.history.specs.Entries.{History, IsHistory, now, frame, datagram, tick
 use Rattle.history.specs.Entries as entry
 use Rattle.history.specs.Settings.{Settings, receiver_of}
 use Rattle.history.specs.Known.{known}
-use Rattle.history.specs.Heard.{HeardItem, Taken, heard_items, with_items, same_group, several, group_line, line_in, group_trace, group_keys, group_open, open_groups, is_taken, taken_as, with_item, taken_lines}
+use Rattle.history.specs.Heard.{HeardItem, Taken, heard_items, with_each, same_group, several, group_line, line_in, group_trace, group_keys, group_open, open_groups, is_taken, taken_as, with_item, taken_lines}
 use Rattle.history.specs.FromNet.{items_in}
 use Rattle.history.specs.Gate.{heard}
 use Rattle.history.specs.Held.{held_in, lines_held}
@@ -110,7 +110,7 @@ module _ (c : Settings) where
   item_read lines x (bad rule place) is read = read
 
   all_read : (older : List HeardItem) (m : ℕ) (ready : Bool) (items : List Item) → AllByRecursion IsItem items → AllByRecursion IsRead (taken_lines c older)
-      → AllByRecursion IsRead (taken_lines c (with_items older (heard_items m ready items)))
+      → AllByRecursion IsRead (taken_lines c (with_each older (heard_items m ready items)))
   all_read older m ready [] is read = read
   all_read older m ready (i ∷ items) is read =
       all_read (record { moment = m; ready = ready; item = i } ∷ older) m ready items is.1

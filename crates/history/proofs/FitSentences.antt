@@ -26,9 +26,9 @@ use Rattle.sentence_rows.specs.Reading as rows
 use Rattle.history.specs.Settings.{Settings}
 use Rattle.history.specs.Emits.{sent, reported, breaks, broken_of}
 use Rattle.history.specs.Heard.{Taken}
-use Rattle.history.specs.NetReadings.{NetReading, read_parts, read_sentence, is_net_selected, is_fast_row, next_sequence}
+use Rattle.history.specs.NetReadings.{NetReading, read_parts, read_sentence, sentence_says, is_net_selected, is_fast_row, next_sequence}
 use Rattle.history.specs.NetRules.{reading_breaks}
-use Rattle.history.specs.FromNet.{payload_frames, sent_from, reading_gives, readings_give, said_gives}
+use Rattle.history.specs.FromNet.{payload_frames, sent_from, reading_gives, said_gives}
 
 -- ---- the frames of a message
 
@@ -117,12 +117,12 @@ module _ (c : Settings) (own : Option ℕ) where
 
   -- ---- the readings of a sentence, or its fault
 
-  alone_few : (t : Taken) (older : List NetReading) (r : Reading) → length (readings_give c own t older (r ∷ [])) ≤ 7
+  alone_few : (t : Taken) (older : List NetReading) (r : Reading) → length (said_gives c own t older (sentence_says t (Ok (r ∷ [])))) ≤ 7
   alone_few t older r =
       let few = reading_few t older r in
       rw (length-append (reading_gives c own older (record { line = t; reading = r })) []) (omega (arith, few))
 
-  both_few : (t : Taken) (older : List NetReading) (p q : Option ℤ) → length (readings_give c own t older (reading.RudderFirst p ∷ reading.RudderSecond q ∷ [])) ≤ 7
+  both_few : (t : Taken) (older : List NetReading) (p q : Option ℤ) → length (said_gives c own t older (sentence_says t (Ok (reading.RudderFirst p ∷ reading.RudderSecond q ∷ [])))) ≤ 7
   both_few t older p q =
       let n : NetReading = record { line = t; reading = reading.RudderFirst p } in
       let m : NetReading = record { line = t; reading = reading.RudderSecond q } in
@@ -131,14 +131,14 @@ module _ (c : Settings) (own : Option ℕ) where
       rw (length-append (reading_gives c own older n) (reading_gives c own (n ∷ older) m ++ []), length-append (reading_gives c own (n ∷ older) m) [])
       (omega (arith, one, two))
 
-  fault_few : (t : Taken) (older : List NetReading) (f : FieldFault) → length (said_gives c own t older (Err f)) ≤ 7
+  fault_few : (t : Taken) (older : List NetReading) (f : FieldFault) → length (said_gives c own t older (sentence_says t (Err f))) ≤ 7
   fault_few t older Outside = omega arith
   fault_few t older (Form field) = omega arith
   fault_few t older (Range field) = omega arith
 
   -- whatever line hands it over
   abbrev IsFew : Result Found FieldFault → Type 0
-  IsFew found = (t : Taken) (older : List NetReading) → length (said_gives c own t older (listed found)) ≤ 7
+  IsFew found = (t : Taken) (older : List NetReading) → length (said_gives c own t older (sentence_says t (listed found))) ≤ 7
 
   alone_is : (x : Result Reading FieldFault) → IsFew (alone x)
   alone_is (Ok r) = λ t older. alone_few t older r
@@ -197,11 +197,11 @@ module _ (c : Settings) (own : Option ℕ) where
   unfolding rows.read_sentence
   row_is parts = begun_is (parts.start == 36) (formatter_of parts.formatter) (fields_of parts.body)
 
-  parts_few : (t : Taken) (older : List NetReading) (read : Result SentenceParts SentenceFault) → length (said_gives c own t older (read_parts read)) ≤ 7
+  parts_few : (t : Taken) (older : List NetReading) (read : Result SentenceParts SentenceFault) → length (said_gives c own t older (sentence_says t (read_parts read))) ≤ 7
   parts_few t older (Ok parts) = row_is parts t older
   parts_few t older (Err f) = fault_few t older Outside
 
 -- a sentence gives no more than the frames of the longest message
 pub sentence_gives_few : (c : Settings) (own : Option ℕ) (t : Taken) (older : List NetReading) (text : List ℕ)
-    → length (said_gives c own t older (read_sentence text)) ≤ 7
+    → length (said_gives c own t older (sentence_says t (read_sentence text))) ≤ 7
 sentence_gives_few c own t older text = parts_few c own t older (sentences.read text)

@@ -15,7 +15,7 @@ use Rattle.history.specs.Entries.{History, IsHistory, now, frame, datagram, tick
 use Rattle.history.specs.Entries as entry
 use Rattle.history.specs.Settings.{Settings, receiver_of}
 use Rattle.history.specs.Known.{known}
-use Rattle.history.specs.Heard.{HeardItem, Taken, heard_items, with_items, same_group, precedes_group, several, group_line, key_with, group_keys, group_open, open_groups, is_group_admitted, is_taken, is_line_admitted, taken_as, with_item, taken_lines}
+use Rattle.history.specs.Heard.{HeardItem, Taken, heard_items, with_each, same_group, precedes_group, several, group_line, key_with, group_keys, group_open, open_groups, is_group_admitted, is_taken, is_line_admitted, taken_as, with_item, taken_lines}
 use Rattle.history.specs.FromNet.{items_in}
 use Rattle.history.specs.Gate.{heard}
 use Rattle.history.specs.GroupLaws.{group_key}
@@ -129,7 +129,7 @@ module _ (c : Settings) (m : ℕ) where
 
   -- after all items of a datagram
   all_within : (older : List HeardItem) (ready : Bool) (items : List Item) → Within c.group_slots m (taken_lines c older)
-      → Within c.group_slots m (taken_lines c (with_items older (heard_items m ready items)))
+      → Within c.group_slots m (taken_lines c (with_each older (heard_items m ready items)))
   all_within older ready [] within = within
   all_within older ready (i ∷ items) within =
       all_within (record { moment = m; ready = ready; item = i } ∷ older) ready items

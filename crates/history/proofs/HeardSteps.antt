@@ -1,14 +1,16 @@
 -- What a datagram gives, one item after another.
 use Rattle.std.proofs.Common.{◌≡◌, ℕ, Bool, true, false, ◌&&◌, List, [], ◌∷◌, ◌++◌, append_assoc, refl}
-use Rattle.std.specs.Prelude.{Option, if◌then◌else◌}
-use Rattle.readings.specs.declared.reading.Reading.{Reading}
+use Rattle.std.specs.Prelude.{Option, Result, Ok, Err, if◌then◌else◌}
 use Rattle.readings.specs.Rows.{row_of}
 use Rattle.pgn_profile.specs.Profiled.{pgn_of}
+use Rattle.sentence_rows.specs.declared.fault.FieldFault.{FieldFault}
 use Rattle.history.specs.Settings.{Settings}
 use Rattle.gate_events.specs.Emit.{Emit}
-use Rattle.history.specs.Heard.{HeardItem, Taken, with_items}
-use Rattle.history.specs.NetReadings.{NetReading, read_sentence, with_said, with_readings, with_sentences, is_net_selected, is_fast_row, fast_sent}
-use Rattle.history.specs.FromNet.{item_gives, items_give, reading_gives, readings_give, said_gives, sentences_give}
+use Rattle.history.specs.Heard.{HeardItem, Taken, with_each}
+use Rattle.history.specs.NetReadings.{NetReading, with_readings, is_net_selected, is_fast_row, fast_sent}
+use Rattle.history.specs.FromNet.{item_gives, items_give, reading_gives, said_gives}
+use Rattle.history.specs.Emits.{reported}
+use Rattle.history.specs.NetRules.{sentence_breaks}
 use Rattle.history.specs.HeardLaws.{DatagramsGiveInOrder, ReadingsCountFast, goes_fast}
 
 -- what the first one gives, before that of the others
@@ -16,30 +18,30 @@ behind : (first some more all : List Emit) → all ≡ some ++ more → first ++
 behind first some more all e = rw (e, append_assoc) refl
 
 module _ (c : Settings) (own : Option ℕ) where
-  items : (older items more : List HeardItem) → items_give c own older (items ++ more) ≡ items_give c own older items ++ items_give c own (with_items older items) more
+  items : (older items more : List HeardItem) → items_give c own older (items ++ more) ≡ items_give c own older items ++ items_give c own (with_each older items) more
   items older [] more = refl
   items older (x ∷ xs) more =
-      behind (item_gives c own older x) (items_give c own (x ∷ older) xs) (items_give c own (with_items (x ∷ older) xs) more)
+      behind (item_gives c own older x) (items_give c own (x ∷ older) xs) (items_give c own (with_each (x ∷ older) xs) more)
       (items_give c own (x ∷ older) (xs ++ more)) (items (x ∷ older) xs more)
 
-  sentences : (t : Taken) (older : List NetReading) (texts more : List (List ℕ))
-      → sentences_give c own t older (texts ++ more) ≡ sentences_give c own t older texts ++ sentences_give c own t (with_sentences t older texts) more
-  sentences t older [] more = refl
-  sentences t older (x ∷ xs) more =
-      behind (said_gives c own t older (read_sentence x)) (sentences_give c own t (with_said t older (read_sentence x)) xs)
-      (sentences_give c own t (with_sentences t (with_said t older (read_sentence x)) xs) more)
-      (sentences_give c own t (with_said t older (read_sentence x)) (xs ++ more)) (sentences t (with_said t older (read_sentence x)) xs more)
+  said_in_order : (t : Taken) (older : List NetReading) (said more : List (Result NetReading FieldFault))
+      → said_gives c own t older (said ++ more) ≡ said_gives c own t older said ++ said_gives c own t (with_readings older said) more
+  said_in_order t older [] more = refl
+  said_in_order t older (Ok n ∷ said) more =
+      behind (reading_gives c own older n) (said_gives c own t (n ∷ older) said) (said_gives c own t (with_readings (n ∷ older) said) more)
+      (said_gives c own t (n ∷ older) (said ++ more)) (said_in_order t (n ∷ older) said more)
+  said_in_order t older (Err fault ∷ said) more =
+      behind (reported (sentence_breaks t fault)) (said_gives c own t older said) (said_gives c own t (with_readings older said) more)
+      (said_gives c own t older (said ++ more)) (said_in_order t older said more)
 
-  readings : (t : Taken) (older : List NetReading) (rs more : List Reading)
-      → readings_give c own t older (rs ++ more) ≡ readings_give c own t older rs ++ readings_give c own t (with_readings t older rs) more
-  readings t older [] more = refl
-  readings t older (r ∷ rs) more =
-      let n : NetReading = record { line = t; reading = r } in
-      behind (reading_gives c own older n) (readings_give c own t (n ∷ older) rs) (readings_give c own t (with_readings t (n ∷ older) rs) more)
-      (readings_give c own t (n ∷ older) (rs ++ more)) (readings t (n ∷ older) rs more)
+heard_in_order : (older : List NetReading) (said more : List (Result NetReading FieldFault))
+    → with_readings older (said ++ more) ≡ with_readings (with_readings older said) more
+heard_in_order older [] more = refl
+heard_in_order older (Ok n ∷ said) more = heard_in_order (n ∷ older) said more
+heard_in_order older (Err fault ∷ said) more = heard_in_order older said more
 
 pub datagrams_give_in_order : DatagramsGiveInOrder
-datagrams_give_in_order c own = record { items = items c own; sentences = sentences c own; readings = readings c own }
+datagrams_give_in_order c own = record { items = items c own; said = said_in_order c own; readings = heard_in_order }
 
 pub readings_count_fast : ReadingsCountFast
 readings_count_fast c older n = by (is_net_selected c older n) (n.line.ready && is_fast_row (row_of n.reading)) refl refl

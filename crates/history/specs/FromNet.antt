@@ -1,6 +1,5 @@
 -- What a datagram from the network gives (IEC 61162-450): what its items give, in order, each by all that was heard before it.
 use Rattle.std.specs.Prelude.{ℕ, not, List, [], ◌∷◌, ◌++◌, map, Option, Some, None, Result, Ok, Err, if◌then◌else◌}
-use Rattle.readings.specs.declared.reading.Reading.{Reading}
 use Rattle.readings.specs.Rows.{row_of}
 use Rattle.pgn_profile.specs.Profiled.{payload_of, pgn_of, priority_of}
 use Rattle.fast_packet.specs.FastRuns.{frames_of}
@@ -11,7 +10,7 @@ use Rattle.history.specs.Settings.{Settings}
 use Rattle.gate_events.specs.Emit.{Emit}
 use Rattle.history.specs.Emits.{sent, reported}
 use Rattle.history.specs.Heard.{HeardItem, Taken, is_taken, taken_as, taken_lines, handed_over}
-use Rattle.history.specs.NetReadings.{NetReading, read_sentence, with_said, readings_of, is_net_selected, is_fast_row, next_sequence}
+use Rattle.history.specs.NetReadings.{NetReading, line_says, readings_of, is_net_selected, is_fast_row, next_sequence}
 use Rattle.history.specs.NetRules.{datagram_breaks, item_breaks, sentence_breaks, reading_breaks}
 
 -- what was heard from a datagram: nothing where it isn't read
@@ -38,29 +37,20 @@ module _ (c : Settings) (own : Option ℕ) where
       else if n.line.ready then sent_from own older n
       else reported (reading_breaks n)
 
-  -- ---- a sentence that a line hands over: each of its readings in order, or its fault
+  -- ---- what a line says, in order: each reading by what was heard before it, or the fault of a sentence
 
-  abbrev pub readings_give : Taken → List NetReading → List Reading → List Emit
-  readings_give t older [] = []
-  readings_give t older (r ∷ readings) = let n : NetReading = record { line = t; reading = r } in
-      reading_gives older n ++ readings_give t (n ∷ older) readings
+  abbrev pub said_gives : Taken → List NetReading → List (Result NetReading FieldFault) → List Emit
+  said_gives t older [] = []
+  said_gives t older (Ok n ∷ said) = reading_gives older n ++ said_gives t (n ∷ older) said
+  said_gives t older (Err fault ∷ said) = reported (sentence_breaks t fault) ++ said_gives t older said
 
-  abbrev pub said_gives : Taken → List NetReading → Result (List Reading) FieldFault → List Emit
-  said_gives t older (Ok readings) = readings_give t older readings
-  said_gives t older (Err fault) = reported (sentence_breaks t fault)
-
-  abbrev pub sentences_give : Taken → List NetReading → List (List ℕ) → List Emit
-  sentences_give t older [] = []
-  sentences_give t older (text ∷ texts) = let said = read_sentence text in
-      said_gives t older said ++ sentences_give t (with_said t older said) texts
-
-  -- ---- an item: its report, and what the sentences give that it hands over
+  -- ---- an item: its report, and what the line says
 
   abbrev pub handed_gives : List Taken → HeardItem → Item → List Emit
   handed_gives lines x (bad rule place) = []
   handed_gives lines x (line place said sentence parts) =
       if is_taken c said
-      then (let t = taken_as c lines x place said sentence in sentences_give t (readings_of lines) (handed_over t lines))
+      then (let t = taken_as c lines x place said sentence in said_gives t (readings_of lines) (line_says t (handed_over t lines)))
       else []
 
   abbrev pub item_gives : List HeardItem → HeardItem → List Emit

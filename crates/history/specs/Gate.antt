@@ -21,7 +21,7 @@ use Rattle.history.specs.Messages.{Message, done, ordered_in}
 use Rattle.gate_events.specs.Emit.{Emit, Emitted, can, net, report}
 use Rattle.history.specs.Emits.{at, broken, own_claim, request_for_claims, Spoken}
 use Rattle.history.specs.Endings.{fast_expired, iso_expired, groups_expired, side}
-use Rattle.history.specs.Heard.{HeardItem, heard_items, with_items, taken_lines}
+use Rattle.history.specs.Heard.{HeardItem, heard_items, with_each, taken_lines}
 use Rattle.history.specs.FromNet.{items_in, datagram_gives}
 use Rattle.history.specs.FromBus.{said_at, frame_refused, from_frame, command_breaks, from_command}
 
@@ -53,7 +53,7 @@ module _ (c : Settings) (s : ℕ) where
   -- the items of all datagrams, the newest first
   abbrev pub heard : History → List HeardItem
   heard [] = []
-  heard (e ∷ h) = with_items (heard h) (items_of h e)
+  heard (e ∷ h) = with_each (heard h) (items_of h e)
 
   -- what is overdue ends first
   abbrev pub expired : History → ℕ → List Emit

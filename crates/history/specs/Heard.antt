@@ -27,10 +27,10 @@ pub record HeardItem : Type 0 where
 abbrev pub heard_items : ℕ → Bool → List Item → List HeardItem
 heard_items m ready items = map (λ i. record { moment = m; ready = ready; item = i }) items
 
--- with the items of one more datagram
-abbrev pub with_items : List HeardItem → List HeardItem → List HeardItem
-with_items older [] = older
-with_items older (x ∷ items) = with_items (x ∷ older) items
+-- with these too, which came one after another
+abbrev pub with_each : {A : Type 0} → List A → List A → List A
+with_each older [] = older
+with_each older (x ∷ more) = with_each (x ∷ older) more
 
 -- a line that is taken: when it came, and whether the gateway was ready then; its place in its datagram, its source, its place in a
 -- group where it has one, its sentence, and whether there was room for a group that it opens

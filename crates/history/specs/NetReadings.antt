@@ -1,6 +1,7 @@
 -- What the lines from the network say, and which of it is selected and sent on. Every list has the newest first.
 use Rattle.std.specs.Prelude.{ℕ, ◌%◌, Bool, ◌&&◌, not, ◌==◌, List, [], ◌∷◌, map, filter, find, count_by, Option, Some, option_map, Result, Ok, Err, if◌then◌else◌}
-use Rattle.std.specs.List.{list_any}
+use Rattle.std.specs.List.{list_any, filter_map, flat_map}
+use Rattle.std.specs.Result.{result_ok}
 use Rattle.readings.specs.declared.reading.Reading.{Reading}
 use Rattle.readings.specs.declared.rows.Row.{Row}
 use Rattle.readings.specs.Rows.{row_of}
@@ -15,7 +16,7 @@ use Rattle.source_choice.specs.declared.rank.Rank.{Rank}
 use Rattle.history.specs.Settings.{Settings, RowRule, rule_of, same_text, is_some_that}
 use Rattle.history.specs.Opens.{is_fast}
 use Rattle.history.specs.Choice.{is_better, is_row, is_current}
-use Rattle.history.specs.Heard.{Taken, place_of, handed_over}
+use Rattle.history.specs.Heard.{Taken, place_of, handed_over, with_each}
 
 -- a reading that was heard, with its line: of a group, the one that completed it
 pub record NetReading : Type 0 where
@@ -31,24 +32,23 @@ read_parts (Err f) = Err Outside
 abbrev pub read_sentence : List ℕ → Result (List Reading) FieldFault
 read_sentence text = read_parts (sentences.read text)
 
--- ---- the readings of the sentences that are handed over
+-- ---- what a line says, in order: of each sentence that it hands over the readings, or the fault
 
-abbrev pub with_readings : Taken → List NetReading → List Reading → List NetReading
-with_readings t older [] = older
-with_readings t older (r ∷ readings) = with_readings t (record { line = t; reading = r } ∷ older) readings
+abbrev pub sentence_says : Taken → Result (List Reading) FieldFault → List (Result NetReading FieldFault)
+sentence_says t (Ok readings) = map (λ r. Ok (record { line = t; reading = r })) readings
+sentence_says t (Err fault) = Err fault ∷ []
 
-abbrev pub with_said : Taken → List NetReading → Result (List Reading) FieldFault → List NetReading
-with_said t older (Ok readings) = with_readings t older readings
-with_said t older (Err fault) = older
+abbrev pub line_says : Taken → List (List ℕ) → List (Result NetReading FieldFault)
+line_says t texts = flat_map (λ text. sentence_says t (read_sentence text)) texts
 
-abbrev pub with_sentences : Taken → List NetReading → List (List ℕ) → List NetReading
-with_sentences t older [] = older
-with_sentences t older (text ∷ texts) = with_sentences t (with_said t older (read_sentence text)) texts
+-- with the readings among it
+abbrev pub with_readings : List NetReading → List (Result NetReading FieldFault) → List NetReading
+with_readings older said = with_each older (filter_map result_ok said)
 
--- of all lines that were taken
+-- the readings of all lines that were taken
 abbrev pub readings_of : List Taken → List NetReading
 readings_of [] = []
-readings_of (t ∷ older) = with_sentences t (readings_of older) (handed_over t older)
+readings_of (t ∷ older) = with_readings (readings_of older) (line_says t (handed_over t older))
 
 -- ---- which readings are selected: as on the bus, without claims; the rank of a source is its place among those that are listed
 

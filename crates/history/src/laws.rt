@@ -80,8 +80,9 @@ pub fn group_lines_step_their_group()
     ensures later { TimeEndsGroup }
 {}
 
-/// A datagram gives what its items give, one after another, each by what was heard before it; so do the sentences of a line and the
-/// readings of a sentence. One more reading adds its PGN to the fast packets that were sent exactly where it is sent on as one.
+/// A datagram gives what its items give, one after another, each by what was heard before it; so does what a line says, of which the
+/// readings are heard one after another. One more reading adds its PGN to the fast packets that were sent exactly where it is sent on
+/// as one.
 pub fn items_give_in_order()
     ensures order { DatagramsGiveInOrder }
     ensures fast { ReadingsCountFast }
