@@ -1,4 +1,4 @@
--- What the lines from the network say, and which of it is selected and sent on. Every list has the newest first.
+-- What the lines from the network say, and which of it is selected and sent on. Lists of what was heard have the newest first.
 use Rattle.std.specs.Prelude.{ℕ, ◌%◌, Bool, ◌&&◌, not, ◌==◌, List, [], ◌∷◌, map, filter, find, count_by, Option, Some, option_map, Result, Ok, Err, if◌then◌else◌}
 use Rattle.std.specs.List.{list_any, filter_map, flat_map}
 use Rattle.std.specs.Result.{result_ok}
