@@ -18,7 +18,7 @@ use Rattle.gate_outbox.specs.Output.{Emitted, Output, and_told, emits_of, no_emi
 use Rattle.gate_outbox.proofs.Telling.{told_fits}
 use Rattle.gate_core.specs.Steps.{entry_of}
 use Rattle.bus_identity.specs.Answers.{Kept, kept_after}
-use Rattle.bus_identity.specs.Pgns.{product_information, pgn_lists}
+use Rattle.bus_identity.specs.PgnLists.{product_information, pgn_lists}
 use Rattle.n2k_id.specs.Pgns.{asked_of}
 use Rattle.bus_identity.specs.Requests.{is_due}
 use Rattle.bridge.specs.Answered.{answer_by, answered_before, own_after, ready_after, sent_before}

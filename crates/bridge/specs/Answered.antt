@@ -13,7 +13,7 @@ use Rattle.history.specs.Entries.{Entry, History, moment_of}
 use Rattle.history.specs.Known.{known}
 use Rattle.history.specs.Settings.{receiver_of, Settings}
 use Rattle.bus_identity.specs.Answers.{Kept, frames_from}
-use Rattle.bus_identity.specs.Pgns.{product_information, pgn_lists}
+use Rattle.bus_identity.specs.PgnLists.{product_information, pgn_lists}
 use Rattle.n2k_id.specs.Pgns.{asked_of}
 use Rattle.bus_identity.specs.Requests.{is_due}
 

@@ -3,7 +3,7 @@ use Rattle.std.proofs.lemmas.Bool.{eq-eqb, eqb-true}
 use Rattle.std.proofs.Common.{◌≡◌, ◌≢◌, ℕ, ◌+◌, ◌%◌, Bool, true, false, ◌&&◌, ◌==◌, if◌then◌else◌, List, [], ◌∷◌, Option, Some, refl, ◌∙◌, ◌⊎◌, inl, inr, arith}
 use Rattle.n2k_id.specs.Frame.{BusFrame}
 use Rattle.n2k_id.specs.Identifier.{parts_of}
-use Rattle.bus_identity.specs.Pgns.{pgn_lists, product_information}
+use Rattle.bus_identity.specs.PgnLists.{pgn_lists, product_information}
 use Rattle.n2k_id.specs.Pgns.{asked_of}
 use Rattle.bus_identity.specs.Requests.{is_due, IsDue}
 use Rattle.bus_identity.specs.Answers.{Kept}

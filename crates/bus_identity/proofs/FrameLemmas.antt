@@ -5,7 +5,7 @@ use Rattle.n2k_id.specs.declared.frame.Frame.{Frame}
 use Rattle.n2k_id.specs.Frame.{bus_frame, BusFrame}
 use Rattle.n2k_id.specs.Identifier.{CanJoin, has_destination}
 use Rattle.fast_packet.specs.FastRuns.{need_of, frames_to, frames_of, later_frame}
-use Rattle.bus_identity.specs.Pgns.{pgn_lists, product_information, sent, received}
+use Rattle.bus_identity.specs.PgnLists.{pgn_lists, product_information, sent, received}
 use Rattle.n2k_id.specs.Pgns.{acknowledgement}
 use Rattle.bus_identity.specs.Payloads.{sent_list, received_list}
 use Rattle.bus_identity.specs.Answers.{answer_parts}

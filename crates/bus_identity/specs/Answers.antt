@@ -6,7 +6,7 @@ use Rattle.n2k_id.specs.Identifier.{identifier_of, parts_of}
 use Rattle.fast_packet.specs.FastRuns.{frames_of}
 use Rattle.bus_identity.specs.declared.identity.Answered.{Answered}
 use Rattle.bus_identity.specs.declared.identity.Answered.TheVariants.{Nothing, Sent, NotReady}
-use Rattle.bus_identity.specs.Pgns.{pgn_lists, product_information}
+use Rattle.bus_identity.specs.PgnLists.{pgn_lists, product_information}
 use Rattle.n2k_id.specs.Pgns.{acknowledgement, asked_of}
 use Rattle.bus_identity.specs.Payloads.{sent_list, received_list, refusal_of}
 use Rattle.bus_identity.specs.Requests.{is_due}

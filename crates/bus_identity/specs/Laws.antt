@@ -7,7 +7,7 @@ use Rattle.n2k_id.specs.Identifier.{CanJoin, parts_of}
 use Rattle.fast_packet.specs.FastRuns.{longest}
 use Rattle.fast_packet.specs.Laws.{IsRunOf}
 use Rattle.readings.specs.About.{every_row}
-use Rattle.bus_identity.specs.Pgns.{pgn_lists, product_information, received, sent, sent_by, taken_by}
+use Rattle.bus_identity.specs.PgnLists.{pgn_lists, product_information, received, sent, sent_by, taken_by}
 use Rattle.n2k_id.specs.Pgns.{asked_of}
 use Rattle.bus_identity.specs.Requests.{is_due, IsDue}
 use Rattle.bus_identity.specs.Answers.{Kept, answer_frames, answered_address, kept_after, list_frames, message_by, product_frames, refusal_frames}

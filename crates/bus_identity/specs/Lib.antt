@@ -1,4 +1,4 @@
-pub mod Pgns
+pub mod PgnLists
 pub mod Payloads
 pub mod Requests
 pub mod Answers

@@ -2,7 +2,7 @@
 use Rattle.std.specs.Prelude.{ℕ, ◌-◌, ◌/◌, ◌%◌, List, [], ◌∷◌, ◌++◌, length, replicate}
 use Rattle.std.specs.List.{flat_map}
 use Rattle.bus_identity.specs.declared.product.Product.{Product}
-use Rattle.bus_identity.specs.Pgns.{sent, received}
+use Rattle.bus_identity.specs.PgnLists.{sent, received}
 
 -- ---- product information
 

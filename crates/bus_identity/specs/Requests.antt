@@ -3,7 +3,7 @@ use Rattle.std.specs.Prelude.{◌≡◌, ◌≢◌, ℕ, ◌≤◌, ◌⊎◌, B
 use Rattle.n2k_id.specs.Frame.{BusFrame}
 use Rattle.n2k_id.specs.declared.identifier_parts.Parts.{Parts}
 use Rattle.n2k_id.specs.Identifier.{parts_of, is_own, is_to}
-use Rattle.bus_identity.specs.Pgns.{pgn_lists, product_information}
+use Rattle.bus_identity.specs.PgnLists.{pgn_lists, product_information}
 use Rattle.n2k_id.specs.Pgns.{request, address_claimed, asked_of}
 
 -- a request to all or to this device, from another one

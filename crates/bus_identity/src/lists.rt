@@ -3,7 +3,7 @@
 
 ghost use Rattle.std.specs.Prelude.{◌≡◌, ◌+◌, ◌*◌, ◌<◌, ◌≤◌, ◌^◌, ◌++◌, length};
 ghost use Rattle.std.specs.List.{AllByRecursion, flat_map};
-ghost use Rattle.bus_identity.specs.Pgns as groups;
+ghost use Rattle.bus_identity.specs.PgnLists as groups;
 ghost use Rattle.bus_identity.specs.Payloads.{list_of, pgn_bytes, received_list, sent_list};
 
 use crate::product::{Payload, append};
@@ -20,14 +20,14 @@ const RECEIVED: [u32; 20] = [
     128_275, 129_025, 129_026, 129_029, 129_033, 129_283, 130_306, 130_312, 130_316,
 ];
 
-#[tactic(auto, unfolding(crate::specs::Pgns::sent))]
+#[tactic(auto, unfolding(crate::specs::PgnLists::sent))]
 pub(crate) fn sent_list() -> Payload
     ensures { result.items ≡ sent_list }
 {
     list_of(0, &SENT)
 }
 
-#[tactic(auto, unfolding(crate::specs::Pgns::received))]
+#[tactic(auto, unfolding(crate::specs::PgnLists::received))]
 pub(crate) fn received_list() -> Payload
     ensures { result.items ≡ received_list }
 {

@@ -1,5 +1,5 @@
 use Rattle.std.proofs.Common.{refl}
-use Rattle.bus_identity.specs.Pgns.{received, sent}
+use Rattle.bus_identity.specs.PgnLists.{received, sent}
 use Rattle.bus_identity.proofs.laws.lists_are_of_the_rows.Goals as goal
 
 pub returns : goal.returns
