@@ -10,7 +10,7 @@ use Rattle.std.proofs.lemmas.Bool.{and_from, and_parts, cases_Bool, false≢true
 use Rattle.std.proofs.lemmas.Fmt.{decimal_is_IsNumeral}
 use Rattle.std.proofs.lemmas.List.{append-nil}
 use Rattle.config_values.specs.Endpoints.{IsEndpoint, IsHost, IsPort}
-use Rattle.config_values.proofs.Hosts.{never_endpoint, no_host, with_host}
+use Rattle.config_values.proofs.Hosts.{Tells, never_endpoint, no_host, with_host}
 use Rattle.config_values.proofs.Pairs.{rest, rest_is}
 use Rattle.gate_config.specs.Texts.{ends, divided, is_endpoint, is_host, is_port, same_text}
 
@@ -25,9 +25,6 @@ same_equal (c ∷ cs) [] h = absurd (false≢true h)
 same_equal (c ∷ cs) (d ∷ ds) h =
     let both = and_parts (nat_eq c d) (same_text cs ds) h in
     ap (λ (n : ℕ). n ∷ cs) (eqb-true c d both.0) ∙ ap (λ (t : List ℕ). d ∷ t) (same_equal cs ds both.1)
-
-abbrev Tells : Bool → Type 0 → Type 0
-Tells b P = (IsTrue b → P) × (P → IsTrue b)
 
 host_from : (text : List ℕ) (read : Option (List ℕ × List ℕ)) → read_ipv4 text ≡ read → ends read ≡ true → IsHost text
 host_from text None e h = absurd (false≢true h)
