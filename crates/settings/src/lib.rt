@@ -4,9 +4,11 @@
 #![tactic(auto)]
 
 mod ais;
+mod further;
 mod rmc;
 mod settings;
 
 pub use ais::AisConfig;
+pub use further::Further;
 pub use rmc::RmcConfig;
 pub use settings::Settings;

@@ -1,0 +1,32 @@
+//! What is asked for by keys of its own.
+
+use arrayvec::ArrayVec;
+use n2k_id::Pattern;
+use sentence_text::Group;
+
+/// What is asked for by keys of its own: with none of it, a gateway does what it does without these keys.
+#[derive(Drop)]
+pub struct Further {
+    /// The devices that no row is taken from.
+    pub ignore: ArrayVec<Pattern, 16>,
+    /// Whether it is told which source a row is taken from.
+    pub sources: bool,
+    /// The transmission group that all sentences are sent to once more, without header and TAG blocks; none: they aren't.
+    pub plain: Option<Group>,
+}
+
+impl Further {
+    ghost use Rattle.std.specs.Prelude.{◌≡◌};
+    ghost use Rattle.settings.specs.Further.{nothing_further};
+
+    /// None of it.
+    pub fn none() -> Further
+        ensures { result ≡ nothing_further }
+    {
+        Further {
+            ignore: ArrayVec::new(),
+            sources: false,
+            plain: None,
+        }
+    }
+}
