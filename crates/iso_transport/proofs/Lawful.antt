@@ -6,9 +6,6 @@ use Rattle.slot_views.specs.Runs.{is_whole, opener_of}
 use Rattle.slot_views.specs.RunLaws.{IsLawful}
 use Rattle.iso_transport.specs.IsoRuns.{IsoPiece, need_of, is_opener, is_next, is_repeat, iso_rules}
 
-pub and_false : (b : Bool) → (b && false) ≡ false
-and_false = and-false
-
 -- what is no packet is neither next nor a repeat
 pub no_next : (acc : List IsoPiece) (x : IsoPiece) → x.packet ≡ false → is_next acc x ≡ false
 no_next [] x none = refl
