@@ -6,5 +6,6 @@ pub mod Steps
 pub mod Sending
 pub mod PartCases
 pub mod ReplayCases
+pub mod Reached
 pub mod Replays
 pub mod Events
