@@ -1,5 +1,5 @@
 -- What follows from what a frame is.
-use Rattle.std.proofs.Common.{◌≡◌, ℕ, ◌+◌, ◌&&◌, min, Bool, true, false, List, [], Option, Some, None, option_map, unwrap_or, refl}
+use Rattle.std.proofs.Common.{◌≡◌, ℕ, ◌+◌, min, Bool, true, false, List, [], Option, Some, None, option_map, unwrap_or, refl}
 use Rattle.std.proofs.lemmas.Bool.{leb-true, eqb-true, and_parts}
 use Rattle.slot_views.specs.declared.answers.Kept.{Kept}
 use Rattle.slot_views.specs.Slots.{Entry}

@@ -1,5 +1,5 @@
 -- Messages of the transport protocol are runs, so what is promised of runs holds of them.
-use Rattle.std.proofs.Common.{◌≡◌, ◌&&◌, ℕ, nat_lt, Bool, true, false, List, [], ◌∷◌, length, refl, arith}
+use Rattle.std.proofs.Common.{◌≡◌, ℕ, nat_lt, Bool, true, false, List, [], ◌∷◌, length, refl, arith}
 use Rattle.std.proofs.lemmas.Bool.{and_parts, eqb-true, le-ltb, not-true}
 use Rattle.std.proofs.Math.Bool.{and-false}
 use Rattle.slot_views.specs.Runs.{is_whole, opener_of}

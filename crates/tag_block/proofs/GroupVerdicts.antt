@@ -1,5 +1,5 @@
 -- What follows from what a line is.
-use Rattle.std.proofs.Common.{◌≡◌, ◌+◌, ◌==◌, ◌&&◌, Bool, true, false, Option, Some, None, refl, sym}
+use Rattle.std.proofs.Common.{◌≡◌, ◌+◌, ◌==◌, Bool, true, false, Option, Some, None, refl, sym}
 use Rattle.std.proofs.lemmas.Bool.{eqb-true, and_parts}
 use Rattle.slot_views.specs.Slots.{Entry}
 use Rattle.tag_block.specs.declared.group_part.GroupPart.{GroupPart}
