@@ -2,8 +2,7 @@
 ghost use Rattle.std.specs.Prelude.{◌≡◌, ◌+◌, ◌*◌, ◌%◌, ◌<◌, ◌≤◌, ◌++◌, ◌∷◌, [], false, length, map, IfOk, IfSome, Some};
 ghost use Rattle.std.specs.Int.{from_le_bytes, to_le_bytes, w32};
 ghost use Rattle.std.specs.List.{AllByRecursion};
-ghost use Rattle.readings.specs.Ranges.{IsValid};
-ghost use Rattle.readings.specs.Rows.{row_of};
+ghost use Rattle.readings.specs.Rows.{IsValid, row_of};
 ghost use Rattle.sentence_text.specs.Byte.{is_capital};
 ghost use Rattle.source_choice.specs.Choices.{opened, forgotten};
 ghost use Rattle.readings.specs.About.{row_number};

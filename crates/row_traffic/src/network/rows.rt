@@ -1,7 +1,6 @@
 //! What the sources of the network said last of each row, and how many fast packets were sent of it.
 ghost use Rattle.std.specs.Prelude.{◌≡◌, ◌+◌, ◌<◌, ◌≤◌, [], ◌∷◌, false, length, All, IfOk, Some};
-ghost use Rattle.readings.specs.Ranges.{IsValid};
-ghost use Rattle.readings.specs.Rows.{row_of};
+ghost use Rattle.readings.specs.Rows.{IsValid, row_of};
 ghost use Rattle.source_choice.specs.Choices.{opened};
 ghost use Rattle.readings.specs.About.{row_number};
 ghost use Rattle.history.specs.Choice.{is_usable};
