@@ -5,7 +5,7 @@ use Rattle.std.proofs.lemmas.List.Sums.{prefix_len-le-length}
 use Rattle.std.proofs.lemmas.Bool.{and_parts}
 use Rattle.std.proofs.lemmas.Bool.Decides.{nat_tests}
 use Rattle.readings.specs.declared.rows.Row.{Row}
-use Rattle.readings.specs.About.{rows}
+use Rattle.readings.specs.Rows.{rows}
 use Rattle.bus_identity.specs.PgnLists.{received, received_with, sent, sent_with}
 
 pub past_all : (p : ℕ → Bool) (ns : List ℕ) → position p ns ≡ None → length ns ≡ position_or_len p ns

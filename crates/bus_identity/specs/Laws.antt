@@ -6,7 +6,7 @@ use Rattle.n2k_id.specs.declared.identifier_parts.Parts.{Parts}
 use Rattle.n2k_id.specs.Identifier.{CanJoin, parts_of}
 use Rattle.fast_packet.specs.FastRuns.{longest}
 use Rattle.fast_packet.specs.Laws.{IsRunOf}
-use Rattle.readings.specs.About.{every_row}
+use Rattle.readings.specs.Rows.{every_row}
 use Rattle.bus_identity.specs.PgnLists.{has, pgn_lists, product_information, received, sent, sent_by, taken_by}
 use Rattle.n2k_id.specs.Pgns.{asked_of}
 use Rattle.bus_identity.specs.Requests.{is_due, IsDue}

@@ -4,7 +4,7 @@ use Rattle.std.specs.List.{flat_map, insert, list_any, position_or_len}
 use Rattle.std.specs.Option.{option_to_list}
 use Rattle.n2k_id.specs.Pgns.{address_claimed, request, acknowledgement, connection_management, data_transfer, commanded_address}
 use Rattle.readings.specs.declared.rows.Row.{Row}
-use Rattle.readings.specs.About.{about_of, every_row}
+use Rattle.readings.specs.Rows.{about_of, every_row}
 
 -- which parameter groups a device sends, and which it takes in
 abbrev pub pgn_lists : ℕ
