@@ -22,7 +22,7 @@ class Form:
 
 
 Key = collections.namedtuple("Key", "name form default is_required")
-Row = collections.namedtuple("Row", "name pgns selector values")
+Row = collections.namedtuple("Row", "name words pgns selector values sentences talker sent_pgn")
 
 
 def text_form(pattern):
@@ -126,13 +126,16 @@ class Page:
         return tables
 
     def rows_of_page(self):
-        """The rows, and the PGNs, selectors and selectors' values that they are taken from."""
+        """The rows: their words; the PGNs, selectors and selectors' values that they are taken from; their sentences, each with the letter or the
+        number of the field that tells it from another row's; their talker, and the PGN that is sent to the bus."""
         rows = []
-        for cells in self.table("R"):
-            pgns = [int(pgn) for pgn in re.findall(r"\b\d{6}\b", cells[1])]
-            selector = re.search(r"(reference|instance|source) (\d+(?: or \d+)*)", cells[1])
+        for name, words, taken, said, talker, _, sent in self.table("R"):
+            pgns = [int(pgn) for pgn in re.findall(r"\b\d{6}\b", taken)]
+            selector = re.search(r"(reference|instance|source) (\d+(?: or \d+)*)", taken)
             values = [] if selector is None else [int(value) for value in selector.group(2).split(" or ")]
-            rows.append(Row(cells[0].strip("`"), pgns, selector and selector.group(1), values))
+            told = re.findall(r"\b([A-Z]{3})\b(?: with (?:field (\d)|([A-Z])\b))?", said)
+            sentences = [(formatter, int(field) if field else letter or None) for formatter, field, letter in told]
+            rows.append(Row(name.strip("`"), words, pgns, selector and selector.group(1), values, sentences, talker, int(sent)))
         return rows
 
     def most_tables(self):

@@ -1,7 +1,7 @@
 -- The parts beside the gateway: who is asked for, RMC, and a ship around.
 use Rattle.std.specs.Prelude.{◌≡◌, ℕ, List, [], ◌∷◌, ◌++◌, map, Some, codes}
 use Rattle.report_rules.specs.Rules.{claim_lost, fast_orphan, not_ready}
-use Rattle.readings.specs.About.{every_row}
+use Rattle.readings.specs.Rows.{every_row}
 use Rattle.datagram450.specs.Datagram.{header}
 use Rattle.gate_events.specs.Emit.{Emit, Emitted, net}
 use Rattle.history.specs.Cases.{can_frame, emitted, full, lined, navd, started, two_devices}

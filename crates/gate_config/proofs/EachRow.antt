@@ -2,7 +2,7 @@
 use Rattle.std.proofs.Common.{◌≡◌, ℕ, ◌+◌, ◌<◌, List, [], ◌∷◌, ◌++◌, length, get_or, drop, Ok, sym, ap, ◌∙◌}
 use Rattle.std.proofs.lemmas.List.{at_drop_more}
 use Rattle.readings.specs.declared.rows.Row.{Row}
-use Rattle.readings.specs.About.{about_of}
+use Rattle.readings.specs.Rows.{about_of}
 use Rattle.config_document.specs.Places.{Place}
 use Rattle.config_values.specs.declared.row_config.RowConfig.{RowConfig}
 use Rattle.gate_config.specs.Keys.{row_at, row_prefix, rows_from}

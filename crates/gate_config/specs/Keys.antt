@@ -7,7 +7,7 @@ use Rattle.claim_table.specs.declared.preset.Preset.{Preset}
 use Rattle.toml.specs.Data.{get_member}
 use Rattle.n2k_id.specs.declared.name.Name.{Name}
 use Rattle.readings.specs.declared.rows.Row.{Row}
-use Rattle.readings.specs.About.{about_of, rows as all_rows}
+use Rattle.readings.specs.Rows.{about_of, rows as all_rows}
 use Rattle.config_document.specs.declared.fault.ConfigFault.{ConfigFault}
 use Rattle.config_document.specs.Keys.{list_at, number_at, text_at, truth_at}
 use Rattle.config_document.specs.Faults.{fault_at, missing}

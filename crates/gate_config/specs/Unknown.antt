@@ -2,7 +2,7 @@
 use Rattle.std.specs.Prelude.{ℕ, ◌+◌, List, [], ◌∷◌, map, Option, Some, None}
 use Rattle.toml.specs.Data.{Data, Items, no_items, item, Members, no_members, array, get_member}
 use Rattle.readings.specs.declared.rows.Row.{Row}
-use Rattle.readings.specs.About.{about_of, rows as all_rows}
+use Rattle.readings.specs.Rows.{about_of, rows as all_rows}
 use Rattle.config_document.specs.Kinds.{members_in}
 use Rattle.config_document.specs.Places.{Place}
 use Rattle.config_document.specs.Unknown.{least_of, unknown_in}

@@ -4,7 +4,7 @@ use Rattle.n2k_id.specs.declared.pattern.Pattern.{Pattern}
 use Rattle.readings.specs.declared.rows.Row.{Row}
 use Rattle.readings.specs.declared.rows.Row.TheVariants as row
 use Rattle.history.specs.Settings.{Settings, RowRule}
-use Rattle.readings.specs.About.{every_row}
+use Rattle.readings.specs.Rows.{every_row}
 use Rattle.history.specs.Cases.{Emits, IsSilent, full, emitted, navd, with_presets, preset, plain_rule}
 
 -- the devices of a manufacturer

@@ -6,8 +6,7 @@ use Rattle.n2k_id.specs.declared.name.Name.{Name}
 use Rattle.readings.specs.declared.reading.Reading.{Reading}
 use Rattle.readings.specs.declared.rows.Row.{Row}
 use Rattle.readings.specs.declared.rows.Row.TheVariants as row
-use Rattle.readings.specs.Ranges.{IsValid}
-use Rattle.readings.specs.Rows.{row_of}
+use Rattle.readings.specs.Rows.{IsValid, row_of}
 use Rattle.sentence_rows.specs.declared.rmc.Minimum.{Minimum}
 use Rattle.tag_block.specs.Tag.{most_count}
 use Rattle.history.specs.Settings.{same_row}

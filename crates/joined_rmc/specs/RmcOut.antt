@@ -5,7 +5,7 @@ use Rattle.readings.specs.declared.reading.Reading.{Reading}
 use Rattle.readings.specs.declared.reading.Reading.TheVariants as reading
 use Rattle.readings.specs.declared.rows.Row.{Row}
 use Rattle.readings.specs.declared.rows.Row.TheVariants as row
-use Rattle.readings.specs.About.{row_number}
+use Rattle.readings.specs.Rows.{row_number}
 use Rattle.sentence_rows.specs.Writing.{only_if}
 use Rattle.sentence_rows.specs.declared.rmc.Minimum.{Minimum}
 use Rattle.sentence_rows.specs.Rmc.{rmc_text}

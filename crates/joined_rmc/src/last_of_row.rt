@@ -1,6 +1,6 @@
 //! The last message of a row that was selected.
 ghost use Rattle.std.specs.Prelude.{◌≡◌, None, IfSome, if◌then◌else◌};
-ghost use Rattle.readings.specs.Ranges.{IsValid};
+ghost use Rattle.readings.specs.Rows.{IsValid};
 ghost use Rattle.history.specs.Settings.{same_row};
 ghost use Rattle.gate_model.specs.AddressStands.{name_held};
 ghost use Rattle.joined_rmc.specs.Selected.{unless_old};

@@ -1,5 +1,5 @@
 use Rattle.std.proofs.Common.{◌≡◌, ◌∙◌}
-use Rattle.readings.specs.About.{about_of}
+use Rattle.readings.specs.Rows.{about_of}
 use Rattle.gate_config.specs.Keys.{row, row_prefix}
 use Rattle.gate_config.proofs.unknown.in_row.Goals as goal
 
