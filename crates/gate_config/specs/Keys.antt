@@ -6,6 +6,7 @@ use Rattle.arrayvec.specs.ArrayVec.{ArrayVec}
 use Rattle.claim_table.specs.declared.preset.Preset.{Preset}
 use Rattle.toml.specs.Data.{get_member}
 use Rattle.n2k_id.specs.declared.name.Name.{Name}
+use Rattle.n2k_id.specs.declared.pattern.Pattern.{Pattern}
 use Rattle.readings.specs.declared.rows.Row.{Row}
 use Rattle.readings.specs.About.{about_of, rows as all_rows}
 use Rattle.config_document.specs.declared.fault.ConfigFault.{ConfigFault}
@@ -20,6 +21,7 @@ use Rattle.config_values.specs.declared.config.Ends.{Ends}
 use Rattle.config_values.specs.declared.row_config.RowConfig.{RowConfig}
 use Rattle.network_routes.specs.declared.Route.{Route}
 use Rattle.settings.specs.declared.ais.AisConfig.{AisConfig}
+use Rattle.settings.specs.declared.further.Further.{Further}
 use Rattle.settings.specs.declared.rmc.RmcConfig.{RmcConfig}
 use Rattle.settings.specs.declared.settings.Settings.{Settings}
 use Rattle.config_document.specs.declared.texts.ProductText.{ProductText}
@@ -68,11 +70,15 @@ preset =
     & key_beside (codes "address") (λ beside. unless (address_stands beside.0 beside.1) (needed (number_at 0 253)))
     & key_beside (codes "name") (λ beside. unless (name_stands beside.0 beside.1) (needed (text_at name_in)))
 
+-- devices, none of them twice
+abbrev pub devices : Kind (ArrayVec Pattern)
+devices = unless (λ sources. repeats same_pattern sources.items) (list_at pattern_in 16)
+
 -- row.R, beside the talker and the group that it has by default
 unfoldable pub row : Table (List ℕ × List ℕ) RowConfig
 row =
     table (codes "row") (λ sources others timeout talker group. record { sources = sources; others = others; timeout_ms = timeout; talker = talker.0; group = group })
-    & key (codes "sources") (unless (λ sources. repeats same_pattern sources.items) (list_at pattern_in 16))
+    & key (codes "sources") devices
     & key (codes "others") (default true truth_at)
     & key (codes "timeout_ms") (default 5000 (number_at 100 60000))
     & key_beside (codes "talker") (λ beside. default (record { 0 = beside.0 }) (text_at talker_in))
@@ -156,34 +162,53 @@ identity =
     & keys texts
     & key (codes "load") (default 1 (number_at 0 252))
 
--- another part's group
-abbrev pub is_taken : Option (List ℕ) → List ℕ → Bool
-is_taken None group = false
-is_taken (Some taken) group = same_text taken group
+-- something is sent to a group: a row, or one of the other parts, of those that have a group
+abbrev pub is_group_of : List ℕ → Option (List ℕ) → Bool
+is_group_of group None = false
+is_group_of group (Some taken) = same_text taken group
 
--- a transmission group of its own, which the part has only with it: its other key asks for it, and no row may be sent to it
-abbrev pub own_group : List RowConfig → Option (List ℕ) → List ℕ → Place → List ℕ → Result (Option (List ℕ)) ConfigFault → Result (Option (List ℕ)) ConfigFault
-own_group rows taken other place name (Err fault) = Err fault
-own_group rows taken other place name (Ok None) = if is_some (get_member other place.members) then Err (missing (path_of place name)) else Ok None
-own_group rows taken other place name (Ok (Some group)) =
-    if list_any (λ row. same_text row.group group) rows || is_taken taken group then Err (fault_at flaw.Twice (path_of place name)) else Ok (Some group)
+abbrev pub is_taken : List RowConfig → List (Option (List ℕ)) → List ℕ → Bool
+is_taken rows parts group = list_any (λ row. same_text row.group group) rows || list_any (is_group_of group) parts
 
-abbrev pub own_group_at : List RowConfig → Option (List ℕ) → List ℕ → Kind (Option (List ℕ))
-own_group_at rows taken other place name = own_group rows taken other place name (text_at group_in place name)
+-- something stands at a key
+abbrev pub stands_at : List ℕ → Place → Bool
+stands_at name place = is_some (get_member name place.members)
+
+-- a transmission group of its own, which the part has only with it: what else is said of the part asks for it, and nothing else may be sent to it
+abbrev pub own_group : List RowConfig → List (Option (List ℕ)) → Bool → Place → List ℕ → Result (Option (List ℕ)) ConfigFault → Result (Option (List ℕ)) ConfigFault
+own_group rows parts asked place name (Err fault) = Err fault
+own_group rows parts asked place name (Ok None) = if asked then Err (missing (path_of place name)) else Ok None
+own_group rows parts asked place name (Ok (Some group)) =
+    if is_taken rows parts group then Err (fault_at flaw.Twice (path_of place name)) else Ok (Some group)
+
+abbrev pub own_group_at : List RowConfig → List (Option (List ℕ)) → (Place → Bool) → Kind (Option (List ℕ))
+own_group_at rows parts asks place name = own_group rows parts (asks place) place name (text_at group_in place name)
 
 -- rmc
 unfoldable pub rmc : Table (List RowConfig) (Option RmcConfig)
 rmc =
     table (codes "rmc") (λ group talker. option_map (λ g. record { group = g; talker = talker.0 }) group)
-    & key_beside (codes "group") (λ rows. own_group_at rows None (codes "talker"))
+    & key_beside (codes "group") (λ rows. own_group_at rows [] (stands_at (codes "talker")))
     & key (codes "talker") (default (record { 0 = codes "GP" }) (text_at talker_in))
 
 -- ais, beside the rows and the group of rmc
 unfoldable pub ais : Table (List RowConfig × Option (List ℕ)) (Option AisConfig)
 ais =
     table (codes "ais") (λ group slots. option_map (λ g. record { group = g; slots = slots }) group)
-    & key_beside (codes "group") (λ beside. own_group_at beside.0 beside.1 (codes "slots"))
+    & key_beside (codes "group") (λ beside. own_group_at beside.0 (beside.1 ∷ []) (stands_at (codes "slots")))
     & key (codes "slots") (default 16 (number_at 1 256))
+
+-- bus again: a key that is checked behind all those above
+unfoldable pub ignored : Table ⊤ (ArrayVec Pattern)
+ignored = table (codes "bus") (λ devices. devices) & key (codes "ignore") devices
+
+-- report
+unfoldable pub report : Table ⊤ Bool
+report = table (codes "report") (λ sources. sources) & key (codes "sources") (default false truth_at)
+
+-- plain, beside the rows and the groups of the other parts; nothing asks for its group
+unfoldable pub plain : Table (List RowConfig × List (Option (List ℕ))) (Option (List ℕ))
+plain = table (codes "plain") (λ group. group) & key_beside (codes "group") (λ beside. own_group_at beside.0 beside.1 (λ place. false))
 
 -- net, bus and route: whom the network is heard from, and where the links listen and send
 unfoldable pub links_in : List ℕ → Place → Result (ArrayVec (List ℕ) × Ends) ConfigFault
@@ -227,3 +252,22 @@ settings_in document = do
     rmc = parts.1;
     ais = parts.2;
   })
+
+-- the groups of joined sentences and of reports of ships around
+abbrev pub part_groups : Settings → List (Option (List ℕ))
+part_groups s = option_map (λ r. r.group) s.rmc ∷ option_map (λ a. a.group) s.ais ∷ []
+
+-- the keys behind those of the settings, beside them
+unfoldable pub further_in : Settings → Place → Result Further ConfigFault
+further_in settings document = do
+  devices ← table_in ignored tt document
+  sources ← table_in report tt document
+  group ← table_in plain (settings.config.rows, part_groups settings) document
+  Ok (record { ignore = devices; sources = sources; plain = group })
+
+-- all keys
+unfoldable pub whole_in : Place → Result (Settings × Further) ConfigFault
+whole_in document = do
+  settings ← settings_in document
+  further ← further_in settings document
+  Ok (settings, further)

@@ -1,5 +1,5 @@
 -- Keys that aren't known, in every table: of all of them the one is told whose path comes first in the order of bytes.
-use Rattle.std.specs.Prelude.{ℕ, ◌+◌, List, [], ◌∷◌, map, Option, Some, None}
+use Rattle.std.specs.Prelude.{ℕ, ◌+◌, List, [], ◌∷◌, ◌++◌, map, Option, Some, None}
 use Rattle.toml.specs.Data.{Data, Items, no_items, item, Members, no_members, array, get_member}
 use Rattle.readings.specs.declared.rows.Row.{Row}
 use Rattle.readings.specs.About.{about_of, rows as all_rows}
@@ -57,21 +57,30 @@ items t document best = noted_items t.known (prefix_of t.name) 1 (items_of (get_
 -- the document's own keys are the names of the tables
 unfoldable pub tables : List (List ℕ)
 tables =
-    Keys.gateway.name ∷ Keys.preset.name ∷ Keys.row.name ∷ Keys.net.name ∷ Keys.bus.name ∷ Keys.route.name ∷ Keys.identity.name ∷ Keys.rmc.name ∷ Keys.ais.name ∷ []
+    Keys.gateway.name ∷ Keys.preset.name ∷ Keys.row.name ∷ Keys.net.name ∷ Keys.bus.name ∷ Keys.route.name ∷ Keys.identity.name ∷ Keys.rmc.name ∷ Keys.ais.name
+    ∷ Keys.report.name ∷ Keys.plain.name ∷ []
 
 -- the gateway itself, the devices that it knows, and its rows
 unfoldable pub gateway_noted : Place → Option (List ℕ) → Option (List ℕ)
 gateway_noted document best =
     rows_noted (place_under document Keys.row.name (prefix_of Keys.row.name)) (items Keys.preset document (once Keys.gateway document best))
 
+-- the table bus, some of whose keys are read behind those of other tables
+unfoldable pub bus_noted : Place → Option (List ℕ) → Option (List ℕ)
+bus_noted document best = noted (Keys.bus.known ++ Keys.ignored.known) (place_under document Keys.bus.name (prefix_of Keys.bus.name)) best
+
 -- the links, and the routes between them
 unfoldable pub links_noted : Place → Option (List ℕ) → Option (List ℕ)
-links_noted document best = items Keys.route document (once Keys.bus document (once Keys.net document best))
+links_noted document best = items Keys.route document (bus_noted document (once Keys.net document best))
 
 -- what the gateway says of itself, and the parts beside it
 unfoldable pub parts_noted : Place → Option (List ℕ) → Option (List ℕ)
 parts_noted document best = once Keys.ais document (once Keys.rmc document (once Keys.identity document best))
 
+-- what is asked for besides
+unfoldable pub further_noted : Place → Option (List ℕ) → Option (List ℕ)
+further_noted document best = once Keys.plain document (once Keys.report document best)
+
 -- every table
 unfoldable pub first_unknown : Place → Option (List ℕ)
-first_unknown document = parts_noted document (links_noted document (gateway_noted document (noted tables document None)))
+first_unknown document = further_noted document (parts_noted document (links_noted document (gateway_noted document (noted tables document None))))

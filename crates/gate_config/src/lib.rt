@@ -2,7 +2,9 @@
 #![tactic(auto)]
 
 mod all;
+mod devices;
 mod endpoint;
+mod further;
 mod gateway;
 mod identity;
 mod items;
@@ -18,5 +20,5 @@ mod unknown;
 pub use bus_identity::Product;
 pub use config_document::{ConfigFault, FaultLine, Key};
 pub use config_values::{Config, Ends, RowConfig};
-pub use reading::{read, read_all};
-pub use settings::{AisConfig, RmcConfig, Settings};
+pub use reading::{read, read_all, read_whole};
+pub use settings::{AisConfig, Further, RmcConfig, Settings};

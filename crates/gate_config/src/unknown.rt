@@ -4,10 +4,10 @@ ghost use Rattle.toml.specs.Data.{get_member};
 ghost use Rattle.toml.specs.View.{items_view};
 ghost use Rattle.config_document.specs.Places.{place_of};
 ghost use Rattle.config_document.specs.Unknown.{path_seen};
-ghost use Rattle.gate_config.specs.Unknown.{each_row_noted, first_unknown, gateway_noted, items_of, links_noted, noted, noted_items, parts_noted, place_under, row_names, row_noted, rows_noted};
+ghost use Rattle.gate_config.specs.Unknown.{each_row_noted, first_unknown, further_noted, gateway_noted, items_of, links_noted, noted, noted_items, parts_noted, place_under, row_names, row_noted, rows_noted};
 
 use crate::items::{item_prefix, row_prefix};
-use crate::{gateway, identity, links, parts, presets, routes, rows};
+use crate::{further, gateway, identity, links, parts, presets, routes, rows};
 use arrayvec::ArrayVec;
 use config_document::{Section, least_unknown};
 use readings::{ROWS, Row, all_rows};
@@ -22,12 +22,14 @@ pub(crate) fn first_unknown(
     ensures { IfOk result (λ path. path_seen path ≡ first_unknown (place_of document.now)) }
 {
     let tables = [
-        "gateway", "preset", "row", "net", "bus", "route", "identity", "rmc", "ais",
+        "gateway", "preset", "row", "net", "bus", "route", "identity", "rmc", "ais", "report",
+        "plain",
     ];
     let least = least_unknown(alloc, document, &tables, None)?;
     let least = in_gateway(alloc, document, least)?;
     let least = in_links(alloc, document, least)?;
-    in_parts(alloc, document, least)
+    let least = in_parts(alloc, document, least)?;
+    in_further(alloc, document, least)
 }
 
 /// The lesser of this path and those of the gateway itself, of the devices that it knows, and of its rows.
@@ -83,6 +85,32 @@ fn in_parts(
     )?;
     let least = under(alloc, document, "rmc", b"rmc.", &parts::RMC_KEYS, least)?;
     under(alloc, document, "ais", b"ais.", &parts::AIS_KEYS, least)
+}
+
+/// The same of what is asked for besides.
+fn in_further(
+    alloc: Global,
+    document: &Section,
+    least: Option<Vec<u8>>,
+) -> Result<Option<Vec<u8>>, AllocError>
+    ensures { IfOk result (λ path. path_seen path ≡ further_noted (place_of document.now) (path_seen least)) }
+{
+    let least = under(
+        alloc,
+        document,
+        "report",
+        b"report.",
+        &further::REPORT_KEYS,
+        least,
+    )?;
+    under(
+        alloc,
+        document,
+        "plain",
+        b"plain.",
+        &further::PLAIN_KEYS,
+        least,
+    )
 }
 
 /// The same of the table of rows, and of each row's table.
