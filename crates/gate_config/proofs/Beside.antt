@@ -17,13 +17,14 @@ use Rattle.config_values.specs.Presets.{AreApart, ArePresets}
 use Rattle.config_values.specs.declared.row_config.RowConfig.{RowConfig}
 use Rattle.network_routes.specs.declared.Route.{Route}
 use Rattle.config_values.specs.Rows.{AreSources}
-use Rattle.settings.specs.Further.{IsFurther, IsPlainGroup}
+use Rattle.settings.specs.Further.{AreQuantities, IsFurther, IsFurtherGroup, IsPlainGroup}
 use Rattle.settings.specs.Settings.{IsAis}
 use Rattle.settings.specs.declared.ais.AisConfig.{AisConfig}
 use Rattle.settings.specs.declared.further.Further.{Further}
+use Rattle.settings.specs.declared.quantity_config.Quantities.{Quantities}
 use Rattle.settings.specs.declared.rmc.RmcConfig.{RmcConfig}
 use Rattle.settings.specs.declared.settings.Settings.{Settings}
-use Rattle.gate_config.specs.Beside.{AreSourcesBeside, IsAisBeside, IsGroupBeside, IsPresetBeside, IsRouteBeside}
+use Rattle.gate_config.specs.Beside.{AreQuantitiesBeside, AreSourcesBeside, IsAisBeside, IsGroupBeside, IsPresetBeside, IsRouteBeside}
 use Rattle.gate_config.specs.Keys.{address_stands, group_stands, is_group_of, name_stands, part_groups}
 use Rattle.gate_config.specs.Texts.{same_text}
 use Rattle.gate_config.proofs.EndpointTexts.{same_itself}
@@ -105,13 +106,34 @@ ais_beside rows rmc ais beside = record {
   slots = beside.most;
 }
 
--- the group of plain sentences beside those of the rows and of the other parts
-pub plain_beside : (s : Settings) (group : List ℕ) → IsGroupBeside s.config.rows (part_groups s) group → IsPlainGroup s group
-plain_beside s group beside = record {
+-- a group beside those of the rows and of the parts of the settings
+further_group : (s : Settings) (group : List ℕ) → IsGroupBeside s.config.rows (part_groups s) group → IsFurtherGroup s group
+further_group s group beside = record {
   from_rows = beside.from_rows;
   from_rmc = λ r is. beside.from_parts 0 None (omega arith) r.group (ap (option_map (λ (r : RmcConfig). r.group)) is);
   from_ais = λ a is. beside.from_parts 1 None (omega arith) a.group (ap (option_map (λ (a : AisConfig). a.group)) is);
 }
 
-pub further_beside : (s : Settings) (f : Further) → AreSources f.ignore.items → ForSome f.plain (IsGroupBeside s.config.rows (part_groups s)) → IsFurther s f
-further_beside s f ignore plain = record { ignore = ignore; plain = λ group is. plain_beside s group (plain group is) }
+pub quantities_beside : (s : Settings) (all : Quantities) → AreQuantitiesBeside s.config.rows (part_groups s) all → AreQuantities s all
+quantities_beside s all beside = record { group = further_group s all.group beside.beside; slots = beside.most; each = beside.each }
+
+pub plain_beside :
+    (s : Settings) (quantities : Option Quantities) (group : List ℕ) → IsGroupBeside s.config.rows (option_map (λ q. q.group) quantities ∷ part_groups s) group
+    → IsPlainGroup s quantities group
+plain_beside s quantities group beside = record {
+  beside = record {
+    from_rows = beside.from_rows;
+    from_rmc = λ r is. beside.from_parts 1 None (omega arith) r.group (ap (option_map (λ (r : RmcConfig). r.group)) is);
+    from_ais = λ a is. beside.from_parts 2 None (omega arith) a.group (ap (option_map (λ (a : AisConfig). a.group)) is);
+  };
+  from_quantities = λ q is. beside.from_parts 0 None (omega arith) q.group (ap (option_map (λ (q : Quantities). q.group)) is);
+}
+
+pub further_beside :
+    (s : Settings) (f : Further) → AreSources f.ignore.items → ForSome f.quantities (AreQuantitiesBeside s.config.rows (part_groups s))
+    → ForSome f.plain (IsGroupBeside s.config.rows (option_map (λ q. q.group) f.quantities ∷ part_groups s)) → IsFurther s f
+further_beside s f ignore quantities plain = record {
+  ignore = ignore;
+  quantities = λ all is. quantities_beside s all (quantities all is);
+  plain = λ group is. plain_beside s f.quantities group (plain group is);
+}

@@ -13,8 +13,10 @@ use Rattle.config_values.specs.Presets.{AreApart}
 use Rattle.config_values.specs.declared.config.Ends.{Ends}
 use Rattle.config_values.specs.declared.row_config.RowConfig.{RowConfig}
 use Rattle.network_routes.specs.declared.Route.{Route}
+use Rattle.settings.specs.Further.{IsQuantity}
 use Rattle.settings.specs.Settings.{IsAis, IsOwnGroup, IsProduct, IsRmc}
 use Rattle.settings.specs.declared.ais.AisConfig.{AisConfig}
+use Rattle.settings.specs.declared.quantity_config.Quantities.{Quantities}
 use Rattle.settings.specs.declared.rmc.RmcConfig.{RmcConfig}
 use Rattle.bus_identity.specs.declared.product.Product.{Product}
 
@@ -38,6 +40,12 @@ pub record IsGroupBeside (rows : List RowConfig) (parts : List (Option (List ℕ
 pub record IsAisBeside (rows : List RowConfig) (part : Option (List ℕ)) (ais : AisConfig) : Type 0 where
   pub beside : IsGroupBeside rows (part ∷ []) ais.group
   pub most : IsInRange 1 256 ais.slots
+
+-- further quantities beside the rows and other parts
+pub record AreQuantitiesBeside (rows : List RowConfig) (parts : List (Option (List ℕ))) (all : Quantities) : Type 0 where
+  pub beside : IsGroupBeside rows parts all.group
+  pub most : IsInRange 1 256 all.slots
+  pub each : All IsQuantity all.each
 
 -- sources of the network beside the gateway itself
 pub record AreSourcesBeside (own : List ℕ) (sources : List (List ℕ)) : Type 0 where
