@@ -2,6 +2,7 @@ pub mod Answers
 pub mod Joins
 pub mod Lengths
 pub mod Ships
+pub mod Opening
 pub mod Steps
 pub mod Sending
 pub mod PartCases
