@@ -1,13 +1,13 @@
 //! What files say, and what is wrong with them: each line worked out by hand from the table of keys.
 use config_document::FaultLine;
 use config_values::{Config, Ends, RowConfig};
-use gate_config::{Settings, read, read_all};
+use gate_config::{Settings, read, read_all, read_whole};
 use n2k_id::{Name, Pattern};
 use std::alloc::Global;
 use std::test::*;
 
 /// A gateway with an address, a NAME and an identifier, and nothing else.
-const OWN: &str = r#"gateway.name = "C0328200FFC00001"
+pub(crate) const OWN: &str = r#"gateway.name = "C0328200FFC00001"
 gateway.address = 251
 gateway.sfi = "II0001"
 "#;
@@ -424,7 +424,7 @@ preset = [{ address = 1, name = "0000000000000001" }, { address = 2, name = "000
 /// The line of what is wrong with a file, `ok` where nothing is, and `memory` where there was none.
 fn said(alloc: Global, file: &[u8]) -> FaultLine {
     let mut line = FaultLine::new();
-    let _fits = match read_all(alloc, file) {
+    let _fits = match read_whole(alloc, file) {
         Ok(_) => line.try_extend_from_slice(b"ok"),
         Err(fault) => match fault.line() {
             Some(wrong) => line.try_extend_from_slice(wrong.as_slice()),
@@ -447,7 +447,11 @@ fn holds(alloc: Global, keys: &str, case: &str) -> Result<bool, Fail> {
 }
 
 /// The first case of a table that doesn't hold, or nothing. Each line of the table is one.
-fn first_that_fails<'a>(alloc: Global, keys: &str, table: &'a str) -> Result<&'a str, Fail> {
+pub(crate) fn first_that_fails<'a>(
+    alloc: Global,
+    keys: &str,
+    table: &'a str,
+) -> Result<&'a str, Fail> {
     for case in table.lines() {
         if !holds(alloc, keys, case)? {
             return Ok(case);
@@ -555,7 +559,7 @@ fn is_usual_product(settings: &Settings) -> bool {
 /// The settings of the own keys alone are the defaults.
 #[test]
 fn defaults(rt: HostRuntime) -> Result<(), Fail> {
-    let settings: Settings = read_all(rt.alloc(), OWN.as_bytes())
+    let (settings, _) = read_whole(rt.alloc(), OWN.as_bytes())
         .ok()
         .ok_or("the keys are those that have to be there")?;
     assert!(rt; has_usual_keys(&settings.config));
@@ -563,6 +567,23 @@ fn defaults(rt: HostRuntime) -> Result<(), Fail> {
     assert!(rt; has_usual_ends(&settings.config.ends));
     assert!(rt; is_usual_product(&settings));
     assert!(rt; settings.config.valid());
+    Ok(())
+}
+
+/// The settings alone are those of the whole file, and refused for the same fault.
+#[test]
+fn settings_alone(rt: HostRuntime) -> Result<(), Fail> {
+    let settings: Settings = read_all(rt.alloc(), USUAL.as_bytes())
+        .ok()
+        .ok_or("the keys are the usual ones")?;
+    assert!(rt; settings.config.presets.len() == 2);
+    let file = format!(in rt.alloc(); "{OWN}report.sources = 1\n")?;
+    let line = match read_all(rt.alloc(), file.as_bytes()) {
+        Ok(_) => None,
+        Err(fault) => fault.line(),
+    };
+    let line = line.ok_or("a number is no truth value")?;
+    assert!(rt; line.as_slice() == b"config: kind report.sources".as_slice());
     Ok(())
 }
 

@@ -5,4 +5,6 @@
 #[cfg(test)]
 mod files;
 #[cfg(test)]
+mod further;
+#[cfg(test)]
 mod values;

@@ -4,19 +4,28 @@ use Rattle.std.specs.Prelude.{Option, Some, Result, Ok, Err}
 use Rattle.gate_outside.specs.Faults.{Rose}
 use Rattle.gate_outside.specs.Files.{largest_file}
 use Rattle.config_document.specs.declared.fault.ConfigFault.{ConfigFault}
-use Rattle.gate_config.specs.ConfigOf.{IsConfigOf, config_in, document_place}
+use Rattle.config_document.specs.declared.fault.ConfigFault.TheVariants.{Memory}
+use Rattle.gate_config.specs.ConfigOf.{IsConfigOf, IsWholeConfigOf, Whole, config_in, document_place, settings_alone}
 use Rattle.settings.specs.declared.settings.Settings.{Settings}
 use Rattle.config_check.specs.Check.{Accepts, ChecksBy}
 use Rattle.config_check.specs.Configuring.{ConfiguresBy, FileSays, IsToldAs}
 
-same_config : (bytes : List ℕ) (a b : Result Settings ConfigFault) → IsConfigOf bytes a → IsConfigOf bytes b → a ≡ b
-same_config bytes a b (inl none) (inl other) = none.1 ∙ sym other.1
-same_config bytes a b (inl none) (inr some) = absurd (none.0 some.0 some.1)
-same_config bytes a b (inr some) (inl none) = absurd (none.0 some.0 some.1)
-same_config bytes a b (inr some) (inr other) =
+same_whole : (bytes : List ℕ) (a b : Result Whole ConfigFault) → IsWholeConfigOf bytes a → IsWholeConfigOf bytes b → a ≡ b
+same_whole bytes a b (inl none) (inl other) = none.1 ∙ sym other.1
+same_whole bytes a b (inl none) (inr some) = absurd (none.0 some.0 some.1)
+same_whole bytes a b (inr some) (inl none) = absurd (none.0 some.0 some.1)
+same_whole bytes a b (inr some) (inr other) =
     let one : Some some.0 ≡ Some other.0 = sym some.1.parsed ∙ other.1.parsed in
     let same : some.0 ≡ other.0 = cc in
     some.2 ∙ ap (λ m. config_in (document_place m)) same ∙ sym other.2
+
+same_config : (bytes : List ℕ) (a b : Result Settings ConfigFault) → IsConfigOf bytes a → IsConfigOf bytes b → a ≡ b
+same_config bytes a b one other = one.2 ∙ ap settings_alone (same_whole bytes one.0 other.0 one.1 other.1) ∙ sym other.2
+
+-- settings that were read are what the file says, since no memory was wanting
+pub says : (bytes : List ℕ) (settings : Settings) → (Ok settings ≡ Err Memory) ⊎ IsConfigOf bytes (Ok settings) → IsConfigOf bytes (Ok settings)
+says bytes settings (inl wanting) = absurd cc
+says bytes settings (inr said) = said
 
 -- what was loaded is what is told
 one_said : (told : Option (List ℕ)) (a b : Result Settings ConfigFault) → FileSays told a → IsToldAs told b → a ≡ b

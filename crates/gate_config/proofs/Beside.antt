@@ -16,11 +16,16 @@ use Rattle.config_values.specs.Endpoints.{IsEndpoint}
 use Rattle.config_values.specs.Presets.{AreApart, ArePresets}
 use Rattle.config_values.specs.declared.row_config.RowConfig.{RowConfig}
 use Rattle.network_routes.specs.declared.Route.{Route}
+use Rattle.config_values.specs.Rows.{AreSources}
+use Rattle.settings.specs.Further.{AreQuantities, IsFurther, IsFurtherGroup, IsPlainGroup}
 use Rattle.settings.specs.Settings.{IsAis}
 use Rattle.settings.specs.declared.ais.AisConfig.{AisConfig}
+use Rattle.settings.specs.declared.further.Further.{Further}
+use Rattle.settings.specs.declared.quantity_config.Quantities.{Quantities}
 use Rattle.settings.specs.declared.rmc.RmcConfig.{RmcConfig}
-use Rattle.gate_config.specs.Beside.{AreSourcesBeside, IsAisBeside, IsGroupBeside, IsPresetBeside, IsRouteBeside}
-use Rattle.gate_config.specs.Keys.{address_stands, group_stands, is_taken, name_stands}
+use Rattle.settings.specs.declared.settings.Settings.{Settings}
+use Rattle.gate_config.specs.Beside.{AreQuantitiesBeside, AreSourcesBeside, IsAisBeside, IsGroupBeside, IsPresetBeside, IsRouteBeside}
+use Rattle.gate_config.specs.Keys.{address_stands, group_stands, is_group_of, name_stands, part_groups}
 use Rattle.gate_config.specs.Texts.{same_text}
 use Rattle.gate_config.proofs.EndpointTexts.{same_itself}
 
@@ -75,16 +80,16 @@ one_more_route earlier route are beside = record {
   addresses = All-push (λ r. IsEndpoint r.address.items) earlier route are.addresses beside.end;
 }
 
-not_taken : (taken : Option (List ℕ)) (group : List ℕ) → is_taken taken group ≡ false → ForSome taken (λ other. other ≢ group)
-not_taken None group test other is = absurd (none-some other is)
-not_taken (Some text) group test other is =
+other_group : (group : List ℕ) (taken : Option (List ℕ)) → is_group_of group taken ≡ false → ForSome taken (λ other. other ≢ group)
+other_group group None test other is = absurd (none-some other is)
+other_group group (Some text) test other is =
     subst (λ (t : List ℕ). t ≢ group) (same_Some text other is) (other_text text group test)
 
-pub group_beside : (rows : List RowConfig) (taken : Option (List ℕ)) (group : List ℕ) → list_any (λ row. same_text row.group group) rows ≡ false → is_taken taken group ≡ false
-    → IsGroupBeside rows taken group
-group_beside rows taken group by_rows by_part = record {
+pub group_beside : (rows : List RowConfig) (parts : List (Option (List ℕ))) (group : List ℕ) → list_any (λ row. same_text row.group group) rows ≡ false
+    → list_any (is_group_of group) parts ≡ false → IsGroupBeside rows parts group
+group_beside rows parts group by_rows by_parts = record {
   from_rows = λ k d within. other_text (get_or rows k d).group group (none_of (λ row. same_text row.group group) rows k d by_rows within);
-  from_part = not_taken taken group by_part;
+  from_parts = λ k d within. other_group group (get_or parts k d) (none_of (is_group_of group) parts k d by_parts within);
 }
 
 pub sources_beside : (own : List ℕ) (sources : List (List ℕ)) → list_any (λ s. same_text s own) sources ≡ false → AllPairs (λ s t. s ≢ t) sources → AreSourcesBeside own sources
@@ -97,6 +102,38 @@ sources_beside own sources by_own apart = record {
 pub ais_beside : (rows : List RowConfig) (rmc : Option RmcConfig) (ais : AisConfig) → IsAisBeside rows (option_map (λ r. r.group) rmc) ais → IsAis rows rmc ais
 ais_beside rows rmc ais beside = record {
   group = beside.beside.from_rows;
-  other = λ r is. beside.beside.from_part r.group (ap (option_map (λ (r : RmcConfig). r.group)) is);
+  other = λ r is. beside.beside.from_parts 0 None (omega arith) r.group (ap (option_map (λ (r : RmcConfig). r.group)) is);
   slots = beside.most;
+}
+
+-- a group beside those of the rows and of the parts of the settings
+further_group : (s : Settings) (group : List ℕ) → IsGroupBeside s.config.rows (part_groups s) group → IsFurtherGroup s group
+further_group s group beside = record {
+  from_rows = beside.from_rows;
+  from_rmc = λ r is. beside.from_parts 0 None (omega arith) r.group (ap (option_map (λ (r : RmcConfig). r.group)) is);
+  from_ais = λ a is. beside.from_parts 1 None (omega arith) a.group (ap (option_map (λ (a : AisConfig). a.group)) is);
+}
+
+pub quantities_beside : (s : Settings) (all : Quantities) → AreQuantitiesBeside s.config.rows (part_groups s) all → AreQuantities s all
+quantities_beside s all beside = record { group = further_group s all.group beside.beside; slots = beside.most; each = beside.each }
+
+pub plain_beside :
+    (s : Settings) (quantities : Option Quantities) (group : List ℕ) → IsGroupBeside s.config.rows (option_map (λ q. q.group) quantities ∷ part_groups s) group
+    → IsPlainGroup s quantities group
+plain_beside s quantities group beside = record {
+  beside = record {
+    from_rows = beside.from_rows;
+    from_rmc = λ r is. beside.from_parts 1 None (omega arith) r.group (ap (option_map (λ (r : RmcConfig). r.group)) is);
+    from_ais = λ a is. beside.from_parts 2 None (omega arith) a.group (ap (option_map (λ (a : AisConfig). a.group)) is);
+  };
+  from_quantities = λ q is. beside.from_parts 0 None (omega arith) q.group (ap (option_map (λ (q : Quantities). q.group)) is);
+}
+
+pub further_beside :
+    (s : Settings) (f : Further) → AreSources f.ignore.items → ForSome f.quantities (AreQuantitiesBeside s.config.rows (part_groups s))
+    → ForSome f.plain (IsGroupBeside s.config.rows (option_map (λ q. q.group) f.quantities ∷ part_groups s)) → IsFurther s f
+further_beside s f ignore quantities plain = record {
+  ignore = ignore;
+  quantities = λ all is. quantities_beside s all (quantities all is);
+  plain = λ group is. plain_beside s f.quantities group (plain group is);
 }

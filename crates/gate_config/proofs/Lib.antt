@@ -1,6 +1,6 @@
 pub mod Beside
 pub mod Decimals
-pub mod EachRow
+pub mod Each
 pub mod EndpointTexts
 pub mod Loopback
 pub mod Tables

@@ -1,8 +1,8 @@
 -- The names of tables, and one more item of a list.
-use Rattle.std.proofs.Common.{◌≡◌, ℕ, ◌+◌, ◌<◌, List, [], ◌∷◌, ◌++◌, length, length-append, get_or, drop, map, Ok, refl, sym, ap, ◌∙◌, arith}
+use Rattle.std.proofs.Common.{◌≡◌, ℕ, ◌+◌, ◌<◌, List, [], ◌∷◌, ◌++◌, length, length-append, get_or, drop, map, Ok, Err, refl, sym, ap, ◌∙◌, arith}
 use Rattle.std.specs.Borrow.{Bor}
 use Rattle.std.specs.BTreeMap.{BTreeMap}
-use Rattle.std.specs.Prelude.{Option, String, codes, option_map}
+use Rattle.std.specs.Prelude.{Option, Result, String, codes, option_map}
 use Rattle.std.specs.declared.alloc.Global.{Global}
 use Rattle.std.proofs.lemmas.Grind.{common_steps}
 use Rattle.std.proofs.lemmas.List.{at_drop_more}
@@ -10,8 +10,9 @@ use Rattle.toml.specs.Data.{Data, Members, as_table}
 use Rattle.toml.specs.View.{table_view}
 use Rattle.toml.specs.declared.value.Value.{Value}
 use Rattle.config_document.specs.Kinds.{members_in}
+use Rattle.config_document.specs.declared.fault.ConfigFault.{ConfigFault}
 use Rattle.config_document.specs.Places.{members_of, members_seen}
-use Rattle.gate_config.specs.Keys.{preset, route, row}
+use Rattle.gate_config.specs.Keys.{further, preset, route, row}
 use Rattle.gate_config.specs.Reading.{◌>>=◌, Table, item_prefix, items_from, prefix_of}
 
 -- the keys of a value that is seen as a table
@@ -30,6 +31,10 @@ pub row_name : row.name ≡ codes "row"
 unfolding row
 row_name = refl
 
+pub further_name : further.name ≡ codes "further"
+unfolding further
+further_name = refl
+
 pub one_more_item :
     {E A : Type 0} (t : Table (E × List A) A) (own : E) (earlier : List A) (values : List Value) (i : ℕ) (d : Value) (prefix : List ℕ) (members : Members) (x : A) → i < length values
     → prefix ≡ item_prefix (prefix_of t.name) (length earlier + 1) → members ≡ members_seen (get_or values i d) → Ok x ≡ t.read (own, earlier) (record { prefix = prefix; members = members })
@@ -42,3 +47,8 @@ one_more_item t own earlier values i d prefix keys x within word seen is =
     at_drop_more (λ rest. items_from t own (length earlier + 1) earlier (map members_seen rest)) values i d within
     ∙ ap (λ read. read >>= λ item. items_from t own (length earlier + 1 + 1) (earlier ++ item ∷ []) (map members_seen (drop (i + 1) values))) read
     ∙ ap (λ (n : ℕ). items_from t own (n + 1) (earlier ++ x ∷ []) (map members_seen (drop (i + 1) values))) longer
+
+-- a table of one key says what its key says
+pub alone : {A : Type 0} (read : Result A ConfigFault) → (read >>= λ x. Ok x) ≡ read
+alone (Ok x) = refl
+alone (Err fault) = refl

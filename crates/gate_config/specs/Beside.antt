@@ -1,6 +1,6 @@
 -- What can stand beside what stands already: presets of the bus (ISO 11783-5), routes of transmission groups and the groups of parts
 -- (IEC 61162-450).
-use Rattle.std.specs.Prelude.{◌≢◌, ◌<◌, ℕ, List, All, Option}
+use Rattle.std.specs.Prelude.{◌≢◌, ◌<◌, ℕ, List, [], ◌∷◌, All, Option}
 use Rattle.std.specs.Int.{IsInRange}
 use Rattle.std.specs.List.{AllPairs}
 use Rattle.std.specs.Option.{ForSome}
@@ -13,8 +13,10 @@ use Rattle.config_values.specs.Presets.{AreApart}
 use Rattle.config_values.specs.declared.config.Ends.{Ends}
 use Rattle.config_values.specs.declared.row_config.RowConfig.{RowConfig}
 use Rattle.network_routes.specs.declared.Route.{Route}
+use Rattle.settings.specs.Further.{IsQuantity}
 use Rattle.settings.specs.Settings.{IsAis, IsOwnGroup, IsProduct, IsRmc}
 use Rattle.settings.specs.declared.ais.AisConfig.{AisConfig}
+use Rattle.settings.specs.declared.quantity_config.Quantities.{Quantities}
 use Rattle.settings.specs.declared.rmc.RmcConfig.{RmcConfig}
 use Rattle.bus_identity.specs.declared.product.Product.{Product}
 
@@ -29,15 +31,21 @@ pub record IsRouteBeside (earlier : List Route) (route : Route) : Type 0 where
   pub from_earlier : All (λ e. e.group ≢ route.group) earlier
   pub end : IsEndpoint route.address.items
 
--- a part's group beside those of the rows and of another part
-pub record IsGroupBeside (rows : List RowConfig) (taken : Option (List ℕ)) (group : List ℕ) : Type 0 where
+-- a part's group beside those of the rows and of other parts
+pub record IsGroupBeside (rows : List RowConfig) (parts : List (Option (List ℕ))) (group : List ℕ) : Type 0 where
   pub from_rows : IsOwnGroup rows group
-  pub from_part : ForSome taken (λ other. other ≢ group)
+  pub from_parts : All (λ taken. ForSome taken (λ other. other ≢ group)) parts
 
 -- reports of ships around beside the rows and another part
-pub record IsAisBeside (rows : List RowConfig) (taken : Option (List ℕ)) (ais : AisConfig) : Type 0 where
-  pub beside : IsGroupBeside rows taken ais.group
+pub record IsAisBeside (rows : List RowConfig) (part : Option (List ℕ)) (ais : AisConfig) : Type 0 where
+  pub beside : IsGroupBeside rows (part ∷ []) ais.group
   pub most : IsInRange 1 256 ais.slots
+
+-- further quantities beside the rows and other parts
+pub record AreQuantitiesBeside (rows : List RowConfig) (parts : List (Option (List ℕ))) (all : Quantities) : Type 0 where
+  pub beside : IsGroupBeside rows parts all.group
+  pub most : IsInRange 1 256 all.slots
+  pub each : All IsQuantity all.each
 
 -- sources of the network beside the gateway itself
 pub record AreSourcesBeside (own : List ℕ) (sources : List (List ℕ)) : Type 0 where

@@ -1,4 +1,4 @@
--- What a configuration file says: settings, or the first fault, over the document that TOML reads in it.
+-- What a configuration file says: settings and what is asked for besides, or the first fault, over the document that TOML reads in it.
 use Rattle.std.specs.Prelude.{◌≡◌, ◌⊎◌, ℕ, List, [], Option, Some, None, Result, Ok, Err}
 use Rattle.std.specs.Str.{IsUtf8}
 use Rattle.toml.specs.Data.{Members}
@@ -8,18 +8,23 @@ use Rattle.config_document.specs.Places.{Place}
 use Rattle.config_document.specs.declared.fault.ConfigFault.{ConfigFault}
 use Rattle.config_document.specs.declared.fault.ConfigFault.TheVariants as fault
 use Rattle.config_values.specs.declared.config.Config.{Config}
-use Rattle.gate_config.specs.Keys.{settings_in}
+use Rattle.gate_config.specs.Keys.{whole_in}
 use Rattle.gate_config.specs.Reading.{◌>>=◌}
 use Rattle.gate_config.specs.Unknown.{first_unknown}
+use Rattle.settings.specs.declared.further.Further.{Further}
 use Rattle.settings.specs.declared.settings.Settings.{Settings}
 
--- keys that aren't known come last
-abbrev pub known : Option (List ℕ) → Settings → Result Settings ConfigFault
-known None settings = Ok settings
-known (Some path) settings = Err (fault.Unknown (key_of path))
+-- all that one file configures
+abbrev pub Whole : Type 0
+Whole = Settings × Further
 
-unfoldable pub config_in : Place → Result Settings ConfigFault
-config_in document = settings_in document >>= known (first_unknown document)
+-- keys that aren't known come last
+abbrev pub known : Option (List ℕ) → Whole → Result Whole ConfigFault
+known None whole = Ok whole
+known (Some path) whole = Err (fault.Unknown (key_of path))
+
+unfoldable pub config_in : Place → Result Whole ConfigFault
+config_in document = whole_in document >>= known (first_unknown document)
 
 -- the document itself: before its keys nothing stands in their paths
 abbrev pub document_place : Members → Place
@@ -31,10 +36,18 @@ pub record IsDocument (bytes : List ℕ) (members : Members) : Type 0 where
   pub parsed : parse_document bytes ≡ Some members
 
 -- bytes that are no document are not TOML; else the document decides
-abbrev pub IsConfigOf : List ℕ → Result Settings ConfigFault → Type 0
-IsConfigOf bytes given =
+abbrev pub IsWholeConfigOf : List ℕ → Result Whole ConfigFault → Type 0
+IsWholeConfigOf bytes given =
     (((members : Members) → ¬ (IsDocument bytes members)) × (given ≡ Err fault.NotToml))
     ⊎ ((members : Members) × IsDocument bytes members × (given ≡ config_in (document_place members)))
+
+-- the settings, without what is asked for besides
+abbrev pub settings_alone : Result Whole ConfigFault → Result Settings ConfigFault
+settings_alone (Ok whole) = Ok whole.0
+settings_alone (Err f) = Err f
+
+abbrev pub IsConfigOf : List ℕ → Result Settings ConfigFault → Type 0
+IsConfigOf bytes given = (all : Result Whole ConfigFault) × IsWholeConfigOf bytes all × (given ≡ settings_alone all)
 
 -- the gateway's own part
 abbrev pub config_alone : Result Settings ConfigFault → Result Config ConfigFault

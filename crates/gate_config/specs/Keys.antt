@@ -1,13 +1,16 @@
 -- The keys of a configuration, table by table in the order in which they are read: each with its kind of value, and with its default or that
 -- it has to be there.
-use Rattle.std.specs.Prelude.{⊤, ℕ, Bool, false, true, ◌==◌, List, [], ◌∷◌, ◌++◌, codes, Option, Some, None, is_some, option_map, ◌||◌, Result, Ok, Err, if◌then◌else◌}
+use Rattle.std.specs.Prelude.{⊤, ℕ, Bool, false, true, ◌==◌, List, [], ◌∷◌, codes, Option, Some, None, is_some, option_map, ◌||◌, Result, Ok, Err, if◌then◌else◌}
 use Rattle.std.specs.List.{list_any}
 use Rattle.arrayvec.specs.ArrayVec.{ArrayVec}
 use Rattle.claim_table.specs.declared.preset.Preset.{Preset}
-use Rattle.toml.specs.Data.{get_member}
+use Rattle.toml.specs.Data.{Data, Members, as_table, get_member}
 use Rattle.n2k_id.specs.declared.name.Name.{Name}
+use Rattle.n2k_id.specs.declared.pattern.Pattern.{Pattern}
 use Rattle.readings.specs.declared.rows.Row.{Row}
 use Rattle.readings.specs.About.{about_of, rows as all_rows}
+use Rattle.quantities.specs.About.{about_of as about_quantity, quantities as all_quantities}
+use Rattle.quantities.specs.declared.about.Quantity.{Quantity}
 use Rattle.config_document.specs.declared.fault.ConfigFault.{ConfigFault}
 use Rattle.config_document.specs.Keys.{list_at, number_at, text_at, truth_at}
 use Rattle.config_document.specs.Faults.{fault_at, missing}
@@ -20,13 +23,16 @@ use Rattle.config_values.specs.declared.config.Ends.{Ends}
 use Rattle.config_values.specs.declared.row_config.RowConfig.{RowConfig}
 use Rattle.network_routes.specs.declared.Route.{Route}
 use Rattle.settings.specs.declared.ais.AisConfig.{AisConfig}
+use Rattle.settings.specs.declared.further.Further.{Further}
+use Rattle.settings.specs.declared.quantity_config.Quantities.{Quantities}
+use Rattle.settings.specs.declared.quantity_config.QuantityConfig.{QuantityConfig}
 use Rattle.settings.specs.declared.rmc.RmcConfig.{RmcConfig}
 use Rattle.settings.specs.declared.settings.Settings.{Settings}
 use Rattle.config_document.specs.declared.texts.ProductText.{ProductText}
 use Rattle.config_document.specs.Texts.{group_in, name_in, product_text_in, sfi_in, talker_in}
 use Rattle.gate_config.specs.declared.gateway.Own.{Own}
 use Rattle.gate_config.specs.Texts.{endpoint_in, loopback, same_pattern, same_text}
-use Rattle.gate_config.specs.Reading.{◌>>=◌, ◌&◌, Kind, Table, default, items_in, key, key_beside, keys, needed, prefix_of, section_at, table, table_in, unless}
+use Rattle.gate_config.specs.Reading.{◌>>=◌, ◌&◌, Kind, Table, default, each_from, items_in, key, key_beside, key_prefix, keys, keys_beside, needed, prefix_of, section_at, table, table_in, unless}
 
 -- gateway: how many fast packets, sessions and groups of lines may be in the making
 unfoldable pub slots : Table ⊤ (ℕ × ℕ × ℕ)
@@ -68,35 +74,44 @@ preset =
     & key_beside (codes "address") (λ beside. unless (address_stands beside.0 beside.1) (needed (number_at 0 253)))
     & key_beside (codes "name") (λ beside. unless (name_stands beside.0 beside.1) (needed (text_at name_in)))
 
--- row.R, beside the talker and the group that it has by default
-unfoldable pub row : Table (List ℕ × List ℕ) RowConfig
-row =
-    table (codes "row") (λ sources others timeout talker group. record { sources = sources; others = others; timeout_ms = timeout; talker = talker.0; group = group })
-    & key (codes "sources") (unless (λ sources. repeats same_pattern sources.items) (list_at pattern_in 16))
+-- devices, none of them twice
+abbrev pub devices : Kind (ArrayVec Pattern)
+devices = unless (λ sources. repeats same_pattern sources.items) (list_at pattern_in 16)
+
+-- whom a quantity is taken from and who says it, beside the talker that it has by default
+unfoldable pub quantity : Table (List ℕ) QuantityConfig
+quantity =
+    table (codes "further") (λ sources others timeout talker. record { sources = sources; others = others; timeout_ms = timeout; talker = talker.0 })
+    & key (codes "sources") devices
     & key (codes "others") (default true truth_at)
     & key (codes "timeout_ms") (default 5000 (number_at 100 60000))
-    & key_beside (codes "talker") (λ beside. default (record { 0 = beside.0 }) (text_at talker_in))
-    & key_beside (codes "group") (λ beside. default beside.1 (text_at group_in))
+    & key_beside (codes "talker") (λ talker. default (record { 0 = talker }) (text_at talker_in))
 
--- what stands before the keys of a row
-abbrev pub row_prefix : List ℕ → List ℕ
-row_prefix name = codes "row." ++ name ++ codes "."
+-- row.R: the same, and the group that it is sent to; beside the talker and the group that it has by default
+unfoldable pub row : Table (List ℕ × List ℕ) RowConfig
+row =
+    table (codes "row") (λ taken group. record {
+      sources = taken.sources;
+      others = taken.others;
+      timeout_ms = taken.timeout_ms;
+      talker = taken.talker;
+      group = group;
+    })
+    & keys_beside (λ beside. beside.0) quantity
+    & key_beside (codes "group") (λ beside. default beside.1 (text_at group_in))
 
 unfoldable pub row_at : List ℕ → List ℕ → Place → List ℕ → List ℕ → Result RowConfig ConfigFault
 row_at talker group rows name prefix = section_at rows name prefix >>= row.read (talker, group)
 
--- these rows, each by its name, and with the talker that it has by default
-abbrev pub rows_from : List ℕ → Place → List RowConfig → List Row → Result (List RowConfig) ConfigFault
-rows_from group rows earlier [] = Ok earlier
-rows_from group rows earlier (r ∷ more) = do
-  config ← row_at (about_of r).talker group rows (about_of r).name (row_prefix (about_of r).name)
-  rows_from group rows (earlier ++ config ∷ []) more
+-- a row, by its name, and with the talker that it has by default
+abbrev pub row_of : List ℕ → Place → Row → Result RowConfig ConfigFault
+row_of group rows r = row_at (about_of r).talker group rows (about_of r).name (key_prefix (codes "row.") (about_of r).name)
 
 -- row, in the order of the rows
 unfoldable pub rows_in : List ℕ → Place → Result (List RowConfig) ConfigFault
 rows_in group document = do
   place ← section_at document row.name (prefix_of row.name)
-  rows_from group place [] all_rows
+  each_from (row_of group place) [] all_rows
 
 -- where a link listens or sends; by default a port of the machine itself
 unfoldable pub link : ℕ → Kind (ArrayVec ℕ)
@@ -156,34 +171,95 @@ identity =
     & keys texts
     & key (codes "load") (default 1 (number_at 0 252))
 
--- another part's group
-abbrev pub is_taken : Option (List ℕ) → List ℕ → Bool
-is_taken None group = false
-is_taken (Some taken) group = same_text taken group
+-- something is sent to a group: a row, or one of the other parts, of those that have a group
+abbrev pub is_group_of : List ℕ → Option (List ℕ) → Bool
+is_group_of group None = false
+is_group_of group (Some taken) = same_text taken group
 
--- a transmission group of its own, which the part has only with it: its other key asks for it, and no row may be sent to it
-abbrev pub own_group : List RowConfig → Option (List ℕ) → List ℕ → Place → List ℕ → Result (Option (List ℕ)) ConfigFault → Result (Option (List ℕ)) ConfigFault
-own_group rows taken other place name (Err fault) = Err fault
-own_group rows taken other place name (Ok None) = if is_some (get_member other place.members) then Err (missing (path_of place name)) else Ok None
-own_group rows taken other place name (Ok (Some group)) =
-    if list_any (λ row. same_text row.group group) rows || is_taken taken group then Err (fault_at flaw.Twice (path_of place name)) else Ok (Some group)
+abbrev pub is_taken : List RowConfig → List (Option (List ℕ)) → List ℕ → Bool
+is_taken rows parts group = list_any (λ row. same_text row.group group) rows || list_any (is_group_of group) parts
 
-abbrev pub own_group_at : List RowConfig → Option (List ℕ) → List ℕ → Kind (Option (List ℕ))
-own_group_at rows taken other place name = own_group rows taken other place name (text_at group_in place name)
+-- something stands at a key
+abbrev pub stands_at : List ℕ → Place → Bool
+stands_at name place = is_some (get_member name place.members)
+
+-- a transmission group of its own, which the part has only with it: what else is said of the part asks for it, and nothing else may be sent to it
+abbrev pub own_group : List RowConfig → List (Option (List ℕ)) → Bool → Place → List ℕ → Result (Option (List ℕ)) ConfigFault → Result (Option (List ℕ)) ConfigFault
+own_group rows parts asked place name (Err fault) = Err fault
+own_group rows parts asked place name (Ok None) = if asked then Err (missing (path_of place name)) else Ok None
+own_group rows parts asked place name (Ok (Some group)) =
+    if is_taken rows parts group then Err (fault_at flaw.Twice (path_of place name)) else Ok (Some group)
+
+abbrev pub own_group_at : List RowConfig → List (Option (List ℕ)) → (Place → Bool) → Kind (Option (List ℕ))
+own_group_at rows parts asks place name = own_group rows parts (asks place) place name (text_at group_in place name)
 
 -- rmc
 unfoldable pub rmc : Table (List RowConfig) (Option RmcConfig)
 rmc =
     table (codes "rmc") (λ group talker. option_map (λ g. record { group = g; talker = talker.0 }) group)
-    & key_beside (codes "group") (λ rows. own_group_at rows None (codes "talker"))
+    & key_beside (codes "group") (λ rows. own_group_at rows [] (stands_at (codes "talker")))
     & key (codes "talker") (default (record { 0 = codes "GP" }) (text_at talker_in))
 
 -- ais, beside the rows and the group of rmc
 unfoldable pub ais : Table (List RowConfig × Option (List ℕ)) (Option AisConfig)
 ais =
     table (codes "ais") (λ group slots. option_map (λ g. record { group = g; slots = slots }) group)
-    & key_beside (codes "group") (λ beside. own_group_at beside.0 beside.1 (codes "slots"))
+    & key_beside (codes "group") (λ beside. own_group_at beside.0 (beside.1 ∷ []) (stands_at (codes "slots")))
     & key (codes "slots") (default 16 (number_at 1 256))
+
+-- bus again: a key that is checked behind all those above
+unfoldable pub ignored : Table ⊤ (ArrayVec Pattern)
+ignored = table (codes "bus") (λ devices. devices) & key (codes "ignore") devices
+
+-- a quantity asks for the group of quantities by one of its keys, or by what is no table
+abbrev pub asks_by : Option Members → Bool
+asks_by None = true
+asks_by (Some members) = list_any (λ name. is_some (get_member name members)) quantity.known
+
+abbrev pub asks : Option Data → Bool
+asks None = false
+asks (Some value) = asks_by (as_table value)
+
+-- these quantities, at their names
+abbrev pub any_asks : Place → List Quantity → Bool
+any_asks place all = list_any (λ q. asks (get_member (about_quantity q).name place.members)) all
+
+abbrev pub is_asked : Place → Bool
+is_asked place = stands_at (codes "slots") place || any_asks place all_quantities
+
+-- further, beside the rows and the groups of the other parts
+unfoldable pub further : Table (List RowConfig × List (Option (List ℕ))) (Option (List ℕ) × ℕ)
+further =
+    table (codes "further") (λ group slots. (group, slots))
+    & key_beside (codes "group") (λ beside. own_group_at beside.0 beside.1 is_asked)
+    & key (codes "slots") (default 16 (number_at 1 256))
+
+unfoldable pub quantity_at : List ℕ → Place → List ℕ → List ℕ → Result QuantityConfig ConfigFault
+quantity_at talker place name prefix = section_at place name prefix >>= quantity.read talker
+
+-- a quantity, by its name, and with the talker that it has by default
+abbrev pub quantity_of : Place → Quantity → Result QuantityConfig ConfigFault
+quantity_of place q = quantity_at (about_quantity q).talker place (about_quantity q).name (key_prefix (codes "further.") (about_quantity q).name)
+
+-- further with the quantities, in their order
+unfoldable pub quantities_in : List RowConfig → List (Option (List ℕ)) → Place → Result (Option Quantities) ConfigFault
+quantities_in rows parts document = do
+  place ← section_at document further.name (prefix_of further.name)
+  all ← further.read (rows, parts) place
+  each ← each_from (quantity_of place) [] all_quantities
+  Ok (option_map (λ group. record { group = group; slots = all.1; each = each }) all.0)
+
+-- report
+unfoldable pub report : Table ⊤ Bool
+report = table (codes "report") (λ sources. sources) & key (codes "sources") (default false truth_at)
+
+-- plain, beside the rows and the groups of the other parts; nothing asks for its group
+unfoldable pub plain : Table (List RowConfig × List (Option (List ℕ))) (Option (List ℕ))
+plain = table (codes "plain") (λ group. group) & key_beside (codes "group") (λ beside. own_group_at beside.0 beside.1 (λ place. false))
+
+-- serve
+unfoldable pub serve : Table ⊤ Bool
+serve = table (codes "serve") (λ recording. recording) & key (codes "record") (default false truth_at)
 
 -- net, bus and route: whom the network is heard from, and where the links listen and send
 unfoldable pub links_in : List ℕ → Place → Result (ArrayVec (List ℕ) × Ends) ConfigFault
@@ -227,3 +303,24 @@ settings_in document = do
     rmc = parts.1;
     ais = parts.2;
   })
+
+-- the groups of joined sentences and of reports of ships around
+abbrev pub part_groups : Settings → List (Option (List ℕ))
+part_groups s = option_map (λ r. r.group) s.rmc ∷ option_map (λ a. a.group) s.ais ∷ []
+
+-- the keys behind those of the settings, beside them
+unfoldable pub further_in : Settings → Place → Result Further ConfigFault
+further_in settings document = do
+  devices ← table_in ignored tt document
+  quantities ← quantities_in settings.config.rows (part_groups settings) document
+  sources ← table_in report tt document
+  group ← table_in plain (settings.config.rows, option_map (λ q. q.group) quantities ∷ part_groups settings) document
+  recording ← table_in serve tt document
+  Ok (record { ignore = devices; quantities = quantities; sources = sources; plain = group; «record» = recording })
+
+-- all keys
+unfoldable pub whole_in : Place → Result (Settings × Further) ConfigFault
+whole_in document = do
+  settings ← settings_in document
+  further ← further_in settings document
+  Ok (settings, further)

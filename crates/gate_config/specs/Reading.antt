@@ -57,8 +57,11 @@ abbrev pub key : {E A : Type 0} → List ℕ → Kind A → List (List ℕ) × (
 key name kind = key_beside name (λ beside. kind)
 
 -- several keys, which stand in the table as they do in one of their own
+abbrev pub keys_beside : {E D A : Type 0} → (E → D) → Table D A → List (List ℕ) × (E → Place → Result A ConfigFault)
+keys_beside part_of part = (part.known, λ beside place. part.read (part_of beside) place)
+
 abbrev pub keys : {E A : Type 0} → Table E A → List (List ℕ) × (E → Place → Result A ConfigFault)
-keys part = (part.known, part.read)
+keys part = keys_beside (λ beside. beside) part
 
 -- what stands before the keys of a table of the document
 abbrev pub prefix_of : List ℕ → List ℕ
@@ -71,6 +74,17 @@ section_at place name prefix = table_at place name >>= λ found. Ok (record { pr
 -- what a table of the document says
 abbrev pub table_in : {E A : Type 0} → Table E A → E → Place → Result A ConfigFault
 table_in t beside document = section_at document t.name (prefix_of t.name) >>= t.read beside
+
+-- what stands before the keys of a table within a table
+abbrev pub key_prefix : List ℕ → List ℕ → List ℕ
+key_prefix word name = word ++ name ++ codes "."
+
+-- what is read of each of these, one after another
+abbrev pub each_from : {X A : Type 0} → (X → Result A ConfigFault) → List A → List X → Result (List A) ConfigFault
+each_from read earlier [] = Ok earlier
+each_from read earlier (x ∷ more) = do
+  value ← read x
+  each_from read (earlier ++ value ∷ []) more
 
 -- what stands before the keys of an item
 abbrev pub item_prefix : List ℕ → ℕ → List ℕ

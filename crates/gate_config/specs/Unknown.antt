@@ -1,13 +1,15 @@
 -- Keys that aren't known, in every table: of all of them the one is told whose path comes first in the order of bytes.
-use Rattle.std.specs.Prelude.{ℕ, ◌+◌, List, [], ◌∷◌, map, Option, Some, None}
+use Rattle.std.specs.Prelude.{ℕ, ◌+◌, List, [], ◌∷◌, ◌++◌, codes, map, Option, Some, None}
 use Rattle.toml.specs.Data.{Data, Items, no_items, item, Members, no_members, array, get_member}
 use Rattle.readings.specs.declared.rows.Row.{Row}
 use Rattle.readings.specs.About.{about_of, rows as all_rows}
+use Rattle.quantities.specs.About.{about_of as about_quantity, quantities as all_quantities}
+use Rattle.quantities.specs.declared.about.Quantity.{Quantity}
 use Rattle.config_document.specs.Kinds.{members_in}
 use Rattle.config_document.specs.Places.{Place}
 use Rattle.config_document.specs.Unknown.{least_of, unknown_in}
 use Rattle.gate_config.specs.Keys
-use Rattle.gate_config.specs.Reading.{Table, item_prefix, prefix_of}
+use Rattle.gate_config.specs.Reading.{Table, item_prefix, key_prefix, prefix_of}
 
 abbrev pub table_of : Option Data → Members
 table_of None = no_members
@@ -30,22 +32,26 @@ noted_items known word number no_items best = best
 noted_items known word number (item value more) best =
     noted_items known word (number + 1) more (noted known (record { prefix = item_prefix word number; members = members_in value }) best)
 
--- the names of these rows
+-- the names of these rows, and of these further quantities
 abbrev pub row_names : List Row → List (List ℕ)
 row_names all = map (λ r. (about_of r).name) all
 
--- the table of a row
-abbrev pub row_noted : Place → Row → Option (List ℕ) → Option (List ℕ)
-row_noted place r best = noted Keys.row.known (place_under place (about_of r).name (Keys.row_prefix (about_of r).name)) best
+abbrev pub quantity_names : List Quantity → List (List ℕ)
+quantity_names all = map (λ q. (about_quantity q).name) all
 
--- the table of each of these rows
-abbrev pub each_row_noted : Place → List Row → Option (List ℕ) → Option (List ℕ)
-each_row_noted place [] best = best
-each_row_noted place (r ∷ more) best = each_row_noted place more (row_noted place r best)
+-- the tables at these keys
+abbrev pub each_noted : List (List ℕ) → List ℕ → Place → List (List ℕ) → Option (List ℕ) → Option (List ℕ)
+each_noted known word place [] best = best
+each_noted known word place (name ∷ more) best = each_noted known word place more (noted known (place_under place name (key_prefix word name)) best)
 
 -- the table of rows, and each row's table
 unfoldable pub rows_noted : Place → Option (List ℕ) → Option (List ℕ)
-rows_noted place best = each_row_noted place all_rows (noted (row_names all_rows) place best)
+rows_noted place best = each_noted Keys.row.known (codes "row.") place (row_names all_rows) (noted (row_names all_rows) place best)
+
+-- the table of further quantities, and each quantity's table
+unfoldable pub quantities_noted : Place → Option (List ℕ) → Option (List ℕ)
+quantities_noted place best =
+    each_noted Keys.quantity.known (codes "further.") place (quantity_names all_quantities) (noted (Keys.further.known ++ quantity_names all_quantities) place best)
 
 -- a table that stands once in the document, and one that stands as each item of a list
 abbrev once : {E A : Type 0} → Table E A → Place → Option (List ℕ) → Option (List ℕ)
@@ -57,21 +63,32 @@ items t document best = noted_items t.known (prefix_of t.name) 1 (items_of (get_
 -- the document's own keys are the names of the tables
 unfoldable pub tables : List (List ℕ)
 tables =
-    Keys.gateway.name ∷ Keys.preset.name ∷ Keys.row.name ∷ Keys.net.name ∷ Keys.bus.name ∷ Keys.route.name ∷ Keys.identity.name ∷ Keys.rmc.name ∷ Keys.ais.name ∷ []
+    Keys.gateway.name ∷ Keys.preset.name ∷ Keys.row.name ∷ Keys.net.name ∷ Keys.bus.name ∷ Keys.route.name ∷ Keys.identity.name ∷ Keys.rmc.name ∷ Keys.ais.name
+    ∷ Keys.further.name ∷ Keys.report.name ∷ Keys.plain.name ∷ Keys.serve.name ∷ []
 
 -- the gateway itself, the devices that it knows, and its rows
 unfoldable pub gateway_noted : Place → Option (List ℕ) → Option (List ℕ)
 gateway_noted document best =
     rows_noted (place_under document Keys.row.name (prefix_of Keys.row.name)) (items Keys.preset document (once Keys.gateway document best))
 
+-- the table bus, some of whose keys are read behind those of other tables
+unfoldable pub bus_noted : Place → Option (List ℕ) → Option (List ℕ)
+bus_noted document best = noted (Keys.bus.known ++ Keys.ignored.known) (place_under document Keys.bus.name (prefix_of Keys.bus.name)) best
+
 -- the links, and the routes between them
 unfoldable pub links_noted : Place → Option (List ℕ) → Option (List ℕ)
-links_noted document best = items Keys.route document (once Keys.bus document (once Keys.net document best))
+links_noted document best = items Keys.route document (bus_noted document (once Keys.net document best))
 
 -- what the gateway says of itself, and the parts beside it
 unfoldable pub parts_noted : Place → Option (List ℕ) → Option (List ℕ)
 parts_noted document best = once Keys.ais document (once Keys.rmc document (once Keys.identity document best))
 
+-- what is asked for besides
+unfoldable pub further_noted : Place → Option (List ℕ) → Option (List ℕ)
+further_noted document best =
+    once Keys.serve document (once Keys.plain document (once Keys.report document
+    (quantities_noted (place_under document Keys.further.name (prefix_of Keys.further.name)) best)))
+
 -- every table
 unfoldable pub first_unknown : Place → Option (List ℕ)
-first_unknown document = parts_noted document (links_noted document (gateway_noted document (noted tables document None)))
+first_unknown document = further_noted document (parts_noted document (links_noted document (gateway_noted document (noted tables document None))))

@@ -1,14 +1,16 @@
 //! All keys, table by table.
-ghost use Rattle.std.specs.Prelude.{◌≡◌, IfOk, option_map};
+ghost use Rattle.std.specs.Prelude.{◌≡◌, IfOk};
 ghost use Rattle.config_document.specs.Places.{place_of};
 ghost use Rattle.gate_config.specs.Beside.{AreLinks, AreParts};
-ghost use Rattle.gate_config.specs.Keys.{links_in, parts_in, settings_in};
+ghost use Rattle.gate_config.specs.Keys.{links_in, parts_in, settings_in, whole_in};
+ghost use Rattle.settings.specs.Further.{IsFurther};
 ghost use Rattle.settings.specs.Settings.{IsSettings};
 
+use crate::further::further_keys;
 use crate::gateway::gateway_keys;
 use crate::identity::identity_keys;
 use crate::links::{bus_keys, net_keys};
-use crate::parts::{ais_keys, rmc_keys};
+use crate::parts::{ais_keys, rmc_group, rmc_keys};
 use crate::presets::preset_keys;
 use crate::routes::route_keys;
 use crate::rows::row_keys;
@@ -18,15 +20,27 @@ use claim_table::Preset;
 use config_document::{ConfigFault, Section};
 use config_values::{Config, Ends, RowConfig};
 use network_routes::Routes;
-use sentence_text::{Group, Sfi};
-use settings::{AisConfig, RmcConfig, Settings};
+use sentence_text::Sfi;
+use settings::{AisConfig, Further, RmcConfig, Settings};
 
 /// What the gateway says of itself, and the parts beside it.
 type Parts = (Product, Option<RmcConfig>, Option<AisConfig>);
 
-/// The settings that the document says, but for keys that aren't known.
+/// The settings that the document says and what it asks for besides, but for keys that aren't known.
+#[tactic(auto, unfolding(crate::specs::Keys::whole_in))]
+pub(crate) fn all_keys(document: &Section) -> Result<(Settings, Further), ConfigFault>
+    ensures said { result ≡ whole_in (place_of document.now) }
+    ensures settings { IfOk result (λ whole. IsSettings whole.0) }
+    ensures further { IfOk result (λ whole. IsFurther whole.0 whole.1) }
+{
+    let settings = setting_keys(document)?;
+    let further = further_keys(document, &settings)?;
+    Ok((settings, further))
+}
+
+/// The settings that the document says.
 #[tactic(auto, unfolding(crate::specs::Keys::settings_in))]
-pub(crate) fn all_keys(document: &Section) -> Result<Settings, ConfigFault>
+fn setting_keys(document: &Section) -> Result<Settings, ConfigFault>
     ensures said { result ≡ settings_in (place_of document.now) }
     ensures valid { IfOk result IsSettings }
 {
@@ -90,15 +104,6 @@ fn part_keys(document: &Section, rows: &[RowConfig]) -> Result<Parts, ConfigFaul
 {
     let product = identity_keys(document)?;
     let rmc = rmc_keys(document, rows)?;
-    let ais = ais_keys(document, rows, group_of(&rmc))?;
+    let ais = ais_keys(document, rows, rmc_group(&rmc))?;
     Ok((product, rmc, ais))
-}
-
-fn group_of(rmc: &Option<RmcConfig>) -> Option<Group>
-    ensures { result ≡ option_map (λ r. r.group) rmc.now }
-{
-    match rmc {
-        None => None,
-        Some(rmc) => Some(rmc.group),
-    }
 }

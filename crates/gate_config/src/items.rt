@@ -1,12 +1,11 @@
-//! What stands before the keys of a table in their paths: of an item of a list, and of a row.
+//! What stands before the keys of a table in their paths: of an item of a list, and of a table within a table.
 ghost use Rattle.std.specs.Prelude.{◌≡◌, ◌+◌, ◌≤◌, ◌++◌, decimal, length};
-ghost use Rattle.gate_config.specs.Keys.{row_prefix};
-ghost use Rattle.gate_config.specs.Reading.{item_prefix};
+ghost use Rattle.gate_config.specs.Reading.{item_prefix, key_prefix};
 
 use arrayvec::ArrayVec;
 use unit_fraction::write_decimal;
 
-/// What stands before the keys of an item or a row, as `preset.12.` or `row.depth.`.
+/// What stands before the keys of an item or of a table within a table, as `preset.12.` or `row.depth.`.
 pub(crate) type Prefix = ArrayVec<u8, 82>;
 
 /// What stands before the keys of the item of this number, counted from 1.
@@ -21,13 +20,14 @@ pub(crate) fn item_prefix(word: &[u8], number: usize) -> Prefix
     prefix
 }
 
-/// What stands before the keys of the row of this name.
-pub(crate) fn row_prefix(name: &str) -> Prefix
-    requires { length name.now ≤ 60 }
-    ensures { result.items ≡ row_prefix name.now }
+/// What stands before the keys of the table of this name within a table.
+pub(crate) fn key_prefix(word: &[u8], name: &str) -> Prefix
+    requires word { length word.now ≤ 8 }
+    requires name { length name.now ≤ 60 }
+    ensures { result.items ≡ key_prefix word.now name.now }
 {
     let mut prefix = Prefix::new();
-    append(&mut prefix, b"row.");
+    append(&mut prefix, word);
     append(&mut prefix, name.as_bytes());
     append(&mut prefix, b".");
     prefix

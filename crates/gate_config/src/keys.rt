@@ -3,6 +3,7 @@ ghost use Rattle.std.specs.Prelude.{◌≡◌, IfOk};
 ghost use Rattle.std.specs.Int.{IsInRange};
 ghost use Rattle.config_document.specs.Keys.{number_at, text_at, truth_at};
 ghost use Rattle.config_document.specs.Places.{place_of};
+ghost use Rattle.gate_config.specs.Keys.{stands_at};
 ghost use Rattle.gate_config.specs.Reading.{default, needed, section_at};
 ghost use Rattle.config_document.specs.Keys.{Sees};
 
@@ -86,6 +87,13 @@ pub(crate) fn text_or<T: Written + Drop>(
         Ok(None) => Ok(other),
         Err(fault) => Err(fault),
     }
+}
+
+/// Whether anything stands at a key.
+pub(crate) fn stands_at(section: &Section, name: &str) -> bool
+    ensures { result ≡ stands_at name.now (place_of section.now) }
+{
+    section.member(name).is_some()
 }
 
 /// The table at a key; its keys have this prefix.

@@ -2,7 +2,10 @@
 #![tactic(auto)]
 
 mod all;
+mod devices;
 mod endpoint;
+mod further;
+mod further_quantities;
 mod gateway;
 mod identity;
 mod items;
@@ -10,6 +13,7 @@ mod keys;
 mod links;
 mod parts;
 mod presets;
+mod quantity;
 mod reading;
 mod routes;
 mod rows;
@@ -18,5 +22,5 @@ mod unknown;
 pub use bus_identity::Product;
 pub use config_document::{ConfigFault, FaultLine, Key};
 pub use config_values::{Config, Ends, RowConfig};
-pub use reading::{read, read_all};
-pub use settings::{AisConfig, RmcConfig, Settings};
+pub use reading::{read, read_all, read_whole};
+pub use settings::{AisConfig, Further, Quantities, QuantityConfig, RmcConfig, Settings};

@@ -19,7 +19,7 @@ use sentence_text::Sfi;
 
 pub(crate) const NET_KEYS: [&str; 3] = ["sources", "listen", "send"];
 
-pub(crate) const BUS_KEYS: [&str; 2] = ["listen", "send"];
+pub(crate) const BUS_KEYS: [&str; 3] = ["listen", "send", "ignore"];
 
 /// Whom the network is heard from, and where the link to it listens and sends.
 type NetKeys = (ArrayVec<Sfi, 32>, Address, Address);
@@ -46,7 +46,7 @@ pub(crate) fn bus_keys(document: &Section) -> Result<(Address, Address), ConfigF
     ensures valid { IfOk result (λ bus. IsEndpoint bus.0.items × IsEndpoint bus.1.items) }
 {
     let table = section(document, "bus", b"bus.")?;
-    let [listen, send] = BUS_KEYS;
+    let [listen, send, _] = BUS_KEYS;
     Ok((link(&table, listen, 60_101)?, link(&table, send, 60_102)?))
 }
 

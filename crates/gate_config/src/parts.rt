@@ -1,15 +1,17 @@
 //! The keys of `rmc` and `ais`: parts beside the gateway, each with a transmission group of its own.
-ghost use Rattle.std.specs.Prelude.{◌≡◌, IfOk};
+ghost use Rattle.std.specs.Prelude.{◌≡◌, IfOk, false, option_map};
 ghost use Rattle.std.specs.List.{list_any};
 ghost use Rattle.std.specs.Option.{ForSome};
+ghost use Rattle.config_document.specs.Keys.{text_at};
 ghost use Rattle.config_document.specs.Places.{place_of};
+ghost use Rattle.config_document.specs.Texts.{group_in};
 ghost use Rattle.gate_config.specs.Beside.{IsAisBeside, IsGroupBeside};
-ghost use Rattle.gate_config.specs.Keys.{ais, is_taken, own_group_at, rmc};
+ghost use Rattle.gate_config.specs.Keys.{ais, is_group_of, is_taken, own_group, rmc};
 ghost use Rattle.gate_config.specs.Reading.{table_in};
 ghost use Rattle.gate_config.specs.Texts.{same_text};
 ghost use Rattle.settings.specs.Settings.{IsRmc};
 
-use crate::keys::{number_or, section, text_or};
+use crate::keys::{number_or, section, stands_at, text_or};
 use config_document::{ConfigFault, Flaw, Section, Talker};
 use config_values::RowConfig;
 use sentence_text::Group;
@@ -29,7 +31,7 @@ pub(crate) fn rmc_keys(
 {
     let table = section(document, "rmc", b"rmc.")?;
     let [group, talker] = RMC_KEYS;
-    let own = own_group(&table, group, rows, None, talker)?;
+    let own = own_group(&table, group, rows, &[], stands_at(&table, talker))?;
     let Talker(talker) = text_or(&table, talker, Talker(*b"GP"))?;
     match own {
         None => Ok(None),
@@ -48,7 +50,7 @@ pub(crate) fn ais_keys(
 {
     let table = section(document, "ais", b"ais.")?;
     let [group, slots] = AIS_KEYS;
-    let own = own_group(&table, group, rows, taken, slots)?;
+    let own = own_group(&table, group, rows, &[taken], stands_at(&table, slots))?;
     let slots = number_or(&table, slots, 1, 256, 16)? as u16;
     match own {
         None => Ok(None),
@@ -56,29 +58,28 @@ pub(crate) fn ais_keys(
     }
 }
 
-/// The group of a part, which no row and no other part has. The part's other key asks for it.
-#[tactic(auto, using(crate::proofs::Beside::group_beside))]
-fn own_group(
+/// The group of a part, which no row and no other part has. What else is said of the part asks for it.
+pub(crate) fn own_group(
     section: &Section,
     name: &str,
     rows: &[RowConfig],
-    taken: Option<Group>,
-    other: &str,
+    parts: &[Option<Group>],
+    asked: bool,
 ) -> Result<Option<Group>, ConfigFault>
-    ensures said { result ≡ own_group_at rows.now taken other.now (place_of section.now) name.now }
-    ensures valid { IfOk result (λ group. ForSome group (IsGroupBeside rows.now taken)) }
+    ensures said { result ≡ own_group rows.now parts.now asked (place_of section.now) name.now (text_at group_in (place_of section.now) name.now) }
+    ensures valid { IfOk result (λ group. ForSome group (IsGroupBeside rows.now parts.now)) }
 {
     match section.text::<Group>(name) {
         Err(fault) => Err(fault),
         Ok(None) => {
-            if section.member(other).is_some() {
+            if asked {
                 section.required(name, None)
             } else {
                 Ok(None)
             }
         }
         Ok(Some(group)) => {
-            if have_group(rows, group) || is_taken(taken, group) {
+            if is_taken(rows, parts, group) {
                 Err(section.fault(name, Flaw::Twice))
             } else {
                 Ok(Some(group))
@@ -87,17 +88,51 @@ fn own_group(
     }
 }
 
+/// Whether something is sent to the group.
+fn is_taken(rows: &[RowConfig], parts: &[Option<Group>], group: Group) -> bool
+    ensures value { result ≡ is_taken rows.now parts.now group }
+    ensures free { result ≡ false → IsGroupBeside rows.now parts.now group }
+{
+    have_group(rows, group) || have_part(parts, group)
+}
+
 fn have_group(rows: &[RowConfig], group: Group) -> bool
     ensures { result ≡ list_any (λ row. same_text row.group group) rows.now }
 {
     rows.iter().any(|row| row.group == group)
 }
 
-fn is_taken(taken: Option<Group>, group: Group) -> bool
-    ensures { result ≡ is_taken taken group }
+fn have_part(parts: &[Option<Group>], group: Group) -> bool
+    ensures { result ≡ list_any (is_group_of group) parts.now }
 {
-    match taken {
+    parts.iter().any(|part| is_group_of(group, *part))
+}
+
+fn is_group_of(group: Group, part: Option<Group>) -> bool
+    ensures { result ≡ is_group_of group part }
+{
+    match part {
         None => false,
         Some(taken) => taken == group,
+    }
+}
+
+/// The group of joined sentences.
+pub(crate) fn rmc_group(rmc: &Option<RmcConfig>) -> Option<Group>
+    ensures { result ≡ option_map (λ r. r.group) rmc.now }
+{
+    match rmc {
+        None => None,
+        Some(rmc) => Some(rmc.group),
+    }
+}
+
+/// The group of reports of ships around.
+pub(crate) fn ais_group(ais: &Option<AisConfig>) -> Option<Group>
+    ensures { result ≡ option_map (λ a. a.group) ais.now }
+{
+    match ais {
+        None => None,
+        Some(ais) => Some(ais.group),
     }
 }

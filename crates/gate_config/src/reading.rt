@@ -2,25 +2,27 @@
 ghost use Rattle.std.specs.Prelude.{◌≡◌, ◌⊎◌, Err, IfOk};
 ghost use Rattle.config_document.specs.Places.{place_of};
 ghost use Rattle.config_values.specs.Configs.{IsConfig};
-ghost use Rattle.gate_config.specs.ConfigOf.{IsConfigAlone, IsConfigOf, config_in};
+ghost use Rattle.gate_config.specs.ConfigOf.{IsConfigAlone, IsConfigOf, IsWholeConfigOf, config_in};
 ghost use Rattle.config_document.specs.declared.fault.ConfigFault.TheVariants.{Memory};
+ghost use Rattle.settings.specs.Further.{IsFurther};
 ghost use Rattle.settings.specs.Settings.{IsSettings};
 
 use crate::all::all_keys;
 use crate::unknown::first_unknown;
 use config_document::{ConfigFault, Section, key_of};
 use config_values::Config;
-use settings::Settings;
+use settings::{Further, Settings};
 use std::alloc::Global;
 use std::str;
 
-/// The settings that a configuration file says, or the first thing that is wrong with it: keys are read in their order, for each is tried
-/// whether it is missing, of another type, out of range or a repeat, and keys that aren't known come last.
-pub fn read_all(alloc: Global, bytes: &[u8]) -> Result<Settings, ConfigFault>
-    // exactly the settings or the fault that the definition gives, unless memory ran out
-    ensures exact { (result ≡ Err Memory) ⊎ IsConfigOf bytes.now result }
+/// All that a configuration file says, the settings and what is asked for besides, or the first thing that is wrong with it: keys are read in
+/// their order, for each is tried whether it is missing, of another type, out of range or a repeat, and keys that aren't known come last.
+pub fn read_whole(alloc: Global, bytes: &[u8]) -> Result<(Settings, Further), ConfigFault>
+    // exactly the values or the fault that the definition gives, unless memory ran out
+    ensures exact { (result ≡ Err Memory) ⊎ IsWholeConfigOf bytes.now result }
     // each value of them is in its range, and nothing stands twice that may stand only once
-    ensures valid { IfOk result IsSettings }
+    ensures settings { IfOk result (λ whole. IsSettings whole.0) }
+    ensures further { IfOk result (λ whole. IsFurther whole.0 whole.1) }
 {
     let text = match str::from_utf8(bytes) {
         Err(_) => return Err(ConfigFault::NotToml),
@@ -44,6 +46,18 @@ pub fn read_all(alloc: Global, bytes: &[u8]) -> Result<Settings, ConfigFault>
     }
 }
 
+/// The settings alone, which the same file says.
+pub fn read_all(alloc: Global, bytes: &[u8]) -> Result<Settings, ConfigFault>
+    // exactly the settings or the fault that the definition gives, unless memory ran out
+    ensures exact { (result ≡ Err Memory) ⊎ IsConfigOf bytes.now result }
+    ensures valid { IfOk result IsSettings }
+{
+    match read_whole(alloc, bytes) {
+        Ok((settings, _)) => Ok(settings),
+        Err(fault) => Err(fault),
+    }
+}
+
 /// The configuration of the gateway alone, which the same file says.
 pub fn read(alloc: Global, bytes: &[u8]) -> Result<Config, ConfigFault>
     // exactly the configuration or the fault that the definition gives, unless memory ran out
@@ -56,19 +70,20 @@ pub fn read(alloc: Global, bytes: &[u8]) -> Result<Config, ConfigFault>
     }
 }
 
-/// The settings of a document of which every key is known.
+/// What a document says of which every key is known.
 #[tactic(auto, unfolding(crate::specs::ConfigOf::config_in))]
-fn accepted(alloc: Global, document: &Section) -> Result<Settings, ConfigFault>
+fn accepted(alloc: Global, document: &Section) -> Result<(Settings, Further), ConfigFault>
     ensures exact { (result ≡ Err Memory) ⊎ (result ≡ config_in (place_of document.now)) }
-    ensures valid { IfOk result IsSettings }
+    ensures settings { IfOk result (λ whole. IsSettings whole.0) }
+    ensures further { IfOk result (λ whole. IsFurther whole.0 whole.1) }
 {
-    let settings = match all_keys(document) {
+    let whole = match all_keys(document) {
         Err(fault) => return Err(fault),
-        Ok(settings) => settings,
+        Ok(whole) => whole,
     };
     match first_unknown(alloc, document) {
         Err(_) => Err(ConfigFault::Memory),
-        Ok(None) => Ok(settings),
+        Ok(None) => Ok(whole),
         Ok(Some(path)) => Err(ConfigFault::Unknown(key_of(path.as_slice(), b""))),
     }
 }

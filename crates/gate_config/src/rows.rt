@@ -1,23 +1,20 @@
 //! The keys of each row: whom it is taken from, and how it is said.
 ghost use Rattle.std.specs.Prelude.{◌≡◌, [], All, IfOk};
-ghost use Rattle.config_document.specs.Keys.{list_at};
-ghost use Rattle.config_document.specs.Patterns.{pattern_in};
 ghost use Rattle.config_document.specs.Places.{place_of};
 ghost use Rattle.config_document.specs.Texts.{IsTalker};
-ghost use Rattle.config_document.specs.Twice.{repeats};
-ghost use Rattle.config_values.specs.Rows.{AreSources, IsRow};
-ghost use Rattle.gate_config.specs.Keys.{row, row_at, rows_from, rows_in};
-ghost use Rattle.gate_config.specs.Reading.{unless};
-ghost use Rattle.gate_config.specs.Texts.{same_pattern};
+ghost use Rattle.config_values.specs.Rows.{IsRow};
+ghost use Rattle.gate_config.specs.Keys.{row, row_at, row_of, rows_in};
+ghost use Rattle.gate_config.specs.Reading.{each_from};
 
-use crate::items::row_prefix;
-use crate::keys::{number_or, section, text_or, truth_or};
+use crate::items::key_prefix;
+use crate::keys::{section, text_or};
+use crate::quantity::quantity_keys;
 use arrayvec::ArrayVec;
-use config_document::{ConfigFault, Flaw, Section, Talker, repeats};
+use config_document::{ConfigFault, Section};
 use config_values::RowConfig;
-use n2k_id::Pattern;
 use readings::{ROWS, Row, all_rows};
 use sentence_text::Group;
+use settings::QuantityConfig;
 
 pub(crate) const KEYS: [&str; 5] = ["sources", "others", "timeout_ms", "talker", "group"];
 
@@ -36,13 +33,13 @@ fn each_row(
     group: Group,
     all: &[Row; ROWS],
 ) -> Result<[RowConfig; ROWS], ConfigFault>
-    ensures said { result ≡ rows_from group (place_of rows.now) [] all.now }
+    ensures said { result ≡ each_from (row_of group (place_of rows.now)) [] all.now }
     ensures valid { IfOk result (All IsRow) }
 {
     let mut read = ArrayVec::new();
     for each in all {
         let name = each.name();
-        let prefix = row_prefix(name);
+        let prefix = key_prefix(b"row.", name);
         let row = row(rows, name, prefix.as_slice(), each.talker(), group)?;
         read.push(row);
     }
@@ -75,12 +72,15 @@ fn keys_of_row(section: &Section, talker: [u8; 2], group: Group) -> Result<RowCo
     ensures said { result ≡ row.read (talker, group) (place_of section.now) }
     ensures valid { IfOk result IsRow }
 {
-    let [sources, others, timeout_ms, said_by, sent_to] = KEYS;
-    let sources = row_sources(section, sources)?;
-    let others = truth_or(section, others, true)?;
-    let timeout_ms = number_or(section, timeout_ms, 100, 60_000, 5_000)?;
-    let Talker(talker) = text_or(section, said_by, Talker(talker))?;
+    let taken = quantity_keys(section, talker)?;
+    let [_, _, _, _, sent_to] = KEYS;
     let group = text_or(section, sent_to, group)?;
+    let QuantityConfig {
+        sources,
+        others,
+        timeout_ms,
+        talker,
+    } = taken;
     Ok(RowConfig {
         sources,
         others,
@@ -88,17 +88,4 @@ fn keys_of_row(section: &Section, talker: [u8; 2], group: Group) -> Result<RowCo
         talker,
         group,
     })
-}
-
-/// The devices that a row is taken from, none of them twice.
-#[tactic(auto, unfolding(crate::specs::Reading::unless))]
-fn row_sources(section: &Section, name: &str) -> Result<ArrayVec<Pattern, 16>, ConfigFault>
-    ensures said { result ≡ unless (λ sources. repeats same_pattern sources.items) (list_at pattern_in 16) (place_of section.now) name.now }
-    ensures valid { IfOk result (λ sources. AreSources sources.items) }
-{
-    let sources = section.list::<Pattern, 16>(name)?;
-    if repeats(sources.as_slice()) {
-        return Err(section.fault(name, Flaw::Twice));
-    }
-    Ok(sources)
 }

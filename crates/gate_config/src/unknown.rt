@@ -1,15 +1,18 @@
 //! Keys that aren't known, in every table.
-ghost use Rattle.std.specs.Prelude.{◌≡◌, ◌≤◌, IfOk, length, map};
+ghost use Rattle.std.specs.Prelude.{◌≡◌, ◌≤◌, ◌++◌, All, IfOk, length, map};
 ghost use Rattle.toml.specs.Data.{get_member};
 ghost use Rattle.toml.specs.View.{items_view};
 ghost use Rattle.config_document.specs.Places.{place_of};
 ghost use Rattle.config_document.specs.Unknown.{path_seen};
-ghost use Rattle.gate_config.specs.Unknown.{each_row_noted, first_unknown, gateway_noted, items_of, links_noted, noted, noted_items, parts_noted, place_under, row_names, row_noted, rows_noted};
+ghost use Rattle.gate_config.specs.Unknown.{each_noted, first_unknown, further_noted, gateway_noted, items_of, links_noted, noted, noted_items, parts_noted, place_under, quantities_noted, quantity_names, row_names, rows_noted};
 
-use crate::items::{item_prefix, row_prefix};
-use crate::{gateway, identity, links, parts, presets, routes, rows};
+use crate::items::{item_prefix, key_prefix};
+use crate::{
+    further, further_quantities, gateway, identity, links, parts, presets, quantity, routes, rows,
+};
 use arrayvec::ArrayVec;
 use config_document::{Section, least_unknown};
+use quantities::{QUANTITIES, Quantity, all_quantities};
 use readings::{ROWS, Row, all_rows};
 use std::alloc::{AllocError, Global};
 use toml::Value;
@@ -22,12 +25,14 @@ pub(crate) fn first_unknown(
     ensures { IfOk result (λ path. path_seen path ≡ first_unknown (place_of document.now)) }
 {
     let tables = [
-        "gateway", "preset", "row", "net", "bus", "route", "identity", "rmc", "ais",
+        "gateway", "preset", "row", "net", "bus", "route", "identity", "rmc", "ais", "further",
+        "report", "plain", "serve",
     ];
     let least = least_unknown(alloc, document, &tables, None)?;
     let least = in_gateway(alloc, document, least)?;
     let least = in_links(alloc, document, least)?;
-    in_parts(alloc, document, least)
+    let least = in_parts(alloc, document, least)?;
+    in_further(alloc, document, least)
 }
 
 /// The lesser of this path and those of the gateway itself, of the devices that it knows, and of its rows.
@@ -85,6 +90,42 @@ fn in_parts(
     under(alloc, document, "ais", b"ais.", &parts::AIS_KEYS, least)
 }
 
+/// The same of what is asked for besides.
+fn in_further(
+    alloc: Global,
+    document: &Section,
+    least: Option<Vec<u8>>,
+) -> Result<Option<Vec<u8>>, AllocError>
+    ensures { IfOk result (λ path. path_seen path ≡ further_noted (place_of document.now) (path_seen least)) }
+{
+    let quantities = table_under(document, "further", b"further.");
+    let least = in_quantities(alloc, &quantities, least)?;
+    let least = under(
+        alloc,
+        document,
+        "report",
+        b"report.",
+        &further::REPORT_KEYS,
+        least,
+    )?;
+    let least = under(
+        alloc,
+        document,
+        "plain",
+        b"plain.",
+        &further::PLAIN_KEYS,
+        least,
+    )?;
+    under(
+        alloc,
+        document,
+        "serve",
+        b"serve.",
+        &further::SERVE_KEYS,
+        least,
+    )
+}
+
 /// The same of the table of rows, and of each row's table.
 #[tactic(auto, unfolding(crate::specs::Unknown::rows_noted))]
 fn in_row_table(
@@ -94,14 +135,37 @@ fn in_row_table(
 ) -> Result<Option<Vec<u8>>, AllocError>
     ensures { IfOk result (λ path. path_seen path ≡ rows_noted (place_of rows.now) (path_seen least)) }
 {
-    let names = names_of(all_rows());
+    let names = row_names(all_rows());
     let least = least_unknown(alloc, rows, names.as_slice(), least)?;
-    in_rows(alloc, rows, all_rows(), least)
+    under_each(alloc, rows, b"row.", names.as_slice(), &rows::KEYS, least)
+}
+
+/// The same of the table of further quantities, and of each quantity's table.
+#[tactic(auto, unfolding(crate::specs::Unknown::quantities_noted))]
+fn in_quantities(
+    alloc: Global,
+    table: &Section,
+    least: Option<Vec<u8>>,
+) -> Result<Option<Vec<u8>>, AllocError>
+    ensures { IfOk result (λ path. path_seen path ≡ quantities_noted (place_of table.now) (path_seen least)) }
+{
+    let names = quantity_names(all_quantities());
+    let known = keys_and_names(&further_quantities::KEYS, names.as_slice());
+    let least = least_unknown(alloc, table, known.as_slice(), least)?;
+    under_each(
+        alloc,
+        table,
+        b"further.",
+        names.as_slice(),
+        &quantity::KEYS,
+        least,
+    )
 }
 
 /// The names of these rows.
-fn names_of(all: &[Row; ROWS]) -> ArrayVec<&'static str, ROWS>
-    ensures { map (λ name. name.now) result.items ≡ row_names all.now }
+fn row_names(all: &[Row; ROWS]) -> ArrayVec<&'static str, ROWS>
+    ensures names { map (λ name. name.now) result.items ≡ row_names all.now }
+    ensures short { All (λ name. length name.now ≤ 32) result.items }
 {
     let mut names = ArrayVec::new();
     for row in all {
@@ -110,34 +174,48 @@ fn names_of(all: &[Row; ROWS]) -> ArrayVec<&'static str, ROWS>
     names
 }
 
-/// The same of the tables of these rows.
-fn in_rows(
-    alloc: Global,
-    rows: &Section,
-    all: &[Row],
-    least: Option<Vec<u8>>,
-) -> Result<Option<Vec<u8>>, AllocError>
-    ensures { IfOk result (λ path. path_seen path ≡ each_row_noted (place_of rows.now) all.now (path_seen least)) }
+/// The names of these quantities.
+fn quantity_names(all: &[Quantity; QUANTITIES]) -> ArrayVec<&'static str, QUANTITIES>
+    ensures names { map (λ name. name.now) result.items ≡ quantity_names all.now }
+    ensures short { All (λ name. length name.now ≤ 32) result.items }
 {
-    let mut least = least;
-    for row in all {
-        least = in_row(alloc, rows, *row, least)?;
+    let mut names = ArrayVec::new();
+    for quantity in all {
+        names.push(quantity.name());
     }
-    Ok(least)
+    names
 }
 
-/// The same of the table of a row.
-fn in_row(
+/// The keys of a table, and the names of the tables within it.
+fn keys_and_names(keys: &[&'static str; 2], names: &[&'static str]) -> ArrayVec<&'static str, 18>
+    requires { length names.now ≤ 16 }
+    ensures { result.items ≡ keys.now ++ names.now }
+{
+    let mut known = ArrayVec::new();
+    let _fits = known.try_extend_from_slice(keys);
+    let _fits = known.try_extend_from_slice(names);
+    known
+}
+
+/// The same of the tables at these keys.
+fn under_each(
     alloc: Global,
-    rows: &Section,
-    row: Row,
+    section: &Section,
+    word: &[u8],
+    names: &[&str],
+    keys: &[&str],
     least: Option<Vec<u8>>,
 ) -> Result<Option<Vec<u8>>, AllocError>
-    ensures { IfOk result (λ path. path_seen path ≡ row_noted (place_of rows.now) row (path_seen least)) }
+    requires word { length word.now ≤ 8 }
+    requires names { All (λ name. length name.now ≤ 32) names.now }
+    ensures { IfOk result (λ path. path_seen path ≡ each_noted (map (λ key. key.now) keys.now) word.now (place_of section.now) (map (λ name. name.now) names.now) (path_seen least)) }
 {
-    let name = row.name();
-    let prefix = row_prefix(name);
-    under(alloc, rows, name, prefix.as_slice(), &rows::KEYS, least)
+    let mut least = least;
+    for name in names {
+        let prefix = key_prefix(word, name);
+        least = under(alloc, section, name, prefix.as_slice(), keys, least)?;
+    }
+    Ok(least)
 }
 
 /// The same of the table at a key.

@@ -1,21 +1,40 @@
 -- What is asked for by keys of its own, and when it can stand beside the other settings.
-use Rattle.std.specs.Prelude.{◌≢◌, ℕ, false, List, [], Option, None}
+use Rattle.std.specs.Prelude.{◌≢◌, ℕ, false, List, [], All, Option, None}
+use Rattle.std.specs.Int.{IsInRange}
 use Rattle.std.specs.Option.{ForSome}
-use Rattle.config_values.specs.Rows.{AreSources}
+use Rattle.config_values.specs.Rows.{AreSources, IsTalker}
 use Rattle.settings.specs.Settings.{IsOwnGroup}
 use Rattle.settings.specs.declared.further.Further.{Further}
+use Rattle.settings.specs.declared.quantity_config.Quantities.{Quantities}
+use Rattle.settings.specs.declared.quantity_config.QuantityConfig.{QuantityConfig}
 use Rattle.settings.specs.declared.settings.Settings.{Settings}
 
 -- without any of these keys
 abbrev pub nothing_further : Further
-nothing_further = record { ignore = record { items = [] }; sources = false; plain = None }
+nothing_further = record { ignore = record { items = [] }; quantities = None; sources = false; plain = None; «record» = false }
 
 -- a group of its own: no row, no RMC and no reports of ships are sent to it
-pub record IsPlainGroup (s : Settings) (group : List ℕ) : Type 0 where
+pub record IsFurtherGroup (s : Settings) (group : List ℕ) : Type 0 where
   pub from_rows : IsOwnGroup s.config.rows group
   pub from_rmc : ForSome s.rmc (λ r. r.group ≢ group)
   pub from_ais : ForSome s.ais (λ a. a.group ≢ group)
 
+pub record IsQuantity (q : QuantityConfig) : Type 0 where
+  pub sources : AreSources q.sources.items
+  pub timeout : IsInRange 100 60000 q.timeout_ms
+  pub talker : IsTalker q.talker
+
+pub record AreQuantities (s : Settings) (q : Quantities) : Type 0 where
+  pub group : IsFurtherGroup s q.group
+  pub slots : IsInRange 1 256 q.slots
+  pub each : All IsQuantity q.each
+
+-- besides, no further quantities are sent to it
+pub record IsPlainGroup (s : Settings) (quantities : Option Quantities) (group : List ℕ) : Type 0 where
+  pub beside : IsFurtherGroup s group
+  pub from_quantities : ForSome quantities (λ q. q.group ≢ group)
+
 pub record IsFurther (s : Settings) (f : Further) : Type 0 where
   pub ignore : AreSources f.ignore.items
-  pub plain : ForSome f.plain (IsPlainGroup s)
+  pub quantities : ForSome f.quantities (AreQuantities s)
+  pub plain : ForSome f.plain (IsPlainGroup s f.quantities)

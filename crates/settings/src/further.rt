@@ -1,5 +1,6 @@
 //! What is asked for by keys of its own.
 
+use crate::quantity_config::Quantities;
 use arrayvec::ArrayVec;
 use n2k_id::Pattern;
 use sentence_text::Group;
@@ -9,10 +10,14 @@ use sentence_text::Group;
 pub struct Further {
     /// The devices that no row is taken from.
     pub ignore: ArrayVec<Pattern, 16>,
+    /// How quantities besides the rows are said; none: they aren't.
+    pub quantities: Option<Quantities>,
     /// Whether it is told which source a row is taken from.
     pub sources: bool,
     /// The transmission group that all sentences are sent to once more, without header and TAG blocks; none: they aren't.
     pub plain: Option<Group>,
+    /// Whether a run keeps what comes, so that it can be done again.
+    pub record: bool,
 }
 
 impl Further {
@@ -25,8 +30,10 @@ impl Further {
     {
         Further {
             ignore: ArrayVec::new(),
+            quantities: None,
             sources: false,
             plain: None,
+            record: false,
         }
     }
 }

@@ -5,10 +5,12 @@
 
 mod ais;
 mod further;
+mod quantity_config;
 mod rmc;
 mod settings;
 
 pub use ais::AisConfig;
 pub use further::Further;
+pub use quantity_config::{Quantities, QuantityConfig};
 pub use rmc::RmcConfig;
 pub use settings::Settings;

@@ -3,5 +3,4 @@ use Rattle.gate_config.proofs.rows.keys_of_row.Goals as goal
 
 pub returns-clause-said : goal.returns-clause-said
 unfolding row
-returns-clause-said c =
-    rw (← c.in_ok-sources.ensures.said, ← c.in_ok-others.ensures, ← c.in_ok-timeout_ms.ensures.said, ← c.in_ok-talker.ensures.said, ← c.in_ok-group.ensures.said)
+returns-clause-said c = rw (← c.in_ok-taken.ensures.said, ← c.in_ok-group.ensures.said)

@@ -1,6 +1,8 @@
+use Rattle.gate_config.specs.Keys.{quantity, row}
 use Rattle.gate_config.specs.Unknown.{rows_noted}
 use Rattle.gate_config.proofs.unknown.in_row_table.Goals as goal
 
 pub returns : goal.returns
-unfolding rows_noted
-returns c = rw (c.in_ok-least.ensures, c.as_slice.ensures.value, c.names_of-names.ensures, c.all_rows.ensures, c.all_rows-2.ensures) at c.in_rows.ensures
+unfolding rows_noted row quantity
+returns c =
+    rw (c.in_ok-least.ensures, c.as_slice.ensures.value, c.as_slice-2.ensures.value, c.row_names-names.ensures.names, c.all_rows.ensures) at c.under_each.ensures

@@ -1,0 +1,46 @@
+//! How quantities besides the rows are said.
+
+use arrayvec::ArrayVec;
+use n2k_id::Pattern;
+use quantities::QUANTITIES;
+use sentence_text::Group;
+
+/// Whom a quantity is taken from, and who says it.
+#[derive(Drop)]
+pub struct QuantityConfig {
+    /// The devices that it is taken from, in their order of preference.
+    pub sources: ArrayVec<Pattern, 16>,
+    /// Whether others are taken after them.
+    pub others: bool,
+    /// How long a source counts after its last usable message, in milliseconds.
+    pub timeout_ms: u32,
+    /// The talker of its sentence, two capital letters.
+    pub talker: [u8; 2],
+}
+
+impl Default for QuantityConfig {
+    ghost use Rattle.std.specs.Prelude.{◌≡◌, [], true, codes};
+
+    ghost is_default = { λ q. (q.sources.items ≡ []) × (q.others ≡ true) × (q.timeout_ms ≡ 5000) × (q.talker ≡ codes "II") };
+
+    /// Taken from all alike, with the timeout that stands where no other was put; the talker is that of integrated instruments.
+    fn default() -> QuantityConfig {
+        QuantityConfig {
+            sources: ArrayVec::new(),
+            others: true,
+            timeout_ms: 5_000,
+            talker: *b"II",
+        }
+    }
+}
+
+/// How quantities besides the rows are said.
+#[derive(Drop)]
+pub struct Quantities {
+    /// The transmission group that they are sent to, which is sent nothing else.
+    pub group: Group,
+    /// How many of their fast packets may be open, 1 to 256.
+    pub slots: u16,
+    /// Each of them, in the order of the quantities.
+    pub each: [QuantityConfig; QUANTITIES],
+}
