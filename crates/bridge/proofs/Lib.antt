@@ -2,7 +2,6 @@ pub mod Answers
 pub mod Joins
 pub mod Lengths
 pub mod Ships
-pub mod Opening
 pub mod Steps
 pub mod Sending
 pub mod PartCases

@@ -54,7 +54,6 @@ impl Model for Bridge {
 
 impl Bridge {
     /// A bridge of these settings, before it starts.
-    #[tactic(auto, using(crate::proofs::Opening::nothing_is_further))]
     pub fn new(alloc: Global, settings: &Settings) -> Result<Bridge, AllocError>
         requires { IsSettings settings.now }
         ensures { IfOk result (IsNew (parts_of settings.now nothing_further)) }

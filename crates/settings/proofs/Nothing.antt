@@ -6,8 +6,9 @@ use Rattle.config_values.specs.Patterns.{IsPattern}
 use Rattle.settings.specs.declared.settings.Settings.{Settings}
 use Rattle.settings.specs.Further.{IsFurther, nothing_further}
 
-pub nothing_is_further : (s : Settings) → IsFurther s nothing_further
-nothing_is_further s = record {
+pub stands_beside_all : (s : Settings) → IsFurther s nothing_further
+stands_beside_all s = record {
   ignore = record { each = All-nil IsPattern; apart = λ i j d before within. absurd (omega (arith, within)) };
+  quantities = λ q there. absurd (none-some q there);
   plain = λ group there. absurd (none-some group there);
 }
