@@ -4,8 +4,9 @@ use Rattle.history.specs.Settings.{Settings}
 use Rattle.bus_identity.specs.Payloads.{information_of}
 use Rattle.config_values.specs.declared.config.Config.{Config}
 use Rattle.config_values.specs.declared.row_config.RowConfig.{RowConfig}
-use Rattle.config_values.specs.Settings.{settings_of}
+use Rattle.config_values.specs.Settings.{settings_ignoring}
 use Rattle.settings.specs.declared.ais.AisConfig.{AisConfig}
+use Rattle.settings.specs.declared.further.Further.{Further}
 use Rattle.settings.specs.declared.rmc.RmcConfig.{RmcConfig}
 use Rattle.settings.specs.declared.settings.Settings.{Settings as Configured}
 use Rattle.joined_rmc.specs.RmcOut.{RmcRule, rule_by}
@@ -26,9 +27,9 @@ timeouts_of rows = map (λ row. row.timeout_ms) rows
 abbrev pub rmc_rule : Config → Option RmcConfig → Option RmcRule
 rmc_rule c rmc = option_map (λ r. rule_by r c.sfi (timeouts_of c.rows)) rmc
 
-unfoldable pub parts_of : Configured → Parts
-parts_of x = record {
-  gateway = settings_of x.config;
+unfoldable pub parts_of : Configured → Further → Parts
+parts_of x further = record {
+  gateway = settings_ignoring further.ignore.items x.config;
   information = information_of x.product;
   rmc = rmc_rule x.config x.rmc;
   ais = x.ais;

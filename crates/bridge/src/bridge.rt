@@ -4,6 +4,7 @@ ghost use Rattle.gate_events.specs.Emit.{CanWrite};
 ghost use Rattle.gate_outbox.specs.Output.{emit_of};
 ghost use Rattle.gate_core.specs.Steps.{IsEventValid, entry_of};
 ghost use Rattle.history.specs.Entries.{moment_of};
+ghost use Rattle.settings.specs.Further.{IsFurther, nothing_further};
 ghost use Rattle.settings.specs.Settings.{IsSettings};
 ghost use Rattle.bridge.specs.BridgeStands.{IsBesideStep, IsBridgeStep, IsCommanded, IsNew, IsOrder, IsStart};
 ghost use Rattle.bridge.specs.Kept.{left_by, left_of};
@@ -16,7 +17,7 @@ use crate::watching::{watch, watching_of};
 use ais_bridge::AisBridge;
 use gate_core::{Command, Gateway, moment_of};
 use gate_events::{Emit, Event};
-use settings::Settings;
+use settings::{Further, Settings};
 use std::alloc::{AllocError, Global};
 use std::marker::Model;
 
@@ -55,12 +56,21 @@ impl Bridge {
     /// A bridge of these settings, before it starts.
     pub fn new(alloc: Global, settings: &Settings) -> Result<Bridge, AllocError>
         requires { IsSettings settings.now }
-        ensures { IfOk result (IsNew (parts_of settings.now)) }
+        ensures { IfOk result (IsNew (parts_of settings.now nothing_further)) }
+    {
+        Bridge::with(alloc, settings, &Further::none())
+    }
+
+    /// A bridge of these settings and of what is asked for besides, before it starts.
+    pub fn with(alloc: Global, settings: &Settings, further: &Further) -> Result<Bridge, AllocError>
+        requires settings { IsSettings settings.now }
+        requires further { IsFurther settings.now further.now }
+        ensures { IfOk result (IsNew (parts_of settings.now further.now)) }
     {
         let watching = watching_of(alloc, &settings.ais, &settings.config)?;
         let left = Left::boxed(alloc)?;
         // The largest part, last: what is kept while others are made lies on the stack once more.
-        let gateway = Gateway::new(alloc, &settings.config)?;
+        let gateway = Gateway::ignoring(alloc, &settings.config, &further.ignore)?;
         Ok(Bridge {
             gateway,
             started: false,

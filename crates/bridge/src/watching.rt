@@ -1,8 +1,9 @@
 //! The reports of ships around beside the gateway.
-ghost use Rattle.std.specs.Prelude.{◌≡◌, IfOk, IfSome};
+ghost use Rattle.std.specs.Prelude.{◌≡◌, List, IfOk, IfSome};
 ghost use Rattle.std.specs.Int.{IsInRange};
+ghost use Rattle.n2k_id.specs.declared.pattern.Pattern.{Pattern};
 ghost use Rattle.config_values.specs.Configs.{IsConfig};
-ghost use Rattle.config_values.specs.Settings.{settings_of};
+ghost use Rattle.config_values.specs.Settings.{settings_ignoring};
 ghost use Rattle.gate_outbox.specs.Output.{Output, no_emits};
 ghost use Rattle.gate_core.specs.Steps.{IsEventValid, entry_of};
 ghost use Rattle.bridge.specs.Beside.{IsWatching};
@@ -22,7 +23,7 @@ pub(crate) fn watching_of(
 ) -> Result<Option<AisBridge>, AllocError>
     requires slots { IfSome ais.now (λ a. IsInRange 1 256 a.slots) }
     requires config { IsConfig config.now }
-    ensures { IfOk result (λ w. IsOpenedWatching (settings_of config.now) ais.now w) }
+    ensures { IfOk result (λ w. (ignored : List Pattern) → IsOpenedWatching (settings_ignoring ignored config.now) ais.now w) }
 {
     match ais {
         Some(ais) => Ok(Some(AisBridge::new(alloc, ais, config.sfi)?)),

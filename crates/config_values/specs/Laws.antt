@@ -1,6 +1,7 @@
 -- What holds of each valid configuration, in the words of the crates that a gateway is made of.
-use Rattle.std.specs.Prelude.{◌≡◌, ℕ, ◌<◌, ◌≤◌, false, length, slice_index_or, All}
+use Rattle.std.specs.Prelude.{◌≡◌, ℕ, ◌<◌, ◌≤◌, false, List, length, slice_index_or, All}
 use Rattle.std.specs.Int.{IsInRange}
+use Rattle.n2k_id.specs.declared.pattern.Pattern.{Pattern}
 use Rattle.claim_table.specs.Claims.{move_places, places, repeats, takes}
 use Rattle.history.specs.AddressLaws.{AreSettings}
 use Rattle.history.specs.FitLaws.{IsWithinLimits}
@@ -9,7 +10,7 @@ use Rattle.config_values.specs.declared.config.Config.{Config}
 use Rattle.config_values.specs.declared.row_config.RowConfig.{RowConfig}
 use Rattle.config_values.specs.Configs.{IsConfig}
 use Rattle.config_values.specs.Rows.{IsTalker}
-use Rattle.config_values.specs.Settings.{rule_of_row, settings_of}
+use Rattle.config_values.specs.Settings.{rule_of_row, settings_ignoring}
 
 -- as many of each kind may be open as an assembler can be made for
 pub record AreLimits (c : Config) : Type 0 where
@@ -39,13 +40,15 @@ abbrev pub RowsAreSaid : Type 0
 RowsAreSaid = (c : Config) → IsConfig c → AreSaid c
 
 -- a gateway can be made of the settings, and every entry fits its room
-pub record AreGatewaySettings (c : Config) : Type 0 where
-  pub settings : AreSettings (settings_of c)
-  pub limits : IsWithinLimits (settings_of c)
+pub record AreGatewaySettings (ignored : List Pattern) (c : Config) : Type 0 where
+  pub settings : AreSettings (settings_ignoring ignored c)
+  pub limits : IsWithinLimits (settings_ignoring ignored c)
 
 abbrev pub ConfigsAreSettings : Type 0
-ConfigsAreSettings = (c : Config) → IsConfig c → AreGatewaySettings c
+ConfigsAreSettings = (ignored : List Pattern) (c : Config) → IsConfig c → AreGatewaySettings ignored c
 
--- the rule of each row is that of its place
+-- the rule of each row is that of its place, and all ignore the same devices
 abbrev pub RulesAreByNumber : Type 0
-RulesAreByNumber = (c : Config) (n : ℕ) (d : RowConfig) → n < length c.rows → rule_at (settings_of c).rows n ≡ rule_of_row (slice_index_or c.rows n d)
+RulesAreByNumber =
+    (ignored : List Pattern) (c : Config) (n : ℕ) (d : RowConfig) → n < length c.rows
+    → rule_at (settings_ignoring ignored c).rows n ≡ rule_of_row ignored (slice_index_or c.rows n d)

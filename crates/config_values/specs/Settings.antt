@@ -1,21 +1,26 @@
 -- A configuration as the settings of a gateway between the bus (ISO 11783) and the network (IEC 61162-450): all but where its links
 -- listen and send.
-use Rattle.std.specs.Prelude.{map}
+use Rattle.std.specs.Prelude.{List, [], map}
+use Rattle.n2k_id.specs.declared.pattern.Pattern.{Pattern}
 use Rattle.history.specs.Settings.{RowRule, Settings}
 use Rattle.config_values.specs.declared.config.Config.{Config}
 use Rattle.config_values.specs.declared.row_config.RowConfig.{RowConfig}
+use Rattle.config_values.specs.declared.selective_config.SelectiveConfig.{SelectiveConfig}
 
-abbrev pub rule_of_row : RowConfig → RowRule
-rule_of_row row = record {
+-- a row that isn't taken from the devices that these patterns match
+abbrev pub rule_of_row : List Pattern → RowConfig → RowRule
+rule_of_row ignored row = record {
   sources = row.sources.items;
   others = row.others;
+  ignored = ignored;
   timeout = row.timeout_ms;
   talker = row.talker;
   group = row.group;
 }
 
-unfoldable pub settings_of : Config → Settings
-settings_of c = record {
+-- all rows are taken from the others alone
+unfoldable pub settings_ignoring : List Pattern → Config → Settings
+settings_ignoring ignored c = record {
   name = c.name.0;
   address = c.address;
   sfi = c.sfi;
@@ -24,6 +29,13 @@ settings_of c = record {
   group_slots = c.group_slots;
   ths = c.ths;
   presets = c.presets.items;
-  rows = map rule_of_row c.rows;
+  rows = map (rule_of_row ignored) c.rows;
   net_sources = c.net_sources.items;
 }
+
+-- where nobody is ignored
+abbrev pub settings_of : Config → Settings
+settings_of c = settings_ignoring [] c
+
+abbrev pub settings_by : SelectiveConfig → Settings
+settings_by x = settings_ignoring x.ignored.items x.base

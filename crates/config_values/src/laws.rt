@@ -19,8 +19,8 @@ pub fn rows_are_said()
     ensures { RowsAreSaid }
 {}
 
-/// The settings of a valid configuration are such that a gateway can be made of them, and that what each entry gives fits its room; the
-/// rule of each row is that of its place.
+/// The settings of a valid configuration, whoever is ignored, are such that a gateway can be made of them, and that what each entry gives
+/// fits its room; the rule of each row is that of its place, and all ignore the same devices.
 #[tactic(auto, using(crate::proofs::SettingsLemmas::are_settings, crate::proofs::SettingsLemmas::rules_are_by_number))]
 pub fn configurations_are_settings()
     ensures settings { ConfigsAreSettings }

@@ -11,7 +11,9 @@ mod lists;
 mod patterns;
 mod presets;
 mod row_config;
+mod selective_config;
 
 pub use config::{Config, Ends};
 pub use endpoint::is_endpoint;
 pub use row_config::RowConfig;
+pub use selective_config::SelectiveConfig;

@@ -15,7 +15,7 @@ use Rattle.config_values.specs.Configs.{AreEnds, IsConfig}
 use Rattle.config_values.specs.Presets.{AreApart, ArePresets}
 use Rattle.config_values.specs.Rows.{IsRow}
 use Rattle.config_values.specs.declared.row_config.RowConfig.{RowConfig}
-use Rattle.config_values.specs.Settings.{rule_of_row, settings_of}
+use Rattle.config_values.specs.Settings.{rule_of_row, settings_ignoring, settings_of}
 use Rattle.demo.specs.Setup.{demo_settings, row_said}
 
 no_presets : (name : Name) (address : ℕ) (presets : List Preset) → presets ≡ [] → ArePresets name address presets
@@ -37,7 +37,7 @@ not_own = All-cons (λ s. codes "II0001" ≢ s) (codes "II0002") [] (λ same. ot
     other same = let e : 49 ≡ 50 = ap (λ (t : List ℕ). slice_index_or t 5 0) same in omega (arith, e)
 
 pub is_config : (c : Config) → settings_of c ≡ demo_settings → All IsRow c.rows → AreEnds c.ends → IsConfig c
-unfolding settings_of demo_settings
+unfolding settings_ignoring demo_settings
 is_config c same rows ends =
     let address : c.address ≡ 251 = ap (λ (s : Settings). s.address) same in
     let fast : c.fast_slots ≡ 256 = ap (λ (s : Settings). s.fast_slots) same in
@@ -84,10 +84,10 @@ same_settings sfi presets rows sources a b d e =
 
 -- one more row is said by its talker
 pub one_more_row :
-    (configs : List RowConfig) (all : List Row) (i : ℕ) (d : Row) (config : RowConfig) → i < length all → map rule_of_row configs ≡ map row_said (take i all)
-    → rule_of_row config ≡ row_said (get_or all i d) → map rule_of_row (configs ++ config ∷ []) ≡ map row_said (take (i + 1) all)
+    (configs : List RowConfig) (all : List Row) (i : ℕ) (d : Row) (config : RowConfig) → i < length all → map (rule_of_row []) configs ≡ map row_said (take i all)
+    → rule_of_row [] config ≡ row_said (get_or all i d) → map (rule_of_row []) (configs ++ config ∷ []) ≡ map row_said (take (i + 1) all)
 one_more_row configs all i d config within before is =
-    map-append rule_of_row configs (config ∷ [])
-    ∙ ap (λ (rules : List RowRule). rules ++ rule_of_row config ∷ []) before
+    map-append (rule_of_row []) configs (config ∷ [])
+    ∙ ap (λ (rules : List RowRule). rules ++ rule_of_row [] config ∷ []) before
     ∙ ap (λ (rule : RowRule). map row_said (take i all) ++ rule ∷ []) is
     ∙ sym (map_more row_said all i d within)

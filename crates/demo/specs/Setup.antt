@@ -9,6 +9,7 @@ abbrev pub row_said : Row → RowRule
 row_said row = record {
   sources = [];
   others = true;
+  ignored = [];
   timeout = 5000;
   talker = (about_of row).talker;
   group = codes "NAVD";

@@ -53,7 +53,7 @@ fn net_sources() -> ArrayVec<Sfi, 32>
 /// These rows, each said by its own talker.
 fn rows_of(all: &[Row; ROWS]) -> [RowConfig; ROWS]
     ensures valid { All IsRow result }
-    ensures said { map rule_of_row result ≡ map row_said all.now }
+    ensures said { map (rule_of_row []) result ≡ map row_said all.now }
 {
     let mut rows = ArrayVec::new();
     for row in all {
@@ -68,7 +68,7 @@ fn rows_of(all: &[Row; ROWS]) -> [RowConfig; ROWS]
 /// A row that is taken from all alike, and said by its own talker.
 fn row_said(row: Row) -> RowConfig
     ensures valid { IsRow result }
-    ensures said { rule_of_row result ≡ row_said row }
+    ensures said { rule_of_row [] result ≡ row_said row }
 {
     RowConfig {
         sources: ArrayVec::new(),

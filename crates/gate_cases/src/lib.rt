@@ -9,7 +9,11 @@ mod demonstration;
 #[cfg(test)]
 mod following;
 #[cfg(test)]
+mod ignoring;
+#[cfg(test)]
 mod isolated;
+#[cfg(test)]
+mod looped;
 #[cfg(test)]
 mod many;
 #[cfg(test)]

@@ -3,7 +3,7 @@ use arrayvec::ArrayVec;
 use claim_table::Preset;
 use config_values::{Config, Ends, RowConfig};
 use gate_core::{Gateway, Outbox};
-use n2k_id::Name;
+use n2k_id::{Name, Pattern};
 use network_routes::{Address, Routes};
 use readings::{ROWS, Row};
 use sentence_text::Sfi;
@@ -80,11 +80,20 @@ pub(crate) fn config_of(limits: Limits) -> Config {
 
 /// A gateway that started at this moment.
 pub(crate) fn started(alloc: Global, limits: Limits, moment: u64) -> Result<Gateway, Fail> {
-    let config = config_of(limits);
+    started_ignoring(alloc, &config_of(limits), &ArrayVec::new(), moment)
+}
+
+/// A gateway that started at this moment, by which no row is taken from the devices that a pattern matches.
+pub(crate) fn started_ignoring(
+    alloc: Global,
+    config: &Config,
+    patterns: &ArrayVec<Pattern, 16>,
+    moment: u64,
+) -> Result<Gateway, Fail> {
     if !config.valid() {
         return Err("no configuration".into());
     }
-    let mut gateway = Gateway::new(alloc, &config)?;
+    let mut gateway = Gateway::ignoring(alloc, config, patterns)?;
     let mut out = Outbox::new();
     gateway.start(moment, &mut out);
     Ok(gateway)

@@ -1,9 +1,10 @@
 -- A step of the gateway gives what the definition over the whole history says, and finds room.
-use Rattle.std.proofs.Common.{◌≡◌, ℕ, ◌<◌, ◌≤◌, true, false, [], ◌∷◌, Option, Some, None, option_map, length, refl, sym, ap, subst, ◌∙◌, arith}
+use Rattle.std.proofs.Common.{◌≡◌, ℕ, ◌<◌, ◌≤◌, true, false, List, [], ◌∷◌, Option, Some, None, option_map, length, refl, sym, ap, subst, ◌∙◌, arith}
 use Rattle.std.specs.Prelude.{if◌then◌else◌}
 use Rattle.std.proofs.lemmas.Bool.{leb-true}
 use Rattle.std.proofs.lemmas.List.{length-take}
 use Rattle.n2k_id.specs.declared.frame.Frame.{Frame}
+use Rattle.n2k_id.specs.declared.pattern.Pattern.{Pattern}
 use Rattle.n2k_id.specs.Frame.{IsFrame, held_bytes}
 use Rattle.gate_events.specs.declared.event.Event.{Event}
 use Rattle.gate_events.specs.declared.event.Event.TheVariants as event
@@ -32,7 +33,7 @@ use Rattle.gate_model.proofs.StandsRoom.{timely, opening_is_reached, steps_fit, 
 use Rattle.gate_model.proofs.StandsReached.{all_reached_fits}
 use Rattle.config_values.specs.declared.config.Config.{Config}
 use Rattle.config_values.specs.Configs.{IsConfig}
-use Rattle.config_values.specs.Settings.{settings_of}
+use Rattle.config_values.specs.Settings.{settings_ignoring}
 use Rattle.config_values.proofs.SettingsLemmas.{are_settings}
 use Rattle.gate_outbox.specs.Output.{Output, nothing}
 use Rattle.gate_core.specs.Steps.{by_keys, entry_of, IsEventValid, Stays, done_of, command_of, and_step, output_of}
@@ -79,8 +80,9 @@ pub command_left : (g : Machine) (source address : ℕ) → IsReached by_keys g 
 command_left g source address it from o left empty gives =
     output_fits g.settings.name o left (commanded g source address) empty (command_fits g source address it from).room gives
 
-pub opened_reached : (config : Config) → IsConfig config → IsReached by_keys (opened_machine (settings_of config))
-opened_reached config valid = let are = are_settings config valid in (opening_is_reached by_keys (settings_of config) are.settings are.limits).opened
+pub opened_reached : (ignored : List Pattern) (config : Config) → IsConfig config → IsReached by_keys (opened_machine (settings_ignoring ignored config))
+opened_reached ignored config valid =
+    let are = are_settings ignored config valid in (opening_is_reached by_keys (settings_ignoring ignored config) are.settings are.limits).opened
 
 pub started_reached : (g : Machine) (moment : ℕ) → IsReached by_keys g → g ≡ opened_machine g.settings → IsReached by_keys (started_at moment g)
 started_reached g moment it is =

@@ -11,17 +11,18 @@ ghost use Rattle.gate_model.specs.Machine.{opened_machine, started_at};
 ghost use Rattle.gate_model.specs.MachineSteps.{stepped, commanded};
 ghost use Rattle.gate_model.specs.Stands.{Stands};
 ghost use Rattle.config_values.specs.Configs.{IsConfig};
-ghost use Rattle.config_values.specs.Settings.{settings_of};
+ghost use Rattle.config_values.specs.Settings.{settings_of, settings_ignoring};
 ghost use Rattle.gate_outbox.specs.Output.{nothing};
 ghost use Rattle.gate_core.specs.Steps.{IsEventValid, by_keys, entry_of, only_told, output_of};
 ghost use Rattle.gate_core.specs.Holding.{IsHeld, IsWithin};
 ghost use Rattle.gate_core.specs.Promises.{IsStep, IsCommandStep};
 
 use crate::state::State;
+use arrayvec::ArrayVec;
 use config_values::Config;
 use gate_events::Event;
 use gate_outbox::{Command, Outbox};
-use n2k_id::Name;
+use n2k_id::{Name, Pattern};
 use std::alloc::{AllocError, Global};
 use std::marker::Model;
 
@@ -60,7 +61,20 @@ impl Gateway {
         requires { IsConfig config.now }
         ensures { IfOk result (λ g. g ≡ opened_machine (settings_of config.now)) }
     {
-        let state = State::new(alloc, config)?;
+        Gateway::ignoring(alloc, config, &ArrayVec::new())
+    }
+
+    /// A gateway of this configuration by which no row is taken from the devices that a pattern matches, before it starts. All else of
+    /// them is as of others: their claims, their requests and the answers to these, their commands.
+    pub fn ignoring(
+        alloc: Global,
+        config: &Config,
+        patterns: &ArrayVec<Pattern, 16>,
+    ) -> Result<Gateway, AllocError>
+        requires { IsConfig config.now }
+        ensures { IfOk result (λ g. g ≡ opened_machine (settings_ignoring patterns.now.items config.now)) }
+    {
+        let state = State::new(alloc, config, patterns)?;
         Ok(Gateway { state })
     }
 

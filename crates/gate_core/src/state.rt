@@ -11,22 +11,23 @@ ghost use Rattle.gate_model.specs.NetLines.{kept_until};
 ghost use Rattle.gate_model.specs.Machine.{counted_in, later, opened_machine, overdue, started_at};
 ghost use Rattle.gate_model.specs.MachineSteps.{stepped, entered, handled, commanded};
 ghost use Rattle.config_values.specs.Configs.{IsConfig};
-ghost use Rattle.config_values.specs.Settings.{settings_of};
+ghost use Rattle.config_values.specs.Settings.{settings_ignoring};
 ghost use Rattle.gate_outbox.specs.Output.{and_told, most_told};
 ghost use Rattle.gate_core.specs.Changes.{changed_of};
 ghost use Rattle.gate_core.specs.Steps.{IsEventValid, Stays, by_keys, and_step, entry_of};
 
 use crate::addresses::{Addresses, Changed};
 use crate::state::opening::{addresses_of, copy_of, fast_of, network_of, said_of, sessions_of};
+use arrayvec::ArrayVec;
 use bus_messages::endings::end_sessions;
 use bus_messages::fast::end_overdue;
-use config_values::Config;
+use config_values::{Config, SelectiveConfig};
 use fast_packet::FastAssembler;
 use gate_events::{Detail, Event, Report};
 use gate_outbox::frames::{own_claim, request_for_claims};
 use gate_outbox::{Command, Outbox, StepEmits};
 use iso_transport::IsoAssembler;
-use n2k_id::Name;
+use n2k_id::{Name, Pattern};
 use report_rules::MOMENT_BACK;
 use row_traffic::network::Network;
 use row_traffic::said::Said;
@@ -42,7 +43,7 @@ mod opening;
 /// All that the gateway keeps.
 #[derive(Drop)]
 pub(crate) struct State {
-    pub(crate) config: Config,
+    pub(crate) config: SelectiveConfig,
     pub(crate) addresses: Addresses,
     /// The moment of the last entry, in microseconds.
     pub(crate) moment: u64,
@@ -54,13 +55,13 @@ pub(crate) struct State {
 
 impl Model for State {
     ghost use Rattle.config_values.specs.Configs.{IsConfig};
-    ghost use Rattle.config_values.specs.Settings.{settings_of};
+    ghost use Rattle.config_values.specs.Settings.{settings_by};
     ghost use Rattle.gate_model.specs.Machine.{Machine};
 
     ghost Value = { Machine };
 
     ghost view = { λ s. record {
-      settings = settings_of s.config;
+      settings = settings_by s.config;
       addresses = s.addresses;
       moment = s.moment;
       fast = s.fast;
@@ -69,23 +70,28 @@ impl Model for State {
       network = s.network;
     } };
 
-    ghost invariant = { λ s. IsConfig s.config };
+    ghost invariant = { λ s. IsConfig s.config.base };
 }
 
 impl State {
-    /// What a gateway of this configuration keeps before it starts.
-    pub(crate) fn new(alloc: Global, config: &Config) -> Result<State, AllocError>
+    /// What a gateway of this configuration, by which no row is taken from these devices, keeps before it starts.
+    pub(crate) fn new(
+        alloc: Global,
+        config: &Config,
+        ignored: &ArrayVec<Pattern, 16>,
+    ) -> Result<State, AllocError>
         requires { IsConfig config.now }
-        ensures { IfOk result (λ s. s ≡ opened_machine (settings_of config.now)) }
+        ensures { IfOk result (λ s. s ≡ opened_machine (settings_ignoring ignored.now.items config.now)) }
     {
+        let config = copy_of(config, ignored)?;
         Ok(State {
-            config: copy_of(config)?,
-            addresses: addresses_of(alloc, config)?,
+            addresses: addresses_of(alloc, &config)?,
             moment: 0,
-            fast: fast_of(alloc, config)?,
-            sessions: sessions_of(alloc, config)?,
-            said: said_of(alloc, config)?,
-            network: network_of(alloc, config)?,
+            fast: fast_of(alloc, &config)?,
+            sessions: sessions_of(alloc, &config)?,
+            said: said_of(alloc, &config)?,
+            network: network_of(alloc, &config)?,
+            config,
         })
     }
 
@@ -102,11 +108,11 @@ impl State {
     }
 
     /// The NAME of the gateway.
-    #[tactic(auto, unfolding(config_values::specs::Settings::settings_of))]
+    #[tactic(auto, unfolding(config_values::specs::Settings::settings_ignoring))]
     pub(crate) fn name(&self) -> Name
         ensures { result.0 ≡ self.now.settings.name }
     {
-        self.config.name
+        self.config.base.name
     }
 
     /// The gateway's own address.
@@ -124,11 +130,11 @@ impl State {
     }
 
     /// The address that the gateway begins with.
-    #[tactic(auto, unfolding(config_values::specs::Settings::settings_of))]
+    #[tactic(auto, unfolding(config_values::specs::Settings::settings_ignoring))]
     fn address(&self) -> u8
         ensures { result ≡ self.now.settings.address }
     {
-        self.config.address
+        self.config.base.address
     }
 
     /// Takes an event: where it is earlier than the last entry it is reported, and changes nothing.

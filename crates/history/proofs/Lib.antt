@@ -31,6 +31,7 @@ pub mod FullReports
 pub mod EntrySteps
 pub mod ChoiceSteps
 pub mod NoteChoice
+pub mod Ignoring
 pub mod Noted
 pub mod FastTable
 pub mod SessionTable

@@ -30,7 +30,7 @@ navd tag sentence = net (codes "NAVD") (header ++ lined tag sentence)
 -- ---- a gateway that takes all sources for 5 seconds and says all on NAVD
 
 abbrev pub plain_rule : Row → RowRule
-plain_rule r = record { sources = []; others = true; timeout = 5000; talker = (about_of r).talker; group = codes "NAVD" }
+plain_rule r = record { sources = []; others = true; ignored = []; timeout = 5000; talker = (about_of r).talker; group = codes "NAVD" }
 
 abbrev pub with_presets : List Preset → Settings
 with_presets presets = record {

@@ -22,8 +22,16 @@ abbrev pub place_in : Bool → ℕ → List Pattern → ℕ → Option ℕ
 place_in others at [] name = if others then Some at else None
 place_in others at (p ∷ ps) name = if matches p name then Some at else place_in others (at + 1) ps name
 
+abbrev pub rank_among : RowRule → ℕ → Option Rank
+rank_among rule name = option_map (λ place. record { place = place; name = name }) (place_in rule.others 0 rule.sources name)
+
+-- a device that one of the patterns matches
+abbrev pub is_matched : List Pattern → ℕ → Bool
+is_matched patterns name = list_any (λ p. matches p name) patterns
+
+-- a device that the row isn't taken from has none
 abbrev pub rank_of : RowRule → ℕ → Option Rank
-rank_of rule name = option_map (λ place. record { place = place; name = name }) (place_in rule.others 0 rule.sources name)
+rank_of rule name = if is_matched rule.ignored name then None else rank_among rule name
 
 -- what a message says, where it is in the profile
 abbrev pub reading_in : Profiled → Option Reading

@@ -28,6 +28,7 @@ pub mod GroupLaws
 pub mod RefusalLaws
 pub mod RuleLaws
 pub mod ChoiceLaws
+pub mod IgnoringLaws
 pub mod HeardLaws
 pub mod EntryLaws
 pub mod RoomLaws

@@ -18,6 +18,8 @@ pub record RowRule : Type 0 where
   -- the devices in their order of preference, and whether others are taken after them
   pub sources : List Pattern
   pub others : Bool
+  -- the devices that it isn't taken from, though they be listed or others be taken
+  pub ignored : List Pattern
   -- how long a source counts after its last usable message, in milliseconds
   pub timeout : ℕ
   pub talker : List ℕ
@@ -51,7 +53,7 @@ same_row a b = row_number a == row_number b
 
 -- a row without a rule is taken from nobody
 abbrev pub no_rule : RowRule
-no_rule = record { sources = []; others = false; timeout = 0; talker = []; group = [] }
+no_rule = record { sources = []; others = false; ignored = []; timeout = 0; talker = []; group = [] }
 
 abbrev pub rule_at : List RowRule → ℕ → RowRule
 rule_at [] number = no_rule

@@ -115,6 +115,13 @@ pub fn names_decide()
     ensures others_by_name { rank_cases.OthersByName }
 {}
 
+/// What is said where no row is taken from some devices, and what these are answered all the same.
+pub fn devices_are_ignored()
+    ensures by_one_field { rank_cases.IgnoredByOneField }
+    ensures though_listed { rank_cases.IgnoredThoughListed }
+    ensures all { rank_cases.AllIgnored }
+{}
+
 /// How many packets a sender may send before it waits, and for how long.
 pub fn windows_are_granted()
     ensures each_window { window_cases.EachWindow }

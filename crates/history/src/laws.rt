@@ -9,6 +9,7 @@ ghost use Rattle.history.specs.GroupLaws.{LinesStepGroup, LinesStandAlone, TimeE
 ghost use Rattle.history.specs.KeyLaws.{FramesStepFast, FramesKeepFast, TimeEndsFast, FramesStepIso, FramesCompleteIso, TimeEndsIso};
 ghost use Rattle.history.specs.RefusalLaws.{FastRefusalsBreak, TransportRefusalsBreak};
 ghost use Rattle.history.specs.ChoiceLaws.{FirstByAddresses, FirstByNotes, FirstNetByNotes, MessagesAreOfHolders};
+ghost use Rattle.history.specs.IgnoringLaws.{IgnoredAreUnsaid, IgnoredAreUnnoted, IgnoredKeepNobodyBack, RanksWithoutIgnored};
 ghost use Rattle.history.specs.EntryLaws.{StepsKeepHistory, EntriesSayOne};
 ghost use Rattle.history.specs.RoomLaws.{FullIsReported, RefusalsAreReported};
 ghost use Rattle.history.specs.FitLaws.{AllEntriesFit, DatagramsFit, RoomSuffices};
@@ -122,6 +123,15 @@ pub fn choice_is_by_address()
     ensures notes { FirstByNotes }
     ensures net_notes { FirstNetByNotes }
     ensures names { MessagesAreOfHolders }
+{}
+
+/// Of a device that a row isn't taken from no message is selected, nothing is noted, and it keeps no other source back; where nobody is
+/// ignored, a rank is the place among the sources, and the NAME.
+pub fn ignored_devices_say_nothing()
+    ensures unsaid { IgnoredAreUnsaid }
+    ensures unnoted { IgnoredAreUnnoted }
+    ensures back { IgnoredKeepNobodyBack }
+    ensures others { RanksWithoutIgnored }
 {}
 
 /// A map that holds what is open of a kind has as many places taken as keys of that kind are open, and is full for an opener exactly

@@ -14,16 +14,16 @@ use Rattle.history.specs.Settings.{Settings, rule_of}
 use Rattle.gate_model.specs.Said.{SaidKept, lines_at, sentences_by, datagram_by}
 use Rattle.gate_model.specs.SaidFits.{AreCounts}
 use Rattle.gate_model.proofs.SaidFits.{readings_fit}
-use Rattle.config_values.specs.declared.config.Config.{Config}
-use Rattle.config_values.specs.Settings.{settings_of}
+use Rattle.config_values.specs.declared.selective_config.SelectiveConfig.{SelectiveConfig}
+use Rattle.config_values.specs.Settings.{settings_by, settings_ignoring}
 use Rattle.row_traffic.specs.Saying.{texts}
 
-pub says_ths : (config : Config) → (settings_of config).ths ≡ config.ths
-unfolding settings_of
+pub says_ths : (config : SelectiveConfig) → (settings_by config).ths ≡ config.base.ths
+unfolding settings_ignoring
 says_ths config = refl
 
-pub says_sfi : (config : Config) → (settings_of config).sfi ≡ config.sfi
-unfolding settings_of
+pub says_sfi : (config : SelectiveConfig) → (settings_by config).sfi ≡ config.base.sfi
+unfolding settings_ignoring
 says_sfi config = refl
 
 module _ (source : List ℕ) (code before : ℕ) (sentences : List SentenceText) (place : ℕ) where

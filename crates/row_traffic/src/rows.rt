@@ -7,9 +7,9 @@ ghost use Rattle.history.specs.Choice.{is_usable};
 ghost use Rattle.history.specs.Settings.{rule_at, rule_of};
 ghost use Rattle.config_values.specs.Configs.{IsConfig};
 ghost use Rattle.config_values.specs.Rows.{IsRow};
-ghost use Rattle.config_values.specs.Settings.{settings_of, rule_of_row};
+ghost use Rattle.config_values.specs.Settings.{settings_by, rule_of_row};
 
-use config_values::{Config, RowConfig};
+use config_values::{RowConfig, SelectiveConfig};
 use readings::{ROWS, Reading, Row, usable};
 
 /// The place of the row among the rows.
@@ -22,26 +22,26 @@ pub(crate) fn number(row: Row) -> usize
 
 /// How the row with this number is taken and said.
 #[tactic(auto, using(config_values::proofs::SettingsLemmas::rules_are_by_number))]
-pub fn row_at(config: &Config, number: usize) -> &RowConfig
+pub fn row_at(config: &SelectiveConfig, number: usize) -> &RowConfig
     requires { number < ROWS }
-    ensures rule { rule_of_row result.now ≡ rule_at (settings_of config.now).rows number }
-    ensures valid { IsConfig config.now → IsRow result.now }
+    ensures rule { rule_of_row config.now.ignored.items result.now ≡ rule_at (settings_by config.now).rows number }
+    ensures valid { IsConfig config.now.base → IsRow result.now }
 {
-    &config.rows[number]
+    &config.base.rows[number]
 }
 
 /// How the row is taken and said.
-pub(crate) fn row_config(config: &Config, row: Row) -> &RowConfig
-    ensures rule { rule_of_row result.now ≡ rule_of (settings_of config.now) row }
-    ensures valid { IsConfig config.now → IsRow result.now }
+pub(crate) fn row_config(config: &SelectiveConfig, row: Row) -> &RowConfig
+    ensures rule { rule_of_row config.now.ignored.items result.now ≡ rule_of (settings_by config.now) row }
+    ensures valid { IsConfig config.now.base → IsRow result.now }
 {
     row_at(config, number(row))
 }
 
 /// The talker of the row's sentences.
-pub(crate) fn talker_of(config: &Config, row: Row) -> [u8; 2]
-    requires { IsConfig config.now }
-    ensures talker { result ≡ (rule_of (settings_of config.now) row).talker }
+pub(crate) fn talker_of(config: &SelectiveConfig, row: Row) -> [u8; 2]
+    requires { IsConfig config.now.base }
+    ensures talker { result ≡ (rule_of (settings_by config.now) row).talker }
     ensures capitals { IsTrue (list_all is_capital result) }
 {
     row_config(config, row).talker

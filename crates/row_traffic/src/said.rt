@@ -13,14 +13,14 @@ ghost use Rattle.gate_model.specs.Net.{row_numbers};
 ghost use Rattle.gate_model.specs.Said.{SaidKept, is_chosen, noted_by, counted, lines_more, groups_more, lines_at, datagram_by, sentences_by};
 ghost use Rattle.gate_model.specs.Said.{ranked_after, ranked_emits, profiled_after, profiled_emits};
 ghost use Rattle.config_values.specs.Configs.{IsConfig};
-ghost use Rattle.config_values.specs.Settings.{settings_of, rule_of_row};
+ghost use Rattle.config_values.specs.Settings.{settings_by, rule_of_row};
 ghost use Rattle.row_traffic.specs.Saying.{message_from};
 ghost use Rattle.gate_outbox.specs.Output.{and_posted, with_posted};
 
 use crate::rows::{number, row_at, row_config, says_something};
 use crate::said::ranks::rank_in;
 use crate::said::writing::{sentences_in, speaker, write_datagram};
-use config_values::Config;
+use config_values::SelectiveConfig;
 use gate_outbox::StepEmits;
 use n2k_id::Name;
 use n2k_id::address::ADDRESSES;
@@ -85,16 +85,16 @@ impl Said {
     /// Takes what a message says: a reading is noted where its sender has a rank in the row, and said where it is selected.
     pub fn take(
         &mut self,
-        config: &Config,
+        config: &SelectiveConfig,
         sender: Sender,
         profiled: &Profiled,
         out: &mut StepEmits,
     )
-        requires config { IsConfig config.now }
+        requires config { IsConfig config.now.base }
         requires source { sender.source < 254 }
         requires valid { IfSome (reading_in profiled.now) IsValid }
-        ensures after { self.new ≡ profiled_after (settings_of config.now) self.old (message_from sender) (reading_in profiled.now) }
-        ensures emits { out.new ≡ and_posted out.old (profiled_emits (settings_of config.now) self.old (message_from sender) (reading_in profiled.now)) }
+        ensures after { self.new ≡ profiled_after (settings_by config.now) self.old (message_from sender) (reading_in profiled.now) }
+        ensures emits { out.new ≡ and_posted out.old (profiled_emits (settings_by config.now) self.old (message_from sender) (reading_in profiled.now)) }
     {
         match profiled {
             Profiled::Reading(reading) => match rank_in(config, row(reading), sender.name) {
@@ -108,18 +108,18 @@ impl Said {
     /// Notes a reading, and says it where it is selected.
     fn take_ranked(
         &mut self,
-        config: &Config,
+        config: &SelectiveConfig,
         sender: Sender,
         rank: Rank,
         reading: &Reading,
         out: &mut StepEmits,
     )
-        requires config { IsConfig config.now }
+        requires config { IsConfig config.now.base }
         requires source { sender.source < 254 }
         requires valid { IsValid reading.now }
-        ensures after { self.new ≡ ranked_after (settings_of config.now) self.old (message_from sender) reading.now (Some rank) }
+        ensures after { self.new ≡ ranked_after (settings_by config.now) self.old (message_from sender) reading.now (Some rank) }
         ensures emits { out.new ≡ and_posted out.old
-            (ranked_emits (settings_of config.now) self.old (message_from sender) reading.now (Some rank)) }
+            (ranked_emits (settings_by config.now) self.old (message_from sender) reading.now (Some rank)) }
     {
         if self.is_chosen(sender, rank, reading) {
             self.note(sender, rank, reading);
@@ -153,12 +153,12 @@ impl Said {
     }
 
     /// Says a reading in one datagram, and counts its lines.
-    fn say(&mut self, config: &Config, reading: &Reading, out: &mut StepEmits)
-        requires config { IsConfig config.now }
+    fn say(&mut self, config: &SelectiveConfig, reading: &Reading, out: &mut StepEmits)
+        requires config { IsConfig config.now.base }
         requires valid { IsValid reading.now }
-        ensures after { self.new ≡ counted (settings_of config.now) self.old reading.now }
-        ensures emits { out.new ≡ with_posted out.old (net (rule_of (settings_of config.now) (row_of reading.now)).group
-            (datagram_by (settings_of config.now) self.old reading.now) ∷ []) }
+        ensures after { self.new ≡ counted (settings_by config.now) self.old reading.now }
+        ensures emits { out.new ≡ with_posted out.old (net (rule_of (settings_by config.now) (row_of reading.now)).group
+            (datagram_by (settings_by config.now) self.old reading.now) ∷ []) }
     {
         let row = row(reading);
         let group = row_config(config, row).group;
@@ -176,10 +176,10 @@ impl Said {
     }
 
     /// Counts so many lines that were said on a transmission group.
-    fn count(&mut self, config: &Config, group: Group, count: u16)
+    fn count(&mut self, config: &SelectiveConfig, group: Group, count: u16)
         requires { count ≤ 2 }
         ensures { self.new ≡ record self.old {
-          lines = map (lines_more (settings_of config.now) self.old group count) row_numbers;
+          lines = map (lines_more (settings_by config.now) self.old group count) row_numbers;
           groups = groups_more self.old count;
         } }
     {
@@ -187,17 +187,17 @@ impl Said {
         self.count_groups(count);
     }
 
-    fn count_lines(&mut self, config: &Config, group: Group, count: u16)
+    fn count_lines(&mut self, config: &SelectiveConfig, group: Group, count: u16)
         requires { count ≤ 2 }
-        ensures { self.new ≡ record self.old { lines = map (lines_more (settings_of config.now) self.old group count) row_numbers } }
+        ensures { self.new ≡ record self.old { lines = map (lines_more (settings_by config.now) self.old group count) row_numbers } }
     {
         self.lines = self.counted_lines(config, group, count);
     }
 
     /// How many lines were said on the transmission group of each row, with so many more on a transmission group.
-    fn counted_lines(&self, config: &Config, group: Group, count: u16) -> [u16; ROWS]
+    fn counted_lines(&self, config: &SelectiveConfig, group: Group, count: u16) -> [u16; ROWS]
         requires { count ≤ 2 }
-        ensures lines { result ≡ map (lines_more (settings_of config.now) self.now group count) row_numbers }
+        ensures lines { result ≡ map (lines_more (settings_by config.now) self.now group count) row_numbers }
         ensures small { AllByRecursion (λ n. n < 999) result }
     {
         let mut lines = [0; ROWS];
@@ -208,10 +208,10 @@ impl Said {
     }
 
     /// How many lines were said on the transmission group of a row, with so many more on a transmission group.
-    fn lines_more(&self, config: &Config, group: Group, count: u16, number: usize) -> u16
+    fn lines_more(&self, config: &SelectiveConfig, group: Group, count: u16, number: usize) -> u16
         requires row { number < ROWS }
         requires few { count ≤ 2 }
-        ensures lines { result ≡ lines_more (settings_of config.now) self.now group count number }
+        ensures lines { result ≡ lines_more (settings_by config.now) self.now group count number }
         ensures within { result < 999 }
     {
         let before = self.lines[number];

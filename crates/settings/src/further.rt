@@ -22,11 +22,14 @@ pub struct Further {
 
 impl Further {
     ghost use Rattle.std.specs.Prelude.{◌≡◌};
-    ghost use Rattle.settings.specs.Further.{nothing_further};
+    ghost use Rattle.settings.specs.Further.{IsFurther, nothing_further};
+    ghost use Rattle.settings.specs.declared.settings.Settings.{Settings};
 
-    /// None of it.
+    /// None of it, which can stand beside all settings.
+    #[tactic(auto, using(crate::proofs::Nothing::stands_beside_all))]
     pub fn none() -> Further
-        ensures { result ≡ nothing_further }
+        ensures value { result ≡ nothing_further }
+        ensures valid { (s : Settings) → IsFurther s result }
     {
         Further {
             ignore: ArrayVec::new(),

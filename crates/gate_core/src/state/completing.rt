@@ -3,7 +3,7 @@ ghost use Rattle.std.specs.Prelude.{◌≡◌, ◌<◌, length, option_map, Some
 ghost use Rattle.pgn_profile.specs.Profiled.{GivesValid, profiled};
 ghost use Rattle.claim_table.specs.Claims.{holder_at, places};
 ghost use Rattle.config_values.specs.Configs.{IsConfig};
-ghost use Rattle.config_values.specs.Settings.{settings_of};
+ghost use Rattle.config_values.specs.Settings.{settings_by};
 ghost use Rattle.history.specs.Choice.{reading_in};
 ghost use Rattle.gate_model.specs.Said.{complete_by, message_after, ordered_by};
 ghost use Rattle.bus_messages.specs.Lent.{carried_in, lent_message};
@@ -12,7 +12,7 @@ ghost use Rattle.gate_core.specs.Steps.{command_of, first_there};
 
 use bus_messages::messages::{Message, ordered, read_message};
 use claim_table::ClaimTable;
-use config_values::Config;
+use config_values::SelectiveConfig;
 use gate_outbox::{Command, Done, Outbox};
 use pgn_profile::Profiled;
 use readings::Reading;
@@ -21,18 +21,18 @@ use row_traffic::said::{Said, Sender};
 /// Takes the message that a frame from this source completes, where it completes one.
 pub(crate) fn complete(
     said: &mut Said,
-    config: &Config,
+    config: &SelectiveConfig,
     claims: &ClaimTable,
     source: u8,
     message: Option<Message<'_>>,
     moment: u64,
     out: &mut Outbox,
 )
-    requires config { IsConfig config.now }
+    requires config { IsConfig config.now.base }
     requires places { length claims.now.holders ≡ places }
-    ensures after { said.new ≡ message_after (settings_of config.now) said.old
+    ensures after { said.new ≡ message_after (settings_by config.now) said.old
         (complete_by moment source (holder_at claims.now.holders source) (lent_message message.entry)) }
-    ensures output { out.new ≡ and_message (settings_of config.now) said.old out.old source (lent_message message.entry)
+    ensures output { out.new ≡ and_message (settings_by config.now) said.old out.old source (lent_message message.entry)
         (complete_by moment source (holder_at claims.now.holders source) (lent_message message.entry)) }
 {
     match message {
@@ -46,18 +46,18 @@ pub(crate) fn complete(
 #[inline(never)]
 pub(crate) fn take_message(
     said: &mut Said,
-    config: &Config,
+    config: &SelectiveConfig,
     claims: &ClaimTable,
     source: u8,
     message: Message<'_>,
     moment: u64,
     out: &mut Outbox,
 )
-    requires config { IsConfig config.now }
+    requires config { IsConfig config.now.base }
     requires places { length claims.now.holders ≡ places }
-    ensures after { said.new ≡ message_after (settings_of config.now) said.old
+    ensures after { said.new ≡ message_after (settings_by config.now) said.old
         (complete_by moment source (holder_at claims.now.holders source) (Some (carried_in message.entry))) }
-    ensures output { out.new ≡ and_message (settings_of config.now) said.old out.old source (Some (carried_in message.entry))
+    ensures output { out.new ≡ and_message (settings_by config.now) said.old out.old source (Some (carried_in message.entry))
         (complete_by moment source (holder_at claims.now.holders source) (Some (carried_in message.entry))) }
 {
     let says = read_message(source, message, &mut out.emits);
@@ -78,18 +78,18 @@ pub(crate) fn take_message(
 #[tactic(auto, using(crate::proofs::Completing::same_after, crate::proofs::Completing::same_emits, crate::proofs::Completing::valid_reading))]
 fn say(
     said: &mut Said,
-    config: &Config,
+    config: &SelectiveConfig,
     sender: Sender,
     message: Message<'_>,
     says: &Profiled,
     out: &mut Outbox,
 )
-    requires config { IsConfig config.now }
+    requires config { IsConfig config.now.base }
     requires source { sender.source < 254 }
     requires says { says.now ≡ profiled message.pgn message.payload.now }
     requires valid { GivesValid says.now }
-    ensures after { said.new ≡ message_after (settings_of config.now) said.old (Some (whole sender (carried_in message.entry))) }
-    ensures output { out.new ≡ and_complete (settings_of config.now) said.old out.old (Some (whole sender (carried_in message.entry))) }
+    ensures after { said.new ≡ message_after (settings_by config.now) said.old (Some (whole sender (carried_in message.entry))) }
+    ensures output { out.new ≡ and_complete (settings_by config.now) said.old out.old (Some (whole sender (carried_in message.entry))) }
 {
     said.take(config, sender, says, &mut out.emits);
     tell(sender, message.pgn, says, out);
@@ -97,13 +97,13 @@ fn say(
 }
 
 /// Tells of the command that a message gives.
-#[tactic(auto, unfolding(config_values::specs::Settings::settings_of))]
-fn order(config: &Config, sender: Sender, message: Message<'_>, out: &mut Outbox)
+#[tactic(auto, unfolding(config_values::specs::Settings::settings_ignoring))]
+fn order(config: &SelectiveConfig, sender: Sender, message: Message<'_>, out: &mut Outbox)
     ensures { out.new ≡ record out.old {
-      command = first_there (option_map command_of (ordered_by (settings_of config.now).name (Some (whole sender (carried_in message.entry))))) out.old.command;
+      command = first_there (option_map command_of (ordered_by (settings_by config.now).name (Some (whole sender (carried_in message.entry))))) out.old.command;
     } }
 {
-    if let Some(address) = ordered(config.name, message) {
+    if let Some(address) = ordered(config.base.name, message) {
         out.order(Command {
             source: sender.source,
             address,

@@ -4,13 +4,13 @@ ghost use Rattle.claim_table.specs.Claims.{is_ready};
 ghost use Rattle.datagram450.specs.Datagram.{read};
 ghost use Rattle.gate_model.specs.NetLines.{datagram_after, datagram_emits};
 ghost use Rattle.gate_model.specs.MachineSteps.{datagram_here};
-ghost use Rattle.config_values.specs.Settings.{settings_of};
+ghost use Rattle.config_values.specs.Settings.{settings_by};
 ghost use Rattle.row_traffic.specs.NetCalls.{IsHeardBy};
 ghost use Rattle.gate_core.specs.Steps.{Stays, by_keys};
 ghost use Rattle.gate_outbox.specs.Output.{and_told, most_told};
 
 use crate::state::State;
-use config_values::Config;
+use config_values::SelectiveConfig;
 use gate_outbox::StepEmits;
 use row_traffic::network::{Came, Hearing};
 
@@ -52,15 +52,15 @@ impl State {
 }
 
 /// Whom the gateway hears, as it is configured.
-#[tactic(auto, unfolding(config_values::specs::Settings::settings_of))]
-fn hearing_of(config: &Config, came: Came) -> Hearing<'_>
-    ensures heard { IsHeardBy (settings_of config.now) result }
+#[tactic(auto, unfolding(config_values::specs::Settings::settings_ignoring))]
+fn hearing_of(config: &SelectiveConfig, came: Came) -> Hearing<'_>
+    ensures heard { IsHeardBy (settings_by config.now) result }
     ensures few { length result.sources.now ≤ 254 }
     ensures came { result.came ≡ came }
 {
     Hearing {
-        sfi: config.sfi,
-        sources: config.net_sources.as_slice(),
+        sfi: config.base.sfi,
+        sources: config.base.net_sources.as_slice(),
         came,
     }
 }

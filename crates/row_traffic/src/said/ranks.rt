@@ -1,22 +1,41 @@
 //! The ranks of the devices that a row is taken from.
-ghost use Rattle.std.specs.Prelude.{◌≡◌, ◌<◌, ◌≤◌, length, position, IfSome, None};
+ghost use Rattle.std.specs.Prelude.{◌≡◌, ◌<◌, ◌≤◌, [], length, position, IfSome, None};
 ghost use Rattle.n2k_id.specs.Name.{matches};
-ghost use Rattle.history.specs.Choice.{place_in, rank_of};
+ghost use Rattle.history.specs.Choice.{is_matched, place_in, rank_among, rank_of};
 ghost use Rattle.history.specs.Settings.{rule_of};
-ghost use Rattle.config_values.specs.Settings.{settings_of};
+ghost use Rattle.config_values.specs.Settings.{rule_of_row, settings_by};
 ghost use Rattle.row_traffic.specs.Saying.{or_last};
 
 use crate::rows::row_config;
-use config_values::Config;
+use config_values::{RowConfig, SelectiveConfig};
 use n2k_id::{Name, Pattern};
 use readings::Row;
 use source_choice::Rank;
 
-/// The rank of a NAME in the row: the place of the first pattern that matches it; others come after all that are listed.
-pub(crate) fn rank_in(config: &Config, row: Row, name: Name) -> Option<Rank>
-    ensures { result ≡ rank_of (rule_of (settings_of config.now) row) name.0 }
+/// The rank of a NAME in the row: the place of the first pattern that matches it; others come after all that are listed. A device that
+/// is ignored has none.
+pub(crate) fn rank_in(config: &SelectiveConfig, row: Row, name: Name) -> Option<Rank>
+    ensures { result ≡ rank_of (rule_of (settings_by config.now) row) name.0 }
 {
     let row = row_config(config, row);
+    if is_matched(&config.ignored, name) {
+        None
+    } else {
+        rank_among(row, name)
+    }
+}
+
+/// Whether one of the patterns matches the NAME.
+fn is_matched(patterns: &[Pattern], name: Name) -> bool
+    ensures { result ≡ is_matched patterns.now name.0 }
+{
+    patterns.iter().any(|pattern| pattern.matches(name))
+}
+
+/// The rank of a NAME among the devices that the row is taken from.
+fn rank_among(row: &RowConfig, name: Name) -> Option<Rank>
+    ensures { result ≡ rank_among (rule_of_row [] row.now) name.0 }
+{
     match place_of(&row.sources, row.others, name) {
         None => None,
         Some(place) => Some(Rank {

@@ -9,11 +9,11 @@ ghost use Rattle.datagram450.specs.Datagram.{header};
 ghost use Rattle.history.specs.Emits.{lines_from, part_of};
 ghost use Rattle.gate_model.specs.Said.{sentences_by};
 ghost use Rattle.config_values.specs.Configs.{IsConfig};
-ghost use Rattle.config_values.specs.Settings.{settings_of};
+ghost use Rattle.config_values.specs.Settings.{settings_by};
 ghost use Rattle.row_traffic.specs.Saying.{texts};
 
 use crate::rows::talker_of;
-use config_values::Config;
+use config_values::SelectiveConfig;
 use datagram450::{begin, push_line};
 use readings::{Reading, row};
 use sentence_rows::{Lines, SentenceText, sentences};
@@ -22,22 +22,27 @@ use tag_block::{GroupPart, MOST_COUNT, Packet, TagParts};
 
 /// The system function identifier by which the gateway speaks.
 #[tactic(auto, using(crate::proofs::Saying::says_sfi))]
-pub(crate) fn speaker(config: &Config) -> Sfi
-    ensures sfi { result ≡ (settings_of config.now).sfi }
+pub(crate) fn speaker(config: &SelectiveConfig) -> Sfi
+    ensures sfi { result ≡ (settings_by config.now).sfi }
     ensures form { IsSfi result }
 {
-    let _form = config.sfi.as_bytes();
-    config.sfi
+    let _form = config.base.sfi.as_bytes();
+    config.base.sfi
 }
 
 /// The sentences in which a reading is said.
-pub(crate) fn sentences_in(config: &Config, reading: &Reading, out: &mut Lines)
-    requires config { IsConfig config.now }
+pub(crate) fn sentences_in(config: &SelectiveConfig, reading: &Reading, out: &mut Lines)
+    requires config { IsConfig config.now.base }
     requires valid { IsValid reading.now }
     requires empty { out.old.items ≡ [] }
-    ensures { texts_of out.new ≡ sentences_by (settings_of config.now) reading.now }
+    ensures { texts_of out.new ≡ sentences_by (settings_by config.now) reading.now }
 {
-    sentences(reading, talker_of(config, row(reading)), config.ths, out);
+    sentences(
+        reading,
+        talker_of(config, row(reading)),
+        config.base.ths,
+        out,
+    );
 }
 
 /// Writes the datagram of these sentences, of which one or two are there. So many lines were said before on the transmission group,

@@ -2,7 +2,7 @@ use Rattle.std.proofs.Common.{sym, ap, subst, ◌∙◌}
 use Rattle.datagram450.specs.Datagram.{read}
 use Rattle.gate_model.specs.Machine.{Machine}
 use Rattle.gate_model.specs.NetLines.{NetKept, datagram_after, datagram_emits}
-use Rattle.config_values.specs.Settings.{settings_of}
+use Rattle.config_values.specs.Settings.{settings_by}
 use Rattle.gate_outbox.specs.Output.{and_told, most_told}
 use Rattle.gate_core.specs.contracts.state.State.{the_view}
 use Rattle.gate_core.specs.Steps.{Stays, by_keys}
@@ -19,7 +19,7 @@ datagram-requires c =
 
 pub returns-clause-after : goal.returns-clause-after
 returns-clause-after c =
-    let settings = settings_of c.self.inside.config in
+    let settings = settings_by c.self.inside.config in
     let net : NetKept = c.self.inside.network in
     ap (λ k. let g : Machine = record (the_view c.self.inside) { network = k } in g)
     (c.datagram.ensures.after settings c.hearing_of-hearing.ensures.heard
@@ -29,7 +29,7 @@ returns-clause-after c =
 
 pub returns-clause-emits : goal.returns-clause-emits
 returns-clause-emits c =
-    let settings = settings_of c.self.inside.config in
+    let settings = settings_by c.self.inside.config in
     let net : NetKept = c.self.inside.network in
     c.datagram.ensures.emits settings c.hearing_of-hearing.ensures.heard
     ∙ ap (λ came. and_told most_told c.args.out.now (datagram_emits by_keys.groups settings came.moment came.ready came.own net (read c.args.bytes.now)))

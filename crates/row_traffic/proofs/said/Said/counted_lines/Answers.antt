@@ -1,13 +1,13 @@
 use Rattle.std.proofs.Common.{arith}
 use Rattle.gate_model.specs.Said.{lines_more}
-use Rattle.config_values.specs.Settings.{settings_of}
+use Rattle.config_values.specs.Settings.{settings_by}
 use Rattle.row_traffic.proofs.Counts.{all_counted, all_small}
 use Rattle.row_traffic.proofs.said.Said.counted_lines.Goals as goal
 
 pub returns-clause-lines : goal.returns-clause-lines
 returns-clause-lines c =
     let ends = c.loop-number-test.false in
-    all_counted (lines_more (settings_of c.args.config.now) c.args.self.now c.args.group c.args.count) c.loop-number.lines c.loop-number.invariant.long
+    all_counted (lines_more (settings_by c.args.config.now) c.args.self.now c.args.group c.args.count) c.loop-number.lines c.loop-number.invariant.long
     (λ k below. c.loop-number.invariant.counted k (omega (arith, below, ends)))
 
 pub returns-clause-small : goal.returns-clause-small

@@ -4,7 +4,7 @@ use Rattle.gate_events.specs.Emit.{net}
 use Rattle.history.specs.Settings.{rule_of}
 use Rattle.gate_model.specs.Said.{SaidKept, sentences_by}
 use Rattle.gate_model.specs.SaidFits.{AreCounts}
-use Rattle.config_values.specs.Settings.{settings_of}
+use Rattle.config_values.specs.Settings.{settings_by}
 use Rattle.row_traffic.specs.Saying.{texts}
 use Rattle.gate_outbox.specs.Output.{with_posted}
 use Rattle.row_traffic.proofs.Saying.{same_datagram, fits}
@@ -14,7 +14,7 @@ pub write_datagram-requires-clause-room : goal.write_datagram-requires-clause-ro
 write_datagram-requires-clause-room c =
     let k = c.args.self.now in
     let r = c.args.reading.now in
-    let settings = settings_of c.args.config.now in
+    let settings = settings_by c.args.config.now in
     let said : texts c.deref.result.now ≡ sentences_by settings r = ap (λ xs. map (λ text. text.bytes.items) xs) c.deref.ensures.0 ∙ c.sentences_in.ensures in
     let code = ap (λ n. n + 1) (c.from.ensures ∙ ap (λ (s : SaidKept). s.groups) c.self.view_is) in
     let lines = ap (λ (s : SaidKept). slice_index s.lines c.number.result) c.self.view_is
@@ -29,7 +29,7 @@ pub returns-clause-emits : goal.returns-clause-emits
 returns-clause-emits c =
     let k = c.args.self.now in
     let r = c.args.reading.now in
-    let settings = settings_of c.args.config.now in
+    let settings = settings_by c.args.config.now in
     let said : texts c.deref.result.now ≡ sentences_by settings r = ap (λ xs. map (λ text. text.bytes.items) xs) c.deref.ensures.0 ∙ c.sentences_in.ensures in
     let code = ap (λ n. n + 1) (c.from.ensures ∙ ap (λ (s : SaidKept). s.groups) c.self.view_is) in
     let lines = ap (λ (s : SaidKept). slice_index s.lines c.number.result) c.self.view_is
