@@ -1,11 +1,12 @@
 -- A gateway between the bus (ISO 11783) and the network (IEC 61162-450), and the parts that act beside it, by what is configured.
-use Rattle.std.specs.Prelude.{ℕ, List, map, Option, option_map}
+use Rattle.std.specs.Prelude.{ℕ, Bool, List, map, Option, option_map}
 use Rattle.history.specs.Settings.{Settings}
 use Rattle.bus_identity.specs.Payloads.{information_of}
 use Rattle.config_values.specs.declared.config.Config.{Config}
 use Rattle.config_values.specs.declared.row_config.RowConfig.{RowConfig}
 use Rattle.config_values.specs.Settings.{settings_of}
 use Rattle.settings.specs.declared.ais.AisConfig.{AisConfig}
+use Rattle.settings.specs.declared.further.Further.{Further}
 use Rattle.settings.specs.declared.rmc.RmcConfig.{RmcConfig}
 use Rattle.settings.specs.declared.settings.Settings.{Settings as Configured}
 use Rattle.joined_rmc.specs.RmcOut.{RmcRule, rule_by}
@@ -18,6 +19,10 @@ pub record Parts : Type 0 where
   pub rmc : Option RmcRule
   -- how reports of ships around are passed on, where they are
   pub ais : Option AisConfig
+  -- whether it is told from which device a row is taken
+  pub sources : Bool
+  -- the transmission group that all sentences are sent to once more, without headers and TAG blocks, where they are
+  pub plain : Option (List ℕ)
 
 -- of each row how long a source counts, in milliseconds
 abbrev pub timeouts_of : List RowConfig → List ℕ
@@ -26,10 +31,12 @@ timeouts_of rows = map (λ row. row.timeout_ms) rows
 abbrev pub rmc_rule : Config → Option RmcConfig → Option RmcRule
 rmc_rule c rmc = option_map (λ r. rule_by r c.sfi (timeouts_of c.rows)) rmc
 
-unfoldable pub parts_of : Configured → Parts
-parts_of x = record {
+unfoldable pub parts_of : Configured → Further → Parts
+parts_of x further = record {
   gateway = settings_of x.config;
   information = information_of x.product;
   rmc = rmc_rule x.config x.rmc;
   ais = x.ais;
+  sources = further.sources;
+  plain = further.plain;
 }

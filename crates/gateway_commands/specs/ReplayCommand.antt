@@ -2,6 +2,7 @@
 use Rattle.std.specs.Prelude.{◌≡◌, ◌≢◌, ◌⊎◌, ℕ, List, Option, Ok}
 use Rattle.gate_outside.specs.Faults.{Rose}
 use Rattle.settings.specs.declared.settings.Settings.{Settings}
+use Rattle.settings.specs.Further.{nothing_further}
 use Rattle.bridge.specs.Parts.{parts_of}
 use Rattle.bridge.specs.Replayed.{IsReplay}
 use Rattle.config_check.specs.Configuring.{ConfiguresBy, FileSays, IsToldAs}
@@ -11,7 +12,7 @@ use Rattle.statuses.specs.Statuses.{EndsBy, IsReplayStatus, IsStreamStatus, IsUn
 -- what a gateway of these settings says by its status, which was run over a capture
 pub record RunsBy (settings : Settings) (left left' : Option (List ℕ)) (source source' : ℕ) (told told' : Option (List ℕ)) (sink sink' status : ℕ) : Type 0 where
   pub known : IsReplayStatus status
-  pub ends : EndsBy (IsReplay (parts_of settings)) left left' told told' status
+  pub ends : EndsBy (IsReplay (parts_of settings nothing_further)) left left' told told' status
   pub sink_cause : status ≡ number statuses.SinkFailed → Rose sink sink'
   pub source_cause : status ≡ number statuses.SourceFailed → Rose source source'
   pub steady : SteadyBy source source' sink sink' status
@@ -25,7 +26,7 @@ IsReplayCommandStatus status = (status ≡ number statuses.Refused) ⊎ ((status
 pub record Replays (content : Option (List ℕ)) (left left' told told' : Option (List ℕ)) (status : ℕ) : Type 0 where
   pub settings : Settings
   pub file : FileSays content (Ok settings)
-  pub ends : EndsBy (IsReplay (parts_of settings)) left left' told told' status
+  pub ends : EndsBy (IsReplay (parts_of settings nothing_further)) left left' told told' status
 
 pub record ReplaysBy (content : Option (List ℕ)) (files files' : ℕ) (left left' : Option (List ℕ)) (source source' : ℕ) (told told' : Option (List ℕ))
     (sink sink' status : ℕ) : Type 0 where

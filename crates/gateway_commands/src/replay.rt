@@ -4,6 +4,7 @@ ghost use Rattle.gate_outside.specs.Faults.{Rose};
 ghost use Rattle.settings.specs.Settings.{IsSettings};
 ghost use Rattle.bridge.specs.BridgeStands.{IsNew};
 ghost use Rattle.bridge.specs.Parts.{Parts, parts_of};
+ghost use Rattle.settings.specs.Further.{nothing_further};
 ghost use Rattle.bridge.specs.Replayed.{IsReplay};
 ghost use Rattle.gateway_commands.specs.ReplayCommand.{RunsBy};
 ghost use Rattle.statuses.specs.Statuses.{EndsBy, IsReplayStatus, IsStreamStatus, IsUnhindered, SteadyBy, number};
@@ -68,7 +69,7 @@ pub fn replay_with<S: Source, K: Sink>(
 ) -> u8
     requires { IsSettings settings.now }
     ensures status { IsReplayStatus result }
-    ensures ends { EndsBy (IsReplay (parts_of settings.now)) (S.left input.old) (S.left input.new) (K.taken out.old) (K.taken out.new) result }
+    ensures ends { EndsBy (IsReplay (parts_of settings.now nothing_further)) (S.left input.old) (S.left input.new) (K.taken out.old) (K.taken out.new) result }
     ensures memory { result ≡ 7 → (input.new ≡ input.old) × (out.new ≡ out.old) }
     ensures sink_cause { result ≡ 4 → Rose (K.fault_count out.old) (K.fault_count out.new) }
     ensures source_cause { result ≡ 5 → Rose (S.fault_count input.old) (S.fault_count input.new) }

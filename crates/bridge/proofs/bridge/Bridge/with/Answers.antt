@@ -1,7 +1,7 @@
 use Rattle.std.proofs.Common.{refl}
 use Rattle.config_values.proofs.SettingsLemmas.{are_settings}
 use Rattle.bridge.specs.Parts.{parts_of}
-use Rattle.bridge.proofs.bridge.Bridge.new.Goals as goal
+use Rattle.bridge.proofs.bridge.Bridge.with.Goals as goal
 
 pub returns : goal.returns
 unfolding parts_of
@@ -13,4 +13,6 @@ returns c = record {
   answering = c.new-2.ensures;
   joining = c.joining_of.ensures;
   watching = c.in_ok-watching.ensures;
+  sources = c.sources_of.ensures;
+  plain = refl;
 }
