@@ -13,7 +13,8 @@ use Rattle.source_choice.specs.SubjectRules.{SubjectRule}
 use Rattle.history.specs.Known.{Known, known, held_since, is_claim, claim_by}
 use Rattle.history.specs.Messages.{Message, Carried, messages_of, said_by, with_message, completed_by}
 use Rattle.history.specs.Opens.{note_of, notes_of}
-use Rattle.history.specs.Subjects.{Told, is_better, holder_rank, still_counts, outranks, is_of, last_of}
+use Rattle.source_choice.specs.declared.told.Told.{Told}
+use Rattle.history.specs.Subjects.{is_better, holder_rank, still_counts, outranks, is_of, last_of}
 use Rattle.history.specs.ChoiceLaws.{addresses, FirstByAddresses, IsOfHolder, MessagesAreOfHolders}
 use Rattle.history.proofs.Addresses.{addresses_are_sound}
 use Rattle.history.proofs.Fates.{fate, Fate}

@@ -13,7 +13,8 @@ use Rattle.history.specs.Settings.{Receiver}
 use Rattle.history.specs.Known.{Known, known, held_since, is_claim, claim_by, followed_by}
 use Rattle.history.specs.Messages.{Message, Carried, done, messages_of, said_by, with_message, completed_by}
 use Rattle.history.specs.Opens.{note_of, notes_of}
-use Rattle.history.specs.Subjects.{Told, is_about, is_of, last_of}
+use Rattle.source_choice.specs.declared.told.Told.{Told}
+use Rattle.history.specs.Subjects.{is_about, is_of, last_of}
 use Rattle.history.specs.AddressLaws.{IsReceiver}
 use Rattle.history.specs.TraceLaws.{is_lost}
 use Rattle.history.specs.FreshLaws.{is_told, MessagesAreKept, ClaimsForget, CommandsForgetNone, ReadingsAreKept}

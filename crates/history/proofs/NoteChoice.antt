@@ -16,7 +16,8 @@ use Rattle.history.specs.Heard.{place_of}
 use Rattle.history.specs.NetReadings.{NetReading, net_rank, last_heard, counts_still, is_net_fresh, is_net_first}
 use Rattle.history.specs.Messages.{Message}
 use Rattle.history.specs.Subjects as subjects
-use Rattle.history.specs.Subjects.{Told, is_better, holder_rank, still_counts, last_of}
+use Rattle.source_choice.specs.declared.told.Told.{Told}
+use Rattle.history.specs.Subjects.{is_better, holder_rank, still_counts, last_of}
 use Rattle.history.specs.Choice.{is_row, is_usable}
 use Rattle.history.specs.ChoiceLaws.{noted_with, HoldsNotes, FirstByNotes, net_noted, HoldsNetNotes, FirstNetByNotes}
 use Rattle.history.proofs.GroupCounts.{text_is}

@@ -14,7 +14,7 @@ use Rattle.claim_table.specs.declared.answer.Holder.{Holder}
 use Rattle.history.specs.Settings.{Settings, RowRule, rule_at}
 use Rattle.history.specs.Messages.{Message}
 use Rattle.history.specs.Subjects as subjects
-use Rattle.history.specs.Subjects.{Told}
+use Rattle.source_choice.specs.declared.told.Told.{Told}
 
 -- ---- from whom a row is taken
 

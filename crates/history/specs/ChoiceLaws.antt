@@ -14,7 +14,8 @@ use Rattle.history.specs.Entries.{History}
 use Rattle.history.specs.Settings.{Settings, rule_of, Receiver}
 use Rattle.history.specs.Known.{known}
 use Rattle.history.specs.Messages.{Message, messages_of}
-use Rattle.history.specs.Subjects.{Told, holder_rank, is_first, last_of, outranks}
+use Rattle.source_choice.specs.declared.told.Told.{Told}
+use Rattle.history.specs.Subjects.{holder_rank, is_first, last_of, outranks}
 use Rattle.history.specs.Subjects as subjects
 use Rattle.history.specs.Choice.{is_usable}
 use Rattle.history.specs.Heard.{place_of}

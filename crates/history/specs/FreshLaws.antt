@@ -7,7 +7,8 @@ use Rattle.history.specs.AddressLaws.{IsReceiver}
 use Rattle.history.specs.TraceLaws.{is_lost}
 use Rattle.history.specs.Entries.{History, frame, command}
 use Rattle.history.specs.Settings.{RowRule, Receiver, same_text}
-use Rattle.history.specs.Subjects.{Told, is_about, last_of}
+use Rattle.source_choice.specs.declared.told.Told.{Told}
+use Rattle.history.specs.Subjects.{is_about, last_of}
 use Rattle.history.specs.Known.{known, is_claim, claim_by}
 use Rattle.history.specs.Messages.{Message, done, messages_of}
 use Rattle.history.specs.Choice.{is_row}

@@ -5,7 +5,8 @@ use Rattle.claim_table.specs.declared.answer.Holder.{Holder}
 use Rattle.source_choice.specs.declared.rank.Rank.{Rank}
 use Rattle.source_choice.specs.SubjectRules.{SubjectRule, is_matched, rank_among, rank_of}
 use Rattle.history.specs.Messages.{Message}
-use Rattle.history.specs.Subjects.{Told, is_chosen, outranks}
+use Rattle.source_choice.specs.declared.told.Told.{Told}
+use Rattle.history.specs.Subjects.{is_chosen, outranks}
 use Rattle.history.specs.ChoiceLaws.{kept_note}
 
 -- none of its messages is selected, whatever else came

@@ -4,6 +4,7 @@
 use Rattle.std.specs.Prelude.{ℕ, ◌+◌, ◌*◌, Bool, ◌&&◌, not, ◌==◌, nat_le, List, find, Option, option_and_then}
 use Rattle.std.specs.List.{list_any}
 use Rattle.source_choice.specs.declared.rank.Rank.{Rank}
+use Rattle.source_choice.specs.declared.told.Told.{Told}
 use Rattle.source_choice.specs.Ranks.{is_before}
 use Rattle.source_choice.specs.SubjectRules.{SubjectRule, rank_of}
 use Rattle.claim_table.specs.Claims.{holder_at}
@@ -12,10 +13,7 @@ use Rattle.history.specs.Settings.{is_some_that}
 use Rattle.history.specs.Known.{held_since}
 use Rattle.history.specs.Messages.{Message}
 
--- what a message tells: of which subject, and whether the values are there without which it says nothing of it
-pub record Told : Type 0 where
-  pub subject : ℕ
-  pub usable : Bool
+-- ---- what a message tells: of which subject, and whether the values are there without which it says nothing of it
 
 abbrev pub is_about : ℕ → Option Told → Bool
 is_about subject told = is_some_that (λ t. t.subject == subject) told
@@ -26,6 +24,8 @@ is_usable told = is_some_that (λ t. t.usable) told
 -- what was told at a moment says something, and isn't older than the timeout, which is in milliseconds
 abbrev pub is_current : ℕ → ℕ → ℕ → Option Told → Bool
 is_current timeout m told_at told = is_usable told && nat_le m (told_at + 1000 * timeout)
+
+-- ---- the ranks of others
 
 -- another rank is the smaller one
 abbrev pub is_better : Rank → Option Rank → Bool

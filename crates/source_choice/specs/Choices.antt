@@ -1,9 +1,10 @@
 -- What was noted of all subjects.
-use Rattle.std.specs.Prelude.{◌≡◌, ◌≢◌, ℕ, ◌+◌, ◌*◌, ◌≤◌, IsTrue, List, [], map, slice_index_or, slice_set, Some}
+use Rattle.std.specs.Prelude.{◌≡◌, ◌≢◌, ℕ, ◌+◌, ◌*◌, ◌≤◌, Bool, IsTrue, List, [], map, slice_index_or, slice_set, Some}
 use Rattle.source_choice.specs.declared.rank.Rank.{Rank}
 use Rattle.source_choice.specs.declared.note.Note.{Note}
+use Rattle.source_choice.specs.declared.told.Told.{Told}
 use Rattle.source_choice.specs.Ranks.{IsBefore}
-use Rattle.source_choice.specs.Notes.{SubjectNotes, note_of, with_note, without}
+use Rattle.source_choice.specs.Notes.{SubjectNotes, is_selected, note_of, with_note, without}
 
 -- the notes of each subject, by its number
 pub record Choices : Type 0 where
@@ -25,6 +26,13 @@ noted s x = record s { notes = with_note x s.notes }
 
 abbrev pub with_noted : Choices → ℕ → Note → Choices
 with_noted c number x = record c { subjects = slice_set c.subjects number (noted (subject_at c number) x) }
+
+-- what a source of this rank tells at a moment is noted; and it is selected where no other source of a smaller rank is fresh then
+abbrev pub with_told : Choices → ℕ → Rank → ℕ → Told → Choices
+with_told c source rank moment told = with_noted c told.subject (record { source = source; rank = rank; moment = moment; usable = told.usable })
+
+abbrev pub is_chosen : Choices → ℕ → Rank → ℕ → Told → Bool
+is_chosen c source rank moment told = is_selected (subject_at c told.subject) source rank moment
 
 abbrev pub forgotten_in : ℕ → SubjectNotes → SubjectNotes
 forgotten_in source s = record s { notes = without source s.notes }

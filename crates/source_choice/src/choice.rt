@@ -1,10 +1,11 @@
 ghost use Rattle.std.specs.Prelude.{◌≡◌, ◌<◌, ◌≤◌, ◌↔◌, length, map, IfOk, IsTrue};
-ghost use Rattle.source_choice.specs.Choices.{IsFirst, forgotten_in, nothing, subject_at, opened, with_noted, forgotten};
+ghost use Rattle.source_choice.specs.Choices.{IsFirst, forgotten_in, is_chosen, nothing, subject_at, opened, with_noted, with_told, forgotten};
 ghost use Rattle.source_choice.specs.Notes.{is_selected};
 
 use crate::note::Note;
 use crate::rank::Rank;
 use crate::subject_notes::SubjectNotes;
+use crate::told::Told;
 use std::alloc::{AllocError, Global};
 use std::marker::Model;
 
@@ -63,6 +64,18 @@ impl Choice {
             moment,
             usable,
         });
+    }
+
+    /// Notes what a source of this rank tells at this moment, and says whether it is selected.
+    pub fn take(&mut self, source: u8, rank: Rank, moment: u64, told: Told) -> bool
+        requires subject { told.subject < length self.old.subjects }
+        requires source { source < self.old.sources }
+        ensures chosen { result ≡ is_chosen self.old source rank moment told }
+        ensures after { self.new ≡ with_told self.old source rank moment told }
+    {
+        let chosen = self.selected(told.subject, source, rank, moment);
+        self.note(told.subject, source, rank, moment, told.usable);
+        chosen
     }
 
     /// Nothing is noted of the source any more, of any subject.

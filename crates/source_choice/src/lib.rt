@@ -11,7 +11,9 @@ mod note;
 mod rank;
 mod ranking;
 mod subject_notes;
+mod told;
 
 pub use choice::Choice;
 pub use rank::Rank;
 pub use ranking::rank_of;
+pub use told::Told;
