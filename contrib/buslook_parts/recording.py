@@ -3,7 +3,7 @@
 import collections
 import re
 
-from configuration.keys import is_matched
+from configuration.keys import Page, is_matched
 from onboard.candump import NoFrame, read_line
 from onboard.error_frames import kinds_of
 from onboard.fast_packets import is_fast
@@ -13,32 +13,11 @@ from .bus import Bus
 from .gathering import MOST_MARKS, Counts, Mark, Point, Series, Spans, Strip, Tally, first_of, sum_of
 from .program import ITEM, SHOWN_FRAME, Frame
 from .quantities import COMPARED_PGNS, Compared
+from .rows import Rows
 
 READY_AFTER_US = 250_000
 MOST_EVENTS = 200
 LINES_OF_A_RULE = 5
-# the rows, the words for them, and the sentences that say them
-ROWS = {
-    "heading_true": "heading, true", "heading_magnetic": "heading, magnetic", "rate_of_turn": "rate of turn", "rudder_first": "rudder, first",
-    "rudder_second": "rudder, second", "water_speed": "speed through water", "depth": "depth", "distance_log": "distance log",
-    "position": "position", "course_speed": "course and speed", "gnss": "satellite fix", "time": "time", "wind_apparent": "wind, apparent",
-    "wind_true": "wind, true", "wind_north": "wind, by north", "water_temperature": "water temperature", "cross_track": "cross track error",
-}
-ROW_OF = {
-    "HDT": "heading_true", "THS": "heading_true", "HDG": "heading_magnetic", "ROT": "rate_of_turn", "VHW": "water_speed", "DPT": "depth",
-    "DBT": "depth", "VLW": "distance_log", "GLL": "position", "VTG": "course_speed", "GGA": "gnss", "ZDA": "time", "MWD": "wind_north",
-    "MTW": "water_temperature", "XTE": "cross_track",
-}
-# the sentences that say one message each; RMC joins several
-FORMATTERS = {*ROW_OF, "RSA", "MWV", "VDM"}
-# what goes to the bus of the network's sentences: what its PGN tells, and the rows that it may be of
-TO_BUS = {
-    127250: ("heading", ("heading_true", "heading_magnetic")), 127251: ("rate of turn", ("rate_of_turn",)),
-    127245: ("rudder", ("rudder_first", "rudder_second")), 128259: ("speed through water", ("water_speed",)), 128267: ("depth", ("depth",)),
-    128275: ("distance log", ("distance_log",)), 129025: ("position", ("position",)), 129026: ("course and speed", ("course_speed",)),
-    129029: ("satellite fix", ("gnss",)), 126992: ("time", ("time",)), 130306: ("wind", ("wind_apparent", "wind_true", "wind_north")),
-    130316: ("water temperature", ("water_temperature",)), 129283: ("cross track error", ("cross_track",)),
-}
 Curve = collections.namedtuple("Curve", "title unit row formatter field turns downwards")
 CURVES = [
     Curve("heading, true", "degrees", "heading_true", "HDT", 1, True, False),
@@ -175,16 +154,6 @@ class Ranks:
         return Device(source, "", (place, 0), f"rank {place}" if place else "")
 
 
-def row_of(fields):
-    """The row that a sentence says, or None where its text alone doesn't tell."""
-    formatter = fields[0][3:]
-    if formatter == "RSA":
-        return "rudder_first" if fields[1] else "rudder_second" if fields[3] else None
-    if formatter == "MWV":
-        return "wind_apparent" if fields[2] == "R" else "wind_true"
-    return ROW_OF.get(formatter)
-
-
 def degrees_of(text, digits, letter):
     value = int(text[:digits]) + float(text[digits:]) / 60
     return -value if letter in "SW" else value
@@ -194,7 +163,7 @@ class Recording:
     """All that the page says, gathered line by line."""
 
     def __init__(self, config):
-        self.addresses, self.ranks = Addresses(config), Ranks(config)
+        self.addresses, self.ranks, self.rows = Addresses(config), Ranks(config), Rows(Page())
         self.begin = self.end = None
         self.bus = self.compared = self.rates = None
         self.counts, self.rules = collections.Counter(), collections.Counter()
@@ -327,9 +296,9 @@ class Recording:
         if parts.pgn == ADDRESS_CLAIM:
             if parts.source != self.addresses.own:
                 self.addresses.move(self.end, parts.source)
-        elif parts.pgn in TO_BUS:
+        elif parts.pgn in self.rows.to_bus:
             sources = {item.group(2).decode() for item in map(ITEM.fullmatch, items) if item is not None}
-            words, rows = TO_BUS[parts.pgn]
+            words, rows = self.rows.to_bus[parts.pgn]
             if sources:
                 self.strip(f"{words}, to the bus", max(map(self.ranks.timeout_us, rows))).say(self.end, self.ranks.of_network(sources))
 
@@ -337,7 +306,7 @@ class Recording:
         """A datagram, by the frame that it comes of; the rows that it says are added to those that are."""
         self.count("datagrams to the network")
         sentences = [sentence.decode() for sentence in SENT_LINE.findall(datagram)]
-        self.counts["messages said to the network"] += any(sentence[3:6] in FORMATTERS for sentence in sentences)
+        self.counts["messages said to the network"] += any(sentence[3:6] in self.rows.formatters for sentence in sentences)
         for sentence in sentences:
             self.counts["sentences to the network"] += 1
             self.sentences.add(sentence.split(",")[0])
@@ -350,12 +319,12 @@ class Recording:
 
     def said(self, fields, source):
         """A sentence that went out, and the row that it says."""
-        formatter, row = fields[0][3:], row_of(fields)
+        formatter, row = fields[0][3:], self.rows.said_by(fields)
         if source is not None and formatter == "VDM":
             self.strip("ships around", TIMEOUT_MS * 1000).say(self.end, Device(f"address {source}", "", None, ""))
         if source is not None and row is not None:
             device = self.ranks.of_device(row, source, self.addresses.holders.get(source))
-            self.strip(ROWS[row], self.ranks.timeout_us(row)).say(self.end, device)
+            self.strip(self.rows.words[row], self.ranks.timeout_us(row)).say(self.end, device)
         for curve in CURVES_OF.get(formatter, ()):
             # a rudder's sentence without a value doesn't tell which rudder it is of, so it parts both
             if curve.row == row or row is None:

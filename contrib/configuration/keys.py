@@ -22,7 +22,7 @@ class Form:
 
 
 Key = collections.namedtuple("Key", "name form default is_required")
-Row = collections.namedtuple("Row", "name pgns selector values")
+Row = collections.namedtuple("Row", "name words pgns selector values sentences talker sent_pgn")
 
 
 def text_form(pattern):
@@ -67,8 +67,10 @@ class Page:
     def __init__(self, folder=PAGES):
         with open(os.path.join(folder, PAGE), encoding="utf-8") as file:
             self.text = file.read()
+        self.runs = self.runs_of_keys()
         self.tables = self.tables_of_keys()
         self.rows = self.rows_of_page()
+        self.quantities = [cells[0].strip("`") for cells in self.table("Q")]
 
     def found(self, pattern, what):
         match = re.search(pattern, self.text, re.MULTILINE)
@@ -116,23 +118,35 @@ class Page:
             raise PageChanged(f"docs/{PAGE}: no form is known for {words!r}")
         return forms[words]
 
-    def tables_of_keys(self):
-        """The keys of each table, tables and keys in the order of the page. `preset.N` and `row.R` stand for each of them."""
-        tables = {}
+    def runs_of_keys(self):
+        """The keys in the order of the page: each table with those that stand one after the other. `preset.N` and `row.R` stand for each of them."""
+        runs = []
         for cells in self.table("Key"):
             for path in re.findall("`([^`]+)`", cells[0]):
                 table, name = path.rsplit(".", 1)
-                tables.setdefault(table, []).append(Key(name, self.form_of(cells[1]), cells[2].strip("`"), cells[2].startswith("required")))
+                if not runs or runs[-1][0] != table:
+                    runs.append((table, []))
+                runs[-1][1].append(Key(name, self.form_of(cells[1]), cells[2].strip("`"), cells[2].startswith("required")))
+        return runs
+
+    def tables_of_keys(self):
+        """All keys of each table, tables and keys in the order of the page."""
+        tables = {}
+        for table, keys in self.runs:
+            tables.setdefault(table, []).extend(keys)
         return tables
 
     def rows_of_page(self):
-        """The rows, and the PGNs, selectors and selectors' values that they are taken from."""
+        """The rows: their words; the PGNs, selectors and selectors' values that they are taken from; their sentences, each with the letter or the
+        number of the field that tells it from another row's; their talker, and the PGN that is sent to the bus."""
         rows = []
-        for cells in self.table("R"):
-            pgns = [int(pgn) for pgn in re.findall(r"\b\d{6}\b", cells[1])]
-            selector = re.search(r"(reference|instance|source) (\d+(?: or \d+)*)", cells[1])
+        for name, words, taken, said, talker, _, sent in self.table("R"):
+            pgns = [int(pgn) for pgn in re.findall(r"\b\d{6}\b", taken)]
+            selector = re.search(r"(reference|instance|source) (\d+(?: or \d+)*)", taken)
             values = [] if selector is None else [int(value) for value in selector.group(2).split(" or ")]
-            rows.append(Row(cells[0].strip("`"), pgns, selector and selector.group(1), values))
+            told = re.findall(r"\b([A-Z]{3})\b(?: with (?:field (\d)|([A-Z])\b))?", said)
+            sentences = [(formatter, int(field) if field else letter or None) for formatter, field, letter in told]
+            rows.append(Row(name.strip("`"), words, pgns, selector and selector.group(1), values, sentences, talker, int(sent)))
         return rows
 
     def most_tables(self):

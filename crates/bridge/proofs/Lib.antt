@@ -1,10 +1,13 @@
 pub mod Answers
+pub mod Changes
 pub mod Joins
+pub mod Plains
 pub mod Lengths
 pub mod Ships
 pub mod Steps
 pub mod Sending
 pub mod PartCases
 pub mod ReplayCases
+pub mod Reached
 pub mod Replays
 pub mod Events

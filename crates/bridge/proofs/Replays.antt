@@ -29,90 +29,8 @@ use Rattle.bridge.specs.BridgeStands.{BridgeStands, IsBridged, IsBridgeStep, IsN
 use Rattle.bridge.specs.Gate.{all_out, opening, stepped, with_command}
 use Rattle.bridge.specs.Kept.{Bridged, left_of}
 use Rattle.bridge.specs.Parts.{Parts}
-use Rattle.bridge.specs.Replaying.{IsOpening, IsOrdered, left_text, ordered_text}
-
--- ---- the text of what was left
-
-abbrev emitted : ℕ → Emit → Emitted
-emitted m e = record { moment = m; emit = e }
-
-both_texts : (m : ℕ) (xs ys : List Emit) → emitted_text (at m xs) ++ emitted_text (at m ys) ≡ emitted_text (at m (xs ++ ys))
-both_texts m xs ys =
-    sym (flat_map-append line_of (at m xs) (at m ys)) ∙ ap emitted_text (sym (map-append (emitted m) xs ys))
-
-text_at : (b : Bridged) (k m : ℕ) (emits : List Emit) → k ≡ m → left_of b ≡ emits → left_text k b ≡ emitted_text (at m emits)
-text_at b k m emits same is = ap (λ (x : ℕ). left_text x b) same ∙ ap (λ (es : List Emit). emitted_text (at m es)) is
-
--- ---- an event
-
-module _ (p : Parts) (s : ℕ) (h : History) (e : Entry) where
-  -- it is what was offered, and the bridge stands for what came then
-  record Reached (x : Stepped p.gateway s) (text : List ℕ) (after : Bridged) : Type 0 where
-    pub text_is : text ≡ emitted_text x.emits
-    pub could : IsHistory x.after
-    pub stands : BridgeStands p s x.after after
-
-  ordered : (c : Option Command) (b after : Bridged) (text : List ℕ) → IsHistory (e ∷ h) → BridgeStands p s (e ∷ h) b → left_of b ≡ all_out p s h e
-      → IsOrder c b after → text ≡ ordered_text c after
-      → Reached (with_command p s h e (option_map (entry_by (moment_of e)) c)) (left_text b.gateway.moment b ++ text) after
-  ordered None b after text could stands left same is = record {
-    text_is =
-        ap (λ (x : List ℕ). left_text b.gateway.moment b ++ x) is
-        ∙ append-nil (left_text b.gateway.moment b)
-        ∙ text_at b b.gateway.moment (moment_of e) (all_out p s h e) stands.gateway.moment left;
-    could = could;
-    stands = subst (λ (x : Bridged). BridgeStands p s (e ∷ h) x) (sym same) stands;
-  }
-  ordered (Some c) b after text could stands left order is =
-      let obeyed = order p s (e ∷ h) could stands in
-      let m = moment_of e in
-      let next = entry_by m c in
-      record {
-        text_is =
-            ap (λ (x : List ℕ). left_text b.gateway.moment b ++ x)
-            (is ∙ text_at after after.gateway.moment m (out p.gateway s (e ∷ h) next) obeyed.stands.gateway.moment obeyed.emits)
-            ∙ ap (λ (x : List ℕ). x ++ emitted_text (at m (out p.gateway s (e ∷ h) next)))
-            (text_at b b.gateway.moment m (all_out p s h e) stands.gateway.moment left)
-            ∙ both_texts m (all_out p s h e) (out p.gateway s (e ∷ h) next);
-        could = obeyed.could;
-        stands = obeyed.stands;
-      }
-
-  accepted : (b after : Bridged) (text : List ℕ) → is_accepted h e ≡ true → IsBridged p s h e b → IsOrdered b text after
-      → Reached (stepped p s h e) (left_text b.gateway.moment b ++ text) after
-  accepted b after text accepts is order =
-      let c = command_in p.gateway s (done (receiver_of p.gateway) s h e) (moment_of e) in
-      let so : stepped p s h e ≡ with_command p s h e c = rw accepts refl in
-      let same : option_map (entry_by (moment_of e)) b.left.outbox.command ≡ c = is.ordered in
-      subst (λ (x : Stepped p.gateway s). Reached x (left_text b.gateway.moment b ++ text) after)
-      (ap (with_command p s h e) same ∙ sym so)
-      (ordered b.left.outbox.command b after text is.could is.stands is.emits order.order order.text_is)
-
-  refused : (b after : Bridged) (text : List ℕ) → IsHistory h → is_accepted h e ≡ false → IsRefused p s h b → IsOrdered b text after
-      → Reached (stepped p s h e) (left_text b.gateway.moment b ++ text) after
-  refused b after text could refuses is order =
-      let same : after ≡ b = subst (λ (c : Option Command). IsOrder c b after) is.unordered order.order in
-      let nothing : text ≡ [] = order.text_is ∙ ap (λ (c : Option Command). ordered_text c after) is.unordered in
-      let early : Stepped p.gateway s = record { emits = at (now h) (broken rules.moment_back detail.Nothing ∷ []); after = h } in
-      let so : stepped p s h e ≡ early = rw refuses refl in
-      subst (λ (x : Stepped p.gateway s). Reached x (left_text b.gateway.moment b ++ text) after) (sym so)
-      (record {
-        text_is =
-            ap (λ (x : List ℕ). left_text b.gateway.moment b ++ x) nothing
-            ∙ append-nil (left_text b.gateway.moment b)
-            ∙ text_at b b.gateway.moment (now h) (broken rules.moment_back detail.Nothing ∷ []) is.stands.gateway.moment is.emits;
-        could = could;
-        stands = subst (λ (x : Bridged). BridgeStands p s h x) (sym same) is.stands;
-      })
-
-  reached_by : (answer : Bool) → is_accepted h e ≡ answer → (before b after : Bridged) (text : List ℕ) → IsHistory h → BridgeStands p s h before
-      → IsBridgeStep e before b → IsOrdered b text after → Reached (stepped p s h e) (left_text b.gateway.moment b ++ text) after
-  reached_by true accepts before b after text could stands step order = accepted b after text accepts ((step p s h could stands).0 accepts) order
-  reached_by false refuses before b after text could stands step order = refused b after text could refuses ((step p s h could stands).1 refuses) order
-
-  reached : (before b after : Bridged) (text : List ℕ) → IsHistory h → BridgeStands p s h before
-      → IsBridgeStep e before b → IsOrdered b text after → Reached (stepped p s h e) (left_text b.gateway.moment b ++ text) after
-  reached before b after text could stands step order = reached_by (is_accepted h e) refl before b after text could stands step order
+use Rattle.bridge.specs.Replaying.{IsOpening, IsOrdered, left_at, left_text, ordered_left, ordered_text}
+use Rattle.bridge.proofs.Reached.{reached}
 
 -- ---- a line that says something
 
@@ -130,6 +48,14 @@ from_start before xs first b text start is =
     ∙ ap (λ (t : List ℕ). emitted_text before ++ t) is
     ∙ sym (flat_map-append line_of before xs)
 
+-- the text of an event and of the command that it completes
+texts_given : (b after : Bridged) (text : List ℕ) (emits : List Emitted) → text ≡ ordered_text b.left.outbox.command after
+    → left_at b.gateway.moment b ++ ordered_left b.left.outbox.command after ≡ emits → left_text b.gateway.moment b ++ text ≡ emitted_text emits
+texts_given b after text emits is due =
+    ap (λ (x : List ℕ). left_text b.gateway.moment b ++ x) is
+    ∙ sym (flat_map-append line_of (left_at b.gateway.moment b) (ordered_left b.left.outbox.command after))
+    ∙ ap emitted_text due
+
 module _ (e : Entry) (number : ℕ) (before opened b after : Bridged) (first text : List ℕ) (opens : IsOpening (moment_of e) before first opened)
     (step : IsBridgeStep e opened b) (order : IsOrdered b text after) where
   entry_given : (p : Parts) (g : Option Running) → RunningStands p g before
@@ -138,11 +64,12 @@ module _ (e : Entry) (number : ℕ) (before opened b after : Bridged) (first tex
       let s = moment_of e in
       let x = opens.first new.waits in
       let start = x.1 p new in
-      let r = reached p s [] e opened b after text tt start.stands step order in
+      let r = reached p s [] e opened b after tt start.stands step order.order in
       record {
         text_is =
             from_start (opening p s) (stepped p s [] e).emits first (left_text b.gateway.moment b) text
-            (x.0 ∙ ap (λ (es : List Emit). emitted_text (at s es)) start.emits) r.text_is;
+            (x.0 ∙ ap (λ (es : List Emit). emitted_text (at s es)) start.emits)
+            (texts_given b after text (stepped p s [] e).emits order.text_is r.due_is);
         stands = (r.could, r.stands);
       }
   entry_given p (Some g) stands =
@@ -150,9 +77,11 @@ module _ (e : Entry) (number : ℕ) (before opened b after : Bridged) (first tex
       let h = g.history in
       let x = opens.later stands.1.started in
       let here : BridgeStands p s h opened = subst (λ (z : Bridged). BridgeStands p s h z) (sym x.1) stands.1 in
-      let r = reached p s h e opened b after text stands.0 here step order in
+      let r = reached p s h e opened b after stands.0 here step order.order in
       record {
-        text_is = from_start [] (stepped p s h e).emits first (left_text b.gateway.moment b) text x.0 r.text_is;
+        text_is =
+            from_start [] (stepped p s h e).emits first (left_text b.gateway.moment b) text x.0
+            (texts_given b after text (stepped p s h e).emits order.text_is r.due_is);
         stands = (r.could, r.stands);
       }
 
@@ -203,13 +132,3 @@ lines_given p g n (line ∷ lines) text b after stands a =
 -- what a new bridge gives of the lines of a capture
 pub replays : (p : Parts) (b : Bridged) → IsNew p b → (lines : List (List ℕ)) (text : List ℕ) → IsTextFrom (LineGives GivesReplay) b lines text → IsReplay p lines text
 replays p b new lines text a = lines_given p None 1 lines text b a.0 new a.1
-
--- ---- the command that an event left, or none
-
-pub ordered_some : (c : Option Command) (after : Bridged) (m : ℕ) → is_some c ≡ true → m ≡ after.gateway.moment → left_text m after ≡ ordered_text c after
-ordered_some None after m some same = absurd cc
-ordered_some (Some c) after m some same = ap (λ (k : ℕ). left_text k after) same
-
-pub ordered_none : (c : Option Command) (after : Bridged) → is_some c ≡ false → [] ≡ ordered_text c after
-ordered_none None after none = refl
-ordered_none (Some c) after none = absurd cc

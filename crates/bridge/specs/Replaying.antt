@@ -3,6 +3,7 @@ use Rattle.std.specs.Prelude.{◌≡◌, ℕ, true, false, List, [], ◌++◌, t
 use Rattle.gate_outbox.specs.declared.done.Command.{Command}
 use Rattle.gate_outside.specs.Faults.{HasCause}
 use Rattle.capture_stream.specs.Writer.{Writes}
+use Rattle.gate_events.specs.Emit.{Emitted}
 use Rattle.history.specs.Emits.{at}
 use Rattle.bridge.specs.BridgeStands.{IsOrder, IsStart}
 use Rattle.bridge.specs.Kept.{Bridged, left_of}
@@ -20,9 +21,12 @@ SendsThen text told' faults' waiting' sent told'' faults'' waiting'' result =
     (told : Option (List ℕ)) (faults : ℕ) (waiting before : List ℕ) → IsSent told faults waiting before told' faults' waiting' sent
     → IsSent told faults waiting (before ++ text) told'' faults'' waiting'' result
 
--- the lines of all that a call left
+-- all that a call left, at this moment, and the lines of it
+abbrev pub left_at : ℕ → Bridged → List Emitted
+left_at m b = at m (left_of b)
+
 abbrev pub left_text : ℕ → Bridged → List ℕ
-left_text m b = emitted_text (at m (left_of b))
+left_text m b = emitted_text (left_at m b)
 
 -- the line of the emit at a place, and nothing beyond the list
 abbrev pub line_at : ℕ → ℕ → Bridged → List ℕ
@@ -35,9 +39,12 @@ pub record IsOpening (m : ℕ) (before : Bridged) (text : List ℕ) (after : Bri
   pub first : before.started ≡ false → (text ≡ left_text m after) × IsStart m before after
 
 -- the command is obeyed that the last event left
+abbrev pub ordered_left : Option Command → Bridged → List Emitted
+ordered_left None after = []
+ordered_left (Some c) after = left_at after.gateway.moment after
+
 abbrev pub ordered_text : Option Command → Bridged → List ℕ
-ordered_text None after = []
-ordered_text (Some c) after = left_text after.gateway.moment after
+ordered_text c after = emitted_text (ordered_left c after)
 
 pub record IsOrdered (before : Bridged) (text : List ℕ) (after : Bridged) : Type 0 where
   pub order : IsOrder before.left.outbox.command before after

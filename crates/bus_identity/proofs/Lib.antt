@@ -3,3 +3,4 @@ mod PayloadLemmas
 mod FrameLemmas
 mod AnswerLemmas
 mod HeardLemmas
+mod PgnListLemmas

@@ -1,13 +1,13 @@
 -- What is promised of all answers.
 use Rattle.std.specs.Prelude.{◌≡◌, ◌≢◌, ℕ, ◌+◌, ◌%◌, ◌<◌, ◌≤◌, ◌^◌, IsTrue, Bool, true, false, ◌&&◌, nat_lt, ◌==◌, if◌then◌else◌, List, [], ◌∷◌, length, map, take, Option, Some}
-use Rattle.std.specs.List.{AllByRecursion, list_all, list_any}
+use Rattle.std.specs.List.{AllByRecursion, list_all}
 use Rattle.n2k_id.specs.Frame.{BusFrame}
 use Rattle.n2k_id.specs.declared.identifier_parts.Parts.{Parts}
 use Rattle.n2k_id.specs.Identifier.{CanJoin, parts_of}
 use Rattle.fast_packet.specs.FastRuns.{longest}
 use Rattle.fast_packet.specs.Laws.{IsRunOf}
-use Rattle.readings.specs.About.{every_row}
-use Rattle.bus_identity.specs.PgnLists.{pgn_lists, product_information, received, sent, sent_by, taken_by}
+use Rattle.readings.specs.Rows.{every_row}
+use Rattle.bus_identity.specs.PgnLists.{has, pgn_lists, product_information, received, sent, sent_by, taken_by}
 use Rattle.n2k_id.specs.Pgns.{asked_of}
 use Rattle.bus_identity.specs.Requests.{is_due, IsDue}
 use Rattle.bus_identity.specs.Answers.{Kept, answer_frames, answered_address, kept_after, list_frames, message_by, product_frames, refusal_frames}
@@ -89,9 +89,6 @@ SequencesCount = (information : List ℕ) (h : List Call) → Counts information
 abbrev pub rises : List ℕ → Bool
 rises [] = true
 rises (pgn ∷ more) = list_all (nat_lt pgn) more && rises more
-
-abbrev pub has : List ℕ → ℕ → Bool
-has pgns pgn = list_any (λ p. p == pgn) pgns
 
 -- no group stands twice, and what a row is sent and taken in by is there
 pub record ListsAreOfTheRows : Type 0 where

@@ -1,7 +1,7 @@
 -- What the steps of a reader of lines amount to.
 use Rattle.std.proofs.Common.{◌≡◌, ℕ, ◌+◌, ◌-◌, ◌<◌, ◌≤◌, ◌⊎◌, Bool, true, false, cond, ltb, ◌||◌, List, ◌∷◌, ◌++◌, length, get_or, take, drop, refl, sym, ap, ◌∙◌, subst, inl, inr, arith}
 use Rattle.std.proofs.lemmas.Grind.{common_steps}
-use Rattle.std.proofs.lemmas.Bool.{ltb-true, ltb-false}
+use Rattle.std.proofs.lemmas.Bool.{ltb-true, ltb-false, or_parts}
 use Rattle.std.proofs.lemmas.List.{take-append-drop, drop-drop, drop-take, length-take, take-append-le, length-append}
 use Rattle.std.proofs.Math.Seq.{take-append-add}
 use Rattle.capture_stream.specs.declared.line_reader.Next.{Next}
@@ -27,10 +27,6 @@ or_true : (a b : Bool) → (a || b) ≡ true → (a ≡ true) ⊎ (b ≡ true)
 or_true true b h = inl refl
 or_true false b h = inr h
 
-or_false : (a b : Bool) → (a || b) ≡ false → (a ≡ false) × (b ≡ false)
-or_false true b h = absurd cc
-or_false false b h = (refl, h)
-
 line_length : (raw : List ℕ) (len : ℕ) → len ≤ length raw → take len raw ≡ without_cr raw → length (without_cr raw) ≡ len
 line_length raw len le line = ap length (sym line) ∙ omega (arith, length-take len raw)
 
@@ -43,7 +39,7 @@ is_long old raw len le line h =
 
 is_line : (old new : Held) (raw : List ℕ) (len : ℕ) → len ≤ length raw → take len raw ≡ without_cr raw → new.line ≡ take len raw → (old.skipping || ltb longest_line len) ≡ false → IsLine old new raw
 is_line old new raw len le line taken h =
-    let b = or_false old.skipping (ltb longest_line len) h in
+    let b = or_parts old.skipping (ltb longest_line len) h in
     let m : len ≤ longest_line = ltb-false longest_line len b.1 in
     record { whole = b.0; line = taken ∙ line; fits = omega (arith, ap length taken, length-take len raw) }
 

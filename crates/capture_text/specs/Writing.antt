@@ -5,6 +5,7 @@ use Rattle.std.specs.Int.{w32, to_be_bytes}
 use Rattle.hex.specs.Hex.{encode_upper}
 use Rattle.unit_fraction.specs.Text.{decimal_text}
 use Rattle.n2k_id.specs.Frame.{BusFrame, bus_frame}
+use Rattle.readings.specs.Rows.{about_of}
 use Rattle.gate_events.specs.declared.emit.Detail.{Detail}
 use Rattle.gate_events.specs.declared.emit.Detail.TheVariants as detail
 use Rattle.gate_events.specs.declared.emit.Report.{Report}
@@ -24,6 +25,7 @@ abbrev pub detail_text : Detail → List ℕ
 detail_text detail.Nothing = []
 detail_text (detail.Source address pgn) = part (codes "src") address ++ part (codes "pgn") pgn
 detail_text (detail.Address address) = part (codes "addr") address
+detail_text (detail.Row row address) = codes " row=" ++ (about_of row).name ++ part (codes "src") address
 detail_text (detail.At at) = part (codes "at") at
 detail_text (detail.AtField at field) = part (codes "at") at ++ part (codes "field") field
 detail_text (detail.GroupKey sfi code) = codes " sfi=" ++ sfi ++ part (codes "group") code

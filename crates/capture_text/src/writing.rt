@@ -137,6 +137,11 @@ fn append_detail(detail: &Detail, out: &mut Line)
             append_part(b" pgn=", u64::from(*pgn), out);
         }
         Detail::Address(address) => append_part(b" addr=", u64::from(*address), out),
+        Detail::Row { row, address } => {
+            append(b" row=", out);
+            append(row.name().as_bytes(), out);
+            append_part(b" src=", u64::from(*address), out);
+        }
         Detail::At(at) => append_part(b" at=", u64::from(*at), out),
         Detail::AtField { at, field } => {
             append_part(b" at=", u64::from(*at), out);

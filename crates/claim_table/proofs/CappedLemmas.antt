@@ -1,11 +1,11 @@
 -- Claims and commands of a table whose indices are counted no further than n.
-use Rattle.std.proofs.Common.{◌≡◌, ℕ, zero, suc, min, Bool, true, false, ◌==◌, ◌&&◌, not, nat_lt, is_none, Option, None, Some, List, [], ◌∷◌, map, length, ◌+◌, refl, sym, ◌∙◌, ap}
+use Rattle.std.proofs.Common.{◌≡◌, ℕ, zero, suc, min, Bool, true, false, ◌==◌, ◌&&◌, not, nat_lt, is_none, Option, None, Some, List, [], ◌∷◌, map, refl, sym, ◌∙◌, ap}
 use Rattle.std.specs.List.{position, prefix_len}
 use Rattle.std.proofs.lemmas.List.{length-map, map-set}
 use lib.ListN.{get_or-map}
 use Rattle.n2k_id.specs.Name.{is_arbitrary}
 use Rattle.claim_table.specs.declared.answer.Holder.{Holder}
-use Rattle.claim_table.specs.Claims.{Claims, Claim, Outcome, at_address, at_held, at_other, at_own, by_name, claim, command, following, free_from, holder_at, holder_by, is_at, is_held_by, is_obeyed, left_by, move_places, moved, moved_if, next_free, next_own, other_than, outcome, settled, vacated, when, with_released, with_taken, without_left}
+use Rattle.claim_table.specs.Claims.{Claims, Claim, at_address, at_held, at_other, at_own, by_name, claim, command, following, free_from, holder_at, holder_by, is_at, is_held_by, is_obeyed, left_by, move_places, moved, moved_if, next_free, next_own, other_than, outcome, settled, vacated, when, with_released, with_taken, without_left}
 use Rattle.claim_table.specs.declared.answer.OwnAnswer.TheVariants.{Silent}
 use Rattle.claim_table.specs.Laws.{IndicesMayStop, capped, capped_claim, capped_holder, capped_outcome}
 

@@ -1,4 +1,5 @@
-use Rattle.std.proofs.Common.{◌≡◌, ◌≢◌, ◌⊎◌, inl, inr, ℕ, zero, suc, ◌<◌, ◌==◌, ◌||◌, Bool, true, false, Option, None, Some, List, [], ◌∷◌, replicate, set, All, refl, sym, ◌∙◌, arith}
+use Rattle.std.proofs.Common.{◌≡◌, ◌≢◌, ◌⊎◌, inl, inr, ℕ, zero, suc, ◌<◌, ◌==◌, ◌||◌, Bool, false, Option, None, Some, List, [], ◌∷◌, replicate, set, All, refl, sym, ◌∙◌, arith}
+use Rattle.std.proofs.lemmas.Bool.{or_parts}
 use Rattle.std.specs.List.{list_any}
 use Rattle.std.proofs.lemmas.List.{get_or-set_other, length-replicate}
 use Rattle.claim_table.specs.declared.answer.Holder.{Holder}
@@ -9,10 +10,6 @@ use Rattle.claim_table.specs.Laws.{IsSound}
 use Rattle.claim_table.proofs.CaseLemmas.{not_eqb}
 use Rattle.claim_table.proofs.SoundLemmas.{taken_holder, taken_sound}
 
-neither : (a b : Bool) → (a || b) ≡ false → (a ≡ false) × (b ≡ false)
-neither true b e = cc
-neither false b e = (refl, e)
-
 -- the NAME stands in none of the presets
 abbrev lacks : ℕ → List Preset → Bool
 lacks n ps = list_any (λ p. n == p.name.0) ps
@@ -20,8 +17,8 @@ lacks n ps = list_any (λ p. n == p.name.0) ps
 unshared : (p : Preset) (ps : List Preset) → list_any (shares p) ps ≡ false → lacks p.name.0 ps ≡ false
 unshared p [] e = refl
 unshared p (q ∷ ps) e =
-    let first = neither (shares p q) (list_any (shares p) ps) e in
-    let names = neither (p.address == q.address) (p.name.0 == q.name.0) first.0 in
+    let first = or_parts (shares p q) (list_any (shares p) ps) e in
+    let names = or_parts (p.address == q.address) (p.name.0 == q.name.0) first.0 in
     rw (names.1) (unshared p ps first.1)
 
 -- no holder has a NAME of the presets
@@ -48,7 +45,7 @@ with_preset_sound c p own sound at fresh address name =
 fresh_first : (holders : List (Option Holder)) (p : Preset) (ps : List Preset) → Fresh holders (p ∷ ps) → (a : ℕ) (h : Holder) → holder_at holders a ≡ Some h → h.name.0 ≢ p.name.0
 unfolding Fresh
 fresh_first holders p ps fresh a h e =
-    not_eqb h.name.0 p.name.0 (neither (h.name.0 == p.name.0) (lacks h.name.0 ps) (fresh a h e)).0
+    not_eqb h.name.0 p.name.0 (or_parts (h.name.0 == p.name.0) (lacks h.name.0 ps) (fresh a h e)).0
 
 fresh_rest : (holders : List (Option Holder)) (p : Preset) (ps : List Preset) → Fresh holders (p ∷ ps) → list_any (shares p) ps ≡ false → Fresh (with_preset holders p) ps
 unfolding Fresh
@@ -56,14 +53,14 @@ fresh_rest holders p ps fresh apart a h e = by (taken_holder holders p.address (
   where
     by : ((a ≡ p.address) × (h ≡ preset_holder p)) ⊎ ((a ≢ p.address) × (holder_at holders a ≡ Some h)) → lacks h.name.0 ps ≡ false
     by (inl new) = rw new.1 (unshared p ps apart)
-    by (inr old) = (neither (h.name.0 == p.name.0) (lacks h.name.0 ps) (fresh a h old.1)).1
+    by (inr old) = (or_parts (h.name.0 == p.name.0) (lacks h.name.0 ps) (fresh a h old.1)).1
 
 placed_sound : (c : Claims) (ps : List Preset) (own : ℕ) → IsSound c → c.own ≡ Some own → Fresh c.holders ps → repeats ps ≡ false → takes c.name own ps ≡ false → IsSound (record c { holders = with_presets c.holders ps })
 placed_sound c [] own sound at fresh r t = sound
 placed_sound c (p ∷ ps) own sound at fresh r t =
-    let apart = neither (list_any (shares p) ps) (repeats ps) r in
-    let own_apart = neither (p.address == own || p.name.0 == c.name) (takes c.name own ps) t in
-    let tests = neither (p.address == own) (p.name.0 == c.name) own_apart.0 in
+    let apart = or_parts (list_any (shares p) ps) (repeats ps) r in
+    let own_apart = or_parts (p.address == own || p.name.0 == c.name) (takes c.name own ps) t in
+    let tests = or_parts (p.address == own) (p.name.0 == c.name) own_apart.0 in
     placed_sound (record c { holders = with_preset c.holders p }) ps own (with_preset_sound c p own sound at (fresh_first c.holders p ps fresh) (not_eqb p.address own tests.0) (not_eqb p.name.0 c.name tests.1)) at (fresh_rest c.holders p ps fresh apart.0) apart.1 own_apart.1
 
 nobody_at : (n a : ℕ) → holder_at (replicate n None) a ≡ None

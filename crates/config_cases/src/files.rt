@@ -3,6 +3,7 @@ use config_document::FaultLine;
 use config_values::{Config, Ends, RowConfig};
 use gate_config::{Settings, read, read_all, read_whole};
 use n2k_id::{Name, Pattern};
+use readings::all_rows;
 use std::alloc::Global;
 use std::test::*;
 
@@ -515,15 +516,12 @@ fn has_usual_keys(config: &Config) -> bool {
         && config.net_sources.is_empty()
 }
 
-/// The talker of each row, in their order.
-const TALKERS: &[u8; 34] = b"HEHCTIIIIIVWSDVWGPGPGPGPWIWIWIYXII";
-
 /// Whether a row is heard from everybody for five seconds, and said by this talker to all.
-fn is_usual(row: &RowConfig, talker: &[u8]) -> bool {
+fn is_usual(row: &RowConfig, talker: [u8; 2]) -> bool {
     row.sources.is_empty()
         && row.others
         && row.timeout_ms == 5_000
-        && row.talker.as_slice() == talker
+        && row.talker == talker
         && row.group.as_bytes() == b"NAVD"
 }
 
@@ -531,8 +529,8 @@ fn has_usual_rows(config: &Config) -> bool {
     config
         .rows
         .iter()
-        .zip(TALKERS.chunks(2))
-        .all(|(row, talker)| is_usual(row, talker))
+        .zip(all_rows())
+        .all(|(row, which)| is_usual(row, which.talker()))
 }
 
 fn has_usual_ends(ends: &Ends) -> bool {

@@ -8,7 +8,7 @@ use Rattle.claim_table.specs.Claims.{places}
 use Rattle.claim_table.specs.declared.preset.Preset.{Preset}
 use Rattle.n2k_id.specs.declared.name.Name.{Name}
 use Rattle.readings.specs.declared.rows.Row.{Row}
-use Rattle.readings.specs.About.{rows as all_rows}
+use Rattle.readings.specs.Rows.{rows as all_rows}
 use Rattle.history.specs.Settings.{RowRule, Settings}
 use Rattle.config_values.specs.declared.config.Config.{Config}
 use Rattle.config_values.specs.Configs.{AreEnds, IsConfig}

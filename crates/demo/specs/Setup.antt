@@ -1,7 +1,7 @@
 -- How the gateway is configured that takes the made-up input, as plain values.
 use Rattle.std.specs.Prelude.{true, false, [], ◌∷◌, map, codes}
 use Rattle.readings.specs.declared.rows.Row.{Row}
-use Rattle.readings.specs.About.{about_of, rows}
+use Rattle.readings.specs.Rows.{about_of, rows}
 use Rattle.history.specs.Settings.{RowRule, Settings}
 
 -- a row that is taken from all alike, and said by its own talker

@@ -1,6 +1,7 @@
 -- An assembly is what the frames of its open prefix make.
 use Rattle.std.specs.List.{AllByRecursion}
-use Rattle.std.proofs.lemmas.Bool.{eqb-true, eqb-false, le-leb, leb-true, leb-false, ltb-true, ne_eqb, lt-ltb, le-ltb}
+use Rattle.std.proofs.Math.Bool.{and-false}
+use Rattle.std.proofs.lemmas.Bool.{eqb-true, eqb-false, le-leb, leb-true, leb-false, ltb-true, ne_eqb, lt-ltb, le-ltb, and_parts}
 use Rattle.std.proofs.Common.{◌≡◌, ℕ, ◌+◌, ◌-◌, ◌*◌, ◌/◌, ◌%◌, ◌<◌, ◌≤◌, ◌==◌, ◌&&◌, nat_le, nat_lt, min, Bool, true, false, List, [], ◌∷◌, ◌++◌, length, take, drop, slice_index, Option, Some, None, length-take, length-drop, length-append, add-one, refl, sym, ◌∙◌, ap, subst, arith}
 use Rattle.std.proofs.lemmas.List.{take_all}
 use Rattle.slot_views.specs.Runs.{accepted, accepted_after, accepted_more, in_time, is_whole, is_admitted, opener_of, since_opener, if_open, kept_at, open_of, open_at}
@@ -14,7 +15,7 @@ use Rattle.fast_packet.specs.Assembly.{mark_of, last_frame, is_again, follows, i
 use Rattle.slot_views.specs.Traces.{left_at, entry_after}
 use Rattle.fast_packet.specs.RunAssemblies.{assembly_of, assembly_at, left_by, assembly_after}
 use Rattle.fast_packet.proofs.Counts.{need_is}
-use Rattle.fast_packet.proofs.Lawful.{lawful, both_true, and_false, no_next, repeat_counter, no_repeat}
+use Rattle.fast_packet.proofs.Lawful.{lawful, no_next, repeat_counter, no_repeat}
 
 -- a later moment
 kept_by : (y : FastPiece) (ys : List FastPiece) (m : ℕ) (b : Bool) → nat_le m (y.moment + gap) ≡ b → left_at (assembly_of (y ∷ ys)) m ≡ assembly_at (kept_at fast_rules (Some (y ∷ ys)) m)
@@ -69,9 +70,9 @@ entry y ys =
 
 first_facts : (y : FastPiece) → is_opener y.bytes ≡ true → length y.bytes ≤ 8 → Facts y [] (entry y [])
 first_facts y opens valid =
-    let one = both_true _ _ opens in
-    let two = both_true _ _ one.1 in
-    let three = both_true _ _ two.1 in
+    let one = and_parts _ _ opens in
+    let two = and_parts _ _ one.1 in
+    let three = and_parts _ _ two.1 in
     let enough : 2 + min 6 (length_of y.bytes) ≤ length y.bytes = leb-true _ _ three.1 in
     let need = need_is (length_of y.bytes) in
     record {
@@ -91,9 +92,9 @@ pub record NextFacts (z : FastPiece) (zs : List FastPiece) (y : FastPiece) : Typ
 
 pub next_facts : (z : FastPiece) (zs : List FastPiece) (y : FastPiece) → is_next (z ∷ zs) y ≡ true → NextFacts z zs y
 next_facts z zs y next =
-    let one = both_true _ _ next in
-    let two = both_true _ _ one.1 in
-    let three = both_true _ _ two.1 in
+    let one = and_parts _ _ next in
+    let two = and_parts _ _ one.1 in
+    let three = and_parts _ _ two.1 in
     record { counter = eqb-true _ _ one.0; same = eqb-true _ _ two.0; fewer = ltb-true _ _ three.0; enough = leb-true _ _ three.1 }
 
 -- the first element, and the others
@@ -190,7 +191,7 @@ module _ (y : FastPiece) (ys : List FastPiece) (x : FastPiece) (f : Facts y ys (
       (nat_le (1 + min 7 (left_after (length_of (opener_of y ys).bytes) (length (y ∷ ys)))) (length x.bytes)))
 
   repeat_by : length (y ∷ ys) < need_of (length_of (opener_of y ys).bytes) → (t : Bool) → nat_le 2 (length (y ∷ ys)) ≡ t → is_again (entry y ys) x.bytes ≡ is_repeat (y ∷ ys) x
-  repeat_by more false two = let first : is_next ys y ≡ false = sym f.was_next ∙ two in simp (two, first, and_false)
+  repeat_by more false two = let first : is_next ys y ≡ false = sym f.was_next ∙ two in simp (two, first, and-false)
   repeat_by more true two =
       let later : is_next ys y ≡ true = sym f.was_next ∙ two in
       rw (two, later, sym (f.last_is (leb-true _ _ two) more)) refl

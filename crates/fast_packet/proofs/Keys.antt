@@ -1,6 +1,6 @@
 -- The assemblies of all keys are those of each key's own frames, and each frame is answered as those say.
 use Rattle.std.proofs.Common.{◌≡◌, ℕ, ◌+◌, ◌<◌, ◌≤◌, ◌==◌, ◌&&◌, not, nat_le, if◌then◌else◌, min, Bool, true, false, List, [], ◌∷◌, length, drop, Option, Some, None, is_some, IsSomeAnd, length-take, length-drop, length-append, add-one, refl, sym, ◌∙◌, ap, subst, arith}
-use Rattle.std.proofs.lemmas.Bool.{eqb-true, eqb-false, eq-eqb, leb-true}
+use Rattle.std.proofs.lemmas.Bool.{eqb-true, eqb-false, eq-eqb, leb-true, and_parts}
 use Rattle.std.specs.List.{AllByRecursion}
 use Rattle.std.specs.Cmp.{IsTotalOrder}
 use Rattle.std.specs.declared.cmp.Ordering.{Ordering}
@@ -30,7 +30,7 @@ use Rattle.fast_packet.specs.RunAssemblies.{assembly_of, assembly_at, grown_by, 
 use Rattle.fast_packet.specs.Keys.{refused, is_again, Carries, OutcomeIs, AnswerIs, is_open_at, AreFed, fed_one, assemblies, FollowsRuns, AnswersRuns}
 use Rattle.fast_packet.specs.Joining.{FeedsItsKey, StepsWithRuns}
 use Rattle.fast_packet.proofs.Counts.{need_is}
-use Rattle.fast_packet.proofs.Lawful.{lawful, both_true, no_next}
+use Rattle.fast_packet.proofs.Lawful.{lawful, no_next}
 use Rattle.fast_packet.proofs.Verdicts.{fits_from}
 use Rattle.fast_packet.proofs.Assemblies.{IsSoFar, Facts, entry, step_by, next_facts, facts_of, so_far, all_front, within, counter_zero, kept_is, kept_open, tests_next, tests_repeat, sequence_is, grown_is, repeat_apart}
 
@@ -100,9 +100,9 @@ module _ (h : List FastPiece) (valid : AllByRecursion (λ x. length x.bytes ≤ 
 pub first_length : (y : FastPiece) → is_opener y.bytes ≡ true → 1 ≡ need_of (length_of y.bytes) → length (first_piece y.bytes) ≡ length_of y.bytes
 first_length y opens one =
     let holds = nat_le (2 + min 6 (length_of y.bytes)) (length y.bytes) in
-    let first = both_true (counter_of y.bytes == 0) (nat_le 1 (length_of y.bytes) && (nat_le (length_of y.bytes) longest && holds)) opens in
-    let second = both_true (nat_le 1 (length_of y.bytes)) (nat_le (length_of y.bytes) longest && holds) first.1 in
-    let third = both_true (nat_le (length_of y.bytes) longest) holds second.1 in
+    let first = and_parts (counter_of y.bytes == 0) (nat_le 1 (length_of y.bytes) && (nat_le (length_of y.bytes) longest && holds)) opens in
+    let second = and_parts (nat_le 1 (length_of y.bytes)) (nat_le (length_of y.bytes) longest && holds) first.1 in
+    let third = and_parts (nat_le (length_of y.bytes) longest) holds second.1 in
     let enough : 2 + min 6 (length_of y.bytes) ≤ length y.bytes = leb-true (2 + min 6 (length_of y.bytes)) (length y.bytes) third.1 in
     let need = need_is (length_of y.bytes) in
     omega (arith, length-take (min 6 (length_of y.bytes)) (drop 2 y.bytes), length-drop 2 y.bytes, enough, one, need)

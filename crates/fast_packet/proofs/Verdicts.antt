@@ -1,6 +1,6 @@
 -- What follows from what a frame is.
-use Rattle.std.proofs.Common.{◌≡◌, ℕ, ◌+◌, ◌&&◌, min, Bool, true, false, List, [], Option, Some, None, option_map, unwrap_or, refl}
-use Rattle.std.proofs.lemmas.Bool.{leb-true, eqb-true}
+use Rattle.std.proofs.Common.{◌≡◌, ℕ, ◌+◌, min, Bool, true, false, List, [], Option, Some, None, option_map, unwrap_or, refl}
+use Rattle.std.proofs.lemmas.Bool.{leb-true, eqb-true, and_parts}
 use Rattle.slot_views.specs.declared.answers.Kept.{Kept}
 use Rattle.slot_views.specs.Slots.{Entry}
 use Rattle.slot_views.specs.Answers.{kept_of, as_entry}
@@ -18,10 +18,6 @@ kept_verdict (Some e) kept held bytes r told bytes_told is =
     let same : kept ≡ kept_of e = cc in
     rw (same, bytes_told) at is
 
-both_true : (a b : Bool) → (a && b) ≡ true → (a ≡ true) × (b ≡ true)
-both_true true b h = (refl, h)
-both_true false b h = cc
-
 later_next : (o : Option Entry) (bytes : List ℕ) (end : ℕ) → Next end ≡ later_verdict o bytes → IsNext o bytes end
 later_next None bytes end is = cc
 later_next (Some e) bytes end is = by_tests (is_again e bytes) (follows e bytes) (is_enough e bytes) refl refl refl
@@ -33,7 +29,7 @@ later_next (Some e) bytes end is = by_tests (is_again e bytes) (follows e bytes)
     by_tests false true true ea ef en =
         let same : Next end ≡ Next (1 + min 7 (left_of e)) = simp (ea, ef, en) at is in
         let reach : end ≡ 1 + min 7 (left_of e) = cc in
-        record { entry = e; held = refl; counter = eqb-true _ _ (both_true _ _ ef).0; reach = reach; enough = rw reach (leb-true _ _ en) }
+        record { entry = e; held = refl; counter = eqb-true _ _ (and_parts _ _ ef).0; reach = reach; enough = rw reach (leb-true _ _ en) }
 
 next_from : (o : Option Entry) (bytes : List ℕ) (end : ℕ) → Next end ≡ verdict o bytes → IsNext o bytes end
 next_from o bytes end is = by_tests (is_opener bytes) (is_no_later bytes) refl refl
@@ -46,9 +42,9 @@ next_from o bytes end is = by_tests (is_opener bytes) (is_no_later bytes) refl r
 -- an opener holds what it owes
 opener_from : (bytes : List ℕ) → is_opener bytes ≡ true → IsOpener bytes
 opener_from bytes opens =
-    let one = both_true _ _ opens in
-    let two = both_true _ _ one.1 in
-    let three = both_true _ _ two.1 in
+    let one = and_parts _ _ opens in
+    let two = and_parts _ _ one.1 in
+    let three = and_parts _ _ two.1 in
     record { least = leb-true _ _ two.0; most = leb-true _ _ three.0; enough = leb-true _ _ three.1 }
 
 later_opens : (o : Option Entry) (bytes : List ℕ) → Opens ≡ later_verdict o bytes → ⊥

@@ -8,7 +8,7 @@ use Rattle.toml.specs.Data.{Data, Members, as_table, get_member}
 use Rattle.n2k_id.specs.declared.name.Name.{Name}
 use Rattle.n2k_id.specs.declared.pattern.Pattern.{Pattern}
 use Rattle.readings.specs.declared.rows.Row.{Row}
-use Rattle.readings.specs.About.{about_of, rows as all_rows}
+use Rattle.readings.specs.Rows.{about_of, rows as all_rows}
 use Rattle.quantities.specs.About.{about_of as about_quantity, quantities as all_quantities}
 use Rattle.quantities.specs.declared.about.Quantity.{Quantity}
 use Rattle.config_document.specs.declared.fault.ConfigFault.{ConfigFault}

@@ -2,7 +2,7 @@
 use Rattle.std.specs.Prelude.{ℕ, ◌+◌, List, [], ◌∷◌, ◌++◌, codes, map, Option, Some, None}
 use Rattle.toml.specs.Data.{Data, Items, no_items, item, Members, no_members, array, get_member}
 use Rattle.readings.specs.declared.rows.Row.{Row}
-use Rattle.readings.specs.About.{about_of, rows as all_rows}
+use Rattle.readings.specs.Rows.{about_of, rows as all_rows}
 use Rattle.quantities.specs.About.{about_of as about_quantity, quantities as all_quantities}
 use Rattle.quantities.specs.declared.about.Quantity.{Quantity}
 use Rattle.config_document.specs.Kinds.{members_in}

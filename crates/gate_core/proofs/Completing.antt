@@ -2,7 +2,7 @@
 use Rattle.std.proofs.Common.{◌≡◌, ℕ, List, [], ◌∷◌, Option, Some, None, refl}
 use Rattle.std.specs.Prelude.{IfSome}
 use Rattle.readings.specs.declared.reading.Reading.{Reading}
-use Rattle.readings.specs.Ranges.{IsValid}
+use Rattle.readings.specs.Rows.{IsValid}
 use Rattle.pgn_profile.specs.declared.profiled.Profiled.{Profiled}
 use Rattle.pgn_profile.specs.declared.profiled.Profiled.TheVariants as says
 use Rattle.pgn_profile.specs.Profiled.{GivesValid}

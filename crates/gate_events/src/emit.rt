@@ -1,4 +1,5 @@
 use n2k_id::Frame;
+use readings::Row;
 use sentence_text::{Group, Sfi};
 
 /// What a report names besides its rule.
@@ -10,6 +11,8 @@ pub enum Detail {
     Source { address: u8, pgn: u32 },
     /// An address of the bus.
     Address(u8),
+    /// A row, and the address that it is taken from.
+    Row { row: Row, address: u8 },
     /// A place in a datagram.
     At(u16),
     /// A place in a datagram, and the number of a field of the sentence there.

@@ -20,7 +20,6 @@ pub mod SaidMessages
 pub mod SaidClaims
 pub mod SaidAddresses
 pub mod SaidTold
-pub mod SaidSentences
 pub mod SaidFits
 pub mod SessionMaps
 pub mod SessionTraces

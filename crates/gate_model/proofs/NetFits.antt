@@ -4,8 +4,7 @@ use Rattle.std.specs.Prelude.{Option, Some, None, IfSome, if◌then◌else◌}
 use Rattle.std.specs.List.{AllByRecursion}
 use Rattle.std.proofs.lemmas.Bool.{leb-true}
 use Rattle.readings.specs.declared.reading.Reading.{Reading}
-use Rattle.readings.specs.Rows.{row_of}
-use Rattle.readings.specs.About.{row_number}
+use Rattle.readings.specs.Rows.{row_of, row_number}
 use Rattle.tag_block.specs.declared.group_part.GroupPart.{GroupPart}
 use Rattle.tag_block.specs.Groups.{IsGroupPart}
 use Rattle.tag_block.specs.Tag.{IsGroupRead}

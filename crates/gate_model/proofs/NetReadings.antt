@@ -7,7 +7,7 @@ use Rattle.std.proofs.lemmas.List.Sums.{sum_by-cons}
 use Rattle.std.proofs.lemmas.Bool.{and_parts, eqb-true, eqb-false, eq-eqb, ne_eqb}
 use Rattle.readings.specs.declared.reading.Reading.{Reading}
 use Rattle.readings.specs.declared.rows.Row.{Row}
-use Rattle.readings.specs.Rows.{row_of}
+use Rattle.readings.specs.Rows.{row_of, row_number}
 use Rattle.pgn_profile.specs.Profiled.{payload_of, pgn_of, priority_of}
 use Rattle.fast_packet.specs.FastRuns.{frames_of}
 use Rattle.sentence_rows.specs.declared.fault.FieldFault.{FieldFault}
@@ -15,7 +15,6 @@ use Rattle.sentence_rows.specs.declared.fault.FieldFault.TheVariants.{Outside, F
 use Rattle.source_choice.specs.declared.note.Note.{Note}
 use Rattle.source_choice.specs.Notes.{RowNotes, note_of, with_note}
 use Rattle.source_choice.specs.Choices.{row_at, nothing, noted, with_noted}
-use Rattle.readings.specs.About.{row_number}
 use Rattle.source_choice.proofs.NoteLemmas.{from_with, noted_here, others_noted}
 use Rattle.history.specs.Settings.{Settings, same_text}
 use Rattle.report_rules.specs.Rules.{not_ready}

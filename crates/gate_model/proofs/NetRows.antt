@@ -7,7 +7,7 @@ use Rattle.readings.specs.declared.rows.Row.{Row}
 use Rattle.readings.specs.declared.rows.Row.TheVariants as row
 use Rattle.pgn_profile.specs.Profiled.{pgn_of, messages}
 use Rattle.source_choice.specs.Choices.{row_at, nothing}
-use Rattle.readings.specs.About.{row_number}
+use Rattle.readings.specs.Rows.{row_number}
 use Rattle.history.specs.Settings.{Settings, rule_of, same_text}
 use Rattle.history.specs.Heard.{place_of}
 use Rattle.history.specs.NetReadings.{is_fast_row}

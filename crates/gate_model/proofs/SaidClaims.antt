@@ -9,7 +9,7 @@ use Rattle.readings.specs.declared.rows.Row.{Row}
 use Rattle.source_choice.specs.declared.note.Note.{Note}
 use Rattle.source_choice.specs.Notes.{RowNotes, AreFrom, note_of, without}
 use Rattle.source_choice.specs.Choices.{Choices, row_at, nothing, forgotten_in, forgotten}
-use Rattle.readings.specs.About.{row_number}
+use Rattle.readings.specs.Rows.{row_number}
 use Rattle.source_choice.proofs.NoteLemmas.{from_without, forgotten_here, others_forgotten}
 use Rattle.claim_table.specs.Claims.{Outcome, places, claim, holder_at, is_at}
 use Rattle.claim_table.specs.declared.answer.Holder.{Holder}

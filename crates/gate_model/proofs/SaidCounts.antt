@@ -4,8 +4,7 @@ use Rattle.std.specs.Prelude.{nat_le, if◌then◌else◌}
 use Rattle.readings.specs.declared.reading.Reading.{Reading}
 use Rattle.readings.specs.declared.rows.Row.{Row}
 use Rattle.readings.specs.declared.rows.Row.TheVariants as row
-use Rattle.readings.specs.Rows.{row_of}
-use Rattle.readings.specs.About.{row_number}
+use Rattle.readings.specs.Rows.{row_of, row_number}
 use Rattle.datagram450.specs.Datagram.{header, line_text}
 use Rattle.history.specs.Settings.{Settings, rule_of, same_text}
 use Rattle.history.specs.Emits.{Spoken, lines_on, line_groups, part_of, lines_from}

@@ -19,7 +19,7 @@ use Rattle.history.specs.Emits.{part_of, lines_from}
 use Rattle.gate_model.specs.Net.{row_numbers}
 use Rattle.gate_model.specs.Said.{SaidKept, Complete, sentences_by, lines_at, message_after, lines_more, groups_more, counted, is_chosen, noted_by, ranked_after, rank_by, profiled_after, reading_by, without_source}
 use Rattle.gate_model.specs.SaidFits.{AreCounts, CountsFit, LinesFit, tag_of, ReadingsFit}
-use Rattle.gate_model.proofs.SaidSentences.{sentences_some, sentences_few, sentences_short}
+use Rattle.sentence_rows.proofs.ShortSentences.{said_briefly}
 
 -- ---- the counts
 
@@ -130,7 +130,7 @@ group_fits total code number most first small one within = by (nat_le 2 total) r
 module _ (c : Settings) (k : SaidKept) (r : Reading) (sfi : IsSfi c.sfi) (are : AreCounts k) where
   tags : (number before : ℕ) → 1 ≤ number → number ≤ length (sentences_by c r) → IsWritable (tag_of c k r number before)
   tags number before one within = record {
-    group = group_fits (length (sentences_by c r)) (k.groups + 1) number (omega (arith, sentences_few (rule_of c (row_of r)).talker c.ths r)) (omega arith)
+    group = group_fits (length (sentences_by c r)) (k.groups + 1) number (omega (arith, (said_briefly (rule_of c (row_of r)).talker c.ths r).few)) (omega arith)
         (code_fits k.groups are.groups) one within;
     count = omega arith;
     small = omega (arith, below_999 before);
@@ -153,11 +153,12 @@ module _ (c : Settings) (k : SaidKept) (r : Reading) (sfi : IsSfi c.sfi) (are : 
 pub readings_fit : ReadingsFit
 readings_fit c k r sfi two valid are =
     let talker = (rule_of c (row_of r)).talker in
-    let short = sentences_short talker c.ths r two valid in
-    let few = sentences_few talker c.ths r in
+    let said = said_briefly talker c.ths r in
+    let short = said.short two valid in
+    let few = said.few in
     let all = rest_fits c k r sfi are (lines_at k (row_of r)) 1 (sentences_by c r) short (omega arith) (omega arith) in
     record {
-      some = sentences_some talker c.ths r;
+      some = said.some;
       few = few;
       short = short;
       tags = tags c k r sfi are;

@@ -6,12 +6,11 @@ use Rattle.std.proofs.lemmas.Grind.{get_or-set_at}
 use Rattle.std.proofs.lemmas.Bool.{eqb-true, eqb-false, eq-eqb}
 use Rattle.readings.specs.declared.reading.Reading.{Reading}
 use Rattle.readings.specs.declared.rows.Row.{Row}
-use Rattle.readings.specs.Rows.{row_of}
+use Rattle.readings.specs.Rows.{row_of, row_number}
 use Rattle.source_choice.specs.declared.note.Note.{Note}
 use Rattle.source_choice.specs.declared.rank.Rank.{Rank}
 use Rattle.source_choice.specs.Notes.{RowNotes, note_of, with_note}
 use Rattle.source_choice.specs.Choices.{Choices, row_at, nothing, noted, with_noted}
-use Rattle.readings.specs.About.{row_number}
 use Rattle.source_choice.proofs.NoteLemmas.{from_with, noted_here, others_noted}
 use Rattle.claim_table.specs.Claims.{places, holder_at}
 use Rattle.claim_table.specs.declared.answer.Holder.{Holder}

@@ -1,5 +1,6 @@
 -- What a frame from the bus that is no claim makes of what a gateway keeps stands for the history with it, and is what the history says.
 use Rattle.std.proofs.Common.{◌≡◌, ℕ, Bool, true, false, ◌&&◌, not, List, [], ◌∷◌, length, refl, sym, ap, subst, ◌∙◌, ◌==◌, nat_le}
+use Rattle.std.proofs.lemmas.Bool.{and_parts}
 use Rattle.std.specs.Prelude.{Option, Some, None, is_some, option_map, if◌then◌else◌}
 use Rattle.n2k_id.specs.Frame.{BusFrame}
 use Rattle.readings.specs.declared.reading.Reading.{Reading}
@@ -63,15 +64,11 @@ said_there c before (Some r) = refl
 
 -- ---- a claim is one by what a frame is to the gateway
 
-and_first : (a b : Bool) → (a && b) ≡ true → a ≡ true
-and_first true b e = refl
-and_first false b e = e
-
 pub claims_meant : (r : Receiver) (s : ℕ) (h : History) (m : ℕ) (f : BusFrame) → is_claim f ≡ true → meaning_at r s h m f ≡ meanings.address_claim
 claims_meant r s h m f claims =
     let p = parts_of f.id in
     let is : (p.pgn == pgns.address_claimed) ≡ true =
-    and_first (p.pgn == pgns.address_claimed) (nat_le 8 (length f.held) && not (p.source == 255)) claims in rw is refl
+    (and_parts (p.pgn == pgns.address_claimed) (nat_le 8 (length f.held) && not (p.source == 255)) claims).0 in rw is refl
 
 pub not_claimed : (r : Receiver) (s : ℕ) (h : History) (m : ℕ) (f : BusFrame) → is_address_claim (meaning_at r s h m f) ≡ false → is_claim f ≡ false
 not_claimed r s h m f none = by (is_claim f) refl

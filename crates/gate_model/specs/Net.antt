@@ -4,8 +4,7 @@ use Rattle.std.specs.Prelude.{ℕ, ◌+◌, ◌%◌, Bool, ◌&&◌, not, List, 
 use Rattle.report_rules.specs.Rules as rules
 use Rattle.readings.specs.declared.reading.Reading.{Reading}
 use Rattle.readings.specs.declared.rows.Row.{Row}
-use Rattle.readings.specs.Rows.{row_of}
-use Rattle.readings.specs.About.{every_row, row_number}
+use Rattle.readings.specs.Rows.{row_of, every_row, row_number}
 use Rattle.pgn_profile.specs.Profiled.{payload_of, pgn_of, priority_of}
 use Rattle.fast_packet.specs.FastRuns.{frames_of}
 use Rattle.sentence_rows.specs.declared.fault.FieldFault.{FieldFault}

@@ -9,13 +9,12 @@ use Rattle.claim_table.specs.declared.answer.ClaimStep.{ClaimStep}
 use Rattle.claim_table.specs.declared.answer.Holder.{Holder}
 use Rattle.readings.specs.declared.reading.Reading.{Reading}
 use Rattle.readings.specs.declared.rows.Row.{Row}
-use Rattle.readings.specs.Rows.{row_of}
+use Rattle.readings.specs.Rows.{row_of, row_number}
 use Rattle.pgn_profile.specs.Profiled.{profiled}
 use Rattle.source_choice.specs.declared.rank.Rank.{Rank}
 use Rattle.source_choice.specs.declared.note.Note.{Note}
 use Rattle.source_choice.specs.Notes.{is_selected}
 use Rattle.source_choice.specs.Choices.{Choices, opened, row_at, with_noted, forgotten}
-use Rattle.readings.specs.About.{row_number}
 use Rattle.sentence_rows.specs.Writing.{sentences_of}
 use Rattle.tag_block.specs.Tag.{most_count}
 use Rattle.tag_block.specs.Writing.{most_written_code}

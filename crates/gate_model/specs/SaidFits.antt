@@ -3,8 +3,7 @@
 use Rattle.std.specs.Prelude.{◌≡◌, ℕ, ◌+◌, ◌%◌, ◌<◌, ◌≤◌, List, length, Option}
 use Rattle.std.specs.List.{AllByRecursion}
 use Rattle.readings.specs.declared.reading.Reading.{Reading}
-use Rattle.readings.specs.Ranges.{IsValid}
-use Rattle.readings.specs.Rows.{row_of}
+use Rattle.readings.specs.Rows.{IsValid, row_of}
 use Rattle.claim_table.specs.declared.answer.ClaimStep.{ClaimStep}
 use Rattle.sentence_text.specs.Names.{IsSfi}
 use Rattle.sentence_text.specs.Sentence.{longest_written}

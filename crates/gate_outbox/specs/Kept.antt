@@ -1,5 +1,6 @@
 -- Frames and reports, as they are kept.
-use Rattle.std.specs.Prelude.{ℕ, Bool, if◌then◌else◌, List, [], ◌∷◌, map, take}
+use Rattle.std.specs.Prelude.{ℕ, Bool, if◌then◌else◌, List, [], ◌∷◌, map, take, Option, Some, None}
+use Rattle.std.specs.Borrow.{Bor}
 use Rattle.n2k_id.specs.Frame.{IsFrame, bus_frame}
 use Rattle.gate_events.specs.Emit.{Emit, can, net}
 use Rattle.history.specs.Emits.{broken}
@@ -23,3 +24,8 @@ first_emits count cells = map kept_emit (take count cells)
 -- the datagram, where it is there
 abbrev pub posted_emits : Bool → Datagram → List Emit
 posted_emits posted d = if posted then net d.group d.packet.items ∷ [] else []
+
+-- the same of one that is lent
+abbrev pub lent_emits : Option (Bor Datagram) → List Emit
+lent_emits None = []
+lent_emits (Some d) = net d.now.group d.now.packet.items ∷ []

@@ -4,8 +4,7 @@ use Rattle.std.specs.Prelude.{ℕ, ◌+◌, ◌≤◌, nat_lt, Bool, true, false
 use Rattle.n2k_id.specs.Frame.{bus_frame}
 use Rattle.readings.specs.declared.reading.Reading.{Reading}
 use Rattle.readings.specs.declared.rows.Row.{Row}
-use Rattle.readings.specs.Ranges.{IsValid}
-use Rattle.readings.specs.Rows.{row_of}
+use Rattle.readings.specs.Rows.{IsValid, row_of}
 use Rattle.gate_events.specs.declared.emit.Emit.{Emit as Lent}
 use Rattle.gate_events.specs.declared.emit.Emit.TheVariants as lent
 use Rattle.gate_events.specs.Emit.{Emit, can, net, report}

@@ -1,9 +1,10 @@
 //! What is to be sent and reported.
-ghost use Rattle.std.specs.Prelude.{◌≡◌, ◌<◌, ◌↔◌, ◌∷◌, [], length, option_map, slice_get, IfSome, IsSome};
+ghost use Rattle.std.specs.Prelude.{◌≡◌, ◌<◌, ◌↔◌, ◌∷◌, [], filter, length, option_map, slice_get, IfSome, IsSome};
 ghost use Rattle.std.specs.Borrow.{sem};
 ghost use Rattle.n2k_id.specs.Frame.{IsFrame, bus_frame};
 ghost use Rattle.gate_events.specs.Emit.{CanWrite, can, report};
-ghost use Rattle.gate_outbox.specs.Output.{IsEmitted, and_told, emit_of, emits_of, no_emits};
+ghost use Rattle.gate_outbox.specs.Kept.{lent_emits};
+ghost use Rattle.gate_outbox.specs.Output.{IsEmitted, and_told, emit_of, emits_of, is_datagram, no_emits};
 ghost use Rattle.history.specs.Emits.{is_there};
 
 use crate::datagram::Datagram;
@@ -87,6 +88,19 @@ impl<const ROOM: usize> Emits<ROOM> {
         ensures { result ≡ is_there self.now.posted }
     {
         self.posted
+    }
+
+    /// The datagram, where it is there: all else is none.
+    pub fn datagram(&self) -> Option<&Datagram>
+        ensures posted { lent_emits result ≡ self.now.posted }
+        ensures told { filter is_datagram self.now.told ≡ [] }
+    {
+        let _none = self.kept.len();
+        if self.posted {
+            Some(&self.datagram)
+        } else {
+            None
+        }
     }
 
     /// Appends a report, where there is room.

@@ -1,7 +1,7 @@
 //! What a step leaves to be sent and reported.
 ghost use Rattle.std.specs.Prelude.{◌≡◌, ◌<◌, ◌↔◌, length, option_map, slice_get, IfSome, IsSome, Some};
 ghost use Rattle.gate_events.specs.Emit.{CanWrite};
-ghost use Rattle.readings.specs.Ranges.{IsValid};
+ghost use Rattle.readings.specs.Rows.{IsValid};
 ghost use Rattle.gate_outbox.specs.Output.{IsDoneValid, IsOutput, nothing, emit_of, emits_of, selected_row};
 
 use crate::done::{Command, Done};

@@ -2,7 +2,7 @@
 use Rattle.std.proofs.Common.{◌≡◌, ℕ, zero, suc, ◌+◌, ◌<◌, ◌≤◌, get_or, Bool, true, false, cond, leb, ◌&&◌, List, [], ◌∷◌, ◌++◌, length, take, drop, refl, sym, ap, subst, ◌∙◌, arith}
 use Rattle.std.specs.Prelude.{Option, Some, None, slice_get}
 use Rattle.std.proofs.lemmas.List.{length-take, length-drop, take-append-le, drop-append-le, take_all, drop-drop}
-use Rattle.std.proofs.lemmas.Bool.{leb-true}
+use Rattle.std.proofs.lemmas.Bool.{leb-true, and_parts}
 use Rattle.gate_outside.specs.declared.handover.Parcel.{Parcel}
 use Rattle.gate_outside.specs.Link.{Handed}
 use Rattle.gate_outside.specs.LinkMemory.{HandedOver, pairs_of, total_len, bytes_in, told_after}
@@ -75,13 +75,9 @@ one_more_told old parcels kept piece parcel room most is e len accepted =
     told_is old (Some (pairs_of parcels kept)) (Some (pairs_of (parcels ++ parcel ∷ []) (kept ++ piece))) room most (parcel.group, piece) is
     (sym (told_by_counts true parcels kept piece parcel room most e len ∙ ap (λ (b : Bool). cond b (Some (pairs_of (parcels ++ parcel ∷ []) (kept ++ piece))) None) accepted))
 
-both_true : (a b : Bool) → (a && b) ≡ true → (a ≡ true) × (b ≡ true)
-both_true true b h = (refl, h)
-both_true false b h = absurd cc
-
 pub within_room : (parcels : List Parcel) (kept piece : List ℕ) (room most : ℕ) → fits_test parcels kept piece room most ≡ true → (length parcels + 1 ≤ most) × (length kept + length piece ≤ room)
 within_room parcels kept piece room most h =
-    let b = both_true (leb (length parcels + 1) most) (leb (length kept + length piece) room) h in
+    let b = and_parts (leb (length parcels + 1) most) (leb (length kept + length piece) room) h in
     (leb-true (length parcels + 1) most b.0, leb-true (length kept + length piece) room b.1)
 
 -- the test of the code, by the counts that it takes

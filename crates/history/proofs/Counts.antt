@@ -6,15 +6,11 @@ use Rattle.std.specs.Cmp.{IsTotalOrder}
 use Rattle.std.specs.Ordering.{eq_by_cmp}
 use Rattle.std.specs.BTreeMap.{is_at}
 use Rattle.std.specs.declared.cmp.Ordering.{Ordering}
-use Rattle.std.proofs.lemmas.Bool.{cases_Bool, eqb-true, eqb-false, and_parts, lt-ltb, le-ltb}
+use Rattle.std.proofs.lemmas.Bool.{cases_Bool, eqb-true, eqb-false, and_parts, lt-ltb, le-ltb, or_parts}
 use Rattle.slot_views.specs.Slots.{SlotMap, IsOrdered, entry_at, is_full}
 use Rattle.slot_views.proofs.Traces.{counted_once, as_many}
 use Rattle.slot_views.proofs.Tied.{same_turned}
 use Rattle.history.specs.Opens.{inserted, with_key}
-
-pub or_parts : (a b : Bool) → (a || b) ≡ false → (a ≡ false) × (b ≡ false)
-or_parts false b e = (refl, e)
-or_parts true b e = cc
 
 pub all_inserted : {K : Type 0} (P : K → Type 0) (before : K → K → Bool) (k : K) (ks : List K) → P k → AllByRecursion P ks → AllByRecursion P (inserted before k ks)
 all_inserted P before k [] one all = (one, tt)

@@ -2,10 +2,10 @@
 use Rattle.std.proofs.Common.{◌≡◌, suc, ◌≤◌, Bool, true, false, ◌||◌, List, [], ◌∷◌, length, refl, sym, ap, subst, ◌∙◌, arith}
 use Rattle.std.specs.Prelude.{filter, if◌then◌else◌}
 use Rattle.std.specs.List.{AllByRecursion, list_any}
-use Rattle.std.proofs.lemmas.Bool.{false≢true}
+use Rattle.std.proofs.lemmas.Bool.{false≢true, or_parts}
 use Rattle.slot_views.specs.Slots.{without_first}
 use Rattle.history.specs.Opens.{inserted, with_key}
-use Rattle.history.proofs.Counts.{all_inserted, or_parts}
+use Rattle.history.proofs.Counts.{all_inserted}
 
 module _ {K : Type 0} (same : K → K → Bool) (same_is : (a b : K) → same a b ≡ true → a ≡ b) (turn : (a b : K) → same a b ≡ same b a) (itself : (a : K) → same a a ≡ true) where
   -- no two of a list are the same

@@ -1,13 +1,18 @@
 -- How much a sentence emits at most.
 use Rattle.std.proofs.Common.{◌≡◌, ℕ, zero, suc, ◌+◌, ◌-◌, ◌≤◌, Bool, true, false, not, ◌==◌, List, [], ◌∷◌, ◌++◌, length, length-append, refl, ap, ◌∙◌, arith}
 use Rattle.std.specs.Prelude.{Option, Some, None, Result, Ok, Err, is_none, ℤ, if◌then◌else◌}
+use Rattle.std.proofs.lemmas.Bool.{false≢true}
+use Rattle.std.proofs.lemmas.Bool.Decides.{nat_tests}
 use Rattle.std.proofs.lemmas.List.{length-map}
 use Rattle.report_rules.specs.Rules as rules
 use Rattle.gate_events.specs.declared.emit.Detail.TheVariants as detail
 use Rattle.readings.specs.declared.reading.Reading.{Reading}
 use Rattle.readings.specs.declared.reading.Reading.TheVariants as reading
 use Rattle.readings.specs.Rows.{row_of}
-use Rattle.pgn_profile.specs.Profiled.{payload_of, pgn_of, priority_of}
+use Rattle.pgn_profile.specs.declared.kinds.Kind.{Kind}
+use Rattle.pgn_profile.specs.declared.kinds.Kind.TheVariants.{Single, Fast, Outside}
+use Rattle.pgn_profile.specs.Profiled.{kind_of, payload_of, pgn_of, priority_of}
+use Rattle.pgn_profile.proofs.Law.{fits, payload_fits}
 use Rattle.fast_packet.proofs.Counts.{need_is}
 use Rattle.fast_packet.specs.FastRuns.{need_of, later_frame, frames_to, frames_of}
 use Rattle.sentence_text.specs.declared.fault.SentenceFault.{SentenceFault}
@@ -49,25 +54,14 @@ frames_two sequence p small =
     let frames = length_frames_to sequence p (need_of (length p) - 1) in
     omega (arith, frames, need_is (length p), small)
 
--- no payload is longer, whatever its fields are
+-- no payload is longer
+size_fits : (kind : Kind) (size : ℕ) → fits kind size ≡ true → size ≤ 48
+size_fits Single size is = grind (arith, nat_tests)
+size_fits Fast size is = grind (arith, nat_tests)
+size_fits Outside size is = absurd (false≢true is)
+
 payload_length : (r : Reading) → length (payload_of r) ≤ 48
-payload_length (reading.HeadingTrue h) = omega arith
-payload_length (reading.HeadingMagnetic h d v) = omega arith
-payload_length (reading.RateOfTurn r) = omega arith
-payload_length (reading.RudderFirst p) = omega arith
-payload_length (reading.RudderSecond p) = omega arith
-payload_length (reading.WaterSpeed s) = omega arith
-payload_length (reading.Depth d o r) = omega arith
-payload_length (reading.DistanceLog l t) = omega arith
-payload_length (reading.Position la lo) = omega arith
-payload_length (reading.CourseSpeed m c s) = omega arith
-payload_length (reading.Gnss d t la lo al m n h s) = omega arith
-payload_length (reading.Time d t) = omega arith
-payload_length (reading.WindApparent s a) = omega arith
-payload_length (reading.WindTrue s a) = omega arith
-payload_length (reading.WindNorth m s a) = omega arith
-payload_length (reading.WaterTemperature k) = omega arith
-payload_length (reading.CrossTrack d) = omega arith
+payload_length r = size_fits (kind_of (pgn_of (row_of r))) (length (payload_of r)) (payload_fits r)
 
 -- ---- a reading that is selected
 

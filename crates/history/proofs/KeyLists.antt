@@ -8,11 +8,11 @@ use Rattle.std.specs.Map.{lookup}
 use Rattle.std.specs.BTreeMap.{is_at}
 use Rattle.std.specs.declared.cmp.Ordering.{Ordering}
 use Rattle.std.specs.declared.cmp.Ordering.TheVariants.{Less, Equal, Greater}
-use Rattle.std.proofs.lemmas.Bool.{and_parts, false≢true}
+use Rattle.std.proofs.lemmas.Bool.{and_parts, false≢true, or_parts}
 use Rattle.slot_views.specs.Slots.{Entry, SlotMap, IsOrdered, entry_at}
 use Rattle.slot_views.proofs.Tied.{same_itself}
 use Rattle.history.specs.Opens.{inserted, with_key}
-use Rattle.history.proofs.Counts.{Held, all_inserted, any_tells, or_parts, filter_twice}
+use Rattle.history.proofs.Counts.{Held, all_inserted, any_tells, filter_twice}
 use Rattle.history.proofs.Fewer.{among_filtered}
 
 module _ {K : Type 0} (cmp : K → K → Ordering) (o : IsTotalOrder cmp) where

@@ -1,5 +1,6 @@
 -- A frame breaks what is open of its key exactly where it leaves nothing open and completes nothing.
 use Rattle.std.proofs.Common.{◌≡◌, ℕ, Bool, true, false, ◌&&◌, ◌||◌, not, ◌==◌, nat_le, nat_lt, List, [], ◌∷◌, length, is_some, is_none, refl, sym, ap, ◌∙◌, arith}
+use Rattle.std.proofs.Math.Bool.{and-false}
 use Rattle.std.specs.Prelude.{Option, Some, None, if◌then◌else◌, slice_index}
 use Rattle.std.proofs.lemmas.Bool.{eqb-true, ne_eqb, leb-true, ltb-true, le-ltb, lt-leb, and_parts, false≢true}
 use Rattle.slot_views.specs.Runs.{Rules, is_admitted, is_whole, if_open, if_whole, open_at}
@@ -21,7 +22,6 @@ use Rattle.iso_transport.specs.IsoRuns as iso
 use Rattle.iso_transport.specs.Verdicts.{bears, sized_verdict, kind_verdict, management_verdict}
 use Rattle.iso_transport.specs.RunVerdicts.{run_verdict, packet_run_verdict}
 use Rattle.iso_transport.proofs.Lawful as iso_lawful
-use Rattle.iso_transport.proofs.Lawful.{and_false}
 use Rattle.history.specs.Traces.{fast_trace, iso_trace}
 use Rattle.history.specs.RefusalLaws.{goes_on, FastRefusalsBreak, ends, TransportRefusalsBreak}
 
@@ -108,14 +108,14 @@ module _ (addressed : Bool) (x : IsoPiece) where
   short_is_no_next [] short = refl
   short_is_no_next (y ∷ ys) short =
       let past : nat_le (end_of (left_of_run (y ∷ ys))) (length x.bytes) ≡ false = lt-leb (end_of (left_of_run (y ∷ ys))) (length x.bytes) (ltb-true (length x.bytes) (end_of (left_of_run (y ∷ ys))) short) in
-      simp (past, and_false)
+      simp (past, and-false)
 
   not_eight : (left : ℕ) → nat_lt (length x.bytes) (end_of left) ≡ true → (length x.bytes == 8) ≡ false
   not_eight left short = let less = ltb-true (length x.bytes) (end_of left) short in ne_eqb (length x.bytes) 8 (λ e. omega arith)
 
   short_is_no_repeat : (acc : List IsoPiece) → nat_lt (length x.bytes) (end_of (left_of_run acc)) ≡ true → iso.is_repeat acc x ≡ false
   short_is_no_repeat [] short = refl
-  short_is_no_repeat (y ∷ ys) short = let other = not_eight (left_of_run (y ∷ ys)) short in simp (other, and_false)
+  short_is_no_repeat (y ∷ ys) short = let other = not_eight (left_of_run (y ∷ ys)) short in simp (other, and-false)
 
   packet_ends : (acc : List IsoPiece) (s n p : Bool) → nat_lt (length x.bytes) (end_of (left_of_run acc)) ≡ s → iso.is_next acc x ≡ n → iso.is_repeat acc x ≡ p
       → ends (packet_run_verdict addressed (Some acc) x) ≡ not (n || p)

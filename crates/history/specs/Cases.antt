@@ -3,7 +3,7 @@ use Rattle.std.specs.Prelude.{◌≡◌, ℕ, ◌+◌, true, false, List, [], �
 use Rattle.std.specs.Int.{w64, to_be_bytes}
 use Rattle.claim_table.specs.declared.preset.Preset.{Preset}
 use Rattle.readings.specs.declared.rows.Row.{Row}
-use Rattle.readings.specs.About.{about_of, every_row}
+use Rattle.readings.specs.Rows.{about_of, every_row}
 use Rattle.datagram450.specs.Datagram.{header}
 use Rattle.history.specs.Entries.{Entry, frame}
 use Rattle.history.specs.Settings.{Settings, RowRule}

@@ -7,7 +7,7 @@ use Rattle.readings.specs.declared.rows.Row.TheVariants as row
 use Rattle.history.specs.Entries.{frame}
 use Rattle.history.specs.Settings.{Settings, RowRule}
 use Rattle.history.specs.Emits.{of_source}
-use Rattle.readings.specs.About.{every_row}
+use Rattle.readings.specs.Rows.{every_row}
 use Rattle.history.specs.Cases.{Emits, full, emitted, navd, two_devices, plain_rule}
 
 abbrev pub OneHeading : Type 0

@@ -6,7 +6,7 @@ use Rattle.datagram450.specs.Datagram.{header}
 use Rattle.history.specs.Entries.{datagram, tick}
 use Rattle.history.specs.Settings.{Settings, RowRule}
 use Rattle.gate_events.specs.Emit.{Emit, net}
-use Rattle.readings.specs.About.{every_row}
+use Rattle.readings.specs.Rows.{every_row}
 use Rattle.history.specs.Cases.{Emits, full, can_frame, emitted, lined, navd, two_devices, plain_rule}
 
 -- depths are said on a transmission group of their own

@@ -7,7 +7,7 @@ use Rattle.report_rules.specs.Rules.{fast_orphan, short_message}
 use Rattle.history.specs.Entries.{frame}
 use Rattle.history.specs.Settings.{Settings, RowRule}
 use Rattle.history.specs.Emits.{of_source}
-use Rattle.readings.specs.About.{every_row}
+use Rattle.readings.specs.Rows.{every_row}
 use Rattle.history.specs.Cases.{Emits, IsSilent, can_frame, fix, full, emitted, navd, with_presets, preset, plain_rule}
 
 -- every device

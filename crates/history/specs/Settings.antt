@@ -4,7 +4,7 @@ use Rattle.std.specs.Prelude.{nat_eq, ℕ, zero, suc, Bool, false, ◌==◌, Lis
 use Rattle.n2k_id.specs.declared.pattern.Pattern.{Pattern}
 use Rattle.claim_table.specs.declared.preset.Preset.{Preset}
 use Rattle.readings.specs.declared.rows.Row.{Row}
-use Rattle.readings.specs.About.{row_number}
+use Rattle.readings.specs.Rows.{row_number}
 use Rattle.pgn_profile.specs.Profiled.{kind_of}
 use Rattle.pgn_profile.specs.declared.kinds.Kind.{Kind}
 

@@ -1,13 +1,10 @@
 -- Messages of the transport protocol are runs, so what is promised of runs holds of them.
-use Rattle.std.proofs.Common.{◌≡◌, ◌&&◌, ℕ, nat_lt, Bool, true, false, List, [], ◌∷◌, length, refl, arith}
+use Rattle.std.proofs.Common.{◌≡◌, ℕ, nat_lt, Bool, true, false, List, [], ◌∷◌, length, refl, arith}
 use Rattle.std.proofs.lemmas.Bool.{and_parts, eqb-true, le-ltb, not-true}
 use Rattle.std.proofs.Math.Bool.{and-false}
 use Rattle.slot_views.specs.Runs.{is_whole, opener_of}
 use Rattle.slot_views.specs.RunLaws.{IsLawful}
 use Rattle.iso_transport.specs.IsoRuns.{IsoPiece, need_of, is_opener, is_next, is_repeat, iso_rules}
-
-pub and_false : (b : Bool) → (b && false) ≡ false
-and_false = and-false
 
 -- what is no packet is neither next nor a repeat
 pub no_next : (acc : List IsoPiece) (x : IsoPiece) → x.packet ≡ false → is_next acc x ≡ false

@@ -5,7 +5,7 @@ use Rattle.readings.specs.declared.reading.Reading.{Reading}
 use Rattle.readings.specs.declared.reading.Reading.TheVariants as reading
 use Rattle.readings.specs.declared.rows.Row.{Row}
 use Rattle.readings.specs.declared.rows.Row.TheVariants as row
-use Rattle.readings.specs.About.{row_number}
+use Rattle.readings.specs.Rows.{row_number}
 use Rattle.sentence_rows.specs.Writing.{only_if}
 use Rattle.sentence_rows.specs.declared.rmc.Minimum.{Minimum}
 use Rattle.sentence_rows.specs.Rmc.{rmc_text}
@@ -15,7 +15,8 @@ use Rattle.gate_events.specs.Emit.{Emit, net}
 use Rattle.history.specs.Entries.{Entry, History, moment_of}
 use Rattle.history.specs.Settings.{Settings}
 use Rattle.settings.specs.declared.rmc.RmcConfig.{RmcConfig}
-use Rattle.joined_rmc.specs.Selected.{selected_at, is_due, lasting}
+use Rattle.selected_messages.specs.Selected.{selected_at}
+use Rattle.joined_rmc.specs.Lasting.{is_due, lasting}
 
 -- how RMC is said
 pub record RmcRule : Type 0 where

@@ -3,7 +3,7 @@ use Rattle.std.specs.Prelude.{◌≡◌, ℕ, false, List, [], ◌∷◌, ◌++�
 use Rattle.std.specs.List.{flat_map}
 use Rattle.n2k_id.specs.Frame.{BusFrame}
 use Rattle.n2k_id.specs.Identifier.{parts_of}
-use Rattle.readings.specs.Rows.{row_of}
+use Rattle.readings.specs.Rows.{row_of, about_of}
 use Rattle.pgn_profile.specs.declared.kinds.Kind.{Kind}
 use Rattle.pgn_profile.specs.declared.kinds.Kind.TheVariants as kinds
 use Rattle.pgn_profile.specs.declared.profiled.Profiled.{Profiled}
@@ -16,7 +16,6 @@ use Rattle.capture_text.specs.LineRule.{rule_number}
 use Rattle.report_rules.specs.Rules.{not_converted, short_message}
 use Rattle.gate_events.specs.Event.{Seen, frame, datagram, tick}
 use Rattle.capture_text.specs.Writing.{report_text}
-use Rattle.readings.specs.About.{about_of}
 
 -- the report of a rule about a line
 unfoldable pub refusal : ℕ → ℕ → List ℕ

@@ -1,15 +1,17 @@
--- The laws of the table: what is read is valid, and what is written of a valid reading is read as that reading.
-use Rattle.std.proofs.Common.{◌≡◌, ℕ, Bool, true, false, List, [], ◌∷◌, length, nat_lt, ◌==◌, Some, refl, ap, ◌∙◌}
+-- The laws of the table: what is read is valid, what is written of a valid reading is read as that reading, and each payload fits how its message
+-- comes.
+use Rattle.std.proofs.Common.{◌≡◌, ℕ, Bool, true, false, ◌&&◌, List, [], ◌∷◌, length, nat_le, nat_lt, ◌==◌, Some, refl, ap, ◌∙◌}
 use Rattle.std.specs.Prelude.{if◌then◌else◌}
 use Rattle.readings.specs.declared.reading.Reading.{Reading}
 use Rattle.readings.specs.declared.reading.Reading.TheVariants as reading
-use Rattle.readings.specs.Rows.{row_of}
-use Rattle.readings.specs.Ranges.{IsValid}
+use Rattle.readings.specs.Rows.{IsValid, row_of}
+use Rattle.pgn_profile.specs.declared.kinds.Kind.{Kind}
+use Rattle.pgn_profile.specs.declared.kinds.Kind.TheVariants.{Single, Fast, Outside}
 use Rattle.pgn_profile.specs.declared.profiled.Profiled.{Profiled}
 use Rattle.pgn_profile.specs.declared.profiled.Profiled.TheVariants as says
 use Rattle.pgn_profile.specs.Part.{AreIn, Values, values_in}
 use Rattle.pgn_profile.specs.Layout.{Layout, Message, filling, given, reading_by, written}
-use Rattle.pgn_profile.specs.Profiled.{payload_of, pgn_of, GivesValid, by_message, by_rows, message_in, messages, profiled}
+use Rattle.pgn_profile.specs.Profiled.{kind_of, payload_of, pgn_of, GivesValid, by_message, by_rows, message_in, messages, profiled}
 use Rattle.pgn_profile.proofs.Parts.{are_in, is_well_formed, written_back}
 
 -- ---- what is read is valid
@@ -68,3 +70,17 @@ law r valid =
     let row = (filling r).row in
     let back = written_back row.parts (filling r).values row.around (formed r) (within r valid) in
     selected r ∙ ap (λ (v : Values row.parts). says.Reading (given row.parts row.reading v)) back ∙ ap says.Reading (whole r)
+
+-- ---- what is written fits how it comes
+
+-- so many bytes fit the one frame or the frames in which a message comes; the longest message has 43
+abbrev pub fits : Kind → ℕ → Bool
+fits Single size = nat_le 1 size && nat_le size 8
+fits Fast size = nat_le 1 size && nat_le size 48
+fits Outside size = false
+
+-- whatever its fields are
+pub payload_fits : (r : Reading) → fits (kind_of (pgn_of (row_of r))) (length (payload_of r)) ≡ true
+unfolding messages
+payload_fits (reading.HeadingTrue h) = refl
+payload_fits _ = refl

@@ -3,7 +3,8 @@ use Rattle.std.specs.Prelude.{ℕ, List, [], ◌∷◌, Bool, true, ◌==◌}
 use Rattle.std.specs.List.{list_any}
 use Rattle.readings.specs.declared.reading.Reading.{Reading}
 use Rattle.readings.specs.declared.reading.Reading.TheVariants as reading
-use Rattle.readings.specs.Ranges.{IsValid, angle, deviation, rate_of_turn, rudder, speed, depth, offset, depth_scale, water_distance, latitude, longitude, date, time, fix_latitude, fix_longitude, altitude, satellites, hdop, separation, water_temperature, cross_track}
+use Rattle.readings.specs.Ranges.{angle, deviation, rate_of_turn, rudder, speed, depth, offset, depth_scale, water_distance, latitude, longitude, date, time, fix_latitude, fix_longitude, altitude, satellites, hdop, separation, water_temperature, cross_track}
+use Rattle.readings.specs.Rows.{IsValid}
 use Rattle.pgn_profile.specs.declared.kinds.Kind.{Kind}
 use Rattle.pgn_profile.specs.declared.kinds.Kind.TheVariants.{Single, Fast}
 use Rattle.pgn_profile.specs.Part.{AreIn, Part, ValueOf, Values, bits_at, code, filled, flag, multiple, part, signed, unsigned, values_in}

@@ -1,4 +1,3 @@
-pub mod About
 pub mod Numbers
 pub mod Ranges
 pub mod Rows

@@ -1,9 +1,6 @@
 -- The ranges of the rows' values.
-use Rattle.std.specs.Prelude.{ℕ, ℤ, pos, ◌-ℤ◌, ◌≤ℤ◌, List, [], ◌∷◌, Option, Some, None}
-use Rattle.std.specs.List.{AllByRecursion}
+use Rattle.std.specs.Prelude.{ℕ, ℤ, pos, ◌-ℤ◌, ◌≤ℤ◌, Option, Some, None}
 use Rattle.readings.specs.declared.range.Range.{Range}
-use Rattle.readings.specs.declared.reading.Reading.{Reading}
-use Rattle.readings.specs.declared.reading.Reading.TheVariants as reading
 
 abbrev pub from_to : ℤ → ℤ → Range
 from_to low high = record { low = low; high = high }
@@ -80,28 +77,6 @@ water_temperature = from_to (pos 173150) (pos 373150)
 abbrev pub cross_track : Range
 cross_track = either_side 18520000
 
--- a reading's values in the order of its fields, each with its range
-abbrev pub limits : Reading → List (Range × Option ℤ)
-limits (reading.HeadingTrue h) = (angle, h) ∷ []
-limits (reading.HeadingMagnetic h d v) = (angle, h) ∷ (deviation, d) ∷ (deviation, v) ∷ []
-limits (reading.RateOfTurn r) = (rate_of_turn, r) ∷ []
-limits (reading.RudderFirst p) = (rudder, p) ∷ []
-limits (reading.RudderSecond p) = (rudder, p) ∷ []
-limits (reading.WaterSpeed s) = (speed, s) ∷ []
-limits (reading.Depth d o r) = (depth, d) ∷ (offset, o) ∷ (depth_scale, r) ∷ []
-limits (reading.DistanceLog l t) = (water_distance, l) ∷ (water_distance, t) ∷ []
-limits (reading.Position la lo) = (latitude, la) ∷ (longitude, lo) ∷ []
-limits (reading.CourseSpeed m c s) = (angle, c) ∷ (speed, s) ∷ []
-limits (reading.Gnss d t la lo al m n h s) =
-    (date, d) ∷ (time, t) ∷ (fix_latitude, la) ∷ (fix_longitude, lo) ∷ (altitude, al) ∷ (method, Some (pos m))
-    ∷ (satellites, n) ∷ (hdop, h) ∷ (separation, s) ∷ []
-limits (reading.Time d t) = (date, d) ∷ (time, t) ∷ []
-limits (reading.WindApparent s a) = (speed, s) ∷ (angle, a) ∷ []
-limits (reading.WindTrue s a) = (speed, s) ∷ (angle, a) ∷ []
-limits (reading.WindNorth m s a) = (speed, s) ∷ (angle, a) ∷ []
-limits (reading.WaterTemperature k) = (water_temperature, k) ∷ []
-limits (reading.CrossTrack d) = (cross_track, d) ∷ []
-
 -- the value is in the range
 abbrev pub Holds : Range → ℤ → Type 0
 Holds range value = (range.low ≤ℤ value) × (value ≤ℤ range.high)
@@ -113,7 +88,3 @@ Admits range (Some value) = Holds range value
 
 abbrev pub IsWithin : Range × Option ℤ → Type 0
 IsWithin limit = Admits limit.0 limit.1
-
--- each value of the reading that is there is in its range
-abbrev pub IsValid : Reading → Type 0
-IsValid r = AllByRecursion IsWithin (limits r)

@@ -1,7 +1,7 @@
 ghost use Rattle.std.specs.Prelude.{◌≡◌, ◌↔◌, All, IsSome, IsTrue};
 ghost use Rattle.std.specs.List.{AllByRecursion};
-ghost use Rattle.readings.specs.Rows.{row_of, principal};
-ghost use Rattle.readings.specs.Ranges.{IsWithin, IsValid};
+ghost use Rattle.readings.specs.Rows.{IsValid, row_of, principal};
+ghost use Rattle.readings.specs.Ranges.{IsWithin};
 
 use crate::range::{
     ALTITUDE, ANGLE, CROSS_TRACK, DATE, DEPTH, DEPTH_SCALE, DEVIATION, FIX_LATITUDE, FIX_LONGITUDE,

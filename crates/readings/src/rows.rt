@@ -1,7 +1,7 @@
 //! The rows, and what each is beside its values, in one table: how it is named, who says it, and by which parameter groups it goes over the
 //! bus.
 ghost use Rattle.std.specs.Prelude.{◌≡◌, ◌<◌, ◌≤◌, IsTrue, length};
-ghost use Rattle.readings.specs.About.{about_of, are_capitals, rows};
+ghost use Rattle.readings.specs.Rows.{about_of, are_capitals, rows};
 
 /// The rows of the profile. Each is one kind of reading with a sentence of its own, and they stand
 /// everywhere in this order.
@@ -94,7 +94,7 @@ static ALL: [Row; ROWS] = [
 ];
 
 /// All rows, in their order.
-#[tactic(auto, unfolding(crate::specs::About::rows))]
+#[tactic(auto, unfolding(crate::specs::Rows::rows))]
 pub fn all_rows() -> &'static [Row; ROWS]
     ensures { result.now ≡ rows }
 {

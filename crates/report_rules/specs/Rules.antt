@@ -94,6 +94,10 @@ command_not_obeyed = 26
 abbrev pub ais_report_outside : ℕ
 ais_report_outside = 27
 
+-- a row is taken from another device than before
+abbrev pub source_changed : ℕ
+source_changed = 28
+
 -- a datagram doesn't begin with its header
 abbrev pub datagram_header : ℕ
 datagram_header = 30
@@ -182,7 +186,7 @@ capture_rules = capture_form ∷ line_long ∷ moment_back ∷ not_extended ∷ 
 abbrev pub bus_rules : List ℕ
 bus_rules = unclaimed ∷ fast_order ∷ fast_orphan ∷ fast_length ∷ restarted ∷ slots_full ∷ expired ∷ claim_lost ∷ iso_size ∷
     iso_order ∷ iso_orphan ∷ iso_aborted ∷ short_message ∷ duplicate_name ∷ own_address_used ∷ claim_or_request_malformed ∷
-    command_not_obeyed ∷ ais_report_outside ∷ []
+    command_not_obeyed ∷ ais_report_outside ∷ source_changed ∷ []
 
 -- of datagrams from the network
 abbrev pub network_rules : List ℕ

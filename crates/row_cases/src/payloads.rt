@@ -1,7 +1,6 @@
 //! Each payload was worked out by hand from the layouts of the messages.
 
-mod beyond;
-mod ends;
+mod rows;
 
 use pgn_profile::{Kind, Profiled, kind, priority, read};
 use readings::{Reading, Row};

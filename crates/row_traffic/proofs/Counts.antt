@@ -4,7 +4,7 @@ use Rattle.std.proofs.Math.ListN.{get_or}
 use Rattle.std.proofs.lemmas.List.{ext_get_or}
 use Rattle.std.proofs.lemmas.List.FromFn.{get_or-map-range_with_len}
 use Rattle.std.specs.List.{AllByRecursion}
-use Rattle.readings.specs.About.{rows_count}
+use Rattle.readings.specs.Rows.{rows_count}
 use Rattle.gate_model.specs.Net.{row_numbers}
 
 pub all_counted : (f : ℕ → ℕ) (lines : List ℕ) → length lines ≡ rows_count → ((k : ℕ) → k < rows_count → get_or lines k 0 ≡ f k) → lines ≡ map f row_numbers

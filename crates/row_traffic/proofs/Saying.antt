@@ -5,8 +5,7 @@ use Rattle.std.proofs.Math.Numerals.{suc-eq-add-one}
 use Rattle.std.proofs.Math.Seq.{drop-cons}
 use Rattle.sentence_rows.specs.declared.lines.SentenceText.{SentenceText}
 use Rattle.readings.specs.declared.reading.Reading.{Reading}
-use Rattle.readings.specs.Ranges.{IsValid}
-use Rattle.readings.specs.Rows.{row_of}
+use Rattle.readings.specs.Rows.{IsValid, row_of}
 use Rattle.sentence_text.specs.Names.{IsSfi}
 use Rattle.tag_block.specs.Writing.{longest_packet}
 use Rattle.datagram450.specs.Datagram.{header, line_text}

@@ -1,6 +1,6 @@
 -- What the calls take of what is heard from the network (IEC 61162-450), as the plain values of the gateway's model.
 use Rattle.std.specs.Prelude.{◌≡◌, ◌<◌, ◌≤◌, ℕ, false, List, [], ◌∷◌, length, Result, replicate}
-use Rattle.readings.specs.About.{rows_count}
+use Rattle.readings.specs.Rows.{rows_count}
 use Rattle.std.specs.declared.cmp.Ordering.{Ordering}
 use Rattle.source_choice.specs.Choices.{opened}
 use Rattle.tag_block.specs.declared.group_key.GroupKey.{GroupKey}

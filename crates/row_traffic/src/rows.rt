@@ -2,7 +2,7 @@
 ghost use Rattle.std.specs.Prelude.{◌≡◌, ◌<◌, IsTrue, Some};
 ghost use Rattle.std.specs.List.{list_all};
 ghost use Rattle.sentence_text.specs.Byte.{is_capital};
-ghost use Rattle.readings.specs.About.{row_number};
+ghost use Rattle.readings.specs.Rows.{row_number};
 ghost use Rattle.history.specs.Choice.{is_usable};
 ghost use Rattle.history.specs.Settings.{rule_at, rule_of};
 ghost use Rattle.config_values.specs.Configs.{IsConfig};

@@ -2,11 +2,9 @@
 ghost use Rattle.std.specs.Prelude.{◌≡◌, ◌+◌, ◌*◌, ◌%◌, ◌<◌, ◌≤◌, ◌++◌, ◌∷◌, [], false, length, map, IfOk, IfSome, Some};
 ghost use Rattle.std.specs.Int.{from_le_bytes, to_le_bytes, w32};
 ghost use Rattle.std.specs.List.{AllByRecursion};
-ghost use Rattle.readings.specs.Ranges.{IsValid};
-ghost use Rattle.readings.specs.Rows.{row_of};
+ghost use Rattle.readings.specs.Rows.{IsValid, row_of, row_number};
 ghost use Rattle.sentence_text.specs.Byte.{is_capital};
 ghost use Rattle.source_choice.specs.Choices.{opened, forgotten};
-ghost use Rattle.readings.specs.About.{row_number};
 ghost use Rattle.tag_block.specs.Writing.{longest_packet};
 ghost use Rattle.history.specs.Choice.{is_usable, rank_of, reading_in};
 ghost use Rattle.gate_events.specs.Emit.{net};
@@ -61,7 +59,7 @@ pub struct Said {
 impl Model for Said {
     ghost use Rattle.std.specs.Prelude.{◌≡◌, ◌<◌, length};
     ghost use Rattle.std.specs.List.{AllByRecursion};
-    ghost use Rattle.readings.specs.About.{rows_count};
+    ghost use Rattle.readings.specs.Rows.{rows_count};
     ghost use Rattle.gate_model.specs.Said.{SaidKept};
 
     ghost Value = { SaidKept };

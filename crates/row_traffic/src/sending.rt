@@ -1,7 +1,7 @@
 //! A reading on its way to the bus: from the gateway's own address to all, in one frame or as a fast packet.
 ghost use Rattle.std.specs.Prelude.{◌≡◌, ◌+◌, ◌<◌, ◌≤◌, [], ◌∷◌, false, length, map};
 ghost use Rattle.n2k_id.specs.Identifier.{CanJoin};
-ghost use Rattle.readings.specs.Ranges.{IsValid};
+ghost use Rattle.readings.specs.Rows.{IsValid};
 ghost use Rattle.fast_packet.specs.FastRuns.{longest, need_of, frames_of};
 ghost use Rattle.history.specs.Opens.{is_fast};
 ghost use Rattle.gate_outbox.specs.Output.{and_told, most_told};

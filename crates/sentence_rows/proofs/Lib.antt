@@ -8,3 +8,4 @@ pub mod StableRows
 pub mod Dates
 pub mod CivilDates
 pub mod Unique
+pub mod ShortSentences

@@ -7,7 +7,8 @@ use Rattle.std.proofs.lemmas.List.Elements.{All-nil, All-cons}
 use Rattle.jiff_core.specs.declared.civil.date.Date.{Date}
 use Rattle.jiff_core.specs.Date.{epoch_day}
 use Rattle.readings.specs.Ranges as ranges
-use Rattle.readings.specs.Ranges.{Admits, IsValid}
+use Rattle.readings.specs.Ranges.{Admits}
+use Rattle.readings.specs.Rows.{IsValid}
 use Rattle.readings.specs.declared.reading.Reading.{Reading}
 use Rattle.readings.specs.declared.reading.Reading.TheVariants as reading
 use Rattle.sentence_text.specs.Fields.{fields_of}

@@ -7,7 +7,7 @@ use Rattle.std.proofs.lemmas.Bool.Decides.{nat_tests}
 use Rattle.std.proofs.lemmas.Int.{ints}
 use Rattle.readings.specs.declared.range.Range.{Range}
 use Rattle.readings.specs.Ranges as ranges
-use Rattle.readings.specs.Ranges.{Admits, Holds, IsValid}
+use Rattle.readings.specs.Ranges.{Admits, Holds}
 use Rattle.unit_fraction.specs.declared.decimal.Decimal.{Decimal}
 use Rattle.unit_fraction.specs.Round.{nearest}
 use Rattle.sentence_rows.specs.declared.digits.Fixed.{Fixed}

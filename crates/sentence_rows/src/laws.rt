@@ -1,6 +1,6 @@
 //! What is promised of dates and of the sentences that are written. Each law is a function that does nothing, and whose clause is
 //! the law.
-ghost use Rattle.sentence_rows.specs.Laws.{DatesAreTheCalendars, SaidInOneWay};
+ghost use Rattle.sentence_rows.specs.Laws.{DatesAreTheCalendars, EachSaidBriefly, SaidInOneWay};
 
 /// The date that the definitions compute for a day is the one that the calendar has for it.
 pub fn dates_are_the_calendars()
@@ -11,4 +11,9 @@ pub fn dates_are_the_calendars()
 #[tactic(auto, using(crate::proofs::Unique::said_in_one_way))]
 pub fn readings_are_said_in_one_way()
     ensures { SaidInOneWay }
+{}
+
+/// A reading is said in one sentence or two, which have at most 82 bytes each where it is valid.
+pub fn readings_are_said_briefly()
+    ensures { EachSaidBriefly }
 {}

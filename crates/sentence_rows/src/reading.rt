@@ -1,5 +1,5 @@
 ghost use Rattle.std.specs.Prelude.{◌≡◌, [], All, IfOk};
-ghost use Rattle.readings.specs.Ranges.{IsValid};
+ghost use Rattle.readings.specs.Rows.{IsValid};
 ghost use Rattle.sentence_text.specs.Reading.{parts};
 ghost use Rattle.sentence_rows.specs.Columns.{fields_in};
 ghost use Rattle.sentence_rows.specs.Reading as spec;

@@ -1,5 +1,6 @@
 -- What a search among slots in the order of their keys finds.
-use Rattle.std.proofs.Common.{◌≡◌, ℕ, zero, suc, ◌<◌, ◌≤◌, List, [], ◌∷◌, length, get_or, take, drop, Bool, true, false, not, ◌&&◌, Result, Ok, Err, IfOk, IfErr, refl, sym, ◌∙◌, ap, arith}
+use Rattle.std.proofs.Common.{◌≡◌, ℕ, zero, suc, ◌<◌, ◌≤◌, List, [], ◌∷◌, length, get_or, take, drop, true, false, not, Result, Ok, Err, IfOk, IfErr, refl, sym, ◌∙◌, ap, arith}
+use Rattle.std.proofs.Math.Bool.{and-false}
 use Rattle.std.specs.List.{AllByRecursion, remove}
 use Rattle.std.proofs.lemmas.List.{get_or_default, get_or-map, length-map}
 use Rattle.std.proofs.lemmas.List.Edits.{length-remove}
@@ -17,10 +18,6 @@ pub is_equal : (r : Ordering) → is_eq r ≡ true → r ≡ Equal
 is_equal Less is = cc
 is_equal Equal is = refl
 is_equal Greater is = cc
-
-and_false : (b : Bool) → (b && false) ≡ false
-and_false true = refl
-and_false false = refl
 
 module _ {K : Type 0} {cmp : K → K → Ordering} (o : IsTotalOrder cmp) where
   -- what is greater than a key is greater than each lesser one
@@ -116,7 +113,7 @@ module _ {K : Type 0} {cmp : K → K → Ordering} (o : IsTotalOrder cmp) where
   all_beyond low high x [] above all = tt
   all_beyond low high x (y ∷ xs) above all =
       let far : is_gt (cmp y.key high) ≡ true = ap is_gt (beyond high x y.key above all.0) in
-      (rw far (and_false (not (is_gt (cmp low y.key)))), all_beyond low high x xs above all.1)
+      (rw far (and-false (not (is_gt (cmp low y.key)))), all_beyond low high x xs above all.1)
 
   -- the least key from low on decides
   pub first_between : (low high : K) (xs : List (Slot K)) (i : ℕ) (d : Slot K) → i < length xs → Below cmp low (entries_of xs) i → NotBelow cmp low xs i → is_gt (cmp (get_or xs i d).key high) ≡ false → IsFirst (is_between cmp low high) xs i
@@ -140,7 +137,7 @@ module _ {K : Type 0} {cmp : K → K → Ordering} (o : IsTotalOrder cmp) where
   none_between low high [] i d ordered in_range below above = absurd (omega arith)
   none_between low high (x ∷ xs) zero d ordered in_range below above =
       let far : is_gt (cmp x.key high) ≡ true = ap is_gt above in
-      (rw far (and_false (not (is_gt (cmp low x.key)))), all_beyond low high x.key xs above ordered.0)
+      (rw far (and-false (not (is_gt (cmp low x.key)))), all_beyond low high x.key xs above ordered.0)
   none_between low high (x ∷ xs) (suc i) d ordered in_range below above = (rw below.0 refl, none_between low high xs i d ordered.1 (omega arith) below.1 above)
 
   pub none_between_below : (low high : K) (xs : List (Slot K)) (i : ℕ) → length xs ≤ i → Below cmp low (entries_of xs) i → NoneShows (is_between cmp low high) xs

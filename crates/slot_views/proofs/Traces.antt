@@ -1,6 +1,6 @@
 -- What all pieces make of the map is what each key's own pieces make of its entry.
 use Rattle.std.proofs.Common.{◌≡◌, ℕ, suc, ◌≤◌, Bool, true, false, ◌&&◌, ◌||◌, not, nat_lt, ◌==◌, List, [], ◌∷◌, length, refl, sym, ◌∙◌, ap, Option, Some, None, is_some, arith}
-use Rattle.std.proofs.lemmas.Bool.{eqb-true, eqb-false, lt-ltb, le-ltb, ltb-true, ltb-false}
+use Rattle.std.proofs.lemmas.Bool.{eqb-true, eqb-false, lt-ltb, le-ltb, ltb-true, ltb-false, or_parts}
 use Rattle.std.specs.List.{AllByRecursion, IsDistinct, filter, list_any}
 use Rattle.std.specs.Cmp.{IsTotalOrder}
 use Rattle.std.specs.Ordering.{eq_by_cmp}
@@ -12,10 +12,6 @@ use Rattle.slot_views.specs.Slots.{Entry, SlotMap, IsOrdered, entry_at, is_held,
 use Rattle.slot_views.specs.Traces.{Filling, left_at, unexpired, now_of, pieces_at, keys_in, open_keys, other_open_keys, IsNoted, entry_after, IsStep, map_after, Joins}
 use Rattle.slot_views.proofs.Steps.{released_absent}
 use Rattle.slot_views.proofs.Tied.{same_turned, same_as, same_itself, lookup_same, removed_at, unexpired_at, ordered_filtered, ordered_removed}
-
-both_false : (a b : Bool) → (a || b) ≡ false → (a ≡ false) × (b ≡ false)
-both_false false b none = (refl, none)
-both_false true b none = cc
 
 -- what passes two tests that agree
 filtered_same : {X : Type 0} (p q : X → Bool) → ((x : X) → p x ≡ q x) → (xs : List X) → filter p xs ≡ filter q xs
@@ -41,7 +37,7 @@ module _ {K : Type 0} {cmp : K → K → Ordering} (o : IsTotalOrder cmp) where
 
   none_are : (k : K) (ks : List K) → list_any (is_at (cmp k)) ks ≡ false → AllByRecursion (λ y. eq_by_cmp cmp k y ≡ false) ks
   none_are k [] none = tt
-  none_are k (x ∷ ks) none = let parts = both_false (is_at (cmp k) x) (list_any (is_at (cmp k)) ks) none in (parts.0, none_are k ks parts.1)
+  none_are k (x ∷ ks) none = let parts = or_parts (is_at (cmp k) x) (list_any (is_at (cmp k)) ks) none in (parts.0, none_are k ks parts.1)
 
   -- one more key is counted once
   module _ (x : K) (p q : K → Bool) (more : (j : K) → p j ≡ (is_at (cmp x) j || q j)) (apart : (j : K) → is_at (cmp x) j ≡ true → q j ≡ false) where
@@ -132,11 +128,11 @@ module _ {K : Type 0} {cmp : K → K → Ordering} (o : IsTotalOrder cmp) where
             rw eb (rest before)
         by false true ea eb rest =
             let all : (is_at (cmp k) n.0 || list_any (is_at (cmp k)) (keys_in cmp h)) ≡ false = rw ea at none in
-            let other : is_at (cmp k) n.0 ≡ false = (both_false (is_at (cmp k) n.0) (list_any (is_at (cmp k)) (keys_in cmp h)) all).0 in
+            let other : is_at (cmp k) n.0 ≡ false = (or_parts (is_at (cmp k) n.0) (list_any (is_at (cmp k)) (keys_in cmp h)) all).0 in
             cc
         by false false ea eb rest =
             let all : (is_at (cmp k) n.0 || list_any (is_at (cmp k)) (keys_in cmp h)) ≡ false = rw ea at none in
-            rw eb (rest (both_false (is_at (cmp k) n.0) (list_any (is_at (cmp k)) (keys_in cmp h)) all).1)
+            rw eb (rest (or_parts (is_at (cmp k) n.0) (list_any (is_at (cmp k)) (keys_in cmp h)) all).1)
 
     pub all_at : (P : X → Type 0) (k : K) (h : List (K × X)) → AllByRecursion (λ n. P n.1) h → AllByRecursion P (pieces_at cmp k h)
     unfolding pieces_at

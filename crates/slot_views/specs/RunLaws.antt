@@ -1,5 +1,5 @@
 -- What one more piece does to what is open, and what is promised of every kind of run.
-use Rattle.std.specs.Prelude.{◌≡◌, ℕ, ◌≤◌, Bool, true, false, if◌then◌else◌, List, [], ◌∷◌, Option, Some, None}
+use Rattle.std.specs.Prelude.{◌≡◌, ℕ, ◌≤◌, true, false, if◌then◌else◌, List, [], ◌∷◌, Option, Some, None}
 use Rattle.slot_views.specs.Runs.{Rules, IsOpen, IsRun, is_whole, since_opener, if_open, if_whole, open_of, open_at, run_of, kept_at}
 
 module _ {X : Type 0} (r : Rules X) where

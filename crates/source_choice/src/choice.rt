@@ -19,7 +19,7 @@ pub struct Choice {
 impl Model for Choice {
     ghost use Rattle.std.specs.Prelude.{◌≡◌, length};
     ghost use Rattle.std.specs.List.{AllByRecursion};
-    ghost use Rattle.readings.specs.About.{rows_count};
+    ghost use Rattle.readings.specs.Rows.{rows_count};
     ghost use Rattle.source_choice.specs.Choices.{Choices};
 
     ghost Value = { Choices };

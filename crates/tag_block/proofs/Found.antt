@@ -1,9 +1,9 @@
 -- What is read is TAG blocks.
-use Rattle.std.proofs.Common.{◌≡◌, ℕ, zero, suc, ◌+◌, ◌-◌, ◌*◌, ◌<◌, Bool, true, false, cond, leb, List, [], ◌∷◌, ◌++◌, length, take, drop, drop-cons, All, Some, Result, Ok, Err, refl, sym, ap, subst, ◌∙◌, append_assoc, length-append, add-one, arith, inl, inr, Option, None}
+use Rattle.std.proofs.Common.{◌≡◌, ℕ, zero, suc, ◌+◌, ◌-◌, ◌*◌, ◌<◌, Bool, true, false, cond, List, [], ◌∷◌, ◌++◌, length, take, drop, drop-cons, All, Some, Result, Ok, Err, refl, sym, ap, subst, ◌∙◌, append_assoc, length-append, add-one, arith, inl, inr, Option, None}
 use Rattle.std.specs.Prelude.{◌==◌, not, slice_index}
 use Rattle.std.specs.Char.{digit_value}
 use Rattle.std.specs.List.{prefix_len, fold, flat_map}
-use Rattle.std.proofs.lemmas.Bool.{cases_Bool, cases_lt, eqb-true, eqb-false, leb-false, not-false}
+use Rattle.std.proofs.lemmas.Bool.{cases_Bool, cases_lt, eqb-true, eqb-false, not-false}
 use Rattle.std.proofs.lemmas.List.{append-nil, take-append-drop, take_at, length-drop, get_or_past}
 use Rattle.std.proofs.lemmas.List.Elements.{All-nil, All-cons}
 use Rattle.std.proofs.lemmas.List.Folds.{length-prefix_len}

@@ -1,6 +1,7 @@
 -- Groups of lines are runs, and a group is what the lines of its open prefix make.
 use Rattle.std.specs.List.{AllByRecursion}
-use Rattle.std.proofs.lemmas.Bool.{eqb-true, eqb-false, leb-true, leb-false, ltb-true, ne_eqb, eq-eqb, lt-ltb, le-ltb}
+use Rattle.std.proofs.Math.Bool.{and-false}
+use Rattle.std.proofs.lemmas.Bool.{eqb-true, eqb-false, leb-true, leb-false, ltb-true, ne_eqb, eq-eqb, lt-ltb, le-ltb, and_parts}
 use Rattle.std.proofs.Common.{◌≡◌, ℕ, ◌+◌, ◌-◌, ◌<◌, ◌≤◌, ◌==◌, ◌&&◌, nat_le, nat_lt, Bool, true, false, List, [], ◌∷◌, ◌++◌, length, Option, Some, None, add-one, refl, sym, ◌∙◌, ap, subst, arith}
 use Rattle.slot_views.specs.Runs.{accepted, accepted_after, accepted_more, in_time, is_whole, is_admitted, opener_of, since_opener, if_open, kept_at, open_of, open_at}
 use Rattle.slot_views.specs.RunLaws.{IsLawful, fed, fed_later}
@@ -12,14 +13,6 @@ use Rattle.tag_block.specs.declared.group_verdict.GroupVerdict.TheVariants.{Foll
 use Rattle.tag_block.specs.Groups.{IsGroupPart, follows, verdict}
 use Rattle.tag_block.specs.GroupRuns.{GroupLine, is_next, group_rules, sentences_of, group_gap}
 use Rattle.tag_block.specs.GroupLaws.{group_of, group_at, left_by, group_after}
-
-both_true : (a b : Bool) → (a && b) ≡ true → (a ≡ true) × (b ≡ true)
-both_true true b h = (refl, h)
-both_true false b h = cc
-
-and_false : (b : Bool) → (b && false) ≡ false
-and_false true = refl
-and_false false = refl
 
 -- a first line is no next one
 pub first_is_new : (acc : List GroupLine) (x : GroupLine) → (x.part.number == 1) ≡ true → is_next acc x ≡ false
@@ -37,7 +30,7 @@ lawful = record { opener_is_new = λ acc x opens. (first_is_new acc x opens, ref
     ends (y ∷ ys) x whole =
         let all = eqb-true (length (y ∷ ys)) (opener_of y ys).part.total whole in
         let past : nat_lt (length (y ∷ ys)) (opener_of y ys).part.total ≡ false = le-ltb _ _ (omega (arith, all)) in
-        (simp (past, and_false), refl)
+        (simp (past, and-false), refl)
 
 -- a later moment
 kept_by : (y : GroupLine) (ys : List GroupLine) (m : ℕ) (b : Bool) → nat_le m (y.moment + group_gap) ≡ b → left_at (group_of (y ∷ ys)) m ≡ group_at (kept_at group_rules (Some (y ∷ ys)) m)
@@ -93,8 +86,8 @@ all_front P (x ∷ xs) ys all = (all.0, all_front P xs ys all.1)
 pub within : (y : GroupLine) (ys : List GroupLine) → IsSoFar (y ∷ ys) → length (y ∷ ys) ≤ (opener_of y ys).part.total
 within y [] far = omega (arith, far)
 within y (z ∷ zs) far =
-    let parts = both_true (y.part.number == length (z ∷ zs) + 1) ((y.part.total == (opener_of z zs).part.total) && nat_lt (length (z ∷ zs)) (opener_of z zs).part.total) far.0 in
-    let rest = both_true (y.part.total == (opener_of z zs).part.total) (nat_lt (length (z ∷ zs)) (opener_of z zs).part.total) parts.1 in
+    let parts = and_parts (y.part.number == length (z ∷ zs) + 1) ((y.part.total == (opener_of z zs).part.total) && nat_lt (length (z ∷ zs)) (opener_of z zs).part.total) far.0 in
+    let rest = and_parts (y.part.total == (opener_of z zs).part.total) (nat_lt (length (z ∷ zs)) (opener_of z zs).part.total) parts.1 in
     let fewer = ltb-true (length (z ∷ zs)) (opener_of z zs).part.total rest.1 in
     omega (arith, fewer)
 

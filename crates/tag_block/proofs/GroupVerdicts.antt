@@ -1,22 +1,18 @@
 -- What follows from what a line is.
-use Rattle.std.proofs.Common.{◌≡◌, ◌+◌, ◌==◌, ◌&&◌, Bool, true, false, Option, Some, None, refl, sym}
-use Rattle.std.proofs.lemmas.Bool.{eqb-true}
+use Rattle.std.proofs.Common.{◌≡◌, ◌+◌, ◌==◌, Bool, true, false, Option, Some, None, refl, sym}
+use Rattle.std.proofs.lemmas.Bool.{eqb-true, and_parts}
 use Rattle.slot_views.specs.Slots.{Entry}
 use Rattle.tag_block.specs.declared.group_part.GroupPart.{GroupPart}
 use Rattle.tag_block.specs.declared.group_verdict.GroupVerdict.{GroupVerdict}
 use Rattle.tag_block.specs.declared.group_verdict.GroupVerdict.TheVariants.{Opens, Follows, Breaks}
 use Rattle.tag_block.specs.Groups.{follows, verdict, IsNext, VerdictFits}
 
-both_true : (a b : Bool) → (a && b) ≡ true → (a ≡ true) × (b ≡ true)
-both_true true b h = (refl, h)
-both_true false b h = cc
-
 next_from : (o : Option Entry) (part : GroupPart) → Follows ≡ verdict o part → IsNext o part
 next_from o part is = by o (part.number == 1) refl refl
   where
     held : (e : Entry) (f : Bool) → o ≡ Some e → (part.number == 1) ≡ false → follows e part ≡ f → IsNext o part
     held e true eo en ef =
-        let number = (both_true (e.need == part.total) ((e.next + 1) == part.number) ef).1 in
+        let number = (and_parts (e.need == part.total) ((e.next + 1) == part.number) ef).1 in
         record { entry = e; held = eo; number = sym (eqb-true (e.next + 1) part.number number) }
     held e false eo en ef = let other : Follows ≡ Breaks = rw (eo, en, ef) at is in cc
 

@@ -1,6 +1,7 @@
 use arrayvec::ArrayVec;
 use capture_text::{Detail, Emit, Event, LineRule, Report, read_line, write_emit};
 use n2k_id::Frame;
+use readings::Row;
 use sentence_text::{Group, Sfi};
 use std::test::Fail;
 
@@ -214,7 +215,7 @@ fn emits_are_written_as_lines(rt: HostRuntime) -> Result<(), Fail> {
 #[test]
 fn reports_are_written_as_lines(rt: HostRuntime) -> Result<(), Fail> {
     let sfi = Sfi::of(b"II0002").ok_or("an SFI")?;
-    let rows: [(u8, Detail, u64, &[u8]); 13] = [
+    let rows: [(u8, Detail, u64, &[u8]); 14] = [
         (3, Detail::Nothing, 5_000_000, b"(5.000000) rule 3"),
         (
             10,
@@ -226,6 +227,15 @@ fn reports_are_written_as_lines(rt: HostRuntime) -> Result<(), Fail> {
             b"(0.000001) rule 10 src=23 pgn=127250",
         ),
         (23, Detail::Address(251), 0, b"(0.000000) rule 23 addr=251"),
+        (
+            28,
+            Detail::Row {
+                row: Row::HeadingTrue,
+                address: 23,
+            },
+            100_000_000,
+            b"(100.000000) rule 28 row=heading_true src=23",
+        ),
         (30, Detail::At(5), 0, b"(0.000000) rule 30 at=5"),
         (
             43,

@@ -1,9 +1,7 @@
 //! What the sources of the network said last of each row, and how many fast packets were sent of it.
 ghost use Rattle.std.specs.Prelude.{◌≡◌, ◌+◌, ◌<◌, ◌≤◌, [], ◌∷◌, false, length, All, IfOk, Some};
-ghost use Rattle.readings.specs.Ranges.{IsValid};
-ghost use Rattle.readings.specs.Rows.{row_of};
+ghost use Rattle.readings.specs.Rows.{IsValid, row_of, row_number};
 ghost use Rattle.source_choice.specs.Choices.{opened};
-ghost use Rattle.readings.specs.About.{row_number};
 ghost use Rattle.history.specs.Choice.{is_usable};
 ghost use Rattle.history.specs.NetReadings.{is_fast_row};
 ghost use Rattle.gate_model.specs.Net.{rank_by, is_chosen, sequence_at, sent_by, reading_after, reading_emits, readings_after, readings_emit};
@@ -32,7 +30,7 @@ pub(crate) struct Readings {
 impl Model for Readings {
     ghost use Rattle.std.specs.Prelude.{◌≡◌, ◌≤◌, length};
     ghost use Rattle.std.specs.List.{AllByRecursion};
-    ghost use Rattle.readings.specs.About.{rows_count};
+    ghost use Rattle.readings.specs.Rows.{rows_count};
     ghost use Rattle.gate_model.specs.Net.{ReadingsKept};
 
     ghost Value = { ReadingsKept };

@@ -1,7 +1,7 @@
 -- The rows that have been gone over have their timeouts.
 use Rattle.std.proofs.Common.{◌≡◌, ℕ, ◌<◌, length, slice_index}
 use Rattle.std.specs.Prelude.{map}
-use Rattle.readings.specs.About.{rows_count}
+use Rattle.readings.specs.Rows.{rows_count}
 use Rattle.bridge.proofs.joining.timeouts_of.Given as goal
 
 abbrev pub invariant-loop-row : goal.invariant-loop-row

@@ -1,6 +1,7 @@
-use Rattle.std.proofs.Common.{[], sym, ◌∙◌}
+use Rattle.std.proofs.Common.{[], sym, ap, ◌∙◌}
+use Rattle.bridge.specs.Replayed.{emitted_text}
 use Rattle.bridge.specs.Replaying.{left_text}
-use Rattle.bridge.proofs.Replays.{ordered_none, ordered_some}
+use Rattle.bridge.proofs.Reached.{ordered_none, ordered_some}
 use Rattle.bridge.proofs.Sending.{sent_still}
 use Rattle.bridge.proofs.replaying.send_ordered.Goals as goal
 
@@ -9,7 +10,8 @@ returns-then-obey g c = (
   left_text c.moment.result c.obey.new.self,
   record {
     order = c.obey.ensures.order;
-    text_is = ordered_some c.args.bridge.now.left.outbox.command c.obey.new.self c.moment.result (sym c.obey.ensures.was ∙ c.if-obey.true) c.moment.ensures;
+    text_is =
+        ap emitted_text (ordered_some c.args.bridge.now.left.outbox.command c.obey.new.self c.moment.result (sym c.obey.ensures.was ∙ c.if-obey.true) c.moment.ensures);
   },
   c.send_left.ensures,
 )
@@ -19,7 +21,7 @@ returns-else-obey g c = (
   [],
   record {
     order = c.obey.ensures.order;
-    text_is = ordered_none c.args.bridge.now.left.outbox.command c.obey.new.self (sym c.obey.ensures.was ∙ c.if-obey.false);
+    text_is = ap emitted_text (ordered_none c.args.bridge.now.left.outbox.command c.obey.new.self (sym c.obey.ensures.was ∙ c.if-obey.false));
   },
   λ told faults waiting before s.
       sent_still told (g.K.Sink.taken c.args.out.now) faults (g.K.Sink.fault_count c.args.out.now) waiting before c.args.writer.now c.args.sent s,

@@ -1,6 +1,6 @@
 use Rattle.std.proofs.Common.{◌≡◌, ◌∙◌, List, [], ap, false, map}
 use Rattle.readings.specs.declared.rows.Row.{Row}
-use Rattle.readings.specs.About.{rows}
+use Rattle.readings.specs.Rows.{rows}
 use Rattle.config_values.specs.Settings.{rule_of_row, settings_ignoring, settings_of}
 use Rattle.config_values.specs.declared.config.Config.{Config}
 use Rattle.demo.specs.Setup.{demo_settings, row_said}

@@ -2,7 +2,7 @@ use Rattle.std.proofs.Common.{◌≡◌, ◌∙◌, get_or, sym, arith}
 use Rattle.std.specs.Prelude.{codes}
 use Rattle.std.proofs.lemmas.List.Elements.{All-push}
 use Rattle.readings.specs.declared.rows.Row.TheVariants as row
-use Rattle.readings.specs.About.{about_of}
+use Rattle.readings.specs.Rows.{about_of}
 use Rattle.config_document.specs.Places.{place_of}
 use Rattle.config_values.specs.Rows.{IsRow}
 use Rattle.gate_config.specs.Keys.{row_of}

@@ -1,5 +1,5 @@
 -- All digits but the last three, and these.
-use Rattle.std.proofs.Common.{◌≡◌, ◌≤◌, ◌/◌, ◌++◌, List, ℕ, ap, sym, ◌∙◌, append_assoc, length, length-append, arith}
+use Rattle.std.proofs.Common.{◌≤◌, ◌/◌, ◌++◌, List, ℕ, ap, sym, ◌∙◌, append_assoc, length, length-append, arith}
 use Rattle.std.specs.Fmt.{decimal}
 use Rattle.unit_fraction.specs.Text.{decimals}
 use Rattle.sentence_rows.proofs.Bodies.{length_thousands, thousands}

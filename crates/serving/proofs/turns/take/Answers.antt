@@ -1,7 +1,9 @@
 use Rattle.std.proofs.Common.{[], sym, ◌∙◌}
 use Rattle.gate_core.specs.Steps.{entry_of}
 use Rattle.serving.proofs.Doing.{hands_none}
-use Rattle.serving.proofs.Entries.{left_at, ordered_none, ordered_some, taken_all, taken_first, taken_then}
+use Rattle.bridge.specs.Replaying.{left_at}
+use Rattle.bridge.proofs.Reached.{ordered_none, ordered_some}
+use Rattle.serving.proofs.Entries.{taken_all, taken_first, taken_then}
 use Rattle.serving.proofs.turns.take.Goals as goal
 
 pub returns-in-Err-clause-does : goal.returns-in-Err-clause-does

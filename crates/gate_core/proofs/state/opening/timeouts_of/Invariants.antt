@@ -1,7 +1,7 @@
 -- The rows that have been gone over have their timeouts.
 use Rattle.std.proofs.Common.{◌≡◌, ℕ, ◌<◌, length, slice_index_or}
 use Rattle.history.specs.Settings.{rule_at}
-use Rattle.readings.specs.About.{rows_count}
+use Rattle.readings.specs.Rows.{rows_count}
 use Rattle.config_values.specs.Settings.{settings_by}
 use Rattle.gate_core.proofs.state.opening.timeouts_of.Given as goal
 

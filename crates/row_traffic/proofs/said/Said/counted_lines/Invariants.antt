@@ -1,7 +1,7 @@
 -- The rows that have been gone over are counted.
 use Rattle.std.proofs.Common.{◌≡◌, ℕ, ◌<◌, length, slice_index_or}
 use Rattle.gate_model.specs.Said.{lines_more}
-use Rattle.readings.specs.About.{rows_count}
+use Rattle.readings.specs.Rows.{rows_count}
 use Rattle.config_values.specs.Settings.{settings_by}
 use Rattle.row_traffic.proofs.said.Said.counted_lines.Given as goal
 

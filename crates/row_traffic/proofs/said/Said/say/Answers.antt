@@ -1,6 +1,5 @@
 use Rattle.std.proofs.Common.{◌≡◌, ◌+◌, length, [], ◌∷◌, map, ap, ◌∙◌, subst, slice_index}
-use Rattle.readings.specs.Rows.{row_of}
-use Rattle.readings.specs.About.{row_number}
+use Rattle.readings.specs.Rows.{row_of, row_number}
 use Rattle.gate_events.specs.Emit.{net}
 use Rattle.history.specs.Settings.{rule_of}
 use Rattle.gate_model.specs.Said.{SaidKept, sentences_by}

@@ -1,7 +1,7 @@
 use Rattle.std.proofs.Common.{◌≡◌, ◌<◌, ap, subst, ◌↔◌, IsTrue, length, arith}
 use Rattle.source_choice.specs.Notes.{RowNotes}
 use Rattle.source_choice.specs.Choices.{Choices, IsFirst, nothing, row_at}
-use Rattle.readings.specs.About.{row_number}
+use Rattle.readings.specs.Rows.{row_number}
 use Rattle.source_choice.proofs.ChoiceLemmas.{row_is}
 use Rattle.source_choice.proofs.choice.Choice.selected.Goals as goal
 

@@ -1,0 +1,300 @@
+//! The messages of the profile by their numbers: how each comes over the bus, how its payload is read, and how each reading is written.
+
+ghost use Rattle.std.specs.Prelude.{◌≡◌, [], ◌∷◌, ◌++◌};
+ghost use Rattle.readings.specs.Rows.{IsValid, row_of};
+ghost use Rattle.pgn_profile.specs.Part.{unsigned_bytes};
+ghost use Rattle.pgn_profile.specs.Profiled.{GivesValid, kind_of, payload_of, pgn_of, priority_of, profiled};
+
+use crate::kinds::Kind;
+use crate::piece::Piece::{Byte, Bytes, Signed, Unsigned};
+use crate::piece::{Payload, append_all};
+use crate::profiled::Profiled;
+use crate::{heading, position, steering, time, water, wind};
+use readings::{Reading, Row, row};
+
+// The parameter group numbers of the profile, by canboat's names.
+const SYSTEM_TIME: u32 = 126_992;
+
+const RUDDER: u32 = 127_245;
+
+const VESSEL_HEADING: u32 = 127_250;
+
+const RATE_OF_TURN: u32 = 127_251;
+
+const SPEED: u32 = 128_259;
+
+const WATER_DEPTH: u32 = 128_267;
+
+const DISTANCE_LOG: u32 = 128_275;
+
+const POSITION_RAPID_UPDATE: u32 = 129_025;
+
+const COG_SOG_RAPID_UPDATE: u32 = 129_026;
+
+const GNSS_POSITION_DATA: u32 = 129_029;
+
+const TIME_AND_DATE: u32 = 129_033;
+
+const CROSS_TRACK_ERROR: u32 = 129_283;
+
+const WIND_DATA: u32 = 130_306;
+
+const TEMPERATURE: u32 = 130_312;
+
+const TEMPERATURE_EXTENDED_RANGE: u32 = 130_316;
+
+/// How a message of the PGN comes over the bus.
+#[tactic(auto, unfolding(crate::specs::Layout::messages))]
+pub fn kind(pgn: u32) -> Kind
+    ensures { result ≡ kind_of pgn }
+{
+    match pgn {
+        DISTANCE_LOG | GNSS_POSITION_DATA => Kind::Fast,
+        SYSTEM_TIME
+        | RUDDER
+        | VESSEL_HEADING
+        | RATE_OF_TURN
+        | SPEED
+        | WATER_DEPTH
+        | POSITION_RAPID_UPDATE
+        | COG_SOG_RAPID_UPDATE
+        | TIME_AND_DATE
+        | CROSS_TRACK_ERROR
+        | WIND_DATA
+        | TEMPERATURE
+        | TEMPERATURE_EXTENDED_RANGE => Kind::Single,
+        _ => Kind::Outside,
+    }
+}
+
+/// Reads the payload of a message of the PGN.
+///
+/// It is always a call: what a gateway does with the many frames that complete no message is slower where a copy of this stands among it.
+#[inline(never)]
+pub fn read(pgn: u32, payload: &[u8]) -> Profiled
+    ensures value { result ≡ profiled pgn payload.now }
+    ensures valid { GivesValid result }
+{
+    read_in_place(pgn, payload)
+}
+
+/// As `read`, with a copy in its caller, where the reading need not go by way of memory: for one that reads of nearly each frame.
+#[inline(always)]
+#[tactic(auto, unfolding(crate::specs::Layout::messages), using(crate::proofs::Law::what_is_profiled_is_valid))]
+pub fn read_in_place(pgn: u32, payload: &[u8]) -> Profiled
+    ensures value { result ≡ profiled pgn payload.now }
+    ensures valid { GivesValid result }
+{
+    match pgn {
+        VESSEL_HEADING => heading::read_heading(payload),
+        RATE_OF_TURN => heading::read_rate_of_turn(payload),
+        RUDDER => steering::read_rudder(payload),
+        SPEED => water::read_water_speed(payload),
+        WATER_DEPTH => water::read_depth(payload),
+        DISTANCE_LOG => water::read_distance_log(payload),
+        POSITION_RAPID_UPDATE => position::read_position(payload),
+        COG_SOG_RAPID_UPDATE => position::read_course(payload),
+        GNSS_POSITION_DATA => position::read_fix(payload),
+        SYSTEM_TIME => time::read_system_time(payload),
+        TIME_AND_DATE => time::read_time_and_date(payload),
+        WIND_DATA => wind::read_wind(payload),
+        TEMPERATURE => water::read_temperature(payload),
+        TEMPERATURE_EXTENDED_RANGE => water::read_extended_temperature(payload),
+        CROSS_TRACK_ERROR => position::read_cross_track(payload),
+        _ => Profiled::Outside,
+    }
+}
+
+/// The priority with which a reading of the row is sent; 0 is the most urgent.
+pub fn priority(row: Row) -> u8
+    ensures { result ≡ priority_of row }
+{
+    row.priority()
+}
+
+/// Writes the payload of a valid reading to `out`, which is empty, and answers its PGN.
+#[tactic(auto, using(crate::proofs::Law::law))]
+pub fn write(reading: &Reading, out: &mut Payload) -> u32
+    requires empty { out.old.items ≡ [] }
+    requires valid { IsValid reading.now }
+
+    ensures payload { out.new.items ≡ payload_of reading.now }
+    ensures pgn { result ≡ pgn_of (row_of reading.now) }
+
+    // What was written is read as the reading.
+    ensures read_back { profiled result out.new.items ≡ Profiled.Reading reading.now }
+{
+    write_payload(reading, out);
+    row(reading).pgn()
+}
+
+/// Writes the payload of the reading.
+fn write_payload(reading: &Reading, out: &mut Payload)
+    requires empty { out.old.items ≡ [] }
+    requires valid { IsValid reading.now }
+    ensures { out.new.items ≡ payload_of reading.now }
+{
+    match *reading {
+        Reading::HeadingTrue { heading } => append_all(
+            &[
+                Byte(0xFF),
+                Unsigned(2, heading),
+                Bytes(&[0xFF, 0x7F, 0xFF, 0x7F, 0xFC]),
+            ],
+            out,
+        ),
+        Reading::HeadingMagnetic {
+            heading,
+            deviation,
+            variation,
+        } => append_all(
+            &[
+                Byte(0xFF),
+                Unsigned(2, heading),
+                Signed(2, deviation),
+                Signed(2, variation),
+                Byte(0xFD),
+            ],
+            out,
+        ),
+        Reading::RateOfTurn { rate } => append_all(
+            &[Byte(0xFF), Signed(4, rate), Bytes(&[0xFF, 0xFF, 0xFF])],
+            out,
+        ),
+        Reading::RudderFirst { position } => append_all(
+            &[
+                Bytes(&[0, 0xFF, 0xFF, 0x7F]),
+                Signed(2, position),
+                Bytes(&[0xFF, 0xFF]),
+            ],
+            out,
+        ),
+        Reading::RudderSecond { position } => append_all(
+            &[
+                Bytes(&[1, 0xFF, 0xFF, 0x7F]),
+                Signed(2, position),
+                Bytes(&[0xFF, 0xFF]),
+            ],
+            out,
+        ),
+        Reading::WaterSpeed { speed } => append_all(
+            &[
+                Byte(0xFF),
+                Unsigned(2, speed),
+                Bytes(&[0xFF, 0xFF, 0xFF, 0xFF, 0xFF]),
+            ],
+            out,
+        ),
+        Reading::Depth {
+            depth,
+            offset,
+            range,
+        } => append_all(
+            &[
+                Byte(0xFF),
+                Unsigned(4, depth),
+                Signed(2, offset),
+                Unsigned(1, range),
+            ],
+            out,
+        ),
+        Reading::DistanceLog { log, trip } => append_all(
+            &[
+                Bytes(&[0xFF, 0xFF, 0xFF, 0xFF, 0xFF, 0xFF]),
+                Unsigned(4, log),
+                Unsigned(4, trip),
+            ],
+            out,
+        ),
+        Reading::Position {
+            latitude,
+            longitude,
+        } => append_all(&[Signed(4, latitude), Signed(4, longitude)], out),
+        Reading::CourseSpeed {
+            magnetic,
+            course,
+            speed,
+        } => append_all(
+            &[
+                Byte(0xFF),
+                Byte(if magnetic { 0xFD } else { 0xFC }),
+                Unsigned(2, course),
+                Unsigned(2, speed),
+                Bytes(&[0xFF, 0xFF]),
+            ],
+            out,
+        ),
+        Reading::Gnss {
+            date,
+            time,
+            latitude,
+            longitude,
+            altitude,
+            method,
+            satellites,
+            hdop,
+            separation,
+        } => append_all(
+            &[
+                Byte(0xFF),
+                Unsigned(2, date),
+                Unsigned(4, time),
+                Signed(8, latitude),
+                Signed(8, longitude),
+                Signed(8, altitude),
+                Byte(method << 4),
+                Byte(0xFC),
+                Unsigned(1, satellites),
+                Signed(2, hdop),
+                Bytes(&[0xFF, 0x7F]),
+                Signed(4, separation),
+                Byte(0),
+            ],
+            out,
+        ),
+        Reading::Time { date, time } => append_all(
+            &[Bytes(&[0xFF, 0xFF]), Unsigned(2, date), Unsigned(4, time)],
+            out,
+        ),
+        Reading::WindApparent { speed, angle } => write_wind(speed, angle, 0xFA, out),
+        Reading::WindTrue { speed, angle } => write_wind(speed, angle, 0xFB, out),
+        Reading::WindNorth {
+            magnetic,
+            speed,
+            angle,
+        } => write_wind(speed, angle, if magnetic { 0xF9 } else { 0xF8 }, out),
+        Reading::WaterTemperature { kelvin } => append_all(
+            &[
+                Bytes(&[0xFF, 0, 0]),
+                Unsigned(3, kelvin),
+                Bytes(&[0xFF, 0xFF]),
+            ],
+            out,
+        ),
+        Reading::CrossTrack { distance } => append_all(
+            &[
+                Bytes(&[0xFF, 0x30]),
+                Signed(4, distance),
+                Bytes(&[0xFF, 0xFF]),
+            ],
+            out,
+        ),
+    }
+}
+
+/// The payload of a wind with its reference, above which all bits are set.
+fn write_wind(speed: Option<i64>, angle: Option<i64>, reference: u8, out: &mut Payload)
+    requires { out.old.items ≡ [] }
+    ensures { out.new.items ≡ 0xFF ∷ unsigned_bytes 2 speed ++ unsigned_bytes 2 angle ++ (reference ∷ 0xFF ∷ 0xFF ∷ []) }
+{
+    append_all(
+        &[
+            Byte(0xFF),
+            Unsigned(2, speed),
+            Unsigned(2, angle),
+            Byte(reference),
+            Bytes(&[0xFF, 0xFF]),
+        ],
+        out,
+    );
+}
