@@ -1,6 +1,6 @@
 use Rattle.std.proofs.Common.{◌∙◌, arith}
 use Rattle.source_choice.proofs.NoteLemmas.{from_with, insert_at, room_at, set_at}
-use Rattle.source_choice.proofs.row_notes.renew.Goals as goal
+use Rattle.source_choice.proofs.subject_notes.renew.Goals as goal
 
 pub index_mut-requires : goal.index_mut-requires
 index_mut-requires c = let here = (c.is_at.ensures.here c.if-is_at.true c.args.note).0 in omega (arith, here, c.deref-2.ensures.len)

@@ -1,8 +1,8 @@
-//! What the sources of one row said last, in the order of the sources.
+//! What the sources of one subject said last, in the order of the sources.
 ghost use Rattle.std.specs.Prelude.{◌≡◌, ◌<◌, ◌≢◌, ◌≤◌, [], false, nat_le, position, slice_index_or, length, ◌↔◌, IsTrue, vec_len, vec_capacity, IfOk};
 ghost use Rattle.std.specs.List.{list_any, position_or_len, insert};
 ghost use Rattle.source_choice.specs.Choices.{IsFirst};
-ghost use Rattle.source_choice.specs.Notes.{RowNotes as Kept, AreFrom, is_selected, outranks, with_note, without};
+ghost use Rattle.source_choice.specs.Notes.{SubjectNotes as Kept, AreFrom, is_selected, outranks, with_note, without};
 
 use crate::note::Note;
 use crate::rank::Rank;
@@ -11,7 +11,7 @@ use std::marker::Model;
 
 /// The notes lie behind one another, so that going over them costs what was noted and not what could be.
 #[derive(Drop)]
-pub(crate) struct RowNotes {
+pub(crate) struct SubjectNotes {
     /// How many sources there may be.
     sources: u16,
     /// In milliseconds.
@@ -19,9 +19,9 @@ pub(crate) struct RowNotes {
     notes: Vec<Note>,
 }
 
-impl Model for RowNotes {
+impl Model for SubjectNotes {
     ghost use Rattle.std.specs.Prelude.{◌≤◌, vec_capacity};
-    ghost use Rattle.source_choice.specs.Notes.{RowNotes as Kept, AreFrom};
+    ghost use Rattle.source_choice.specs.Notes.{SubjectNotes as Kept, AreFrom};
 
     ghost Value = { Kept };
 
@@ -30,12 +30,12 @@ impl Model for RowNotes {
     ghost invariant = { λ r. AreFrom 0 r.sources r.notes.items × (r.sources ≤ vec_capacity r.notes) };
 }
 
-impl RowNotes {
-    pub fn new(alloc: Global, sources: u16, timeout: u32) -> Result<RowNotes, AllocError>
+impl SubjectNotes {
+    pub fn new(alloc: Global, sources: u16, timeout: u32) -> Result<SubjectNotes, AllocError>
         ensures { IfOk result (λ r. r ≡ record { sources = sources; timeout = timeout; notes = [] }) }
     {
         let notes = Vec::with_capacity(alloc, usize::from(sources))?;
-        Ok(RowNotes {
+        Ok(SubjectNotes {
             sources,
             timeout,
             notes,

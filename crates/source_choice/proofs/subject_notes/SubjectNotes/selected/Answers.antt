@@ -1,5 +1,5 @@
 use Rattle.source_choice.proofs.NoteLemmas.{selected_by}
-use Rattle.source_choice.proofs.row_notes.RowNotes.selected.Goals as goal
+use Rattle.source_choice.proofs.subject_notes.SubjectNotes.selected.Goals as goal
 
 pub returns-clause-first : goal.returns-clause-first
 returns-clause-first c =

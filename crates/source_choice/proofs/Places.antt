@@ -1,11 +1,10 @@
--- The place of a NAME among the patterns of a row.
+-- The place of a NAME among the patterns of a subject.
 use Rattle.std.proofs.Common.{◌≡◌, ℕ, ◌+◌, Bool, true, false, List, [], ◌∷◌, length, None, refl, ap, sym, ◌∙◌, arith}
 use Rattle.std.specs.List.{position, position_from}
 use Rattle.std.proofs.lemmas.Iterator.Adapters.{position_from-zero}
 use Rattle.n2k_id.specs.declared.pattern.Pattern.{Pattern}
 use Rattle.n2k_id.specs.Name.{matches}
-use Rattle.history.specs.Choice.{place_in}
-use Rattle.row_traffic.specs.Saying.{or_last}
+use Rattle.source_choice.specs.SubjectRules.{or_last, place_in}
 
 place_from : (others : Bool) (name at : ℕ) (ps : List Pattern)
     → place_in others at ps name ≡ or_last others (at + length ps) (position_from (λ p. matches p name) at ps)
