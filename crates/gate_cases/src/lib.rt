@@ -9,6 +9,8 @@ mod demonstration;
 #[cfg(test)]
 mod following;
 #[cfg(test)]
+mod further;
+#[cfg(test)]
 mod isolated;
 #[cfg(test)]
 mod many;
