@@ -6,14 +6,14 @@ use Rattle.std.proofs.lemmas.Bool.Decides.{nat_tests}
 use Rattle.std.proofs.lemmas.Int.{unsigned_abs-mul}
 use Rattle.std.proofs.lemmas.Nat.{mul-le, pow-add}
 use Rattle.unit_fraction.specs.Round.{nearest, round}
-use Rattle.sentence_rows.specs.declared.written_unit.WrittenUnit.{WrittenUnit}
-use Rattle.sentence_rows.specs.Field.{count, is_sound, IsPrintable, is_negative, text_of, width_of, body_text, body_width, degrees_text, time_text, degrees, sentence_by}
+use Rattle.sentence_fields.specs.declared.written_unit.WrittenUnit.{WrittenUnit}
+use Rattle.sentence_fields.specs.Field.{count, is_sound, IsPrintable, is_negative, text_of, width_of, body_text, body_width, degrees_text, time_text, degrees, sentence_by}
 use Rattle.std.specs.Fmt.{decimal}
 use Rattle.std.proofs.lemmas.Fmt.{decimal_digit, decimal_step, length-decimal-le, digits_decimal}
 use Rattle.unit_fraction.specs.Digits.{minus, spelling}
 use Rattle.unit_fraction.specs.Text.{behind_point, decimal_text, decimals, shows_minus}
-use Rattle.sentence_rows.specs.declared.field.Field.{Field}
-use Rattle.sentence_rows.specs.declared.field.Field.TheVariants.{Empty, Letter, Decimal, Magnitude, Side, Angle, Degrees, Time, Digits, Satellites}
+use Rattle.sentence_fields.specs.declared.field.Field.{Field}
+use Rattle.sentence_fields.specs.declared.field.Field.TheVariants.{Empty, Letter, Word, Decimal, Magnitude, Side, Angle, Degrees, Time, Digits, Satellites}
 use Rattle.std.specs.Char.{is_ascii_digit}
 use Rattle.std.specs.List.{AllByRecursion, list_all, position_or_len}
 use Rattle.std.specs.Str.{all_ascii_digits}
@@ -28,7 +28,7 @@ use Rattle.sentence_text.specs.Sentence.{body_of}
 use Rattle.sentence_text.proofs.Fields.{fields_before_comma}
 use Rattle.sentence_text.proofs.Spelling.{read_back}
 use Rattle.unit_fraction.proofs.Text.{length-decimals, own}
-use Rattle.sentence_rows.specs.Stable.{IsReadBack, parts_by}
+use Rattle.sentence_fields.specs.ReadBack.{IsReadBack, parts_by}
 
 -- what a sound conversion says of its numbers
 pub record Sound (unit : WrittenUnit) : Type 0 where
@@ -192,6 +192,7 @@ length_satellites n few =
 pub text_fits : (f : Field) → IsPrintable f → length (text_of f) ≤ width_of f
 text_fits Empty h = omega arith
 text_fits (Letter c) h = omega arith
+text_fits (Word w) h = omega arith
 text_fits (Decimal None unit) h = omega arith
 text_fits (Decimal (Some raw) unit) h =
     length_decimal_text (is_negative (count unit raw)) unit.digits unit.places (unsigned_abs (count unit raw)) ((sound unit h.0).places) (count_below unit raw h.0 h.1) (omega (arith, count_fits unit raw h.0 h.1))
@@ -275,6 +276,7 @@ time_bytes raw = grind (arith, digit_byte)
 pub field_bytes : (f : Field) → IsPrintable f → AreBytes (text_of f)
 field_bytes Empty h = refl
 field_bytes (Letter c) h = one c h
+field_bytes (Word w) h = h
 field_bytes (Decimal None unit) h = refl
 field_bytes (Decimal (Some raw) unit) h =
     text_bytes (is_negative (count unit raw)) (unsigned_abs (count unit raw)) unit.places (omega (arith, count_fits unit raw h.0 h.1))

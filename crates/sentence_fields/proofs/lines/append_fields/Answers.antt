@@ -1,5 +1,5 @@
-use Rattle.sentence_rows.proofs.Bodies.{next}
-use Rattle.sentence_rows.proofs.lines.append_fields.Goals as goal
+use Rattle.sentence_fields.proofs.Bodies.{next}
+use Rattle.sentence_fields.proofs.lines.append_fields.Goals as goal
 
 pub loop-field-preserved : goal.loop-field-preserved
 loop-field-preserved c =

@@ -2,8 +2,8 @@
 use Rattle.std.proofs.Common.{◌≤◌, ◌/◌, ◌++◌, List, ℕ, ap, sym, ◌∙◌, append_assoc, length, length-append, arith}
 use Rattle.std.specs.Fmt.{decimal}
 use Rattle.unit_fraction.specs.Text.{decimals}
-use Rattle.sentence_rows.proofs.Bodies.{length_thousands, thousands}
-use Rattle.sentence_rows.proofs.field.append_whole.Goals as goal
+use Rattle.sentence_fields.proofs.Bodies.{length_thousands, thousands}
+use Rattle.sentence_fields.proofs.field.append_whole.Goals as goal
 
 pub append_few-requires-else-number-lt1000-clause-room : goal.append_few-requires-else-number-lt1000-clause-room
 append_few-requires-else-number-lt1000-clause-room c = let some : 1000 ≤ c.args.number = omega arith in omega (arith, length_thousands c.args.number some c.requires.below)

@@ -3,10 +3,10 @@ use Rattle.std.proofs.Common.{◌≡◌, ℕ, ℤ, w64, to_z, of_z, ap, ◌∙�
 use Rattle.std.proofs.lemmas.Int.{to_z-of_z}
 use Rattle.std.specs.Int.{w128}
 use Rattle.std.specs.Prelude.{unsigned_abs}
-use Rattle.sentence_rows.specs.declared.written_unit.WrittenUnit.{WrittenUnit}
-use Rattle.sentence_rows.specs.Field.{count}
-use Rattle.sentence_rows.proofs.Bodies.{count_below, count_fits}
-use Rattle.sentence_rows.proofs.field.signed_size.Goals as goal
+use Rattle.sentence_fields.specs.declared.written_unit.WrittenUnit.{WrittenUnit}
+use Rattle.sentence_fields.specs.Field.{count}
+use Rattle.sentence_fields.proofs.Bodies.{count_below, count_fits}
+use Rattle.sentence_fields.proofs.field.signed_size.Goals as goal
 
 -- what is counted without its sign
 of_count : (unit : WrittenUnit) (raw : ℤ) (counted : ℤ) (size : ℕ) → FitsSigned w64 raw → FitsSigned w128 counted → counted ≡ count unit (to_z w64 (of_z w64 raw))

@@ -1,17 +1,18 @@
 -- The text of a sentence's field, and of a sentence of fields.
-use Rattle.std.specs.Prelude.{ℕ, unsigned_abs, ◌+◌, ◌*◌, ◌/◌, ◌%◌, ◌^◌, ◌≤◌, ◌<◌, ℤ, pos, negsuc, ◌*ℤ◌, Bool, true, false, ◌&&◌, nat_lt, nat_le, List, [], ◌∷◌, ◌++◌, Option, Some, None, IsTrue, if◌then◌else◌, map}
+use Rattle.std.specs.Prelude.{ℕ, unsigned_abs, ◌+◌, ◌*◌, ◌/◌, ◌%◌, ◌^◌, ◌≤◌, ◌<◌, ℤ, pos, negsuc, ◌*ℤ◌, Bool, true, false, ◌&&◌, nat_lt, nat_le, List, [], ◌∷◌, ◌++◌, Option, Some, None, IsTrue, if◌then◌else◌, map, length}
+use Rattle.std.specs.List.{list_all}
 use Rattle.readings.specs.declared.range.Range.{Range}
 use Rattle.readings.specs.Ranges as ranges
-use Rattle.sentence_rows.specs.declared.written_unit.WrittenUnit.{WrittenUnit}
+use Rattle.sentence_fields.specs.declared.written_unit.WrittenUnit.{WrittenUnit}
 use Rattle.std.specs.Fmt.{decimal}
 use Rattle.unit_fraction.specs.Round.{round}
 use Rattle.unit_fraction.specs.Text.{decimal_text, decimals}
 use Rattle.sentence_text.specs.Byte.{is_field_byte}
-use Rattle.sentence_rows.specs.declared.field.Field.{Field}
-use Rattle.sentence_rows.specs.declared.field.Field.TheVariants.{Empty, Letter, Decimal, Magnitude, Side, Angle, Degrees, Time, Digits, Satellites}
+use Rattle.sentence_fields.specs.declared.field.Field.{Field}
+use Rattle.sentence_fields.specs.declared.field.Field.TheVariants.{Empty, Letter, Word, Decimal, Magnitude, Side, Angle, Degrees, Time, Digits, Satellites}
 use Rattle.arrayvec.specs.ArrayVec.{ArrayVec}
 use Rattle.sentence_text.specs.Sentence.{sentence}
-use Rattle.sentence_rows.specs.declared.lines.SentenceText.{SentenceText}
+use Rattle.sentence_fields.specs.declared.lines.SentenceText.{SentenceText}
 
 -- ---- the conversions from raw values to what sentences print: the fraction, the decimals, the largest raw value without its sign, and the
 -- most digits of what is printed
@@ -76,6 +77,10 @@ celsius = record { num = 1; den = 100; places = 1; largest = 100000; digits = 4 
 
 -- ---- a field
 
+-- the letter of a status or mode: the first where something is there, the second where nothing is
+abbrev pub letter_where : Bool → ℕ → ℕ → ℕ
+letter_where there first second = if there then first else second
+
 -- a raw value in a unit: the nearest count of the last decimals that are printed
 abbrev pub count : WrittenUnit → ℤ → ℤ
 count unit raw = round (raw *ℤ pos unit.num) unit.den
@@ -98,6 +103,7 @@ time_text raw =
 abbrev pub text_of : Field → List ℕ
 text_of Empty = []
 text_of (Letter letter) = letter ∷ []
+text_of (Word word) = word.now
 text_of (Decimal None unit) = []
 text_of (Decimal (Some raw) unit) = let c = count unit raw in decimal_text (is_negative c) (unsigned_abs c) unit.places
 text_of (Magnitude None unit) = []
@@ -119,6 +125,7 @@ text_of (Satellites (Some number)) = if nat_lt (unsigned_abs number) 10 then dec
 abbrev pub width_of : Field → ℕ
 width_of Empty = 0
 width_of (Letter letter) = 1
+width_of (Word word) = length word.now
 width_of (Decimal raw unit) = unit.digits + 2
 width_of (Magnitude raw unit) = unit.digits + 1
 width_of (Side raw unit positive negative) = 1
@@ -142,6 +149,7 @@ IsCounted unit (Some raw) = unsigned_abs raw ≤ unit.largest
 -- the field has a text, of printable bytes and at most its width
 abbrev pub IsPrintable : Field → Type 0
 IsPrintable (Letter letter) = IsTrue (is_field_byte letter)
+IsPrintable (Word word) = IsTrue (list_all is_field_byte word.now)
 IsPrintable (Decimal raw unit) = IsTrue (is_sound unit) × IsCounted unit raw
 IsPrintable (Magnitude raw unit) = IsTrue (is_sound unit) × IsCounted unit raw
 IsPrintable (Side raw unit positive negative) = IsTrue (nat_lt 0 unit.den) × IsTrue (is_field_byte positive) × IsTrue (is_field_byte negative)

@@ -1,9 +1,9 @@
 -- What is begun, has its fields and is ended is their sentence, which is read back.
 use Rattle.std.proofs.Common.{◌≡◌, length, rules}
 use Rattle.sentence_text.proofs.Spelling.{written}
-use Rattle.sentence_rows.specs.Field.{body_text}
-use Rattle.sentence_rows.proofs.Bodies.{is_read_back}
-use Rattle.sentence_rows.proofs.lines.write_sentence.Goals as goal
+use Rattle.sentence_fields.specs.Field.{body_text}
+use Rattle.sentence_fields.proofs.Bodies.{is_read_back}
+use Rattle.sentence_fields.proofs.lines.write_sentence.Goals as goal
 
 pub returns : goal.returns
 returns c =

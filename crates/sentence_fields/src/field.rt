@@ -2,18 +2,21 @@ ghost use Rattle.std.specs.Prelude.{◌≡◌, ◌+◌, ◌/◌, ◌%◌, ◌≤
 ghost use Rattle.std.specs.Fmt.{decimal};
 ghost use Rattle.unit_fraction.specs.Digits.{minus};
 ghost use Rattle.unit_fraction.specs.Text.{decimal_text, decimals};
-ghost use Rattle.sentence_rows.specs.Field.{IsCounted, IsPrintable, count, degrees_text, is_negative, is_sound, text_of, width_of, degrees};
+ghost use Rattle.sentence_fields.specs.Field.{IsCounted, IsPrintable, count, degrees_text, is_negative, is_sound, text_of, width_of, degrees};
 
 use crate::written_unit::{DEGREES, WrittenUnit};
 use arrayvec::ArrayVec;
 use unit_fraction::{Fraction, scale, write_decimal};
 
 /// One field of a sentence. A raw value that isn't there is an empty field.
-#[derive(Clone, Copy)]
+#[derive(Clone, Copy, Default)]
 pub enum Field {
+    #[default]
     Empty,
     /// A letter of a unit, a status or a mode.
     Letter(u8),
+    /// A word, such as the name of a transducer.
+    Word(&'static [u8]),
     /// A raw value in a unit, with its sign.
     Decimal(Option<i64>, WrittenUnit),
     /// The same without its sign.
@@ -43,6 +46,9 @@ impl Field {
         match self {
             Field::Empty => {}
             Field::Letter(letter) => out.push(*letter),
+            Field::Word(word) => {
+                let _fits = out.try_extend_from_slice(word);
+            }
             Field::Decimal(raw, unit) => append_decimal(*raw, *unit, out),
             Field::Magnitude(raw, unit) => append_magnitude(*raw, *unit, out),
             Field::Side(raw, unit, positive, negative) => append_side(

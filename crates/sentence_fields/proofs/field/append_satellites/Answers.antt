@@ -2,9 +2,9 @@
 use Rattle.std.proofs.Common.{◌≡◌, ◌<◌, ℤ, w64, FitsSigned, Option, Some, subst, ap, ◌∙◌, rules, arith}
 use Rattle.std.specs.Prelude.{unsigned_abs}
 use Rattle.std.proofs.lemmas.Int.{to_z-of_z}
-use Rattle.sentence_rows.specs.declared.field.Field.TheVariants.{Satellites}
-use Rattle.sentence_rows.specs.Field.{IsPrintable}
-use Rattle.sentence_rows.proofs.field.append_satellites.Goals as goal
+use Rattle.sentence_fields.specs.declared.field.Field.TheVariants.{Satellites}
+use Rattle.sentence_fields.specs.Field.{IsPrintable}
+use Rattle.sentence_fields.proofs.field.append_satellites.Goals as goal
 
 few_in : (raw : Option ℤ) (v : ℤ) → raw ≡ Some v → IsPrintable (Satellites raw) → unsigned_abs v < 1000
 few_in raw v e h = let P : Option ℤ → Type 0 = λ o. IsPrintable (Satellites o) in subst P e h

@@ -2,8 +2,8 @@ ghost use Rattle.std.specs.Prelude.{◌≡◌, ◌≤◌, ◌<◌, [], ◌∷◌
 ghost use Rattle.std.specs.List.{AllByRecursion, list_all};
 ghost use Rattle.arrayvec.specs.ArrayVec.{array_vec_len};
 ghost use Rattle.sentence_text.specs.Byte.{is_address_byte, is_capital};
-ghost use Rattle.sentence_rows.specs.Field.{IsPrintable, body_text, body_width, texts_of, sentence_by};
-ghost use Rattle.sentence_rows.specs.Stable.{IsReadBack};
+ghost use Rattle.sentence_fields.specs.Field.{IsPrintable, body_text, body_width, texts_of, sentence_by};
+ghost use Rattle.sentence_fields.specs.ReadBack.{IsReadBack};
 
 use crate::field::Field;
 use arrayvec::ArrayVec;
@@ -47,7 +47,7 @@ fn append_fields(fields: &[Field], out: &mut ArrayVec<u8, 82>)
 ///
 /// Each of its two callers has a copy of it, so that what is put together lies in the caller's frame and not behind a reference.
 #[inline(always)]
-pub(crate) fn write_sentence(
+pub fn write_sentence(
     talker: [u8; 2],
     formatter: [u8; 3],
     fields: &[Field],
@@ -67,7 +67,7 @@ pub(crate) fn write_sentence(
 }
 
 /// Adds the sentence of the fields.
-pub(crate) fn append(talker: [u8; 2], formatter: [u8; 3], fields: &[Field], out: &mut Lines)
+pub fn append(talker: [u8; 2], formatter: [u8; 3], fields: &[Field], out: &mut Lines)
     requires room { length out.old.items < 2 }
     requires talker { IsTrue (list_all is_capital talker) }
     requires formatter { IsTrue (list_all is_address_byte formatter) }
