@@ -1,0 +1,5 @@
+pub mod Kinds
+pub mod Heard
+pub mod Kept
+pub mod Lent
+pub mod Promises
