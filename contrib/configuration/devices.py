@@ -20,6 +20,7 @@ class Devices:
         self.accepted, self.selectors = accepted, selectors()
         self.own_name = int(accepted.root["gateway"]["name"], 16)
         self.own_address = accepted.root["gateway"]["address"]
+        self.ignored = accepted.root.get("bus", {}).get("ignore", [])
         self.presets = {preset["address"]: int(preset["name"], 16) for preset in accepted.root.get("preset", [])}
         self.holders, self.names = dict(self.presets), set(self.presets.values())
         self.said = collections.Counter()
@@ -84,16 +85,20 @@ class Devices:
         ]
 
     def of_patterns(self):
+        yield from self.of_list("bus.ignore", self.ignored, self.pairs())
         for row in self.accepted.page.rows:
-            patterns, sayers = self.accepted.row(row.name).get("sources", []), self.sayers(row)
-            if patterns:
-                yield ""
-                yield f"row.{row.name}.sources:"
-            for place, pattern in enumerate(patterns, 1):
-                found = [pair for pair in self.pairs() if pair[1] is not None and is_matched(pattern, pair[1])]
-                yield f"  {place}, {pattern}:" + ("" if found else " no device of the recording")
-                for pair in found:
-                    yield f"    {self.who(*pair)}" + ("" if pair in sayers else ", which said nothing of this row")
+            yield from self.of_list(f"row.{row.name}.sources", self.accepted.row(row.name).get("sources", []), self.sayers(row))
+
+    def of_list(self, path, patterns, sayers):
+        """The devices that each pattern of a list is of; of those that aren't among the sayers it is told besides."""
+        if patterns:
+            yield ""
+            yield f"{path}:"
+        for place, pattern in enumerate(patterns, 1):
+            found = [pair for pair in self.pairs() if pair[1] is not None and is_matched(pattern, pair[1])]
+            yield f"  {place}, {pattern}:" + ("" if found else " no device of the recording")
+            for pair in found:
+                yield f"    {self.who(*pair)}" + ("" if pair in sayers else ", which said nothing of this row")
 
     def of_rows(self):
         silent = []
@@ -106,11 +111,17 @@ class Devices:
             elif not any(self.is_taken(name, table) for _, name in sayers):
                 yield f"  row.{row.name}, though these said it:"
                 for address, name in sayers:
-                    yield f"    {self.who(address, name)}" + ("" if name is None else ", which isn't listed, and others aren't taken")
+                    yield f"    {self.who(address, name)}" + self.why_not_taken(name)
         yield f"  said by nobody: {', '.join(silent)}" if silent else "  each row was said"
 
+    def is_ignored(self, name):
+        return any(is_matched(pattern, name) for pattern in self.ignored)
+
+    def why_not_taken(self, name):
+        return "" if name is None else ", which is ignored" if self.is_ignored(name) else ", which isn't listed, and others aren't taken"
+
     def is_taken(self, name, table):
-        return name is not None and (table.get("others", True) or any(is_matched(pattern, name) for pattern in table.get("sources", [])))
+        return name is not None and not self.is_ignored(name) and (table.get("others", True) or any(is_matched(pattern, name) for pattern in table.get("sources", [])))
 
     def of_presets(self):
         """Presets that make each device known from the first frame on; those that the configuration has are left out."""

@@ -12,6 +12,8 @@ MOST_PATH = 128
 MOST_STOOD = 70
 # of so many keys that aren't known it is looked for the ones that may be meant
 MOST_NEAREST = 200
+# parts with a transmission group of their own
+PARTS = ("rmc", "ais", "further", "plain")
 
 
 class Fault(NamedTuple):
@@ -47,23 +49,22 @@ class Looking:
         self.faults.append(Fault(kind, path, place, stood if item is None else f"{stood}, the item {item} of the list", allowed))
 
     def all(self):
-        """The faults of all tables; those of keys that aren't known come last."""
-        root = self.document.root
-        gateway = self.table(root, "gateway", "gateway.")
-        if gateway is not None:
-            self.own = self.values(gateway, "gateway")
-        self.presets()
-        self.rows(self.table(root, "row", "row."))
-        for name in ("net", "bus"):
-            table = self.table(root, name, f"{name}.")
-            if table is not None:
-                self.values(table, name)
-        self.routes()
-        for name in ("identity", "rmc", "ais"):
-            table = self.table(root, name, f"{name}.")
-            if table is not None:
-                self.values(table, name)
+        """The faults of all tables, in the order of the page; those of keys that aren't known come last."""
+        several = {"preset.N": self.presets, "row.R": self.rows, "route.N": self.routes, "further.Q": self.quantities}
+        for name, keys in self.page.runs:
+            if name in several:
+                several[name]()
+            else:
+                self.once(name, keys)
         return self.faults + sorted(self.unknown(), key=lambda fault: fault.path.encode())
+
+    def once(self, name, keys):
+        """Keys of a table that stands once. That it is of another type is told at its first key."""
+        is_told = not isinstance(self.document.root.get(name, Table("path")), Table) and keys[0] != self.page.tables[name][0]
+        table = None if is_told else self.table(self.document.root, name, f"{name}.")
+        values = {} if table is None else self.values(table, name, keys, f"{name}.")
+        if name == "gateway":
+            self.own = values
 
     # ---- tables
 
@@ -87,10 +88,10 @@ class Looking:
             self.add("range", name, root.places[name], f"at most {most} of them; here are {len(found)}")
         return list(enumerate(found, 1))
 
-    def values(self, table, name, prefix=None):
-        """The values of a table's keys that are as they have to be."""
-        prefix, values = prefix or f"{name}.", {}
-        for key in self.page.tables[name]:
+    def values(self, table, name, keys, prefix):
+        """The values of these keys of a table that are as they have to be."""
+        values = {}
+        for key in keys:
             path = prefix + key.name
             if key.name in table:
                 if self.is_fit(table, key, path) and self.is_once(table, key, path, name):
@@ -104,8 +105,12 @@ class Looking:
         self.add("missing", path, None if first is None else (first[0], (0, 0)), key.form.allowed)
 
     def is_asked_for(self, table, key, name):
-        """Whether the group of a part is missing, which its other key asks for."""
-        return name in ("rmc", "ais") and key == "group" and any(other.name in table for other in self.page.tables[name])
+        """Whether the group of a part is missing, which its other key asks for, or a quantity by one of its keys or by what is no table."""
+        if key != "group" or name not in PARTS:
+            return False
+        quantities = [table[quantity] for quantity in self.page.quantities if quantity in table] if name == "further" else []
+        asks = any(not isinstance(quantity, Table) or any(key.name in quantity for key in self.page.tables["further.Q"]) for quantity in quantities)
+        return asks or any(other.name in table for other in self.page.tables[name])
 
     def presets(self):
         taken = {"address": {self.own.get("address")}, "name": {number(self.own.get("name"))}}
@@ -129,16 +134,24 @@ class Looking:
                     self.add("twice", path, table.places[key.name], "a value that stands in none above and isn't the gateway's own")
                 taken[key.name].add(value)
 
-    def rows(self, rows):
+    def rows(self):
         """Each row, and the group that it is sent to; a group that isn't one is compared with none."""
+        rows = self.table(self.document.root, "row", "row.")
         is_default = "group" not in self.named("gateway")
         own_group = self.page.default("gateway", "group") if is_default else self.own.get("group")
         for row in self.page.rows:
             self.group_of[row.name] = own_group
             table = None if rows is None else self.table(rows, row.name, f"row.{row.name}.")
             if table is not None:
-                values = self.values(table, "row.R", f"row.{row.name}.")
+                values = self.values(table, "row.R", self.page.tables["row.R"], f"row.{row.name}.")
                 self.group_of[row.name] = values.get("group") if "group" in table else own_group
+
+    def quantities(self):
+        """Each further quantity. That their table is of another type is told at its own keys."""
+        for quantity in self.page.quantities:
+            table = self.table(self.named("further"), quantity, f"further.{quantity}.")
+            if table is not None:
+                self.values(table, "further.Q", self.page.tables["further.Q"], f"further.{quantity}.")
 
     def named(self, name):
         table = self.document.root.get(name)
@@ -184,7 +197,7 @@ class Looking:
                     span = value.places[place]
                     self.add("twice", path, (span, span), "an item that stands once" + (" and isn't the gateway's own" if name == "net" else ""), place + 1)
                 seen.append(same)
-        elif key.name == "group" and name in ("rmc", "ais"):
+        elif key.name == "group" and name in PARTS:
             if value in self.group_of.values():
                 others = ", ".join(sorted({group for group in self.group_of.values() if group}))
                 self.add("twice", path, table.places["group"], f"a group of its own, other than {others}")
@@ -201,14 +214,16 @@ class Looking:
         yield from self.unknown_in(root, top, "")
         for name in top:
             if name in known:
-                yield from self.unknown_in(root.get(name), known[name], f"{name}.")
+                inner = self.page.quantities if name == "further" else []
+                yield from self.unknown_in(root.get(name), known[name] + inner, f"{name}.")
         for name in ("preset", "route"):
             for place, table in enumerate(root.get(name) if isinstance(root.get(name), Array) else (), 1):
                 yield from self.unknown_in(table, known[f"{name}.N"], f"{name}.{place}.")
         rows = [row.name for row in self.page.rows]
         yield from self.unknown_in(root.get("row"), rows, "row.")
-        for row in rows:
-            yield from self.unknown_in(self.named("row").get(row), known["row.R"], f"row.{row}.")
+        for name, each, names in (("row", "row.R", rows), ("further", "further.Q", self.page.quantities)):
+            for inner in names:
+                yield from self.unknown_in(self.named(name).get(inner), known[each], f"{name}.{inner}.")
 
     def unknown_in(self, table, known, prefix):
         if not isinstance(table, Table):
@@ -224,6 +239,7 @@ class Looking:
         """The keys that may be meant: the same name in another table, or one that is spelled like it."""
         elsewhere = [f"{table}.{key.name}" for table, keys in self.page.tables.items() for key in keys if key.name == name]
         elsewhere += [f"row.{row.name}" for row in self.page.rows if row.name == name]
+        elsewhere += [f"further.{quantity}" for quantity in self.page.quantities if quantity == name]
         near = difflib.get_close_matches(name, known, 3, 0.5) or [word for word in known if name and (word.startswith(name) or name in word.split("_"))]
         meant = list(dict.fromkeys([prefix + word for word in near] + elsewhere))
         return " or ".join(meant) if meant else f"{'these' if prefix else 'these tables'}: {', '.join(known)}"

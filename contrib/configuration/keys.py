@@ -67,8 +67,10 @@ class Page:
     def __init__(self, folder=PAGES):
         with open(os.path.join(folder, PAGE), encoding="utf-8") as file:
             self.text = file.read()
+        self.runs = self.runs_of_keys()
         self.tables = self.tables_of_keys()
         self.rows = self.rows_of_page()
+        self.quantities = [cells[0].strip("`") for cells in self.table("Q")]
 
     def found(self, pattern, what):
         match = re.search(pattern, self.text, re.MULTILINE)
@@ -116,13 +118,22 @@ class Page:
             raise PageChanged(f"docs/{PAGE}: no form is known for {words!r}")
         return forms[words]
 
-    def tables_of_keys(self):
-        """The keys of each table, tables and keys in the order of the page. `preset.N` and `row.R` stand for each of them."""
-        tables = {}
+    def runs_of_keys(self):
+        """The keys in the order of the page: each table with those that stand one after the other. `preset.N` and `row.R` stand for each of them."""
+        runs = []
         for cells in self.table("Key"):
             for path in re.findall("`([^`]+)`", cells[0]):
                 table, name = path.rsplit(".", 1)
-                tables.setdefault(table, []).append(Key(name, self.form_of(cells[1]), cells[2].strip("`"), cells[2].startswith("required")))
+                if not runs or runs[-1][0] != table:
+                    runs.append((table, []))
+                runs[-1][1].append(Key(name, self.form_of(cells[1]), cells[2].strip("`"), cells[2].startswith("required")))
+        return runs
+
+    def tables_of_keys(self):
+        """All keys of each table, tables and keys in the order of the page."""
+        tables = {}
+        for table, keys in self.runs:
+            tables.setdefault(table, []).extend(keys)
         return tables
 
     def rows_of_page(self):

@@ -2,6 +2,8 @@
 
 from typing import NamedTuple, Optional
 
+from .faults import PARTS
+
 
 class Warned(NamedTuple):
     """A key that is of no use, where it or what it depends on stands, and why."""
@@ -59,7 +61,7 @@ class Accepted:
     def groups(self):
         """The groups that something is sent to."""
         groups = {self.row(row.name).get("group", self.value("gateway", "group")) for row in self.page.rows}
-        return groups | {self.root[part]["group"] for part in ("rmc", "ais") if "group" in self.root.get(part, {})}
+        return groups | {self.root[part]["group"] for part in PARTS if "group" in self.root.get(part, {})}
 
     def warnings(self):
         yield from self.routes_of_nothing()

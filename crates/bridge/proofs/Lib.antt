@@ -1,5 +1,7 @@
 pub mod Answers
+pub mod Changes
 pub mod Joins
+pub mod Plains
 pub mod Lengths
 pub mod Ships
 pub mod Steps

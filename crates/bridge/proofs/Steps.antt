@@ -1,6 +1,7 @@
 -- What each call of the bridge makes of what stands, put together from the gateway's call and those of the parts beside it.
 use Rattle.std.proofs.Common.{◌≡◌, ℕ, ◌<◌, Bool, true, false, List, [], ◌∷◌, ◌++◌, refl, sym, ap, subst, ◌∙◌, arith}
 use Rattle.std.specs.Prelude.{nat_le, Option, None, Some, option_map}
+use Rattle.n2k_id.specs.declared.name.Name.{Name}
 use Rattle.std.proofs.lemmas.Bool.{leb-true}
 use Rattle.std.proofs.lemmas.List.{append-nil, length-take}
 use Rattle.gate_events.specs.Event as lines
@@ -16,17 +17,19 @@ use Rattle.gate_outbox.specs.declared.done.Command.{Command}
 use Rattle.gate_outbox.specs.Output.{Output, emits_of}
 use Rattle.gate_core.specs.Promises.{IsTaken, IsTooEarly, IsStep, IsCommandStep, entry_by}
 use Rattle.gate_core.specs.Steps.{by_keys, entry_of, only_told, IsEventValid}
-use Rattle.bridge.specs.Beside.{IsStepped}
+use Rattle.bridge.specs.Beside.{IsStepped, plain_each}
 use Rattle.bridge.specs.BridgeStands.{BridgeStands, IsBesideStep, IsBridged, IsBridgeStep, IsCommanded, IsObeyed, IsRefused, IsStart}
 use Rattle.bridge.specs.Answered.{answers}
-use Rattle.bridge.specs.Gate.{rmc_of}
+use Rattle.bridge.specs.Gate.{NothingFurther, changes_of, plain_of, rmc_of, ships_of, tagged_out}
 use Rattle.ais_bridge.specs.AisKept.{AisKept}
 use Rattle.bus_identity.specs.Answers.{Kept as Counted}
 use Rattle.bridge.specs.declared.joining.Joining.{Joining}
 use Rattle.bridge.specs.declared.left.Left.{Left}
-use Rattle.bridge.specs.Kept.{Bridged, all_left, left_by, nothing_left}
+use Rattle.bridge.specs.Kept.{Bridged, all_left, left_by, nothing_left, plain_left}
 use Rattle.bridge.specs.Parts.{Parts}
+use Rattle.bridge.proofs.Changes.{commanded_names}
 use Rattle.bridge.proofs.Joins.{commanded_joins}
+use Rattle.bridge.proofs.Plains.{answers_plain, behind_all, changes_plain, each_plain}
 use Rattle.bridge.proofs.Ships.{commanded_ships}
 
 -- ---- an event may follow
@@ -46,12 +49,20 @@ goes_on e h valid could accepted = (offered e valid, in_time e h accepted, could
 
 -- ---- the gateway was called, and left this
 
-abbrev pub bridge_of : Bool → Machine → Counted → Option Joining → Option AisKept → Left → Bridged
-bridge_of started g answering joining watching left =
-    record { started = started; gateway = g; answering = answering; joining = joining; watching = watching; left = left }
+abbrev pub bridge_of : Bool → Machine → Counted → Option Joining → Option AisKept → Option (List (Option Name)) → Option (List ℕ) → Left → Bridged
+bridge_of started g answering joining watching sources plain left = record {
+  started = started;
+  gateway = g;
+  answering = answering;
+  joining = joining;
+  watching = watching;
+  sources = sources;
+  plain = plain;
+  left = left;
+}
 
 abbrev pub with_gateway : Bool → Machine → Output → Bridged → Bridged
-with_gateway started g o b = bridge_of started g b.answering b.joining b.watching (left_by o)
+with_gateway started g o b = bridge_of started g b.answering b.joining b.watching b.sources b.plain (left_by o)
 
 -- what is left is forgotten before
 pub left_after : (forgotten : Left) (o : Output) → forgotten ≡ nothing_left → record forgotten { outbox = o } ≡ left_by o
@@ -81,6 +92,8 @@ is_start s before g o stands settings is p new =
         answering = new.answering;
         joining = new.joining p.gateway s;
         watching = new.watching s;
+        sources = new.sources p.gateway s;
+        plain = new.plain;
       };
       emits = alone_left o ∙ ap (λ (x : Output). emits_of x.emits) is ∙ ap opening_emits here;
       unordered = ap (λ (x : Output). x.command) is;
@@ -96,7 +109,14 @@ module _ (p : Parts) (s : ℕ) (h : History) (before : Bridged) (stands : Bridge
       let answered = step.answering p.information p.gateway s h stepped stands.answering in
       let joined = step.joining p.rmc p.gateway s h stepped stands.joining in
       let watched = step.watching p.ais p.gateway s h stepped stands.watching in
+      let changed = step.sources p.sources p.gateway s h stepped stands.sources in
       let x = after.left in
+      let own = out p.gateway s h e in
+      let answered_to = answers p.gateway s p.information h e in
+      let rmc = rmc_of p.rmc p.gateway s h e in
+      let ships = ships_of p.ais p.gateway s h e in
+      let changes = changes_of p.sources p.gateway s h e in
+      let left = ap (λ (o : Output). emits_of o.emits) step.outbox ∙ taken.emits in
       record {
         could = could;
         stands = record {
@@ -106,14 +126,20 @@ module _ (p : Parts) (s : ℕ) (h : History) (before : Bridged) (stands : Bridge
           answering = answered.stands;
           joining = joined.stands;
           watching = watched.stands;
+          sources = changed.stands;
+          plain = step.group ∙ stands.plain;
         };
         emits =
-            ap (λ (o : Output). emits_of o.emits ++ (emits_of x.answer ++ (emits_of x.joined ++ emits_of x.ships))) step.outbox
-            ∙ ap (λ (es : List Emit). es ++ (emits_of x.answer ++ (emits_of x.joined ++ emits_of x.ships))) taken.emits
-            ∙ ap (λ (es : List Emit). out p.gateway s h e ++ (es ++ (emits_of x.joined ++ emits_of x.ships))) answered.emits
-            ∙ ap (λ (es : List Emit). out p.gateway s h e ++ (answers p.gateway s p.information h e ++ (es ++ emits_of x.ships))) joined.emits
-            ∙ ap (λ (es : List Emit). out p.gateway s h e ++ (answers p.gateway s p.information h e ++ (rmc_of p.rmc p.gateway s h e ++ es)))
-            watched.emits;
+            ap (λ (es : List Emit). es ++ (emits_of x.answer ++ (emits_of x.joined ++ (emits_of x.ships ++ (emits_of x.changes ++ plain_left x.plain))))) left
+            ∙ ap (λ (es : List Emit). own ++ (es ++ (emits_of x.joined ++ (emits_of x.ships ++ (emits_of x.changes ++ plain_left x.plain))))) answered.emits
+            ∙ ap (λ (es : List Emit). own ++ (answered_to ++ (es ++ (emits_of x.ships ++ (emits_of x.changes ++ plain_left x.plain))))) joined.emits
+            ∙ ap (λ (es : List Emit). own ++ (answered_to ++ (rmc ++ (es ++ (emits_of x.changes ++ plain_left x.plain))))) watched.emits
+            ∙ ap (λ (es : List Emit). own ++ (answered_to ++ (rmc ++ (ships ++ (es ++ plain_left x.plain))))) changed.emits
+            ∙ behind_all own answered_to rmc ships changes (plain_left x.plain)
+            ∙ ap (λ (es : List Emit). tagged_out p s h e ++ es)
+            (step.plain ∙ ap (λ (group : Option (List ℕ)). plain_each group x.outbox.emits x.joined x.ships) stands.plain
+            ∙ each_plain own answered_to rmc ships changes p.plain x.outbox.emits x.joined x.ships left joined.emits watched.emits
+            (λ group. answers_plain group p.gateway s p.information h e) (λ group. changes_plain group p.sources p.gateway s h e));
         ordered = ap (λ (o : Output). option_map (entry_by (moment_of e)) o.command) step.outbox ∙ taken.ordered;
       }
 
@@ -126,6 +152,8 @@ module _ (p : Parts) (s : ℕ) (h : History) (before : Bridged) (stands : Bridge
       answering = stands.answering;
       joining = stands.joining;
       watching = stands.watching;
+      sources = stands.sources;
+      plain = stands.plain;
     };
     emits = alone_left o ∙ ap (λ (x : Output). emits_of x.emits) early.reported;
     unordered = ap (λ (x : Output). x.command) early.reported;
@@ -142,6 +170,8 @@ module _ (p : Parts) (s : ℕ) (h : History) (before : Bridged) (stands : Bridge
       answering = stands.answering;
       joining = commanded_joins p.rmc p.gateway s h (now h) c.source c.address before.joining stands.joining;
       watching = commanded_ships p.ais p.gateway s h c.source c.address before.watching stands.settings stands.watching;
+      sources = commanded_names p.sources p.gateway s h (now h) c.source c.address before.sources stands.sources;
+      plain = stands.plain;
     };
     emits = alone_left o ∙ taken.emits;
     unordered = none_mapped (entry_by (now h)) o.command taken.ordered;
@@ -203,3 +233,16 @@ pub event_valid : (e : Event) → lines.IsValid e → IsEventValid e
 event_valid (event.Frame moment frame) valid = valid
 event_valid (event.Datagram moment bytes) valid = tt
 event_valid (event.Tick moment) valid = tt
+
+-- ---- without a change that is told and without plain sentences
+
+pub nothing_further : NothingFurther
+nothing_further p s h e untold unplain =
+    let own = out p.gateway s h e in
+    let answered = answers p.gateway s p.information h e in
+    let rmc = rmc_of p.rmc p.gateway s h e in
+    let ships = ships_of p.ais p.gateway s h e in
+    ap (λ (group : Option (List ℕ)). tagged_out p s h e ++ plain_of group (tagged_out p s h e)) unplain
+    ∙ append-nil (tagged_out p s h e)
+    ∙ ap (λ (b : Bool). own ++ (answered ++ (rmc ++ (ships ++ changes_of b p.gateway s h e)))) untold
+    ∙ ap (λ (es : List Emit). own ++ (answered ++ (rmc ++ es))) (append-nil ships)

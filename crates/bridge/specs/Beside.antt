@@ -1,5 +1,7 @@
 -- When each part beside the gateway stands for everything that ever came, and what one more entry makes of it and makes it give.
-use Rattle.std.specs.Prelude.{◌≡◌, ℕ, List, ◌∷◌, Option, Some, None}
+use Rattle.std.specs.Prelude.{◌≡◌, ℕ, Bool, true, false, List, [], ◌∷◌, ◌++◌, Option, Some, None}
+use Rattle.n2k_id.specs.declared.name.Name.{Name}
+use Rattle.gate_events.specs.Emit.{Emit}
 use Rattle.history.specs.AddressLaws.{AreSettings}
 use Rattle.history.specs.Entries.{Entry, History, IsHistory}
 use Rattle.history.specs.Settings.{Settings}
@@ -11,10 +13,12 @@ use Rattle.joined_rmc.specs.JoinStands.{JoinStands}
 use Rattle.joined_rmc.specs.RmcOut.{RmcRule}
 use Rattle.ais_bridge.specs.AisKept.{AisKept}
 use Rattle.ais_bridge.specs.Promises.{StandsAis}
+use Rattle.plain_out.specs.Plain.{plain_out}
+use Rattle.source_watch.specs.WatchStands.{WatchStands}
 use Rattle.bus_identity.specs.Answers.{Kept as Counted}
 use Rattle.bridge.specs.declared.joining.Joining.{Joining}
 use Rattle.bridge.specs.Answered.{answers, sent_before}
-use Rattle.bridge.specs.Gate.{rmc_of, ships_of}
+use Rattle.bridge.specs.Gate.{changes_of, rmc_of, ships_of}
 
 -- ---- a part stands for a history of the gateway with these settings
 
@@ -35,6 +39,13 @@ WatchingStands (Some a) c s h (Some w) = StandsAis a c s h w
 WatchingStands None c s h (Some w) = ⊥
 WatchingStands (Some a) c s h None = ⊥
 
+-- the device that each row is taken from is kept exactly where a change is told
+abbrev pub SourcesStand : Bool → Settings → ℕ → History → Option (List (Option Name)) → Type 0
+SourcesStand false c s h None = Unit {0}
+SourcesStand true c s h (Some names) = WatchStands c s h names
+SourcesStand false c s h (Some names) = ⊥
+SourcesStand true c s h None = ⊥
+
 -- ---- one more entry, which the gateway has taken
 
 pub record IsStepped (c : Settings) (s : ℕ) (h : History) (e : Entry) (gateway : Machine) (left : Output) : Type 0 where
@@ -54,6 +65,10 @@ pub record IsWatched (ais : Option AisConfig) (c : Settings) (s : ℕ) (h : Hist
   pub stands : WatchingStands ais c s (e ∷ h) after
   pub emits : emits_of given ≡ ships_of ais c s h e
 
+pub record IsChanged (sources : Bool) (c : Settings) (s : ℕ) (h : History) (e : Entry) (after : Option (List (Option Name))) (given : Emitted) : Type 0 where
+  pub stands : SourcesStand sources c s (e ∷ h) after
+  pub emits : emits_of given ≡ changes_of sources c s h e
+
 -- for every history for which the part stands before the entry
 abbrev pub IsAnswering : Machine → Output → Entry → Counted → Counted → Emitted → Type 0
 IsAnswering gateway left e before after given =
@@ -69,3 +84,15 @@ abbrev pub IsWatching : Machine → Output → Entry → Option AisKept → Opti
 IsWatching gateway left e before after given =
     (ais : Option AisConfig) (c : Settings) (s : ℕ) (h : History) → IsStepped c s h e gateway left → WatchingStands ais c s h before
     → IsWatched ais c s h e after given
+
+abbrev pub IsChanging : Machine → Output → Entry → Option (List (Option Name)) → Option (List (Option Name)) → Emitted → Type 0
+IsChanging gateway left e before after given =
+    (sources : Bool) (c : Settings) (s : ℕ) (h : History) → IsStepped c s h e gateway left → SourcesStand sources c s h before
+    → IsChanged sources c s h e after given
+
+-- ---- plain sentences, of the datagrams of rows, RMC and ships: nothing else has one
+
+abbrev pub plain_each : Option (List ℕ) → Emitted → Emitted → Emitted → List Emit
+plain_each None rows joined ships = []
+plain_each (Some group) rows joined ships =
+    plain_out group (emits_of rows) ++ (plain_out group (emits_of joined) ++ plain_out group (emits_of ships))

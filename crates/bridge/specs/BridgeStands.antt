@@ -1,5 +1,6 @@
 -- When what the bridge keeps stands for everything that ever came, and what each call makes of it and leaves.
-use Rattle.std.specs.Prelude.{◌≡◌, ℕ, true, false, [], ◌∷◌, Option, Some, None, option_map}
+use Rattle.std.specs.Prelude.{◌≡◌, ℕ, Bool, true, false, List, [], ◌∷◌, Option, Some, None, option_map}
+use Rattle.n2k_id.specs.declared.name.Name.{Name}
 use Rattle.report_rules.specs.Rules as rules
 use Rattle.gate_events.specs.declared.emit.Detail.TheVariants as detail
 use Rattle.history.specs.AddressLaws.{AreSettings}
@@ -17,9 +18,9 @@ use Rattle.gate_core.specs.Steps.{by_keys}
 use Rattle.joined_rmc.specs.RmcOut.{RmcRule}
 use Rattle.ais_bridge.specs.AisKept.{AisKept}
 use Rattle.bridge.specs.declared.joining.Joining.{Joining}
-use Rattle.bridge.specs.Beside.{AnsweringStands, JoiningStands, WatchingStands, IsAnswering, IsJoining, IsWatching}
+use Rattle.bridge.specs.Beside.{AnsweringStands, JoiningStands, WatchingStands, SourcesStand, IsAnswering, IsJoining, IsWatching, IsChanging, plain_each}
 use Rattle.bridge.specs.Gate.{all_out}
-use Rattle.bridge.specs.Kept.{Bridged, left_of, nothing_left, unanswered}
+use Rattle.bridge.specs.Kept.{Bridged, left_of, nothing_left, plain_left, unanswered}
 use Rattle.bridge.specs.Parts.{Parts}
 
 pub record BridgeStands (p : Parts) (s : ℕ) (h : History) (b : Bridged) : Type 0 where
@@ -29,6 +30,8 @@ pub record BridgeStands (p : Parts) (s : ℕ) (h : History) (b : Bridged) : Type
   pub answering : AnsweringStands p.information p.gateway s h b.answering
   pub joining : JoiningStands p.rmc p.gateway s h b.joining
   pub watching : WatchingStands p.ais p.gateway s h b.watching
+  pub sources : SourcesStand p.sources p.gateway s h b.sources
+  pub plain : b.plain ≡ p.plain
 
 -- ---- a bridge that wasn't started, whenever it will be
 
@@ -38,6 +41,9 @@ IsOpenedJoining rmc joining = (c : Settings) (s : ℕ) → JoiningStands rmc c s
 abbrev pub IsOpenedWatching : Settings → Option AisConfig → Option AisKept → Type 0
 IsOpenedWatching c ais watching = (s : ℕ) → WatchingStands ais c s [] watching
 
+abbrev pub IsOpenedSources : Bool → Option (List (Option Name)) → Type 0
+IsOpenedSources wanted sources = (c : Settings) (s : ℕ) → SourcesStand wanted c s [] sources
+
 pub record IsNew (p : Parts) (b : Bridged) : Type 0 where
   pub settings : AreSettings p.gateway
   pub waits : b.started ≡ false
@@ -46,6 +52,8 @@ pub record IsNew (p : Parts) (b : Bridged) : Type 0 where
   pub answering : b.answering ≡ unanswered p.information
   pub joining : IsOpenedJoining p.rmc b.joining
   pub watching : IsOpenedWatching p.gateway p.ais b.watching
+  pub sources : IsOpenedSources p.sources b.sources
+  pub plain : b.plain ≡ p.plain
 
 -- the start: the gateway claims its address, and asks all for theirs; no command is left
 pub record IsStarted (p : Parts) (s : ℕ) (after : Bridged) : Type 0 where
@@ -84,6 +92,9 @@ pub record IsBesideStep (e : Entry) (before after : Bridged) : Type 0 where
   pub answering : IsAnswering before.gateway before.left.outbox e before.answering after.answering after.left.answer
   pub joining : IsJoining before.gateway before.left.outbox e before.joining after.joining after.left.joined
   pub watching : IsWatching before.gateway before.left.outbox e before.watching after.watching after.left.ships
+  pub sources : IsChanging before.gateway before.left.outbox e before.sources after.sources after.left.changes
+  pub group : after.plain ≡ before.plain
+  pub plain : plain_left after.left.plain ≡ plain_each before.plain after.left.outbox.emits after.left.joined after.left.ships
 
 -- ---- the command that the last event left, which is left no more once it was taken
 

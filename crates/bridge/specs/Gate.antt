@@ -1,7 +1,7 @@
 -- What the gateway with the parts beside it emits, over everything that ever came: at each event what the gateway itself emits, then its
--- answers to who asks who it is, RMC, and the reports of ships around; and then what it emits at the command that the event completes
--- (ISO 11783-5).
-use Rattle.std.specs.Prelude.{ℕ, List, [], ◌++◌, Option, Some, None}
+-- answers to who asks who it is, RMC, the reports of ships around, and a change of the device that a row is taken from; all datagrams of
+-- these once more as plain sentences; and then what it emits at the command that the event completes (ISO 11783-5).
+use Rattle.std.specs.Prelude.{◌≡◌, ℕ, Bool, true, false, List, [], ◌++◌, Option, Some, None}
 use Rattle.gate_events.specs.Emit.{Emit, Emitted}
 use Rattle.history.specs.Entries.{Entry, History}
 use Rattle.history.specs.Gate as of_gateway
@@ -10,6 +10,8 @@ use Rattle.history.specs.Settings.{Settings}
 use Rattle.settings.specs.declared.ais.AisConfig.{AisConfig}
 use Rattle.joined_rmc.specs.RmcOut.{RmcRule, rmc_out}
 use Rattle.ais_bridge.specs.AisOut.{ais_out}
+use Rattle.plain_out.specs.Plain.{plain_out}
+use Rattle.source_watch.specs.SourceOut.{source_out}
 use Rattle.bridge.specs.Answered.{answers}
 use Rattle.bridge.specs.Parts.{Parts}
 
@@ -22,13 +24,29 @@ abbrev pub ships_of : Option AisConfig → Settings → ℕ → History → Entr
 ships_of None c s h e = []
 ships_of (Some a) c s h e = ais_out a c s h e
 
+-- a change of the device that a row is taken from, where it is told
+abbrev pub changes_of : Bool → Settings → ℕ → History → Entry → List Emit
+changes_of false c s h e = []
+changes_of true c s h e = source_out c s h e
+
+-- plain sentences, where they are said
+abbrev pub plain_of : Option (List ℕ) → List Emit → List Emit
+plain_of None emits = []
+plain_of (Some group) emits = plain_out group emits
+
 module _ (p : Parts) (s : ℕ) where
   -- what the parts beside the gateway give
   abbrev pub beside : History → Entry → List Emit
-  beside h e = answers p.gateway s p.information h e ++ (rmc_of p.rmc p.gateway s h e ++ ships_of p.ais p.gateway s h e)
+  beside h e =
+      answers p.gateway s p.information h e
+      ++ (rmc_of p.rmc p.gateway s h e ++ (ships_of p.ais p.gateway s h e ++ changes_of p.sources p.gateway s h e))
+
+  -- but for plain sentences
+  abbrev pub tagged_out : History → Entry → List Emit
+  tagged_out h e = out p.gateway s h e ++ beside h e
 
   abbrev pub all_out : History → Entry → List Emit
-  all_out h e = out p.gateway s h e ++ beside h e
+  all_out h e = tagged_out h e ++ plain_of p.plain (tagged_out h e)
 
   abbrev pub opening : List Emitted
   opening = of_gateway.opening p.gateway s
@@ -46,3 +64,10 @@ module _ (p : Parts) (s : ℕ) where
 
   abbrev pub gate : List Entry → List Emitted
   gate events = gate_by p.gateway s all_out events
+
+-- where neither a change of devices is told nor plain sentences are said, the gateway, its answers, RMC and ships are all
+abbrev pub NothingFurther : Type 0
+NothingFurther =
+    (p : Parts) (s : ℕ) (h : History) (e : Entry) → p.sources ≡ false → p.plain ≡ None
+    → all_out p s h e
+    ≡ out p.gateway s h e ++ (answers p.gateway s p.information h e ++ (rmc_of p.rmc p.gateway s h e ++ ships_of p.ais p.gateway s h e))

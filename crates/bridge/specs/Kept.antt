@@ -4,9 +4,11 @@ use Rattle.gate_events.specs.Emit.{Emit}
 use Rattle.gate_model.specs.Machine.{Machine}
 use Rattle.gate_outbox.specs.Output.{Output, emits_of, no_emits, nothing}
 use Rattle.bus_identity.specs.Answers.{Kept as Counted}
+use Rattle.n2k_id.specs.declared.name.Name.{Name}
 use Rattle.ais_bridge.specs.AisKept.{AisKept}
 use Rattle.bridge.specs.declared.joining.Joining.{Joining}
 use Rattle.bridge.specs.declared.left.Left.{Left}
+use Rattle.bridge.specs.declared.plain.Plain.{Plain}
 
 pub record Bridged : Type 0 where
   pub started : Bool
@@ -15,6 +17,10 @@ pub record Bridged : Type 0 where
   pub answering : Counted
   pub joining : Option Joining
   pub watching : Option AisKept
+  -- the device that each row was taken from last
+  pub sources : Option (List (Option Name))
+  -- the transmission group of plain sentences
+  pub plain : Option (List ℕ)
   -- what the last call left
   pub left : Left
 
@@ -29,15 +35,23 @@ most_answered = 20
 -- ---- what a call leaves
 
 -- the gateway alone left something
+abbrev pub no_plain : Plain
+no_plain = record { rows = no_emits; joined = no_emits; ships = no_emits }
+
 abbrev pub left_by : Output → Left
-left_by o = record { outbox = o; answer = no_emits; joined = no_emits; ships = no_emits }
+left_by o = record { outbox = o; answer = no_emits; joined = no_emits; ships = no_emits; changes = no_emits; plain = no_plain }
 
 abbrev pub nothing_left : Left
 nothing_left = left_by nothing
 
 -- in the order in which it goes out
+abbrev pub plain_left : Plain → List Emit
+plain_left x = emits_of x.rows ++ (emits_of x.joined ++ emits_of x.ships)
+
 abbrev pub all_left : Left → List Emit
-all_left x = emits_of x.outbox.emits ++ (emits_of x.answer ++ (emits_of x.joined ++ emits_of x.ships))
+all_left x =
+    emits_of x.outbox.emits
+    ++ (emits_of x.answer ++ (emits_of x.joined ++ (emits_of x.ships ++ (emits_of x.changes ++ plain_left x.plain))))
 
 abbrev pub left_of : Bridged → List Emit
 left_of b = all_left b.left

@@ -1,11 +1,15 @@
--- The parts beside the gateway: who is asked for, RMC, and a ship around.
-use Rattle.std.specs.Prelude.{◌≡◌, ℕ, List, [], ◌∷◌, ◌++◌, map, Some, codes}
-use Rattle.report_rules.specs.Rules.{claim_lost, fast_orphan, not_ready}
+-- The parts beside the gateway: who is asked for, RMC, a ship around, the device that a row is taken from, and plain sentences.
+use Rattle.std.specs.Prelude.{◌≡◌, ℕ, true, false, List, [], ◌∷◌, ◌++◌, map, Some, None, codes}
+use Rattle.report_rules.specs.Rules.{claim_lost, fast_orphan, not_ready, source_changed}
+use Rattle.readings.specs.declared.rows.Row.{Row}
+use Rattle.readings.specs.declared.rows.Row.TheVariants as row
 use Rattle.readings.specs.Rows.{every_row}
 use Rattle.datagram450.specs.Datagram.{header}
+use Rattle.gate_events.specs.declared.emit.Detail.TheVariants as detail
 use Rattle.gate_events.specs.Emit.{Emit, Emitted, net}
 use Rattle.history.specs.Cases.{can_frame, emitted, full, lined, navd, started, two_devices}
-use Rattle.history.specs.Emits.{of_source}
+use Rattle.history.specs.ChoiceCases.{ranked}
+use Rattle.history.specs.Emits.{broken, of_source}
 use Rattle.history.specs.Entries.{Entry, frame}
 use Rattle.bridge.specs.Gate.{gate}
 use Rattle.bridge.specs.Parts.{Parts}
@@ -17,11 +21,16 @@ all_parts = record {
   information = 1 ∷ 2 ∷ 3 ∷ 4 ∷ 5 ∷ 6 ∷ 7 ∷ 8 ∷ 9 ∷ 10 ∷ [];
   rmc = Some (record { group = codes "RCOM"; talker = codes "GP"; sfi = codes "II0001"; timeouts = map (λ row. 5000) every_row });
   ais = Some (record { group = codes "TGTD"; slots = 16 });
+  sources = false;
+  plain = None;
 }
 
--- it started at 10 seconds, and emits this at the events
+-- they started at this moment, and emit this at the events
+abbrev pub PartsEmit : Parts → ℕ → List Entry → List Emitted → Type 0
+PartsEmit p s events after = gate p s events ≡ started s ++ after
+
 abbrev pub AllEmit : List Entry → List Emitted → Type 0
-AllEmit events after = gate all_parts 10000000 events ≡ started 10000000 ++ after
+AllEmit events after = PartsEmit all_parts 10000000 events after
 
 -- ---- a request (ISO 11783-3), of three bytes
 
@@ -91,3 +100,83 @@ ShipAcrossAClaim =
     ∷ ship 10030000 0x02005C3D02020000
     ∷ [])
     (emitted 10020000 (of_source claim_lost 23 129038) ∷ emitted 10030000 (of_source fast_orphan 23 129038) ∷ [])
+
+-- ---- the device that a row is taken from
+
+abbrev pub watched : Parts
+watched = record all_parts { gateway = ranked; sources = true }
+
+abbrev pub taken_from : Row → ℕ → Emit
+taken_from row source = broken source_changed (detail.Row row source)
+
+-- of two devices that say the true heading the second one is heard once the first has been silent for more than 2 seconds, or says nothing
+abbrev pub FirstOfTwoIsTold : Type 0
+FirstOfTwoIsTold =
+    PartsEmit watched 100000000
+    (full 100000000 0x09F11217 0x005C3DFF7FFF7FFC
+    ∷ full 100500000 0x09F11218 0x006D3DFF7FFF7FFC
+    ∷ full 102000000 0x09F11218 0x006D3DFF7FFF7FFC
+    ∷ full 102000001 0x09F11218 0x006D3DFF7FFF7FFC
+    ∷ full 102100000 0x09F11217 0x00FFFFFF7FFF7FFC
+    ∷ full 102100001 0x09F11218 0x006D3DFF7FFF7FFC
+    ∷ [])
+    (emitted 100000000 (navd (codes "s:II0001,n:1*01") (codes "$HEHDT,90.0,T*16"))
+    ∷ emitted 100000000 (taken_from row.HeadingTrue 23)
+    ∷ emitted 102000001 (navd (codes "s:II0001,n:2*02") (codes "$HEHDT,90.1,T*17"))
+    ∷ emitted 102000001 (taken_from row.HeadingTrue 24)
+    ∷ emitted 102100000 (navd (codes "s:II0001,n:3*03") (codes "$HEHDT,,T*01"))
+    ∷ emitted 102100000 (taken_from row.HeadingTrue 23)
+    ∷ emitted 102100001 (navd (codes "s:II0001,n:4*04") (codes "$HEHDT,90.1,T*17"))
+    ∷ emitted 102100001 (taken_from row.HeadingTrue 24)
+    ∷ [])
+
+-- the first device claims another address, from which it is the same; each row has a device of its own
+abbrev pub AddressIsNoChange : Type 0
+AddressIsNoChange =
+    PartsEmit watched 100000000
+    (full 100000000 0x09F11217 0x005C3DFF7FFF7FFC
+    ∷ full 100100000 0x18EEFF1E 0x0500C0FF008C78C0
+    ∷ full 100200000 0x09F1121E 0x005C3DFF7FFF7FFC
+    ∷ full 100300000 0x09F11318 0x006494FEFFFFFFFF
+    ∷ full 102200001 0x09F11218 0x006D3DFF7FFF7FFC
+    ∷ [])
+    (emitted 100000000 (navd (codes "s:II0001,n:1*01") (codes "$HEHDT,90.0,T*16"))
+    ∷ emitted 100000000 (taken_from row.HeadingTrue 23)
+    ∷ emitted 100200000 (navd (codes "s:II0001,n:2*02") (codes "$HEHDT,90.0,T*16"))
+    ∷ emitted 100300000 (navd (codes "s:II0001,n:3*03") (codes "$TIROT,-10.0,A*27"))
+    ∷ emitted 100300000 (taken_from row.RateOfTurn 24)
+    ∷ emitted 102200001 (navd (codes "s:II0001,n:4*04") (codes "$HEHDT,90.1,T*17"))
+    ∷ emitted 102200001 (taken_from row.HeadingTrue 24)
+    ∷ [])
+
+-- ---- plain sentences
+
+abbrev pub plain_parts : Parts
+plain_parts = record all_parts { sources = true; plain = Some (codes "PLAN") }
+
+abbrev pub ended : List ℕ → List ℕ
+ended sentence = sentence ++ 13 ∷ 10 ∷ []
+
+abbrev pub plain : List ℕ → Emit
+plain sentences = net (codes "PLAN") sentences
+
+-- both sentences of a datagram go out as one
+abbrev pub TwoSentences : Type 0
+TwoSentences =
+    PartsEmit plain_parts 10000000 (full 10000000 0x0DF50B17 0x00D20400000CFEFF ∷ [])
+    (emitted 10000000 (net (codes "NAVD") (header ++ (lined (codes "g:1-2-1,s:II0001,n:1*42") (codes "$SDDPT,12.34,-0.50,*67")
+    ++ lined (codes "g:2-2-1,s:II0001,n:2*42") (codes "$SDDBT,40.5,f,12.34,M,6.7,F*32"))))
+    ∷ emitted 10000000 (taken_from row.Depth 23)
+    ∷ emitted 10000000 (plain (ended (codes "$SDDPT,12.34,-0.50,*67") ++ ended (codes "$SDDBT,40.5,f,12.34,M,6.7,F*32")))
+    ∷ [])
+
+-- a position and RMC go out behind what is told of the position's device
+abbrev pub PlainComesLast : Type 0
+PlainComesLast =
+    PartsEmit plain_parts 10000000 (full 10000000 0x09F80117 0x79A4BF07002EB694 ∷ [])
+    (emitted 10000000 (navd (codes "s:II0001,n:1*01") position_said)
+    ∷ emitted 10000000 (rcom (codes "s:II0001,n:1*01") (codes "$GPRMC,,A,1300.0000,N,18000.0000,W,,,,,,A*69"))
+    ∷ emitted 10000000 (taken_from row.Position 23)
+    ∷ emitted 10000000 (plain (ended position_said))
+    ∷ emitted 10000000 (plain (ended (codes "$GPRMC,,A,1300.0000,N,18000.0000,W,,,,,,A*69")))
+    ∷ [])

@@ -1,5 +1,5 @@
 -- A gateway between the bus (ISO 11783) and the network (IEC 61162-450), and the parts that act beside it, by what is configured.
-use Rattle.std.specs.Prelude.{ℕ, List, map, Option, option_map}
+use Rattle.std.specs.Prelude.{ℕ, Bool, List, map, Option, option_map}
 use Rattle.history.specs.Settings.{Settings}
 use Rattle.bus_identity.specs.Payloads.{information_of}
 use Rattle.config_values.specs.declared.config.Config.{Config}
@@ -19,6 +19,10 @@ pub record Parts : Type 0 where
   pub rmc : Option RmcRule
   -- how reports of ships around are passed on, where they are
   pub ais : Option AisConfig
+  -- whether it is told from which device a row is taken
+  pub sources : Bool
+  -- the transmission group that all sentences are sent to once more, without headers and TAG blocks, where they are
+  pub plain : Option (List ℕ)
 
 -- of each row how long a source counts, in milliseconds
 abbrev pub timeouts_of : List RowConfig → List ℕ
@@ -33,4 +37,6 @@ parts_of x further = record {
   information = information_of x.product;
   rmc = rmc_rule x.config x.rmc;
   ais = x.ais;
+  sources = further.sources;
+  plain = further.plain;
 }

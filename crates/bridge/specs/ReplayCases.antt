@@ -1,5 +1,5 @@
 -- The text of captures.
-use Rattle.std.specs.Prelude.{◌≡◌, ℕ, List, [], ◌∷◌, ◌++◌, None, codes}
+use Rattle.std.specs.Prelude.{◌≡◌, ℕ, false, List, [], ◌∷◌, ◌++◌, None, codes}
 use Rattle.std.specs.List.{flat_map}
 use Rattle.capture_text.specs.Lines.{lines_of}
 use Rattle.history.specs.Cases.{two_devices}
@@ -11,7 +11,7 @@ text lines = flat_map (λ l. l ++ 10 ∷ []) lines
 
 -- a gateway of two devices that says neither RMC nor reports of ships around
 abbrev pub alone : Parts
-alone = record { gateway = two_devices; information = []; rmc = None; ais = None }
+alone = record { gateway = two_devices; information = []; rmc = None; ais = None; sources = false; plain = None }
 
 -- a heading
 abbrev pub OneLine : Type 0

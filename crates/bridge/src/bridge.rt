@@ -13,11 +13,14 @@ ghost use Rattle.bridge.specs.Parts.{parts_of};
 use crate::answering::Answering;
 use crate::joining::{Joining, join, joining_of};
 use crate::left::Left;
+use crate::sources::{sources_of, watch_sources};
 use crate::watching::{watch, watching_of};
 use ais_bridge::AisBridge;
 use gate_core::{Command, Gateway, moment_of};
 use gate_events::{Emit, Event};
+use sentence_text::Group;
 use settings::{Further, Settings};
+use source_watch::SourceWatch;
 use std::alloc::{AllocError, Global};
 use std::marker::Model;
 
@@ -29,6 +32,9 @@ pub struct Bridge {
     answering: Answering,
     joining: Option<Joining>,
     watching: Option<AisBridge>,
+    sources: Option<SourceWatch>,
+    /// The transmission group of plain sentences.
+    plain: Option<Group>,
     /// Most of all that is kept, and so not on the stack.
     left: Box<Left>,
 }
@@ -46,6 +52,8 @@ impl Model for Bridge {
       answering = b.answering.identity;
       joining = b.joining;
       watching = b.watching;
+      sources = b.sources;
+      plain = b.plain;
       left = b.left.value;
     } };
 
@@ -53,7 +61,7 @@ impl Model for Bridge {
 }
 
 impl Bridge {
-    /// A bridge of these settings, before it starts.
+    /// A bridge of these settings, with nothing further, before it starts.
     pub fn new(alloc: Global, settings: &Settings) -> Result<Bridge, AllocError>
         requires { IsSettings settings.now }
         ensures { IfOk result (IsNew (parts_of settings.now nothing_further)) }
@@ -77,6 +85,8 @@ impl Bridge {
             answering: Answering::new(&settings.product),
             joining: joining_of(&settings.rmc, &settings.config),
             watching,
+            sources: sources_of(further.sources),
+            plain: further.plain,
             left,
         })
     }
@@ -133,6 +143,14 @@ impl Bridge {
             &mut left.joined,
         );
         watch(&mut self.watching, &self.gateway, event, &mut left.ships);
+        watch_sources(
+            &mut self.sources,
+            &self.gateway,
+            &left.outbox,
+            &mut left.changes,
+        );
+        left.plain
+            .say(&self.plain, &left.outbox, &left.joined, &left.ships);
     }
 
     /// Takes the command that the last event left, where it left one, as an entry of its own at the same moment. Says whether it did.

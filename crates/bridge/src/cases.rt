@@ -23,6 +23,18 @@ pub fn rmc_is_joined()
     ensures { part_cases.FieldsComeAndGo }
 {}
 
+/// The device that a row is taken from: two of which one falls silent, and one that changes its address.
+pub fn changes_of_device_are_told()
+    ensures first_of_two { part_cases.FirstOfTwoIsTold }
+    ensures address_is_no_change { part_cases.AddressIsNoChange }
+{}
+
+/// Plain sentences: two of one datagram, and of two datagrams at once.
+pub fn sentences_are_said_once_more()
+    ensures two_sentences { part_cases.TwoSentences }
+    ensures plain_comes_last { part_cases.PlainComesLast }
+{}
+
 /// A report of a ship, in the making while its sender's address changes hands.
 pub fn reports_of_ships_end_with_a_claim()
     ensures { part_cases.ShipAcrossAClaim }

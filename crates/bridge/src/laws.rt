@@ -1,4 +1,5 @@
 //! What is promised of the bridge besides. Each law is a function that does nothing, and whose clause is the law.
+ghost use Rattle.bridge.specs.Gate.{NothingFurther};
 ghost use Rattle.bridge.specs.LengthLaws.{LongLines};
 ghost use Rattle.bridge.specs.Replayed.{EventsAreReplayed, LinesAreReplayed};
 
@@ -12,6 +13,11 @@ pub fn lines_are_replayed()
 /// the event completes.
 pub fn events_are_replayed()
     ensures { EventsAreReplayed }
+{}
+
+/// A gateway that neither tells from which device a row is taken nor says plain sentences emits what it emits without these parts.
+pub fn nothing_further_changes_nothing()
+    ensures { NothingFurther }
 {}
 
 /// A line of a capture of more than 4096 bytes gives rule 2 and nothing else, whatever it holds.

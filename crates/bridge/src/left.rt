@@ -6,6 +6,8 @@ ghost use Rattle.bridge.specs.Kept.{all_left, nothing_left};
 
 use crate::answering::Answer;
 use crate::joining::Joined;
+use crate::plain::Plain;
+use crate::sources::Change;
 use ais_bridge::AisEmits;
 use gate_core::Outbox;
 use gate_events::Emit;
@@ -19,6 +21,8 @@ pub(crate) struct Left {
     pub(crate) answer: Answer,
     pub(crate) joined: Joined,
     pub(crate) ships: AisEmits,
+    pub(crate) changes: Change,
+    pub(crate) plain: Plain,
 }
 
 impl Left {
@@ -34,6 +38,8 @@ impl Left {
                 answer: Answer::new(),
                 joined: Joined::new(),
                 ships: AisEmits::new(),
+                changes: Change::new(),
+                plain: Plain::new(),
             },
         )?)
     }
@@ -46,13 +52,20 @@ impl Left {
         self.answer.clear();
         self.joined.clear();
         self.ships.clear();
+        self.changes.clear();
+        self.plain.clear();
     }
 
     /// How many emits there are.
     pub(crate) fn len(&self) -> usize
         ensures { result ≡ length (all_left self.now) }
     {
-        self.outbox.len() + self.answer.len() + self.joined.len() + self.ships.len()
+        self.outbox.len()
+            + self.answer.len()
+            + self.joined.len()
+            + self.ships.len()
+            + self.changes.len()
+            + self.plain.len()
     }
 
     /// The emit at this place, from 0; None exactly beyond the list.
@@ -69,6 +82,12 @@ impl Left {
         let Some(place) = place.checked_sub(self.joined.len()) else {
             return self.joined.item(place);
         };
-        self.ships.item(place)
+        let Some(place) = place.checked_sub(self.ships.len()) else {
+            return self.ships.item(place);
+        };
+        let Some(place) = place.checked_sub(self.changes.len()) else {
+            return self.changes.item(place);
+        };
+        self.plain.item(place)
     }
 }

@@ -1,5 +1,6 @@
 //! The gateway with the parts beside it, as one thing: it takes an event and leaves, in its order, all that goes out: what the gateway
-//! itself emits, its answers to who asks who it is, RMC, and the reports of ships around.
+//! itself emits, its answers to who asks who it is, RMC, the reports of ships around, a change of the device that a row is taken from, and
+//! all sentences once more without headers and TAG blocks.
 //!
 //! No call but [`Bridge::new`] and [`Bridge::with`] takes memory.
 #![tactic(auto)]
@@ -10,7 +11,9 @@ pub mod cases;
 mod joining;
 pub mod laws;
 mod left;
+mod plain;
 mod replaying;
+mod sources;
 mod watching;
 
 pub use bridge::Bridge;

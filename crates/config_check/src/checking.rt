@@ -3,7 +3,7 @@ ghost use Rattle.std.specs.Prelude.{◌≡◌};
 ghost use Rattle.config_check.specs.Check.{Accepts, ChecksBy};
 ghost use Rattle.statuses.specs.Statuses.{IsEarly, number};
 
-use crate::configuring::{give_up, load_settings};
+use crate::configuring::{give_up, load_whole};
 use capture_stream::send_now;
 use gate_outside::{Failed, Files, Sink};
 use statuses::Status;
@@ -37,7 +37,7 @@ pub fn check<F: Files, K: Sink>(alloc: Global, name: &str, files: &mut F, out: &
         (K.taken out.old) (K.taken out.new) (K.fault_count out.old) (K.fault_count out.new) (number result) }
     ensures quiet { IsEarly (number result) → out.new ≡ out.old }
 {
-    match load_settings(alloc, name, files) {
+    match load_whole(alloc, name, files) {
         Ok(_) => accept(out),
         Err(why) => give_up(&why, out),
     }

@@ -1,17 +1,17 @@
 //! A command's configuration, loaded from its file.
 ghost use Rattle.std.specs.Prelude.{◌≡◌, ◌≤◌, length};
-ghost use Rattle.config_check.specs.Configuring.{GivesUp, LoadsSettings, SaysSettings, with_end};
+ghost use Rattle.config_check.specs.Configuring.{GivesUp, LoadsWhole, SaysWhole, with_end};
 ghost use Rattle.statuses.specs.Statuses.{IsEarly, number};
 
 use arrayvec::ArrayVec;
 use capture_stream::send_now;
-use gate_config::{FaultLine, read_all};
+use gate_config::{FaultLine, read_whole};
 use gate_outside::{Files, LoadFault, Sink};
-use settings::Settings;
+use settings::{Further, Settings};
 use statuses::Status;
 use std::alloc::Global;
 
-/// Why there are no settings.
+/// Why there is no configuration.
 #[derive(Drop)]
 pub enum Unconfigured {
     /// The file can't be read, or has more than 1 MiB.
@@ -22,29 +22,29 @@ pub enum Unconfigured {
     Memory,
 }
 
-/// The settings that the file of this name says.
+/// All that the file of this name says: the settings, and what is asked for besides.
 #[inline(never)]
-pub fn load_settings<F: Files>(
+pub fn load_whole<F: Files>(
     alloc: Global,
     name: &str,
     files: &mut F,
-) -> Result<Settings, Unconfigured>
-    ensures { LoadsSettings (F.content files.old name.now) (F.fault_count files.old) (F.fault_count files.new) result }
+) -> Result<(Settings, Further), Unconfigured>
+    ensures { LoadsWhole (F.content files.old name.now) (F.fault_count files.old) (F.fault_count files.new) result }
 {
     match files.load(alloc, name) {
-        Ok(bytes) => settings_of(alloc, bytes.as_slice()),
+        Ok(bytes) => whole_of(alloc, bytes.as_slice()),
         Err(LoadFault::Failed) => Err(Unconfigured::Unread),
         Err(LoadFault::TooLong) => Err(Unconfigured::Unread),
         Err(LoadFault::Memory) => Err(Unconfigured::Memory),
     }
 }
 
-// The settings that these bytes say.
-fn settings_of(alloc: Global, bytes: &[u8]) -> Result<Settings, Unconfigured>
-    ensures { SaysSettings bytes.now result }
+// All that these bytes say.
+fn whole_of(alloc: Global, bytes: &[u8]) -> Result<(Settings, Further), Unconfigured>
+    ensures { SaysWhole bytes.now result }
 {
-    match read_all(alloc, bytes) {
-        Ok(settings) => Ok(settings),
+    match read_whole(alloc, bytes) {
+        Ok(whole) => Ok(whole),
         Err(fault) => match fault.line() {
             Some(line) => Err(Unconfigured::Refused(line)),
             None => Err(Unconfigured::Memory),

@@ -5,4 +5,4 @@ mod checking;
 mod configuring;
 
 pub use checking::check;
-pub use configuring::{Unconfigured, give_up, load_settings};
+pub use configuring::{Unconfigured, give_up, load_whole};

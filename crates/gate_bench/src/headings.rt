@@ -4,7 +4,8 @@ use gate_core::{Gateway, Outbox};
 use gate_events::{Emit, Event};
 use n2k_id::Frame;
 use pgn_profile::{Profiled, read};
-use sentence_rows::{Lines, sentences};
+use sentence_fields::Lines;
+use sentence_rows::sentences;
 use sentence_text::Sfi;
 use tag_block::{MOST_COUNT, Packet, TagParts};
 

@@ -54,7 +54,9 @@ fn told(report: &Report) -> Seen<'static> {
         Detail::At(at) => Seen::At(report.rule, *at),
         Detail::AtField { at, field } => Seen::Field(report.rule, *at, *field),
         Detail::GroupKey { sfi, code } => Seen::Group(report.rule, *sfi.as_bytes(), *code),
-        Detail::Nothing | Detail::Line(_) | Detail::Bus | Detail::Net => Seen::Report(report.rule),
+        Detail::Row { .. } | Detail::Nothing | Detail::Line(_) | Detail::Bus | Detail::Net => {
+            Seen::Report(report.rule)
+        }
     }
 }
 

@@ -9,6 +9,8 @@ mod demonstration;
 #[cfg(test)]
 mod following;
 #[cfg(test)]
+mod further;
+#[cfg(test)]
 mod ignoring;
 #[cfg(test)]
 mod isolated;

@@ -42,21 +42,27 @@ slots =
     & key (codes "iso_slots") (default 8 (number_at 1 32))
     & key (codes "group_slots") (default 8 (number_at 1 32))
 
+-- gateway: its NAME, the address that it begins with, and how it is called on the network
+unfoldable pub names : Table ⊤ (Name × ℕ × List ℕ)
+names =
+    table (codes "gateway") (λ name address sfi. (name, address, sfi))
+    & key (codes "name") (needed (text_at name_in))
+    & key (codes "address") (needed (number_at 0 251))
+    & key (codes "sfi") (needed (text_at sfi_in))
+
 unfoldable pub gateway : Table ⊤ Own
 gateway =
-    table (codes "gateway") (λ name address sfi group slots ths. record {
-      name = name;
-      address = address;
-      sfi = sfi;
+    table (codes "gateway") (λ names group slots ths. record {
+      name = names.0;
+      address = names.1;
+      sfi = names.2;
       group = group;
       fast_slots = slots.0;
       iso_slots = slots.1;
       group_slots = slots.2;
       ths = ths;
     })
-    & key (codes "name") (needed (text_at name_in))
-    & key (codes "address") (needed (number_at 0 251))
-    & key (codes "sfi") (needed (text_at sfi_in))
+    & keys names
     & key (codes "group") (default (codes "NAVD") (text_at group_in))
     & keys slots
     & key (codes "ths") (default false truth_at)

@@ -28,7 +28,7 @@ pub(crate) const PLAIN_KEYS: [&str; 1] = ["group"];
 pub(crate) const SERVE_KEYS: [&str; 1] = ["record"];
 
 /// What is asked for besides, beside the settings.
-#[tactic(auto, using(crate::proofs::Beside::further_beside), unfolding(crate::specs::Keys::further_in))]
+#[tactic(auto, unfolding(crate::specs::Keys::further_in))]
 pub(crate) fn further_keys(document: &Section, settings: &Settings) -> Result<Further, ConfigFault>
     ensures said { result ≡ further_in settings.now (place_of document.now) }
     ensures valid { IfOk result (IsFurther settings.now) }

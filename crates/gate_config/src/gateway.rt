@@ -2,7 +2,7 @@
 ghost use Rattle.std.specs.Prelude.{◌≡◌, ◌<◌, IfOk};
 ghost use Rattle.std.specs.Int.{IsInRange};
 ghost use Rattle.config_document.specs.Places.{place_of};
-ghost use Rattle.gate_config.specs.Keys.{gateway, slots};
+ghost use Rattle.gate_config.specs.Keys.{gateway, names, slots};
 ghost use Rattle.gate_config.specs.Reading.{table_in};
 
 use crate::keys::{needed_number, needed_text, number_or, section, text_or, truth_or};
@@ -43,10 +43,8 @@ pub(crate) fn gateway_keys(document: &Section) -> Result<Own, ConfigFault>
     ensures group_slots { IfOk result (λ own. IsInRange 1 32 own.group_slots) }
 {
     let table = section(document, "gateway", b"gateway.")?;
-    let [name, address, sfi, group, _, _, _, ths] = KEYS;
-    let name = needed_text(&table, name)?;
-    let address = needed_number(&table, address, 0, 251)? as u8;
-    let sfi = needed_text(&table, sfi)?;
+    let [_, _, _, group, _, _, _, ths] = KEYS;
+    let (name, address, sfi) = name_keys(&table)?;
     let group = text_or(&table, group, Group::default())?;
     let (fast_slots, iso_slots, group_slots) = slot_keys(&table)?;
     let ths = truth_or(&table, ths, false)?;
@@ -60,6 +58,19 @@ pub(crate) fn gateway_keys(document: &Section) -> Result<Own, ConfigFault>
         group_slots,
         ths,
     })
+}
+
+/// Its NAME, the address that it begins with, and how it is called on the network.
+#[tactic(auto, unfolding(crate::specs::Keys::names))]
+fn name_keys(table: &Section) -> Result<(Name, u8, Sfi), ConfigFault>
+    ensures said { result ≡ names.read tt (place_of table.now) }
+    ensures address { IfOk result (λ names. names.1 < 252) }
+{
+    let [name, address, sfi, _, _, _, _, _] = KEYS;
+    let name = needed_text(table, name)?;
+    let address = needed_number(table, address, 0, 251)? as u8;
+    let sfi = needed_text(table, sfi)?;
+    Ok((name, address, sfi))
 }
 
 /// How many fast packets, sessions and groups of lines may be in the making.

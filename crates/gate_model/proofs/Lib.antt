@@ -15,7 +15,9 @@ pub mod FastOthers
 pub mod FastTraces
 pub mod FastFrames
 pub mod SaidCounts
-pub mod SaidNotes
+pub mod ChoiceNotes
+pub mod ChoiceMessages
+pub mod ChoiceClaims
 pub mod SaidMessages
 pub mod SaidClaims
 pub mod SaidAddresses

@@ -13,8 +13,8 @@ use Rattle.fast_packet.specs.FastRuns.{frames_of}
 use Rattle.sentence_rows.specs.declared.fault.FieldFault.{FieldFault}
 use Rattle.sentence_rows.specs.declared.fault.FieldFault.TheVariants.{Outside, Form, Range}
 use Rattle.source_choice.specs.declared.note.Note.{Note}
-use Rattle.source_choice.specs.Notes.{RowNotes, note_of, with_note}
-use Rattle.source_choice.specs.Choices.{row_at, nothing, noted, with_noted}
+use Rattle.source_choice.specs.Notes.{SubjectNotes, note_of, with_note}
+use Rattle.source_choice.specs.Choices.{nothing, noted, with_noted}
 use Rattle.source_choice.proofs.NoteLemmas.{from_with, noted_here, others_noted}
 use Rattle.history.specs.Settings.{Settings, same_text}
 use Rattle.report_rules.specs.Rules.{not_ready}
@@ -32,7 +32,7 @@ use Rattle.history.proofs.GroupCounts.{text_is}
 use Rattle.history.proofs.GroupSteps.{text_same}
 use Rattle.history.proofs.NoteChoice.{first_net_by_notes}
 use Rattle.history.proofs.HeardSteps.{datagrams_give_in_order, readings_count_fast}
-use Rattle.gate_model.specs.Net.{ReadingsKept, LineHeard, row_numbers, no_readings, note_by, is_chosen, sequence_at, is_counted, sequences_after, reading_after, frames_by, sent_by, reading_emits, readings_after, readings_emit, fault_emits, said_after, said_emits, sentences_after, sentences_emit}
+use Rattle.gate_model.specs.Net.{ReadingsKept, LineHeard, row_at, row_numbers, no_readings, note_by, is_chosen, sequence_at, is_counted, sequences_after, reading_after, frames_by, sent_by, reading_emits, readings_after, readings_emit, fault_emits, said_after, said_emits, sentences_after, sentences_emit}
 use Rattle.gate_model.specs.NetStands.{StandsReadings}
 use Rattle.gate_model.proofs.NetRows.{place_below, one_source, row_below, opened_at, none_sent, by_number, by_pgn}
 
@@ -43,7 +43,7 @@ no_readings_stand c = record {
   sources = refl;
   rows = refl;
   numbers = refl;
-  each_row = λ r. ap (λ (x : RowNotes). x.sources) (opened_at c r);
+  each_row = λ r. ap (λ (x : SubjectNotes). x.sources) (opened_at c r);
   notes = λ r. subst (HoldsNetNotes c r []) (sym (opened_at c r)) (record { timeout = refl; apart = tt; notes = λ source place e. refl; listed = λ place x e. cc });
   counts = λ r fast. none_sent c r;
 }
@@ -77,13 +77,13 @@ module _ (c : Settings) (older : List NetReading) (k : ReadingsKept) (st : Stand
 
   -- ---- the notes
 
-  here : (s : Row) → row_number (row_of r) ≡ row_number s → row_at (with_noted k.choices (row_of r) x) s ≡ noted (row_at k.choices s) x
+  here : (s : Row) → row_number (row_of r) ≡ row_number s → row_at (with_noted k.choices (row_number (row_of r)) x) s ≡ noted (row_at k.choices s) x
   here s e =
-      get_or-set_at k.choices.rows (row_number (row_of r)) (row_number s) (noted (row_at k.choices (row_of r)) x) (nothing 0 0) (sym e) (omega (arith, row_below (row_of r), st.rows))
-      ∙ ap (λ (i : ℕ). noted (get_or k.choices.rows i (nothing 0 0)) x) e
+      get_or-set_at k.choices.subjects (row_number (row_of r)) (row_number s) (noted (row_at k.choices (row_of r)) x) (nothing 0 0) (sym e) (omega (arith, row_below (row_of r), st.rows))
+      ∙ ap (λ (i : ℕ). noted (get_or k.choices.subjects i (nothing 0 0)) x) e
 
-  elsewhere : (s : Row) → row_number (row_of r) ≢ row_number s → row_at (with_noted k.choices (row_of r) x) s ≡ row_at k.choices s
-  elsewhere s apart = get_or-set_other k.choices.rows (row_number (row_of r)) (row_number s) (noted (row_at k.choices (row_of r)) x) (nothing 0 0) (λ e. apart (sym e))
+  elsewhere : (s : Row) → row_number (row_of r) ≢ row_number s → row_at (with_noted k.choices (row_number (row_of r)) x) s ≡ row_at k.choices s
+  elsewhere s apart = get_or-set_other k.choices.subjects (row_number (row_of r)) (row_number s) (noted (row_at k.choices (row_of r)) x) (nothing 0 0) (λ e. apart (sym e))
 
   module _ (s : Row) (e : row_number (row_of r) ≡ row_number s) where
     is_of_row : is_row s (Some r) ≡ true
@@ -146,11 +146,11 @@ module _ (c : Settings) (older : List NetReading) (k : ReadingsKept) (st : Stand
       listed = old.listed;
     }
 
-  sources_then : (s : Row) (b : Bool) → (row_number (row_of r) == row_number s) ≡ b → (row_at (with_noted k.choices (row_of r) x) s).sources ≡ length c.net_sources
-  sources_then s true e = ap (λ (y : RowNotes). y.sources) (here s (eqb-true (row_number (row_of r)) (row_number s) e)) ∙ st.each_row s
-  sources_then s false e = ap (λ (y : RowNotes). y.sources) (elsewhere s (eqb-false (row_number (row_of r)) (row_number s) e)) ∙ st.each_row s
+  sources_then : (s : Row) (b : Bool) → (row_number (row_of r) == row_number s) ≡ b → (row_at (with_noted k.choices (row_number (row_of r)) x) s).sources ≡ length c.net_sources
+  sources_then s true e = ap (λ (y : SubjectNotes). y.sources) (here s (eqb-true (row_number (row_of r)) (row_number s) e)) ∙ st.each_row s
+  sources_then s false e = ap (λ (y : SubjectNotes). y.sources) (elsewhere s (eqb-false (row_number (row_of r)) (row_number s) e)) ∙ st.each_row s
 
-  notes_then : (s : Row) (b : Bool) → (row_number (row_of r) == row_number s) ≡ b → HoldsNetNotes c s (n ∷ older) (row_at (with_noted k.choices (row_of r) x) s)
+  notes_then : (s : Row) (b : Bool) → (row_number (row_of r) == row_number s) ≡ b → HoldsNetNotes c s (n ∷ older) (row_at (with_noted k.choices (row_number (row_of r)) x) s)
   notes_then s true e =
       let same = eqb-true (row_number (row_of r)) (row_number s) e in
       subst (HoldsNetNotes c s (n ∷ older)) (sym (here s same)) (notes_here s same)
@@ -206,7 +206,7 @@ module _ (c : Settings) (older : List NetReading) (k : ReadingsKept) (st : Stand
   pub reading_stands : StandsReadings c (n ∷ older) (reading_after k l r)
   reading_stands = record {
     sources = st.sources;
-    rows = length-set k.choices.rows (row_number (row_of r)) (noted (row_at k.choices (row_of r)) x) ∙ st.rows;
+    rows = length-set k.choices.subjects (row_number (row_of r)) (noted (row_at k.choices (row_of r)) x) ∙ st.rows;
     numbers = numbers_then (is_counted k l r) refl;
     each_row = λ s. sources_then s (row_number (row_of r) == row_number s) refl;
     notes = λ s. notes_then s (row_number (row_of r) == row_number s) refl;

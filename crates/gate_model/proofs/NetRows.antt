@@ -1,18 +1,18 @@
 -- Sources and their places among those that are listed, rows and their numbers.
-use Rattle.std.proofs.Common.{◌≡◌, ℕ, ◌+◌, ◌<◌, Bool, true, false, cond, not, nat_lt, List, [], ◌∷◌, ◌⊎◌, inl, inr, length, refl, sym, subst, ◌∙◌, arith}
+use Rattle.std.proofs.Common.{◌≡◌, ℕ, zero, suc, ◌+◌, ◌<◌, Bool, true, false, cond, not, nat_lt, List, [], ◌∷◌, ◌⊎◌, inl, inr, map, get_or, length, refl, sym, ap, subst, ◌∙◌, arith}
 use Rattle.std.specs.Prelude.{Some, None, position}
 use Rattle.std.specs.List.{position_or_len}
 use Rattle.std.proofs.lemmas.Bool.{ltb-true, false≢true}
 use Rattle.readings.specs.declared.rows.Row.{Row}
 use Rattle.readings.specs.declared.rows.Row.TheVariants as row
 use Rattle.pgn_profile.specs.Profiled.{pgn_of, messages}
-use Rattle.source_choice.specs.Choices.{row_at, nothing}
+use Rattle.source_choice.specs.Choices.{nothing}
 use Rattle.readings.specs.Rows.{row_number}
-use Rattle.history.specs.Settings.{Settings, rule_of, same_text}
+use Rattle.history.specs.Settings.{Settings, rule_at, rule_of, same_text}
 use Rattle.history.specs.Heard.{place_of}
 use Rattle.history.specs.NetReadings.{is_fast_row}
 use Rattle.history.proofs.GroupCounts.{text_is}
-use Rattle.gate_model.specs.Net.{row_numbers, no_readings, sequence_at}
+use Rattle.gate_model.specs.Net.{row_at, row_numbers, timeouts, no_readings, sequence_at}
 
 -- ---- sources and their places among those that are listed
 
@@ -56,6 +56,25 @@ row_below _ = omega arith
 pub opened_at : (c : Settings) (r : Row) → row_at (no_readings c).choices r ≡ nothing (length c.net_sources) (rule_of c r).timeout
 opened_at c row.HeadingTrue = refl
 opened_at c _ = refl
+
+-- ---- the numbers of the rows are those from 0 on
+
+abbrev counts : ℕ → ℕ → List ℕ
+counts from zero = []
+counts from (suc many) = from ∷ counts (from + 1) many
+
+counted_at : (f : ℕ → ℕ) (from many n : ℕ) → n < many → get_or (map f (counts from many)) n 0 ≡ f (from + n)
+counted_at f from zero n l = absurd (omega (arith, l))
+counted_at f from (suc many) zero l = let same : from ≡ from + 0 = omega arith in ap f same
+counted_at f from (suc many) (suc n) l =
+    let same : from + 1 + n ≡ from + suc n = omega arith in
+    counted_at f (from + 1) many n (omega (arith, l)) ∙ ap f same
+
+-- so each row's timeout is found by its number
+pub timeout_at : (c : Settings) (n : ℕ) → n < length (timeouts c) → get_or (timeouts c) n 0 ≡ (rule_at c.rows n).timeout
+timeout_at c n l =
+    let same : 0 + n ≡ n = omega arith in
+    counted_at (λ number. (rule_at c.rows number).timeout) 0 17 n l ∙ ap (λ number. (rule_at c.rows number).timeout) same
 
 pub none_sent : (c : Settings) (r : Row) → sequence_at (no_readings c) r ≡ 0
 none_sent c row.HeadingTrue = refl

@@ -22,6 +22,7 @@ use Rattle.history.proofs.Addresses.{addresses_are_sound}
 use Rattle.history.proofs.Receivers.{gateways_receive}
 use Rattle.gate_model.specs.Addresses.{last_index}
 use Rattle.gate_model.specs.Net.{row_numbers}
+use Rattle.gate_model.proofs.NetRows.{row_below}
 use Rattle.gate_model.specs.StandsFits.{SlotsFit, AllReachedFits}
 use Rattle.gate_model.proofs.AddressTells.{at_capped, standing_fits}
 
@@ -141,7 +142,11 @@ all_reached_fits o g it =
       fast = slots_fit o.fast g.fast g.settings.fast_slots 256 stands.fast.limited it.limits.fast stands.fast.map;
       sessions = slots_fit o.sessions g.sessions g.settings.iso_slots 32 stands.sessions.limited it.limits.iso stands.sessions.map;
       groups = slots_fit o.groups g.network.groups g.settings.group_slots 32 stands.network.groups.limited it.limits.groups stands.network.groups.map;
-      bus = record { sources = stands.said.sources; rows = stands.said.rows; each_row = stands.said.each_row };
+      bus = record {
+        sources = stands.said.choices.sources;
+        rows = stands.said.choices.subjects;
+        each_row = λ row. stands.said.choices.each_subject (row_number row) (row_below row);
+      };
       net = record {
         sources = stands.network.readings.sources;
         rows = stands.network.readings.rows;

@@ -1,5 +1,8 @@
 pub mod Orders
 pub mod Endings
+pub mod Choosing
+pub mod ChoiceStands
+pub mod ChoiceStandsLaws
 pub mod Net
 pub mod NetLines
 pub mod NetStands

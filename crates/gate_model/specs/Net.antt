@@ -11,8 +11,8 @@ use Rattle.sentence_rows.specs.declared.fault.FieldFault.{FieldFault}
 use Rattle.sentence_rows.specs.declared.fault.FieldFault.TheVariants.{Outside, Form, Range}
 use Rattle.source_choice.specs.declared.rank.Rank.{Rank}
 use Rattle.source_choice.specs.declared.note.Note.{Note}
-use Rattle.source_choice.specs.Notes.{is_selected}
-use Rattle.source_choice.specs.Choices.{Choices, opened, row_at, with_noted}
+use Rattle.source_choice.specs.Notes.{SubjectNotes, is_selected}
+use Rattle.source_choice.specs.Choices.{Choices, opened, subject_at, with_noted}
 use Rattle.gate_events.specs.declared.emit.Detail.TheVariants as detail
 use Rattle.history.specs.Settings.{Settings, rule_at}
 use Rattle.gate_events.specs.Emit.{Emit}
@@ -29,6 +29,10 @@ pub record ReadingsKept : Type 0 where
 
 abbrev pub row_numbers : List ℕ
 row_numbers = map row_number every_row
+
+-- the notes of a row
+abbrev pub row_at : Choices → Row → SubjectNotes
+row_at k row = subject_at k (row_number row)
 
 -- how long a source counts in each row
 abbrev pub timeouts : Settings → List ℕ
@@ -69,7 +73,7 @@ sequences_after k l r = let row = row_of r in
     if is_counted k l r then slice_set k.sequences (row_number row) ((sequence_at k row + 1) % 8) else k.sequences
 
 abbrev pub reading_after : ReadingsKept → LineHeard → Reading → ReadingsKept
-reading_after k l r = record { choices = with_noted k.choices (row_of r) (note_by l r); sequences = sequences_after k l r }
+reading_after k l r = record { choices = with_noted k.choices (row_number (row_of r)) (note_by l r); sequences = sequences_after k l r }
 
 -- in one frame, or as a fast packet
 abbrev pub frames_by : ReadingsKept → Reading → List (List ℕ)

@@ -5,7 +5,6 @@ use Rattle.std.specs.declared.cmp.Ordering.{Ordering}
 use Rattle.readings.specs.declared.rows.Row.{Row}
 use Rattle.pgn_profile.specs.Profiled.{pgn_of}
 use Rattle.slot_views.specs.Slots.{SlotMap, IsMap, entry_at}
-use Rattle.source_choice.specs.Choices.{row_at}
 use Rattle.tag_block.specs.declared.group_key.GroupKey.{GroupKey}
 use Rattle.tag_block.specs.GroupLaws.{group_at}
 use Rattle.datagram450.specs.Datagram.{IsItem}
@@ -13,14 +12,14 @@ use Rattle.history.specs.Settings.{Settings}
 use Rattle.history.specs.Heard.{HeardItem, Taken, group_open, taken_lines}
 use Rattle.history.specs.NetReadings.{NetReading, readings_of, is_fast_row, next_sequence}
 use Rattle.history.specs.ChoiceLaws.{HoldsNetNotes}
-use Rattle.gate_model.specs.Net.{ReadingsKept, sequence_at, row_numbers}
+use Rattle.gate_model.specs.Net.{ReadingsKept, row_at, sequence_at, row_numbers}
 use Rattle.gate_model.specs.NetLines.{NetKept}
 
 -- what is kept of the readings stands for those that were heard: the notes of each row are of them, for all sources that are listed, and
 -- the next sequence of each row that goes as fast packets counts those that were sent
 pub record StandsReadings (c : Settings) (older : List NetReading) (k : ReadingsKept) : Type 0 where
   pub sources : k.choices.sources ≡ length c.net_sources
-  pub rows : length k.choices.rows ≡ length row_numbers
+  pub rows : length k.choices.subjects ≡ length row_numbers
   pub numbers : length k.sequences ≡ length row_numbers
   pub each_row : (row : Row) → (row_at k.choices row).sources ≡ length c.net_sources
   pub notes : (row : Row) → HoldsNetNotes c row older (row_at k.choices row)

@@ -12,9 +12,8 @@ use Rattle.readings.specs.declared.rows.Row.{Row}
 use Rattle.readings.specs.Rows.{row_of, row_number}
 use Rattle.pgn_profile.specs.Profiled.{profiled}
 use Rattle.source_choice.specs.declared.rank.Rank.{Rank}
-use Rattle.source_choice.specs.declared.note.Note.{Note}
-use Rattle.source_choice.specs.Notes.{is_selected}
-use Rattle.source_choice.specs.Choices.{Choices, opened, row_at, with_noted, forgotten}
+use Rattle.source_choice.specs.Choices as notes
+use Rattle.source_choice.specs.Choices.{Choices, opened, with_told}
 use Rattle.sentence_rows.specs.Writing.{sentences_of}
 use Rattle.tag_block.specs.Tag.{most_count}
 use Rattle.tag_block.specs.Writing.{most_written_code}
@@ -22,10 +21,12 @@ use Rattle.datagram450.specs.Datagram.{header}
 use Rattle.history.specs.Settings.{Settings, rule_at, rule_of, same_text}
 use Rattle.history.specs.Known.{address_left, address_won}
 use Rattle.history.specs.Messages.{Message, Carried, ordered_in}
-use Rattle.history.specs.Choice.{rank_of, reading_in, is_usable}
+use Rattle.history.specs.Choice as choice
+use Rattle.history.specs.Choice.{rank_of, reading_in}
 use Rattle.history.specs.Emits.{lines_from, report_of}
 use Rattle.history.specs.BusRules.{is_short}
 use Rattle.gate_events.specs.Emit.{Emit, net}
+use Rattle.gate_model.specs.Choosing.{without_address}
 use Rattle.gate_model.specs.Net.{row_numbers, timeouts}
 
 -- ---- what is kept
@@ -117,14 +118,11 @@ counted c k r = let count = length (sentences_by c r) in
 
 -- ---- a message with a reading: where its NAME has a rank in the row it is noted, and where it is selected it is said
 
-abbrev pub note_by : Complete → Rank → Reading → Note
-note_by d rank r = record { source = d.source; rank = rank; moment = d.moment; usable = is_usable (Some r) }
-
 abbrev pub is_chosen : SaidKept → Complete → Rank → Reading → Bool
-is_chosen k d rank r = is_selected (row_at k.choices (row_of r)) d.source rank d.moment
+is_chosen k d rank r = notes.is_chosen k.choices d.source rank d.moment (choice.told_by r)
 
 abbrev pub noted_by : SaidKept → Complete → Rank → Reading → SaidKept
-noted_by k d rank r = record k { choices = with_noted k.choices (row_of r) (note_by d rank r) }
+noted_by k d rank r = record k { choices = with_told k.choices d.source rank d.moment (choice.told_by r) }
 
 abbrev pub rank_by : Settings → Complete → Reading → Option Rank
 rank_by c d r = rank_of (rule_of c (row_of r)) d.name
@@ -157,8 +155,7 @@ module _ (c : Settings) (k : SaidKept) where
 -- ---- addresses that change hands: nothing is noted any more of the one that was left and the one that was won
 
 abbrev pub without_source : Option ℕ → SaidKept → SaidKept
-without_source None k = k
-without_source (Some a) k = record k { choices = forgotten k.choices a }
+without_source a k = record k { choices = without_address a k.choices }
 
 abbrev pub claimed_after : ClaimStep → SaidKept → SaidKept
 claimed_after step k = without_source (address_won step) (without_source (address_left step) k)

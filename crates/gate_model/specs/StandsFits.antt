@@ -6,9 +6,9 @@ use Rattle.claim_table.specs.declared.answer.Holder.{Holder}
 use Rattle.claim_table.specs.Claims.{places, holder_at}
 use Rattle.claim_table.specs.Laws.{IsSound}
 use Rattle.slot_views.specs.Slots.{SlotMap, IsMap}
-use Rattle.source_choice.specs.Choices.{Choices, row_at}
+use Rattle.source_choice.specs.Choices.{Choices}
 use Rattle.gate_model.specs.AddressStands.{AddressesFit}
-use Rattle.gate_model.specs.Net.{row_numbers}
+use Rattle.gate_model.specs.Net.{row_at, row_numbers}
 use Rattle.gate_model.specs.NetLaws.{AreSequences}
 use Rattle.gate_model.specs.SaidFits.{AreCounts}
 use Rattle.gate_model.specs.Machine.{Compared, Machine}
@@ -25,7 +25,7 @@ pub record SlotsFit {K : Type 0} (cmp : K → K → Ordering) (slots : SlotMap K
 -- what is noted of each row, of so many sources
 pub record ChoicesFit (choices : Choices) (many : ℕ) : Type 0 where
   pub sources : choices.sources ≡ many
-  pub rows : length choices.rows ≡ length row_numbers
+  pub rows : length choices.subjects ≡ length row_numbers
   pub each_row : (row : Row) → (row_at choices row).sources ≡ many
 
 pub record ReachedFits (o : Compared) (g : Machine) : Type 0 where

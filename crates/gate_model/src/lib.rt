@@ -2,6 +2,7 @@
 #![tactic(auto)]
 
 pub mod addresses;
+pub mod choices;
 pub mod fast_packets;
 pub mod keys;
 pub mod network;

@@ -1,6 +1,7 @@
 -- What follows of the statuses of a gateway over a capture.
 use Rattle.std.proofs.Common.{◌≡◌, ◌≢◌, ℕ, ◌⊎◌, List, inr, arith}
 use Rattle.std.specs.Prelude.{Option, Ok}
+use Rattle.settings.specs.declared.further.Further.{Further}
 use Rattle.settings.specs.declared.settings.Settings.{Settings}
 use Rattle.statuses.specs.Statuses.{IsReplayStatus}
 use Rattle.config_check.specs.Configuring.{FileSays}
@@ -13,15 +14,15 @@ is_done status known = (λ is. grind (arith, known, is), λ is. grind (arith, kn
 is_complete : (status : ℕ) → IsReplayStatus status → (status ≢ 7 → status ≡ 0) → (status ≡ 0) ⊎ (status ≡ 7)
 is_complete status known complete = search (arith, known, complete)
 
-pub replayed : (content : Option (List ℕ)) (files files' : ℕ) (left left' : Option (List ℕ)) (source source' : ℕ) (told told' : Option (List ℕ)) (sink sink' status : ℕ) (settings : Settings)
-    → FileSays content (Ok settings) → RunsBy settings left left' source source' told told' sink sink' status
+pub replayed : (content : Option (List ℕ)) (files files' : ℕ) (left left' : Option (List ℕ)) (source source' : ℕ) (told told' : Option (List ℕ)) (sink sink' status : ℕ) (settings : Settings) (further : Further)
+    → FileSays content (Ok (settings, further)) → RunsBy settings further left left' source source' told told' sink sink' status
     → ReplaysBy content files files' left left' source source' told told' sink sink' status
-replayed content files files' left left' source source' told told' sink sink' status settings f r = record {
+replayed content files files' left left' source source' told told' sink sink' status settings further f r = record {
   known = inr (inr r.known);
-  configures = configures content files files' told told' sink sink' status settings f (is_done status r.known);
-  replays = λ is. record { settings = settings; file = f; ends = r.ends };
+  configures = configures content files files' told told' sink sink' status (settings, further) f (is_done status r.known);
+  replays = λ is. record { settings = settings; further = further; file = f; ends = r.ends };
   sink_cause = r.sink_cause;
   source_cause = r.source_cause;
   steady = r.steady;
-  complete = λ other t held unhindered. is_complete status r.known (λ no. r.complete no unhindered);
+  complete = λ other besides t held unhindered. is_complete status r.known (λ no. r.complete no unhindered);
 }

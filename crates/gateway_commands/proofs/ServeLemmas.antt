@@ -1,6 +1,7 @@
 -- What follows of the statuses of a gateway between two links.
 use Rattle.std.proofs.Common.{◌≡◌, ◌≢◌, ℕ, ◌⊎◌, List, refl, inl, arith}
 use Rattle.std.specs.Prelude.{Option, Ok}
+use Rattle.settings.specs.declared.further.Further.{Further}
 use Rattle.settings.specs.declared.settings.Settings.{Settings}
 use Rattle.serving.specs.Served.{Outside}
 use Rattle.config_check.specs.Configuring.{FileSays}
@@ -19,15 +20,15 @@ is_complete : (status : ℕ) → Known status → (status ≢ 7 → status ≡ 0
 is_complete status known complete = search (arith, known, complete)
 
 pub served : (turns : ℕ) (content : Option (List ℕ)) (files files' : ℕ) (clock clock' : Option (List ℕ)) (bus bus' net net' : ℕ) (old new : Outside) (status : ℕ)
-    (settings : Settings) → FileSays content (Ok settings) → ServesWith settings turns clock clock' bus bus' net net' old new status
+    (settings : Settings) (further : Further) → FileSays content (Ok (settings, further)) → ServesWith settings further turns clock clock' bus bus' net net' old new status
     → ServesBy turns content files files' clock clock' bus bus' net net' old new status
-served turns content files files' clock clock' bus bus' net net' old new status settings f s = record {
+served turns content files files' clock clock' bus bus' net net' old new status settings further f s = record {
   known = search (arith, s.known);
-  configures = configures content files files' old.taken new.taken old.faults new.faults status settings f (is_done status s.known);
-  serves = λ is. (settings, f, s.serves is);
-  unattached = λ is. (settings, f, s.unattached is);
+  configures = configures content files files' old.taken new.taken old.faults new.faults status (settings, further) f (is_done status s.known);
+  serves = λ is. (settings, further, f, s.serves is);
+  unattached = λ is. (settings, further, f, s.unattached is);
   sink_cause = s.sink_cause;
-  complete = λ other told files_held bus_held net_held sink_held. is_complete status s.known (λ no. s.complete no bus_held net_held sink_held);
+  complete = λ other besides told files_held bus_held net_held sink_held. is_complete status s.known (λ no. s.complete no bus_held net_held sink_held);
 }
 
 -- no status of a gateway between two links is that of a read
@@ -39,4 +40,4 @@ pub serve_steady : (turns : ℕ) (content : Option (List ℕ)) (files files' : �
     (source status : ℕ) → ServesBy turns content files files' clock clock' bus bus' net net' old new status → SteadyBy source source old.faults new.faults status
 serve_steady turns content files files' clock clock' bus bus' net net' old new source status s =
     let none = no_read status s.known in
-    steady_unread source source old.faults new.faults status refl (λ is. ((s.serves (inl is)).2.ends.done is).passes.steady) none.0 none.1
+    steady_unread source source old.faults new.faults status refl (λ is. ((s.serves (inl is)).3.ends.done is).passes.steady) none.0 none.1

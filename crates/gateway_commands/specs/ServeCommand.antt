@@ -4,8 +4,9 @@ use Rattle.config_values.specs.declared.config.Ends.{Ends}
 use Rattle.gate_outside.specs.declared.Failed.{Failed}
 use Rattle.gate_outside.specs.Faults.{Rose}
 use Rattle.gate_outside.specs.Link.{Attachment, GoesOn, Traffic, attachment}
-use Rattle.settings.specs.Further.{nothing_further}
+use Rattle.settings.specs.declared.further.Further.{Further}
 use Rattle.settings.specs.declared.settings.Settings.{Settings}
+use Rattle.settings.specs.Further.{nothing_further}
 use Rattle.bridge.specs.Parts.{parts_of}
 use Rattle.serving.specs.Served.{Outside, EndsBy, outside}
 use Rattle.config_check.specs.Configuring.{ConfiguresBy, FileSays, IsToldAs}
@@ -49,19 +50,19 @@ AttachesBoth ends bus bus' bus_faults bus_faults' net net' net_faults net_faults
 abbrev pub IsTurnsStatus : ℕ → Type 0
 IsTurnsStatus status = (status ≡ number statuses.Done) ⊎ (status ≡ number statuses.SinkFailed)
 
--- Both links were attached by the settings, and then told this. A gateway of the settings took turns between them, which says this by its
--- status.
-pub record TakesTurns (settings : Settings) (turns : ℕ) (clock clock' : Option (List ℕ)) (old new : Outside) (status : ℕ) : Type 0 where
+-- Both links were attached by the settings, and then told this. A gateway of the settings, with what is asked for besides, took turns
+-- between them, which says this by its status.
+pub record TakesTurns (settings : Settings) (further : Further) (turns : ℕ) (clock clock' : Option (List ℕ)) (old new : Outside) (status : ℕ) : Type 0 where
   pub bus : Option Traffic
   pub net : Option Traffic
   pub bus_attached : IsAttached (bus_attachment settings.config.ends) old.bus bus
   pub net_attached : IsAttached (net_attachment settings.config.ends) old.net net
-  pub ends : EndsBy (parts_of settings nothing_further) turns clock clock' (outside bus net old.taken old.faults) new status
+  pub ends : EndsBy (parts_of settings further) turns clock clock' (outside bus net old.taken old.faults) new status
 
 -- What each status of a gateway of these settings says. Want of memory is free.
-pub record ServesWith (settings : Settings) (turns : ℕ) (clock clock' : Option (List ℕ)) (bus bus' net net' : ℕ) (old new : Outside) (status : ℕ) : Type 0 where
+pub record ServesWith (settings : Settings) (further : Further) (turns : ℕ) (clock clock' : Option (List ℕ)) (bus bus' net net' : ℕ) (old new : Outside) (status : ℕ) : Type 0 where
   pub known : (status ≡ number statuses.NoMemory) ⊎ ((status ≡ number statuses.Unattached) ⊎ IsTurnsStatus status)
-  pub serves : IsTurnsStatus status → TakesTurns settings turns clock clock' old new status
+  pub serves : IsTurnsStatus status → TakesTurns settings further turns clock clock' old new status
   pub unattached : status ≡ number statuses.Unattached → FailsToAttach settings.config.ends old.bus new.bus bus bus' old.net new.net net net'
   pub sink_cause : status ≡ number statuses.SinkFailed → Rose old.faults new.faults
   -- where memory was found and nothing fails, all turns are taken
@@ -73,14 +74,15 @@ pub record ServesWith (settings : Settings) (turns : ℕ) (clock clock' : Option
 abbrev pub IsServeStatus : ℕ → Type 0
 IsServeStatus status = (status ≡ number statuses.Refused) ⊎ ((status ≡ number statuses.Unread) ⊎ ((status ≡ number statuses.NoMemory) ⊎ ((status ≡ number statuses.Unattached) ⊎ IsTurnsStatus status)))
 
--- the gateway was one of the settings that the file says
+-- the gateway was one of all that the file says
 abbrev pub Serves : ℕ → Option (List ℕ) → Option (List ℕ) → Option (List ℕ) → Outside → Outside → ℕ → Type 0
-Serves turns content clock clock' old new status = (settings : Settings) × FileSays content (Ok settings) × TakesTurns settings turns clock clock' old new status
+Serves turns content clock clock' old new status =
+    (settings : Settings) × (further : Further) × FileSays content (Ok (settings, further)) × TakesTurns settings further turns clock clock' old new status
 
 -- a link couldn't be attached by the settings that the file says
 abbrev pub Unattached : Option (List ℕ) → ℕ → ℕ → ℕ → ℕ → Outside → Outside → Type 0
 Unattached content bus bus' net net' old new =
-    (settings : Settings) × FileSays content (Ok settings) × FailsToAttach settings.config.ends old.bus new.bus bus bus' old.net new.net net net'
+    (settings : Settings) × (further : Further) × FileSays content (Ok (settings, further)) × FailsToAttach settings.config.ends old.bus new.bus bus bus' old.net new.net net net'
 
 -- By the counts of faults of the files and of both links, by the clock's readings, and by what is told of the links and the sink.
 pub record ServesBy (turns : ℕ) (content : Option (List ℕ)) (files files' : ℕ) (clock clock' : Option (List ℕ)) (bus bus' net net' : ℕ)
@@ -91,5 +93,5 @@ pub record ServesBy (turns : ℕ) (content : Option (List ℕ)) (files files' : 
   pub unattached : status ≡ number statuses.Unattached → Unattached content bus bus' net net' old new
   pub sink_cause : status ≡ number statuses.SinkFailed → Rose old.faults new.faults
   -- where nothing fails, a gateway of an accepted configuration takes all turns, unless memory ran out
-  pub complete : (settings : Settings) → IsToldAs content (Ok settings) → (Rose files files' → ⊥) → (Rose bus bus' → ⊥) → (Rose net net' → ⊥)
+  pub complete : (settings : Settings) (further : Further) → IsToldAs content (Ok (settings, further)) → (Rose files files' → ⊥) → (Rose bus bus' → ⊥) → (Rose net net' → ⊥)
       → (Rose old.faults new.faults → ⊥) → (status ≡ number statuses.Done) ⊎ (status ≡ number statuses.NoMemory)

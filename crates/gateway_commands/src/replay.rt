@@ -1,15 +1,16 @@
 //! The gateway over a capture: what it would have sent and reported, line by line.
 ghost use Rattle.std.specs.Prelude.{◌≡◌, ◌≢◌};
 ghost use Rattle.gate_outside.specs.Faults.{Rose};
-ghost use Rattle.settings.specs.Further.{nothing_further};
+ghost use Rattle.settings.specs.Further.{IsFurther, nothing_further};
 ghost use Rattle.settings.specs.Settings.{IsSettings};
 ghost use Rattle.bridge.specs.BridgeStands.{IsNew};
 ghost use Rattle.bridge.specs.Parts.{Parts, parts_of};
+ghost use Rattle.settings.specs.Further.{nothing_further};
 ghost use Rattle.bridge.specs.Replayed.{IsReplay};
 ghost use Rattle.gateway_commands.specs.ReplayCommand.{RunsBy};
 ghost use Rattle.statuses.specs.Statuses.{EndsBy, IsReplayStatus, IsStreamStatus, IsUnhindered, SteadyBy, number};
 
-use bridge::{Bridge, Settings};
+use bridge::{Bridge, Further, Settings};
 use capture_stream::answer_capture;
 use gate_outside::{Sink, Source};
 use statuses::{Status, status_of};
@@ -78,23 +79,25 @@ pub fn replay_with<S: Source, K: Sink>(
         → IsUnhindered (S.left input.old) (S.fault_count input.old) (S.fault_count input.new) (K.fault_count out.old) (K.fault_count out.new)
         → result ≡ 0 }
 {
-    replay_settings(alloc, settings, input, out).number()
+    replay_settings(alloc, settings, &Further::none(), input, out).number()
 }
 
-/// [`replay_with`], with the status whose number that answers.
+/// [`replay_with`] a gateway of what is asked for besides, with the status whose number that answers.
 #[inline(never)]
 pub(crate) fn replay_settings<S: Source, K: Sink>(
     alloc: Global,
     settings: &Settings,
+    further: &Further,
     input: &mut S,
     out: &mut K,
 ) -> Status
-    requires { IsSettings settings.now }
-    ensures runs { RunsBy settings.now (S.left input.old) (S.left input.new) (S.fault_count input.old) (S.fault_count input.new)
+    requires settings { IsSettings settings.now }
+    requires further { IsFurther settings.now further.now }
+    ensures runs { RunsBy settings.now further.now (S.left input.old) (S.left input.new) (S.fault_count input.old) (S.fault_count input.new)
         (K.taken out.old) (K.taken out.new) (K.fault_count out.old) (K.fault_count out.new) (number result) }
     ensures memory { number result ≡ 7 → (input.new ≡ input.old) × (out.new ≡ out.old) }
 {
-    match Bridge::new(alloc, settings) {
+    match Bridge::with(alloc, settings, further) {
         Ok(bridge) => {
             let mut bridge = bridge;
             answer(&mut bridge, input, out)

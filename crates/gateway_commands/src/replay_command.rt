@@ -4,7 +4,7 @@ ghost use Rattle.gateway_commands.specs.ReplayCommand.{ReplaysBy};
 ghost use Rattle.statuses.specs.Statuses.{IsEarly, number};
 
 use crate::replay::replay_settings;
-use config_check::{give_up, load_settings};
+use config_check::{give_up, load_whole};
 use gate_outside::{Files, Sink, Source};
 use statuses::Status;
 use std::alloc::Global;
@@ -24,8 +24,8 @@ pub(crate) fn replay<F: Files, S: Source, K: Sink>(
     ensures refused { number result ≡ 3 → input.new ≡ input.old }
     ensures quiet { IsEarly (number result) → (input.new ≡ input.old) × (out.new ≡ out.old) }
 {
-    match load_settings(alloc, name, files) {
-        Ok(settings) => replay_settings(alloc, &settings, input, out),
+    match load_whole(alloc, name, files) {
+        Ok((settings, further)) => replay_settings(alloc, &settings, &further, input, out),
         Err(why) => give_up(&why, out),
     }
 }

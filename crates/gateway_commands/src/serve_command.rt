@@ -1,13 +1,14 @@
 //! `serve`: the gateway of a configuration between two links that live.
 ghost use Rattle.std.specs.Prelude.{◌≡◌, []};
 ghost use Rattle.serving.specs.Served.{outside};
+ghost use Rattle.settings.specs.Further.{IsFurther};
 ghost use Rattle.settings.specs.Settings.{IsSettings};
 ghost use Rattle.statuses.specs.Statuses.{IsEarly, number};
 ghost use Rattle.gateway_commands.specs.ServeCommand.{AttachesBoth, ServesBy, ServesWith};
 
 use arrayvec::ArrayVec;
-use bridge::{Bridge, Settings};
-use config_check::{give_up, load_settings};
+use bridge::{Bridge, Further, Settings};
+use config_check::{give_up, load_whole};
 use config_values::Ends;
 use gate_outside::{Clock, Failed, Files, Link, Sink};
 use network_routes::{Address, Routes};
@@ -35,32 +36,36 @@ pub(crate) fn serve<F: Files, K: Sink, B: Link, E: Link, C: Clock>(
     ensures refused { number result ≡ 3 → (bus.new ≡ bus.old) × (net.new ≡ net.old) × (clock.new ≡ clock.old) }
     ensures unattached { number result ≡ 9 → (out.new ≡ out.old) × (clock.new ≡ clock.old) }
 {
-    match load_settings(alloc, name, files) {
-        Ok(settings) => serve_with(alloc, &settings, turns, out, bus, net, clock),
+    match load_whole(alloc, name, files) {
+        Ok((settings, further)) => {
+            serve_with(alloc, &settings, &further, turns, out, bus, net, clock)
+        }
         Err(why) => give_up(&why, out),
     }
 }
 
-/// Runs a gateway of these settings between two links, for so many turns, and answers the status.
+/// Runs a gateway of these settings, with what is asked for besides, between two links, for so many turns, and answers the status.
 #[inline(never)]
 fn serve_with<K: Sink, B: Link, E: Link, C: Clock>(
     alloc: Global,
     settings: &Settings,
+    further: &Further,
     turns: u32,
     out: &mut K,
     bus: &mut B,
     net: &mut E,
     clock: &mut C,
 ) -> Status
-    requires { IsSettings settings.now }
-    ensures serves { ServesWith settings.now turns (C.readings clock.old) (C.readings clock.new)
+    requires settings { IsSettings settings.now }
+    requires further { IsFurther settings.now further.now }
+    ensures serves { ServesWith settings.now further.now turns (C.readings clock.old) (C.readings clock.new)
         (B.fault_count bus.old) (B.fault_count bus.new) (E.fault_count net.old) (E.fault_count net.new)
         (outside (B.traffic bus.old) (E.traffic net.old) (K.taken out.old) (K.fault_count out.old))
         (outside (B.traffic bus.new) (E.traffic net.new) (K.taken out.new) (K.fault_count out.new)) (number result) }
     ensures memory { number result ≡ 7 → (out.new ≡ out.old) × (bus.new ≡ bus.old) × (net.new ≡ net.old) × (clock.new ≡ clock.old) }
     ensures unattached { number result ≡ 9 → (out.new ≡ out.old) × (clock.new ≡ clock.old) }
 {
-    match Bridge::new(alloc, settings) {
+    match Bridge::with(alloc, settings, further) {
         Ok(bridge) => {
             let mut bridge = bridge;
             match attach_both(&settings.config.ends, bus, net) {

@@ -1,20 +1,20 @@
--- Who is first in a row, and whose NAME a message is of.
+-- Whose message of a subject is the first, and whose NAME a message is of.
 use Rattle.std.proofs.Common.{◌≡◌, ℕ, zero, suc, ◌<◌, Bool, true, false, ◌||◌, not, List, [], ◌∷◌, inl, inr, length, refl, sym, ap, subst, ◌∙◌, ◌==◌, arith}
 use Rattle.std.specs.Prelude.{Option, Some, None, find, if◌then◌else◌}
 use Rattle.std.specs.List.{AllByRecursion, list_any}
 use Rattle.std.proofs.lemmas.Bool.{and_parts, eqb-true, eqb-false, false≢true}
 use Rattle.n2k_id.specs.Identifier.{parts_of}
-use Rattle.readings.specs.declared.rows.Row.{Row}
 use Rattle.claim_table.specs.declared.answer.Holder.{Holder}
 use Rattle.claim_table.specs.Claims.{holder_at, holder_by, claim}
 use Rattle.claim_table.proofs.SoundLemmas.{held_within}
 use Rattle.source_choice.specs.declared.rank.Rank.{Rank}
 use Rattle.history.specs.Entries.{frame, datagram, tick, command}
-use Rattle.history.specs.Settings.{RowRule}
+use Rattle.source_choice.specs.SubjectRules.{SubjectRule}
 use Rattle.history.specs.Known.{Known, known, held_since, is_claim, claim_by}
 use Rattle.history.specs.Messages.{Message, Carried, messages_of, said_by, with_message, completed_by}
 use Rattle.history.specs.Opens.{note_of, notes_of}
-use Rattle.history.specs.Choice.{is_better, holder_rank, still_counts, outranks, is_of, last_of}
+use Rattle.source_choice.specs.declared.told.Told.{Told}
+use Rattle.history.specs.Subjects.{is_better, holder_rank, still_counts, outranks, is_of, last_of}
 use Rattle.history.specs.ChoiceLaws.{addresses, FirstByAddresses, IsOfHolder, MessagesAreOfHolders}
 use Rattle.history.proofs.Addresses.{addresses_are_sound}
 use Rattle.history.proofs.Fates.{fate, Fate}
@@ -60,45 +60,45 @@ found_any q p (x ∷ older) d e agrees = by (q x) refl e (λ f. found_any q p ol
     by true eq e more = rw (agrees x eq) refl
     by false eq e more = or_right (p x) (list_any p older) (more e)
 
-module _ (rule : RowRule) (holders : List (Option Holder)) (row : Row) (rank : Rank) (m : ℕ) (older : List Message) where
-  held : (a : ℕ) → outranks rule holders row rank m older a ≡ true → a < length holders
-  held a e = by (holder_at holders a) refl (and_parts (is_better rank (holder_rank rule (holder_at holders a))) (still_counts rule.timeout m (last_of holders row a older)) e).0
+module _ (tells : Message → Option Told) (rule : SubjectRule) (holders : List (Option Holder)) (subject : ℕ) (rank : Rank) (m : ℕ) (older : List Message) where
+  held : (a : ℕ) → outranks tells rule holders subject rank m older a ≡ true → a < length holders
+  held a e = by (holder_at holders a) refl (and_parts (is_better rank (holder_rank rule (holder_at holders a))) (still_counts tells rule.timeout m (last_of tells holders subject a older)) e).0
     where
       by : (x : Option Holder) → holder_at holders a ≡ x → is_better rank (holder_rank rule x) ≡ true → a < length holders
       by None e better = absurd (false≢true better)
       by (Some x) e better = held_within holders a x e
 
   -- an address that outranks the rank has sent a message
-  pub has_sent : (a : ℕ) → outranks rule holders row rank m older a ≡ true → list_any (λ d. outranks rule holders row rank m older d.source) older ≡ true
+  pub has_sent : (a : ℕ) → outranks tells rule holders subject rank m older a ≡ true → list_any (λ d. outranks tells rule holders subject rank m older d.source) older ≡ true
   has_sent a e =
-      by (held_since holders a) refl (and_parts (is_better rank (holder_rank rule (holder_at holders a))) (still_counts rule.timeout m (last_of holders row a older)) e).1
+      by (held_since holders a) refl (and_parts (is_better rank (holder_rank rule (holder_at holders a))) (still_counts tells rule.timeout m (last_of tells holders subject a older)) e).1
     where
-      from_it : (x : Message) (since : ℕ) → is_of row a since x ≡ true → outranks rule holders row rank m older x.source ≡ true
+      from_it : (x : Message) (since : ℕ) → is_of tells subject a since x ≡ true → outranks tells rule holders subject rank m older x.source ≡ true
       from_it x since is =
           let same = eqb-true x.source a (and_parts (x.source == a) _ is).0 in
-          subst (λ (y : ℕ). outranks rule holders row rank m older y ≡ true) (sym same) e
+          subst (λ (y : ℕ). outranks tells rule holders subject rank m older y ≡ true) (sym same) e
 
-      last : (since : ℕ) (o : Option Message) → find (is_of row a since) older ≡ o → still_counts rule.timeout m o ≡ true
-          → list_any (λ d. outranks rule holders row rank m older d.source) older ≡ true
+      last : (since : ℕ) (o : Option Message) → find (is_of tells subject a since) older ≡ o → still_counts tells rule.timeout m o ≡ true
+          → list_any (λ d. outranks tells rule holders subject rank m older d.source) older ≡ true
       last since None e counts = absurd (false≢true counts)
-      last since (Some d) e counts = found_any (is_of row a since) (λ x. outranks rule holders row rank m older x.source) older d e (λ x is. from_it x since is)
+      last since (Some d) e counts = found_any (is_of tells subject a since) (λ x. outranks tells rule holders subject rank m older x.source) older d e (λ x is. from_it x since is)
 
-      by : (since : Option ℕ) → held_since holders a ≡ since → still_counts rule.timeout m (last_since row a older since) ≡ true
-          → list_any (λ d. outranks rule holders row rank m older d.source) older ≡ true
+      by : (since : Option ℕ) → held_since holders a ≡ since → still_counts tells rule.timeout m (last_since tells subject a older since) ≡ true
+          → list_any (λ d. outranks tells rule holders subject rank m older d.source) older ≡ true
       by None e counts = absurd (false≢true counts)
-      by (Some since) e counts = last since (find (is_of row a since) older) refl counts
+      by (Some since) e counts = last since (find (is_of tells subject a since) older) refl counts
 
 pub first_by_addresses : FirstByAddresses
-first_by_addresses rule holders row rank m older n enough = ap not (both_ways _ _ there back)
+first_by_addresses tells rule holders subject rank m older n enough = ap not (both_ways _ _ there back)
   where
-    there : list_any (λ d. outranks rule holders row rank m older d.source) older ≡ true → list_any (outranks rule holders row rank m older) (addresses n) ≡ true
+    there : list_any (λ d. outranks tells rule holders subject rank m older d.source) older ≡ true → list_any (outranks tells rule holders subject rank m older) (addresses n) ≡ true
     there e =
-        let one = some_one (λ d. outranks rule holders row rank m older d.source) older e in
-        let within = held rule holders row rank m older one.0.source one.1 in
-        below_any (outranks rule holders row rank m older) n one.0.source (omega (arith, within, enough)) one.1
+        let one = some_one (λ d. outranks tells rule holders subject rank m older d.source) older e in
+        let within = held tells rule holders subject rank m older one.0.source one.1 in
+        below_any (outranks tells rule holders subject rank m older) n one.0.source (omega (arith, within, enough)) one.1
 
-    back : list_any (outranks rule holders row rank m older) (addresses n) ≡ true → list_any (λ d. outranks rule holders row rank m older d.source) older ≡ true
-    back e = let one = some_one (outranks rule holders row rank m older) (addresses n) e in has_sent rule holders row rank m older one.0 one.1
+    back : list_any (outranks tells rule holders subject rank m older) (addresses n) ≡ true → list_any (λ d. outranks tells rule holders subject rank m older d.source) older ≡ true
+    back e = let one = some_one (outranks tells rule holders subject rank m older) (addresses n) e in has_sent tells rule holders subject rank m older one.0 one.1
 
 -- ---- the NAME of a message
 

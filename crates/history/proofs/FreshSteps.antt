@@ -6,7 +6,6 @@ use Rattle.history.specs.Traces.{NotedFrame}
 use Rattle.std.proofs.lemmas.Bool.{and_parts, eqb-true, lt-leb, le-leb}
 use Rattle.n2k_id.specs.Frame.{BusFrame}
 use Rattle.n2k_id.specs.Identifier.{parts_of}
-use Rattle.readings.specs.declared.rows.Row.{Row}
 use Rattle.claim_table.specs.declared.answer.Holder.{Holder}
 use Rattle.claim_table.specs.Claims.{holder_at, claim}
 use Rattle.history.specs.Entries.{History, frame, datagram, tick, command}
@@ -14,19 +13,20 @@ use Rattle.history.specs.Settings.{Receiver}
 use Rattle.history.specs.Known.{Known, known, held_since, is_claim, claim_by, followed_by}
 use Rattle.history.specs.Messages.{Message, Carried, done, messages_of, said_by, with_message, completed_by}
 use Rattle.history.specs.Opens.{note_of, notes_of}
-use Rattle.history.specs.Choice.{is_row, reading_of, is_of, last_of}
+use Rattle.source_choice.specs.declared.told.Told.{Told}
+use Rattle.history.specs.Subjects.{is_about, is_of, last_of}
 use Rattle.history.specs.AddressLaws.{IsReceiver}
 use Rattle.history.specs.TraceLaws.{is_lost}
-use Rattle.history.specs.FreshLaws.{tells, MessagesAreKept, ClaimsForget, CommandsForgetNone, ReadingsAreKept}
+use Rattle.history.specs.FreshLaws.{is_told, MessagesAreKept, ClaimsForget, CommandsForgetNone, ReadingsAreKept}
 use Rattle.history.proofs.Addresses.{addresses_are_sound}
 use Rattle.history.proofs.KeySteps.{dated_at, known_same}
 use Rattle.history.proofs.TraceMoves.{same_since, moved_since, known_after_claim}
 use Rattle.history.proofs.Moves.{Moved}
 use Rattle.history.proofs.Moves as moves
 
--- the last message of a row from a source since an index, where there is one
-abbrev pub last_since : Row → ℕ → List Message → Option ℕ → Option Message
-last_since row source older since = option_and_then (λ index. find (is_of row source index) older) since
+-- the last message of a subject from a source since an index, where there is one
+abbrev pub last_since : (Message → Option Told) → ℕ → ℕ → List Message → Option ℕ → Option Message
+last_since tells subject source older since = option_and_then (λ index. find (is_of tells subject source index) older) since
 
 -- each message has the index of an entry of the history
 abbrev pub AreBelow : ℕ → List Message → Type 0
@@ -52,13 +52,13 @@ below c s (command m source address ∷ h) = later (length h) (messages_of c s h
 
 -- ---- what is found
 
-found_newest : (row : Row) (source since : ℕ) (d : Message) (older : List Message) → since ≤ d.index
-    → find (is_of row source since) (d ∷ older) ≡ (if (d.source == source) && is_row row (reading_of d) then Some d else find (is_of row source since) older)
-found_newest row source since d older le = rw (le-leb since d.index le) refl
+found_newest : (tells : Message → Option Told) (subject source since : ℕ) (d : Message) (older : List Message) → since ≤ d.index
+    → find (is_of tells subject source since) (d ∷ older) ≡ (if (d.source == source) && is_about subject (tells d) then Some d else find (is_of tells subject source since) older)
+found_newest tells subject source since d older le = rw (le-leb since d.index le) refl
 
-none_since : (row : Row) (source i : ℕ) (older : List Message) → AreBelow i older → find (is_of row source i) older ≡ None
-none_since row source i [] h = refl
-none_since row source i (d ∷ older) h = rw (lt-leb i d.index h.0, neither (d.source == source)) (none_since row source i older h.1)
+none_since : (tells : Message → Option Told) (subject source i : ℕ) (older : List Message) → AreBelow i older → find (is_of tells subject source i) older ≡ None
+none_since tells subject source i [] h = refl
+none_since tells subject source i (d ∷ older) h = rw (lt-leb i d.index h.0, neither (d.source == source)) (none_since tells subject source i older h.1)
   where
     neither : (x : Bool) → (x && false) ≡ false
     neither true = refl
@@ -79,16 +79,16 @@ abbrev HasIndex : ℕ → Option Message → Type 0
 HasIndex n None = Unit {0}
 HasIndex n (Some d) = d.index ≡ n
 
-module _ (row : Row) (source n : ℕ) (older : List Message) where
-  unheld : (d : Message) (b : Bool) → (d.source == source) ≡ b → IsHeld source None (Some d) → None ≡ (if tells row source (Some d) then Some d else None)
+module _ (tells : Message → Option Told) (subject source n : ℕ) (older : List Message) where
+  unheld : (d : Message) (b : Bool) → (d.source == source) ≡ b → IsHeld source None (Some d) → None ≡ (if is_told tells subject source (Some d) then Some d else None)
   unheld d true e held = let x = held e in cc
   unheld d false e held = rw e refl
 
   kept : (since : Option ℕ) (said : Option Message) → IsDated since n → HasIndex n said → IsHeld source since said
-      → last_since row source (with_message said older) since ≡ (if tells row source said then said else last_since row source older since)
+      → last_since tells subject source (with_message said older) since ≡ (if is_told tells subject source said then said else last_since tells subject source older since)
   kept since None dated index held = refl
   kept None (Some d) dated index held = unheld d (d.source == source) refl held
-  kept (Some since) (Some d) dated index held = found_newest row source since d older (subst (λ (x : ℕ). since ≤ x) (sym index) dated)
+  kept (Some since) (Some d) dated index held = found_newest tells subject source since d older (subst (λ (x : ℕ). since ≤ x) (sym index) dated)
 
 said_index : (n m from : ℕ) (x : Option Holder) (what : Option Carried) → HasIndex n (said_by n m from x what)
 said_index n m from None what = tt
@@ -107,9 +107,9 @@ dated c s h are source None e = tt
 dated c s h are source (Some x) e = dated_at (length h) (known c s h).claims.holders source x (addresses_are_sound c s h are).dated e
 
 pub messages_are_kept : MessagesAreKept
-messages_are_kept c s h m f row source are other =
+messages_are_kept tells c s h m f subject source are other =
     rw (known_same c s h m f other)
-    (kept row source (length h) (messages_of c s h) (held_since (known c s h).claims.holders source) (done c s h (frame m f))
+    (kept tells subject source (length h) (messages_of c s h) (held_since (known c s h).claims.holders source) (done c s h (frame m f))
     (dated c s h are source (holder_at (known c s h).claims.holders source) refl)
     (said_index (length h) m (parts_of f.id).source (holder_at (known c s h).claims.holders (parts_of f.id).source) (completed_by c.kinds (known c s h) (note_of c (length h) (known c s h) (notes_of c s h) m f) (notes_of c s h)))
     (said_held (known c s h) (length h) m (parts_of f.id).source source (holder_at (known c s h).claims.holders (parts_of f.id).source) (completed_by c.kinds (known c s h) (note_of c (length h) (known c s h) (notes_of c s h) m f) (notes_of c s h)) refl))
@@ -130,29 +130,29 @@ claim_says_none c s h m f are claims =
     (claim_completes_none c are (known c s h) (note_of c (length h) (known c s h) (notes_of c s h) m f) (notes_of c s h) (eqb-true (parts_of f.id).pgn 60928 (and_parts _ _ claims).0))
     ∙ says_none (length h) m (parts_of f.id).source (holder_at (known c s h).claims.holders (parts_of f.id).source))
 
-module _ (row : Row) (source i : ℕ) (older : List Message) (below_i : AreBelow i older) where
-  forgotten : (after : Option ℕ) → (after ≡ Some i) ⊎ (after ≡ None) → last_since row source older after ≡ None
-  forgotten after (inl e) = rw e (none_since row source i older below_i)
+module _ (tells : Message → Option Told) (subject source i : ℕ) (older : List Message) (below_i : AreBelow i older) where
+  forgotten : (after : Option ℕ) → (after ≡ Some i) ⊎ (after ≡ None) → last_since tells subject source older after ≡ None
+  forgotten after (inl e) = rw e (none_since tells subject source i older below_i)
   forgotten after (inr e) = rw e refl
 
-  none_before : (lost : Bool) (before : Option ℕ) → (lost ≡ true) ⊎ (before ≡ None) → None ≡ (if lost then None else last_since row source older before)
+  none_before : (lost : Bool) (before : Option ℕ) → (lost ≡ true) ⊎ (before ≡ None) → None ≡ (if lost then None else last_since tells subject source older before)
   none_before lost before (inl e) = rw e refl
   none_before true before (inr e) = refl
   none_before false before (inr e) = rw e refl
 
-  by_move : (lost : Bool) (before after : Option ℕ) → Moved lost i before after → last_since row source older after ≡ (if lost then None else last_since row source older before)
+  by_move : (lost : Bool) (before after : Option ℕ) → Moved lost i before after → last_since tells subject source older after ≡ (if lost then None else last_since tells subject source older before)
   by_move lost before after (moves.stays kept same) = rw (same, kept) refl
   by_move lost before after (moves.begins new old) = forgotten after new ∙ none_before lost before old
 
 pub claims_forget : ClaimsForget
-claims_forget c s h m f row source are claims =
+claims_forget tells c s h m f subject source are claims =
     rw (known_after_claim c s h m f claims)
-    (ap (λ (x : List Message). last_of (followed_by (length h) (known c s h) (claim (known c s h).claims (claim_by (length h) m f)).after).claims.holders row source x) (claim_says_none c s h m f are claims)
-    ∙ by_move row source (length h) (messages_of c s h) (below c s h) (is_lost (claim (known c s h).claims (claim_by (length h) m f)).step source) (held_since (known c s h).claims.holders source)
+    (ap (λ (x : List Message). last_of tells (followed_by (length h) (known c s h) (claim (known c s h).claims (claim_by (length h) m f)).after).claims.holders subject source x) (claim_says_none c s h m f are claims)
+    ∙ by_move tells subject source (length h) (messages_of c s h) (below c s h) (is_lost (claim (known c s h).claims (claim_by (length h) m f)).step source) (held_since (known c s h).claims.holders source)
     (held_since (followed_by (length h) (known c s h) (claim (known c s h).claims (claim_by (length h) m f)).after).claims.holders source) (moved_since c s h m f are source))
 
 pub commands_forget_none : CommandsForgetNone
-commands_forget_none c s h m from address row source = ap (last_since row source (messages_of c s h)) (same_since (length h) (known c s h) address m source)
+commands_forget_none tells c s h m from address subject source = ap (last_since tells subject source (messages_of c s h)) (same_since (length h) (known c s h) address m source)
 
 -- ---- on the network
 

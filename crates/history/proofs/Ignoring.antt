@@ -1,34 +1,31 @@
--- A device that a row isn't taken from has no rank in it.
+-- A device that a subject isn't taken from has no rank in it.
 use Rattle.std.proofs.Common.{◌≡◌, ℕ, Bool, true, ◌&&◌, List, Option, Some, None, ap, ◌∙◌}
 use Rattle.std.specs.Prelude.{if◌then◌else◌}
-use Rattle.readings.specs.Rows.{row_of}
 use Rattle.claim_table.specs.declared.answer.Holder.{Holder}
 use Rattle.n2k_id.specs.declared.pattern.Pattern.{Pattern}
 use Rattle.source_choice.specs.declared.rank.Rank.{Rank}
-use Rattle.history.specs.Settings.{RowRule, rule_of}
-use Rattle.history.specs.Choice.{is_better, is_first, is_fresh, is_matched, holder_rank, last_of, rank_among, rank_of}
+use Rattle.source_choice.specs.SubjectRules.{SubjectRule, is_matched, rank_among, rank_of}
+use Rattle.history.specs.Subjects.{is_better, is_first, is_fresh, holder_rank, last_of}
 use Rattle.history.specs.ChoiceLaws.{noted_with}
 use Rattle.history.specs.IgnoringLaws.{IgnoredAreUnsaid, IgnoredAreUnnoted, IgnoredKeepNobodyBack, RanksWithoutIgnored}
 
-none_there : (rule : RowRule) (name : ℕ) → is_matched rule.ignored name ≡ true → rank_of rule name ≡ None
+none_there : (rule : SubjectRule) (name : ℕ) → is_matched rule.ignored name ≡ true → rank_of rule name ≡ None
 none_there rule name e = ap (λ (b : Bool). let r : Option Rank = if b then None else rank_among rule name in r) e
 
-none_held : (rule : RowRule) (x : Option Holder) (holder : Holder) → x ≡ Some holder → is_matched rule.ignored holder.name.0 ≡ true → holder_rank rule x ≡ None
+none_held : (rule : SubjectRule) (x : Option Holder) (holder : Holder) → x ≡ Some holder → is_matched rule.ignored holder.name.0 ≡ true → holder_rank rule x ≡ None
 none_held rule x holder held e = ap (holder_rank rule) held ∙ none_there rule holder.name.0 e
 
 pub ignored_are_unsaid : IgnoredAreUnsaid
-ignored_are_unsaid c holders older d r e =
-    let row = row_of r in
-    let rule = rule_of c row in
-    ap (λ (rank : Option Rank). if is_first rule holders row d.moment older rank then Some r else None) (none_there rule d.name e)
+ignored_are_unsaid tells rules holders older d t e =
+    ap (is_first tells (rules t.subject) holders t.subject d.moment older) (none_there (rules t.subject) d.name e)
 
 pub ignored_are_unnoted : IgnoredAreUnnoted
-ignored_are_unnoted rule holders row older a holder held e =
-    ap (λ (rank : Option Rank). noted_with a rank (last_of holders row a older)) (none_held rule _ holder held e)
+ignored_are_unnoted tells rule holders subject older a holder held e =
+    ap (λ (rank : Option Rank). noted_with tells a rank (last_of tells holders subject a older)) (none_held rule _ holder held e)
 
 pub ignored_keep_nobody_back : IgnoredKeepNobodyBack
-ignored_keep_nobody_back rule holders row rank m older a holder held e =
-    ap (λ (other : Option Rank). is_better rank other && is_fresh rule holders row a m older) (none_held rule _ holder held e)
+ignored_keep_nobody_back tells rule holders subject rank m older a holder held e =
+    ap (λ (other : Option Rank). is_better rank other && is_fresh tells rule holders subject a m older) (none_held rule _ holder held e)
 
 pub ranks_without_ignored : RanksWithoutIgnored
 ranks_without_ignored rule name e =

@@ -1,4 +1,4 @@
--- The notes of a row select a message exactly where its rank is the first.
+-- The notes of a subject select a message exactly where its rank is the first.
 use Rattle.std.proofs.Common.{◌≡◌, ℕ, ◌+◌, ◌<◌, ◌≤◌, Bool, true, false, ◌&&◌, ◌||◌, not, List, [], ◌∷◌, refl, sym, ap, subst, ◌∙◌, ◌==◌, arith}
 use Rattle.std.specs.Prelude.{Option, Some, None, if◌then◌else◌, option_map}
 use Rattle.std.specs.List.{list_any}
@@ -7,15 +7,18 @@ use Rattle.readings.specs.declared.rows.Row.{Row}
 use Rattle.claim_table.specs.Claims.{holder_at}
 use Rattle.source_choice.specs.declared.note.Note.{Note}
 use Rattle.source_choice.specs.declared.rank.Rank.{Rank}
-use Rattle.source_choice.specs.Notes.{RowNotes, AreFrom, note_of, outranks, is_fresh}
+use Rattle.source_choice.specs.Notes.{SubjectNotes, AreFrom, note_of, outranks, is_fresh}
 use Rattle.source_choice.specs.Ranks.{is_before}
+use Rattle.source_choice.specs.SubjectRules.{SubjectRule}
 use Rattle.readings.specs.Rows.{row_of}
-use Rattle.history.specs.Settings.{Settings, RowRule, rule_of, same_text}
+use Rattle.history.specs.Settings.{Settings, rule_of, same_text}
 use Rattle.history.specs.Heard.{place_of}
 use Rattle.history.specs.NetReadings.{NetReading, net_rank, last_heard, counts_still, is_net_fresh, is_net_first}
 use Rattle.history.specs.Messages.{Message}
-use Rattle.history.specs.Choice as choice
-use Rattle.history.specs.Choice.{is_better, is_row, is_usable, reading_of, holder_rank, still_counts, last_of}
+use Rattle.history.specs.Subjects as subjects
+use Rattle.source_choice.specs.declared.told.Told.{Told}
+use Rattle.history.specs.Subjects.{is_better, holder_rank, still_counts, last_of}
+use Rattle.history.specs.Choice.{is_row, is_usable}
 use Rattle.history.specs.ChoiceLaws.{noted_with, HoldsNotes, FirstByNotes, net_noted, HoldsNetNotes, FirstNetByNotes}
 use Rattle.history.proofs.GroupCounts.{text_is}
 use Rattle.history.proofs.ChoiceSteps.{both_ways, or_right, some_one, found_any, has_sent}
@@ -58,35 +61,36 @@ not_before a = let place = le-ltb a.place a.place (omega arith) in let name = le
     and_no true = refl
     and_no false = refl
 
-module _ (rule : RowRule) (holders : List (Option Holder)) (row : Row) (older : List Message) (r : RowNotes) (source : ℕ) (rank : Rank) (m : ℕ) (h : HoldsNotes rule holders row older r)
+module _ (tells : Message → Option Told) (rule : SubjectRule) (holders : List (Option Holder)) (subject : ℕ) (older : List Message) (r : SubjectNotes) (source : ℕ) (rank : Rank) (m : ℕ)
+    (h : HoldsNotes tells rule holders subject older r)
     (own : holder_rank rule (holder_at holders source) ≡ Some rank) where
   -- what a note says of its address
-  says : (n : Note) (a : ℕ) (other : Option Rank) (last : Option Message) → noted_with a other last ≡ Some n
-      → (other ≡ Some n.rank) × (still_counts rule.timeout m last ≡ is_fresh rule.timeout m n)
+  says : (n : Note) (a : ℕ) (other : Option Rank) (last : Option Message) → noted_with tells a other last ≡ Some n
+      → (other ≡ Some n.rank) × (still_counts tells rule.timeout m last ≡ is_fresh rule.timeout m n)
   says n a None last e = cc
   says n a (Some other) None e = cc
   says n a (Some other) (Some d) e =
-      subst (λ (x : Note). (Some other ≡ Some x.rank) × (still_counts rule.timeout m (Some d) ≡ is_fresh rule.timeout m x)) (inner e) (refl, refl)
+      subst (λ (x : Note). (Some other ≡ Some x.rank) × (still_counts tells rule.timeout m (Some d) ≡ is_fresh rule.timeout m x)) (inner e) (refl, refl)
     where
       inner : {x y : Note} → Some x ≡ Some y → x ≡ y
       inner e = cc
 
-  to : list_any (outranks r.timeout source rank m) r.notes ≡ true → list_any (λ d. choice.outranks rule holders row rank m older d.source) older ≡ true
+  to : list_any (outranks r.timeout source rank m) r.notes ≡ true → list_any (λ d. subjects.outranks tells rule holders subject rank m older d.source) older ≡ true
   to e =
       let n = found_one (outranks r.timeout source rank m) 0 r.sources r.notes h.apart e in
       let both = and_parts (not (n.0.source == source) && is_before n.0.rank rank) (is_fresh r.timeout m n.0) n.1 in
-      let is = says n.0 n.0.source (holder_rank rule (holder_at holders n.0.source)) (last_of holders row n.0.source older) (sym (h.notes n.0.source) ∙ n.2) in
+      let is = says n.0 n.0.source (holder_rank rule (holder_at holders n.0.source)) (last_of tells holders subject n.0.source older) (sym (h.notes n.0.source) ∙ n.2) in
       let better : is_better rank (holder_rank rule (holder_at holders n.0.source)) ≡ true = ap (is_better rank) is.0 ∙ (and_parts (not (n.0.source == source)) (is_before n.0.rank rank) both.0).1 in
-      let counts : still_counts rule.timeout m (last_of holders row n.0.source older) ≡ true = is.1 ∙ ap (λ (t : ℕ). is_fresh t m n.0) (sym h.timeout) ∙ both.1 in
-      has_sent rule holders row rank m older n.0.source (rw (better, counts) refl)
+      let counts : still_counts tells rule.timeout m (last_of tells holders subject n.0.source older) ≡ true = is.1 ∙ ap (λ (t : ℕ). is_fresh t m n.0) (sym h.timeout) ∙ both.1 in
+      has_sent tells rule holders subject rank m older n.0.source (rw (better, counts) refl)
 
-  noted : (a : ℕ) (other : Option Rank) (last : Option Message) → is_better rank other ≡ true → still_counts rule.timeout m last ≡ true
-      → (n : Note) × (noted_with a other last ≡ Some n)
+  noted : (a : ℕ) (other : Option Rank) (last : Option Message) → is_better rank other ≡ true → still_counts tells rule.timeout m last ≡ true
+      → (n : Note) × (noted_with tells a other last ≡ Some n)
   noted a None last better counts = absurd (false≢true better)
   noted a (Some other) None better counts = absurd (false≢true counts)
-  noted a (Some other) (Some d) better counts = (record { source = a; rank = other; moment = d.moment; usable = is_usable (reading_of d) }, refl)
+  noted a (Some other) (Some d) better counts = (record { source = a; rank = other; moment = d.moment; usable = subjects.is_usable (tells d) }, refl)
 
-  of_source : (n : Note) (a : ℕ) (other : Option Rank) (last : Option Message) → noted_with a other last ≡ Some n → n.source ≡ a
+  of_source : (n : Note) (a : ℕ) (other : Option Rank) (last : Option Message) → noted_with tells a other last ≡ Some n → n.source ≡ a
   of_source n a None last e = cc
   of_source n a (Some other) None e = cc
   of_source n a (Some other) (Some d) e = let same = inner e in sym (ap (λ (x : Note). x.source) same)
@@ -94,16 +98,16 @@ module _ (rule : RowRule) (holders : List (Option Holder)) (row : Row) (older : 
       inner : {x y : Note} → Some x ≡ Some y → x ≡ y
       inner e = cc
 
-  from : list_any (λ d. choice.outranks rule holders row rank m older d.source) older ≡ true → list_any (outranks r.timeout source rank m) r.notes ≡ true
+  from : list_any (λ d. subjects.outranks tells rule holders subject rank m older d.source) older ≡ true → list_any (outranks r.timeout source rank m) r.notes ≡ true
   from e =
-      let one = some_one (λ d. choice.outranks rule holders row rank m older d.source) older e in
+      let one = some_one (λ d. subjects.outranks tells rule holders subject rank m older d.source) older e in
       let a = one.0.source in
-      let parts = and_parts (is_better rank (holder_rank rule (holder_at holders a))) (still_counts rule.timeout m (last_of holders row a older)) one.1 in
-      let n = noted a (holder_rank rule (holder_at holders a)) (last_of holders row a older) parts.0 parts.1 in
-      let is = says n.0 a (holder_rank rule (holder_at holders a)) (last_of holders row a older) n.1 in
+      let parts = and_parts (is_better rank (holder_rank rule (holder_at holders a))) (still_counts tells rule.timeout m (last_of tells holders subject a older)) one.1 in
+      let n = noted a (holder_rank rule (holder_at holders a)) (last_of tells holders subject a older) parts.0 parts.1 in
+      let is = says n.0 a (holder_rank rule (holder_at holders a)) (last_of tells holders subject a older) n.1 in
       let before : is_before n.0.rank rank ≡ true = sym (ap (is_better rank) is.0) ∙ parts.0 in
       let fresh : is_fresh r.timeout m n.0 ≡ true = ap (λ (t : ℕ). is_fresh t m n.0) h.timeout ∙ sym is.1 ∙ parts.1 in
-      let at = of_source n.0 a (holder_rank rule (holder_at holders a)) (last_of holders row a older) n.1 in
+      let at = of_source n.0 a (holder_rank rule (holder_at holders a)) (last_of tells holders subject a older) n.1 in
       found_passes (outranks r.timeout source rank m) a r.notes n.0 (h.notes a ∙ n.1) (apart n.0 a at is.0 before fresh (n.0.source == source) refl)
     where
       apart : (n : Note) (a : ℕ) → n.source ≡ a → holder_rank rule (holder_at holders a) ≡ Some n.rank → is_before n.rank rank ≡ true → is_fresh r.timeout m n ≡ true
@@ -116,11 +120,12 @@ module _ (rule : RowRule) (holders : List (Option Holder)) (row : Row) (older : 
       apart n a at held before fresh false same = rw (same, before, fresh) refl
 
 pub first_by_notes : FirstByNotes
-first_by_notes rule holders row older r source rank m h own = ap not (both_ways _ _ (to rule holders row older r source rank m h own) (from rule holders row older r source rank m h own))
+first_by_notes tells rule holders subject older r source rank m h own =
+    ap not (both_ways _ _ (to tells rule holders subject older r source rank m h own) (from tells rule holders subject older r source rank m h own))
 
 -- ---- the same of the network
 
-module _ (c : Settings) (older : List NetReading) (n : NetReading) (r : RowNotes) (place : ℕ) (h : HoldsNetNotes c (row_of n.reading) older r) where
+module _ (c : Settings) (older : List NetReading) (n : NetReading) (r : SubjectNotes) (place : ℕ) (h : HoldsNetNotes c (row_of n.reading) older r) where
   abbrev row : Row
   row = row_of n.reading
 

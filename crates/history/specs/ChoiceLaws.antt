@@ -1,4 +1,4 @@
--- Who is first in a row, by what is kept of each address, and whose NAME a message is of.
+-- Whose message of a subject is the first, by what is kept of each address, and whose NAME a message is of.
 use Rattle.std.specs.Prelude.{◌≡◌, ℕ, zero, suc, ◌≤◌, true, not, ◌==◌, List, [], ◌∷◌, length, Option, Some, None}
 use Rattle.std.specs.List.{AllByRecursion, list_any}
 use Rattle.readings.specs.declared.rows.Row.{Row}
@@ -7,13 +7,17 @@ use Rattle.claim_table.specs.Claims.{holder_at}
 use Rattle.claim_table.specs.declared.answer.Holder.{Holder}
 use Rattle.source_choice.specs.declared.note.Note.{Note}
 use Rattle.source_choice.specs.declared.rank.Rank.{Rank}
-use Rattle.source_choice.specs.Notes.{RowNotes, AreFrom, note_of, is_selected}
+use Rattle.source_choice.specs.Notes.{SubjectNotes, AreFrom, note_of, is_selected}
+use Rattle.source_choice.specs.SubjectRules.{SubjectRule}
 use Rattle.history.specs.AddressLaws.{IsReceiver}
 use Rattle.history.specs.Entries.{History}
-use Rattle.history.specs.Settings.{Settings, RowRule, rule_of, Receiver}
+use Rattle.history.specs.Settings.{Settings, rule_of, Receiver}
 use Rattle.history.specs.Known.{known}
 use Rattle.history.specs.Messages.{Message, messages_of}
-use Rattle.history.specs.Choice.{is_usable, reading_of, last_of, holder_rank, outranks, is_first}
+use Rattle.source_choice.specs.declared.told.Told.{Told}
+use Rattle.history.specs.Subjects.{holder_rank, is_first, last_of, outranks}
+use Rattle.history.specs.Subjects as subjects
+use Rattle.history.specs.Choice.{is_usable}
 use Rattle.history.specs.Heard.{place_of}
 use Rattle.history.specs.NetReadings.{NetReading, last_heard, is_net_selected}
 
@@ -25,31 +29,32 @@ addresses (suc n) = n ∷ addresses n
 -- a rank is the first exactly where none of the addresses that can be held outranks it
 abbrev pub FirstByAddresses : Type 0
 FirstByAddresses =
-    (rule : RowRule) (holders : List (Option Holder)) (row : Row) (rank : Rank) (m : ℕ) (older : List Message) (n : ℕ) → length holders ≤ n
-    → is_first rule holders row m older (Some rank) ≡ not (list_any (outranks rule holders row rank m older) (addresses n))
+    (tells : Message → Option Told) (rule : SubjectRule) (holders : List (Option Holder)) (subject : ℕ) (rank : Rank) (m : ℕ) (older : List Message) (n : ℕ)
+    → length holders ≤ n
+    → is_first tells rule holders subject m older (Some rank) ≡ not (list_any (outranks tells rule holders subject rank m older) (addresses n))
 
--- what is noted of an address in a row: its last message since its holder has it, where that NAME has a rank
-abbrev pub noted_with : ℕ → Option Rank → Option Message → Option Note
-noted_with a None last = None
-noted_with a (Some rank) None = None
-noted_with a (Some rank) (Some d) = Some (record { source = a; rank = rank; moment = d.moment; usable = is_usable (reading_of d) })
+-- what is noted of an address of a subject: its last message since its holder has it, where that NAME has a rank
+abbrev pub noted_with : (Message → Option Told) → ℕ → Option Rank → Option Message → Option Note
+noted_with tells a None last = None
+noted_with tells a (Some rank) None = None
+noted_with tells a (Some rank) (Some d) = Some (record { source = a; rank = rank; moment = d.moment; usable = subjects.is_usable (tells d) })
 
-abbrev pub kept_note : RowRule → List (Option Holder) → Row → List Message → ℕ → Option Note
-kept_note rule holders row older a = noted_with a (holder_rank rule (holder_at holders a)) (last_of holders row a older)
+abbrev pub kept_note : (Message → Option Told) → SubjectRule → List (Option Holder) → ℕ → List Message → ℕ → Option Note
+kept_note tells rule holders subject older a = noted_with tells a (holder_rank rule (holder_at holders a)) (last_of tells holders subject a older)
 
--- notes of a row that hold this of each address select a message exactly where its rank is the first
-pub record HoldsNotes (rule : RowRule) (holders : List (Option Holder)) (row : Row) (older : List Message) (r : RowNotes) : Type 0 where
-  pub timeout : r.timeout ≡ rule.timeout
-  pub apart : AreFrom 0 r.sources r.notes
-  pub notes : (a : ℕ) → note_of a r.notes ≡ kept_note rule holders row older a
+-- notes of a subject that hold this of each address select a message exactly where its rank is the first
+pub record HoldsNotes (tells : Message → Option Told) (rule : SubjectRule) (holders : List (Option Holder)) (subject : ℕ) (older : List Message) (s : SubjectNotes) : Type 0 where
+  pub timeout : s.timeout ≡ rule.timeout
+  pub apart : AreFrom 0 s.sources s.notes
+  pub notes : (a : ℕ) → note_of a s.notes ≡ kept_note tells rule holders subject older a
 
 abbrev pub FirstByNotes : Type 0
 FirstByNotes =
-    (rule : RowRule) (holders : List (Option Holder)) (row : Row) (older : List Message) (r : RowNotes) (source : ℕ) (rank : Rank) (m : ℕ)
-    → HoldsNotes rule holders row older r
-    → holder_rank rule (holder_at holders source) ≡ Some rank → is_selected r source rank m ≡ is_first rule holders row m older (Some rank)
+    (tells : Message → Option Told) (rule : SubjectRule) (holders : List (Option Holder)) (subject : ℕ) (older : List Message) (s : SubjectNotes) (source : ℕ) (rank : Rank) (m : ℕ)
+    → HoldsNotes tells rule holders subject older s
+    → holder_rank rule (holder_at holders source) ≡ Some rank → is_selected s source rank m ≡ is_first tells rule holders subject m older (Some rank)
 
--- the same of the network, where a source goes by its place among those that are listed
+-- the same of rows from the network, where a source goes by its place among those that are listed
 abbrev pub net_noted : ℕ → Option NetReading → Option Note
 net_noted place None = None
 net_noted place (Some n) = Some (record {
@@ -59,7 +64,7 @@ net_noted place (Some n) = Some (record {
   usable = is_usable (Some n.reading);
 })
 
-pub record HoldsNetNotes (c : Settings) (row : Row) (older : List NetReading) (r : RowNotes) : Type 0 where
+pub record HoldsNetNotes (c : Settings) (row : Row) (older : List NetReading) (r : SubjectNotes) : Type 0 where
   pub timeout : r.timeout ≡ (rule_of c row).timeout
   pub apart : AreFrom 0 r.sources r.notes
   pub notes : (source : List ℕ) (place : ℕ) → place_of c source ≡ Some place → note_of place r.notes ≡ net_noted place (last_heard row source older)
@@ -67,7 +72,7 @@ pub record HoldsNetNotes (c : Settings) (row : Row) (older : List NetReading) (r
 
 abbrev pub FirstNetByNotes : Type 0
 FirstNetByNotes =
-    (c : Settings) (older : List NetReading) (n : NetReading) (r : RowNotes) (place : ℕ) → HoldsNetNotes c (row_of n.reading) older r
+    (c : Settings) (older : List NetReading) (n : NetReading) (r : SubjectNotes) (place : ℕ) → HoldsNetNotes c (row_of n.reading) older r
     → place_of c n.line.source ≡ Some place → is_selected r place (record { place = place; name = 0 }) n.line.moment ≡ is_net_selected c older n
 
 -- each message from an address since its holder has it is of the holder's NAME

@@ -4,6 +4,7 @@ pub mod Known
 pub mod Traces
 pub mod Opens
 pub mod Messages
+pub mod Subjects
 pub mod Choice
 pub mod Emits
 pub mod Endings

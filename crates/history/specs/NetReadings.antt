@@ -15,7 +15,8 @@ use Rattle.sentence_rows.specs.Reading.{read_row}
 use Rattle.source_choice.specs.declared.rank.Rank.{Rank}
 use Rattle.history.specs.Settings.{Settings, RowRule, rule_of, same_text, is_some_that}
 use Rattle.history.specs.Opens.{is_fast}
-use Rattle.history.specs.Choice.{is_better, is_row, is_current}
+use Rattle.history.specs.Subjects.{is_better}
+use Rattle.history.specs.Choice.{is_row, is_current}
 use Rattle.history.specs.Heard.{Taken, place_of, handed_over, with_each}
 
 -- a reading that was heard, with its line: of a group, the one that completed it

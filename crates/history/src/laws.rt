@@ -106,8 +106,8 @@ pub fn frames_are_noted()
     ensures { FramesAreNoted }
 {}
 
-/// Whether a source is fresh in a row hangs on its last message of that row since it holds its address: the next one takes its place, and
-/// it is forgotten exactly where the address is lost.
+/// Whether a source is fresh hangs on its last message of the subject since it holds its address, whatever tells of subjects: the next one
+/// takes its place, and it is forgotten exactly where the address is lost. On the network a row's last reading is never forgotten.
 pub fn freshness_is_kept()
     ensures messages { MessagesAreKept }
     ensures claims { ClaimsForget }
@@ -115,9 +115,10 @@ pub fn freshness_is_kept()
     ensures readings { ReadingsAreKept }
 {}
 
-/// A rank is the first in its row exactly where no address that can be held beats it, by its holder and its last message of the row; and
-/// exactly where the notes of the row select it that hold this of each address; so it is on the network, with the sources' places among
-/// those that are listed in place of addresses. Each message from an address since its holder has it is of the holder's NAME.
+/// A rank is the first of its subject, whatever tells of subjects, exactly where no address that can be held beats it, by its holder and its
+/// last message of the subject; and exactly where the notes of the subject select it that hold this of each address; so it is with rows
+/// on the network, with the sources' places among those that are listed in place of addresses. Each message from an address since its
+/// holder has it is of the holder's NAME.
 pub fn choice_is_by_address()
     ensures first { FirstByAddresses }
     ensures notes { FirstByNotes }
@@ -125,7 +126,7 @@ pub fn choice_is_by_address()
     ensures names { MessagesAreOfHolders }
 {}
 
-/// Of a device that a row isn't taken from no message is selected, nothing is noted, and it keeps no other source back; where nobody is
+/// Of a device that a subject isn't taken from no message is selected, nothing is noted, and it keeps no other source back; where nobody is
 /// ignored, a rank is the place among the sources, and the NAME.
 pub fn ignored_devices_say_nothing()
     ensures unsaid { IgnoredAreUnsaid }

@@ -12,10 +12,12 @@ use Rattle.history.specs.Entries.{Entry, History}
 use Rattle.history.specs.Known.{known}
 use Rattle.history.specs.Settings.{receiver_of, Settings, same_row}
 use Rattle.gate_model.specs.AddressStands.{name_held}
-use Rattle.joined_rmc.specs.Selected.{Selected, selected_at, held_by, last_of, newer, still_held}
-use Rattle.joined_rmc.specs.JoinStands.{LastStands, message_of}
+use Rattle.selected_messages.specs.declared.selected_message.SelectedMessage.{SelectedMessage}
+use Rattle.selected_messages.specs.Picked.{message_of}
+use Rattle.selected_messages.specs.Selected.{Selected, selected_at, last_of, newer}
+use Rattle.joined_rmc.specs.Lasting.{held_by, still_held}
+use Rattle.joined_rmc.specs.JoinStands.{LastStands}
 use Rattle.joined_rmc.specs.Kept.{held_in, is_named, newer_message, last_after}
-use Rattle.joined_rmc.specs.declared.selected_message.SelectedMessage.{SelectedMessage}
 use Rattle.joined_rmc.specs.declared.last_of_row.LastOfRow.{LastOfRow}
 use Rattle.joined_rmc.proofs.Chosen.{chosen_holds, index_before, name_of_holder}
 use Rattle.joined_rmc.proofs.Holders.{Handed, stays, gone, new, handed}

@@ -16,13 +16,14 @@ use Rattle.gate_model.specs.AddressStands.{name_held}
 use Rattle.gate_model.specs.Machine.{Machine}
 use Rattle.gate_model.proofs.AddressTells.{standing_tells_alike}
 use Rattle.gate_outbox.specs.Output.{Output}
-use Rattle.joined_rmc.specs.Selected.{Selected, selected_at, is_due, last_of, said_within, still_held}
-use Rattle.joined_rmc.specs.JoinStands.{IsJoinStep, IsJoined, JoinStands, LastStands, message_of}
-use Rattle.joined_rmc.specs.Kept.{Join, bytes_in, counted, in_last, is_due_message, join_after, join_says, message_within, minimum_in, selected_by_step, rows_after}
+use Rattle.selected_messages.specs.declared.selected_message.SelectedMessage.{SelectedMessage}
+use Rattle.selected_messages.specs.Picked.{IsPicked, message_of}
+use Rattle.selected_messages.specs.Selected.{Selected, selected_at, last_of}
+use Rattle.joined_rmc.specs.Lasting.{is_due, said_within, still_held}
+use Rattle.joined_rmc.specs.JoinStands.{IsJoinStep, IsJoined, JoinStands, LastStands}
+use Rattle.joined_rmc.specs.Kept.{Join, bytes_in, counted, in_last, is_due_message, join_after, join_says, message_within, minimum_in, rows_after}
 use Rattle.joined_rmc.specs.RmcOut.{RmcRule, datagram_by, joined_in, lines_before, minimum, minimum_of, rmc_datagram, timeout_of}
-use Rattle.joined_rmc.specs.declared.selected_message.SelectedMessage.{SelectedMessage}
 use Rattle.joined_rmc.specs.declared.last_of_row.LastOfRow.{LastOfRow}
-use Rattle.joined_rmc.proofs.Chosen.{picked_is_chosen}
 use Rattle.joined_rmc.proofs.Rows.{last_steps}
 
 -- ---- what is kept of a row says what the history joins
@@ -125,17 +126,13 @@ module _ (r : RmcRule) (c : Settings) (s : ℕ) (h : History) (e : Entry) (are :
     packet_is = packet_is ∙ ap bytes_in says_so;
   }
 
-pub joins : (g : Machine) (left : Output) (before after : Join) (said : Bool) (packet : List ℕ)
-    → after ≡ join_after (name_held g.addresses.claims.holders) (selected_by_step g.moment left) before
-    → said ≡ is_due_message (selected_by_step g.moment left)
-    → packet ≡ bytes_in (join_says g.moment (name_held g.addresses.claims.holders) (selected_by_step g.moment left) before)
-    → IsJoinStep g left before after said packet
-joins g left before after said packet after_is said_is packet_is r c s h e settings taken stands =
+pub joins : (g : Machine) (left : Output) (new : Option SelectedMessage) (before after : Join) (said : Bool) (packet : List ℕ) → IsPicked g left new
+    → after ≡ join_after (name_held g.addresses.claims.holders) new before → said ≡ is_due_message new
+    → packet ≡ bytes_in (join_says g.moment (name_held g.addresses.claims.holders) new before) → IsJoinStep g left before after said packet
+joins g left new before after said packet picked after_is said_is packet_is r c s h e settings taken stands =
     let at : g.moment ≡ moment_of e = taken.stands.moment in
     let holder = name_held g.addresses.claims.holders in
-    let new = selected_by_step g.moment left in
     let are = gateways_receive c settings in
     let tells = (standing_tells_alike (receiver_of c) s (e ∷ h) g.addresses taken.stands.addresses).names in
-    let picks = ap (λ m. selected_by_step m left) at ∙ picked_is_chosen c s h e left taken.selected taken.told in
-    joined_so r c s h e are holder tells new picks before stands after said packet after_is said_is
+    joined_so r c s h e are holder tells new (picked c s h e taken) before stands after said packet after_is said_is
     (packet_is ∙ ap (λ m. bytes_in (join_says m holder new before)) at)

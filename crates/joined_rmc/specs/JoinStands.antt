@@ -10,15 +10,12 @@ use Rattle.history.specs.Settings.{receiver_of, Settings}
 use Rattle.gate_model.specs.Machine.{Machine}
 use Rattle.gate_outbox.specs.Output.{Output}
 use Rattle.gate_core.specs.Promises.{IsTaken}
-use Rattle.joined_rmc.specs.declared.selected_message.SelectedMessage.{SelectedMessage}
+use Rattle.selected_messages.specs.Picked.{message_of}
+use Rattle.selected_messages.specs.Selected.{last_of}
 use Rattle.joined_rmc.specs.declared.last_of_row.LastOfRow.{LastOfRow}
-use Rattle.joined_rmc.specs.Selected.{Selected, last_of, still_held}
+use Rattle.joined_rmc.specs.Lasting.{still_held}
 use Rattle.joined_rmc.specs.Kept.{Join, bytes_in}
 use Rattle.joined_rmc.specs.RmcOut.{RmcRule, lines_before, rmc_datagram, timeout_of}
-
--- without the entry by which it was complete
-abbrev pub message_of : Selected → SelectedMessage
-message_of x = record { source = x.source; name = record { 0 = x.name }; moment = x.moment; reading = x.reading }
 
 -- of a row: the last message that was selected, where its sender holds its address ever since
 pub record LastStands (timeout : ℕ) (c : Settings) (s : ℕ) (row : Row) (h : History) (last : LastOfRow) : Type 0 where

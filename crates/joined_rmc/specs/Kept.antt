@@ -1,21 +1,18 @@
 -- What is kept of the messages that RMC is made from, as plain values, and what a step of the gateway makes of it. Nothing here speaks of
 -- what came before.
-use Rattle.std.specs.Prelude.{ℕ, ◌+◌, ◌%◌, Bool, false, ◌==◌, List, [], Option, Some, None, IfSome, option_map, if◌then◌else◌}
+use Rattle.std.specs.Prelude.{ℕ, ◌+◌, ◌%◌, Bool, false, ◌==◌, List, [], Option, Some, None, option_map, if◌then◌else◌}
 use Rattle.std.specs.Borrow.{Bor}
 use Rattle.n2k_id.specs.declared.name.Name.{Name}
 use Rattle.readings.specs.declared.reading.Reading.{Reading}
 use Rattle.readings.specs.declared.rows.Row.{Row}
 use Rattle.readings.specs.declared.rows.Row.TheVariants as row
-use Rattle.readings.specs.Rows.{IsValid, row_of}
+use Rattle.readings.specs.Rows.{row_of}
 use Rattle.sentence_rows.specs.declared.rmc.Minimum.{Minimum}
 use Rattle.tag_block.specs.Tag.{most_count}
 use Rattle.history.specs.Settings.{same_row}
-use Rattle.gate_outbox.specs.declared.done.Done.{Done}
-use Rattle.gate_outbox.specs.Output.{Output}
-use Rattle.history.specs.Emits.{is_there}
-use Rattle.joined_rmc.specs.declared.selected_message.SelectedMessage.{SelectedMessage}
+use Rattle.selected_messages.specs.declared.selected_message.SelectedMessage.{SelectedMessage}
 use Rattle.joined_rmc.specs.declared.last_of_row.LastOfRow.{LastOfRow}
-use Rattle.joined_rmc.specs.Selected.{says_position, unless_old}
+use Rattle.joined_rmc.specs.Lasting.{says_position, unless_old}
 use Rattle.joined_rmc.specs.RmcOut.{datagram_by, minimum_of, timeout_of}
 
 -- a message of each row, and how many lines were said, from 0 to 998
@@ -45,20 +42,6 @@ empty_join talker sfi timeouts = record {
   heading = none_yet (timeout_of timeouts row.HeadingMagnetic);
   count = 0;
 }
-
--- ---- the message of a step
-
-abbrev pub read_at : ℕ → Done → Option Reading → Option SelectedMessage
-read_at m d None = None
-read_at m d (Some r) = Some (record { source = d.source; name = d.name; moment = m; reading = r })
-
-abbrev pub selected_of : ℕ → Option Done → Option SelectedMessage
-selected_of m None = None
-selected_of m (Some d) = read_at m d d.reading
-
--- what was complete at the moment, where it was selected: then its datagram is posted
-abbrev pub selected_by_step : ℕ → Output → Option SelectedMessage
-selected_by_step m left = if is_there left.emits.posted then selected_of m left.done else None
 
 -- ---- the address of a message that is kept changes hands, or not
 
@@ -119,8 +102,3 @@ join_says m holder new j = if is_due_message new then Some (datagram_in m (rows_
 abbrev pub bytes_in : Option (List ℕ) → List ℕ
 bytes_in None = []
 bytes_in (Some bytes) = bytes
-
--- ---- what is printed has its range
-
-abbrev pub IsMessageValid : Option SelectedMessage → Type 0
-IsMessageValid message = IfSome message (λ k. IsValid k.reading)

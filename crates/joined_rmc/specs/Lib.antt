@@ -1,4 +1,4 @@
-pub mod Selected
+pub mod Lasting
 pub mod Kept
 pub mod RmcOut
 pub mod JoinStands

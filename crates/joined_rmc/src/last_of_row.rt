@@ -1,15 +1,16 @@
 //! The last message of a row that was selected.
 ghost use Rattle.std.specs.Prelude.{◌≡◌, None, IfSome, if◌then◌else◌};
-ghost use Rattle.readings.specs.Rows.{IsValid};
+ghost use Rattle.readings.specs.Rows.{IsValid, row_of};
 ghost use Rattle.history.specs.Settings.{same_row};
 ghost use Rattle.gate_model.specs.AddressStands.{name_held};
-ghost use Rattle.joined_rmc.specs.Selected.{unless_old};
-ghost use Rattle.joined_rmc.specs.Kept.{IsMessageValid, none_yet, held_in, in_last, is_named, message_within, lent, newer_message, last_after};
+ghost use Rattle.selected_messages.specs.Picked.{IsMessageValid};
+ghost use Rattle.joined_rmc.specs.Lasting.{unless_old};
+ghost use Rattle.joined_rmc.specs.Kept.{none_yet, held_in, in_last, is_named, message_within, lent, newer_message, last_after};
 
-use crate::selected_message::SelectedMessage;
 use gate_core::Gateway;
 use n2k_id::Name;
-use readings::{Reading, Row};
+use readings::{Reading, Row, row};
+use selected_messages::SelectedMessage;
 
 /// The last message of a row that was selected, while its sender holds its address.
 #[derive(Clone, Copy)]
@@ -60,7 +61,7 @@ impl LastOfRow {
         ensures valid { IsMessageValid self.new.message }
     {
         match new {
-            Some(message) if message.is_of(row) => {
+            Some(message) if is_of(message, row) => {
                 self.message = Some(*message);
             }
             _ => {}
@@ -78,6 +79,13 @@ impl LastOfRow {
             Some(message) => unless_old(self.timeout, moment, message),
         }
     }
+}
+
+/// Whether the message is of the row.
+pub(crate) fn is_of(message: &SelectedMessage, other: Row) -> bool
+    ensures { result ≡ same_row (row_of message.now.reading) other }
+{
+    row(&message.reading) as usize == other as usize
 }
 
 /// What the message says, where it isn't older at the moment than the timeout.

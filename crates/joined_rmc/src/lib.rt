@@ -8,7 +8,6 @@ mod last_of_row;
 pub mod laws;
 mod minimum;
 mod rmc_join;
-mod selected_message;
 
 pub use rmc_join::RmcJoin;
 pub use settings::RmcConfig;

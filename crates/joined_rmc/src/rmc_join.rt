@@ -7,16 +7,19 @@ ghost use Rattle.sentence_rows.specs.Rmc.{IsMinimum};
 ghost use Rattle.history.specs.Settings.{Settings};
 ghost use Rattle.gate_model.specs.AddressStands.{name_held};
 ghost use Rattle.joined_rmc.specs.JoinStands.{IsJoinStep, JoinStands};
-ghost use Rattle.joined_rmc.specs.Kept.{IsMessageValid, Join, bytes_in, counted, datagram_in, is_due_message, join_after, join_says, minimum_in, empty_join, selected_by_step, rows_after};
+ghost use Rattle.selected_messages.specs.Picked.{IsMessageValid};
+ghost use Rattle.joined_rmc.specs.Lasting.{says_position};
+ghost use Rattle.joined_rmc.specs.Kept.{Join, bytes_in, counted, datagram_in, is_due_message, join_after, join_says, minimum_in, empty_join, rows_after};
 ghost use Rattle.joined_rmc.specs.RmcOut.{datagram_by, rule_by};
 
-use crate::last_of_row::LastOfRow;
+use crate::last_of_row::{LastOfRow, is_of};
 use crate::minimum::minimum;
-use crate::selected_message::SelectedMessage;
 use datagram450::{begin, push_line};
 use gate_core::{Gateway, Outbox};
-use readings::{ROWS, Row};
-use sentence_rows::{Minimum, SentenceText, write_rmc};
+use readings::{ROWS, Row, usable};
+use selected_messages::SelectedMessage;
+use sentence_fields::SentenceText;
+use sentence_rows::{Minimum, write_rmc};
 use sentence_text::Sfi;
 use settings::RmcConfig;
 use std::marker::Model;
@@ -42,7 +45,8 @@ impl Model for RmcJoin {
     ghost use Rattle.std.specs.Prelude.{◌<◌, IsTrue};
     ghost use Rattle.std.specs.List.{list_all};
     ghost use Rattle.sentence_text.specs.Byte.{is_capital};
-    ghost use Rattle.joined_rmc.specs.Kept.{IsMessageValid, Join};
+    ghost use Rattle.selected_messages.specs.Picked.{IsMessageValid};
+    ghost use Rattle.joined_rmc.specs.Kept.{Join};
 
     ghost Value = { Join };
 
@@ -85,7 +89,7 @@ impl RmcJoin {
         ensures history { IsJoinStep gateway.now emits.now self.old self.new result packet.new.items }
     {
         let moment = gateway.moment();
-        let new = SelectedMessage::of(moment, emits);
+        let new = SelectedMessage::of(gateway, emits);
         self.take(moment, gateway, &new, packet)
     }
 
@@ -152,8 +156,15 @@ fn is_due(new: &Option<SelectedMessage>) -> bool
 {
     match new {
         None => false,
-        Some(message) => message.says_position(),
+        Some(message) => says_position(message),
     }
+}
+
+/// Whether the message says where the ship is.
+fn says_position(message: &SelectedMessage) -> bool
+    ensures { result ≡ says_position message.now.reading }
+{
+    is_of(message, Row::Position) && usable(&message.reading)
 }
 
 /// Writes the datagram of these values. So many lines were said before.

@@ -3,7 +3,7 @@ use Rattle.std.proofs.Common.{◌≡◌, ℕ, ◌<◌, ◌≤◌, List, [], ◌�
 use Rattle.std.specs.Prelude.{map}
 use Rattle.std.specs.List.{flat_map}
 use Rattle.std.proofs.lemmas.List.{append-nil}
-use Rattle.sentence_rows.specs.declared.lines.SentenceText.{SentenceText}
+use Rattle.sentence_fields.specs.declared.lines.SentenceText.{SentenceText}
 
 abbrev pub behind : List SentenceText → List ℕ
 behind lines = flat_map (λ (line : List ℕ). line) (map (λ (t : SentenceText). t.bytes.items) lines)

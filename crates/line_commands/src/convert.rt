@@ -5,7 +5,7 @@ ghost use Rattle.n2k_id.specs.Frame.{IsFrame};
 ghost use Rattle.n2k_id.specs.Identifier.{parts_of};
 ghost use Rattle.readings.specs.Rows.{IsValid as IsValidReading, row_of, about_of};
 ghost use Rattle.pgn_profile.specs.Profiled.{kind_of, GivesValid};
-ghost use Rattle.sentence_rows.specs.Field.{texts_of};
+ghost use Rattle.sentence_fields.specs.Field.{texts_of};
 ghost use Rattle.sentence_rows.specs.Writing.{IsText};
 ghost use Rattle.gate_events.specs.Event.{view, IsValid};
 ghost use Rattle.gate_outside.specs.Faults.{HasCause};
@@ -23,7 +23,8 @@ use n2k_id::{Frame, parts};
 use pgn_profile::{Kind, Profiled, kind, read_in_place};
 use readings::{Reading, row};
 use report_rules::{NOT_CONVERTED, SHORT_MESSAGE};
-use sentence_rows::{Lines, sentences};
+use sentence_fields::Lines;
+use sentence_rows::sentences;
 
 // The report of a rule about a line.
 #[tactic(auto, using(command_words::proofs::Numbers::digits_of_a_byte, command_words::proofs::Numbers::digits_of_a_long), unfolding(crate::specs::Convert::refusal))]

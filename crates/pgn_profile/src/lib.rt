@@ -17,6 +17,7 @@ mod time;
 mod water;
 mod wind;
 
+pub use field::{signed, unsigned};
 pub use kinds::Kind;
 pub use messages::{kind, priority, read, read_in_place, write};
 pub use piece::Payload;

@@ -1,7 +1,8 @@
 //! The sentences and the raw values were worked out by hand from the layouts of IEC 61162-1.
 
 use readings::{Reading, valid};
-use sentence_rows::{FieldFault, Lines, Readings, read_rows, sentences};
+use sentence_fields::Lines;
+use sentence_rows::{FieldFault, Readings, read_rows, sentences};
 use sentence_text::Sentence;
 
 /// Readings, and the sentences that say them.

@@ -2,7 +2,6 @@ pub mod Pieces
 pub mod Lines
 pub mod Sources
 pub mod TakenLines
-pub mod Places
 pub mod Saying
 pub mod Counts
 pub mod Groups

@@ -3,7 +3,7 @@ use Rattle.std.proofs.Common.{◌≡◌, ℕ, ◌+◌, ◌%◌, ◌<◌, ◌≤�
 use Rattle.std.proofs.lemmas.List.{length-map}
 use Rattle.std.proofs.Math.Numerals.{suc-eq-add-one}
 use Rattle.std.proofs.Math.Seq.{drop-cons}
-use Rattle.sentence_rows.specs.declared.lines.SentenceText.{SentenceText}
+use Rattle.sentence_fields.specs.declared.lines.SentenceText.{SentenceText}
 use Rattle.readings.specs.declared.reading.Reading.{Reading}
 use Rattle.readings.specs.Rows.{IsValid, row_of}
 use Rattle.sentence_text.specs.Names.{IsSfi}

@@ -1,6 +1,6 @@
 -- What the code hands over of a message that is said on the network, and of its sender.
 use Rattle.std.specs.Prelude.{ℕ, Bool, List, [], map, Option, Some, None, if◌then◌else◌}
-use Rattle.sentence_rows.specs.declared.lines.SentenceText.{SentenceText}
+use Rattle.sentence_fields.specs.declared.lines.SentenceText.{SentenceText}
 use Rattle.gate_model.specs.Said.{Complete}
 use Rattle.row_traffic.specs.declared.said.Sender.{Sender}
 

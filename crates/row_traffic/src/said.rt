@@ -26,7 +26,7 @@ use n2k_id::Name;
 use n2k_id::address::ADDRESSES;
 use pgn_profile::Profiled;
 use readings::{ROWS, Reading, Row, row};
-use sentence_rows::Lines;
+use sentence_fields::Lines;
 use sentence_text::Group;
 use source_choice::{Choice, Rank};
 use std::alloc::{AllocError, Global};

@@ -1,4 +1,3 @@
-pub mod Bodies
 pub mod Columns
 pub mod DigitNumbers
 pub mod Valid

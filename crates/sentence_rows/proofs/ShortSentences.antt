@@ -11,16 +11,16 @@ use Rattle.readings.specs.Ranges as ranges
 use Rattle.readings.specs.Ranges.{Admits, Holds, either_side, up_to}
 use Rattle.readings.specs.Rows.{IsValid}
 use Rattle.sentence_text.specs.Byte.{is_field_byte}
-use Rattle.sentence_rows.specs.declared.field.Field.{Field}
-use Rattle.sentence_rows.specs.declared.field.Field.TheVariants.{Decimal, Degrees, Empty, Letter, Satellites, Side}
-use Rattle.sentence_rows.specs.declared.written_unit.WrittenUnit.{WrittenUnit}
-use Rattle.sentence_rows.specs.Field.{IsCounted, IsPrintable, body_width, is_sound, sentence_by}
-use Rattle.sentence_rows.specs.Field as unit
-use Rattle.sentence_rows.specs.Writing.{letter_where, beside, above_freezing, day_said, said_on, zda_on}
+use Rattle.sentence_fields.specs.declared.field.Field.{Field}
+use Rattle.sentence_fields.specs.declared.field.Field.TheVariants.{Decimal, Degrees, Empty, Letter, Satellites, Side}
+use Rattle.sentence_fields.specs.declared.written_unit.WrittenUnit.{WrittenUnit}
+use Rattle.sentence_fields.specs.Field.{IsCounted, IsPrintable, body_width, is_sound, sentence_by, letter_where}
+use Rattle.sentence_fields.specs.Field as unit
+use Rattle.sentence_rows.specs.Writing.{beside, above_freezing, day_said, said_on, zda_on}
 use Rattle.sentence_rows.specs.Writing as text
 use Rattle.sentence_rows.specs.Calendar.{CivilDate, civil_date}
 use Rattle.sentence_rows.specs.Laws.{EachSaidBriefly}
-use Rattle.sentence_rows.proofs.Bodies.{sentence_fits}
+use Rattle.sentence_fields.proofs.Bodies.{sentence_fits}
 use Rattle.sentence_rows.proofs.Valid.{beside_within}
 
 -- a formatter and fields that make a sentence of at most 82 bytes

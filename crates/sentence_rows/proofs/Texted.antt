@@ -6,15 +6,14 @@ use Rattle.readings.specs.Ranges as ranges
 use Rattle.readings.specs.Ranges.{Admits, Holds, date as date_range}
 use Rattle.unit_fraction.specs.Round.{nearest, signed}
 use Rattle.unit_fraction.specs.Text.{decimal_text, decimals}
-use Rattle.sentence_rows.specs.declared.written_unit.WrittenUnit.{WrittenUnit}
+use Rattle.sentence_fields.specs.declared.written_unit.WrittenUnit.{WrittenUnit}
 use Rattle.sentence_rows.specs.declared.read_unit.ReadUnit.{ReadUnit}
 use Rattle.sentence_rows.specs.declared.fault.FieldFault.{FieldFault}
-use Rattle.sentence_rows.specs.declared.field.Field.{Field}
-use Rattle.sentence_rows.specs.declared.field.Field.TheVariants.{Angle, Decimal, Magnitude, Side, Degrees, Satellites, Time, Digits}
+use Rattle.sentence_fields.specs.declared.field.Field.{Field}
+use Rattle.sentence_fields.specs.declared.field.Field.TheVariants.{Angle, Decimal, Magnitude, Side, Degrees, Satellites, Time, Digits}
 use Rattle.sentence_rows.specs.Columns.{range_of, given}
-use Rattle.sentence_rows.specs.Field as unit
-use Rattle.sentence_rows.specs.Field.{count, is_negative, text_of, degrees_text, time_text}
-use Rattle.sentence_rows.specs.Writing.{letter_where}
+use Rattle.sentence_fields.specs.Field as unit
+use Rattle.sentence_fields.specs.Field.{count, is_negative, text_of, degrees_text, time_text, letter_where}
 use Rattle.sentence_rows.specs.Columns as spec
 use Rattle.sentence_rows.proofs.Again.{Paired, ReadsAs, back, exact, is_paired, nearest_mono, no_more_either, paired, printed, printed_read, read_size, reads_decimal, reads_digits, reads_magnitude, reads_nothing, same_decimal, same_sided, there_again, count_size, nearest_quotient, quotient, same_coordinate, scales, size_again}
 use Rattle.std.specs.Char.{is_ascii_digit}

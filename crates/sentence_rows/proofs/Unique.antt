@@ -7,9 +7,10 @@ use Rattle.jiff_core.specs.declared.civil.date.Date.{Date}
 use Rattle.jiff_core.specs.Date.{epoch_day}
 use Rattle.readings.specs.declared.reading.Reading.{Reading}
 use Rattle.readings.specs.declared.reading.Reading.TheVariants as reading
-use Rattle.sentence_rows.specs.declared.lines.SentenceText.{SentenceText}
-use Rattle.sentence_rows.specs.Field.{texts_of, sentence_by}
-use Rattle.sentence_rows.specs.Stable.{IsReadBack, IsSaid}
+use Rattle.sentence_fields.specs.declared.lines.SentenceText.{SentenceText}
+use Rattle.sentence_fields.specs.Field.{texts_of, sentence_by}
+use Rattle.sentence_fields.specs.ReadBack.{IsReadBack}
+use Rattle.sentence_rows.specs.Stable.{IsSaid}
 use Rattle.sentence_rows.specs.Writing.{Dated, IsText, day_said, said, zda, zda_on}
 use Rattle.jiff_core.proofs.DateLemmas.{epoch_day_injective}
 use Rattle.readings.specs.Ranges.{Holds, date as date_range}

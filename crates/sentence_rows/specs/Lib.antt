@@ -1,4 +1,3 @@
-pub mod Field
 pub mod Writing
 pub mod Calendar
 pub mod Columns

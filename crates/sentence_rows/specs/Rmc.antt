@@ -2,9 +2,9 @@
 use Rattle.std.specs.Prelude.{ℕ, ◌+◌, ◌*◌, ◌%◌, ℤ, List, [], ◌∷◌, codes, Option, Some, None}
 use Rattle.readings.specs.Ranges as ranges
 use Rattle.readings.specs.Ranges.{Admits}
-use Rattle.sentence_rows.specs.Field.{degrees, knots, minutes, sentence_by}
-use Rattle.sentence_rows.specs.declared.field.Field.{Field}
-use Rattle.sentence_rows.specs.declared.field.Field.TheVariants.{Letter, Decimal, Magnitude, Side, Angle, Degrees, Time, Digits}
+use Rattle.sentence_fields.specs.Field.{degrees, knots, minutes, sentence_by}
+use Rattle.sentence_fields.specs.declared.field.Field.{Field}
+use Rattle.sentence_fields.specs.declared.field.Field.TheVariants.{Letter, Decimal, Magnitude, Side, Angle, Degrees, Time, Digits}
 use Rattle.sentence_rows.specs.declared.rmc.Minimum.{Minimum}
 use Rattle.sentence_rows.specs.Calendar.{CivilDate, civil_date}
 

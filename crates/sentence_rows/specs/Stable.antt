@@ -2,11 +2,10 @@
 use Rattle.std.specs.Prelude.{◌≡◌, ℕ, Bool, List, [], ◌∷◌, map, Contains, Ok}
 use Rattle.std.specs.List.{AllByRecursion}
 use Rattle.readings.specs.declared.reading.Reading.{Reading}
-use Rattle.sentence_text.specs.Fields.{fields_of}
 use Rattle.sentence_text.specs.Reading.{read}
 use Rattle.sentence_text.specs.Sentence.{SentenceParts}
-use Rattle.sentence_rows.specs.declared.field.Field.{Field}
-use Rattle.sentence_rows.specs.Field.{body_text, text_of, sentence_by}
+use Rattle.sentence_fields.specs.Field.{sentence_by}
+use Rattle.sentence_fields.specs.ReadBack.{IsReadBack}
 use Rattle.sentence_rows.specs.Reading.{read_row}
 use Rattle.sentence_rows.specs.Writing.{Dated, IsText, day_said, said}
 
@@ -19,15 +18,6 @@ pub record IsStable (talker : List ℕ) (with_ths : Bool) (line : List ℕ) : Ty
   pub lines : List (List ℕ)
   pub are_said : IsText reading talker with_ths lines
   pub among : Contains lines line
-
--- the parts of a sentence of fields
-abbrev pub parts_by : List ℕ → List ℕ → List Field → SentenceParts
-parts_by talker formatter fields = record { start = 36; talker = talker; formatter = formatter; body = body_text fields }
-
--- a sentence of fields is read as its parts, and its body as the texts of the fields
-pub record IsReadBack (talker formatter : List ℕ) (fields : List Field) : Type 0 where
-  pub is_sentence : read (sentence_by talker formatter fields) ≡ Ok (parts_by talker formatter fields)
-  pub has_fields : fields_of (body_text fields) ≡ map text_of fields
 
 -- the lines are the sentences in which the talker says the reading, and each of them is read back
 abbrev pub IsSaid : Reading → List ℕ → Bool → List (List ℕ) → Type 0

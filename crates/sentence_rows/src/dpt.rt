@@ -6,19 +6,19 @@
 ghost use Rattle.std.specs.Prelude.{◌≡◌, ◌<◌, [], ◌∷◌, ◌++◌, codes, length, IsTrue};
 ghost use Rattle.std.specs.List.{list_all};
 ghost use Rattle.sentence_text.specs.Byte.{is_capital};
-ghost use Rattle.sentence_rows.specs.Field.{IsCounted, texts_of, sentence_by};
-ghost use Rattle.sentence_rows.specs.Stable.{IsReadBack};
+ghost use Rattle.sentence_fields.specs.Field.{IsCounted, texts_of, sentence_by};
+ghost use Rattle.sentence_fields.specs.ReadBack.{IsReadBack};
 ghost use Rattle.sentence_rows.specs.Writing as text;
 ghost use Rattle.sentence_rows.specs.Columns.{fields_in};
 ghost use Rattle.sentence_rows.specs.Reading as spec;
 
 use crate::fault::FieldFault;
-use crate::field::Field::Decimal;
-use crate::lines::{Lines, append};
 use crate::number::number;
 use crate::read_unit;
-use crate::written_unit::{METRES, OFFSET_METRES, RANGE_METRES};
 use readings::Reading;
+use sentence_fields::Field::Decimal;
+use sentence_fields::written_unit::{METRES, OFFSET_METRES, RANGE_METRES};
+use sentence_fields::{Lines, append};
 use sentence_text::Sentence;
 
 pub(crate) fn dpt(

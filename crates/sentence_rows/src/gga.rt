@@ -7,23 +7,23 @@
 ghost use Rattle.std.specs.Prelude.{◌≡◌, ◌<◌, ◌≤◌, [], ◌∷◌, ◌++◌, codes, length, IsTrue};
 ghost use Rattle.std.specs.List.{list_all};
 ghost use Rattle.sentence_text.specs.Byte.{is_capital};
-ghost use Rattle.sentence_rows.specs.Field.{IsCounted, IsPrintable, texts_of, sentence_by};
-ghost use Rattle.sentence_rows.specs.Stable.{IsReadBack};
+ghost use Rattle.sentence_fields.specs.Field.{IsCounted, IsPrintable, texts_of, sentence_by};
+ghost use Rattle.sentence_fields.specs.ReadBack.{IsReadBack};
 ghost use Rattle.sentence_rows.specs.Writing as text;
 ghost use Rattle.sentence_rows.specs.Columns.{fields_in};
 ghost use Rattle.sentence_rows.specs.Reading as spec;
 
 use crate::clock::time;
 use crate::fault::FieldFault;
-use crate::field::Field::{self, Decimal, Degrees, Empty, Letter, Satellites, Side, Time};
 use crate::fix::{quality, satellites};
-use crate::letter::{beside, letter_where};
-use crate::lines::{Lines, append};
+use crate::letter::beside;
 use crate::number::{measure, number};
 use crate::position::coordinate;
 use crate::read_unit;
-use crate::written_unit::{ALTITUDE_METRES, DILUTION, FIX_MINUTES, SEPARATION_METRES};
 use readings::Reading;
+use sentence_fields::Field::{self, Decimal, Degrees, Empty, Letter, Satellites, Side, Time};
+use sentence_fields::written_unit::{ALTITUDE_METRES, DILUTION, FIX_MINUTES, SEPARATION_METRES};
+use sentence_fields::{Lines, append, letter_where};
 use sentence_text::Sentence;
 
 /// What is said of a fix, of whose latitude and longitude both are there or neither.

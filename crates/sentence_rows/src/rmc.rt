@@ -11,10 +11,10 @@ ghost use Rattle.sentence_text.specs.Byte.{is_capital};
 ghost use Rattle.sentence_rows.specs.Calendar.{civil_date as civil};
 ghost use Rattle.sentence_rows.specs.Rmc.{IsMinimum, date_number, date_said, rmc_text};
 
-use crate::field::Field::{Angle, Decimal, Degrees, Digits, Letter, Magnitude, Side, Time};
-use crate::lines::{SentenceText, write_sentence};
-use crate::written_unit::{DEGREES, KNOTS, MINUTES};
 use crate::zda::{civil_date, year_of};
+use sentence_fields::Field::{Angle, Decimal, Degrees, Digits, Letter, Magnitude, Side, Time};
+use sentence_fields::written_unit::{DEGREES, KNOTS, MINUTES};
+use sentence_fields::{SentenceText, write_sentence};
 
 /// What RMC says, as raw values in the units of readings. A value is `None` where it isn't available.
 #[derive(Clone, Copy)]

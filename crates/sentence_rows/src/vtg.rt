@@ -6,21 +6,21 @@
 ghost use Rattle.std.specs.Prelude.{◌≡◌, ◌<◌, [], ◌∷◌, ◌++◌, codes, length, IsTrue};
 ghost use Rattle.std.specs.List.{list_all};
 ghost use Rattle.sentence_text.specs.Byte.{is_capital};
-ghost use Rattle.sentence_rows.specs.Field.{IsCounted, texts_of, sentence_by};
-ghost use Rattle.sentence_rows.specs.Stable.{IsReadBack};
+ghost use Rattle.sentence_fields.specs.Field.{IsCounted, texts_of, sentence_by};
+ghost use Rattle.sentence_fields.specs.ReadBack.{IsReadBack};
 ghost use Rattle.sentence_rows.specs.Writing as text;
 ghost use Rattle.sentence_rows.specs.Columns.{fields_in};
 ghost use Rattle.sentence_rows.specs.Reading as spec;
 
 use crate::column::{field, is_letter, is_magnetic};
 use crate::fault::FieldFault;
-use crate::field::Field::{Angle, Decimal, Letter};
-use crate::letter::{letter_where, only_if};
-use crate::lines::{Lines, append};
+use crate::letter::only_if;
 use crate::number::either_unit;
 use crate::read_unit;
-use crate::written_unit::{KILOMETRES_PER_HOUR, KNOTS};
 use readings::Reading;
+use sentence_fields::Field::{Angle, Decimal, Letter};
+use sentence_fields::written_unit::{KILOMETRES_PER_HOUR, KNOTS};
+use sentence_fields::{Lines, append, letter_where};
 use sentence_text::Sentence;
 
 pub(crate) fn vtg(

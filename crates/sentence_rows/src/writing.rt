@@ -2,14 +2,14 @@ ghost use Rattle.std.specs.Prelude.{◌≡◌, [], All, IsTrue};
 ghost use Rattle.std.specs.List.{list_all};
 ghost use Rattle.readings.specs.Rows.{IsValid};
 ghost use Rattle.sentence_text.specs.Byte.{is_capital};
-ghost use Rattle.sentence_rows.specs.Field.{texts_of};
+ghost use Rattle.sentence_fields.specs.Field.{texts_of};
 ghost use Rattle.sentence_rows.specs.Stable.{IsSaid, IsStable};
 ghost use Rattle.sentence_rows.specs.Writing.{IsText};
 
 use crate::letter::beside;
-use crate::lines::Lines;
 use crate::{dbt, dpt, gga, gll, hdg, hdt, mtw, mwd, mwv, rot, rsa, ths, vhw, vlw, vtg, xte, zda};
 use readings::Reading;
+use sentence_fields::Lines;
 
 /// Says the reading in its sentences.
 fn say(reading: &Reading, talker: [u8; 2], ths: bool, out: &mut Lines)

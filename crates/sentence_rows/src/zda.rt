@@ -7,19 +7,19 @@ ghost use Rattle.std.specs.List.{list_all};
 ghost use Rattle.jiff_core.specs.Date.{epoch_day};
 ghost use Rattle.readings.specs.Ranges.{Admits, Holds, date as date_range};
 ghost use Rattle.sentence_text.specs.Byte.{is_capital};
-ghost use Rattle.sentence_rows.specs.Field.{texts_of, sentence_by};
-ghost use Rattle.sentence_rows.specs.Stable.{IsReadBack};
+ghost use Rattle.sentence_fields.specs.Field.{texts_of, sentence_by};
+ghost use Rattle.sentence_fields.specs.ReadBack.{IsReadBack};
 ghost use Rattle.sentence_rows.specs.Writing as text;
 ghost use Rattle.sentence_rows.specs.Columns.{fields_in};
 ghost use Rattle.sentence_rows.specs.Reading as spec;
 
 use crate::clock::{date, time};
 use crate::fault::FieldFault;
-use crate::field::Field::{Digits, Time};
-use crate::lines::{Lines, append};
 use crate::read_unit;
 use jiff_core::civil::Date;
 use readings::Reading;
+use sentence_fields::Field::{Digits, Time};
+use sentence_fields::{Lines, append};
 use sentence_text::Sentence;
 
 /// The days from the first date of the calendar, -9999-01-01, to 1970-01-01.

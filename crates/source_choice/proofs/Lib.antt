@@ -1,2 +1,3 @@
 pub mod NoteLemmas
 pub mod ChoiceLemmas
+pub mod Places

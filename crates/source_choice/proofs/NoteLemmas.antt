@@ -1,4 +1,4 @@
--- The notes of a row, the least source first.
+-- The notes of a subject, the least source first.
 use Rattle.std.proofs.Common.{◌≡◌, ◌≢◌, ℕ, suc, ◌+◌, ◌*◌, ◌<◌, ◌≤◌, ◌==◌, not, ◌&&◌, ◌||◌, ◌↔◌, IsTrue, inl, inr, nat_lt, nat_le, Bool, true, false, cond, None, Some, List, [], ◌∷◌, length, get_or, set, refl, sym, ◌∙◌, ap, arith, if◌then◌else◌}
 use Rattle.std.specs.List.{position, position_or_len, insert, list_any}
 use Rattle.std.proofs.lemmas.List.Edits.{length-insert}
@@ -6,7 +6,7 @@ use Rattle.std.proofs.lemmas.List.Sums.{prefix_len-le-length}
 use Rattle.std.proofs.lemmas.Bool.Decides.{nat_tests}
 use Rattle.std.proofs.lemmas.Bool.{eqb-true, eq-eqb, and_parts, leb-true, le-leb, not-true, or_parts}
 use Rattle.source_choice.specs.declared.note.Note.{Note}
-use Rattle.source_choice.specs.Notes.{RowNotes, AreFrom, is_fresh, is_selected, note_of, outranks, with_note, without}
+use Rattle.source_choice.specs.Notes.{SubjectNotes, AreFrom, is_fresh, is_selected, note_of, outranks, with_note, without}
 use Rattle.source_choice.specs.Ranks.{is_before, IsBefore}
 use Rattle.source_choice.specs.Choices.{IsFirst, IsFresh}
 use Rattle.source_choice.specs.declared.rank.Rank.{Rank}
@@ -195,7 +195,7 @@ outranks_not timeout source m rank n never = by (n.source == source) refl (is_be
     by false isnt true f true g = absurd (never (λ same. let t = eq-eqb n.source source same in cc) ((before_tells n.rank rank).0 f) ((fresh_tells timeout m n).0 g))
 
 -- no other noted source of a smaller rank is fresh
-pub selected_is : (r : RowNotes) (top source : ℕ) (rank : Rank) (m : ℕ) → AreFrom 0 top r.notes → IsTrue (is_selected r source rank m) ↔ IsFirst r source rank m
+pub selected_is : (r : SubjectNotes) (top source : ℕ) (rank : Rank) (m : ℕ) → AreFrom 0 top r.notes → IsTrue (is_selected r source rank m) ↔ IsFirst r source rank m
 selected_is r top source rank m from = (
   λ e other n f apart lt fresh.
       let found = found_from 0 top other r.notes n from f in
@@ -246,5 +246,5 @@ others_forgotten source (n ∷ ns) other apart = by (n.source == source) refl (o
     by false e rest = ap (λ o. cond (n.source == other) (Some n) o) rest
 
 -- whose test is that of a copy of the notes
-pub selected_by : (r s : RowNotes) (top source : ℕ) (rank : Rank) (m : ℕ) (lent : List Note) (b : Bool) → r ≡ s → AreFrom 0 top r.notes → lent ≡ r.notes → b ≡ list_any (outranks r.timeout source rank m) lent → IsTrue (not b) ↔ IsFirst s source rank m
+pub selected_by : (r s : SubjectNotes) (top source : ℕ) (rank : Rank) (m : ℕ) (lent : List Note) (b : Bool) → r ≡ s → AreFrom 0 top r.notes → lent ≡ r.notes → b ≡ list_any (outranks r.timeout source rank m) lent → IsTrue (not b) ↔ IsFirst s source rank m
 selected_by r s top source rank m lent b e from l any = rw (any, l, ← e) (selected_is r top source rank m from)

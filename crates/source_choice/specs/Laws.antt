@@ -1,4 +1,4 @@
--- What is promised of the notes of a row.
+-- What is promised of the notes of a subject.
 use Rattle.std.specs.Prelude.{◌≡◌, ◌≢◌, ℕ, List, Some, None}
 use Rattle.source_choice.specs.declared.note.Note.{Note}
 use Rattle.source_choice.specs.Notes.{note_of, with_note, without}

@@ -1,12 +1,12 @@
--- What was noted of the sources of a row, and whose message is selected.
+-- What was noted of the sources of a subject, and whose message is selected.
 use Rattle.std.specs.Prelude.{ℕ, ◌+◌, ◌*◌, ◌<◌, ◌≤◌, Bool, ◌&&◌, not, ◌==◌, nat_lt, nat_le, List, [], ◌∷◌, filter, find, Option, if◌then◌else◌}
 use Rattle.std.specs.List.{list_any}
 use Rattle.source_choice.specs.declared.rank.Rank.{Rank}
 use Rattle.source_choice.specs.declared.note.Note.{Note}
 use Rattle.source_choice.specs.Ranks.{is_before}
 
--- the notes of a row, the least source first
-pub record RowNotes : Type 0 where
+-- the notes of a subject, the least source first
+pub record SubjectNotes : Type 0 where
   pub sources : ℕ
   -- in milliseconds
   pub timeout : ℕ
@@ -25,7 +25,7 @@ is_fresh timeout m n = n.usable && nat_le m (n.moment + 1000 * timeout)
 abbrev pub outranks : ℕ → ℕ → Rank → ℕ → Note → Bool
 outranks timeout source rank m n = not (n.source == source) && is_before n.rank rank && is_fresh timeout m n
 
-abbrev pub is_selected : RowNotes → ℕ → Rank → ℕ → Bool
+abbrev pub is_selected : SubjectNotes → ℕ → Rank → ℕ → Bool
 is_selected r source rank m = not (list_any (outranks r.timeout source rank m) r.notes)
 
 -- ---- the notes as a map from source to note

@@ -1,4 +1,4 @@
-//! What is promised of the notes of a row: they are a map from source to note. Each law is a function that does nothing, and whose
+//! What is promised of the notes of a subject: they are a map from source to note. Each law is a function that does nothing, and whose
 //! clause is the law.
 ghost use Rattle.source_choice.specs.Laws.{ForgottenIsGone, NotedIsFound, OthersAreKept, OthersStayNoted};
 

@@ -3,14 +3,14 @@ ghost use Rattle.source_choice.specs.Notes.{is_fresh, outranks};
 
 use crate::rank::Rank;
 
-/// What a source said last of a row.
+/// What a source said last of a subject.
 #[derive(Clone, Copy)]
 pub(crate) struct Note {
     pub source: u8,
     pub rank: Rank,
     /// When, in microseconds.
     pub moment: u64,
-    /// Whether it says anything of the row.
+    /// Whether it says anything of the subject.
     pub usable: bool,
 }
 

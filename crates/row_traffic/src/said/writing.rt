@@ -3,7 +3,7 @@ ghost use Rattle.std.specs.Prelude.{◌≡◌, ◌+◌, ◌<◌, ◌≤◌, ◌+
 ghost use Rattle.readings.specs.Rows.{IsValid};
 ghost use Rattle.sentence_text.specs.Names.{IsSfi};
 ghost use Rattle.arrayvec.specs.ArrayVec.{array_vec_len};
-ghost use Rattle.sentence_rows.specs.Field.{texts_of};
+ghost use Rattle.sentence_fields.specs.Field.{texts_of};
 ghost use Rattle.tag_block.specs.Writing.{longest_packet};
 ghost use Rattle.datagram450.specs.Datagram.{header};
 ghost use Rattle.history.specs.Emits.{lines_from, part_of};
@@ -16,7 +16,8 @@ use crate::rows::talker_of;
 use config_values::SelectiveConfig;
 use datagram450::{begin, push_line};
 use readings::{Reading, row};
-use sentence_rows::{Lines, SentenceText, sentences};
+use sentence_fields::{Lines, SentenceText};
+use sentence_rows::sentences;
 use sentence_text::Sfi;
 use tag_block::{GroupPart, MOST_COUNT, Packet, TagParts};
 

@@ -7,8 +7,6 @@ returns-clause-said c =
     rw (
       c.in_ok-table.ensures,
       ← c.in_ok-name.ensures.said,
-      ← c.in_ok-address.ensures.said,
-      ← c.in_ok-sfi.ensures.said,
       ← (rw c.default.ensures at c.in_ok-group.ensures.said),
       ← c.in_ok-fast_slots.ensures.said,
       ← c.in_ok-ths.ensures,

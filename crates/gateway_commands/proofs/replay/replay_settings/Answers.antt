@@ -1,5 +1,4 @@
 use Rattle.std.proofs.Common.{inr}
-use Rattle.settings.specs.Further.{nothing_further}
 use Rattle.bridge.specs.Parts.{parts_of}
 use Rattle.gateway_commands.proofs.replay.replay_settings.Goals as goal
 
@@ -8,9 +7,9 @@ returns-in-Ok-clause-runs g c =
     let a = c.answer.ensures in
     record {
       known = inr a.status;
-      ends = a.ends (parts_of c.args.settings.now nothing_further) c.in-Ok.ensures;
+      ends = a.ends (parts_of c.args.settings.now c.args.further.now) c.in-Ok.ensures;
       sink_cause = a.sink_cause;
       source_cause = a.source_cause;
       steady = a.steady;
-      complete = λ no. a.complete (parts_of c.args.settings.now nothing_further) c.in-Ok.ensures;
+      complete = λ no. a.complete (parts_of c.args.settings.now c.args.further.now) c.in-Ok.ensures;
     }

@@ -4,7 +4,7 @@ use Rattle.gateway_commands.proofs.replay_command.replay.Goals as goal
 
 pub returns-in-Ok-clause-replays : goal.returns-in-Ok-clause-replays
 returns-in-Ok-clause-replays g c =
-    replayed (g.F.Files.content c.args.files.now c.args.name.now) (g.F.Files.fault_count c.args.files.now) (g.F.Files.fault_count c.load_settings.new.files)
+    replayed (g.F.Files.content c.args.files.now c.args.name.now) (g.F.Files.fault_count c.args.files.now) (g.F.Files.fault_count c.load_whole.new.files)
     (g.S.Source.left c.args.input.now) (g.S.Source.left c.replay_settings.new.input) (g.S.Source.fault_count c.args.input.now) (g.S.Source.fault_count c.replay_settings.new.input)
     (g.K.Sink.taken c.args.out.now) (g.K.Sink.taken c.replay_settings.new.out) (g.K.Sink.fault_count c.args.out.now) (g.K.Sink.fault_count c.replay_settings.new.out) (number c.replay_settings.result)
-    c.in-Ok.settings c.in-Ok.ensures.1 c.replay_settings.ensures.runs
+    c.in-Ok.settings c.in-Ok.further c.in-Ok.ensures.2 c.replay_settings.ensures.runs

@@ -13,4 +13,6 @@ returns c = record {
   answering = c.new.ensures;
   joining = c.joining_of.ensures;
   watching = c.in_ok-watching.ensures c.args.further.now.ignore.items;
+  sources = c.sources_of.ensures;
+  plain = refl;
 }

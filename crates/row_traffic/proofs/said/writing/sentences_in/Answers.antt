@@ -1,6 +1,6 @@
 use Rattle.std.proofs.Common.{ap, sym, ◌∙◌}
 use Rattle.readings.specs.Rows.{row_of}
-use Rattle.sentence_rows.specs.Field.{texts_of}
+use Rattle.sentence_fields.specs.Field.{texts_of}
 use Rattle.sentence_rows.specs.Writing.{sentences_of}
 use Rattle.sentence_rows.proofs.Unique.{said_in_one_way}
 use Rattle.history.specs.Settings.{rule_of}

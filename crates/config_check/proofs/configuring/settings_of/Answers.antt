@@ -1,5 +1,0 @@
-use Rattle.config_check.proofs.ConfigLemmas.{says}
-use Rattle.config_check.proofs.configuring.settings_of.Goals as goal
-
-pub returns-in-Ok : goal.returns-in-Ok
-returns-in-Ok c = (c.in-Ok.ensures.valid, says c.args.bytes.now c.in-Ok.settings c.in-Ok.ensures.exact)

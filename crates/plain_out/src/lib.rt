@@ -1,0 +1,10 @@
+//! What a gateway says in datagrams of IEC 61162-450, once more as plain sentences: programs that read NMEA 0183 over UDP know neither their
+//! header nor their TAG blocks.
+//!
+//! No call takes memory.
+#![tactic(auto)]
+
+pub mod laws;
+mod sentences;
+
+pub use sentences::{PlainEmits, say_plain};

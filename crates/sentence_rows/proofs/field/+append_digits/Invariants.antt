@@ -1,5 +1,0 @@
--- Each call has one digit less.
-use Rattle.sentence_rows.proofs.field.+append_digits.Given as goal
-
-abbrev pub decreases-append_digits : goal.decreases-append_digits
-decreases-append_digits l = l.width

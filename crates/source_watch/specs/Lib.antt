@@ -1,0 +1,3 @@
+pub mod SourceOut
+pub mod Kept
+pub mod WatchStands
