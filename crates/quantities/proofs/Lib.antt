@@ -1,0 +1,5 @@
+pub mod Found
+pub mod InRange
+pub mod Columns
+pub mod Sayings
+pub mod OneEntry

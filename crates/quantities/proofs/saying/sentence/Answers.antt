@@ -1,0 +1,31 @@
+-- The fields of the value's columns make its sentence.
+use Rattle.std.proofs.Common.{◌≡◌, ◌≤◌, ◌∙◌, List, length, ap, subst, sym, rules}
+use Rattle.std.specs.List.{AllByRecursion}
+use Rattle.sentence_fields.specs.declared.field.Field.{Field}
+use Rattle.sentence_fields.specs.Field.{IsPrintable, body_width, sentence_by}
+use Rattle.quantities.proofs.Sayings.{form, printable, same_sentence, short}
+use Rattle.quantities.proofs.saying.sentence.Goals as goal
+
+pub fields_of-fields-requires-clause-printable : goal.fields_of-fields-requires-clause-printable
+fields_of-fields-requires-clause-printable c = printable c.args.value.now c.columns.result.now c.requires.range c.columns.ensures
+
+pub write_sentence-requires-clause-printable : goal.write_sentence-requires-clause-printable
+write_sentence-requires-clause-printable c =
+    let said = printable c.args.value.now c.columns.result.now c.requires.range c.columns.ensures in
+    subst (λ (fs : List Field). AllByRecursion IsPrintable fs) (sym (c.deref.ensures.0 ∙ c.fields_of-fields.ensures)) said
+
+pub write_sentence-requires-clause-short : goal.write_sentence-requires-clause-short
+write_sentence-requires-clause-short c =
+    let said = short c.args.value.now c.columns.result.now c.requires.range c.columns.ensures in
+    subst (λ (fs : List Field). body_width fs ≤ 71) (sym (c.deref.ensures.0 ∙ c.fields_of-fields.ensures)) said
+
+pub returns-clause-said : goal.returns-clause-said
+returns-clause-said c =
+    c.write_sentence.ensures.text
+    ∙ ap (λ (fs : List Field). sentence_by c.args.talker c.formatter.result fs) (c.deref.ensures.0 ∙ c.fields_of-fields.ensures)
+    ∙ (rw c.formatter.ensures (same_sentence c.args.value.now c.args.talker c.columns.result.now c.columns.ensures))
+
+pub returns-clause-form : goal.returns-clause-form
+returns-clause-form c =
+    let two : length c.args.talker ≡ 2 = search rules in
+    form c.args.value.now c.args.talker two c.requires.talker c.requires.range

@@ -1,0 +1,232 @@
+//! The sentences in which the quantities are said.
+ghost use Rattle.std.specs.Prelude.{◌≡◌, map};
+ghost use Rattle.quantities.specs.Layout.{layout_of, seen};
+
+use crate::about::{QUANTITIES, Quantity};
+use crate::column::Column;
+use crate::column::Column::{Celsius, Course, Decimal, Empty, Letter, Status, Word};
+use crate::unit::{AIR_BARS, AMPERES, KNOTS, OIL_BARS, PERCENT, REVOLUTIONS, VOLTS};
+use sentence_fields::written_unit;
+use sentence_fields::written_unit::DEGREES;
+
+/// The sentence of a quantity.
+struct Layout {
+    formatter: [u8; 3],
+    /// Of so many values, the first ones, one has to be there for a message to be usable.
+    telling: usize,
+    columns: &'static [Column],
+}
+
+/// A sentence by its formatter, how many values tell, and its columns.
+macro_rules! layout {
+    ($formatter:literal, $telling:literal, [$($column:expr),* $(,)?]) => {
+        Layout {
+            formatter: *$formatter,
+            telling: $telling,
+            columns: &[$($column),*],
+        }
+    };
+}
+
+/// The sentence of each quantity, in the order of the quantities.
+static LAYOUTS: [Layout; QUANTITIES] = [
+    layout!(
+        b"XDR",
+        2,
+        [
+            Letter(b'A'),
+            Decimal(0, DEGREES),
+            Letter(b'D'),
+            Word(b"PITCH"),
+            Letter(b'A'),
+            Decimal(1, DEGREES),
+            Letter(b'D'),
+            Word(b"ROLL"),
+        ]
+    ),
+    layout!(
+        b"VDR",
+        2,
+        [
+            Course(0),
+            Letter(b'T'),
+            Course(1),
+            Letter(b'M'),
+            Decimal(2, written_unit::KNOTS),
+            Letter(b'N'),
+        ]
+    ),
+    layout!(
+        b"VBW",
+        6,
+        [
+            Decimal(0, KNOTS),
+            Decimal(1, KNOTS),
+            Status(0),
+            Decimal(2, KNOTS),
+            Decimal(3, KNOTS),
+            Status(2),
+            Decimal(4, KNOTS),
+            Status(4),
+            Decimal(5, KNOTS),
+            Status(5),
+        ]
+    ),
+    layout!(
+        b"XDR",
+        1,
+        [
+            Letter(b'P'),
+            Decimal(0, AIR_BARS),
+            Letter(b'B'),
+            Word(b"BAROMETER"),
+        ]
+    ),
+    layout!(
+        b"XDR",
+        1,
+        [
+            Letter(b'H'),
+            Decimal(0, PERCENT),
+            Letter(b'P'),
+            Word(b"HUMIDITY"),
+        ]
+    ),
+    layout!(
+        b"XDR",
+        1,
+        [Letter(b'C'), Celsius(0), Letter(b'C'), Word(b"AIR")]
+    ),
+    layout!(b"MTW", 1, [Celsius(0), Letter(b'C')]),
+    layout!(
+        b"RPM",
+        1,
+        [
+            Letter(b'E'),
+            Letter(b'1'),
+            Decimal(0, REVOLUTIONS),
+            Empty,
+            Status(0),
+        ]
+    ),
+    layout!(
+        b"RPM",
+        1,
+        [
+            Letter(b'E'),
+            Letter(b'2'),
+            Decimal(0, REVOLUTIONS),
+            Empty,
+            Status(0),
+        ]
+    ),
+    layout!(
+        b"XDR",
+        1,
+        [
+            Letter(b'C'),
+            Celsius(0),
+            Letter(b'C'),
+            Word(b"ENGINE0"),
+            Letter(b'P'),
+            Decimal(1, OIL_BARS),
+            Letter(b'B'),
+            Word(b"ENGINE0"),
+        ]
+    ),
+    layout!(
+        b"XDR",
+        1,
+        [
+            Letter(b'C'),
+            Celsius(0),
+            Letter(b'C'),
+            Word(b"ENGINE1"),
+            Letter(b'P'),
+            Decimal(1, OIL_BARS),
+            Letter(b'B'),
+            Word(b"ENGINE1"),
+        ]
+    ),
+    layout!(
+        b"XDR",
+        1,
+        [
+            Letter(b'U'),
+            Decimal(0, VOLTS),
+            Letter(b'V'),
+            Word(b"BATTERY0"),
+            Letter(b'I'),
+            Decimal(1, AMPERES),
+            Letter(b'A'),
+            Word(b"BATTERY0"),
+        ]
+    ),
+    layout!(
+        b"XDR",
+        1,
+        [
+            Letter(b'U'),
+            Decimal(0, VOLTS),
+            Letter(b'V'),
+            Word(b"BATTERY1"),
+            Letter(b'I'),
+            Decimal(1, AMPERES),
+            Letter(b'A'),
+            Word(b"BATTERY1"),
+        ]
+    ),
+    layout!(
+        b"XDR",
+        1,
+        [
+            Letter(b'V'),
+            Decimal(0, PERCENT),
+            Letter(b'P'),
+            Word(b"FUEL0"),
+        ]
+    ),
+    layout!(
+        b"XDR",
+        1,
+        [
+            Letter(b'V'),
+            Decimal(0, PERCENT),
+            Letter(b'P'),
+            Word(b"FUEL1"),
+        ]
+    ),
+    layout!(
+        b"XDR",
+        1,
+        [
+            Letter(b'V'),
+            Decimal(0, PERCENT),
+            Letter(b'P'),
+            Word(b"WATER0"),
+        ]
+    ),
+];
+
+impl Quantity {
+    /// The formatter of its sentence.
+    pub(crate) fn formatter(self) -> [u8; 3]
+        ensures { result ≡ (layout_of self).formatter }
+    {
+        LAYOUTS[self as usize].formatter
+    }
+
+    /// How many of its values, the first ones, make a message usable where one of them is there.
+    pub(crate) fn telling(self) -> usize
+        ensures { result ≡ (layout_of self).telling }
+    {
+        LAYOUTS[self as usize].telling
+    }
+
+    /// The fields of its sentence.
+    pub(crate) fn columns(self) -> &'static [Column]
+        ensures { map seen result.now ≡ (layout_of self).columns }
+    {
+        LAYOUTS[self as usize].columns
+    }
+}

@@ -1,0 +1,23 @@
+use crate::about::Quantity;
+
+/// How many values a quantity has at most.
+pub const VALUES: usize = 6;
+
+/// What a payload says of a quantity.
+#[derive(Clone, Copy, Debug, PartialEq, Eq)]
+pub struct Value {
+    pub quantity: Quantity,
+    /// Its values in their order, and none behind the last.
+    pub values: [Option<i64>; VALUES],
+}
+
+/// What a message says of the quantities.
+#[derive(Clone, Copy, Debug, PartialEq, Eq)]
+pub enum Told {
+    /// A value of a quantity.
+    Value(Value),
+    /// The parameter group, or the selector in the payload, is in no entry of the table.
+    Outside,
+    /// The payload is shorter than the parameter group's least length.
+    Short,
+}
