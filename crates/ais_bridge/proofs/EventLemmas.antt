@@ -1,66 +1,85 @@
 -- An event that the gateway has taken: the bridge stands for the history with it, and gives what the definition over that history says.
-use Rattle.std.proofs.Common.{◌≡◌, ℕ, ◌+◌, ◌%◌, ◌∷◌, sym, ap, subst, ◌∙◌, append_assoc, append-nil, arith}
+use Rattle.std.proofs.Common.{◌≡◌, ℕ, ◌+◌, ◌%◌, List, [], ◌∷◌, ◌++◌, Option, Some, None, option_map, Result, Ok, Err, refl, sym, ap, subst, ◌∙◌, append_assoc, arith}
 use Rattle.gate_events.specs.declared.event.Event.{Event}
-use Rattle.gate_events.specs.declared.event.Event.TheVariants as event
+use Rattle.gate_events.specs.Emit.{net}
 use Rattle.tag_block.specs.Tag.{most_count}
-use Rattle.n2k_id.specs.Frame.{bus_frame}
-use Rattle.history.specs.Entries.{now}
-use Rattle.gate_model.specs.Endings.{fast_overdue}
+use Rattle.datagram450.specs.Datagram.{header, line_text}
+use Rattle.ais_report.specs.declared.report.AisReport.{AisReport}
+use Rattle.ais_report.specs.declared.report.AisFault.{AisFault}
+use Rattle.ais_report.specs.declared.report.AisFault.TheVariants.{Short, Outside}
+use Rattle.settings.specs.declared.ais.AisConfig.{AisConfig}
+use Rattle.history.specs.Entries.{Entry, History}
+use Rattle.history.specs.Settings.{Settings}
 use Rattle.gate_model.specs.Machine.{Machine}
-use Rattle.gate_model.proofs.FastOthers.{datagrams_leave_fast, ticks_leave_fast}
-use Rattle.gate_model.proofs.FastTimes.{time_ends_fast_packets}
-use Rattle.gate_model.proofs.KeyOrders.{fast_in_order}
 use Rattle.gate_model.proofs.StandsTimes.{joined}
 use Rattle.gate_outbox.specs.Output.{Emitted, emits_of}
-use Rattle.gate_core.specs.Steps.{by_keys, entry_of}
-use Rattle.ais_bridge.specs.AisOut.{ais_receiver, lines_said}
-use Rattle.ais_bridge.specs.AisKept.{AisKept, entered, framed, later}
-use Rattle.ais_bridge.specs.Promises.{IsAisStep, StandsAis, step_by}
-use Rattle.ais_bridge.proofs.KnownLemmas.{gateway_stands}
-use Rattle.ais_bridge.proofs.StepLemmas.{frame_taken}
+use Rattle.gate_core.specs.Steps.{entry_of}
+use Rattle.bus_listener.specs.Kept.{Hearing}
+use Rattle.bus_listener.specs.Promises.{IsHeard}
+use Rattle.bus_listener.proofs.EventLemmas.{is_step as hears_so}
+use Rattle.ais_bridge.specs.AisKinds.{reports_are_heard}
+use Rattle.ais_bridge.specs.AisKept.{AisKept, with_heard}
+use Rattle.ais_bridge.specs.AisOut.{ais_said, lines_said, report_gives, report_kinds}
+use Rattle.ais_bridge.specs.Promises.{IsAisStep, IsAisTaken, StandsAis, step_by}
+use Rattle.ais_bridge.specs.Reports.{line_count, report_datagram, report_sentence, said_by, said_gives}
+use Rattle.ais_bridge.specs.declared.said.Said.{Said}
 
-no_more : (n : ℕ) → n % most_count ≡ (n + 0) % most_count
-no_more n = ap (λ k. k % most_count) (omega arith)
+count_on : (n j : ℕ) → (n % 999 + j) % 999 ≡ (n + j) % 999
+count_on n j = grind arith
 
-is_step : (g : Machine) (x : Event) (before : AisKept)
-    → IsAisStep g (entry_of x) before (step_by g before (entry_of x)).after (emits_of (step_by g before (entry_of x)).emits)
-unfolding entered
-is_step g (event.Frame moment frame) before = λ a s h settings could gs it.
-    let f = bus_frame frame in
-    let t = time_ends_fast_packets by_keys.fast fast_in_order (ais_receiver a g.settings) s h (now h) moment before.slots could.1 it.slots in
-    let x = frame_taken a g.settings s h moment f settings could g.addresses (gateway_stands a g.settings s _ g.addresses gs.addresses)
-    (later moment before) (record { group = it.group; sfi = it.sfi; slots = t.stands; lines = it.lines }) in
-    let gives : Emitted = (framed by_keys.fast g.addresses (later moment before) moment f).emits in
-    record { stands = x.stands; emits = append_assoc (fast_overdue before.slots moment) gives.told gives.posted ∙ joined t.told x.emits }
-is_step g (event.Datagram moment bytes) before = λ a s h settings could gs it.
-    let r = ais_receiver a g.settings in
-    let t = time_ends_fast_packets by_keys.fast fast_in_order r s h (now h) moment before.slots could.1 it.slots in
-    record {
-      stands = record {
-        group = it.group;
-        sfi = it.sfi;
-        slots = datagrams_leave_fast by_keys.fast r s h moment moment bytes.now _ t.stands;
-        lines = it.lines ∙ no_more (lines_said a g.settings s h);
-      };
-      emits = append-nil _ ∙ (append-nil _ ∙ t.told);
-    }
-is_step g (event.Tick moment) before = λ a s h settings could gs it.
-    let r = ais_receiver a g.settings in
-    let t = time_ends_fast_packets by_keys.fast fast_in_order r s h (now h) moment before.slots could.1 it.slots in
-    record {
-      stands = record {
-        group = it.group;
-        sfi = it.sfi;
-        slots = ticks_leave_fast by_keys.fast r s h moment moment _ t.stands;
-        lines = it.lines ∙ no_more (lines_said a g.settings s h);
-      };
-      emits = append-nil _ ∙ (append-nil _ ∙ t.told);
-    }
+mod_twice : (n : ℕ) → n % 999 % 999 ≡ n % 999
+mod_twice n = grind arith
+
+-- a count is said modulo the greatest one
+same_count : (group sfi : List ℕ) (n : ℕ) (x : Option Said) → said_gives group sfi (n % most_count) x ≡ said_gives group sfi n x
+unfolding report_datagram
+same_count group sfi n None = refl
+same_count group sfi n (Some x) = by x.source x.pgn x.says
+  where
+    by : (source pgn : ℕ) (says : Result (AisReport × ℕ) AisFault)
+        → said_gives group sfi (n % most_count) (Some (record { source = source; pgn = pgn; says = says }))
+        ≡ said_gives group sfi n (Some (record { source = source; pgn = pgn; says = says }))
+    by source pgn (Ok y) =
+        ap (λ count. record {
+          told = [];
+          posted = net group (header ++ line_text (record { group = None; source = sfi; count = count + 1 }) (report_sentence y)) ∷ [];
+        }) (mod_twice n)
+    by source pgn (Err Short) = refl
+    by source pgn (Err Outside) = refl
+
+module _ (a : AisConfig) (c : Settings) (s : ℕ) (h : History) (e : Entry) (k : AisKept) (it : StandsAis a c s h k) (x : Hearing)
+    (hears : IsHeard report_kinds a.slots c s h e x) where
+  abbrev says : Option Said
+  says = ais_said a c s h e
+
+  abbrev heard_says : Option Said
+  heard_says = option_map said_by x.message
+
+  said_is : heard_says ≡ says
+  said_is = ap (option_map said_by) hears.message
+
+  lines_are : (k.lines + line_count heard_says) % most_count ≡ lines_said a c s (e ∷ h) % most_count
+  lines_are =
+      ap (λ n. (n + line_count heard_says) % most_count) it.lines
+      ∙ (count_on (lines_said a c s h) (line_count heard_says) ∙ ap (λ o. (lines_said a c s h + line_count o) % most_count) said_is)
+
+  gives_is : emits_of (said_gives k.group k.sfi k.lines heard_says) ≡ report_gives a c s h e
+  gives_is =
+      rw (it.group, it.sfi, it.lines) (ap (λ o. emits_of (said_gives a.group c.sfi (lines_said a c s h % most_count) o)) said_is
+      ∙ ap emits_of (same_count a.group c.sfi (lines_said a c s h) says))
+
+  pub is_taken : IsAisTaken a c s h e (with_heard k x).after (emits_of (with_heard k x).emits)
+  is_taken = record {
+    stands = record { group = it.group; sfi = it.sfi; slots = hears.stands; lines = lines_are };
+    emits = append_assoc x.told _ _ ∙ joined hears.told gives_is;
+  }
 
 pub taken_step : (g : Machine) (x : Event) (before after : AisKept) (left : Emitted) → after ≡ (step_by g before (entry_of x)).after
     → left ≡ (step_by g before (entry_of x)).emits → IsAisStep g (entry_of x) before after (emits_of left)
 taken_step g x before after left is gives = λ a s h settings could gs it.
-    let taken = is_step g x before a s h settings could gs it in record {
+    let hears = hears_so report_kinds reports_are_heard g x before.slots a.slots s h settings could gs it.slots in
+    let taken = is_taken a g.settings s h (entry_of x) before it _ hears in
+    record {
       stands = subst (λ k. StandsAis a g.settings s (entry_of x ∷ h) k) (sym is) taken.stands;
       emits = ap emits_of gives ∙ taken.emits;
     }

@@ -1,6 +1,3 @@
-pub mod KnownLemmas
-pub mod FrameLemmas
 pub mod CommandLemmas
-pub mod StepLemmas
 pub mod EventLemmas
 pub mod RoomLemmas

@@ -1,4 +1,5 @@
 pub mod Reports
 pub mod AisOut
+pub mod AisKinds
 pub mod AisKept
 pub mod Promises

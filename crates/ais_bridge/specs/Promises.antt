@@ -9,11 +9,11 @@ use Rattle.history.specs.Settings.{Settings}
 use Rattle.history.specs.Known.{known}
 use Rattle.history.specs.Opens.{notes_of, open_fast_keys}
 use Rattle.gate_events.specs.Emit.{Emit}
-use Rattle.gate_model.specs.FastLaws.{StandsFastFor}
 use Rattle.gate_model.specs.Machine.{Machine}
 use Rattle.gate_model.specs.Stands.{Stands}
 use Rattle.gate_core.specs.Steps.{by_keys}
-use Rattle.ais_bridge.specs.AisOut.{ais_receiver, ais_out, lines_said}
+use Rattle.bus_listener.specs.Promises.{StandsListening}
+use Rattle.ais_bridge.specs.AisOut.{ais_receiver, ais_out, lines_said, report_kinds}
 use Rattle.ais_bridge.specs.AisKept.{AisKept, AisStep, ais_step}
 
 -- what the bridge keeps stands for a history of the gateway with these settings
@@ -21,7 +21,7 @@ pub record StandsAis (a : AisConfig) (c : Settings) (s : ℕ) (h : History) (k :
   pub group : k.group ≡ a.group
   pub sfi : k.sfi ≡ c.sfi
   -- the reports in the making are those that are open at the moment of the last entry, each with the frames of it that came
-  pub slots : StandsFastFor by_keys.fast (ais_receiver a c) s h (now h) k.slots
+  pub slots : StandsListening report_kinds a.slots c s h k.slots
   pub lines : k.lines ≡ lines_said a c s h % most_count
 
 -- what an event makes of it and gives, after the gateway has taken it

@@ -6,7 +6,7 @@ ghost use Rattle.gate_core.specs.Steps.{IsEventValid, entry_of};
 ghost use Rattle.ais_bridge.specs.AisKept.{ais_opened};
 ghost use Rattle.ais_bridge.specs.Promises.{IsAisOpening, IsAisStep, step_by};
 
-use fast_packet::FastAssembler;
+use bus_listener::BusListener;
 use gate_core::Gateway;
 use gate_events::Event;
 use gate_outbox::Emits;
@@ -21,12 +21,13 @@ const MOST_REPORTS: usize = 299;
 /// What the bridge leaves at an event: at most 300 emits, of which at most one is a datagram.
 pub type AisEmits = Emits<MOST_REPORTS>;
 
-/// The reports of ships around in the making.
+/// What says the reports of ships around.
 #[derive(Drop)]
 pub struct AisBridge {
     pub(crate) group: Group,
     pub(crate) sfi: Sfi,
-    pub(crate) reports: FastAssembler,
+    /// The reports in the making.
+    pub(crate) reports: BusListener,
     /// How many lines were said, modulo 999.
     pub(crate) lines: u16,
 }
@@ -49,7 +50,7 @@ impl AisBridge {
         ensures value { IfOk result (λ b. b ≡ ais_opened config.now sfi) }
         ensures history { IfOk result (IsAisOpening config.now sfi) }
     {
-        let reports = FastAssembler::new(alloc, config.slots)?;
+        let reports = BusListener::new(alloc, config.slots)?;
         Ok(AisBridge {
             group: config.group,
             sfi,

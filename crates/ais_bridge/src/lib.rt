@@ -1,12 +1,14 @@
 //! The bridge for ships around: position reports of the bus (NMEA 2000 PGN 129038, AIS class A) to the network, as `VDM` sentences with a
 //! report of ITU-R M.1371.
 //!
-//! It acts after each step of the gateway, and asks it who holds an address, and which addresses changed hands. No call but [`AisBridge::new`] takes memory.
+//! It acts after each step of the gateway, by what it hears of the bus. No call but [`AisBridge::new`] takes memory.
 #![tactic(auto)]
 
 mod bridge;
-mod hearing;
+mod kinds;
 mod laws;
+mod passing;
+mod said;
 mod writing;
 
 pub use ais_report::{AisFault, AisReport, armour, convert, read_armour};

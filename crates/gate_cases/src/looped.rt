@@ -43,10 +43,11 @@ impl Said {
     /// One more emit.
     fn add(&mut self, alloc: Global, emit: &Emit<'_>) -> Result<(), AllocError> {
         match emit {
-            Emit::Can(frame) => self.frames.push(*frame),
-            Emit::Net(_, bytes) => self.datagrams.push(bytes.to_vec(alloc)?),
-            Emit::Report(_) => Ok(()),
+            Emit::Can(frame) => self.frames.push(*frame)?,
+            Emit::Net(_, bytes) => self.datagrams.push(bytes.to_vec(alloc)?)?,
+            Emit::Report(_) => {}
         }
+        Ok(())
     }
 
     /// All that an outbox has.
@@ -60,7 +61,7 @@ impl Said {
     }
 }
 
-/// A frame comes to a gateway.
+/// A frame of eight bytes comes to a gateway: nothing is said but headings.
 fn come(
     alloc: Global,
     gateway: &mut Gateway,
@@ -69,7 +70,7 @@ fn come(
     said: &mut Said,
 ) -> Result<(), AllocError> {
     let mut out = Outbox::new();
-    if let Some(frame) = Frame::of(frame.id, frame.held()) {
+    if let Some(frame) = Frame::of(frame.id, &frame.bytes) {
         gateway.step(&Event::Frame { moment, frame }, &mut out);
     }
     said.add_all(alloc, &out)
@@ -197,11 +198,7 @@ fn config_beside(own: &Station, other: &Station) -> Config {
 }
 
 /// How often each heading is said from a round on, where both gateways ignore these devices.
-fn said_between(
-    alloc: Global,
-    ignored: &ArrayVec<Pattern, 16>,
-    first: u64,
-) -> Result<Count, Fail> {
+fn said_between(alloc: Global, ignored: &ArrayVec<Pattern, 16>, first: u64) -> Result<Count, Fail> {
     let mut left = started_ignoring(alloc, &config_beside(&LEFT, &RIGHT), ignored, 0)?;
     let mut right = started_ignoring(alloc, &config_beside(&RIGHT, &LEFT), ignored, 0)?;
     Ok(said_from(alloc, &mut left, &mut right, first)?)

@@ -2,7 +2,7 @@
 use Rattle.std.proofs.Common.{◌≡◌, ◌≢◌, ℕ, ◌<◌, ◌==◌, false, List, [], ◌∷◌, ◌++◌, get_or, Option, Some, None, sym, ap, ◌∙◌, subst, arith}
 use Rattle.std.specs.Prelude.{option_map}
 use Rattle.std.specs.Option.{ForSome}
-use Rattle.std.specs.List.{AllPairs, list_any}
+use Rattle.std.specs.List.{list_any}
 use Rattle.std.proofs.lemmas.Bool.{eqb-false, false≢true, or_parts}
 use Rattle.std.proofs.lemmas.List.Elements.{All-push}
 use Rattle.std.proofs.lemmas.Option.{none-some, same_Some}
@@ -24,7 +24,7 @@ use Rattle.settings.specs.declared.further.Further.{Further}
 use Rattle.settings.specs.declared.quantity_config.Quantities.{Quantities}
 use Rattle.settings.specs.declared.rmc.RmcConfig.{RmcConfig}
 use Rattle.settings.specs.declared.settings.Settings.{Settings}
-use Rattle.gate_config.specs.Beside.{AreQuantitiesBeside, AreSourcesBeside, IsAisBeside, IsGroupBeside, IsPresetBeside, IsRouteBeside}
+use Rattle.gate_config.specs.Beside.{AreQuantitiesBeside, IsAisBeside, IsGroupBeside, IsPresetBeside, IsRouteBeside}
 use Rattle.gate_config.specs.Keys.{address_stands, group_stands, is_group_of, name_stands, part_groups}
 use Rattle.gate_config.specs.Texts.{same_text}
 use Rattle.gate_config.proofs.EndpointTexts.{same_itself}
@@ -90,12 +90,6 @@ pub group_beside : (rows : List RowConfig) (parts : List (Option (List ℕ))) (g
 group_beside rows parts group by_rows by_parts = record {
   from_rows = λ k d within. other_text (get_or rows k d).group group (none_of (λ row. same_text row.group group) rows k d by_rows within);
   from_parts = λ k d within. other_group group (get_or parts k d) (none_of (is_group_of group) parts k d by_parts within);
-}
-
-pub sources_beside : (own : List ℕ) (sources : List (List ℕ)) → list_any (λ s. same_text s own) sources ≡ false → AllPairs (λ s t. s ≢ t) sources → AreSourcesBeside own sources
-sources_beside own sources by_own apart = record {
-  apart = apart;
-  from_own = λ k d within equal. other_text (get_or sources k d) own (none_of (λ s. same_text s own) sources k d by_own within) (sym equal);
 }
 
 -- reports of ships around beside the rows and joined sentences, where there are such

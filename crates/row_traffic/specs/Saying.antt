@@ -1,5 +1,5 @@
 -- What the code hands over of a message that is said on the network, and of its sender.
-use Rattle.std.specs.Prelude.{ℕ, Bool, List, [], map, Option, Some, None, if◌then◌else◌}
+use Rattle.std.specs.Prelude.{ℕ, List, [], map}
 use Rattle.sentence_fields.specs.declared.lines.SentenceText.{SentenceText}
 use Rattle.gate_model.specs.Said.{Complete}
 use Rattle.row_traffic.specs.declared.said.Sender.{Sender}
@@ -10,8 +10,3 @@ message_from sender = record { moment = sender.moment; source = sender.source; n
 
 abbrev pub texts : List SentenceText → List (List ℕ)
 texts sentences = map (λ text. text.bytes.items) sentences
-
--- the place of a pattern, or else the one behind all where others are taken
-abbrev pub or_last : Bool → ℕ → Option ℕ → Option ℕ
-or_last others last (Some place) = Some place
-or_last others last None = if others then Some last else None

@@ -3,14 +3,16 @@ ghost use Rattle.std.specs.Prelude.{◌≡◌, ◌<◌, IsTrue, Some};
 ghost use Rattle.std.specs.List.{list_all};
 ghost use Rattle.sentence_text.specs.Byte.{is_capital};
 ghost use Rattle.readings.specs.Rows.{row_number};
-ghost use Rattle.history.specs.Choice.{is_usable};
+ghost use Rattle.history.specs.Choice.{is_usable, rank_of, told_by};
 ghost use Rattle.history.specs.Settings.{rule_at, rule_of};
 ghost use Rattle.config_values.specs.Configs.{IsConfig};
 ghost use Rattle.config_values.specs.Rows.{IsRow};
 ghost use Rattle.config_values.specs.Settings.{settings_by, rule_of_row};
 
 use config_values::{RowConfig, SelectiveConfig};
-use readings::{ROWS, Reading, Row, usable};
+use n2k_id::Name;
+use readings::{ROWS, Reading, Row, row, usable};
+use source_choice::{Rank, Told, rank_of};
 
 /// The place of the row among the rows.
 pub(crate) fn number(row: Row) -> usize
@@ -45,6 +47,25 @@ pub(crate) fn talker_of(config: &SelectiveConfig, row: Row) -> [u8; 2]
     ensures capitals { IsTrue (list_all is_capital result) }
 {
     row_config(config, row).talker
+}
+
+/// The rank of a NAME in the row: a device that is ignored has none.
+pub(crate) fn rank_in(config: &SelectiveConfig, row: Row, name: Name) -> Option<Rank>
+    ensures { result ≡ rank_of (rule_of (settings_by config.now) row) name.0 }
+{
+    let row = row_config(config, row);
+    rank_of(&row.sources, row.others, &config.ignored, name)
+}
+
+/// What the reading tells of its row.
+pub(crate) fn told_by(reading: &Reading) -> Told
+    ensures told { result ≡ told_by reading.now }
+    ensures within { result.subject < ROWS }
+{
+    Told {
+        subject: number(row(reading)),
+        usable: says_something(reading),
+    }
 }
 
 /// Whether the reading says something of its row.

@@ -6,7 +6,7 @@ ghost use Rattle.readings.specs.Rows.{IsValid, row_of, row_number};
 ghost use Rattle.sentence_text.specs.Byte.{is_capital};
 ghost use Rattle.source_choice.specs.Choices.{opened, forgotten};
 ghost use Rattle.tag_block.specs.Writing.{longest_packet};
-ghost use Rattle.history.specs.Choice.{is_usable, rank_of, reading_in};
+ghost use Rattle.history.specs.Choice.{rank_of, reading_in};
 ghost use Rattle.gate_events.specs.Emit.{net};
 ghost use Rattle.history.specs.Settings.{rule_of, same_text};
 ghost use Rattle.gate_model.specs.Net.{row_numbers};
@@ -17,8 +17,7 @@ ghost use Rattle.config_values.specs.Settings.{settings_by, rule_of_row};
 ghost use Rattle.row_traffic.specs.Saying.{message_from};
 ghost use Rattle.gate_outbox.specs.Output.{and_posted, with_posted};
 
-use crate::rows::{number, row_at, row_config, says_something};
-use crate::said::ranks::rank_in;
+use crate::rows::{number, rank_in, row_at, row_config, told_by};
 use crate::said::writing::{sentences_in, speaker, write_datagram};
 use config_values::SelectiveConfig;
 use gate_outbox::StepEmits;
@@ -33,7 +32,6 @@ use std::alloc::{AllocError, Global};
 use std::marker::Model;
 use tag_block::{MOST_CODE, MOST_COUNT};
 
-mod ranks;
 mod writing;
 
 /// Who sends a message, and when it is complete.
@@ -66,7 +64,7 @@ impl Model for Said {
 
     ghost view = { λ s. record { choices = s.choice; lines = s.lines; groups = s.groups } };
 
-    ghost invariant = { λ s. (s.choice.sources ≡ 254) × (length s.lines ≡ rows_count) × AllByRecursion (λ n. n < 999) s.lines × (s.groups < 99) };
+    ghost invariant = { λ s. (s.choice.sources ≡ 254) × (length s.choice.subjects ≡ rows_count) × (length s.lines ≡ rows_count) × AllByRecursion (λ n. n < 999) s.lines × (s.groups < 99) };
 }
 
 impl Said {
@@ -121,35 +119,19 @@ impl Said {
         ensures emits { out.new ≡ and_posted out.old
             (ranked_emits (settings_by config.now) self.old (message_from sender) reading.now (Some rank)) }
     {
-        if self.is_chosen(sender, rank, reading) {
-            self.note(sender, rank, reading);
+        if self.choose(sender, rank, reading) {
             self.say(config, reading, out);
-        } else {
-            self.note(sender, rank, reading);
         }
     }
 
-    /// Whether the reading is selected.
-    fn is_chosen(&self, sender: Sender, rank: Rank, reading: &Reading) -> bool
+    /// Notes what the sender said of the row, and says whether the reading is selected.
+    fn choose(&mut self, sender: Sender, rank: Rank, reading: &Reading) -> bool
         requires { sender.source < 254 }
-        ensures { result ≡ is_chosen self.now (message_from sender) rank reading.now }
+        ensures chosen { result ≡ is_chosen self.old (message_from sender) rank reading.now }
+        ensures after { self.new ≡ noted_by self.old (message_from sender) rank reading.now }
     {
         self.choice
-            .selected(row(reading), sender.source, rank, sender.moment)
-    }
-
-    /// Notes what the sender said of the row.
-    fn note(&mut self, sender: Sender, rank: Rank, reading: &Reading)
-        requires { sender.source < 254 }
-        ensures { self.new ≡ noted_by self.old (message_from sender) rank reading.now }
-    {
-        self.choice.note(
-            row(reading),
-            sender.source,
-            rank,
-            sender.moment,
-            says_something(reading),
-        );
+            .take(sender.source, rank, sender.moment, told_by(reading))
     }
 
     /// Says a reading in one datagram, and counts its lines.

@@ -13,6 +13,20 @@ const TOO_GREAT: &[u8] = b"[row.heading_true]
 sources = [\"unique=2097152\"]
 ";
 
+/// Of two devices that say the same, the one at 23 is ignored.
+const IGNORING: &[u8] = b"[bus]
+ignore = [\"C0788C00FFC00005\"]
+";
+
+const BOTH: &[u8] = b"(1700000000.000000) can0 09F11217#006D3DFF7FFF7FFC
+(1700000000.000000) can0 09F11218#005C3DFF7FFF7FFC
+";
+
+const ONE_SAID: &[u8] = b"(1700000000.000000) can0 18EEFFFB#0100C0FF008232C0
+(1700000000.000000) can0 18EAFFFB#00EE00
+(1700000000.000000) udp0 NAVD#5564506243005C733A4949303030312C6E3A312A30315C2448454844542C39302E302C542A31360D0A
+";
+
 const CHECK: &[&str] = &["check", "boat.toml"];
 
 const REPLAY: &[&str] = &["replay", "boat.toml"];
@@ -32,7 +46,7 @@ struct Case {
 }
 
 /// What comes of a file.
-const FILES: [Case; 10] = [
+const FILES: [Case; 11] = [
     Case {
         name: "an accepted configuration",
         words: CHECK,
@@ -113,6 +127,15 @@ const FILES: [Case; 10] = [
         capture: b"(1700000000.000000) can0 09F11217#005C3DFF7FFF7FFC",
         status: 3,
         text: b"config: missing gateway.name\n",
+    },
+    Case {
+        name: "a replay in which a device is ignored",
+        words: REPLAY,
+        config: &[USUAL, IGNORING],
+        load: 0,
+        capture: BOTH,
+        status: 0,
+        text: ONE_SAID,
     },
     Case {
         name: "a replay of a file that can't be read",

@@ -37,7 +37,7 @@ impl Model for Readings {
 
     ghost view = { λ r. record { choices = r.choice; sequences = r.sequences } };
 
-    ghost invariant = { λ r. (length r.sequences ≡ rows_count) × AllByRecursion (λ n. n ≤ 7) r.sequences };
+    ghost invariant = { λ r. (length r.choice.subjects ≡ rows_count) × (length r.sequences ≡ rows_count) × AllByRecursion (λ n. n ≤ 7) r.sequences };
 }
 
 impl Readings {
@@ -87,8 +87,12 @@ impl Readings {
         requires { line.source < self.now.choices.sources }
         ensures { result ≡ is_chosen self.now (line_of line) reading.now }
     {
-        self.choice
-            .selected(row(reading), line.source, rank_by(line), line.came.moment)
+        self.choice.selected(
+            number(row(reading)),
+            line.source,
+            rank_by(line),
+            line.came.moment,
+        )
     }
 
     /// Sends a reading that is selected on, or reports it where the gateway isn't ready.
@@ -140,7 +144,7 @@ impl Readings {
             self.sequences[number] = (self.sequences[number] + 1) % 8;
         }
         self.choice.note(
-            row,
+            number(row),
             line.source,
             rank_by(line),
             line.came.moment,

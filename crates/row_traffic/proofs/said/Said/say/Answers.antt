@@ -22,7 +22,7 @@ write_datagram-requires-clause-room c =
     let same = same_datagram settings k r c.speaker.result (c.from.result + 1) _ c.deref.result.now c.speaker.ensures.sfi code lines said in
     let talker = subst (λ rule. length rule.talker ≡ 2) (c.row_config.ensures.rule ∙ ap (rule_of settings) c.row-row.ensures)
     (c.row_config.ensures.valid c.requires.config).talker.len in
-    let counts : AreCounts k = subst AreCounts c.self.view_is (record { lines = c.self.invariant.2; groups = c.self.invariant.3 }) in
+    let counts : AreCounts k = subst AreCounts c.self.view_is (record { lines = c.self.invariant.3; groups = c.self.invariant.4 }) in
     fits settings k r c.speaker.result (c.from.result + 1) _ c.deref.result.now same c.speaker.ensures.form c.speaker.ensures.sfi talker c.requires.valid counts
 
 pub returns-clause-emits : goal.returns-clause-emits
