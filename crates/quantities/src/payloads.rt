@@ -54,7 +54,7 @@ const BATTERY_STATUS: u32 = 127_508;
 
 const SET_DRIFT_RAPID_UPDATE: u32 = 129_291;
 
-const ENVIRONMENTAL_PARAMETERS_WATER: u32 = 130_310;
+const ENVIRONMENTAL_PARAMETERS_OBSOLETE: u32 = 130_310;
 
 const ENVIRONMENTAL_PARAMETERS: u32 = 130_311;
 
@@ -150,7 +150,7 @@ static TABLE: [Entry; ENTRIES] = [
     entry!(AirHumidity, HUMIDITY, Single, 5, bits!(2, 0, 8, 1), first: signed!(3, 2, 0, 25_000)),
     entry!(AirTemperature, TEMPERATURE, Single, 5, bits!(2, 0, 8, 1), first: multiple!(3, 2, 65_532, 10)),
     entry!(AirTemperature, TEMPERATURE_EXTENDED_RANGE, Single, 6, bits!(2, 0, 8, 1), first: unsigned!(3, 3, 16_777_212)),
-    entry!(SeaTemperature, ENVIRONMENTAL_PARAMETERS_WATER, Single, 3, Selector::Always, first: multiple!(1, 2, 65_532, 10)),
+    entry!(SeaTemperature, ENVIRONMENTAL_PARAMETERS_OBSOLETE, Single, 3, Selector::Always, first: multiple!(1, 2, 65_532, 10)),
     entry!(SeaTemperature, ENVIRONMENTAL_PARAMETERS, Single, 4, bits!(1, 0, 6, 0), first: multiple!(2, 2, 65_532, 10)),
     entry!(EngineFirst, ENGINE_PARAMETERS_RAPID_UPDATE, Single, 3, bits!(0, 0, 8, 0), first: unsigned!(1, 2, 65_532)),
     entry!(EngineSecond, ENGINE_PARAMETERS_RAPID_UPDATE, Single, 3, bits!(0, 0, 8, 1), first: unsigned!(1, 2, 65_532)),
