@@ -389,11 +389,18 @@ fn a_value_beyond_its_range_is_an_empty_field(rt: HostRuntime) {
     }
 }
 
+/// The payload without its last byte.
+fn without_last(payload: &[u8]) -> &[u8] {
+    match payload {
+        [front @ .., _] => front,
+        [] => payload,
+    }
+}
+
 #[test]
 fn a_payload_that_lacks_a_byte_is_short(rt: HostRuntime) {
     for &(pgn, payload, _) in &ENDS {
-        let (lacking, _) = payload.split_at(payload.len() - 1);
-        assert!(rt; read(pgn, lacking) == Told::Short);
+        assert!(rt; read(pgn, without_last(payload)) == Told::Short);
     }
 }
 
@@ -442,14 +449,18 @@ const USABLE: [(u32, &[u8], bool); 6] = [
     (127_508, &[0x00, 0xFF, 0x7F, 0xC5, 0xFF], false),
 ];
 
+/// Whether the payload's value is usable; None where it has none.
+fn is_usable(pgn: u32, payload: &[u8]) -> Option<bool> {
+    match read(pgn, payload) {
+        Told::Value(value) => Some(usable(&value)),
+        Told::Outside | Told::Short => None,
+    }
+}
+
 #[test]
 fn a_value_that_tells_makes_a_message_usable(rt: HostRuntime) {
     for &(pgn, payload, expected) in &USABLE {
-        let found = match read(pgn, payload) {
-            Told::Value(value) => usable(&value) == expected,
-            _ => false,
-        };
-        assert!(rt; found);
+        assert!(rt; is_usable(pgn, payload) == Some(expected));
     }
 }
 
