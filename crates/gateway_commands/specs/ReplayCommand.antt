@@ -3,7 +3,6 @@ use Rattle.std.specs.Prelude.{◌≡◌, ◌≢◌, ◌⊎◌, ℕ, List, Option
 use Rattle.gate_outside.specs.Faults.{Rose}
 use Rattle.settings.specs.declared.further.Further.{Further}
 use Rattle.settings.specs.declared.settings.Settings.{Settings}
-use Rattle.settings.specs.Further.{nothing_further}
 use Rattle.bridge.specs.Parts.{parts_of}
 use Rattle.bridge.specs.Replayed.{IsReplay}
 use Rattle.config_check.specs.Configuring.{ConfiguresBy, FileSays, IsToldAs}

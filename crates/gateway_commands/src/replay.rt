@@ -5,7 +5,6 @@ ghost use Rattle.settings.specs.Further.{IsFurther, nothing_further};
 ghost use Rattle.settings.specs.Settings.{IsSettings};
 ghost use Rattle.bridge.specs.BridgeStands.{IsNew};
 ghost use Rattle.bridge.specs.Parts.{Parts, parts_of};
-ghost use Rattle.settings.specs.Further.{nothing_further};
 ghost use Rattle.bridge.specs.Replayed.{IsReplay};
 ghost use Rattle.gateway_commands.specs.ReplayCommand.{RunsBy};
 ghost use Rattle.statuses.specs.Statuses.{EndsBy, IsReplayStatus, IsStreamStatus, IsUnhindered, SteadyBy, number};
