@@ -39,15 +39,21 @@ abbrev pub taken_by : Row → List ℕ
 taken_by r = (about_of r).pgn ∷ option_to_list (about_of r).also
 
 -- those that the gateway sends: as a device, and of these rows
+abbrev pub sent_as_device : List ℕ
+sent_as_device = acknowledgement ∷ request ∷ connection_management ∷ address_claimed ∷ pgn_lists ∷ product_information ∷ []
+
 abbrev pub sent_with : List Row → List ℕ
-sent_with rows = ascending (acknowledgement ∷ request ∷ connection_management ∷ address_claimed ∷ pgn_lists ∷ product_information ∷ flat_map sent_by rows)
+sent_with rows = with_groups (ascending sent_as_device) (flat_map sent_by rows)
 
 unfoldable pub sent : List ℕ
 sent = sent_with every_row
 
 -- those that it takes in
+abbrev pub received_as_device : List ℕ
+received_as_device = request ∷ data_transfer ∷ connection_management ∷ address_claimed ∷ commanded_address ∷ []
+
 abbrev pub received_with : List Row → List ℕ
-received_with rows = ascending (request ∷ data_transfer ∷ connection_management ∷ address_claimed ∷ commanded_address ∷ flat_map taken_by rows)
+received_with rows = with_groups (ascending received_as_device) (flat_map taken_by rows)
 
 unfoldable pub received : List ℕ
 received = received_with every_row

@@ -3,7 +3,7 @@
 
 ghost use Rattle.std.specs.Prelude.{◌≡◌, ◌+◌, ◌*◌, ◌<◌, ◌≤◌, ◌^◌, ◌++◌, nat_le, length};
 ghost use Rattle.std.specs.List.{AllByRecursion, flat_map, position, position_or_len};
-ghost use Rattle.bus_identity.specs.PgnLists.{has, received_with, sent_with, taken_by, with_group, with_groups};
+ghost use Rattle.bus_identity.specs.PgnLists.{has, received_with, sent_by, sent_with, taken_by, with_group, with_groups};
 ghost use Rattle.bus_identity.specs.Payloads.{list_of, pgn_bytes, received_list, sent_list};
 
 use crate::pgn;
@@ -61,9 +61,18 @@ fn sent(rows: &[Row; ROWS]) -> Groups
     let mut groups = Groups::new();
     add_all(&SENT, &mut groups);
     for row in rows {
-        add(row.pgn(), &mut groups);
+        add_sent(*row, &mut groups);
     }
     groups
+}
+
+/// Adds what the row is sent by.
+fn add_sent(row: Row, groups: &mut Groups)
+    requires room { length groups.old.items < MOST_GROUPS }
+    ensures groups { groups.new.items ≡ with_groups groups.old.items (sent_by row) }
+    ensures length { length groups.new.items ≤ length groups.old.items + 1 }
+{
+    add(row.pgn(), groups);
 }
 
 /// What it takes in with these rows.
@@ -73,13 +82,13 @@ fn received(rows: &[Row; ROWS]) -> Groups
     let mut groups = Groups::new();
     add_all(&RECEIVED, &mut groups);
     for row in rows {
-        add_row(*row, &mut groups);
+        add_received(*row, &mut groups);
     }
     groups
 }
 
 /// Adds what the row is taken in by.
-fn add_row(row: Row, groups: &mut Groups)
+fn add_received(row: Row, groups: &mut Groups)
     requires room { length groups.old.items + 2 ≤ MOST_GROUPS }
     ensures groups { groups.new.items ≡ with_groups groups.old.items (taken_by row) }
     ensures length { length groups.new.items ≤ length groups.old.items + 2 }
