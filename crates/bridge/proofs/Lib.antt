@@ -4,6 +4,7 @@ pub mod Joins
 pub mod Plains
 pub mod Lengths
 pub mod Ships
+pub mod Quantities
 pub mod Steps
 pub mod Sending
 pub mod PartCases

@@ -1,4 +1,5 @@
--- What is said once more as plain sentences is what the definition over all that is emitted says: only rows, RMC and ships give datagrams.
+-- What is said once more as plain sentences is what the definition over all that is emitted says: only rows, RMC, ships and
+-- further quantities give datagrams.
 use Rattle.std.proofs.Common.{◌≡◌, ℕ, Bool, true, false, List, [], ◌∷◌, ◌++◌, map, refl, sym, ap, ◌∙◌, append_assoc, append-nil}
 use Rattle.std.specs.Prelude.{Option, Some, None, if◌then◌else◌}
 use Rattle.report_rules.specs.Rules as rules
@@ -55,27 +56,30 @@ module _ (group : List ℕ) where
 
 -- ---- of all that is emitted
 
-module _ (a b c d e : List Emit) where
-  pub behind_all : (more : List Emit) → a ++ (b ++ (c ++ (d ++ (e ++ more)))) ≡ (a ++ (b ++ (c ++ (d ++ e)))) ++ more
+module _ (a b c d q e : List Emit) where
+  pub behind_all : (more : List Emit) → a ++ (b ++ (c ++ (d ++ (q ++ (e ++ more))))) ≡ (a ++ (b ++ (c ++ (d ++ (q ++ e))))) ++ more
   behind_all more =
-      ap (λ (es : List Emit). a ++ (b ++ (c ++ es))) (sym (append_assoc d e more))
-      ∙ ap (λ (es : List Emit). a ++ (b ++ es)) (sym (append_assoc c (d ++ e) more))
-      ∙ ap (λ (es : List Emit). a ++ es) (sym (append_assoc b (c ++ (d ++ e)) more))
-      ∙ sym (append_assoc a (b ++ (c ++ (d ++ e))) more)
+      ap (λ (es : List Emit). a ++ (b ++ (c ++ (d ++ es)))) (sym (append_assoc q e more))
+      ∙ ap (λ (es : List Emit). a ++ (b ++ (c ++ es))) (sym (append_assoc d (q ++ e) more))
+      ∙ ap (λ (es : List Emit). a ++ (b ++ es)) (sym (append_assoc c (d ++ (q ++ e)) more))
+      ∙ ap (λ (es : List Emit). a ++ es) (sym (append_assoc b (c ++ (d ++ (q ++ e))) more))
+      ∙ sym (append_assoc a (b ++ (c ++ (d ++ (q ++ e)))) more)
 
-  pub each_plain : (plain : Option (List ℕ)) (rows joined ships : Emitted) → emits_of rows ≡ a → emits_of joined ≡ c → emits_of ships ≡ d
-      → ((group : List ℕ) → plain_out group b ≡ []) → ((group : List ℕ) → plain_out group e ≡ [])
-      → plain_each plain rows joined ships ≡ plain_of plain (a ++ (b ++ (c ++ (d ++ e))))
-  each_plain None rows joined ships rows_are joined_are ships_are no_b no_e = refl
-  each_plain (Some group) rows joined ships rows_are joined_are ships_are no_b no_e =
+  pub each_plain : (plain : Option (List ℕ)) (rows joined ships quantities : Emitted) → emits_of rows ≡ a → emits_of joined ≡ c → emits_of ships ≡ d
+      → emits_of quantities ≡ q → ((group : List ℕ) → plain_out group b ≡ []) → ((group : List ℕ) → plain_out group e ≡ [])
+      → plain_each plain rows joined ships quantities ≡ plain_of plain (a ++ (b ++ (c ++ (d ++ (q ++ e)))))
+  each_plain None rows joined ships quantities rows_are joined_are ships_are quantities_are no_b no_e = refl
+  each_plain (Some group) rows joined ships quantities rows_are joined_are ships_are quantities_are no_b no_e =
       let said : List Emit → List Emit = plain_out group in
-      ap (λ (es : List Emit). said es ++ (said (emits_of joined) ++ said (emits_of ships))) rows_are
-      ∙ ap (λ (es : List Emit). said a ++ (said es ++ said (emits_of ships))) joined_are
-      ∙ ap (λ (es : List Emit). said a ++ (said c ++ said es)) ships_are
-      ∙ ap (λ (es : List Emit). said a ++ (said c ++ es)) (sym (append-nil (said d)))
-      ∙ ap (λ (es : List Emit). said a ++ (said c ++ (said d ++ es))) (sym (no_e group))
-      ∙ ap (λ (es : List Emit). said a ++ (said c ++ es)) (sym (plain_append group d e))
-      ∙ ap (λ (es : List Emit). said a ++ es) (sym (plain_append group c (d ++ e)))
-      ∙ ap (λ (es : List Emit). said a ++ (es ++ said (c ++ (d ++ e)))) (sym (no_b group))
-      ∙ ap (λ (es : List Emit). said a ++ es) (sym (plain_append group b (c ++ (d ++ e))))
-      ∙ sym (plain_append group a (b ++ (c ++ (d ++ e))))
+      ap (λ (es : List Emit). said es ++ (said (emits_of joined) ++ (said (emits_of ships) ++ said (emits_of quantities)))) rows_are
+      ∙ ap (λ (es : List Emit). said a ++ (said es ++ (said (emits_of ships) ++ said (emits_of quantities)))) joined_are
+      ∙ ap (λ (es : List Emit). said a ++ (said c ++ (said es ++ said (emits_of quantities)))) ships_are
+      ∙ ap (λ (es : List Emit). said a ++ (said c ++ (said d ++ said es))) quantities_are
+      ∙ ap (λ (es : List Emit). said a ++ (said c ++ (said d ++ es))) (sym (append-nil (said q)))
+      ∙ ap (λ (es : List Emit). said a ++ (said c ++ (said d ++ (said q ++ es)))) (sym (no_e group))
+      ∙ ap (λ (es : List Emit). said a ++ (said c ++ (said d ++ es))) (sym (plain_append group q e))
+      ∙ ap (λ (es : List Emit). said a ++ (said c ++ es)) (sym (plain_append group d (q ++ e)))
+      ∙ ap (λ (es : List Emit). said a ++ es) (sym (plain_append group c (d ++ (q ++ e))))
+      ∙ ap (λ (es : List Emit). said a ++ (es ++ said (c ++ (d ++ (q ++ e))))) (sym (no_b group))
+      ∙ ap (λ (es : List Emit). said a ++ es) (sym (plain_append group b (c ++ (d ++ (q ++ e)))))
+      ∙ sym (plain_append group a (b ++ (c ++ (d ++ (q ++ e)))))

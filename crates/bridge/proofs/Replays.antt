@@ -1,9 +1,8 @@
 -- What the lines of a capture give is the text of the definition over lines.
-use Rattle.std.proofs.Common.{◌≡◌, ℕ, ◌+◌, Bool, true, false, List, [], ◌∷◌, ◌++◌, refl, sym, ap, subst, ◌∙◌, append_assoc}
-use Rattle.std.specs.Prelude.{Option, Some, None, is_some, option_map, Ok, Err}
+use Rattle.std.proofs.Common.{◌≡◌, ℕ, ◌+◌, List, [], ◌∷◌, ◌++◌, refl, sym, ap, subst, ◌∙◌, append_assoc}
+use Rattle.std.specs.Prelude.{Option, Some, None, Ok, Err}
 use Rattle.std.proofs.lemmas.Grind.{flat_map-append}
-use Rattle.std.proofs.lemmas.List.{append-nil, map-append}
-use Rattle.report_rules.specs.Rules as rules
+use Rattle.std.proofs.lemmas.List.{append-nil}
 use Rattle.gate_events.specs.declared.emit.Detail.TheVariants as detail
 use Rattle.gate_events.specs.declared.event.Event.{Event}
 use Rattle.gate_events.specs.declared.event.Event.TheVariants as event
@@ -12,22 +11,17 @@ use Rattle.capture_text.specs.LineRule.{rule_number}
 use Rattle.gate_events.specs.Event.{view}
 use Rattle.capture_stream.specs.Answering.{LineGives}
 use Rattle.capture_stream.specs.Lines.{AreTexts, IsTextFrom}
-use Rattle.gate_outbox.specs.declared.done.Command.{Command}
-use Rattle.gate_core.specs.Promises.{entry_by}
 use Rattle.gate_core.specs.Steps.{entry_of}
 use Rattle.gate_model.specs.Machine.{Machine}
 use Rattle.gate_events.specs.Emit.{Emit, Emitted}
 use Rattle.history.specs.Emits.{at, broken}
-use Rattle.history.specs.Entries.{Entry, History, IsHistory, is_accepted, moment_of, now}
-use Rattle.history.specs.Gate.{Stepped, command_in, out}
-use Rattle.history.specs.Messages.{done}
-use Rattle.history.specs.Settings.{receiver_of}
+use Rattle.history.specs.Entries.{Entry, moment_of, now}
 use Rattle.bridge.specs.Replayed.{Running, GivesReplay, IsReplay, IsReplayed, RunningStands, emitted_text, replayed_from, with_event, with_line}
 use Rattle.capture_text.specs.Emitted.{line_of}
 use Rattle.bridge.specs.Replayed as replay
-use Rattle.bridge.specs.BridgeStands.{BridgeStands, IsBridged, IsBridgeStep, IsNew, IsOrder, IsRefused}
-use Rattle.bridge.specs.Gate.{all_out, opening, stepped, with_command}
-use Rattle.bridge.specs.Kept.{Bridged, left_of}
+use Rattle.bridge.specs.BridgeStands.{BridgeStands, IsBridgeStep, IsNew}
+use Rattle.bridge.specs.Gate.{opening, stepped}
+use Rattle.bridge.specs.Kept.{Bridged}
 use Rattle.bridge.specs.Parts.{Parts}
 use Rattle.bridge.specs.Replaying.{IsOpening, IsOrdered, left_at, left_text, ordered_left, ordered_text}
 use Rattle.bridge.proofs.Reached.{reached}

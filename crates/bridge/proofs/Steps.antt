@@ -20,8 +20,10 @@ use Rattle.gate_core.specs.Steps.{by_keys, entry_of, only_told, IsEventValid}
 use Rattle.bridge.specs.Beside.{IsStepped, plain_each}
 use Rattle.bridge.specs.BridgeStands.{BridgeStands, IsBesideStep, IsBridged, IsBridgeStep, IsCommanded, IsObeyed, IsRefused, IsStart}
 use Rattle.bridge.specs.Answered.{answers}
-use Rattle.bridge.specs.Gate.{NothingFurther, changes_of, plain_of, rmc_of, ships_of, tagged_out}
+use Rattle.bridge.specs.Gate.{NothingFurther, changes_of, plain_of, quantities_of, rmc_of, ships_of, tagged_out}
 use Rattle.ais_bridge.specs.AisKept.{AisKept}
+use Rattle.further_bridge.specs.FurtherRule.{FurtherRule}
+use Rattle.further_bridge.specs.Kept.{FurtherKept}
 use Rattle.bus_identity.specs.Answers.{Kept as Counted}
 use Rattle.bridge.specs.declared.joining.Joining.{Joining}
 use Rattle.bridge.specs.declared.left.Left.{Left}
@@ -30,6 +32,7 @@ use Rattle.bridge.specs.Parts.{Parts}
 use Rattle.bridge.proofs.Changes.{commanded_names}
 use Rattle.bridge.proofs.Joins.{commanded_joins}
 use Rattle.bridge.proofs.Plains.{answers_plain, behind_all, changes_plain, each_plain}
+use Rattle.bridge.proofs.Quantities.{commanded_quantities}
 use Rattle.bridge.proofs.Ships.{commanded_ships}
 
 -- ---- an event may follow
@@ -49,20 +52,21 @@ goes_on e h valid could accepted = (offered e valid, in_time e h accepted, could
 
 -- ---- the gateway was called, and left this
 
-abbrev pub bridge_of : Bool → Machine → Counted → Option Joining → Option AisKept → Option (List (Option Name)) → Option (List ℕ) → Left → Bridged
-bridge_of started g answering joining watching sources plain left = record {
+abbrev pub bridge_of : Bool → Machine → Counted → Option Joining → Option AisKept → Option FurtherKept → Option (List (Option Name)) → Option (List ℕ) → Left → Bridged
+bridge_of started g answering joining watching measuring sources plain left = record {
   started = started;
   gateway = g;
   answering = answering;
   joining = joining;
   watching = watching;
+  measuring = measuring;
   sources = sources;
   plain = plain;
   left = left;
 }
 
 abbrev pub with_gateway : Bool → Machine → Output → Bridged → Bridged
-with_gateway started g o b = bridge_of started g b.answering b.joining b.watching b.sources b.plain (left_by o)
+with_gateway started g o b = bridge_of started g b.answering b.joining b.watching b.measuring b.sources b.plain (left_by o)
 
 -- what is left is forgotten before
 pub left_after : (forgotten : Left) (o : Output) → forgotten ≡ nothing_left → record forgotten { outbox = o } ≡ left_by o
@@ -92,6 +96,7 @@ is_start s before g o stands settings is p new =
         answering = new.answering;
         joining = new.joining p.gateway s;
         watching = new.watching s;
+        measuring = new.measuring s;
         sources = new.sources p.gateway s;
         plain = new.plain;
       };
@@ -109,12 +114,14 @@ module _ (p : Parts) (s : ℕ) (h : History) (before : Bridged) (stands : Bridge
       let answered = step.answering p.information p.gateway s h stepped stands.answering in
       let joined = step.joining p.rmc p.gateway s h stepped stands.joining in
       let watched = step.watching p.ais p.gateway s h stepped stands.watching in
+      let measured = step.measuring p.quantities p.gateway s h stepped stands.measuring in
       let changed = step.sources p.sources p.gateway s h stepped stands.sources in
       let x = after.left in
       let own = out p.gateway s h e in
       let answered_to = answers p.gateway s p.information h e in
       let rmc = rmc_of p.rmc p.gateway s h e in
       let ships = ships_of p.ais p.gateway s h e in
+      let quantities = quantities_of p.quantities p.gateway s h e in
       let changes = changes_of p.sources p.gateway s h e in
       let left = ap (λ (o : Output). emits_of o.emits) step.outbox ∙ taken.emits in
       record {
@@ -126,19 +133,21 @@ module _ (p : Parts) (s : ℕ) (h : History) (before : Bridged) (stands : Bridge
           answering = answered.stands;
           joining = joined.stands;
           watching = watched.stands;
+          measuring = measured.stands;
           sources = changed.stands;
           plain = step.group ∙ stands.plain;
         };
         emits =
-            ap (λ (es : List Emit). es ++ (emits_of x.answer ++ (emits_of x.joined ++ (emits_of x.ships ++ (emits_of x.changes ++ plain_left x.plain))))) left
-            ∙ ap (λ (es : List Emit). own ++ (es ++ (emits_of x.joined ++ (emits_of x.ships ++ (emits_of x.changes ++ plain_left x.plain))))) answered.emits
-            ∙ ap (λ (es : List Emit). own ++ (answered_to ++ (es ++ (emits_of x.ships ++ (emits_of x.changes ++ plain_left x.plain))))) joined.emits
-            ∙ ap (λ (es : List Emit). own ++ (answered_to ++ (rmc ++ (es ++ (emits_of x.changes ++ plain_left x.plain))))) watched.emits
-            ∙ ap (λ (es : List Emit). own ++ (answered_to ++ (rmc ++ (ships ++ (es ++ plain_left x.plain))))) changed.emits
-            ∙ behind_all own answered_to rmc ships changes (plain_left x.plain)
+            ap (λ (es : List Emit). es ++ (emits_of x.answer ++ (emits_of x.joined ++ (emits_of x.ships ++ (emits_of x.quantities ++ (emits_of x.changes ++ plain_left x.plain)))))) left
+            ∙ ap (λ (es : List Emit). own ++ (es ++ (emits_of x.joined ++ (emits_of x.ships ++ (emits_of x.quantities ++ (emits_of x.changes ++ plain_left x.plain)))))) answered.emits
+            ∙ ap (λ (es : List Emit). own ++ (answered_to ++ (es ++ (emits_of x.ships ++ (emits_of x.quantities ++ (emits_of x.changes ++ plain_left x.plain)))))) joined.emits
+            ∙ ap (λ (es : List Emit). own ++ (answered_to ++ (rmc ++ (es ++ (emits_of x.quantities ++ (emits_of x.changes ++ plain_left x.plain)))))) watched.emits
+            ∙ ap (λ (es : List Emit). own ++ (answered_to ++ (rmc ++ (ships ++ (es ++ (emits_of x.changes ++ plain_left x.plain)))))) measured.emits
+            ∙ ap (λ (es : List Emit). own ++ (answered_to ++ (rmc ++ (ships ++ (quantities ++ (es ++ plain_left x.plain)))))) changed.emits
+            ∙ behind_all own answered_to rmc ships quantities changes (plain_left x.plain)
             ∙ ap (λ (es : List Emit). tagged_out p s h e ++ es)
-            (step.plain ∙ ap (λ (group : Option (List ℕ)). plain_each group x.outbox.emits x.joined x.ships) stands.plain
-            ∙ each_plain own answered_to rmc ships changes p.plain x.outbox.emits x.joined x.ships left joined.emits watched.emits
+            (step.plain ∙ ap (λ (group : Option (List ℕ)). plain_each group x.outbox.emits x.joined x.ships x.quantities) stands.plain
+            ∙ each_plain own answered_to rmc ships quantities changes p.plain x.outbox.emits x.joined x.ships x.quantities left joined.emits watched.emits measured.emits
             (λ group. answers_plain group p.gateway s p.information h e) (λ group. changes_plain group p.sources p.gateway s h e));
         ordered = ap (λ (o : Output). option_map (entry_by (moment_of e)) o.command) step.outbox ∙ taken.ordered;
       }
@@ -152,6 +161,7 @@ module _ (p : Parts) (s : ℕ) (h : History) (before : Bridged) (stands : Bridge
       answering = stands.answering;
       joining = stands.joining;
       watching = stands.watching;
+      measuring = stands.measuring;
       sources = stands.sources;
       plain = stands.plain;
     };
@@ -170,6 +180,7 @@ module _ (p : Parts) (s : ℕ) (h : History) (before : Bridged) (stands : Bridge
       answering = stands.answering;
       joining = commanded_joins p.rmc p.gateway s h (now h) c.source c.address before.joining stands.joining;
       watching = commanded_ships p.ais p.gateway s h c.source c.address before.watching stands.settings stands.watching;
+      measuring = commanded_quantities p.quantities p.gateway s h c.source c.address before.measuring stands.settings stands.measuring;
       sources = commanded_names p.sources p.gateway s h (now h) c.source c.address before.sources stands.sources;
       plain = stands.plain;
     };
@@ -237,12 +248,13 @@ event_valid (event.Tick moment) valid = tt
 -- ---- without a change that is told and without plain sentences
 
 pub nothing_further : NothingFurther
-nothing_further p s h e untold unplain =
+nothing_further p s h e unsaid untold unplain =
     let own = out p.gateway s h e in
     let answered = answers p.gateway s p.information h e in
     let rmc = rmc_of p.rmc p.gateway s h e in
     let ships = ships_of p.ais p.gateway s h e in
     ap (λ (group : Option (List ℕ)). tagged_out p s h e ++ plain_of group (tagged_out p s h e)) unplain
     ∙ append-nil (tagged_out p s h e)
+    ∙ ap (λ (x : Option FurtherRule). own ++ (answered ++ (rmc ++ (ships ++ (quantities_of x p.gateway s h e ++ changes_of p.sources p.gateway s h e))))) unsaid
     ∙ ap (λ (b : Bool). own ++ (answered ++ (rmc ++ (ships ++ changes_of b p.gateway s h e)))) untold
     ∙ ap (λ (es : List Emit). own ++ (answered ++ (rmc ++ es))) (append-nil ships)

@@ -13,12 +13,15 @@ use Rattle.joined_rmc.specs.JoinStands.{JoinStands}
 use Rattle.joined_rmc.specs.RmcOut.{RmcRule}
 use Rattle.ais_bridge.specs.AisKept.{AisKept}
 use Rattle.ais_bridge.specs.Promises.{StandsAis}
+use Rattle.further_bridge.specs.FurtherRule.{FurtherRule}
+use Rattle.further_bridge.specs.Kept.{FurtherKept}
+use Rattle.further_bridge.specs.Promises.{StandsFurther}
 use Rattle.plain_out.specs.Plain.{plain_out}
 use Rattle.source_watch.specs.WatchStands.{WatchStands}
 use Rattle.bus_identity.specs.Answers.{Kept as Counted}
 use Rattle.bridge.specs.declared.joining.Joining.{Joining}
 use Rattle.bridge.specs.Answered.{answers, sent_before}
-use Rattle.bridge.specs.Gate.{changes_of, rmc_of, ships_of}
+use Rattle.bridge.specs.Gate.{changes_of, quantities_of, rmc_of, ships_of}
 
 -- ---- a part stands for a history of the gateway with these settings
 
@@ -38,6 +41,13 @@ WatchingStands None c s h None = Unit {0}
 WatchingStands (Some a) c s h (Some w) = StandsAis a c s h w
 WatchingStands None c s h (Some w) = ⊥
 WatchingStands (Some a) c s h None = ⊥
+
+-- further quantities are said exactly where that is configured
+abbrev pub MeasuringStands : Option FurtherRule → Settings → ℕ → History → Option FurtherKept → Type 0
+MeasuringStands None c s h None = Unit {0}
+MeasuringStands (Some x) c s h (Some k) = StandsFurther x c s h k
+MeasuringStands None c s h (Some k) = ⊥
+MeasuringStands (Some x) c s h None = ⊥
 
 -- the device that each row is taken from is kept exactly where a change is told
 abbrev pub SourcesStand : Bool → Settings → ℕ → History → Option (List (Option Name)) → Type 0
@@ -65,6 +75,10 @@ pub record IsWatched (ais : Option AisConfig) (c : Settings) (s : ℕ) (h : Hist
   pub stands : WatchingStands ais c s (e ∷ h) after
   pub emits : emits_of given ≡ ships_of ais c s h e
 
+pub record IsMeasured (quantities : Option FurtherRule) (c : Settings) (s : ℕ) (h : History) (e : Entry) (after : Option FurtherKept) (given : Emitted) : Type 0 where
+  pub stands : MeasuringStands quantities c s (e ∷ h) after
+  pub emits : emits_of given ≡ quantities_of quantities c s h e
+
 pub record IsChanged (sources : Bool) (c : Settings) (s : ℕ) (h : History) (e : Entry) (after : Option (List (Option Name))) (given : Emitted) : Type 0 where
   pub stands : SourcesStand sources c s (e ∷ h) after
   pub emits : emits_of given ≡ changes_of sources c s h e
@@ -85,14 +99,19 @@ IsWatching gateway left e before after given =
     (ais : Option AisConfig) (c : Settings) (s : ℕ) (h : History) → IsStepped c s h e gateway left → WatchingStands ais c s h before
     → IsWatched ais c s h e after given
 
+abbrev pub IsMeasuring : Machine → Output → Entry → Option FurtherKept → Option FurtherKept → Emitted → Type 0
+IsMeasuring gateway left e before after given =
+    (quantities : Option FurtherRule) (c : Settings) (s : ℕ) (h : History) → IsStepped c s h e gateway left → MeasuringStands quantities c s h before
+    → IsMeasured quantities c s h e after given
+
 abbrev pub IsChanging : Machine → Output → Entry → Option (List (Option Name)) → Option (List (Option Name)) → Emitted → Type 0
 IsChanging gateway left e before after given =
     (sources : Bool) (c : Settings) (s : ℕ) (h : History) → IsStepped c s h e gateway left → SourcesStand sources c s h before
     → IsChanged sources c s h e after given
 
--- ---- plain sentences, of the datagrams of rows, RMC and ships: nothing else has one
+-- ---- plain sentences, of the datagrams of rows, RMC, ships and further quantities: nothing else has one
 
-abbrev pub plain_each : Option (List ℕ) → Emitted → Emitted → Emitted → List Emit
-plain_each None rows joined ships = []
-plain_each (Some group) rows joined ships =
-    plain_out group (emits_of rows) ++ (plain_out group (emits_of joined) ++ plain_out group (emits_of ships))
+abbrev pub plain_each : Option (List ℕ) → Emitted → Emitted → Emitted → Emitted → List Emit
+plain_each None rows joined ships quantities = []
+plain_each (Some group) rows joined ships quantities =
+    plain_out group (emits_of rows) ++ (plain_out group (emits_of joined) ++ (plain_out group (emits_of ships) ++ plain_out group (emits_of quantities)))

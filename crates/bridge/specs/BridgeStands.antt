@@ -17,8 +17,10 @@ use Rattle.gate_core.specs.Promises.{entry_by}
 use Rattle.gate_core.specs.Steps.{by_keys}
 use Rattle.joined_rmc.specs.RmcOut.{RmcRule}
 use Rattle.ais_bridge.specs.AisKept.{AisKept}
+use Rattle.further_bridge.specs.FurtherRule.{FurtherRule}
+use Rattle.further_bridge.specs.Kept.{FurtherKept}
 use Rattle.bridge.specs.declared.joining.Joining.{Joining}
-use Rattle.bridge.specs.Beside.{AnsweringStands, JoiningStands, WatchingStands, SourcesStand, IsAnswering, IsJoining, IsWatching, IsChanging, plain_each}
+use Rattle.bridge.specs.Beside.{AnsweringStands, JoiningStands, WatchingStands, MeasuringStands, SourcesStand, IsAnswering, IsJoining, IsWatching, IsMeasuring, IsChanging, plain_each}
 use Rattle.bridge.specs.Gate.{all_out}
 use Rattle.bridge.specs.Kept.{Bridged, left_of, nothing_left, plain_left, unanswered}
 use Rattle.bridge.specs.Parts.{Parts}
@@ -30,6 +32,7 @@ pub record BridgeStands (p : Parts) (s : ℕ) (h : History) (b : Bridged) : Type
   pub answering : AnsweringStands p.information p.gateway s h b.answering
   pub joining : JoiningStands p.rmc p.gateway s h b.joining
   pub watching : WatchingStands p.ais p.gateway s h b.watching
+  pub measuring : MeasuringStands p.quantities p.gateway s h b.measuring
   pub sources : SourcesStand p.sources p.gateway s h b.sources
   pub plain : b.plain ≡ p.plain
 
@@ -40,6 +43,9 @@ IsOpenedJoining rmc joining = (c : Settings) (s : ℕ) → JoiningStands rmc c s
 
 abbrev pub IsOpenedWatching : Settings → Option AisConfig → Option AisKept → Type 0
 IsOpenedWatching c ais watching = (s : ℕ) → WatchingStands ais c s [] watching
+
+abbrev pub IsOpenedMeasuring : Settings → Option FurtherRule → Option FurtherKept → Type 0
+IsOpenedMeasuring c quantities measuring = (s : ℕ) → MeasuringStands quantities c s [] measuring
 
 abbrev pub IsOpenedSources : Bool → Option (List (Option Name)) → Type 0
 IsOpenedSources wanted sources = (c : Settings) (s : ℕ) → SourcesStand wanted c s [] sources
@@ -52,6 +58,7 @@ pub record IsNew (p : Parts) (b : Bridged) : Type 0 where
   pub answering : b.answering ≡ unanswered p.information
   pub joining : IsOpenedJoining p.rmc b.joining
   pub watching : IsOpenedWatching p.gateway p.ais b.watching
+  pub measuring : IsOpenedMeasuring p.gateway p.quantities b.measuring
   pub sources : IsOpenedSources p.sources b.sources
   pub plain : b.plain ≡ p.plain
 
@@ -92,9 +99,10 @@ pub record IsBesideStep (e : Entry) (before after : Bridged) : Type 0 where
   pub answering : IsAnswering before.gateway before.left.outbox e before.answering after.answering after.left.answer
   pub joining : IsJoining before.gateway before.left.outbox e before.joining after.joining after.left.joined
   pub watching : IsWatching before.gateway before.left.outbox e before.watching after.watching after.left.ships
+  pub measuring : IsMeasuring before.gateway before.left.outbox e before.measuring after.measuring after.left.quantities
   pub sources : IsChanging before.gateway before.left.outbox e before.sources after.sources after.left.changes
   pub group : after.plain ≡ before.plain
-  pub plain : plain_left after.left.plain ≡ plain_each before.plain after.left.outbox.emits after.left.joined after.left.ships
+  pub plain : plain_left after.left.plain ≡ plain_each before.plain after.left.outbox.emits after.left.joined after.left.ships after.left.quantities
 
 -- ---- the command that the last event left, which is left no more once it was taken
 

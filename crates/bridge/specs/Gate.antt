@@ -1,5 +1,5 @@
 -- What the gateway with the parts beside it emits, over everything that ever came: at each event what the gateway itself emits, then its
--- answers to who asks who it is, RMC, the reports of ships around, and a change of the device that a row is taken from; all datagrams of
+-- answers to who asks who it is, RMC, the reports of ships around, further quantities, and a change of the device that a row is taken from; all datagrams of
 -- these once more as plain sentences; and then what it emits at the command that the event completes (ISO 11783-5).
 use Rattle.std.specs.Prelude.{◌≡◌, ℕ, Bool, true, false, List, [], ◌++◌, Option, Some, None}
 use Rattle.gate_events.specs.Emit.{Emit, Emitted}
@@ -10,6 +10,8 @@ use Rattle.history.specs.Settings.{Settings}
 use Rattle.settings.specs.declared.ais.AisConfig.{AisConfig}
 use Rattle.joined_rmc.specs.RmcOut.{RmcRule, rmc_out}
 use Rattle.ais_bridge.specs.AisOut.{ais_out}
+use Rattle.further_bridge.specs.FurtherOut.{further_out}
+use Rattle.further_bridge.specs.FurtherRule.{FurtherRule}
 use Rattle.plain_out.specs.Plain.{plain_out}
 use Rattle.source_watch.specs.SourceOut.{source_out}
 use Rattle.bridge.specs.Answered.{answers}
@@ -23,6 +25,11 @@ rmc_of (Some r) c s h e = rmc_out r c s h e
 abbrev pub ships_of : Option AisConfig → Settings → ℕ → History → Entry → List Emit
 ships_of None c s h e = []
 ships_of (Some a) c s h e = ais_out a c s h e
+
+-- further quantities, where they are said
+abbrev pub quantities_of : Option FurtherRule → Settings → ℕ → History → Entry → List Emit
+quantities_of None c s h e = []
+quantities_of (Some x) c s h e = further_out x c s h e
 
 -- a change of the device that a row is taken from, where it is told
 abbrev pub changes_of : Bool → Settings → ℕ → History → Entry → List Emit
@@ -39,7 +46,7 @@ module _ (p : Parts) (s : ℕ) where
   abbrev pub beside : History → Entry → List Emit
   beside h e =
       answers p.gateway s p.information h e
-      ++ (rmc_of p.rmc p.gateway s h e ++ (ships_of p.ais p.gateway s h e ++ changes_of p.sources p.gateway s h e))
+      ++ (rmc_of p.rmc p.gateway s h e ++ (ships_of p.ais p.gateway s h e ++ (quantities_of p.quantities p.gateway s h e ++ changes_of p.sources p.gateway s h e)))
 
   -- but for plain sentences
   abbrev pub tagged_out : History → Entry → List Emit
@@ -65,9 +72,9 @@ module _ (p : Parts) (s : ℕ) where
   abbrev pub gate : List Entry → List Emitted
   gate events = gate_by p.gateway s all_out events
 
--- where neither a change of devices is told nor plain sentences are said, the gateway, its answers, RMC and ships are all
+-- where neither further quantities and plain sentences are said nor a change of devices is told, the gateway, its answers, RMC and ships are all
 abbrev pub NothingFurther : Type 0
 NothingFurther =
-    (p : Parts) (s : ℕ) (h : History) (e : Entry) → p.sources ≡ false → p.plain ≡ None
+    (p : Parts) (s : ℕ) (h : History) (e : Entry) → p.quantities ≡ None → p.sources ≡ false → p.plain ≡ None
     → all_out p s h e
     ≡ out p.gateway s h e ++ (answers p.gateway s p.information h e ++ (rmc_of p.rmc p.gateway s h e ++ ships_of p.ais p.gateway s h e))

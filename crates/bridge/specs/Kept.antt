@@ -6,6 +6,7 @@ use Rattle.gate_outbox.specs.Output.{Output, emits_of, no_emits, nothing}
 use Rattle.bus_identity.specs.Answers.{Kept as Counted}
 use Rattle.n2k_id.specs.declared.name.Name.{Name}
 use Rattle.ais_bridge.specs.AisKept.{AisKept}
+use Rattle.further_bridge.specs.Kept.{FurtherKept}
 use Rattle.bridge.specs.declared.joining.Joining.{Joining}
 use Rattle.bridge.specs.declared.left.Left.{Left}
 use Rattle.bridge.specs.declared.plain.Plain.{Plain}
@@ -17,6 +18,7 @@ pub record Bridged : Type 0 where
   pub answering : Counted
   pub joining : Option Joining
   pub watching : Option AisKept
+  pub measuring : Option FurtherKept
   -- the device that each row was taken from last
   pub sources : Option (List (Option Name))
   -- the transmission group of plain sentences
@@ -36,22 +38,22 @@ most_answered = 20
 
 -- the gateway alone left something
 abbrev pub no_plain : Plain
-no_plain = record { rows = no_emits; joined = no_emits; ships = no_emits }
+no_plain = record { rows = no_emits; joined = no_emits; ships = no_emits; quantities = no_emits }
 
 abbrev pub left_by : Output → Left
-left_by o = record { outbox = o; answer = no_emits; joined = no_emits; ships = no_emits; changes = no_emits; plain = no_plain }
+left_by o = record { outbox = o; answer = no_emits; joined = no_emits; ships = no_emits; quantities = no_emits; changes = no_emits; plain = no_plain }
 
 abbrev pub nothing_left : Left
 nothing_left = left_by nothing
 
 -- in the order in which it goes out
 abbrev pub plain_left : Plain → List Emit
-plain_left x = emits_of x.rows ++ (emits_of x.joined ++ emits_of x.ships)
+plain_left x = emits_of x.rows ++ (emits_of x.joined ++ (emits_of x.ships ++ emits_of x.quantities))
 
 abbrev pub all_left : Left → List Emit
 all_left x =
     emits_of x.outbox.emits
-    ++ (emits_of x.answer ++ (emits_of x.joined ++ (emits_of x.ships ++ (emits_of x.changes ++ plain_left x.plain))))
+    ++ (emits_of x.answer ++ (emits_of x.joined ++ (emits_of x.ships ++ (emits_of x.quantities ++ (emits_of x.changes ++ plain_left x.plain)))))
 
 abbrev pub left_of : Bridged → List Emit
 left_of b = all_left b.left

@@ -21,6 +21,7 @@ all_parts = record {
   information = 1 ∷ 2 ∷ 3 ∷ 4 ∷ 5 ∷ 6 ∷ 7 ∷ 8 ∷ 9 ∷ 10 ∷ [];
   rmc = Some (record { group = codes "RCOM"; talker = codes "GP"; sfi = codes "II0001"; timeouts = map (λ row. 5000) every_row });
   ais = Some (record { group = codes "TGTD"; slots = 16 });
+  quantities = None;
   sources = false;
   plain = None;
 }

@@ -7,8 +7,11 @@ use Rattle.config_values.specs.declared.row_config.RowConfig.{RowConfig}
 use Rattle.config_values.specs.Settings.{settings_ignoring}
 use Rattle.settings.specs.declared.ais.AisConfig.{AisConfig}
 use Rattle.settings.specs.declared.further.Further.{Further}
+use Rattle.settings.specs.declared.quantity_config.Quantities.{Quantities}
 use Rattle.settings.specs.declared.rmc.RmcConfig.{RmcConfig}
 use Rattle.settings.specs.declared.settings.Settings.{Settings as Configured}
+use Rattle.n2k_id.specs.declared.pattern.Pattern.{Pattern}
+use Rattle.further_bridge.specs.FurtherRule.{FurtherRule, further_rule}
 use Rattle.joined_rmc.specs.RmcOut.{RmcRule, rule_by}
 
 pub record Parts : Type 0 where
@@ -19,6 +22,8 @@ pub record Parts : Type 0 where
   pub rmc : Option RmcRule
   -- how reports of ships around are passed on, where they are
   pub ais : Option AisConfig
+  -- how further quantities are said, where they are
+  pub quantities : Option FurtherRule
   -- whether it is told from which device a row is taken
   pub sources : Bool
   -- the transmission group that all sentences are sent to once more, without headers and TAG blocks, where they are
@@ -31,12 +36,16 @@ timeouts_of rows = map (λ row. row.timeout_ms) rows
 abbrev pub rmc_rule : Config → Option RmcConfig → Option RmcRule
 rmc_rule c rmc = option_map (λ r. rule_by r c.sfi (timeouts_of c.rows)) rmc
 
+abbrev pub quantities_rule : List Pattern → Option Quantities → Option FurtherRule
+quantities_rule ignored quantities = option_map (further_rule ignored) quantities
+
 unfoldable pub parts_of : Configured → Further → Parts
 parts_of x further = record {
   gateway = settings_ignoring further.ignore.items x.config;
   information = information_of x.product;
   rmc = rmc_rule x.config x.rmc;
   ais = x.ais;
+  quantities = quantities_rule further.ignore.items further.quantities;
   sources = further.sources;
   plain = further.plain;
 }

@@ -13,9 +13,11 @@ ghost use Rattle.bridge.specs.Parts.{parts_of};
 use crate::answering::Answering;
 use crate::joining::{Joining, join, joining_of};
 use crate::left::Left;
+use crate::measuring::{measure, measuring_of};
 use crate::sources::{sources_of, watch_sources};
 use crate::watching::{watch, watching_of};
 use ais_bridge::AisBridge;
+use further_bridge::FurtherBridge;
 use gate_core::{Command, Gateway, moment_of};
 use gate_events::{Emit, Event};
 use sentence_text::Group;
@@ -32,6 +34,7 @@ pub struct Bridge {
     answering: Answering,
     joining: Option<Joining>,
     watching: Option<AisBridge>,
+    measuring: Option<FurtherBridge>,
     sources: Option<SourceWatch>,
     /// The transmission group of plain sentences.
     plain: Option<Group>,
@@ -52,6 +55,7 @@ impl Model for Bridge {
       answering = b.answering.identity;
       joining = b.joining;
       watching = b.watching;
+      measuring = b.measuring;
       sources = b.sources;
       plain = b.plain;
       left = b.left.value;
@@ -76,6 +80,12 @@ impl Bridge {
         ensures { IfOk result (IsNew (parts_of settings.now further.now)) }
     {
         let watching = watching_of(alloc, &settings.ais, &settings.config)?;
+        let measuring = measuring_of(
+            alloc,
+            &further.quantities,
+            &further.ignore,
+            &settings.config,
+        )?;
         let left = Left::boxed(alloc)?;
         // The largest part, last: what is kept while others are made lies on the stack once more.
         let gateway = Gateway::ignoring(alloc, &settings.config, &further.ignore)?;
@@ -85,6 +95,7 @@ impl Bridge {
             answering: Answering::new(&settings.product),
             joining: joining_of(&settings.rmc, &settings.config),
             watching,
+            measuring,
             sources: sources_of(further.sources),
             plain: further.plain,
             left,
@@ -143,14 +154,25 @@ impl Bridge {
             &mut left.joined,
         );
         watch(&mut self.watching, &self.gateway, event, &mut left.ships);
+        measure(
+            &mut self.measuring,
+            &self.gateway,
+            event,
+            &mut left.quantities,
+        );
         watch_sources(
             &mut self.sources,
             &self.gateway,
             &left.outbox,
             &mut left.changes,
         );
-        left.plain
-            .say(&self.plain, &left.outbox, &left.joined, &left.ships);
+        left.plain.say(
+            &self.plain,
+            &left.outbox,
+            &left.joined,
+            &left.ships,
+            &left.quantities,
+        );
     }
 
     /// Takes the command that the last event left, where it left one, as an entry of its own at the same moment. Says whether it did.

@@ -9,6 +9,7 @@ use crate::joining::Joined;
 use crate::plain::Plain;
 use crate::sources::Change;
 use ais_bridge::AisEmits;
+use further_bridge::FurtherEmits;
 use gate_core::Outbox;
 use gate_events::Emit;
 use std::alloc::{AllocError, Global};
@@ -21,6 +22,7 @@ pub(crate) struct Left {
     pub(crate) answer: Answer,
     pub(crate) joined: Joined,
     pub(crate) ships: AisEmits,
+    pub(crate) quantities: FurtherEmits,
     pub(crate) changes: Change,
     pub(crate) plain: Plain,
 }
@@ -38,6 +40,7 @@ impl Left {
                 answer: Answer::new(),
                 joined: Joined::new(),
                 ships: AisEmits::new(),
+                quantities: FurtherEmits::new(),
                 changes: Change::new(),
                 plain: Plain::new(),
             },
@@ -52,6 +55,7 @@ impl Left {
         self.answer.clear();
         self.joined.clear();
         self.ships.clear();
+        self.quantities.clear();
         self.changes.clear();
         self.plain.clear();
     }
@@ -64,6 +68,7 @@ impl Left {
             + self.answer.len()
             + self.joined.len()
             + self.ships.len()
+            + self.quantities.len()
             + self.changes.len()
             + self.plain.len()
     }
@@ -84,6 +89,9 @@ impl Left {
         };
         let Some(place) = place.checked_sub(self.ships.len()) else {
             return self.ships.item(place);
+        };
+        let Some(place) = place.checked_sub(self.quantities.len()) else {
+            return self.quantities.item(place);
         };
         let Some(place) = place.checked_sub(self.changes.len()) else {
             return self.changes.item(place);

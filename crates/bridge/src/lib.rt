@@ -11,6 +11,7 @@ pub mod cases;
 mod joining;
 pub mod laws;
 mod left;
+mod measuring;
 mod plain;
 mod replaying;
 mod sources;

@@ -7,6 +7,7 @@ ghost use Rattle.bridge.specs.Kept.{no_plain, plain_left};
 
 use crate::joining::Joined;
 use ais_bridge::AisEmits;
+use further_bridge::FurtherEmits;
 use gate_core::Outbox;
 use gate_events::Emit;
 use plain_out::{PlainEmits, say_plain};
@@ -18,6 +19,7 @@ pub(crate) struct Plain {
     rows: PlainEmits,
     joined: PlainEmits,
     ships: PlainEmits,
+    quantities: PlainEmits,
 }
 
 impl Plain {
@@ -29,6 +31,7 @@ impl Plain {
             rows: PlainEmits::new(),
             joined: PlainEmits::new(),
             ships: PlainEmits::new(),
+            quantities: PlainEmits::new(),
         }
     }
 
@@ -39,32 +42,36 @@ impl Plain {
         self.rows.clear();
         self.joined.clear();
         self.ships.clear();
+        self.quantities.clear();
     }
 
-    /// Says for this transmission group, where there is one, what the gateway, RMC and the reports of ships say in datagrams.
+    /// Says for this transmission group, where there is one, what the gateway, RMC, the reports of ships and further
+    /// quantities say in datagrams.
     pub(crate) fn say(
         &mut self,
         group: &Option<Group>,
         outbox: &Outbox,
         joined: &Joined,
         ships: &AisEmits,
+        quantities: &FurtherEmits,
     )
         requires { self.old ≡ no_plain }
-        ensures { plain_left self.new ≡ plain_each group.now outbox.now.emits joined.now ships.now }
+        ensures { plain_left self.new ≡ plain_each group.now outbox.now.emits joined.now ships.now quantities.now }
     {
         if let Some(group) = group {
             say_plain(*group, &outbox.emits, &mut self.rows);
             say_plain(*group, joined, &mut self.joined);
             say_plain(*group, ships, &mut self.ships);
+            say_plain(*group, quantities, &mut self.quantities);
         }
     }
 
     /// How many there are.
     pub(crate) fn len(&self) -> usize
         ensures len { result ≡ length (plain_left self.now) }
-        ensures few { length (plain_left self.now) ≤ 3 }
+        ensures few { length (plain_left self.now) ≤ 4 }
     {
-        self.rows.len() + self.joined.len() + self.ships.len()
+        self.rows.len() + self.joined.len() + self.ships.len() + self.quantities.len()
     }
 
     /// The one at this place, from 0; None exactly beyond the list.
@@ -78,6 +85,9 @@ impl Plain {
         let Some(place) = place.checked_sub(self.joined.len()) else {
             return self.joined.item(place);
         };
-        self.ships.item(place)
+        let Some(place) = place.checked_sub(self.ships.len()) else {
+            return self.ships.item(place);
+        };
+        self.quantities.item(place)
     }
 }

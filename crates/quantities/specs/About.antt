@@ -35,3 +35,22 @@ unfoldable pub quantities : List Quantity
 quantities =
     quantity.Attitude ∷ quantity.SetDrift ∷ quantity.SpeedComponents ∷ quantity.AirPressure ∷ quantity.AirHumidity ∷ quantity.AirTemperature ∷ quantity.SeaTemperature ∷ quantity.EngineFirst
     ∷ quantity.EngineSecond ∷ quantity.EngineStateFirst ∷ quantity.EngineStateSecond ∷ quantity.BatteryFirst ∷ quantity.BatterySecond ∷ quantity.FuelFirst ∷ quantity.FuelSecond ∷ quantity.WaterFirst ∷ []
+
+-- the place of a quantity among all, from 0
+abbrev pub number_of : Quantity → ℕ
+number_of quantity.Attitude = 0
+number_of quantity.SetDrift = 1
+number_of quantity.SpeedComponents = 2
+number_of quantity.AirPressure = 3
+number_of quantity.AirHumidity = 4
+number_of quantity.AirTemperature = 5
+number_of quantity.SeaTemperature = 6
+number_of quantity.EngineFirst = 7
+number_of quantity.EngineSecond = 8
+number_of quantity.EngineStateFirst = 9
+number_of quantity.EngineStateSecond = 10
+number_of quantity.BatteryFirst = 11
+number_of quantity.BatterySecond = 12
+number_of quantity.FuelFirst = 13
+number_of quantity.FuelSecond = 14
+number_of quantity.WaterFirst = 15

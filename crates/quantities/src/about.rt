@@ -1,7 +1,7 @@
 //! The quantities, and what each is beside its values, in one table: how it is named, and who says it.
-ghost use Rattle.std.specs.Prelude.{◌≡◌, ◌≤◌, IsTrue, length};
+ghost use Rattle.std.specs.Prelude.{◌≡◌, ◌<◌, ◌≤◌, IsTrue, length};
 ghost use Rattle.std.specs.List.{list_all};
-ghost use Rattle.quantities.specs.About.{about_of, quantities};
+ghost use Rattle.quantities.specs.About.{about_of, number_of, quantities};
 ghost use Rattle.sentence_text.specs.Byte.{is_capital};
 
 /// What a bus says besides the rows. They stand everywhere in this order.
@@ -93,6 +93,14 @@ pub fn all_quantities() -> &'static [Quantity; QUANTITIES]
 }
 
 impl Quantity {
+    /// Its place among the quantities, from 0.
+    pub fn number(self) -> usize
+        ensures number { result ≡ number_of self }
+        ensures within { result < QUANTITIES }
+    {
+        self as usize
+    }
+
     /// Its name in a configuration.
     pub fn name(self) -> &'static str
         ensures name { result.now ≡ (about_of self).name }

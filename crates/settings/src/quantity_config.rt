@@ -6,7 +6,7 @@ use quantities::QUANTITIES;
 use sentence_text::Group;
 
 /// Whom a quantity is taken from, and who says it.
-#[derive(Drop)]
+#[derive(Clone, Drop)]
 pub struct QuantityConfig {
     /// The devices that it is taken from, in their order of preference.
     pub sources: ArrayVec<Pattern, 16>,
@@ -35,7 +35,7 @@ impl Default for QuantityConfig {
 }
 
 /// How quantities besides the rows are said.
-#[derive(Drop)]
+#[derive(Clone, Drop)]
 pub struct Quantities {
     /// The transmission group that they are sent to, which is sent nothing else.
     pub group: Group,

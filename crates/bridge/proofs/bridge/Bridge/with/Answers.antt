@@ -13,6 +13,7 @@ returns c = record {
   answering = c.new.ensures;
   joining = c.joining_of.ensures;
   watching = c.in_ok-watching.ensures c.args.further.now.ignore.items;
+  measuring = c.in_ok-measuring.ensures;
   sources = c.sources_of.ensures;
   plain = refl;
 }

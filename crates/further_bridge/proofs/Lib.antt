@@ -1,0 +1,6 @@
+pub mod Sessionless
+pub mod MessageLemmas
+pub mod Numbers
+pub mod Rules
+pub mod StepLemmas
+pub mod Opening

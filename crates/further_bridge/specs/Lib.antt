@@ -1,0 +1,5 @@
+pub mod FurtherRule
+pub mod FurtherOut
+pub mod Kept
+pub mod Promises
+pub mod QuantityKinds

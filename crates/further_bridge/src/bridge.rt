@@ -1,0 +1,119 @@
+//! Further quantities beside the gateway.
+ghost use Rattle.std.specs.Prelude.{◌≡◌, ◌≤◌, All, IfOk, length};
+ghost use Rattle.std.specs.Int.{IsInRange};
+ghost use Rattle.settings.specs.Further.{IsQuantity};
+ghost use Rattle.quantities.specs.Told.{kind_of};
+ghost use Rattle.gate_outbox.specs.Output.{and_left, emits_of, no_emits};
+ghost use Rattle.gate_core.specs.Steps.{IsEventValid, entry_of};
+ghost use Rattle.further_bridge.specs.FurtherRule.{further_rule};
+ghost use Rattle.bus_listener.specs.Promises.{IsListening};
+ghost use Rattle.further_bridge.specs.Kept.{further_opened, hearing_by, most_told, step_by};
+ghost use Rattle.further_bridge.specs.Promises.{IsFurtherOpening, IsFurtherStep};
+
+use crate::config::{FurtherConfig, timeouts_of};
+use crate::kinds::OfQuantities;
+use crate::said::said_by;
+use arrayvec::ArrayVec;
+use bus_listener::BusListener;
+use gate_core::Gateway;
+use gate_events::Event;
+use gate_outbox::Emits;
+use n2k_id::Pattern;
+use n2k_id::address::ADDRESSES;
+use sentence_text::Sfi;
+use settings::Quantities;
+use source_choice::Choice;
+use std::alloc::{AllocError, Global};
+use std::marker::Model;
+
+/// The most reports of one event: one for each message in the making, and those of a frame.
+const MOST_REPORTS: usize = 299;
+
+/// What an event leaves: at most 300 emits, of which at most one is a datagram.
+pub type FurtherEmits = Emits<MOST_REPORTS>;
+
+/// What is kept of further quantities.
+#[derive(Drop)]
+pub struct FurtherBridge {
+    pub(crate) config: FurtherConfig,
+    /// The system function identifier by which the gateway speaks.
+    pub(crate) sfi: Sfi,
+    /// Their fast packets in the making.
+    pub(crate) listener: BusListener,
+    /// What each source said last of each of them.
+    pub(crate) choice: Choice,
+    /// How many lines were said, modulo 999.
+    pub(crate) lines: u16,
+}
+
+impl Model for FurtherBridge {
+    ghost use Rattle.std.specs.Prelude.{◌≡◌, ◌<◌, ◌≤◌, All, length};
+    ghost use Rattle.settings.specs.Further.{IsQuantity};
+    ghost use Rattle.further_bridge.specs.FurtherRule.{further_rule};
+    ghost use Rattle.further_bridge.specs.Kept.{FurtherKept};
+
+    ghost Value = { FurtherKept };
+
+    ghost view = { λ b. record {
+      rule = further_rule b.config.ignored.items b.config.quantities;
+      sfi = b.sfi;
+      slots = b.listener;
+      choices = b.choice;
+      lines = b.lines;
+    } };
+
+    ghost invariant = { λ b. All IsQuantity b.config.quantities.each × (b.listener.limit ≤ 256) × (b.choice.sources ≡ 254)
+        × (length b.choice.subjects ≡ 16) × (b.lines < 999) };
+}
+
+impl FurtherBridge {
+    /// Of these quantities, which are taken from none of the devices that the patterns match, and said by the system function identifier of a
+    /// gateway. Who holds an address is asked of the gateway.
+    pub fn new(
+        alloc: Global,
+        quantities: &Quantities,
+        ignored: &ArrayVec<Pattern, 16>,
+        sfi: Sfi,
+    ) -> Result<FurtherBridge, AllocError>
+        requires slots { IsInRange 1 256 quantities.now.slots }
+        requires each { All IsQuantity quantities.now.each }
+        ensures value { IfOk result (λ b. b ≡ further_opened (further_rule ignored.now.items quantities.now) sfi) }
+        ensures history { IfOk result (IsFurtherOpening (further_rule ignored.now.items quantities.now) sfi) }
+    {
+        let listener = BusListener::new(alloc, quantities.slots)?;
+        let choice = Choice::new(alloc, ADDRESSES as u16, &timeouts_of(&quantities.each))?;
+        let config = FurtherConfig::copy_of(quantities, ignored)?;
+        Ok(FurtherBridge {
+            config,
+            sfi,
+            listener,
+            choice,
+            lines: 0,
+        })
+    }
+
+    /// Takes an event that the gateway has taken in its last step.
+    pub fn after(&mut self, gateway: &Gateway, event: &Event<'_>, emits: &mut FurtherEmits)
+        requires valid { IsEventValid event.now }
+        requires empty { emits.old ≡ no_emits }
+        ensures after { self.new ≡ (step_by gateway.now self.old (entry_of event.now)).after }
+        ensures emits { emits.new ≡ (step_by gateway.now self.old (entry_of event.now)).emits }
+        ensures history { IsFurtherStep gateway.now (entry_of event.now) self.old self.new (emits_of emits.new) }
+    {
+        self.step(gateway, event, emits);
+    }
+
+    /// Takes an event: what is heard of it, and then the message that it completes.
+    #[tactic(auto, using(gate_outbox::proofs::Telling::left_behind, bus_listener::proofs::RoomLemmas::step_limit))]
+    fn step(&mut self, gateway: &Gateway, event: &Event<'_>, emits: &mut FurtherEmits)
+        requires valid { IsEventValid event.now }
+        ensures after { self.new ≡ (step_by gateway.now self.old (entry_of event.now)).after }
+        ensures emits { emits.new ≡ and_left most_told emits.old (step_by gateway.now self.old (entry_of event.now)).emits }
+        ensures room { length (hearing_by gateway.now self.old (entry_of event.now)).told ≤ 258 }
+        ensures history { IsListening kind_of gateway.now (entry_of event.now) self.old.slots (hearing_by gateway.now self.old (entry_of event.now)) }
+    {
+        let said = said_by(self.listener.after(gateway, event, &OfQuantities, emits));
+        self.give_up(gateway);
+        self.take(&said, emits);
+    }
+}

@@ -1,0 +1,89 @@
+//! From whom further quantities are taken, and who says them.
+ghost use Rattle.std.specs.Prelude.{◌≡◌, ◌<◌, All, IfOk, IsTrue, length, map};
+ghost use Rattle.std.specs.List.{list_all};
+ghost use Rattle.sentence_text.specs.Byte.{is_capital};
+ghost use Rattle.settings.specs.Further.{IsQuantity};
+ghost use Rattle.source_choice.specs.SubjectRules.{rank_of};
+ghost use Rattle.further_bridge.specs.FurtherRule.{further_rule, rule_at, rule_of_quantity, talker_at};
+
+use arrayvec::ArrayVec;
+use n2k_id::{Name, Pattern};
+use quantities::QUANTITIES;
+use sentence_text::Group;
+use settings::{Quantities, QuantityConfig};
+use source_choice::{Rank, rank_of};
+use std::alloc::AllocError;
+
+/// How further quantities are said, and the devices that none is taken from, though they be listed or others be taken.
+#[derive(Drop)]
+pub(crate) struct FurtherConfig {
+    pub(crate) quantities: Quantities,
+    pub(crate) ignored: ArrayVec<Pattern, 16>,
+}
+
+impl FurtherConfig {
+    /// A copy of these quantities, beside the devices that none is taken from.
+    #[tactic(auto, using(std::proofs::lemmas::List::Elements::same_from_all_zip))]
+    pub(crate) fn copy_of(
+        quantities: &Quantities,
+        ignored: &ArrayVec<Pattern, 16>,
+    ) -> Result<FurtherConfig, AllocError>
+        ensures { IfOk result (λ copy. copy ≡ record { quantities = quantities.now; ignored = ignored.now }) }
+    {
+        Ok(FurtherConfig {
+            quantities: quantities.clone()?,
+            ignored: ignored.clone()?,
+        })
+    }
+
+    /// How the quantity with this number is taken and said.
+    #[tactic(auto, using(crate::proofs::Rules::rules_are_by_number, crate::proofs::Rules::talkers_are_by_number))]
+    fn quantity(&self, number: usize) -> &QuantityConfig
+        requires { number < QUANTITIES }
+        ensures rule { rule_of_quantity self.now.ignored.items result.now ≡ rule_at (further_rule self.now.ignored.items self.now.quantities) number }
+        ensures talker { result.now.talker ≡ talker_at (further_rule self.now.ignored.items self.now.quantities) number }
+        ensures valid { All IsQuantity self.now.quantities.each → IsQuantity result.now }
+    {
+        &self.quantities.each[number]
+    }
+
+    /// The rank of a NAME in the quantity.
+    #[tactic(auto, using(crate::proofs::Rules::rank_is))]
+    pub(crate) fn rank(&self, number: usize, name: Name) -> Option<Rank>
+        requires { number < QUANTITIES }
+        ensures { result ≡ rank_of (rule_at (further_rule self.now.ignored.items self.now.quantities) number) name.0 }
+    {
+        let quantity = self.quantity(number);
+        rank_of(&quantity.sources, quantity.others, &self.ignored, name)
+    }
+
+    /// The talker of the quantity's sentence.
+    pub(crate) fn talker(&self, number: usize) -> [u8; 2]
+        requires number { number < QUANTITIES }
+        requires valid { All IsQuantity self.now.quantities.each }
+        ensures talker { result ≡ talker_at (further_rule self.now.ignored.items self.now.quantities) number }
+        ensures capitals { IsTrue (list_all is_capital result) }
+    {
+        self.quantity(number).talker
+    }
+
+    /// The transmission group.
+    #[tactic(auto, unfolding(crate::specs::FurtherRule::further_rule))]
+    pub(crate) fn group(&self) -> Group
+        ensures { result ≡ (further_rule self.now.ignored.items self.now.quantities).group }
+    {
+        self.quantities.group
+    }
+}
+
+/// How long a source of each quantity counts, in milliseconds.
+pub(crate) fn timeouts_of(each: &[QuantityConfig; QUANTITIES]) -> [u32; QUANTITIES]
+    ensures timeouts { result ≡ map (λ q. q.timeout_ms) each.now }
+    ensures count { length each.now ≡ QUANTITIES }
+{
+    let mut timeouts = [0; QUANTITIES];
+    for number in 0..QUANTITIES {
+        timeouts[number] = each[number].timeout_ms;
+    }
+    timeouts
+}

@@ -1,0 +1,18 @@
+//! Further quantities: what a bus says besides the rows, such as engines, batteries, tanks and the weather, said on the network of the best
+//! device that says it.
+//!
+//! It acts after each step of the gateway, and asks it who holds an address, and which addresses changed hands. No call but
+//! [`FurtherBridge::new`] takes memory.
+#![tactic(auto)]
+
+mod bridge;
+mod config;
+mod kinds;
+mod laws;
+mod said;
+mod saying;
+mod writing;
+
+pub use bridge::{FurtherBridge, FurtherEmits};
+pub use laws::commands_leave_further_quantities;
+pub use settings::Quantities;

@@ -1,0 +1,38 @@
+//! A message that is complete, with what it says of a quantity.
+ghost use Rattle.std.specs.Prelude.{◌≡◌, option_map, IfSome};
+ghost use Rattle.quantities.specs.Told.{GivesFrom, entries};
+ghost use Rattle.bus_listener.specs.Lent.{heard_message};
+ghost use Rattle.further_bridge.specs.Kept.{said_of};
+
+use bus_listener::HeardMessage;
+use n2k_id::Name;
+use quantities::Told;
+
+/// Who sent it, when it was complete, and what it says.
+#[derive(Clone, Copy)]
+pub(crate) struct Said {
+    /// In microseconds.
+    pub(crate) moment: u64,
+    pub(crate) source: u8,
+    /// The NAME that holds the source.
+    pub(crate) name: Name,
+    pub(crate) pgn: u32,
+    pub(crate) told: Told,
+}
+
+/// What a message says, where there is one.
+pub(crate) fn said_by(message: Option<HeardMessage<'_>>) -> Option<Said>
+    ensures said { result ≡ option_map said_of (heard_message message.entry) }
+    ensures range { IfSome result (λ d. GivesFrom entries d.told) }
+{
+    match message {
+        Some(message) => Some(Said {
+            moment: message.moment,
+            source: message.source,
+            name: message.name,
+            pgn: message.pgn,
+            told: quantities::read(message.pgn, message.payload),
+        }),
+        None => None,
+    }
+}
