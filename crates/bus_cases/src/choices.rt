@@ -16,7 +16,9 @@ const SECOND_BEST: Rank = Rank {
 
 /// The numbers of subjects that several sources say something of.
 const HEADING: usize = 0;
+
 const DEPTH: usize = 1;
+
 const TIME: usize = 2;
 
 const TIMEOUTS: [u32; 3] = [2_000; 3];
