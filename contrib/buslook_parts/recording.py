@@ -164,6 +164,8 @@ class Recording:
 
     def __init__(self, config):
         self.addresses, self.ranks, self.rows = Addresses(config), Ranks(config), Rows(Page())
+        # the transmission group of further quantities, whose sentences say no row
+        self.further_group = config.get("further", {}).get("group")
         self.begin = self.end = None
         self.bus = self.compared = self.rates = None
         self.counts, self.rules = collections.Counter(), collections.Counter()
@@ -264,7 +266,7 @@ class Recording:
             elif match.group(5) is not None:
                 self.sent_to_bus(parts_of(int(match.group(5), 16)), items)
             else:
-                self.sent_to_network(bytes.fromhex(match.group(8).decode()), parts, rows_said)
+                self.sent_to_network(match.group(7).decode(), bytes.fromhex(match.group(8).decode()), parts, rows_said)
         return rows_said
 
     def reported(self, number, line, items, rule, detail):
@@ -302,20 +304,32 @@ class Recording:
             if sources:
                 self.strip(f"{words}, to the bus", max(map(self.ranks.timeout_us, rows))).say(self.end, self.ranks.of_network(sources))
 
-    def sent_to_network(self, datagram, parts, rows_said):
-        """A datagram, by the frame that it comes of; the rows that it says are added to those that are."""
+    def sent_to_network(self, group, datagram, parts, rows_said):
+        """A datagram for a transmission group, by the frame that it comes of; the rows that it says are added to those that are."""
         self.count("datagrams to the network")
         sentences = [sentence.decode() for sentence in SENT_LINE.findall(datagram)]
-        self.counts["messages said to the network"] += any(sentence[3:6] in self.rows.formatters for sentence in sentences)
+        is_further = group == self.further_group
+        self.counts["messages said to the network"] += is_further or any(sentence[3:6] in self.rows.formatters for sentence in sentences)
         for sentence in sentences:
             self.counts["sentences to the network"] += 1
             self.sentences.add(sentence.split(",")[0])
-            rows_said.add(self.said(sentence.split("*")[0].split(","), None if parts is None else parts.source))
+            fields, source = sentence.split("*")[0].split(","), None if parts is None else parts.source
+            if is_further:
+                self.said_further(fields, source)
+            else:
+                rows_said.add(self.said(fields, source))
 
     def strip(self, label, timeout_us):
         if label not in self.strips:
             self.strips[label] = Strip(self.begin, timeout_us)
         return self.strips[label]
+
+    def said_further(self, fields, source):
+        """A further quantity that went out, under the words of its sentence: its last letters, and a transducer's name or an engine's number."""
+        formatter = fields[0][3:]
+        what = {"XDR": fields[4:5], "RPM": fields[2:3]}.get(formatter, [])
+        if source is not None:
+            self.strip(" ".join([formatter, *what]), TIMEOUT_MS * 1000).say(self.end, Device(f"address {source}", "", None, ""))
 
     def said(self, fields, source):
         """A sentence that went out, and the row that it says."""
