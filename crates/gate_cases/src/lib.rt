@@ -9,8 +9,6 @@ mod demonstration;
 #[cfg(test)]
 mod following;
 #[cfg(test)]
-mod further;
-#[cfg(test)]
 mod ignoring;
 #[cfg(test)]
 mod isolated;
