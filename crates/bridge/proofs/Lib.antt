@@ -5,6 +5,7 @@ pub mod Plains
 pub mod Lengths
 pub mod Ships
 pub mod Quantities
+pub mod Usual
 pub mod Steps
 pub mod Sending
 pub mod PartCases

@@ -1,5 +1,5 @@
 -- What the bridge keeps and leaves, as plain values.
-use Rattle.std.specs.Prelude.{ℕ, Bool, List, ◌++◌, Option}
+use Rattle.std.specs.Prelude.{◌≡◌, ℕ, Bool, List, ◌++◌, Option, None}
 use Rattle.gate_events.specs.Emit.{Emit}
 use Rattle.gate_model.specs.Machine.{Machine}
 use Rattle.gate_outbox.specs.Output.{Output, emits_of, no_emits, nothing}
@@ -57,3 +57,17 @@ all_left x =
 
 abbrev pub left_of : Bridged → List Emit
 left_of b = all_left b.left
+
+-- ---- where few ask for it: further quantities, changes of devices, plain sentences
+
+-- none of these parts is there
+pub record AreAbsent (measuring : Option FurtherKept) (sources : Option (List (Option Name))) (plain : Option (List ℕ)) : Type 0 where
+  pub unmeasured : measuring ≡ None
+  pub untold : sources ≡ None
+  pub unsaid : plain ≡ None
+
+-- none of them left anything
+pub record IsUsual (x : Left) : Type 0 where
+  pub quantities : x.quantities ≡ no_emits
+  pub changes : x.changes ≡ no_emits
+  pub plain : x.plain ≡ no_plain

@@ -7,7 +7,7 @@ ghost use Rattle.history.specs.Entries.{moment_of};
 ghost use Rattle.settings.specs.Further.{IsFurther, nothing_further};
 ghost use Rattle.settings.specs.Settings.{IsSettings};
 ghost use Rattle.bridge.specs.BridgeStands.{IsBesideStep, IsBridgeStep, IsCommanded, IsNew, IsOrder, IsStart};
-ghost use Rattle.bridge.specs.Kept.{left_by, left_of};
+ghost use Rattle.bridge.specs.Kept.{AreAbsent, left_by, left_of};
 ghost use Rattle.bridge.specs.Parts.{parts_of};
 
 use crate::answering::Answering;
@@ -38,6 +38,8 @@ pub struct Bridge {
     sources: Option<SourceWatch>,
     /// The transmission group of plain sentences.
     plain: Option<Group>,
+    /// Whether one of the last three is there. Few ask for them: where none is, an event costs nothing for them.
+    asks: bool,
     /// Most of all that is kept, and so not on the stack.
     left: Box<Left>,
 }
@@ -45,7 +47,7 @@ pub struct Bridge {
 impl Model for Bridge {
     ghost use Rattle.std.specs.Prelude.{◌≡◌, false};
     ghost use Rattle.gate_model.specs.Machine.{opened_machine};
-    ghost use Rattle.bridge.specs.Kept.{Bridged};
+    ghost use Rattle.bridge.specs.Kept.{AreAbsent, Bridged, IsUsual};
 
     ghost Value = { Bridged };
 
@@ -61,7 +63,8 @@ impl Model for Bridge {
       left = b.left.value;
     } };
 
-    ghost invariant = { λ b. b.started ≡ false → b.gateway ≡ opened_machine b.gateway.settings };
+    ghost invariant = { λ b. (b.started ≡ false → b.gateway ≡ opened_machine b.gateway.settings)
+        × (b.asks ≡ false → AreAbsent b.measuring b.sources b.plain × IsUsual b.left.value) };
 }
 
 impl Bridge {
@@ -89,6 +92,8 @@ impl Bridge {
         let left = Left::boxed(alloc)?;
         // The largest part, last: what is kept while others are made lies on the stack once more.
         let gateway = Gateway::ignoring(alloc, &settings.config, &further.ignore)?;
+        let sources = sources_of(further.sources);
+        let asks = is_any_there(&measuring, &sources, &further.plain);
         Ok(Bridge {
             gateway,
             started: false,
@@ -96,8 +101,9 @@ impl Bridge {
             joining: joining_of(&settings.rmc, &settings.config),
             watching,
             measuring,
-            sources: sources_of(further.sources),
+            sources,
             plain: further.plain,
+            asks,
             left,
         })
     }
@@ -116,7 +122,7 @@ impl Bridge {
         ensures started { self.new.started ≡ true }
     {
         let left = self.left.as_mut();
-        left.clear();
+        left.clear(self.asks);
         self.gateway.start(moment, &mut left.outbox);
         self.started = true;
     }
@@ -131,7 +137,7 @@ impl Bridge {
     {
         let accepted = accepts(&self.gateway, event);
         let left = self.left.as_mut();
-        left.clear();
+        left.clear(self.asks);
         self.gateway.step(event, &mut left.outbox);
         if accepted {
             self.take_beside(event);
@@ -154,25 +160,27 @@ impl Bridge {
             &mut left.joined,
         );
         watch(&mut self.watching, &self.gateway, event, &mut left.ships);
-        measure(
-            &mut self.measuring,
-            &self.gateway,
-            event,
-            &mut left.quantities,
-        );
-        watch_sources(
-            &mut self.sources,
-            &self.gateway,
-            &left.outbox,
-            &mut left.changes,
-        );
-        left.plain.say(
-            &self.plain,
-            &left.outbox,
-            &left.joined,
-            &left.ships,
-            &left.quantities,
-        );
+        if self.asks {
+            measure(
+                &mut self.measuring,
+                &self.gateway,
+                event,
+                &mut left.quantities,
+            );
+            watch_sources(
+                &mut self.sources,
+                &self.gateway,
+                &left.outbox,
+                &mut left.changes,
+            );
+            left.plain.say(
+                &self.plain,
+                &left.outbox,
+                &left.joined,
+                &left.ships,
+                &left.quantities,
+            );
+        }
     }
 
     /// Takes the command that the last event left, where it left one, as an entry of its own at the same moment. Says whether it did.
@@ -198,7 +206,7 @@ impl Bridge {
         ensures started { self.new.started ≡ true }
     {
         let left = self.left.as_mut();
-        left.clear();
+        left.clear(self.asks);
         self.gateway
             .command(Command { source, address }, &mut left.outbox);
     }
@@ -214,7 +222,7 @@ impl Bridge {
     pub fn len(&self) -> usize
         ensures { result ≡ length (left_of self.now) }
     {
-        self.left.len()
+        self.left.len(self.asks)
     }
 
     /// The emit at this place of all that the last call left, in its order, from 0; None exactly beyond the list.
@@ -231,4 +239,18 @@ fn accepts(gateway: &Gateway, event: &Event<'_>) -> bool
     ensures { result ≡ nat_le gateway.now.moment (moment_of (entry_of event.now)) }
 {
     gateway.moment() <= moment_of(event)
+}
+
+/// Whether any of these parts is there.
+fn is_any_there(
+    measuring: &Option<FurtherBridge>,
+    sources: &Option<SourceWatch>,
+    plain: &Option<Group>,
+) -> bool
+    ensures { result ≡ false → AreAbsent measuring.now sources.now plain.now }
+{
+    match (measuring, sources, plain) {
+        (None, None, None) => false,
+        _ => true,
+    }
 }

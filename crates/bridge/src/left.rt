@@ -1,8 +1,8 @@
 //! All that a call of the bridge leaves.
-ghost use Rattle.std.specs.Prelude.{◌≡◌, length, option_map, slice_get, IfOk, IfSome};
+ghost use Rattle.std.specs.Prelude.{◌≡◌, false, length, option_map, slice_get, IfOk, IfSome};
 ghost use Rattle.gate_events.specs.Emit.{CanWrite};
 ghost use Rattle.gate_outbox.specs.Output.{emit_of};
-ghost use Rattle.bridge.specs.Kept.{all_left, nothing_left};
+ghost use Rattle.bridge.specs.Kept.{IsUsual, all_left, nothing_left};
 
 use crate::answering::Answer;
 use crate::joining::Joined;
@@ -47,30 +47,33 @@ impl Left {
         )?)
     }
 
-    /// Forgets all.
-    pub(crate) fn clear(&mut self)
+    /// Forgets all: also what few ask for, where it is asked for.
+    pub(crate) fn clear(&mut self, asked: bool)
+        requires { asked ≡ false → IsUsual self.old }
         ensures { self.new ≡ nothing_left }
     {
         self.outbox.clear();
         self.answer.clear();
         self.joined.clear();
         self.ships.clear();
-        self.quantities.clear();
-        self.changes.clear();
-        self.plain.clear();
+        if asked {
+            self.quantities.clear();
+            self.changes.clear();
+            self.plain.clear();
+        }
     }
 
-    /// How many emits there are.
-    pub(crate) fn len(&self) -> usize
+    /// How many emits there are: also of what few ask for, where it is asked for.
+    pub(crate) fn len(&self, asked: bool) -> usize
+        requires { asked ≡ false → IsUsual self.now }
         ensures { result ≡ length (all_left self.now) }
     {
-        self.outbox.len()
-            + self.answer.len()
-            + self.joined.len()
-            + self.ships.len()
-            + self.quantities.len()
-            + self.changes.len()
-            + self.plain.len()
+        let usual = self.outbox.len() + self.answer.len() + self.joined.len() + self.ships.len();
+        if asked {
+            usual + self.quantities.len() + self.changes.len() + self.plain.len()
+        } else {
+            usual
+        }
     }
 
     /// The emit at this place, from 0; None exactly beyond the list.

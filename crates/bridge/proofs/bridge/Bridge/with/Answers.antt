@@ -14,6 +14,6 @@ returns c = record {
   joining = c.joining_of.ensures;
   watching = c.in_ok-watching.ensures c.args.further.now.ignore.items;
   measuring = c.in_ok-measuring.ensures;
-  sources = c.sources_of.ensures;
+  sources = c.sources_of-sources.ensures;
   plain = refl;
 }
