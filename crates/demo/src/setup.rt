@@ -87,10 +87,7 @@ fn ends() -> Ends
         bus_listen: endpoint(b"127.0.0.1:60101"),
         bus_send: endpoint(b"127.0.0.1:60102"),
         net_listen: endpoint(b"127.0.0.1:60001"),
-        net: Routes {
-            list: ArrayVec::new(),
-            other: endpoint(b"127.0.0.1:60002"),
-        },
+        net: Routes::all_to(&endpoint(b"127.0.0.1:60002")),
     }
 }
 

@@ -33,10 +33,7 @@ pub fn usual(fast_slots: u16) -> Config {
             bus_listen: endpoint(b"127.0.0.1:60101"),
             bus_send: endpoint(b"127.0.0.1:60102"),
             net_listen: endpoint(b"127.0.0.1:60001"),
-            net: Routes {
-                list: ArrayVec::new(),
-                other: endpoint(b"127.0.0.1:60002"),
-            },
+            net: Routes::all_to(&endpoint(b"127.0.0.1:60002")),
         },
     }
 }

@@ -1,5 +1,8 @@
 -- An entry when what was overdue has ended, and one that is taken by an outbox in which there is nothing.
 use Rattle.std.proofs.Common.{◌≡◌, ℕ, ◌≤◌, length, Option, Some, None, option_map, refl, ap}
+use Rattle.gate_events.specs.Event.{moment_in, view}
+use Rattle.gate_events.specs.declared.event.Event.{Event}
+use Rattle.gate_events.specs.declared.event.Event.TheVariants as event
 use Rattle.history.specs.Entries.{Entry, moment_of}
 use Rattle.gate_model.specs.Addresses.{Changed, changes_after}
 use Rattle.gate_model.specs.Machine.{Machine, Step, counted_in, later, overdue}
@@ -9,7 +12,13 @@ use Rattle.gate_outbox.specs.declared.done.Done.{Done}
 use Rattle.gate_outbox.specs.declared.done.Command.{Command}
 use Rattle.gate_outbox.specs.Output.{Emitted, Output, and_told, most_told, nothing}
 use Rattle.gate_outbox.proofs.Telling.{left_behind, left_first}
-use Rattle.gate_core.specs.Steps.{by_keys, and_step, output_of, first_there, done_of, command_of}
+use Rattle.gate_core.specs.Steps.{by_keys, entry_of, and_step, output_of, first_there, done_of, command_of}
+
+-- the moment of an event is that of its entry
+pub same_moment : (x : Event) → moment_in (view x) ≡ moment_of (entry_of x)
+same_moment (event.Frame moment frame) = refl
+same_moment (event.Datagram moment bytes) = refl
+same_moment (event.Tick moment) = refl
 
 module _ (g g₁ : Machine) (e : Entry) (m : ℕ) (now : m ≡ moment_of e) (passed : g₁ ≡ later m g) where
   pub entered_after : (g₂ g₃ : Machine) (changed : Changed) → g₂ ≡ (handled by_keys g₁ e).after → changed ≡ changes_after g₁.addresses e → g₃ ≡ counted_in changed g₂

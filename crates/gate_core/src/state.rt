@@ -288,13 +288,10 @@ impl State {
     }
 }
 
-/// The moment of an event, in microseconds.
+/// The moment of an event, in microseconds, as that of its entry in a history.
+#[tactic(auto, using(crate::proofs::Entering::same_moment))]
 pub fn moment_of(event: &Event<'_>) -> u64
     ensures { result ≡ moment_of (entry_of event.now) }
 {
-    match event {
-        Event::Frame { moment, .. } => *moment,
-        Event::Datagram { moment, .. } => *moment,
-        Event::Tick { moment } => *moment,
-    }
+    event.moment()
 }

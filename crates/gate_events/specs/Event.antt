@@ -11,6 +11,11 @@ pub data Seen : Type 0 where
   datagram : ℕ → List ℕ → Seen
   tick : ℕ → Seen
 
+abbrev pub moment_in : Seen → ℕ
+moment_in (frame moment f) = moment
+moment_in (datagram moment bytes) = moment
+moment_in (tick moment) = moment
+
 abbrev pub view : Event → Seen
 view (event.Frame moment f) = frame moment (bus_frame f)
 view (event.Datagram moment bytes) = datagram moment bytes.now

@@ -1,3 +1,6 @@
+ghost use Rattle.std.specs.Prelude.{◌≡◌};
+ghost use Rattle.gate_events.specs.Event.{moment_in, view};
+
 use n2k_id::Frame;
 
 /// What a line of a capture says. Each moment is in microseconds.
@@ -9,4 +12,18 @@ pub enum Event<'a> {
     Datagram { moment: u64, bytes: &'a [u8] },
     /// Time passes.
     Tick { moment: u64 },
+}
+
+impl<'a> Event<'a> {
+    /// When it happens.
+    #[inline]
+    pub fn moment(&self) -> u64
+        ensures { result ≡ moment_in (view self.now) }
+    {
+        match self {
+            Event::Frame { moment, .. } => *moment,
+            Event::Datagram { moment, .. } => *moment,
+            Event::Tick { moment } => *moment,
+        }
+    }
 }

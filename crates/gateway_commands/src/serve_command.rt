@@ -1,17 +1,16 @@
 //! `serve`: the gateway of a configuration between two links that live.
-ghost use Rattle.std.specs.Prelude.{◌≡◌, []};
+ghost use Rattle.std.specs.Prelude.{◌≡◌};
 ghost use Rattle.serving.specs.Served.{outside};
 ghost use Rattle.settings.specs.Further.{IsFurther};
 ghost use Rattle.settings.specs.Settings.{IsSettings};
 ghost use Rattle.statuses.specs.Statuses.{IsEarly, number};
 ghost use Rattle.gateway_commands.specs.ServeCommand.{AttachesBoth, ServesBy, ServesWith};
 
-use arrayvec::ArrayVec;
 use bridge::{Bridge, Further, Settings};
 use config_check::{give_up, load_whole};
 use config_values::Ends;
 use gate_outside::{Clock, Failed, Files, Link, Sink};
-use network_routes::{Address, Routes};
+use network_routes::Routes;
 use serving::take_turns;
 use statuses::Status;
 use std::alloc::Global;
@@ -82,21 +81,8 @@ fn attach_both<B: Link, E: Link>(ends: &Ends, bus: &mut B, net: &mut E) -> Resul
     ensures { AttachesBoth ends.now (B.traffic bus.old) (B.traffic bus.new) (B.fault_count bus.old) (B.fault_count bus.new)
         (E.traffic net.old) (E.traffic net.new) (E.fault_count net.old) (E.fault_count net.new) result }
 {
-    match bus.attach(ends.bus_listen.as_slice(), &all_to(&ends.bus_send)) {
+    match bus.attach(ends.bus_listen.as_slice(), &Routes::all_to(&ends.bus_send)) {
         Ok(()) => net.attach(ends.net_listen.as_slice(), &ends.net),
         Err(Failed) => Err(Failed),
-    }
-}
-
-/// Routes by which all that is sent goes to one address.
-fn all_to(address: &Address) -> Routes
-    ensures list { result.list.items ≡ [] }
-    ensures other { result.other.items ≡ address.now.items }
-{
-    let mut other = ArrayVec::new();
-    let _fits = other.try_extend_from_slice(address.as_slice());
-    Routes {
-        list: ArrayVec::new(),
-        other,
     }
 }

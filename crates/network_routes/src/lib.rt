@@ -1,6 +1,8 @@
 //! Where a link listens and sends.
 #![tactic(auto)]
 
+ghost use Rattle.std.specs.Prelude.{◌≡◌, []};
+
 use arrayvec::ArrayVec;
 use sentence_text::Group;
 
@@ -15,6 +17,11 @@ pub struct Route {
 }
 
 impl Default for Route {
+    ghost use Rattle.std.specs.Prelude.{◌≡◌, [], codes};
+
+    ghost is_default = { λ route. (route.group ≡ codes "NAVD") × (route.address.items ≡ []) };
+
+    /// Navigational data, with no address.
     fn default() -> Route {
         Route {
             group: Group::default(),
@@ -30,4 +37,19 @@ pub struct Routes {
     pub list: ArrayVec<Route, 8>,
     /// The address of every other group.
     pub other: Address,
+}
+
+impl Routes {
+    /// Routes by which all that is sent goes to one address.
+    pub fn all_to(address: &Address) -> Routes
+        ensures list { result.list.items ≡ [] }
+        ensures other { result.other.items ≡ address.now.items }
+    {
+        let mut other = ArrayVec::new();
+        let _fits = other.try_extend_from_slice(address.as_slice());
+        Routes {
+            list: ArrayVec::new(),
+            other,
+        }
+    }
 }
