@@ -5,3 +5,4 @@ pub mod Hexadecimal
 pub mod Reading
 pub mod Writing
 pub mod Emitted
+pub mod EventLaws

@@ -1,17 +1,19 @@
--- The line that is written of an emit.
-use Rattle.std.specs.Prelude.{ℕ, false, List, [], ◌∷◌, ◌++◌, codes, Option, Some, None}
+-- The line that is written of an emit, and that of an event.
+use Rattle.std.specs.Prelude.{ℕ, ◌≤◌, false, List, [], ◌∷◌, ◌++◌, length, codes, Option, Some, None}
 use Rattle.std.specs.Fmt.{decimal}
 use Rattle.std.specs.Int.{w32, to_be_bytes}
 use Rattle.hex.specs.Hex.{encode_upper}
 use Rattle.unit_fraction.specs.Text.{decimal_text}
-use Rattle.n2k_id.specs.Frame.{BusFrame, bus_frame}
+use Rattle.n2k_id.specs.Frame.{BusFrame, IsFrame, bus_frame}
 use Rattle.readings.specs.Rows.{about_of}
 use Rattle.gate_events.specs.declared.emit.Detail.{Detail}
 use Rattle.gate_events.specs.declared.emit.Detail.TheVariants as detail
 use Rattle.gate_events.specs.declared.emit.Report.{Report}
 use Rattle.gate_events.specs.declared.emit.Emit.{Emit}
 use Rattle.gate_events.specs.declared.emit.Emit.TheVariants as emit
-use Rattle.gate_events.specs.Event.{Seen, frame, datagram}
+use Rattle.gate_events.specs.declared.event.Event.{Event}
+use Rattle.gate_events.specs.declared.event.Event.TheVariants as event
+use Rattle.gate_events.specs.Event.{Seen, frame, datagram, tick}
 
 -- the seconds and six digits of microseconds in parentheses, and a space
 abbrev pub time_text : ℕ → List ℕ
@@ -55,3 +57,25 @@ abbrev pub said : Emit → ℕ → Option Seen
 said (emit.Can f) moment = Some (frame moment (bus_frame f))
 said (emit.Net group bytes) moment = Some (datagram moment bytes.now)
 said (emit.Report report) moment = None
+
+-- ---- an event
+
+-- a datagram stands under a group
+abbrev pub event_text : List ℕ → Seen → List ℕ
+event_text group (frame moment f) = time_text moment ++ frame_text f
+event_text group (datagram moment bytes) = time_text moment ++ datagram_text group bytes
+event_text group (tick moment) = time_text moment ++ codes "tick"
+
+-- behind a tick that starts a gateway; capture text takes any text there
+abbrev pub start_mark : List ℕ
+start_mark = codes " start"
+
+-- the most bytes of a datagram that a link gives
+abbrev pub most_received : ℕ
+most_received = 1500
+
+-- a frame is valid, and a datagram isn't longer than a link gives one
+abbrev pub CanRecord : Event → Type 0
+CanRecord (event.Frame moment f) = IsFrame f
+CanRecord (event.Datagram moment bytes) = length bytes.now ≤ most_received
+CanRecord (event.Tick moment) = Unit {0}

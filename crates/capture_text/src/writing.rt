@@ -3,19 +3,19 @@ ghost use Rattle.std.specs.Fmt.{decimal};
 ghost use Rattle.arrayvec.specs.ArrayVec.{array_vec_len};
 ghost use Rattle.hex.specs.Hex.{encode_upper, IsBytes};
 ghost use Rattle.n2k_id.specs.Frame.{IsFrame, bus_frame, held_bytes};
-ghost use Rattle.std.specs.Int.{w32, to_be_bytes};
 ghost use Rattle.sentence_text.specs.Names.{IsGroup};
 ghost use Rattle.unit_fraction.specs.Text.{decimal_text};
 ghost use Rattle.capture_text.specs.Capture.{IsLine, longest_line};
 ghost use Rattle.capture_text.specs.Reading.{read};
-ghost use Rattle.capture_text.specs.Writing.{time_text, detail_text, report_text, frame_text, datagram_text, line_text, said};
-ghost use Rattle.gate_events.specs.Emit.{CanWrite, most_written};
+ghost use Rattle.capture_text.specs.Writing.{CanRecord, time_text, detail_text, report_text, frame_text, datagram_text, event_text, line_text, most_received, said};
+ghost use Rattle.gate_events.specs.Emit.{CanWrite};
+ghost use Rattle.gate_events.specs.Event.{moment_in, view};
 
 use crate::decimal::{put_number, put_sixteen};
 use crate::hexadecimal::put_digits;
 use crate::reading::LONGEST_LINE;
 use arrayvec::ArrayVec;
-use gate_events::{Detail, Emit, Report};
+use gate_events::{Detail, Emit, Event, Report};
 use n2k_id::Frame;
 use sentence_text::Group;
 use unit_fraction::write_decimal;
@@ -169,8 +169,7 @@ fn append_report(report: &Report, out: &mut Line)
 
 /// What comes before the data of a frame whose identifier has these bytes.
 fn frame_head(identifier: &[u8; 4]) -> [u8; 14]
-    ensures text { result ≡ codes "can0 " ++ (encode_upper identifier.now ++ 35 ∷ []) }
-    ensures fit { IsBytes identifier.now }
+    ensures { result ≡ codes "can0 " ++ (encode_upper identifier.now ++ 35 ∷ []) }
 {
     let mut head = *b"can0 00000000#";
     put_digits(identifier, &mut head[5..13]);
@@ -184,6 +183,7 @@ fn append_data(held: &[u8], bytes: &[u8; 8], out: &mut Line)
     requires few { length held.now ≤ 8 }
     requires room { array_vec_len out.old ≤ 2000 }
     ensures text { out.new.items ≡ out.old.items ++ encode_upper held.now }
+    ensures len { array_vec_len out.new ≡ array_vec_len out.old + 2 * length held.now }
     ensures fit { IsBytes held.now }
 {
     let mut digits = [0; 16];
@@ -195,7 +195,8 @@ fn append_frame(frame: &Frame, out: &mut Line)
     requires valid { IsFrame frame.now }
     requires room { array_vec_len out.old ≤ 1000 }
     ensures text { out.new.items ≡ out.old.items ++ frame_text (bus_frame frame.now) }
-    ensures fit { IsBytes (to_be_bytes w32 frame.now.id) × IsBytes (held_bytes frame.now) }
+    ensures len { array_vec_len out.new ≤ array_vec_len out.old + 30 }
+    ensures fit { IsBytes (held_bytes frame.now) }
 {
     append(&frame_head(&frame.id.to_be_bytes()), out);
     append_data(frame.held(), &frame.bytes, out);
@@ -212,9 +213,10 @@ fn datagram_head(group: &Group) -> [u8; 10]
 }
 
 fn append_datagram(group: &Group, bytes: &[u8], out: &mut Line)
-    requires few { length bytes.now ≤ most_written }
+    requires few { length bytes.now ≤ most_received }
     requires room { array_vec_len out.old ≤ 1000 }
     ensures text { out.new.items ≡ out.old.items ++ datagram_text group.now bytes.now }
+    ensures len { array_vec_len out.new ≤ array_vec_len out.old + 3010 }
     ensures fit { IsGroup group.now × IsBytes bytes.now }
 {
     append(&datagram_head(group), out);
@@ -234,5 +236,31 @@ pub fn write_emit(emit: &Emit<'_>, moment: u64, out: &mut ArrayVec<u8, LONGEST_L
         Emit::Can(frame) => append_frame(frame, out),
         Emit::Net(group, bytes) => append_datagram(group, bytes, out),
         Emit::Report(report) => append_report(report, out),
+    }
+}
+
+/// Leaves the line of an event, without a line end: a frame stands on `can0`, a datagram on `udp0` under the group.
+pub fn write_event(event: &Event<'_>, group: Group, out: &mut ArrayVec<u8, LONGEST_LINE>)
+    requires empty { out.old.items ≡ [] }
+    requires can { CanRecord event.now }
+    ensures text { out.new.items ≡ event_text group (view event.now) }
+    // It is far from the most bytes that a line may have.
+    ensures few { length out.new.items ≤ 3040 }
+    // Below 10^16 microseconds it is read back.
+    ensures again { moment_in (view event.now) < 10 ^ 16 → IsLine (view event.now) out.new.items × (read out.new.items ≡ Ok (view event.now)) }
+{
+    match event {
+        Event::Frame { moment, frame } => {
+            append_time(*moment, out);
+            append_frame(frame, out);
+        }
+        Event::Datagram { moment, bytes } => {
+            append_time(*moment, out);
+            append_datagram(&group, bytes, out);
+        }
+        Event::Tick { moment } => {
+            append_time(*moment, out);
+            append(b"tick", out);
+        }
     }
 }
