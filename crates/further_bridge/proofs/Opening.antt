@@ -12,12 +12,13 @@ use Rattle.gate_model.specs.ChoiceStands.{ChoicesStandFor}
 use Rattle.gate_model.specs.ChoiceStandsLaws.{AreTimeouts}
 use Rattle.gate_model.proofs.ChoiceMessages.{opening_stands_chosen}
 use Rattle.bus_listener.specs.Promises.{IsOpening}
+use Rattle.quantities.specs.About.{quantities_count}
 use Rattle.quantities.specs.Told.{kind_of}
 use Rattle.further_bridge.specs.declared.config.FurtherConfig.{FurtherConfig}
 use Rattle.further_bridge.specs.FurtherOut.{further_receiver, quantity_told}
 use Rattle.further_bridge.specs.FurtherRule.{FurtherRule, further_rule, no_rule, rule_at, rule_of_quantity}
 use Rattle.further_bridge.specs.Kept.{FurtherKept, further_opened}
-use Rattle.further_bridge.specs.Promises.{IsFurtherOpening, quantity_count}
+use Rattle.further_bridge.specs.Promises.{IsFurtherOpening}
 use Rattle.further_bridge.proofs.Rules.{made_at, timeouts_are}
 
 abbrev pub kept_of : FurtherConfig → List ℕ → SlotMap FastKey → Choices → FurtherKept
@@ -50,15 +51,15 @@ module _ (ignored : ArrayVec Pattern) (q : Quantities) (sfi : List ℕ) where
       ∙ ap (λ x. kept_of copied sfi no_slots x) (choices_are ∙ ap (opened places) (sym (timeouts_are ignored.items q.each)))
       ∙ nothing_kept
 
-  pub rules_count : length q.each ≡ quantity_count → length (further_rule ignored.items q).rules ≡ quantity_count
+  pub rules_count : length q.each ≡ quantities_count → length (further_rule ignored.items q).rules ≡ quantities_count
   unfolding further_rule
   rules_count count = length-map q.each (rule_of_quantity ignored.items) ∙ count
 
-module _ (x : FurtherRule) (count : length x.rules ≡ quantity_count) where
+module _ (x : FurtherRule) (count : length x.rules ≡ quantities_count) where
   abbrev timeouts : List ℕ
   timeouts = map (λ rule. rule.timeout) x.rules
 
-  timeouts_count : length timeouts ≡ quantity_count
+  timeouts_count : length timeouts ≡ quantities_count
   timeouts_count = length-map x.rules (λ rule. rule.timeout) ∙ count
 
   are_timeouts : AreTimeouts (rule_at x) timeouts

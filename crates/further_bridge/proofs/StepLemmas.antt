@@ -11,6 +11,7 @@ use Rattle.claim_table.specs.Claims.{claim, places}
 use Rattle.pgn_profile.specs.declared.kinds.Kind.{Kind}
 use Rattle.pgn_profile.specs.declared.kinds.Kind.TheVariants.{Single, Fast, Outside}
 use Rattle.tag_block.specs.Tag.{most_count}
+use Rattle.quantities.specs.About.{quantities_count}
 use Rattle.quantities.specs.Told.{kind_of}
 use Rattle.source_choice.specs.Choices.{Choices, forgotten}
 use Rattle.history.specs.AddressLaws.{AreSettings, IsReceiver}
@@ -40,7 +41,7 @@ use Rattle.bus_listener.proofs.KnownLemmas.{gateway_stands, is_receiver}
 use Rattle.further_bridge.specs.FurtherOut.{further_done, further_receiver, lines_said, message_breaks, quantity_told, said_at, said_gives, selected_in}
 use Rattle.further_bridge.specs.FurtherRule.{FurtherRule, rule_at}
 use Rattle.further_bridge.specs.Kept.{FurtherKept, FurtherStep, behind, forgotten_at, given_up, said_of, hearing_by, message_step, step_by, with_hearing}
-use Rattle.further_bridge.specs.Promises.{CommandsLeaveFurther, IsFurtherStep, IsFurtherTaken, StandsFurther, quantity_count}
+use Rattle.further_bridge.specs.Promises.{CommandsLeaveFurther, IsFurtherStep, IsFurtherTaken, StandsFurther}
 use Rattle.further_bridge.specs.QuantityKinds.{quantities_are_heard}
 use Rattle.further_bridge.proofs.MessageLemmas.{lines_after, lines_are, message_taken, picked, same_count, selected_is}
 use Rattle.further_bridge.proofs.Numbers.{tell_within}
@@ -146,7 +147,7 @@ module _ (x : FurtherRule) (c : Settings) (s : ℕ) (h : History) (settings : Ar
     with_message : (d : Option Message) → IfSome d (λ d. d.source < places) → further_done x c s h e ≡ d
         → is_message_chosen quantity_told (rule_at x) k.choices d
         ≡ is_some_that (is_selected quantity_told (rule_at x) (known r s h).claims.holders (messages_of r s h)) d
-        → ChoicesStandFor quantity_told (rule_at x) quantity_count r s (e ∷ h) (message_noted quantity_told (rule_at x) k.choices d)
+        → ChoicesStandFor quantity_told (rule_at x) quantities_count r s (e ∷ h) (message_noted quantity_told (rule_at x) k.choices d)
         → IsTakenBy (with_hearing changed before heard)
     with_message d within is same stands =
         let message : heard.message ≡ option_map complete_of d = hears_it.message ∙ ap (option_map complete_of) is in
@@ -156,7 +157,7 @@ module _ (x : FurtherRule) (c : Settings) (s : ℕ) (h : History) (settings : Ar
             rule = ap (λ (after : FurtherKept). after.rule) (message_taken k d within).after ∙ it.rule;
             sfi = ap (λ (after : FurtherKept). after.sfi) (message_taken k d within).after ∙ it.sfi;
             slots = subst (λ slots. StandsListening kind_of x.slots c s (e ∷ h) slots) (sym (ap (λ (after : FurtherKept). after.slots) (message_taken k d within).after)) hears_it.stands;
-            choices = subst (λ (choices : Choices). ChoicesStandFor quantity_told (rule_at x) quantity_count r s (e ∷ h) choices)
+            choices = subst (λ (choices : Choices). ChoicesStandFor quantity_told (rule_at x) quantities_count r s (e ∷ h) choices)
                 (sym (choices_then e k stood d within is same)) stands;
             lines = lines_then e k stood d within is same;
           };
@@ -180,17 +181,17 @@ module _ (x : FurtherRule) (c : Settings) (s : ℕ) (h : History) (settings : Ar
       by true claims =
           let step = (claim (known r s h).claims (claim_by (length h) m f)).step in
           let is : changed ≡ changed_by step = changes ∙ rw claims refl in
-          let forgets = claims_stand_chosen quantity_told (rule_at x) quantity_count r s h m f before.choices are claims it.choices in
+          let forgets = claims_stand_chosen quantity_told (rule_at x) quantities_count r s h m f before.choices are claims it.choices in
           let fits = claims_fit (known r s h).claims (claim_by (length h) m f) (addresses_are_sound r s h are).sound.room in
           let same : forgotten_at (address_won step) (forgotten_at (address_left step) before.choices) ≡ claimed step before.choices =
           ap (forgotten_at (address_won step)) (forgotten_is (address_left step) before.choices fits.left)
           ∙ forgotten_is (address_won step) (without_address (address_left step) before.choices) fits.won in
           subst (λ changed. IsTaken (entry.frame m f) (with_hearing changed before heard)) (sym is)
           (with_message (entry.frame m f) before it (changed_by step) heard hears_it None tt (heard_is_done (entry.frame m f) ∙ forgets.silent) refl
-          (subst (λ (choices : Choices). ChoicesStandFor quantity_told (rule_at x) quantity_count r s (entry.frame m f ∷ h) choices) (sym same) forgets.stands))
+          (subst (λ (choices : Choices). ChoicesStandFor quantity_told (rule_at x) quantities_count r s (entry.frame m f ∷ h) choices) (sym same) forgets.stands))
       by false other =
           let is : changed ≡ no_change = changes ∙ rw other refl in
-          let notes = messages_stand_chosen quantity_told (rule_at x) quantity_count r s h m f before.choices are other tell_within it.choices in
+          let notes = messages_stand_chosen quantity_told (rule_at x) quantities_count r s h m f before.choices are other tell_within it.choices in
           subst (λ changed. IsTaken (entry.frame m f) (with_hearing changed before heard)) (sym is)
           (with_message (entry.frame m f) before it no_change heard hears_it (done r s h (entry.frame m f)) (messages_fit_chosen r s h m f are) (heard_is_done (entry.frame m f)) notes.chosen
           notes.stands)
@@ -201,14 +202,14 @@ module _ (x : FurtherRule) (c : Settings) (s : ℕ) (h : History) (settings : Ar
   datagram_taken m bytes before it changed heard hears_it is =
       subst (λ changed. IsTaken (entry.datagram m bytes) (with_hearing changed before heard)) (sym is)
       (with_message (entry.datagram m bytes) before it no_change heard hears_it None tt refl refl
-      ((other_entries_stand_chosen quantity_told (rule_at x) quantity_count r s h before.choices it.choices).datagrams m bytes))
+      ((other_entries_stand_chosen quantity_told (rule_at x) quantities_count r s h before.choices it.choices).datagrams m bytes))
 
   pub tick_taken : (m : ℕ) (before : FurtherKept) → StandsFurther x c s h before → (changed : Changed) (heard : Hearing)
       → IsHeard kind_of x.slots c s h (entry.tick m) heard → changed ≡ no_change → IsTaken (entry.tick m) (with_hearing changed before heard)
   tick_taken m before it changed heard hears_it is =
       subst (λ changed. IsTaken (entry.tick m) (with_hearing changed before heard)) (sym is)
       (with_message (entry.tick m) before it no_change heard hears_it None tt refl refl
-      ((other_entries_stand_chosen quantity_told (rule_at x) quantity_count r s h before.choices it.choices).ticks m))
+      ((other_entries_stand_chosen quantity_told (rule_at x) quantities_count r s h before.choices it.choices).ticks m))
 
 is_step : (g : Machine) (e : Event) (before : FurtherKept) → IsListening kind_of g (entry_of e) before.slots (hearing_by g before (entry_of e))
     → IsFurtherStep g (entry_of e) before (step_by g before (entry_of e)).after (emits_of (step_by g before (entry_of e)).emits)
@@ -240,6 +241,6 @@ commands_leave_further x c s h source address k settings it = record {
   rule = it.rule;
   sfi = it.sfi;
   slots = commands_leave_listening kind_of x.slots c s h source address k.slots quantities_are_heard settings it.slots;
-  choices = (other_entries_stand_chosen quantity_told (rule_at x) quantity_count (further_receiver x c) s h k.choices it.choices).commands (now h) source address;
+  choices = (other_entries_stand_chosen quantity_told (rule_at x) quantities_count (further_receiver x c) s h k.choices it.choices).commands (now h) source address;
   lines = it.lines ∙ no_more (lines_said x c s h);
 }

@@ -2,6 +2,7 @@
 use Rattle.std.specs.Prelude.{◌≡◌, ℕ, ◌%◌, List, [], ◌∷◌}
 use Rattle.gate_events.specs.Emit.{Emit}
 use Rattle.tag_block.specs.Tag.{most_count}
+use Rattle.quantities.specs.About.{quantities_count}
 use Rattle.quantities.specs.Told.{kind_of}
 use Rattle.history.specs.AddressLaws.{AreSettings}
 use Rattle.history.specs.Entries as entry
@@ -16,10 +17,6 @@ use Rattle.further_bridge.specs.FurtherOut.{further_out, further_receiver, lines
 use Rattle.further_bridge.specs.FurtherRule.{FurtherRule, rule_at}
 use Rattle.further_bridge.specs.Kept.{FurtherKept}
 
--- how many quantities there are
-abbrev pub quantity_count : ℕ
-quantity_count = 16
-
 -- what is kept stands for a history of the gateway with these settings
 pub record StandsFurther (x : FurtherRule) (c : Settings) (s : ℕ) (h : History) (k : FurtherKept) : Type 0 where
   pub rule : k.rule ≡ x
@@ -27,7 +24,7 @@ pub record StandsFurther (x : FurtherRule) (c : Settings) (s : ℕ) (h : History
   -- the fast packets in the making are those that are open at the moment of the last entry, each with the frames of it that came
   pub slots : StandsListening kind_of x.slots c s h k.slots
   -- the notes of each quantity are of the messages that were complete, by who holds each address now
-  pub choices : ChoicesStandFor quantity_told (rule_at x) quantity_count (further_receiver x c) s h k.choices
+  pub choices : ChoicesStandFor quantity_told (rule_at x) quantities_count (further_receiver x c) s h k.choices
   pub lines : k.lines ≡ lines_said x c s h % most_count
 
 -- ---- the start

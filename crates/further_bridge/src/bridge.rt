@@ -48,6 +48,7 @@ pub struct FurtherBridge {
 
 impl Model for FurtherBridge {
     ghost use Rattle.std.specs.Prelude.{◌≡◌, ◌<◌, ◌≤◌, All, length};
+    ghost use Rattle.quantities.specs.About.{quantities_count};
     ghost use Rattle.settings.specs.Further.{IsQuantity};
     ghost use Rattle.further_bridge.specs.FurtherRule.{further_rule};
     ghost use Rattle.further_bridge.specs.Kept.{FurtherKept};
@@ -63,7 +64,7 @@ impl Model for FurtherBridge {
     } };
 
     ghost invariant = { λ b. All IsQuantity b.config.quantities.each × (b.listener.limit ≤ 256) × (b.choice.sources ≡ 254)
-        × (length b.choice.subjects ≡ 16) × (b.lines < 999) };
+        × (length b.choice.subjects ≡ quantities_count) × (b.lines < 999) };
 }
 
 impl FurtherBridge {

@@ -186,9 +186,12 @@ fn quantity_names(all: &[Quantity; QUANTITIES]) -> ArrayVec<&'static str, QUANTI
     names
 }
 
+/// How many keys the table of quantities has: its own, and one for each quantity.
+const KNOWN: usize = 2 + QUANTITIES;
+
 /// The keys of a table, and the names of the tables within it.
-fn keys_and_names(keys: &[&'static str; 2], names: &[&'static str]) -> ArrayVec<&'static str, 18>
-    requires { length names.now ≤ 16 }
+fn keys_and_names(keys: &[&'static str; 2], names: &[&'static str]) -> ArrayVec<&'static str, KNOWN>
+    requires { length names.now ≤ QUANTITIES }
     ensures { result.items ≡ keys.now ++ names.now }
 {
     let mut known = ArrayVec::new();

@@ -36,6 +36,10 @@ quantities =
     quantity.Attitude ∷ quantity.SetDrift ∷ quantity.SpeedComponents ∷ quantity.AirPressure ∷ quantity.AirHumidity ∷ quantity.AirTemperature ∷ quantity.SeaTemperature ∷ quantity.EngineFirst
     ∷ quantity.EngineSecond ∷ quantity.EngineStateFirst ∷ quantity.EngineStateSecond ∷ quantity.BatteryFirst ∷ quantity.BatterySecond ∷ quantity.FuelFirst ∷ quantity.FuelSecond ∷ quantity.WaterFirst ∷ []
 
+-- how many there are
+abbrev pub quantities_count : ℕ
+quantities_count = 16
+
 -- the place of a quantity among all, from 0
 abbrev pub number_of : Quantity → ℕ
 number_of quantity.Attitude = 0

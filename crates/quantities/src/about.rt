@@ -1,7 +1,7 @@
 //! The quantities, and what each is beside its values, in one table: how it is named, and who says it.
 ghost use Rattle.std.specs.Prelude.{◌≡◌, ◌<◌, ◌≤◌, IsTrue, length};
 ghost use Rattle.std.specs.List.{list_all};
-ghost use Rattle.quantities.specs.About.{about_of, number_of, quantities};
+ghost use Rattle.quantities.specs.About.{about_of, number_of, quantities, quantities_count};
 ghost use Rattle.sentence_text.specs.Byte.{is_capital};
 
 /// What a bus says besides the rows. They stand everywhere in this order.
@@ -87,7 +87,8 @@ static ALL: [Quantity; QUANTITIES] = [
 /// All quantities, in their order.
 #[tactic(auto, unfolding(crate::specs::About::quantities))]
 pub fn all_quantities() -> &'static [Quantity; QUANTITIES]
-    ensures { result.now ≡ quantities }
+    ensures all { result.now ≡ quantities }
+    ensures count { length quantities ≡ quantities_count }
 {
     &ALL
 }

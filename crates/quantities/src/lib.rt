@@ -13,6 +13,7 @@ mod unit;
 mod value;
 
 pub use about::{QUANTITIES, Quantity, all_quantities};
-pub use reading::{kind, read};
+pub use payloads::kind;
+pub use reading::read;
 pub use saying::{sentence, usable};
 pub use value::{Told, VALUES, Value};

@@ -3,6 +3,7 @@ ghost use Rattle.std.specs.Prelude.{◌≡◌, IsTrue};
 ghost use Rattle.std.specs.List.{list_all};
 ghost use Rattle.quantities.specs.Payloads.{entries};
 ghost use Rattle.quantities.specs.Sound.{is_entry_readable};
+ghost use Rattle.quantities.specs.Told.{kind_of};
 
 use crate::about::Quantity;
 use crate::part::{Part, Selector};
@@ -162,6 +163,28 @@ static TABLE: [Entry; ENTRIES] = [
     entry!(FuelSecond, FLUID_LEVEL, Single, 3, bits!(0, 0, 8, 0x01), first: signed!(1, 2, 0, 25_000)),
     entry!(WaterFirst, FLUID_LEVEL, Single, 3, bits!(0, 0, 8, 0x10), first: signed!(1, 2, 0, 25_000)),
 ];
+
+/// How a message of the parameter group comes over the bus. It is asked of each frame, and so apart from the table, which is gone through.
+#[tactic(auto, unfolding(crate::specs::Payloads::entries))]
+pub fn kind(pgn: u32) -> Kind
+    ensures { result ≡ kind_of pgn }
+{
+    match pgn {
+        ATTITUDE
+        | ENGINE_PARAMETERS_RAPID_UPDATE
+        | FLUID_LEVEL
+        | BATTERY_STATUS
+        | SET_DRIFT_RAPID_UPDATE
+        | ENVIRONMENTAL_PARAMETERS_OBSOLETE
+        | ENVIRONMENTAL_PARAMETERS
+        | TEMPERATURE
+        | HUMIDITY
+        | ACTUAL_PRESSURE
+        | TEMPERATURE_EXTENDED_RANGE => Kind::Single,
+        ENGINE_PARAMETERS_DYNAMIC | VESSEL_SPEED_COMPONENTS => Kind::Fast,
+        _ => Kind::Outside,
+    }
+}
 
 /// The table.
 #[tactic(auto, unfolding(crate::specs::Payloads::entries))]

@@ -2,11 +2,10 @@
 ghost use Rattle.std.specs.Prelude.{◌≡◌, IfSome, IsTrue, option_map};
 ghost use Rattle.std.specs.List.{list_all};
 ghost use Rattle.quantities.specs.Sound.{is_entry_readable};
-ghost use Rattle.quantities.specs.Told.{GivesFrom, entries, entry_in, group_in, kind_of, told, value_by};
+ghost use Rattle.quantities.specs.Told.{GivesFrom, entries, entry_in, group_in, told, value_by};
 
 use crate::payloads::{Entry, table};
 use crate::value::{Told, Value};
-use pgn_profile::Kind;
 
 /// The first entry of the parameter group.
 fn group_in(entries: &'static [Entry], pgn: u32) -> Option<&'static Entry>
@@ -45,16 +44,6 @@ fn value_of(entry: &Entry, payload: &[u8]) -> Value
             parts.fifth.value(payload),
             parts.sixth.value(payload),
         ],
-    }
-}
-
-/// How a message of the parameter group comes over the bus.
-pub fn kind(pgn: u32) -> Kind
-    ensures { result ≡ kind_of pgn }
-{
-    match group_in(table(), pgn) {
-        Some(entry) => entry.kind,
-        None => Kind::Outside,
     }
 }
 

@@ -12,5 +12,5 @@ returns c =
       c.as_slice.ensures.value,
       c.as_slice-3.ensures.value,
       c.quantity_names-names.ensures.names,
-      c.all_quantities.ensures,
+      c.all_quantities.ensures.all,
     ) at c.under_each.ensures
