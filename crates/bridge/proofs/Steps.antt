@@ -52,8 +52,8 @@ goes_on e h valid could accepted = (offered e valid, in_time e h accepted, could
 
 -- ---- the gateway was called, and left this
 
-abbrev pub bridge_of : Bool → Machine → Counted → Option Joining → Option AisKept → Option FurtherKept → Option (List (Option Name)) → Option (List ℕ) → Left → Bridged
-bridge_of started g answering joining watching measuring sources plain left = record {
+abbrev pub bridge_of : Bool → Machine → Counted → Option Joining → Option AisKept → Option FurtherKept → Option (List (Option Name)) → Option (List ℕ) → Bool → Left → Bridged
+bridge_of started g answering joining watching measuring sources plain records left = record {
   started = started;
   gateway = g;
   answering = answering;
@@ -62,11 +62,12 @@ bridge_of started g answering joining watching measuring sources plain left = re
   measuring = measuring;
   sources = sources;
   plain = plain;
+  records = records;
   left = left;
 }
 
 abbrev pub with_gateway : Bool → Machine → Output → Bridged → Bridged
-with_gateway started g o b = bridge_of started g b.answering b.joining b.watching b.measuring b.sources b.plain (left_by o)
+with_gateway started g o b = bridge_of started g b.answering b.joining b.watching b.measuring b.sources b.plain b.records (left_by o)
 
 -- what is left is forgotten before
 pub left_after : (forgotten : Left) (o : Output) → forgotten ≡ nothing_left → record forgotten { outbox = o } ≡ left_by o
@@ -99,6 +100,7 @@ is_start s before g o stands settings is p new =
         measuring = new.measuring s;
         sources = new.sources p.gateway s;
         plain = new.plain;
+        records = new.records;
       };
       emits = alone_left o ∙ ap (λ (x : Output). emits_of x.emits) is ∙ ap opening_emits here;
       unordered = ap (λ (x : Output). x.command) is;
@@ -136,6 +138,7 @@ module _ (p : Parts) (s : ℕ) (h : History) (before : Bridged) (stands : Bridge
           measuring = measured.stands;
           sources = changed.stands;
           plain = step.group ∙ stands.plain;
+          records = step.records ∙ stands.records;
         };
         emits =
             ap (λ (es : List Emit). es ++ (emits_of x.answer ++ (emits_of x.joined ++ (emits_of x.ships ++ (emits_of x.quantities ++ (emits_of x.changes ++ plain_left x.plain)))))) left
@@ -164,6 +167,7 @@ module _ (p : Parts) (s : ℕ) (h : History) (before : Bridged) (stands : Bridge
       measuring = stands.measuring;
       sources = stands.sources;
       plain = stands.plain;
+      records = stands.records;
     };
     emits = alone_left o ∙ ap (λ (x : Output). emits_of x.emits) early.reported;
     unordered = ap (λ (x : Output). x.command) early.reported;
@@ -183,6 +187,7 @@ module _ (p : Parts) (s : ℕ) (h : History) (before : Bridged) (stands : Bridge
       measuring = commanded_quantities p.quantities p.gateway s h c.source c.address before.measuring stands.settings stands.measuring;
       sources = commanded_names p.sources p.gateway s h (now h) c.source c.address before.sources stands.sources;
       plain = stands.plain;
+      records = stands.records;
     };
     emits = alone_left o ∙ taken.emits;
     unordered = none_mapped (entry_by (now h)) o.command taken.ordered;

@@ -35,6 +35,7 @@ pub record BridgeStands (p : Parts) (s : ℕ) (h : History) (b : Bridged) : Type
   pub measuring : MeasuringStands p.quantities p.gateway s h b.measuring
   pub sources : SourcesStand p.sources p.gateway s h b.sources
   pub plain : b.plain ≡ p.plain
+  pub records : b.records ≡ p.records
 
 -- ---- a bridge that wasn't started, whenever it will be
 
@@ -61,6 +62,7 @@ pub record IsNew (p : Parts) (b : Bridged) : Type 0 where
   pub measuring : IsOpenedMeasuring p.gateway p.quantities b.measuring
   pub sources : IsOpenedSources p.sources b.sources
   pub plain : b.plain ≡ p.plain
+  pub records : b.records ≡ p.records
 
 -- the start: the gateway claims its address, and asks all for theirs; no command is left
 pub record IsStarted (p : Parts) (s : ℕ) (after : Bridged) : Type 0 where
@@ -102,6 +104,7 @@ pub record IsBesideStep (e : Entry) (before after : Bridged) : Type 0 where
   pub measuring : IsMeasuring before.gateway before.left.outbox e before.measuring after.measuring after.left.quantities
   pub sources : IsChanging before.gateway before.left.outbox e before.sources after.sources after.left.changes
   pub group : after.plain ≡ before.plain
+  pub records : after.records ≡ before.records
   pub plain : plain_left after.left.plain ≡ plain_each before.plain after.left.outbox.emits after.left.joined after.left.ships after.left.quantities
 
 -- ---- the command that the last event left, which is left no more once it was taken

@@ -23,6 +23,8 @@ pub record Bridged : Type 0 where
   pub sources : Option (List (Option Name))
   -- the transmission group of plain sentences
   pub plain : Option (List ℕ)
+  -- whether what comes is written down
+  pub records : Bool
   -- what the last call left
   pub left : Left
 

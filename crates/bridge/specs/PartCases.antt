@@ -24,6 +24,7 @@ all_parts = record {
   quantities = None;
   sources = false;
   plain = None;
+  records = false;
 }
 
 -- they started at this moment, and emit this at the events

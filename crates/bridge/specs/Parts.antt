@@ -28,6 +28,8 @@ pub record Parts : Type 0 where
   pub sources : Bool
   -- the transmission group that all sentences are sent to once more, without headers and TAG blocks, where they are
   pub plain : Option (List ℕ)
+  -- whether what comes is written down
+  pub records : Bool
 
 -- of each row how long a source counts, in milliseconds
 abbrev pub timeouts_of : List RowConfig → List ℕ
@@ -48,4 +50,5 @@ parts_of x further = record {
   quantities = quantities_rule further.ignore.items further.quantities;
   sources = further.sources;
   plain = further.plain;
+  records = further.«record»;
 }

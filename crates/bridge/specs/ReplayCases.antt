@@ -11,7 +11,7 @@ text lines = flat_map (λ l. l ++ 10 ∷ []) lines
 
 -- a gateway of two devices that says neither RMC nor reports of ships around
 abbrev pub alone : Parts
-alone = record { gateway = two_devices; information = []; rmc = None; ais = None; quantities = None; sources = false; plain = None }
+alone = record { gateway = two_devices; information = []; rmc = None; ais = None; quantities = None; sources = false; plain = None; records = false }
 
 -- a heading
 abbrev pub OneLine : Type 0

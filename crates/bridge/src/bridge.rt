@@ -38,6 +38,8 @@ pub struct Bridge {
     sources: Option<SourceWatch>,
     /// The transmission group of plain sentences.
     plain: Option<Group>,
+    /// Whether what comes is written down.
+    records: bool,
     /// Whether one of the last three is there. Few ask for them: where none is, an event costs nothing for them.
     asks: bool,
     /// Most of all that is kept, and so not on the stack.
@@ -60,6 +62,7 @@ impl Model for Bridge {
       measuring = b.measuring;
       sources = b.sources;
       plain = b.plain;
+      records = b.records;
       left = b.left.value;
     } };
 
@@ -103,6 +106,7 @@ impl Bridge {
             measuring,
             sources,
             plain: further.plain,
+            records: further.record,
             asks,
             left,
         })
@@ -216,6 +220,13 @@ impl Bridge {
         ensures { result ≡ self.now.gateway.moment }
     {
         self.gateway.moment()
+    }
+
+    /// Whether what comes is to be written down.
+    pub fn records(&self) -> bool
+        ensures { result ≡ self.now.records }
+    {
+        self.records
     }
 
     /// How many emits the last call left.

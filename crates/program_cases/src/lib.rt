@@ -7,6 +7,8 @@ mod live_tests;
 #[cfg(test)]
 mod outside;
 #[cfg(test)]
+mod recorded_tests;
+#[cfg(test)]
 mod tests;
 #[cfg(test)]
 mod turns_tests;

@@ -23,7 +23,7 @@ pub(crate) const REQUEST: &[u8] = b"(0.000000) can0 18EAFFFB#00EE00";
 
 pub(crate) const HEADING: &[u8] = b"(1700000000.000000) can0 09F11217#005C3DFF7FFF7FFC";
 
-const SENTENCE: &[u8] = b"UdPbC\0\\s:II0001,n:1*01\\$HEHDT,90.0,T*16\r\n";
+pub(crate) const SENTENCE: &[u8] = b"UdPbC\0\\s:II0001,n:1*01\\$HEHDT,90.0,T*16\r\n";
 
 /// The heading in the first turn, and in the second one.
 const AT_FIRST: Way = Way {

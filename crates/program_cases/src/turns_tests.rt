@@ -44,7 +44,7 @@ const NET: Way = Way {
 };
 
 /// Ten turns, in each of which something comes over both links.
-const RUN: Run = Run {
+pub(crate) const RUN: Run = Run {
     words: &["serve", "any.toml", "10"],
     piece: PIECE,
     bus: BUS,
@@ -74,7 +74,7 @@ fn goes_with(
 }
 
 /// The datagrams in front of a place, or from it on.
-fn datagrams_before(end: usize) -> &'static [&'static [u8]] {
+pub(crate) fn datagrams_before(end: usize) -> &'static [&'static [u8]] {
     DATAGRAMS.get(..end).unwrap_or(&[])
 }
 

@@ -2,13 +2,12 @@
 use Rattle.std.proofs.Common.{◌≡◌, List, [], ◌∷◌, ◌++◌, refl, sym, ap, subst, ◌∙◌, append_assoc}
 use Rattle.std.proofs.lemmas.List.{append-nil}
 use Rattle.gate_outside.specs.Link.{Outcome}
-use Rattle.gate_events.specs.Emit.{Emitted}
 use Rattle.bridge.specs.Replayed.{Running}
 use Rattle.bridge.specs.Kept.{Bridged}
 use Rattle.bridge.specs.Parts.{Parts}
 use Rattle.serving.specs.Handing.{DoesAll, DoesSome, HandsAll, HandsSome, RunStands, passed}
 use Rattle.serving.specs.Served.{IsFront, Outside, all_due}
-use Rattle.serving.specs.Turns.{Turned}
+use Rattle.serving.specs.Turns.{Item, Turned}
 use Rattle.serving.proofs.Passing.{due_append, front_before, front_then, passes_none, passes_then, stops_then}
 
 -- ---- the items of a list
@@ -16,17 +15,17 @@ use Rattle.serving.proofs.Passing.{due_append, front_before, front_then, passes_
 pub hands_none : (o : Outside) → HandsAll o o []
 hands_none o = record { tried = []; passes = passes_none o; is_due = refl }
 
-pub hands_then : (a b c : Outside) (due more : List Emitted) → HandsAll a b due → HandsAll b c more → HandsAll a c (due ++ more)
+pub hands_then : (a b c : Outside) (due more : List Item) → HandsAll a b due → HandsAll b c more → HandsAll a c (due ++ more)
 hands_then a b c due more x y = record {
   tried = x.tried ++ y.tried;
   passes = passes_then a b c (passed [] [] x.tried) (passed [] [] y.tried) x.passes y.passes;
   is_due =
       due_append x.tried y.tried
-      ∙ ap (λ (z : List Emitted). z ++ all_due y.tried) x.is_due
-      ∙ ap (λ (z : List Emitted). due ++ z) y.is_due;
+      ∙ ap (λ (z : List Item). z ++ all_due y.tried) x.is_due
+      ∙ ap (λ (z : List Item). due ++ z) y.is_due;
 }
 
-pub hands_some_then : (a b c : Outside) (due more : List Emitted) → HandsAll a b due → HandsSome b c more → HandsSome a c (due ++ more)
+pub hands_some_then : (a b c : Outside) (due more : List Item) → HandsAll a b due → HandsSome b c more → HandsSome a c (due ++ more)
 hands_some_then a b c due more x y = record {
   tried = x.tried ++ y.tried;
   last = y.last;
@@ -34,7 +33,7 @@ hands_some_then a b c due more x y = record {
   is_front = front_then x.tried y.tried y.last due more x.is_due y.is_front;
 }
 
-pub hands_some_still : (a b : Outside) (due more : List Emitted) → HandsSome a b due → HandsSome a b (due ++ more)
+pub hands_some_still : (a b : Outside) (due more : List Item) → HandsSome a b due → HandsSome a b (due ++ more)
 hands_some_still a b due more x = record {
   tried = x.tried;
   last = x.last;
@@ -42,38 +41,38 @@ hands_some_still a b due more x = record {
   is_front = front_before (all_due (x.tried ++ x.last ∷ [])) due more x.is_front;
 }
 
-pub hands_as : (a b : Outside) (due due' : List Emitted) → due ≡ due' → HandsAll a b due → HandsAll a b due'
-hands_as a b due due' same x = subst (λ (z : List Emitted). HandsAll a b z) same x
+pub hands_as : (a b : Outside) (due due' : List Item) → due ≡ due' → HandsAll a b due → HandsAll a b due'
+hands_as a b due due' same x = subst (λ (z : List Item). HandsAll a b z) same x
 
-pub hands_some_as : (a b : Outside) (due due' : List Emitted) → due ≡ due' → HandsSome a b due → HandsSome a b due'
-hands_some_as a b due due' same x = subst (λ (z : List Emitted). HandsSome a b z) same x
+pub hands_some_as : (a b : Outside) (due due' : List Item) → due ≡ due' → HandsSome a b due → HandsSome a b due'
+hands_some_as a b due due' same x = subst (λ (z : List Item). HandsSome a b z) same x
 
 -- of all these, the ones in front of the rest went out whole
-pub record Partly (old now : Outside) (all rest : List Emitted) : Type 0 where
-  pub done : List Emitted
+pub record Partly (old now : Outside) (all rest : List Item) : Type 0 where
+  pub done : List Item
   pub hands : HandsAll old now done
   pub split : done ++ rest ≡ all
 
-pub partly_none : (o : Outside) (all : List Emitted) → Partly o o all all
+pub partly_none : (o : Outside) (all : List Item) → Partly o o all all
 partly_none o all = record { done = []; hands = hands_none o; split = refl }
 
-pub partly_more : (old now new : Outside) (all rest due rest' : List Emitted) → Partly old now all rest → rest ≡ due ++ rest' → HandsAll now new due
+pub partly_more : (old now new : Outside) (all rest due rest' : List Item) → Partly old now all rest → rest ≡ due ++ rest' → HandsAll now new due
     → Partly old new all rest'
 partly_more old now new all rest due rest' x same h = record {
   done = x.done ++ due;
   hands = hands_then old now new x.done due x.hands h;
-  split = append_assoc x.done due rest' ∙ ap (λ (z : List Emitted). x.done ++ z) (sym same) ∙ x.split;
+  split = append_assoc x.done due rest' ∙ ap (λ (z : List Item). x.done ++ z) (sym same) ∙ x.split;
 }
 
-pub partly_stopped : (old now new : Outside) (all rest due rest' : List Emitted) → Partly old now all rest → rest ≡ due ++ rest' → HandsSome now new due
+pub partly_stopped : (old now new : Outside) (all rest due rest' : List Item) → Partly old now all rest → rest ≡ due ++ rest' → HandsSome now new due
     → HandsSome old new all
 partly_stopped old now new all rest due rest' x same h =
-    hands_some_as old new (x.done ++ (due ++ rest')) all (ap (λ (z : List Emitted). x.done ++ z) (sym same) ∙ x.split)
+    hands_some_as old new (x.done ++ (due ++ rest')) all (ap (λ (z : List Item). x.done ++ z) (sym same) ∙ x.split)
     (hands_some_then old now new x.done (due ++ rest') x.hands (hands_some_still now new due rest' h))
 
-pub partly_all : (old now : Outside) (all rest : List Emitted) → Partly old now all rest → rest ≡ [] → HandsAll old now all
+pub partly_all : (old now : Outside) (all rest : List Item) → Partly old now all rest → rest ≡ [] → HandsAll old now all
 partly_all old now all rest x none =
-    hands_as old now x.done all (sym (append-nil x.done) ∙ ap (λ (z : List Emitted). x.done ++ z) (sym none) ∙ x.split) x.hands
+    hands_as old now x.done all (sym (append-nil x.done) ∙ ap (λ (z : List Item). x.done ++ z) (sym none) ∙ x.split) x.hands
 
 -- ---- what is made of what came before
 
@@ -123,8 +122,8 @@ module _ {S : Type 0} (Stands : Parts → S → Bridged → Type 0) where
           let here = x.stands p g stands in
           let due = (makes p g).due in
           due_append x.tried y.tried
-          ∙ ap (λ (z : List Emitted). z ++ all_due y.tried) (x.is_due p g stands)
-          ∙ ap (λ (z : List Emitted). due ++ z) (y.is_due p (makes p g).after here);
+          ∙ ap (λ (z : List Item). z ++ all_due y.tried) (x.is_due p g stands)
+          ∙ ap (λ (z : List Item). due ++ z) (y.is_due p (makes p g).after here);
       stands = λ p g stands. y.stands p (makes p g).after (x.stands p g stands);
     }
 

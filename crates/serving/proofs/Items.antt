@@ -3,23 +3,26 @@ use Rattle.std.proofs.Common.{◌≡◌, ◌≢◌, ℕ, ◌+◌, ◌-◌, ◌�
 use Rattle.std.specs.Prelude.{◌==◌, codes, Option, Some, None, Result, Ok, Err}
 use Rattle.std.specs.List.{slice_get}
 use Rattle.std.proofs.lemmas.Bool.{eqb-true}
-use Rattle.std.proofs.lemmas.List.{append-nil, take-append-drop, take_all, length-drop, nil_from_length}
+use Rattle.std.proofs.lemmas.List.{append-nil, take-append-drop, take_all, length-drop, length-take, nil_from_length}
 use Rattle.n2k_id.specs.Frame.{BusFrame}
 use Rattle.report_rules.specs.Rules as rules
 use Rattle.gate_events.specs.declared.emit.Detail.TheVariants as detail
 use Rattle.gate_events.specs.declared.emit.Report.{Report}
-use Rattle.capture_text.specs.Writing.{frame_text, time_text}
+use Rattle.hex.specs.Hex.{IsBytes}
+use Rattle.capture_text.specs.Writing.{frame_text, most_received, time_text}
 use Rattle.gate_outside.specs.declared.Failed.{Failed}
 use Rattle.gate_outside.specs.Faults.{Rose}
 use Rattle.gate_outside.specs.Link.{GoesOn, Handed, Outcome, Traffic, failed_also, handed_also, received_also}
 use Rattle.gate_outside.specs.Told.{Joins}
 use Rattle.capture_stream.proofs.WriterLemmas.{Joins-nil, Joins-then}
 use Rattle.gate_events.specs.Emit as emits
-use Rattle.gate_events.specs.Emit.{Emit, Emitted}
+use Rattle.gate_events.specs.Emit.{Emit}
 use Rattle.history.specs.Emits.{at, broken, report_of}
 use Rattle.capture_text.specs.Emitted.{line_of}
 use Rattle.serving.specs.Handing.{Broken, Hands, HandsAll, Takes, passed}
-use Rattle.serving.specs.Served.{Passes, Stops, Tried, item_of, outside, over_bus, over_net, to_text}
+use Rattle.serving.specs.Served.{IsWritten, NetFits, Passes, Stops, Tried, item_of, outside, over_bus, over_net, to_text}
+use Rattle.serving.specs.Turns as turns
+use Rattle.serving.specs.Turns.{Item, all_made, made, recorded_where}
 use Rattle.serving.proofs.Passing.{goes_as, goes_still, traffic_same, traffic_still}
 
 -- ---- a receive
@@ -46,10 +49,22 @@ receives_by_net outcome {b} {n} {n'} {told} {faults} goes = record {
   steady = refl;
 }
 
+-- ---- what came over the network
+
+bytes_front : (count : ℕ) (bytes : List ℕ) → IsBytes bytes → IsBytes (take count bytes)
+bytes_front zero bytes are i = omega arith
+bytes_front (suc count) [] are i = omega arith
+bytes_front (suc count) (x ∷ bytes) are zero = are zero
+bytes_front (suc count) (x ∷ bytes) are (suc i) = bytes_front count bytes (λ (k : ℕ). are (suc k)) i
+
+-- what is at the front of a buffer of as many bytes as a link gives
+pub net_fits : (count : ℕ) (buffer : List ℕ) → length buffer ≡ most_received → IsBytes buffer → NetFits (Ok (Some (take count buffer)))
+net_fits count buffer long are = (omega (arith, length-take count buffer, long), bytes_front count buffer are)
+
 -- ---- a send
 
 abbrev pub item : ℕ → Emit → Bool → Tried
-item m e failed = record { due = record { moment = m; emit = e }; failed = failed }
+item m e failed = record { due = made (record { moment = m; emit = e }); failed = failed }
 
 sent_one : (pair : Handed) (t : Traffic) → handed_also pair t
     ≡ record { received = t.received ++ []; handed = t.handed ++ pair ∷ []; sends = t.sends ++ false ∷ []; attached = t.attached }
@@ -112,8 +127,11 @@ taken_all a b text rest answer t is test =
 
 -- ---- an item
 
-abbrev pub due_now : ℕ → Emit → List Emitted
-due_now m e = record { moment = m; emit = e } ∷ []
+abbrev pub due_now : ℕ → Emit → List Item
+due_now m e = made (record { moment = m; emit = e }) ∷ []
+
+abbrev pub told_now : ℕ → Emit → List Item
+told_now m e = turns.told (record { moment = m; emit = e }) ∷ []
 
 -- a frame or a datagram was sent
 pub frame_sent : (m : ℕ) (f : BusFrame) (b b' n : Option Traffic) (told : Option (List ℕ)) (faults : ℕ)
@@ -143,27 +161,27 @@ datagram_sent m group bytes b n n' told faults goes = record {
   is_due = refl;
 }
 
--- The item is a report, or one in its place: its line was written, or a part of it.
-module _ (t : Tried) (r : Report) (line : List ℕ) (is : (item_of t).emit ≡ emits.report r) (text : to_text t ≡ line) where
-  pub report_passes : (bus net : List Outcome) (b b' n n' : Option Traffic) (told told' : Option (List ℕ)) (faults faults' : ℕ)
+-- The item is written, or the report in its place: its line was, or a part of it.
+module _ (t : Tried) (line : List ℕ) (is : IsWritten (item_of t)) (text : to_text t ≡ line) where
+  pub written_passes : (bus net : List Outcome) (b b' n n' : Option Traffic) (told told' : Option (List ℕ)) (faults faults' : ℕ)
       → GoesOn (over_bus (passed bus net (t ∷ []))) b b' → GoesOn (over_net (passed bus net (t ∷ []))) n n'
       → Joins told told' line → faults' ≡ faults
       → Passes (outside b n told faults) (outside b' n' told' faults') (passed bus net (t ∷ []))
-  report_passes bus net b b' n n' told told' faults faults' over_b over_n joins steady = record {
+  written_passes bus net b b' n n' told told' faults faults' over_b over_n joins steady = record {
     bus = over_b;
     net = over_n;
     text = subst (λ (x : List ℕ). Joins told told' x) (sym (append-nil (to_text t) ∙ text)) joins;
     steady = steady;
   }
 
-  pub report_stops : (bus net : List Outcome) (b b' n n' : Option Traffic) (told told' : Option (List ℕ)) (faults faults' : ℕ)
+  pub written_stops : (bus net : List Outcome) (b b' n n' : Option Traffic) (told told' : Option (List ℕ)) (faults faults' : ℕ)
       → GoesOn (over_bus (passed bus net (t ∷ []))) b b' → GoesOn (over_net (passed bus net (t ∷ []))) n n'
       → Broken told told' faults faults' line
       → Stops (outside b n told faults) (outside b' n' told' faults') (passed bus net []) t
-  report_stops bus net b b' n n' told told' faults faults' over_b over_n x = record {
+  written_stops bus net b b' n n' told told' faults faults' over_b over_n x = record {
     bus = over_b;
     net = over_n;
-    is_report = (r, is);
+    is_written = is;
     part = x.part;
     untaken = x.untaken;
     text = x.joins;
@@ -172,18 +190,18 @@ module _ (t : Tried) (r : Report) (line : List ℕ) (is : (item_of t).emit ≡ e
     rose = x.rose;
   }
 
-  pub report_hands : (b b' n n' : Option Traffic) (told told' : Option (List ℕ)) (faults faults' : ℕ) (result : Result (Unit {0}) Failed)
+  pub written_hands : (b b' n n' : Option Traffic) (told told' : Option (List ℕ)) (faults faults' : ℕ) (result : Result (Unit {0}) Failed)
       → GoesOn (over_bus (passed [] [] (t ∷ []))) b b' → GoesOn (over_net (passed [] [] (t ∷ []))) n n' → Takes told told' faults faults' line result
       → Hands (outside b n told faults) (outside b' n' told' faults') (t.due ∷ []) result
-  report_hands b b' n n' told told' faults faults' (Ok done) over_b over_n x = record {
+  written_hands b b' n n' told told' faults faults' (Ok done) over_b over_n x = record {
     tried = t ∷ [];
-    passes = report_passes [] [] b b' n n' told told' faults faults' over_b over_n x.0 x.1;
+    passes = written_passes [] [] b b' n n' told told' faults faults' over_b over_n x.0 x.1;
     is_due = refl;
   }
-  report_hands b b' n n' told told' faults faults' (Err e) over_b over_n x = record {
+  written_hands b b' n n' told told' faults faults' (Err e) over_b over_n x = record {
     tried = [];
     last = t;
-    stops = report_stops [] [] b b' n n' told told' faults faults' over_b over_n x;
+    stops = written_stops [] [] b b' n n' told told' faults faults' over_b over_n x;
     is_front = ([], refl);
   }
 
@@ -193,7 +211,25 @@ pub report_written : (m : ℕ) (r : Report) (b n : Option Traffic) (told told' :
     → Hands (outside b n told faults) (outside b n told' faults') (due_now m (emits.report r)) result
 report_written m r b n told told' faults faults' result x =
     let t = item m (emits.report r) false in
-    report_hands t r (line_of (record { moment = m; emit = emits.report r })) refl refl b b n n told told' faults faults' result
+    written_hands t (line_of (record { moment = m; emit = emits.report r })) (r, refl) refl b b n n told told' faults faults' result
+    (goes_still (over_bus (passed [] [] (t ∷ []))) traffic_still b) (goes_still (over_net (passed [] [] (t ∷ []))) traffic_still n) x
+
+-- a report of what came and was no event
+pub report_told : (m : ℕ) (r : Report) (b n : Option Traffic) (told told' : Option (List ℕ)) (faults faults' : ℕ) (result : Result (Unit {0}) Failed)
+    → Takes told told' faults faults' (line_of (record { moment = m; emit = emits.report r })) result
+    → Hands (outside b n told faults) (outside b n told' faults') (told_now m (emits.report r)) result
+report_told m r b n told told' faults faults' result x =
+    let t : Tried = record { due = turns.told (record { moment = m; emit = emits.report r }); failed = false } in
+    written_hands t (line_of (record { moment = m; emit = emits.report r })) (r, refl) refl b b n n told told' faults faults' result
+    (goes_still (over_bus (passed [] [] (t ∷ []))) traffic_still b) (goes_still (over_net (passed [] [] (t ∷ []))) traffic_still n) x
+
+-- a line of what came
+pub line_recorded : (line : List ℕ) (b n : Option Traffic) (told told' : Option (List ℕ)) (faults faults' : ℕ) (result : Result (Unit {0}) Failed)
+    → Takes told told' faults faults' (line ++ 10 ∷ []) result
+    → Hands (outside b n told faults) (outside b n told' faults') (recorded_where true line) result
+line_recorded line b n told told' faults faults' result x =
+    let t : Tried = record { due = turns.recorded line; failed = false } in
+    written_hands t (line ++ 10 ∷ []) tt refl b b n n told told' faults faults' result
     (goes_still (over_bus (passed [] [] (t ∷ []))) traffic_still b) (goes_still (over_net (passed [] [] (t ∷ []))) traffic_still n) x
 
 -- a frame or a datagram couldn't be sent, and a report was written in its place
@@ -203,7 +239,7 @@ pub frame_failed : (m : ℕ) (f : BusFrame) (b b' n : Option Traffic) (told told
 frame_failed m f b b' n told told' faults faults' result goes x =
     let t = item m (emits.can f) true in
     let r = report_of rules.send_failed detail.Bus in
-    report_hands t r (line_of (record { moment = m; emit = emits.report r })) refl refl b b' n n told told' faults faults' result
+    written_hands t (line_of (record { moment = m; emit = emits.report r })) (r, refl) refl b b' n n told told' faults faults' result
     (goes_as failed_also (over_bus (passed [] [] (t ∷ []))) failed_one b b' goes) (goes_still (over_net (passed [] [] (t ∷ []))) traffic_still n) x
 
 pub datagram_failed : (m : ℕ) (group bytes : List ℕ) (b n n' : Option Traffic) (told told' : Option (List ℕ)) (faults faults' : ℕ)
@@ -213,32 +249,32 @@ pub datagram_failed : (m : ℕ) (group bytes : List ℕ) (b n n' : Option Traffi
 datagram_failed m group bytes b n n' told told' faults faults' result goes x =
     let t = item m (emits.net group bytes) true in
     let r = report_of rules.send_failed detail.Net in
-    report_hands t r (line_of (record { moment = m; emit = emits.report r })) refl refl b b n n' told told' faults faults' result
+    written_hands t (line_of (record { moment = m; emit = emits.report r })) (r, refl) refl b b n n' told told' faults faults' result
     (goes_still (over_bus (passed [] [] (t ∷ []))) traffic_still b) (goes_as failed_also (over_net (passed [] [] (t ∷ []))) failed_one n n' goes) x
 
 -- ---- the items of a list, from a place on
 
-abbrev pub due_at : ℕ → ℕ → List Emit → List Emitted
-due_at m place emits = at m (drop place emits)
+abbrev pub due_at : ℕ → ℕ → List Emit → List Item
+due_at m place emits = all_made (at m (drop place emits))
 
-next_after : (m : ℕ) (emits : List Emit) (place : ℕ) → due_at m place emits ≡ at m (take 1 (drop place emits)) ++ due_at m (suc place) emits
+next_after : (m : ℕ) (emits : List Emit) (place : ℕ) → due_at m place emits ≡ all_made (at m (take 1 (drop place emits))) ++ due_at m (suc place) emits
 next_after m [] zero = refl
 next_after m [] (suc place) = refl
 next_after m (e ∷ emits) zero = refl
 next_after m (e ∷ emits) (suc place) = next_after m emits place
 
-pub next_due : (m : ℕ) (emits : List Emit) (place : ℕ) → due_at m place emits ≡ at m (take 1 (drop place emits)) ++ due_at m (place + 1) emits
+pub next_due : (m : ℕ) (emits : List Emit) (place : ℕ) → due_at m place emits ≡ all_made (at m (take 1 (drop place emits))) ++ due_at m (place + 1) emits
 next_due m emits place =
-    subst (λ (k : ℕ). due_at m place emits ≡ at m (take 1 (drop place emits)) ++ due_at m k emits) (sym (add-one place)) (next_after m emits place)
+    subst (λ (k : ℕ). due_at m place emits ≡ all_made (at m (take 1 (drop place emits))) ++ due_at m k emits) (sym (add-one place)) (next_after m emits place)
 
-pub one_due : (m : ℕ) (emits : List Emit) (place : ℕ) (x : Emit) → slice_get emits place ≡ Some x → due_now m x ≡ at m (take 1 (drop place emits))
+pub one_due : (m : ℕ) (emits : List Emit) (place : ℕ) (x : Emit) → slice_get emits place ≡ Some x → due_now m x ≡ all_made (at m (take 1 (drop place emits)))
 one_due m [] place x is = absurd cc
 one_due m (e ∷ emits) zero x is =
     let same : e ≡ x = cc in
     ap (λ (y : Emit). due_now m y) (sym same)
 one_due m (e ∷ emits) (suc place) x is = one_due m emits place x is
 
-pub none_due : (m : ℕ) (emits : List Emit) (place : ℕ) → slice_get emits place ≡ None → [] ≡ at m (take 1 (drop place emits))
+pub none_due : (m : ℕ) (emits : List Emit) (place : ℕ) → slice_get emits place ≡ None → [] ≡ all_made (at m (take 1 (drop place emits)))
 none_due m [] zero is = refl
 none_due m [] (suc place) is = refl
 none_due m (e ∷ emits) zero is = absurd cc

@@ -8,9 +8,9 @@ use Rattle.gate_outside.specs.Faults.{Rose}
 use Rattle.gate_outside.specs.Link.{Attachment, GoesOn, Handed, Outcome, Traffic}
 use Rattle.gate_outside.specs.Told.{Joins}
 use Rattle.capture_stream.proofs.WriterLemmas.{Joins-nil, Joins-then}
-use Rattle.gate_events.specs.Emit.{Emitted}
 use Rattle.serving.specs.Handing.{passed}
 use Rattle.serving.specs.Served.{IsFront, Outside, Passed, Passes, Stops, Tried, all_due, bus_sends, net_sends, over_bus, over_net, to_bus, to_net, to_text, with_last}
+use Rattle.serving.specs.Turns.{Item}
 
 -- ---- what a link tells goes on
 
@@ -103,7 +103,7 @@ stops_then a b c x y last p q =
           (λ t. bus_then x (with_last y last) t ∙ ap (λ (z : Passed). over_bus z t) end) a.bus b.bus c.bus p.bus q.bus;
       net = goes_then (over_net x) (over_net (with_last y last)) (over_net (with_last (both x y) last))
           (λ t. net_then x (with_last y last) t ∙ ap (λ (z : Passed). over_net z t) end) a.net b.net c.net p.net q.net;
-      is_report = q.is_report;
+      is_written = q.is_written;
       part = q.part;
       untaken = q.untaken;
       text = subst (λ (t : List ℕ). Joins a.taken c.taken t)
@@ -120,30 +120,30 @@ stops_then a b c x y last p q =
 pub due_append : (xs ys : List Tried) → all_due (xs ++ ys) ≡ all_due xs ++ all_due ys
 due_append xs ys = map-append (λ (t : Tried). t.due) xs ys
 
-pub front_before : (front all more : List Emitted) → IsFront front all → IsFront front (all ++ more)
+pub front_before : (front all more : List Item) → IsFront front all → IsFront front (all ++ more)
 front_before front all more f = (
   f.0 ++ more,
-  ap (λ (x : List Emitted). x ++ more) f.1 ∙ append_assoc front f.0 more,
+  ap (λ (x : List Item). x ++ more) f.1 ∙ append_assoc front f.0 more,
 )
 
-pub front_behind : (before front all : List Emitted) → IsFront front all → IsFront (before ++ front) (before ++ all)
+pub front_behind : (before front all : List Item) → IsFront front all → IsFront (before ++ front) (before ++ all)
 front_behind before front all f = (
   f.0,
-  ap (λ (x : List Emitted). before ++ x) f.1 ∙ sym (append_assoc before front f.0),
+  ap (λ (x : List Item). before ++ x) f.1 ∙ sym (append_assoc before front f.0),
 )
 
-pub front_as : (front front' all all' : List Emitted) → front ≡ front' → all ≡ all' → IsFront front all → IsFront front' all'
+pub front_as : (front front' all all' : List Item) → front ≡ front' → all ≡ all' → IsFront front all → IsFront front' all'
 front_as front front' all all' ef ea f = (
   f.0,
-  sym ea ∙ f.1 ∙ ap (λ (x : List Emitted). x ++ f.0) ef,
+  sym ea ∙ f.1 ∙ ap (λ (x : List Item). x ++ f.0) ef,
 )
 
 -- behind items that went out whole the first of more went out
-pub front_then : (xs ys : List Tried) (last : Tried) (due more : List Emitted) → all_due xs ≡ due → IsFront (all_due (ys ++ last ∷ [])) more
+pub front_then : (xs ys : List Tried) (last : Tried) (due more : List Item) → all_due xs ≡ due → IsFront (all_due (ys ++ last ∷ [])) more
     → IsFront (all_due ((xs ++ ys) ++ last ∷ [])) (due ++ more)
 front_then xs ys last due more is f =
     front_as (due ++ all_due (ys ++ last ∷ [])) (all_due ((xs ++ ys) ++ last ∷ [])) (due ++ more) (due ++ more)
-    (ap (λ (x : List Emitted). x ++ all_due (ys ++ last ∷ [])) (sym is)
+    (ap (λ (x : List Item). x ++ all_due (ys ++ last ∷ [])) (sym is)
     ∙ sym (due_append xs (ys ++ last ∷ []))
     ∙ ap all_due (sym (append_assoc xs ys (last ∷ [])))) refl
     (front_behind due (all_due (ys ++ last ∷ [])) more f)

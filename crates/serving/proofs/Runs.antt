@@ -1,19 +1,20 @@
 -- A run of turns, one behind the other.
 use Rattle.std.proofs.Common.{◌≡◌, ℕ, ◌+◌, ◌<◌, suc, List, [], ◌∷◌, ◌++◌, length, map, refl, sym, ap, subst, ◌∙◌, append_assoc, arith, length-append}
 use Rattle.std.specs.Prelude.{Option, Some, None}
+use Rattle.std.specs.List.{AllByRecursion}
+use Rattle.std.proofs.ByRecursion.{All-append}
 use Rattle.std.proofs.lemmas.List.{append-nil, length-map, map-append}
 use Rattle.gate_outside.specs.Faults.{Rose}
 use Rattle.gate_outside.specs.Link.{Outcome}
 use Rattle.gate_outside.specs.Told.{Joins}
 use Rattle.capture_stream.proofs.WriterLemmas.{Joins-nil, Joins-then}
-use Rattle.gate_events.specs.Emit.{Emitted}
 use Rattle.bridge.specs.Replayed.{Running, RunningStands}
 use Rattle.bridge.specs.BridgeStands.{IsNew}
 use Rattle.bridge.specs.Kept.{Bridged}
 use Rattle.bridge.specs.Parts.{Parts}
 use Rattle.serving.specs.Handing.{Ends, TurnsAll, TurnsSome, passed}
-use Rattle.serving.specs.Served.{IsFront, Outside, Passes, Tried, all_due}
-use Rattle.serving.specs.Turns.{Turned, due_from, due_of, turn}
+use Rattle.serving.specs.Served.{IsFront, NetFits, Outside, Passes, Tried, all_due}
+use Rattle.serving.specs.Turns.{Item, Turned, due_from, due_of, turn}
 use Rattle.serving.proofs.Passing.{due_append, front_as, front_then, passes_none, passes_then, stops_then}
 
 -- what a turn read and received
@@ -53,7 +54,7 @@ module _ (p : Parts) where
       let rest = due_from p (number + 1) (Some x.after) (readings heard) (by_bus heard) (by_net heard) in
       let after = after_turns (number + 1) (Some x.after) heard in
       let here : (number + 1) + length heard ≡ number + suc (length heard) = omega arith in
-      ap (λ (z : List Emitted). x.due ++ z) (due_then (number + 1) (Some x.after) heard reading bus net)
+      ap (λ (z : List Item). x.due ++ z) (due_then (number + 1) (Some x.after) heard reading bus net)
       ∙ ap (λ (k : ℕ). x.due ++ (rest ++ (turn p k reading bus net after).due)) here
       ∙ sym (append_assoc x.due rest (turn p (number + suc (length heard)) reading bus net after).due)
 
@@ -75,6 +76,7 @@ pub record Progress (count : ℕ) (first now : Bridged) (clock clock' : Option (
   pub heard : List Heard
   pub counted : length heard ≡ count
   pub tried : List Tried
+  pub fits : AllByRecursion NetFits (by_net heard)
   pub reads : Joins clock clock' (readings heard)
   pub passes : Passes old new (passed (by_bus heard) (by_net heard) tried)
   pub is_due : (p : Parts) → IsNew p first → all_due tried ≡ due_of p (readings heard) (by_bus heard) (by_net heard)
@@ -85,6 +87,7 @@ progress_none first clock old = record {
   heard = [];
   counted = refl;
   tried = [];
+  fits = tt;
   reads = Joins-nil clock;
   passes = passes_none old;
   is_due = λ p new. refl;
@@ -106,6 +109,7 @@ module _ (count : ℕ) (first now : Bridged) (a b c : Option (List ℕ)) (old be
         heard = x.heard ++ h ∷ [];
         counted = omega (arith, length-append x.heard (h ∷ []), x.counted);
         tried = x.tried ++ d.tried;
+        fits = subst (λ (ns : List Outcome). AllByRecursion NetFits ns) all_net (All-append NetFits (by_net x.heard) (t.net ∷ []) x.fits (t.fits, tt));
         reads = subst (λ (rs : List ℕ). Joins a c rs) all_readings (Joins-then a b c (readings x.heard) (t.reading ∷ []) x.reads t.reads);
         passes =
             subst (λ (bs : List Outcome). Passes old new (passed bs (by_net (x.heard ++ h ∷ [])) (x.tried ++ d.tried))) all_bus
@@ -114,8 +118,8 @@ module _ (count : ℕ) (first now : Bridged) (a b c : Option (List ℕ)) (old be
         is_due = λ p is_new.
             let g = after_turns p 1 None x.heard in
             due_append x.tried d.tried
-            ∙ ap (λ (z : List Emitted). z ++ all_due d.tried) (x.is_due p is_new)
-            ∙ ap (λ (z : List Emitted). due_of p (readings x.heard) (by_bus x.heard) (by_net x.heard) ++ z)
+            ∙ ap (λ (z : List Item). z ++ all_due d.tried) (x.is_due p is_new)
+            ∙ ap (λ (z : List Item). due_of p (readings x.heard) (by_bus x.heard) (by_net x.heard) ++ z)
             (d.is_due p g (x.stands p is_new) ∙ ap (λ (k : ℕ). (turn_of p k h g).due) number_is)
             ∙ sym (due_then p 1 None x.heard t.reading (t.bus ∷ []) (t.net ∷ []))
             ∙ ap (λ (rs : List ℕ). due_of p rs (by_bus x.heard ++ t.bus ∷ []) (by_net x.heard ++ t.net ∷ [])) all_readings
@@ -180,6 +184,7 @@ progress_ends turns count first now a b old new all x p is_new = record {
     each_reading = length-map x.heard (λ h. h.reading) ∙ x.counted ∙ all;
     each_bus = length-map x.heard (λ h. h.bus) ∙ x.counted ∙ all;
     each_net = length-map x.heard (λ h. h.net) ∙ x.counted ∙ all;
+    fits = x.fits;
   };
   sink_failed = λ other. absurd cc;
 }

@@ -2,11 +2,15 @@
 use Rattle.std.proofs.Common.{refl}
 use Rattle.history.proofs.Computed.{cases}
 use Rattle.bridge.proofs.ReplayCases.{lines}
-use Rattle.serving.specs.TurnCases.{ReceivesFail, SendsFail, FramesAreLines, ReportsAreLines}
+use Rattle.serving.specs.TurnCases.{ARunIsRecorded, ReceivesFail, SendsFail, FramesAreLines, ReportsAreLines}
 
 pub receives_fail : ReceivesFail
 unfolding cases lines
 receives_fail = refl
+
+pub a_run_is_recorded : ARunIsRecorded
+unfolding cases lines
+a_run_is_recorded = refl
 
 pub sends_fail : SendsFail
 unfolding cases lines

@@ -14,11 +14,11 @@ use Rattle.bridge.specs.BridgeStands.{IsStart}
 use Rattle.bridge.specs.Kept.{Bridged, left_of}
 use Rattle.bridge.specs.Parts.{Parts}
 use Rattle.serving.specs.Handing.{Does, DoesAll, DoesSome, Hands, HandsAll, HandsSome, RunStands, TakesTurn, passed}
-use Rattle.serving.specs.Served.{IsFront, Outside, Passes, all_due}
-use Rattle.serving.specs.Turns.{Arrived, Turned, came_in, from_bus, from_net, in_turn, is_event, moment_at, with_start, tick_behind, turn, with_all, with_came}
-use Rattle.serving.proofs.Doing.{does_as, does_nothing, does_some_as, does_some_still, does_some_then, does_then}
-use Rattle.serving.proofs.Items.{due_now}
-use Rattle.serving.proofs.Passing.{front_as, passes_none, passes_then, stops_then}
+use Rattle.serving.specs.Served.{IsFront, NetFits, Outside, Passes, all_due}
+use Rattle.serving.specs.Turns.{Arrived, Item, Turned, all_made, came_in, from_bus, from_net, in_turn, is_event, moment_at, recorded_where, start_line, with_start, tick_behind, turn, with_all, with_came}
+use Rattle.serving.proofs.Doing.{does_as, does_nothing, does_some_as, does_some_still, does_some_then, does_then, hands_some_then, hands_then}
+use Rattle.serving.proofs.Items.{told_now}
+use Rattle.serving.proofs.Passing.{front_as, front_before, passes_none, passes_then, stops_then}
 
 -- ---- the start
 
@@ -35,30 +35,57 @@ module _ (m : ℕ) where
   opens_started b o is = record { tried = []; passes = passes_none o; is_due = started_due b is; stands = started_stands b is }
 
   module _ (before after : Bridged) (waits : before.started ≡ false) (start : IsStart m before after) where
-    opening_due : (p : Parts) (g : Option Running) → RunningStands p g before → at m (left_of after) ≡ (with_start p m g).due
-    opening_due p None new = ap (λ (es : List Emit). at m es) (start p new).emits
+    abbrev opening_items : List Item
+    opening_items = recorded_where after.records (start_line m) ++ all_made (at m (left_of after))
+
+    opening_due : (p : Parts) (g : Option Running) → RunningStands p g before → opening_items ≡ (with_start p m g).due
+    opening_due p None new =
+        let x = start p new in
+        ap (λ (b : Bool). recorded_where b (start_line m) ++ all_made (at m (left_of after))) x.stands.records
+        ∙ ap (λ (es : List Emit). recorded_where p.records (start_line m) ++ all_made (at m es)) x.emits
     opening_due p (Some g) stands = let never : true ≡ false = sym stands.1.started ∙ waits in absurd cc
 
     opening_stands : (p : Parts) (g : Option Running) → RunningStands p g before → RunStands p (with_start p m g).after after
     opening_stands p None new = (tt, (start p new).stands)
     opening_stands p (Some g) stands = let never : true ≡ false = sym stands.1.started ∙ waits in absurd cc
 
-    pub opens_new : (old new : Outside) (result : Result (Unit {0}) Failed) → Hands old new (at m (left_of after)) result
-        → Does RunningStands (λ p g. with_start p m g) [] [] before after old new result
-    opens_new old new (Ok done) h = record {
+    -- the line of the start couldn't be written whole
+    pub opens_unrecorded : (old new : Outside) → HandsSome old new (recorded_where after.records (start_line m))
+        → DoesSome RunningStands (λ p g. with_start p m g) [] [] before old new
+    opens_unrecorded old new h = record {
+      tried = h.tried;
+      last = h.last;
+      stops = h.stops;
+      is_front = λ p g stands.
+          let front = all_due (h.tried ++ h.last ∷ []) in
+          front_as front front opening_items (with_start p m g).due refl (opening_due p g stands)
+          (front_before front (recorded_where after.records (start_line m)) (all_made (at m (left_of after))) h.is_front);
+    }
+
+    opens_all : (old new : Outside) → HandsAll old new opening_items → DoesAll RunningStands (λ p g. with_start p m g) [] [] before after old new
+    opens_all old new h = record {
       tried = h.tried;
       passes = h.passes;
       is_due = λ p g stands. h.is_due ∙ opening_due p g stands;
       stands = opening_stands;
     }
-    opens_new old new (Err e) h = record {
+
+    opens_some : (old new : Outside) → HandsSome old new opening_items → DoesSome RunningStands (λ p g. with_start p m g) [] [] before old new
+    opens_some old new h = record {
       tried = h.tried;
       last = h.last;
       stops = h.stops;
       is_front = λ p g stands.
-          front_as (all_due (h.tried ++ h.last ∷ [])) (all_due (h.tried ++ h.last ∷ [])) (at m (left_of after)) (with_start p m g).due refl
-          (opening_due p g stands) h.is_front;
+          let front = all_due (h.tried ++ h.last ∷ []) in front_as front front opening_items (with_start p m g).due refl (opening_due p g stands) h.is_front;
     }
+
+    -- it was, and what the start left goes out behind it
+    pub opens_new : (old between new : Outside) (result : Result (Unit {0}) Failed) → HandsAll old between (recorded_where after.records (start_line m))
+        → Hands between new (all_made (at m (left_of after))) result → Does RunningStands (λ p g. with_start p m g) [] [] before after old new result
+    opens_new old between new (Ok done) line h =
+        opens_all old new (hands_then old between new (recorded_where after.records (start_line m)) (all_made (at m (left_of after))) line h)
+    opens_new old between new (Err e) line h =
+        opens_some old new (hands_some_then old between new (recorded_where after.records (start_line m)) (all_made (at m (left_of after))) line h)
 
 -- ---- what came by one link
 
@@ -88,7 +115,7 @@ module _ (m : ℕ) {came came' : Arrived} (same : came ≡ came') {bus net : Lis
   }
 
 -- a report of what couldn't be received or read
-pub reports_all : {m : ℕ} {r : Report} {b : Bridged} {old new : Outside} → HandsAll old new (due_now m (emits.report r))
+pub reports_all : {m : ℕ} {r : Report} {b : Bridged} {old new : Outside} → HandsAll old new (told_now m (emits.report r))
     → DoesAll RunStands (λ p g. with_came p m (Err r) g) [] [] b b old new
 reports_all h = record {
   tried = h.tried;
@@ -97,7 +124,7 @@ reports_all h = record {
   stands = λ p g stands. stands;
 }
 
-pub reports_some : {m : ℕ} {r : Report} {b : Bridged} {old new : Outside} → HandsSome old new (due_now m (emits.report r))
+pub reports_some : {m : ℕ} {r : Report} {b : Bridged} {old new : Outside} → HandsSome old new (told_now m (emits.report r))
     → DoesSome RunStands (λ p g. with_came p m (Err r) g) [] [] b old new
 reports_some h = record {
   tried = h.tried;
@@ -196,10 +223,10 @@ pub any_event : (heard x y x' y' : Bool) → heard ≡ (x || y) → x ≡ x' →
 any_event heard x y x' y' any is is' = any ∙ ap (λ (h : Bool). h || y) is ∙ ap (λ (h : Bool). x' || h) is'
 
 pub turn_taken : (number reading : ℕ) (b n : Outcome) (before after : Bridged) (clock clock' : Option (List ℕ)) (old new : Outside)
-    (result : Result (Unit {0}) Failed) → Joins clock clock' (reading ∷ [])
+    (result : Result (Unit {0}) Failed) → NetFits n → Joins clock clock' (reading ∷ [])
     → Does RunningStands (λ p g. turn p number reading (b ∷ []) (n ∷ []) g) (b ∷ []) (n ∷ []) before after old new result
     → TakesTurn number before after clock clock' old new result
-turn_taken number reading b n before after clock clock' old new (Ok done) reads does =
-    record { reading = reading; bus = b; net = n; reads = reads; does = does }
-turn_taken number reading b n before after clock clock' old new (Err e) reads does =
+turn_taken number reading b n before after clock clock' old new (Ok done) fits reads does =
+    record { reading = reading; bus = b; net = n; fits = fits; reads = reads; does = does }
+turn_taken number reading b n before after clock clock' old new (Err e) fits reads does =
     record { reading = reading; bus = b ∷ []; net = n ∷ []; reads = reads; cut = (omega arith, omega arith, omega arith); does = does }

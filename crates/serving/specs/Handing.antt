@@ -7,14 +7,13 @@ use Rattle.gate_outside.specs.declared.Failed.{Failed}
 use Rattle.gate_outside.specs.Faults.{Rose}
 use Rattle.gate_outside.specs.Link.{Outcome}
 use Rattle.gate_outside.specs.Told.{Joins}
-use Rattle.gate_events.specs.Emit.{Emitted}
-use Rattle.history.specs.Entries as entry
+use Rattle.gate_events.specs.Event as capture
 use Rattle.bridge.specs.Replayed.{Running, RunningStands}
 use Rattle.bridge.specs.BridgeStands.{IsNew}
 use Rattle.bridge.specs.Kept.{Bridged}
 use Rattle.bridge.specs.Parts.{Parts}
-use Rattle.serving.specs.Served.{EndsBy, IsCut, IsFront, Outside, Passed, Passes, Stops, Tried, all_due}
-use Rattle.serving.specs.Turns.{Arrived, Turned, is_event, turn, with_came}
+use Rattle.serving.specs.Served.{EndsBy, IsCut, IsFront, NetFits, Outside, Passed, Passes, Stops, Tried, all_due}
+use Rattle.serving.specs.Turns.{Arrived, Item, Turned, is_event, turn, with_came}
 
 -- ---- a text is written
 
@@ -37,19 +36,19 @@ abbrev pub passed : List Outcome → List Outcome → List Tried → Passed
 passed bus net tried = record { from_bus = bus; from_net = net; tried = tried }
 
 -- all of these went out
-pub record HandsAll (old new : Outside) (due : List Emitted) : Type 0 where
+pub record HandsAll (old new : Outside) (due : List Item) : Type 0 where
   pub tried : List Tried
   pub passes : Passes old new (passed [] [] tried)
   pub is_due : all_due tried ≡ due
 
 -- the first of these went out, the last of them in part
-pub record HandsSome (old new : Outside) (due : List Emitted) : Type 0 where
+pub record HandsSome (old new : Outside) (due : List Item) : Type 0 where
   pub tried : List Tried
   pub last : Tried
   pub stops : Stops old new (passed [] [] tried) last
   pub is_front : IsFront (all_due (tried ++ last ∷ [])) due
 
-abbrev pub Hands : Outside → Outside → List Emitted → Result (Unit {0}) Failed → Type 0
+abbrev pub Hands : Outside → Outside → List Item → Result (Unit {0}) Failed → Type 0
 Hands old new due (Ok done) = HandsAll old new due
 Hands old new due (Err e) = HandsSome old new due
 
@@ -87,11 +86,11 @@ Hears m came bus net before after old new (Err e) = DoesSome RunStands (λ p g. 
 
 -- what a receive on the bus gave, as its caller has it
 abbrev pub frame_came : ℕ → Result (Option Frame) Report → Arrived
-frame_came m (Ok frame) = Ok (option_map (λ f. entry.frame m (bus_frame f)) frame)
+frame_came m (Ok frame) = Ok (option_map (λ f. capture.frame m (bus_frame f)) frame)
 frame_came m (Err r) = Err r
 
 abbrev pub frame_said : ℕ → Result Frame Report → Arrived
-frame_said m (Ok f) = Ok (Some (entry.frame m (bus_frame f)))
+frame_said m (Ok f) = Ok (Some (capture.frame m (bus_frame f)))
 frame_said m (Err r) = Err r
 
 -- ---- a turn
@@ -100,6 +99,7 @@ pub record TurnsAll (number : ℕ) (before after : Bridged) (clock clock' : Opti
   pub reading : ℕ
   pub bus : Outcome
   pub net : Outcome
+  pub fits : NetFits net
   pub reads : Joins clock clock' (reading ∷ [])
   pub does : DoesAll RunningStands (λ p g. turn p number reading (bus ∷ []) (net ∷ []) g) (bus ∷ []) (net ∷ []) before after old new
 

@@ -1,4 +1,5 @@
 pub mod Handing
+pub mod Recorded
 pub mod Served
 pub mod Turns
 pub mod TurnCases

@@ -1,10 +1,11 @@
 -- What goes out of a gateway between two links: all that its turns make, in order, where what couldn't be sent is reported in its place.
-use Rattle.std.specs.Prelude.{◌≡◌, ◌≢◌, ◌≤◌, ℕ, ◌+◌, Bool, true, false, List, [], ◌∷◌, ◌++◌, length, map, codes, Option}
-use Rattle.std.specs.List.{flat_map}
+use Rattle.std.specs.Prelude.{◌≡◌, ◌≢◌, ◌≤◌, ℕ, ◌+◌, Bool, true, false, List, [], ◌∷◌, ◌++◌, length, map, codes, Option, Some, None, Ok, Err}
+use Rattle.std.specs.List.{AllByRecursion, flat_map}
 use Rattle.report_rules.specs.Rules as rules
 use Rattle.gate_events.specs.declared.emit.Detail.TheVariants as detail
 use Rattle.gate_events.specs.declared.emit.Report.{Report}
-use Rattle.capture_text.specs.Writing.{time_text, frame_text}
+use Rattle.hex.specs.Hex.{IsBytes}
+use Rattle.capture_text.specs.Writing.{time_text, frame_text, most_received}
 use Rattle.gate_outside.specs.Faults.{Rose}
 use Rattle.gate_outside.specs.Link.{GoesOn, Handed, Outcome, Traffic}
 use Rattle.gate_outside.specs.Told.{Joins}
@@ -15,13 +16,13 @@ use Rattle.capture_text.specs.Emitted.{line_of}
 use Rattle.bridge.specs.Parts.{Parts}
 use Rattle.statuses.specs.declared.Status.TheVariants.{Done, SinkFailed}
 use Rattle.statuses.specs.Statuses.{number}
-use Rattle.serving.specs.Turns.{due_of}
+use Rattle.serving.specs.Turns.{Item, due_of, made, recorded, told}
 
 -- ---- an item, and what became of it
 
--- what was to go out, and whether its send failed; a report is written and never sent
+-- what was to go out, and whether its send failed; a report and a recorded line are written and never sent
 pub record Tried : Type 0 where
-  pub due : Emitted
+  pub due : Item
   pub failed : Bool
 
 abbrev pub in_place : Bool → Emit → Emit
@@ -30,11 +31,19 @@ in_place true (emits.can f) = broken rules.send_failed detail.Bus
 in_place true (emits.net group bytes) = broken rules.send_failed detail.Net
 in_place true (emits.report r) = emits.report r
 
--- the item that it is: itself, or the report in its place, at its moment
-abbrev pub item_of : Tried → Emitted
-item_of t = record { moment = t.due.moment; emit = in_place t.failed t.due.emit }
+abbrev pub emitted_as : Bool → Emitted → Emitted
+emitted_as failed e = record { moment = e.moment; emit = in_place failed e.emit }
 
-abbrev pub all_due : List Tried → List Emitted
+abbrev pub item_as : Bool → Item → Item
+item_as failed (made e) = made (emitted_as failed e)
+item_as failed (told e) = told (emitted_as failed e)
+item_as failed (recorded line) = recorded line
+
+-- the item that it is: itself, or the report in its place, at its moment
+abbrev pub item_of : Tried → Item
+item_of t = item_as t.failed t.due
+
+abbrev pub all_due : List Tried → List Item
 all_due tried = map (λ t. t.due) tried
 
 -- ---- where an item goes
@@ -57,14 +66,30 @@ as_text m (emits.can f) = []
 as_text m (emits.net group bytes) = []
 as_text m (emits.report r) = line_of (record { moment = m; emit = emits.report r })
 
+abbrev pub item_on_bus : Item → List Handed
+item_on_bus (made e) = on_bus e.moment e.emit
+item_on_bus (told e) = on_bus e.moment e.emit
+item_on_bus (recorded line) = []
+
+abbrev pub item_on_net : Item → List Handed
+item_on_net (made e) = on_net e.emit
+item_on_net (told e) = on_net e.emit
+item_on_net (recorded line) = []
+
+-- a recorded line is one of the text too
+abbrev pub item_as_text : Item → List ℕ
+item_as_text (made e) = as_text e.moment e.emit
+item_as_text (told e) = as_text e.moment e.emit
+item_as_text (recorded line) = line ++ 10 ∷ []
+
 abbrev pub to_bus : Tried → List Handed
-to_bus t = let x = item_of t in on_bus x.moment x.emit
+to_bus t = item_on_bus (item_of t)
 
 abbrev pub to_net : Tried → List Handed
-to_net t = on_net (item_of t).emit
+to_net t = item_on_net (item_of t)
 
 abbrev pub to_text : Tried → List ℕ
-to_text t = let x = item_of t in as_text x.moment x.emit
+to_text t = item_as_text (item_of t)
 
 -- ---- whether each send of a link failed
 
@@ -78,11 +103,21 @@ net_sent failed (emits.can f) = []
 net_sent failed (emits.net group bytes) = failed ∷ []
 net_sent failed (emits.report r) = []
 
+abbrev pub item_bus_sent : Bool → Item → List Bool
+item_bus_sent failed (made e) = bus_sent failed e.emit
+item_bus_sent failed (told e) = bus_sent failed e.emit
+item_bus_sent failed (recorded line) = []
+
+abbrev pub item_net_sent : Bool → Item → List Bool
+item_net_sent failed (made e) = net_sent failed e.emit
+item_net_sent failed (told e) = net_sent failed e.emit
+item_net_sent failed (recorded line) = []
+
 abbrev pub bus_sends : Tried → List Bool
-bus_sends t = bus_sent t.failed t.due.emit
+bus_sends t = item_bus_sent t.failed t.due
 
 abbrev pub net_sends : Tried → List Bool
-net_sends t = net_sent t.failed t.due.emit
+net_sends t = item_net_sent t.failed t.due
 
 -- ---- what is told of the links and of the sink
 
@@ -118,7 +153,7 @@ over_net x t = record {
   attached = t.attached;
 }
 
--- All of this passed: each link that tells was handed its items, the text of the reports was taken, and no write failed.
+-- All of this passed: each link that tells was handed its items, the text of the reports and of the recorded lines was taken, and no write failed.
 pub record Passes (old new : Outside) (x : Passed) : Type 0 where
   pub bus : GoesOn (over_bus x) old.bus new.bus
   pub net : GoesOn (over_net x) old.net new.net
@@ -128,11 +163,17 @@ pub record Passes (old new : Outside) (x : Passed) : Type 0 where
 abbrev pub with_last : Passed → Tried → Passed
 with_last x last = record { from_bus = x.from_bus; from_net = x.from_net; tried = x.tried ++ last ∷ [] }
 
--- This passed, and last a report of which only a part was taken, since a write failed.
+-- an item is written: a report, or a recorded line
+abbrev pub IsWritten : Item → Type 0
+IsWritten (made e) = (r : Report) × (e.emit ≡ emits.report r)
+IsWritten (told e) = (r : Report) × (e.emit ≡ emits.report r)
+IsWritten (recorded line) = Unit {0}
+
+-- This passed, and last a report or a recorded line of which only a part was taken, since a write failed.
 pub record Stops (old new : Outside) (x : Passed) (last : Tried) : Type 0 where
   pub bus : GoesOn (over_bus (with_last x last)) old.bus new.bus
   pub net : GoesOn (over_net (with_last x last)) old.net new.net
-  pub is_report : (r : Report) × ((item_of last).emit ≡ emits.report r)
+  pub is_written : IsWritten (item_of last)
   pub part : List ℕ
   pub untaken : List ℕ
   pub text : Joins old.taken new.taken (flat_map to_text x.tried ++ part)
@@ -142,8 +183,14 @@ pub record Stops (old new : Outside) (x : Passed) (last : Tried) : Type 0 where
 
 -- ---- a run of turns
 
-abbrev pub IsFront : List Emitted → List Emitted → Type 0
-IsFront front all = (rest : List Emitted) × (all ≡ front ++ rest)
+abbrev pub IsFront : List Item → List Item → Type 0
+IsFront front all = (rest : List Item) × (all ≡ front ++ rest)
+
+-- what a receive on the network gave is no longer than a link gives it, and bytes
+abbrev pub NetFits : Outcome → Type 0
+NetFits (Ok (Some bytes)) = (length bytes ≤ most_received) × IsBytes bytes
+NetFits (Ok None) = Unit {0}
+NetFits (Err e) = Unit {0}
 
 -- All turns were taken: each read the clock once and received once from each link, and all that they make went out.
 pub record Serves (p : Parts) (turns : ℕ) (clock clock' : Option (List ℕ)) (old new : Outside) : Type 0 where
@@ -155,12 +202,14 @@ pub record Serves (p : Parts) (turns : ℕ) (clock clock' : Option (List ℕ)) (
   pub each_reading : length readings ≡ turns
   pub each_bus : length passed.from_bus ≡ turns
   pub each_net : length passed.from_net ≡ turns
+  pub fits : AllByRecursion NetFits passed.from_net
 
 -- Each turn received from both links, but for the last one, which may have been cut off: so many readings and outcomes there were.
 abbrev pub IsCut : ℕ → ℕ → ℕ → Type 0
 IsCut readings bus net = (net ≤ bus) × (bus ≤ readings) × (readings ≤ net + 1)
 
--- A write failed: of what the turns make by what was read and received so far the first items went out, the last of them a report, in part.
+-- A write failed: of what the turns make by what was read and received so far the first items went out, the last of them a report or a
+-- recorded line, in part.
 pub record Breaks (p : Parts) (turns : ℕ) (clock clock' : Option (List ℕ)) (old new : Outside) : Type 0 where
   pub readings : List ℕ
   pub passed : Passed

@@ -1,14 +1,15 @@
 -- Turns between two links, whose receives and sends fail at times.
 use Rattle.std.specs.Prelude.{◌≡◌, Bool, true, false, List, [], ◌∷◌, ◌++◌, Some, None, Ok, Err, codes}
 use Rattle.std.specs.List.{flat_map}
-use Rattle.report_rules.specs.Rules.{capture_form, receive_failed, unclaimed}
-use Rattle.gate_events.specs.declared.emit.Detail.TheVariants.{Bus, Line, Net, Source}
+use Rattle.report_rules.specs.Rules.{capture_form, datagram_header, expired, receive_failed, unclaimed}
+use Rattle.gate_events.specs.declared.emit.Detail.TheVariants.{At, Bus, Line, Net, Source}
 use Rattle.gate_outside.specs.Link.{Outcome}
 use Rattle.history.specs.Cases.{can_frame, emitted, navd, started}
 use Rattle.history.specs.Emits.{broken}
+use Rattle.bridge.specs.Parts.{Parts}
 use Rattle.bridge.specs.ReplayCases.{alone, text}
 use Rattle.serving.specs.Served.{Tried, to_bus, to_text}
-use Rattle.serving.specs.Turns.{due_of}
+use Rattle.serving.specs.Turns.{all_made, due_of, made, recorded, told}
 
 abbrev pub nothing : Outcome
 nothing = Ok None
@@ -28,20 +29,45 @@ ReceivesFail =
     ∷ Ok (Some (codes "(1.000000) can0 09F11219#005C3DFF7FFF7FFC"))
     ∷ [])
     (nothing ∷ failed ∷ nothing ∷ nothing ∷ nothing ∷ [])
-    ≡ started 10000000
-    ++ (emitted 10100000 (navd (codes "s:II0001,n:1*01") (codes "$HEHDT,90.0,T*16"))
-    ∷ emitted 10100000 (broken receive_failed Net)
-    ∷ emitted 10100000 (broken receive_failed Bus)
-    ∷ emitted 10200000 (broken capture_form (Line 4))
-    ∷ emitted 10300000 (broken unclaimed (Source 25 127250))
+    ≡ all_made (started 10000000)
+    ++ (made (emitted 10100000 (navd (codes "s:II0001,n:1*01") (codes "$HEHDT,90.0,T*16")))
+    ∷ told (emitted 10100000 (broken receive_failed Net))
+    ∷ told (emitted 10100000 (broken receive_failed Bus))
+    ∷ told (emitted 10200000 (broken capture_form (Line 4)))
+    ∷ made (emitted 10300000 (broken unclaimed (Source 25 127250)))
+    ∷ [])
+
+abbrev pub recording : Parts
+recording = record alone { records = true }
+
+-- A run that is recorded: the start, at which nothing comes; a heading, whose own time is none; the first frame of a message, and a datagram of
+-- no bytes; and then nothing, so that the message is given up while the bus fails.
+abbrev pub ARunIsRecorded : Type 0
+ARunIsRecorded =
+    due_of recording (10000000 ∷ 10100000 ∷ 10200000 ∷ 12000000 ∷ [])
+    (nothing
+    ∷ Ok (Some (codes "(1.000000) can0 09F11217#005C3DFF7FFF7FFC"))
+    ∷ Ok (Some (codes "(1.000000) can0 0DF80517#002B020304050607"))
+    ∷ failed
+    ∷ [])
+    (nothing ∷ nothing ∷ Ok (Some []) ∷ nothing ∷ [])
+    ≡ (recorded (codes "(10.000000) tick start") ∷ all_made (started 10000000))
+    ++ (recorded (codes "(10.100000) can0 09F11217#005C3DFF7FFF7FFC")
+    ∷ made (emitted 10100000 (navd (codes "s:II0001,n:1*01") (codes "$HEHDT,90.0,T*16")))
+    ∷ recorded (codes "(10.200000) can0 0DF80517#002B020304050607")
+    ∷ recorded (codes "(10.200000) udp0 RECV#")
+    ∷ made (emitted 10200000 (broken datagram_header (At 0)))
+    ∷ told (emitted 12000000 (broken receive_failed Bus))
+    ∷ recorded (codes "(12.000000) tick")
+    ∷ made (emitted 12000000 (broken expired (Source 23 129029)))
     ∷ [])
 
 -- a frame, a datagram and a report, where the sends of the first two fail, and where they don't
 abbrev pub three : Bool → List Tried
 three fails =
-    record { due = emitted 10000000 (can_frame 0x18EEFFFB 0x0100C0FF008232C0); failed = fails }
-    ∷ record { due = emitted 10100000 (navd (codes "s:II0001,n:1*01") (codes "$HEHDT,90.0,T*16")); failed = fails }
-    ∷ record { due = emitted 10200000 (broken capture_form (Line 4)); failed = false }
+    record { due = made (emitted 10000000 (can_frame 0x18EEFFFB 0x0100C0FF008232C0)); failed = fails }
+    ∷ record { due = made (emitted 10100000 (navd (codes "s:II0001,n:1*01") (codes "$HEHDT,90.0,T*16"))); failed = fails }
+    ∷ record { due = told (emitted 10200000 (broken capture_form (Line 4))); failed = false }
     ∷ []
 
 -- what couldn't be sent is reported in its place

@@ -1,5 +1,5 @@
 -- What a gateway between two links makes turn by turn, over the readings of the clock and over what each receive gave.
-use Rattle.std.specs.Prelude.{ℕ, ◌+◌, Bool, true, false, ◌||◌, max, drop, List, [], ◌∷◌, ◌++◌, Option, Some, None, Result, Ok, Err, if◌then◌else◌}
+use Rattle.std.specs.Prelude.{ℕ, ◌+◌, Bool, true, false, ◌||◌, ◌&&◌, nat_lt, max, drop, List, [], ◌∷◌, ◌++◌, length, map, codes, Option, Some, None, Result, Ok, Err, if◌then◌else◌}
 use Rattle.std.specs.Io.BufRead.{ends_with_byte, strip_last}
 use Rattle.report_rules.specs.Rules as rules
 use Rattle.gate_events.specs.declared.emit.Detail.TheVariants as detail
@@ -9,12 +9,11 @@ use Rattle.gate_events.specs.Event as capture
 use Rattle.gate_events.specs.Event.{Seen}
 use Rattle.capture_text.specs.LineRule.{rule_number}
 use Rattle.capture_text.specs.Reading.{read}
+use Rattle.capture_text.specs.Writing.{event_text, start_mark}
 use Rattle.gate_outside.specs.Link.{Outcome}
 use Rattle.gate_events.specs.Emit.{Emitted, report}
 use Rattle.history.specs.Emits.{at, report_of}
-use Rattle.history.specs.Entries as entry
-use Rattle.history.specs.Entries.{Entry}
-use Rattle.bridge.specs.Replayed.{Running, moment_in}
+use Rattle.bridge.specs.Replayed.{Running, entry_of, moment_in}
 use Rattle.bridge.specs.Gate.{opening, stepped}
 use Rattle.bridge.specs.Parts.{Parts}
 
@@ -22,7 +21,7 @@ use Rattle.bridge.specs.Parts.{Parts}
 
 -- an event or none, or what is reported in its place
 abbrev pub Arrived : Type 0
-Arrived = Result (Option Entry) Report
+Arrived = Result (Option Seen) Report
 
 -- the text of an arrival: an LF at its end is no part of it, nor is a CR before that
 abbrev pub text_of : List ℕ → List ℕ
@@ -34,7 +33,7 @@ refused rule number = report_of rule (detail.Line number)
 
 -- A capture line of a frame is that frame, at the moment of the turn and not at its own. No other text is one.
 abbrev pub line_says : ℕ → ℕ → Result Seen LineRule → Arrived
-line_says m number (Ok (capture.frame own f)) = Ok (Some (entry.frame m f))
+line_says m number (Ok (capture.frame own f)) = Ok (Some (capture.frame m f))
 line_says m number (Ok (capture.datagram own bytes)) = Err (refused rules.capture_form number)
 line_says m number (Ok (capture.tick own)) = Err (refused rules.capture_form number)
 line_says m number (Err rule) = Err (refused (rule_number rule) number)
@@ -45,7 +44,7 @@ from_bus m number (Ok None) = Ok None
 from_bus m number (Err e) = Err (report_of rules.receive_failed detail.Bus)
 
 abbrev pub from_net : ℕ → Outcome → Arrived
-from_net m (Ok (Some bytes)) = Ok (Some (entry.datagram m bytes))
+from_net m (Ok (Some bytes)) = Ok (Some (capture.datagram m bytes))
 from_net m (Ok None) = Ok None
 from_net m (Err e) = Err (report_of rules.receive_failed detail.Net)
 
@@ -56,7 +55,7 @@ is_event (Err r) = false
 
 -- time passes, where neither link gave an event
 abbrev pub tick_behind : ℕ → Bool → Arrived
-tick_behind m heard = if heard then Ok None else Ok (Some (entry.tick m))
+tick_behind m heard = if heard then Ok None else Ok (Some (capture.tick m))
 
 -- What comes in a turn of this moment, in its order. The turn takes the first outcome of each link; it has come no further than these are
 -- there.
@@ -70,10 +69,48 @@ came_in m number (b ∷ bus) (n ∷ net) = all_came m (from_bus m number b) (fro
 
 -- ---- what is made of it
 
--- what is to go out, in its order, and what the gateway has lived through then
+-- what is to go out
+pub data Item : Type 0 where
+  -- the gateway emitted it: at the start, at an event, or at the command that an event completes
+  made : Emitted → Item
+  -- the report of what came and was no event
+  told : Emitted → Item
+  -- a line of what came, as a capture has it, without its line end
+  recorded : List ℕ → Item
+
+-- in its order, and what the gateway has lived through then
 pub record Turned : Type 0 where
-  pub due : List Emitted
+  pub due : List Item
   pub after : Running
+
+abbrev pub all_made : List Emitted → List Item
+all_made emits = map made emits
+
+abbrev pub all_told : List Emitted → List Item
+all_told emits = map told emits
+
+-- ---- what is recorded
+
+-- the group of a datagram that came
+abbrev pub received : List ℕ
+received = codes "RECV"
+
+-- the lines of the start and of an event
+abbrev pub start_line : ℕ → List ℕ
+start_line m = event_text received (capture.tick m) ++ start_mark
+
+abbrev pub event_line : Seen → List ℕ
+event_line seen = event_text received seen
+
+-- whether an event is: each that came, and time that passes only where something is emitted then
+abbrev pub is_recorded : {X : Type 0} → Seen → List X → Bool
+is_recorded (capture.frame m f) emits = true
+is_recorded (capture.datagram m bytes) emits = true
+is_recorded (capture.tick m) emits = nat_lt 0 (length emits)
+
+abbrev pub recorded_where : Bool → List ℕ → List Item
+recorded_where false line = []
+recorded_where true line = recorded line ∷ []
 
 -- the moment of a turn: the clock's reading, and never one before what was reached
 abbrev pub moment_at : Option Running → ℕ → ℕ
@@ -82,17 +119,23 @@ moment_at g reading = max reading (moment_in g)
 module _ (p : Parts) where
   -- the first turn starts the gateway
   abbrev pub with_start : ℕ → Option Running → Turned
-  with_start m None = record { due = opening p m; after = record { start = m; history = [] } }
+  with_start m None = record { due = recorded_where p.records (start_line m) ++ all_made (opening p m); after = record { start = m; history = [] } }
   with_start m (Some g) = record { due = []; after = g }
 
   -- an event gives all that the gateway with the parts beside it emits at it, and then at the command that it completes
-  abbrev pub with_entry : Entry → Running → Turned
-  with_entry e g = let x = stepped p g.start g.history e in record { due = x.emits; after = record { start = g.start; history = x.after } }
+  abbrev pub emitted_at : Seen → Running → Turned
+  emitted_at e g = let x = stepped p g.start g.history (entry_of e) in
+      record { due = all_made x.emits; after = record { start = g.start; history = x.after } }
+
+  -- and before that its line, where what comes is recorded
+  abbrev pub with_event : Seen → Running → Turned
+  with_event e g = let x = emitted_at e g in
+      record { due = recorded_where (p.records && is_recorded e x.due) (event_line e) ++ x.due; after = x.after }
 
   abbrev pub with_came : ℕ → Arrived → Running → Turned
-  with_came m (Ok (Some e)) g = with_entry e g
+  with_came m (Ok (Some e)) g = with_event e g
   with_came m (Ok None) g = record { due = []; after = g }
-  with_came m (Err r) g = record { due = at m (report r ∷ []); after = g }
+  with_came m (Err r) g = record { due = all_told (at m (report r ∷ [])); after = g }
 
   abbrev pub with_all : ℕ → List Arrived → Running → Turned
   with_all m [] g = record { due = []; after = g }
@@ -106,11 +149,11 @@ module _ (p : Parts) where
   turn number reading bus net g = let m = moment_at g reading in in_turn m (came_in m number bus net) g
 
   -- The turns of these readings from this number on: each takes one outcome of each link.
-  abbrev pub due_from : ℕ → Option Running → List ℕ → List Outcome → List Outcome → List Emitted
+  abbrev pub due_from : ℕ → Option Running → List ℕ → List Outcome → List Outcome → List Item
   due_from number g [] bus net = []
   due_from number g (reading ∷ readings) bus net =
       let x = turn number reading bus net g in x.due ++ due_from (number + 1) (Some x.after) readings (drop 1 bus) (drop 1 net)
 
   -- all that is to go out, from the start on; turns are counted from 1
-  abbrev pub due_of : List ℕ → List Outcome → List Outcome → List Emitted
+  abbrev pub due_of : List ℕ → List Outcome → List Outcome → List Item
   due_of readings bus net = due_from 1 None readings bus net

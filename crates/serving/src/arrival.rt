@@ -1,5 +1,6 @@
-//! What came over the bus, when it was asked once.
-ghost use Rattle.std.specs.Prelude.{◌≡◌, ◌∷◌, ℕ, option_map, IfOk, IfSome};
+//! What came over a link, when it was asked once.
+ghost use Rattle.std.specs.Prelude.{◌≡◌, ◌≤◌, ◌∷◌, ℕ, length, take, option_map, IfOk, IfSome};
+ghost use Rattle.hex.specs.Hex.{IsBytes};
 ghost use Rattle.std.specs.Io.BufRead.{ends_with_byte, strip_last};
 ghost use Rattle.n2k_id.specs.Frame.{IsFrame};
 ghost use Rattle.capture_text.specs.Reading.{read};
@@ -31,6 +32,15 @@ pub(crate) fn receive_frame<B: Link>(number: u64, bus: &mut B) -> Result<Option<
             detail: Detail::Bus,
         }),
     }
+}
+
+/// What came over the network: so many bytes at the front of a buffer.
+pub(crate) fn front(buffer: &[u8], count: usize) -> &[u8]
+    requires within { count ≤ length buffer.now }
+    ensures front { result.now ≡ take count buffer.now }
+    ensures bytes { IsBytes buffer.now }
+{
+    &buffer[..count]
 }
 
 /// The frame that a text says, or the report of a text that says none.

@@ -1,4 +1,4 @@
-//! What goes out: frames to the bus, datagrams to the network, reports to the sink, each at once.
+//! What goes out: frames to the bus, datagrams to the network, reports and recorded lines to the sink, each at once.
 ghost use Rattle.std.specs.Prelude.{◌≡◌, ◌∷◌, [], ◌++◌, codes, drop, take};
 ghost use Rattle.report_rules.specs.Rules.{send_failed};
 ghost use Rattle.n2k_id.specs.Frame.{IsFrame, bus_frame};
@@ -12,6 +12,7 @@ ghost use Rattle.capture_text.specs.Emitted.{line_of};
 ghost use Rattle.bridge.specs.Kept.{left_of};
 ghost use Rattle.serving.specs.Handing.{Hands, Takes};
 ghost use Rattle.serving.specs.Served.{outside};
+ghost use Rattle.serving.specs.Turns.{all_made};
 
 use arrayvec::ArrayVec;
 use bridge::Bridge;
@@ -22,7 +23,7 @@ use n2k_id::Frame;
 use report_rules::SEND_FAILED;
 use sentence_text::Group;
 
-type Line = ArrayVec<u8, LONGEST_LINE>;
+pub(crate) type Line = ArrayVec<u8, LONGEST_LINE>;
 
 /// The most bytes of a line with its LF.
 const LONGEST_ENDED: usize = LONGEST_LINE + 1;
@@ -36,7 +37,7 @@ pub(crate) fn hand_on<K: Sink, B: Link, E: Link>(
     net: &mut E,
 ) -> Result<(), Failed>
     ensures { Hands (outside (B.traffic bus.old) (E.traffic net.old) (K.taken out.old) (K.fault_count out.old))
-        (outside (B.traffic bus.new) (E.traffic net.new) (K.taken out.new) (K.fault_count out.new)) (at moment (left_of bridge.now)) result }
+        (outside (B.traffic bus.new) (E.traffic net.new) (K.taken out.new) (K.fault_count out.new)) (all_made (at moment (left_of bridge.now))) result }
 {
     for place in 0..bridge.len() {
         match hand_at(bridge, place, moment, out, bus, net) {
@@ -58,7 +59,7 @@ fn hand_at<K: Sink, B: Link, E: Link>(
 ) -> Result<(), Failed>
     ensures { Hands (outside (B.traffic bus.old) (E.traffic net.old) (K.taken out.old) (K.fault_count out.old))
         (outside (B.traffic bus.new) (E.traffic net.new) (K.taken out.new) (K.fault_count out.new))
-        (at moment (take 1 (drop place (left_of bridge.now)))) result }
+        (all_made (at moment (take 1 (drop place (left_of bridge.now))))) result }
 {
     match bridge.emit(place) {
         Some(emit) => hand(&emit, moment, out, bus, net),
@@ -77,7 +78,7 @@ fn hand<K: Sink, B: Link, E: Link>(
     requires { CanWrite emit.now }
     ensures { Hands (outside (B.traffic bus.old) (E.traffic net.old) (K.taken out.old) (K.fault_count out.old))
         (outside (B.traffic bus.new) (E.traffic net.new) (K.taken out.new) (K.fault_count out.new))
-        (record { moment = moment; emit = emit_of emit.now } ∷ []) result }
+        (all_made (record { moment = moment; emit = emit_of emit.now } ∷ [])) result }
 {
     match emit {
         Emit::Can(frame) => match send_frame(frame, moment, bus) {
@@ -126,7 +127,14 @@ pub(crate) fn write_report<K: Sink>(report: Report, moment: u64, out: &mut K) ->
 {
     let mut line = Line::new();
     write_emit(&Emit::Report(report), moment, &mut line);
-    write_all(with_line_end(&line).as_slice(), out)
+    write_line(&line, out)
+}
+
+/// Writes a line and its end, in one piece.
+pub(crate) fn write_line<K: Sink>(line: &Line, out: &mut K) -> Result<(), Failed>
+    ensures { Takes (K.taken out.old) (K.taken out.new) (K.fault_count out.old) (K.fault_count out.new) (line.now.items ++ 10 ∷ []) result }
+{
+    write_all(with_line_end(line).as_slice(), out)
 }
 
 /// A line with its LF.

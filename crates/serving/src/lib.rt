@@ -6,6 +6,7 @@
 mod arrival;
 pub mod cases;
 mod handing;
+mod recording;
 mod turns;
 
 pub use turns::{serve_turns, take_turns};

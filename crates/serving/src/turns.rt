@@ -1,16 +1,19 @@
 //! The turns of a gateway between two links that live.
 ghost use Rattle.std.specs.Prelude.{◌≡◌, ◌⊎◌, ◌∷◌, [], true};
-ghost use Rattle.gate_core.specs.Steps.{IsEventValid, entry_of};
+ghost use Rattle.capture_text.specs.Writing.{CanRecord};
+ghost use Rattle.gate_events.specs.Event.{view};
+ghost use Rattle.gate_core.specs.Steps.{IsEventValid};
 ghost use Rattle.gate_outside.specs.Faults.{Rose};
 ghost use Rattle.gate_outside.specs.Link.{Outcome};
 ghost use Rattle.bridge.specs.Replayed.{RunningStands};
 ghost use Rattle.serving.specs.Handing.{Does, Ends, Hears, RunStands, TakesTurn};
-ghost use Rattle.serving.specs.Served.{outside};
-ghost use Rattle.serving.specs.Turns.{from_bus, from_net, with_start, tick_behind, with_came, with_entry};
+ghost use Rattle.serving.specs.Served.{NetFits, outside};
+ghost use Rattle.serving.specs.Turns.{from_bus, from_net, with_start, tick_behind, with_came, with_event};
 ghost use Rattle.statuses.specs.Statuses.{number};
 
-use crate::arrival::receive_frame;
+use crate::arrival::{front, receive_frame};
 use crate::handing::{hand_on, write_report};
+use crate::recording::{record_event, record_start};
 use bridge::Bridge;
 use gate_events::{Detail, Event, Report};
 use gate_outside::{Arrival, Clock, Failed, Link, Sink};
@@ -31,10 +34,14 @@ const UNHEARD: Report = Report {
 /// `CAN0`, datagrams to the network under their group, and reports to the sink, each at once. What can't be received or sent is reported
 /// (rules 51 and 50), and the turn goes on.
 ///
+/// Where the bridge records, what came is written to the sink too, as lines of a capture, each in front of all that goes out for it:
+/// `tick start` at the start, an event of a frame on `can0` and one of a datagram on `udp0` under the group `RECV`, both at the turn's
+/// moment, and `tick` where time passes and something goes out for it.
+///
 /// | Status | Where |
 /// |---|---|
 /// | 0 | all turns were taken, and all that they make went out |
-/// | 4 | only where the sink's faults rose; the first items went out, the last of them a report, in part |
+/// | 4 | only where the sink's faults rose; the first items went out, the last of them a report or a recorded line, in part |
 pub fn serve_turns<K: Sink, B: Link, E: Link, C: Clock>(
     bridge: &mut Bridge,
     turns: u32,
@@ -124,6 +131,10 @@ fn open<K: Sink, B: Link, E: Link>(
         return Ok(());
     }
     bridge.start(moment);
+    match record_start(bridge, moment, out) {
+        Ok(()) => {}
+        Err(Failed) => return Err(Failed),
+    }
     hand_on(bridge, moment, out, bus, net)
 }
 
@@ -166,7 +177,7 @@ fn hear_net<K: Sink, B: Link, E: Link>(
     net: &mut E,
 ) -> Result<bool, Failed>
     requires { bridge.old.started ≡ true }
-    ensures heard { (outcome : Outcome) × Hears moment (from_net moment outcome) [] (outcome ∷ []) bridge.old bridge.new
+    ensures heard { (outcome : Outcome) × NetFits outcome × Hears moment (from_net moment outcome) [] (outcome ∷ []) bridge.old bridge.new
         (outside (B.traffic bus.old) (E.traffic net.old) (K.taken out.old) (K.fault_count out.old))
         (outside (B.traffic bus.new) (E.traffic net.new) (K.taken out.new) (K.fault_count out.new)) result }
     ensures started { bridge.new.started ≡ true }
@@ -174,7 +185,7 @@ fn hear_net<K: Sink, B: Link, E: Link>(
     let mut buffer = [0; 1500];
     match net.receive(&mut buffer) {
         Ok(Arrival::Bytes(count)) => {
-            let bytes = &buffer[..count];
+            let bytes = front(&buffer, count);
             match take(bridge, &Event::Datagram { moment, bytes }, out, bus, net) {
                 Ok(()) => Ok(true),
                 Err(Failed) => Err(Failed),
@@ -208,7 +219,8 @@ fn pass_time<K: Sink, B: Link, E: Link>(
     take(bridge, &Event::Tick { moment }, out, bus, net)
 }
 
-/// Lets the bridge take an event, and then the command that it completes, and hands on what each leaves.
+/// Lets the bridge take an event, and then the command that it completes, and hands on what each leaves. The event's line comes before it,
+/// where it has one.
 fn take<K: Sink, B: Link, E: Link>(
     bridge: &mut Bridge,
     event: &Event<'_>,
@@ -218,12 +230,17 @@ fn take<K: Sink, B: Link, E: Link>(
 ) -> Result<(), Failed>
     requires started { bridge.old.started ≡ true }
     requires valid { IsEventValid event.now }
-    ensures does { Does RunStands (λ p g. with_entry p (entry_of event.now) g) [] [] bridge.old bridge.new
+    requires can { CanRecord event.now }
+    ensures does { Does RunStands (λ p g. with_event p (view event.now) g) [] [] bridge.old bridge.new
         (outside (B.traffic bus.old) (E.traffic net.old) (K.taken out.old) (K.fault_count out.old))
         (outside (B.traffic bus.new) (E.traffic net.new) (K.taken out.new) (K.fault_count out.new)) result }
     ensures started { bridge.new.started ≡ true }
 {
     bridge.take(event);
+    match record_event(bridge, event, out) {
+        Ok(()) => {}
+        Err(Failed) => return Err(Failed),
+    }
     match hand_on(bridge, bridge.moment(), out, bus, net) {
         Ok(()) => {}
         Err(Failed) => return Err(Failed),

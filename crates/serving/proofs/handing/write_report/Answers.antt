@@ -10,8 +10,7 @@ pub returns : goal.returns
 returns g c =
     let m = c.args.moment in
     let r = c.args.report in
-    let text = c.as_slice.result.now in
-    let line : text ≡ line_of (record { moment = m; emit = emits.report r }) =
-    c.as_slice.ensures.value ∙ c.with_line_end.ensures ∙ ap (λ (x : List ℕ). x ++ 10 ∷ []) c.write_emit.ensures.text ∙ same_line m (lent.Report r) in
-    subst (λ (x : List ℕ). Takes (g.K.Sink.taken c.args.out.now) (g.K.Sink.taken c.write_all.new.out) (g.K.Sink.fault_count c.args.out.now)
-    (g.K.Sink.fault_count c.write_all.new.out) x c.write_all.result) line c.write_all.ensures
+    let line : c.write_emit.new.out.items ++ 10 ∷ [] ≡ line_of (record { moment = m; emit = emits.report r }) =
+    ap (λ (x : List ℕ). x ++ 10 ∷ []) c.write_emit.ensures.text ∙ same_line m (lent.Report r) in
+    subst (λ (x : List ℕ). Takes (g.K.Sink.taken c.args.out.now) (g.K.Sink.taken c.write_line.new.out) (g.K.Sink.fault_count c.args.out.now)
+    (g.K.Sink.fault_count c.write_line.new.out) x c.write_line.result) line c.write_line.ensures

@@ -3,7 +3,7 @@ use Rattle.std.specs.Prelude.{Option, Ok, Err}
 use Rattle.n2k_id.specs.declared.frame.Frame.{Frame}
 use Rattle.serving.specs.Handing.{frame_came}
 use Rattle.serving.proofs.Doing.{does_nothing}
-use Rattle.serving.proofs.Items.{receives_by_bus, report_written}
+use Rattle.serving.proofs.Items.{receives_by_bus, report_told}
 use Rattle.serving.proofs.Turning.{hears_all, hears_some, reports_all, reports_some}
 use Rattle.serving.proofs.turns.hear_bus.Goals as goal
 
@@ -28,11 +28,11 @@ returns-in-Ok-None-clause-heard g c =
 pub returns-in-Ok-write_report-clause-heard : goal.returns-in-Ok-write_report-clause-heard
 returns-in-Ok-write_report-clause-heard g c =
     let k = c.in-Err.ensures.came in
-    let written = report_written c.args.moment c.in-Err.report _ _ _ _ _ _ (Ok c.in-Ok-write_report.field-0) c.in-Ok-write_report.ensures in
+    let written = report_told c.args.moment c.in-Err.report _ _ _ _ _ _ (Ok c.in-Ok-write_report.field-0) c.in-Ok-write_report.ensures in
     (k.0, hears_all c.args.moment (k.2 c.args.moment) (receives_by_bus k.0 k.1) refl (reports_all written))
 
 pub returns-in-Err-write_report-clause-heard : goal.returns-in-Err-write_report-clause-heard
 returns-in-Err-write_report-clause-heard g c =
     let k = c.in-Err.ensures.came in
-    let written = report_written c.args.moment c.in-Err.report _ _ _ _ _ _ (Err c.in-Err-write_report.field-0) c.in-Err-write_report.ensures in
+    let written = report_told c.args.moment c.in-Err.report _ _ _ _ _ _ (Err c.in-Err-write_report.field-0) c.in-Err-write_report.ensures in
     (k.0, hears_some c.args.moment (k.2 c.args.moment) (receives_by_bus k.0 k.1) (reports_some written))

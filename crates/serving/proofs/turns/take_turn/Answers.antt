@@ -41,7 +41,7 @@ returns-in-Err-hear_net g c =
       reads = c.now.ensures;
       cut = (omega arith, omega arith, omega arith);
       does = stops_net c.max-moment.result c.now.result c.args.number c.args.bridge.now is c.open.new.bridge _ _ c.in-Ok.ensures.does b.0
-          c.hear_bus.new.bridge _ b.1.1 n.0 _ n.1;
+          c.hear_bus.new.bridge _ b.1.1 n.0 _ n.2;
     }
 
 pub returns : goal.returns
@@ -56,6 +56,6 @@ returns g c =
       | then-by_bus w ↦ w.pass_time-is ∙ w.if-by_bus.true ∙ ap (λ (h : Bool). h || by_net) (sym w.if-by_bus.true)
       | else-by_bus w ↦ w.pass_time-is ∙ ap (λ (h : Bool). h || by_net) (sym w.if-by_bus.false)
     ] in
-    turn_taken c.args.number c.now.result b.0 n.0 c.args.bridge.now c.pass_time.new.bridge _ _ _ _ c.pass_time.result c.now.ensures
+    turn_taken c.args.number c.now.result b.0 n.0 c.args.bridge.now c.pass_time.new.bridge _ _ _ _ c.pass_time.result n.1 c.now.ensures
     (turns c.max-moment.result c.now.result c.args.number c.args.bridge.now is c.open.new.bridge _ _ c.in-Ok.ensures.does b.0 c.hear_bus.new.bridge _ b.1.1
-    n.0 c.hear_net.new.bridge _ n.1.1 heard c.pass_time.new.bridge _ c.pass_time.result (any_event heard by_bus by_net _ _ any b.1.0 n.1.0) c.pass_time.ensures)
+    n.0 c.hear_net.new.bridge _ n.2.1 heard c.pass_time.new.bridge _ c.pass_time.result (any_event heard by_bus by_net _ _ any b.1.0 n.2.0) c.pass_time.ensures)

@@ -12,7 +12,7 @@ returns-clause-order c =
     let g = c.command.new.self in
     let o = c.command.new.out in
     let ordered : Command = record { source = c.args.source; address = c.args.address } in
-    let before = bridge_of i.started i.gateway i.answering.identity i.joining i.watching i.measuring i.sources i.plain i.left.value in
+    let before = bridge_of i.started i.gateway i.answering.identity i.joining i.watching i.measuring i.sources i.plain i.records i.left.value in
     let after = with_gateway i.started g o before in
     subst (λ (l : Left). IsCommanded ordered c.args.self.now (record after { left = l })) (sym (left_after c.clear.new.self o c.clear.ensures))
     (subst (λ (b : Bridged). IsCommanded ordered b after) c.self.view_is (commanded ordered before g o c.ranges.source.fits c.command.ensures.history))

@@ -13,7 +13,7 @@ returns-then-accepted c =
     let g = c.step.new.self in
     let o = c.step.new.out in
     let after = c.take_beside.new.self in
-    let before = bridge_of i.started i.gateway i.answering.identity i.joining i.watching i.measuring i.sources i.plain i.left.value in
+    let before = bridge_of i.started i.gateway i.answering.identity i.joining i.watching i.measuring i.sources i.plain i.records i.left.value in
     let beside = subst (λ (l : Left). IsBesideStep e (record (with_gateway i.started g o before) { left = l }) after) (left_after c.clear.new.self o c.clear.ensures) c.take_beside.ensures in
     record {
       step = subst (λ (b : Bridged). IsBridgeStep e b after) c.self.view_is
@@ -28,7 +28,7 @@ returns-else-accepted c =
     let e = entry_of c.args.event.now in
     let g = c.step.new.self in
     let o = c.step.new.out in
-    let before = bridge_of i.started i.gateway i.answering.identity i.joining i.watching i.measuring i.sources i.plain i.left.value in
+    let before = bridge_of i.started i.gateway i.answering.identity i.joining i.watching i.measuring i.sources i.plain i.records i.left.value in
     let after = with_gateway i.started g o before in
     record {
       step = subst (λ (l : Left). IsBridgeStep e c.args.self.now (record after { left = l })) (sym (left_after c.clear.new.self o c.clear.ensures))

@@ -13,9 +13,9 @@ returns-then-self c =
     let e = entry_of c.args.event.now in
     let was = c.as_mut-left.result.now in
     let after =
-    bridge_of i.started i.gateway c.answer.new.self.identity c.join.new.joining c.watch.new.watching c.measure.new.measuring c.watch_sources.new.sources i.plain
+    bridge_of i.started i.gateway c.answer.new.self.identity c.join.new.joining c.watch.new.watching c.measure.new.measuring c.watch_sources.new.sources i.plain i.records
     (record { outbox = was.outbox; answer = c.answer.new.out; joined = c.join.new.out; ships = c.watch.new.out; quantities = c.measure.new.out; changes = c.watch_sources.new.out; plain = c.say.new.self }) in
-    let step : IsBesideStep e (bridge_of i.started i.gateway i.answering.identity i.joining i.watching i.measuring i.sources i.plain was) after = record {
+    let step : IsBesideStep e (bridge_of i.started i.gateway i.answering.identity i.joining i.watching i.measuring i.sources i.plain i.records was) after = record {
       started = refl;
       gateway = refl;
       outbox = refl;
@@ -25,10 +25,11 @@ returns-then-self c =
       measuring = c.measure.ensures was.outbox;
       sources = c.watch_sources.ensures e;
       group = refl;
+      records = refl;
       plain = c.say.ensures;
     } in
     subst (λ (b : Bridged). IsBesideStep e b after) c.self.view_is
-    (subst (λ (l : Left). IsBesideStep e (bridge_of i.started i.gateway i.answering.identity i.joining i.watching i.measuring i.sources i.plain l) after) c.as_mut-left.ensures.value step)
+    (subst (λ (l : Left). IsBesideStep e (bridge_of i.started i.gateway i.answering.identity i.joining i.watching i.measuring i.sources i.plain i.records l) after) c.as_mut-left.ensures.value step)
 
 pub returns-else-self : goal.returns-else-self
 returns-else-self c =
@@ -38,9 +39,9 @@ returns-else-self c =
     let none : AreAbsent i.measuring i.sources i.plain = (c.self.invariant.1 c.if-self.false).0 in
     let nothing : IsUsual was = subst IsUsual (sym c.as_mut-left.ensures.value) (c.self.invariant.1 c.if-self.false).1 in
     let after =
-    bridge_of i.started i.gateway c.answer.new.self.identity c.join.new.joining c.watch.new.watching i.measuring i.sources i.plain
+    bridge_of i.started i.gateway c.answer.new.self.identity c.join.new.joining c.watch.new.watching i.measuring i.sources i.plain i.records
     (record { outbox = was.outbox; answer = c.answer.new.out; joined = c.join.new.out; ships = c.watch.new.out; quantities = was.quantities; changes = was.changes; plain = was.plain }) in
-    let step : IsBesideStep e (bridge_of i.started i.gateway i.answering.identity i.joining i.watching i.measuring i.sources i.plain was) after = record {
+    let step : IsBesideStep e (bridge_of i.started i.gateway i.answering.identity i.joining i.watching i.measuring i.sources i.plain i.records was) after = record {
       started = refl;
       gateway = refl;
       outbox = refl;
@@ -50,7 +51,8 @@ returns-else-self c =
       measuring = unmeasured i.gateway was.outbox e was.quantities nothing.quantities i.measuring none.unmeasured;
       sources = unchanged i.gateway was.outbox e was.changes nothing.changes i.sources none.untold;
       group = refl;
+      records = refl;
       plain = unsaid i.plain was.plain was.outbox.emits c.join.new.out c.watch.new.out was.quantities none.unsaid nothing.plain;
     } in
     subst (λ (b : Bridged). IsBesideStep e b after) c.self.view_is
-    (subst (λ (l : Left). IsBesideStep e (bridge_of i.started i.gateway i.answering.identity i.joining i.watching i.measuring i.sources i.plain l) after) c.as_mut-left.ensures.value step)
+    (subst (λ (l : Left). IsBesideStep e (bridge_of i.started i.gateway i.answering.identity i.joining i.watching i.measuring i.sources i.plain i.records l) after) c.as_mut-left.ensures.value step)

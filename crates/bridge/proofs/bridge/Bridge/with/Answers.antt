@@ -16,4 +16,5 @@ returns c = record {
   measuring = c.in_ok-measuring.ensures;
   sources = c.sources_of-sources.ensures;
   plain = refl;
+  records = refl;
 }
