@@ -3,7 +3,7 @@ use Rattle.std.specs.Prelude.{Option, None}
 use Rattle.line_commands.specs.LineCommand.{AreTextsOf}
 use Rattle.gateway_commands.specs.ReplayCommand.{ReplaysBy}
 use Rattle.statuses.specs.Statuses.{EndsBy}
-use Rattle.shipgate.proofs.run_over.Goals as goal
+use Rattle.process_run.proofs.run_over.Goals as goal
 
 pub returns : goal.returns
 returns g c =

@@ -1,6 +1,6 @@
 use Rattle.std.proofs.Common.{◌≡◌, ◌++◌}
 use Rattle.std.specs.Vec.Iter.{into_iter_items, into_iter_len}
-use Rattle.shipgate.proofs.all_words.Given as goal
+use Rattle.process_run.proofs.all_words.Given as goal
 
 abbrev pub invariant-words : goal.invariant-words
 invariant-words l = l.words.items ++ into_iter_items l.args ≡ into_iter_items l.fn.args
