@@ -52,10 +52,12 @@ nothing_left = left_by nothing
 abbrev pub plain_left : Plain → List Emit
 plain_left x = emits_of x.rows ++ (emits_of x.joined ++ (emits_of x.ships ++ emits_of x.quantities))
 
+-- what the parts beside the gateway left
+abbrev pub beside_left : Left → List Emit
+beside_left x = emits_of x.answer ++ (emits_of x.joined ++ (emits_of x.ships ++ (emits_of x.quantities ++ (emits_of x.changes ++ plain_left x.plain))))
+
 abbrev pub all_left : Left → List Emit
-all_left x =
-    emits_of x.outbox.emits
-    ++ (emits_of x.answer ++ (emits_of x.joined ++ (emits_of x.ships ++ (emits_of x.quantities ++ (emits_of x.changes ++ plain_left x.plain)))))
+all_left x = emits_of x.outbox.emits ++ beside_left x
 
 abbrev pub left_of : Bridged → List Emit
 left_of b = all_left b.left

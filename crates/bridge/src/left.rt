@@ -2,7 +2,7 @@
 ghost use Rattle.std.specs.Prelude.{◌≡◌, false, length, option_map, slice_get, IfOk, IfSome};
 ghost use Rattle.gate_events.specs.Emit.{CanWrite};
 ghost use Rattle.gate_outbox.specs.Output.{emit_of};
-ghost use Rattle.bridge.specs.Kept.{IsUsual, all_left, nothing_left};
+ghost use Rattle.bridge.specs.Kept.{IsUsual, all_left, beside_left, nothing_left};
 
 use crate::answering::Answer;
 use crate::joining::Joined;
@@ -81,9 +81,18 @@ impl Left {
         ensures emit { option_map emit_of result ≡ slice_get (all_left self.now) place }
         ensures valid { IfSome result CanWrite }
     {
-        let Some(place) = place.checked_sub(self.outbox.len()) else {
-            return self.outbox.item(place);
-        };
+        match place.checked_sub(self.outbox.len()) {
+            None => self.outbox.item(place),
+            Some(place) => self.item_beside(place),
+        }
+    }
+
+    /// The emit at this place of those that the parts beside the gateway left. Nearly all are the gateway's own: it is kept apart from them.
+    #[inline(never)]
+    fn item_beside(&self, place: usize) -> Option<Emit<'_>>
+        ensures emit { option_map emit_of result ≡ slice_get (beside_left self.now) place }
+        ensures valid { IfSome result CanWrite }
+    {
         let Some(place) = place.checked_sub(self.answer.len()) else {
             return self.answer.item(place);
         };

@@ -1,10 +1,11 @@
 //! What the bridge writes of the lines of a capture: the line of each emit at its moment, and a report for each line that breaks a rule.
-ghost use Rattle.std.specs.Prelude.{◌≡◌, ◌++◌, ◌∷◌, [], ℕ, List, true};
+ghost use Rattle.std.specs.Prelude.{◌≡◌, ◌++◌, ◌∷◌, [], ℕ, List, true, length};
 ghost use Rattle.gate_events.specs.Emit.{CanWrite};
 ghost use Rattle.capture_stream.specs.Writer.{Writes};
 ghost use Rattle.gate_outbox.specs.Output.{emit_of};
 ghost use Rattle.gate_outside.specs.Faults.{HasCause};
 ghost use Rattle.capture_text.specs.Emitted.{line_of};
+ghost use Rattle.bridge.specs.Kept.{left_of};
 ghost use Rattle.bridge.specs.Replaying.{IsOpening, IsOrdered, IsSent, SendsThen, left_text, line_at};
 
 use crate::bridge::Bridge;
@@ -102,7 +103,8 @@ fn send_left<K: Sink>(
     }
 }
 
-/// Sends the lines of what the last call left, at this moment.
+/// Sends the lines of what the last call left, at this moment. Most events leave nothing: then no line is made ready.
+#[inline(always)]
 fn send_lines<K: Sink>(
     bridge: &Bridge,
     moment: u64,
@@ -113,6 +115,25 @@ fn send_lines<K: Sink>(
     ensures cause { HasCause (K.fault_count out.old) (K.fault_count out.new) result }
 {
     let count = bridge.len();
+    if count == 0 {
+        return Ok(());
+    }
+    send_each(bridge, count, moment, writer, out)
+}
+
+/// Sends the lines of what the last call left, so many, at this moment.
+#[inline(never)]
+fn send_each<K: Sink>(
+    bridge: &Bridge,
+    count: usize,
+    moment: u64,
+    writer: &mut Writer,
+    out: &mut K,
+) -> Result<(), Failed>
+    requires { count ≡ length (left_of bridge.now) }
+    ensures sent { Writes (K.taken out.old) (K.taken out.new) (writer.old ++ left_text moment bridge.now) writer.new result }
+    ensures cause { HasCause (K.fault_count out.old) (K.fault_count out.new) result }
+{
     for place in 0..count {
         match send_at(bridge, place, moment, writer, out) {
             Ok(()) => {}

@@ -118,6 +118,9 @@ impl BusListener {
     }
 
     /// Takes a frame of a message that comes so, from an address that this NAME holds.
+    ///
+    /// Each listener has a copy of it, and of `drop_lost`: most frames of its messages go this way.
+    #[inline(always)]
     fn take<'a, const ROOM: usize>(
         &'a mut self,
         name: Name,
@@ -192,6 +195,7 @@ fn is_message(kind: Kind) -> bool
 }
 
 /// Drops what is open of an address that changes hands.
+#[inline(always)]
 fn drop_lost<const ROOM: usize>(
     slots: &mut FastAssembler,
     source: Option<u8>,

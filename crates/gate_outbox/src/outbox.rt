@@ -51,7 +51,10 @@ impl Outbox {
         ensures { self.new ≡ nothing }
     {
         self.emits.clear();
-        self.done = None;
+        // None is written in all its bytes, and few steps complete a message.
+        if self.done.is_some() {
+            self.done = None;
+        }
         self.command = None;
     }
 

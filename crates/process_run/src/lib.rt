@@ -10,10 +10,11 @@ ghost use Rattle.process_run.specs.Program.{RunsOver, live};
 
 use gate_outside::{Clock, Files, Link, ReaderSource, WriterSink};
 use gateway_commands::run;
+use statuses::Status;
 use std::alloc::{AllocError, Global};
-use std::env::Args;
-use std::io;
+use std::env::{Args, Env};
 use std::io::{ErrorKind, Read, Write};
+use std::{env, io};
 
 // All arguments of the process.
 fn all_words(alloc: Global, args: Args) -> Result<Vec<String>, AllocError>
@@ -27,8 +28,8 @@ fn all_words(alloc: Global, args: Args) -> Result<Vec<String>, AllocError>
     Ok(words)
 }
 
-/// The arguments of the process, the first of which is the program's name. Some that are no text stand for none at all: they are no command.
-pub fn words_of(alloc: Global, args: io::Result<Args>) -> Result<Vec<String>, AllocError>
+// The arguments of the process. Some that are no text stand for none at all: they are no command.
+fn words_of(alloc: Global, args: io::Result<Args>) -> Result<Vec<String>, AllocError>
     ensures { IfOk args (λ args. IfOk result (λ words. words.items ≡ into_iter_items args)) }
 {
     match args {
@@ -98,4 +99,18 @@ pub fn run_with<F: Files, R: Read + Drop, W: Write + Drop, B: Link, E: Link, C: 
         net,
         clock,
     ))
+}
+
+/// All words of the process, for a status that is told by them: none for another one, and where one of them is no text.
+pub fn words_to_tell<R: Env + Alloc<A = Global>>(
+    rt: &R,
+    status: &Result<u8, AllocError>,
+) -> Vec<String> {
+    match status.map(Status::of) {
+        Ok(Some(Status::NoCommand | Status::Unread)) => words_of(
+            rt.alloc(),
+            env::args(rt),
+        ).unwrap_or(Vec::new(rt.alloc())),
+        _ => Vec::new(rt.alloc()),
+    }
 }

@@ -46,9 +46,7 @@ impl Field {
         match self {
             Field::Empty => {}
             Field::Letter(letter) => out.push(*letter),
-            Field::Word(word) => {
-                let _fits = out.try_extend_from_slice(word);
-            }
+            Field::Word(word) => append_word(word, out),
             Field::Decimal(raw, unit) => append_decimal(*raw, *unit, out),
             Field::Magnitude(raw, unit) => append_magnitude(*raw, *unit, out),
             Field::Side(raw, unit, positive, negative) => append_side(
@@ -65,6 +63,17 @@ impl Field {
             Field::Satellites(raw) => append_satellites(*raw, out),
         }
     }
+}
+
+/// Appends a word.
+///
+/// It is kept apart: few fields are words, and the loop over all of them would keep what this needs.
+#[inline(never)]
+fn append_word(word: &[u8], out: &mut ArrayVec<u8, 82>)
+    requires { length out.old.items + length word.now ≤ 82 }
+    ensures { out.new.items ≡ out.old.items ++ word.now }
+{
+    let _fits = out.try_extend_from_slice(word);
 }
 
 /// The raw value in the unit, as a count of its last decimals.

@@ -12,14 +12,13 @@ pub use bridge::{Bridge, Settings};
 pub use command_words::{Command, LineCommand};
 pub use gateway_commands::{demo_with, replay_with, run, stream};
 use live_outside::{Activity, DiskFiles, SystemClock, ToldWriter, UdpLink};
-use process_run::{run_with, words_of};
+use process_run::{run_with, words_to_tell};
 use run_failures::{Kept, explain_run};
 pub use serving::serve_turns;
 use statuses::Status;
-use std::alloc::{AllocError, Global};
+use std::alloc::AllocError;
 use std::cell::Cell;
 use std::env;
-use std::env::Env;
 use std::process::ExitCode;
 
 // The exit code of a status, or of want of memory before the program began.
@@ -30,20 +29,6 @@ fn exit_code(status: Result<u8, AllocError>) -> ExitCode
     match status {
         Ok(status) => ExitCode::from(status),
         Err(AllocError) => ExitCode::from(Status::NoMemory.number()),
-    }
-}
-
-// All words of the process, for a status that is told by them.
-fn words_to_tell<R: Env + Alloc<A = Global>>(
-    rt: &R,
-    status: &Result<u8, AllocError>,
-) -> Vec<String> {
-    match status.map(Status::of) {
-        Ok(Some(Status::NoCommand | Status::Unread)) => words_of(
-            rt.alloc(),
-            env::args(rt),
-        ).unwrap_or(Vec::new(rt.alloc())),
-        _ => Vec::new(rt.alloc()),
     }
 }
 

@@ -8,6 +8,9 @@ use n2k_id::{Name, Pattern};
 
 /// The rank of a NAME where these sources are preferred: the place of the first pattern that matches it; others come after all that are
 /// listed, where they are taken. A device that is ignored has none.
+///
+/// Each of its few callers has a copy of it: it is asked for at each message of a row.
+#[inline(always)]
 pub fn rank_of(sources: &[Pattern], others: bool, ignored: &[Pattern], name: Name) -> Option<Rank>
     requires { length sources.now ≤ 255 }
     ensures { result ≡ rank_of (record { sources = sources.now; others = others; ignored = ignored.now; timeout = 0 }) name.0 }

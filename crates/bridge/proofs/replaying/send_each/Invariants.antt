@@ -4,7 +4,7 @@ use Rattle.capture_stream.proofs.WriterLemmas.{Partly}
 use Rattle.bridge.specs.Kept.{left_of}
 use Rattle.bridge.specs.Replaying.{left_text}
 use Rattle.bridge.proofs.Sending.{lines_at}
-use Rattle.bridge.proofs.replaying.send_lines.Given as goal
+use Rattle.bridge.proofs.replaying.send_each.Given as goal
 
 abbrev pub invariant-loop-place : goal.invariant-loop-place
 invariant-loop-place g l = record {

@@ -4,7 +4,7 @@ use Rattle.capture_stream.proofs.WriterLemmas.{partly_none, partly_more, partly_
 use Rattle.bridge.specs.Kept.{left_of}
 use Rattle.bridge.specs.Replaying.{left_text, line_at}
 use Rattle.bridge.proofs.Sending.{lines_at, next_line, no_line}
-use Rattle.bridge.proofs.replaying.send_lines.Goals as goal
+use Rattle.bridge.proofs.replaying.send_each.Goals as goal
 
 pub loop-place-init : goal.loop-place-init
 loop-place-init g c = record { partly = partly_none (left_text c.args.moment c.args.bridge.now) c.args.writer.now (g.K.Sink.taken c.args.out.now); steady = refl }
