@@ -1,4 +1,5 @@
 pub mod CommonRun
+pub mod Counts
 pub mod Cutting
 pub mod Cuts
 pub mod Datagrams

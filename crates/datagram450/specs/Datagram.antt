@@ -1,11 +1,11 @@
 -- What a datagram of IEC 61162-450 is: the header and lines; and what its lines give, in order: of each what its TAG blocks and its
 -- sentence say, or the first rule that it breaks.
-use Rattle.std.specs.Prelude.{◌≡◌, ℕ, ◌+◌, List, ◌++◌, drop, Result, Ok, Err, zero, suc, ◌<◌, ◌≤◌, ◌==◌, not, nat_lt, [], ◌∷◌, length, All, IsTrue, if◌then◌else◌, Some, slice_get}
+use Rattle.std.specs.Prelude.{◌≡◌, ℕ, ◌+◌, ◌%◌, List, ◌++◌, drop, Result, Ok, Err, zero, suc, ◌<◌, ◌≤◌, ◌==◌, not, nat_lt, [], ◌∷◌, length, All, IsTrue, if◌then◌else◌, Some, None, slice_get}
 use Rattle.report_rules.specs.Rules.{tag_form, tag_sum, no_source, sentence_form, sentence_sum, line_form, too_many_lines}
 use Rattle.tag_block.specs.declared.fault.TagFault.{TagFault}
 use Rattle.tag_block.specs.declared.fault.TagRule.{TagRule}
 use Rattle.tag_block.specs.declared.fault.TagRule.TheVariants as tag_rules
-use Rattle.tag_block.specs.Tag.{Said, IsTag, IsSaid, block_text}
+use Rattle.tag_block.specs.Tag.{Said, IsTag, IsSaid, block_text, most_count}
 use Rattle.tag_block.specs.Reading as tags
 use Rattle.sentence_text.specs.declared.fault.SentenceFault.{SentenceFault}
 use Rattle.sentence_text.specs.declared.fault.SentenceRule.{SentenceRule}
@@ -161,6 +161,10 @@ read bytes = let place = common_prefix_len (λ b c. b == c) header bytes in
 
 abbrev pub line_text : TagParts → List ℕ → List ℕ
 line_text tag sentence = block_text (block_of tag) ++ sentence
+
+-- the datagram of one sentence: its line is of no group, and counted on the transmission group, where so many lines were sent before
+unfoldable pub sentence_datagram : List ℕ → ℕ → List ℕ → List ℕ
+sentence_datagram source before sentence = header ++ line_text (record { group = None; source = source; count = before % most_count + 1 }) sentence
 
 -- a datagram is read, and this is its item of this number, counted from 0
 pub record GivesAt (result : Result (List Item) DatagramFault) (number : ℕ) (item : Item) : Type 0 where

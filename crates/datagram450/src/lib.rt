@@ -14,4 +14,4 @@ mod writing;
 pub use fault::DatagramFault;
 pub use item::LineItem;
 pub use line_iter::{LONGEST_DATAGRAM, LineIter, lines};
-pub use writing::{begin, push_line};
+pub use writing::{begin, push_line, write_sentence};

@@ -3,10 +3,11 @@ ghost use Rattle.arrayvec.specs.ArrayVec.{array_vec_len};
 ghost use Rattle.sentence_text.specs.Sentence.{SentenceParts, IsSentence};
 ghost use Rattle.tag_block.specs.Tag.{IsTag, block_text};
 ghost use Rattle.tag_block.specs.Writing.{IsWritable, block_of, longest_block, longest_packet, said_by};
-ghost use Rattle.datagram450.specs.Datagram.{header, longest_datagram, read, line, line_text, GivesAt, IsBehind};
+ghost use Rattle.datagram450.specs.Datagram.{header, longest_datagram, read, line, line_text, sentence_datagram, GivesAt, IsBehind};
 
 use crate::header::HEADER;
-use tag_block::{Packet, TagParts};
+use sentence_text::Sfi;
+use tag_block::{MOST_COUNT, Packet, TagParts};
 
 /// The header of a datagram.
 pub fn begin(out: &mut Packet)
@@ -49,4 +50,22 @@ pub fn push_line(tag: &TagParts, sentence: &[u8], out: &mut Packet) -> bool
     ensures unchanged { result ≡ false → out.new ≡ out.old }
 {
     append_line(tag, sentence, out)
+}
+
+/// Writes the datagram of one sentence (IEC 61162-450): the header, and a line whose TAG block says the source and the count of the line, and no
+/// group. So many lines were sent before on the transmission group.
+#[inline]
+#[tactic(auto, unfolding(crate::specs::Datagram::sentence_datagram))]
+pub fn write_sentence(source: Sfi, before: u16, sentence: &[u8], out: &mut Packet)
+    requires empty { out.old.items ≡ [] }
+    requires room { length header + longest_block + length sentence.now ≤ longest_packet }
+    ensures { out.new.items ≡ sentence_datagram source before sentence.now }
+{
+    let tag = TagParts {
+        group: None,
+        source,
+        count: before % MOST_COUNT + 1,
+    };
+    begin(out);
+    let _fits = push_line(&tag, sentence, out);
 }

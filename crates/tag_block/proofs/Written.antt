@@ -14,14 +14,14 @@ use Rattle.sentence_text.specs.Byte.{is_capital, is_digit}
 use Rattle.sentence_text.proofs.Bytes.{all_weaker, all_append}
 use Rattle.tag_block.specs.declared.group_part.GroupPart.{GroupPart}
 use Rattle.tag_block.specs.declared.writing.TagParts.{TagParts}
-use Rattle.tag_block.specs.Tag.{is_value_byte, Parameter, IsParameter, content, xor_of, IsBlock, block_text, parameters, Standing, stands, nothing, standing, IsTag, IsGroupOf, IsCountOf, number, IsNumber}
+use Rattle.tag_block.specs.Tag.{is_value_byte, Parameter, IsParameter, content, xor_of, IsBlock, block_text, parameters, Standing, stands, nothing, standing, IsTag, IsGroupOf, IsCountOf, most_count, number, IsNumber}
 use Rattle.sentence_text.proofs.Spelling.{digit_value-capital_digit}
 use Rattle.tag_block.specs.Writing.{IsWritable, IsWritableGroup, group_parameter, source_parameter, count_parameter, summed, block_with, block_of, said_by}
 
 pub own : IsNumeralModel (λ ds. list_all is_digit ds ≡ true) number
 own = numerals_by_fold (λ ds. list_all is_digit ds ≡ true) (search rules) (λ n ds. fold (λ m c. m * 10 + (c - 48)) n ds) (search rules)
 
-number_is : (n most : ℕ) → n ≤ 999 → 3 ≤ most → IsNumber most n (decimal n)
+number_is : (n most : ℕ) → n < 1000 → 3 ≤ most → IsNumber most n (decimal n)
 number_is n most small more = record {
   some = decimal_nonempty n (omega arith);
   few = omega (arith, length-decimal-le 3 n (omega arith) (omega arith) (omega arith));
@@ -35,7 +35,7 @@ digit_is_value c h = grind arith
 capital_is_value : (c : ℕ) → is_capital c ≡ true → is_value_byte c ≡ true
 capital_is_value c h = grind arith
 
-decimal_is_value : (n : ℕ) → n ≤ 999 → list_all is_value_byte (decimal n) ≡ true
+decimal_is_value : (n : ℕ) → n < 1000 → list_all is_value_byte (decimal n) ≡ true
 decimal_is_value n small = all_weaker is_digit is_value_byte digit_is_value (decimal n) (digits_decimal own n (omega arith))
 
 one_digit_value : (n : ℕ) → n ≤ 9 → is_value_byte (48 + n) ≡ true
@@ -58,8 +58,8 @@ group_is part h = record {
 source_is : (source : List ℕ) → IsSfi source → IsParameter (source_parameter source)
 source_is source h = record { some = omega arith; code = refl; value = sfi_is_value source h }
 
-count_is : (count : ℕ) → count ≤ 999 → IsParameter (count_parameter count)
-count_is count small = record { some = omega arith; code = refl; value = decimal_is_value count small }
+count_is : (count : ℕ) → count ≤ most_count → IsParameter (count_parameter count)
+count_is count small = record { some = omega arith; code = refl; value = decimal_is_value count (omega arith) }
 
 summed_is : (first : Parameter) (others : List Parameter) → IsParameter first → All IsParameter others → xor_of (content first others) < 256 → IsBlock (summed first others)
 summed_is first others h hs byte =
@@ -68,7 +68,7 @@ summed_is first others h hs byte =
     let low = digit_value-capital_digit (sum % 16) (omega arith) in
     record { first = h; others = hs; high_digit = omega (arith, high); low_digit = omega (arith, low); sum = omega (arith, high, low) }
 
-block_is : (group : Option GroupPart) (source : List ℕ) (count : ℕ) → IfSome group IsWritableGroup → count ≤ 999 → IsSfi source
+block_is : (group : Option GroupPart) (source : List ℕ) (count : ℕ) → IfSome group IsWritableGroup → count ≤ most_count → IsSfi source
     → xor_of (content (block_with group source count).first (block_with group source count).others) < 256 → IsBlock (block_with group source count)
 block_is None source count h small sfi byte =
     summed_is (source_parameter source) (count_parameter count ∷ []) (source_is source sfi) (All-cons IsParameter (count_parameter count) [] (count_is count small) (All-nil IsParameter)) byte
@@ -113,5 +113,5 @@ is_tag parts h sfi byte =
       is_sfi = sfi;
       destination = ap (λ (v : Standing). v.destination) (sym stood);
       group = subst (λ (v : Standing). IsGroupOf v.group parts.group) (sym stood) (group_said parts.group h.group);
-      count = subst (λ (v : Standing). IsCountOf v.count (Some parts.count)) (sym stood) (parts.count, refl, number_is parts.count 3 h.small (omega arith));
+      count = subst (λ (v : Standing). IsCountOf v.count (Some parts.count)) (sym stood) (parts.count, refl, number_is parts.count 3 (omega (arith, h.small)) (omega arith));
     }

@@ -1,4 +1,4 @@
-use datagram450::{DatagramFault, LineItem, begin, lines, push_line};
+use datagram450::{DatagramFault, LineItem, begin, lines, push_line, write_sentence};
 use sentence_text::Sfi;
 use std::test::Fail;
 use tag_block::{GroupPart, Packet, TagParts};
@@ -209,5 +209,22 @@ fn a_line_that_does_not_fit_changes_nothing(rt: HostRuntime) {
     for (count, fits, length) in &FITTING {
         let line = bytes.get(..*count).unwrap_or(&[]);
         assert!(rt; push_line(&tag, line, &mut out) == *fits && out.len() == *length);
+    }
+}
+
+/// How many lines were sent before, and the datagram of a sentence then.
+const COUNTED: [(u16, &[u8]); 3] = [
+    (0, b"UdPbC\0\\s:II0001,n:1*01\\$HEHDT,90.0,T*16\r\n"),
+    (998, b"UdPbC\0\\s:II0001,n:999*09\\$HEHDT,90.0,T*16\r\n"),
+    (999, b"UdPbC\0\\s:II0001,n:1*01\\$HEHDT,90.0,T*16\r\n"),
+];
+
+#[test]
+fn a_datagram_of_one_sentence_counts_its_line(rt: HostRuntime) {
+    let source = Sfi::of(b"II0001").unwrap_or_default();
+    for (before, bytes) in &COUNTED {
+        let mut out = Packet::new();
+        write_sentence(source, *before, b"$HEHDT,90.0,T*16\r\n", &mut out);
+        assert!(rt; out.as_slice() == *bytes);
     }
 }
