@@ -1,10 +1,13 @@
 -- The counts that are kept are those of all that was said, and number the lines of a datagram as these do.
 use Rattle.std.proofs.Common.{◌≡◌, ℕ, ◌+◌, ◌%◌, Bool, true, false, List, [], ◌∷◌, ◌++◌, map, length, get_or, refl, ap, ◌∙◌, arith}
 use Rattle.std.specs.Prelude.{nat_le, if◌then◌else◌}
+use Rattle.std.proofs.Math.Nat.{mod-add-mod, mod-mod}
 use Rattle.readings.specs.declared.reading.Reading.{Reading}
 use Rattle.readings.specs.declared.rows.Row.{Row}
 use Rattle.readings.specs.declared.rows.Row.TheVariants as row
 use Rattle.readings.specs.Rows.{row_of, row_number}
+use Rattle.tag_block.specs.Tag.{most_count}
+use Rattle.tag_block.specs.Writing.{most_written_code}
 use Rattle.datagram450.specs.Datagram.{header, line_text}
 use Rattle.history.specs.Settings.{Settings, rule_of, same_text}
 use Rattle.history.specs.Emits.{Spoken, lines_on, line_groups, part_of, lines_from}
@@ -19,50 +22,41 @@ by_row f _ = refl
 
 -- ---- the counts after a datagram
 
-more_lines : (n count : ℕ) → (n % 999 + count) % 999 ≡ (n + count) % 999
-more_lines n count = omega arith
-
-more_groups : (n : ℕ) → (n % 99 + 1) % 99 ≡ (n + 1) % 99
-more_groups n = omega arith
-
 abbrev spoken_by : Settings → Reading → Spoken
 spoken_by c r = record { group = (rule_of c (row_of r)).group; lines = length (sentences_by c r) }
 
 pub lines_counted : (c : Settings) (k : SaidKept) (spoken : List Spoken) (r : Reading) (one : Row)
-    → lines_at k one ≡ lines_on (rule_of c one).group spoken % 999
-    → lines_at (counted c k r) one ≡ lines_on (rule_of c one).group (spoken_by c r ∷ spoken) % 999
+    → lines_at k one ≡ lines_on (rule_of c one).group spoken % most_count
+    → lines_at (counted c k r) one ≡ lines_on (rule_of c one).group (spoken_by c r ∷ spoken) % most_count
 lines_counted c k spoken r one e =
     by_row (lines_more c k (rule_of c (row_of r)).group (length (sentences_by c r))) one ∙ by (same_text (rule_of c (row_of r)).group (rule_of c one).group)
   where
-    by : (b : Bool) → (if b then (lines_at k one + length (sentences_by c r)) % 999 else lines_at k one)
-        ≡ (if b then lines_on (rule_of c one).group spoken + length (sentences_by c r) else lines_on (rule_of c one).group spoken) % 999
-    by true = ap (λ (n : ℕ). (n + length (sentences_by c r)) % 999) e ∙ more_lines (lines_on (rule_of c one).group spoken) (length (sentences_by c r))
+    by : (b : Bool) → (if b then (lines_at k one + length (sentences_by c r)) % most_count else lines_at k one)
+        ≡ (if b then lines_on (rule_of c one).group spoken + length (sentences_by c r) else lines_on (rule_of c one).group spoken) % most_count
+    by true = ap (λ (n : ℕ). (n + length (sentences_by c r)) % most_count) e ∙ mod-add-mod (lines_on (rule_of c one).group spoken) most_count (length (sentences_by c r))
     by false = e
 
-pub groups_counted : (c : Settings) (k : SaidKept) (spoken : List Spoken) (r : Reading) → k.groups ≡ line_groups spoken % 99
-    → groups_more k (length (sentences_by c r)) ≡ line_groups (spoken_by c r ∷ spoken) % 99
+pub groups_counted : (c : Settings) (k : SaidKept) (spoken : List Spoken) (r : Reading) → k.groups ≡ line_groups spoken % most_written_code
+    → groups_more k (length (sentences_by c r)) ≡ line_groups (spoken_by c r ∷ spoken) % most_written_code
 groups_counted c k spoken r e = by (nat_le 2 (length (sentences_by c r)))
   where
-    by : (b : Bool) → (if b then (k.groups + 1) % 99 else k.groups) ≡ (if b then line_groups spoken + 1 else line_groups spoken) % 99
-    by true = ap (λ (n : ℕ). (n + 1) % 99) e ∙ more_groups (line_groups spoken)
+    by : (b : Bool) → (if b then (k.groups + 1) % most_written_code else k.groups) ≡ (if b then line_groups spoken + 1 else line_groups spoken) % most_written_code
+    by true = ap (λ (n : ℕ). (n + 1) % most_written_code) e ∙ mod-add-mod (line_groups spoken) most_written_code 1
     by false = e
 
 -- ---- the lines of a datagram
 
-next_line : (a b : ℕ) → a % 999 ≡ b % 999 → (a + 1) % 999 ≡ (b + 1) % 999
+next_line : (a b : ℕ) → a % most_count ≡ b % most_count → (a + 1) % most_count ≡ (b + 1) % most_count
 next_line a b e = omega (arith, e)
 
-same_lines : (sfi : List ℕ) (total code a b number : ℕ) (xs : List (List ℕ)) → a % 999 ≡ b % 999
+same_lines : (sfi : List ℕ) (total code a b number : ℕ) (xs : List (List ℕ)) → a % most_count ≡ b % most_count
     → lines_from sfi total code a number xs ≡ lines_from sfi total code b number xs
 same_lines sfi total code a b number [] e = refl
 same_lines sfi total code a b number (x ∷ xs) e =
     ap (λ (n : ℕ). line_text (record { group = part_of total code number; source = sfi; count = n + 1 }) x ++ lines_from sfi total code (a + 1)
     (number + 1) xs) e
-    ∙ ap (λ (rest : List ℕ). line_text (record { group = part_of total code number; source = sfi; count = b % 999 + 1 }) x ++ rest)
+    ∙ ap (λ (rest : List ℕ). line_text (record { group = part_of total code number; source = sfi; count = b % most_count + 1 }) x ++ rest)
     (same_lines sfi total code (a + 1) (b + 1) (number + 1) xs (next_line a b e))
-
-kept_count : (n m : ℕ) → n ≡ m % 999 → n % 999 ≡ m % 999
-kept_count n m e = omega (arith, e)
 
 pub datagrams_are_of_all : DatagramsAreOfAll
 datagrams_are_of_all c holders older spoken k r st =
@@ -70,5 +64,5 @@ datagrams_are_of_all c holders older spoken k r st =
     let group = (rule_of c (row_of r)).group in
     ap (λ (code : ℕ). header ++ lines_from c.sfi (length sentences) (code + 1) (lines_at k (row_of r)) 1 sentences) st.groups
     ∙ ap (λ (lines : List ℕ). header ++ lines)
-    (same_lines c.sfi (length sentences) (line_groups spoken % 99 + 1) (lines_at k (row_of r)) (lines_on group spoken) 1 sentences
-    (kept_count (lines_at k (row_of r)) (lines_on group spoken) (st.lines (row_of r))))
+    (same_lines c.sfi (length sentences) (line_groups spoken % most_written_code + 1) (lines_at k (row_of r)) (lines_on group spoken) 1 sentences
+    (ap (λ (n : ℕ). n % most_count) (st.lines (row_of r)) ∙ mod-mod (lines_on group spoken) most_count))

@@ -10,8 +10,8 @@ use Rattle.readings.specs.Rows.{row_of}
 use Rattle.source_choice.specs.declared.rank.Rank.{Rank}
 use Rattle.sentence_text.specs.Names.{IsSfi}
 use Rattle.tag_block.specs.declared.group_part.GroupPart.{GroupPart}
-use Rattle.tag_block.specs.Tag.{block_text}
-use Rattle.tag_block.specs.Writing.{IsWritable, IsWritableGroup, block_of, block_with}
+use Rattle.tag_block.specs.Tag.{block_text, most_count}
+use Rattle.tag_block.specs.Writing.{IsWritable, IsWritableGroup, block_of, block_with, most_written_code}
 use Rattle.datagram450.specs.Datagram.{line_text}
 use Rattle.history.specs.Settings.{Settings, rule_at, rule_of, same_text}
 use Rattle.history.specs.Known.{address_left, address_won}
@@ -24,35 +24,29 @@ use Rattle.sentence_rows.proofs.ShortSentences.{said_briefly}
 -- ---- the counts
 
 abbrev AreSmall : List ℕ → Type 0
-AreSmall xs = AllByRecursion (λ n. n < 999) xs
+AreSmall xs = AllByRecursion (λ n. n < most_count) xs
 
-small_at : (xs : List ℕ) (i : ℕ) → AreSmall xs → get_or xs i 0 < 999
+small_at : (xs : List ℕ) (i : ℕ) → AreSmall xs → get_or xs i 0 < most_count
 small_at [] i all = omega arith
 small_at (x ∷ xs) zero all = all.0
 small_at (x ∷ xs) (suc i) all = small_at xs i all.1
 
-small_map : (f : ℕ → ℕ) → ((i : ℕ) → f i < 999) → (xs : List ℕ) → AreSmall (map f xs)
+small_map : (f : ℕ → ℕ) → ((i : ℕ) → f i < most_count) → (xs : List ℕ) → AreSmall (map f xs)
 small_map f each [] = tt
 small_map f each (x ∷ xs) = (each x, small_map f each xs)
 
-below_999 : (n : ℕ) → n % 999 < 999
-below_999 n = omega arith
-
-below_99 : (n : ℕ) → n % 99 < 99
-below_99 n = omega arith
-
-more_small : (c : Settings) (k : SaidKept) (group : List ℕ) (count number : ℕ) → AreSmall k.lines → lines_more c k group count number < 999
+more_small : (c : Settings) (k : SaidKept) (group : List ℕ) (count number : ℕ) → AreSmall k.lines → lines_more c k group count number < most_count
 more_small c k group count number all = by (same_text group (rule_at c.rows number).group)
   where
-    by : (b : Bool) → (if b then (get_or k.lines number 0 + count) % 999 else get_or k.lines number 0) < 999
-    by true = below_999 (get_or k.lines number 0 + count)
+    by : (b : Bool) → (if b then (get_or k.lines number 0 + count) % most_count else get_or k.lines number 0) < most_count
+    by true = omega arith
     by false = small_at k.lines number all
 
-groups_small : (k : SaidKept) (count : ℕ) → k.groups < 99 → groups_more k count < 99
+groups_small : (k : SaidKept) (count : ℕ) → k.groups < most_written_code → groups_more k count < most_written_code
 groups_small k count less = by (nat_le 2 count)
   where
-    by : (b : Bool) → (if b then (k.groups + 1) % 99 else k.groups) < 99
-    by true = below_99 (k.groups + 1)
+    by : (b : Bool) → (if b then (k.groups + 1) % most_written_code else k.groups) < most_written_code
+    by true = omega arith
     by false = less
 
 counted_small : (c : Settings) (k : SaidKept) (r : Reading) → AreCounts k → AreCounts (counted c k r)
@@ -94,18 +88,18 @@ counts_fit = record {
 
 -- ---- a line
 
-decimal_short : (n : ℕ) → n ≤ 999 → length (decimal n) ≤ 3
+decimal_short : (n : ℕ) → n < 1000 → length (decimal n) ≤ 3
 decimal_short n le = length-decimal-le 3 n (omega arith) (omega (arith, le)) (omega (arith, le))
 
-code_short : (n : ℕ) → n ≤ 99 → length (decimal n) ≤ 2
+code_short : (n : ℕ) → n < 100 → length (decimal n) ≤ 2
 code_short n le = length-decimal-le 2 n (omega arith) (omega (arith, le)) (omega (arith, le))
 
-block_short : (part : Option GroupPart) (source : List ℕ) (count : ℕ) → IfSome part IsWritableGroup → length source ≡ 6 → count ≤ 999
+block_short : (part : Option GroupPart) (source : List ℕ) (count : ℕ) → IfSome part IsWritableGroup → length source ≡ 6 → count ≤ most_count
     → length (block_text (block_with part source count)) ≤ 32
-block_short None source count is six le = let n = decimal_short count le in simp length-append (omega (arith, n, six))
+block_short None source count is six le = let n = decimal_short count (omega (arith, le)) in simp length-append (omega (arith, n, six))
 block_short (Some part) source count is six le =
-    let n = decimal_short count le in
-    let code = code_short part.code is.small in
+    let n = decimal_short count (omega (arith, le)) in
+    let code = code_short part.code (omega (arith, is.small)) in
     simp length-append (omega (arith, n, six, code))
 
 both_short : (block sentence : List ℕ) → length block ≤ 32 → length sentence ≤ 82 → length (block ++ sentence) ≤ 114
@@ -117,10 +111,10 @@ lines_fit tag sentence is sfi short = both_short (block_text (block_of tag)) sen
 
 -- ---- a reading that is said
 
-code_fits : (n : ℕ) → n < 99 → n + 1 ≤ 99
+code_fits : (n : ℕ) → n < most_written_code → n + 1 ≤ most_written_code
 code_fits n less = omega (arith, less)
 
-group_fits : (total code number : ℕ) → total ≤ 9 → 1 ≤ code → code ≤ 99 → 1 ≤ number → number ≤ total → IfSome (part_of total code number) IsWritableGroup
+group_fits : (total code number : ℕ) → total ≤ 9 → 1 ≤ code → code ≤ most_written_code → 1 ≤ number → number ≤ total → IfSome (part_of total code number) IsWritableGroup
 group_fits total code number most first small one within = by (nat_le 2 total) refl
   where
     by : (b : Bool) → nat_le 2 total ≡ b → IfSome (if b then Some (record { number = number; total = total; code = code }) else None) IsWritableGroup
@@ -133,7 +127,7 @@ module _ (c : Settings) (k : SaidKept) (r : Reading) (sfi : IsSfi c.sfi) (are : 
     group = group_fits (length (sentences_by c r)) (k.groups + 1) number (omega (arith, (said_briefly (rule_of c (row_of r)).talker c.ths r).few)) (omega arith)
         (code_fits k.groups are.groups) one within;
     count = omega arith;
-    small = omega (arith, below_999 before);
+    small = omega arith;
   }
 
   -- the lines from one on, of at most 114 bytes each

@@ -34,7 +34,7 @@ use Rattle.gate_model.specs.Net.{row_numbers, timeouts}
 pub record SaidKept : Type 0 where
   -- of each row what each source said last, where a source is an address of the bus
   pub choices : Choices
-  -- of each row how many lines were said on its transmission group, from 0 to 998, by the row's number: rows of one transmission group have
+  -- of each row how many lines were said on its transmission group, modulo the greatest count, by the row's number: rows of one transmission group have
   -- one count, so that it is found by the row alone
   pub lines : List ℕ
   -- how many groups of lines were said, from 0 to 98

@@ -15,7 +15,7 @@ use Rattle.history.specs.Settings.{Settings, rule_of}
 use Rattle.history.specs.Emits.{part_of}
 use Rattle.gate_model.specs.Said.{SaidKept, Complete, nothing_said, sentences_by, datagram_by, message_after, claimed_after}
 
--- ---- the counts are from 0 to 998, and from 0 to 98
+-- ---- the counts are below the greatest count of a line, and below the greatest code of a group
 
 pub record AreCounts (k : SaidKept) : Type 0 where
   pub lines : AllByRecursion (λ n. n < most_count) k.lines

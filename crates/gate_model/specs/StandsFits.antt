@@ -42,7 +42,7 @@ pub record ReachedFits (o : Compared) (g : Machine) : Type 0 where
   -- of the bus each address can be noted, and of the network each source that is listed
   pub bus : ChoicesFit g.said.choices places
   pub net : ChoicesFit g.network.readings.choices (length g.settings.net_sources)
-  -- one count of lines for each row, below 999, and the groups of lines are below 99
+  -- one count of lines for each row, below the greatest one, and the groups of lines are below the greatest code
   pub lines : length g.said.lines ≡ length row_numbers
   pub counts : AreCounts g.said
   -- one sequence for each row, from 0 to 7

@@ -7,6 +7,7 @@ use Rattle.sentence_fields.specs.declared.lines.SentenceText.{SentenceText}
 use Rattle.readings.specs.declared.reading.Reading.{Reading}
 use Rattle.readings.specs.Rows.{IsValid, row_of}
 use Rattle.sentence_text.specs.Names.{IsSfi}
+use Rattle.tag_block.specs.Tag.{most_count}
 use Rattle.tag_block.specs.Writing.{longest_packet}
 use Rattle.datagram450.specs.Datagram.{header, line_text}
 use Rattle.history.specs.Emits.{lines_from, part_of}
@@ -33,7 +34,7 @@ module _ (source : List ℕ) (code before : ℕ) (sentences : List SentenceText)
   -- the line at this place, and those behind it
   abbrev pub line_here : SentenceText → List ℕ
   line_here x =
-      line_text (record { group = part_of total code (place + 1); source = source; count = (before + place) % 999 + 1 }) x.bytes.items
+      line_text (record { group = part_of total code (place + 1); source = source; count = (before + place) % most_count + 1 }) x.bytes.items
 
   abbrev pub lines_after : List ℕ
   lines_after = lines_from source total code (before + (place + 1)) (place + 1 + 1) (texts (drop (place + 1) sentences))

@@ -5,7 +5,7 @@ ghost use Rattle.std.specs.List.{AllByRecursion};
 ghost use Rattle.readings.specs.Rows.{IsValid, row_of, row_number};
 ghost use Rattle.sentence_text.specs.Byte.{is_capital};
 ghost use Rattle.source_choice.specs.Choices.{opened, forgotten};
-ghost use Rattle.tag_block.specs.Writing.{longest_packet};
+ghost use Rattle.tag_block.specs.Tag.{most_count};
 ghost use Rattle.history.specs.Choice.{rank_of, reading_in};
 ghost use Rattle.gate_events.specs.Emit.{net};
 ghost use Rattle.history.specs.Settings.{rule_of, same_text};
@@ -48,9 +48,9 @@ pub struct Sender {
 #[derive(Drop)]
 pub struct Said {
     choice: Choice,
-    /// How many lines were said on the transmission group of each row, from 0 to 998, by the row's number.
+    /// How many lines were said on the transmission group of each row, modulo [`MOST_COUNT`], by the row's number.
     lines: [u16; ROWS],
-    /// How many groups of lines were said, from 0 to 98.
+    /// How many groups of lines were said, modulo [`MOST_CODE`].
     groups: u8,
 }
 
@@ -58,13 +58,15 @@ impl Model for Said {
     ghost use Rattle.std.specs.Prelude.{◌≡◌, ◌<◌, length};
     ghost use Rattle.std.specs.List.{AllByRecursion};
     ghost use Rattle.readings.specs.Rows.{rows_count};
+    ghost use Rattle.tag_block.specs.Tag.{most_count};
+    ghost use Rattle.tag_block.specs.Writing.{most_written_code};
     ghost use Rattle.gate_model.specs.Said.{SaidKept};
 
     ghost Value = { SaidKept };
 
     ghost view = { λ s. record { choices = s.choice; lines = s.lines; groups = s.groups } };
 
-    ghost invariant = { λ s. (s.choice.sources ≡ 254) × (length s.choice.subjects ≡ rows_count) × (length s.lines ≡ rows_count) × AllByRecursion (λ n. n < 999) s.lines × (s.groups < 99) };
+    ghost invariant = { λ s. (s.choice.sources ≡ 254) × (length s.choice.subjects ≡ rows_count) × (length s.lines ≡ rows_count) × AllByRecursion (λ n. n < most_count) s.lines × (s.groups < most_written_code) };
 }
 
 impl Said {
@@ -180,7 +182,7 @@ impl Said {
     fn counted_lines(&self, config: &SelectiveConfig, group: Group, count: u16) -> [u16; ROWS]
         requires { count ≤ 2 }
         ensures lines { result ≡ map (lines_more (settings_by config.now) self.now group count) row_numbers }
-        ensures small { AllByRecursion (λ n. n < 999) result }
+        ensures small { AllByRecursion (λ n. n < most_count) result }
     {
         let mut lines = [0; ROWS];
         for number in 0..ROWS {
@@ -194,7 +196,7 @@ impl Said {
         requires row { number < ROWS }
         requires few { count ≤ 2 }
         ensures lines { result ≡ lines_more (settings_by config.now) self.now group count number }
-        ensures within { result < 999 }
+        ensures within { result < most_count }
     {
         let before = self.lines[number];
         let after = wrapped(before + count);
@@ -241,8 +243,8 @@ fn number_of(group: Group) -> u32
 
 /// Behind the greatest count comes 0; this is found without a division.
 fn wrapped(count: u16) -> u16
-    requires { count < 2 * 999 }
-    ensures { result ≡ count % 999 }
+    requires { count < 2 * most_count }
+    ensures { result ≡ count % most_count }
 {
     if count < MOST_COUNT {
         count

@@ -4,7 +4,8 @@ ghost use Rattle.readings.specs.Rows.{IsValid};
 ghost use Rattle.sentence_text.specs.Names.{IsSfi};
 ghost use Rattle.arrayvec.specs.ArrayVec.{array_vec_len};
 ghost use Rattle.sentence_fields.specs.Field.{texts_of};
-ghost use Rattle.tag_block.specs.Writing.{longest_packet};
+ghost use Rattle.tag_block.specs.Tag.{most_count};
+ghost use Rattle.tag_block.specs.Writing.{longest_packet, most_written_code};
 ghost use Rattle.datagram450.specs.Datagram.{header};
 ghost use Rattle.history.specs.Emits.{lines_from, part_of};
 ghost use Rattle.gate_model.specs.Said.{sentences_by};
@@ -57,8 +58,8 @@ pub(crate) fn write_datagram(
 )
     requires empty { packet.old.items ≡ [] }
     requires least_code { 1 ≤ code }
-    requires most_code { code ≤ 99 }
-    requires count { before < 999 }
+    requires most_code { code ≤ most_written_code }
+    requires count { before < most_count }
     requires few { length sentences.now ≤ 2 }
     requires room { length (header ++ lines_from source (length sentences.now) code before 1 (texts sentences.now)) ≤ longest_packet }
     ensures { packet.new.items ≡ header ++ lines_from source (length sentences.now) code before 1 (texts sentences.now) }
@@ -70,8 +71,8 @@ pub(crate) fn write_datagram(
 /// Writes the lines behind the header.
 fn write_lines(source: Sfi, code: u16, before: u16, sentences: &[SentenceText], packet: &mut Packet)
     requires least_code { 1 ≤ code }
-    requires most_code { code ≤ 99 }
-    requires count { before < 999 }
+    requires most_code { code ≤ most_written_code }
+    requires count { before < most_count }
     requires few { length sentences.now ≤ 2 }
     requires room { array_vec_len packet.old
         + length (lines_from source (length sentences.now) code before 1 (texts sentences.now)) ≤ longest_packet }

@@ -1,4 +1,5 @@
 use Rattle.std.proofs.Common.{◌≡◌, ℕ, ◌+◌, ◌%◌, List, ◌++◌, length, ap, sym, ◌∙◌, length-append, arith}
+use Rattle.tag_block.specs.Tag.{most_count}
 use Rattle.tag_block.specs.Writing.{longest_packet}
 use Rattle.datagram450.specs.Datagram.{line_text}
 use Rattle.history.specs.Emits.{lines_from, part_of}
@@ -15,7 +16,7 @@ loop-place-preserved c =
     let sentences = c.args.sentences.now in
     let place = c.loop-place.place in
     let old = c.loop-place.packet.items in
-    let number = (before + place) % 999 + 1 in
+    let number = (before + place) % most_count + 1 in
     let here = next_line source code before sentences place x c.loop-place-test.true (sym c.index-sentences-place.is) in
     let rest = lines_after source code before sentences place in
     let line = line_text (record { group = c.part_of.result; source = source; count = number }) c.deref.result.now in
