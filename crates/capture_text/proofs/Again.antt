@@ -181,10 +181,13 @@ frame_fits moment f valid fit = (valid.identifier, omega (arith, length-take f.l
 abbrev pub EventSaysAgain : Event → List ℕ → Type 0
 EventSaysAgain e line = moment_in (view e) < 10 ^ 16 → IsLine (view e) line × (read line ≡ Ok (view e))
 
-pub event_said : (e what : Event) (group line : List ℕ) → e ≡ what → line ≡ event_text group (view what) → EventSaysAgain what (event_text group (view what))
-    → EventSaysAgain e line
-event_said e what group line is text says =
-    subst (λ (x : Event). EventSaysAgain x line) (sym is) (subst (λ (l : List ℕ). EventSaysAgain what l) (sym text) says)
+-- it is written at the event's moment, and behind its time as that of an event that it is
+pub event_said : (e what : Event) (m : ℕ) (before behind line : List ℕ) → e ≡ what → m ≡ moment_in (view e) → before ≡ time_text m → line ≡ before ++ behind
+    → EventSaysAgain what (time_text (moment_in (view what)) ++ behind) → EventSaysAgain e line
+event_said e what m before behind line is at starts text says =
+    let own : m ≡ moment_in (view what) = at ∙ ap (λ (x : Event). moment_in (view x)) is in
+    let whole : line ≡ time_text (moment_in (view what)) ++ behind = text ∙ ap (λ (x : List ℕ). x ++ behind) (starts ∙ ap time_text own) in
+    subst (λ (x : Event). EventSaysAgain x line) (sym is) (subst (λ (l : List ℕ). EventSaysAgain what l) (sym whole) says)
 
 -- ---- an emit
 

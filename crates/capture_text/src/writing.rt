@@ -103,6 +103,7 @@ fn append_any_time(moment: u64, out: &mut Line)
 }
 
 /// The time of a line, and a space.
+#[inline(always)]
 fn append_time(moment: u64, out: &mut Line)
     requires { out.old.items ≡ [] }
     ensures text { out.new.items ≡ time_text moment }
@@ -191,6 +192,7 @@ fn append_data(held: &[u8], bytes: &[u8; 8], out: &mut Line)
     append(&digits[..2 * held.len()], out);
 }
 
+#[inline(always)]
 fn append_frame(frame: &Frame, out: &mut Line)
     requires valid { IsFrame frame.now }
     requires room { array_vec_len out.old ≤ 1000 }
@@ -249,18 +251,10 @@ pub fn write_event(event: &Event<'_>, group: Group, out: &mut ArrayVec<u8, LONGE
     // Below 10^16 microseconds it is read back.
     ensures again { moment_in (view event.now) < 10 ^ 16 → IsLine (view event.now) out.new.items × (read out.new.items ≡ Ok (view event.now)) }
 {
+    append_time(event.moment(), out);
     match event {
-        Event::Frame { moment, frame } => {
-            append_time(*moment, out);
-            append_frame(frame, out);
-        }
-        Event::Datagram { moment, bytes } => {
-            append_time(*moment, out);
-            append_datagram(&group, bytes, out);
-        }
-        Event::Tick { moment } => {
-            append_time(*moment, out);
-            append(b"tick", out);
-        }
+        Event::Frame { frame, .. } => append_frame(frame, out),
+        Event::Datagram { bytes, .. } => append_datagram(&group, bytes, out),
+        Event::Tick { .. } => append(b"tick", out),
     }
 }

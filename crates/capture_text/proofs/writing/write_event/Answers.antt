@@ -1,4 +1,4 @@
-use Rattle.std.proofs.Common.{◌++◌, List, ℕ, ap, subst, ◌∙◌}
+use Rattle.std.proofs.Common.{subst}
 use Rattle.std.specs.Prelude.{codes}
 use Rattle.gate_events.specs.declared.event.Event.TheVariants as event
 use Rattle.n2k_id.specs.Frame.{bus_frame}
@@ -10,8 +10,8 @@ pub returns-in-Frame-clause-again : goal.returns-in-Frame-clause-again
 returns-in-Frame-clause-again c =
     let m = c.in-Frame.moment in
     let f = c.in-Frame.frame in
-    event_said c.args.event.now (event.Frame m f) c.args.group c.append_frame.new.out.items c.in-Frame.is
-    (c.append_frame.ensures.text ∙ ap (λ (x : List ℕ). x ++ frame_text (bus_frame f)) c.append_time.ensures.text)
+    event_said c.args.event.now (event.Frame m f) c.moment.result c.append_time.new.out.items (frame_text (bus_frame f)) c.append_frame.new.out.items
+    c.in-Frame.is c.moment.ensures c.append_time.ensures.text c.append_frame.ensures.text
     (λ early. frame_again m (bus_frame f) early (frame_fits m f (subst CanRecord c.in-Frame.is c.requires.can) c.append_frame.ensures.fit))
 
 pub returns-in-Datagram-clause-again : goal.returns-in-Datagram-clause-again
@@ -19,13 +19,12 @@ returns-in-Datagram-clause-again c =
     let m = c.in-Datagram.moment in
     let bytes = c.in-Datagram.bytes in
     let fit = c.append_datagram.ensures.fit in
-    event_said c.args.event.now (event.Datagram m bytes) c.args.group c.append_datagram.new.out.items c.in-Datagram.is
-    (c.append_datagram.ensures.text ∙ ap (λ (x : List ℕ). x ++ datagram_text c.args.group bytes.now) c.append_time-in-Datagram.ensures.text)
+    event_said c.args.event.now (event.Datagram m bytes) c.moment.result c.append_time.new.out.items (datagram_text c.args.group bytes.now)
+    c.append_datagram.new.out.items c.in-Datagram.is c.moment.ensures c.append_time.ensures.text c.append_datagram.ensures.text
     (λ early. datagram_again m c.args.group bytes.now early fit.0 (subst CanRecord c.in-Datagram.is c.requires.can, fit.1))
 
 pub returns-in-Tick-clause-again : goal.returns-in-Tick-clause-again
 returns-in-Tick-clause-again c =
     let m = c.in-Tick.moment in
-    event_said c.args.event.now (event.Tick m) c.args.group c.append.new.out.items c.in-Tick.is
-    (c.append.ensures.text ∙ ap (λ (x : List ℕ). x ++ codes "tick") c.append_time-in-Tick.ensures.text)
-    (λ early. tick_again m early)
+    event_said c.args.event.now (event.Tick m) c.moment.result c.append_time.new.out.items (codes "tick") c.append.new.out.items c.in-Tick.is
+    c.moment.ensures c.append_time.ensures.text c.append.ensures.text (λ early. tick_again m early)
