@@ -5,9 +5,8 @@ ghost use Rattle.quantities.specs.Layout.{layout_of, seen};
 use crate::about::{QUANTITIES, Quantity};
 use crate::column::Column;
 use crate::column::Column::{Celsius, Course, Decimal, Empty, Letter, Status, Word};
-use crate::unit::{AIR_BARS, AMPERES, KNOTS, OIL_BARS, PERCENT, REVOLUTIONS, VOLTS};
-use sentence_fields::written_unit;
-use sentence_fields::written_unit::DEGREES;
+use crate::unit::{AIR_BARS, AMPERES, COMPONENT_KNOTS, OIL_BARS, PERCENT, REVOLUTIONS, VOLTS};
+use sentence_fields::written_unit::{DEGREES, KNOTS};
 
 /// The sentence of a quantity.
 struct Layout {
@@ -52,7 +51,7 @@ static LAYOUTS: [Layout; QUANTITIES] = [
             Letter(b'T'),
             Course(1),
             Letter(b'M'),
-            Decimal(2, written_unit::KNOTS),
+            Decimal(2, KNOTS),
             Letter(b'N'),
         ]
     ),
@@ -60,15 +59,15 @@ static LAYOUTS: [Layout; QUANTITIES] = [
         b"VBW",
         6,
         [
-            Decimal(0, KNOTS),
-            Decimal(1, KNOTS),
+            Decimal(0, COMPONENT_KNOTS),
+            Decimal(1, COMPONENT_KNOTS),
             Status(0),
-            Decimal(2, KNOTS),
-            Decimal(3, KNOTS),
+            Decimal(2, COMPONENT_KNOTS),
+            Decimal(3, COMPONENT_KNOTS),
             Status(2),
-            Decimal(4, KNOTS),
+            Decimal(4, COMPONENT_KNOTS),
             Status(4),
-            Decimal(5, KNOTS),
+            Decimal(5, COMPONENT_KNOTS),
             Status(5),
         ]
     ),

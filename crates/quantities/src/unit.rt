@@ -16,7 +16,7 @@ macro_rules! unit {
 }
 
 /// Speeds to either side, from 0.001 m/s.
-pub const KNOTS: WrittenUnit = unit!(90 / 463, 2, 32_764, 4);
+pub const COMPONENT_KNOTS: WrittenUnit = unit!(90 / 463, 2, 32_764, 4);
 
 /// The air's pressure, from 0.1 Pa.
 pub const AIR_BARS: WrittenUnit = unit!(1 / 100, 4, 2_000_000, 5);
