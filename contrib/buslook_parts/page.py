@@ -10,11 +10,11 @@ from .drawing import (
     label, line_of, mark, rows_folded, section, table, text, wide)
 from .gathering import MANY
 from .recording import CURVES, RATES
+from .rules import known_rules
 from .sources import beside_each_other
 from .speakers import names_at, the_bus, who_spoke
 from .style import SCRIPT, STYLE
 
-RULES_PAGE = os.path.join(os.path.dirname(os.path.realpath(__file__)), "..", "..", "docs", "reports.md")
 SHOWN_ROWS = 40
 # the rules by which messages, and groups of lines, end before they are whole
 ENDS = (
@@ -207,24 +207,6 @@ def what_was_said(recording, scale):
 # ---- what was refused
 
 
-def causes():
-    """Name, cause and cure of each rule, as the page of reports has them; what stands there by reference is written out."""
-    found, above = {}, ""
-    try:
-        with open(RULES_PAGE, encoding="utf-8") as page_of_rules:
-            lines = list(page_of_rules)
-    except OSError:
-        return {}
-    for line in lines:
-        cells = [re.sub(r"\[([^]]*)\]\([^)]*\)", r"\1", cell.strip()).replace("`", "") for cell in line.strip().strip("|").split(" | ")]
-        rule = re.fullmatch(r"(\d+), (.+)", cells[0])
-        if len(cells) == 3 and rule is not None:
-            cure = re.sub("^the same", above, cells[2])
-            above = cure if cells[2] == cure else above
-            found[int(rule.group(1))] = (rule.group(2), cells[1], cure)
-    return {rule: (name, cause, re.sub(r"as for rule (\d+)", lambda match: found[int(match.group(1))][2], cure)) for rule, (name, cause, cure) in found.items()}
-
-
 def rules_drawn(recording, scale, known):
     parts, y = [], 8
     for rule, _ in recording.rules.most_common():
@@ -245,7 +227,7 @@ def rule_row(recording, rule, count, known):
 def what_was_refused(recording, scale):
     if not recording.rules:
         return section("What was refused", "Nothing.", "")
-    known = causes()
+    known = known_rules()
     drawn = rules_drawn(recording, scale, known) if scale is not None else ""
     worst = table(("Device", "Reports"), [(text(device), count) for device, count in recording.devices.most(10)], "devices")
     rows = [rule_row(recording, rule, count, known) for rule, count in recording.rules.most_common()]

@@ -14,6 +14,7 @@ from .gathering import MOST_MARKS, Counts, Mark, Point, Series, Spans, Strip, Ta
 from .program import ITEM, SHOWN_FRAME, Frame
 from .quantities import COMPARED_PGNS, Compared
 from .rows import Rows
+from .rules import rule_named
 
 READY_AFTER_US = 250_000
 MOST_EVENTS = 200
@@ -40,7 +41,7 @@ MOST_RATES = 400
 RATES = ("frames from the bus", "frames to the bus", "datagrams from the network", "datagrams to the network", "reports")
 TIMEOUT_MS = 5000
 # a message of several frames begins with a frame 0 (fast packet), or with an RTS or BAM of the transport protocol (ISO 11783-3)
-CONNECTION_MANAGEMENT, BEGINNINGS, EXPIRED = 60416, (16, 32), 16
+CONNECTION_MANAGEMENT, BEGINNINGS = 60416, (16, 32)
 MOST_BEGINNINGS = 1024
 # a line of a datagram that the gateway sends: its TAG block and its sentence
 SENT_LINE = re.compile(rb"\\[^\\]*\\([$!][^\r\n]*)\r\n")
@@ -172,6 +173,8 @@ class Recording:
         self.sentences, self.heard_sources, self.devices, self.errors = Tally(), Tally(), Tally(), Tally()
         self.rule_series, self.rule_lines, self.rule_devices = {}, collections.defaultdict(list), collections.defaultdict(Tally)
         self.excerpt, self.beginnings = {}, collections.OrderedDict()
+        # the rule that tells that the end of a message never came
+        self.expired = rule_named("expired")
         self.curves, self.is_apart, self.tracks, self.strips = {}, set(), {}, {}
 
     def take(self, number, line, moment, frame, items, emits):
@@ -285,7 +288,7 @@ class Recording:
     def told_at(self, number, line, rule, detail):
         """The line that a report leads to: the one at which it came, or the one at which a message began whose end never came."""
         words = dict(word.split("=", 1) for word in detail.split(" ") if "=" in word)
-        began = self.beginnings.get((int(words["src"]), int(words["pgn"]))) if rule == EXPIRED and "src" in words else None
+        began = self.beginnings.get((int(words["src"]), int(words["pgn"]))) if rule == self.expired and "src" in words else None
         return began or (number, excerpt_of(line))
 
     def quoted(self, rule, number, shown):
