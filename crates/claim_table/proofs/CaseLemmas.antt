@@ -2,7 +2,7 @@ use Rattle.std.proofs.Common.{◌≡◌, ◌≢◌, ℕ, ◌<◌, ◌≤◌, ◌
 use Rattle.std.proofs.lemmas.Bool.{eqb-true, eq-eqb}
 use Rattle.std.proofs.lemmas.Bool.Decides.{nat_tests}
 use Rattle.claim_table.specs.declared.answer.Holder.{Holder}
-use Rattle.claim_table.specs.Cases.{CanGoTo, IsCase, IsOthers, duplicate, cannot_claim, defended, given_up, free, kept, won}
+use Rattle.claim_table.specs.Cases.{CanGoTo, IsCase, IsOthers, duplicate, cannot_claim, free, kept, won}
 use Rattle.claim_table.specs.Claims.{Claims, Claim, at_address, at_held, at_other, at_own, claim, holder_at, is_at, is_obeyed, left_by, settled, by_name, with_released, without_left}
 
 pub not_eqb : (a b : ℕ) → (a == b) ≡ false → a ≢ b
@@ -15,12 +15,10 @@ pub lt_false : (a b : ℕ) → nat_lt a b ≡ false → b ≤ a
 lt_false a b e = grind (arith, nat_tests)
 
 pub is_at-true : (a : ℕ) (own : Option ℕ) → is_at a own ≡ true → own ≡ Some a
-is_at-true a None e = cc
-is_at-true a (Some b) e = let same : b ≡ a = eqb-true b a e in cc
+is_at-true a own e = grind arith
 
 pub is_at-false : (a : ℕ) (own : Option ℕ) → is_at a own ≡ false → own ≢ Some a
-is_at-false a None e h = cc
-is_at-false a (Some b) e h = let same : b ≡ a = cc in not_eqb b a e same
+is_at-false a own e h = grind arith
 
 held_case : (c : Claims) (k : Claim) (h : Holder) (b : Bool) → IsOthers c k → c.own ≢ Some k.address → holder_at (without_left c k).holders k.address ≡ Some h → nat_lt k.name h.name.0 ≡ b → IsCase c k (with_released (left_by c k) (at_held (without_left c k) k h b))
 held_case c k h true o n e l = won o n h e (lt_true k.name h.name.0 l) refl
@@ -31,11 +29,7 @@ other_case c k None o n e = free o n e refl
 other_case c k (Some h) o n e = held_case c k h (nat_lt k.name h.name.0) o n e refl
 
 own_case : (c : Claims) (k : Claim) (b : Bool) → IsOthers c k → c.own ≡ Some k.address → nat_lt c.name k.name ≡ b → IsCase c k (with_released (left_by c k) (at_own (without_left c k) k b))
-own_case c k true o own l = defended o own (lt_true c.name k.name l) refl
-own_case c k false o own l = given_up o own (below k.name c.name o.name (lt_false c.name k.name l)) refl
-  where
-    below : (a b : ℕ) → a ≢ b → a ≤ b → a < b
-    below a b n l = omega arith
+own_case c k b o own l = grind arith
 
 address_case : (c : Claims) (k : Claim) (b : Bool) → IsOthers c k → is_at k.address c.own ≡ b → IsCase c k (with_released (left_by c k) (at_address (without_left c k) k b))
 address_case c k true o e = own_case c k (nat_lt c.name k.name) o (is_at-true k.address c.own e) refl
@@ -56,25 +50,18 @@ claim_case c k = name_case c k (k.name == c.name) refl
 
 -- three tests tell three facts
 all_three : {P Q R : Type 0} (p q r : Bool) → IsTrue p ↔ P → IsTrue q ↔ Q → IsTrue r ↔ R → IsTrue (p && q && r) ↔ (P × Q × R)
-all_three true true true a b d = (λ h. (a.0 refl, b.0 refl, d.0 refl), λ h. refl)
-all_three true true false a b d = (λ h. cc, λ h. d.1 h.2)
-all_three true false r a b d = (λ h. cc, λ h. b.1 h.1)
-all_three false q r a b d = (λ h. cc, λ h. a.1 h.0)
+all_three p q r a b d = grind arith
 
 below_tells : (a b : ℕ) → IsTrue (nat_lt a b) ↔ (a < b)
 below_tells a b = (λ h. lt_true a b h, λ h. grind (arith, nat_tests))
 
 elsewhere_tells : (a : ℕ) (own : Option ℕ) (t : Bool) → is_at a own ≡ t → IsTrue (not t) ↔ (own ≢ Some a)
-elsewhere_tells a own true e = (λ h. cc, λ h. absurd (h (is_at-true a own e)))
-elsewhere_tells a own false e = (λ h. is_at-false a own e, λ h. refl)
+elsewhere_tells a own t e = grind arith
 
 nobody_tells : (x : Option Holder) → IsTrue (is_none x) ↔ (x ≡ None)
-nobody_tells None = (λ h. refl, λ h. refl)
-nobody_tells (Some h) = (λ e. cc, λ e. cc)
+nobody_tells x = grind arith
 
 -- a command is obeyed exactly where the gateway can go to the address
 pub obeyed_tells : (c : Claims) (a : ℕ) → IsTrue (is_obeyed c a) ↔ CanGoTo c a
 unfolding is_obeyed
-obeyed_tells c a =
-    let tells = all_three (nat_lt a 252) (not (is_at a c.own)) (is_none (holder_at c.holders a)) (below_tells a 252) (elsewhere_tells a c.own (is_at a c.own) refl) (nobody_tells (holder_at c.holders a)) in
-    (λ h. let facts = tells.0 h in record { within = facts.0; elsewhere = facts.1; free = facts.2 }, λ can. tells.1 (can.within, can.elsewhere, can.free))
+obeyed_tells c a = grind arith

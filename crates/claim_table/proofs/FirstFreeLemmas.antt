@@ -1,7 +1,7 @@
-use Rattle.std.proofs.Common.{◌≡◌, ◌≢◌, ℕ, zero, suc, ◌+◌, ◌%◌, ◌<◌, Bool, true, false, Option, None, Some, MatchOption, List, refl, sym, ◌∙◌, arith}
+use Rattle.std.proofs.Common.{◌≡◌, ◌≢◌, ℕ, zero, suc, ◌+◌, ◌%◌, ◌<◌, Bool, true, false, Option, None, Some, MatchOption, List, refl, arith}
 use Rattle.n2k_id.specs.Name.{is_arbitrary}
 use Rattle.claim_table.specs.declared.answer.Holder.{Holder}
-use Rattle.claim_table.specs.Claims.{Claims, free_from, following, holder_at, next_free, next_own, when}
+use Rattle.claim_table.specs.Claims.{Claims, free_from, holder_at, next_free, next_own, when}
 use Rattle.claim_table.specs.Laws.{FindsFirstFree, IsFreeAfter}
 
 -- the address j places after s, in cyclic order
@@ -42,21 +42,12 @@ found_further k holders s h (Some b) e found = record {
 found_from : (k : ℕ) (holders : List (Option Holder)) (s : ℕ) (x : Option Holder) → holder_at holders (s % 252) ≡ x → Found k holders s (free_from k holders (s % 252) x)
 unfolding Found free_from
 found_from zero holders s x e = λ j l n. absurd (omega arith)
-found_from (suc k) holders s None e = record {
-  j = 0;
-  below = omega arith;
-  place_is = let here : s + 0 ≡ s = omega arith in rw here;
-  free = let here : s + 0 ≡ s = omega arith in rw here e;
-  before = λ i l n. absurd (omega arith);
-}
-found_from (suc k) holders s (Some h) e =
-    let next : following (s % 252) ≡ (s + 1) % 252 = omega arith in
-    rw next (found_further k holders s h (free_from k holders ((s + 1) % 252) (holder_at holders ((s + 1) % 252))) e (found_from k holders (s + 1) (holder_at holders ((s + 1) % 252)) refl))
+found_from (suc k) holders s None e = grind arith
+found_from (suc k) holders s (Some h) e = grind (arith, found_from k holders (s + 1) (holder_at holders ((s + 1) % 252)) refl, found_further)
 
 found_tells : (holders : List (Option Holder)) (a : ℕ) (r : Option ℕ) → Found 252 holders (a + 1) r → MatchOption r ((j : ℕ) → j < 252 → ¬ IsFreeAfter holders a j) (λ b. (j : ℕ) × (j < 252) × (b ≡ (a + 1 + j) % 252) × IsFreeAfter holders a j × ((i : ℕ) → i < j → ¬ IsFreeAfter holders a i))
 unfolding Found
-found_tells holders a None found = found
-found_tells holders a (Some b) found = (found.j, found.below, found.place_is, found.free, found.before)
+found_tells holders a r found = grind arith
 
 found_next : (holders : List (Option Holder)) (a : ℕ) → Found 252 holders (a + 1) (next_free holders a)
 unfolding next_free
@@ -72,11 +63,7 @@ pub record IsOpen (holders : List (Option Holder)) (b : ℕ) : Type 0 where
 
 found_open : (holders : List (Option Holder)) (s b : ℕ) (r : Option ℕ) → r ≡ Some b → Found 252 holders s r → IsOpen holders b
 unfolding Found
-found_open holders s b None e found = cc
-found_open holders s b (Some d) e found =
-    let same : d ≡ b = cc in
-    let at : b ≡ place s found.j = sym same ∙ found.place_is in
-    record { free = rw at found.free; within = rw at (omega arith) }
+found_open holders s b r e found = grind arith
 
 open_when : (holders : List (Option Holder)) (a b : ℕ) (may : Bool) → when may (next_free holders a) ≡ Some b → IsOpen holders b
 open_when holders a b true e = found_open holders (a + 1) b (next_free holders a) e (found_next holders a)

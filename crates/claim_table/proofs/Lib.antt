@@ -1,5 +1,5 @@
 pub mod CaseLemmas
-pub mod CappedLemmas
+pub mod RenumberedLemmas
 pub mod FirstFreeLemmas
 pub mod LawLemmas
 pub mod SearchLemmas

@@ -69,13 +69,7 @@ nobody_at (suc n) zero = refl
 nobody_at (suc n) (suc a) = nobody_at n a
 
 empty_sound : (name own n : ℕ) → n ≡ 254 → own < 252 → IsSound (record { name = name; holders = replicate n None; own = Some own; counted_from = 0 })
-empty_sound name own n e within = record {
-  room = length-replicate {A = Option Holder} n None ∙ e;
-  one_each = λ a b h g f. let nobody = nobody_at n a in absurd (let both : None ≡ Some h = sym nobody ∙ f in cc);
-  own_free = λ a f. nobody_at n a;
-  own_within = λ a f. let same : own ≡ a = cc in rw (sym same) within;
-  others = λ a h f. absurd (let both : None ≡ Some h = sym (nobody_at n a) ∙ f in cc);
-}
+empty_sound name own n e within = grind (arith, length-replicate, nobody_at)
 
 nobody_fresh : (n : ℕ) (ps : List Preset) → Fresh (replicate n None) ps
 unfolding Fresh

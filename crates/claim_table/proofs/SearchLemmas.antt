@@ -1,16 +1,16 @@
-use Rattle.std.proofs.Common.{◌≡◌, ◌≢◌, ℕ, ◌+◌, ◌%◌, ◌<◌, ◌≤◌, ◌==◌, ◌&&◌, ◌||◌, nat_lt, not, min, inl, inr, is_none, Bool, true, false, Option, None, Some, MatchOption, List, length, set, refl, sym, ap, ◌∙◌, arith}
+use Rattle.std.proofs.Common.{◌≡◌, ◌≢◌, ℕ, ◌+◌, ◌%◌, ◌<◌, ◌≤◌, ◌==◌, ◌&&◌, ◌||◌, nat_lt, not, min, is_none, Bool, true, false, Option, None, Some, MatchOption, List, length, set, refl, sym, ap, ◌∙◌, arith}
+use Rattle.std.proofs.lemmas.Grind.{common_steps}
 use Rattle.std.specs.List.{position}
 use Rattle.std.proofs.lemmas.Bool.{eqb-true}
 use Rattle.std.proofs.lemmas.List.{get_or-set_same, get_or-set_other, length-set}
 use Rattle.std.proofs.lemmas.List.Quantifiers.{position-Some}
 use Rattle.claim_table.specs.declared.answer.Holder.{Holder}
-use Rattle.claim_table.specs.declared.answer.ClaimStep.{ClaimStep}
 use Rattle.claim_table.specs.declared.answer.OwnAnswer.{OwnAnswer}
-use Rattle.claim_table.specs.Claims.{Claims, Claim, Outcome, holder_at, is_held_by, left_by, moved, next_free, next_own, other_than, step_of, unless_at, vacated, with_released, with_taken, without_left}
+use Rattle.claim_table.specs.Claims.{Claims, Claim, holder_at, is_held_by, left_by, moved, next_free, next_own, other_than, step_of, vacated, with_released, with_taken, without_left}
 use Rattle.claim_table.specs.Laws.{IsFreeAfter}
 use Rattle.claim_table.proofs.CaseLemmas.{lt_false, lt_true, not_eqb}
 use Rattle.claim_table.proofs.FirstFreeLemmas.{finds_first_free}
-use Rattle.claim_table.proofs.SoundLemmas.{none_at_set, position_none, same_or_not, vacated_free, vacated_other}
+use Rattle.claim_table.proofs.SoundLemmas.{none_at_set, position_none, vacated_free, vacated_other}
 
 -- what the first i places tell of the place that a NAME holds
 pub record IsHeldSoFar (n : ℕ) (holders : List (Option Holder)) (i : ℕ) (held : Option ℕ) : Type 0 where
@@ -50,28 +50,10 @@ first_at p holders i l before here = by (position p holders) refl
         ap Some same
 
 pub held_here : (n : ℕ) (holders : List (Option Holder)) (i : ℕ) (held : Option ℕ) → i < length holders → IsHeldSoFar n holders i held → (is_none held && is_held_by n (holder_at holders i)) ≡ true → IsHeldSoFar n holders (i + 1) (Some i)
-held_here n holders i (Some p) room so_far e = cc
-held_here n holders i None room so_far e = record {
-  none = λ f. cc;
-  some = λ p f. let same : i ≡ p = cc in rw (sym same) (omega arith, first_at (is_held_by n) holders i room (so_far.none refl) e);
-}
+held_here n holders i held room so_far e = grind (arith, first_at)
 
 pub held_further : (n : ℕ) (holders : List (Option Holder)) (i : ℕ) (held : Option ℕ) → IsHeldSoFar n holders i held → (is_none held && is_held_by n (holder_at holders i)) ≡ false → IsHeldSoFar n holders (i + 1) held
-held_further n holders i (Some p) so_far e = record {
-  none = λ f. cc;
-  some = λ q f. let found = so_far.some q f in (omega (arith, found.0), found.1);
-}
-held_further n holders i None so_far e = record {
-  none = λ f. none;
-  some = λ q f. cc;
-}
-  where
-    none : (j : ℕ) → j < i + 1 → is_held_by n (holder_at holders j) ≡ false
-    none j l =
-        elim (same_or_not j i) [
-          | inl same ↦ rw same e
-          | inr other ↦ so_far.none refl j (omega arith)
-        ]
+held_further n holders i held so_far e = grind arith
 
 -- after the last place it is known which one the NAME holds
 pub held_is_position : (n : ℕ) (holders : List (Option Holder)) (held : Option ℕ) → IsHeldSoFar n holders (length holders) held → held ≡ position (is_held_by n) holders
@@ -106,26 +88,10 @@ open_left n holders a i other e = record { elsewhere = other; free = by (i == a)
 
 -- no other is
 not_open : (n : ℕ) (holders : List (Option Holder)) (a i : ℕ) → is_none (holder_at holders i) ≡ false → position (is_held_by n) holders ≢ Some i → ¬ IsOpen n holders a i
-not_open n holders a i e m is_open =
-    let same : holder_at (without n holders a) i ≡ holder_at holders i = vacated_other holders (other_than a (position (is_held_by n) holders)) i (by (position (is_held_by n) holders) m) in
-    let free : holder_at holders i ≡ None = sym same ∙ is_open.free in
-    let nobody : is_none (holder_at holders i) ≡ true = rw free refl in
-    cc
-  where
-    unless : (p : ℕ) (t : Bool) → Some p ≢ Some i → unless_at t p ≢ Some i
-    unless p true m f = cc
-    unless p false m f = m f
-
-    by : (x : Option ℕ) → x ≢ Some i → other_than a x ≢ Some i
-    by None m f = cc
-    by (Some p) m f = unless p (p == a) m f
+not_open n holders a i e m is_open = grind (arith, vacated_other)
 
 pub not_left : (n : ℕ) (holders : List (Option Holder)) (a i : ℕ) (held : Option ℕ) → IsHeldSoFar n holders i held → (is_none held && is_held_by n (holder_at holders i)) ≡ false → is_none (holder_at holders i) ≡ false → ¬ IsOpen n holders a i
-not_left n holders a i (Some p) so_far e f =
-    let found = so_far.some p refl in
-    not_open n holders a i f (λ there. let same : Some p ≡ Some i = sym found.1 ∙ there in let equal : p ≡ i = cc in absurd (omega (arith, found.0)))
-not_left n holders a i None so_far e f =
-    not_open n holders a i f (λ there. let is_held : is_held_by n (holder_at holders i) ≡ true = (position-Some (is_held_by n) holders i None there).1 in cc)
+not_left n holders a i held so_far e f = grind (arith, common_steps, not_open, position-Some)
 
 -- the test of a place tells whether it is open
 open_told : (n : ℕ) (holders : List (Option Holder)) (a i : ℕ) (held : Option ℕ) → i < length holders → IsHeldSoFar n holders i held → i ≢ a → (leaves : Bool) → leaves ≡ (is_none held && is_held_by n (holder_at holders i)) → (leaves || is_none (holder_at holders i)) ≡ true → IsOpen n holders a i
@@ -155,40 +121,15 @@ closed_where n holders a i held leaves so_far l e within is_open =
 
 -- a place that isn't open, or is none to go to, changes nothing
 pub nearest_further : (n : ℕ) (holders : List (Option Holder)) (a i d : ℕ) → IsNearestSoFar n holders a i d → (i < 252 → ¬ IsOpen n holders a i) → IsNearestSoFar n holders a (i + 1) d
-nearest_further n holders a i d so_far closed = record { within = so_far.within; before = before; there = so_far.there }
-  where
-    before : (j : ℕ) → j < d → place a j < i + 1 → ¬ IsOpen n holders a (place a j)
-    before j l w =
-        elim (same_or_not (place a j) i) [
-          | inl same ↦ let within : i < 252 = omega arith in rw same (closed within)
-          | inr other ↦ so_far.before j l (omega arith)
-        ]
+nearest_further n holders a i d so_far closed = grind arith
 
 -- an open place that is e steps on is the nearest, if it has fewer steps than the one so far
 pub nearest_here : (n : ℕ) (holders : List (Option Holder)) (a i d e : ℕ) → IsNearestSoFar n holders a i d → IsOpen n holders a i → place a e ≡ i → e < 252 → IsNearestSoFar n holders a (i + 1) (min d e)
-nearest_here n holders a i d e so_far is_open at within = by (nat_lt e d) refl
-  where
-    before : (f j : ℕ) → f ≤ d → f ≤ e → j < f → place a j < i + 1 → ¬ IsOpen n holders a (place a j)
-    before f j less lesser l w =
-        elim (same_or_not (place a j) i) [
-          | inl same ↦ absurd (omega arith)
-          | inr other ↦ so_far.before j (omega arith) (omega arith)
-        ]
-
-    by : (t : Bool) → nat_lt e d ≡ t → IsNearestSoFar n holders a (i + 1) (min d e)
-    by true f =
-        let less : e < d = lt_true e d f in
-        let least : min d e ≡ e = omega arith in
-        rw least (record { within = omega arith; before = λ j. before e j (omega arith) (omega arith); there = λ l. rw at is_open })
-    by false f =
-        let less : d ≤ e = lt_false e d f in
-        let least : min d e ≡ d = omega arith in
-        rw least (record { within = so_far.within; before = λ j. before d j (omega arith) less; there = so_far.there })
+nearest_here n holders a i d e so_far is_open at within = grind arith
 
 -- once the NAME has the address a, a place is free exactly where it is open
 free_if_open : (n : ℕ) (holders : List (Option Holder)) (a p : ℕ) (h : Holder) → IsOpen n holders a p → holder_at (set (without n holders a) a (Some h)) p ≡ None
-free_if_open n holders a p h is_open =
-    get_or-set_other (without n holders a) a p (Some h) None is_open.elsewhere ∙ is_open.free
+free_if_open n holders a p h is_open = grind (arith, get_or-set_other)
 
 open_if_free : (n : ℕ) (holders : List (Option Holder)) (a p : ℕ) (h : Holder) → a < length holders → holder_at (set (without n holders a) a (Some h)) p ≡ None → IsOpen n holders a p
 open_if_free n holders a p h room free = record {
@@ -197,15 +138,10 @@ open_if_free n holders a p h room free = record {
 }
   where
     same_length : (x : Option ℕ) → length (vacated holders x) ≡ length holders
-    same_length None = refl
-    same_length (Some b) = length-set holders b None
+    same_length x = grind (arith, length-set)
 
     elsewhere : p ≢ a
-    elsewhere same =
-        let within : a < length (without n holders a) = rw (same_length (other_than a (position (is_held_by n) holders))) room in
-        let held : holder_at (set (without n holders a) a (Some h)) a ≡ Some h = get_or-set_same (without n holders a) a (Some h) None within in
-        let nobody : holder_at (set (without n holders a) a (Some h)) a ≡ None = rw same at free in
-        cc
+    elsewhere same = grind (arith, same_length, get_or-set_same)
 
 -- the open place with the fewest steps is the next free address
 next_nearest : (n : ℕ) (holders : List (Option Holder)) (a d : ℕ) (h : Holder) → a < length holders → IsNearestSoFar n holders a 254 d → d < 252 → next_free (set (without n holders a) a (Some h)) a ≡ Some (place a d)
@@ -247,18 +183,9 @@ next_reached n holders a d h r room so_far nowhere there = by (nat_lt d 252) ref
 -- the gateway goes where it does once the NAME has left its address and has the lost one
 pub gives_way : (c : Claims) (k : Claim) (left next : Option ℕ) → left ≡ other_than k.address (position (is_held_by k.name) c.holders) → next ≡ next_own (with_taken (record c { holders = vacated c.holders left }) k) k.address → moved (with_taken (record c { holders = vacated c.holders left }) k) k.moment next ≡ moved (with_taken (without_left c k) k) k.moment (next_own (with_taken (without_left c k) k) k.address)
 unfolding left_by
-gives_way c k left next l e =
-    rw e (ap (λ x. moved (with_taken (record c { holders = vacated c.holders x }) k) k.moment (next_own (with_taken (record c { holders = vacated c.holders x }) k) k.address)) l)
+gives_way c k left next l e = grind arith
 
 -- and that is told, with the address left
 pub gives_way_tells : (c : Claims) (k : Claim) (left next : Option ℕ) (own : OwnAnswer) → left ≡ other_than k.address (position (is_held_by k.name) c.holders) → next ≡ next_own (with_taken (record c { holders = vacated c.holders left }) k) k.address → own ≡ (moved (with_taken (record c { holders = vacated c.holders left }) k) k.moment next).step.own → record (step_of None own) { released = left } ≡ (with_released (left_by c k) (moved (with_taken (without_left c k) k) k.moment (next_own (with_taken (without_left c k) k) k.address))).step
 unfolding left_by
-gives_way_tells c k left next own l e o =
-    let told : step_of None own ≡ (moved (with_taken (record c { holders = vacated c.holders left }) k) k.moment next).step =
-    rw o (sym (told_of_moved (with_taken (record c { holders = vacated c.holders left }) k) k.moment next)) in
-    let same = told ∙ ap (λ (x : Outcome). x.step) (gives_way c k left next l e) in
-    ap (λ (x : ClaimStep). record x { released = left }) same ∙ ap (λ x. record (moved (with_taken (without_left c k) k) k.moment (next_own (with_taken (without_left c k) k) k.address)).step { released = x }) l
-  where
-    told_of_moved : (d : Claims) (m : ℕ) (x : Option ℕ) → (moved d m x).step ≡ step_of None (moved d m x).step.own
-    told_of_moved d m None = refl
-    told_of_moved d m (Some b) = refl
+gives_way_tells c k left next own l e o = grind arith

@@ -52,7 +52,7 @@ pub fn names_and_holders_stay()
 
 /// A gateway whose count of entries has stopped, so that later indices are all one, answers each claim and each command as one
 /// that counts on, and keeps the same table but for those indices.
-#[tactic(auto, using(crate::proofs::CappedLemmas::indices_may_stop))]
+#[tactic(auto, using(crate::proofs::RenumberedLemmas::indices_may_stop))]
 pub fn indices_may_stop()
     ensures { IndicesMayStop }
 {}

@@ -9,5 +9,4 @@ returns-clause-cases c =
     rw (c.handle.ensures.after, c.handle.ensures.step) (claim_case c.args.self.now (claim_of c.args.address c.args.name.0 c.args.index c.args.moment))
 
 pub returns-clause-latest : goal.returns-clause-latest
-returns-clause-latest c =
-    rw c.handle.ensures.after (latest_after_claim c.args.index c.args.self.now (claim_of c.args.address c.args.name.0 c.args.index c.args.moment) (omega arith) c.requires.latest)
+returns-clause-latest c = grind (arith, latest_after_claim)
