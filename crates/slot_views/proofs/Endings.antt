@@ -1,10 +1,8 @@
 -- The first entry that passes a test ends, and then the next one.
-use Rattle.std.proofs.Common.{◌≡◌, ◌≤◌, arith, length, if◌then◌else◌, not, Bool, true, false, List, [], ◌∷◌, Some, None, refl, sym, ◌∙◌, ap, subst}
+use Rattle.std.proofs.Common.{◌≡◌, ◌≤◌, arith, length, if◌then◌else◌, not, Bool, true, false, List, [], ◌∷◌, Some, None, refl, sym, ap, subst}
 use Rattle.std.specs.List.{AllByRecursion, find, filter}
 use Rattle.std.specs.Cmp.{IsTotalOrder}
 use Rattle.std.specs.declared.cmp.Ordering.{Ordering}
-use Rattle.std.specs.declared.cmp.Ordering.TheVariants.{Less, Greater}
-use Rattle.std.specs.Ordering.{ordering_reverse}
 use Rattle.std.specs.Map.{lookup, remove_entry}
 use Rattle.std.specs.BTreeMap.{is_at}
 use Rattle.slot_views.specs.Slots.{Entry, SlotMap, IsOrdered, IsMap, Changes, with_entries, released, without, without_first}
@@ -24,11 +22,7 @@ module _ {X : Type 0} (p : X → Bool) where
 
   pub one_fewer : (xs : List X) → filter (λ x. not (p x)) (without_first p xs) ≡ filter (λ x. not (p x)) xs
   one_fewer [] = refl
-  one_fewer (x ∷ xs) = by (p x) refl (one_fewer xs)
-    where
-      by : (b : Bool) → p x ≡ b → filter (λ x. not (p x)) (without_first p xs) ≡ filter (λ x. not (p x)) xs → filter (λ x. not (p x)) (without_first p (x ∷ xs)) ≡ filter (λ x. not (p x)) (x ∷ xs)
-      by true eb rest = rw eb refl
-      by false eb rest = rw (eb, eb) (ap {B = List X} (λ ys. x ∷ ys) rest)
+  one_fewer (x ∷ xs) = grind (arith, one_fewer xs)
 
 -- two tests that agree on all elements find and take out the same
 module _ {X : Type 0} (p q : X → Bool) where
@@ -43,11 +37,7 @@ module _ {X : Type 0} (p q : X → Bool) where
 -- what holds of all elements holds of those that are left
 pub all_without : {X : Type 0} (P : X → Type 0) (p : X → Bool) (xs : List X) → AllByRecursion P xs → AllByRecursion P (without_first p xs)
 all_without P p [] all = tt
-all_without P p (x ∷ xs) all = by (p x) refl (all_without P p xs all.1)
-  where
-    by : (b : Bool) → p x ≡ b → AllByRecursion P (without_first p xs) → AllByRecursion P (without_first p (x ∷ xs))
-    by true eb rest = rw eb all.1
-    by false eb rest = rw eb (all.0, rest)
+all_without P p (x ∷ xs) all = grind (arith, all_without P p xs all.1)
 
 module _ {K : Type 0} {cmp : K → K → Ordering} (o : IsTotalOrder cmp) where
   -- the first that passes a test is at its own key, and nothing else is
@@ -56,8 +46,7 @@ module _ {K : Type 0} {cmp : K → K → Ordering} (o : IsTotalOrder cmp) where
   found_all P p (d ∷ es) e all is = by_test (p d) all is (λ rest more. found_all P p es e rest more)
     where
       by_test : (b : Bool) → AllByRecursion P (d ∷ es) → (if b then Some d else find p es) ≡ Some e → (AllByRecursion P es → find p es ≡ Some e → P e) → P e
-      by_test true all is rest = let same : d ≡ e = cc in subst P same all.0
-      by_test false all is rest = rest all.1 is
+      by_test b all is rest = grind arith
 
   abbrev pub Found : (K × Entry → Bool) → List (K × Entry) → K × Entry → Type 0
   Found p es e = (p e ≡ true) × (lookup (is_at (cmp e.0)) es ≡ Some e.1) × (without_first p es ≡ remove_entry (is_at (cmp e.0)) es)
@@ -67,23 +56,14 @@ module _ {K : Type 0} {cmp : K → K → Ordering} (o : IsTotalOrder cmp) where
   found p (d ∷ es) e ordered is = by_test (p d) refl is (λ more. found p es e ordered.1 more)
     where
       by_test : (b : Bool) → p d ≡ b → (if b then Some d else find p es) ≡ Some e → (find p es ≡ Some e → Found p es e) → Found p (d ∷ es) e
-      by_test true here is rest =
-          let same : d ≡ e = cc in
-          let itself = same_itself o d.0 in
-          subst (Found p (d ∷ es)) same (here, simp itself, simp (here, itself))
-      by_test false other is rest =
-          let f = rest is in
-          let less = found_all (λ x. cmp d.0 x.0 ≡ Less) p es e ordered.0 is in
-          let greater : cmp e.0 d.0 ≡ Greater = o.antisymm e.0 d.0 ∙ ap ordering_reverse less in
-          (f.0, simp (greater, f.1), simp (other, greater, f.2))
+      by_test b here is rest = grind (arith, same_itself, found_all)
 
   pub none_found : (p : K × Entry → Bool) (es : List (K × Entry)) → find p es ≡ None → without_first p es ≡ es
   none_found p [] is = refl
   none_found p (d ∷ es) is = by_test (p d) refl is (λ more. none_found p es more)
     where
       by_test : (b : Bool) → p d ≡ b → (if b then Some d else find p es) ≡ None → (find p es ≡ None → without_first p es ≡ es) → without_first p (d ∷ es) ≡ d ∷ es
-      by_test true here is rest = cc
-      by_test false other is rest = let more = rest is in simp (other, more)
+      by_test b here is rest = grind arith
 
   none_passes : (k : K) (w : Entry) → ((x : K) → is_at (cmp k) x ≡ true → x ≡ k) → (p : K × Entry → Bool) (es : List (K × Entry)) → find p es ≡ None → lookup (is_at (cmp k)) es ≡ Some w → p (k, w) ≡ false
   none_passes k w same p [] is held = cc
@@ -91,34 +71,18 @@ module _ {K : Type 0} {cmp : K → K → Ordering} (o : IsTotalOrder cmp) where
     where
       by_test : (b c : Bool) → p d ≡ b → is_at (cmp k) d.0 ≡ c → (if b then Some d else find p es) ≡ None → (if c then Some d.1 else lookup (is_at (cmp k)) es) ≡ Some w
           → (find p es ≡ None → lookup (is_at (cmp k)) es ≡ Some w → p (k, w) ≡ false) → p (k, w) ≡ false
-      by_test true c here it is held rest = cc
-      by_test false true other it is held rest =
-          let key : d.0 ≡ k = same d.0 it in
-          let value : d.1 ≡ w = cc in
-          subst (λ v. p (k, v) ≡ false) value (subst (λ x. p (x, d.1) ≡ false) key other)
-      by_test false false other it is held rest = rest is held
+      by_test b c here it is held rest = grind arith
 
   ordered_without : (p : K × Entry → Bool) (es : List (K × Entry)) → IsOrdered cmp es → IsOrdered cmp (without_first p es)
   ordered_without p [] ordered = tt
-  ordered_without p (e ∷ es) ordered = by (p e) refl (ordered_without p es ordered.1)
-    where
-      by : (b : Bool) → p e ≡ b → IsOrdered cmp (without_first p es) → IsOrdered cmp (without_first p (e ∷ es))
-      by true eb rest = rw eb ordered.1
-      by false eb rest = rw eb (all_without (λ d. cmp e.0 d.0 ≡ Less) p es ordered.0, rest)
+  ordered_without p (e ∷ es) ordered = grind (arith, ordered_without p es ordered.1, all_without)
 
   fewer_without : (p : K × Entry → Bool) (es : List (K × Entry)) → length (without_first p es) ≤ length es
   fewer_without p [] = omega arith
-  fewer_without p (e ∷ es) = by (p e) refl (fewer_without p es)
-    where
-      by : (b : Bool) → p e ≡ b → length (without_first p es) ≤ length es → length (without_first p (e ∷ es)) ≤ length (e ∷ es)
-      by true eb rest = rw eb (omega arith)
-      by false eb rest = rw eb (omega (arith, rest))
+  fewer_without p (e ∷ es) = grind (arith, fewer_without p es)
 
   pub map_without : (s : SlotMap K) (p : K × Entry → Bool) → IsMap cmp s → IsMap cmp (without s p)
-  map_without s p map = record {
-    ordered = ordered_without p s.entries map.ordered;
-    within = let fewer = fewer_without p s.entries in let within = map.within in omega (arith, fewer, within);
-  }
+  map_without s p map = grind (arith, ordered_without, fewer_without)
 
   releases : (s : SlotMap K) (k : K) → IsMap cmp s → Changes cmp s (released cmp s k) k None
   releases s k map = changes_of s (released cmp s k) k None map (released_keeps o s k map.ordered) (released_here o s k map.ordered)

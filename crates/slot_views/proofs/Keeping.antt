@@ -1,13 +1,12 @@
 -- Each step on the map leaves all entries but the key's own.
-use Rattle.std.proofs.Common.{◌≡◌, ℕ, suc, ◌≤◌, ◌==◌, Bool, true, false, not, if◌then◌else◌, List, [], ◌∷◌, length, refl, sym, ◌∙◌, ap, subst, Option, Some, None, IsSome, arith}
+use Rattle.std.proofs.Common.{◌≡◌, ℕ, suc, ◌≤◌, Bool, true, false, not, if◌then◌else◌, List, [], ◌∷◌, length, refl, ◌∙◌, Option, Some, None, IsSome, arith}
 use Rattle.std.proofs.lemmas.Bool.{eqb-false}
 use Rattle.std.specs.List.{AllByRecursion}
 use Rattle.std.specs.Cmp.{IsTotalOrder}
 use Rattle.std.specs.declared.cmp.Ordering.{Ordering}
-use Rattle.std.specs.declared.cmp.Ordering.TheVariants.{Less, Equal, Greater}
 use Rattle.std.specs.BTreeMap.{is_at, insert_entry}
 use Rattle.std.proofs.lemmas.Map.{length-set_value}
-use Rattle.slot_views.specs.Slots.{Entry, SlotMap, IsOrdered, IsMap, Changes, grown, is_complete, entry_at, is_held, is_full, released, added, changed, begun_after, grown_from, grown_after}
+use Rattle.slot_views.specs.Slots.{Entry, SlotMap, IsOrdered, IsMap, Changes, entry_at, is_full, released, added, changed, begun_after, grown_after}
 use Rattle.slot_views.specs.Traces.{if_incomplete, grown_entry}
 use Rattle.slot_views.proofs.Steps.{released_absent}
 use Rattle.slot_views.proofs.Tied.{all_removed, all_written, all_inserted, same_itself, removed_at, written_at, inserted_at, ordered_removed, ordered_written, ordered_inserted}
@@ -24,12 +23,7 @@ pub record Keeps {K : Type 0} (cmp : K → K → Ordering) (s : SlotMap K) (k : 
 
 -- so a map is changed at its key alone
 pub changes_of : {K : Type 0} {cmp : K → K → Ordering} (s t : SlotMap K) (k : K) (e : Option Entry) → IsMap cmp s → Keeps cmp s k t → entry_at cmp t k ≡ e → Changes cmp s t k e
-changes_of s t k e map keeps here = record {
-  here = here;
-  others = keeps.others;
-  limit = keeps.limit;
-  map = record { ordered = keeps.ordered; within = subst (λ l. length t.entries ≤ l) (sym keeps.limit) (keeps.within map.within) };
-}
+changes_of s t k e map keeps here = grind arith
 
 module _ {K : Type 0} {cmp : K → K → Ordering} (o : IsTotalOrder cmp) (s : SlotMap K) (k : K) (sorted : IsOrdered cmp s.entries) where
   pub same_keeps : Keeps cmp s k s
@@ -43,11 +37,7 @@ module _ {K : Type 0} {cmp : K → K → Ordering} (o : IsTotalOrder cmp) (s : S
   released_others j other = removed_at o k j s.entries sorted ∙ rw other refl
 
   released_within : length (released cmp s k).entries ≤ length s.entries
-  released_within = by (is_held cmp s k) refl
-    where
-      by : (b : Bool) → is_held cmp s k ≡ b → length (released cmp s k).entries ≤ length s.entries
-      by true held = let fewer = released_fewer cmp s k held in omega (arith, fewer)
-      by false absent = let same = ap (λ (t : SlotMap K). length t.entries) (released_absent cmp s k absent) in omega (arith, same)
+  released_within = grind (arith, released_fewer, released_absent)
 
   pub released_keeps : Keeps cmp s k (released cmp s k)
   released_keeps = record {
@@ -76,27 +66,14 @@ module _ {K : Type 0} {cmp : K → K → Ordering} (o : IsTotalOrder cmp) (s : S
 
   -- with a new entry at the key
   inserted_by : (e : K × Entry) (es : List (K × Entry)) (v : Entry) (r : Ordering) → cmp k e.0 ≡ r → length (insert_entry cmp es k v) ≤ suc (length es) → length (insert_entry cmp (e ∷ es) k v) ≤ suc (length (e ∷ es))
-  inserted_by e es v Less is rest = rw is (omega arith)
-  inserted_by e es v Equal is rest = rw is (omega arith)
-  inserted_by e es v Greater is rest = rw is (omega (arith, rest))
+  inserted_by e es v r is rest = grind arith
 
   inserted_length : (v : Entry) (es : List (K × Entry)) → length (insert_entry cmp es k v) ≤ suc (length es)
   inserted_length v [] = omega arith
   inserted_length v (e ∷ es) = inserted_by e es v _ refl (inserted_length v es)
 
   added_within : (v : Entry) → is_full cmp s k ≡ false → length s.entries ≤ s.limit → length (added cmp (released cmp s k) k v).entries ≤ s.limit
-  added_within v room le = by (is_held cmp s k) refl
-    where
-      more : length (added cmp (released cmp s k) k v).entries ≤ suc (length (released cmp s k).entries)
-      more = inserted_length v (released cmp s k).entries
-
-      by : (b : Bool) → is_held cmp s k ≡ b → length (added cmp (released cmp s k) k v).entries ≤ s.limit
-      by true held = let fewer = released_fewer cmp s k held in omega (arith, fewer, more, le)
-      by false absent =
-          let same = ap (λ (t : SlotMap K). length t.entries) (released_absent cmp s k absent) in
-          let apart : (length s.entries == s.limit) ≡ false = rw absent at room in
-          let fewer = eqb-false _ _ apart in
-          omega (arith, fewer, same, more, le)
+  added_within v room le = grind (arith, inserted_length, released_fewer, released_absent, eqb-false)
 
   added_keeps : (v : Entry) → is_full cmp s k ≡ false → Keeps cmp s k (added cmp (released cmp s k) k v)
   added_keeps v room = record {
@@ -112,51 +89,18 @@ module _ {K : Type 0} {cmp : K → K → Ordering} (o : IsTotalOrder cmp) (s : S
 
   -- an opening
   pub begun_keeps : (e : Entry) → Keeps cmp s k (begun_after cmp s k e)
-  begun_keeps e = by (is_full cmp s k) (is_complete e) refl refl
-    where
-      by : (f c : Bool) → is_full cmp s k ≡ f → is_complete e ≡ c → Keeps cmp s k (begun_after cmp s k e)
-      by true c ef ec = rw ef same_keeps
-      by false true ef ec = rw (ef, ec) released_keeps
-      by false false ef ec = rw (ef, ec) (added_keeps e ef)
+  begun_keeps e = grind (arith, same_keeps, released_keeps, added_keeps)
 
   full_absent : is_full cmp s k ≡ true → entry_at cmp s k ≡ None
-  full_absent full = by (entry_at cmp s k) refl
-    where
-      by : (e : Option Entry) → entry_at cmp s k ≡ e → entry_at cmp s k ≡ None
-      by None is = is
-      by (Some e) is = let room : is_full cmp s k ≡ false = rw is refl in cc
+  full_absent full = grind arith
 
   pub begun_here : (e : Entry) → entry_at cmp (begun_after cmp s k e) k ≡ (if not (is_full cmp s k) then if_incomplete e else None)
-  begun_here e = by (is_full cmp s k) (is_complete e) refl refl
-    where
-      by : (f c : Bool) → is_full cmp s k ≡ f → is_complete e ≡ c → entry_at cmp (begun_after cmp s k e) k ≡ (if not (is_full cmp s k) then if_incomplete e else None)
-      by true c ef ec = rw ef (full_absent ef)
-      by false true ef ec = rw (ef, ec) released_here
-      by false false ef ec = rw (ef, ec) (added_here e)
+  begun_here e = grind (arith, full_absent, released_here, added_here)
 
   -- a growth
   module _ (next : ℕ) (piece : List ℕ) (moment gap : ℕ) where
     pub grown_keeps : Keeps cmp s k (grown_after cmp s k next piece moment gap)
-    grown_keeps = by (entry_at cmp s k) refl
-      where
-        held : (e : Entry) (n c : Bool) → entry_at cmp s k ≡ Some e → (e.next == next) ≡ n → is_complete (grown e piece moment gap) ≡ c → Keeps cmp s k (grown_from cmp s k next piece moment gap (Some e))
-        held e false c is en ec = rw en released_keeps
-        held e true true is en ec = rw (en, ec) released_keeps
-        held e true false is en ec = rw (en, ec) (changed_keeps (grown e piece moment gap) (rw is refl))
-
-        by : (e : Option Entry) → entry_at cmp s k ≡ e → Keeps cmp s k (grown_after cmp s k next piece moment gap)
-        by None is = rw is same_keeps
-        by (Some e) is = rw is (held e _ _ is refl refl)
+    grown_keeps = grind (arith, released_keeps, changed_keeps, same_keeps)
 
     pub grown_here : entry_at cmp (grown_after cmp s k next piece moment gap) k ≡ grown_entry next piece moment gap (entry_at cmp s k)
-    grown_here = by (entry_at cmp s k) refl
-      where
-        held : (e : Entry) (n c : Bool) → entry_at cmp s k ≡ Some e → (e.next == next) ≡ n → is_complete (grown e piece moment gap) ≡ c
-            → entry_at cmp (grown_from cmp s k next piece moment gap (Some e)) k ≡ grown_entry next piece moment gap (Some e)
-        held e false c is en ec = rw en released_here
-        held e true true is en ec = rw (en, ec) released_here
-        held e true false is en ec = rw (en, ec) (changed_here (grown e piece moment gap) (rw is refl))
-
-        by : (e : Option Entry) → entry_at cmp s k ≡ e → entry_at cmp (grown_after cmp s k next piece moment gap) k ≡ grown_entry next piece moment gap (entry_at cmp s k)
-        by None is = ap (λ e. entry_at cmp (grown_from cmp s k next piece moment gap e) k) is ∙ (is ∙ ap (grown_entry next piece moment gap) (sym is))
-        by (Some e) is = ap (λ e. entry_at cmp (grown_from cmp s k next piece moment gap e) k) is ∙ (held e _ _ is refl refl ∙ ap (grown_entry next piece moment gap) (sym is))
+    grown_here = grind (arith, released_here, changed_here)

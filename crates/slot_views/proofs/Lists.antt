@@ -54,7 +54,4 @@ module _ {X : Type 0} (P Q : X → Type 0) (step : (x : X) → P x → Q x) wher
 
 -- the room that is left after one more piece
 pub room_left : (len more next need piece cap : ℕ) → next + 1 < need → more ≤ piece → len + (need - next) * piece ≤ cap → (len + more) + (need - (next + 1)) * piece ≤ cap
-room_left len more next need piece cap awaits fits room =
-    let left : need - next ≡ (need - (next + 1)) + 1 = omega arith in
-    let split : len + ((need - (next + 1)) + 1) * piece ≤ cap = rw left at room in
-    omega (arith, split)
+room_left len more next need piece cap awaits fits room = grind arith

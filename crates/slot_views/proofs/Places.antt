@@ -1,5 +1,5 @@
 -- What a search among slots in the order of their keys finds.
-use Rattle.std.proofs.Common.{◌≡◌, ℕ, zero, suc, ◌<◌, ◌≤◌, List, [], ◌∷◌, length, get_or, take, drop, true, false, not, Result, Ok, Err, IfOk, IfErr, refl, sym, ◌∙◌, ap, arith}
+use Rattle.std.proofs.Common.{◌≡◌, ℕ, zero, suc, ◌<◌, ◌≤◌, List, [], ◌∷◌, length, get_or, take, drop, true, false, Result, IfOk, IfErr, refl, sym, ◌∙◌, ap, arith}
 use Rattle.std.proofs.Math.Bool.{and-false}
 use Rattle.std.specs.List.{AllByRecursion, remove}
 use Rattle.std.proofs.lemmas.List.{get_or_default, get_or-map, length-map}
@@ -7,7 +7,7 @@ use Rattle.std.proofs.lemmas.List.Edits.{length-remove}
 use Rattle.std.specs.Cmp.{IsTotalOrder}
 use Rattle.std.specs.declared.cmp.Ordering.{Ordering}
 use Rattle.std.specs.declared.cmp.Ordering.TheVariants.{Less, Equal, Greater}
-use Rattle.std.specs.Ordering.{ordering_reverse, is_gt, is_eq}
+use Rattle.std.specs.Ordering.{is_gt, is_eq}
 use Rattle.slot_views.specs.declared.slot.Slot.{Slot}
 use Rattle.slot_views.specs.Slots.{Entry, IsOrdered}
 use Rattle.slot_views.specs.Places.{Below, Above, IsHeldAt, StandsAt}
@@ -15,15 +15,12 @@ use Rattle.slot_views.specs.Shelf.{entry_of, entries_of, NotBelow, IsAt, IsGap, 
 use Rattle.slot_views.specs.Slots.{is_between}
 
 pub is_equal : (r : Ordering) → is_eq r ≡ true → r ≡ Equal
-is_equal Less is = cc
-is_equal Equal is = refl
-is_equal Greater is = cc
+is_equal r is = grind arith
 
 module _ {K : Type 0} {cmp : K → K → Ordering} (o : IsTotalOrder cmp) where
   -- what is greater than a key is greater than each lesser one
   above_lesser : (k x y : K) → cmp k y ≡ Greater → cmp x y ≡ Less → cmp k x ≡ Greater
-  above_lesser k x y above lesser =
-      o.antisymm k x ∙ ap ordering_reverse (o.trans x y k lesser (o.antisymm y k ∙ ap ordering_reverse above))
+  above_lesser k x y above lesser = grind arith
 
   -- the first key is less than the one at a place
   first_lesser : (x : Slot K) (xs : List (Slot K)) (i : ℕ) (d : Slot K) → AllByRecursion (λ e. cmp x.key e.0 ≡ Less) (entries_of xs) → i < length xs → cmp x.key (get_or xs i d).key ≡ Less
@@ -35,8 +32,7 @@ module _ {K : Type 0} {cmp : K → K → Ordering} (o : IsTotalOrder cmp) where
   pub below_from : (k : K) (xs : List (Slot K)) (i : ℕ) (d : Slot K) → IsOrdered cmp (entries_of xs) → i < length xs → cmp k (get_or xs i d).key ≡ Greater → Below cmp k (entries_of xs) (suc i)
   below_from k [] i d ordered in_range above = absurd (omega arith)
   below_from k (x ∷ xs) zero d ordered in_range above = (above, tt)
-  below_from k (x ∷ xs) (suc i) d ordered in_range above =
-      (above_lesser k x.key (get_or xs i d).key above (first_lesser x xs i d ordered.0 (omega arith)), below_from k xs i d ordered.1 (omega arith) above)
+  below_from k (x ∷ xs) (suc i) d ordered in_range above = grind (arith, below_from k xs i d ordered.1 (omega arith) above, above_lesser, first_lesser)
 
   -- and those from one with a greater key on have greater keys
   all_above : (k x : K) (xs : List (Slot K)) → cmp k x ≡ Less → AllByRecursion (λ e. cmp x e.0 ≡ Less) (entries_of xs) → AllByRecursion (λ e. cmp k e.0 ≡ Less) (entries_of xs)
@@ -52,16 +48,11 @@ module _ {K : Type 0} {cmp : K → K → Ordering} (o : IsTotalOrder cmp) where
   pub below_equal : (k : K) (xs : List (Slot K)) (i : ℕ) (d : Slot K) → IsOrdered cmp (entries_of xs) → i < length xs → cmp k (get_or xs i d).key ≡ Equal → Below cmp k (entries_of xs) i
   below_equal k [] i d ordered in_range equal = absurd (omega arith)
   below_equal k (x ∷ xs) zero d ordered in_range equal = tt
-  below_equal k (x ∷ xs) (suc i) d ordered in_range equal =
-      (o.congr k (get_or xs i d).key x.key equal ∙ (o.antisymm (get_or xs i d).key x.key ∙ ap ordering_reverse (first_lesser x xs i d ordered.0 (omega arith))), below_equal k xs i d ordered.1 (omega arith) equal)
+  below_equal k (x ∷ xs) (suc i) d ordered in_range equal = grind (arith, below_equal k xs i d ordered.1 (omega arith) equal, first_lesser)
 
   -- a slot that was read at its place, and whose key is equal
   pub equal_at : (k : K) (xs : List (Slot K)) (i : ℕ) (d : Slot K) → IsOrdered cmp (entries_of xs) → i < length xs → cmp k (get_or xs i d).key ≡ Equal → IsAt cmp k xs i
-  equal_at k xs i d ordered in_range equal = record {
-    in_range = in_range;
-    below = below_equal k xs i d ordered in_range equal;
-    here = λ e. rw (get_or_default xs i e d in_range) equal;
-  }
+  equal_at k xs i d ordered in_range equal = grind (arith, below_equal, get_or_default)
 
   -- the keys after one that is equal are greater
   all_after : (k x : K) (xs : List (Slot K)) → cmp k x ≡ Equal → AllByRecursion (λ e. cmp x e.0 ≡ Less) (entries_of xs) → AllByRecursion (λ e. cmp k e.0 ≡ Less) (entries_of xs)
@@ -106,14 +97,11 @@ module _ {K : Type 0} {cmp : K → K → Ordering} (o : IsTotalOrder cmp) where
 
   -- keys above a key that is above high
   beyond : (high x y : K) → cmp x high ≡ Greater → cmp x y ≡ Less → cmp y high ≡ Greater
-  beyond high x y above lesser =
-      o.antisymm y high ∙ ap ordering_reverse (o.trans high x y (o.antisymm high x ∙ ap ordering_reverse above) lesser)
+  beyond high x y above lesser = grind arith
 
   all_beyond : (low high x : K) (xs : List (Slot K)) → cmp x high ≡ Greater → AllByRecursion (λ e. cmp x e.0 ≡ Less) (entries_of xs) → NoneShows (is_between cmp low high) xs
   all_beyond low high x [] above all = tt
-  all_beyond low high x (y ∷ xs) above all =
-      let far : is_gt (cmp y.key high) ≡ true = ap is_gt (beyond high x y.key above all.0) in
-      (rw far (and-false (not (is_gt (cmp low y.key)))), all_beyond low high x xs above all.1)
+  all_beyond low high x (y ∷ xs) above all = grind (arith, all_beyond low high x xs above all.1, beyond, and-false)
 
   -- the least key from low on decides
   pub first_between : (low high : K) (xs : List (Slot K)) (i : ℕ) (d : Slot K) → i < length xs → Below cmp low (entries_of xs) i → NotBelow cmp low xs i → is_gt (cmp (get_or xs i d).key high) ≡ false → IsFirst (is_between cmp low high) xs i
@@ -135,9 +123,7 @@ module _ {K : Type 0} {cmp : K → K → Ordering} (o : IsTotalOrder cmp) where
 
   pub none_between : (low high : K) (xs : List (Slot K)) (i : ℕ) (d : Slot K) → IsOrdered cmp (entries_of xs) → i < length xs → Below cmp low (entries_of xs) i → cmp (get_or xs i d).key high ≡ Greater → NoneShows (is_between cmp low high) xs
   none_between low high [] i d ordered in_range below above = absurd (omega arith)
-  none_between low high (x ∷ xs) zero d ordered in_range below above =
-      let far : is_gt (cmp x.key high) ≡ true = ap is_gt above in
-      (rw far (and-false (not (is_gt (cmp low x.key)))), all_beyond low high x.key xs above ordered.0)
+  none_between low high (x ∷ xs) zero d ordered in_range below above = grind (arith, and-false, all_beyond)
   none_between low high (x ∷ xs) (suc i) d ordered in_range below above = (rw below.0 refl, none_between low high xs i d ordered.1 (omega arith) below.1 above)
 
   pub none_between_below : (low high : K) (xs : List (Slot K)) (i : ℕ) → length xs ≤ i → Below cmp low (entries_of xs) i → NoneShows (is_between cmp low high) xs
@@ -165,13 +151,10 @@ module _ {K : Type 0} (cmp : K → K → Ordering) (k : K) where
       }
 
   pub stands : (xs : List (Slot K)) (r : Result ℕ ℕ) → IfOk r (IsAt cmp k xs) → IfErr r (IsGap cmp k xs) → StandsAt cmp k (entries_of xs) r
-  stands xs (Ok i) found absent = held_shown xs i found
-  stands xs (Err i) found absent = record { in_range = omega (arith, length-map xs entry_of, absent.in_range); below = absent.below; above = absent.above }
+  stands xs r found absent = grind (arith, held_shown, length-map)
 
   pub found_from : (xs : List (Slot K)) (r : Result ℕ ℕ) → StandsAt cmp k (entries_of xs) r → IfOk r (IsAt cmp k xs)
-  found_from xs (Ok i) stands = slot_held xs i stands
-  found_from xs (Err i) stands = tt
+  found_from xs r stands = grind (arith, stands, slot_held)
 
   pub absent_from : (xs : List (Slot K)) (r : Result ℕ ℕ) → StandsAt cmp k (entries_of xs) r → IfErr r (IsGap cmp k xs)
-  absent_from xs (Ok i) stands = tt
-  absent_from xs (Err i) stands = record { in_range = omega (arith, length-map xs entry_of, stands.in_range); below = stands.below; above = stands.above }
+  absent_from xs r stands = grind (arith, stands, length-map)

@@ -1,5 +1,5 @@
 -- Up to when no slot expires.
-use Rattle.std.proofs.Common.{◌≡◌, ℕ, zero, suc, ◌+◌, ◌<◌, ◌≤◌, min, List, [], ◌∷◌, length, get_or, take, refl, ◌∙◌, ap, arith}
+use Rattle.std.proofs.Common.{◌≡◌, ℕ, zero, suc, ◌+◌, ◌<◌, ◌≤◌, min, List, [], ◌∷◌, length, get_or, take, refl, arith}
 use Rattle.std.specs.List.{AllByRecursion}
 use Rattle.slot_views.specs.declared.slot.Slot.{Slot}
 use Rattle.slot_views.specs.Shelf.{quiet_of}
@@ -17,8 +17,7 @@ module _ {K : Type 0} where
   unfolding quiet_of
   quiet_more [] i d in_range = absurd (omega arith)
   quiet_more (x ∷ xs) zero d in_range = omega arith
-  quiet_more (x ∷ xs) (suc i) d in_range =
-      ap (λ n. min (x.last + x.gap) n) (quiet_more xs i d (omega arith)) ∙ least_of_three (x.last + x.gap) (quiet_of (take i xs)) ((get_or xs i d).last + (get_or xs i d).gap)
+  quiet_more (x ∷ xs) (suc i) d in_range = grind (arith, quiet_more xs i d (omega arith), least_of_three)
 
   -- none expires up to then
   pub quiet_all : (until : ℕ) (xs : List (Slot K)) → until ≤ quiet_of xs → AllByRecursion (λ s. until ≤ s.last + s.gap) xs

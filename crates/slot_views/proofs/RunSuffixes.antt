@@ -1,5 +1,5 @@
 -- There is one open prefix at most, and one run.
-use Rattle.std.proofs.Common.{◌≡◌, ℕ, Bool, true, false, if◌then◌else◌, List, [], ◌∷◌, ◌++◌, Option, Some, None, refl, sym, ◌∙◌, ap, subst}
+use Rattle.std.proofs.Common.{◌≡◌, ℕ, Bool, true, false, if◌then◌else◌, List, [], ◌∷◌, ◌++◌, Option, Some, None, refl, sym, ◌∙◌, ap, subst, arith}
 use Rattle.slot_views.specs.Runs.{Rules, is_whole, is_admitted, in_time, accepted_more, accepted_after, accepted, IsOpen, IsRun, since_opener, if_open, if_whole, kept_at, open_at, run_of}
 use Rattle.slot_views.specs.RunLaws.{IsLawful, OneSuffix}
 
@@ -11,8 +11,7 @@ module _ {X : Type 0} (r : Rules X) where
 
   parts_by : (x : X) (xs : List X) (b : Bool) → r.opens x ≡ b → xs ≡ since_opener r xs ++ older_of xs → x ∷ xs ≡ since_opener r (x ∷ xs) ++ older_of (x ∷ xs)
   unfolding older_of
-  parts_by x xs true here rest = simp here
-  parts_by x xs false here rest = rw here (ap {B = List X} (λ l. x ∷ l) rest)
+  parts_by x xs b here rest = grind arith
 
   parts : (h : List X) → h ≡ since_opener r h ++ older_of h
   unfolding older_of
@@ -21,8 +20,7 @@ module _ {X : Type 0} (r : Rules X) where
 
   -- what is open was accepted, and so on
   kept_from : (acc a : List X) (m : ℕ) (t : Bool) → in_time r a m ≡ t → kept_at r (Some a) m ≡ Some acc → (a ≡ acc) × (in_time r a m ≡ true)
-  kept_from acc a m true timely kept = let same : Some a ≡ Some acc = rw timely at kept in (cc, timely)
-  kept_from acc a m false timely kept = let same : None ≡ Some acc = rw timely at kept in cc
+  kept_from acc a m t timely kept = grind arith
 
   open_from : (acc a : List X) (m : ℕ) (d w : Bool) → is_admitted r a ≡ d → is_whole r a ≡ w → kept_at r (if_open r (Some a)) m ≡ Some acc
       → (a ≡ acc) × (is_admitted r a ≡ true) × (is_whole r a ≡ false) × (in_time r a m ≡ true)
@@ -31,9 +29,7 @@ module _ {X : Type 0} (r : Rules X) where
   open_from acc a m false w ed ew kept = let none : None ≡ Some acc = simp ed at kept in cc
 
   whole_from : (acc a : List X) (d w : Bool) → is_admitted r a ≡ d → is_whole r a ≡ w → if_whole r (Some a) ≡ Some acc → (a ≡ acc) × (is_admitted r a ≡ true) × (is_whole r a ≡ true)
-  whole_from acc a true true ed ew whole = let same : Some a ≡ Some acc = simp (ed, ew) at whole in (cc, ed, ew)
-  whole_from acc a true false ed ew whole = let none : None ≡ Some acc = simp (ed, ew) at whole in cc
-  whole_from acc a false w ed ew whole = let none : None ≡ Some acc = simp ed at whole in cc
+  whole_from acc a d w ed ew whole = grind arith
 
   open_given : (h acc : List X) (m : ℕ) (o : Option (List X)) → accepted r (since_opener r h) ≡ o → kept_at r (if_open r o) m ≡ Some acc → IsOpen r h m (since_opener r h) acc
   open_given h acc m None is kept = cc
@@ -52,23 +48,18 @@ module _ {X : Type 0} (r : Rules X) where
   module _ (law : IsLawful r) where
     -- an opener follows nothing
     never_more : (a : List X) (x : X) (t : Bool) → in_time r a (r.moment x) ≡ t → r.opens x ≡ true → accepted_more r a x ≡ None
-    never_more a x false et opens = simp et
-    never_more a x true et opens = let new = law.opener_is_new a x opens in simp (et, new.0, new.1)
+    never_more a x t et opens = grind arith
 
     -- a prefix begins at its only opener
     begins_by : (x : X) (p older acc : List X) (o : Option (List X)) (b : Bool) → r.opens x ≡ b → accepted_after r o x ≡ Some acc → since_opener r (p ++ older) ≡ p → since_opener r (x ∷ (p ++ older)) ≡ x ∷ p
-    begins_by x p older acc None b here prefix rest = cc
-    begins_by x p older acc (Some a) true here prefix rest = let none : None ≡ Some acc = sym (never_more a x _ refl here) ∙ prefix in cc
-    begins_by x p older acc (Some a) false here prefix rest = rw here (ap {B = List X} (λ l. x ∷ l) rest)
+    begins_by x p older acc o b here prefix rest = grind (arith, never_more)
 
     first_by : (x : X) (older acc : List X) (b : Bool) → r.opens x ≡ b → accepted r (x ∷ []) ≡ Some acc → since_opener r (x ∷ older) ≡ x ∷ []
-    first_by x older acc true here prefix = simp here
-    first_by x older acc false here prefix = let none : None ≡ Some acc = simp here at prefix in cc
+    first_by x older acc b here prefix = grind arith
 
     -- what a prefix of a prefix has accepted
     shorter : (x y : X) (ys acc : List X) (o : Option (List X)) → accepted r (y ∷ ys) ≡ o → accepted_after r o x ≡ Some acc → (a : List X) × (accepted r (y ∷ ys) ≡ Some a)
-    shorter x y ys acc None is prefix = let none : None ≡ Some acc = prefix in cc
-    shorter x y ys acc (Some a) is prefix = (a, is)
+    shorter x y ys acc o is prefix = grind arith
 
     begins : (p older acc : List X) → accepted r p ≡ Some acc → since_opener r (p ++ older) ≡ p
     begins [] older acc prefix = cc
@@ -84,10 +75,7 @@ module _ {X : Type 0} (r : Rules X) where
         (same, simp (is, o.admitted, o.awaits, o.timely))
 
     run_found : (h p acc : List X) → IsRun r h p acc → (p ≡ since_opener r h) × (run_of r h ≡ Some acc)
-    run_found h p acc o =
-        let same : p ≡ since_opener r h = sym (begins p o.older acc o.prefix) ∙ ap (since_opener r) (sym o.suffix) in
-        let is : accepted r (since_opener r h) ≡ Some acc = subst (λ l. accepted r l ≡ Some acc) same o.prefix in
-        (same, simp (is, o.admitted, o.whole))
+    run_found h p acc o = grind (arith, begins)
 
   pub one_suffix_of : IsLawful r → OneSuffix r
   one_suffix_of law = record {

@@ -1,5 +1,5 @@
 -- A shelf stands for a map after each edit.
-use Rattle.std.proofs.Common.{◌≡◌, ◌≢◌, ℕ, ◌+◌, ◌-◌, ◌*◌, ◌<◌, ◌≤◌, List, [], ◌∷◌, ◌++◌, length, get_or, set, refl, sym, ◌∙◌, ap, subst, Option, Some, arith}
+use Rattle.std.proofs.Common.{◌≡◌, ◌≢◌, ℕ, ◌+◌, ◌*◌, ◌<◌, ◌≤◌, List, [], ◌∷◌, ◌++◌, length, get_or, set, refl, sym, ◌∙◌, ap, subst, Option, Some, arith}
 use Rattle.std.specs.Vec.{vec_len, vec_capacity}
 use Rattle.std.specs.List.{AllByRecursion, insert}
 use Rattle.std.specs.Global.{Vec}
@@ -18,36 +18,19 @@ module _ {K : Type 0} {cap piece : ℕ} where
   -- the slot that shows one more piece has the room for the rest
   pub room_grown : (old new : Slot K) (more : List ℕ) (moment gap : ℕ) → HasRoom cap piece old → old.next + 1 < old.need → length more ≤ piece
       → entry_of new ≡ (old.key, grown (entry_of old).1 more moment gap) → vec_capacity old.bytes ≤ vec_capacity new.bytes → vec_len new.bytes ≡ vec_len old.bytes + length more → HasRoom cap piece new
-  room_grown old new more moment gap room awaits fits shows capacity len =
-      let next : new.next ≡ old.next + 1 = ap (λ e. e.1.next) shows in
-      let need : new.need ≡ old.need = ap (λ e. e.1.need) shows in
-      record {
-        reserved = omega (arith, room.reserved);
-        started = omega arith;
-        awaits = omega arith;
-        fits = rw (len, next, need) (room_left (vec_len old.bytes) (length more) old.next old.need piece cap awaits fits room.fits);
-      }
+  room_grown old new more moment gap room awaits fits shows capacity len = grind (arith, room_left)
 
   -- a slot has room for its next piece
   pub room_for_piece : (s : Slot K) → HasRoom cap piece s → vec_len s.bytes + piece ≤ vec_capacity s.bytes
-  room_for_piece s room =
-      let left : s.need - s.next ≡ (s.need - (s.next + 1)) + 1 = omega arith in
-      let fits : vec_len s.bytes + ((s.need - (s.next + 1)) + 1) * piece ≤ cap = rw left at room.fits in
-      omega (arith, fits, room.reserved)
+  room_for_piece s room = grind arith
 
   -- the slot with its first piece has the room for the rest
   pub room_opened : (s : Slot K) (more : List ℕ) → cap ≤ vec_capacity s.bytes → s.next ≡ 1 → 1 < s.need → vec_len s.bytes ≡ length more → length more ≤ piece → s.need * piece ≤ cap → HasRoom cap piece s
-  room_opened s more reserved next need len fits room =
-      let split : s.need ≡ (s.need - 1) + 1 = omega arith in
-      let whole : ((s.need - 1) + 1) * piece ≤ cap = rw split at room in
-      record { reserved = reserved; started = omega arith; awaits = omega arith; fits = rw (len, next) (omega (arith, whole)) }
+  room_opened s more reserved next need len fits room = grind arith
 
   -- the buffer that came last has the bytes
   pub finished_from : (new : Shelf K cap piece) (spare : List (Vec ℕ)) (last : Vec ℕ) (bytes : List ℕ) → new.spare.items ≡ spare ++ last ∷ [] → length spare + 1 ≡ vec_len new.spare → last.items ≡ bytes → HasFinished new bytes
-  finished_from new spare last bytes items len same = record {
-    some = omega arith;
-    last = λ d. ap (λ (xs : List (Vec ℕ)). (get_or xs (vec_len new.spare - 1) d).items) items ∙ (ap (λ (x : Vec ℕ). x.items) (get_or_push spare last d (vec_len new.spare - 1) (omega arith)) ∙ same);
-  }
+  finished_from new spare last bytes items len same = grind (arith, get_or_push)
 
   -- the map that a shelf stands for, by its parts
   pub seen_is : (old new : Shelf K cap piece) (es : List (K × Entry)) → new.limit ≡ old.limit → entries_of new.slots.items ≡ es → seen new ≡ with_entries (seen old) es
@@ -88,17 +71,7 @@ module _ {K : Type 0} {cap piece : ℕ} where
         → new.quiet_until ≤ old.quiet_until → new.quiet_until ≤ s.last + s.gap
         → new.limit ≡ old.limit → new.slots.items ≡ insert old.slots.items at s → vec_len new.slots ≡ vec_len old.slots + 1 → vec_capacity old.slots ≤ vec_capacity new.slots
         → vec_len new.spare + 1 ≡ vec_len old.spare → vec_capacity old.spare ≤ vec_capacity new.spare → AllByRecursion (λ b. cap ≤ vec_capacity b) new.spare.items → IsSound cmp new
-    sound_opened o old new at s sound gap room others this limit items len capacity spare_len spare_capacity spares = record {
-      limit_fits = rw limit sound.limit_fits;
-      cap_fits = sound.cap_fits;
-      buffers = omega (arith, sound.buffers);
-      slots_reserved = omega (arith, sound.slots_reserved);
-      spare_reserved = omega (arith, sound.spare_reserved);
-      rooms = rw items (all_insert (HasRoom cap piece) old.slots.items at s sound.rooms room);
-      spare_rooms = spares;
-      ordered = rw items (ordered_insert cmp o old.slots.items at s gap.below gap.above sound.ordered);
-      quiet = rw items (all_insert (λ x. new.quiet_until ≤ x.last + x.gap) old.slots.items at s (all_map (λ x. old.quiet_until ≤ x.last + x.gap) (λ x. new.quiet_until ≤ x.last + x.gap) (λ x h. omega (arith, h)) old.slots.items sound.quiet) this);
-    }
+    sound_opened o old new at s sound gap room others this limit items len capacity spare_len spare_capacity spares = grind (arith, all_insert, ordered_insert, all_map)
 
 -- the slot that was read at its place shows another entry now
 pub extends_from : {K : Type 0} (old : List (Slot K)) (i : ℕ) (s r : Slot K) (f : Entry → Entry) → i < length old → r ≡ get_or old i r → entry_of s ≡ (r.key, f (entry_of r).1)
@@ -109,9 +82,7 @@ extends_from {K} old i s r f in_range read shows d =
 
 -- what held of all held of those that are left, and of the one that was taken
 pub popped : {X : Type 0} (P : X → Type 0) (old new : List X) (taken : Option X) (x : X) → old ≡ new ++ option_to_list taken → taken ≡ Some x → AllByRecursion P old → AllByRecursion P new × P x
-popped P old new taken x items some all =
-    let whole = rw (items, some) at all in
-    (all_front P new (x ∷ []) whole, (all_back P new (x ∷ []) whole).0)
+popped P old new taken x items some all = grind (arith, all_front, all_back)
 
 pub slot_map_is : {K : Type 0} (limit : ℕ) (es fs : List (K × Entry)) → es ≡ fs → let s : SlotMap K = record { limit = limit; entries = es } in s ≡ with_entries s fs
 slot_map_is limit es fs same = rw same refl

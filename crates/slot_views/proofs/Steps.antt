@@ -1,5 +1,5 @@
 -- What each call makes of the map, by what is held at the key.
-use Rattle.std.proofs.Common.{◌≡◌, ◌≢◌, ℕ, zero, suc, ◌+◌, ◌<◌, Bool, true, false, List, [], ◌∷◌, length, get_or, refl, sym, ◌∙◌, ap, subst, Option, Some, None, is_some, option_map, IsSomeAnd, eq-eqb, arith}
+use Rattle.std.proofs.Common.{◌≡◌, ◌≢◌, ℕ, zero, suc, ◌+◌, ◌<◌, Bool, true, false, List, [], ◌∷◌, length, get_or, refl, sym, ◌∙◌, ap, Option, Some, None, is_some, option_map, IsSomeAnd, eq-eqb, arith}
 use Rattle.std.specs.List.{remove, find}
 use Rattle.std.specs.declared.cmp.Ordering.{Ordering}
 use Rattle.std.specs.Map.{lookup, remove_entry}
@@ -24,14 +24,10 @@ module _ {K : Type 0} (cmp : K → K → Ordering) (s : SlotMap K) (k : K) where
     grown_other e found other = let step : grown_from cmp s k next piece moment gap (Some e) ≡ released cmp s k = rw (ne_eqb e.next next other) refl in sym step ∙ by_entry (Some e) found
 
     pub grown_last : (e : Entry) → entry_at cmp s k ≡ Some e → e.next ≡ next → e.next + 1 ≡ e.need → released cmp s k ≡ grown_after cmp s k next piece moment gap
-    grown_last e found same last =
-        let step : grown_from cmp s k next piece moment gap (Some e) ≡ released cmp s k = rw (eq-eqb e.next next same, eq-eqb (e.next + 1) e.need last) refl in
-        sym step ∙ by_entry (Some e) found
+    grown_last e found same last = grind (arith, by_entry)
 
     pub grown_more : (e : Entry) → entry_at cmp s k ≡ Some e → e.next ≡ next → e.next + 1 ≢ e.need → changed cmp s k (grown e piece moment gap) ≡ grown_after cmp s k next piece moment gap
-    grown_more e found same more =
-        let step : grown_from cmp s k next piece moment gap (Some e) ≡ changed cmp s k (grown e piece moment gap) = rw (eq-eqb e.next next same, ne_eqb (e.next + 1) e.need more) refl in
-        sym step ∙ by_entry (Some e) found
+    grown_more e found same more = grind (arith, ne_eqb, by_entry)
 
   -- a fact on the entry, by the look-up
   pub on_entry : (P : Entry → Type 0) (e : Entry) → entry_at cmp s k ≡ Some e → P e → IsSomeAnd (entry_at cmp s k) P
@@ -50,18 +46,14 @@ module _ {K : Type 0} (cmp : K → K → Ordering) (s : SlotMap K) (k : K) where
   -- a key that isn't held leaves nothing behind
   absent_step : (e : K × Entry) (es : List (K × Entry)) (b : Bool) → is_at (cmp k) e.0 ≡ b → (lookup (is_at (cmp k)) es ≡ None → remove_entry (is_at (cmp k)) es ≡ es)
       → lookup (is_at (cmp k)) (e ∷ es) ≡ None → remove_entry (is_at (cmp k)) (e ∷ es) ≡ e ∷ es
-  absent_step e es true here rest none = let found : Some e.1 ≡ None = rw here at none in cc
-  absent_step e es false here rest none =
-      let later : lookup (is_at (cmp k)) es ≡ None = rw here at none in
-      rw here (ap {B = List (K × Entry)} (λ ds. e ∷ ds) (rest later))
+  absent_step e es b here rest none = grind arith
 
   remove_absent : (es : List (K × Entry)) → lookup (is_at (cmp k)) es ≡ None → remove_entry (is_at (cmp k)) es ≡ es
   remove_absent [] none = refl
   remove_absent (e ∷ es) none = absent_step e es (is_at (cmp k) e.0) refl (remove_absent es) none
 
   none_from_held : (o : Option Entry) → is_some o ≡ false → o ≡ None
-  none_from_held None h = refl
-  none_from_held (Some e) h = cc
+  none_from_held o h = grind arith
 
   pub released_absent : is_held cmp s k ≡ false → released cmp s k ≡ s
   released_absent absent = rw (remove_absent s.entries (none_from_held (entry_at cmp s k) absent)) refl
@@ -69,26 +61,10 @@ module _ {K : Type 0} (cmp : K → K → Ordering) (s : SlotMap K) (k : K) where
   module _ (t : SlotMap K) (replaced : Bool) (spare : ℕ) where
     -- with no buffer to spare the map is full, and else it isn't
     pub full_from : t ≡ released cmp s k → replaced ≡ is_held cmp s k → (replaced ≡ true → 0 < spare) → length t.entries + spare ≡ t.limit → spare ≡ 0 → (is_full cmp s k ≡ true) × (t ≡ s)
-    full_from after was room sum empty = by_held replaced refl
-      where
-        by_held : (b : Bool) → replaced ≡ b → (is_full cmp s k ≡ true) × (t ≡ s)
-        by_held true held = absurd (omega (arith, room held))
-        by_held false held =
-            let absent : is_held cmp s k ≡ false = sym was ∙ held in
-            let same : t ≡ s = after ∙ released_absent absent in
-            let all : length s.entries ≡ s.limit = subst (λ u. length u.entries ≡ u.limit) same (omega arith) in
-            (rw (absent, eq-eqb (length s.entries) s.limit all) refl, same)
+    full_from after was room sum empty = grind (arith, released_absent)
 
     pub room_from : t ≡ released cmp s k → replaced ≡ is_held cmp s k → length t.entries + spare ≡ t.limit → 0 < spare → is_full cmp s k ≡ false
-    room_from after was sum some = by_held replaced refl
-      where
-        by_held : (b : Bool) → replaced ≡ b → is_full cmp s k ≡ false
-        by_held true held = let present : is_held cmp s k ≡ true = sym was ∙ held in rw present refl
-        by_held false held =
-            let absent : is_held cmp s k ≡ false = sym was ∙ held in
-            let same : t ≡ s = after ∙ released_absent absent in
-            let fewer : length s.entries ≢ s.limit = subst (λ u. length u.entries ≢ u.limit) same (λ e. omega arith) in
-            rw (absent, ne_eqb (length s.entries) s.limit fewer) refl
+    room_from after was sum some = grind (arith, released_absent, ne_eqb)
 
 module _ {K : Type 0} (p : K × Entry → Bool) where
   -- the first slot that passes is what the look-up finds and what is taken out
@@ -100,8 +76,7 @@ module _ {K : Type 0} (p : K × Entry → Bool) where
   pub without_first_at : (xs : List (Slot K)) (i : ℕ) → IsFirst p xs i → without_first p (entries_of xs) ≡ entries_of (remove xs i)
   without_first_at [] i first = absurd (omega (arith, first.in_range))
   without_first_at (x ∷ xs) zero first = rw (first.here x) refl
-  without_first_at (x ∷ xs) (suc i) first =
-      rw first.before.0 (ap {B = List (K × Entry)} (λ es. entry_of x ∷ es) (without_first_at xs i (record { in_range = omega (arith, first.in_range); before = first.before.1; here = first.here })))
+  without_first_at (x ∷ xs) (suc i) first = grind (arith, without_first_at xs i (record { in_range = omega (arith, first.in_range); before = first.before.1; here = first.here }))
 
   pub find_none : (xs : List (Slot K)) → NoneShows p xs → find p (entries_of xs) ≡ None
   find_none [] none = refl
@@ -125,9 +100,7 @@ told_found cmp k f (x ∷ xs) i r at told = ap Some (told x) ∙ sym (ap (option
 
 -- what follows from a fact on the value, and where that names no value
 pub on_some : {X : Type 0} (o : Option X) (P Q : X → Type 0) → ((x : X) → P x → Q x) → IsSomeAnd o P → IsSomeAnd o Q
-on_some None P Q step holds = holds
-on_some (Some x) P Q step holds = step x holds
+on_some o P Q step holds = grind arith
 
 pub from_some : {X : Type 0} (o : Option X) (P : X → Type 0) (Q : Type 0) → ((x : X) → P x → Q) → IsSomeAnd o P → Q
-from_some None P Q step holds = absurd holds
-from_some (Some x) P Q step holds = step x holds
+from_some o P Q step holds = grind arith

@@ -1,5 +1,5 @@
 -- What the edits of a map with rising keys make of each key's entry.
-use Rattle.std.proofs.Common.{◌≡◌, ℕ, Bool, true, false, not, List, [], ◌∷◌, refl, ◌∙◌, ap, Some, None, IsSome, cond}
+use Rattle.std.proofs.Common.{◌≡◌, ℕ, Bool, true, false, not, List, [], ◌∷◌, refl, ◌∙◌, ap, Some, None, IsSome, cond, arith}
 use Rattle.std.specs.List.{AllByRecursion, IsDistinct, filter}
 use Rattle.std.specs.List.Sorted.{IsStrictlySortedBy}
 use Rattle.std.specs.Cmp.{IsTotalOrder}
@@ -11,7 +11,7 @@ use Rattle.std.specs.BTreeMap.{is_at, insert_entry}
 use Rattle.std.proofs.lemmas.Cmp.{eq_by_cmp_equiv}
 use Rattle.std.proofs.lemmas.Map.{lookup-remove_entry, lookup-set_value}
 use Rattle.std.proofs.lemmas.Map.Keys.{IsDistinct-from_sorted}
-use Rattle.slot_views.specs.Slots.{Entry, IsOrdered, has_expired, is_expired}
+use Rattle.slot_views.specs.Slots.{Entry, IsOrdered, has_expired}
 use Rattle.slot_views.specs.Traces.{left_at}
 
 module _ {K : Type 0} {cmp : K → K → Ordering} (o : IsTotalOrder cmp) where
@@ -52,25 +52,7 @@ module _ {K : Type 0} {cmp : K → K → Ordering} (o : IsTotalOrder cmp) where
   module _ (k j : K) (v : Entry) where
     inserted_by : (e : K × Entry) (es : List (K × Entry)) (r : Ordering) → cmp k e.0 ≡ r → lookup (is_at (cmp j)) (insert_entry cmp es k v) ≡ cond (is_at (cmp k) j) (Some v) (lookup (is_at (cmp j)) es)
         → lookup (is_at (cmp j)) (insert_entry cmp (e ∷ es) k v) ≡ cond (is_at (cmp k) j) (Some v) (lookup (is_at (cmp j)) (e ∷ es))
-    inserted_by e es Less is rest = rw (is, same_turned k j) refl
-    inserted_by e es Equal is rest =
-        let same : is_at (cmp k) e.0 ≡ true = rw is refl in
-        let turned : is_at (cmp k) j ≡ is_at (cmp j) e.0 = same_as k e.0 j same ∙ same_turned e.0 j in
-        equal (is_at (cmp j) e.0) refl turned
-      where
-        equal : (b : Bool) → is_at (cmp j) e.0 ≡ b → is_at (cmp k) j ≡ is_at (cmp j) e.0 → lookup (is_at (cmp j)) (insert_entry cmp (e ∷ es) k v) ≡ cond (is_at (cmp k) j) (Some v) (lookup (is_at (cmp j)) (e ∷ es))
-        equal true eb turned = rw (is, turned, eb) refl
-        equal false eb turned = rw (is, turned, eb) refl
-    inserted_by e es Greater is rest = greater (is_at (cmp k) j) (is_at (cmp j) e.0) refl refl
-      where
-        greater : (a b : Bool) → is_at (cmp k) j ≡ a → is_at (cmp j) e.0 ≡ b → lookup (is_at (cmp j)) (insert_entry cmp (e ∷ es) k v) ≡ cond (is_at (cmp k) j) (Some v) (lookup (is_at (cmp j)) (e ∷ es))
-        greater true true ea eb =
-            let other : is_at (cmp k) e.0 ≡ false = rw is refl in
-            let same : is_at (cmp k) e.0 ≡ true = same_as k j e.0 ea ∙ eb in
-            cc
-        greater false true ea eb = rw (is, ea, eb) refl
-        greater true false ea eb = rw (is, ea, eb) (rw ea at rest)
-        greater false false ea eb = rw (is, ea, eb) (rw ea at rest)
+    inserted_by e es r is rest = grind (arith, same_turned, same_as)
 
     pub inserted_at : (es : List (K × Entry)) → lookup (is_at (cmp j)) (insert_entry cmp es k v) ≡ cond (is_at (cmp k) j) (Some v) (lookup (is_at (cmp j)) es)
     inserted_at [] = rw (same_turned k j) refl
@@ -79,11 +61,7 @@ module _ {K : Type 0} {cmp : K → K → Ordering} (o : IsTotalOrder cmp) where
   -- the keys still rise
   pub all_removed : (P : K → Type 0) (test : K → Bool) (es : List (K × Entry)) → AllByRecursion (λ d. P d.0) es → AllByRecursion (λ d. P d.0) (remove_entry test es)
   all_removed P test [] all = tt
-  all_removed P test (e ∷ es) all = by (test e.0) refl (all_removed P test es all.1)
-    where
-      by : (b : Bool) → test e.0 ≡ b → AllByRecursion (λ d. P d.0) (remove_entry test es) → AllByRecursion (λ d. P d.0) (remove_entry test (e ∷ es))
-      by true eb rest = rw eb all.1
-      by false eb rest = rw eb (all.0, rest)
+  all_removed P test (e ∷ es) all = grind (arith, all_removed P test es all.1)
 
   pub ordered_removed : (test : K → Bool) (es : List (K × Entry)) → IsOrdered cmp es → IsOrdered cmp (remove_entry test es)
   ordered_removed test [] ordered = tt
@@ -95,11 +73,7 @@ module _ {K : Type 0} {cmp : K → K → Ordering} (o : IsTotalOrder cmp) where
 
   pub all_written : (P : K → Type 0) (test : K → Bool) (w : Entry) (es : List (K × Entry)) → AllByRecursion (λ d. P d.0) es → AllByRecursion (λ d. P d.0) (set_value test es w)
   all_written P test w [] all = tt
-  all_written P test w (e ∷ es) all = by (test e.0) refl (all_written P test w es all.1)
-    where
-      by : (b : Bool) → test e.0 ≡ b → AllByRecursion (λ d. P d.0) (set_value test es w) → AllByRecursion (λ d. P d.0) (set_value test (e ∷ es) w)
-      by true eb rest = rw eb (all.0, all.1)
-      by false eb rest = rw eb (all.0, rest)
+  all_written P test w (e ∷ es) all = grind (arith, all_written P test w es all.1)
 
   pub ordered_written : (test : K → Bool) (w : Entry) (es : List (K × Entry)) → IsOrdered cmp es → IsOrdered cmp (set_value test es w)
   ordered_written test w [] ordered = tt
@@ -115,12 +89,7 @@ module _ {K : Type 0} {cmp : K → K → Ordering} (o : IsTotalOrder cmp) where
 
   pub all_inserted : (P : K → Type 0) (k : K) (v : Entry) (es : List (K × Entry)) → AllByRecursion (λ d. P d.0) es → P k → AllByRecursion (λ d. P d.0) (insert_entry cmp es k v)
   all_inserted P k v [] all holds = (holds, tt)
-  all_inserted P k v (e ∷ es) all holds = by (cmp k e.0) refl (all_inserted P k v es all.1 holds)
-    where
-      by : (r : Ordering) → cmp k e.0 ≡ r → AllByRecursion (λ d. P d.0) (insert_entry cmp es k v) → AllByRecursion (λ d. P d.0) (insert_entry cmp (e ∷ es) k v)
-      by Less is rest = rw is (holds, (all.0, all.1))
-      by Equal is rest = rw is (all.0, all.1)
-      by Greater is rest = rw is (all.0, rest)
+  all_inserted P k v (e ∷ es) all holds = grind (arith, all_inserted P k v es all.1 holds)
 
   pub ordered_inserted : (k : K) (v : Entry) (es : List (K × Entry)) → IsOrdered cmp es → IsOrdered cmp (insert_entry cmp es k v)
   ordered_inserted k v [] ordered = (tt, tt)
@@ -135,11 +104,7 @@ module _ {K : Type 0} {cmp : K → K → Ordering} (o : IsTotalOrder cmp) where
 
   all_filtered : (P : K → Type 0) (p : K × Entry → Bool) (es : List (K × Entry)) → AllByRecursion (λ d. P d.0) es → AllByRecursion (λ d. P d.0) (filter p es)
   all_filtered P p [] all = tt
-  all_filtered P p (e ∷ es) all = by (p e) refl (all_filtered P p es all.1)
-    where
-      by : (b : Bool) → p e ≡ b → AllByRecursion (λ d. P d.0) (filter p es) → AllByRecursion (λ d. P d.0) (filter p (e ∷ es))
-      by true eb rest = rw eb (all.0, rest)
-      by false eb rest = rw eb rest
+  all_filtered P p (e ∷ es) all = grind (arith, all_filtered P p es all.1)
 
   pub ordered_filtered : (p : K × Entry → Bool) (es : List (K × Entry)) → IsOrdered cmp es → IsOrdered cmp (filter p es)
   ordered_filtered p [] ordered = tt
@@ -152,17 +117,9 @@ module _ {K : Type 0} {cmp : K → K → Ordering} (o : IsTotalOrder cmp) where
   -- none of the entries after a key's own has the key
   none_above : (k x : K) (es : List (K × Entry)) → is_at (cmp k) x ≡ true → AllByRecursion (λ d. cmp x d.0 ≡ Less) es → lookup (is_at (cmp k)) es ≡ None
   none_above k x [] same all = refl
-  none_above k x (e ∷ es) same all =
-      let other : is_at (cmp k) e.0 ≡ false = same_as k x e.0 same ∙ rw all.0 refl in
-      rw other (none_above k x es same all.1)
+  none_above k x (e ∷ es) same all = grind (arith, none_above k x es same all.1, same_as)
 
   -- an entry that has expired is gone, and every other is there
   pub unexpired_at : (m : ℕ) (k : K) (es : List (K × Entry)) → IsOrdered cmp es → lookup (is_at (cmp k)) (filter (λ e. not (has_expired m e)) es) ≡ left_at (lookup (is_at (cmp k)) es) m
   unexpired_at m k [] ordered = refl
-  unexpired_at m k (e ∷ es) ordered = by (is_at (cmp k) e.0) (is_expired m e.1) refl refl (unexpired_at m k es ordered.1)
-    where
-      by : (a b : Bool) → is_at (cmp k) e.0 ≡ a → is_expired m e.1 ≡ b → lookup (is_at (cmp k)) (filter (λ e. not (has_expired m e)) es) ≡ left_at (lookup (is_at (cmp k)) es) m → lookup (is_at (cmp k)) (filter (λ e. not (has_expired m e)) (e ∷ es)) ≡ left_at (lookup (is_at (cmp k)) (e ∷ es)) m
-      by true true ea eb rest = rw (eb, ea, eb) (none_above k e.0 (filter (λ e. not (has_expired m e)) es) ea (all_filtered (λ x. cmp e.0 x ≡ Less) (λ e. not (has_expired m e)) es ordered.0))
-      by true false ea eb rest = rw (eb, ea, eb) refl
-      by false true ea eb rest = rw (eb, ea) rest
-      by false false ea eb rest = rw (eb, ea) rest
+  unexpired_at m k (e ∷ es) ordered = grind (arith, unexpired_at m k es ordered.1, none_above, all_filtered)

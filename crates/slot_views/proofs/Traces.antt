@@ -1,5 +1,5 @@
 -- What all pieces make of the map is what each key's own pieces make of its entry.
-use Rattle.std.proofs.Common.{◌≡◌, ℕ, suc, ◌≤◌, Bool, true, false, ◌&&◌, ◌||◌, not, nat_lt, ◌==◌, List, [], ◌∷◌, length, refl, sym, ◌∙◌, ap, Option, Some, None, is_some, arith}
+use Rattle.std.proofs.Common.{◌≡◌, ℕ, suc, ◌≤◌, Bool, true, false, ◌&&◌, ◌||◌, not, nat_lt, List, [], ◌∷◌, length, refl, sym, ◌∙◌, ap, Option, None, is_some, arith}
 use Rattle.std.proofs.lemmas.Bool.{eqb-true, eqb-false, lt-ltb, le-ltb, ltb-true, ltb-false, or_parts}
 use Rattle.std.specs.List.{AllByRecursion, IsDistinct, filter, list_any}
 use Rattle.std.specs.Cmp.{IsTotalOrder}
@@ -8,7 +8,7 @@ use Rattle.std.specs.declared.cmp.Ordering.{Ordering}
 use Rattle.std.specs.declared.cmp.Ordering.TheVariants.{Less}
 use Rattle.std.specs.Map.{lookup, remove_entry}
 use Rattle.std.specs.BTreeMap.{is_at}
-use Rattle.slot_views.specs.Slots.{Entry, SlotMap, IsOrdered, entry_at, is_held, is_full, released, has_expired, is_expired}
+use Rattle.slot_views.specs.Slots.{Entry, SlotMap, IsOrdered, entry_at, is_held, is_full, released, has_expired}
 use Rattle.slot_views.specs.Traces.{Filling, left_at, unexpired, now_of, pieces_at, keys_in, open_keys, other_open_keys, IsNoted, entry_after, IsStep, map_after, Joins}
 use Rattle.slot_views.proofs.Steps.{released_absent}
 use Rattle.slot_views.proofs.Tied.{same_turned, same_as, same_itself, lookup_same, removed_at, unexpired_at, ordered_filtered, ordered_removed}
@@ -24,11 +24,7 @@ filtered_none p none (x ∷ xs) = rw (none x) (filtered_none p none xs)
 
 filtered_fewer : {X : Type 0} (p : X → Bool) (xs : List X) → length (filter p xs) ≤ length xs
 filtered_fewer p [] = omega arith
-filtered_fewer p (x ∷ xs) = by (p x) refl (filtered_fewer p xs)
-  where
-    by : (b : Bool) → p x ≡ b → length (filter p xs) ≤ length xs → length (filter p (x ∷ xs)) ≤ length (x ∷ xs)
-    by true eb fewer = rw eb (omega (arith, fewer))
-    by false eb fewer = rw eb (omega (arith, fewer))
+filtered_fewer p (x ∷ xs) = grind (arith, filtered_fewer p xs)
 
 module _ {K : Type 0} {cmp : K → K → Ordering} (o : IsTotalOrder cmp) where
   any_same : (k j : K) (ks : List K) → is_at (cmp k) j ≡ true → list_any (is_at (cmp k)) ks ≡ list_any (is_at (cmp j)) ks
@@ -43,10 +39,7 @@ module _ {K : Type 0} {cmp : K → K → Ordering} (o : IsTotalOrder cmp) where
   module _ (x : K) (p q : K → Bool) (more : (j : K) → p j ≡ (is_at (cmp x) j || q j)) (apart : (j : K) → is_at (cmp x) j ≡ true → q j ≡ false) where
     counted_past : (y : K) (ks : List K) → is_at (cmp x) y ≡ true → AllByRecursion (λ z. eq_by_cmp cmp y z ≡ false) ks → filter p ks ≡ filter q ks
     counted_past y [] same all = refl
-    counted_past y (k ∷ ks) same all =
-        let other : is_at (cmp x) k ≡ false = same_as o x y k same ∙ all.0 in
-        let here : p k ≡ q k = more k ∙ ap (λ b. b || q k) other in
-        rw (here, counted_past y ks same all.1) refl
+    counted_past y (k ∷ ks) same all = grind (arith, counted_past y ks same all.1, same_as)
 
     pub counted_once : (ks : List K) → IsDistinct (eq_by_cmp cmp) ks → list_any (is_at (cmp x)) ks ≡ true → length (filter p ks) ≡ suc (length (filter q ks))
     unfolding IsDistinct
@@ -57,14 +50,8 @@ module _ {K : Type 0} {cmp : K → K → Ordering} (o : IsTotalOrder cmp) where
         by true b ea eb rest =
             let first : p k ≡ true = more k ∙ ap (λ c. c || q k) ea in
             rw (first, apart k ea, counted_past k ks ea distinct.0) refl
-        by false true ea eb rest =
-            let first : p k ≡ true = more k ∙ (ap (λ c. c || q k) ea ∙ eb) in
-            let later : list_any (is_at (cmp x)) ks ≡ true = rw ea at there in
-            rw (first, eb) (ap suc (rest later))
-        by false false ea eb rest =
-            let first : p k ≡ false = more k ∙ (ap (λ c. c || q k) ea ∙ eb) in
-            let later : list_any (is_at (cmp x)) ks ≡ true = rw ea at there in
-            rw (first, eb) (rest later)
+        by false true ea eb rest = grind arith
+        by false false ea eb rest = grind arith
 
   absent_after : (k : K) (es : List (K × Entry)) (e : K × Entry) → IsOrdered cmp (e ∷ es) → is_at (cmp e.0) k ≡ true → is_some (lookup (is_at (cmp k)) es) ≡ false
   absent_after k es e ordered same =
@@ -86,15 +73,13 @@ module _ {K : Type 0} {cmp : K → K → Ordering} (o : IsTotalOrder cmp) where
       ap suc fewer ∙ sym (counted_once e.0 (λ j. is_some (lookup (is_at (cmp j)) (e ∷ es))) (λ j. is_some (lookup (is_at (cmp j)) es)) found_more (λ j same. absent_after j es e ordered same) ks distinct (among e.0 here))
     where
       found_by : (j : K) (b : Bool) → is_at (cmp j) e.0 ≡ b → is_some (lookup (is_at (cmp j)) (e ∷ es)) ≡ (b || is_some (lookup (is_at (cmp j)) es))
-      found_by j true eb = rw eb refl
-      found_by j false eb = rw eb refl
+      found_by j b eb = grind arith
 
       found_more : (j : K) → is_some (lookup (is_at (cmp j)) (e ∷ es)) ≡ (is_at (cmp e.0) j || is_some (lookup (is_at (cmp j)) es))
       found_more j = found_by j (is_at (cmp e.0) j) (same_turned o j e.0)
 
       later_by : (a b : Bool) → b ≡ true → (a || b) ≡ true
-      later_by true b there = refl
-      later_by false b there = there
+      later_by a b there = grind arith
 
       found_later : (j : K) → is_some (lookup (is_at (cmp j)) es) ≡ true → is_some (lookup (is_at (cmp j)) (e ∷ es)) ≡ true
       found_later j there = found_more j ∙ later_by (is_at (cmp e.0) j) _ there
@@ -119,42 +104,16 @@ module _ {K : Type 0} {cmp : K → K → Ordering} (o : IsTotalOrder cmp) where
     none_at k (n ∷ h) none = by (list_any (is_at (cmp n.0)) (keys_in cmp h)) (is_at (cmp k) n.0) refl refl (λ before. none_at k h before)
       where
         by : (a b : Bool) → list_any (is_at (cmp n.0)) (keys_in cmp h) ≡ a → is_at (cmp k) n.0 ≡ b → (list_any (is_at (cmp k)) (keys_in cmp h) ≡ false → pieces_at cmp k h ≡ []) → pieces_at cmp k (n ∷ h) ≡ []
-        by true true ea eb rest =
-            let before : list_any (is_at (cmp k)) (keys_in cmp h) ≡ false = rw ea at none in
-            let there : list_any (is_at (cmp k)) (keys_in cmp h) ≡ true = any_same k n.0 (keys_in cmp h) eb ∙ ea in
-            cc
-        by true false ea eb rest =
-            let before : list_any (is_at (cmp k)) (keys_in cmp h) ≡ false = rw ea at none in
-            rw eb (rest before)
-        by false true ea eb rest =
-            let all : (is_at (cmp k) n.0 || list_any (is_at (cmp k)) (keys_in cmp h)) ≡ false = rw ea at none in
-            let other : is_at (cmp k) n.0 ≡ false = (or_parts (is_at (cmp k) n.0) (list_any (is_at (cmp k)) (keys_in cmp h)) all).0 in
-            cc
-        by false false ea eb rest =
-            let all : (is_at (cmp k) n.0 || list_any (is_at (cmp k)) (keys_in cmp h)) ≡ false = rw ea at none in
-            rw eb (rest (or_parts (is_at (cmp k) n.0) (list_any (is_at (cmp k)) (keys_in cmp h)) all).1)
+        by a b ea eb rest = grind (arith, any_same, or_parts)
 
     pub all_at : (P : X → Type 0) (k : K) (h : List (K × X)) → AllByRecursion (λ n. P n.1) h → AllByRecursion P (pieces_at cmp k h)
     unfolding pieces_at
     all_at P k [] all = tt
-    all_at P k (n ∷ h) all = by (is_at (cmp k) n.0) refl (all_at P k h all.1)
-      where
-        by : (b : Bool) → is_at (cmp k) n.0 ≡ b → AllByRecursion P (pieces_at cmp k h) → AllByRecursion P (pieces_at cmp k (n ∷ h))
-        by true eb rest = rw eb (all.0, rest)
-        by false eb rest = rw eb rest
+    all_at P k (n ∷ h) all = grind (arith, all_at P k h all.1)
 
 -- an entry that lasts until a later moment does so until an earlier one
 left_twice : (e : Option Entry) (m n : ℕ) → m ≤ n → left_at (left_at e m) n ≡ left_at e n
-left_twice None m n le = refl
-left_twice (Some e) m n le = by (is_expired m e) (is_expired n e) refl refl
-  where
-    by : (a b : Bool) → is_expired m e ≡ a → is_expired n e ≡ b → left_at (left_at (Some e) m) n ≡ left_at (Some e) n
-    by true true ea eb = rw (ea, eb) refl
-    by true false ea eb =
-        let gone = ltb-true _ _ ea in
-        let lasts = ltb-false _ _ eb in
-        absurd (omega (arith, gone, lasts))
-    by false b ea eb = rw ea refl
+left_twice e m n le = grind (arith, ltb-true, ltb-false)
 
 -- there is room for a key exactly where fewer others are held than the limit
 module _ {K : Type 0} (cmp : K → K → Ordering) (s : SlotMap K) (k : K) where
@@ -163,33 +122,13 @@ module _ {K : Type 0} (cmp : K → K → Ordering) (s : SlotMap K) (k : K) where
   removed_fewer (e ∷ es) held = by (is_at (cmp k) e.0) refl (λ later. removed_fewer es later)
     where
       by : (b : Bool) → is_at (cmp k) e.0 ≡ b → (is_some (lookup (is_at (cmp k)) es) ≡ true → suc (length (remove_entry (is_at (cmp k)) es)) ≡ length es) → suc (length (remove_entry (is_at (cmp k)) (e ∷ es))) ≡ length (e ∷ es)
-      by true eb rest = rw eb refl
-      by false eb rest = let later : is_some (lookup (is_at (cmp k)) es) ≡ true = rw eb at held in rw eb (ap suc (rest later))
+      by b eb rest = grind arith
 
   pub released_fewer : is_held cmp s k ≡ true → suc (length (released cmp s k).entries) ≡ length s.entries
   released_fewer held = removed_fewer s.entries held
 
   pub room_is : 1 ≤ s.limit → length s.entries ≤ s.limit → not (is_full cmp s k) ≡ nat_lt (length (released cmp s k).entries) s.limit
-  room_is some within = by (is_held cmp s k) refl
-    where
-      by : (b : Bool) → is_held cmp s k ≡ b → not (is_full cmp s k) ≡ nat_lt (length (released cmp s k).entries) s.limit
-      by true eb =
-          let fewer = released_fewer eb in
-          let less : nat_lt (length (released cmp s k).entries) s.limit ≡ true = lt-ltb _ _ (omega (arith, fewer, within)) in
-          rw eb (sym less)
-      by false eb =
-          let same = released_absent cmp s k eb in
-          full (length s.entries == s.limit) refl same
-        where
-          full : (f : Bool) → (length s.entries == s.limit) ≡ f → released cmp s k ≡ s → not (is_full cmp s k) ≡ nat_lt (length (released cmp s k).entries) s.limit
-          full true ef same =
-              let all = eqb-true _ _ ef in
-              let none : nat_lt (length s.entries) s.limit ≡ false = le-ltb _ _ (omega (arith, all)) in
-              rw (eb, ef) (sym (ap (λ (t : SlotMap K). nat_lt (length t.entries) s.limit) same ∙ none))
-          full false ef same =
-              let fewer = eqb-false _ _ ef in
-              let less : nat_lt (length s.entries) s.limit ≡ true = lt-ltb _ _ (omega (arith, fewer, within)) in
-              rw (eb, ef) (sym (ap (λ (t : SlotMap K). nat_lt (length t.entries) s.limit) same ∙ less))
+  room_is some within = grind (arith, released_fewer, lt-ltb, released_absent, eqb-true, le-ltb, eqb-false)
 
 module _ {K X : Type 0} {cmp : K → K → Ordering} (o : IsTotalOrder cmp) (f : Filling X) (after : SlotMap K → K → X → SlotMap K) (step : IsStep cmp f after)
     (P : X → Type 0) (is_open : List X → ℕ → Bool) (agrees : (p : List X) (m : ℕ) → AllByRecursion P p → is_open p m ≡ is_some (left_at (entry_after f p) m)) (limit : ℕ) (some : 1 ≤ limit) where
@@ -212,19 +151,10 @@ module _ {K X : Type 0} {cmp : K → K → Ordering} (o : IsTotalOrder cmp) (f :
   within_after : (h : List (K × X)) → length (map_after cmp f after limit h).entries ≤ limit
   unfolding map_after
   within_after [] = omega arith
-  within_after (n ∷ h) =
-      let before = within_after h in
-      let fewer = filtered_fewer (λ e. not (has_expired (f.moment n.1) e)) (map_after cmp f after limit h).entries in
-      let same = limit_after h in
-      let stays = step.within (at_now h (f.moment n.1)) n.0 n.1 (ordered_now h (f.moment n.1)) (omega (arith, before, fewer, same)) in
-      omega (arith, stays, same)
+  within_after (n ∷ h) = grind (arith, within_after h, filtered_fewer, limit_after, ordered_now)
 
   within_now : (h : List (K × X)) (m : ℕ) → length (at_now h m).entries ≤ (at_now h m).limit
-  within_now h m =
-      let before = within_after h in
-      let fewer = filtered_fewer (λ e. not (has_expired m e)) (map_after cmp f after limit h).entries in
-      let same = limit_after h in
-      omega (arith, before, fewer, same)
+  within_now h m = grind (arith, within_after, filtered_fewer, limit_after)
 
   -- the entries at a moment are what the keys' own pieces leave
   abbrev Stands : List (K × X) → ℕ → Type 0
@@ -236,11 +166,7 @@ module _ {K X : Type 0} {cmp : K → K → Ordering} (o : IsTotalOrder cmp) (f :
 
     among_by : (j : K) (b : Bool) → list_any (is_at (cmp j)) (keys_in cmp h) ≡ b → is_some (entry_at cmp (at_now h m) j) ≡ true → list_any (is_at (cmp j)) (keys_in cmp h) ≡ true
     unfolding entry_after
-    among_by j true eb there = eb
-    among_by j false eb there =
-        let none : pieces_at cmp j h ≡ [] = none_at o j h eb in
-        let gone : is_some (entry_at cmp (at_now h m) j) ≡ false = ap is_some (stands j) ∙ ap (λ p. is_some (left_at (entry_after f p) m)) none in
-        cc
+    among_by j b eb there = grind (arith, none_at)
 
     among : (j : K) → is_some (entry_at cmp (at_now h m) j) ≡ true → list_any (is_at (cmp j)) (keys_in cmp h) ≡ true
     among j there = among_by j _ refl there
@@ -273,19 +199,7 @@ module _ {K X : Type 0} {cmp : K → K → Ordering} (o : IsTotalOrder cmp) (f :
   module _ (n : K × X) (h : List (K × X)) (admitted : f.admitted n.1 ≡ not (is_full cmp (at_now h (f.moment n.1)) n.0)) (stands : Stands h (f.moment n.1)) where
     entry_by : (k : K) (b : Bool) → is_at (cmp k) n.0 ≡ b → (m : ℕ) → f.moment n.1 ≤ m → left_at (entry_at cmp (map_after cmp f after limit (n ∷ h)) k) m ≡ left_at (entry_after f (pieces_at cmp k (n ∷ h))) m
     unfolding map_after entry_after pieces_at
-    entry_by k true eb m le =
-        let mo = f.moment n.1 in
-        let made : entry_at cmp (map_after cmp f after limit (n ∷ h)) k ≡ f.step (left_at (entry_after f (pieces_at cmp k h)) mo) n.1 =
-        lookup_same o k n.0 (map_after cmp f after limit (n ∷ h)).entries eb
-        ∙ (step.here (at_now h mo) n.0 n.1 (ordered_now h mo) admitted
-        ∙ ap (λ e. f.step e n.1) (sym (lookup_same o k n.0 (at_now h mo).entries eb) ∙ stands k)) in
-        rw eb (ap (λ e. left_at e m) made)
-    entry_by k false eb m le =
-        let mo = f.moment n.1 in
-        let other : is_at (cmp n.0) k ≡ false = same_turned o n.0 k ∙ eb in
-        let kept : entry_at cmp (map_after cmp f after limit (n ∷ h)) k ≡ left_at (entry_after f (pieces_at cmp k h)) mo =
-        step.others (at_now h mo) n.0 k n.1 (ordered_now h mo) other ∙ stands k in
-        rw eb (ap (λ e. left_at e m) kept ∙ left_twice (entry_after f (pieces_at cmp k h)) mo m le)
+    entry_by k b eb m le = grind (arith, lookup_same, ordered_now, same_turned, left_twice)
 
   none_at_first : (m : ℕ) (k : K) → entry_at cmp (at_now [] m) k ≡ left_at (entry_after f (pieces_at cmp k [])) m
   unfolding map_after entry_after pieces_at
@@ -311,7 +225,4 @@ module _ {K X : Type 0} {cmp : K → K → Ordering} (o : IsTotalOrder cmp) (f :
   joined_before n h fits noted k = stands_after h fits.1 noted.2 (f.moment n.1) noted.0 k
 
   pub joined : (h : List (K × X)) → AllByRecursion (λ n. P n.1) h → IsNoted cmp f.moment f.admitted is_open limit h → Joins cmp f after is_open limit h
-  joined h fits noted = record {
-    entries = λ k m le. stands_after h fits noted m le k;
-    count = λ m le. count_is h fits m (λ k. stands_after h fits noted m le k);
-  }
+  joined h fits noted = grind (arith, stands_after, count_is)

@@ -1,6 +1,5 @@
 use Rattle.std.proofs.Common.{◌≡◌, ◌<◌, false, length, inl, inr, ap, sym, ◌∙◌, subst, arith}
 use Rattle.std.specs.Ordering.{is_gt}
-use Rattle.std.specs.declared.cmp.Ordering.TheVariants.{Greater}
 use Rattle.slot_views.proofs.Places.{first_between, none_between, none_between_below}
 use Rattle.slot_views.proofs.shelf.Shelf.between.Given.{Over}
 use Rattle.slot_views.proofs.shelf.Shelf.between.Goals.{After-cmp}
@@ -11,13 +10,10 @@ inside : (g : Over) (c : After-cmp g) → c.lowest_from-at.result < length c.arg
 inside g c = omega arith
 
 pub returns-then-at-len-clause-absent : goal.returns-then-at-len-clause-absent
-returns-then-at-len-clause-absent g c =
-    none_between_below g.met.K.Ord.total c.args.low c.args.high c.args.self.now.slots.items c.lowest_from-at.result (omega arith) c.lowest_from-at.ensures.below
+returns-then-at-len-clause-absent g c = grind (arith, none_between_below)
 
 pub returns-in-Greater-clause-absent : goal.returns-in-Greater-clause-absent
-returns-in-Greater-clause-absent g c =
-    none_between g.met.K.Ord.total c.args.low c.args.high c.args.self.now.slots.items c.lowest_from-at.result c.index.result.now c.requires (inside g ((goal.at.returns-in-Greater-clause-absent g c).After-cmp))
-    c.lowest_from-at.ensures.below (subst (λ s. g.K.Ord.cmp s.key c.args.high ≡ Greater) c.index.ensures (sym c.cmp.ensures ∙ c.in-Greater.is))
+returns-in-Greater-clause-absent g c = grind (arith, none_between, inside)
 
 pub returns-in-Less : goal.returns-in-Less
 returns-in-Less g c =

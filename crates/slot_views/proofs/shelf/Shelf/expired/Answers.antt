@@ -7,19 +7,7 @@ pub returns-then-moment-self-clause-quiet : goal.returns-then-moment-self-clause
 returns-then-moment-self-clause-quiet g c = let known = le-leb c.args.moment c.args.self.now.quiet_until c.if-moment-self.true in rw known refl
 
 pub returns-in-Err-clause-sound : goal.returns-in-Err-clause-sound
-returns-in-Err-clause-sound g c =
-    let sound = c.requires in
-    record {
-      limit_fits = sound.limit_fits;
-      cap_fits = sound.cap_fits;
-      buffers = sound.buffers;
-      slots_reserved = sound.slots_reserved;
-      spare_reserved = sound.spare_reserved;
-      rooms = sound.rooms;
-      spare_rooms = sound.spare_rooms;
-      ordered = sound.ordered;
-      quiet = quiet_all c.in-Err.quiet_until c.args.self.now.slots.items (omega (arith, c.in-Err.ensures.quiet));
-    }
+returns-in-Err-clause-sound g c = grind (arith, quiet_all)
 
 pub returns-in-Err-clause-quiet : goal.returns-in-Err-clause-quiet
 returns-in-Err-clause-quiet g c = let unknown = lt-leb c.args.moment c.args.self.now.quiet_until c.if-moment-self.false in rw unknown c.in-Err.ensures.quiet

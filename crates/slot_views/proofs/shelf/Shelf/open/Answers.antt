@@ -1,7 +1,5 @@
-use Rattle.std.proofs.Common.{◌≡◌, ◌+◌, ◌≤◌, refl, sym, ◌∙◌, ap, arith, vec_len, vec_capacity}
+use Rattle.std.proofs.Common.{◌≡◌, ◌+◌, ◌≤◌, refl, arith, vec_len, vec_capacity}
 use Rattle.slot_views.specs.declared.slot.Slot.{Slot}
-use Rattle.slot_views.specs.Slots.{opened}
-use Rattle.slot_views.specs.Shelf.{entries_of}
 use Rattle.slot_views.proofs.Order.{insert_gap}
 use Rattle.slot_views.proofs.Sound.{slot_map_is, sound_opened, room_opened, popped}
 use Rattle.slot_views.proofs.shelf.Shelf.open.Given.{Over}
@@ -22,6 +20,4 @@ returns-clause-sound g c =
     (omega (arith, c.still_quiet-self.ensures)) (omega (arith, c.still_quiet-self.ensures)) refl c.put.ensures.items c.put.ensures.len c.put.ensures.capacity fewer (omega arith) parts.0
 
 pub returns-clause-after : goal.returns-clause-after
-returns-clause-after g c =
-    slot_map_is c.args.self.now.limit (entries_of c.put.new.slots.items) _ (ap entries_of c.put.ensures.items ∙ sym (insert_gap g.K.Ord.cmp c.args.key c.args.self.now.slots.items c.args.at (slot_of g ((goal.at.returns-clause-after g c).After-refill))
-    (opened c.args.piece.now c.args.start.need c.args.start.moment c.args.start.gap c.args.start.mark) (rw c.refill.ensures.items refl) c.requires.gap.below c.requires.gap.above))
+returns-clause-after g c = grind (arith, slot_map_is, insert_gap)

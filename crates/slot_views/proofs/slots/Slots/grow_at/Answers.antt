@@ -23,12 +23,7 @@ returns-in-Held g c =
     ((refl, λ _. tt, rw (← c.self.view_is) c.in-Held.ensures.after), record { map = rw (← c.self.view_is) (map_seen c.self.inside.shelf c.self.invariant); after = tt; answer = rw (← c.self.view_is) c.in-Held.ensures.answer })
 
 pub finished-requires : goal.finished-requires
-finished-requires g c = (
-  omega arith,
-  from_some (entry_at g.K.Ord.cmp (seen c.self.inside.shelf) c.args.place.key)
-      (λ e. (e.next ≡ c.args.next) × (is_complete (grown e c.args.piece.now c.args.moment c.args.gap) ≡ true) × HasFinished c.grow.new.self (grown e c.args.piece.now c.args.moment c.args.gap).bytes × (c.in-Complete.mark ≡ e.mark))
-      _ (λ e (next, complete, finished, mark). finished.some) c.in-Complete.ensures.answer,
-)
+finished-requires g c = grind (arith, from_some)
 
 pub returns-in-Complete : goal.returns-in-Complete
 returns-in-Complete g c =
