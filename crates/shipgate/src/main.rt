@@ -8,13 +8,12 @@
 ghost use Rattle.std.specs.Prelude.{◌≡◌, IfOk, OnErr};
 ghost use Rattle.std.specs.Process.{exit_status};
 
-pub use bridge::{Bridge, Settings};
-pub use command_words::{Command, LineCommand};
-pub use gateway_commands::{demo_with, replay_with, run, stream};
 use live_outside::{Activity, DiskFiles, SystemClock, ToldWriter, UdpLink};
+pub use process_run::{
+    Bridge, Command, LineCommand, Settings, demo_with, replay_with, run, serve_turns, stream,
+};
 use process_run::{run_with, words_to_tell};
 use run_failures::{Kept, explain_run};
-pub use serving::serve_turns;
 use statuses::Status;
 use std::alloc::AllocError;
 use std::cell::Cell;
