@@ -1,9 +1,10 @@
 -- An event that the gateway has taken: the bridge stands for the history with it, and gives what the definition over that history says.
-use Rattle.std.proofs.Common.{◌≡◌, ℕ, ◌+◌, ◌%◌, List, [], ◌∷◌, ◌++◌, Option, Some, None, option_map, Result, Ok, Err, refl, sym, ap, subst, ◌∙◌, append_assoc, arith}
+use Rattle.std.proofs.Common.{◌≡◌, ℕ, ◌+◌, ◌%◌, List, [], ◌∷◌, Option, Some, None, option_map, Result, Ok, Err, refl, sym, ap, subst, ◌∙◌, append_assoc}
+use Rattle.std.proofs.Math.Nat.{mod-add-mod}
 use Rattle.gate_events.specs.declared.event.Event.{Event}
 use Rattle.gate_events.specs.Emit.{net}
 use Rattle.tag_block.specs.Tag.{most_count}
-use Rattle.datagram450.specs.Datagram.{header, line_text}
+use Rattle.datagram450.proofs.Counts.{counted_modulo}
 use Rattle.ais_report.specs.declared.report.AisReport.{AisReport}
 use Rattle.ais_report.specs.declared.report.AisFault.{AisFault}
 use Rattle.ais_report.specs.declared.report.AisFault.TheVariants.{Short, Outside}
@@ -24,12 +25,6 @@ use Rattle.ais_bridge.specs.Promises.{IsAisStep, IsAisTaken, StandsAis, step_by}
 use Rattle.ais_bridge.specs.Reports.{line_count, report_datagram, report_sentence, said_by, said_gives}
 use Rattle.ais_bridge.specs.declared.said.Said.{Said}
 
-count_on : (n j : ℕ) → (n % 999 + j) % 999 ≡ (n + j) % 999
-count_on n j = grind arith
-
-mod_twice : (n : ℕ) → n % 999 % 999 ≡ n % 999
-mod_twice n = grind arith
-
 -- a count is said modulo the greatest one
 same_count : (group sfi : List ℕ) (n : ℕ) (x : Option Said) → said_gives group sfi (n % most_count) x ≡ said_gives group sfi n x
 unfolding report_datagram
@@ -39,11 +34,7 @@ same_count group sfi n (Some x) = by x.source x.pgn x.says
     by : (source pgn : ℕ) (says : Result (AisReport × ℕ) AisFault)
         → said_gives group sfi (n % most_count) (Some (record { source = source; pgn = pgn; says = says }))
         ≡ said_gives group sfi n (Some (record { source = source; pgn = pgn; says = says }))
-    by source pgn (Ok y) =
-        ap (λ count. record {
-          told = [];
-          posted = net group (header ++ line_text (record { group = None; source = sfi; count = count + 1 }) (report_sentence y)) ∷ [];
-        }) (mod_twice n)
+    by source pgn (Ok y) = ap (λ bytes. record { told = []; posted = net group bytes ∷ [] }) (counted_modulo sfi n (report_sentence y))
     by source pgn (Err Short) = refl
     by source pgn (Err Outside) = refl
 
@@ -61,7 +52,7 @@ module _ (a : AisConfig) (c : Settings) (s : ℕ) (h : History) (e : Entry) (k :
   lines_are : (k.lines + line_count heard_says) % most_count ≡ lines_said a c s (e ∷ h) % most_count
   lines_are =
       ap (λ n. (n + line_count heard_says) % most_count) it.lines
-      ∙ (count_on (lines_said a c s h) (line_count heard_says) ∙ ap (λ o. (lines_said a c s h + line_count o) % most_count) said_is)
+      ∙ (mod-add-mod (lines_said a c s h) most_count (line_count heard_says) ∙ ap (λ o. (lines_said a c s h + line_count o) % most_count) said_is)
 
   gives_is : emits_of (said_gives k.group k.sfi k.lines heard_says) ≡ report_gives a c s h e
   gives_is =

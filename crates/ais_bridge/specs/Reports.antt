@@ -1,10 +1,9 @@
 -- How a position report of a ship (NMEA 2000 PGN 129038; ITU-R M.1371) is told to the network: the rules that it can break, and the datagram
 -- in which it is passed on (IEC 61162-1, VDM; IEC 61162-450).
-use Rattle.std.specs.Prelude.{ℕ, ◌+◌, ◌%◌, List, [], ◌∷◌, ◌++◌, Option, Some, None, Result, Ok, Err}
+use Rattle.std.specs.Prelude.{ℕ, List, [], ◌∷◌, ◌++◌, Option, Some, None, Result, Ok, Err}
 use Rattle.report_rules.specs.Rules as rules
 use Rattle.sentence_text.specs.Sentence.{SentenceParts, sentence}
-use Rattle.tag_block.specs.Tag.{most_count}
-use Rattle.datagram450.specs.Datagram.{header, line_text}
+use Rattle.datagram450.specs.Datagram.{sentence_datagram}
 use Rattle.ais_report.specs.declared.report.AisReport.{AisReport}
 use Rattle.ais_report.specs.declared.report.AisFault.{AisFault}
 use Rattle.ais_report.specs.declared.report.AisFault.TheVariants.{Short, Outside}
@@ -29,10 +28,10 @@ report_parts x = record {
 abbrev pub report_sentence : AisReport × ℕ → List ℕ
 report_sentence x = sentence (report_parts x)
 
--- ---- the datagram: one line, with its count on the transmission group, of which so many were sent before
+-- ---- the datagram, before which so many lines were said
 
 unfoldable pub report_datagram : List ℕ → ℕ → AisReport × ℕ → List ℕ
-report_datagram sfi before x = header ++ line_text (record { group = None; source = sfi; count = before % most_count + 1 }) (report_sentence x)
+report_datagram sfi before x = sentence_datagram sfi before (report_sentence x)
 
 -- ---- a message, by what its payload says
 

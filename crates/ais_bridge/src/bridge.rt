@@ -28,19 +28,20 @@ pub struct AisBridge {
     pub(crate) sfi: Sfi,
     /// The reports in the making.
     pub(crate) reports: BusListener,
-    /// How many lines were said, modulo 999.
+    /// How many lines were said, modulo [`tag_block::MOST_COUNT`].
     pub(crate) lines: u16,
 }
 
 impl Model for AisBridge {
     ghost use Rattle.std.specs.Prelude.{◌<◌, ◌≤◌};
+    ghost use Rattle.tag_block.specs.Tag.{most_count};
     ghost use Rattle.ais_bridge.specs.AisKept.{AisKept};
 
     ghost Value = { AisKept };
 
     ghost view = { λ b. record { group = b.group; sfi = b.sfi; slots = b.reports; lines = b.lines } };
 
-    ghost invariant = { λ b. (b.reports.limit ≤ 256) × (b.lines < 999) };
+    ghost invariant = { λ b. (b.reports.limit ≤ 256) × (b.lines < most_count) };
 }
 
 impl AisBridge {

@@ -1,19 +1,19 @@
 //! The datagram of a report.
-ghost use Rattle.std.specs.Prelude.{◌≡◌, ◌+◌, ◌<◌, ◌≤◌, [], ◌++◌, length};
+ghost use Rattle.std.specs.Prelude.{◌≡◌, ◌+◌, ◌≤◌, [], ◌++◌, length};
 ghost use Rattle.arrayvec.specs.ArrayVec.{array_vec_len};
 ghost use Rattle.ais_report.specs.Fields.{IsReport};
 ghost use Rattle.ais_bridge.specs.Reports.{report_datagram, report_sentence};
 
 use ais_report::{AisReport, armour};
 use arrayvec::ArrayVec;
-use datagram450::{begin, push_line};
+use datagram450::write_sentence;
 use sentence_text::{Sfi, sum_digits, xor};
-use tag_block::{MOST_COUNT, Packet, TagParts};
+use tag_block::Packet;
 
 /// The bytes of a sentence (IEC 61162-1: at most 82).
 type Line = ArrayVec<u8, 82>;
 
-/// Writes the datagram of a report with one line, of which so many were said before, modulo 999.
+/// Writes the datagram of a report. So many lines were said before.
 #[tactic(auto, unfolding(crate::specs::Reports::report_datagram))]
 pub(crate) fn write_report(
     source: Sfi,
@@ -23,18 +23,11 @@ pub(crate) fn write_report(
     packet: &mut Packet,
 )
     requires valid { IsReport report.now }
-    requires count { before < 999 }
     requires empty { packet.old.items ≡ [] }
     ensures { packet.new.items ≡ report_datagram source before (report.now, channel) }
 {
-    let tag = TagParts {
-        group: None,
-        source,
-        count: before % MOST_COUNT + 1,
-    };
     let line = report_sentence(report, channel);
-    begin(packet);
-    let _fits = push_line(&tag, &line, packet);
+    write_sentence(source, before, &line, packet);
 }
 
 /// `!AIVDM,1,1,,`, the channel, the report in armour, `0`, and the sum.

@@ -1,12 +1,13 @@
 -- What is kept for RMC stands for the history with one more entry, and gives what the definition over the whole history says.
-use Rattle.std.proofs.Common.{◌≡◌, ℕ, ◌+◌, ◌%◌, Bool, true, false, List, ◌∷◌, ◌++◌, refl, sym, ap, subst, ◌∙◌, arith}
+use Rattle.std.proofs.Common.{◌≡◌, ℕ, ◌+◌, ◌%◌, Bool, true, false, List, ◌∷◌, refl, sym, ap, subst, ◌∙◌}
+use Rattle.std.proofs.Math.Nat.{mod-add-mod}
 use Rattle.std.specs.Prelude.{Option, Some, None, is_some, option_map, if◌then◌else◌}
 use Rattle.n2k_id.specs.declared.name.Name.{Name}
 use Rattle.readings.specs.declared.rows.Row.{Row}
 use Rattle.readings.specs.declared.rows.Row.TheVariants as row
-use Rattle.sentence_rows.specs.declared.rmc.Minimum.{Minimum}
 use Rattle.sentence_rows.specs.Rmc.{rmc_text}
-use Rattle.datagram450.specs.Datagram.{header, line_text}
+use Rattle.tag_block.specs.Tag.{most_count}
+use Rattle.datagram450.proofs.Counts.{counted_modulo}
 use Rattle.history.specs.AddressLaws.{IsReceiver}
 use Rattle.history.specs.Entries.{Entry, History, moment_of}
 use Rattle.history.specs.Known.{known}
@@ -55,12 +56,6 @@ due_same : (x : Option Selected) → is_due_message (option_map message_of x) �
 due_same None = refl
 due_same (Some x) = refl
 
-one_line : (n : ℕ) → (n % 999 + 1) % 999 ≡ (n + 1) % 999
-one_line n = omega arith
-
-same_count : (n : ℕ) → n % 999 % 999 ≡ n % 999
-same_count n = omega arith
-
 datagram_some : (b : Bool) (bytes : List ℕ) → is_some (if b then Some bytes else None) ≡ b
 datagram_some true bytes = refl
 datagram_some false bytes = refl
@@ -72,7 +67,7 @@ module _ (r : RmcRule) (c : Settings) (s : ℕ) (h : History) (e : Entry) (are :
   due = ap is_due_message picks ∙ due_same (selected_at c s h e)
 
   -- but for the count
-  with_count : (count : ℕ) → count ≡ lines_before r c s (e ∷ h) % 999 → JoinStands r c s (e ∷ h) (record (rows_after holder new j) { count = count })
+  with_count : (count : ℕ) → count ≡ lines_before r c s (e ∷ h) % most_count → JoinStands r c s (e ∷ h) (record (rows_after holder new j) { count = count })
   with_count count is = record {
     talker = stands.talker;
     sfi = stands.sfi;
@@ -92,17 +87,17 @@ module _ (r : RmcRule) (c : Settings) (s : ℕ) (h : History) (e : Entry) (are :
       by : (b : Bool) → is_due (selected_at c s h e) ≡ b → JoinStands r c s (e ∷ h) (join_after holder new j)
       by true is =
           subst (λ t. JoinStands r c s (e ∷ h) (if t then counted (rows_after holder new j) else rows_after holder new j)) (sym (due ∙ is))
-          (with_count ((j.count + 1) % 999)
-          (ap (λ n. (n + 1) % 999) stands.count ∙ one_line (lines_before r c s h) ∙ ap (λ n. n % 999) (sym (lines_after true is))))
+          (with_count ((j.count + 1) % most_count)
+          (ap (λ n. (n + 1) % most_count) stands.count ∙ mod-add-mod (lines_before r c s h) most_count 1 ∙ ap (λ n. n % most_count) (sym (lines_after true is))))
       by false is =
           subst (λ t. JoinStands r c s (e ∷ h) (if t then counted (rows_after holder new j) else rows_after holder new j)) (sym (due ∙ is))
-          (with_count j.count (stands.count ∙ ap (λ n. n % 999) (sym (lines_after false is))))
+          (with_count j.count (stands.count ∙ ap (λ n. n % most_count) (sym (lines_after false is))))
 
   -- the rows say at the moment of the entry what is joined then
   minimum_is : minimum_in (moment_of e) (rows_after holder new j) ≡ minimum r c s (e ∷ h) (moment_of e)
   minimum_is =
-      says_minimum r c s (e ∷ h) (record (rows_after holder new j) { count = lines_before r c s (e ∷ h) % 999 }) (moment_of e)
-      (with_count (lines_before r c s (e ∷ h) % 999) refl)
+      says_minimum r c s (e ∷ h) (record (rows_after holder new j) { count = lines_before r c s (e ∷ h) % most_count }) (moment_of e)
+      (with_count (lines_before r c s (e ∷ h) % most_count) refl)
 
   says_so : join_says (moment_of e) holder new j ≡ rmc_datagram r c s h e
   says_so =
@@ -112,11 +107,8 @@ module _ (r : RmcRule) (c : Settings) (s : ℕ) (h : History) (e : Entry) (are :
       ∙ ap (λ (bytes : List ℕ). if is_due (selected_at c s h e) then Some bytes else None)
       (ap (λ v. datagram_by v j.talker j.count x) stands.sfi ∙ ap (λ v. datagram_by r.sfi v j.count x) stands.talker
       ∙ ap (λ n. datagram_by r.sfi r.talker n x) stands.count
-      ∙ same_header (lines_before r c s h) x
+      ∙ counted_modulo r.sfi (lines_before r c s h) (rmc_text r.talker x)
       ∙ ap (datagram_by r.sfi r.talker (lines_before r c s h)) minimum_is)
-    where
-      same_header : (n : ℕ) (x : Minimum) → datagram_by r.sfi r.talker (n % 999) x ≡ datagram_by r.sfi r.talker n x
-      same_header n x = ap (λ k. header ++ line_text (record { group = None; source = r.sfi; count = k + 1 }) (rmc_text r.talker x)) (same_count n)
 
   joined_so : (after : Join) (said : Bool) (packet : List ℕ) → after ≡ join_after holder new j → said ≡ is_due_message new
       → packet ≡ bytes_in (join_says (moment_of e) holder new j) → IsJoined r c s h e after said packet

@@ -15,7 +15,7 @@ use Rattle.joined_rmc.specs.declared.last_of_row.LastOfRow.{LastOfRow}
 use Rattle.joined_rmc.specs.Lasting.{says_position, unless_old}
 use Rattle.joined_rmc.specs.RmcOut.{datagram_by, minimum_of, timeout_of}
 
--- a message of each row, and how many lines were said, from 0 to 998
+-- a message of each row, and how many lines were said, modulo the greatest count
 pub record Join : Type 0 where
   pub talker : List ℕ
   pub sfi : List ℕ

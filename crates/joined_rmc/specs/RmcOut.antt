@@ -1,6 +1,6 @@
 -- The datagram with RMC (IEC 61162-1, IEC 61162-450) that an entry gives, over everything that ever came: one for each message that is
 -- selected and says where the ship is.
-use Rattle.std.specs.Prelude.{ℕ, ◌+◌, ◌%◌, ℤ, not, List, [], ◌∷◌, ◌++◌, slice_index, Option, Some, None, if◌then◌else◌}
+use Rattle.std.specs.Prelude.{ℕ, ◌+◌, ℤ, not, List, [], ◌∷◌, slice_index, Option, Some, None, if◌then◌else◌}
 use Rattle.readings.specs.declared.reading.Reading.{Reading}
 use Rattle.readings.specs.declared.reading.Reading.TheVariants as reading
 use Rattle.readings.specs.declared.rows.Row.{Row}
@@ -9,8 +9,7 @@ use Rattle.readings.specs.Rows.{row_number}
 use Rattle.sentence_rows.specs.Writing.{only_if}
 use Rattle.sentence_rows.specs.declared.rmc.Minimum.{Minimum}
 use Rattle.sentence_rows.specs.Rmc.{rmc_text}
-use Rattle.tag_block.specs.Tag.{most_count}
-use Rattle.datagram450.specs.Datagram.{header, line_text}
+use Rattle.datagram450.specs.Datagram.{sentence_datagram}
 use Rattle.gate_events.specs.Emit.{Emit, net}
 use Rattle.history.specs.Entries.{Entry, History, moment_of}
 use Rattle.history.specs.Settings.{Settings}
@@ -75,9 +74,9 @@ minimum_of time position motion heading = record {
   variation = variation_in heading;
 }
 
--- the datagram: so many lines were said before, modulo the greatest count
+-- the datagram: so many lines were said before
 abbrev pub datagram_by : List ℕ → List ℕ → ℕ → Minimum → List ℕ
-datagram_by sfi talker before x = header ++ line_text (record { group = None; source = sfi; count = before % most_count + 1 }) (rmc_text talker x)
+datagram_by sfi talker before x = sentence_datagram sfi before (rmc_text talker x)
 
 -- ---- over the history
 

@@ -1,5 +1,5 @@
 //! RMC, joined from what was said last of each row.
-ghost use Rattle.std.specs.Prelude.{◌≡◌, ◌<◌, ℕ, [], length, IsTrue};
+ghost use Rattle.std.specs.Prelude.{◌≡◌, ℕ, [], length, IsTrue};
 ghost use Rattle.std.specs.List.{list_all};
 ghost use Rattle.sentence_text.specs.Byte.{is_capital};
 ghost use Rattle.sentence_text.specs.Names.{IsSfi};
@@ -14,7 +14,7 @@ ghost use Rattle.joined_rmc.specs.RmcOut.{datagram_by, rule_by};
 
 use crate::last_of_row::{LastOfRow, is_of};
 use crate::minimum::minimum;
-use datagram450::{begin, push_line};
+use datagram450::write_sentence;
 use gate_core::{Gateway, Outbox};
 use readings::{ROWS, Row, usable};
 use selected_messages::SelectedMessage;
@@ -23,7 +23,7 @@ use sentence_rows::{Minimum, write_rmc};
 use sentence_text::Sfi;
 use settings::RmcConfig;
 use std::marker::Model;
-use tag_block::{MOST_COUNT, Packet, TagParts};
+use tag_block::{MOST_COUNT, Packet};
 
 /// What is kept of the messages that RMC is made from.
 #[derive(Drop)]
@@ -37,7 +37,7 @@ pub struct RmcJoin {
     motion: LastOfRow,
     /// The magnetic heading, with the variation.
     heading: LastOfRow,
-    /// How many lines were said, from 0 to 998.
+    /// How many lines were said, modulo [`MOST_COUNT`].
     count: u16,
 }
 
@@ -45,6 +45,7 @@ impl Model for RmcJoin {
     ghost use Rattle.std.specs.Prelude.{◌<◌, IsTrue};
     ghost use Rattle.std.specs.List.{list_all};
     ghost use Rattle.sentence_text.specs.Byte.{is_capital};
+    ghost use Rattle.tag_block.specs.Tag.{most_count};
     ghost use Rattle.selected_messages.specs.Picked.{IsMessageValid};
     ghost use Rattle.joined_rmc.specs.Kept.{Join};
 
@@ -61,7 +62,7 @@ impl Model for RmcJoin {
     } };
 
     ghost invariant = { λ j. IsTrue (list_all is_capital j.talker) × IsMessageValid j.time.message × IsMessageValid j.position.message
-        × IsMessageValid j.motion.message × IsMessageValid j.heading.message × (j.count < 999) };
+        × IsMessageValid j.motion.message × IsMessageValid j.heading.message × (j.count < most_count) };
 }
 
 impl RmcJoin {
@@ -172,16 +173,9 @@ fn write_datagram(talker: [u8; 2], source: Sfi, before: u16, says: &Minimum, pac
     requires empty { packet.old.items ≡ [] }
     requires talker { IsTrue (list_all is_capital talker) }
     requires values { IsMinimum says.now }
-    requires count { before < 999 }
     ensures { packet.new.items ≡ datagram_by source talker before says.now }
 {
     let mut sentence = SentenceText::default();
     write_rmc(talker, says, &mut sentence);
-    begin(packet);
-    let tag = TagParts {
-        group: None,
-        source,
-        count: before % MOST_COUNT + 1,
-    };
-    let _fits = push_line(&tag, &sentence.bytes, packet);
+    write_sentence(source, before, &sentence.bytes, packet);
 }
