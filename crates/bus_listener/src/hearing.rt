@@ -6,12 +6,11 @@ ghost use Rattle.bus_messages.specs.Heard.{lent_payload};
 ghost use Rattle.gate_core.specs.Steps.{IsEventValid, by_keys, entry_of};
 ghost use Rattle.gate_model.specs.FastPackets.{lost_of_source, without_source};
 ghost use Rattle.gate_outbox.specs.Output.{and_told};
-ghost use Rattle.bus_listener.specs.Kinds.{is_message, is_told};
 ghost use Rattle.bus_listener.specs.Lent.{ends_with, heard_message};
 ghost use Rattle.bus_listener.specs.Kept.{complete_from, entered, given_up, heard, lost, taken_as, unclaimed_told};
 ghost use Rattle.bus_listener.specs.Promises.{step_by};
 
-use crate::kinds::Kinds;
+use crate::kinds::{Kinds, is_message, is_told};
 use crate::listener::BusListener;
 use crate::message::HeardMessage;
 use bus_messages::fast;
@@ -22,7 +21,7 @@ use gate_events::Event;
 use gate_outbox::Emits;
 use gate_outbox::reports::of_source;
 use n2k_id::{Frame, Name, Parts, parts};
-use pgn_profile::{Kind, kind};
+use pgn_profile::Kind;
 use report_rules::UNCLAIMED;
 
 impl BusListener {
@@ -174,23 +173,6 @@ fn tell_unclaimed<const ROOM: usize>(parts: &Parts, emits: &mut Emits<ROOM>)
 {
     if is_told(parts.pgn) {
         emits.tell(of_source(UNCLAIMED, parts.source, parts.pgn));
-    }
-}
-
-/// Whether what a frame of the PGN breaks is told here.
-fn is_told(pgn: u32) -> bool
-    ensures { result ≡ is_told pgn }
-{
-    !is_message(kind(pgn))
-}
-
-/// Whether messages come so.
-fn is_message(kind: Kind) -> bool
-    ensures { result ≡ is_message kind }
-{
-    match kind {
-        Kind::Single | Kind::Fast => true,
-        Kind::Outside => false,
     }
 }
 

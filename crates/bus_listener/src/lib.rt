@@ -11,7 +11,7 @@ mod laws;
 mod listener;
 mod message;
 
-pub use kinds::Kinds;
+pub use kinds::{Kinds, is_told};
 pub use laws::{commands_leave_the_listener, open_messages_keep_the_limit};
 pub use listener::BusListener;
 pub use message::HeardMessage;

@@ -1,8 +1,9 @@
 -- What is noted and said of a message, by what is kept, is what the definition over all that came says.
 use Rattle.std.proofs.Common.{◌≡◌, ℕ, ◌+◌, ◌%◌, Bool, true, false, List, [], ◌∷◌, ◌++◌, Option, Some, None, option_map, option_and_then, if◌then◌else◌, refl, sym, ap, subst, ◌∙◌, append-nil, arith}
+use Rattle.std.proofs.Math.Nat.{mod-add-mod}
 use Rattle.gate_events.specs.Emit.{net}
 use Rattle.tag_block.specs.Tag.{most_count}
-use Rattle.datagram450.specs.Datagram.{header, line_text}
+use Rattle.datagram450.proofs.Counts.{counted_modulo}
 use Rattle.quantities.specs.Saying.{sentence_of}
 use Rattle.quantities.specs.Told.{told}
 use Rattle.quantities.specs.declared.value.Told.{Told}
@@ -51,23 +52,16 @@ abbrev pub lines_after : ℕ → Option Value → ℕ
 lines_after n None = n
 lines_after n (Some v) = (n + 1) % most_count
 
-count_on : (n j : ℕ) → (n % 999 + j) % 999 ≡ (n + j) % 999
-count_on n j = grind arith
-
-mod_twice : (n : ℕ) → n % 999 % 999 ≡ n % 999
-mod_twice n = grind arith
-
 pub lines_are : (n : ℕ) (v : Option Value) → lines_after (n % most_count) v ≡ (n + line_count v) % most_count
 lines_are n None = ap (λ k. k % most_count) (omega arith)
-lines_are n (Some v) = count_on n 1
+lines_are n (Some v) = mod-add-mod n most_count 1
 
 -- the datagram is the same by the count as by the number of lines
 pub same_count : (x : FurtherRule) (sfi : List ℕ) (n : ℕ) (v : Option Value) → said_gives x sfi (n % most_count) v ≡ said_gives x sfi n v
 unfolding value_datagram
 same_count x sfi n None = refl
 same_count x sfi n (Some v) =
-    ap (λ count. net x.group (header ++ line_text (record { group = None; source = sfi; count = count + 1 }) (sentence_of (talker_at x (number_in v)) v)) ∷ [])
-    (mod_twice n)
+    ap (λ bytes. net x.group bytes ∷ []) (counted_modulo sfi n (sentence_of (talker_at x (number_in v)) v))
 
 -- ---- a message, or none: by what is kept
 

@@ -1,11 +1,10 @@
 -- What is emitted of further quantities, as a definition over all that came: messages of the parameter groups of their table are heard (single
 -- frames and fast packets, canboat) of devices that hold their address (ISO 11783-5), and the message of the best source that is fresh is said
 -- in one sentence (IEC 61162-1) in one datagram (IEC 61162-450).
-use Rattle.std.specs.Prelude.{ℕ, ◌+◌, ◌%◌, List, [], ◌∷◌, ◌++◌, Option, Some, None, option_map, option_and_then, if◌then◌else◌}
+use Rattle.std.specs.Prelude.{ℕ, ◌+◌, List, [], ◌∷◌, ◌++◌, Option, Some, None, option_map, option_and_then, if◌then◌else◌}
 use Rattle.report_rules.specs.Rules as rules
 use Rattle.gate_events.specs.Emit.{Emit, net}
-use Rattle.tag_block.specs.Tag.{most_count}
-use Rattle.datagram450.specs.Datagram.{header, line_text}
+use Rattle.datagram450.specs.Datagram.{sentence_datagram}
 use Rattle.quantities.specs.About.{number_of}
 use Rattle.quantities.specs.Saying.{is_usable, sentence_of}
 use Rattle.quantities.specs.Told.{kind_of, told}
@@ -54,10 +53,10 @@ module _ (x : FurtherRule) (holders : List (Option Holder)) (older : List Messag
   abbrev pub selected : Message → Option Value
   selected d = option_and_then (selected_value d) (value_of d)
 
--- ---- a value that is said: one sentence in one datagram, with its count on the transmission group, of which so many were sent before
+-- ---- a value that is said: one sentence in one datagram, before which so many lines were said
 
 unfoldable pub value_datagram : List ℕ → List ℕ → ℕ → Value → List ℕ
-value_datagram sfi talker before v = header ++ line_text (record { group = None; source = sfi; count = before % most_count + 1 }) (sentence_of talker v)
+value_datagram sfi talker before v = sentence_datagram sfi before (sentence_of talker v)
 
 abbrev pub said_gives : FurtherRule → List ℕ → ℕ → Option Value → List Emit
 said_gives x sfi before None = []

@@ -42,13 +42,14 @@ pub struct FurtherBridge {
     pub(crate) listener: BusListener,
     /// What each source said last of each of them.
     pub(crate) choice: Choice,
-    /// How many lines were said, modulo 999.
+    /// How many lines were said, modulo [`tag_block::MOST_COUNT`].
     pub(crate) lines: u16,
 }
 
 impl Model for FurtherBridge {
     ghost use Rattle.std.specs.Prelude.{◌≡◌, ◌<◌, ◌≤◌, All, length};
     ghost use Rattle.quantities.specs.About.{quantities_count};
+    ghost use Rattle.tag_block.specs.Tag.{most_count};
     ghost use Rattle.settings.specs.Further.{IsQuantity};
     ghost use Rattle.further_bridge.specs.FurtherRule.{further_rule};
     ghost use Rattle.further_bridge.specs.Kept.{FurtherKept};
@@ -64,7 +65,7 @@ impl Model for FurtherBridge {
     } };
 
     ghost invariant = { λ b. All IsQuantity b.config.quantities.each × (b.listener.limit ≤ 256) × (b.choice.sources ≡ 254)
-        × (length b.choice.subjects ≡ quantities_count) × (b.lines < 999) };
+        × (length b.choice.subjects ≡ quantities_count) × (b.lines < most_count) };
 }
 
 impl FurtherBridge {

@@ -1,7 +1,6 @@
 //! What is noted and said of a message that is complete.
 ghost use Rattle.std.specs.Prelude.{◌≡◌, ◌<◌, IfSome, Some};
 ghost use Rattle.claim_table.specs.Claims.{places};
-ghost use Rattle.bus_listener.specs.Kinds.{is_told};
 ghost use Rattle.gate_model.specs.Choosing.{is_ranked_chosen, ranked_after};
 ghost use Rattle.gate_outbox.specs.Output.{and_left, and_posted, and_told};
 ghost use Rattle.quantities.specs.Told.{GivesFrom, IsFrom, entries};
@@ -12,10 +11,10 @@ ghost use Rattle.further_bridge.specs.Kept.{counted, forgotten_at, given_up, has
 use crate::bridge::{FurtherBridge, FurtherEmits};
 use crate::said::Said;
 use crate::writing::write_value;
+use bus_listener::is_told;
 use gate_core::Gateway;
 use gate_outbox::reports::of_source;
 use n2k_id::address::ADDRESSES;
-use pgn_profile::{Kind, kind};
 use quantities::{Told, Value, usable};
 use report_rules::SHORT_MESSAGE;
 use source_choice::{Choice, Rank};
@@ -131,11 +130,4 @@ fn tell_short(said: &Said, emits: &mut FurtherEmits)
     if is_told(said.pgn) {
         emits.tell(of_source(SHORT_MESSAGE, said.source, said.pgn));
     }
-}
-
-/// Whether what messages of the PGN break is told here: the gateway tells that of its own.
-fn is_told(pgn: u32) -> bool
-    ensures { result ≡ is_told pgn }
-{
-    matches!(kind(pgn), Kind::Outside)
 }

@@ -1,17 +1,17 @@
 //! The datagram of a value.
-ghost use Rattle.std.specs.Prelude.{◌≡◌, ◌<◌, [], IsTrue};
+ghost use Rattle.std.specs.Prelude.{◌≡◌, [], IsTrue};
 ghost use Rattle.std.specs.List.{list_all};
 ghost use Rattle.sentence_text.specs.Byte.{is_capital};
 ghost use Rattle.quantities.specs.Told.{IsFrom, entries};
 ghost use Rattle.further_bridge.specs.FurtherOut.{value_datagram};
 
-use datagram450::{begin, push_line};
+use datagram450::write_sentence;
 use quantities::{Value, sentence};
 use sentence_fields::SentenceText;
 use sentence_text::Sfi;
-use tag_block::{MOST_COUNT, Packet, TagParts};
+use tag_block::Packet;
 
-/// Writes the datagram of a value with its one line, of which so many were said before, modulo 999.
+/// Writes the datagram of a value. So many lines were said before.
 #[tactic(auto, unfolding(crate::specs::FurtherOut::value_datagram))]
 pub(crate) fn write_value(
     source: Sfi,
@@ -22,17 +22,10 @@ pub(crate) fn write_value(
 )
     requires range { IsFrom entries value.now }
     requires talker { IsTrue (list_all is_capital talker) }
-    requires count { before < 999 }
     requires empty { packet.old.items ≡ [] }
     ensures { packet.new.items ≡ value_datagram source talker before value.now }
 {
-    let tag = TagParts {
-        group: None,
-        source,
-        count: before % MOST_COUNT + 1,
-    };
     let mut line = SentenceText::default();
     sentence(value, talker, &mut line);
-    begin(packet);
-    let _fits = push_line(&tag, &line.bytes, packet);
+    write_sentence(source, before, &line.bytes, packet);
 }
