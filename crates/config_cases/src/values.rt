@@ -3,7 +3,7 @@ use arrayvec::ArrayVec;
 use claim_table::Preset;
 use config_values::{Config, Ends, RowConfig};
 use n2k_id::{Name, Pattern};
-use network_routes::{Address, Route, Routes};
+use network_routes::{Address, MOST_ROUTES, Route, Routes};
 use sentence_text::{Group, Sfi};
 use std::test::Fail;
 
@@ -107,7 +107,7 @@ fn sources(list: &[Pattern]) -> ArrayVec<Pattern, 16> {
     sources
 }
 
-fn routes(list: &[(&[u8], &[u8])]) -> ArrayVec<Route, 8> {
+fn routes(list: &[(&[u8], &[u8])]) -> ArrayVec<Route, MOST_ROUTES> {
     let mut routes = ArrayVec::new();
     for (group, address) in list {
         let _fits = routes.try_push(Route {
@@ -427,7 +427,7 @@ fn all_net_sources() -> ArrayVec<Sfi, 32> {
     sources
 }
 
-fn all_routes() -> ArrayVec<Route, 8> {
+fn all_routes() -> ArrayVec<Route, MOST_ROUTES> {
     let mut routes = ArrayVec::new();
     for digit in b'1'..=b'8' {
         let _fits = routes.try_push(Route {

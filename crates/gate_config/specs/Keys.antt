@@ -21,6 +21,7 @@ use Rattle.config_document.specs.declared.fault.Flaw.TheVariants as flaw
 use Rattle.bus_identity.specs.declared.product.Product.{Product}
 use Rattle.config_values.specs.declared.config.Ends.{Ends}
 use Rattle.config_values.specs.declared.row_config.RowConfig.{RowConfig}
+use Rattle.network_routes.specs.Routes.{most_routes}
 use Rattle.network_routes.specs.declared.Route.{Route}
 use Rattle.settings.specs.declared.ais.AisConfig.{AisConfig}
 use Rattle.settings.specs.declared.further.Further.{Further}
@@ -272,7 +273,7 @@ unfoldable pub links_in : List ℕ → Place → Result (ArrayVec (List ℕ) × 
 links_in own document = do
   n ← table_in net own document
   b ← table_in bus tt document
-  routes ← items_in route 8 tt document
+  routes ← items_in route most_routes tt document
   Ok (n.0, record { bus_listen = b.0; bus_send = b.1; net_listen = n.1; net = record { list = routes; other = n.2 } })
 
 -- identity, rmc and ais

@@ -2,6 +2,7 @@
 ghost use Rattle.std.specs.Prelude.{◌≡◌, IfOk};
 ghost use Rattle.config_document.specs.Places.{place_of};
 ghost use Rattle.config_values.specs.Configs.{AreRoutes};
+ghost use Rattle.network_routes.specs.Routes.{most_routes};
 ghost use Rattle.gate_config.specs.Beside.{IsRouteBeside};
 ghost use Rattle.gate_config.specs.Keys.{group_stands, route};
 ghost use Rattle.gate_config.specs.Reading.{items_in};
@@ -11,17 +12,14 @@ use crate::items::item_prefix;
 use crate::keys::needed_text;
 use arrayvec::ArrayVec;
 use config_document::{ConfigFault, Flaw, Section};
-use network_routes::Route;
+use network_routes::{MOST_ROUTES, Route};
 use sentence_text::Group;
 
 pub(crate) const KEYS: [&str; 2] = ["group", "address"];
 
-/// How many routes there may be.
-const MOST_ROUTES: usize = 8;
-
 #[tactic(auto, using(crate::proofs::Beside::no_routes, crate::proofs::Beside::one_more_route), unfolding(crate::specs::Keys::route))]
-pub(crate) fn route_keys(document: &Section) -> Result<ArrayVec<Route, 8>, ConfigFault>
-    ensures said { result ≡ items_in route 8 tt (place_of document.now) }
+pub(crate) fn route_keys(document: &Section) -> Result<ArrayVec<Route, MOST_ROUTES>, ConfigFault>
+    ensures said { result ≡ items_in route most_routes tt (place_of document.now) }
     ensures valid { IfOk result (λ routes. AreRoutes routes.items) }
 {
     let values = document.tables_at("route", MOST_ROUTES)?;

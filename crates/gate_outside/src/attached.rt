@@ -4,6 +4,7 @@ ghost use Rattle.gate_outside.specs.Link.{longest_address, route_of};
 
 use crate::{Address, Route, Routes};
 use arrayvec::ArrayVec;
+use network_routes::MOST_ROUTES;
 use std::marker::Model;
 
 /// Where a link listens and sends.
@@ -32,7 +33,7 @@ fn copy_of(address: &[u8]) -> Address
 }
 
 // A copy of a list of routes.
-fn routes_like(list: &ArrayVec<Route, 8>) -> ArrayVec<Route, 8>
+fn routes_like(list: &ArrayVec<Route, MOST_ROUTES>) -> ArrayVec<Route, MOST_ROUTES>
     ensures { map route_of result.items ≡ map route_of list.now.items }
 {
     let mut copy = ArrayVec::new();

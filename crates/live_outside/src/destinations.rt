@@ -3,7 +3,7 @@ ghost use Rattle.std.specs.Prelude.{◌≡◌, IfSome};
 ghost use Rattle.live_outside.specs.Destinations.{IsOfRoute};
 
 use arrayvec::ArrayVec;
-use network_routes::{Route, Routes};
+use network_routes::{MOST_ROUTES, Route, Routes};
 use sentence_text::Group;
 use std::net::{Ipv4Addr, SocketAddrV4};
 
@@ -26,7 +26,7 @@ impl Default for Destination {
 /// Where what is sent to a group goes.
 #[derive(Drop)]
 pub(crate) struct Destinations {
-    list: ArrayVec<Destination, 8>,
+    list: ArrayVec<Destination, MOST_ROUTES>,
     other: SocketAddrV4,
 }
 

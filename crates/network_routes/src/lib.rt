@@ -6,6 +6,9 @@ ghost use Rattle.std.specs.Prelude.{◌≡◌, []};
 use arrayvec::ArrayVec;
 use sentence_text::Group;
 
+/// How many groups may have an address of their own.
+pub const MOST_ROUTES: usize = 8;
+
 /// An address of a network as text, such as `127.0.0.1:60001`.
 pub type Address = ArrayVec<u8, 64>;
 
@@ -34,7 +37,7 @@ impl Default for Route {
 #[derive(Clone, Drop)]
 pub struct Routes {
     /// The groups that have an address of their own.
-    pub list: ArrayVec<Route, 8>,
+    pub list: ArrayVec<Route, MOST_ROUTES>,
     /// The address of every other group.
     pub other: Address,
 }
