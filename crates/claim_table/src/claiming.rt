@@ -2,7 +2,7 @@
 ghost use Rattle.std.specs.Prelude.{◌≡◌, ◌<◌, ◌+◌, ◌%◌, ◌↔◌, ◌==◌, ◌&&◌, ◌||◌, ℕ, true, false, not, nat_lt};
 ghost use Rattle.std.specs.Prelude.{is_none, length, All, Err, IfOk, IfSome, IsTrue, None, Some, position, slice_set};
 ghost use Rattle.claim_table.specs.Cases.{CanGoTo, IsCase, IsReady};
-ghost use Rattle.claim_table.specs.Claims.{IsSinceBy, answer_to_request, at_other, at_own, claim, claim_of, command, holder_at, is_held_by, is_obeyed, is_ready, left_by, moved, next_free, next_own, other_than, settled, started, step_of, vacated, with_released, with_taken, without_left, claims_at_start, repeats, takes};
+ghost use Rattle.claim_table.specs.Claims.{IsSinceBy, answer_to_request, at_other, at_own, claim, claim_of, command, holder_at, is_held_by, is_obeyed, is_ready, left_by, move_places, moved, next_free, next_own, other_than, places, settled, started, step_of, vacated, with_released, with_taken, without_left, claims_at_start, repeats, takes};
 ghost use Rattle.claim_table.specs.Laws.{IsSound};
 
 use crate::answer::{ClaimStep, Holder, OwnAnswer};
@@ -30,13 +30,13 @@ pub struct ClaimTable {
 
 impl Model for ClaimTable {
     ghost use Rattle.std.specs.Prelude.{◌≡◌, length};
-    ghost use Rattle.claim_table.specs.Claims.{Claims};
+    ghost use Rattle.claim_table.specs.Claims.{Claims, places};
 
     ghost Value = { Claims };
 
     ghost view = { λ t. record { name = t.name.0; holders = t.holders.items; own = t.own; counted_from = t.counted_from } };
 
-    ghost invariant = { λ t. length t.holders.items ≡ 254 };
+    ghost invariant = { λ t. length t.holders.items ≡ places };
 }
 
 /// Where a NAME that takes the gateway's address comes from, and where the gateway goes.
@@ -59,8 +59,8 @@ impl ClaimTable {
         preferred: u8,
         presets: &[Preset],
     ) -> Result<ClaimTable, ClaimFault>
-        requires preferred { preferred < 252 }
-        requires presets { All (λ p. p.address < 254) presets.now }
+        requires preferred { preferred < move_places }
+        requires presets { All (λ p. p.address < places) presets.now }
         ensures twice { (result ≡ Err ClaimFault.PresetTwice) ↔ (repeats presets.now ≡ true) }
         ensures taken { (result ≡ Err ClaimFault.OwnTaken) ↔ ((repeats presets.now ≡ false) × (takes own.0 preferred presets.now ≡ true)) }
         ensures opened { IfOk result (λ table. table ≡ claims_at_start own.0 preferred presets.now) }
@@ -170,7 +170,7 @@ impl ClaimTable {
     /// moves. One pass over the places tells both which address the NAME leaves and where the gateway
     /// goes, which may be the address left.
     fn give_way(&mut self, address: u8, name: Name, index: u64, moment: u64) -> ClaimStep
-        requires { address < 254 }
+        requires { address < places }
         ensures after { let k = claim_of address name.0 index moment in self.new ≡ (at_own (without_left self.old k) k false).after }
         ensures step { let k = claim_of address name.0 index moment in
             result ≡ (with_released (left_by self.old k) (at_own (without_left self.old k) k false)).step }
@@ -205,9 +205,9 @@ impl ClaimTable {
     /// arbitrary address capable goes nowhere, so that no free address is sought for it.
     #[tactic(auto, unfolding(crate::specs::Claims::next_own, n2k_id::specs::Name::fields_of))]
     fn ways(&self, lost: u8, name: Name) -> Ways
-        requires { lost < 254 }
+        requires { lost < places }
         ensures left { result.left ≡ other_than lost (position (is_held_by name.0) self.now.holders) }
-        ensures within { IfSome result.left (λ place. place < 254) }
+        ensures within { IfSome result.left (λ place. place < places) }
         ensures next { (index moment : ℕ) → let vacant = vacated self.now.holders result.left in result.next ≡
             next_own (with_taken (record self.now { holders = vacant }) (claim_of lost name.0 index moment)) lost }
     {
@@ -225,10 +225,10 @@ impl ClaimTable {
     /// and the first after the lost one that has no holder then. That is the one with the fewest steps,
     /// so that the pass may begin at any place.
     fn search(&self, lost: u8, name: Name) -> Ways
-        requires lost { lost < 254 }
-        requires room { length self.now.holders ≡ 254 }
+        requires lost { lost < places }
+        requires room { length self.now.holders ≡ places }
         ensures left { result.left ≡ other_than lost (position (is_held_by name.0) self.now.holders) }
-        ensures within { IfSome result.left (λ place. place < 254) }
+        ensures within { IfSome result.left (λ place. place < places) }
         ensures next { (h : Holder) → result.next ≡ next_free (slice_set (vacated self.now.holders result.left) lost (Some h)) lost }
     {
         let mut held = None;
@@ -252,14 +252,14 @@ impl ClaimTable {
     /// The address that the NAME leaves by claiming this one.
     fn left_by(&self, address: u8, name: Name) -> Option<u8>
         ensures left { result ≡ other_than address (position (is_held_by name.0) self.now.holders) }
-        ensures within { IfSome result (λ place. place < 254) }
+        ensures within { IfSome result (λ place. place < places) }
     {
         other_than(address, place_of(&self.holders, name))
     }
 
     /// Nobody holds the address any more.
     fn vacate(&mut self, left: Option<u8>)
-        requires { IfSome left (λ place. place < 254) }
+        requires { IfSome left (λ place. place < places) }
         ensures { self.new ≡ record self.old { holders = vacated self.old.holders left } }
     {
         if let Some(place) = left {
@@ -270,7 +270,7 @@ impl ClaimTable {
     /// What comes of a claim that the gateway doesn't give way to, once the NAME holds no other address.
     fn settle(&mut self, address: u8, name: Name, index: u64) -> ClaimStep
         requires within { address < 255 }
-        requires stays { address < 254 → self.old.own ≡ Some address → self.old.name < name.0 }
+        requires stays { address < places → self.old.own ≡ Some address → self.old.name < name.0 }
         ensures after { self.new ≡ (settled self.old (claim_of address name.0 index 0) (address == 254)).after }
         ensures step { result ≡ (settled self.old (claim_of address name.0 index 0) (address == 254)).step }
     {
@@ -286,7 +286,7 @@ impl ClaimTable {
 
     /// The NAME holds the address from this index on.
     fn take(&mut self, address: u8, name: Name, index: u64)
-        requires { address < 254 }
+        requires { address < places }
         ensures { self.new ≡ with_taken self.old (claim_of address name.0 index 0) }
     {
         self.holders[usize::from(address)] = Some(Holder { name, since: index });
@@ -294,7 +294,7 @@ impl ClaimTable {
 
     /// An address that isn't the gateway's is claimed: the smaller NAME has it.
     fn contest(&mut self, address: u8, name: Name, index: u64) -> ClaimStep
-        requires { address < 254 }
+        requires { address < places }
         ensures after { self.new ≡ (at_other self.old (claim_of address name.0 index 0) (holder_at self.old.holders address)).after }
         ensures step { result ≡ (at_other self.old (claim_of address name.0 index 0) (holder_at self.old.holders address)).step }
     {
@@ -342,9 +342,9 @@ impl ClaimTable {
 
 /// The address that the NAME holds. A table has 254 places, so its place is a byte.
 fn place_of(holders: &[Option<Holder>], name: Name) -> Option<u8>
-    requires { length holders.now ≡ 254 }
+    requires { length holders.now ≡ places }
     ensures place { result ≡ position (is_held_by name.0) holders.now }
-    ensures within { IfSome result (λ place. place < 254) }
+    ensures within { IfSome result (λ place. place < places) }
 {
     match first_of(holders, name) {
         None => None,
@@ -389,17 +389,17 @@ fn is_first_held(before: Option<u8>, holder: &Option<Holder>, name: Name) -> boo
 /// Whether the gateway may move to a place from the lost one: nobody is there, or the NAME that takes the
 /// lost one leaves it.
 fn is_open(lost: u8, place: u8, holder: &Option<Holder>, leaves: bool) -> bool
-    ensures open { result ≡ (nat_lt place 252 && not (place == lost) && (leaves || is_none holder.now)) }
-    ensures within { IsTrue result → place < 252 }
+    ensures open { result ≡ (nat_lt place move_places && not (place == lost) && (leaves || is_none holder.now)) }
+    ensures within { IsTrue result → place < move_places }
 {
     place < MOVE_PLACES && place != lost && (leaves || holder.is_none())
 }
 
 /// The address that a NAME holds, unless it is this one.
 fn other_than(address: u8, held: Option<u8>) -> Option<u8>
-    requires { IfSome held (λ place. place < 254) }
+    requires { IfSome held (λ place. place < places) }
     ensures other { result ≡ other_than address held }
-    ensures within { IfSome result (λ place. place < 254) }
+    ensures within { IfSome result (λ place. place < places) }
 {
     match held {
         None => None,
@@ -410,10 +410,10 @@ fn other_than(address: u8, held: Option<u8>) -> Option<u8>
 /// How many steps on from the first address after the lost one this one is, in cyclic order over those
 /// that the gateway may move to.
 fn steps_to(lost: u8, address: u8) -> u8
-    requires lost { lost < 254 }
-    requires address { address < 252 }
-    ensures there { (lost + 1 + result) % 252 ≡ address }
-    ensures within { result < 252 }
+    requires lost { lost < places }
+    requires address { address < move_places }
+    ensures there { (lost + 1 + result) % move_places ≡ address }
+    ensures within { result < move_places }
 {
     let first = (lost + 1) % MOVE_PLACES;
     if address < first {
@@ -425,9 +425,9 @@ fn steps_to(lost: u8, address: u8) -> u8
 
 /// The address so many steps on from the first one after the lost one; none, where that is a whole round.
 fn address_after(lost: u8, steps: u8) -> Option<u8>
-    requires lost { lost < 254 }
-    ensures none { steps ≡ 252 → result ≡ None }
-    ensures some { steps < 252 → result ≡ Some ((lost + 1 + steps) % 252) }
+    requires lost { lost < places }
+    ensures none { steps ≡ move_places → result ≡ None }
+    ensures some { steps < move_places → result ≡ Some ((lost + 1 + steps) % move_places) }
 {
     if steps < MOVE_PLACES {
         Some(((u16::from(lost) + 1 + u16::from(steps)) % u16::from(MOVE_PLACES)) as u8)

@@ -1,5 +1,5 @@
 ghost use Rattle.std.specs.Prelude.{◌≡◌, ◌<◌, All, IfOk, None, length, replicate};
-ghost use Rattle.claim_table.specs.Claims.{with_presets};
+ghost use Rattle.claim_table.specs.Claims.{places, with_presets};
 ghost use Rattle.std.specs.List.{list_any};
 
 use crate::answer::Holder;
@@ -56,9 +56,9 @@ impl Preset {
 /// The presets, each at its address.
 #[tactic(auto, using(crate::proofs::PresetLemmas::placed_further, crate::proofs::PresetLemmas::placed_end))]
 pub(crate) fn placed(alloc: Global, presets: &[Preset]) -> Result<Vec<Option<Holder>>, AllocError>
-    requires { All (λ p. p.address < 254) presets.now }
-    ensures holders { IfOk result (λ holders. holders.items ≡ with_presets (replicate 254 None) presets.now) }
-    ensures room { IfOk result (λ holders. length holders.items ≡ 254) }
+    requires { All (λ p. p.address < places) presets.now }
+    ensures holders { IfOk result (λ holders. holders.items ≡ with_presets (replicate places None) presets.now) }
+    ensures room { IfOk result (λ holders. length holders.items ≡ places) }
 {
     let mut holders = vec![in alloc; None; ADDRESSES]?;
     for preset in presets {

@@ -48,6 +48,7 @@ pub struct FurtherBridge {
 
 impl Model for FurtherBridge {
     ghost use Rattle.std.specs.Prelude.{◌≡◌, ◌<◌, ◌≤◌, All, length};
+    ghost use Rattle.claim_table.specs.Claims.{places};
     ghost use Rattle.quantities.specs.About.{quantities_count};
     ghost use Rattle.tag_block.specs.Tag.{most_count};
     ghost use Rattle.settings.specs.Further.{IsQuantity};
@@ -64,7 +65,7 @@ impl Model for FurtherBridge {
       lines = b.lines;
     } };
 
-    ghost invariant = { λ b. All IsQuantity b.config.quantities.each × (b.listener.limit ≤ 256) × (b.choice.sources ≡ 254)
+    ghost invariant = { λ b. All IsQuantity b.config.quantities.each × (b.listener.limit ≤ 256) × (b.choice.sources ≡ places)
         × (length b.choice.subjects ≡ quantities_count) × (b.lines < most_count) };
 }
 

@@ -1,6 +1,6 @@
 //! Who holds which address of the bus, and how many entries there were.
 ghost use Rattle.std.specs.Prelude.{◌≡◌, ◌<◌, All, IfOk};
-ghost use Rattle.claim_table.specs.Claims.{claim, claim_of, command, is_obeyed, started, claims_at_start};
+ghost use Rattle.claim_table.specs.Claims.{claim, claim_of, command, is_obeyed, move_places, places, started, claims_at_start};
 ghost use Rattle.gate_model.specs.Addresses.{counted, no_change};
 ghost use Rattle.gate_core.specs.Changes.{changed_of};
 
@@ -53,8 +53,8 @@ impl Addresses {
         preferred: u8,
         presets: &[Preset],
     ) -> Result<Addresses, ClaimFault>
-        requires preferred { preferred < 252 }
-        requires presets { All (λ p. p.address < 254) presets.now }
+        requires preferred { preferred < move_places }
+        requires presets { All (λ p. p.address < places) presets.now }
         ensures { IfOk result (λ a. a ≡ record { claims = claims_at_start name.0 preferred presets.now; count = 0; changed = no_change }) }
     {
         let claims = ClaimTable::new(alloc, name, preferred, presets)?;

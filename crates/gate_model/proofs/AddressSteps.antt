@@ -5,7 +5,7 @@ use Rattle.n2k_id.specs.Frame.{BusFrame}
 use Rattle.claim_table.specs.declared.answer.Holder.{Holder}
 use Rattle.claim_table.specs.Claims.{Claims, Outcome, IsSinceBy, claim, command, claims_at_start}
 use Rattle.claim_table.specs.Laws.{capped, capped_holder, capped_outcome}
-use Rattle.claim_table.proofs.CappedLemmas.{indices_may_stop}
+use Rattle.claim_table.proofs.RenumberedLemmas.{indices_may_stop}
 use Rattle.claim_table.proofs.OpenedLemmas.{opened_dated}
 use Rattle.history.specs.Entries as entry
 use Rattle.history.specs.Entries.{Entry, History}

@@ -8,7 +8,7 @@ use Rattle.pgn_profile.specs.declared.kinds.Kind.{Kind}
 use Rattle.claim_table.specs.declared.answer.Holder.{Holder}
 use Rattle.claim_table.specs.Claims.{Claims, Outcome, IsSinceBy, holder_at}
 use Rattle.claim_table.specs.Laws.{capped, capped_holder}
-use Rattle.claim_table.proofs.CappedLemmas.{indices_may_stop}
+use Rattle.claim_table.proofs.RenumberedLemmas.{indices_may_stop}
 use Rattle.history.specs.Entries as entry
 use Rattle.history.specs.Entries.{History}
 use Rattle.history.specs.Known.{known}

@@ -3,7 +3,7 @@ ghost use Rattle.std.specs.Prelude.{true, [], ◌∷◌, ◌++◌, ◌≡◌, �
 ghost use Rattle.n2k_id.specs.Frame.{IsFrame, bus_frame, held_bytes};
 ghost use Rattle.n2k_id.specs.Identifier.{parts_of};
 ghost use Rattle.n2k_id.specs.Name.{name_at};
-ghost use Rattle.claim_table.specs.Claims.{claim, claim_of};
+ghost use Rattle.claim_table.specs.Claims.{claim, claim_of, places};
 ghost use Rattle.history.specs.Emits.{own_claim};
 ghost use Rattle.history.specs.FromBus.{own_answer};
 ghost use Rattle.history.specs.Known.{address_won, is_claim};
@@ -94,8 +94,8 @@ impl State {
           };
         } }
         ensures step { result ≡ (claim self.old.addresses.claims (claim_of address name.0 self.old.addresses.count moment)).step }
-        ensures left { IfSome result.released (λ a. a < 254) }
-        ensures won { IfSome (address_won result) (λ a. a < 254) }
+        ensures left { IfSome result.released (λ a. a < places) }
+        ensures won { IfSome (address_won result) (λ a. a < places) }
     {
         self.addresses.claim(address, name, moment)
     }
@@ -123,7 +123,7 @@ impl State {
 
     /// Nothing is noted any more of an address that changes hands.
     fn forget(&mut self, source: Option<u8>)
-        requires { IfSome source (λ a. a < 254) }
+        requires { IfSome source (λ a. a < places) }
         ensures { self.new ≡ record self.old { said = said.without_source source self.old.said } }
     {
         match source {

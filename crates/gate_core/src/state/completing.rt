@@ -85,7 +85,7 @@ fn say(
     out: &mut Outbox,
 )
     requires config { IsConfig config.now.base }
-    requires source { sender.source < 254 }
+    requires source { sender.source < places }
     requires says { says.now ≡ profiled message.pgn message.payload.now }
     requires valid { GivesValid says.now }
     ensures after { said.new ≡ message_after (settings_by config.now) said.old (Some (whole sender (carried_in message.entry))) }
