@@ -1,4 +1,4 @@
-use Rattle.std.proofs.Common.{◌≡◌, ◌≢◌, ℕ, ◌<◌, ◌≤◌, ◌==◌, nat_lt, ◌&&◌, ◌↔◌, not, is_none, IsTrue, Bool, true, false, Option, None, Some, refl, arith}
+use Rattle.std.proofs.Common.{◌≡◌, ◌≢◌, ℕ, ◌<◌, ◌≤◌, ◌==◌, nat_lt, ◌↔◌, IsTrue, Bool, true, false, Option, None, Some, refl, arith}
 use Rattle.std.proofs.lemmas.Bool.{eqb-true, eq-eqb}
 use Rattle.std.proofs.lemmas.Bool.Decides.{nat_tests}
 use Rattle.claim_table.specs.declared.answer.Holder.{Holder}
@@ -47,19 +47,6 @@ name_case c k false e = settled_case c k (k.address == 254) (not_eqb k.name c.na
 pub claim_case : (c : Claims) (k : Claim) → IsCase c k (claim c k)
 unfolding claim
 claim_case c k = name_case c k (k.name == c.name) refl
-
--- three tests tell three facts
-all_three : {P Q R : Type 0} (p q r : Bool) → IsTrue p ↔ P → IsTrue q ↔ Q → IsTrue r ↔ R → IsTrue (p && q && r) ↔ (P × Q × R)
-all_three p q r a b d = grind arith
-
-below_tells : (a b : ℕ) → IsTrue (nat_lt a b) ↔ (a < b)
-below_tells a b = (λ h. lt_true a b h, λ h. grind (arith, nat_tests))
-
-elsewhere_tells : (a : ℕ) (own : Option ℕ) (t : Bool) → is_at a own ≡ t → IsTrue (not t) ↔ (own ≢ Some a)
-elsewhere_tells a own t e = grind arith
-
-nobody_tells : (x : Option Holder) → IsTrue (is_none x) ↔ (x ≡ None)
-nobody_tells x = grind arith
 
 -- a command is obeyed exactly where the gateway can go to the address
 pub obeyed_tells : (c : Claims) (a : ℕ) → IsTrue (is_obeyed c a) ↔ CanGoTo c a

@@ -9,9 +9,6 @@ use Rattle.claim_table.specs.Claims.{Claims, Claim, IsSinceBy, Outcome, claim, c
 use Rattle.claim_table.specs.Laws.{HoldersAreDated, NameStays, WonIsNotLeft, claimed, commanded}
 use Rattle.claim_table.proofs.CaseLemmas.{claim_case}
 
-moved_holders : (c : Claims) (m : ℕ) (x : Option ℕ) → (moved c m x).after.holders ≡ c.holders
-moved_holders c m x = grind arith
-
 -- a claim leaves the holders as they were, or without the address left, or with the address taken
 pub holders_after : (P : List (Option Holder) → Type 0) (c : Claims) (k : Claim) (o : Outcome) → IsCase c k o → P c.holders → P (without_left c k).holders → P (with_taken (without_left c k) k).holders → P o.after.holders
 holders_after P c k o h p q r = grind arith
@@ -61,9 +58,6 @@ case_won c k o h w f = grind (arith, moved_loses_none, left_isnt_claimed)
 
 pub won_is_not_left : WonIsNotLeft
 won_is_not_left c k w e = case_won c k (claim c k) (claim_case c k) w e
-
-moved_name : (c : Claims) (m : ℕ) (x : Option ℕ) → (moved c m x).after.name ≡ c.name
-moved_name c m x = grind arith
 
 case_name : (c : Claims) (k : Claim) (o : Outcome) → IsCase c k o → o.after.name ≡ c.name
 case_name c k o h = grind arith

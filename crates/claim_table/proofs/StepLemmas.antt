@@ -1,4 +1,4 @@
-use Rattle.std.proofs.Common.{◌≡◌, ◌≢◌, ℕ, ◌<◌, ◌⊎◌, ◌&&◌, is_none, Bool, true, Option, None, Some, [], ◌∷◌, refl, sym, arith}
+use Rattle.std.proofs.Common.{◌≡◌, ◌≢◌, ℕ, ◌<◌, ◌⊎◌, Bool, Option, None, Some, [], ◌∷◌, refl, sym, arith}
 use Rattle.std.proofs.lemmas.Grind.{common_steps}
 use Rattle.std.proofs.lemmas.List.{get_or-set_other}
 use Rattle.claim_table.specs.declared.answer.Holder.{Holder}
@@ -35,13 +35,6 @@ case_sound c k o (given_up n own l e) sound =
 case_sound c k o (free n own f e) sound = rw e (taken_aside c k sound n.name own)
 case_sound c k o (kept n own h at l e) sound = rw e (without_left_sound c k sound)
 case_sound c k o (won n own h at l e) sound = rw e (taken_aside c k sound n.name own)
-
--- what a test of three parts tells of the first and the last
-both_ends : (p q r : Bool) → (p && q && r) ≡ true → (p ≡ true) × (r ≡ true)
-both_ends p q r e = grind arith
-
-no_holder : (x : Option Holder) → is_none x ≡ true → x ≡ None
-no_holder x e = grind arith
 
 moved_if_sound : (c : Claims) (a m : ℕ) (b : Bool) → IsSound c → is_obeyed c a ≡ b → IsSound (moved_if b c a m)
 unfolding is_obeyed
