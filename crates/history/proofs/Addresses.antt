@@ -1,6 +1,6 @@
 -- The addresses after every history.
 use Rattle.std.proofs.Common.{ℕ, suc, ◌≤◌, true, false, List, [], ◌∷◌, length, arith}
-use Rattle.std.specs.Prelude.{All, Option, Some, None, if◌then◌else◌, ◌==◌}
+use Rattle.std.specs.Prelude.{All, Option, if◌then◌else◌}
 use Rattle.n2k_id.specs.Frame.{BusFrame}
 use Rattle.claim_table.specs.Claims.{Claims, IsSinceBy, claim, command}
 use Rattle.claim_table.specs.Laws.{IsSound, Step, claimed, commanded}
@@ -12,9 +12,7 @@ use Rattle.history.specs.Known.{Known, known, known_after, since_own, followed_b
 use Rattle.history.specs.AddressLaws.{AreSound, AddressesAreSound}
 
 own_by : (index since : ℕ) (before after : Option ℕ) → since ≤ index → since_own index since before after ≤ suc index
-own_by index since (Some x) (Some y) h = elim (x == y) as (λ b. (if b then since else index) ≤ suc index) [ true ↦ omega (arith, h) | false ↦ omega arith ]
-own_by index since None after h = omega arith
-own_by index since (Some x) None h = omega (arith, h)
+own_by index since before after h = grind arith
 
 later : (n : ℕ) (k : Known) → AreSound k n → AreSound k (suc n)
 later n k h = record { sound = h.sound; dated = since_grows n (suc n) k.claims.holders (omega arith) h.dated; own_dated = omega (arith, h.own_dated) }

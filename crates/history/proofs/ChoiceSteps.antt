@@ -10,11 +10,11 @@ use Rattle.claim_table.proofs.SoundLemmas.{held_within}
 use Rattle.source_choice.specs.declared.rank.Rank.{Rank}
 use Rattle.history.specs.Entries.{frame, datagram, tick, command}
 use Rattle.source_choice.specs.SubjectRules.{SubjectRule}
-use Rattle.history.specs.Known.{Known, known, held_since, is_claim, claim_by}
+use Rattle.history.specs.Known.{Known, known, is_claim, claim_by}
 use Rattle.history.specs.Messages.{Message, Carried, messages_of, said_by, with_message, completed_by}
 use Rattle.history.specs.Opens.{note_of, notes_of}
 use Rattle.source_choice.specs.declared.told.Told.{Told}
-use Rattle.history.specs.Subjects.{is_better, holder_rank, still_counts, outranks, is_of, last_of}
+use Rattle.history.specs.Subjects.{outranks}
 use Rattle.history.specs.ChoiceLaws.{addresses, FirstByAddresses, IsOfHolder, MessagesAreOfHolders}
 use Rattle.history.proofs.Addresses.{addresses_are_sound}
 use Rattle.history.proofs.Fates.{fate, Fate}
@@ -26,13 +26,10 @@ use Rattle.history.proofs.TraceMoves.{known_after_claim, commanded_holders}
 -- ---- two lists of which something passes a test
 
 pub both_ways : (a b : Bool) → (a ≡ true → b ≡ true) → (b ≡ true → a ≡ true) → a ≡ b
-both_ways true b f g = sym (f refl)
-both_ways false true f g = g refl
-both_ways false false f g = refl
+both_ways a b f g = grind arith
 
 pub or_right : (a b : Bool) → b ≡ true → (a || b) ≡ true
-or_right true b e = refl
-or_right false b e = e
+or_right a b e = grind arith
 
 -- one that passes
 pub some_one : {A : Type 0} (p : A → Bool) (xs : List A) → list_any p xs ≡ true → (x : A) × (p x ≡ true)
@@ -40,16 +37,14 @@ some_one p [] e = absurd (false≢true e)
 some_one {A = A} p (x ∷ xs) e = by (p x) refl e (λ rest. some_one p xs rest)
   where
     by : (b : Bool) → p x ≡ b → (b || list_any p xs) ≡ true → (list_any p xs ≡ true → (y : A) × (p y ≡ true)) → (y : A) × (p y ≡ true)
-    by true ep e more = (x, ep)
-    by false ep e more = more e
+    by b ep e more = grind arith
 
 below_any : (p : ℕ → Bool) (n a : ℕ) → a < n → p a ≡ true → list_any p (addresses n) ≡ true
 below_any p zero a less e = absurd (omega (arith, less))
 below_any p (suc n) a less e = by (a == n) refl (λ le. below_any p n a le e)
   where
     by : (b : Bool) → (a == n) ≡ b → (a < n → list_any p (addresses n) ≡ true) → list_any p (addresses (suc n)) ≡ true
-    by true same more = let here : p n ≡ true = subst (λ (x : ℕ). p x ≡ true) (eqb-true a n same) e in rw here refl
-    by false other more = let apart = eqb-false a n other in or_right (p n) (list_any p (addresses n)) (more (omega (arith, less, apart)))
+    by b same more = grind (arith, eqb-true, eqb-false, or_right)
 
 -- what is found passes, and so does each that agrees with it
 pub found_any : {A : Type 0} (q p : A → Bool) (older : List A) (d : A) → find q older ≡ Some d → ((x : A) → q x ≡ true → p x ≡ true) → list_any p older ≡ true
@@ -57,36 +52,15 @@ found_any q p [] d e agrees = cc
 found_any q p (x ∷ older) d e agrees = by (q x) refl e (λ f. found_any q p older d f agrees)
   where
     by : (b : Bool) → q x ≡ b → (if b then Some x else find q older) ≡ Some d → (find q older ≡ Some d → list_any p older ≡ true) → list_any p (x ∷ older) ≡ true
-    by true eq e more = rw (agrees x eq) refl
-    by false eq e more = or_right (p x) (list_any p older) (more e)
+    by b eq e more = grind (arith, or_right)
 
 module _ (tells : Message → Option Told) (rule : SubjectRule) (holders : List (Option Holder)) (subject : ℕ) (rank : Rank) (m : ℕ) (older : List Message) where
   held : (a : ℕ) → outranks tells rule holders subject rank m older a ≡ true → a < length holders
-  held a e = by (holder_at holders a) refl (and_parts (is_better rank (holder_rank rule (holder_at holders a))) (still_counts tells rule.timeout m (last_of tells holders subject a older)) e).0
-    where
-      by : (x : Option Holder) → holder_at holders a ≡ x → is_better rank (holder_rank rule x) ≡ true → a < length holders
-      by None e better = absurd (false≢true better)
-      by (Some x) e better = held_within holders a x e
+  held a e = grind (arith, and_parts, false≢true, held_within)
 
   -- an address that outranks the rank has sent a message
   pub has_sent : (a : ℕ) → outranks tells rule holders subject rank m older a ≡ true → list_any (λ d. outranks tells rule holders subject rank m older d.source) older ≡ true
-  has_sent a e =
-      by (held_since holders a) refl (and_parts (is_better rank (holder_rank rule (holder_at holders a))) (still_counts tells rule.timeout m (last_of tells holders subject a older)) e).1
-    where
-      from_it : (x : Message) (since : ℕ) → is_of tells subject a since x ≡ true → outranks tells rule holders subject rank m older x.source ≡ true
-      from_it x since is =
-          let same = eqb-true x.source a (and_parts (x.source == a) _ is).0 in
-          subst (λ (y : ℕ). outranks tells rule holders subject rank m older y ≡ true) (sym same) e
-
-      last : (since : ℕ) (o : Option Message) → find (is_of tells subject a since) older ≡ o → still_counts tells rule.timeout m o ≡ true
-          → list_any (λ d. outranks tells rule holders subject rank m older d.source) older ≡ true
-      last since None e counts = absurd (false≢true counts)
-      last since (Some d) e counts = found_any (is_of tells subject a since) (λ x. outranks tells rule holders subject rank m older x.source) older d e (λ x is. from_it x since is)
-
-      by : (since : Option ℕ) → held_since holders a ≡ since → still_counts tells rule.timeout m (last_since tells subject a older since) ≡ true
-          → list_any (λ d. outranks tells rule holders subject rank m older d.source) older ≡ true
-      by None e counts = absurd (false≢true counts)
-      by (Some since) e counts = last since (find (is_of tells subject a since) older) refl counts
+  has_sent a e = grind (arith, and_parts, eqb-true, false≢true, found_any, last_since)
 
 pub first_by_addresses : FirstByAddresses
 first_by_addresses tells rule holders subject rank m older n enough = ap not (both_ways _ _ there back)
@@ -106,12 +80,7 @@ module _ (a : ℕ) where
   -- a message that comes is of the holder of its source
   said_held : (n m from : ℕ) (x : Option Holder) (holder : Holder) (what : Option Carried) (older : List Message) → ((from == a) ≡ true → x ≡ Some holder)
       → AllByRecursion (IsOfHolder a holder) older → AllByRecursion (IsOfHolder a holder) (with_message (said_by n m from x what) older)
-  said_held n m from None holder what older same all = all
-  said_held n m from (Some x) holder None older same all = all
-  said_held n m from (Some x) holder (Some w) older same all = ((λ own le. named (same own)), all)
-    where
-      named : Some x ≡ Some holder → x.name.0 ≡ holder.name.0
-      named e = let one : x ≡ holder = cc in ap (λ (y : Holder). y.name.0) one
+  said_held n m from x holder what older same all = grind arith
 
   -- none is since an entry that comes after all
   none_since : (i : ℕ) (holder : Holder) (older : List Message) → holder.since ≡ i → AreBelow i older → AllByRecursion (IsOfHolder a holder) older

@@ -1,5 +1,5 @@
 -- Open keys and the places of a map.
-use Rattle.std.proofs.Common.{◌≡◌, ℕ, suc, ◌≤◌, Bool, true, false, ◌&&◌, ◌||◌, not, List, [], ◌∷◌, inl, inr, length, refl, sym, ap, subst, ◌∙◌, ◌==◌, nat_lt, arith, is_some}
+use Rattle.std.proofs.Common.{◌≡◌, ℕ, suc, ◌≤◌, Bool, true, false, ◌&&◌, ◌||◌, not, List, [], ◌∷◌, length, refl, sym, ap, subst, ◌∙◌, ◌==◌, nat_lt, arith, is_some}
 use Rattle.std.specs.Prelude.{filter, if◌then◌else◌}
 use Rattle.std.specs.List.{AllByRecursion, IsDistinct, list_any}
 use Rattle.std.specs.Cmp.{IsTotalOrder}
@@ -14,32 +14,15 @@ use Rattle.history.specs.Opens.{inserted, with_key}
 
 pub all_inserted : {K : Type 0} (P : K → Type 0) (before : K → K → Bool) (k : K) (ks : List K) → P k → AllByRecursion P ks → AllByRecursion P (inserted before k ks)
 all_inserted P before k [] one all = (one, tt)
-all_inserted P before k (x ∷ ks) one all = by (before k x) (all_inserted P before k ks one all.1)
-  where
-    by : (b : Bool) → AllByRecursion P (inserted before k ks) → AllByRecursion P (if b then k ∷ x ∷ ks else x ∷ inserted before k ks)
-    by true rest = (one, all)
-    by false rest = (all.0, rest)
+all_inserted P before k (x ∷ ks) one all = grind (arith, all_inserted P before k ks one all.1)
 
 pub all_placed : {K : Type 0} (P : K → Type 0) (same before : K → K → Bool) (k : K) (ks : List K) → P k → AllByRecursion P ks → AllByRecursion P (with_key same before k ks)
-all_placed P same before k ks one all = by (list_any (same k) ks)
-  where
-    by : (b : Bool) → AllByRecursion P (if b then ks else inserted before k ks)
-    by true = all
-    by false = all_inserted P before k ks one all
+all_placed P same before k ks one all = grind (arith, all_inserted)
 
 -- a key that passes is among those that it was put to, or is it
 pub any_inserted : {K : Type 0} (p : K → Bool) (before : K → K → Bool) (k : K) (ks : List K) → list_any p (inserted before k ks) ≡ (p k || list_any p ks)
 any_inserted p before k [] = refl
-any_inserted p before k (x ∷ ks) = by (before k x) (any_inserted p before k ks)
-  where
-    turn : (a b c : Bool) → (a || (b || c)) ≡ (b || (a || c))
-    turn true true c = refl
-    turn true false c = refl
-    turn false b c = refl
-
-    by : (b : Bool) → list_any p (inserted before k ks) ≡ (p k || list_any p ks) → list_any p (if b then k ∷ x ∷ ks else x ∷ inserted before k ks) ≡ (p k || (p x || list_any p ks))
-    by true rest = refl
-    by false rest = ap (λ b. p x || b) rest ∙ turn (p x) (p k) (list_any p ks)
+any_inserted p before k (x ∷ ks) = grind (arith, any_inserted p before k ks)
 
 module _ {K : Type 0} {cmp : K → K → Ordering} (o : IsTotalOrder cmp) (same before : K → K → Bool) (tells : (a b : K) → is_at (cmp a) b ≡ same a b) where
   pub any_tells : (k : K) (ks : List K) → list_any (is_at (cmp k)) ks ≡ list_any (same k) ks
@@ -62,21 +45,11 @@ module _ {K : Type 0} {cmp : K → K → Ordering} (o : IsTotalOrder cmp) (same 
       by false apart rest = (all_inserted (λ y. eq_by_cmp cmp x y ≡ false) before k ks (same_turned o x k ∙ apart) distinct.0, rest)
 
   pub distinct_placed : (k : K) (ks : List K) → IsDistinct (eq_by_cmp cmp) ks → IsDistinct (eq_by_cmp cmp) (with_key same before k ks)
-  distinct_placed k ks distinct = by (list_any (same k) ks) refl
-    where
-      by : (b : Bool) → list_any (same k) ks ≡ b → IsDistinct (eq_by_cmp cmp) (if b then ks else inserted before k ks)
-      by true e = distinct
-      by false e = distinct_inserted k ks (any_tells k ks ∙ e) distinct
+  distinct_placed k ks distinct = grind (arith, distinct_inserted, any_tells)
 
 pub filter_twice : {K : Type 0} (p q : K → Bool) (ks : List K) → filter p (filter q ks) ≡ filter (λ j. p j && q j) ks
 filter_twice p q [] = refl
-filter_twice p q (k ∷ ks) = by (q k) refl (p k) refl (filter_twice p q ks)
-  where
-    by : (a : Bool) → q k ≡ a → (b : Bool) → p k ≡ b → filter p (filter q ks) ≡ filter (λ j. p j && q j) ks → filter p (filter q (k ∷ ks)) ≡ filter (λ j. p j && q j) (k ∷ ks)
-    by true ea true eb rest = rw (ea, eb) (ap (λ x. k ∷ x) rest)
-    by true ea false eb rest = rw (ea, eb) rest
-    by false ea true eb rest = rw (ea, eb) rest
-    by false ea false eb rest = rw (ea, eb) rest
+filter_twice p q (k ∷ ks) = grind (arith, filter_twice p q ks)
 
 -- tests that agree on all of a list
 agreed : {K : Type 0} (P : K → Type 0) (p q : K → Bool) → ((j : K) → P j → p j ≡ q j) → (ks : List K) → AllByRecursion P ks → filter p ks ≡ filter q ks
@@ -112,9 +85,7 @@ pub record Held {K : Type 0} (cmp : K → K → Ordering) (same before : K → K
 module _ {K : Type 0} {cmp : K → K → Ordering} {same before : K → K → Bool} {keys : List K} {of_kind is_open : K → Bool} {slots : SlotMap K}
     (h : Held cmp same before keys of_kind is_open slots) where
   there : (key : K) → is_some (entry_at cmp slots key) ≡ true → list_any (is_at (cmp key)) keys ≡ true
-  there key is =
-      let parts = and_parts (of_kind key) (is_open key) (sym (h.holds key) ∙ is) in
-      any_tells h.order same before h.tells key keys ∙ h.among key parts.0 parts.1
+  there key is = grind (arith, and_parts, any_tells)
 
   open_is : (key : K) → of_kind key ≡ true → is_some (entry_at cmp slots key) ≡ is_open key
   open_is key kind = h.holds key ∙ ap (λ b. b && is_open key) kind
@@ -138,8 +109,7 @@ module _ {K : Type 0} {cmp : K → K → Ordering} {same before : K → K → Bo
       turned j = h.tells key j ∙ h.turn key j
 
       more_by : (j : K) (b : Bool) → same j key ≡ b → is_open j ≡ (b || (not b && is_open j))
-      more_by j true e = ap is_open (h.same_is j key e) ∙ opens
-      more_by j false e = refl
+      more_by j b e = grind arith
 
       more : (j : K) → is_open j ≡ (is_at (cmp key) j || (not (same j key) && is_open j))
       more j = rw (turned j) (more_by j (same j key) refl)
@@ -149,29 +119,13 @@ module _ {K : Type 0} {cmp : K → K → Ordering} {same before : K → K → Bo
 
   -- where it isn't, they are all
   all_of : (key : K) → is_some (entry_at cmp slots key) ≡ false → length (filter (λ j. not (same j key) && is_open j) keys) ≡ length (filter is_open keys)
-  all_of key absent = ap length (agreed (λ j. of_kind j ≡ true) (λ j. not (same j key) && is_open j) is_open same_answer keys h.all)
-    where
-      same_by : (j : K) (b : Bool) → same j key ≡ b → of_kind j ≡ true → (not b && is_open j) ≡ is_open j
-      same_by j true e kind = sym (sym (open_is j kind) ∙ ap (λ (x : K). is_some (entry_at cmp slots x)) (h.same_is j key e) ∙ absent)
-      same_by j false e kind = refl
-
-      same_answer : (j : K) → of_kind j ≡ true → (not (same j key) && is_open j) ≡ is_open j
-      same_answer j kind = same_by j (same j key) refl kind
+  all_of key absent = grind (arith, agreed)
 
   below : (n limit : ℕ) → suc n ≤ limit → nat_lt n limit ≡ true
   below n limit le = lt-ltb n limit (omega (arith, le))
 
   just : (n limit : ℕ) → n ≤ limit → nat_lt n limit ≡ not (n == limit)
-  just n limit le = elim (cases_Bool (n == limit)) [
-    | inl is ↦ rw is (le-ltb n limit (omega (arith, eqb-true n limit is)))
-    | inr other ↦ rw other (lt-ltb n limit (omega (arith, le, eqb-false n limit other)))
-  ]
+  just n limit le = grind (arith, cases_Bool, le-ltb, eqb-true, lt-ltb, eqb-false)
 
   pub room : (key : K) → nat_lt (length (filter (λ other. not (same other key)) (filter is_open keys))) slots.limit ≡ not (is_full cmp slots key)
-  room key = by (is_some (entry_at cmp slots key)) refl
-    where
-      by : (b : Bool) → is_some (entry_at cmp slots key) ≡ b → nat_lt (length (filter (λ other. not (same other key)) (filter is_open keys))) slots.limit ≡ not (not b && (length slots.entries == slots.limit))
-      by true is = below (length (filter (λ other. not (same other key)) (filter is_open keys))) slots.limit (omega (arith, room_count key, fewer key is, counted, h.within))
-      by false absent =
-          let all : length (filter (λ other. not (same other key)) (filter is_open keys)) ≡ length slots.entries = room_count key ∙ all_of key absent ∙ sym counted in
-          rw all (just (length slots.entries) slots.limit h.within)
+  room key = grind (arith, below, room_count, fewer, counted, all_of, just)

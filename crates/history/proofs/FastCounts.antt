@@ -1,17 +1,14 @@
 -- Fast keys that are open, and the places of a map.
-use Rattle.std.proofs.Common.{◌≡◌, ℕ, Bool, true, false, ◌&&◌, List, [], ◌∷◌, inl, inr, refl, sym, ap, ◌∙◌, ◌==◌, is_some}
+use Rattle.std.proofs.Common.{◌≡◌, ℕ, Bool, true, false, ◌&&◌, List, [], ◌∷◌, refl, sym, ◌∙◌, ◌==◌, is_some, arith}
 use Rattle.std.specs.Prelude.{Option, Some, None, if◌then◌else◌}
 use Rattle.std.specs.List.{AllByRecursion, IsDistinct, list_any}
 use Rattle.std.specs.Ordering.{eq_by_cmp}
 use Rattle.std.specs.declared.cmp.Ordering.{Ordering}
 use Rattle.std.proofs.lemmas.Bool.{cases_Bool, eqb-true, and_parts, false≢true}
 use Rattle.slot_views.specs.Slots.{SlotMap}
-use Rattle.slot_views.specs.Runs.{open_at}
 use Rattle.fast_packet.specs.declared.key.FastKey.{FastKey}
-use Rattle.fast_packet.specs.FastRuns.{FastPiece, fast_rules}
 use Rattle.pgn_profile.specs.declared.kinds.Kind.{Kind}
-use Rattle.history.specs.Known.{held_since}
-use Rattle.history.specs.Traces.{NotedFrame, fast_trace, fast_trace_since}
+use Rattle.history.specs.Traces.{NotedFrame, fast_trace_since}
 use Rattle.history.specs.Opens.{with_key, is_fast, same_fast, precedes_fast, fast_keys, fast_open}
 use Rattle.history.specs.CountLaws.{HoldsFast, CountsFast, SlotsCountFast}
 use Rattle.history.proofs.KeySteps.{eqb-sym, other_piece}
@@ -33,14 +30,7 @@ same_fast_as : (key other : FastKey) → same_fast key other ≡ ((other.source 
 same_fast_as key other = rw (eqb-sym other.source key.source, eqb-sym other.pgn key.pgn) refl
 
 pub same_is : (key one : FastKey) → same_fast key one ≡ true → key ≡ one
-same_is key one e =
-    let parts = and_parts (key.source == one.source) (key.pgn == one.pgn) e in
-    let source : key.source ≡ one.source = eqb-true key.source one.source parts.0 in
-    let pgn : key.pgn ≡ one.pgn = eqb-true key.pgn one.pgn parts.1 in
-    ap (λ (x : ℕ). made x key.pgn) source ∙ ap (λ (x : ℕ). made one.source x) pgn
-  where
-    made : ℕ → ℕ → FastKey
-    made source pgn = record { source = source; pgn = pgn }
+same_is key one e = grind (arith, and_parts, eqb-true)
 
 pub no_frames : (kinds : ℕ → Kind) (key : FastKey) (since : Option ℕ) (notes : List NotedFrame) → is_fast (kinds key.pgn) ≡ true → list_any (same_fast key) (fast_keys kinds notes) ≡ false
     → fast_trace_since since key.source key.pgn notes ≡ []
@@ -52,14 +42,10 @@ no_frames kinds key (Some since) (n ∷ notes) fast none = by (is_fast (kinds n.
     other apart rest = other_piece (Some since) key.source key.pgn n notes apart ∙ rest
 
     other_kind : is_fast (kinds n.parts.pgn) ≡ false → (n.parts.pgn == key.pgn) ≡ false
-    other_kind e = elim (cases_Bool (n.parts.pgn == key.pgn)) [
-      | inl same ↦ let is : is_fast (kinds n.parts.pgn) ≡ true = rw (eqb-true n.parts.pgn key.pgn same) fast in cc
-      | inr apart ↦ apart
-    ]
+    other_kind e = grind (arith, cases_Bool, eqb-true)
 
     and_no : (x : Bool) → (x && false) ≡ false
-    and_no true = refl
-    and_no false = refl
+    and_no x = grind arith
 
     by : (b : Bool) → is_fast (kinds n.parts.pgn) ≡ b
         → list_any (same_fast key) (if b then with_key same_fast precedes_fast (record { source = n.parts.source; pgn = n.parts.pgn }) (fast_keys kinds notes) else fast_keys kinds notes) ≡ false
@@ -82,28 +68,10 @@ module _ (kinds : ℕ → Kind) (cmp : FastKey → FastKey → Ordering) (holder
       by false rest = rest
 
   among : (key : FastKey) → is_fast (kinds key.pgn) ≡ true → is_some (fast_open holders notes key m) ≡ true → list_any (same_fast key) (fast_keys kinds notes) ≡ true
-  among key fast is_open = by (list_any (same_fast key) (fast_keys kinds notes)) refl
-    where
-      by : (b : Bool) → list_any (same_fast key) (fast_keys kinds notes) ≡ b → list_any (same_fast key) (fast_keys kinds notes) ≡ true
-      by true e = e
-      by false e =
-          let nothing : fast_trace holders key.source key.pgn notes ≡ [] = no_frames kinds key (held_since holders key.source) notes fast e in
-          let closed : is_some (fast_open holders notes key m) ≡ false = ap (λ (t : List FastPiece). is_some (open_at fast_rules t m)) nothing in
-          absurd (false≢true (sym closed ∙ is_open))
+  among key fast is_open = grind (arith, no_frames, false≢true)
 
   pub held : Held cmp same_fast precedes_fast (fast_keys kinds notes) (λ key. is_fast (kinds key.pgn)) (λ key. is_some (fast_open holders notes key m)) slots
-  held = record {
-    order = h.order;
-    tells = h.tells;
-    same_is = same_is;
-    turn = λ a b. rw (eqb-sym a.source b.source, eqb-sym a.pgn b.pgn) refl;
-    ordered = h.ordered;
-    within = h.within;
-    holds = h.holds;
-    distinct = distinct_keys notes;
-    all = fast_all kinds notes;
-    among = among;
-  }
+  held = grind (arith, same_is, eqb-sym, distinct_keys, fast_all, among)
 
   pub counts : CountsFast kinds cmp holders notes m slots
   unfolding held

@@ -1,6 +1,6 @@
 -- The open messages of fast packets are within their limit.
 use Rattle.std.proofs.Common.{◌≡◌, ℕ, ◌≤◌, Bool, true, false, List, [], ◌∷◌, length, refl, sym, ap, subst, ◌∙◌, arith, is_some}
-use Rattle.std.specs.Prelude.{Option, Some, None, option_map}
+use Rattle.std.specs.Prelude.{Option, Some, None}
 use Rattle.std.specs.List.{list_any}
 use Rattle.std.proofs.lemmas.Bool.{false≢true}
 use Rattle.n2k_id.specs.Frame.{BusFrame}
@@ -8,7 +8,7 @@ use Rattle.n2k_id.specs.Identifier.{parts_of}
 use Rattle.claim_table.specs.declared.answer.Holder.{Holder}
 use Rattle.claim_table.specs.Claims.{holder_at}
 use Rattle.pgn_profile.specs.declared.kinds.Kind.{Kind}
-use Rattle.pgn_profile.specs.declared.kinds.Kind.TheVariants.{Single, Fast, Outside}
+use Rattle.pgn_profile.specs.declared.kinds.Kind.TheVariants.{Fast}
 use Rattle.slot_views.specs.Runs.{open_at}
 use Rattle.slot_views.specs.RunLaws.{fed}
 use Rattle.fast_packet.specs.declared.key.FastKey.{FastKey}
@@ -16,8 +16,8 @@ use Rattle.fast_packet.specs.FastRuns.{FastPiece, fast_rules}
 use Rattle.history.specs.Entries.{History, IsHistory, now, frame, datagram, tick}
 use Rattle.history.specs.Entries as entry
 use Rattle.history.specs.Settings.{Receiver}
-use Rattle.history.specs.Known.{Known, known, is_claim}
-use Rattle.history.specs.Traces.{NotedFrame, fast_piece, fast_trace, fast_trace_since}
+use Rattle.history.specs.Known.{known, is_claim}
+use Rattle.history.specs.Traces.{NotedFrame, fast_piece, fast_trace}
 use Rattle.history.specs.Opens.{is_fast, same_fast, fast_keys, fast_open, open_fast_keys, is_fast_admitted, notes_of}
 use Rattle.history.specs.AddressLaws.{IsReceiver}
 use Rattle.history.specs.KeyLaws.{fast_key, the_note}
@@ -34,9 +34,7 @@ abbrev IsFast : (ℕ → Kind) → FastKey → Type 0
 IsFast kinds key = is_fast (kinds key.pgn) ≡ true
 
 fast_is : (kind : Kind) → is_fast kind ≡ true → kind ≡ Fast
-fast_is Single e = cc
-fast_is Fast e = refl
-fast_is Outside e = cc
+fast_is kind e = grind arith
 
 among_open : (kinds : ℕ → Kind) (holders : List (Option Holder)) (notes : List NotedFrame) (n : ℕ) (key : FastKey) → IsFast kinds key → is_some (fast_open holders notes key n) ≡ true → list_any (same_fast key) (open_fast_keys kinds holders notes n) ≡ true
 among_open kinds holders notes n key kind is =
@@ -80,11 +78,7 @@ module _ (c : Receiver) (s : ℕ) (are : IsReceiver c) where
           no_room = rw (no_transport c are (parts_of f.id) (fast_is (c.kinds (parts_of f.id).pgn) kind)) full
 
           by : (o : Option Holder) → holder_at (known c s h).claims.holders (parts_of f.id).source ≡ o → is_some (fast_open (known c s h).claims.holders (notes_of c s h) (fast_key c s h m f) m) ≡ true
-          by None e =
-              let closed : is_some (fast_open (known c s (frame m f ∷ h)).claims.holders (notes_of c s (frame m f ∷ h)) (fast_key c s h m f) n) ≡ false =
-              ap (λ (k : Known). is_some (fast_open k.claims.holders (notes_of c s (frame m f ∷ h)) (fast_key c s h m f) n)) (known_same c s h m f other)
-              ∙ ap (λ (o : Option Holder). is_some (open_at fast_rules (fast_trace_since (option_map (λ (y : Holder). y.since) o) (parts_of f.id).source (parts_of f.id).pgn (notes_of c s (frame m f ∷ h))) n)) e in
-              absurd (false≢true (sym closed ∙ is))
+          by None e = grind (arith, known_same, false≢true)
           by (Some x) e =
               fed_some fast_rules (fast_open (known c s h).claims.holders (notes_of c s h) (fast_key c s h m f) m) (fast_piece (the_note c s h m f)) no_room
               (kept_some fast_rules (fed fast_rules (fast_open (known c s h).claims.holders (notes_of c s h) (fast_key c s h m f) m) (fast_piece (the_note c s h m f))) n

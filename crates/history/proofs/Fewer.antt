@@ -1,5 +1,5 @@
 -- A list of different things that are all among others is no longer.
-use Rattle.std.proofs.Common.{◌≡◌, suc, ◌≤◌, Bool, true, false, ◌||◌, List, [], ◌∷◌, length, refl, sym, ap, subst, ◌∙◌, arith}
+use Rattle.std.proofs.Common.{◌≡◌, suc, ◌≤◌, Bool, true, false, ◌||◌, List, [], ◌∷◌, length, refl, arith}
 use Rattle.std.specs.Prelude.{filter, if◌then◌else◌}
 use Rattle.std.specs.List.{AllByRecursion, list_any}
 use Rattle.std.proofs.lemmas.Bool.{false≢true, or_parts}
@@ -24,31 +24,18 @@ module _ {K : Type 0} (same : K → K → Bool) (same_is : (a b : K) → same a 
       by (before k x) parts.0 (apart_inserted before k ks parts.1 apart.1)
     where
       by : (b : Bool) → same k x ≡ false → Apart (inserted before k ks) → Apart (if b then k ∷ x ∷ ks else x ∷ inserted before k ks)
-      by true e rest = (apart_all k (x ∷ ks) none, apart)
-      by false e rest = (all_inserted (λ y. same x y ≡ false) before k ks (turn x k ∙ e) apart.0, rest)
+      by b e rest = grind (arith, apart_all, all_inserted)
 
   pub apart_placed : (before : K → K → Bool) (k : K) (ks : List K) → Apart ks → Apart (with_key same before k ks)
-  apart_placed before k ks apart = by (list_any (same k) ks) refl
-    where
-      by : (b : Bool) → list_any (same k) ks ≡ b → Apart (if b then ks else inserted before k ks)
-      by true e = apart
-      by false e = apart_inserted before k ks e apart
+  apart_placed before k ks apart = grind (arith, apart_inserted)
 
   all_filtered : (P : K → Type 0) (p : K → Bool) (ks : List K) → AllByRecursion P ks → AllByRecursion P (filter p ks)
   all_filtered P p [] all = tt
-  all_filtered P p (k ∷ ks) all = by (p k) (all_filtered P p ks all.1)
-    where
-      by : (b : Bool) → AllByRecursion P (filter p ks) → AllByRecursion P (if b then k ∷ filter p ks else filter p ks)
-      by true rest = (all.0, rest)
-      by false rest = rest
+  all_filtered P p (k ∷ ks) all = grind (arith, all_filtered P p ks all.1)
 
   pub apart_filtered : (p : K → Bool) (ks : List K) → Apart ks → Apart (filter p ks)
   apart_filtered p [] apart = tt
-  apart_filtered p (k ∷ ks) apart = by (p k) (apart_filtered p ks apart.1)
-    where
-      by : (b : Bool) → Apart (filter p ks) → Apart (if b then k ∷ filter p ks else filter p ks)
-      by true rest = (all_filtered (λ y. same k y ≡ false) p ks apart.0, rest)
-      by false rest = rest
+  apart_filtered p (k ∷ ks) apart = grind (arith, apart_filtered p ks apart.1, all_filtered)
 
   -- one that is among some is among those that pass a test that it passes
   pub among_filtered : (p : K → Bool) (x : K) (ks : List K) → p x ≡ true → list_any (same x) ks ≡ true → list_any (same x) (filter p ks) ≡ true
@@ -56,18 +43,14 @@ module _ {K : Type 0} (same : K → K → Bool) (same_is : (a b : K) → same a 
   among_filtered p x (k ∷ ks) passes there = by (same x k) refl (p k) refl (λ later. among_filtered p x ks passes later) there
     where
       by : (a : Bool) → same x k ≡ a → (b : Bool) → p k ≡ b → (list_any (same x) ks ≡ true → list_any (same x) (filter p ks) ≡ true) → (a || list_any (same x) ks) ≡ true → list_any (same x) (filter p (k ∷ ks)) ≡ true
-      by true ea true eb rest any = rw (eb, ea) refl
-      by true ea false eb rest any = let is : p k ≡ true = subst (λ (y : K). p y ≡ true) (same_is x k ea) passes in absurd (false≢true (sym eb ∙ is))
-      by false ea true eb rest any = rw (eb, ea) (rest any)
-      by false ea false eb rest any = rw eb (rest any)
+      by a ea b eb rest any = grind (arith, false≢true)
 
   shorter : (p : K → Bool) (ys : List K) → list_any p ys ≡ true → length ys ≡ suc (length (without_first p ys))
   shorter p [] there = cc
   shorter p (y ∷ ys) there = by (p y) refl there (λ later. shorter p ys later)
     where
       by : (b : Bool) → p y ≡ b → (b || list_any p ys) ≡ true → (list_any p ys ≡ true → length ys ≡ suc (length (without_first p ys))) → suc (length ys) ≡ suc (length (if b then ys else y ∷ without_first p ys))
-      by true e any rest = refl
-      by false e any rest = ap suc (rest any)
+      by b e any rest = grind arith
 
   still_among : (x z : K) (ys : List K) → same x z ≡ false → list_any (same z) ys ≡ true → list_any (same z) (without_first (same x) ys) ≡ true
   still_among x z [] apart there = cc
@@ -75,13 +58,7 @@ module _ {K : Type 0} (same : K → K → Bool) (same_is : (a b : K) → same a 
     where
       by : (a : Bool) → same x y ≡ a → (b : Bool) → same z y ≡ b → (b || list_any (same z) ys) ≡ true → (list_any (same z) ys ≡ true → list_any (same z) (without_first (same x) ys) ≡ true)
           → list_any (same z) (if a then ys else y ∷ without_first (same x) ys) ≡ true
-      by true ea true eb any rest =
-          let one : x ≡ y = same_is x y ea in
-          let two : z ≡ y = same_is z y eb in
-          let is : same x z ≡ true = subst (λ (w : K). same x w ≡ true) (sym two) ea in absurd (false≢true (sym apart ∙ is))
-      by true ea false eb any rest = any
-      by false ea true eb any rest = rw eb refl
-      by false ea false eb any rest = rw eb (rest any)
+      by a ea b eb any rest = grind (arith, false≢true)
 
   pub no_longer : (xs ys : List K) → Apart xs → AllByRecursion (λ x. list_any (same x) ys ≡ true) xs → length xs ≤ length ys
   no_longer [] ys apart all = omega arith

@@ -1,9 +1,6 @@
 -- How much a datagram makes the gateway emit at most.
-use Rattle.std.proofs.Common.{◌≡◌, ℕ, zero, suc, ◌+◌, ◌*◌, ◌≤◌, Bool, true, false, not, ◌&&◌, ◌==◌, is_some, is_none, List, [], ◌∷◌, ◌++◌, length, length-append, refl, arith}
-use Rattle.std.specs.Prelude.{Option, Some, None, Result, Ok, Err, if◌then◌else◌}
-use Rattle.report_rules.specs.Rules as rules
-use Rattle.gate_events.specs.declared.emit.Detail.TheVariants as detail
-use Rattle.tag_block.specs.declared.group_key.GroupKey.{GroupKey}
+use Rattle.std.proofs.Common.{◌≡◌, ℕ, zero, suc, ◌+◌, ◌*◌, ◌≤◌, Bool, true, false, List, [], ◌∷◌, ◌++◌, length, length-append, refl, arith}
+use Rattle.std.specs.Prelude.{Option, Result, Ok, Err, if◌then◌else◌}
 use Rattle.datagram450.specs.declared.fault.DatagramFault.{DatagramFault}
 use Rattle.datagram450.specs.declared.fault.DatagramFault.TheVariants.{Header, Long}
 use Rattle.datagram450.specs.Datagram as datagrams
@@ -11,11 +8,11 @@ use Rattle.datagram450.specs.Datagram.{Item, line, bad}
 use Rattle.tag_block.specs.declared.group_part.GroupPart.{GroupPart}
 use Rattle.tag_block.specs.Tag.{Said}
 use Rattle.history.specs.Settings.{Settings}
-use Rattle.history.specs.Emits.{breaks, reported}
-use Rattle.history.specs.Heard.{HeardItem, Taken, heard_items, group_line, group_open, is_elsewhere, is_own_line, place_of, handed_over, is_taken, taken_lines, several, taken_as, with_item, with_each}
+use Rattle.history.specs.Emits.{reported}
+use Rattle.history.specs.Heard.{HeardItem, Taken, heard_items, handed_over, is_taken, taken_lines, several, taken_as, with_item, with_each}
 use Rattle.history.specs.Held.{lines_held}
 use Rattle.history.specs.NetReadings.{NetReading, read_sentence, sentence_says, line_says, with_readings, readings_of}
-use Rattle.history.specs.NetRules.{continues, datagram_breaks, item_breaks_as, line_breaks, part_breaks}
+use Rattle.history.specs.NetRules.{datagram_breaks, item_breaks_as, line_breaks, part_breaks}
 use Rattle.history.specs.FromNet.{datagram_gives, handed_gives, item_gives, items_give, items_in, said_gives}
 use Rattle.history.proofs.FitHandedOver.{handed_by_lines}
 use Rattle.history.proofs.FitSentences.{sentence_gives_few}
@@ -25,26 +22,10 @@ use Rattle.history.proofs.Fits.{broken_length, reported_length, two_lengths}
 -- ---- reports
 
 line_reports : (c : Settings) (place : ℕ) (said : Said) → length (line_breaks c place said) ≤ 3
-line_reports c place said =
-    let own = is_own_line c said in
-    let elsewhere = is_elsewhere c said.destination in
-    broken_length
-    (breaks (not own && (not elsewhere && is_none (place_of c said.source))) rules.unlisted_source (detail.At place)
-    ∷ breaks own rules.own_line (detail.At place)
-    ∷ breaks (not own && elsewhere) rules.other_destination (detail.At place)
-    ∷ [])
+line_reports c place said = grind (arith, broken_length)
 
 part_reports : (lines : List Taken) (t : Taken) (part : Option GroupPart) → length (part_breaks lines t part) ≤ 3
-part_reports lines t None = omega arith
-part_reports lines t (Some part) =
-    let key : GroupKey = record { sfi = t.source; code = part.code } in
-    let first = part.number == 1 in
-    let open_group = group_open lines key t.moment in
-    let few = broken_length
-    (breaks (if first then is_some open_group else not (continues open_group (group_line t part))) rules.group_order (detail.GroupKey t.source part.code)
-    ∷ breaks (first && not t.admitted) rules.group_slots_full (detail.GroupKey t.source part.code)
-    ∷ []) in
-    omega (arith, few)
+part_reports lines t part = grind (arith, broken_length)
 
 datagram_reports : {A : Type 0} (read : Result A DatagramFault) → length (datagram_breaks read) ≤ 1
 datagram_reports (Ok items) = omega arith
@@ -90,11 +71,7 @@ module _ (c : Settings) (own : Option ℕ) where
           let step = handed_by_lines t lines in
           let both = two_lengths (reported (part_breaks lines t (several said.group))) (said_gives c own t (readings_of lines) (line_says t (handed_over t lines))) 3 (7 * length (handed_over t lines)) (omega (arith, told, same)) given in
           omega (arith, both, step)
-      by false isnt =
-          let told = line_reports c place said in
-          let same = reported_length (line_breaks c place said) in
-          let both = two_lengths (reported (line_breaks c place said)) [] 3 0 (omega (arith, told, same)) (omega arith) in
-          omega (arith, both)
+      by false isnt = grind (arith, line_reports, reported_length, two_lengths)
 
   -- items that come at one moment
   all_few : (older : List HeardItem) (m : ℕ) (ready : Bool) (is : List Item) → length (items_give c own older (heard_items m ready is)) + 7 * lines_held (taken_lines c (with_each older (heard_items m ready is))) m
@@ -120,9 +97,7 @@ module _ (c : Settings) (own : Option ℕ) where
 
 few_in : (place : ℕ) (long : Bool) (bytes : List ℕ) → (a : Bool) → length (items_in (if a then Err (Header place) else if long then Err Long else Ok (datagrams.items_from datagrams.most_lines 6 bytes))) ≤ 65
 unfolding datagrams.items_from
-few_in place long bytes true = omega arith
-few_in place true bytes false = omega arith
-few_in place false bytes false = items_few datagrams.most_lines 6 (datagrams.cut bytes).lines (datagrams.cut bytes).rest
+few_in place long bytes a = grind (arith, items_few)
 
 pub read_few : (bytes : List ℕ) → length (items_in (datagrams.read bytes)) ≤ 65
 read_few bytes = few_in _ _ _ _

@@ -1,10 +1,10 @@
 -- A line hands over no more sentences than it takes out of what is held, plus its own.
-use Rattle.std.proofs.Common.{◌≡◌, ℕ, ◌+◌, ◌≤◌, Bool, true, false, ◌&&◌, ◌||◌, not, List, [], ◌∷◌, length, map, refl, ap, subst, ◌∙◌, arith}
+use Rattle.std.proofs.Common.{◌≡◌, ℕ, ◌+◌, ◌≤◌, Bool, true, false, ◌||◌, List, [], ◌∷◌, length, refl, ap, ◌∙◌, arith}
 use Rattle.std.specs.Prelude.{Option, Some, None, if◌then◌else◌}
 use Rattle.std.specs.List.{AllByRecursion, list_any, sum_by}
 use Rattle.std.proofs.lemmas.List.{length-reverse, length-map}
 use Rattle.std.proofs.lemmas.List.Sums.{sum_by-cons}
-use Rattle.slot_views.specs.Runs.{Rules, is_admitted, is_whole, in_time, if_open, if_whole, kept_at, open_at}
+use Rattle.slot_views.specs.Runs.{Rules, if_open, if_whole, kept_at, open_at}
 use Rattle.slot_views.specs.RunLaws.{fed, fed_later, finished, finished_later}
 use Rattle.tag_block.specs.declared.group_key.GroupKey.{GroupKey}
 use Rattle.tag_block.specs.declared.group_part.GroupPart.{GroupPart}
@@ -21,44 +21,21 @@ use Rattle.history.proofs.GroupLimits.{turn, itself, apart}
 -- ---- one group
 
 all_handed : (o : Option (List GroupLine)) → length (sentences_in o) ≡ held_in o
-all_handed None = refl
-all_handed (Some lines) = length-reverse (map (λ (l : GroupLine). l.sentence) lines) ∙ length-map lines (λ (l : GroupLine). l.sentence)
+all_handed o = grind (arith, length-reverse, length-map)
 
 module _ (r : Rules GroupLine) where
   kept_held : (o : Option (List GroupLine)) (m : ℕ) → held_in (kept_at r o m) ≤ held_in o
-  kept_held None m = omega arith
-  kept_held (Some lines) m = by (in_time r lines m)
-    where
-      by : (b : Bool) → held_in (if b then Some lines else None) ≤ length lines
-      by true = omega arith
-      by false = omega arith
+  kept_held o m = grind arith
 
   -- the lines are whole or stay open, not both
   whole_or_open : (lines : List GroupLine) (m : ℕ) → held_in (if_whole r (Some lines)) + held_in (kept_at r (if_open r (Some lines)) m) ≤ length lines
-  whole_or_open lines m = by (is_admitted r lines) (is_whole r lines)
-    where
-      by : (a b : Bool) → held_in (if a && b then Some lines else None) + held_in (kept_at r (if a && not b then Some lines else None) m) ≤ length lines
-      by true true = omega arith
-      by true false = let kept = kept_held (Some lines) m in omega (arith, kept)
-      by false b = omega arith
+  whole_or_open lines m = grind (arith, kept_held)
 
   later_held : (o : Option (List GroupLine)) (x : GroupLine) (m : ℕ) → held_in (finished_later r o x) + held_in (kept_at r (fed_later r o x) m) ≤ held_in o + 1
-  later_held None x m = omega arith
-  later_held (Some lines) x m = by (r.is_next lines x) (r.is_repeat lines x)
-    where
-      by : (a b : Bool) → held_in (if a then if_whole r (Some (x ∷ lines)) else None)
-          + held_in (kept_at r (if a then if_open r (Some (x ∷ lines)) else if b then Some lines else None) m) ≤ length lines + 1
-      by true b = let one = whole_or_open (x ∷ lines) m in omega (arith, one)
-      by false true = let kept = kept_held (Some lines) m in omega (arith, kept)
-      by false false = omega arith
+  later_held o x m = grind (arith, whole_or_open, kept_held)
 
   step_held : (o : Option (List GroupLine)) (x : GroupLine) (m : ℕ) → held_in (finished r o x) + held_in (kept_at r (fed r o x) m) ≤ held_in o + 1
-  step_held o x m = by (r.opens x)
-    where
-      by : (b : Bool) → held_in (if b then if_whole r (Some (x ∷ [])) else finished_later r o x)
-          + held_in (kept_at r (if b then if_open r (Some (x ∷ [])) else fed_later r o x) m) ≤ held_in o + 1
-      by true = let one = whole_or_open (x ∷ []) m in omega (arith, one)
-      by false = later_held o x m
+  step_held o x m = grind (arith, whole_or_open, later_held)
 
 -- ---- sums over keys
 
@@ -82,8 +59,7 @@ module _ {K : Type 0} (same : K → K → Bool) (same_is : (a b : K) → same a 
   others_sum (x ∷ ks) none = by (same k x) refl none (λ later. others_sum ks later)
     where
       by : (b : Bool) → same k x ≡ b → (b || list_any (same k) ks) ≡ false → (list_any (same k) ks ≡ false → sum_by g ks ≡ sum_by f ks) → sum_by g (x ∷ ks) ≡ sum_by f (x ∷ ks)
-      by true e any rest = cc
-      by false e any rest = omega (arith, sum_by-cons f x ks, sum_by-cons g x ks, others x (turn x k ∙ e), rest any)
+      by b e any rest = grind (arith, sum_by-cons, turn)
 
   absent : (x : K) (ks : List K) → k ≡ x → AllByRecursion (λ y. same x y ≡ false) ks → list_any (same k) ks ≡ false
   absent x [] e all = refl
@@ -94,18 +70,10 @@ module _ {K : Type 0} (same : K → K → Bool) (same_is : (a b : K) → same a 
   own_sum (x ∷ ks) apart there = by (same k x) refl there (λ later. own_sum ks apart.1 later)
     where
       by : (b : Bool) → same k x ≡ b → (b || list_any (same k) ks) ≡ true → (list_any (same k) ks ≡ true → a + sum_by g ks ≤ sum_by f ks + 1) → a + sum_by g (x ∷ ks) ≤ sum_by f (x ∷ ks) + 1
-      by true e any rest =
-          let one : k ≡ x = same_is k x e in
-          let here : a + g x ≤ f x + 1 = subst (λ (z : K). a + g z ≤ f z + 1) one own in
-          omega (arith, sum_by-cons f x ks, sum_by-cons g x ks, here, others_sum ks (absent x ks one apart.0))
-      by false e any rest = omega (arith, sum_by-cons f x ks, sum_by-cons g x ks, others x (turn x k ∙ e), rest any)
+      by b e any rest = grind (arith, same_is, sum_by-cons, others_sum, absent, apart, turn)
 
   sum_placed : (ks : List K) → Apart same same_is turn itself ks → (list_any (same k) ks ≡ false → f k ≡ 0) → a + sum_by g (with_key same before k ks) ≤ sum_by f ks + 1
-  sum_placed ks apart new = by (list_any (same k) ks) refl
-    where
-      by : (b : Bool) → list_any (same k) ks ≡ b → a + sum_by g (if b then ks else inserted before k ks) ≤ sum_by f ks + 1
-      by true e = own_sum ks apart e
-      by false e = omega (arith, sum_inserted g before k ks, others_sum ks e, new e, own)
+  sum_placed ks apart new = grind (arith, apart, own_sum, sum_inserted, others_sum)
 
 -- ---- the keys of groups
 
@@ -122,11 +90,7 @@ module _ (t : Taken) (older : List Taken) where
   keys_are o e = ap (λ (g : Option GroupPart). sum_by after_it (key_with t.source g (group_keys older))) e
 
   alone : several t.group ≡ None → length (handed_over t older) + lines_held (t ∷ older) t.moment ≤ lines_held older t.moment + 1
-  alone e =
-      let one : length (handed_over t older) ≡ 1 = ap length (lines_alone t older e).handed in
-      let all : sum_by after_it (group_keys older) ≡ lines_held older t.moment =
-      sums_agree before_it after_it (λ key. ap held_in ((lines_alone t older e).others key t.moment)) (group_keys older) in
-      omega (arith, one, keys_are None e, all)
+  alone e = grind (arith, lines_alone, sums_agree, keys_are)
 
   in_group : (part : GroupPart) → several t.group ≡ Some part → length (handed_over t older) + lines_held (t ∷ older) t.moment ≤ lines_held older t.moment + 1
   in_group part e =
@@ -145,8 +109,4 @@ module _ (t : Taken) (older : List Taken) where
       omega (arith, keys_are (Some part) e, all)
 
 pub handed_by_lines : (t : Taken) (older : List Taken) → length (handed_over t older) + lines_held (t ∷ older) t.moment ≤ lines_held older t.moment + 1
-handed_by_lines t older = by (several t.group) refl
-  where
-    by : (o : Option GroupPart) → several t.group ≡ o → length (handed_over t older) + lines_held (t ∷ older) t.moment ≤ lines_held older t.moment + 1
-    by None e = alone t older e
-    by (Some part) e = in_group t older part e
+handed_by_lines t older = grind (arith, alone, in_group)

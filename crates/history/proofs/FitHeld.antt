@@ -1,28 +1,27 @@
 -- How many lines of open groups wait at most.
-use Rattle.std.proofs.Common.{◌≡◌, ℕ, ◌*◌, ◌≤◌, Bool, true, false, List, [], ◌∷◌, length, refl, sym, ap, subst, ◌∙◌, nat_le, arith, is_some}
-use Rattle.std.specs.Prelude.{Option, Some, None, Result, Ok, Err, IfOk, IfSome, filter, ◌==◌, if◌then◌else◌}
+use Rattle.std.proofs.Common.{◌≡◌, ℕ, ◌*◌, ◌≤◌, Bool, false, List, [], ◌∷◌, length, refl, sym, ap, subst, arith, is_some}
+use Rattle.std.specs.Prelude.{Option, Some, None, Result, IfOk, IfSome, filter, if◌then◌else◌}
 use Rattle.std.specs.List.{AllByRecursion, sum_by}
 use Rattle.std.proofs.lemmas.Bool.{leb-true}
 use Rattle.std.proofs.lemmas.List.Sums.{sum_by-cons}
 use Rattle.claim_table.specs.Claims.{is_ready}
-use Rattle.slot_views.specs.Runs.{accepted, accepted_after, in_time, opener_of, since_opener, open_at}
+use Rattle.slot_views.specs.Runs.{accepted, accepted_after, opener_of, since_opener, open_at}
 use Rattle.slot_views.proofs.RunSuffixes.{one_suffix_of}
 use Rattle.tag_block.specs.declared.group_key.GroupKey.{GroupKey}
-use Rattle.tag_block.specs.declared.group_part.GroupPart.{GroupPart}
 use Rattle.tag_block.specs.Groups.{IsGroupPart}
-use Rattle.tag_block.specs.GroupRuns.{GroupLine, is_next, group_rules}
+use Rattle.tag_block.specs.GroupRuns.{GroupLine, group_rules}
 use Rattle.tag_block.specs.Tag.{IsGroupRead}
 use Rattle.tag_block.proofs.GroupPrefixes.{lawful, all_front, far_by, more_of}
 use Rattle.datagram450.specs.declared.fault.DatagramFault.{DatagramFault}
 use Rattle.datagram450.specs.Datagram as datagrams
-use Rattle.datagram450.specs.Datagram.{IsItem, Item, line, bad}
+use Rattle.datagram450.specs.Datagram.{IsItem, Item}
 use Rattle.datagram450.proofs.Datagrams.{is_found}
 use Rattle.datagram450.proofs.Items.{each_is}
 use Rattle.history.specs.Entries.{History, IsHistory, now, frame, datagram, tick}
 use Rattle.history.specs.Entries as entry
 use Rattle.history.specs.Settings.{Settings, receiver_of}
 use Rattle.history.specs.Known.{known}
-use Rattle.history.specs.Heard.{HeardItem, Taken, heard_items, with_each, same_group, several, group_line, line_in, group_trace, group_keys, group_open, open_groups, is_taken, taken_as, with_item, taken_lines}
+use Rattle.history.specs.Heard.{HeardItem, Taken, heard_items, with_each, group_trace, group_keys, group_open, open_groups, with_item, taken_lines}
 use Rattle.history.specs.FromNet.{items_in}
 use Rattle.history.specs.Gate.{heard}
 use Rattle.history.specs.Held.{held_in, lines_held}
@@ -39,22 +38,15 @@ same_lines a b e = cc
 -- no line is a repeat, so all lines of a prefix are accepted
 all_accepted : (p acc : List GroupLine) → accepted group_rules p ≡ Some acc → acc ≡ p
 all_accepted [] acc is = cc
-all_accepted (x ∷ []) acc is = by (x.part.number == 1) is
-  where
-    by : (b : Bool) → (if b then Some (x ∷ []) else None) ≡ Some acc → acc ≡ x ∷ []
-    by true e = same_lines (x ∷ []) acc e
-    by false e = cc
+all_accepted (x ∷ []) acc is = grind (arith, same_lines)
 all_accepted (x ∷ y ∷ ys) acc is = by (accepted group_rules (y ∷ ys)) refl is (λ a was. all_accepted (y ∷ ys) a was)
   where
     more : (a : List GroupLine) (t n : Bool) → (if t then (if n then Some (x ∷ a) else if false then Some a else None) else None) ≡ Some acc → acc ≡ x ∷ a
-    more a true true e = same_lines (x ∷ a) acc e
-    more a true false e = cc
-    more a false n e = cc
+    more a t n e = grind (arith, same_lines)
 
     by : (o : Option (List GroupLine)) → accepted group_rules (y ∷ ys) ≡ o → accepted_after group_rules o x ≡ Some acc
         → ((a : List GroupLine) → accepted group_rules (y ∷ ys) ≡ Some a → a ≡ y ∷ ys) → acc ≡ x ∷ y ∷ ys
-    by None was e before = cc
-    by (Some a) was e before = more a (in_time group_rules a x.moment) (is_next a x) e ∙ ap (λ (l : List GroupLine). x ∷ l) (before a was)
+    by o was e before = grind (arith, more)
 
 opener_valid : (y : GroupLine) (ys : List GroupLine) → AllByRecursion IsValid (y ∷ ys) → IsValid (opener_of y ys)
 opener_valid y [] valid = valid.0
@@ -77,48 +69,19 @@ IsRead t = IfSome t.group IsGroupRead
 
 trace_valid : (key : GroupKey) (lines : List Taken) → AllByRecursion IsRead lines → AllByRecursion IsValid (group_trace key lines)
 trace_valid key [] read = tt
-trace_valid key (t ∷ older) read = by t.group refl read.0 (trace_valid key older read.1)
-  where
-    put : (part : GroupPart) → IsValid (group_line t part) → (b : Bool) → same_group key (record { sfi = t.source; code = part.code }) ≡ b → line_in key t (several t.group) ≡ line_in key t (Some part)
-        → AllByRecursion IsValid (group_trace key older) → AllByRecursion IsValid (group_trace key (t ∷ older))
-    put part valid true same is rest = rw (is, same) (valid, rest)
-    put part valid false other is rest = rw (is, other) rest
-
-    by : (g : Option GroupPart) → t.group ≡ g → IfSome t.group IsGroupRead → AllByRecursion IsValid (group_trace key older) → AllByRecursion IsValid (group_trace key (t ∷ older))
-    by None e is rest = rw e rest
-    by (Some part) e is rest = two (nat_le 2 part.total) refl
-      where
-        read_part : IsGroupRead part
-        read_part = subst (λ (g : Option GroupPart). IfSome g IsGroupRead) e is
-
-        two : (b : Bool) → nat_le 2 part.total ≡ b → AllByRecursion IsValid (group_trace key (t ∷ older))
-        two true le =
-            put part (record { several = leb-true 2 part.total le; most = read_part.most; first = read_part.first; last = read_part.within })
-            (same_group key (record { sfi = t.source; code = part.code })) refl (rw (e, le) refl) rest
-        two false few = rw (e, few) rest
+trace_valid key (t ∷ older) read = grind (arith, trace_valid key older read.1, leb-true)
 
 module _ (c : Settings) where
   item_read : (lines : List Taken) (x : HeardItem) (i : Item) → IsItem i → AllByRecursion IsRead lines → AllByRecursion IsRead (with_item c lines x i)
-  item_read lines x (line place said sentence parts) is read = by (is_taken c said)
-    where
-      t : Taken
-      t = taken_as c lines x place said sentence
-
-      by : (b : Bool) → AllByRecursion IsRead (if b then t ∷ lines else lines)
-      by true = (is.ranges.group, read)
-      by false = read
-  item_read lines x (bad rule place) is read = read
+  item_read lines x i is read = grind arith
 
   all_read : (older : List HeardItem) (m : ℕ) (ready : Bool) (items : List Item) → AllByRecursion IsItem items → AllByRecursion IsRead (taken_lines c older)
       → AllByRecursion IsRead (taken_lines c (with_each older (heard_items m ready items)))
   all_read older m ready [] is read = read
-  all_read older m ready (i ∷ items) is read =
-      all_read (record { moment = m; ready = ready; item = i } ∷ older) m ready items is.1
-      (item_read (taken_lines c older) (record { moment = m; ready = ready; item = i }) i is.0 read)
+  all_read older m ready (i ∷ items) is read = grind (arith, all_read (record { moment = m; ready = ready; item = i } ∷ older) m ready items is.1, item_read)
 
 items_are : (r : Result (List Item) DatagramFault) → IfOk r (AllByRecursion IsItem) → AllByRecursion IsItem (items_in r)
-items_are (Ok items) is = is
-items_are (Err fault) is = tt
+items_are r is = grind arith
 
 module _ (c : Settings) (s : ℕ) where
   heard_read : (h : History) → AllByRecursion IsRead (taken_lines c (heard c s h))
@@ -139,9 +102,7 @@ sum_few o few (k ∷ keys) = by (o k) refl (few k) (sum_few o few keys)
   where
     by : (q : Option (List GroupLine)) → o k ≡ q → held_in (o k) ≤ 8 → sum_by (λ key. held_in (o key)) keys ≤ 8 * length (filter (λ key. is_some (o key)) keys)
         → sum_by (λ key. held_in (o key)) (k ∷ keys) ≤ 8 * length (filter (λ key. is_some (o key)) (k ∷ keys))
-    by None e one rest =
-        let none : held_in (o k) ≡ 0 = ap held_in e in
-        rw (ap is_some e) (omega (arith, none, sum_by-cons (λ key. held_in (o key)) k keys, rest))
+    by None e one rest = grind (arith, sum_by-cons)
     by (Some acc) e one rest = rw (ap is_some e) (omega (arith, one, sum_by-cons (λ key. held_in (o key)) k keys, rest))
 
 -- ---- an open group holds at most 8 lines

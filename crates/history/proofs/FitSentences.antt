@@ -1,37 +1,32 @@
 -- How much a sentence emits at most.
-use Rattle.std.proofs.Common.{◌≡◌, ℕ, zero, suc, ◌+◌, ◌-◌, ◌≤◌, Bool, true, false, not, ◌==◌, List, [], ◌∷◌, ◌++◌, length, length-append, refl, ap, ◌∙◌, arith}
-use Rattle.std.specs.Prelude.{Option, Some, None, Result, Ok, Err, is_none, ℤ, if◌then◌else◌}
+use Rattle.std.proofs.Common.{◌≡◌, ℕ, zero, suc, ◌+◌, ◌≤◌, Bool, true, false, ◌==◌, List, [], ◌∷◌, ◌++◌, length, length-append, refl, ap, ◌∙◌, arith}
+use Rattle.std.specs.Prelude.{Option, Some, None, Result, Ok, Err, ℤ, if◌then◌else◌}
 use Rattle.std.proofs.lemmas.Bool.{false≢true}
 use Rattle.std.proofs.lemmas.Bool.Decides.{nat_tests}
 use Rattle.std.proofs.lemmas.List.{length-map}
-use Rattle.report_rules.specs.Rules as rules
-use Rattle.gate_events.specs.declared.emit.Detail.TheVariants as detail
 use Rattle.readings.specs.declared.reading.Reading.{Reading}
 use Rattle.readings.specs.declared.reading.Reading.TheVariants as reading
 use Rattle.readings.specs.Rows.{row_of}
 use Rattle.pgn_profile.specs.declared.kinds.Kind.{Kind}
-use Rattle.pgn_profile.specs.declared.kinds.Kind.TheVariants.{Single, Fast, Outside}
-use Rattle.pgn_profile.specs.Profiled.{kind_of, payload_of, pgn_of, priority_of}
+use Rattle.pgn_profile.specs.declared.kinds.Kind.TheVariants.{Outside}
+use Rattle.pgn_profile.specs.Profiled.{kind_of, payload_of, pgn_of}
 use Rattle.pgn_profile.proofs.Law.{fits, payload_fits}
 use Rattle.fast_packet.proofs.Counts.{need_is}
-use Rattle.fast_packet.specs.FastRuns.{need_of, later_frame, frames_to, frames_of}
+use Rattle.fast_packet.specs.FastRuns.{later_frame, frames_to, frames_of}
 use Rattle.sentence_text.specs.declared.fault.SentenceFault.{SentenceFault}
 use Rattle.sentence_text.specs.Sentence.{SentenceParts}
 use Rattle.sentence_text.specs.Fields.{fields_of}
 use Rattle.sentence_text.specs.Reading as sentences
 use Rattle.sentence_rows.specs.declared.fault.FieldFault.{FieldFault}
-use Rattle.sentence_rows.specs.declared.fault.FieldFault.TheVariants.{Outside, Form, Range}
+use Rattle.sentence_rows.specs.declared.fault.FieldFault.TheVariants.{Outside}
 use Rattle.sentence_rows.specs.declared.formatter.Formatter.{Formatter}
-use Rattle.sentence_rows.specs.declared.formatter.Formatter.TheVariants as formatter
-use Rattle.sentence_rows.specs.Writing.{only_if}
-use Rattle.sentence_rows.specs.Columns.{fault, value, holds, reads, status, number}
-use Rattle.sentence_rows.specs.Columns as quantity
+use Rattle.sentence_rows.specs.Columns.{reads}
 use Rattle.sentence_rows.specs.Reading.{formatter_of, Found, alone, rudders, listed, read_as, read_behind}
 use Rattle.sentence_rows.specs.Reading as rows
 use Rattle.history.specs.Settings.{Settings}
-use Rattle.history.specs.Emits.{sent, reported, breaks, broken_of}
+use Rattle.history.specs.Emits.{reported}
 use Rattle.history.specs.Heard.{Taken}
-use Rattle.history.specs.NetReadings.{NetReading, read_parts, read_sentence, sentence_says, is_net_selected, is_fast_row, next_sequence}
+use Rattle.history.specs.NetReadings.{NetReading, read_parts, read_sentence, sentence_says}
 use Rattle.history.specs.NetRules.{reading_breaks}
 use Rattle.history.specs.FromNet.{payload_frames, sent_from, reading_gives, said_gives}
 
@@ -45,20 +40,14 @@ length_frames_to sequence p (suc j) =
 
 -- a message of at most 48 bytes has at most 7 frames, and one of at most 13 bytes two
 frames_few : (sequence : ℕ) (p : List ℕ) → length p ≤ 48 → length (frames_of sequence p) ≤ 7
-frames_few sequence p small =
-    let frames = length_frames_to sequence p (need_of (length p) - 1) in
-    omega (arith, frames, need_is (length p), small)
+frames_few sequence p small = grind (arith, length_frames_to, need_is)
 
 frames_two : (sequence : ℕ) (p : List ℕ) → length p ≤ 13 → length (frames_of sequence p) ≤ 2
-frames_two sequence p small =
-    let frames = length_frames_to sequence p (need_of (length p) - 1) in
-    omega (arith, frames, need_is (length p), small)
+frames_two sequence p small = grind (arith, length_frames_to, need_is)
 
 -- no payload is longer
 size_fits : (kind : Kind) (size : ℕ) → fits kind size ≡ true → size ≤ 48
-size_fits Single size is = grind (arith, nat_tests)
-size_fits Fast size is = grind (arith, nat_tests)
-size_fits Outside size is = absurd (false≢true is)
+size_fits kind size is = grind (arith, nat_tests, false≢true)
 
 payload_length : (r : Reading) → length (payload_of r) ≤ 48
 payload_length r = size_fits (kind_of (pgn_of (row_of r))) (length (payload_of r)) (payload_fits r)
@@ -66,35 +55,20 @@ payload_length r = size_fits (kind_of (pgn_of (row_of r))) (length (payload_of r
 -- ---- a reading that is selected
 
 broken_one : (n : NetReading) → length (reported (reading_breaks n)) ≤ 1
-broken_one n = by n.line.ready
-  where
-    by : (b : Bool) → length (reported (broken_of (breaks (not b) rules.not_ready (detail.At n.line.place) ∷ []))) ≤ 1
-    by true = omega arith
-    by false = omega arith
+broken_one n = grind arith
 
 -- at most as many as the frames of its payload
 module _ (c : Settings) (own : Option ℕ) where
   frames_most : (older : List NetReading) (n : NetReading) (most : ℕ) → 1 ≤ most
       → ((sequence : ℕ) → length (frames_of sequence (payload_of n.reading)) ≤ most) → length (payload_frames c own older n) ≤ most
-  frames_most older n most one few = by (is_fast_row (row_of n.reading))
-    where
-      by : (b : Bool) → length (if b then frames_of (next_sequence c older (pgn_of (row_of n.reading))) (payload_of n.reading) else payload_of n.reading ∷ []) ≤ most
-      by true = few (next_sequence c older (pgn_of (row_of n.reading)))
-      by false = one
+  frames_most older n most one few = grind arith
 
   sent_most : (from : Option ℕ) (older : List NetReading) (n : NetReading) (most : ℕ) → length (payload_frames c own older n) ≤ most → length (sent_from c own from older n) ≤ most
-  sent_most None older n most few = omega arith
-  sent_most (Some address) older n most few =
-      rw (length-map (payload_frames c own older n) (λ held. sent (priority_of (row_of n.reading)) (pgn_of (row_of n.reading)) 255 address held)) few
+  sent_most from older n most few = grind (arith, length-map)
 
   reading_most : (older : List NetReading) (n : NetReading) (most : ℕ) → 1 ≤ most
       → ((sequence : ℕ) → length (frames_of sequence (payload_of n.reading)) ≤ most) → length (reading_gives c own older n) ≤ most
-  reading_most older n most one few = by (not (is_net_selected c older n)) n.line.ready
-    where
-      by : (a b : Bool) → length (if a then [] else if b then sent_from c own own older n else reported (reading_breaks n)) ≤ most
-      by true b = omega arith
-      by false true = sent_most own older n most (frames_most older n most one few)
-      by false false = omega (arith, one, broken_one n)
+  reading_most older n most one few = grind (arith, sent_most, frames_most, broken_one)
 
   reading_few : (t : Taken) (older : List NetReading) (r : Reading) → length (reading_gives c own older (record { line = t; reading = r })) ≤ 7
   reading_few t older r = reading_most older (record { line = t; reading = r }) 7 (omega arith) (λ sequence. frames_few sequence (payload_of r) (payload_length r))
@@ -126,17 +100,14 @@ module _ (c : Settings) (own : Option ℕ) where
       (omega (arith, one, two))
 
   fault_few : (t : Taken) (older : List NetReading) (f : FieldFault) → length (said_gives c own t older (sentence_says t (Err f))) ≤ 7
-  fault_few t older Outside = omega arith
-  fault_few t older (Form field) = omega arith
-  fault_few t older (Range field) = omega arith
+  fault_few t older f = grind arith
 
   -- whatever line hands it over
   abbrev IsFew : Result Found FieldFault → Type 0
   IsFew found = (t : Taken) (older : List NetReading) → length (said_gives c own t older (sentence_says t (listed found))) ≤ 7
 
   alone_is : (x : Result Reading FieldFault) → IsFew (alone x)
-  alone_is (Ok r) = λ t older. alone_few t older r
-  alone_is (Err f) = λ t older. fault_few t older f
+  alone_is x = grind (arith, alone_few, fault_few)
 
   reads_is : (faults : List (Option FieldFault)) (found : Found) → IsFew (Ok found) → IsFew (reads faults found)
   reads_is [] found few = few
@@ -144,56 +115,27 @@ module _ (c : Settings) (own : Option ℕ) where
   reads_is (Some f ∷ faults) found few = λ t older. fault_few t older f
 
   rudders_is : (no_first no_second : Bool) (p q : Option ℤ) → IsFew (Ok (rudders no_first no_second (reading.RudderFirst p) (reading.RudderSecond q)))
-  rudders_is no_first true p q = λ t older. alone_few t older (reading.RudderFirst p)
-  rudders_is true false p q = λ t older. alone_few t older (reading.RudderSecond q)
-  rudders_is false false p q = λ t older. both_few t older p q
+  rudders_is no_first no_second p q = grind (arith, alone_few, both_few)
 
   rsa_is : (f : List (List ℕ)) → IsFew (rows.rsa f)
   unfolding rows.rsa
-  rsa_is f =
-      let first = number f 1 quantity.rudder in
-      let first_valid = status f 2 (is_none (value first)) in
-      let second = number f 3 quantity.rudder in
-      let second_valid = status f 4 (is_none (value second)) in
-      reads_is (fault first ∷ fault first_valid ∷ fault second ∷ fault second_valid ∷ [])
-      (rudders (is_none (value first)) (is_none (value second))
-      (reading.RudderFirst (only_if (holds first_valid) (value first))) (reading.RudderSecond (only_if (holds second_valid) (value second))))
-      (rudders_is (is_none (value first)) (is_none (value second)) (only_if (holds first_valid) (value first)) (only_if (holds second_valid) (value second)))
+  rsa_is f = grind (arith, reads_is, rudders_is)
 
   read_is : (k : Formatter) (f : List (List ℕ)) → IsFew (read_as k f)
-  read_is formatter.Hdt f = alone_is (rows.hdt f)
-  read_is formatter.Hdg f = alone_is (rows.hdg f)
-  read_is formatter.Rot f = alone_is (rows.rot f)
-  read_is formatter.Rsa f = rsa_is f
-  read_is formatter.Vhw f = alone_is (rows.vhw f)
-  read_is formatter.Dpt f = alone_is (rows.dpt f)
-  read_is formatter.Dbt f = alone_is (rows.dbt f)
-  read_is formatter.Vlw f = alone_is (rows.vlw f)
-  read_is formatter.Gll f = alone_is (rows.gll f)
-  read_is formatter.Vtg f = alone_is (rows.vtg f)
-  read_is formatter.Gga f = alone_is (rows.gga f)
-  read_is formatter.Zda f = alone_is (rows.zda f)
-  read_is formatter.Mwv f = alone_is (rows.mwv f)
-  read_is formatter.Mwd f = alone_is (rows.mwd f)
-  read_is formatter.Mtw f = alone_is (rows.mtw f)
-  read_is formatter.Xte f = alone_is (rows.xte f)
-  read_is formatter.Ths f = alone_is (rows.ths f)
+  read_is k f = grind (arith, alone_is, rsa_is)
 
   behind_is : (o : Option Formatter) (f : List (List ℕ)) → IsFew (read_behind o f)
-  behind_is None f = λ t older. fault_few t older Outside
-  behind_is (Some k) f = read_is k f
+  behind_is o f = grind (arith, fault_few, read_is)
 
   begun_is : (b : Bool) (o : Option Formatter) (f : List (List ℕ)) → IsFew (if b then read_behind o f else Err Outside)
-  begun_is true o f = behind_is o f
-  begun_is false o f = λ t older. fault_few t older Outside
+  begun_is b o f = grind (arith, behind_is, fault_few)
 
   row_is : (parts : SentenceParts) → IsFew (rows.read_sentence parts)
   unfolding rows.read_sentence
   row_is parts = begun_is (parts.start == 36) (formatter_of parts.formatter) (fields_of parts.body)
 
   parts_few : (t : Taken) (older : List NetReading) (read : Result SentenceParts SentenceFault) → length (said_gives c own t older (sentence_says t (read_parts read))) ≤ 7
-  parts_few t older (Ok parts) = row_is parts t older
-  parts_few t older (Err f) = fault_few t older Outside
+  parts_few t older read = grind (arith, row_is, fault_few)
 
 -- a sentence gives no more than the frames of the longest message
 pub sentence_gives_few : (c : Settings) (own : Option ℕ) (t : Taken) (older : List NetReading) (text : List ℕ)

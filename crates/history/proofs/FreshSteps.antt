@@ -1,5 +1,5 @@
 -- The laws of freshness.
-use Rattle.std.proofs.Common.{◌≡◌, ℕ, suc, ◌<◌, ◌≤◌, Bool, true, false, ◌&&◌, List, [], ◌∷◌, ◌⊎◌, inl, inr, length, refl, sym, ap, subst, ◌∙◌, ◌==◌, arith}
+use Rattle.std.proofs.Common.{◌≡◌, ℕ, suc, ◌<◌, ◌≤◌, Bool, true, ◌&&◌, List, [], ◌∷◌, ◌⊎◌, length, refl, sym, ap, ◌∙◌, ◌==◌, arith}
 use Rattle.std.specs.Prelude.{Option, Some, None, find, if◌then◌else◌, option_map, option_and_then}
 use Rattle.std.specs.List.{AllByRecursion}
 use Rattle.history.specs.Traces.{NotedFrame}
@@ -22,7 +22,6 @@ use Rattle.history.proofs.Addresses.{addresses_are_sound}
 use Rattle.history.proofs.KeySteps.{dated_at, known_same}
 use Rattle.history.proofs.TraceMoves.{same_since, moved_since, known_after_claim}
 use Rattle.history.proofs.Moves.{Moved}
-use Rattle.history.proofs.Moves as moves
 
 -- the last message of a subject from a source since an index, where there is one
 abbrev pub last_since : (Message → Option Told) → ℕ → ℕ → List Message → Option ℕ → Option Message
@@ -37,15 +36,11 @@ later n [] h = tt
 later n (d ∷ older) h = (omega (arith, h.0), later n older h.1)
 
 added : (n m source : ℕ) (x : Option Holder) (what : Option Carried) (older : List Message) → AreBelow n older → AreBelow (suc n) (with_message (said_by n m source x what) older)
-added n m source None what older h = later n older h
-added n m source (Some x) None older h = later n older h
-added n m source (Some x) (Some w) older h = (omega arith, later n older h)
+added n m source x what older h = grind (arith, later)
 
 pub below : (c : Receiver) (s : ℕ) (h : History) → AreBelow (length h) (messages_of c s h)
 below c s [] = tt
-below c s (frame m f ∷ h) =
-    added (length h) m (parts_of f.id).source (holder_at (known c s h).claims.holders (parts_of f.id).source)
-    (completed_by c.kinds (known c s h) (note_of c (length h) (known c s h) (notes_of c s h) m f) (notes_of c s h)) (messages_of c s h) (below c s h)
+below c s (frame m f ∷ h) = grind (arith, below c s h, added)
 below c s (datagram m bytes ∷ h) = later (length h) (messages_of c s h) (below c s h)
 below c s (tick m ∷ h) = later (length h) (messages_of c s h) (below c s h)
 below c s (command m source address ∷ h) = later (length h) (messages_of c s h) (below c s h)
@@ -58,11 +53,7 @@ found_newest tells subject source since d older le = rw (le-leb since d.index le
 
 none_since : (tells : Message → Option Told) (subject source i : ℕ) (older : List Message) → AreBelow i older → find (is_of tells subject source i) older ≡ None
 none_since tells subject source i [] h = refl
-none_since tells subject source i (d ∷ older) h = rw (lt-leb i d.index h.0, neither (d.source == source)) (none_since tells subject source i older h.1)
-  where
-    neither : (x : Bool) → (x && false) ≡ false
-    neither true = refl
-    neither false = refl
+none_since tells subject source i (d ∷ older) h = grind (arith, none_since tells subject source i older h.1, lt-leb)
 
 -- ---- a frame that is no claim
 
@@ -81,19 +72,14 @@ HasIndex n (Some d) = d.index ≡ n
 
 module _ (tells : Message → Option Told) (subject source n : ℕ) (older : List Message) where
   unheld : (d : Message) (b : Bool) → (d.source == source) ≡ b → IsHeld source None (Some d) → None ≡ (if is_told tells subject source (Some d) then Some d else None)
-  unheld d true e held = let x = held e in cc
-  unheld d false e held = rw e refl
+  unheld d b e held = grind arith
 
   kept : (since : Option ℕ) (said : Option Message) → IsDated since n → HasIndex n said → IsHeld source since said
       → last_since tells subject source (with_message said older) since ≡ (if is_told tells subject source said then said else last_since tells subject source older since)
-  kept since None dated index held = refl
-  kept None (Some d) dated index held = unheld d (d.source == source) refl held
-  kept (Some since) (Some d) dated index held = found_newest tells subject source since d older (subst (λ (x : ℕ). since ≤ x) (sym index) dated)
+  kept since said dated index held = grind (arith, dated, unheld, found_newest)
 
 said_index : (n m from : ℕ) (x : Option Holder) (what : Option Carried) → HasIndex n (said_by n m from x what)
-said_index n m from None what = tt
-said_index n m from (Some x) None = tt
-said_index n m from (Some x) (Some w) = refl
+said_index n m from x what = grind arith
 
 said_held : (k : Known) (n m from source : ℕ) (x : Option Holder) (what : Option Carried) → holder_at k.claims.holders from ≡ x → IsHeld source (held_since k.claims.holders source) (said_by n m from x what)
 said_held k n m from source None what e = tt
@@ -120,29 +106,20 @@ claim_completes_none : (c : Receiver) → IsReceiver c → (k : Known) (n : Note
 claim_completes_none c are k n older e = rw (e, are.claims) refl
 
 says_none : (n m from : ℕ) (x : Option Holder) → said_by n m from x None ≡ None
-says_none n m from None = refl
-says_none n m from (Some x) = refl
+says_none n m from x = grind arith
 
 pub claim_says_none : (c : Receiver) (s : ℕ) (h : History) (m : ℕ) (f : BusFrame) → IsReceiver c → is_claim f ≡ true → messages_of c s (frame m f ∷ h) ≡ messages_of c s h
-claim_says_none c s h m f are claims =
-    ap (λ (x : Option Message). with_message x (messages_of c s h))
-    (ap (said_by (length h) m (parts_of f.id).source (holder_at (known c s h).claims.holders (parts_of f.id).source))
-    (claim_completes_none c are (known c s h) (note_of c (length h) (known c s h) (notes_of c s h) m f) (notes_of c s h) (eqb-true (parts_of f.id).pgn 60928 (and_parts _ _ claims).0))
-    ∙ says_none (length h) m (parts_of f.id).source (holder_at (known c s h).claims.holders (parts_of f.id).source))
+claim_says_none c s h m f are claims = grind (arith, claim_completes_none, eqb-true, and_parts, says_none)
 
 module _ (tells : Message → Option Told) (subject source i : ℕ) (older : List Message) (below_i : AreBelow i older) where
   forgotten : (after : Option ℕ) → (after ≡ Some i) ⊎ (after ≡ None) → last_since tells subject source older after ≡ None
-  forgotten after (inl e) = rw e (none_since tells subject source i older below_i)
-  forgotten after (inr e) = rw e refl
+  forgotten after h = grind (arith, none_since)
 
   none_before : (lost : Bool) (before : Option ℕ) → (lost ≡ true) ⊎ (before ≡ None) → None ≡ (if lost then None else last_since tells subject source older before)
-  none_before lost before (inl e) = rw e refl
-  none_before true before (inr e) = refl
-  none_before false before (inr e) = rw e refl
+  none_before lost before h = grind arith
 
   by_move : (lost : Bool) (before after : Option ℕ) → Moved lost i before after → last_since tells subject source older after ≡ (if lost then None else last_since tells subject source older before)
-  by_move lost before after (moves.stays kept same) = rw (same, kept) refl
-  by_move lost before after (moves.begins new old) = forgotten after new ∙ none_before lost before old
+  by_move lost before after h = grind (arith, kept, forgotten, none_before)
 
 pub claims_forget : ClaimsForget
 claims_forget tells c s h m f subject source are claims =

@@ -1,6 +1,6 @@
 -- Rule 15 is reported exactly where an opener finds no room.
-use Rattle.std.proofs.Common.{◌≡◌, ℕ, Bool, true, false, ◌&&◌, ◌||◌, not, ◌==◌, nat_le, nat_lt, List, [], ◌∷◌, length, is_some, refl, sym, ap, ◌∙◌}
-use Rattle.std.specs.Prelude.{Option, Some, None, if◌then◌else◌, option_map}
+use Rattle.std.proofs.Common.{◌≡◌, ℕ, Bool, true, false, ◌&&◌, ◌||◌, not, ◌==◌, nat_le, nat_lt, List, [], ◌∷◌, length, is_some, refl, sym, ap, ◌∙◌, arith}
+use Rattle.std.specs.Prelude.{Option, None, if◌then◌else◌, option_map}
 use Rattle.std.specs.List.{list_any}
 use Rattle.std.proofs.lemmas.Bool.{and_parts, eqb-true, eq-eqb, ltb-false, le-leb, false≢true}
 use Rattle.report_rules.specs.Rules as rules
@@ -8,7 +8,7 @@ use Rattle.claim_table.specs.Claims.{is_at, holder_at}
 use Rattle.claim_table.specs.declared.answer.Holder.{Holder}
 use Rattle.claim_table.specs.Laws.{IsSound}
 use Rattle.pgn_profile.specs.declared.kinds.Kind.{Kind}
-use Rattle.pgn_profile.specs.declared.kinds.Kind.TheVariants.{Single, Fast, Outside}
+use Rattle.pgn_profile.specs.declared.kinds.Kind.TheVariants.{Outside}
 use Rattle.fast_packet.specs.FastRuns as fast
 use Rattle.fast_packet.specs.FastRuns.{FastPiece}
 use Rattle.n2k_id.specs.Identifier.{is_own, is_to}
@@ -21,7 +21,7 @@ use Rattle.history.specs.Entries.{History, frame, datagram, tick, command}
 use Rattle.history.specs.Settings.{Receiver}
 use Rattle.history.specs.Known.{Known, known, held_since}
 use Rattle.history.specs.Emits.{Rule, broken_of}
-use Rattle.history.specs.Meanings.{Meaning, address_claim, own_source, request, from_nobody, transport, single, fast_packet, passed, if_held, by_kind, meaning_of, is_of_session, is_of_fast_packet}
+use Rattle.history.specs.Meanings.{Meaning, address_claim, own_source, request, transport, single, passed, if_held, by_kind, meaning_of, is_of_session, is_of_fast_packet}
 use Rattle.history.specs.Messages.{Message, done}
 use Rattle.history.specs.Opens.{is_fast, notes_of}
 use Rattle.history.specs.Traces.{NotedFrame, iso_piece, is_transport, is_bearing, bears_upon}
@@ -41,19 +41,7 @@ is_full x = (x.report.rule == rules.slots_full) && x.broken
 full_rows : (table : List Rule) → says_full (broken_of table) ≡ list_any is_full table
 unfolding is_full
 full_rows [] = refl
-full_rows (x ∷ table) = by x.broken refl (full_rows table)
-  where
-    turn : (a : Bool) → (a && true) ≡ a
-    turn true = refl
-    turn false = refl
-
-    none : (a : Bool) → (a && false) ≡ false
-    none true = refl
-    none false = refl
-
-    by : (b : Bool) → x.broken ≡ b → says_full (broken_of table) ≡ list_any is_full table → says_full (broken_of (x ∷ table)) ≡ list_any is_full (x ∷ table)
-    by true e rest = rw (e, turn (x.report.rule == rules.slots_full), rest) refl
-    by false e rest = rw (e, none (x.report.rule == rules.slots_full)) rest
+full_rows (x ∷ table) = grind (arith, full_rows table, is_full)
 
 module _ (name : ℕ) (n : NotedFrame) (frames : Option (List FastPiece)) (packets : Option (List IsoPiece)) (message : Option Message) where
   -- whether the opener of a fast packet, or of a session, finds no room
@@ -63,22 +51,11 @@ module _ (name : ℕ) (n : NotedFrame) (frames : Option (List FastPiece)) (packe
       || (is_of_session meaning && (opens_session (key_of n.parts).addressed n.ready (iso_piece n) && not n.admitted))
 
   or_none : (b : Bool) → (b || false) ≡ b
-  or_none true = refl
-  or_none false = refl
+  or_none b = grind arith
 
   full_by : (meaning : Meaning) (what : Option Message) → message ≡ what → list_any is_full (table_of name n frames packets message meaning) ≡ finds_none meaning
   unfolding is_full
-  full_by address_claim what e = refl
-  full_by own_source what e = refl
-  full_by request what e = refl
-  full_by from_nobody what e = refl
-  full_by transport None e = rw e (or_none _)
-  full_by transport (Some d) e = rw e (or_none _)
-  full_by single None e = rw e refl
-  full_by single (Some d) e = rw e refl
-  full_by fast_packet None e = rw e refl
-  full_by fast_packet (Some d) e = rw e refl
-  full_by passed what e = refl
+  full_by meaning what e = grind (arith, or_none)
 
   full_breaks : (meaning : Meaning) → says_full (frame_breaks name meaning n frames packets message) ≡ finds_none meaning
   full_breaks meaning = full_rows (table_of name n frames packets message meaning) ∙ full_by meaning message refl
@@ -86,54 +63,27 @@ module _ (name : ℕ) (n : NotedFrame) (frames : Option (List FastPiece)) (packe
 -- ---- what a frame is to the gateway
 
 and_no : (b : Bool) → (b && false) ≡ false
-and_no true = refl
-and_no false = refl
-
-held_fast : (held : Bool) → is_of_fast_packet (if_held held fast_packet) ≡ held
-held_fast true = refl
-held_fast false = refl
+and_no b = grind arith
 
 held_other : (held : Bool) → is_of_fast_packet (if_held held single) ≡ false
-held_other true = refl
-held_other false = refl
+held_other held = grind arith
 
 held_transport : (held : Bool) → is_of_fast_packet (if_held held transport) ≡ false
-held_transport true = refl
-held_transport false = refl
+held_transport held = grind arith
 
 fast_of : (claims own asks moves to held : Bool) (kind : Kind) → (claims ≡ true → kind ≡ Outside) → (own ≡ true → held ≡ false) → (asks ≡ true → kind ≡ Outside)
     → (moves ≡ true → kind ≡ Outside)
     → is_of_fast_packet (if claims then address_claim else if own then own_source else if asks then (if to then request else passed) else if moves then (if to then if_held held transport else passed) else by_kind kind held)
     ≡ (held && is_fast kind)
-fast_of true own asks moves to held kind c o a m = rw (c refl, and_no held) refl
-fast_of false true asks moves to held kind c o a m = rw (o refl) refl
-fast_of false false true moves true held kind c o a m = rw (a refl, and_no held) refl
-fast_of false false true moves false held kind c o a m = rw (a refl, and_no held) refl
-fast_of false false false true true held kind c o a m = rw (m refl, and_no held) (held_transport held)
-fast_of false false false true false held kind c o a m = rw (m refl, and_no held) refl
-fast_of false false false false to held Single c o a m = rw (and_no held) (held_other held)
-fast_of false false false false to true Fast c o a m = refl
-fast_of false false false false to false Fast c o a m = refl
-fast_of false false false false to held Outside c o a m = rw (and_no held) refl
+fast_of claims own asks moves to held kind c o a m = grind (arith, held, and_no, held_transport, held_other)
 
 session_of_kind : (kind : Kind) (held : Bool) → is_of_session (by_kind kind held) ≡ false
-session_of_kind Single true = refl
-session_of_kind Single false = refl
-session_of_kind Fast true = refl
-session_of_kind Fast false = refl
-session_of_kind Outside held = refl
+session_of_kind kind held = grind (arith, held)
 
 session_of : (claims own asks moves to held : Bool) (kind : Kind) → (claims ≡ true → moves ≡ false) → (own ≡ true → held ≡ false) → (asks ≡ true → moves ≡ false)
     → is_of_session (if claims then address_claim else if own then own_source else if asks then (if to then request else passed) else if moves then (if to then if_held held transport else passed) else by_kind kind held)
     ≡ (held && (to && moves))
-session_of true own asks moves to held kind c o a = rw (c refl, and_no to, and_no held) refl
-session_of false true asks moves to held kind c o a = rw (o refl) refl
-session_of false false true moves true held kind c o a = rw (a refl, and_no held) refl
-session_of false false true moves false held kind c o a = rw (and_no held) refl
-session_of false false false true true true kind c o a = refl
-session_of false false false true true false kind c o a = refl
-session_of false false false true false held kind c o a = rw (and_no held) refl
-session_of false false false false to held kind c o a = rw (and_no to, and_no held) (session_of_kind kind held)
+session_of claims own asks moves to held kind c o a = grind (arith, held, and_no, session_of_kind)
 
 -- ---- an opener of a session, by its control byte
 
@@ -158,8 +108,7 @@ opens_by false control bytes false false false false true ea eb ec ed eg e = abs
 opens_by false control bytes false false false false false ea eb ec ed eg e = absurd (false≢true (rw (ea, eb, ec, ed, eg) at e))
 
 not_so : (b : Bool) → not b ≡ true → b ≡ false
-not_so true e = cc
-not_so false e = refl
+not_so b e = grind arith
 
 pub record OpenerFacts (addressed : Bool) (y : IsoPiece) : Type 0 where
   pub managed : y.packet ≡ false
@@ -172,60 +121,36 @@ opener_facts addressed y e =
     by (nat_lt (length y.bytes) 8) refl parts.1 (not_so y.packet parts.0)
   where
     by : (b : Bool) → nat_lt (length y.bytes) 8 ≡ b → iso.opens addressed (if b then None else cm_by (control_at y.bytes) y.bytes) ≡ true → y.packet ≡ false → OpenerFacts addressed y
-    by true el opens ep = absurd (false≢true opens)
-    by false el opens ep = record {
-      managed = ep;
-      enough = le-leb 8 (length y.bytes) (ltb-false (length y.bytes) 8 el);
-      kind = opens_by addressed (control_at y.bytes) y.bytes _ _ _ _ _ refl refl refl refl refl opens;
-    }
+    by b el opens ep = grind (arith, false≢true, le-leb, ltb-false)
 
 -- an opener that isn't too early bears on its session
 bears_where : (addressed ready : Bool) (y : IsoPiece) → OpenerFacts addressed y
     → (y.packet || (nat_le 8 (length y.bytes) && bears_upon addressed ready (control_at y.bytes))) ≡ not (is_early addressed ready y)
-bears_where true ready y f = let control = eqb-true (control_at y.bytes) 16 f.kind in rw (f.managed, f.enough, control) (twice ready)
-  where
-    twice : (b : Bool) → b ≡ not (not b)
-    twice true = refl
-    twice false = refl
-bears_where false ready y f = let control = eqb-true (control_at y.bytes) 32 f.kind in rw (f.managed, f.enough, control) refl
+bears_where addressed ready y f = grind (arith, eqb-true)
 
 -- ---- the same said of a frame
 
 gathered : (a b c d e : Bool) → ((a && (b && c)) && (d && e)) ≡ ((a && (b && (c && d))) && e)
-gathered true true true d e = refl
-gathered true true false d e = refl
-gathered true false c d e = refl
-gathered false b c d e = refl
+gathered a b c d e = grind arith
 
 spread : (a b c d e : Bool) → (((a && b) && (c && e)) || (d && e)) ≡ (((a && (b && c)) || d) && e)
-spread true true true d true = refl
-spread true true true true false = refl
-spread true true true false false = refl
-spread true true false d e = refl
-spread true false c d e = refl
-spread false b c d e = refl
+spread a b c d e = grind arith
 
 module _ (r : Receiver) (are : IsReceiver r) (k : Known) (sound : IsSound k.claims) (n : NotedFrame) where
   since_held : (x : Option Holder) → is_some (option_map (λ (y : Holder). y.since) x) ≡ is_some x
-  since_held None = refl
-  since_held (Some x) = refl
+  since_held x = grind arith
 
   held : Bool
   held = is_some (holder_at k.claims.holders n.parts.source)
 
   own_nobody : (own : Option ℕ) → k.claims.own ≡ own → is_own own n.parts.source ≡ true → is_some (holder_at k.claims.holders n.parts.source) ≡ false
-  own_nobody None e is = absurd (false≢true is)
-  own_nobody (Some x) e is =
-      let same = eqb-true n.parts.source x is in
-      ap is_some (ap (holder_at k.claims.holders) same ∙ sound.own_free x e)
+  own_nobody own e is = grind (arith, false≢true, eqb-true)
 
   own_turn : (own : Option ℕ) (d : ℕ) → k.claims.own ≡ own → is_at d k.claims.own ≡ is_own own d
-  own_turn None d e = rw e refl
-  own_turn (Some x) d e = rw e (eqb-sym x d)
+  own_turn own d e = grind (arith, eqb-sym)
 
   meant_by : (b : Bool) → (n.parts.destination == 255) ≡ b → is_meant k.claims.own n (not b) ≡ is_to k.claims.own n.parts.destination
-  meant_by true e = rw e refl
-  meant_by false e = rw e (own_turn k.claims.own n.parts.destination refl)
+  meant_by b e = grind (arith, own_turn)
 
   meant : is_meant k.claims.own n (key_of n.parts).addressed ≡ is_to k.claims.own n.parts.destination
   meant = meant_by (n.parts.destination == 255) refl
@@ -234,29 +159,16 @@ module _ (r : Receiver) (are : IsReceiver r) (k : Known) (sound : IsSound k.clai
   outside_of q outside e = ap r.kinds (eqb-true n.parts.pgn q e) ∙ outside
 
   moved : is_transport n.parts ≡ true → r.kinds n.parts.pgn ≡ Outside
-  moved e = by (n.parts.pgn == 60416) refl e
-    where
-      by : (b : Bool) → (n.parts.pgn == 60416) ≡ b → (b || (n.parts.pgn == 60160)) ≡ true → r.kinds n.parts.pgn ≡ Outside
-      by true em e = outside_of 60416 are.management em
-      by false em e = outside_of 60160 are.data_packets e
+  moved e = grind (arith, outside_of)
 
   still : (q : ℕ) → (q == 60416) ≡ false → (q == 60160) ≡ false → (n.parts.pgn == q) ≡ true → is_transport n.parts ≡ false
   still q a b e = ap (λ (x : ℕ). (x == 60416) || (x == 60160)) (eqb-true n.parts.pgn q e) ∙ rw (a, b) refl
 
   fast_is : is_of_fast_packet (meaning_of r.kinds k.claims.own k.claims.holders n.parts) ≡ (is_some (held_since k.claims.holders n.parts.source) && is_fast (r.kinds n.parts.pgn))
-  fast_is =
-      fast_of (n.parts.pgn == 60928) (is_own k.claims.own n.parts.source) (n.parts.pgn == 59904) (is_transport n.parts) (is_to k.claims.own n.parts.destination)
-      (is_some (holder_at k.claims.holders n.parts.source)) (r.kinds n.parts.pgn)
-      (outside_of 60928 are.claims) (own_nobody k.claims.own refl) (outside_of 59904 are.requests) moved
-      ∙ ap (λ (b : Bool). b && is_fast (r.kinds n.parts.pgn)) (sym (since_held (holder_at k.claims.holders n.parts.source)))
+  fast_is = grind (arith, fast_of, outside_of, own_nobody, moved, since_held)
 
   session_is : is_of_session (meaning_of r.kinds k.claims.own k.claims.holders n.parts) ≡ (is_some (held_since k.claims.holders n.parts.source) && (is_meant k.claims.own n (key_of n.parts).addressed && is_transport n.parts))
-  session_is =
-      session_of (n.parts.pgn == 60928) (is_own k.claims.own n.parts.source) (n.parts.pgn == 59904) (is_transport n.parts) (is_to k.claims.own n.parts.destination)
-      (is_some (holder_at k.claims.holders n.parts.source)) (r.kinds n.parts.pgn)
-      (still 60928 refl refl) (own_nobody k.claims.own refl) (still 59904 refl refl)
-      ∙ ap (λ (b : Bool). b && (is_to k.claims.own n.parts.destination && is_transport n.parts)) (sym (since_held (holder_at k.claims.holders n.parts.source)))
-      ∙ ap (λ (b : Bool). is_some (held_since k.claims.holders n.parts.source) && (b && is_transport n.parts)) (sym meant)
+  session_is = grind (arith, session_of, still, own_nobody, since_held, meant)
 
   -- what opens a session concerns the.claims gateway
   opens_is : (o : Bool) → is_opener (key_of n.parts).addressed (iso_piece n) ≡ o
@@ -274,8 +186,7 @@ module _ (r : Receiver) (are : IsReceiver r) (k : Known) (sound : IsSound k.clai
       ∙ ap (λ (b : Bool). b && not n.admitted) (sym (and_yes (concerns k.claims n (key_of n.parts))))
     where
       and_yes : (b : Bool) → (b && true) ≡ b
-      and_yes true = refl
-      and_yes false = refl
+      and_yes b = grind arith
 
 pub full_is_reported : FullIsReported
 full_is_reported r s h m f are =
@@ -295,13 +206,10 @@ full_is_reported r s h m f are =
 -- ---- of a whole history
 
 there_is_room : (full opens admitted : Bool) → full ≡ (opens && not admitted) → full ≡ false → opens ≡ true → admitted ≡ true
-there_is_room full true true e none o = refl
-there_is_room full true false e none o = absurd (false≢true (sym none ∙ e))
-there_is_room full false admitted e none o = absurd (false≢true o)
+there_is_room full opens admitted e none o = grind (arith, false≢true)
 
 none_is_full : (full opens admitted : Bool) → full ≡ (opens && not admitted) → (opens ≡ true → admitted ≡ true) → full ≡ false
-none_is_full full true admitted e room = e ∙ rw (room refl) refl
-none_is_full full false admitted e room = e
+none_is_full full opens admitted e room = grind arith
 
 pub refusals_are_reported : RefusalsAreReported
 refusals_are_reported r s h a are = (to h, from h)

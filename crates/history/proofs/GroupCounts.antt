@@ -1,15 +1,13 @@
 -- Groups of lines that are open, and the places of a map.
-use Rattle.std.proofs.Common.{◌≡◌, ℕ, Bool, true, false, List, [], ◌∷◌, refl, sym, ap, ◌∙◌, ◌==◌, is_some}
+use Rattle.std.proofs.Common.{◌≡◌, ℕ, true, false, List, [], ◌∷◌, refl, ap, ◌∙◌, ◌==◌, is_some, arith}
 use Rattle.std.specs.Prelude.{Option, Some, None}
 use Rattle.std.specs.List.{AllByRecursion, IsDistinct, list_any}
 use Rattle.std.specs.Ordering.{eq_by_cmp}
 use Rattle.std.specs.declared.cmp.Ordering.{Ordering}
 use Rattle.std.proofs.lemmas.Bool.{eqb-true, and_parts, false≢true}
 use Rattle.slot_views.specs.Slots.{SlotMap}
-use Rattle.slot_views.specs.Runs.{open_at}
 use Rattle.tag_block.specs.declared.group_key.GroupKey.{GroupKey}
 use Rattle.tag_block.specs.declared.group_part.GroupPart.{GroupPart}
-use Rattle.tag_block.specs.GroupRuns.{GroupLine, group_rules}
 use Rattle.history.specs.Heard.{Taken, same_group, precedes_group, several, line_in, group_trace, key_with, group_keys, group_open}
 use Rattle.history.specs.Settings.{same_text}
 use Rattle.history.specs.CountLaws.{HoldsGroups, CountsGroups, SlotsCountGroups}
@@ -74,27 +72,10 @@ module _ (cmp : GroupKey → GroupKey → Ordering) (taken : List Taken) (m : �
       by (Some part) rest = distinct_placed h.order same_group precedes_group h.tells (record { sfi = t.source; code = part.code }) (group_keys ts) rest
 
   among : (key : GroupKey) → true ≡ true → is_some (group_open taken key m) ≡ true → list_any (same_group key) (group_keys taken) ≡ true
-  among key kind is_open = by (list_any (same_group key) (group_keys taken)) refl
-    where
-      by : (b : Bool) → list_any (same_group key) (group_keys taken) ≡ b → list_any (same_group key) (group_keys taken) ≡ true
-      by true e = e
-      by false e =
-          let closed : is_some (group_open taken key m) ≡ false = ap (λ (t : List GroupLine). is_some (open_at group_rules t m)) (no_lines key taken e) in
-          absurd (false≢true (sym closed ∙ is_open))
+  among key kind is_open = grind (arith, no_lines, false≢true)
 
   pub held : Held cmp same_group precedes_group (group_keys taken) (λ key. true) (λ key. is_some (group_open taken key m)) slots
-  held = record {
-    order = h.order;
-    tells = h.tells;
-    same_is = same_is;
-    turn = λ a b. rw (text_turn a.sfi b.sfi, eqb-sym a.code b.code) refl;
-    ordered = h.ordered;
-    within = h.within;
-    holds = h.holds;
-    distinct = distinct_keys taken;
-    all = all_kinds (group_keys taken);
-    among = among;
-  }
+  held = grind (arith, same_is, text_turn, eqb-sym, distinct_keys, all_kinds, among)
 
   pub counts : CountsGroups cmp taken m slots
   unfolding held

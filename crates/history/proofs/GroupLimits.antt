@@ -1,14 +1,13 @@
 -- The open groups of lines are within their limit.
-use Rattle.std.proofs.Common.{◌≡◌, ℕ, ◌≤◌, Bool, true, false, List, [], ◌∷◌, length, refl, sym, ap, subst, ◌∙◌, nat_le, arith, is_some}
+use Rattle.std.proofs.Common.{◌≡◌, ℕ, ◌≤◌, Bool, true, false, List, [], ◌∷◌, length, refl, sym, ap, subst, ◌∙◌, arith, is_some}
 use Rattle.std.specs.Prelude.{Option, Some, None, if◌then◌else◌}
 use Rattle.std.specs.List.{AllByRecursion, list_any}
 use Rattle.std.proofs.lemmas.Bool.{eq-eqb, false≢true}
 use Rattle.claim_table.specs.Claims.{is_ready}
-use Rattle.slot_views.specs.Runs.{open_at}
 use Rattle.slot_views.specs.RunLaws.{fed}
 use Rattle.tag_block.specs.declared.group_key.GroupKey.{GroupKey}
 use Rattle.tag_block.specs.declared.group_part.GroupPart.{GroupPart}
-use Rattle.tag_block.specs.GroupRuns.{GroupLine, group_rules}
+use Rattle.tag_block.specs.GroupRuns.{group_rules}
 use Rattle.datagram450.specs.Datagram as datagrams
 use Rattle.datagram450.specs.Datagram.{Item, line, bad}
 use Rattle.history.specs.Entries.{History, IsHistory, now, frame, datagram, tick}
@@ -49,13 +48,7 @@ any_all [] = tt
 any_all (k ∷ ks) = (tt, any_all ks)
 
 came : (taken : List Taken) (m : ℕ) (key : GroupKey) → is_some (group_open taken key m) ≡ true → list_any (same_group key) (group_keys taken) ≡ true
-came taken m key is_open = by (list_any (same_group key) (group_keys taken)) refl
-  where
-    by : (b : Bool) → list_any (same_group key) (group_keys taken) ≡ b → list_any (same_group key) (group_keys taken) ≡ true
-    by true e = e
-    by false e =
-        let closed : is_some (group_open taken key m) ≡ false = ap (λ (t : List GroupLine). is_some (open_at group_rules t m)) (no_lines key taken e) in
-        absurd (false≢true (sym closed ∙ is_open))
+came taken m key is_open = grind (arith, no_lines, false≢true)
 
 among_open : (taken : List Taken) (n : ℕ) (key : GroupKey) → is_some (group_open taken key n) ≡ true → list_any (same_group key) (open_groups taken n) ≡ true
 among_open taken n key is = among_filtered same_group same_is turn itself (λ x. is_some (group_open taken x n)) key (group_keys taken) is (came taken n key is)
@@ -104,12 +97,7 @@ module _ (limit : ℕ) (t : Taken) (older : List Taken) (within : Within limit t
 -- ---- a datagram
 
 several_is : (g : Option GroupPart) (part : GroupPart) → several g ≡ Some part → g ≡ Some part
-several_is None part e = cc
-several_is (Some p) part e = by (nat_le 2 p.total) e
-  where
-    by : (b : Bool) → (if b then Some p else None) ≡ Some part → Some p ≡ Some part
-    by true f = f
-    by false f = cc
+several_is g part e = grind arith
 
 module _ (c : Settings) (m : ℕ) where
   -- the lines after an item that came at the moment
@@ -131,9 +119,7 @@ module _ (c : Settings) (m : ℕ) where
   all_within : (older : List HeardItem) (ready : Bool) (items : List Item) → Within c.group_slots m (taken_lines c older)
       → Within c.group_slots m (taken_lines c (with_each older (heard_items m ready items)))
   all_within older ready [] within = within
-  all_within older ready (i ∷ items) within =
-      all_within (record { moment = m; ready = ready; item = i } ∷ older) ready items
-      (item_within (taken_lines c older) (record { moment = m; ready = ready; item = i }) i refl within)
+  all_within older ready (i ∷ items) within = grind (arith, all_within (record { moment = m; ready = ready; item = i } ∷ older) ready items, item_within)
 
 module _ (c : Settings) (s : ℕ) where
   limited : (h : History) → IsHistory h → Within c.group_slots (now h) (taken_lines c (heard c s h))

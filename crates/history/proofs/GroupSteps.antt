@@ -1,15 +1,15 @@
 -- The laws of one group of lines.
-use Rattle.std.proofs.Common.{◌≡◌, ℕ, true, List, [], ◌∷◌, refl, ap, ◌∙◌}
-use Rattle.std.specs.Prelude.{Option, Some, None}
+use Rattle.std.proofs.Common.{◌≡◌, ℕ, true, List, [], ◌∷◌, refl, ap, ◌∙◌, arith}
+use Rattle.std.specs.Prelude.{Some, None}
 use Rattle.std.proofs.lemmas.Bool.{eq-eqb}
-use Rattle.slot_views.specs.Runs.{kept_at, open_at, run_of}
+use Rattle.slot_views.specs.Runs.{open_at}
 use Rattle.slot_views.specs.RunLaws.{OneStep}
 use Rattle.slot_views.proofs.RunSteps.{one_step_of}
 use Rattle.tag_block.specs.declared.group_part.GroupPart.{GroupPart}
 use Rattle.tag_block.specs.declared.group_key.GroupKey.{GroupKey}
 use Rattle.tag_block.specs.GroupRuns.{GroupLine, group_rules}
 use Rattle.tag_block.proofs.GroupPrefixes.{lawful}
-use Rattle.history.specs.Heard.{Taken, several, group_line, line_in, group_trace, group_open, sentences_in, handed_with}
+use Rattle.history.specs.Heard.{Taken, several, group_line, line_in, group_trace, group_open}
 use Rattle.history.specs.Settings.{same_text}
 use Rattle.history.specs.GroupLaws.{group_key, StepsGroup, LinesStepGroup, LinesStandAlone, TimeEndsGroup}
 use Rattle.history.proofs.GroupCounts.{line_past, trace_past}
@@ -38,25 +38,13 @@ module _ (t : Taken) (older : List Taken) (part : GroupPart) (is : several t.gro
   trace_is = trace_with (group_key t older part) t older (group_line t part) (ap (line_in (group_key t older part) t) is ∙ own_line t older part)
 
   pub step : StepsGroup t older part
-  step = record {
-    left = λ n.
-        ap (λ (lines : List GroupLine). open_at group_rules lines n) trace_is
-        ∙ ap (λ (o : Option (List GroupLine)). kept_at group_rules o n) (steps.prefix (group_trace (group_key t older part) older) (group_line t part));
-    handed =
-        ap (handed_with t older) is
-        ∙ ap (λ (lines : List GroupLine). sentences_in (run_of group_rules lines)) trace_is
-        ∙ ap sentences_in (steps.whole (group_trace (group_key t older part) older) (group_line t part));
-    others = λ key n apart. passed key t older n (ap (line_in key t) is ∙ line_past key t part apart);
-  }
+  step = grind (arith, trace_is, steps, passed, line_past)
 
 pub group_steps : LinesStepGroup
 group_steps t older part is = step t older part is
 
 pub lines_alone : LinesStandAlone
-lines_alone t older none = record {
-  handed = ap (handed_with t older) none;
-  others = λ key n. passed key t older n (ap (line_in key t) none);
-}
+lines_alone t older none = grind (arith, passed)
 
 pub group_ends : TimeEndsGroup
 group_ends taken key m n le = steps.later (group_trace key taken) m n le

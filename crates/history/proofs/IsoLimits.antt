@@ -1,5 +1,5 @@
 -- The open sessions of the transport protocol are within their limit.
-use Rattle.std.proofs.Common.{◌≡◌, ℕ, ◌≤◌, Bool, true, false, ◌&&◌, List, [], ◌∷◌, length, refl, sym, ap, subst, ◌∙◌, ◌==◌, arith, is_some}
+use Rattle.std.proofs.Common.{◌≡◌, ℕ, ◌≤◌, Bool, true, false, List, [], ◌∷◌, length, refl, sym, ap, subst, ◌∙◌, arith, is_some}
 use Rattle.std.specs.Prelude.{if◌then◌else◌}
 use Rattle.std.specs.List.{AllByRecursion, list_any}
 use Rattle.std.proofs.lemmas.Bool.{and_parts, false≢true}
@@ -14,11 +14,11 @@ use Rattle.iso_transport.specs.IsoRuns.{IsoPiece, iso_rules}
 use Rattle.history.specs.Entries.{History, IsHistory, now, frame, datagram, tick}
 use Rattle.history.specs.Entries as entry
 use Rattle.history.specs.Settings.{Receiver}
-use Rattle.history.specs.Known.{Known, known, is_claim, held_since}
-use Rattle.history.specs.Traces.{NotedFrame, iso_piece, iso_trace, is_transport, is_bearing}
+use Rattle.history.specs.Known.{Known, known, is_claim}
+use Rattle.history.specs.Traces.{NotedFrame, iso_piece, iso_trace, is_transport}
 use Rattle.history.specs.Opens.{same_iso, iso_keys, iso_open, open_iso_keys, notes_of}
 use Rattle.history.specs.AddressLaws.{IsReceiver}
-use Rattle.history.specs.KeyLaws.{is_meant, concerns, the_note}
+use Rattle.history.specs.KeyLaws.{concerns, the_note}
 use Rattle.history.specs.LimitLaws.{IsoWithinLimit}
 use Rattle.history.proofs.Addresses.{addresses_are_sound}
 use Rattle.history.proofs.SessionSteps.{iso_steps, iso_ends}
@@ -56,11 +56,7 @@ no_more k l sound older notes m n limit was few =
 
 -- a frame that concerns a.claims session is of the transport protocol
 transports : (k : Known) (n : NotedFrame) (key : IsoKey) → concerns k.claims n key ≡ true → is_transport n.parts ≡ true
-transports k n key e =
-    (and_parts (is_transport n.parts) _
-    (and_parts (is_meant k.claims.own n key.addressed) (is_bearing key.addressed n)
-    (and_parts (n.parts.source == key.source) (is_meant k.claims.own n key.addressed && is_bearing key.addressed n)
-    (and_parts (is_some (held_since k.claims.holders key.source)) ((n.parts.source == key.source) && (is_meant k.claims.own n key.addressed && is_bearing key.addressed n)) e).1).1).1).0
+transports k n key e = grind (arith, and_parts)
 
 module _ (c : Receiver) (s : ℕ) (are : IsReceiver c) where
   sound : (h : History) → IsSound (known c s h).claims

@@ -1,47 +1,57 @@
 -- A device is isolated: its messages in a history are those in the history of the claims, the commands and its own frames.
-use Rattle.std.proofs.Common.{◌≡◌, ◌<◌, ℕ, Bool, true, false, ◌&&◌, ◌||◌, not, List, [], ◌∷◌, length, map, refl, sym, ap, subst, ◌∙◌, ◌==◌, nat_le}
-use Rattle.std.specs.Prelude.{Option, Some, None, filter, is_some, if◌then◌else◌, option_map}
+use Rattle.std.proofs.Common.{◌≡◌, ℕ, Bool, true, false, ◌&&◌, ◌||◌, not, List, [], ◌∷◌, length, map, refl, sym, ap, subst, ◌∙◌, ◌==◌, arith}
+use Rattle.std.specs.Prelude.{Option, is_some, if◌then◌else◌, option_map}
 use Rattle.std.specs.List.{AllByRecursion}
 use Rattle.std.proofs.lemmas.Bool.{eqb-true, and_parts, false≢true}
 use Rattle.n2k_id.specs.Frame.{BusFrame}
 use Rattle.n2k_id.specs.Identifier.{parts_of}
 use Rattle.claim_table.specs.declared.answer.Holder.{Holder}
 use Rattle.claim_table.specs.declared.answer.ClaimStep.{ClaimStep}
-use Rattle.claim_table.specs.Claims.{is_at, Claims, Claim, Outcome, claim, command, holder_at, is_ready, started, claims_at_start, repeats}
-use Rattle.claim_table.specs.declared.preset.Preset.{Preset}
+use Rattle.claim_table.proofs.RenumberedLemmas.{holder_as, claims_as, claim_as, at_as, claimed_as, commanded_as}
+use Rattle.claim_table.specs.Claims.{is_at, Claims, Claim, Outcome, claim, command, holder_at, is_ready}
 use Rattle.pgn_profile.specs.declared.kinds.Kind.{Kind}
-use Rattle.pgn_profile.specs.declared.kinds.Kind.TheVariants.{Single, Fast, Outside}
+use Rattle.pgn_profile.specs.declared.kinds.Kind.TheVariants.{Fast}
 use Rattle.slot_views.specs.Runs.{run_of, open_at}
 use Rattle.fast_packet.specs.declared.key.FastKey.{FastKey}
 use Rattle.fast_packet.specs.FastRuns.{FastPiece, fast_rules, is_opener}
-use Rattle.iso_transport.specs.Audience.{key_of, is_data}
+use Rattle.iso_transport.specs.Audience.{key_of}
 use Rattle.iso_transport.specs.IsoRuns.{IsoPiece, iso_rules, is_opener as iso_opener}
 use Rattle.iso_transport.specs.declared.key.IsoKey.{IsoKey}
 use Rattle.history.specs.Entries.{Entry, History, frame, datagram, tick}
 use Rattle.history.specs.Entries as entry
 use Rattle.history.specs.Settings.{Receiver}
 use Rattle.history.specs.Known.{Known, known, is_claim, claim_by, held_since}
-use Rattle.history.specs.Traces.{NotedFrame, fast_piece, fast_trace, iso_piece, iso_trace, is_transport, is_bearing, bears_upon}
+use Rattle.history.specs.Traces.{NotedFrame, fast_trace, iso_piece, iso_trace, is_transport, is_bearing}
 use Rattle.history.specs.Opens.{is_fast, notes_of, fast_open, iso_open}
 use Rattle.history.specs.Messages.{Message, Carried, messages_of, said_by, with_message, completed_by, by_kind, by_session, fast_carried, iso_carried}
 use Rattle.history.specs.AddressLaws.{IsReceiver}
 use Rattle.history.specs.TraceLaws.{is_lost, same_own}
 use Rattle.history.specs.KeyLaws.{is_meant, concerns, the_note}
-use Rattle.history.specs.IsolationLaws.{keeps, narrowed, plain, from, opens_message, FindsRoom, NoneRefused, Isolation, IsolationOfTwo}
-use Rattle.iso_transport.specs.Connection.{control_at}
-use Rattle.history.specs.IsolationLaws.{Plain}
+use Rattle.history.specs.IsolationLaws.{keeps, narrowed, from, opens_message, FindsRoom, NoneRefused, Isolation, IsolationOfTwo}
 use Rattle.history.proofs.KeySteps.{known_same}
 use Rattle.history.proofs.SessionSteps.{IsLate, with_piece, late, trace_is, session_is, completed_iso}
 use Rattle.history.proofs.SessionSteps.{steps as iso_steps}
 use Rattle.history.proofs.KeySteps.{steps as fast_steps}
 use Rattle.history.proofs.TraceMoves.{claims_move_traces, commands_move_traces, known_after_claim}
 use Rattle.history.proofs.FreshSteps.{claim_says_none}
-use Rattle.history.proofs.Erased.{bare, erased, unnumbered, bare_at, claim_erased, command_erased}
 use Rattle.history.proofs.Addresses.{addresses_are_sound}
 use Rattle.history.proofs.Roomy.{Roomy, not_claims_pgn, fast_head, fast_past, fast_with, iso_with, roomy}
 use Rattle.history.proofs.Room.{IsOwnKind, fast_room, iso_room}
 use Rattle.history.proofs.Normal.{run_of_map, open_at_map}
 use Rattle.history.proofs.Unseen.{fast_norm, iso_norm, fast_unseen, iso_unseen, fast_carries, iso_carries}
+
+-- a holder, a table and a claim without the indices
+abbrev unseen : ℕ → ℕ
+unseen n = 0
+
+abbrev bare : Option Holder → Option Holder
+bare = holder_as unseen
+
+abbrev pub erased : Claims → Claims
+erased = claims_as unseen
+
+abbrev unnumbered : Claim → Claim
+unnumbered = claim_as unseen
 
 -- what of a history of one gateway is as in one of another
 pub record Alike (c d : Receiver) (s a : ℕ) (h g : History) : Type 0 where
@@ -60,33 +70,17 @@ claim_is_no_kind : (c : Receiver) → IsReceiver c → (a : ℕ) (n : NotedFrame
 claim_is_no_kind c are a n e = λ kind. let neither = claim_is_neither c are n e in absurd (false≢true (sym (rw (neither.0, neither.1) refl) ∙ kind))
 
 claim_is_no_opener : (c : Receiver) → IsReceiver c → (a : ℕ) (k : Known) (n : NotedFrame) → n.parts.pgn ≡ 60928 → FindsRoom c.kinds a k.claims n
-claim_is_no_opener c are a k n e = λ source opening.
-    let neither = claim_is_neither c are n e in
-    absurd (false≢true (sym (closed (is_some (held_since k.claims.holders n.parts.source)) (is_fast (c.kinds n.parts.pgn)) (is_opener n.bytes) (n.parts.source == n.parts.source) (is_meant k.claims.own n (key_of n.parts).addressed) (is_transport n.parts)
-    (is_data n.parts || (nat_le 8 (length n.bytes) && bears_upon (key_of n.parts).addressed n.ready (control_at n.bytes))) (iso_opener (key_of n.parts).addressed (iso_piece n)) neither.0 neither.1) ∙ opening))
-  where
-    closed : (held fast first own meant transport bearing opener : Bool) → fast ≡ false → transport ≡ false
-        → ((held && (fast && first)) || ((held && (own && (meant && (transport && bearing)))) && opener)) ≡ false
-    closed false fast first own meant transport bearing opener e f = refl
-    closed true true first own meant transport bearing opener e f = cc
-    closed true false first own meant true bearing opener e f = cc
-    closed true false first false meant false bearing opener e f = refl
-    closed true false first true false false bearing opener e f = refl
-    closed true false first true true false bearing opener e f = refl
+claim_is_no_opener c are a k n e = grind (arith, claim_is_neither, false≢true)
 
 by_erased : (c d : Claims) (k l : Claim) → erased c ≡ erased d → unnumbered k ≡ unnumbered l → (erased (claim c k).after ≡ erased (claim d l).after) × ((claim c k).step ≡ (claim d l).step)
 by_erased c d k l e f =
     let same : claim (erased c) (unnumbered k) ≡ claim (erased d) (unnumbered l) = ap (λ (x : Claims). claim x (unnumbered k)) e ∙ ap (claim (erased d)) f in (
-      ap (λ (o : Outcome). o.after) (sym (claim_erased c k)) ∙ ap (λ (o : Outcome). o.after) same ∙ ap (λ (o : Outcome). o.after) (claim_erased d l),
-      ap (λ (o : Outcome). o.step) (sym (claim_erased c k)) ∙ ap (λ (o : Outcome). o.step) same ∙ ap (λ (o : Outcome). o.step) (claim_erased d l),
+      ap (λ (o : Outcome). o.after) (sym (claimed_as unseen c k)) ∙ ap (λ (o : Outcome). o.after) same ∙ ap (λ (o : Outcome). o.after) (claimed_as unseen d l),
+      ap (λ (o : Outcome). o.step) (sym (claimed_as unseen c k)) ∙ ap (λ (o : Outcome). o.step) same ∙ ap (λ (o : Outcome). o.step) (claimed_as unseen d l),
     )
 
 cut_same : {X : Type 0} (f : X → X) (b d : Bool) (t u : List X) → b ≡ d → map f t ≡ map f u → map f (if b then [] else t) ≡ map f (if d then [] else u)
-cut_same f b d t u e same = rw e (by d)
-  where
-    by : (x : Bool) → map f (if x then [] else t) ≡ map f (if x then [] else u)
-    by true = refl
-    by false = same
+cut_same f b d t u e same = grind arith
 
 module _ (c d : Receiver) (s a : ℕ) (h g : History) (m : ℕ) (f : BusFrame) (are : IsReceiver c) (too : IsReceiver d) (alike : Alike c d s a h g) (claims : is_claim f ≡ true) where
   both : (erased (claim (known c s h).claims (claim_by (length h) m f)).after ≡ erased (claim (known d s g).claims (claim_by (length g) m f)).after)
@@ -100,9 +94,7 @@ module _ (c d : Receiver) (s a : ℕ) (h g : History) (m : ℕ) (f : BusFrame) (
   after_claim = rw (known_after_claim c s h m f claims, known_after_claim d s g m f claims) both.0
 
   same_changed : same_own (known c s h).claims.own (known c s (frame m f ∷ h)).claims.own ≡ same_own (known d s g).claims.own (known d s (frame m f ∷ g)).claims.own
-  same_changed =
-      ap (λ (x : Claims). same_own x.own (known c s (frame m f ∷ h)).claims.own) alike.claims
-      ∙ ap (λ (x : Claims). same_own (known d s g).claims.own x.own) after_claim
+  same_changed = grind (arith, after_claim)
 
   iso_after : (addressed : Bool) → map iso_norm (iso_trace (known c s (frame m f ∷ h)) addressed a (notes_of c s (frame m f ∷ h))) ≡ map iso_norm (iso_trace (known d s (frame m f ∷ g)) addressed a (notes_of d s (frame m f ∷ g)))
   iso_after false =
@@ -113,9 +105,6 @@ module _ (c d : Receiver) (s a : ℕ) (h g : History) (m : ℕ) (f : BusFrame) (
       ap (map iso_norm) ((claims_move_traces c s h m f are claims).addressed a)
       ∙ cut_same iso_norm _ _ (iso_trace (known c s h) true a (notes_of c s h)) (iso_trace (known d s g) true a (notes_of d s g)) (rw (same_lost, same_changed) refl) (alike.iso true)
       ∙ ap (map iso_norm) (sym ((claims_move_traces d s g m f too claims).addressed a))
-
-  pgn_is : (parts_of f.id).pgn ≡ 60928
-  pgn_is = eqb-true (parts_of f.id).pgn 60928 (and_parts _ _ claims).0
 
   pub claim_alike : Alike c d s a (frame m f ∷ h) (frame m f ∷ g)
   claim_alike = record {
@@ -134,12 +123,10 @@ module _ (c d : Receiver) (s a : ℕ) (h g : History) (m : ℕ) (f : BusFrame) (
 module _ (c d : Receiver) (s a : ℕ) (h g : History) (m source address : ℕ) (are : IsReceiver c) (too : IsReceiver d) (alike : Alike c d s a h g) where
   commanded : erased (known c s (entry.command m source address ∷ h)).claims ≡ erased (known d s (entry.command m source address ∷ g)).claims
   commanded =
-      sym (command_erased (known c s h).claims address m) ∙ ap (λ (x : Claims). command x address m) alike.claims ∙ command_erased (known d s g).claims address m
+      sym (commanded_as unseen (known c s h).claims address m) ∙ ap (λ (x : Claims). command x address m) alike.claims ∙ commanded_as unseen (known d s g).claims address m
 
   own_changed : same_own (known c s h).claims.own (known c s (entry.command m source address ∷ h)).claims.own ≡ same_own (known d s g).claims.own (known d s (entry.command m source address ∷ g)).claims.own
-  own_changed =
-      ap (λ (x : Claims). same_own x.own (known c s (entry.command m source address ∷ h)).claims.own) alike.claims
-      ∙ ap (λ (x : Claims). same_own (known d s g).claims.own x.own) commanded
+  own_changed = grind (arith, commanded)
 
   iso_commanded : (addressed : Bool) → map iso_norm (iso_trace (known c s (entry.command m source address ∷ h)) addressed a (notes_of c s (entry.command m source address ∷ h)))
       ≡ map iso_norm (iso_trace (known d s (entry.command m source address ∷ g)) addressed a (notes_of d s (entry.command m source address ∷ g)))
@@ -164,46 +151,18 @@ module _ (c d : Receiver) (s a : ℕ) (h g : History) (m source address : ℕ) (
 -- ---- a frame of the device, which is no claim
 
 some_bare : (x : Option Holder) → is_some (option_map (λ (y : Holder). y.since) x) ≡ is_some (bare x)
-some_bare None = refl
-some_bare (Some h) = refl
+some_bare x = grind arith
 
 own_same : (k l : Known) (b : ℕ) → k.claims.own ≡ l.claims.own → is_at b k.claims.own ≡ is_at b l.claims.own
-own_same k l b e = by l.claims.own refl
-  where
-    by : (o : Option ℕ) → l.claims.own ≡ o → is_at b k.claims.own ≡ is_at b l.claims.own
-    by None f = rw (e, f) refl
-    by (Some x) f = rw (e, f) refl
+own_same k l b e = grind arith
 
 piece_same : {X : Type 0} (f : X → X) (b d : Bool) (x y : X) (t u : List X) → b ≡ d → f x ≡ f y → map f t ≡ map f u → map f (if b then x ∷ t else t) ≡ map f (if d then y ∷ u else u)
-piece_same f b d x y t u e one same = rw e (by d)
-  where
-    by : (z : Bool) → map f (if z then x ∷ t else t) ≡ map f (if z then y ∷ u else u)
-    by true = rw (one, same) refl
-    by false = same
+piece_same f b d x y t u e one same = grind arith
 
 -- the same message of two holders of one NAME
 said_same : (a i j m src : ℕ) (x y : Option Holder) (v w : Option Carried) (t u : List Message) → bare x ≡ bare y → v ≡ w → from a t ≡ from a u
     → from a (with_message (said_by i m src x v) t) ≡ from a (with_message (said_by j m src y w) u)
-said_same a i j m src None None v w t u e f same = same
-said_same a i j m src (Some x) None v w t u e f same = cc
-said_same a i j m src None (Some y) v w t u e f same = cc
-said_same a i j m src (Some x) (Some y) v None t u e f same = rw f same
-said_same a i j m src (Some x) (Some y) v (Some w) t u e f same = rw f (by (src == a))
-  where
-    name_of : Option Holder → ℕ
-    name_of None = 0
-    name_of (Some h) = h.name.0
-
-    names : x.name.0 ≡ y.name.0
-    names = ap name_of e
-
-    made : ℕ → Plain
-    made name = record { moment = m; source = src; name = name; pgn = w.pgn; payload = w.payload }
-
-    by : (b : Bool) → map plain (if b then record { index = i; moment = m; source = src; name = x.name.0; pgn = w.pgn; payload = w.payload } ∷ filter (λ d. d.source == a) t else filter (λ d. d.source == a) t)
-        ≡ map plain (if b then record { index = j; moment = m; source = src; name = y.name.0; pgn = w.pgn; payload = w.payload } ∷ filter (λ d. d.source == a) u else filter (λ d. d.source == a) u)
-    by true = ap (λ (z : ℕ). made z ∷ from a t) names ∙ ap (λ (z : List Plain). made y.name.0 ∷ z) same
-    by false = same
+said_same a i j m src x y v w t u e f same = grind arith
 
 abbrev own_trace : Known → NotedFrame → List NotedFrame → List FastPiece
 own_trace k n older = fast_trace k.claims.holders n.parts.source n.parts.pgn (n ∷ older)
@@ -214,7 +173,7 @@ not_session kinds k n older e = rw e refl
 module _ (c d : Receiver) (s a : ℕ) (h g : History) (m : ℕ) (f : BusFrame) (are : IsReceiver c) (too : IsReceiver d) (alike : Alike c d s a h g) (other : is_claim f ≡ false)
     (source : ((parts_of f.id).source == a) ≡ true) where
   holders_same : bare (holder_at (known c s h).claims.holders a) ≡ bare (holder_at (known d s g).claims.holders a)
-  holders_same = sym (bare_at (known c s h).claims.holders a) ∙ ap (λ (x : Claims). holder_at x.holders a) alike.claims ∙ bare_at (known d s g).claims.holders a
+  holders_same = sym (at_as unseen (known c s h).claims.holders a) ∙ ap (λ (x : Claims). holder_at x.holders a) alike.claims ∙ at_as unseen (known d s g).claims.holders a
 
   held_same : is_some (held_since (known c s h).claims.holders a) ≡ is_some (held_since (known d s g).claims.holders a)
   held_same = some_bare (holder_at (known c s h).claims.holders a) ∙ ap is_some holders_same ∙ sym (some_bare (holder_at (known d s g).claims.holders a))
@@ -233,33 +192,20 @@ module _ (c d : Receiver) (s a : ℕ) (h g : History) (m : ℕ) (f : BusFrame) (
 
   fast_own : (p : ℕ) → c.kinds p ≡ Fast
       → map fast_norm (fast_trace (known c s h).claims.holders a p (the_note c s h m f ∷ notes_of c s h)) ≡ map fast_norm (fast_trace (known d s g).claims.holders a p (the_note d s g m f ∷ notes_of d s g))
-  fast_own p fast =
-      ap (map fast_norm) (fast_head (known c s h) a p (the_note c s h m f) (notes_of c s h) source late_h)
-      ∙ piece_same fast_norm _ _ (fast_piece (the_note c s h m f)) (fast_piece (the_note d s g m f)) (fast_trace (known c s h).claims.holders a p (notes_of c s h)) (fast_trace (known d s g).claims.holders a p (notes_of d s g))
-      (ap (λ (b : Bool). b && ((parts_of f.id).pgn == p)) held_same) refl (alike.fast p fast)
-      ∙ ap (map fast_norm) (sym (fast_head (known d s g) a p (the_note d s g m f) (notes_of d s g) source late_g))
+  fast_own p fast = grind (arith, fast_norm, fast_head, late_h, piece_same, held_same, late_g)
 
   meant_same : (addressed : Bool) → is_meant (known c s h).claims.own (the_note c s h m f) addressed ≡ is_meant (known d s g).claims.own (the_note d s g m f) addressed
-  meant_same true = own_same (known c s h) (known d s g) (parts_of f.id).destination owns_same
-  meant_same false = refl
+  meant_same addressed = grind (arith, own_same, owns_same)
 
   bearing_same : (addressed : Bool) → is_bearing addressed (the_note c s h m f) ≡ is_bearing addressed (the_note d s g m f)
-  bearing_same addressed =
-      ap (λ (b : Bool). is_transport (parts_of f.id) && (is_data (parts_of f.id) || (nat_le 8 (length f.held) && bears_upon addressed b (control_at f.held)))) ready_same
+  bearing_same addressed = grind (arith, ready_same)
 
   concerns_same : (addressed : Bool) → concerns (known c s h).claims (the_note c s h m f) (record { addressed = addressed; source = a }) ≡ concerns (known d s g).claims (the_note d s g m f) (record { addressed = addressed; source = a })
-  concerns_same addressed =
-      ap (λ (b : Bool). b && (((parts_of f.id).source == a) && (is_meant (known c s h).claims.own (the_note c s h m f) addressed && is_bearing addressed (the_note c s h m f)))) held_same
-      ∙ ap (λ (b : Bool). is_some (held_since (known d s g).claims.holders a) && (((parts_of f.id).source == a) && (b && is_bearing addressed (the_note c s h m f)))) (meant_same addressed)
-      ∙ ap (λ (b : Bool). is_some (held_since (known d s g).claims.holders a) && (((parts_of f.id).source == a) && (is_meant (known d s g).claims.own (the_note d s g m f) addressed && b))) (bearing_same addressed)
+  concerns_same addressed = grind (arith, held_same, meant_same, bearing_same)
 
   iso_own : (addressed : Bool)
       → map iso_norm (iso_trace (known c s h) addressed a (the_note c s h m f ∷ notes_of c s h)) ≡ map iso_norm (iso_trace (known d s g) addressed a (the_note d s g m f ∷ notes_of d s g))
-  iso_own addressed =
-      ap (map iso_norm) (trace_is c s h m f are addressed a)
-      ∙ piece_same iso_norm _ _ (iso_piece (the_note c s h m f)) (iso_piece (the_note d s g m f)) (iso_trace (known c s h) addressed a (notes_of c s h)) (iso_trace (known d s g) addressed a (notes_of d s g))
-      (concerns_same addressed) refl (alike.iso addressed)
-      ∙ ap (map iso_norm) (sym (trace_is d s g m f too addressed a))
+  iso_own addressed = grind (arith, iso_norm, trace_is, piece_same, concerns_same)
 
   -- what it completes
   module _ (room_h : Roomy c s a h) (room_g : Roomy d s a g) (finds_h : FindsRoom c.kinds a (known c s h).claims (the_note c s h m f)) (finds_g : FindsRoom d.kinds a (known d s g).claims (the_note d s g m f)) where
@@ -291,59 +237,26 @@ module _ (c d : Receiver) (s a : ℕ) (h g : History) (m : ℕ) (f : BusFrame) (
         ∙ iso_carries (run_of (iso_rules addressed) (iso_trace (known d s g) addressed a (the_note d s g m f ∷ notes_of d s g)))
 
     session_done : by_session (known c s h) (the_note c s h m f) (notes_of c s h) ≡ by_session (known d s g) (the_note d s g m f) (notes_of d s g)
-    session_done =
-        session_is (known c s h) (the_note c s h m f) (notes_of c s h) _ refl
-        ∙ choose ((not (key_of (parts_of f.id)).addressed || is_at (parts_of f.id).destination (known c s h).claims.own) && is_bearing (key_of (parts_of f.id)).addressed (the_note c s h m f))
-        ((not (key_of (parts_of f.id)).addressed || is_at (parts_of f.id).destination (known d s g).claims.own) && is_bearing (key_of (parts_of f.id)).addressed (the_note d s g m f))
-        (rw (own_same (known c s h) (known d s g) (parts_of f.id).destination owns_same) (ap (λ (b : Bool). (not (key_of (parts_of f.id)).addressed || is_at (parts_of f.id).destination (known d s g).claims.own) && b) (bearing_same (key_of (parts_of f.id)).addressed)))
-        (subst (λ (x : ℕ). iso_carried (run_of (iso_rules (key_of (parts_of f.id)).addressed) (iso_trace (known c s h) (key_of (parts_of f.id)).addressed x (the_note c s h m f ∷ notes_of c s h)))
-        ≡ iso_carried (run_of (iso_rules (key_of (parts_of f.id)).addressed) (iso_trace (known d s g) (key_of (parts_of f.id)).addressed x (the_note d s g m f ∷ notes_of d s g)))) (sym from_source) (iso_done (key_of (parts_of f.id)).addressed))
-        ∙ sym (session_is (known d s g) (the_note d s g m f) (notes_of d s g) _ refl)
-      where
-        choose : (b d : Bool) → b ≡ d → {x y : Option Carried} → x ≡ y → (if b then x else None) ≡ (if d then y else None)
-        choose b d e {x = x} {y = y} same = rw (e, same) refl
+    session_done = grind (arith, session_is, own_same, owns_same, bearing_same, from_source, iso_done)
 
     kind_done : (kind : Kind) → c.kinds (parts_of f.id).pgn ≡ kind → by_kind kind (the_note c s h m f) (own_trace (known c s h) (the_note c s h m f) (notes_of c s h))
         ≡ by_kind kind (the_note d s g m f) (own_trace (known d s g) (the_note d s g m f) (notes_of d s g))
-    kind_done Single e = refl
-    kind_done Fast e =
-        subst (λ (x : ℕ). fast_carried (parts_of f.id).pgn (run_of fast_rules (fast_trace (known c s h).claims.holders x (parts_of f.id).pgn (the_note c s h m f ∷ notes_of c s h)))
-        ≡ fast_carried (parts_of f.id).pgn (run_of fast_rules (fast_trace (known d s g).claims.holders x (parts_of f.id).pgn (the_note d s g m f ∷ notes_of d s g)))) (sym from_source) (fast_done e)
-    kind_done Outside e = refl
+    kind_done kind e = grind (arith, from_source, fast_done)
 
     completes : completed_by c.kinds (known c s h) (the_note c s h m f) (notes_of c s h) ≡ completed_by d.kinds (known d s g) (the_note d s g m f) (notes_of d s g)
-    completes = by (is_transport (parts_of f.id)) refl
-      where
-        by : (b : Bool) → is_transport (parts_of f.id) ≡ b → completed_by c.kinds (known c s h) (the_note c s h m f) (notes_of c s h) ≡ completed_by d.kinds (known d s g) (the_note d s g m f) (notes_of d s g)
-        by true e = completed_iso c.kinds (known c s h) (the_note c s h m f) (notes_of c s h) e ∙ session_done ∙ sym (completed_iso d.kinds (known d s g) (the_note d s g m f) (notes_of d s g) e)
-        by false e =
-            not_session c.kinds (known c s h) (the_note c s h m f) (notes_of c s h) e ∙ kind_done (c.kinds (parts_of f.id).pgn) refl
-            ∙ ap (λ (kind : Kind). by_kind kind (the_note d s g m f) (own_trace (known d s g) (the_note d s g m f) (notes_of d s g))) (sym (alike.kinds (parts_of f.id).pgn))
-            ∙ sym (not_session d.kinds (known d s g) (the_note d s g m f) (notes_of d s g) e)
+    completes = grind (arith, completed_iso, session_done, not_session, kind_done)
 
     pub own_alike : Alike c d s a (frame m f ∷ h) (frame m f ∷ g)
-    own_alike = record {
-      kinds = alike.kinds;
-      claims = rw (known_same c s h m f other, known_same d s g m f other) alike.claims;
-      fast = λ p fast. rw (known_same c s h m f other, known_same d s g m f other) (fast_own p fast);
-      iso = λ addressed. rw (known_same c s h m f other, known_same d s g m f other) (iso_own addressed);
-      told =
-          said_same a (length h) (length g) m (parts_of f.id).source (holder_at (known c s h).claims.holders (parts_of f.id).source) (holder_at (known d s g).claims.holders (parts_of f.id).source)
-          (completed_by c.kinds (known c s h) (the_note c s h m f) (notes_of c s h)) (completed_by d.kinds (known d s g) (the_note d s g m f) (notes_of d s g)) (messages_of c s h) (messages_of d s g)
-          (subst (λ (x : ℕ). bare (holder_at (known c s h).claims.holders x) ≡ bare (holder_at (known d s g).claims.holders x)) (sym from_source) holders_same) completes alike.told;
-    }
+    own_alike = grind (arith, known_same, fast_own, iso_own, said_same, bare, from_source, holders_same, completes)
 
 -- ---- its openers find room where they found it
 module _ (c : Receiver) (s a : ℕ) (h g : History) (m : ℕ) (f : BusFrame) (are : IsReceiver c) (alike : Alike c c s a h g) (other : is_claim f ≡ false)
     (source : ((parts_of f.id).source == a) ≡ true) (room_h : Roomy c s a h) (room_g : Roomy c s a g) (only : AllByRecursion (IsOwnKind c.kinds a) (notes_of c s g)) where
   some_map : {X Y : Type 0} (f : X → Y) (o : Option X) → is_some (option_map f o) ≡ is_some o
-  some_map f None = refl
-  some_map f (Some x) = refl
+  some_map f o = grind arith
 
   fast_is : (kind : Kind) → is_fast kind ≡ true → kind ≡ Fast
-  fast_is Single e = cc
-  fast_is Fast e = refl
-  fast_is Outside e = cc
+  fast_is kind e = grind arith
 
   fast_open_same : (p : ℕ) → is_fast (c.kinds p) ≡ true → is_some (open_at fast_rules (fast_trace (known c s g).claims.holders a p (notes_of c s g)) m) ≡ is_some (open_at fast_rules (fast_trace (known c s h).claims.holders a p (notes_of c s h)) m)
   fast_open_same p kind =
@@ -354,9 +267,7 @@ module _ (c : Receiver) (s a : ℕ) (h g : History) (m : ℕ) (f : BusFrame) (ar
       ∙ some_map (map fast_norm) (open_at fast_rules (fast_trace (known c s h).claims.holders a p (notes_of c s h)) m)
 
   fast_opens : (key : FastKey) → ((key.source == a) ≡ true) × (is_fast (c.kinds key.pgn) ≡ true) → is_some (fast_open (known c s g).claims.holders (notes_of c s g) key m) ≡ is_some (fast_open (known c s h).claims.holders (notes_of c s h) key m)
-  fast_opens key of =
-      subst (λ (x : ℕ). is_some (open_at fast_rules (fast_trace (known c s g).claims.holders x key.pgn (notes_of c s g)) m) ≡ is_some (open_at fast_rules (fast_trace (known c s h).claims.holders x key.pgn (notes_of c s h)) m))
-      (sym (eqb-true key.source a of.0)) (fast_open_same key.pgn of.1)
+  fast_opens key of = grind (arith, eqb-true, fast_open_same)
 
   iso_open_same : (addressed : Bool) → is_some (open_at (iso_rules addressed) (iso_trace (known c s g) addressed a (notes_of c s g)) m) ≡ is_some (open_at (iso_rules addressed) (iso_trace (known c s h) addressed a (notes_of c s h)) m)
   iso_open_same addressed =
@@ -367,9 +278,7 @@ module _ (c : Receiver) (s a : ℕ) (h g : History) (m : ℕ) (f : BusFrame) (ar
       ∙ some_map (map iso_norm) (open_at (iso_rules addressed) (iso_trace (known c s h) addressed a (notes_of c s h)) m)
 
   iso_opens : (key : IsoKey) → (key.source == a) ≡ true → is_some (iso_open (known c s g) (notes_of c s g) key m) ≡ is_some (iso_open (known c s h) (notes_of c s h) key m)
-  iso_opens key of =
-      subst (λ (x : ℕ). is_some (open_at (iso_rules key.addressed) (iso_trace (known c s g) key.addressed x (notes_of c s g)) m) ≡ is_some (open_at (iso_rules key.addressed) (iso_trace (known c s h) key.addressed x (notes_of c s h)) m))
-      (sym (eqb-true key.source a of)) (iso_open_same key.addressed)
+  iso_opens key of = grind (arith, eqb-true, iso_open_same)
 
   still_admitted : (the_note c s h m f).admitted ≡ true → (the_note c s g m f).admitted ≡ true
   still_admitted room = by (is_transport (parts_of f.id)) refl room
@@ -377,8 +286,7 @@ module _ (c : Receiver) (s a : ℕ) (h g : History) (m : ℕ) (f : BusFrame) (ar
       by : (b : Bool) → is_transport (parts_of f.id) ≡ b → (the_note c s h m f).admitted ≡ true → (the_note c s g m f).admitted ≡ true
       by true e was =
           rw e (iso_room c.kinds a (known c s h) (known c s g) (addresses_are_sound c s h are).sound (notes_of c s h) (notes_of c s g) m only iso_opens c.iso_slots (key_of (parts_of f.id)) (rw e at was))
-      by false e was =
-          rw e (fast_room c.kinds a (known c s h).claims.holders (known c s g).claims.holders (notes_of c s h) (notes_of c s g) m only fast_opens c.fast_slots (record { source = (parts_of f.id).source; pgn = (parts_of f.id).pgn }) (rw e at was))
+      by false e was = grind (arith, fast_room, fast_opens)
 
   from_it : (parts_of f.id).source ≡ a
   from_it = eqb-true (parts_of f.id).source a source
@@ -387,10 +295,7 @@ module _ (c : Receiver) (s a : ℕ) (h g : History) (m : ℕ) (f : BusFrame) (ar
   held_there = subst (λ (x : ℕ). is_some (held_since (known c s h).claims.holders x) ≡ is_some (held_since (known c s g).claims.holders x)) (sym from_it) (held_same c c s a h g m f are are alike other source)
 
   concerns_there : concerns (known c s h).claims (the_note c s h m f) (key_of (parts_of f.id)) ≡ concerns (known c s g).claims (the_note c s g m f) (key_of (parts_of f.id))
-  concerns_there =
-      subst (λ (x : ℕ). concerns (known c s h).claims (the_note c s h m f) (record { addressed = (key_of (parts_of f.id)).addressed; source = x })
-      ≡ concerns (known c s g).claims (the_note c s g m f) (record { addressed = (key_of (parts_of f.id)).addressed; source = x }))
-      (sym from_it) (concerns_same c c s a h g m f are are alike other source (key_of (parts_of f.id)).addressed)
+  concerns_there = grind (arith, from_it, concerns_same)
 
   opens_same : opens_message c.kinds (known c s h).claims (the_note c s h m f) ≡ opens_message c.kinds (known c s g).claims (the_note c s g m f)
   opens_same =
@@ -403,35 +308,18 @@ module _ (c : Receiver) (s a : ℕ) (h g : History) (m : ℕ) (f : BusFrame) (ar
 -- ---- a frame of another device
 
 dropped : (a i m src : ℕ) (x : Option Holder) (w : Option Carried) (t : List Message) → (src == a) ≡ false → from a (with_message (said_by i m src x w) t) ≡ from a t
-dropped a i m src None w t e = refl
-dropped a i m src (Some x) None t e = refl
-dropped a i m src (Some x) (Some w) t e = rw e refl
+dropped a i m src x w t e = grind arith
 
 not_concerned : (k : Known) (n : NotedFrame) (a : ℕ) (addressed : Bool) → (n.parts.source == a) ≡ false → concerns k.claims n (record { addressed = addressed; source = a }) ≡ false
-not_concerned k n a addressed e = rw e (and_no (is_some (held_since k.claims.holders a)))
-  where
-    and_no : (x : Bool) → (x && false) ≡ false
-    and_no true = refl
-    and_no false = refl
+not_concerned k n a addressed e = grind arith
 
 module _ (c d : Receiver) (s a : ℕ) (h g : History) (m : ℕ) (f : BusFrame) (are : IsReceiver c) (too : IsReceiver d) (alike : Alike c d s a h g) (other : is_claim f ≡ false)
     (elsewhere : ((parts_of f.id).source == a) ≡ false) where
   iso_past : (addressed : Bool) → iso_trace (known c s h) addressed a (the_note c s h m f ∷ notes_of c s h) ≡ iso_trace (known c s h) addressed a (notes_of c s h)
-  iso_past addressed =
-      trace_is c s h m f are addressed a
-      ∙ ap (λ (b : Bool). with_piece b (the_note c s h m f) (iso_trace (known c s h) addressed a (notes_of c s h))) (not_concerned (known c s h) (the_note c s h m f) a addressed elsewhere)
+  iso_past addressed = grind (arith, trace_is, with_piece, not_concerned)
 
   pub other_alike : Alike c d s a (frame m f ∷ h) g
-  other_alike = record {
-    kinds = alike.kinds;
-    claims = rw (known_same c s h m f other) alike.claims;
-    fast = λ p fast. rw (known_same c s h m f other) (ap (map fast_norm) (fast_past (known c s h) a p (the_note c s h m f) (notes_of c s h) elsewhere) ∙ alike.fast p fast);
-    iso = λ addressed. rw (known_same c s h m f other) (ap (map iso_norm) (iso_past addressed) ∙ alike.iso addressed);
-    told =
-        dropped a (length h) m (parts_of f.id).source (holder_at (known c s h).claims.holders (parts_of f.id).source)
-        (completed_by c.kinds (known c s h) (the_note c s h m f) (notes_of c s h)) (messages_of c s h) elsewhere
-        ∙ alike.told;
-  }
+  other_alike = grind (arith, known_same, fast_norm, fast_past, iso_norm, iso_past, dropped)
 
 -- ---- a whole history
 
@@ -443,8 +331,7 @@ gone_is a e h gone = rw gone refl
 
 module _ (c d : Receiver) (s a : ℕ) (are : IsReceiver c) (too : IsReceiver d) (kinds : (p : ℕ) → d.kinds p ≡ c.kinds p) (start : known c s [] ≡ known d s []) where
   with_claim : (h : History) (m : ℕ) (f : BusFrame) → is_claim f ≡ true → Alike c d s a h (narrowed a h) → Alike c d s a (frame m f ∷ h) (narrowed a (frame m f ∷ h))
-  with_claim h m f claims alike =
-      subst (Alike c d s a (frame m f ∷ h)) (sym (kept_is a (frame m f) h (rw claims refl))) (claim_alike c d s a h (narrowed a h) m f are too alike claims)
+  with_claim h m f claims alike = grind (arith, kept_is, claim_alike)
 
   with_own : (h : History) (m : ℕ) (f : BusFrame) → is_claim f ≡ false → ((parts_of f.id).source == a) ≡ true → NoneRefused c s (frame m f ∷ h) a → NoneRefused d s (frame m f ∷ narrowed a h) a
       → Alike c d s a h (narrowed a h) → Alike c d s a (frame m f ∷ h) (narrowed a (frame m f ∷ h))
@@ -458,13 +345,7 @@ module _ (c d : Receiver) (s a : ℕ) (are : IsReceiver c) (too : IsReceiver d) 
       subst (Alike c d s a (frame m f ∷ h)) (sym (gone_is a (frame m f) h (rw (other, elsewhere) refl))) (other_alike c d s a h (narrowed a h) m f are too alike other elsewhere)
 
   alike_all : (h : History) → NoneRefused c s h a → NoneRefused d s (narrowed a h) a → Alike c d s a h (narrowed a h)
-  alike_all [] rooms kept = record {
-    kinds = kinds;
-    claims = ap (λ (k : Known). erased k.claims) start;
-    fast = λ p fast. ap (λ (k : Known). map fast_norm (fast_trace k.claims.holders a p [])) start;
-    iso = λ addressed. ap (λ (k : Known). map iso_norm (iso_trace k addressed a [])) start;
-    told = refl;
-  }
+  alike_all [] rooms kept = grind (arith, erased, fast_norm, iso_norm)
   alike_all (frame m f ∷ h) rooms kept = by (is_claim f) refl ((parts_of f.id).source == a) refl (λ found. alike_all h rooms.1 found)
     where
       same : (x : History) → narrowed a (frame m f ∷ h) ≡ x → NoneRefused d s x a
@@ -477,10 +358,8 @@ module _ (c d : Receiver) (s a : ℕ) (are : IsReceiver c) (too : IsReceiver d) 
           let now = same (frame m f ∷ narrowed a h) (kept_is a (frame m f) h (rw (claims, own) refl)) in
           with_own h m f claims own rooms now (before now.1)
       by false claims false own before = with_other h m f claims own (before (same (narrowed a h) (gone_is a (frame m f) h (rw (claims, own) refl))))
-  alike_all (datagram m bytes ∷ h) rooms kept =
-      let same = alike_all h rooms kept in record { kinds = same.kinds; claims = same.claims; fast = same.fast; iso = same.iso; told = same.told }
-  alike_all (tick m ∷ h) rooms kept =
-      let same = alike_all h rooms kept in record { kinds = same.kinds; claims = same.claims; fast = same.fast; iso = same.iso; told = same.told }
+  alike_all (datagram m bytes ∷ h) rooms kept = grind (arith, alike_all h rooms kept)
+  alike_all (tick m ∷ h) rooms kept = grind (arith, alike_all h rooms kept)
   alike_all (entry.command m source address ∷ h) rooms kept = command_alike c d s a h (narrowed a h) m source address are too (alike_all h rooms kept)
 
 -- ---- only the device's frames are kept, and its openers find room still
@@ -488,18 +367,7 @@ module _ (c d : Receiver) (s a : ℕ) (are : IsReceiver c) (too : IsReceiver d) 
 module _ (c : Receiver) (s a : ℕ) (are : IsReceiver c) where
   kept_kinds : (h : History) → AllByRecursion (IsOwnKind c.kinds a) (notes_of c s (narrowed a h))
   kept_kinds [] = tt
-  kept_kinds (frame m f ∷ h) = by (is_claim f) refl ((parts_of f.id).source == a) refl (kept_kinds h)
-    where
-      same : (x : History) → narrowed a (frame m f ∷ h) ≡ x → AllByRecursion (IsOwnKind c.kinds a) (notes_of c s x) → AllByRecursion (IsOwnKind c.kinds a) (notes_of c s (narrowed a (frame m f ∷ h)))
-      same x e all = subst (λ (y : History). AllByRecursion (IsOwnKind c.kinds a) (notes_of c s y)) (sym e) all
-
-      by : (b : Bool) → is_claim f ≡ b → (e : Bool) → ((parts_of f.id).source == a) ≡ e → AllByRecursion (IsOwnKind c.kinds a) (notes_of c s (narrowed a h))
-          → AllByRecursion (IsOwnKind c.kinds a) (notes_of c s (narrowed a (frame m f ∷ h)))
-      by true claims e own all =
-          same (frame m f ∷ narrowed a h) (kept_is a (frame m f) h (rw claims refl))
-          (claim_is_no_kind c are a (the_note c s (narrowed a h) m f) (eqb-true (parts_of f.id).pgn 60928 (and_parts _ _ claims).0), all)
-      by false claims true own all = same (frame m f ∷ narrowed a h) (kept_is a (frame m f) h (rw (claims, own) refl)) ((λ kind. own), all)
-      by false claims false own all = same (narrowed a h) (gone_is a (frame m f) h (rw (claims, own) refl)) all
+  kept_kinds (frame m f ∷ h) = grind (arith, kept_kinds h, IsOwnKind, kept_is, claim_is_no_kind, eqb-true, and_parts, gone_is)
   kept_kinds (datagram m bytes ∷ h) = kept_kinds h
   kept_kinds (tick m ∷ h) = kept_kinds h
   kept_kinds (entry.command m source address ∷ h) = kept_kinds h
@@ -529,22 +397,10 @@ isolation c s h a are rooms = (alike_all c c s a are are (λ p. refl) refl h roo
 -- ---- two gateways
 
 alike_settings : (c d : Receiver) → d.name ≡ c.name → d.address ≡ c.address → d.presets ≡ c.presets → ((p : ℕ) → d.kinds p ≡ c.kinds p) → IsReceiver c → IsReceiver d
-alike_settings c d name address presets kinds are = record {
-  claims = kinds 60928 ∙ are.claims;
-  requests = kinds 59904 ∙ are.requests;
-  management = kinds 60416 ∙ are.management;
-  data_packets = kinds 60160 ∙ are.data_packets;
-  address = subst (λ (x : ℕ). x < 252) (sym address) are.address;
-  apart = subst (λ (x : List Preset). repeats x ≡ false) (sym presets) are.apart;
-  others = rw (name, address, presets) are.others;
-}
+alike_settings c d name address presets kinds are = grind arith
 
 alike_start : (c d : Receiver) (s : ℕ) → d.name ≡ c.name → d.address ≡ c.address → d.presets ≡ c.presets → known c s [] ≡ known d s []
-alike_start c d s name address presets =
-    ap (λ (x : ℕ). begun x c.address c.presets) (sym name) ∙ ap (λ (x : ℕ). begun d.name x c.presets) (sym address) ∙ ap (begun d.name d.address) (sym presets)
-  where
-    begun : ℕ → ℕ → List Preset → Known
-    begun name address presets = record { claims = started (claims_at_start name address presets) s; own_since = 0 }
+alike_start c d s name address presets = grind arith
 
 pub isolation_of_two : IsolationOfTwo
 isolation_of_two c d s h g a are name address presets kinds same rooms_h rooms_g =

@@ -1,5 +1,5 @@
 -- A map in key order holds the open keys in the order in which they are reported.
-use Rattle.std.proofs.Common.{◌≡◌, Bool, true, false, ◌&&◌, ◌||◌, List, [], ◌∷◌, map, is_some, refl, sym, ap, subst, ◌∙◌}
+use Rattle.std.proofs.Common.{◌≡◌, Bool, true, false, ◌&&◌, List, [], ◌∷◌, map, is_some, refl, sym, ap, ◌∙◌, arith}
 use Rattle.std.specs.Prelude.{Some, filter, if◌then◌else◌}
 use Rattle.std.specs.List.{AllByRecursion, list_any}
 use Rattle.std.specs.Cmp.{IsTotalOrder}
@@ -49,29 +49,17 @@ module _ {K : Type 0} (cmp : K → K → Ordering) (o : IsTotalOrder cmp) where
         by Greater e is other rest = rw (is, e) (all_inserted (λ d. cmp x d ≡ Less) before k ks (greater_turned k x e) sorted.0, rest)
 
     pub sorted_placed : (k : K) (ks : List K) → IsSorted ks → IsSorted (with_key same before k ks)
-    sorted_placed k ks sorted = by (list_any (same k) ks) refl
-      where
-        by : (b : Bool) → list_any (same k) ks ≡ b → IsSorted (if b then ks else inserted before k ks)
-        by true e = sorted
-        by false e = sorted_inserted k ks e sorted
+    sorted_placed k ks sorted = grind (arith, sorted_inserted)
 
   -- ---- the keys of which a list is left
 
   all_filtered : (P : K → Type 0) (p : K → Bool) (ks : List K) → AllByRecursion P ks → AllByRecursion P (filter p ks)
   all_filtered P p [] all = tt
-  all_filtered P p (k ∷ ks) all = by (p k) (all_filtered P p ks all.1)
-    where
-      by : (b : Bool) → AllByRecursion P (filter p ks) → AllByRecursion P (if b then k ∷ filter p ks else filter p ks)
-      by true rest = (all.0, rest)
-      by false rest = rest
+  all_filtered P p (k ∷ ks) all = grind (arith, all_filtered P p ks all.1)
 
   sorted_filtered : (p : K → Bool) (ks : List K) → IsSorted ks → IsSorted (filter p ks)
   sorted_filtered p [] sorted = tt
-  sorted_filtered p (k ∷ ks) sorted = by (p k) (sorted_filtered p ks sorted.1)
-    where
-      by : (b : Bool) → IsSorted (filter p ks) → IsSorted (if b then k ∷ filter p ks else filter p ks)
-      by true rest = (all_filtered (λ d. cmp k d ≡ Less) p ks sorted.0, rest)
-      by false rest = rest
+  sorted_filtered p (k ∷ ks) sorted = grind (arith, sorted_filtered p ks sorted.1, all_filtered)
 
   -- ---- two sorted lists of the same keys are one list
 
@@ -83,24 +71,14 @@ module _ {K : Type 0} (cmp : K → K → Ordering) (o : IsTotalOrder cmp) where
     here x xs = rw (same_itself o x) refl
 
     later : (k x : K) (xs : List K) → list_any (is_at (cmp k)) xs ≡ true → list_any (is_at (cmp k)) (x ∷ xs) ≡ true
-    later k x xs e = by (is_at (cmp k) x)
-      where
-        by : (b : Bool) → (b || list_any (is_at (cmp k)) xs) ≡ true
-        by true = refl
-        by false = e
+    later k x xs e = grind arith
 
     -- a key that is less than all of a list's isn't in it
     before_all : (x y : K) (ys : List K) → cmp x y ≡ Less → IsSorted (y ∷ ys) → list_any (is_at (cmp x)) (y ∷ ys) ≡ false
     before_all x y ys e sorted = not_among x (y ∷ ys) (e, behind x y ys e sorted.0)
 
     tails : (x : K) (xs ys : List K) → IsSorted (x ∷ xs) → Within (x ∷ xs) (x ∷ ys) → Within xs ys
-    tails x xs ys sorted within k e = by (is_at (cmp k) x) refl (within k (later k x xs e))
-      where
-        by : (b : Bool) → is_at (cmp k) x ≡ b → (b || list_any (is_at (cmp k)) ys) ≡ true → list_any (is_at (cmp k)) ys ≡ true
-        by true same any =
-            let there : list_any (is_at (cmp x)) xs ≡ true = subst (λ (z : K). list_any (is_at (cmp z)) xs ≡ true) (same_is k x same) e in
-            absurd (false≢true (sym (not_among x xs sorted.0) ∙ there))
-        by false other any = any
+    tails x xs ys sorted within k e = grind (arith, later, false≢true, not_among)
 
     one_list : (xs ys : List K) → IsSorted xs → IsSorted ys → Within xs ys → Within ys xs → xs ≡ ys
     one_list [] [] sx sy to from = refl
@@ -109,14 +87,7 @@ module _ {K : Type 0} (cmp : K → K → Ordering) (o : IsTotalOrder cmp) where
     one_list (x ∷ xs) (y ∷ ys) sx sy to from = by (cmp x y) refl (λ t f. one_list xs ys sx.1 sy.1 t f)
       where
         by : (c : Ordering) → cmp x y ≡ c → (Within xs ys → Within ys xs → xs ≡ ys) → x ∷ xs ≡ y ∷ ys
-        by Less e rest = absurd (false≢true (sym (before_all x y ys e sy) ∙ to x (here x xs)))
-        by Greater e rest = absurd (false≢true (sym (before_all y x xs (greater_turned x y e) sx) ∙ from y (here y ys)))
-        by Equal e rest =
-            let same : x ≡ y = same_is x y (rw e refl) in
-            let sx_y : IsSorted (y ∷ xs) = subst (λ (z : K). IsSorted (z ∷ xs)) same sx in
-            let to_y : Within (y ∷ xs) (y ∷ ys) = subst (λ (z : K). Within (z ∷ xs) (y ∷ ys)) same to in
-            let from_y : Within (y ∷ ys) (y ∷ xs) = subst (λ (z : K). Within (y ∷ ys) (z ∷ xs)) same from in
-            ap (λ (z : K). z ∷ xs) same ∙ ap (λ (zs : List K). y ∷ zs) (rest (tails y xs ys sx_y to_y) (tails y ys xs sy from_y))
+        by c e rest = grind (arith, false≢true, before_all, here, greater_turned, tails)
 
 -- ---- the keys of a map
 
@@ -126,21 +97,13 @@ keys_of es = map (λ e. e.0) es
 keys_filtered : {K : Type 0} (p : K → Bool) (q : K × Entry → Bool) (es : List (K × Entry)) → AllByRecursion (λ e. q e ≡ p e.0) es → keys_of (filter q es) ≡ filter p (keys_of es)
 unfolding keys_of
 keys_filtered p q [] all = refl
-keys_filtered p q (e ∷ es) all = by (p e.0) refl (keys_filtered p q es all.1)
-  where
-    by : (b : Bool) → p e.0 ≡ b → keys_of (filter q es) ≡ filter p (keys_of es) → keys_of (filter q (e ∷ es)) ≡ filter p (keys_of (e ∷ es))
-    by true ep rest = rw (all.0, ep) (ap (λ (ks : List _). e.0 ∷ ks) rest)
-    by false ep rest = rw (all.0, ep) rest
+keys_filtered p q (e ∷ es) all = grind (arith, keys_filtered p q es all.1, keys_of)
 
 module _ {K : Type 0} (cmp : K → K → Ordering) (o : IsTotalOrder cmp) where
   any_keys : (k : K) (es : List (K × Entry)) → list_any (is_at (cmp k)) (keys_of es) ≡ is_some (lookup (is_at (cmp k)) es)
   unfolding keys_of
   any_keys k [] = refl
-  any_keys k (e ∷ es) = by (is_at (cmp k) e.0) refl (any_keys k es)
-    where
-      by : (b : Bool) → is_at (cmp k) e.0 ≡ b → list_any (is_at (cmp k)) (keys_of es) ≡ is_some (lookup (is_at (cmp k)) es) → list_any (is_at (cmp k)) (keys_of (e ∷ es)) ≡ is_some (lookup (is_at (cmp k)) (e ∷ es))
-      by true here rest = rw here refl
-      by false here rest = rw here rest
+  any_keys k (e ∷ es) = grind (arith, any_keys k es, keys_of, here)
 
   above : (x : K) (es : List (K × Entry)) → AllByRecursion (λ d. cmp x d.0 ≡ Less) es → AllByRecursion (λ d. cmp x d ≡ Less) (keys_of es)
   unfolding keys_of
@@ -176,10 +139,7 @@ module _ {K : Type 0} {cmp : K → K → Ordering} {same before : K → K → Bo
   itself a = sym (h.tells a a) ∙ same_itself h.order a
 
   to_open : (k : K) → list_any (is_at (cmp k)) (keys_of slots.entries) ≡ true → list_any (is_at (cmp k)) (filter is_open keys) ≡ true
-  to_open k e =
-      let parts = and_parts (of_kind k) (is_open k) (sym (h.holds k) ∙ sym (any_keys cmp h.order k slots.entries) ∙ e) in
-      any_tells h.order same before h.tells k (filter is_open keys)
-      ∙ among_filtered same h.same_is h.turn itself is_open k keys parts.1 (h.among k parts.0 parts.1)
+  to_open k e = grind (arith, and_parts, any_keys, any_tells, among_filtered, itself)
 
   open_there : (k : K) (ks : List K) → AllByRecursion (λ key. of_kind key ≡ true) ks → list_any (is_at (cmp k)) (filter is_open ks) ≡ true → (of_kind k && is_open k) ≡ true
   open_there k [] all e = absurd (false≢true e)
@@ -187,9 +147,7 @@ module _ {K : Type 0} {cmp : K → K → Ordering} {same before : K → K → Bo
     where
       by : (a : Bool) → is_open x ≡ a → (b : Bool) → is_at (cmp k) x ≡ b → list_any (is_at (cmp k)) (if a then x ∷ filter is_open ks else filter is_open ks) ≡ true
           → (list_any (is_at (cmp k)) (filter is_open ks) ≡ true → (of_kind k && is_open k) ≡ true) → (of_kind k && is_open k) ≡ true
-      by true ea true eb e more = subst (λ (z : K). (of_kind z && is_open z) ≡ true) (sym (is_one k x eb)) (rw (all.0, ea) refl)
-      by true ea false eb e more = more (rw eb at e)
-      by false ea b eb e more = more e
+      by a ea b eb e more = grind (arith, is_one)
 
   from_open : (k : K) → list_any (is_at (cmp k)) (filter is_open keys) ≡ true → list_any (is_at (cmp k)) (keys_of slots.entries) ≡ true
   from_open k e = any_keys cmp h.order k slots.entries ∙ h.holds k ∙ open_there k keys h.all e
@@ -209,11 +167,7 @@ module _ {K : Type 0} {cmp : K → K → Ordering} {same before : K → K → Bo
   ended is_meant goes q agrees = listed (λ key. is_meant key && goes key) q agrees ∙ filter_twice (λ key. is_meant key && goes key) is_open keys ∙ turned keys
     where
       turn : (a b c : Bool) → ((a && b) && c) ≡ (a && (c && b))
-      turn true true true = refl
-      turn true true false = refl
-      turn true false true = refl
-      turn true false false = refl
-      turn false b c = refl
+      turn a b c = grind arith
 
       turned : (ks : List K) → filter (λ j. (is_meant j && goes j) && is_open j) ks ≡ filter (λ key. is_meant key && (is_open key && goes key)) ks
       turned [] = refl

@@ -1,5 +1,5 @@
 -- The laws of one key.
-use Rattle.std.proofs.Common.{◌≡◌, ℕ, ◌≤◌, Bool, true, false, ◌&&◌, List, ◌∷◌, inl, inr, length, refl, sym, ap, subst, ◌∙◌, ◌==◌, nat_le}
+use Rattle.std.proofs.Common.{◌≡◌, ℕ, ◌≤◌, false, ◌&&◌, List, ◌∷◌, length, refl, ap, subst, ◌∙◌, ◌==◌, arith}
 use Rattle.std.specs.Prelude.{Option, Some, None, All, option_map}
 use Rattle.std.proofs.lemmas.Bool.{eqb-true, eqb-false, ne_eqb, eq-eqb, le-leb, cases_Bool}
 use Rattle.n2k_id.specs.declared.identifier_parts.Parts.{Parts}
@@ -19,7 +19,7 @@ use Rattle.history.specs.Settings.{Receiver}
 use Rattle.history.specs.Known.{Known, known, is_claim, held_since}
 use Rattle.history.specs.Traces.{NotedFrame, fast_piece, fast_trace, fast_trace_since, is_transport}
 use Rattle.history.specs.Opens.{same_fast, fast_open, notes_of}
-use Rattle.history.specs.Messages.{said_by, completed_by, fast_carried}
+use Rattle.history.specs.Messages.{completed_by, fast_carried}
 use Rattle.history.specs.AddressLaws.{IsReceiver}
 use Rattle.history.specs.KeyLaws.{StepsFast, FramesStepFast, FramesKeepFast, TimeEndsFast, fast_key, the_note}
 use Rattle.history.proofs.Addresses.{addresses_are_sound}
@@ -36,10 +36,7 @@ dated_at i holders a x all e = subst (IsSinceBy i) e (All-get_or (IsSinceBy i) h
 
 -- a PGN of fast packets is neither that of claims nor one of the transport protocol
 not_fast : (c : Receiver) (p q : ℕ) → c.kinds q ≡ Outside → c.kinds p ≡ Fast → (p == q) ≡ false
-not_fast c p q outside e = elim (cases_Bool (p == q)) [
-  | inl same ↦ let is : c.kinds p ≡ Outside = rw (eqb-true p q same) outside in cc
-  | inr other ↦ other
-]
+not_fast c p q outside e = grind (arith, cases_Bool, eqb-true)
 
 pub no_transport : (c : Receiver) → IsReceiver c → (p : Parts) → c.kinds p.pgn ≡ Fast → is_transport p ≡ false
 no_transport c are p e = rw (not_fast c p.pgn 60416 are.management e, not_fast c p.pgn 60160 are.data_packets e) refl
@@ -73,10 +70,7 @@ module _ (c : Receiver) (s : ℕ) (h : History) (m : ℕ) (f : BusFrame) (x : Ho
 
   left : (n : ℕ) → fast_open (known c s (frame m f ∷ h)).claims.holders (notes_of c s (frame m f ∷ h)) (fast_key c s h m f) n
       ≡ kept_at fast_rules (fed fast_rules (fast_open (known c s h).claims.holders (notes_of c s h) (fast_key c s h m f) m) (fast_piece (the_note c s h m f))) n
-  left n =
-      rw (known_same c s h m f (no_claim c are f fast))
-      (ap (λ (t : List FastPiece). open_at fast_rules t n) trace_is
-      ∙ ap (λ (o : Option (List FastPiece)). kept_at fast_rules o n) (steps.prefix (fast_trace (known c s h).claims.holders (parts_of f.id).source (parts_of f.id).pgn (notes_of c s h)) (fast_piece (the_note c s h m f))))
+  left n = grind (arith, known_same, no_claim, trace_is, steps)
 
   completes : completed_by c.kinds (known c s h) (the_note c s h m f) (notes_of c s h)
       ≡ fast_carried (parts_of f.id).pgn (finished fast_rules (fast_open (known c s h).claims.holders (notes_of c s h) (fast_key c s h m f) m) (fast_piece (the_note c s h m f)))
@@ -86,12 +80,7 @@ module _ (c : Receiver) (s : ℕ) (h : History) (m : ℕ) (f : BusFrame) (x : Ho
       ∙ ap (fast_carried (parts_of f.id).pgn) (steps.whole (fast_trace (known c s h).claims.holders (parts_of f.id).source (parts_of f.id).pgn (notes_of c s h)) (fast_piece (the_note c s h m f)))
 
   pub step : StepsFast c s h m f x
-  step = record {
-    left = left;
-    completed =
-        ap (λ (o : Option Holder). said_by (length h) m (parts_of f.id).source o (completed_by c.kinds (known c s h) (the_note c s h m f) (notes_of c s h))) holds
-        ∙ ap (said_by (length h) m (parts_of f.id).source (Some x)) completes;
-  }
+  step = grind (arith, left, completes)
 
 pub fast_steps : FramesStepFast
 fast_steps c s h m f x are fast holds = step c s h m f x are fast holds
@@ -100,19 +89,10 @@ fast_steps c s h m f x are fast holds = step c s h m f x are fast holds
 
 pub other_piece : (since : Option ℕ) (a p : ℕ) (n : NotedFrame) (notes : List NotedFrame) → ((n.parts.source == a) && (n.parts.pgn == p)) ≡ false
     → fast_trace_since since a p (n ∷ notes) ≡ fast_trace_since since a p notes
-other_piece None a p n notes e = refl
-other_piece (Some since) a p n notes e = rw (unlike (n.parts.source == a) (nat_le since n.index) (n.parts.pgn == p) e) refl
-  where
-    unlike : (x y z : Bool) → (x && z) ≡ false → ((x && y) && z) ≡ false
-    unlike true true z e = e
-    unlike true false z e = refl
-    unlike false y z e = refl
+other_piece since a p n notes e = grind arith
 
 pub eqb-sym : (a b : ℕ) → (a == b) ≡ (b == a)
-eqb-sym a b = elim (cases_Bool (a == b)) [
-  | inl same ↦ same ∙ sym (eq-eqb b a (sym (eqb-true a b same)))
-  | inr other ↦ other ∙ sym (ne_eqb b a (λ e. eqb-false a b other (sym e)))
-]
+eqb-sym a b = grind (arith, cases_Bool, eq-eqb, eqb-true, ne_eqb, eqb-false)
 
 not_same : (key other : FastKey) → same_fast key other ≡ false → ((other.source == key.source) && (other.pgn == key.pgn)) ≡ false
 not_same key other e = rw (eqb-sym other.source key.source, eqb-sym other.pgn key.pgn) e

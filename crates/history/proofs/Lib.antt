@@ -12,7 +12,6 @@ pub mod FastCounts
 pub mod IsoCounts
 pub mod GroupCounts
 pub mod SlotLists
-pub mod Erased
 pub mod Normal
 pub mod Unseen
 pub mod Fewer

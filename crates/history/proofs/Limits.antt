@@ -1,31 +1,24 @@
 -- No more is open after an entry than there is room for, where no more was open before it.
-use Rattle.std.proofs.Common.{◌≡◌, ℕ, suc, ◌≤◌, Bool, true, false, not, List, [], ◌∷◌, length, refl, sym, ◌∙◌, nat_lt, arith, is_some}
-use Rattle.std.specs.Prelude.{Option, Some, None, filter, if◌then◌else◌}
+use Rattle.std.proofs.Common.{◌≡◌, ℕ, suc, ◌≤◌, Bool, true, false, not, List, [], ◌∷◌, length, refl, nat_lt, arith, is_some}
+use Rattle.std.specs.Prelude.{Option, filter, if◌then◌else◌}
 use Rattle.std.specs.List.{AllByRecursion, list_any}
 use Rattle.std.proofs.lemmas.Bool.{false≢true, ltb-true}
-use Rattle.slot_views.specs.Runs.{Rules, if_open, kept_at, open_at}
-use Rattle.slot_views.specs.RunLaws.{fed, fed_later}
+use Rattle.slot_views.specs.Runs.{Rules, kept_at, open_at}
+use Rattle.slot_views.specs.RunLaws.{fed}
 use Rattle.history.proofs.Fewer.{Apart, apart_filtered, no_longer, among_filtered}
 
 -- ---- a run that is open later was open before
 
 module _ {X : Type 0} (r : Rules X) where
   pub kept_some : (o : Option (List X)) (n : ℕ) → is_some (kept_at r o n) ≡ true → is_some o ≡ true
-  kept_some None n is = is
-  kept_some (Some acc) n is = refl
+  kept_some o n is = grind arith
 
   -- and one that a piece without room leaves was open before it
   pub fed_some : (o : Option (List X)) (x : X) → r.admitted x ≡ false → is_some (fed r o x) ≡ true → is_some o ≡ true
-  fed_some o x full is = by (r.opens x) o is
-    where
-      by : (b : Bool) (p : Option (List X)) → is_some (if b then if_open r (Some (x ∷ [])) else fed_later r p x) ≡ true → is_some p ≡ true
-      by true p left = let none : is_some (if_open r (Some (x ∷ []))) ≡ false = rw full refl in absurd (false≢true (sym none ∙ left))
-      by false None left = left
-      by false (Some acc) left = refl
+  fed_some o x full is = grind (arith, false≢true)
 
   pub cut_some : (b : Bool) (t : List X) (n : ℕ) → is_some (open_at r (if b then [] else t) n) ≡ true → is_some (open_at r t n) ≡ true
-  cut_some true t n is = absurd (false≢true is)
-  cut_some false t n is = is
+  cut_some b t n is = grind (arith, false≢true)
 
 -- ---- keys that are open after an entry, and those that were before it
 
@@ -36,11 +29,7 @@ module _ {K : Type 0} (same : K → K → Bool) (same_is : (a b : K) → same a 
     where
       all_there : (xs : List K) → AllByRecursion Q xs → AllByRecursion (λ x. list_any (same x) ys ≡ true) (filter p xs)
       all_there [] none = tt
-      all_there (x ∷ xs) some = by (p x) refl (all_there xs some.1)
-        where
-          by : (b : Bool) → p x ≡ b → AllByRecursion (λ y. list_any (same y) ys ≡ true) (filter p xs) → AllByRecursion (λ y. list_any (same y) ys ≡ true) (filter p (x ∷ xs))
-          by true e rest = rw e (there x some.0 e, rest)
-          by false e rest = rw e rest
+      all_there (x ∷ xs) some = grind (arith, all_there xs some.1)
 
   -- a key besides, where fewer than the limit are open of the others
   pub one_more : (Q : K → Type 0) (p : K → Bool) (ks bs : List K) (one : K) (limit : ℕ) → Apart same same_is turn itself ks → AllByRecursion Q ks
@@ -50,12 +39,10 @@ module _ {K : Type 0} (same : K → K → Bool) (same_is : (a b : K) → same a 
   one_more Q p ks bs one limit apart all others own few = by (nat_lt (length (filter (λ o. not (same o one)) bs)) limit) refl
     where
       put : (x : K) → Q x → p x ≡ true → (b : Bool) → same x one ≡ b → list_any (same x) (one ∷ filter (λ o. not (same o one)) bs) ≡ true
-      put x q is true e = rw e refl
-      put x q is false e = rw e (among_filtered same same_is turn itself (λ o. not (same o one)) x bs (rw e refl) (others x q e is))
+      put x q is b e = grind (arith, among_filtered)
 
       there : nat_lt (length (filter (λ o. not (same o one)) bs)) limit ≡ false → (x : K) → Q x → p x ≡ true → (b : Bool) → same x one ≡ b → list_any (same x) bs ≡ true
-      there full x q is true e = own x q e full is
-      there full x q is false e = others x q e is
+      there full x q is b e = grind arith
 
       by : (b : Bool) → nat_lt (length (filter (λ o. not (same o one)) bs)) limit ≡ b → length (filter p ks) ≤ limit
       by true e =

@@ -1,9 +1,9 @@
 -- What counts for a source after a claim or a command.
-use Rattle.std.proofs.Common.{◌≡◌, ℕ, suc, ◌<◌, Bool, true, false, ◌&&◌, List, [], ◌∷◌, ◌⊎◌, inl, inr, length, map, refl, sym, ap, ◌∙◌, ◌==◌, nat_le, arith}
+use Rattle.std.proofs.Common.{◌≡◌, ℕ, suc, ◌<◌, Bool, true, false, ◌&&◌, List, [], ◌∷◌, ◌⊎◌, length, map, refl, ◌==◌, nat_le, arith}
 use Rattle.std.specs.Prelude.{Option, Some, None, filter, if◌then◌else◌}
 use Rattle.std.specs.List.{AllByRecursion}
 use Rattle.std.proofs.lemmas.Bool.{lt-leb}
-use Rattle.history.specs.Entries.{Entry, History, frame, datagram, tick, command}
+use Rattle.history.specs.Entries.{Entry, History}
 use Rattle.history.specs.Settings.{Receiver}
 use Rattle.history.specs.Known.{Known, known}
 use Rattle.history.specs.Traces.{NotedFrame, is_since}
@@ -18,10 +18,7 @@ later n [] h = tt
 later n (x ∷ notes) h = (omega (arith, h.0), later n notes h.1)
 
 noted_below : (c : Receiver) (n : ℕ) (k : Known) (notes : List NotedFrame) (e : Entry) → AreBelow n notes → AreBelow (suc n) (noted c n k notes e)
-noted_below c n k notes (frame m f) h = (omega arith, later n notes h)
-noted_below c n k notes (datagram m bytes) h = later n notes h
-noted_below c n k notes (tick m) h = later n notes h
-noted_below c n k notes (command m source address) h = later n notes h
+noted_below c n k notes e h = grind (arith, later)
 
 pub notes_below : (c : Receiver) (s : ℕ) (h : History) → AreBelow (length h) (notes_of c s h)
 notes_below c s [] = tt
@@ -34,8 +31,7 @@ trace g q a None notes = []
 trace g q a (Some since) notes = map g (filter (λ n. is_since a since n && q n) notes)
 
 pub and_no : (b : Bool) → (b && false) ≡ false
-and_no true = refl
-and_no false = refl
+and_no b = grind arith
 
 -- a note that isn't of the kind
 pub passed_over : {X : Type 0} (g : NotedFrame → X) (q : NotedFrame → Bool) (a since : ℕ) (n : NotedFrame) (notes : List NotedFrame) → q n ≡ false
@@ -60,18 +56,13 @@ pub data Moved (lost : Bool) (i : ℕ) (before after : Option ℕ) : Type 0 wher
 
 module _ {X : Type 0} (g : NotedFrame → X) (q : NotedFrame → Bool) (a i : ℕ) (n : NotedFrame) (notes : List NotedFrame) (below : AreBelow i notes) (other : q n ≡ false) where
   nothing_after : (after : Option ℕ) → (after ≡ Some i) ⊎ (after ≡ None) → trace g q a after (n ∷ notes) ≡ []
-  nothing_after after (inl e) = rw e (passed_over g q a i n notes other ∙ ap (map g) (nothing_since a i q notes below))
-  nothing_after after (inr e) = rw e refl
+  nothing_after after h = grind (arith, passed_over, nothing_since)
 
   same_after : (since : Option ℕ) → trace g q a since (n ∷ notes) ≡ trace g q a since notes
-  same_after None = refl
-  same_after (Some since) = passed_over g q a since n notes other
+  same_after since = grind (arith, passed_over)
 
   nothing_before : (lost : Bool) (before : Option ℕ) → (lost ≡ true) ⊎ (before ≡ None) → (if lost then [] else trace g q a before notes) ≡ []
-  nothing_before lost before (inl e) = rw e refl
-  nothing_before true before (inr e) = refl
-  nothing_before false before (inr e) = rw e refl
+  nothing_before lost before h = grind arith
 
   pub moved_trace : (lost : Bool) (before after : Option ℕ) → Moved lost i before after → trace g q a after (n ∷ notes) ≡ (if lost then [] else trace g q a before notes)
-  moved_trace lost before after (stays kept same) = rw (same, kept) (same_after before)
-  moved_trace lost before after (begins new old) = nothing_after after new ∙ sym (nothing_before lost before old)
+  moved_trace lost before after h = grind (arith, same_after, nothing_after, nothing_before)

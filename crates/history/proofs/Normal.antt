@@ -1,10 +1,10 @@
 -- Where every opener found room, a run hangs on the pieces but for whether there was room.
-use Rattle.std.proofs.Common.{◌≡◌, ℕ, Bool, true, false, ◌&&◌, not, List, [], ◌∷◌, map, refl, sym, ap, subst, ◌∙◌}
+use Rattle.std.proofs.Common.{◌≡◌, ℕ, Bool, true, false, not, List, [], ◌∷◌, map, refl, sym, ap, subst, ◌∙◌, arith}
 use Rattle.std.specs.Prelude.{Option, Some, None, if◌then◌else◌, option_map}
 use Rattle.std.specs.List.{AllByRecursion}
 use Rattle.std.proofs.lemmas.List.{length-map}
 use Rattle.slot_views.specs.Runs.{Rules, opener_of, is_whole, is_admitted, in_time, if_open, if_whole, kept_at, open_of, open_at, run_of}
-use Rattle.slot_views.specs.RunLaws.{fed, fed_later, finished, finished_later, OneStep}
+use Rattle.slot_views.specs.RunLaws.{fed, fed_later, finished, OneStep}
 
 -- a change of pieces that the rules don't see, and after which all found room
 pub record IsUnseen {X : Type 0} (r : Rules X) (norm : X → X) : Type 0 where
@@ -22,30 +22,26 @@ opener_map f x (y ∷ ys) = opener_map f y ys
 
 module _ {X : Type 0} (r : Rules X) (norm : X → X) (u : IsUnseen r norm) where
   whole_map : (acc : List X) → is_whole r (map norm acc) ≡ is_whole r acc
-  whole_map [] = refl
-  whole_map (x ∷ xs) = rw (opener_map norm x xs, u.need (opener_of x xs), length-map xs norm) refl
+  whole_map acc = grind (arith, opener_map, length-map)
 
   admitted_map : (x : X) (xs : List X) → is_admitted r (map norm (x ∷ xs)) ≡ true
   admitted_map x xs = rw (opener_map norm x xs) (u.admits (opener_of x xs))
 
   time_map : (acc : List X) (m : ℕ) → in_time r (map norm acc) m ≡ in_time r acc m
-  time_map [] m = refl
-  time_map (x ∷ xs) m = rw (u.moment x, u.gap (x ∷ xs)) refl
+  time_map acc m = grind arith
 
   -- pieces of which the first found room
   open_map : (x : X) (xs : List X) → is_admitted r (x ∷ xs) ≡ true → if_open r (Some (map norm (x ∷ xs))) ≡ option_map (map norm) (if_open r (Some (x ∷ xs)))
   open_map x xs room = rw (admitted_map x xs, whole_map (x ∷ xs), room) (by (is_whole r (x ∷ xs)))
     where
       by : (b : Bool) → (if not b then Some (map norm (x ∷ xs)) else None) ≡ option_map (map norm) (if not b then Some (x ∷ xs) else None)
-      by true = refl
-      by false = refl
+      by b = grind arith
 
   done_map : (x : X) (xs : List X) → is_admitted r (x ∷ xs) ≡ true → if_whole r (Some (map norm (x ∷ xs))) ≡ option_map (map norm) (if_whole r (Some (x ∷ xs)))
   done_map x xs room = rw (admitted_map x xs, whole_map (x ∷ xs), room) (by (is_whole r (x ∷ xs)))
     where
       by : (b : Bool) → (if b then Some (map norm (x ∷ xs)) else None) ≡ option_map (map norm) (if b then Some (x ∷ xs) else None)
-      by true = refl
-      by false = refl
+      by b = grind arith
 
   -- what is open found room
   abbrev FoundRoom : Option (List X) → Type 0
@@ -53,20 +49,10 @@ module _ {X : Type 0} (r : Rules X) (norm : X → X) (u : IsUnseen r norm) where
   FoundRoom (Some acc) = is_admitted r acc ≡ true
 
   kept_map : (o : Option (List X)) (m : ℕ) → kept_at r (option_map (map norm) o) m ≡ option_map (map norm) (kept_at r o m)
-  kept_map None m = refl
-  kept_map (Some acc) m = rw (time_map acc m) (by (in_time r acc m))
-    where
-      by : (b : Bool) → (if b then Some (map norm acc) else None) ≡ option_map (map norm) (if b then Some acc else None)
-      by true = refl
-      by false = refl
+  kept_map o m = grind (arith, time_map)
 
   kept_room : (o : Option (List X)) (m : ℕ) → FoundRoom o → FoundRoom (kept_at r o m)
-  kept_room None m room = tt
-  kept_room (Some acc) m room = by (in_time r acc m)
-    where
-      by : (b : Bool) → FoundRoom (if b then Some acc else None)
-      by true = room
-      by false = tt
+  kept_room o m room = grind arith
 
   -- one more piece; where it opens, it found room
   HasRoom : X → Type 0
@@ -83,47 +69,17 @@ module _ {X : Type 0} (r : Rules X) (norm : X → X) (u : IsUnseen r norm) where
       next (y ∷ ys) found false false = refl
 
       later : (p : Option (List X)) → FoundRoom p → fed_later r (option_map (map norm) p) (norm x) ≡ option_map (map norm) (fed_later r p x)
-      later None found = refl
-      later (Some acc) found = rw (u.is_next acc x, u.is_repeat acc x) (next acc found (r.is_next acc x) (r.is_repeat acc x))
+      later p found = grind (arith, next)
 
       by : (b : Bool) → r.opens x ≡ b → (p : Option (List X)) → FoundRoom p → fed r (option_map (map norm) p) (norm x) ≡ option_map (map norm) (fed r p x)
-      by true e p found = rw (u.opens x, e) (open_map x [] (opening e))
-      by false e p found = rw (u.opens x, e) (later p found)
+      by b e p found = grind (arith, later)
 
   fed_room : (o : Option (List X)) (x : X) → FoundRoom o → FoundRoom (fed r o x)
-  fed_room o x room = by (r.opens x) o room
-    where
-      if_room : (acc : List X) (a b : Bool) → is_admitted r acc ≡ a → FoundRoom (if a && not b then Some acc else None)
-      if_room acc true true e = tt
-      if_room acc true false e = e
-      if_room acc false b e = tt
-
-      later : (acc : List X) → is_admitted r acc ≡ true → (a b : Bool) → FoundRoom (if a then if_open r (Some (x ∷ acc)) else if b then Some acc else None)
-      later acc found true b = if_room (x ∷ acc) (is_admitted r (x ∷ acc)) (is_whole r (x ∷ acc)) refl
-      later acc found false true = found
-      later acc found false false = tt
-
-      by : (b : Bool) (p : Option (List X)) → FoundRoom p → FoundRoom (if b then if_open r (Some (x ∷ [])) else fed_later r p x)
-      by true p found = if_room (x ∷ []) (is_admitted r (x ∷ [])) (is_whole r (x ∷ [])) refl
-      by false None found = tt
-      by false (Some acc) found = later acc found (r.is_next acc x) (r.is_repeat acc x)
+  fed_room o x room = grind arith
 
   finished_map : (o : Option (List X)) (x : X) → FoundRoom o → HasRoom x → finished r (option_map (map norm) o) (norm x) ≡ option_map (map norm) (finished r o x)
   unfolding HasRoom
-  finished_map o x room opening = by (r.opens x) refl o room
-    where
-      next : (acc : List X) → is_admitted r acc ≡ true → (a : Bool) → (if a then if_whole r (Some (norm x ∷ map norm acc)) else None) ≡ option_map (map norm) (if a then if_whole r (Some (x ∷ acc)) else None)
-      next [] none a = cc
-      next (y ∷ ys) found true = done_map x (y ∷ ys) found
-      next (y ∷ ys) found false = refl
-
-      later : (p : Option (List X)) → FoundRoom p → finished_later r (option_map (map norm) p) (norm x) ≡ option_map (map norm) (finished_later r p x)
-      later None found = refl
-      later (Some acc) found = rw (u.is_next acc x) (next acc found (r.is_next acc x))
-
-      by : (b : Bool) → r.opens x ≡ b → (p : Option (List X)) → FoundRoom p → finished r (option_map (map norm) p) (norm x) ≡ option_map (map norm) (finished r p x)
-      by true e p found = rw (u.opens x, e) (done_map x [] (opening e))
-      by false e p found = rw (u.opens x, e) (later p found)
+  finished_map o x room opening = grind (arith, done_map)
 
   module _ (steps : OneStep r) where
     open_room : (t : List X) → FoundRoom (open_of r t)

@@ -1,5 +1,5 @@
 -- The notes of a subject select a message exactly where its rank is the first.
-use Rattle.std.proofs.Common.{◌≡◌, ℕ, ◌+◌, ◌<◌, ◌≤◌, Bool, true, false, ◌&&◌, ◌||◌, not, List, [], ◌∷◌, refl, sym, ap, subst, ◌∙◌, ◌==◌, arith}
+use Rattle.std.proofs.Common.{◌≡◌, ℕ, ◌+◌, ◌≤◌, Bool, true, false, ◌&&◌, ◌||◌, not, List, [], ◌∷◌, refl, sym, ap, subst, ◌∙◌, ◌==◌, arith}
 use Rattle.std.specs.Prelude.{Option, Some, None, if◌then◌else◌, option_map}
 use Rattle.std.specs.List.{list_any}
 use Rattle.std.proofs.lemmas.Bool.{and_parts, eqb-true, eq-eqb, ne_eqb, le-ltb, false≢true}
@@ -24,13 +24,6 @@ use Rattle.history.proofs.GroupCounts.{text_is}
 use Rattle.history.proofs.ChoiceSteps.{both_ways, or_right, some_one, found_any, has_sent}
 use Rattle.claim_table.specs.declared.answer.Holder.{Holder}
 
--- a note of the list is the one of its source
-below_none : (low top a : ℕ) (ns : List Note) → AreFrom low top ns → a < low → note_of a ns ≡ None
-below_none low top a [] from less = refl
-below_none low top a (n ∷ ns) from less =
-    let other = ne_eqb n.source a (λ e. omega (arith, e, from.0, less)) in
-    rw other (below_none (n.source + 1) top a ns from.2 (omega (arith, from.0, less)))
-
 -- one that passes a test, and is found by its source
 found_one : (p : Note → Bool) (low top : ℕ) (ns : List Note) → AreFrom low top ns → list_any p ns ≡ true → (n : Note) × (p n ≡ true) × (note_of n.source ns ≡ Some n) × (low ≤ n.source)
 found_one p low top [] from e = absurd (false≢true e)
@@ -38,11 +31,7 @@ found_one p low top (x ∷ ns) from e = by (p x) refl e (λ rest. found_one p (x
   where
     by : (b : Bool) → p x ≡ b → (b || list_any p ns) ≡ true → (list_any p ns ≡ true → (n : Note) × (p n ≡ true) × (note_of n.source ns ≡ Some n) × (x.source + 1 ≤ n.source))
         → (n : Note) × (p n ≡ true) × (note_of n.source (x ∷ ns) ≡ Some n) × (low ≤ n.source)
-    by true ep e more = (x, ep, rw (eq-eqb x.source x.source refl) refl, from.0)
-    by false ep e more =
-        let n = more e in
-        let other = ne_eqb x.source n.0.source (λ same. omega (arith, same, n.3)) in
-        (n.0, n.1, rw other n.2, omega (arith, from.0, n.3))
+    by b ep e more = grind (arith, eq-eqb, from, ne_eqb)
 
 -- what is found is of the source, and passes a test that it passes
 found_passes : (p : Note → Bool) (a : ℕ) (ns : List Note) (n : Note) → note_of a ns ≡ Some n → p n ≡ true → list_any p ns ≡ true
@@ -50,16 +39,11 @@ found_passes p a [] n e ep = cc
 found_passes p a (x ∷ ns) n e ep = by (x.source == a) refl e (λ rest. found_passes p a ns n rest ep)
   where
     by : (b : Bool) → (x.source == a) ≡ b → (if b then Some x else note_of a ns) ≡ Some n → (note_of a ns ≡ Some n → list_any p ns ≡ true) → list_any p (x ∷ ns) ≡ true
-    by true es e more = let same : x ≡ n = cc in rw (ap p same ∙ ep) refl
-    by false es e more = or_right (p x) (list_any p ns) (more e)
+    by b es e more = grind (arith, or_right)
 
 -- no rank is before itself
 not_before : (a : Rank) → is_before a a ≡ false
-not_before a = let place = le-ltb a.place a.place (omega arith) in let name = le-ltb a.name a.name (omega arith) in rw (place, name) (and_no (a.place == a.place))
-  where
-    and_no : (b : Bool) → (b && false) ≡ false
-    and_no true = refl
-    and_no false = refl
+not_before a = grind (arith, le-ltb)
 
 module _ (tells : Message → Option Told) (rule : SubjectRule) (holders : List (Option Holder)) (subject : ℕ) (older : List Message) (r : SubjectNotes) (source : ℕ) (rank : Rank) (m : ℕ)
     (h : HoldsNotes tells rule holders subject older r)
@@ -67,13 +51,7 @@ module _ (tells : Message → Option Told) (rule : SubjectRule) (holders : List 
   -- what a note says of its address
   says : (n : Note) (a : ℕ) (other : Option Rank) (last : Option Message) → noted_with tells a other last ≡ Some n
       → (other ≡ Some n.rank) × (still_counts tells rule.timeout m last ≡ is_fresh rule.timeout m n)
-  says n a None last e = cc
-  says n a (Some other) None e = cc
-  says n a (Some other) (Some d) e =
-      subst (λ (x : Note). (Some other ≡ Some x.rank) × (still_counts tells rule.timeout m (Some d) ≡ is_fresh rule.timeout m x)) (inner e) (refl, refl)
-    where
-      inner : {x y : Note} → Some x ≡ Some y → x ≡ y
-      inner e = cc
+  says n a other last e = grind arith
 
   to : list_any (outranks r.timeout source rank m) r.notes ≡ true → list_any (λ d. subjects.outranks tells rule holders subject rank m older d.source) older ≡ true
   to e =
@@ -91,37 +69,13 @@ module _ (tells : Message → Option Told) (rule : SubjectRule) (holders : List 
   noted a (Some other) (Some d) better counts = (record { source = a; rank = other; moment = d.moment; usable = subjects.is_usable (tells d) }, refl)
 
   of_source : (n : Note) (a : ℕ) (other : Option Rank) (last : Option Message) → noted_with tells a other last ≡ Some n → n.source ≡ a
-  of_source n a None last e = cc
-  of_source n a (Some other) None e = cc
-  of_source n a (Some other) (Some d) e = let same = inner e in sym (ap (λ (x : Note). x.source) same)
-    where
-      inner : {x y : Note} → Some x ≡ Some y → x ≡ y
-      inner e = cc
+  of_source n a other last e = grind arith
 
   from : list_any (λ d. subjects.outranks tells rule holders subject rank m older d.source) older ≡ true → list_any (outranks r.timeout source rank m) r.notes ≡ true
-  from e =
-      let one = some_one (λ d. subjects.outranks tells rule holders subject rank m older d.source) older e in
-      let a = one.0.source in
-      let parts = and_parts (is_better rank (holder_rank rule (holder_at holders a))) (still_counts tells rule.timeout m (last_of tells holders subject a older)) one.1 in
-      let n = noted a (holder_rank rule (holder_at holders a)) (last_of tells holders subject a older) parts.0 parts.1 in
-      let is = says n.0 a (holder_rank rule (holder_at holders a)) (last_of tells holders subject a older) n.1 in
-      let before : is_before n.0.rank rank ≡ true = sym (ap (is_better rank) is.0) ∙ parts.0 in
-      let fresh : is_fresh r.timeout m n.0 ≡ true = ap (λ (t : ℕ). is_fresh t m n.0) h.timeout ∙ sym is.1 ∙ parts.1 in
-      let at = of_source n.0 a (holder_rank rule (holder_at holders a)) (last_of tells holders subject a older) n.1 in
-      found_passes (outranks r.timeout source rank m) a r.notes n.0 (h.notes a ∙ n.1) (apart n.0 a at is.0 before fresh (n.0.source == source) refl)
-    where
-      apart : (n : Note) (a : ℕ) → n.source ≡ a → holder_rank rule (holder_at holders a) ≡ Some n.rank → is_before n.rank rank ≡ true → is_fresh r.timeout m n ≡ true
-          → (b : Bool) → (n.source == source) ≡ b → outranks r.timeout source rank m n ≡ true
-      apart n a at held before fresh true same =
-          let here : a ≡ source = sym at ∙ eqb-true n.source source same in
-          let both : Some n.rank ≡ Some rank = sym held ∙ ap (λ (x : ℕ). holder_rank rule (holder_at holders x)) here ∙ own in
-          let equal : n.rank ≡ rank = cc in
-          absurd (false≢true (sym (not_before rank) ∙ ap (λ (x : Rank). is_before x rank) (sym equal) ∙ before))
-      apart n a at held before fresh false same = rw (same, before, fresh) refl
+  from e = grind (arith, some_one, and_parts, noted, says, of_source, found_passes, eqb-true, false≢true, not_before)
 
 pub first_by_notes : FirstByNotes
-first_by_notes tells rule holders subject older r source rank m h own =
-    ap not (both_ways _ _ (to tells rule holders subject older r source rank m h own) (from tells rule holders subject older r source rank m h own))
+first_by_notes tells rule holders subject older r source rank m h own = grind (arith, both_ways, to, from)
 
 -- ---- the same of the network
 
@@ -141,11 +95,7 @@ module _ (c : Settings) (older : List NetReading) (n : NetReading) (r : SubjectN
 
   -- what a note says of its source
   net_says : (x : Note) (a : ℕ) (last : Option NetReading) → net_noted a last ≡ Some x → (x.rank ≡ Ranked a) × (counts_still (rule_of c row).timeout n.line.moment last ≡ is_fresh (rule_of c row).timeout n.line.moment x)
-  net_says x a None e = cc
-  net_says x a (Some o) e = subst (λ (y : Note). (y.rank ≡ Ranked a) × (counts_still (rule_of c row).timeout n.line.moment (Some o) ≡ is_fresh (rule_of c row).timeout n.line.moment y)) (inner e) (refl, refl)
-    where
-      inner : {x y : Note} → Some x ≡ Some y → x ≡ y
-      inner e = cc
+  net_says x a last e = grind arith
 
   ranked_at : (source : List ℕ) (a : ℕ) → place_of c source ≡ Some a → net_rank c source ≡ Some (Ranked a)
   ranked_at source a e = ap (option_map (λ (p : ℕ). Ranked p)) e
@@ -183,10 +133,7 @@ module _ (c : Settings) (older : List NetReading) (n : NetReading) (r : SubjectN
 
       apart : (x : Note) (a : ℕ) → x.source ≡ a → x.rank ≡ Ranked a → is_before (Ranked a) rank ≡ true → is_fresh r.timeout n.line.moment x ≡ true → (b : Bool) → (x.source == place) ≡ b
           → outranks r.timeout place rank n.line.moment x ≡ true
-      apart x a at ranks before fresh true same =
-          let here : a ≡ place = sym at ∙ eqb-true x.source place same in
-          absurd (false≢true (sym (not_before rank) ∙ ap (λ (p : ℕ). is_before (Ranked p) rank) (sym here) ∙ before))
-      apart x a at ranks before fresh false same = rw (same, fresh) (rw ranks (rw before refl))
+      apart x a at ranks before fresh b same = grind (arith, eqb-true, false≢true, not_before)
 
       at : (s : List ℕ) (p : Option ℕ) → place_of c s ≡ p → is_better rank (net_rank c s) ≡ true → is_net_fresh (rule_of c row) row s n.line.moment older ≡ true
           → list_any (outranks r.timeout place rank n.line.moment) r.notes ≡ true

@@ -20,8 +20,7 @@ module _ (r : Receiver) (s : ℕ) (older : History) (m : ℕ) (f : BusFrame) whe
 
   there : (newer : History) → find (λ n. n.index == length older) (notes_of r s (newer ++ frame m f ∷ older)) ≡ Some one
   there [] = rw (eq-eqb (length older) (length older) refl) refl
-  there (frame i g ∷ newer) = let other = ne_eqb (length (newer ++ frame m f ∷ older)) (length older) (λ e. let more = longer newer (frame m f) older in omega (arith, e, more)) in
-      rw other (there newer)
+  there (frame i g ∷ newer) = grind (arith, there newer, ne_eqb, longer)
   there (datagram i bytes ∷ newer) = there newer
   there (tick i ∷ newer) = there newer
   there (command i source address ∷ newer) = there newer

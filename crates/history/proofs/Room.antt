@@ -27,8 +27,7 @@ abbrev pub IsOwnKind : (ℕ → Kind) → ℕ → NotedFrame → Type 0
 IsOwnKind kinds a n = (is_fast (kinds n.parts.pgn) || is_transport n.parts) ≡ true → (n.parts.source == a) ≡ true
 
 or_true : (b : Bool) → (b || true) ≡ true
-or_true true = refl
-or_true false = refl
+or_true b = grind arith
 
 true_or : (b d : Bool) → b ≡ true → (b || d) ≡ true
 true_or b d e = rw e refl
@@ -93,9 +92,7 @@ module _ (kinds : ℕ → Kind) (a : ℕ) (holders others : List (Option Holder)
       by : (b : Bool) → is_some (fast_open others kept x m) ≡ b → (d : Bool) → not (same_fast x key) ≡ d
           → AllByRecursion (λ y. list_any (same_fast y) (filter (λ other. not (same_fast other key)) (open_fast_keys kinds holders notes m)) ≡ true) (filter (λ other. not (same_fast other key)) (filter (λ y. is_some (fast_open others kept y m)) ks))
           → AllByRecursion (λ y. list_any (same_fast y) (filter (λ other. not (same_fast other key)) (open_fast_keys kinds holders notes m)) ≡ true) (filter (λ other. not (same_fast other key)) (filter (λ y. is_some (fast_open others kept y m)) (x ∷ ks)))
-      by true e true f rest = rw e (rw f (there e f, rest))
-      by true e false f rest = rw e (rw f rest)
-      by false e d f rest = rw e rest
+      by b e d f rest = grind (arith, there)
 
   pub fast_room : (limit : ℕ) (key : FastKey) → is_fast_admitted kinds limit holders notes key m ≡ true → is_fast_admitted kinds limit others kept key m ≡ true
   fast_room limit key room =
@@ -112,8 +109,7 @@ pub iso_turn : (a b : IsoKey) → same_iso a b ≡ same_iso b a
 iso_turn a b = rw (iso.both_turn a.addressed b.addressed, eqb-sym a.source b.source) refl
 
 both_itself : (b : Bool) → beq b b ≡ true
-both_itself true = refl
-both_itself false = refl
+both_itself b = grind arith
 
 pub iso_itself : (a : IsoKey) → same_iso a a ≡ true
 iso_itself a = rw (both_itself a.addressed, eq-eqb a.source a.source refl) refl
@@ -163,9 +159,7 @@ module _ (kinds : ℕ → Kind) (a : ℕ) (k l : Known) (sound : IsSound k.claim
       by : (b : Bool) → is_some (iso_open l kept x m) ≡ b → (d : Bool) → not (same_iso x key) ≡ d
           → AllByRecursion (λ y. list_any (same_iso y) (filter (λ other. not (same_iso other key)) (open_iso_keys k notes m)) ≡ true) (filter (λ other. not (same_iso other key)) (filter (λ y. is_some (iso_open l kept y m)) ks))
           → AllByRecursion (λ y. list_any (same_iso y) (filter (λ other. not (same_iso other key)) (open_iso_keys k notes m)) ≡ true) (filter (λ other. not (same_iso other key)) (filter (λ y. is_some (iso_open l kept y m)) (x ∷ ks)))
-      by true e true f rest = rw e (rw f (there e f, rest))
-      by true e false f rest = rw e (rw f rest)
-      by false e d f rest = rw e rest
+      by b e d f rest = grind (arith, there)
 
   pub iso_room : (limit : ℕ) (key : IsoKey) → is_iso_admitted limit k notes key m ≡ true → is_iso_admitted limit l kept key m ≡ true
   iso_room limit key room =

@@ -1,6 +1,6 @@
 -- Where none of a device's openers was refused, every opener that counts for it found room.
-use Rattle.std.proofs.Common.{◌≡◌, ◌≢◌, ℕ, ◌≤◌, ◌<◌, Bool, true, false, ◌&&◌, ◌||◌, not, List, [], ◌∷◌, refl, sym, ap, subst, ◌∙◌, ◌==◌, arith}
-use Rattle.std.specs.Prelude.{Option, Some, None, is_some, if◌then◌else◌}
+use Rattle.std.proofs.Common.{◌≡◌, ◌≢◌, ℕ, Bool, true, false, ◌&&◌, List, [], ◌∷◌, refl, sym, ap, subst, ◌∙◌, ◌==◌, arith}
+use Rattle.std.specs.Prelude.{Option, is_some, if◌then◌else◌}
 use Rattle.std.specs.List.{AllByRecursion}
 use Rattle.std.proofs.lemmas.Bool.{eqb-true, ne_eqb, and_parts, false≢true, le-leb}
 use Rattle.n2k_id.specs.Frame.{BusFrame}
@@ -10,18 +10,17 @@ use Rattle.claim_table.specs.Laws.{IsSound}
 use Rattle.pgn_profile.specs.declared.kinds.Kind.{Kind}
 use Rattle.pgn_profile.specs.declared.kinds.Kind.TheVariants.{Fast, Outside}
 use Rattle.slot_views.specs.Runs.{Rules}
-use Rattle.fast_packet.specs.FastRuns.{is_opener, fast_rules}
+use Rattle.fast_packet.specs.FastRuns.{fast_rules}
 use Rattle.iso_transport.specs.Audience.{key_of}
-use Rattle.iso_transport.specs.IsoRuns.{iso_rules, is_opener as iso_opener}
-use Rattle.iso_transport.specs.declared.key.IsoKey.{IsoKey}
+use Rattle.iso_transport.specs.IsoRuns.{iso_rules}
 use Rattle.history.specs.Entries.{History, frame, datagram, tick}
 use Rattle.history.specs.Entries as entry
 use Rattle.history.specs.Settings.{Receiver}
 use Rattle.history.specs.Known.{Known, known, is_claim, held_since}
-use Rattle.history.specs.Traces.{NotedFrame, fast_piece, fast_trace, fast_trace_since, iso_piece, iso_trace, broadcast_since, addressed_since, is_bearing}
+use Rattle.history.specs.Traces.{NotedFrame, fast_piece, fast_trace, iso_piece, iso_trace}
 use Rattle.history.specs.Opens.{is_fast, notes_of}
 use Rattle.history.specs.AddressLaws.{IsReceiver}
-use Rattle.history.specs.KeyLaws.{is_meant, concerns, the_note}
+use Rattle.history.specs.KeyLaws.{concerns, the_note}
 use Rattle.history.specs.IsolationLaws.{opens_message, FindsRoom, NoneRefused}
 use Rattle.history.proofs.Addresses.{addresses_are_sound}
 use Rattle.history.proofs.KeySteps.{known_same, other_piece}
@@ -37,12 +36,10 @@ pub record Roomy (c : Receiver) (s a : ℕ) (h : History) : Type 0 where
   pub iso : (addressed : Bool) → FoundRoom (iso_rules addressed) (iso_trace (known c s h) addressed a (notes_of c s h))
 
 cut_room : {X : Type 0} (r : Rules X) (b : Bool) (t : List X) → FoundRoom r t → FoundRoom r (if b then [] else t)
-cut_room r true t room = tt
-cut_room r false t room = room
+cut_room r b t room = grind arith
 
 added_room : {X : Type 0} (r : Rules X) (b : Bool) (x : X) (t : List X) → (b ≡ true → r.opens x ≡ true → r.admitted x ≡ true) → FoundRoom r t → FoundRoom r (if b then x ∷ t else t)
-added_room r true x t new room = (new refl, room)
-added_room r false x t new room = room
+added_room r b x t new room = grind arith
 
 pub not_claims_pgn : (c : Receiver) → IsReceiver c → (p : ℕ) → c.kinds p ≡ Fast → p ≢ 60928
 not_claims_pgn c are p fast e = let two : Outside ≡ Fast = sym are.claims ∙ subst (λ (x : ℕ). c.kinds x ≡ Fast) e fast in cc
@@ -51,17 +48,7 @@ not_claims_pgn c are p fast e = let two : Outside ≡ Fast = sym are.claims ∙ 
 
 pub fast_head : (k : Known) (a p : ℕ) (n : NotedFrame) (notes : List NotedFrame) → (n.parts.source == a) ≡ true → IsLate (held_since k.claims.holders a) n.index
     → fast_trace k.claims.holders a p (n ∷ notes) ≡ (if is_some (held_since k.claims.holders a) && (n.parts.pgn == p) then fast_piece n ∷ fast_trace k.claims.holders a p notes else fast_trace k.claims.holders a p notes)
-fast_head k a p n notes source late = by (held_since k.claims.holders a) late
-  where
-    with_pgn : (since : ℕ) → since ≤ n.index → (b : Bool) → (n.parts.pgn == p) ≡ b
-        → fast_trace_since (Some since) a p (n ∷ notes) ≡ (if b then fast_piece n ∷ fast_trace_since (Some since) a p notes else fast_trace_since (Some since) a p notes)
-    with_pgn since le true e = rw (source, le-leb since n.index le, e) refl
-    with_pgn since le false e = rw (source, le-leb since n.index le, e) refl
-
-    by : (since : Option ℕ) → IsLate since n.index
-        → fast_trace_since since a p (n ∷ notes) ≡ (if is_some since && (n.parts.pgn == p) then fast_piece n ∷ fast_trace_since since a p notes else fast_trace_since since a p notes)
-    by None le = refl
-    by (Some since) le = with_pgn since le (n.parts.pgn == p) refl
+fast_head k a p n notes source late = grind (arith, late, le-leb, IsLate)
 
 pub fast_past : (k : Known) (a p : ℕ) (n : NotedFrame) (notes : List NotedFrame) → (n.parts.source == a) ≡ false → fast_trace k.claims.holders a p (n ∷ notes) ≡ fast_trace k.claims.holders a p notes
 fast_past k a p n notes e = other_piece (held_since k.claims.holders a) a p n notes (rw e refl)
@@ -70,60 +57,22 @@ fast_past k a p n notes e = other_piece (held_since k.claims.holders a) a p n no
 
 fast_opens : (c : Receiver) (k : Known) (n : NotedFrame) (a p : ℕ) → (n.parts.source == a) ≡ true → is_fast (c.kinds p) ≡ true → (is_some (held_since k.claims.holders a) && (n.parts.pgn == p)) ≡ true
     → fast_rules.opens (fast_piece n) ≡ true → opens_message c.kinds k.claims n ≡ true
-fast_opens c k n a p source kind counts opening =
-    let parts = and_parts (is_some (held_since k.claims.holders a)) (n.parts.pgn == p) counts in
-    let held : is_some (held_since k.claims.holders n.parts.source) ≡ true = subst (λ (x : ℕ). is_some (held_since k.claims.holders x) ≡ true) (sym (eqb-true n.parts.source a source)) parts.0 in
-    let fast : is_fast (c.kinds n.parts.pgn) ≡ true = subst (λ (x : ℕ). is_fast (c.kinds x) ≡ true) (sym (eqb-true n.parts.pgn p parts.1)) kind in
-    first (is_some (held_since k.claims.holders n.parts.source)) (is_fast (c.kinds n.parts.pgn)) (is_opener n.bytes) _ held fast opening
-  where
-    first : (x y z u : Bool) → x ≡ true → y ≡ true → z ≡ true → ((x && (y && z)) || u) ≡ true
-    first true true true u e f g = refl
-    first false y z u e f g = cc
-    first true false z u e f g = cc
-    first true true false u e f g = cc
+fast_opens c k n a p source kind counts opening = grind (arith, and_parts, eqb-true)
 
 -- the gateway's own address is none to all
 own_small : (k : Known) → IsSound k.claims → (d : ℕ) (own : Option ℕ) → k.claims.own ≡ own → is_at d k.claims.own ≡ true → (d == 255) ≡ false
-own_small k sound d None e is = absurd (false≢true (rw e at is))
-own_small k sound d (Some x) e is =
-    let small : x < 252 = sound.own_within x e in
-    let same : x ≡ d = eqb-true x d (rw e at is) in
-    ne_eqb d 255 (λ f. omega (arith, small, same, f))
+own_small k sound d own e is = grind (arith, false≢true, eqb-true, ne_eqb)
 
 concerned_source : (k : Known) (n : NotedFrame) (a : ℕ) (addressed : Bool) → concerns k.claims n (record { addressed = addressed; source = a }) ≡ true → (n.parts.source == a) ≡ true
-concerned_source k n a addressed e =
-    (and_parts (n.parts.source == a) (is_meant k.claims.own n addressed && is_bearing addressed n)
-    (and_parts (is_some (held_since k.claims.holders a)) ((n.parts.source == a) && (is_meant k.claims.own n addressed && is_bearing addressed n)) e).1).0
+concerned_source k n a addressed e = grind (arith, and_parts)
 
 pub key_is : (k : Known) → IsSound k.claims → (n : NotedFrame) (a : ℕ) (addressed : Bool) → concerns k.claims n (record { addressed = addressed; source = a }) ≡ true
     → key_of n.parts ≡ record { addressed = addressed; source = a }
-key_is k sound n a addressed e =
-    let meant = (and_parts (is_meant k.claims.own n addressed) (is_bearing addressed n)
-    (and_parts (n.parts.source == a) (is_meant k.claims.own n addressed && is_bearing addressed n)
-    (and_parts (is_some (held_since k.claims.holders a)) ((n.parts.source == a) && (is_meant k.claims.own n addressed && is_bearing addressed n)) e).1).1).0 in
-    ap (λ (x : Bool). made x n.parts.source) (to addressed meant) ∙ ap (λ (x : ℕ). made addressed x) (eqb-true n.parts.source a (concerned_source k n a addressed e))
-  where
-    made : Bool → ℕ → IsoKey
-    made addressed source = record { addressed = addressed; source = source }
-
-    to : (b : Bool) → is_meant k.claims.own n b ≡ true → not (n.parts.destination == 255) ≡ b
-    to true f = ap not (own_small k sound n.parts.destination k.claims.own refl f)
-    to false f = ap not f
+key_is k sound n a addressed e = grind (arith, and_parts, eqb-true, concerned_source, own_small)
 
 iso_opens : (kinds : ℕ → Kind) (k : Known) → IsSound k.claims → (n : NotedFrame) (a : ℕ) (addressed : Bool) → concerns k.claims n (record { addressed = addressed; source = a }) ≡ true
     → (iso_rules addressed).opens (iso_piece n) ≡ true → opens_message kinds k.claims n ≡ true
-iso_opens kinds k sound n a addressed e opening =
-    second _ (concerns k.claims n (key_of n.parts) && iso_opener (key_of n.parts).addressed (iso_piece n))
-    (subst (λ (x : IsoKey). (concerns k.claims n x && iso_opener x.addressed (iso_piece n)) ≡ true) (sym (key_is k sound n a addressed e))
-    (both (concerns k.claims n (record { addressed = addressed; source = a })) (iso_opener addressed (iso_piece n)) e opening))
-  where
-    second : (x y : Bool) → y ≡ true → (x || y) ≡ true
-    second true y f = refl
-    second false y f = f
-
-    both : (x y : Bool) → x ≡ true → y ≡ true → (x && y) ≡ true
-    both true y f g = g
-    both false y f g = cc
+iso_opens kinds k sound n a addressed e opening = grind (arith, key_is)
 
 -- ---- a whole history
 
@@ -147,24 +96,7 @@ module _ (c : Receiver) (s a : ℕ) (are : IsReceiver c) where
         (iso_opens c.kinds (known c s h) (addresses_are_sound c s h are).sound (the_note c s h m f) a addressed counts opening)) (room.iso addressed))
 
   start_room : Roomy c s a []
-  start_room = record { fast = λ p kind. no_fast p (held_since (known c s []).claims.holders a); iso = no_iso }
-    where
-      no_fast : (p : ℕ) (since : Option ℕ) → FoundRoom fast_rules (fast_trace_since since a p [])
-      no_fast p None = tt
-      no_fast p (Some since) = tt
-
-      none_all : (since : Option ℕ) → FoundRoom (iso_rules false) (broadcast_since since a [])
-      none_all None = tt
-      none_all (Some since) = tt
-
-      none_own : (since own : Option ℕ) → FoundRoom (iso_rules true) (addressed_since since own 0 a [])
-      none_own None own = tt
-      none_own (Some since) None = tt
-      none_own (Some since) (Some own) = tt
-
-      no_iso : (addressed : Bool) → FoundRoom (iso_rules addressed) (iso_trace (known c s []) addressed a [])
-      no_iso false = none_all (held_since (known c s []).claims.holders a)
-      no_iso true = none_own (held_since (known c s []).claims.holders a) (known c s []).claims.own
+  start_room = grind arith
 
   claim_room : (h : History) (m : ℕ) (f : BusFrame) → is_claim f ≡ true → Roomy c s a h → Roomy c s a (frame m f ∷ h)
   claim_room h m f claims room = record {

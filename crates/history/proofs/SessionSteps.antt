@@ -1,5 +1,5 @@
 -- The laws of one key of the transport protocol.
-use Rattle.std.proofs.Common.{◌≡◌, ℕ, ◌≤◌, Bool, true, false, ◌&&◌, ◌||◌, not, List, ◌∷◌, length, map, refl, sym, ap, ◌∙◌, ◌==◌, nat_le}
+use Rattle.std.proofs.Common.{◌≡◌, ℕ, ◌≤◌, Bool, true, false, ◌&&◌, ◌||◌, not, List, ◌∷◌, length, map, refl, ap, ◌∙◌, ◌==◌, arith}
 use Rattle.std.specs.Prelude.{Option, Some, None, filter, is_some, if◌then◌else◌, option_map}
 use Rattle.std.proofs.lemmas.Bool.{eq-eqb, le-leb}
 use Rattle.n2k_id.specs.Frame.{BusFrame}
@@ -16,9 +16,9 @@ use Rattle.pgn_profile.specs.declared.kinds.Kind.{Kind}
 use Rattle.history.specs.Entries.{History}
 use Rattle.history.specs.Settings.{Receiver}
 use Rattle.history.specs.Known.{Known, known, is_claim, held_since}
-use Rattle.history.specs.Traces.{NotedFrame, is_since, iso_piece, iso_trace, broadcast_since, addressed_since, is_transport, is_bearing}
+use Rattle.history.specs.Traces.{NotedFrame, iso_piece, iso_trace, broadcast_since, addressed_since, is_transport, is_bearing}
 use Rattle.history.specs.Opens.{iso_open, notes_of}
-use Rattle.history.specs.Messages.{said_by, completed_by, by_session, iso_carried}
+use Rattle.history.specs.Messages.{completed_by, by_session, iso_carried}
 use Rattle.history.specs.AddressLaws.{IsReceiver}
 use Rattle.history.specs.KeyLaws.{is_meant, concerns, StepsIso, CompletesIso, FramesStepIso, FramesCompleteIso, TimeEndsIso, the_note}
 use Rattle.history.proofs.Addresses.{addresses_are_sound}
@@ -32,25 +32,18 @@ with_piece b n rest = if b then iso_piece n ∷ rest else rest
 
 -- a filter's answer on the newest frame, whose index is late enough
 kept_if : (q : NotedFrame → Bool) (n : NotedFrame) (notes : List NotedFrame) (b : Bool) → q n ≡ b → map iso_piece (filter q (n ∷ notes)) ≡ with_piece b n (map iso_piece (filter q notes))
-kept_if q n notes true e = rw e refl
-kept_if q n notes false e = rw e refl
+kept_if q n notes b e = grind arith
 
 recent : (x y : Bool) → y ≡ true → (x && y) ≡ x
-recent true true e = refl
-recent false true e = refl
-recent x false e = cc
+recent x y e = grind arith
 
 broadcast_head : (since a : ℕ) (n : NotedFrame) (notes : List NotedFrame) → since ≤ n.index
     → broadcast_since (Some since) a (n ∷ notes) ≡ with_piece ((n.parts.source == a) && ((n.parts.destination == 255) && is_bearing false n)) n (broadcast_since (Some since) a notes)
-broadcast_head since a n notes le =
-    kept_if (λ x. is_since a since x && ((x.parts.destination == 255) && is_bearing false x)) n notes ((n.parts.source == a) && ((n.parts.destination == 255) && is_bearing false n))
-    (rw (le-leb since n.index le, recent (n.parts.source == a) true refl) refl)
+broadcast_head since a n notes le = grind (arith, kept_if, le-leb, recent)
 
 addressed_head : (since own own_since a : ℕ) (n : NotedFrame) (notes : List NotedFrame) → since ≤ n.index → own_since ≤ n.index
     → addressed_since (Some since) (Some own) own_since a (n ∷ notes) ≡ with_piece ((n.parts.source == a) && ((own == n.parts.destination) && is_bearing true n)) n (addressed_since (Some since) (Some own) own_since a notes)
-addressed_head since own own_since a n notes le late =
-    kept_if (λ x. is_since a since x && ((x.parts.destination == own) && (nat_le own_since x.index && is_bearing true x))) n notes ((n.parts.source == a) && ((own == n.parts.destination) && is_bearing true n))
-    (rw (le-leb since n.index le, le-leb own_since n.index late, recent (n.parts.source == a) true refl, eqb-sym n.parts.destination own) refl)
+addressed_head since own own_since a n notes le late = grind (arith, late, kept_if, le-leb, recent, eqb-sym)
 
 -- ---- the trace of a key with the newest frame
 
@@ -64,19 +57,12 @@ IsLate (Some since) i = since ≤ i
 broadcast_trace : (k : Known) (since : Option ℕ) (a : ℕ) (n : NotedFrame) (notes : List NotedFrame) → IsLate since n.index
     → broadcast_since since a (n ∷ notes) ≡ with_piece (piece_if k since a false n) n (broadcast_since since a notes)
 unfolding piece_if
-broadcast_trace k None a n notes late = refl
-broadcast_trace k (Some since) a n notes late = broadcast_head since a n notes late
+broadcast_trace k since a n notes late = grind (arith, late, broadcast_head)
 
 addressed_trace : (k : Known) (since own : Option ℕ) (own_since a : ℕ) (n : NotedFrame) (notes : List NotedFrame) → k.claims.own ≡ own → IsLate since n.index → own_since ≤ n.index
     → addressed_since since own own_since a (n ∷ notes) ≡ with_piece (piece_if k since a true n) n (addressed_since since own own_since a notes)
 unfolding piece_if
-addressed_trace k None own own_since a n notes e late own_late = refl
-addressed_trace k (Some since) None own_since a n notes e late own_late = sym (rw (e, none (n.parts.source == a)) refl)
-  where
-    none : (x : Bool) → (x && false) ≡ false
-    none true = refl
-    none false = refl
-addressed_trace k (Some since) (Some own) own_since a n notes e late own_late = rw e (addressed_head since own own_since a n notes late own_late)
+addressed_trace k since own own_since a n notes e late own_late = grind (arith, late, addressed_head)
 
 module _ (c : Receiver) (s : ℕ) (h : History) (m : ℕ) (f : BusFrame) (are : IsReceiver c) where
   pub late : (a : ℕ) (o : Option Holder) → holder_at (known c s h).claims.holders a ≡ o → IsLate (option_map (λ (y : Holder). y.since) o) (length h)
@@ -116,11 +102,7 @@ iso_ends k notes key m n le = (steps key.addressed).later (iso_trace k key.addre
 
 -- the frame bears on the session of its own key where it is to all or to the gateway
 meant_is : (k : Known) (n : NotedFrame) → (not (key_of n.parts).addressed || is_at n.parts.destination k.claims.own) ≡ is_meant k.claims.own n (key_of n.parts).addressed
-meant_is k n = by (n.parts.destination == 255) refl
-  where
-    by : (b : Bool) → (n.parts.destination == 255) ≡ b → (not (not (n.parts.destination == 255)) || is_at n.parts.destination k.claims.own) ≡ is_meant k.claims.own n (not (n.parts.destination == 255))
-    by true e = rw e refl
-    by false e = rw e refl
+meant_is k n = grind arith
 
 held_and_own : (k : Known) (n : NotedFrame) (x : ℕ) → held_since k.claims.holders n.parts.source ≡ Some x → (addressed : Bool)
     → concerns k.claims n (record { addressed = addressed; source = n.parts.source }) ≡ (is_meant k.claims.own n addressed && is_bearing addressed n)
@@ -128,8 +110,7 @@ held_and_own k n x e addressed = rw (e, eq-eqb n.parts.source n.parts.source ref
 
 pub session_is : (k : Known) (n : NotedFrame) (older : List NotedFrame) (b : Bool) → ((not (key_of n.parts).addressed || is_at n.parts.destination k.claims.own) && is_bearing (key_of n.parts).addressed n) ≡ b
     → by_session k n older ≡ (if b then iso_carried (run_of (iso_rules (key_of n.parts).addressed) (iso_trace k (key_of n.parts).addressed n.parts.source (n ∷ older))) else None)
-session_is k n older true e = rw e refl
-session_is k n older false e = rw e refl
+session_is k n older b e = grind arith
 
 pub completed_iso : (kinds : ℕ → Kind) (k : Known) (n : NotedFrame) (older : List NotedFrame) → is_transport n.parts ≡ true → completed_by kinds k n older ≡ by_session k n older
 completed_iso kinds k n older e = rw e refl
@@ -141,9 +122,7 @@ module _ (c : Receiver) (s : ℕ) (h : History) (m : ℕ) (f : BusFrame) (x : Ho
 
   concerns_is : concerns (known c s h).claims (the_note c s h m f) (key_of (parts_of f.id))
       ≡ ((not (key_of (parts_of f.id)).addressed || is_at (parts_of f.id).destination (known c s h).claims.own) && is_bearing (key_of (parts_of f.id)).addressed (the_note c s h m f))
-  concerns_is =
-      held_and_own (known c s h) (the_note c s h m f) x.since since_is (key_of (parts_of f.id)).addressed
-      ∙ ap (λ (b : Bool). b && is_bearing (key_of (parts_of f.id)).addressed (the_note c s h m f)) (sym (meant_is (known c s h) (the_note c s h m f)))
+  concerns_is = grind (arith, held_and_own, since_is, meant_is)
 
   -- the run that it ends, or none
   ends : (addressed : Bool) (b : Bool) → concerns (known c s h).claims (the_note c s h m f) (record { addressed = addressed; source = (parts_of f.id).source }) ≡ b
@@ -159,17 +138,10 @@ module _ (c : Receiver) (s : ℕ) (h : History) (m : ℕ) (f : BusFrame) (x : Ho
       ≡ (if concerns (known c s h).claims (the_note c s h m f) (key_of (parts_of f.id))
       then iso_carried (finished (iso_rules (key_of (parts_of f.id)).addressed) (iso_open (known c s h) (notes_of c s h) (key_of (parts_of f.id)) m) (iso_piece (the_note c s h m f)))
       else None)
-  completes =
-      completed_iso c.kinds (known c s h) (the_note c s h m f) (notes_of c s h) transport
-      ∙ session_is (known c s h) (the_note c s h m f) (notes_of c s h) (concerns (known c s h).claims (the_note c s h m f) (key_of (parts_of f.id))) (sym concerns_is)
-      ∙ ends (key_of (parts_of f.id)).addressed (concerns (known c s h).claims (the_note c s h m f) (key_of (parts_of f.id))) refl
+  completes = grind (arith, completed_iso, session_is, concerns_is, ends)
 
   pub complete : CompletesIso c s h m f x
-  complete = record {
-    completed =
-        ap (λ (o : Option Holder). said_by (length h) m (parts_of f.id).source o (completed_by c.kinds (known c s h) (the_note c s h m f) (notes_of c s h))) holds
-        ∙ ap (said_by (length h) m (parts_of f.id).source (Some x)) completes;
-  }
+  complete = grind (arith, completes)
 
 pub iso_completes : FramesCompleteIso
 iso_completes c s h m f x are transport holds = complete c s h m f x are transport holds

@@ -1,5 +1,5 @@
 -- The laws of traces: what counts after a claim, and after a command.
-use Rattle.std.proofs.Common.{◌≡◌, ◌≢◌, ℕ, ◌<◌, Bool, true, false, ◌&&◌, ◌||◌, not, List, [], ◌∷◌, ◌⊎◌, inl, inr, length, map, refl, sym, ap, ◌∙◌, ◌==◌, nat_le}
+use Rattle.std.proofs.Common.{◌≡◌, ℕ, ◌<◌, Bool, true, false, ◌&&◌, ◌||◌, not, List, [], ◌∷◌, ◌⊎◌, length, map, refl, ap, ◌∙◌, ◌==◌, nat_le, arith}
 use Rattle.std.specs.Prelude.{Option, Some, None, filter, if◌then◌else◌, option_map}
 use Rattle.std.proofs.lemmas.Bool.{eqb-true, ne_eqb, and_parts, lt-leb}
 use Rattle.n2k_id.specs.declared.identifier_parts.Parts.{Parts}
@@ -7,7 +7,6 @@ use Rattle.n2k_id.specs.Frame.{BusFrame}
 use Rattle.n2k_id.specs.Identifier.{parts_of}
 use Rattle.claim_table.specs.declared.answer.Holder.{Holder}
 use Rattle.claim_table.specs.Claims.{Claims, Claim, Outcome, claim, command, holder_at, is_obeyed, moved_if}
-use Rattle.fast_packet.specs.FastRuns.{FastPiece}
 use Rattle.iso_transport.specs.IsoRuns.{IsoPiece}
 use Rattle.history.specs.Entries.{History, frame}
 use Rattle.history.specs.Settings.{Receiver}
@@ -24,23 +23,19 @@ use Rattle.history.proofs.Moves.{AreBelow, notes_below, trace, Moved, moved_trac
 -- ---- the three kinds of traces as one
 
 fast_as : (since : Option ℕ) (a p : ℕ) (notes : List NotedFrame) → fast_trace_since since a p notes ≡ trace fast_piece (λ n. n.parts.pgn == p) a since notes
-fast_as None a p notes = refl
-fast_as (Some since) a p notes = refl
+fast_as since a p notes = grind arith
 
 broadcast_as : (since : Option ℕ) (a : ℕ) (notes : List NotedFrame) → broadcast_since since a notes ≡ trace iso_piece (λ n. (n.parts.destination == 255) && is_bearing false n) a since notes
-broadcast_as None a notes = refl
-broadcast_as (Some since) a notes = refl
+broadcast_as since a notes = grind arith
 
 abbrev to_own : ℕ → ℕ → NotedFrame → Bool
 to_own own own_since n = (n.parts.destination == own) && (nat_le own_since n.index && is_bearing true n)
 
 addressed_as : (since : Option ℕ) (own own_since a : ℕ) (notes : List NotedFrame) → addressed_since since (Some own) own_since a notes ≡ trace iso_piece (to_own own own_since) a since notes
-addressed_as None own own_since a notes = refl
-addressed_as (Some since) own own_since a notes = refl
+addressed_as since own own_since a notes = grind arith
 
 no_address : (since : Option ℕ) (own_since a : ℕ) (notes : List NotedFrame) → addressed_since since None own_since a notes ≡ []
-no_address None own_since a notes = refl
-no_address (Some since) own_since a notes = refl
+no_address since own_since a notes = grind arith
 
 -- ---- a claim is no frame of any of them
 
@@ -69,12 +64,10 @@ nothing_to_new None a own i n notes h e = refl
 nothing_to_new (Some since) a own i n notes h e = passed_over iso_piece (to_own own i) a since n notes (to_own_not own i n e) ∙ ap (map iso_piece) (nothing_sent a since own i notes h)
 
 or_true : (b : Bool) → (b || true) ≡ true
-or_true true = refl
-or_true false = refl
+or_true b = grind arith
 
 or_false : (b : Bool) → (b || false) ≡ b
-or_false true = refl
-or_false false = refl
+or_false b = grind arith
 
 module _ (a i own_since : ℕ) (n : NotedFrame) (notes : List NotedFrame) (below : AreBelow i notes) (claims : n.parts.pgn ≡ 60928) (lost : Bool) (since after : Option ℕ)
     (moved : Moved lost i since after) where
@@ -82,29 +75,15 @@ module _ (a i own_since : ℕ) (n : NotedFrame) (notes : List NotedFrame) (below
   changed rest = rw (or_true lost) refl
 
   to_same : (own : ℕ) (t : Bool) → t ≡ true → addressed_since after (Some own) own_since a (n ∷ notes) ≡ (if lost || not t then [] else addressed_since since (Some own) own_since a notes)
-  to_same own true e =
-      addressed_as after own own_since a (n ∷ notes)
-      ∙ moved_trace iso_piece (to_own own own_since) a i n notes below (to_own_not own own_since n claims) lost since after moved
-      ∙ ap (λ (x : List IsoPiece). if lost then [] else x) (sym (addressed_as since own own_since a notes))
-      ∙ ap (λ (b : Bool). if b then [] else addressed_since since (Some own) own_since a notes) (sym (or_false lost))
-  to_same own false e = cc
+  to_same own t e = grind (arith, addressed_as, after, n, moved_trace, to_own_not, moved, or_false)
 
   to_other : (before own : ℕ) (t : Bool) → (before == own) ≡ t
       → addressed_since after (Some own) (if t then own_since else i) a (n ∷ notes) ≡ (if lost || not t then [] else addressed_since since (Some before) own_since a notes)
-  to_other before own true e = let same : before ≡ own = eqb-true before own e in
-      to_same own true refl ∙ ap (λ (x : ℕ). if lost || false then [] else addressed_since since (Some x) own_since a notes) (sym same)
-  to_other before own false e = nothing_to_new after a own i n notes below claims ∙ changed (addressed_since since (Some before) own_since a notes)
+  to_other before own t e = grind (arith, eqb-true, to_same, nothing_to_new, after, n, changed)
 
   by_own : (before own : Option ℕ)
       → addressed_since after own (since_own i own_since before own) a (n ∷ notes) ≡ (if lost || not (same_own before own) then [] else addressed_since since before own_since a notes)
-  by_own None None = no_address after i a (n ∷ notes) ∙ sym (unchanged lost (addressed_since since None own_since a notes) (no_address since own_since a notes))
-    where
-      unchanged : (b : Bool) (x : List IsoPiece) → x ≡ [] → (if b || false then [] else x) ≡ []
-      unchanged true x e = refl
-      unchanged false x e = e
-  by_own (Some before) None = no_address after own_since a (n ∷ notes) ∙ changed (addressed_since since (Some before) own_since a notes)
-  by_own None (Some own) = nothing_to_new after a own i n notes below claims ∙ changed (addressed_since since None own_since a notes)
-  by_own (Some before) (Some own) = to_other before own (before == own) refl
+  by_own before own = grind (arith, no_address, after, n, changed, nothing_to_new, to_other)
 
 -- ---- a claim
 
@@ -118,12 +97,10 @@ moved_of c k o a (begins new old) = moves.begins (after new) (before old)
   where
     after : (holder_at o.after.holders a ≡ Some (record { name = record { 0 = k.name }; since = k.index })) ⊎ (holder_at o.after.holders a ≡ None)
         → (option_map (λ (h : Holder). h.since) (holder_at o.after.holders a) ≡ Some k.index) ⊎ (option_map (λ (h : Holder). h.since) (holder_at o.after.holders a) ≡ None)
-    after (inl e) = inl (ap (option_map (λ (h : Holder). h.since)) e)
-    after (inr e) = inr (ap (option_map (λ (h : Holder). h.since)) e)
+    after h = grind arith
 
     before : (is_lost o.step a ≡ true) ⊎ (holder_at c.holders a ≡ None) → (is_lost o.step a ≡ true) ⊎ (option_map (λ (h : Holder). h.since) (holder_at c.holders a) ≡ None)
-    before (inl e) = inl e
-    before (inr e) = inr (ap (option_map (λ (h : Holder). h.since)) e)
+    before h = grind arith
 
 module _ (c : Receiver) (s : ℕ) (h : History) (m : ℕ) (f : BusFrame) (are : IsReceiver c) (claims : is_claim f ≡ true) where
   k : Known
@@ -147,28 +124,11 @@ module _ (c : Receiver) (s : ℕ) (h : History) (m : ℕ) (f : BusFrame) (are : 
   moved : (a : ℕ) → Moved (is_lost (claim (known c s h).claims (claim_by (length h) m f)).step a) (length h) (held_since (known c s h).claims.holders a)
       (held_since (followed_by (length h) (known c s h) (claim (known c s h).claims (claim_by (length h) m f)).after).claims.holders a)
   unfolding since_in
-  moved a =
-      moved_of (known c s h).claims (claim_by (length h) m f) (claim (known c s h).claims (claim_by (length h) m f)) a
-      (fate (known c s h).claims (claim_by (length h) m f) (addresses_are_sound c s h are).sound a)
+  moved a = grind (arith, moved_of, fate, addresses_are_sound)
 
   pub claim_moves : LeavesTraces c s h (frame m f) (is_lost (claim (known c s h).claims (claim_by (length h) m f)).step)
   unfolding n
-  claim_moves = record {
-    fast = λ a p other. rw known_is (
-        fast_as (held_since (followed_by (length h) (known c s h) (claim (known c s h).claims (claim_by (length h) m f)).after).claims.holders a) a p (n ∷ notes_of c s h)
-        ∙ moved_trace fast_piece (λ x. x.parts.pgn == p) a (length h) n (notes_of c s h) (notes_below c s h) (not_it p other) _ _ _ (moved a)
-        ∙ ap (λ (x : List FastPiece). if is_lost (claim (known c s h).claims (claim_by (length h) m f)).step a then [] else x) (sym (fast_as (held_since (known c s h).claims.holders a) a p (notes_of c s h))));
-    broadcast = λ a. rw known_is (
-        broadcast_as (held_since (followed_by (length h) (known c s h) (claim (known c s h).claims (claim_by (length h) m f)).after).claims.holders a) a (n ∷ notes_of c s h)
-        ∙ moved_trace iso_piece (λ x. (x.parts.destination == 255) && is_bearing false x) a (length h) n (notes_of c s h) (notes_below c s h) (to_all_not n pgn_is) _ _ _ (moved a)
-        ∙ ap (λ (x : List IsoPiece). if is_lost (claim (known c s h).claims (claim_by (length h) m f)).step a then [] else x) (sym (broadcast_as (held_since (known c s h).claims.holders a) a (notes_of c s h))));
-    addressed = λ a. rw known_is (
-        by_own a (length h) (known c s h).own_since n (notes_of c s h) (notes_below c s h) pgn_is _ _ _ (moved a) (known c s h).claims.own
-        (claim (known c s h).claims (claim_by (length h) m f)).after.own);
-  }
-    where
-      not_it : (p : ℕ) → p ≢ 60928 → ((parts_of f.id).pgn == p) ≡ false
-      not_it p other = rw pgn_is (ne_eqb 60928 p (λ e. other (sym e)))
+  claim_moves = grind (arith, known_is, fast_as, n, moved_trace, notes_below, moved, broadcast_as, to_all_not, pgn_is, by_own, ne_eqb)
 
 -- what of the claim a note of another kind needs: who holds an address after it, and since when
 pub known_after_claim : (c : Receiver) (s : ℕ) (h : History) (m : ℕ) (f : BusFrame) → is_claim f ≡ true
@@ -179,9 +139,7 @@ pub moved_since : (c : Receiver) (s : ℕ) (h : History) (m : ℕ) (f : BusFrame
     → Moved (is_lost (claim (known c s h).claims (claim_by (length h) m f)).step a) (length h) (held_since (known c s h).claims.holders a)
     (held_since (followed_by (length h) (known c s h) (claim (known c s h).claims (claim_by (length h) m f)).after).claims.holders a)
 unfolding since_in
-moved_since c s h m f are a =
-    moved_of (known c s h).claims (claim_by (length h) m f) (claim (known c s h).claims (claim_by (length h) m f)) a
-    (fate (known c s h).claims (claim_by (length h) m f) (addresses_are_sound c s h are).sound a)
+moved_since c s h m f are a = grind (arith, moved_of, fate, addresses_are_sound)
 
 pub claims_move_traces : ClaimsMoveTraces
 claims_move_traces c s h m f are claims = claim_moves c s h m f are claims
@@ -189,8 +147,7 @@ claims_move_traces c s h m f are claims = claim_moves c s h m f are claims
 -- ---- a command
 
 same_holders : (t : Bool) (c : Claims) (a m : ℕ) → (moved_if t c a m).holders ≡ c.holders
-same_holders true c a m = refl
-same_holders false c a m = refl
+same_holders t c a m = grind arith
 
 pub commanded_holders : (c : Claims) (a m : ℕ) → (command c a m).holders ≡ c.holders
 unfolding command
@@ -206,15 +163,11 @@ module _ (a i own_since : ℕ) (notes : List NotedFrame) (below : AreBelow i not
 
   to_either : (since : Option ℕ) (before own : ℕ) (t : Bool) → (before == own) ≡ t
       → addressed_since since (Some own) (if t then own_since else i) a notes ≡ (if not t then [] else addressed_since since (Some before) own_since a notes)
-  to_either since before own true e = ap (λ (x : ℕ). addressed_since since (Some x) own_since a notes) (sym (eqb-true before own e))
-  to_either since before own false e = none_to since own
+  to_either since before own t e = grind (arith, eqb-true, none_to)
 
   by_command : (since before own : Option ℕ)
       → addressed_since since own (since_own i own_since before own) a notes ≡ (if not (same_own before own) then [] else addressed_since since before own_since a notes)
-  by_command since None None = no_address since i a notes ∙ sym (no_address since own_since a notes)
-  by_command since (Some before) None = no_address since own_since a notes
-  by_command since None (Some own) = none_to since own
-  by_command since (Some before) (Some own) = to_either since before own (before == own) refl
+  by_command since before own = grind (arith, no_address, none_to, to_either)
 
 pub commands_move_traces : CommandsMoveTraces
 commands_move_traces c s h m source address = record {
