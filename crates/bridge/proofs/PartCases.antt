@@ -1,5 +1,6 @@
 -- Computed: the parts beside the gateway.
 use Rattle.std.proofs.Common.{refl}
+use Rattle.datagram450.specs.Datagram.{sentence_datagram}
 use Rattle.bridge.specs.PartCases.{AskedTwice, AskedEarly, AskedByNobody, FieldsComeAndGo, ShipAcrossAClaim, FirstOfTwoIsTold, AddressIsNoChange, TwoSentences, PlainComesLast}
 use Rattle.history.proofs.Computed.{cases}
 
@@ -16,7 +17,7 @@ unfolding cases
 asked_by_nobody = refl
 
 pub fields_come_and_go : FieldsComeAndGo
-unfolding cases
+unfolding cases sentence_datagram
 fields_come_and_go = refl
 
 pub ship_across_a_claim : ShipAcrossAClaim
@@ -36,5 +37,5 @@ unfolding cases
 two_sentences = refl
 
 pub plain_comes_last : PlainComesLast
-unfolding cases
+unfolding cases sentence_datagram
 plain_comes_last = refl
