@@ -24,7 +24,7 @@ use Rattle.capture_text.specs.EventLaws.{EventsAreReadBack, Fits, FramesFit, Sta
 use Rattle.capture_text.specs.Reading.{read}
 use Rattle.gate_events.specs.declared.emit.Emit.{Emit}
 use Rattle.gate_events.specs.declared.emit.Emit.TheVariants as emit
-use Rattle.capture_text.specs.Writing.{time_text, frame_text, datagram_text, event_text, most_received, said, start_mark}
+use Rattle.capture_text.specs.Writing.{time_text, frame_text, datagram_text, event_text, most_recorded, said, start_mark}
 use Rattle.gate_events.specs.Emit.{CanWrite}
 use Rattle.capture_text.proofs.Data.{written_digits}
 use Rattle.capture_text.proofs.Laws.{again, found}
@@ -206,6 +206,6 @@ pub net_again : (emitted : Emit) (group : List ℕ) (bytes : Bor (List ℕ)) (mo
     → before ≡ time_text moment → line ≡ before ++ datagram_text group bytes.now → moment < 10 ^ 16 → SaysAgain emitted moment line
 net_again emitted group bytes moment before line is can fit starts text early =
     let few : CanWrite (emit.Net group bytes) = subst CanWrite is can in
-    let short : length bytes.now ≤ most_received = omega (arith, few) in
+    let short : length bytes.now ≤ most_recorded = omega (arith, few) in
     let whole : line ≡ time_text moment ++ datagram_text group bytes.now = text ∙ ap (λ (x : List ℕ). x ++ datagram_text group bytes.now) starts in
     subst (λ (x : Emit). SaysAgain x moment line) (sym is) (subst (SaysAgain (emit.Net group bytes) moment) (sym whole) (datagram_again moment group bytes.now early fit.0 (short, fit.1)))

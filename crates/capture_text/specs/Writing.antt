@@ -70,12 +70,12 @@ event_text group (tick moment) = time_text moment ++ codes "tick"
 abbrev pub start_mark : List ℕ
 start_mark = codes " start"
 
--- the most bytes of a datagram that a link gives
-abbrev pub most_received : ℕ
-most_received = 1500
+-- the most bytes of a datagram whose line is read back
+abbrev pub most_recorded : ℕ
+most_recorded = 1500
 
--- a frame is valid, and a datagram isn't longer than a link gives one
+-- a frame is valid, and a datagram isn't longer
 abbrev pub CanRecord : Event → Type 0
 CanRecord (event.Frame moment f) = IsFrame f
-CanRecord (event.Datagram moment bytes) = length bytes.now ≤ most_received
+CanRecord (event.Datagram moment bytes) = length bytes.now ≤ most_recorded
 CanRecord (event.Tick moment) = Unit {0}

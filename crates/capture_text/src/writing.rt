@@ -7,7 +7,7 @@ ghost use Rattle.sentence_text.specs.Names.{IsGroup};
 ghost use Rattle.unit_fraction.specs.Text.{decimal_text};
 ghost use Rattle.capture_text.specs.Capture.{IsLine, longest_line};
 ghost use Rattle.capture_text.specs.Reading.{read};
-ghost use Rattle.capture_text.specs.Writing.{CanRecord, time_text, detail_text, report_text, frame_text, datagram_text, event_text, line_text, most_received, said};
+ghost use Rattle.capture_text.specs.Writing.{CanRecord, time_text, detail_text, report_text, frame_text, datagram_text, event_text, line_text, most_recorded, said};
 ghost use Rattle.gate_events.specs.Emit.{CanWrite};
 ghost use Rattle.gate_events.specs.Event.{moment_in, view};
 
@@ -215,7 +215,7 @@ fn datagram_head(group: &Group) -> [u8; 10]
 }
 
 fn append_datagram(group: &Group, bytes: &[u8], out: &mut Line)
-    requires few { length bytes.now ≤ most_received }
+    requires few { length bytes.now ≤ most_recorded }
     requires room { array_vec_len out.old ≤ 1000 }
     ensures text { out.new.items ≡ out.old.items ++ datagram_text group.now bytes.now }
     ensures len { array_vec_len out.new ≤ array_vec_len out.old + 3010 }

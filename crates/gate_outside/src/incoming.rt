@@ -2,10 +2,14 @@
 ghost use Rattle.std.specs.Prelude.{map, All};
 ghost use Rattle.gate_outside.specs.LinkMemory.{arrival_of, arrival_at, IsArrival, IsArrivalThere};
 
-use crate::Arrival;
+use crate::{Arrival, LARGEST_ARRIVAL};
 
 /// The arrival at a place of the script, into the front of the buffer.
-pub(crate) fn arrival_at(script: &[Option<Vec<u8>>], place: u64, buf: &mut [u8; 1500]) -> Arrival
+pub(crate) fn arrival_at(
+    script: &[Option<Vec<u8>>],
+    place: u64,
+    buf: &mut [u8; LARGEST_ARRIVAL],
+) -> Arrival
     requires { All IsArrival script.now }
     ensures { IsArrivalThere buf.new (arrival_at (map arrival_of script.now) place) result }
 {

@@ -35,7 +35,7 @@ mod supply;
 
 pub use clock::Clock;
 pub use files::{Files, LARGEST_FILE};
-pub use link::{Arrival, Link};
+pub use link::{Arrival, LARGEST_ARRIVAL, Link};
 pub use load_fault::LoadFault;
 pub use mem_clock::MemClock;
 pub use mem_files::MemFiles;

@@ -6,6 +6,9 @@ ghost use Rattle.gate_outside.specs.Link.{longest_address, Traffic, Attaches, Re
 use crate::{Failed, Routes};
 use sentence_text::Group;
 
+/// How many bytes the buffer of a receive has.
+pub const LARGEST_ARRIVAL: usize = 1_500;
+
 /// What a receive gave.
 #[derive(Clone, Copy, Debug, PartialEq, Eq)]
 pub enum Arrival {
@@ -34,7 +37,7 @@ pub trait Link {
         ensures cause { HasCause (fault_count self.old) (fault_count self.new) result };
 
     /// Gives the next arrival, at the front of the buffer, if one has come.
-    fn receive(&mut self, buf: &mut [u8; 1500]) -> Result<Arrival, Failed>
+    fn receive(&mut self, buf: &mut [u8; LARGEST_ARRIVAL]) -> Result<Arrival, Failed>
         ensures fits { Fits buf.new result }
         ensures told { Receives buf.new (traffic self.old) (traffic self.new) result }
         ensures cause { HasCause (fault_count self.old) (fault_count self.new) result };

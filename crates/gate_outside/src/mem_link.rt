@@ -3,7 +3,7 @@ use crate::attached::Attached;
 use crate::failures::Failures;
 use crate::handover::Handover;
 use crate::incoming::arrival_at;
-use crate::{Arrival, Failed, Link, Routes};
+use crate::{Arrival, Failed, LARGEST_ARRIVAL, Link, Routes};
 use sentence_text::Group;
 use std::alloc::{AllocError, Global};
 use std::marker::Model;
@@ -133,7 +133,7 @@ impl Link for MemLink {
     }
 
     #[tactic(auto, using(crate::proofs::Numbered::told_received, crate::proofs::Numbered::still_counted))]
-    fn receive(&mut self, buf: &mut [u8; 1500]) -> Result<Arrival, Failed>
+    fn receive(&mut self, buf: &mut [u8; LARGEST_ARRIVAL]) -> Result<Arrival, Failed>
         ensures fits { Fits buf.new result }
         ensures told { Receives buf.new (mem_traffic_of self.old) (mem_traffic_of self.new) result }
         ensures cause { HasCause (link_faults self.old) (link_faults self.new) result }

@@ -2,7 +2,7 @@
 use crate::attached::Attached;
 use crate::handover::Handover;
 use crate::incoming::arrival_at;
-use crate::{Arrival, Failed, Link, Routes};
+use crate::{Arrival, Failed, LARGEST_ARRIVAL, Link, Routes};
 use sentence_text::Group;
 use std::alloc::{AllocError, Global};
 use std::marker::Model;
@@ -96,7 +96,7 @@ impl Link for QuietLink {
         Ok(())
     }
 
-    fn receive(&mut self, buf: &mut [u8; 1500]) -> Result<Arrival, Failed> {
+    fn receive(&mut self, buf: &mut [u8; LARGEST_ARRIVAL]) -> Result<Arrival, Failed> {
         let arrival = arrival_at(&self.script, self.receives, buf);
         match self.receives.checked_add(1) {
             Some(receives) => self.receives = receives,

@@ -5,7 +5,7 @@ ghost use Rattle.gate_outside.specs.Link.{Fits};
 ghost use Rattle.live_outside.specs.Failures.{IsSilence};
 
 use crate::destinations::Destinations;
-use gate_outside::{Arrival, Failed};
+use gate_outside::{Arrival, Failed, LARGEST_ARRIVAL};
 use network_routes::Routes;
 use sentence_text::Group;
 use std::io;
@@ -81,7 +81,11 @@ impl Socket {
     }
 
     /// The next datagram, of which the first 1500 bytes are taken.
-    pub(crate) fn receive(&mut self, buf: &mut [u8; 1500], waits: bool) -> Result<Arrival, Failed>
+    pub(crate) fn receive(
+        &mut self,
+        buf: &mut [u8; LARGEST_ARRIVAL],
+        waits: bool,
+    ) -> Result<Arrival, Failed>
         ensures { Fits buf.new result }
     {
         if self.set_waiting(waits).is_err() {

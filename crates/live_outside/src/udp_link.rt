@@ -1,7 +1,7 @@
 //! A link over UDP.
 use crate::activity::{Activity, Patience, Side};
 use crate::socket::{LONGEST_WAIT_MS, Socket};
-use gate_outside::{Arrival, Failed, Link};
+use gate_outside::{Arrival, Failed, LARGEST_ARRIVAL, Link};
 use network_routes::{Address, Routes};
 use sentence_text::Group;
 use std::io::ErrorKind;
@@ -122,7 +122,7 @@ impl<'a, R: Net + Clock> Link for UdpLink<'a, R> {
         }
     }
 
-    fn receive(&mut self, buf: &mut [u8; 1500]) -> Result<Arrival, Failed> {
+    fn receive(&mut self, buf: &mut [u8; LARGEST_ARRIVAL]) -> Result<Arrival, Failed> {
         let patience = self.side.patience();
         let arrival = match &mut self.socket {
             Some(socket) => socket.receive(buf, patience == Patience::Wait),

@@ -1,7 +1,8 @@
 //! What no clause says: that the makers find memory, and the texts of faults.
 use gate_outside::{
-    Arrival, Failed, Files, Link, LoadFault, MemFiles, MemLink, MemSink, MemSource, QuietFiles,
-    QuietLink, QuietSink, QuietSource, ReaderSource, Sink, Source, WriterSink,
+    Arrival, Failed, Files, LARGEST_ARRIVAL, Link, LoadFault, MemFiles, MemLink, MemSink,
+    MemSource, QuietFiles, QuietLink, QuietSink, QuietSource, ReaderSource, Sink, Source,
+    WriterSink,
 };
 use network_routes::{Address, Routes};
 use sentence_text::Group;
@@ -71,7 +72,7 @@ fn sends<L: Link>(link: &mut L, pieces: &[(&[u8], Result<(), Failed>)]) -> bool 
 
 /// Whether the next receives answer so.
 fn receives<L: Link>(link: &mut L, answers: &[Result<Arrival, Failed>]) -> bool {
-    let mut buf = [0; 1500];
+    let mut buf = [0; LARGEST_ARRIVAL];
     for answer in answers {
         if link.receive(&mut buf) != *answer {
             return false;
@@ -203,7 +204,7 @@ fn failing_link(alloc: Global, unattached: bool) -> Result<MemLink, Fail> {
 fn a_failed_receive_takes_nothing_from_the_script(rt: HostRuntime) -> Result<(), Fail> {
     let mut link = failing_link(rt.alloc(), false)?;
     assert!(rt; receives(&mut link, &[Err(Failed)]));
-    let mut buf = [0; 1500];
+    let mut buf = [0; LARGEST_ARRIVAL];
     assert!(rt; link.receive(&mut buf) == Ok(Arrival::Bytes(3)) && buf.starts_with(b"one"));
     assert!(rt; receives(&mut link, &[Ok(Arrival::Nothing)]));
     Ok(())

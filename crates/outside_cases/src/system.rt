@@ -3,7 +3,7 @@ ghost use Rattle.std.specs.Prelude.{◌≤◌, length};
 ghost use Rattle.gate_outside.specs.Link.{longest_address};
 
 use arrayvec::ArrayVec;
-use gate_outside::{Arrival, Clock, Failed, Files, Link, LoadFault};
+use gate_outside::{Arrival, Clock, Failed, Files, LARGEST_ARRIVAL, Link, LoadFault};
 use live_outside::{Activity, DiskFiles, SystemClock, ToldWriter, UdpLink};
 use network_routes::{Address, Route, Routes};
 use sentence_text::Group;
@@ -156,7 +156,7 @@ fn arrives(
     (sent, count): (usize, usize),
 ) -> Result<bool, Fail> {
     let bytes = [b'a'; 1501];
-    let mut buf = [0; 1500];
+    let mut buf = [0; LARGEST_ARRIVAL];
     peer.send_to(bytes.get(..sent).unwrap_or(&[]), from)?;
     let arrival = link.receive(&mut buf);
     Ok(arrival == Ok(Arrival::Bytes(count)) && buf.get(..count) == bytes.get(..count))
@@ -172,7 +172,7 @@ fn datagrams_move_each_way(rt: HostRuntime) -> Result<(), Fail> {
     for arrival in &ARRIVALS {
         assert!(rt; arrives(&mut link, &peer, from, *arrival)?);
     }
-    assert!(rt; link.receive(&mut [0; 1500]) == Ok(Arrival::Nothing));
+    assert!(rt; link.receive(&mut [0; LARGEST_ARRIVAL]) == Ok(Arrival::Nothing));
     Ok(())
 }
 
@@ -221,7 +221,7 @@ fn a_link_that_listens_nowhere_fails(rt: HostRuntime) -> Result<(), Fail> {
         )
     );
     assert!(rt; is_refused(&mut link, &taken, &routes, ErrorKind::AddrInUse));
-    assert!(rt; link.receive(&mut [0; 1500]) == Err(Failed));
+    assert!(rt; link.receive(&mut [0; LARGEST_ARRIVAL]) == Err(Failed));
     assert!(rt; link.faults() == 4);
     Ok(())
 }
@@ -273,7 +273,7 @@ fn send(peer: &UdpSocket, to: SocketAddr, count: u32) -> Result<(), Fail> {
 
 // How many arrivals a receive has: one or none.
 fn count_of(link: &mut UdpLink<'_, HostRuntime>) -> u32 {
-    match link.receive(&mut [0; 1500]) {
+    match link.receive(&mut [0; LARGEST_ARRIVAL]) {
         Ok(Arrival::Bytes(_)) => 1,
         _ => 0,
     }

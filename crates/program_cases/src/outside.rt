@@ -2,7 +2,9 @@
 ghost use Rattle.std.specs.Prelude.{All, IfOk};
 ghost use Rattle.gate_outside.specs.LinkMemory.{IsArrival};
 
-use gate_outside::{MemClock, MemFiles, MemLink, MemSink, MemSource, Sink, Source};
+use gate_outside::{
+    LARGEST_ARRIVAL, MemClock, MemFiles, MemLink, MemSink, MemSource, Sink, Source,
+};
 use gateway_commands::run;
 use std::alloc::{AllocError, Global};
 
@@ -108,7 +110,7 @@ fn arrival(alloc: Global, coming: &Coming) -> Result<Option<Vec<u8>>, AllocError
     ensures { IfOk result IsArrival }
 {
     match coming {
-        Some(bytes) if bytes.len() <= 1500 => Ok(Some(bytes.to_vec(alloc)?)),
+        Some(bytes) if bytes.len() <= LARGEST_ARRIVAL => Ok(Some(bytes.to_vec(alloc)?)),
         _ => Ok(None),
     }
 }

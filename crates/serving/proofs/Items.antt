@@ -9,10 +9,11 @@ use Rattle.report_rules.specs.Rules as rules
 use Rattle.gate_events.specs.declared.emit.Detail.TheVariants as detail
 use Rattle.gate_events.specs.declared.emit.Report.{Report}
 use Rattle.hex.specs.Hex.{IsBytes}
-use Rattle.capture_text.specs.Writing.{frame_text, most_received, time_text}
+use Rattle.capture_text.specs.Writing.{frame_text, time_text}
 use Rattle.gate_outside.specs.declared.Failed.{Failed}
 use Rattle.gate_outside.specs.Faults.{Rose}
 use Rattle.gate_outside.specs.Link.{GoesOn, Handed, Outcome, Traffic, failed_also, handed_also, received_also}
+use Rattle.gate_outside.specs.LinkMemory.{largest_arrival}
 use Rattle.gate_outside.specs.Told.{Joins}
 use Rattle.capture_stream.proofs.WriterLemmas.{Joins-nil, Joins-then}
 use Rattle.gate_events.specs.Emit as emits
@@ -58,7 +59,7 @@ bytes_front (suc count) (x ∷ bytes) are zero = are zero
 bytes_front (suc count) (x ∷ bytes) are (suc i) = bytes_front count bytes (λ (k : ℕ). are (suc k)) i
 
 -- what is at the front of a buffer of as many bytes as a link gives
-pub net_fits : (count : ℕ) (buffer : List ℕ) → length buffer ≡ most_received → IsBytes buffer → NetFits (Ok (Some (take count buffer)))
+pub net_fits : (count : ℕ) (buffer : List ℕ) → length buffer ≡ largest_arrival → IsBytes buffer → NetFits (Ok (Some (take count buffer)))
 net_fits count buffer long are = (omega (arith, length-take count buffer, long), bytes_front count buffer are)
 
 -- ---- a send

@@ -5,9 +5,10 @@ use Rattle.report_rules.specs.Rules as rules
 use Rattle.gate_events.specs.declared.emit.Detail.TheVariants as detail
 use Rattle.gate_events.specs.declared.emit.Report.{Report}
 use Rattle.hex.specs.Hex.{IsBytes}
-use Rattle.capture_text.specs.Writing.{time_text, frame_text, most_received}
+use Rattle.capture_text.specs.Writing.{time_text, frame_text}
 use Rattle.gate_outside.specs.Faults.{Rose}
 use Rattle.gate_outside.specs.Link.{GoesOn, Handed, Outcome, Traffic}
+use Rattle.gate_outside.specs.LinkMemory.{largest_arrival}
 use Rattle.gate_outside.specs.Told.{Joins}
 use Rattle.gate_events.specs.Emit as emits
 use Rattle.gate_events.specs.Emit.{Emit, Emitted}
@@ -188,7 +189,7 @@ IsFront front all = (rest : List Item) × (all ≡ front ++ rest)
 
 -- what a receive on the network gave is no longer than a link gives it, and bytes
 abbrev pub NetFits : Outcome → Type 0
-NetFits (Ok (Some bytes)) = (length bytes ≤ most_received) × IsBytes bytes
+NetFits (Ok (Some bytes)) = (length bytes ≤ largest_arrival) × IsBytes bytes
 NetFits (Ok None) = Unit {0}
 NetFits (Err e) = Unit {0}
 

@@ -10,7 +10,7 @@ ghost use Rattle.serving.specs.Turns.{from_bus, refused, line_says, text_of};
 
 use capture_text::read_line;
 use gate_events::{Detail, Event, Report};
-use gate_outside::{Arrival, Failed, Link};
+use gate_outside::{Arrival, Failed, LARGEST_ARRIVAL, Link};
 use n2k_id::Frame;
 use report_rules::{CAPTURE_FORM, RECEIVE_FAILED};
 
@@ -20,7 +20,7 @@ pub(crate) fn receive_frame<B: Link>(number: u64, bus: &mut B) -> Result<Option<
         × ((m : ℕ) → frame_came m result ≡ from_bus m number outcome) }
     ensures valid { IfOk result (λ frame. IfSome frame IsFrame) }
 {
-    let mut buffer = [0; 1500];
+    let mut buffer = [0; LARGEST_ARRIVAL];
     match bus.receive(&mut buffer) {
         Ok(Arrival::Bytes(count)) => match frame_in(number, text_of(&buffer[..count])) {
             Ok(frame) => Ok(Some(frame)),

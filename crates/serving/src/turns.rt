@@ -16,7 +16,7 @@ use crate::handing::{hand_on, write_report};
 use crate::recording::{record_event, record_start};
 use bridge::Bridge;
 use gate_events::{Detail, Event, Report};
-use gate_outside::{Arrival, Clock, Failed, Link, Sink};
+use gate_outside::{Arrival, Clock, Failed, LARGEST_ARRIVAL, Link, Sink};
 use report_rules::RECEIVE_FAILED;
 use statuses::Status;
 
@@ -182,7 +182,7 @@ fn hear_net<K: Sink, B: Link, E: Link>(
         (outside (B.traffic bus.new) (E.traffic net.new) (K.taken out.new) (K.fault_count out.new)) result }
     ensures started { bridge.new.started ≡ true }
 {
-    let mut buffer = [0; 1500];
+    let mut buffer = [0; LARGEST_ARRIVAL];
     match net.receive(&mut buffer) {
         Ok(Arrival::Bytes(count)) => {
             let bytes = front(&buffer, count);
