@@ -5,12 +5,12 @@ use Rattle.n2k_id.specs.Frame.{BusFrame}
 use Rattle.sentence_text.specs.Names.{IsGroup}
 use Rattle.gate_events.specs.Event.{Seen, frame, datagram, tick, moment_in}
 use Rattle.capture_text.specs.Reading.{read}
-use Rattle.capture_text.specs.Writing.{event_text, most_recorded, start_mark}
+use Rattle.capture_text.specs.Writing.{IsShort, event_text, start_mark}
 
--- a frame of 29 bits of identifier and at most eight bytes, or a datagram of no more bytes than are recorded
+-- a frame of 29 bits of identifier and at most eight bytes, or a short datagram
 abbrev pub Fits : Seen → Type 0
 Fits (frame moment f) = (f.id < 2 ^ 29) × (length f.held ≤ 8) × IsBytes f.held
-Fits (datagram moment bytes) = (length bytes ≤ most_recorded) × IsBytes bytes
+Fits (datagram moment bytes) = IsShort (datagram moment bytes) × IsBytes bytes
 Fits (tick moment) = Unit {0}
 
 -- below 10^16 microseconds, under any group

@@ -4,7 +4,7 @@ use Rattle.std.specs.Fmt.{decimal}
 use Rattle.std.specs.Int.{w32, to_be_bytes}
 use Rattle.hex.specs.Hex.{encode_upper}
 use Rattle.unit_fraction.specs.Text.{decimal_text}
-use Rattle.n2k_id.specs.Frame.{BusFrame, IsFrame, bus_frame}
+use Rattle.n2k_id.specs.Frame.{BusFrame, bus_frame}
 use Rattle.readings.specs.Rows.{about_of}
 use Rattle.gate_events.specs.declared.emit.Detail.{Detail}
 use Rattle.gate_events.specs.declared.emit.Detail.TheVariants as detail
@@ -12,8 +12,7 @@ use Rattle.gate_events.specs.declared.emit.Report.{Report}
 use Rattle.gate_events.specs.declared.emit.Emit.{Emit}
 use Rattle.gate_events.specs.declared.emit.Emit.TheVariants as emit
 use Rattle.gate_events.specs.declared.event.Event.{Event}
-use Rattle.gate_events.specs.declared.event.Event.TheVariants as event
-use Rattle.gate_events.specs.Event.{Seen, frame, datagram, tick}
+use Rattle.gate_events.specs.Event.{IsValid, Seen, frame, datagram, tick, view}
 
 -- the seconds and six digits of microseconds in parentheses, and a space
 abbrev pub time_text : ℕ → List ℕ
@@ -74,8 +73,12 @@ start_mark = codes " start"
 abbrev pub most_recorded : ℕ
 most_recorded = 1500
 
--- a frame is valid, and a datagram isn't longer
+-- a datagram isn't longer
+abbrev pub IsShort : Seen → Type 0
+IsShort (frame moment f) = Unit {0}
+IsShort (datagram moment bytes) = length bytes ≤ most_recorded
+IsShort (tick moment) = Unit {0}
+
+-- it is valid, and short
 abbrev pub CanRecord : Event → Type 0
-CanRecord (event.Frame moment f) = IsFrame f
-CanRecord (event.Datagram moment bytes) = length bytes.now ≤ most_recorded
-CanRecord (event.Tick moment) = Unit {0}
+CanRecord e = IsValid e × IsShort (view e)

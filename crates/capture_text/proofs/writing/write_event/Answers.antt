@@ -12,7 +12,7 @@ returns-in-Frame-clause-again c =
     let f = c.in-Frame.frame in
     event_said c.args.event.now (event.Frame m f) c.moment.result c.append_time.new.out.items (frame_text (bus_frame f)) c.append_frame.new.out.items
     c.in-Frame.is c.moment.ensures c.append_time.ensures.text c.append_frame.ensures.text
-    (λ early. frame_again m (bus_frame f) early (frame_fits m f (subst CanRecord c.in-Frame.is c.requires.can) c.append_frame.ensures.fit))
+    (λ early. frame_again m (bus_frame f) early (frame_fits m f ((subst CanRecord c.in-Frame.is c.requires.can).0) c.append_frame.ensures.fit))
 
 pub returns-in-Datagram-clause-again : goal.returns-in-Datagram-clause-again
 returns-in-Datagram-clause-again c =
@@ -21,7 +21,7 @@ returns-in-Datagram-clause-again c =
     let fit = c.append_datagram.ensures.fit in
     event_said c.args.event.now (event.Datagram m bytes) c.moment.result c.append_time.new.out.items (datagram_text c.args.group bytes.now)
     c.append_datagram.new.out.items c.in-Datagram.is c.moment.ensures c.append_time.ensures.text c.append_datagram.ensures.text
-    (λ early. datagram_again m c.args.group bytes.now early fit.0 (subst CanRecord c.in-Datagram.is c.requires.can, fit.1))
+    (λ early. datagram_again m c.args.group bytes.now early fit.0 ((subst CanRecord c.in-Datagram.is c.requires.can).1, fit.1))
 
 pub returns-in-Tick-clause-again : goal.returns-in-Tick-clause-again
 returns-in-Tick-clause-again c =
