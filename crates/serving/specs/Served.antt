@@ -49,6 +49,12 @@ all_due tried = map (λ t. t.due) tried
 
 -- ---- where an item goes
 
+-- what is made of it: of what was emitted, by its moment, and of a recorded line
+abbrev pub of_item : {X : Type 0} → (ℕ → Emit → X) → (List ℕ → X) → Item → X
+of_item emitted line (made e) = emitted e.moment e.emit
+of_item emitted line (told e) = emitted e.moment e.emit
+of_item emitted line (recorded text) = line text
+
 -- a frame goes to the bus as its line of a capture, under the group CAN0
 abbrev pub on_bus : ℕ → Emit → List Handed
 on_bus m (emits.can f) = (codes "CAN0", time_text m ++ frame_text f) ∷ []
@@ -56,10 +62,10 @@ on_bus m (emits.net group bytes) = []
 on_bus m (emits.report r) = []
 
 -- a datagram goes to the network under its group
-abbrev pub on_net : Emit → List Handed
-on_net (emits.can f) = []
-on_net (emits.net group bytes) = (group, bytes) ∷ []
-on_net (emits.report r) = []
+abbrev pub on_net : ℕ → Emit → List Handed
+on_net m (emits.can f) = []
+on_net m (emits.net group bytes) = (group, bytes) ∷ []
+on_net m (emits.report r) = []
 
 -- a report is a line of text
 abbrev pub as_text : ℕ → Emit → List ℕ
@@ -68,20 +74,14 @@ as_text m (emits.net group bytes) = []
 as_text m (emits.report r) = line_of (record { moment = m; emit = emits.report r })
 
 abbrev pub item_on_bus : Item → List Handed
-item_on_bus (made e) = on_bus e.moment e.emit
-item_on_bus (told e) = on_bus e.moment e.emit
-item_on_bus (recorded line) = []
+item_on_bus i = of_item on_bus (λ line. []) i
 
 abbrev pub item_on_net : Item → List Handed
-item_on_net (made e) = on_net e.emit
-item_on_net (told e) = on_net e.emit
-item_on_net (recorded line) = []
+item_on_net i = of_item on_net (λ line. []) i
 
 -- a recorded line is one of the text too
 abbrev pub item_as_text : Item → List ℕ
-item_as_text (made e) = as_text e.moment e.emit
-item_as_text (told e) = as_text e.moment e.emit
-item_as_text (recorded line) = line ++ 10 ∷ []
+item_as_text i = of_item as_text (λ line. line ++ 10 ∷ []) i
 
 abbrev pub to_bus : Tried → List Handed
 to_bus t = item_on_bus (item_of t)
@@ -92,33 +92,12 @@ to_net t = item_on_net (item_of t)
 abbrev pub to_text : Tried → List ℕ
 to_text t = item_as_text (item_of t)
 
--- ---- whether each send of a link failed
-
-abbrev pub bus_sent : Bool → Emit → List Bool
-bus_sent failed (emits.can f) = failed ∷ []
-bus_sent failed (emits.net group bytes) = []
-bus_sent failed (emits.report r) = []
-
-abbrev pub net_sent : Bool → Emit → List Bool
-net_sent failed (emits.can f) = []
-net_sent failed (emits.net group bytes) = failed ∷ []
-net_sent failed (emits.report r) = []
-
-abbrev pub item_bus_sent : Bool → Item → List Bool
-item_bus_sent failed (made e) = bus_sent failed e.emit
-item_bus_sent failed (told e) = bus_sent failed e.emit
-item_bus_sent failed (recorded line) = []
-
-abbrev pub item_net_sent : Bool → Item → List Bool
-item_net_sent failed (made e) = net_sent failed e.emit
-item_net_sent failed (told e) = net_sent failed e.emit
-item_net_sent failed (recorded line) = []
-
+-- whether each send of a link failed: there was one for what was to go there
 abbrev pub bus_sends : Tried → List Bool
-bus_sends t = item_bus_sent t.failed t.due
+bus_sends t = map (λ pair. t.failed) (item_on_bus t.due)
 
 abbrev pub net_sends : Tried → List Bool
-net_sends t = item_net_sent t.failed t.due
+net_sends t = map (λ pair. t.failed) (item_on_net t.due)
 
 -- ---- what is told of the links and of the sink
 
