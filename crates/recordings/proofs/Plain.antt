@@ -1,10 +1,12 @@
 -- The bytes of recorded lines: none is an LF, and none an `l`, so no line holds the word of a report.
-use Rattle.std.proofs.Common.{◌≡◌, ℕ, ◌^◌, ◌<◌, Bool, true, false, not, List, [], ◌∷◌, ◌++◌, refl, ap, ◌∙◌, append_assoc, arith}
-use Rattle.std.specs.Prelude.{◌&&◌, ◌||◌, ◌==◌, codes}
+use Rattle.std.proofs.Common.{◌≡◌, ℕ, ◌^◌, ◌<◌, Bool, true, false, not, List, [], ◌∷◌, ◌++◌, drop, length, take, refl, sym, ap, ◌∙◌, append_assoc, arith}
+use Rattle.std.specs.Prelude.{◌&&◌, ◌||◌, ◌==◌, codes, nat_eq}
 use Rattle.std.specs.Char.{is_ascii_digit, is_ascii_hexdigit}
 use Rattle.std.specs.Int.{w32, to_be_bytes}
-use Rattle.std.specs.List.{list_all}
-use Rattle.std.proofs.lemmas.Bool.{and_parts, eqb-true}
+use Rattle.std.specs.List.{list_all, starts_with}
+use Rattle.std.specs.Cmp.Lexicographic.{same_text}
+use Rattle.std.proofs.lemmas.Bool.{and_parts}
+use Rattle.std.proofs.lemmas.List.{take-append-drop}
 use Rattle.hex.specs.Hex.{IsBytes, encode_upper}
 use Rattle.hex.proofs.HexLemmas.{decode_of-encode_upper}
 use Rattle.sentence_text.proofs.Bytes.{all_append, all_parts, all_weaker}
@@ -19,7 +21,7 @@ use Rattle.capture_text.proofs.Again.{number_bytes}
 use Rattle.capture_text.proofs.Data.{written_digits}
 use Rattle.capture_text.proofs.Numbers.{all_digits}
 use Rattle.serving.specs.Turns.{event_line, received, start_line}
-use Rattle.recordings.specs.Told.{begins, is_one_line, is_report}
+use Rattle.recordings.specs.Told.{is_one_line, is_report}
 
 -- neither an LF nor an `l`
 abbrev pub is_plain : ℕ → Bool
@@ -76,19 +78,16 @@ pub plain_is_one_line : (line : List ℕ) → IsPlain line → is_one_line line 
 plain_is_one_line line plain = all_weaker is_plain (λ c. not (c == 10)) one_byte line plain
 
 -- a word with which a plain line begins is plain
-word_is_plain : (word line : List ℕ) → IsPlain line → begins word line ≡ true → IsPlain word
-word_is_plain [] line plain is = refl
-word_is_plain (w ∷ word) [] plain is = absurd (cc)
-word_is_plain (w ∷ word) (c ∷ line) plain is =
-    let here = and_parts (is_plain c) (list_all is_plain line) plain in
-    let same = and_parts (w == c) (begins word line) is in
-    let w_is = ap is_plain (eqb-true w c same.0) ∙ here.0 in
-    ap (λ (b : Bool). b && list_all is_plain word) w_is ∙ word_is_plain word line here.1 same.1
+word_is_plain : (word line : List ℕ) → IsPlain line → starts_with nat_eq line word ≡ true → IsPlain word
+word_is_plain word line plain is =
+    let n = length word in
+    let front = all_parts is_plain (take n line) (drop n line) (ap (λ (x : List ℕ). list_all is_plain x) (take-append-drop n line) ∙ plain) in
+    ap (λ (x : List ℕ). list_all is_plain x) (same_text word (take n line) (sym is)) ∙ front.0
 
-no_word : (line : List ℕ) → IsPlain line → begins (codes " rule ") line ≡ false
-no_word line plain = by (begins (codes " rule ") line) refl
+no_word : (line : List ℕ) → IsPlain line → starts_with nat_eq line (codes " rule ") ≡ false
+no_word line plain = by (starts_with nat_eq line (codes " rule ")) refl
   where
-    by : (b : Bool) → begins (codes " rule ") line ≡ b → b ≡ false
+    by : (b : Bool) → starts_with nat_eq line (codes " rule ") ≡ b → b ≡ false
     by false is = refl
     by true is = let wrong : false ≡ true = word_is_plain (codes " rule ") line plain is in absurd (cc)
 
@@ -107,7 +106,8 @@ or_true false = refl
 report_behind : (front text : List ℕ) → is_report text ≡ true → is_report (front ++ text) ≡ true
 report_behind [] text is = is
 report_behind (c ∷ front) text is =
-    ap (λ (b : Bool). begins (codes " rule ") (c ∷ (front ++ text)) || b) (report_behind front text is) ∙ or_true (begins (codes " rule ") (c ∷ (front ++ text)))
+    let word = starts_with nat_eq (c ∷ (front ++ text)) (codes " rule ") in
+    ap (λ (b : Bool). word || b) (report_behind front text is) ∙ or_true word
 
 -- a time and the word behind it
 pub times_report : (m : ℕ) (rest : List ℕ) → is_report (time_text m ++ (codes "rule " ++ rest)) ≡ true

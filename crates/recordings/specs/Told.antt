@@ -1,6 +1,6 @@
 -- How the recording is told from the reports in what a run writes: a report holds the word `rule` between two spaces, and no recorded line does.
-use Rattle.std.specs.Prelude.{◌≡◌, ℕ, Bool, true, false, ◌&&◌, ◌||◌, ◌==◌, not, List, [], ◌∷◌, ◌++◌, codes, filter, map}
-use Rattle.std.specs.List.{AllByRecursion, flat_map, list_all}
+use Rattle.std.specs.Prelude.{◌≡◌, ℕ, Bool, true, false, ◌||◌, nat_eq, not, List, [], ◌∷◌, ◌++◌, codes, filter, map}
+use Rattle.std.specs.List.{AllByRecursion, flat_map, list_all, starts_with}
 use Rattle.gate_events.specs.Emit as emits
 use Rattle.gate_events.specs.Emit.{Emit}
 use Rattle.capture_text.specs.Lines.{is_lf}
@@ -21,16 +21,10 @@ pub record AreLines (lines : List (List ℕ)) (text : List ℕ) : Type 0 where
 
 -- ---- reports among them
 
--- whether a text begins so
-abbrev pub begins : List ℕ → List ℕ → Bool
-begins [] text = true
-begins (w ∷ word) [] = false
-begins (w ∷ word) (c ∷ text) = (w == c) && begins word text
-
 -- whether the word of a report stands in it, with the spaces around it
 abbrev pub is_report : List ℕ → Bool
 is_report [] = false
-is_report (c ∷ text) = begins (codes " rule ") (c ∷ text) || is_report text
+is_report (c ∷ text) = starts_with nat_eq (c ∷ text) (codes " rule ") || is_report text
 
 abbrev pub without_reports : List (List ℕ) → List (List ℕ)
 without_reports lines = filter (λ line. not (is_report line)) lines
