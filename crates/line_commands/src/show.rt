@@ -287,7 +287,7 @@ pub(crate) fn send_event<K: Sink>(
 {
     match event {
         Event::Frame { frame, .. } => {
-            // As in convert.
+            // A frame of its own, so that the compiler needn't keep the moment that stands beside it.
             let frame = *frame;
             let mut text = ArrayVec::new();
             write_frame(number, &frame, &mut text);
