@@ -557,7 +557,7 @@ fn is_usual_product(settings: &Settings) -> bool {
 /// The settings of the own keys alone are the defaults.
 #[test]
 fn defaults(rt: HostRuntime) -> Result<(), Fail> {
-    let (settings, _) = read_whole(rt.alloc(), OWN.as_bytes())
+    let (settings, _further) = read_whole(rt.alloc(), OWN.as_bytes())
         .ok()
         .ok_or("the keys are those that have to be there")?;
     assert!(rt; has_usual_keys(&settings.config));

@@ -269,6 +269,7 @@ fn quantities_by_default(rt: HostRuntime) -> Result<(), Fail> {
     assert!(rt; quantities.slots == 16);
     let usual = quantities
         .each
+        .as_slice()
         .iter()
         .zip(TALKERS.chunks(2))
         .all(|(quantity, talker)| is_usual(quantity, talker));
@@ -291,12 +292,13 @@ talker = "TN"
     let quantities = quantities_of(rt.alloc(), more)?;
     let mut tanks = Pattern::default();
     tanks.class = Some(75);
-    let water = &quantities.each[15];
+    let each = quantities.each.as_slice();
+    let water = &each[15];
     assert!(rt; quantities.slots == 3);
     assert!(rt; water.sources.as_slice() == [tanks].as_slice());
     assert!(rt; !water.others);
     assert!(rt; water.timeout_ms == 60_000);
     assert!(rt; water.talker == *b"TN");
-    assert!(rt; is_usual(&quantities.each[14], b"II"));
+    assert!(rt; is_usual(&each[14], b"II"));
     Ok(())
 }

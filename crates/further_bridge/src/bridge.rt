@@ -84,7 +84,11 @@ impl FurtherBridge {
         ensures history { IfOk result (IsFurtherOpening (further_rule ignored.now.items quantities.now) sfi) }
     {
         let listener = BusListener::new(alloc, quantities.slots)?;
-        let choice = Choice::new(alloc, ADDRESSES as u16, &timeouts_of(&quantities.each))?;
+        let choice = Choice::new(
+            alloc,
+            ADDRESSES as u16,
+            &timeouts_of(quantities.each.as_slice()),
+        )?;
         let config = FurtherConfig::copy_of(quantities, ignored)?;
         Ok(FurtherBridge {
             config,

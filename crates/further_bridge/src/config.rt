@@ -1,14 +1,15 @@
 //! From whom further quantities are taken, and who says them.
-ghost use Rattle.std.specs.Prelude.{◌≡◌, ◌<◌, All, IfOk, IsTrue, length, map};
+ghost use Rattle.std.specs.Prelude.{◌≡◌, All, IfOk, IsTrue, length, map};
 ghost use Rattle.std.specs.List.{list_all};
 ghost use Rattle.sentence_text.specs.Byte.{is_capital};
+ghost use Rattle.quantities.specs.About.{number_of};
 ghost use Rattle.settings.specs.Further.{IsQuantity};
 ghost use Rattle.source_choice.specs.SubjectRules.{rank_of};
 ghost use Rattle.further_bridge.specs.FurtherRule.{further_rule, rule_at, rule_of_quantity, talker_at};
 
 use arrayvec::ArrayVec;
 use n2k_id::{Name, Pattern};
-use quantities::QUANTITIES;
+use quantities::{QUANTITIES, Quantity};
 use sentence_text::Group;
 use settings::{Quantities, QuantityConfig};
 use source_choice::{Rank, rank_of};
@@ -36,35 +37,33 @@ impl FurtherConfig {
         })
     }
 
-    /// How the quantity with this number is taken and said.
+    /// How a quantity is taken and said.
     #[tactic(auto, using(crate::proofs::Rules::rules_are_by_number, crate::proofs::Rules::talkers_are_by_number))]
-    fn quantity(&self, number: usize) -> &QuantityConfig
-        requires { number < QUANTITIES }
-        ensures rule { rule_of_quantity self.now.ignored.items result.now ≡ rule_at (further_rule self.now.ignored.items self.now.quantities) number }
-        ensures talker { result.now.talker ≡ talker_at (further_rule self.now.ignored.items self.now.quantities) number }
+    fn quantity(&self, quantity: Quantity) -> &QuantityConfig
+        ensures rule { rule_of_quantity self.now.ignored.items result.now
+            ≡ rule_at (further_rule self.now.ignored.items self.now.quantities) (number_of quantity) }
+        ensures talker { result.now.talker ≡ talker_at (further_rule self.now.ignored.items self.now.quantities) (number_of quantity) }
         ensures valid { All IsQuantity self.now.quantities.each → IsQuantity result.now }
     {
-        &self.quantities.each[number]
+        self.quantities.each.get(quantity)
     }
 
     /// The rank of a NAME in the quantity.
     #[tactic(auto, using(crate::proofs::Rules::rank_is))]
-    pub(crate) fn rank(&self, number: usize, name: Name) -> Option<Rank>
-        requires { number < QUANTITIES }
-        ensures { result ≡ rank_of (rule_at (further_rule self.now.ignored.items self.now.quantities) number) name.0 }
+    pub(crate) fn rank(&self, quantity: Quantity, name: Name) -> Option<Rank>
+        ensures { result ≡ rank_of (rule_at (further_rule self.now.ignored.items self.now.quantities) (number_of quantity)) name.0 }
     {
-        let quantity = self.quantity(number);
-        rank_of(&quantity.sources, quantity.others, &self.ignored, name)
+        let taken = self.quantity(quantity);
+        rank_of(&taken.sources, taken.others, &self.ignored, name)
     }
 
     /// The talker of the quantity's sentence.
-    pub(crate) fn talker(&self, number: usize) -> [u8; 2]
-        requires number { number < QUANTITIES }
-        requires valid { All IsQuantity self.now.quantities.each }
-        ensures talker { result ≡ talker_at (further_rule self.now.ignored.items self.now.quantities) number }
+    pub(crate) fn talker(&self, quantity: Quantity) -> [u8; 2]
+        requires { All IsQuantity self.now.quantities.each }
+        ensures talker { result ≡ talker_at (further_rule self.now.ignored.items self.now.quantities) (number_of quantity) }
         ensures capitals { IsTrue (list_all is_capital result) }
     {
-        self.quantity(number).talker
+        self.quantity(quantity).talker
     }
 
     /// The transmission group.
@@ -77,9 +76,9 @@ impl FurtherConfig {
 }
 
 /// How long a source of each quantity counts, in milliseconds.
-pub(crate) fn timeouts_of(each: &[QuantityConfig; QUANTITIES]) -> [u32; QUANTITIES]
-    ensures timeouts { result ≡ map (λ q. q.timeout_ms) each.now }
-    ensures count { length each.now ≡ QUANTITIES }
+pub(crate) fn timeouts_of(each: &[QuantityConfig]) -> [u32; QUANTITIES]
+    requires { length each.now ≡ QUANTITIES }
+    ensures { result ≡ map (λ q. q.timeout_ms) each.now }
 {
     let mut timeouts = [0; QUANTITIES];
     for number in 0..QUANTITIES {

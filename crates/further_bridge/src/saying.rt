@@ -50,7 +50,7 @@ impl FurtherBridge {
     {
         match &said.told {
             Told::Value(value) => {
-                let rank = self.config.rank(value.quantity.number(), said.name);
+                let rank = self.config.rank(value.quantity, said.name);
                 self.take_value(said, value, rank, emits);
             }
             Told::Outside => {}
@@ -98,7 +98,7 @@ impl FurtherBridge {
         ensures after { self.new ≡ counted self.old }
         ensures emits { emits.new ≡ and_posted emits.old (said_gives self.old.rule self.old.sfi self.old.lines (Some value.now)) }
     {
-        let talker = self.config.talker(value.quantity.number());
+        let talker = self.config.talker(value.quantity);
         let datagram = emits.post(self.config.group());
         write_value(self.sfi, talker, self.lines, value, &mut datagram.packet);
         self.lines = (self.lines + 1) % MOST_COUNT;

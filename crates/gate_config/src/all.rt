@@ -21,20 +21,23 @@ use config_document::{ConfigFault, Section};
 use config_values::{Config, Ends, RowConfig};
 use network_routes::Routes;
 use sentence_text::Sfi;
-use settings::{AisConfig, Further, RmcConfig, Settings};
+use settings::{AisConfig, Further, QuantityConfigs, RmcConfig, Settings};
 
 /// What the gateway says of itself, and the parts beside it.
 type Parts = (Product, Option<RmcConfig>, Option<AisConfig>);
 
-/// The settings that the document says and what it asks for besides, but for keys that aren't known.
+/// The settings that the document says and what it asks for besides, but for keys that aren't known; further quantities are put into `each`.
 #[tactic(auto, unfolding(crate::specs::Keys::whole_in))]
-pub(crate) fn all_keys(document: &Section) -> Result<(Settings, Further), ConfigFault>
+pub(crate) fn all_keys(
+    document: &Section,
+    each: QuantityConfigs,
+) -> Result<(Settings, Further), ConfigFault>
     ensures said { result ≡ whole_in (place_of document.now) }
     ensures settings { IfOk result (λ whole. IsSettings whole.0) }
     ensures further { IfOk result (λ whole. IsFurther whole.0 whole.1) }
 {
     let settings = setting_keys(document)?;
-    let further = further_keys(document, &settings)?;
+    let further = further_keys(document, &settings, each)?;
     Ok((settings, further))
 }
 

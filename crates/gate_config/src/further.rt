@@ -19,7 +19,7 @@ use config_document::{ConfigFault, Section};
 use config_values::RowConfig;
 use n2k_id::Pattern;
 use sentence_text::Group;
-use settings::{Further, Quantities, Settings};
+use settings::{Further, Quantities, QuantityConfigs, Settings};
 
 pub(crate) const REPORT_KEYS: [&str; 1] = ["sources"];
 
@@ -27,15 +27,19 @@ pub(crate) const PLAIN_KEYS: [&str; 1] = ["group"];
 
 pub(crate) const SERVE_KEYS: [&str; 1] = ["record"];
 
-/// What is asked for besides, beside the settings.
+/// What is asked for besides, beside the settings; further quantities are put into `each`.
 #[tactic(auto, unfolding(crate::specs::Keys::further_in))]
-pub(crate) fn further_keys(document: &Section, settings: &Settings) -> Result<Further, ConfigFault>
+pub(crate) fn further_keys(
+    document: &Section,
+    settings: &Settings,
+    each: QuantityConfigs,
+) -> Result<Further, ConfigFault>
     ensures said { result ≡ further_in settings.now (place_of document.now) }
     ensures valid { IfOk result (IsFurther settings.now) }
 {
     let ignore = ignored_keys(document)?;
     let parts = [rmc_group(&settings.rmc), ais_group(&settings.ais)];
-    let quantities = further_quantities(document, &settings.config.rows, &parts)?;
+    let quantities = further_quantities(document, &settings.config.rows, &parts, each)?;
     let sources = report_keys(document)?;
     let [rmc, ais] = parts;
     let parts = [quantities_group(&quantities), rmc, ais];

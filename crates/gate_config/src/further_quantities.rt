@@ -10,35 +10,36 @@ ghost use Rattle.config_document.specs.Texts.{IsTalker};
 ghost use Rattle.gate_config.specs.Beside.{AreQuantitiesBeside, IsGroupBeside};
 ghost use Rattle.gate_config.specs.Keys.{any_asks, asks, asks_by, further, is_asked, quantities_in, quantity, quantity_at, quantity_of, stands_at};
 ghost use Rattle.gate_config.specs.Reading.{each_from};
+ghost use Rattle.quantities.specs.About.{quantities};
 ghost use Rattle.settings.specs.Further.{IsQuantity};
 
 use crate::items::key_prefix;
 use crate::keys::{number_or, section, stands_at};
 use crate::parts::own_group;
 use crate::quantity::{self, quantity_keys};
-use arrayvec::ArrayVec;
 use config_document::{ConfigFault, Section};
 use config_values::RowConfig;
-use quantities::{QUANTITIES, Quantity, all_quantities};
+use quantities::{Quantity, all_quantities};
 use sentence_text::Group;
-use settings::{Quantities, QuantityConfig};
+use settings::{Quantities, QuantityConfig, QuantityConfigs};
 use toml::Table;
 
 pub(crate) const KEYS: [&str; 2] = ["group", "slots"];
 
-/// How quantities besides the rows are said, if they are: their group, which no row and no other part has, and each quantity.
+/// How quantities besides the rows are said, if they are: their group, which no row and no other part has, and each quantity, put into `each`.
 #[tactic(auto, using(crate::proofs::Tables::further_name), unfolding(crate::specs::Keys::quantities_in))]
 pub(crate) fn further_quantities(
     document: &Section,
     rows: &[RowConfig],
     parts: &[Option<Group>],
+    each: QuantityConfigs,
 ) -> Result<Option<Quantities>, ConfigFault>
     ensures said { result ≡ quantities_in rows.now parts.now (place_of document.now) }
     ensures valid { IfOk result (λ all. ForSome all (AreQuantitiesBeside rows.now parts.now)) }
 {
     let table = section(document, "further", b"further.")?;
     let (group, slots) = further_keys(&table, rows, parts)?;
-    let each = each_quantity(&table, all_quantities())?;
+    let each = each_quantity(&table, each)?;
     match group {
         None => Ok(None),
         Some(group) => Ok(Some(Quantities { group, slots, each })),
@@ -107,25 +108,19 @@ fn any_stands(table: &Section, names: &[&str]) -> bool
     names.iter().any(|name| stands_at(table, name))
 }
 
-/// These quantities, each with its own talker where none is configured.
-fn each_quantity(
-    table: &Section,
-    all: &[Quantity; QUANTITIES],
-) -> Result<[QuantityConfig; QUANTITIES], ConfigFault>
-    ensures said { result ≡ each_from (quantity_of (place_of table.now)) [] all.now }
+/// All quantities, each with its own talker where none is configured, in place of what stands there.
+fn each_quantity(table: &Section, mut read: QuantityConfigs) -> Result<QuantityConfigs, ConfigFault>
+    ensures said { result ≡ each_from (quantity_of (place_of table.now)) [] quantities }
     ensures valid { IfOk result (All IsQuantity) }
 {
-    let mut read = ArrayVec::new();
-    for each in all {
+    let _all = read.as_slice();
+    for each in all_quantities() {
         let name = each.name();
         let prefix = key_prefix(b"further.", name);
         let quantity = quantity(table, name, prefix.as_slice(), each.talker())?;
-        read.push(quantity);
+        read.set(*each, quantity);
     }
-    match read.into_inner() {
-        Ok(quantities) => Ok(quantities),
-        Err(_) => unreachable!(),
-    }
+    Ok(read)
 }
 
 /// The quantity of this name, and of this talker where none is configured.

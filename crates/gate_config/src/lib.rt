@@ -23,4 +23,6 @@ pub use bus_identity::Product;
 pub use config_document::{ConfigFault, FaultLine, Key};
 pub use config_values::{Config, Ends, RowConfig};
 pub use reading::{read, read_all, read_whole};
-pub use settings::{AisConfig, Further, Quantities, QuantityConfig, RmcConfig, Settings};
+pub use settings::{
+    AisConfig, Further, Quantities, QuantityConfig, QuantityConfigs, RmcConfig, Settings,
+};

@@ -11,7 +11,7 @@ use crate::all::all_keys;
 use crate::unknown::first_unknown;
 use config_document::{ConfigFault, Section, key_of};
 use config_values::Config;
-use settings::{Further, Settings};
+use settings::{Further, QuantityConfigs, Settings};
 use std::alloc::Global;
 use std::str;
 
@@ -53,7 +53,7 @@ pub fn read_all(alloc: Global, bytes: &[u8]) -> Result<Settings, ConfigFault>
     ensures valid { IfOk result IsSettings }
 {
     match read_whole(alloc, bytes) {
-        Ok((settings, _)) => Ok(settings),
+        Ok((settings, _further)) => Ok(settings),
         Err(fault) => Err(fault),
     }
 }
@@ -77,7 +77,11 @@ fn accepted(alloc: Global, document: &Section) -> Result<(Settings, Further), Co
     ensures settings { IfOk result (λ whole. IsSettings whole.0) }
     ensures further { IfOk result (λ whole. IsFurther whole.0 whole.1) }
 {
-    let whole = match all_keys(document) {
+    let each = match QuantityConfigs::new(alloc) {
+        Err(_) => return Err(ConfigFault::Memory),
+        Ok(each) => each,
+    };
+    let whole = match all_keys(document, each) {
         Err(fault) => return Err(fault),
         Ok(whole) => whole,
     };

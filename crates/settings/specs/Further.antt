@@ -1,5 +1,5 @@
 -- What is asked for by keys of its own, and when it can stand beside the other settings.
-use Rattle.std.specs.Prelude.{◌≢◌, ℕ, false, List, [], All, Option, None}
+use Rattle.std.specs.Prelude.{◌≢◌, ℕ, false, true, List, [], All, Option, None, codes}
 use Rattle.std.specs.Int.{IsInRange}
 use Rattle.std.specs.Option.{ForSome}
 use Rattle.config_values.specs.Rows.{AreSources, IsTalker}
@@ -18,6 +18,10 @@ pub record IsFurtherGroup (s : Settings) (group : List ℕ) : Type 0 where
   pub from_rows : IsOwnGroup s.config.rows group
   pub from_rmc : ForSome s.rmc (λ r. r.group ≢ group)
   pub from_ais : ForSome s.ais (λ a. a.group ≢ group)
+
+-- where nothing else was put: from all alike, for five seconds, and said by integrated instruments (IEC 61162-1)
+abbrev pub usual_quantity : QuantityConfig
+usual_quantity = record { sources = record { items = [] }; others = true; timeout_ms = 5000; talker = codes "II" }
 
 pub record IsQuantity (q : QuantityConfig) : Type 0 where
   pub sources : AreSources q.sources.items

@@ -1,16 +1,18 @@
 //! All that one file configures, as values: the gateway, and the parts beside it.
 //!
-//! No call takes memory.
+//! No call but [`QuantityConfigs::new`] takes memory.
 #![tactic(auto)]
 
 mod ais;
 mod further;
 mod quantity_config;
+mod quantity_configs;
 mod rmc;
 mod settings;
 
 pub use ais::AisConfig;
 pub use further::Further;
 pub use quantity_config::{Quantities, QuantityConfig};
+pub use quantity_configs::QuantityConfigs;
 pub use rmc::RmcConfig;
 pub use settings::Settings;

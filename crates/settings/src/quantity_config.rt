@@ -1,8 +1,8 @@
 //! How quantities besides the rows are said.
 
+use crate::quantity_configs::QuantityConfigs;
 use arrayvec::ArrayVec;
 use n2k_id::Pattern;
-use quantities::QUANTITIES;
 use sentence_text::Group;
 
 /// Whom a quantity is taken from, and who says it.
@@ -19,9 +19,10 @@ pub struct QuantityConfig {
 }
 
 impl Default for QuantityConfig {
-    ghost use Rattle.std.specs.Prelude.{◌≡◌, [], true, codes};
+    ghost use Rattle.std.specs.Prelude.{◌≡◌};
+    ghost use Rattle.settings.specs.Further.{usual_quantity};
 
-    ghost is_default = { λ q. (q.sources.items ≡ []) × (q.others ≡ true) × (q.timeout_ms ≡ 5000) × (q.talker ≡ codes "II") };
+    ghost is_default = { λ q. q ≡ usual_quantity };
 
     /// Taken from all alike, with the timeout that stands where no other was put; the talker is that of integrated instruments.
     fn default() -> QuantityConfig {
@@ -42,5 +43,5 @@ pub struct Quantities {
     /// How many of their fast packets may be open, 1 to 256.
     pub slots: u16,
     /// Each of them, in the order of the quantities.
-    pub each: [QuantityConfig; QUANTITIES],
+    pub each: QuantityConfigs,
 }

@@ -1,4 +1,5 @@
-use Rattle.std.proofs.Common.{◌≡◌, [], All, length, drop}
+use Rattle.std.proofs.Common.{◌≡◌, [], All, length, take, drop}
+use Rattle.quantities.specs.About.{quantities, quantities_count}
 use Rattle.config_document.specs.Places.{place_of}
 use Rattle.settings.specs.Further.{IsQuantity}
 use Rattle.gate_config.specs.Keys.{quantity_of}
@@ -6,6 +7,9 @@ use Rattle.gate_config.specs.Reading.{each_from}
 use Rattle.gate_config.proofs.further_quantities.each_quantity.Given as goal
 
 abbrev pub invariant-loop-each : goal.invariant-loop-each
-invariant-loop-each l =
-    (each_from (quantity_of (place_of l.table)) l.read.items (drop l.each-index l.all) ≡ each_from (quantity_of (place_of l.table)) [] l.all) × (length l.read.items ≡ l.each-index)
-    × All IsQuantity l.read.items
+invariant-loop-each l = record {
+  all : l.each-items ≡ quantities;
+  count : length l.read ≡ quantities_count;
+  said : each_from (quantity_of (place_of l.table)) (take l.each-index l.read) (drop l.each-index quantities) ≡ each_from (quantity_of (place_of l.table)) [] quantities;
+  valid : All IsQuantity (take l.each-index l.read);
+}

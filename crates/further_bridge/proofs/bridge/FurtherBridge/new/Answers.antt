@@ -1,4 +1,4 @@
-use Rattle.std.proofs.Common.{◌≤◌, length, ap, subst, sym, ◌∙◌, arith}
+use Rattle.std.proofs.Common.{◌≡◌, ◌≤◌, length, map, ap, subst, sym, ◌∙◌, arith}
 use Rattle.std.specs.Prelude.{All}
 use Rattle.std.proofs.lemmas.List.{length-map}
 use Rattle.slot_views.specs.Slots.{SlotMap}
@@ -15,20 +15,22 @@ use Rattle.further_bridge.proofs.Opening.{opened_as, opening_stands, rules_count
 use Rattle.further_bridge.proofs.bridge.FurtherBridge.new.Goals as goal
 
 pub invariant_of-result : goal.invariant_of-result
-invariant_of-result c = (
-  subst (λ (x : FurtherConfig). All IsQuantity x.quantities.each) (sym c.in_ok-config.ensures) c.requires.each,
-  subst (λ (slots : SlotMap FastKey). slots.limit ≤ 256) (sym c.in_ok-listener.ensures.value) c.requires.slots.1,
-  ap (λ (choices : Choices). choices.sources) c.in_ok-choice.ensures,
-  ap (λ (choices : Choices). length choices.subjects) c.in_ok-choice.ensures
-      ∙ (length-map c.timeouts_of.result (nothing places)
-      ∙ (ap (λ ts. length ts) c.timeouts_of.ensures.timeouts ∙ (length-map c.args.quantities.now.each (λ q. q.timeout_ms) ∙ c.timeouts_of.ensures.count))),
-  omega arith,
-)
+invariant_of-result c =
+    let timeouts : c.timeouts_of.result ≡ map (λ q. q.timeout_ms) c.args.quantities.now.each = rw c.as_slice.ensures.value at c.timeouts_of.ensures in (
+      subst (λ (x : FurtherConfig). All IsQuantity x.quantities.each) (sym c.in_ok-config.ensures) c.requires.each,
+      subst (λ (slots : SlotMap FastKey). slots.limit ≤ 256) (sym c.in_ok-listener.ensures.value) c.requires.slots.1,
+      ap (λ (choices : Choices). choices.sources) c.in_ok-choice.ensures,
+      ap (λ (choices : Choices). length choices.subjects) c.in_ok-choice.ensures
+          ∙ (length-map c.timeouts_of.result (nothing places)
+          ∙ (ap (λ ts. length ts) timeouts ∙ (length-map c.args.quantities.now.each (λ q. q.timeout_ms) ∙ c.as_slice.ensures.count))),
+      omega arith,
+    )
 
 pub returns-clause-value : goal.returns-clause-value
 returns-clause-value c =
+    let timeouts : c.timeouts_of.result ≡ map (λ q. q.timeout_ms) c.args.quantities.now.each = rw c.as_slice.ensures.value at c.timeouts_of.ensures in
     opened_as c.args.ignored.now c.args.quantities.now c.args.sfi c.in_ok-config.config c.in_ok-listener.listener c.in_ok-choice.choice
-    c.in_ok-config.ensures c.in_ok-listener.ensures.value (c.in_ok-choice.ensures ∙ ap (opened places) c.timeouts_of.ensures.timeouts)
+    c.in_ok-config.ensures c.in_ok-listener.ensures.value (c.in_ok-choice.ensures ∙ ap (opened places) timeouts)
 
 pub returns-clause-history : goal.returns-clause-history
 unfolding further_rule
@@ -37,4 +39,4 @@ returns-clause-history c =
     let listens = subst (λ (slots : SlotMap FastKey). IsOpening c.args.quantities.now.slots slots) c.in_ok-listener.ensures.value
     c.in_ok-listener.ensures.history in
     subst (λ (k : FurtherKept). IsFurtherOpening x c.args.sfi k) (sym (returns-clause-value c))
-    (opening_stands x (rules_count c.args.ignored.now c.args.quantities.now c.args.sfi c.timeouts_of.ensures.count) c.args.sfi listens)
+    (opening_stands x (rules_count c.args.ignored.now c.args.quantities.now c.args.sfi c.as_slice.ensures.count) c.args.sfi listens)
