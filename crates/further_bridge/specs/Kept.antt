@@ -49,9 +49,9 @@ pub record FurtherStep : Type 0 where
   pub after : FurtherKept
   pub emits : Emitted
 
--- the most that an event tells
+-- the most that an event tells: of each of 256 messages in the making once, of a frame twice, and of the message that is complete once
 abbrev pub most_told : ℕ
-most_told = 299
+most_told = 259
 
 abbrev pub as_it_was : FurtherKept → FurtherStep
 as_it_was k = record { after = k; emits = no_emits }

@@ -26,10 +26,11 @@ use source_choice::Choice;
 use std::alloc::{AllocError, Global};
 use std::marker::Model;
 
-/// The most reports of one event: one for each message in the making, and those of a frame.
-const MOST_REPORTS: usize = 299;
+/// The most reports of one event: one for each of 256 messages in the making, two of a frame, and one of the message that it completes. It is
+/// another number than that of reports of ships, so that the two share no call of the listener, and each has it laid out in place.
+const MOST_REPORTS: usize = 259;
 
-/// What an event leaves: at most 300 emits, of which at most one is a datagram.
+/// What an event leaves: at most 260 emits, of which at most one is a datagram.
 pub type FurtherEmits = Emits<MOST_REPORTS>;
 
 /// What is kept of further quantities.
