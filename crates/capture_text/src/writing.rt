@@ -168,12 +168,24 @@ fn append_report(report: &Report, out: &mut Line)
     append_detail(&report.detail, out);
 }
 
+/// The digits of an identifier that has these bytes.
+///
+/// It is kept apart, as `put_eight` is, and the bytes come by way of memory: in registers the compiler would take them one by one.
+#[inline(never)]
+fn identifier_digits(identifier: &[u8; 4]) -> [u8; 8]
+    ensures { result ≡ encode_upper identifier.now }
+{
+    let mut digits = [0; 8];
+    put_digits(identifier, &mut digits);
+    digits
+}
+
 /// What comes before the data of a frame whose identifier has these bytes.
 fn frame_head(identifier: &[u8; 4]) -> [u8; 14]
     ensures { result ≡ codes "can0 " ++ (encode_upper identifier.now ++ 35 ∷ []) }
 {
     let mut head = *b"can0 00000000#";
-    put_digits(identifier, &mut head[5..13]);
+    head[5..13].copy_from_slice(&identifier_digits(identifier));
     head
 }
 

@@ -58,16 +58,30 @@ abbrev pub newer_message : Row → Option SelectedMessage → Option SelectedMes
 newer_message row None before = before
 newer_message row (Some k) before = if same_row (row_of k.reading) row then Some k else before
 
-abbrev pub last_after : (ℕ → Option Name) → Row → Option SelectedMessage → LastOfRow → LastOfRow
-last_after holder row new last = record { timeout = last.timeout; message = newer_message row new (held_in holder last.message) }
+abbrev pub last_held : (ℕ → Option Name) → LastOfRow → LastOfRow
+last_held holder last = record { timeout = last.timeout; message = held_in holder last.message }
+
+abbrev pub last_with : Row → Option SelectedMessage → LastOfRow → LastOfRow
+last_with row new last = record { timeout = last.timeout; message = newer_message row new last.message }
+
+abbrev pub rows_held : (ℕ → Option Name) → Join → Join
+rows_held holder j = record j {
+  time = last_held holder j.time;
+  position = last_held holder j.position;
+  motion = last_held holder j.motion;
+  heading = last_held holder j.heading;
+}
+
+abbrev pub rows_with : Option SelectedMessage → Join → Join
+rows_with new j = record j {
+  time = last_with row.Time new j.time;
+  position = last_with row.Position new j.position;
+  motion = last_with row.CourseSpeed new j.motion;
+  heading = last_with row.HeadingMagnetic new j.heading;
+}
 
 abbrev pub rows_after : (ℕ → Option Name) → Option SelectedMessage → Join → Join
-rows_after holder new j = record j {
-  time = last_after holder row.Time new j.time;
-  position = last_after holder row.Position new j.position;
-  motion = last_after holder row.CourseSpeed new j.motion;
-  heading = last_after holder row.HeadingMagnetic new j.heading;
-}
+rows_after holder new j = rows_with new (rows_held holder j)
 
 -- ---- what is said
 
@@ -93,11 +107,17 @@ counted j = record j { count = (j.count + 1) % most_count }
 
 -- ---- a step, after which these hold the addresses
 
+abbrev pub join_with : Option SelectedMessage → Join → Join
+join_with new j = if is_due_message new then counted (rows_with new j) else rows_with new j
+
 abbrev pub join_after : (ℕ → Option Name) → Option SelectedMessage → Join → Join
-join_after holder new j = if is_due_message new then counted (rows_after holder new j) else rows_after holder new j
+join_after holder new j = join_with new (rows_held holder j)
+
+abbrev pub with_says : ℕ → Option SelectedMessage → Join → Option (List ℕ)
+with_says m new j = if is_due_message new then Some (datagram_in m (rows_with new j)) else None
 
 abbrev pub join_says : ℕ → (ℕ → Option Name) → Option SelectedMessage → Join → Option (List ℕ)
-join_says m holder new j = if is_due_message new then Some (datagram_in m (rows_after holder new j)) else None
+join_says m holder new j = with_says m new (rows_held holder j)
 
 abbrev pub bytes_in : Option (List ℕ) → List ℕ
 bytes_in None = []

@@ -1,11 +1,11 @@
 //! The last message of a row that was selected.
-ghost use Rattle.std.specs.Prelude.{◌≡◌, None, IfSome, if◌then◌else◌};
+ghost use Rattle.std.specs.Prelude.{◌≡◌, None, Some, IfSome, if◌then◌else◌};
 ghost use Rattle.readings.specs.Rows.{IsValid, row_of};
 ghost use Rattle.history.specs.Settings.{same_row};
 ghost use Rattle.gate_model.specs.AddressStands.{name_held};
 ghost use Rattle.selected_messages.specs.Picked.{IsMessageValid};
 ghost use Rattle.joined_rmc.specs.Lasting.{unless_old};
-ghost use Rattle.joined_rmc.specs.Kept.{none_yet, held_in, in_last, is_named, message_within, lent, newer_message, last_after};
+ghost use Rattle.joined_rmc.specs.Kept.{none_yet, held_in, in_last, is_named, message_within, lent, last_held, last_with};
 
 use gate_core::Gateway;
 use n2k_id::Name;
@@ -31,21 +31,10 @@ impl LastOfRow {
         }
     }
 
-    /// Takes what a step of the gateway selected, a message or none: no message stays whose sender lost its address.
-    pub(crate) fn keep(&mut self, gateway: &Gateway, row: Row, new: &Option<SelectedMessage>)
-        requires message { IsMessageValid self.old.message }
-        requires new { IsMessageValid new.now }
-        ensures after { self.new ≡ last_after (name_held gateway.now.addresses.claims.holders) row new.now self.old }
-        ensures valid { IsMessageValid self.new.message }
-    {
-        self.forget_lost(gateway);
-        self.keep_newer(row, new);
-    }
-
     /// Forgets a message whose sender lost its address.
-    fn forget_lost(&mut self, gateway: &Gateway)
+    pub(crate) fn forget_lost(&mut self, gateway: &Gateway)
         requires { IsMessageValid self.old.message }
-        ensures after { self.new ≡ record self.old { message = held_in (name_held gateway.now.addresses.claims.holders) self.old.message } }
+        ensures after { self.new ≡ last_held (name_held gateway.now.addresses.claims.holders) self.old }
         ensures valid { IsMessageValid self.new.message }
     {
         if is_lost(&self.message, gateway) {
@@ -53,18 +42,15 @@ impl LastOfRow {
         }
     }
 
-    /// Keeps a newer message of the row.
-    fn keep_newer(&mut self, row: Row, new: &Option<SelectedMessage>)
+    /// Keeps a newer message, where it is of the row.
+    pub(crate) fn keep_newer(&mut self, row: Row, new: &SelectedMessage)
         requires message { IsMessageValid self.old.message }
-        requires new { IsMessageValid new.now }
-        ensures after { self.new ≡ record self.old { message = newer_message row new.now self.old.message } }
+        requires new { IsValid new.now.reading }
+        ensures after { self.new ≡ last_with row (Some new.now) self.old }
         ensures valid { IsMessageValid self.new.message }
     {
-        match new {
-            Some(message) if is_of(message, row) => {
-                self.message = Some(*message);
-            }
-            _ => {}
+        if is_of(new, row) {
+            self.message = Some(*new);
         }
     }
 

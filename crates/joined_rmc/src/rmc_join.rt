@@ -1,15 +1,16 @@
 //! RMC, joined from what was said last of each row.
-ghost use Rattle.std.specs.Prelude.{◌≡◌, ℕ, [], length, IsTrue};
+ghost use Rattle.std.specs.Prelude.{◌≡◌, ℕ, [], length, IsTrue, Some};
 ghost use Rattle.std.specs.List.{list_all};
 ghost use Rattle.sentence_text.specs.Byte.{is_capital};
 ghost use Rattle.sentence_text.specs.Names.{IsSfi};
+ghost use Rattle.readings.specs.Rows.{IsValid};
 ghost use Rattle.sentence_rows.specs.Rmc.{IsMinimum};
 ghost use Rattle.history.specs.Settings.{Settings};
 ghost use Rattle.gate_model.specs.AddressStands.{name_held};
 ghost use Rattle.joined_rmc.specs.JoinStands.{IsJoinStep, JoinStands};
 ghost use Rattle.selected_messages.specs.Picked.{IsMessageValid};
 ghost use Rattle.joined_rmc.specs.Lasting.{says_position};
-ghost use Rattle.joined_rmc.specs.Kept.{Join, bytes_in, counted, datagram_in, is_due_message, join_after, join_says, minimum_in, empty_join, rows_after};
+ghost use Rattle.joined_rmc.specs.Kept.{Join, bytes_in, counted, datagram_in, is_due_message, join_after, join_says, join_with, minimum_in, empty_join, rows_held, rows_with, with_says};
 ghost use Rattle.joined_rmc.specs.RmcOut.{datagram_by, rule_by};
 
 use crate::last_of_row::{LastOfRow, is_of};
@@ -94,7 +95,8 @@ impl RmcJoin {
         self.take(moment, gateway, &new, packet)
     }
 
-    /// Takes the message that the step at this moment selected, or none.
+    /// Takes the message that the step at this moment selected, or none, as most steps do.
+    #[inline(always)]
     fn take(
         &mut self,
         moment: u64,
@@ -108,23 +110,49 @@ impl RmcJoin {
         ensures says { result ≡ is_due_message new.now }
         ensures packet { packet.new.items ≡ bytes_in (join_says moment (name_held gateway.now.addresses.claims.holders) new.now self.old) }
     {
-        self.keep(gateway, new);
-        let due = is_due(new);
+        self.forget_lost(gateway);
+        match new {
+            None => false,
+            Some(new) => self.hear(moment, new, packet),
+        }
+    }
+
+    /// Forgets each message whose sender lost its address.
+    fn forget_lost(&mut self, gateway: &Gateway)
+        ensures { self.new ≡ rows_held (name_held gateway.now.addresses.claims.holders) self.old }
+    {
+        self.time.forget_lost(gateway);
+        self.position.forget_lost(gateway);
+        self.motion.forget_lost(gateway);
+        self.heading.forget_lost(gateway);
+    }
+
+    /// Hears the message that was selected at this moment. It is kept apart, so that steps that select none make no room for one.
+    #[inline(never)]
+    fn hear(&mut self, moment: u64, new: &SelectedMessage, packet: &mut Packet) -> bool
+        requires empty { packet.old.items ≡ [] }
+        requires valid { IsValid new.now.reading }
+        ensures after { self.new ≡ join_with (Some new.now) self.old }
+        ensures says { result ≡ is_due_message (Some new.now) }
+        ensures packet { packet.new.items ≡ bytes_in (with_says moment (Some new.now) self.old) }
+    {
+        self.keep_newer(new);
+        let due = says_position(new);
         if due {
             self.say(moment, packet);
         }
         due
     }
 
-    /// Keeps the newer message of each row, and no message whose sender lost its address.
-    fn keep(&mut self, gateway: &Gateway, new: &Option<SelectedMessage>)
-        requires { IsMessageValid new.now }
-        ensures { self.new ≡ rows_after (name_held gateway.now.addresses.claims.holders) new.now self.old }
+    /// Keeps the newer message of its row.
+    fn keep_newer(&mut self, new: &SelectedMessage)
+        requires { IsValid new.now.reading }
+        ensures { self.new ≡ rows_with (Some new.now) self.old }
     {
-        self.time.keep(gateway, Row::Time, new);
-        self.position.keep(gateway, Row::Position, new);
-        self.motion.keep(gateway, Row::CourseSpeed, new);
-        self.heading.keep(gateway, Row::HeadingMagnetic, new);
+        self.time.keep_newer(Row::Time, new);
+        self.position.keep_newer(Row::Position, new);
+        self.motion.keep_newer(Row::CourseSpeed, new);
+        self.heading.keep_newer(Row::HeadingMagnetic, new);
     }
 
     /// Writes the datagram, and counts its line.
@@ -149,15 +177,6 @@ impl RmcJoin {
             self.motion.says(moment),
             self.heading.says(moment),
         )
-    }
-}
-
-fn is_due(new: &Option<SelectedMessage>) -> bool
-    ensures { result ≡ is_due_message new.now }
-{
-    match new {
-        None => false,
-        Some(message) => says_position(message),
     }
 }
 

@@ -23,6 +23,7 @@ pub fn rank_of(sources: &[Pattern], others: bool, ignored: &[Pattern], name: Nam
 }
 
 /// Whether one of the patterns matches the NAME.
+#[inline(always)]
 fn is_matched(patterns: &[Pattern], name: Name) -> bool
     ensures { result ≡ is_matched patterns.now name.0 }
 {
@@ -30,6 +31,7 @@ fn is_matched(patterns: &[Pattern], name: Name) -> bool
 }
 
 /// The rank of a NAME among the devices that are preferred, and the others.
+#[inline(always)]
 fn rank_among(sources: &[Pattern], others: bool, name: Name) -> Option<Rank>
     requires { length sources.now ≤ 255 }
     ensures { result ≡ rank_among (record { sources = sources.now; others = others; ignored = []; timeout = 0 }) name.0 }
