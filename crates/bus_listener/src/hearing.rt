@@ -138,7 +138,9 @@ impl BusListener {
         match kind {
             Kind::Single => message_from(moment, parts, name, Some(frame.held())),
             Kind::Fast => {
-                let payload = fast::hear(&mut self.slots, parts, frame, moment, emits);
+                // A copy, so that of the many frames that aren't heard nothing is put into memory.
+                let heard = *parts;
+                let payload = fast::hear(&mut self.slots, &heard, frame, moment, emits);
                 message_from(moment, parts, name, payload)
             }
             Kind::Outside => None,
