@@ -1,5 +1,5 @@
 -- The notes of a subject, the least source first.
-use Rattle.std.proofs.Common.{◌≡◌, ◌≢◌, ℕ, suc, ◌+◌, ◌*◌, ◌<◌, ◌≤◌, ◌==◌, not, ◌&&◌, ◌||◌, ◌↔◌, IsTrue, inl, inr, nat_lt, nat_le, Bool, true, false, cond, None, Some, List, [], ◌∷◌, length, get_or, set, refl, sym, ◌∙◌, ap, arith, if◌then◌else◌}
+use Rattle.std.proofs.Common.{◌≡◌, ◌≢◌, ℕ, ◌+◌, ◌<◌, ◌≤◌, ◌==◌, not, ◌↔◌, IsTrue, nat_lt, nat_le, Bool, true, false, cond, None, Some, List, [], ◌∷◌, length, get_or, set, refl, sym, ◌∙◌, ap, arith, if◌then◌else◌}
 use Rattle.std.specs.List.{position, position_or_len, insert, list_any}
 use Rattle.std.proofs.lemmas.List.Edits.{length-insert}
 use Rattle.std.proofs.lemmas.List.Sums.{prefix_len-le-length}
@@ -24,11 +24,7 @@ raise low lower top (n ∷ ns) l from = (omega (arith, from.0), from.1, from.2)
 
 pub from_without : (low top source : ℕ) (ns : List Note) → AreFrom low top ns → AreFrom low top (without source ns)
 from_without low top source [] from = tt
-from_without low top source (n ∷ ns) from = by (n.source == source) refl (from_without (n.source + 1) top source ns from.2)
-  where
-    by : (t : Bool) → (n.source == source) ≡ t → AreFrom (n.source + 1) top (without source ns) → AreFrom low top (cond (not t) (n ∷ without source ns) (without source ns))
-    by true e rest = raise (n.source + 1) low top (without source ns) (omega (arith, from.0)) rest
-    by false e rest = (from.0, from.1, rest)
+from_without low top source (n ∷ ns) from = grind (arith, from_without (n.source + 1) top source ns from.2, raise)
 
 -- no more notes than sources
 pub few : (low top : ℕ) (ns : List Note) → low ≤ top → AreFrom low top ns → length ns + low ≤ top
@@ -41,9 +37,7 @@ from_with low top x (n ∷ ns) l b from = by (nat_lt x.source n.source) refl (n.
   where
     by : (t : Bool) → nat_lt x.source n.source ≡ t → (u : Bool) → (n.source == x.source) ≡ u → (n.source + 1 ≤ x.source → AreFrom (n.source + 1) top (with_note x ns))
         → AreFrom low top (if t then x ∷ n ∷ ns else if u then x ∷ ns else n ∷ with_note x ns)
-    by true lt u e onward = (l, b, (grind (arith, nat_tests), from.1, from.2))
-    by false ge true e onward = let same : n.source ≡ x.source = eqb-true n.source x.source e in (l, b, rw (← same) from.2)
-    by false ge false e onward = (from.0, from.1, onward (grind (arith, nat_tests)))
+    by t lt u e onward = grind (arith, nat_tests, eqb-true)
 
 -- how the sources of two notes compare
 three_ways : (a b : ℕ) (t u v : Bool) → nat_le a b ≡ t → nat_lt a b ≡ u → (b == a) ≡ v → (t ≡ false → (u ≡ false) × (v ≡ false)) × (b ≡ a → (t ≡ true) × (u ≡ false) × (v ≡ true)) × (t ≡ true → b ≢ a → u ≡ true)
@@ -55,36 +49,22 @@ with_first x n ns u v = if u then x ∷ n ∷ ns else if v then x ∷ ns else n 
 set_step : (x d n : Note) (ns : List Note) (k : ℕ) (t u v : Bool) → nat_le x.source n.source ≡ t → nat_lt x.source n.source ≡ u → (n.source == x.source) ≡ v
     → cond (not t) (1 + k) 0 < length (n ∷ ns) → (get_or (n ∷ ns) (cond (not t) (1 + k) 0) d).source ≡ x.source
     → (k < length ns → (get_or ns k d).source ≡ x.source → set ns k x ≡ with_note x ns) → set (n ∷ ns) (cond (not t) (1 + k) 0) x ≡ with_first x n ns u v
-set_step x d n ns k true u v e f g l same rest =
-    let ways = (three_ways x.source n.source true u v e f g).1 same in rw (ways.1, ways.2) refl
-set_step x d n ns k false u v e f g l same rest =
-    let ways = (three_ways x.source n.source false u v e f g).0 refl in
-    let more : 1 + k ≡ suc k = omega arith in
-    let there = rw more at same in
-    rw (more, ways.0, ways.1) (ap (λ xs. n ∷ xs) (rest (omega (arith, l)) there))
+set_step x d n ns k t u v e f g l same rest = grind (arith, three_ways)
 
 -- the note of a source is replaced in its place
 pub set_is : (x d : Note) (ns : List Note) → place x.source ns < length ns → (get_or ns (place x.source ns) d).source ≡ x.source → set ns (place x.source ns) x ≡ with_note x ns
 set_is x d [] l same = absurd (omega (arith, l))
-set_is x d (n ∷ ns) l same =
-    set_step x d n ns (place x.source ns) (nat_le x.source n.source) (nat_lt x.source n.source) (n.source == x.source) refl refl refl l same (set_is x d ns)
+set_is x d (n ∷ ns) l same = grind (arith, set_is x d ns, set_step)
 
 insert_step : (x d n : Note) (ns : List Note) (k : ℕ) (t u v : Bool) → nat_le x.source n.source ≡ t → nat_lt x.source n.source ≡ u → (n.source == x.source) ≡ v
     → (cond (not t) (1 + k) 0 < length (n ∷ ns) → (get_or (n ∷ ns) (cond (not t) (1 + k) 0) d).source ≢ x.source)
     → ((k < length ns → (get_or ns k d).source ≢ x.source) → insert ns k x ≡ with_note x ns) → insert (n ∷ ns) (cond (not t) (1 + k) 0) x ≡ with_first x n ns u v
-insert_step x d n ns k true u v e f g other rest =
-    let ways = (three_ways x.source n.source true u v e f g).2 refl (other (omega arith)) in rw ways refl
-insert_step x d n ns k false u v e f g other rest =
-    let ways = (three_ways x.source n.source false u v e f g).0 refl in
-    let more : 1 + k ≡ suc k = omega arith in
-    let apart = rw more at other in
-    rw (more, ways.0, ways.1) (ap (λ xs. n ∷ xs) (rest (λ l. apart (omega (arith, l)))))
+insert_step x d n ns k t u v e f g other rest = grind (arith, three_ways)
 
 -- and a new one is put in
 pub insert_is : (x d : Note) (ns : List Note) → (place x.source ns < length ns → (get_or ns (place x.source ns) d).source ≢ x.source) → insert ns (place x.source ns) x ≡ with_note x ns
 insert_is x d [] other = refl
-insert_is x d (n ∷ ns) other =
-    insert_step x d n ns (place x.source ns) (nat_le x.source n.source) (nat_lt x.source n.source) (n.source == x.source) refl refl refl other (insert_is x d ns)
+insert_is x d (n ∷ ns) other = grind (arith, insert_is x d ns, insert_step)
 
 -- a source that isn't noted yet finds room
 pub room : (top : ℕ) (x d : Note) (ns : List Note) → x.source < top → AreFrom 0 top ns → (place x.source ns < length ns → (get_or ns (place x.source ns) d).source ≢ x.source) → length ns < top
@@ -95,11 +75,7 @@ room top x d ns below from other =
     omega (arith, more, long, same)
 
 pub past_all : (p : Note → Bool) (ns : List Note) → position p ns ≡ None → length ns ≡ position_or_len p ns
-past_all p ns e = by (nat_lt (position_or_len p ns) (length ns)) refl e
-  where
-    by : (t : Bool) → nat_lt (position_or_len p ns) (length ns) ≡ t → cond t (Some (position_or_len p ns)) None ≡ None → length ns ≡ position_or_len p ns
-    by true l f = cc
-    by false l f = let most = prefix_len-le-length (λ n. not (p n)) ns in let least : length ns ≤ position_or_len p ns = grind (arith, nat_tests) in omega (arith, most, least)
+past_all p ns e = grind (arith, prefix_len-le-length, nat_tests)
 
 -- the same, of copies of the list and of its place
 pub set_at : (x : Note) (k : ℕ) (ns ms os : List Note) → ms ≡ ns → os ≡ ns → k ≡ place x.source ms → ((d : Note) → (k < length os) × ((get_or os k d).source ≡ x.source)) → set ns k x ≡ with_note x ns
@@ -127,15 +103,10 @@ found_from low top source [] m from e = cc
 found_from low top source (n ∷ ns) m from e = by (n.source == source) refl (λ f. found_from (n.source + 1) top source ns m from.2 f) e
   where
     by : (t : Bool) → (n.source == source) ≡ t → (note_of source ns ≡ Some m → (n.source + 1 ≤ source) × (m.source ≡ source)) → cond t (Some n) (note_of source ns) ≡ Some m → (low ≤ source) × (m.source ≡ source)
-    by true is onward f = let same : n.source ≡ source = eqb-true n.source source is in let it : n ≡ m = cc in (omega (arith, same, from.0), ap (λ (x : Note). x.source) (sym it) ∙ same)
-    by false isnt onward f = let rest = onward f in (omega (arith, rest.0, from.0), rest.1)
+    by t is onward f = grind (arith, eqb-true)
 
 skips : (n : Note) (ns : List Note) (source : ℕ) → n.source ≢ source → note_of source (n ∷ ns) ≡ note_of source ns
-skips n ns source other = by (n.source == source) refl
-  where
-    by : (t : Bool) → (n.source == source) ≡ t → cond t (Some n) (note_of source ns) ≡ note_of source ns
-    by true is = absurd (other (eqb-true n.source source is))
-    by false isnt = refl
+skips n ns source other = grind (arith, eqb-true)
 
 first : (n : Note) (ns : List Note) → note_of n.source (n ∷ ns) ≡ Some n
 first n ns = rw (eq-eqb n.source n.source refl) refl
@@ -147,8 +118,7 @@ none_found p (n ∷ ns) none source m e =
     let parts = or_parts (p n) (list_any p ns) none in by (n.source == source) parts.0 e (none_found p ns parts.1 source m)
   where
     by : (t : Bool) → p n ≡ false → cond t (Some n) (note_of source ns) ≡ Some m → (note_of source ns ≡ Some m → p m ≡ false) → p m ≡ false
-    by true is f rest = let it : n ≡ m = cc in ap p (sym it) ∙ is
-    by false is f rest = rest f
+    by t is f rest = grind arith
 
 none_passes : (low top : ℕ) (p : Note → Bool) (ns : List Note) → AreFrom low top ns → ((source : ℕ) (m : Note) → note_of source ns ≡ Some m → p m ≡ false) → list_any p ns ≡ false
 none_passes low top p [] from none = refl
@@ -161,38 +131,17 @@ none_passes low top p (n ∷ ns) from none =
 
 -- what a note's test says
 before_tells : (a b : Rank) → IsTrue (is_before a b) ↔ IsBefore a b
-before_tells a b = (λ e. by_place (nat_lt a.place b.place) refl e, λ lt. or_place lt)
-  where
-    by_place : (t : Bool) → nat_lt a.place b.place ≡ t → (t || ((a.place == b.place) && nat_lt a.name b.name)) ≡ true → IsBefore a b
-    by_place true l e = inl (grind (arith, nat_tests))
-    by_place false l e = let parts = and_parts (a.place == b.place) (nat_lt a.name b.name) e in inr (eqb-true a.place b.place parts.0, grind (arith, nat_tests))
-
-    or_place : IsBefore a b → is_before a b ≡ true
-    or_place (inl lt) = let t : nat_lt a.place b.place ≡ true = grind (arith, nat_tests) in rw t refl
-    or_place (inr (same, lt)) = let t : nat_lt a.name b.name ≡ true = grind (arith, nat_tests) in let f : nat_lt a.place b.place ≡ false = grind (arith, nat_tests) in rw (f, eq-eqb a.place b.place same, t) refl
+before_tells a b = grind (arith, nat_tests, and_parts, eqb-true, eq-eqb)
 
 fresh_tells : (timeout m : ℕ) (n : Note) → IsTrue (is_fresh timeout m n) ↔ IsFresh timeout m n
-fresh_tells timeout m n = (
-  λ e. let parts = and_parts n.usable (nat_le m (n.moment + 1000 * timeout)) e in (parts.0, leb-true m (n.moment + 1000 * timeout) parts.1),
-  λ f. rw (f.0, le-leb m (n.moment + 1000 * timeout) f.1) refl,
-)
+fresh_tells timeout m n = grind (arith, and_parts, leb-true, le-leb)
 
 -- a note that keeps nobody back
 no_outranking : (timeout source m : ℕ) (rank : Rank) (n : Note) → outranks timeout source rank m n ≡ false → n.source ≢ source → IsBefore n.rank rank → ¬ IsFresh timeout m n
-no_outranking timeout source m rank n silent other lt fresh = by (n.source == source) refl silent
-  where
-    by : (t : Bool) → (n.source == source) ≡ t → (not t && is_before n.rank rank && is_fresh timeout m n) ≡ false → ⊥
-    by true is f = other (eqb-true n.source source is)
-    by false isnt f = let b : is_before n.rank rank ≡ true = (before_tells n.rank rank).1 lt in let c : is_fresh timeout m n ≡ true = (fresh_tells timeout m n).1 fresh in let g = rw (b, c) at f in cc
+no_outranking timeout source m rank n silent other lt fresh = grind (arith, eqb-true, before_tells, fresh_tells)
 
 outranks_not : (timeout source m : ℕ) (rank : Rank) (n : Note) → (n.source ≢ source → IsBefore n.rank rank → ¬ IsFresh timeout m n) → outranks timeout source rank m n ≡ false
-outranks_not timeout source m rank n never = by (n.source == source) refl (is_before n.rank rank) refl (is_fresh timeout m n) refl
-  where
-    by : (t : Bool) → (n.source == source) ≡ t → (b : Bool) → is_before n.rank rank ≡ b → (c : Bool) → is_fresh timeout m n ≡ c → (not t && b && c) ≡ false
-    by true is b f c g = refl
-    by false isnt false f c g = refl
-    by false isnt true f false g = refl
-    by false isnt true f true g = absurd (never (λ same. let t = eq-eqb n.source source same in cc) ((before_tells n.rank rank).0 f) ((fresh_tells timeout m n).0 g))
+outranks_not timeout source m rank n never = grind (arith, eq-eqb, before_tells, fresh_tells)
 
 -- no other noted source of a smaller rank is fresh
 pub selected_is : (r : SubjectNotes) (top source : ℕ) (rank : Rank) (m : ℕ) → AreFrom 0 top r.notes → IsTrue (is_selected r source rank m) ↔ IsFirst r source rank m
@@ -212,38 +161,19 @@ selected_is r top source rank m from = (
 
 pub noted_here : (x : Note) (ns : List Note) → note_of x.source (with_note x ns) ≡ Some x
 noted_here x [] = first x []
-noted_here x (n ∷ ns) = by (nat_lt x.source n.source) refl (n.source == x.source) refl (noted_here x ns)
-  where
-    by : (t : Bool) → nat_lt x.source n.source ≡ t → (u : Bool) → (n.source == x.source) ≡ u → note_of x.source (with_note x ns) ≡ Some x → note_of x.source (with_first x n ns t u) ≡ Some x
-    by true l u e rest = first x (n ∷ ns)
-    by false l true e rest = first x ns
-    by false l false e rest = skips n (with_note x ns) x.source (λ same. let t = eq-eqb n.source x.source same in cc) ∙ rest
+noted_here x (n ∷ ns) = grind (arith, noted_here x ns, first, skips, eq-eqb)
 
 pub others_noted : (x : Note) (ns : List Note) (other : ℕ) → other ≢ x.source → note_of other (with_note x ns) ≡ note_of other ns
 others_noted x [] other apart = skips x [] other (λ same. apart (sym same))
-others_noted x (n ∷ ns) other apart = by (nat_lt x.source n.source) refl (n.source == x.source) refl (others_noted x ns other apart)
-  where
-    by : (t : Bool) → nat_lt x.source n.source ≡ t → (u : Bool) → (n.source == x.source) ≡ u → note_of other (with_note x ns) ≡ note_of other ns → note_of other (with_first x n ns t u) ≡ note_of other (n ∷ ns)
-    by true l u e rest = skips x (n ∷ ns) other (λ same. apart (sym same))
-    by false l true e rest =
-        skips x ns other (λ same. apart (sym same)) ∙ sym (skips n ns other (λ same. apart (sym same ∙ eqb-true n.source x.source e)))
-    by false l false e rest = ap (λ o. cond (n.source == other) (Some n) o) rest
+others_noted x (n ∷ ns) other apart = grind (arith, others_noted x ns other apart, skips, eqb-true)
 
 pub forgotten_here : (source : ℕ) (ns : List Note) → note_of source (without source ns) ≡ None
 forgotten_here source [] = refl
-forgotten_here source (n ∷ ns) = by (n.source == source) refl (forgotten_here source ns)
-  where
-    by : (t : Bool) → (n.source == source) ≡ t → note_of source (without source ns) ≡ None → note_of source (cond (not t) (n ∷ without source ns) (without source ns)) ≡ None
-    by true e rest = rest
-    by false e rest = skips n (without source ns) source (λ same. let t = eq-eqb n.source source same in cc) ∙ rest
+forgotten_here source (n ∷ ns) = grind (arith, forgotten_here source ns, skips, eq-eqb)
 
 pub others_forgotten : (source : ℕ) (ns : List Note) (other : ℕ) → other ≢ source → note_of other (without source ns) ≡ note_of other ns
 others_forgotten source [] other apart = refl
-others_forgotten source (n ∷ ns) other apart = by (n.source == source) refl (others_forgotten source ns other apart)
-  where
-    by : (t : Bool) → (n.source == source) ≡ t → note_of other (without source ns) ≡ note_of other ns → note_of other (cond (not t) (n ∷ without source ns) (without source ns)) ≡ note_of other (n ∷ ns)
-    by true e rest = rest ∙ sym (skips n ns other (λ same. apart (sym same ∙ eqb-true n.source source e)))
-    by false e rest = ap (λ o. cond (n.source == other) (Some n) o) rest
+others_forgotten source (n ∷ ns) other apart = grind (arith, others_forgotten source ns other apart, skips, eqb-true)
 
 -- whose test is that of a copy of the notes
 pub selected_by : (r s : SubjectNotes) (top source : ℕ) (rank : Rank) (m : ℕ) (lent : List Note) (b : Bool) → r ≡ s → AreFrom 0 top r.notes → lent ≡ r.notes → b ≡ list_any (outranks r.timeout source rank m) lent → IsTrue (not b) ↔ IsFirst s source rank m

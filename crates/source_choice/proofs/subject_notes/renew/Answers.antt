@@ -11,19 +11,14 @@ put-requires-clause-room c =
     omega (arith, few, c.requires.room)
 
 pub returns-then-is_at-clause-items : goal.returns-then-is_at-clause-items
-returns-then-is_at-clause-items c =
-    set_at c.args.note c.place_of-place.result c.args.notes.now.items c.deref.result.now c.deref-2.result.now c.deref.ensures.value c.deref-2.ensures.value c.place_of-place.ensures.place (c.is_at.ensures.here c.if-is_at.true)
+returns-then-is_at-clause-items c = grind (arith, set_at)
 
 pub returns-then-is_at-clause-kept : goal.returns-then-is_at-clause-kept
-returns-then-is_at-clause-kept c =
-    let same = set_at c.args.note c.place_of-place.result c.args.notes.now.items c.deref.result.now c.deref-2.result.now c.deref.ensures.value c.deref-2.ensures.value c.place_of-place.ensures.place (c.is_at.ensures.here c.if-is_at.true) in
-    rw same (from_with 0 c.args.sources c.args.note c.args.notes.now.items (omega arith) c.requires.below c.requires.kept)
+returns-then-is_at-clause-kept c = grind (arith, set_at, from_with)
 
 pub returns-else-is_at-clause-items : goal.returns-else-is_at-clause-items
 returns-else-is_at-clause-items c =
     c.put.ensures.items ∙ insert_at c.args.note c.place_of-place.result c.args.notes.now.items c.deref.result.now c.deref-2.result.now c.deref.ensures.value c.deref-2.ensures.value c.place_of-place.ensures.place (c.is_at.ensures.elsewhere c.if-is_at.false)
 
 pub returns-else-is_at-clause-kept : goal.returns-else-is_at-clause-kept
-returns-else-is_at-clause-kept c =
-    let same = c.put.ensures.items ∙ insert_at c.args.note c.place_of-place.result c.args.notes.now.items c.deref.result.now c.deref-2.result.now c.deref.ensures.value c.deref-2.ensures.value c.place_of-place.ensures.place (c.is_at.ensures.elsewhere c.if-is_at.false) in
-    rw same (from_with 0 c.args.sources c.args.note c.args.notes.now.items (omega arith) c.requires.below c.requires.kept)
+returns-else-is_at-clause-kept c = grind (arith, insert_at, from_with)
