@@ -7,7 +7,7 @@ use Rattle.iso_transport.specs.declared.key.IsoKey.{IsoKey}
 use Rattle.iso_transport.specs.Assembly.{is_from, is_addressed}
 use Rattle.history.proofs.KeySteps.{eqb-sym}
 use Rattle.gate_model.specs.Sessions.{without_source, without_addressed, is_given_up, sessions_kept}
-use Rattle.gate_model.proofs.SessionMaps.{filtered_twice}
+use Rattle.gate_model.proofs.FastMaps.{filtered_twice}
 use Rattle.gate_model.proofs.SessionTraces.{and_no}
 
 and_yes : (x : Bool) → (x && true) ≡ x

@@ -36,7 +36,8 @@ use Rattle.gate_model.specs.Orders.{OrdersIso}
 use Rattle.gate_model.specs.Sessions.{without_source, lost_of_source, lost_addressed, is_given_up}
 use Rattle.gate_model.specs.SessionLaws.{StandsFor, GivesUp, ClaimsGiveUp, CommandsGiveUp}
 use Rattle.gate_model.proofs.SessionKept.{at_source, from_is, filtered_none, source_gone, both_gone, kept_is}
-use Rattle.gate_model.proofs.SessionMaps.{filtered_twice, remaining_map, remaining_at, told}
+use Rattle.gate_model.proofs.FastMaps.{filtered_twice, remaining_at, remaining_map}
+use Rattle.gate_model.proofs.SessionMaps.{told}
 use Rattle.gate_model.proofs.SessionTraces.{and_no, is_held, message_is, past}
 use Rattle.gate_model.proofs.SessionTimes.{standing_holds, none_is}
 

@@ -30,7 +30,8 @@ use Rattle.history.proofs.SlotLists.{slots_list_iso}
 use Rattle.gate_model.specs.Orders.{OrdersIso}
 use Rattle.gate_model.specs.Endings.{sessions_overdue}
 use Rattle.gate_model.specs.SessionLaws.{StandsFor, StandingHolds, NothingStands, EndsInTime, TimeEndsSessions}
-use Rattle.gate_model.proofs.SessionMaps.{remaining_map, told}
+use Rattle.gate_model.proofs.FastMaps.{remaining_map}
+use Rattle.gate_model.proofs.SessionMaps.{told}
 use Rattle.gate_model.proofs.SessionTraces.{no_trace, is_held, message_is}
 
 holds_open : (cmp : IsoKey → IsoKey → Ordering) → OrdersIso cmp → (r : Receiver) (s : ℕ) (h : History) (m : ℕ) (slots : SlotMap IsoKey) → IsReceiver r
