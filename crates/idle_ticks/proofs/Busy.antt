@@ -53,6 +53,10 @@ nothing_there : (es : List Emit) → not (is_there es) ≡ true → es ≡ []
 nothing_there [] none = refl
 nothing_there (e ∷ es) none = absurd (cc)
 
+pub earlier : (m n : ℕ) (es : List Entry) → m ≤ n → BeginFrom n es → BeginFrom m es
+earlier m n [] le from = tt
+earlier m n (e ∷ es) le from = omega (arith, le, from)
+
 module _ (p : Parts) (s : ℕ) where
   -- an event that is accepted is the last one then, or its command is, at the same moment
   now_is : (h : History) (e : Entry) (d : Option Message) → now (with_command p s h e (command_in p.gateway s d (moment_of e))).after ≡ moment_of e
@@ -63,12 +67,8 @@ module _ (p : Parts) (s : ℕ) where
       by None = refl
       by (Some address) = refl
 
-  now_after : (h : History) (e : Entry) → now h ≤ moment_of e → now (stepped p s h e).after ≡ moment_of e
+  pub now_after : (h : History) (e : Entry) → now h ≤ moment_of e → now (stepped p s h e).after ≡ moment_of e
   now_after h e le = rw (le-leb (now h) (moment_of e) le) (now_is h e (done (receiver_of p.gateway) s h e))
-
-  earlier : (m n : ℕ) (es : List Entry) → m ≤ n → BeginFrom n es → BeginFrom m es
-  earlier m n [] le from = tt
-  earlier m n (e ∷ es) le from = omega (arith, from)
 
   begins : (h : History) (m : ℕ) (es : List Entry) → AreFrom m es → BeginFrom m (busy p s h es)
   begins h m [] from = tt

@@ -1,6 +1,6 @@
 -- An event of a run and its line in the recording: what the line gives when it is read is what the event gave.
 use Rattle.std.proofs.Common.{◌≡◌, ℕ, ◌^◌, ◌<◌, ◌≤◌, Bool, true, false, List, [], ◌∷◌, ◌++◌, length, refl, sym, ap, subst, ◌∙◌, arith}
-use Rattle.std.specs.Prelude.{◌&&◌, nat_lt, codes, option_map, Option, Some, None, Result, Ok}
+use Rattle.std.specs.Prelude.{◌&&◌, nat_lt, codes, Result, Ok}
 use Rattle.std.specs.List.{AllByRecursion}
 use Rattle.std.proofs.lemmas.Bool.{le-leb, lt-ltb}
 use Rattle.gate_events.specs.Emit.{Emitted}
@@ -13,14 +13,13 @@ use Rattle.capture_text.specs.Writing.{datagram_text, frame_text}
 use Rattle.capture_text.proofs.Again.{events_are_read_back}
 use Rattle.unit_fraction.specs.Text.{decimal_text}
 use Rattle.history.specs.Emits.{at}
-use Rattle.history.specs.Entries.{Entry, History, command, moment_of, now, tick}
-use Rattle.history.specs.Gate.{Stepped, command_in}
-use Rattle.history.specs.Messages.{Message, done, ordered_in}
-use Rattle.history.specs.Settings.{receiver_of}
-use Rattle.bridge.specs.Gate.{all_out, from_events, stepped, with_command}
+use Rattle.history.specs.Entries.{History, moment_of, now, tick}
+use Rattle.history.specs.Gate.{Stepped}
+use Rattle.bridge.specs.Gate.{all_out, from_events, stepped}
 use Rattle.bridge.specs.Parts.{Parts}
 use Rattle.bridge.specs.Replayed.{AreRead, Running, entry_of, event_in, events_in}
 use Rattle.idle_ticks.specs.Idle.{BeginFrom}
+use Rattle.idle_ticks.proofs.Busy.{earlier, now_after}
 use Rattle.idle_ticks.proofs.Events.{idle_ticks}
 use Rattle.serving.specs.Recorded.{made_in, recorded_in}
 use Rattle.serving.specs.Turns.{Item, all_made, emitted_at, event_line, is_recorded, received, recorded, recorded_where, with_event}
@@ -46,12 +45,8 @@ module _ (p : Parts) where
   restated m s h lines lines' emits emits' line emit x =
       subst (λ (z : List Emitted). IsAgain p m s h lines' z) emit (subst (λ (z : List (List ℕ)). IsAgain p m s h z emits) line x)
 
-  later : (m n : ℕ) (es : List Entry) → m ≤ n → BeginFrom n es → BeginFrom m es
-  later m n [] le from = tt
-  later m n (e ∷ es) le from = omega (arith, le, from)
-
   pub weaker : (m n s : ℕ) (h : History) (lines : List (List ℕ)) (emits : List Emitted) → m ≤ n → IsAgain p n s h lines emits → IsAgain p m s h lines emits
-  weaker m n s h lines emits le x = record { are_read = x.are_read; are_plain = x.are_plain; from = later m n (events_in lines) le x.from; same = x.same }
+  weaker m n s h lines emits le x = record { are_read = x.are_read; are_plain = x.are_plain; from = earlier m n (events_in lines) le x.from; same = x.same }
 
   -- ---- an event that has a line
 
@@ -135,22 +130,10 @@ module _ (p : Parts) where
 
   -- ---- the moment that an event leaves
 
-  module _ (s : ℕ) where
-    now_is : (h : History) (e : Entry) (d : Option Message) → now (with_command p s h e (command_in p.gateway s d (moment_of e))).after ≡ moment_of e
-    now_is h e None = refl
-    now_is h e (Some d) = by (ordered_in p.gateway.name d.pgn d.payload)
-      where
-        by : (x : Option ℕ) → now (with_command p s h e (option_map (λ address. command (moment_of e) d.source address) x)).after ≡ moment_of e
-        by None = refl
-        by (Some address) = refl
-
-    now_after : (h : History) (e : Entry) → now h ≤ moment_of e → now (stepped p s h e).after ≡ moment_of e
-    now_after h e le = let accepts = le-leb (now h) (moment_of e) le in rw accepts (now_is h e (done (receiver_of p.gateway) s h e))
-
   same_moment : (e : Seen) → moment_of (entry_of e) ≡ moment_in e
   same_moment (capture.frame m f) = refl
   same_moment (capture.datagram m bytes) = refl
   same_moment (capture.tick m) = refl
 
   pub event_now : (e : Seen) (g : Running) → now g.history ≤ moment_in e → now (with_event p e g).after.history ≡ moment_in e
-  event_now e g le = now_after g.start g.history (entry_of e) (subst (λ (m : ℕ). now g.history ≤ m) (sym (same_moment e)) le) ∙ same_moment e
+  event_now e g le = now_after p g.start g.history (entry_of e) (subst (λ (m : ℕ). now g.history ≤ m) (sym (same_moment e)) le) ∙ same_moment e
