@@ -64,6 +64,9 @@ last_held holder last = record { timeout = last.timeout; message = held_in holde
 abbrev pub last_with : Row → Option SelectedMessage → LastOfRow → LastOfRow
 last_with row new last = record { timeout = last.timeout; message = newer_message row new last.message }
 
+abbrev pub last_after : (ℕ → Option Name) → Row → Option SelectedMessage → LastOfRow → LastOfRow
+last_after holder row new last = last_with row new (last_held holder last)
+
 abbrev pub rows_held : (ℕ → Option Name) → Join → Join
 rows_held holder j = record j {
   time = last_held holder j.time;
