@@ -426,7 +426,7 @@ preset = [{ address = 1, name = "0000000000000001" }, { address = 2, name = "000
 fn said(alloc: Global, file: &[u8]) -> FaultLine {
     let mut line = FaultLine::new();
     let _fits = match read_whole(alloc, file) {
-        Ok(_) => line.try_extend_from_slice(b"ok"),
+        Ok(_accepted) => line.try_extend_from_slice(b"ok"),
         Err(fault) => match fault.line() {
             Some(wrong) => line.try_extend_from_slice(wrong.as_slice()),
             None => line.try_extend_from_slice(b"memory"),

@@ -38,7 +38,7 @@ pub fn check<F: Files, K: Sink>(alloc: Global, name: &str, files: &mut F, out: &
     ensures quiet { IsEarly (number result) → out.new ≡ out.old }
 {
     match load_whole(alloc, name, files) {
-        Ok(_) => accept(out),
+        Ok(_accepted) => accept(out),
         Err(why) => give_up(&why, out),
     }
 }
