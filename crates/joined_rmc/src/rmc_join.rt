@@ -10,7 +10,7 @@ ghost use Rattle.gate_model.specs.AddressStands.{name_held};
 ghost use Rattle.joined_rmc.specs.JoinStands.{IsJoinStep, JoinStands};
 ghost use Rattle.selected_messages.specs.Picked.{IsMessageValid};
 ghost use Rattle.joined_rmc.specs.Lasting.{says_position};
-ghost use Rattle.joined_rmc.specs.Kept.{Join, bytes_in, counted, datagram_in, is_due_message, join_after, join_says, join_with, minimum_in, empty_join, rows_held, rows_with, with_says};
+ghost use Rattle.joined_rmc.specs.Kept.{Join, bytes_in, counted, datagram_in, is_due_message, join_with, minimum_in, empty_join, rows_held, rows_with, with_says};
 ghost use Rattle.joined_rmc.specs.RmcOut.{datagram_by, rule_by};
 
 use crate::last_of_row::{LastOfRow, is_of};
@@ -91,26 +91,20 @@ impl RmcJoin {
         ensures history { IsJoinStep gateway.now emits.now self.old self.new result packet.new.items }
     {
         let moment = gateway.moment();
+        self.forget_lost(gateway);
         let new = SelectedMessage::of(gateway, emits);
-        self.take(moment, gateway, &new, packet)
+        self.take(moment, &new, packet)
     }
 
     /// Takes the message that the step at this moment selected, or none, as most steps do.
     #[inline(always)]
-    fn take(
-        &mut self,
-        moment: u64,
-        gateway: &Gateway,
-        new: &Option<SelectedMessage>,
-        packet: &mut Packet,
-    ) -> bool
+    fn take(&mut self, moment: u64, new: &Option<SelectedMessage>, packet: &mut Packet) -> bool
         requires empty { packet.old.items ≡ [] }
         requires valid { IsMessageValid new.now }
-        ensures after { self.new ≡ join_after (name_held gateway.now.addresses.claims.holders) new.now self.old }
+        ensures after { self.new ≡ join_with new.now self.old }
         ensures says { result ≡ is_due_message new.now }
-        ensures packet { packet.new.items ≡ bytes_in (join_says moment (name_held gateway.now.addresses.claims.holders) new.now self.old) }
+        ensures packet { packet.new.items ≡ bytes_in (with_says moment new.now self.old) }
     {
-        self.forget_lost(gateway);
         match new {
             None => false,
             Some(new) => self.hear(moment, new, packet),
@@ -127,8 +121,8 @@ impl RmcJoin {
         self.heading.forget_lost(gateway);
     }
 
-    /// Hears the message that was selected at this moment. It is kept apart, so that steps that select none make no room for one.
-    #[inline(never)]
+    /// Hears the message that was selected at this moment.
+    #[inline(always)]
     fn hear(&mut self, moment: u64, new: &SelectedMessage, packet: &mut Packet) -> bool
         requires empty { packet.old.items ≡ [] }
         requires valid { IsValid new.now.reading }
