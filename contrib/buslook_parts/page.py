@@ -18,9 +18,9 @@ from .style import SCRIPT, STYLE
 SHOWN_ROWS = 40
 # the rules by which messages, and groups of lines, end before they are whole
 ENDS = (
-    ("messages that ended unfinished (rules 11, 14, 16, 17, 19, 21)", (11, 14, 16, 17, 19, 21)),
-    ("frames of a wrong length, which end an open message (rules 13, 18)", (13, 18)),
-    ("lines and groups of lines out of order or too late (rules 40, 42)", (40, 42)),
+    ("messages that ended unfinished", (11, 14, 16, 17, 19, 21)),
+    ("frames of a wrong length, which end an open message", (13, 18)),
+    ("lines and groups of lines out of order or too late", (40, 42)),
 )
 
 
@@ -266,7 +266,8 @@ def how_much(recording, scale):
              "lines that were refused", "empty lines", "frames to the bus", "datagrams to the network", "sentences to the network", "messages said to the network")
     counts = [(name, recording.counts[name]) for name in names]
     counts.append(("reports", sum(recording.rules.values())))
-    counts += [(name, sum(recording.rules[rule] for rule in rules)) for name, rules in ENDS]
+    for name, rules in ENDS:
+        counts.append((f"{name} (rules {', '.join(map(str, rules))})", sum(recording.rules[rule] for rule in rules)))
     sentences = [(f"<code>{text(name)}</code>", count) for name, count in recording.sentences.all()]
     heard = [heard_row(key, count) for key, count in recording.heard_sources.all()]
     body = rates_drawn(recording, scale) if scale is not None else ""
