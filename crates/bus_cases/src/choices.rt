@@ -17,11 +17,9 @@ const SECOND_BEST: Rank = Rank {
 /// The numbers of subjects that several sources say something of.
 const HEADING: usize = 0;
 
-const DEPTH: usize = 1;
+const TIME: usize = 1;
 
-const TIME: usize = 2;
-
-const TIMEOUTS: [u32; 3] = [2_000; 3];
+const TIMEOUTS: [u32; 2] = [2_000; 2];
 
 /// The devices of a manufacturer.
 fn made_by(manufacturer: u16) -> Pattern {
@@ -29,22 +27,6 @@ fn made_by(manufacturer: u16) -> Pattern {
         manufacturer: Some(manufacturer),
         ..Pattern::default()
     }
-}
-
-#[test]
-fn the_second_source_waits_until_the_first_is_silent_or_says_nothing(
-    rt: HostRuntime,
-) -> Result<(), Fail> {
-    let mut choice = Choice::new(rt.alloc(), 254, &TIMEOUTS)?;
-    choice.note(HEADING, 23, FIRST, 100 * SECOND, true);
-    assert!(rt; !choice.selected(HEADING, 24, SECOND_BEST, 102 * SECOND));
-    assert!(rt; choice.selected(HEADING, 24, SECOND_BEST, 102 * SECOND + 1));
-    assert!(rt; choice.selected(DEPTH, 24, SECOND_BEST, 100 * SECOND));
-    choice.note(HEADING, 24, SECOND_BEST, 102 * SECOND + 1, true);
-    assert!(rt; choice.selected(HEADING, 23, FIRST, 102 * SECOND + 100));
-    choice.note(HEADING, 23, FIRST, 102 * SECOND + 100, false);
-    assert!(rt; choice.selected(HEADING, 24, SECOND_BEST, 102 * SECOND + 101));
-    Ok(())
 }
 
 #[test]

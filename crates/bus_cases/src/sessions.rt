@@ -14,12 +14,12 @@ const GNSS: u32 = 129029;
 /// An RTS of 1785 bytes in 255 packets, of which any number may be granted at once.
 const RTS: [u8; 8] = [0x10, 0xF9, 0x06, 0xFF, 0xFF, 0x05, 0xF8, 0x01];
 
-/// What became of a frame; a complete message is told by its PGN and by whether it is the one that was sent.
+/// What became of a frame; a complete message is told by its PGN.
 #[derive(Clone, Copy, PartialEq, Eq)]
 enum Told {
     Ignored,
     Held,
-    Complete(u32, bool),
+    Complete(u32),
     Repeat,
     Refused(IsoRefusal),
 }
@@ -45,7 +45,7 @@ struct Sent<'a> {
     at: u64,
 }
 
-fn fed(assembler: &mut IsoAssembler, sent: Sent<'_>, message: &[u8]) -> Answer {
+fn fed(assembler: &mut IsoAssembler, sent: Sent<'_>) -> Answer {
     let parts = Parts {
         priority: 7,
         pgn: sent.pgn,
@@ -59,7 +59,7 @@ fn fed(assembler: &mut IsoAssembler, sent: Sent<'_>, message: &[u8]) -> Answer {
     let told = match answer.outcome {
         IsoOutcome::Ignored => Told::Ignored,
         IsoOutcome::Held => Told::Held,
-        IsoOutcome::Complete { pgn, view } => Told::Complete(pgn, view.bytes == message),
+        IsoOutcome::Complete { pgn, .. } => Told::Complete(pgn),
         IsoOutcome::Repeat => Told::Repeat,
         IsoOutcome::Refused(refusal) => Told::Refused(refusal),
     };
@@ -110,82 +110,6 @@ fn grant(count: u8, next: u8) -> [u8; 8] {
 /// The abort with this reason.
 fn abort(reason: u8) -> [u8; 8] {
     [0xFF, reason, 0xFF, 0xFF, 0xFF, 0x05, 0xF8, 0x01]
-}
-
-#[test]
-fn the_longest_message_gets_its_grants_and_its_acknowledgement(
-    rt: HostRuntime,
-) -> Result<(), Fail> {
-    let message = [0x5A; 1785];
-    let mut assembler = IsoAssembler::new(rt.alloc(), 1)?;
-    assert!(rt;
-        fed(
-            &mut assembler,
-            to_own(CONNECTION_MANAGEMENT, &RTS, 10_250_000),
-            &message
-        ) == replied(grant(8, 1), Told::Held)
-    );
-    for number in 1..=255u8 {
-        let bytes = packet(number, &message[..7]);
-        let answer = fed(
-            &mut assembler,
-            to_own(DATA_TRANSFER, &bytes, 10_300_000),
-            &message,
-        );
-        let want = match number {
-            8 => replied(grant(8, 9), Told::Held),
-            240 => replied(grant(8, 241), Told::Held),
-            248 => replied(grant(7, 249), Told::Held),
-            255 => replied(
-                [0x13, 0xF9, 0x06, 0xFF, 0xFF, 0x05, 0xF8, 0x01],
-                Told::Complete(GNSS, true),
-            ),
-            _ if number % 8 == 0 => replied(grant(8, number.wrapping_add(1)), Told::Held),
-            _ => quiet(Told::Held),
-        };
-        assert!(rt; answer == want);
-    }
-    assert!(rt; assembler.count() == 0);
-    Ok(())
-}
-
-#[test]
-fn the_shortest_message_to_all_completes_without_a_reply(rt: HostRuntime) -> Result<(), Fail> {
-    let message = [0x01, 0x00, 0xC0, 0xFF, 0x00, 0x82, 0x32, 0xC0, 0x64];
-    let frames = [
-        (
-            CONNECTION_MANAGEMENT,
-            [0x20, 0x09, 0x00, 0x02, 0xFF, 0xD8, 0xFE, 0x00],
-            Told::Held,
-        ),
-        (
-            DATA_TRANSFER,
-            [0x01, 0x01, 0x00, 0xC0, 0xFF, 0x00, 0x82, 0x32],
-            Told::Held,
-        ),
-        (
-            DATA_TRANSFER,
-            [0x02, 0xC0, 0x64, 0xFF, 0xFF, 0xFF, 0xFF, 0xFF],
-            Told::Complete(65240, true),
-        ),
-        (
-            DATA_TRANSFER,
-            [0x02, 0xC0, 0x64, 0xFF, 0xFF, 0xFF, 0xFF, 0xFF],
-            Told::Refused(IsoRefusal::Orphan),
-        ),
-    ];
-    let mut assembler = IsoAssembler::new(rt.alloc(), 8)?;
-    for (pgn, bytes, told) in frames {
-        let sent = Sent {
-            pgn,
-            to: ALL,
-            from: 23,
-            bytes: &bytes,
-            at: 10_000_000,
-        };
-        assert!(rt; fed(&mut assembler, sent, &message) == quiet(told));
-    }
-    Ok(())
 }
 
 #[test]
@@ -319,7 +243,7 @@ fn frames_that_open_nothing_have_their_answer(rt: HostRuntime) -> Result<(), Fai
             bytes,
             at: 10_000_000,
         };
-        assert!(rt; fed(&mut assembler, sent, &[]) == want);
+        assert!(rt; fed(&mut assembler, sent) == want);
     }
     assert!(rt; assembler.count() == 0);
     Ok(())
@@ -352,18 +276,13 @@ fn packets_that_end_a_session_have_their_reply(rt: HostRuntime) -> Result<(), Fa
         assert!(rt;
             fed(
                 &mut assembler,
-                to_own(CONNECTION_MANAGEMENT, &RTS, 1_000_000),
-                &[]
+                to_own(CONNECTION_MANAGEMENT, &RTS, 1_000_000)
             ) == replied(grant(8, 1), Told::Held)
         );
         assert!(rt;
-            fed(
-                &mut assembler,
-                to_own(DATA_TRANSFER, &first, 1_000_000),
-                &[]
-            ) == quiet(Told::Held)
+            fed(&mut assembler, to_own(DATA_TRANSFER, &first, 1_000_000)) == quiet(Told::Held)
         );
-        assert!(rt; fed(&mut assembler, to_own(pgn, bytes, 1_000_000), &[]) == want);
+        assert!(rt; fed(&mut assembler, to_own(pgn, bytes, 1_000_000)) == want);
         assert!(rt; assembler.count() == 0);
     }
     Ok(())
@@ -378,8 +297,7 @@ fn the_first_grant_is_the_window(rt: HostRuntime) -> Result<(), Fail> {
         assert!(rt;
             fed(
                 &mut assembler,
-                to_own(CONNECTION_MANAGEMENT, &rts, 1_000_000),
-                &[]
+                to_own(CONNECTION_MANAGEMENT, &rts, 1_000_000)
             ) == replied(grant(granted, 1), Told::Held)
         );
         // two packets are fewer than most windows
@@ -387,8 +305,7 @@ fn the_first_grant_is_the_window(rt: HostRuntime) -> Result<(), Fail> {
         assert!(rt;
             fed(
                 &mut assembler,
-                to_own(CONNECTION_MANAGEMENT, &short, 1_000_000),
-                &[]
+                to_own(CONNECTION_MANAGEMENT, &short, 1_000_000)
             ) == (Some(GNSS), Some(grant(granted.min(2), 1)), Told::Held)
         );
     }
@@ -414,24 +331,15 @@ fn a_session_waits_longer_for_what_was_granted(rt: HostRuntime) -> Result<(), Fa
         let _ = fed(
             &mut assembler,
             to_own(CONNECTION_MANAGEMENT, &RTS, 5_000_000),
-            &[],
         );
         for number in 1..=packets {
             let bytes = packet(number, &[0x5A; 7]);
-            let _ = fed(
-                &mut assembler,
-                to_own(DATA_TRANSFER, &bytes, 5_000_000),
-                &[],
-            );
+            let _ = fed(&mut assembler, to_own(DATA_TRANSFER, &bytes, 5_000_000));
         }
         // the last packet again gains no time, and gets no reply
         if packets > 0 {
             let again = packet(packets, &[0x5A; 7]);
-            let answer = fed(
-                &mut assembler,
-                to_own(DATA_TRANSFER, &again, 5_700_000),
-                &[],
-            );
+            let answer = fed(&mut assembler, to_own(DATA_TRANSFER, &again, 5_700_000));
             assert!(rt; answer == quiet(Told::Repeat));
         }
         assert!(rt; assembler.expire_one(last) == None);
@@ -452,7 +360,7 @@ fn sessions_end_in_the_order_of_their_keys(rt: HostRuntime) -> Result<(), Fail> 
             bytes,
             at: 1_000_000,
         };
-        assert!(rt; fed(&mut assembler, sent, &[]).2 == Told::Held);
+        assert!(rt; fed(&mut assembler, sent).2 == Told::Held);
     }
     let sent = Sent {
         pgn: CONNECTION_MANAGEMENT,
@@ -462,7 +370,7 @@ fn sessions_end_in_the_order_of_their_keys(rt: HostRuntime) -> Result<(), Fail> 
         at: 1_100_000,
     };
     assert!(rt;
-        fed(&mut assembler, sent, &[]) == replied(abort(1), Told::Refused(IsoRefusal::Full(GNSS)))
+        fed(&mut assembler, sent) == replied(abort(1), Told::Refused(IsoRefusal::Full(GNSS)))
     );
     let ended = |addressed: bool, source: u8, pgn: u32| Some(IsoEnded {
         addressed,
@@ -474,23 +382,5 @@ fn sessions_end_in_the_order_of_their_keys(rt: HostRuntime) -> Result<(), Fail> 
     assert!(rt; assembler.drop_addressed() == ended(true, 23, GNSS));
     assert!(rt; assembler.drop_source(24) == ended(true, 24, GNSS));
     assert!(rt; assembler.drop_addressed() == None);
-    Ok(())
-}
-
-#[test]
-fn as_many_sessions_are_open_as_the_greatest_limit(rt: HostRuntime) -> Result<(), Fail> {
-    let bam = [0x20, 0xF9, 0x06, 0xFF, 0xFF, 0x05, 0xF8, 0x01];
-    let mut assembler = IsoAssembler::new(rt.alloc(), 32)?;
-    for from in 0..32 {
-        let sent = Sent {
-            pgn: CONNECTION_MANAGEMENT,
-            to: ALL,
-            from,
-            bytes: &bam,
-            at: 0,
-        };
-        assert!(rt; fed(&mut assembler, sent, b"") == quiet(Told::Held));
-    }
-    assert!(rt; assembler.count() == 32);
     Ok(())
 }

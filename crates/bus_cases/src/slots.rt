@@ -106,16 +106,3 @@ fn an_entry_expires_after_its_gap_and_the_least_key_first(rt: HostRuntime) -> Re
     assert!(rt; slots.expire_one(151) == None);
     Ok(())
 }
-
-#[test]
-fn as_many_entries_are_held_as_the_greatest_limit_of_fast_packets(
-    rt: HostRuntime,
-) -> Result<(), Fail> {
-    let mut slots: Slots<u16, 224, 7> = Slots::new(rt.alloc(), 256)?;
-    for key in 0..256 {
-        assert!(rt; matches!(slots.begin(key, b"ab", 32, 100, 50, 1), Begun::Held { .. }));
-    }
-    assert!(rt; matches!(slots.begin(256, b"ab", 32, 100, 50, 1), Begun::Full));
-    assert!(rt; slots.count() == 256);
-    Ok(())
-}

@@ -14,14 +14,6 @@ pub(crate) enum Seen<'a> {
     Datagram(&'a [u8]),
     /// The source and the PGN.
     Source(u8, u8, u32),
-    /// An address of the bus.
-    Address(u8, u8),
-    /// A place in the datagram.
-    At(u8, u16),
-    /// A place in the datagram, and a field there.
-    Field(u8, u16, u8),
-    /// The source and the code of a group.
-    Group(u8, [u8; 6], u16),
     Report(u8),
 }
 

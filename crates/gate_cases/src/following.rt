@@ -26,7 +26,7 @@ fn step_frame(gateway: &mut Gateway, moment: u64, id: u32, bytes: &[u8], out: &m
 }
 
 /// Takes what comes, and then the command that it gives.
-pub(crate) fn take(gateway: &mut Gateway, moment: u64, comes: Comes, out: &mut Outbox) {
+fn take(gateway: &mut Gateway, moment: u64, comes: Comes, out: &mut Outbox) {
     step(gateway, moment, comes, out);
     match out.command() {
         Some(command) => {
@@ -38,7 +38,7 @@ pub(crate) fn take(gateway: &mut Gateway, moment: u64, comes: Comes, out: &mut O
 }
 
 /// The emit at the place.
-pub(crate) fn seen_at(out: &Outbox, place: usize) -> Option<Seen<'_>> {
+fn seen_at(out: &Outbox, place: usize) -> Option<Seen<'_>> {
     match out.item(place) {
         Some(Emit::Can(frame)) => Some(Seen::Frame(frame.id, u64::from_be_bytes(frame.bytes))),
         Some(Emit::Net(_, bytes)) => Some(Seen::Datagram(bytes)),
@@ -50,18 +50,12 @@ pub(crate) fn seen_at(out: &Outbox, place: usize) -> Option<Seen<'_>> {
 fn told(report: &Report) -> Seen<'static> {
     match &report.detail {
         Detail::Source { address, pgn } => Seen::Source(report.rule, *address, *pgn),
-        Detail::Address(address) => Seen::Address(report.rule, *address),
-        Detail::At(at) => Seen::At(report.rule, *at),
-        Detail::AtField { at, field } => Seen::Field(report.rule, *at, *field),
-        Detail::GroupKey { sfi, code } => Seen::Group(report.rule, *sfi.as_bytes(), *code),
-        Detail::Row { .. } | Detail::Nothing | Detail::Line(_) | Detail::Bus | Detail::Net => {
-            Seen::Report(report.rule)
-        }
+        _ => Seen::Report(report.rule),
     }
 }
 
 /// Whether the emits are these, in their order.
-pub(crate) fn are_seen(out: &Outbox, seen: &[Seen<'_>]) -> bool {
+fn are_seen(out: &Outbox, seen: &[Seen<'_>]) -> bool {
     for place in 0..seen.len() {
         if seen_at(out, place) != Some(seen[place]) {
             return false;

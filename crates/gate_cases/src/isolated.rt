@@ -3,7 +3,7 @@ ghost use Rattle.n2k_id.specs.Frame.{IsFrame};
 ghost use Rattle.std.specs.Prelude.{◌≡◌, All, IfOk};
 ghost use Rattle.isolation.specs.Runs.{IsFrameEvent};
 
-use crate::setup::{USUAL, started};
+use crate::setup::started;
 use gate_core::{Done, Gateway};
 use isolation::FrameEvent;
 use isolation::laws::same_from;
@@ -96,8 +96,8 @@ fn says_the_same(alloc: Global, left: &mut Gateway, right: &mut Gateway) -> Resu
 
 #[test]
 fn a_device_says_the_same_beside_another(rt: HostRuntime) -> Result<(), Fail> {
-    let mut left = started(rt.alloc(), USUAL, 0)?;
-    let mut right = started(rt.alloc(), USUAL, 0)?;
+    let mut left = started(rt.alloc(), 0)?;
+    let mut right = started(rt.alloc(), 0)?;
     assert!(rt; says_the_same(rt.alloc(), &mut left, &mut right)?);
     Ok(())
 }

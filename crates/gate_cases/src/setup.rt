@@ -3,27 +3,12 @@ use arrayvec::ArrayVec;
 use claim_table::Preset;
 use config_values::{Config, Ends, RowConfig};
 use gate_core::{Gateway, Outbox};
-use n2k_id::{Name, Pattern};
+use n2k_id::Name;
 use network_routes::{Address, Routes};
 use readings::{ROWS, Row};
 use sentence_text::Sfi;
 use std::alloc::Global;
 use std::test::Fail;
-
-/// How many fast packets, sessions and groups of lines may be in the making.
-#[derive(Clone, Copy)]
-pub(crate) struct Limits {
-    pub(crate) fast: u16,
-    pub(crate) iso: u16,
-    pub(crate) group: u16,
-}
-
-/// Those of a configuration that states none.
-pub(crate) const USUAL: Limits = Limits {
-    fast: 64,
-    iso: 8,
-    group: 8,
-};
 
 /// The NAMEs of the devices at 23 and 24.
 const KNOWN: [(u8, u64); 2] = [(23, 0xC078_8C00_FFC0_0005), (24, 0xC078_8C00_FFC0_0006)];
@@ -42,8 +27,8 @@ fn rows() -> [RowConfig; ROWS] {
     rows
 }
 
-/// Two devices are known, and the network is heard from two sources.
-pub(crate) fn config_of(limits: Limits) -> Config {
+/// Two devices are known, and the network is heard from nobody.
+fn config() -> Config {
     let mut presets = ArrayVec::new();
     for (address, name) in KNOWN {
         let _fits = presets.try_push(Preset {
@@ -51,21 +36,17 @@ pub(crate) fn config_of(limits: Limits) -> Config {
             name: Name(name),
         });
     }
-    let mut net_sources = ArrayVec::new();
-    for source in [b"II0002", b"II0003"] {
-        let _fits = net_sources.try_push(Sfi::of(source).unwrap_or_default());
-    }
     Config {
         name: Name(0xC032_8200_FFC0_0001),
         address: 251,
         sfi: Sfi::of(b"II0001").unwrap_or_default(),
-        fast_slots: limits.fast,
-        iso_slots: limits.iso,
-        group_slots: limits.group,
+        fast_slots: 64,
+        iso_slots: 8,
+        group_slots: 8,
         ths: false,
         presets,
         rows: rows(),
-        net_sources,
+        net_sources: ArrayVec::new(),
         ends: Ends {
             bus_listen: endpoint(b"127.0.0.1:60101"),
             bus_send: endpoint(b"127.0.0.1:60102"),
@@ -76,21 +57,12 @@ pub(crate) fn config_of(limits: Limits) -> Config {
 }
 
 /// A gateway that started at this moment.
-pub(crate) fn started(alloc: Global, limits: Limits, moment: u64) -> Result<Gateway, Fail> {
-    started_ignoring(alloc, &config_of(limits), &ArrayVec::new(), moment)
-}
-
-/// A gateway that started at this moment, by which no row is taken from the devices that a pattern matches.
-pub(crate) fn started_ignoring(
-    alloc: Global,
-    config: &Config,
-    patterns: &ArrayVec<Pattern, 16>,
-    moment: u64,
-) -> Result<Gateway, Fail> {
+pub(crate) fn started(alloc: Global, moment: u64) -> Result<Gateway, Fail> {
+    let config = config();
     if !config.valid() {
         return Err("no configuration".into());
     }
-    let mut gateway = Gateway::ignoring(alloc, config, patterns)?;
+    let mut gateway = Gateway::new(alloc, &config)?;
     let mut out = Outbox::new();
     gateway.start(moment, &mut out);
     Ok(gateway)

@@ -1,7 +1,7 @@
 //! What a gateway and its outbox tell besides the emits.
 use crate::case::{Comes, Seen, Turn};
 use crate::following::{follows, step};
-use crate::setup::{USUAL, started};
+use crate::setup::started;
 use gate_core::{Gateway, HeldCounts, Outbox};
 use n2k_id::Name;
 use std::test::Fail;
@@ -37,13 +37,13 @@ fn is_ready(gateway: &Gateway) -> bool {
 }
 
 /// Whether so many messages of each kind are in the making.
-pub(crate) fn holds(gateway: &Gateway, fast: u16, iso: u16, group: u16) -> bool {
+fn holds(gateway: &Gateway, fast: u16, iso: u16, group: u16) -> bool {
     gateway.held() == HeldCounts { fast, iso, group }
 }
 
 #[test]
 fn the_gateway_tells_how_it_stands(rt: HostRuntime) -> Result<(), Fail> {
-    let mut gateway = started(rt.alloc(), USUAL, 10_000_000)?;
+    let mut gateway = started(rt.alloc(), 10_000_000)?;
     assert!(rt; session_begins(&mut gateway));
     assert!(rt; is_ready(&gateway));
     assert!(rt; holds(&gateway, 0, 1, 0));
@@ -110,7 +110,7 @@ fn tells_command(gateway: &mut Gateway) -> bool {
 
 #[test]
 fn what_is_complete_is_told_until_the_outbox_is_cleared(rt: HostRuntime) -> Result<(), Fail> {
-    let mut gateway = started(rt.alloc(), USUAL, 10_000_000)?;
+    let mut gateway = started(rt.alloc(), 10_000_000)?;
     assert!(rt; tells_heading(&mut gateway));
     assert!(rt; command_begins(&mut gateway));
     assert!(rt; tells_command(&mut gateway));
@@ -138,7 +138,7 @@ const TO_THE_END: [Turn; 6] = [
 
 #[test]
 fn a_gateway_goes_on_to_the_end_of_time(rt: HostRuntime) -> Result<(), Fail> {
-    let mut gateway = started(rt.alloc(), USUAL, 10_000_000)?;
+    let mut gateway = started(rt.alloc(), 10_000_000)?;
     assert!(rt; follows(&mut gateway, &TO_THE_END));
     Ok(())
 }

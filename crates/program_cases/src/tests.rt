@@ -1,7 +1,6 @@
 //! The program over objects in memory, with the bytes and statuses worked out by hand.
 mod configured;
 mod failing;
-mod further;
 
 use crate::outside::{
     PLAIN, Run, SILENT, Way, beside_of, ends_so, joined, listed, sink_of, status_between,
