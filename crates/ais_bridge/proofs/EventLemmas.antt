@@ -14,7 +14,7 @@ use Rattle.history.specs.Settings.{Settings}
 use Rattle.gate_model.specs.Machine.{Machine}
 use Rattle.gate_model.proofs.StandsTimes.{joined}
 use Rattle.gate_outbox.specs.Output.{Emitted, emits_of}
-use Rattle.gate_core.specs.Steps.{entry_of}
+use Rattle.bus_listener.specs.Steps.{entry_of}
 use Rattle.bus_listener.specs.Kept.{Hearing}
 use Rattle.bus_listener.specs.Promises.{IsHeard}
 use Rattle.bus_listener.proofs.EventLemmas.{is_step as hears_so}

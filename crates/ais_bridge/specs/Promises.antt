@@ -11,7 +11,7 @@ use Rattle.history.specs.Opens.{notes_of, open_fast_keys}
 use Rattle.gate_events.specs.Emit.{Emit}
 use Rattle.gate_model.specs.Machine.{Machine}
 use Rattle.gate_model.specs.Stands.{Stands}
-use Rattle.gate_core.specs.Steps.{by_keys}
+use Rattle.bus_listener.specs.Steps.{by_keys}
 use Rattle.bus_listener.specs.Promises.{StandsListening}
 use Rattle.ais_bridge.specs.AisOut.{ais_receiver, ais_out, lines_said, report_kinds}
 use Rattle.ais_bridge.specs.AisKept.{AisKept, AisStep, ais_step}

@@ -2,12 +2,11 @@
 ghost use Rattle.std.specs.Prelude.{◌≡◌, ◌<◌, ◌≤◌, IfOk};
 ghost use Rattle.std.specs.Int.{IsInRange};
 ghost use Rattle.gate_outbox.specs.Output.{emits_of, no_emits};
-ghost use Rattle.gate_core.specs.Steps.{IsEventValid, entry_of};
+ghost use Rattle.bus_listener.specs.Steps.{IsEventValid, entry_of};
 ghost use Rattle.ais_bridge.specs.AisKept.{ais_opened};
 ghost use Rattle.ais_bridge.specs.Promises.{IsAisOpening, IsAisStep, step_by};
 
-use bus_listener::BusListener;
-use gate_core::Gateway;
+use bus_listener::{BusListener, Gateway};
 use gate_events::Event;
 use gate_outbox::Emits;
 use sentence_text::{Group, Sfi};

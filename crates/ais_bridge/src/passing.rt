@@ -2,7 +2,7 @@
 ghost use Rattle.std.specs.Prelude.{◌≡◌, option_map, IfOk, IfSome};
 ghost use Rattle.ais_report.specs.Fields.{IsReport};
 ghost use Rattle.bus_listener.specs.Lent.{heard_message};
-ghost use Rattle.gate_core.specs.Steps.{IsEventValid, entry_of};
+ghost use Rattle.bus_listener.specs.Steps.{IsEventValid, entry_of};
 ghost use Rattle.gate_outbox.specs.Output.{and_left};
 ghost use Rattle.ais_bridge.specs.AisKept.{most_reports, passed_on};
 ghost use Rattle.ais_bridge.specs.Promises.{step_by};
@@ -13,8 +13,7 @@ use crate::kinds::PositionReports;
 use crate::said::Said;
 use crate::writing::write_report;
 use ais_report::{AisFault, convert};
-use bus_listener::HeardMessage;
-use gate_core::Gateway;
+use bus_listener::{Gateway, HeardMessage};
 use gate_events::Event;
 use gate_outbox::reports::of_source;
 use report_rules::{AIS_REPORT_OUTSIDE, SHORT_MESSAGE};

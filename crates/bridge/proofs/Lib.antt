@@ -1,3 +1,4 @@
+pub use Rattle.joined_rmc.proofs.Completed
 pub mod Answers
 pub mod Changes
 pub mod Joins

@@ -15,7 +15,7 @@ use Rattle.history.specs.Settings.{Settings}
 use Rattle.gate_outbox.specs.Output.{Emitted, emits_of}
 use Rattle.bus_identity.specs.Answers.{frames_from}
 use Rattle.bus_identity.specs.Requests.{is_due}
-use Rattle.selected_messages.specs.Selected.{selected_at}
+use Rattle.joined_rmc.specs.Selected.{selected_at}
 use Rattle.source_watch.specs.SourceOut.{changed, told}
 use Rattle.plain_out.specs.Plain.{plain_out}
 use Rattle.plain_out.proofs.Emits.{plain_append}

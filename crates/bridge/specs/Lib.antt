@@ -1,3 +1,14 @@
+pub use Rattle.ais_bridge.specs.AisOut
+pub use Rattle.ais_bridge.specs.Heard
+pub use Rattle.ais_bridge.specs.Kinds
+pub use Rattle.ais_bridge.specs.Reports
+pub use Rattle.further_bridge.specs.FurtherOut
+pub use Rattle.further_bridge.specs.FurtherRule
+pub use Rattle.gate_core.specs.Steps
+pub use Rattle.joined_rmc.specs.Lasting
+pub use Rattle.joined_rmc.specs.RmcOut
+pub use Rattle.joined_rmc.specs.Selected
+pub use Rattle.source_watch.specs.SourceOut
 pub mod Answered
 pub mod Beside
 pub mod BridgeStands

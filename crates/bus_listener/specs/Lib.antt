@@ -1,3 +1,4 @@
+pub use Rattle.gate_core.specs.Steps
 pub mod Kinds
 pub mod Heard
 pub mod Kept

@@ -11,6 +11,7 @@ mod laws;
 mod listener;
 mod message;
 
+pub use gate_core::Gateway;
 pub use kinds::{Kinds, is_told};
 pub use laws::{commands_leave_the_listener, open_messages_keep_the_limit};
 pub use listener::BusListener;

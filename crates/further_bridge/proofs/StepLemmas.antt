@@ -31,7 +31,7 @@ use Rattle.gate_model.proofs.ChoiceClaims.{claims_stand_chosen, other_entries_st
 use Rattle.gate_model.proofs.ChoiceMessages.{messages_fit_chosen, messages_stand_chosen}
 use Rattle.gate_model.proofs.SaidAddresses.{claims_fit}
 use Rattle.gate_outbox.specs.Output.{Emitted, emits_of}
-use Rattle.gate_core.specs.Steps.{entry_of}
+use Rattle.bus_listener.specs.Steps.{entry_of}
 use Rattle.bus_listener.specs.Heard.{heard_out, hears}
 use Rattle.bus_listener.specs.Kept.{Hearing}
 use Rattle.bus_listener.specs.Kinds.{is_message}

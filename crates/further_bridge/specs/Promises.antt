@@ -11,7 +11,7 @@ use Rattle.history.specs.Settings.{Settings}
 use Rattle.gate_model.specs.ChoiceStands.{ChoicesStandFor}
 use Rattle.gate_model.specs.Machine.{Machine}
 use Rattle.gate_model.specs.Stands.{Stands}
-use Rattle.gate_core.specs.Steps.{by_keys}
+use Rattle.bus_listener.specs.Steps.{by_keys}
 use Rattle.bus_listener.specs.Promises.{StandsListening}
 use Rattle.further_bridge.specs.FurtherOut.{further_out, further_receiver, lines_said, quantity_told}
 use Rattle.further_bridge.specs.FurtherRule.{FurtherRule, rule_at}

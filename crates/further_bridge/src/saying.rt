@@ -11,8 +11,7 @@ ghost use Rattle.further_bridge.specs.Kept.{counted, forgotten_at, given_up, has
 use crate::bridge::{FurtherBridge, FurtherEmits};
 use crate::said::Said;
 use crate::writing::write_value;
-use bus_listener::is_told;
-use gate_core::Gateway;
+use bus_listener::{Gateway, is_told};
 use gate_outbox::reports::of_source;
 use n2k_id::address::ADDRESSES;
 use quantities::{Told, Value, usable};

@@ -6,11 +6,11 @@ use Rattle.capture_stream.specs.Answering.{LineGives}
 use Rattle.capture_stream.specs.Lines.{IsTextFrom}
 use Rattle.capture_stream.specs.Progress.{Ends}
 use Rattle.capture_stream.proofs.EndLemmas.{ends_as}
-use Rattle.bridge.specs.BridgeStands.{IsNew}
-use Rattle.bridge.specs.Kept.{Bridged}
-use Rattle.bridge.specs.Parts.{Parts}
-use Rattle.bridge.specs.Replayed.{GivesReplay, IsReplay}
-use Rattle.bridge.proofs.Replays.{replays}
+use Rattle.serving.specs.BridgeStands.{IsNew}
+use Rattle.serving.specs.Kept.{Bridged}
+use Rattle.serving.specs.Parts.{Parts}
+use Rattle.serving.specs.Replayed.{GivesReplay, IsReplay}
+use Rattle.serving.proofs.Replays.{replays}
 use Rattle.statuses.specs.Statuses.{EndsBy, number, status_of}
 use Rattle.statuses.proofs.StatusLemmas.{ends_by}
 

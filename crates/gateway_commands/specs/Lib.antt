@@ -1,3 +1,4 @@
+pub use Rattle.serving.specs.Served
 pub mod DemoCommand
 pub mod ReplayCommand
 pub mod ServeCommand

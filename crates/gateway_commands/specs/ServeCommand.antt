@@ -6,7 +6,7 @@ use Rattle.gate_outside.specs.Faults.{Rose}
 use Rattle.gate_outside.specs.Link.{Attachment, GoesOn, Traffic, attachment}
 use Rattle.settings.specs.declared.further.Further.{Further}
 use Rattle.settings.specs.declared.settings.Settings.{Settings}
-use Rattle.bridge.specs.Parts.{parts_of}
+use Rattle.serving.specs.Parts.{parts_of}
 use Rattle.serving.specs.Served.{Outside, EndsBy, outside}
 use Rattle.config_check.specs.Configuring.{ConfiguresBy, FileSays, IsToldAs}
 use Rattle.statuses.specs.declared.Status.TheVariants as statuses

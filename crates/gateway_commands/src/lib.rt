@@ -10,4 +10,5 @@ mod top_call;
 
 pub use demo_command::demo_with;
 pub use replay::{replay_with, stream};
+pub use serving::{Bridge, Settings, serve_turns};
 pub use top_call::run;

@@ -3,15 +3,15 @@ ghost use Rattle.std.specs.Prelude.{◌≡◌, ◌≢◌};
 ghost use Rattle.gate_outside.specs.Faults.{Rose};
 ghost use Rattle.settings.specs.Further.{IsFurther, nothing_further};
 ghost use Rattle.settings.specs.Settings.{IsSettings};
-ghost use Rattle.bridge.specs.BridgeStands.{IsNew};
-ghost use Rattle.bridge.specs.Parts.{Parts, parts_of};
-ghost use Rattle.bridge.specs.Replayed.{IsReplay};
+ghost use Rattle.serving.specs.BridgeStands.{IsNew};
+ghost use Rattle.serving.specs.Parts.{Parts, parts_of};
+ghost use Rattle.serving.specs.Replayed.{IsReplay};
 ghost use Rattle.gateway_commands.specs.ReplayCommand.{RunsBy};
 ghost use Rattle.statuses.specs.Statuses.{EndsBy, IsReplayStatus, IsStreamStatus, IsUnhindered, SteadyBy, number};
 
-use bridge::{Bridge, Further, Settings};
 use capture_stream::answer_capture;
 use gate_outside::{Sink, Source};
+use serving::{Bridge, Further, Settings};
 use statuses::{Status, status_of};
 use std::alloc::Global;
 

@@ -6,12 +6,11 @@ ghost use Rattle.settings.specs.Settings.{IsSettings};
 ghost use Rattle.statuses.specs.Statuses.{IsEarly, number};
 ghost use Rattle.gateway_commands.specs.ServeCommand.{AttachesBoth, ServesBy, ServesWith};
 
-use bridge::{Bridge, Further, Settings};
 use config_check::{give_up, load_whole};
 use config_values::Ends;
 use gate_outside::{Clock, Failed, Files, Link, Sink};
 use network_routes::Routes;
-use serving::take_turns;
+use serving::{Bridge, Further, Settings, take_turns};
 use statuses::Status;
 use std::alloc::Global;
 

@@ -14,11 +14,11 @@ use Rattle.history.specs.Entries as entry
 use Rattle.history.specs.Gate.{expired, out}
 use Rattle.history.specs.Known.{Known}
 use Rattle.history.specs.Settings.{Settings, receiver_of}
-use Rattle.bus_listener.specs.Heard.{heard_expired}
-use Rattle.joined_rmc.specs.RmcOut.{RmcRule}
-use Rattle.ais_bridge.specs.AisOut.{report_gives, report_kinds}
-use Rattle.further_bridge.specs.FurtherOut.{further_done, message_breaks, said_at, lines_said, said_gives}
-use Rattle.further_bridge.specs.FurtherRule.{FurtherRule}
+use Rattle.bridge.specs.Heard.{heard_expired}
+use Rattle.bridge.specs.RmcOut.{RmcRule}
+use Rattle.bridge.specs.AisOut.{report_gives, report_kinds}
+use Rattle.bridge.specs.FurtherOut.{further_done, message_breaks, said_at, lines_said, said_gives}
+use Rattle.bridge.specs.FurtherRule.{FurtherRule}
 use Rattle.bridge.specs.Answered.{answer_by, answered_before, answers, is_answered, own_after, ready_after, sent_before}
 use Rattle.bridge.specs.Gate.{all_out, beside, changes_of, plain_of, quantities_of, rmc_of, ships_of, tagged_out}
 use Rattle.bridge.specs.Parts.{Parts}

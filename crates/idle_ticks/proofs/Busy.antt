@@ -9,8 +9,8 @@ use Rattle.history.specs.Entries.{Entry, History, frame, datagram, tick, command
 use Rattle.history.specs.Gate.{command_in, opening}
 use Rattle.history.specs.Messages.{Message, done, ordered_in}
 use Rattle.history.specs.Settings.{Settings, receiver_of}
-use Rattle.joined_rmc.specs.RmcOut.{RmcRule}
-use Rattle.further_bridge.specs.FurtherRule.{FurtherRule}
+use Rattle.bridge.specs.RmcOut.{RmcRule}
+use Rattle.bridge.specs.FurtherRule.{FurtherRule}
 use Rattle.bridge.specs.Gate.{all_out, changes_of, from_events, plain_of, quantities_of, rmc_of, ships_of, stepped, with_command}
 use Rattle.bridge.specs.Parts.{Parts}
 use Rattle.idle_ticks.specs.Idle.{AreFrom, BeginFrom, busy, is_idle}

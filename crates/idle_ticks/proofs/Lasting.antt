@@ -11,9 +11,9 @@ use Rattle.history.specs.FromBus.{said_at}
 use Rattle.history.specs.Known.{Known, held_since, known}
 use Rattle.history.specs.Messages.{Message, done}
 use Rattle.history.specs.Settings.{Settings, receiver_of, same_row}
-use Rattle.selected_messages.specs.Selected.{Selected, last_of, newer as newest, saying, selected_at, selected_with}
-use Rattle.selected_messages.proofs.Completed.{done_by}
-use Rattle.joined_rmc.specs.Lasting.{held_by, lasting, said_within, still_held}
+use Rattle.bridge.specs.Selected.{Selected, last_of, newer as newest, saying, selected_at, selected_with}
+use Rattle.bridge.proofs.Completed.{done_by}
+use Rattle.bridge.specs.Lasting.{held_by, lasting, said_within, still_held}
 use Rattle.idle_ticks.proofs.Places.{apart_from, closed, closed_before, closed_order}
 use Rattle.idle_ticks.proofs.Renumbered.{holder_as, since_as}
 use Rattle.idle_ticks.proofs.Known.{known_without}

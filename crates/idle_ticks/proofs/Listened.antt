@@ -18,8 +18,8 @@ use Rattle.history.specs.Messages.{Message, done}
 use Rattle.history.specs.Opens.{notes_of}
 use Rattle.history.specs.Settings.{Settings}
 use Rattle.history.specs.Traces.{NotedFrame}
-use Rattle.bus_listener.specs.Heard.{claim_loses, heard_done, heard_expired, heard_out, heard_refused, hears, is_heard, listener, step_loses}
-use Rattle.bus_listener.specs.Kinds.{is_told}
+use Rattle.bridge.specs.Heard.{claim_loses, heard_done, heard_expired, heard_out, heard_refused, hears, is_heard, listener, step_loses}
+use Rattle.bridge.specs.Kinds.{is_told}
 use Rattle.idle_ticks.proofs.Places.{closed, place_of}
 use Rattle.idle_ticks.proofs.Renumbered.{known_as, step_as}
 use Rattle.idle_ticks.proofs.Known.{known_without}

@@ -6,10 +6,10 @@ use Rattle.readings.specs.declared.reading.Reading.{Reading}
 use Rattle.readings.specs.declared.rows.Row.TheVariants as row
 use Rattle.history.specs.Entries.{Entry, History, moment_of, tick}
 use Rattle.history.specs.Settings.{Settings}
-use Rattle.selected_messages.specs.Selected.{Selected, last_of, selected_at}
-use Rattle.joined_rmc.specs.Lasting.{is_due}
-use Rattle.joined_rmc.specs.RmcOut.{RmcRule, datagram_by, joined_in, lines_before, minimum, minimum_of, rmc_datagram, rmc_out, sent_to, timeout_of}
-use Rattle.source_watch.specs.SourceOut.{change_from, changed, source_out, told}
+use Rattle.bridge.specs.Selected.{Selected, last_of, selected_at}
+use Rattle.bridge.specs.Lasting.{is_due}
+use Rattle.bridge.specs.RmcOut.{RmcRule, datagram_by, joined_in, lines_before, minimum, minimum_of, rmc_datagram, rmc_out, sent_to, timeout_of}
+use Rattle.bridge.specs.SourceOut.{change_from, changed, source_out, told}
 use Rattle.idle_ticks.proofs.Places.{closed}
 use Rattle.idle_ticks.proofs.Lasting.{last_without, lasting_without, selected_as, selected_without}
 use Rattle.idle_ticks.proofs.Gathered.{ap₃}

@@ -1,3 +1,4 @@
+pub use Rattle.selected_messages.proofs.Completed
 pub mod Holders
 pub mod Chosen
 pub mod Rows

@@ -7,10 +7,9 @@ ghost use Rattle.selected_messages.specs.Picked.{IsMessageValid};
 ghost use Rattle.joined_rmc.specs.Lasting.{unless_old};
 ghost use Rattle.joined_rmc.specs.Kept.{none_yet, held_in, in_last, is_named, message_within, lent, last_held, last_with};
 
-use gate_core::Gateway;
 use n2k_id::Name;
 use readings::{Reading, Row, row};
-use selected_messages::SelectedMessage;
+use selected_messages::{Gateway, SelectedMessage};
 
 /// The last message of a row that was selected, while its sender holds its address.
 #[derive(Clone, Copy)]

@@ -2,7 +2,7 @@
 -- tells.
 use Rattle.std.specs.Prelude.{◌≡◌, ◌↔◌, ℕ, List, Option, None}
 use Rattle.gate_outside.specs.Link.{Traffic}
-use Rattle.serving.specs.Served.{outside}
+use Rattle.gateway_commands.specs.Served.{outside}
 use Rattle.command_words.specs.declared.words.LineCommand.{LineCommand}
 use Rattle.config_check.specs.Check.{ChecksBy}
 use Rattle.gateway_commands.specs.DemoCommand.{DemosBy}

@@ -8,11 +8,9 @@ ghost use Rattle.std.specs.Prelude.{◌≡◌, drop, map, string_bytes, IfOk};
 ghost use Rattle.std.specs.Vec.Iter.{into_iter_items};
 ghost use Rattle.process_run.specs.Program.{RunsOver, live};
 
-pub use bridge::{Bridge, Settings};
 pub use command_words::{Command, LineCommand};
 use gate_outside::{Clock, Files, Link, ReaderSource, WriterSink};
-pub use gateway_commands::{demo_with, replay_with, run, stream};
-pub use serving::serve_turns;
+pub use gateway_commands::{Bridge, Settings, demo_with, replay_with, run, serve_turns, stream};
 use statuses::Status;
 use std::alloc::{AllocError, Global};
 use std::env::{Args, Env};

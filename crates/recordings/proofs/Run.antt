@@ -12,10 +12,10 @@ use Rattle.capture_text.proofs.Again.{starts_are_ticks}
 use Rattle.history.specs.Emits.{at}
 use Rattle.history.specs.Entries.{now, tick}
 use Rattle.history.specs.Gate.{Stepped}
-use Rattle.bridge.specs.Gate.{from_events, opening}
-use Rattle.bridge.specs.Parts.{Parts}
-use Rattle.bridge.specs.Replayed.{AreRead, IsReplay, Running, emitted_text, event_in, events_in, gate_of}
-use Rattle.bridge.proofs.Events.{events_are_replayed}
+use Rattle.serving.specs.Gate.{from_events, opening}
+use Rattle.serving.specs.Parts.{Parts}
+use Rattle.serving.specs.Replayed.{AreRead, IsReplay, Running, emitted_text, event_in, events_in, gate_of}
+use Rattle.serving.proofs.Events.{events_are_replayed}
 use Rattle.idle_ticks.proofs.Busy.{start_is_idle}
 use Rattle.idle_ticks.proofs.Events.{idle_ticks}
 use Rattle.serving.specs.Recorded.{made_in, recorded_in}

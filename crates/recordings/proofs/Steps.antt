@@ -15,9 +15,9 @@ use Rattle.unit_fraction.specs.Text.{decimal_text}
 use Rattle.history.specs.Emits.{at}
 use Rattle.history.specs.Entries.{History, moment_of, now, tick}
 use Rattle.history.specs.Gate.{Stepped}
-use Rattle.bridge.specs.Gate.{all_out, from_events, stepped}
-use Rattle.bridge.specs.Parts.{Parts}
-use Rattle.bridge.specs.Replayed.{AreRead, Running, entry_of, event_in, events_in}
+use Rattle.serving.specs.Gate.{all_out, from_events, stepped}
+use Rattle.serving.specs.Parts.{Parts}
+use Rattle.serving.specs.Replayed.{AreRead, Running, entry_of, event_in, events_in}
 use Rattle.idle_ticks.specs.Idle.{BeginFrom}
 use Rattle.idle_ticks.proofs.Busy.{earlier, now_after}
 use Rattle.idle_ticks.proofs.Events.{idle_ticks}

@@ -1,2 +1,3 @@
+pub use Rattle.gate_core.specs.Promises
 pub mod Selected
 pub mod Picked

@@ -6,4 +6,5 @@
 
 mod selected_message;
 
+pub use gate_core::{Gateway, Outbox};
 pub use selected_message::SelectedMessage;

@@ -7,7 +7,7 @@ use Rattle.gate_events.specs.declared.emit.Detail.TheVariants as detail
 use Rattle.gate_events.specs.declared.event.Event.{Event}
 use Rattle.gate_events.specs.declared.event.Event.TheVariants as event
 use Rattle.gate_outside.specs.declared.Failed.{Failed}
-use Rattle.gate_core.specs.Steps as core
+use Rattle.bridge.specs.Steps as core
 use Rattle.gate_events.specs.Emit.{Emit}
 use Rattle.gate_events.specs.Event as capture
 use Rattle.gate_events.specs.Event.{Seen, view}

@@ -1,3 +1,8 @@
+pub use Rattle.bridge.specs.BridgeStands
+pub use Rattle.bridge.specs.Gate
+pub use Rattle.bridge.specs.Kept
+pub use Rattle.bridge.specs.Parts
+pub use Rattle.bridge.specs.Replayed
 pub mod Handing
 pub mod Recorded
 pub mod Served

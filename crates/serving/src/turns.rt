@@ -2,7 +2,7 @@
 ghost use Rattle.std.specs.Prelude.{◌≡◌, ◌⊎◌, ◌∷◌, [], true};
 ghost use Rattle.capture_text.specs.Writing.{CanRecord};
 ghost use Rattle.gate_events.specs.Event.{view};
-ghost use Rattle.gate_core.specs.Steps.{IsEventValid};
+ghost use Rattle.bridge.specs.Steps.{IsEventValid};
 ghost use Rattle.gate_outside.specs.Faults.{Rose};
 ghost use Rattle.gate_outside.specs.Link.{Outcome};
 ghost use Rattle.bridge.specs.Replayed.{RunningStands};

@@ -8,7 +8,7 @@ use Rattle.history.specs.Entries.{Entry, History, command}
 use Rattle.history.specs.Settings.{Settings}
 use Rattle.gate_model.specs.Machine.{Machine}
 use Rattle.gate_outbox.specs.Output.{Output}
-use Rattle.gate_core.specs.Promises.{IsTaken}
+use Rattle.selected_messages.specs.Promises.{IsTaken}
 use Rattle.selected_messages.specs.Selected.{Selected, last_of, selected_at}
 use Rattle.source_watch.specs.Kept.{name_at}
 use Rattle.source_watch.specs.SourceOut.{changed}

@@ -5,12 +5,11 @@ ghost use Rattle.history.specs.Settings.{Settings};
 ghost use Rattle.source_watch.specs.Kept.{change_by, is_by, names_after, no_names};
 ghost use Rattle.source_watch.specs.WatchStands.{IsWatchStep, WatchStands};
 
-use gate_core::{Gateway, Outbox};
 use gate_events::{Detail, Report};
 use n2k_id::Name;
 use readings::{ROWS, row};
 use report_rules::SOURCE_CHANGED;
-use selected_messages::SelectedMessage;
+use selected_messages::{Gateway, Outbox, SelectedMessage};
 use std::marker::Model;
 
 /// The device that each row was taken from last, by the row's number.

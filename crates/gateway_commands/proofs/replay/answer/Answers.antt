@@ -1,5 +1,5 @@
 use Rattle.std.proofs.Common.{subst, sym}
-use Rattle.bridge.specs.Replayed.{IsReplay}
+use Rattle.serving.specs.Replayed.{IsReplay}
 use Rattle.statuses.specs.declared.Status.{Status}
 use Rattle.statuses.specs.Statuses.{EndsBy, SteadyBy, number}
 use Rattle.statuses.proofs.StatusLemmas.{steady_by}

@@ -1,5 +1,5 @@
 use Rattle.std.proofs.Common.{inr}
-use Rattle.bridge.specs.Parts.{parts_of}
+use Rattle.serving.specs.Parts.{parts_of}
 use Rattle.gateway_commands.proofs.replay.replay_settings.Goals as goal
 
 pub returns-in-Ok-clause-runs : goal.returns-in-Ok-clause-runs

@@ -1,7 +1,7 @@
 use Rattle.std.proofs.Common.{◌≤◌, length, ap, subst, ◌∙◌}
 use Rattle.gate_outbox.specs.Output.{and_left}
 use Rattle.gate_outbox.proofs.Telling.{left_first}
-use Rattle.gate_core.specs.Steps.{by_keys, entry_of}
+use Rattle.bus_listener.specs.Steps.{by_keys, entry_of}
 use Rattle.ais_bridge.specs.AisKept.{AisKept, most_reports}
 use Rattle.ais_bridge.specs.Promises.{step_by}
 use Rattle.ais_bridge.proofs.EventLemmas.{taken_step}

@@ -2,7 +2,7 @@ use Rattle.std.proofs.Common.{◌≤◌, ◌++◌, length, length-append, ap, �
 use Rattle.std.specs.Prelude.{option_map}
 use Rattle.gate_outbox.specs.Output.{and_left}
 use Rattle.gate_outbox.proofs.Telling.{left_first}
-use Rattle.gate_core.specs.Steps.{entry_of}
+use Rattle.bus_listener.specs.Steps.{entry_of}
 use Rattle.further_bridge.specs.Kept.{given_up, hearing_by, message_step, most_told, said_of, step_by}
 use Rattle.further_bridge.proofs.MessageLemmas.{message_room}
 use Rattle.further_bridge.proofs.StepLemmas.{taken_step}

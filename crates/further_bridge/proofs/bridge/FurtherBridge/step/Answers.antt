@@ -2,7 +2,7 @@ use Rattle.std.proofs.Common.{◌≤◌, ℕ, subst, sym}
 use Rattle.slot_views.specs.Slots.{SlotMap}
 use Rattle.fast_packet.specs.declared.key.FastKey.{FastKey}
 use Rattle.quantities.specs.Told.{kind_of}
-use Rattle.gate_core.specs.Steps.{entry_of}
+use Rattle.bus_listener.specs.Steps.{entry_of}
 use Rattle.bus_listener.specs.Promises.{IsListening}
 use Rattle.bus_listener.proofs.RoomLemmas.{step_limit}
 use Rattle.further_bridge.specs.Kept.{FurtherKept, hearing_by}
