@@ -1,6 +1,5 @@
 //! What no clause says: that memory is found, and a case of both lists.
 ghost use Rattle.n2k_id.specs.Frame.{IsFrame};
-ghost use Rattle.std.specs.Prelude.{◌≡◌, All, IfOk};
 ghost use Rattle.isolation.specs.Runs.{IsFrameEvent};
 
 use crate::setup::started;
@@ -8,7 +7,7 @@ use gate_core::{Done, Gateway};
 use isolation::FrameEvent;
 use isolation::laws::same_from;
 use n2k_id::{Frame, Name};
-use std::alloc::{AllocError, Global};
+use std::alloc::Global;
 use std::test::Fail;
 
 /// The NAME of the device at 23.
@@ -47,50 +46,22 @@ fn are_log(alone: &[Done], beside: &[Done]) -> bool {
     is_log(alone) && alone == beside
 }
 
-/// Lets a frame of the log come from an address.
-fn append_log(
-    events: &mut Vec<FrameEvent>,
-    moment: u64,
-    source: u8,
-    part: usize,
-) -> Result<(), AllocError>
-    requires { All IsFrameEvent events.old.items }
-    ensures { IfOk result (λ _. All IsFrameEvent events.new.items) }
-{
-    events.push(log(moment, source, part))?;
-    Ok(())
-}
-
-/// The log of the device at 23 alone.
-fn log_alone(alloc: Global) -> Result<Vec<FrameEvent>, AllocError>
-    ensures { IfOk result (λ events. All IsFrameEvent events.items) }
-{
-    let mut events = Vec::new(alloc);
-    append_log(&mut events, 1_000_000, 23, 0)?;
-    append_log(&mut events, 1_001_000, 23, 1)?;
-    append_log(&mut events, 1_002_000, 23, 2)?;
-    Ok(events)
-}
-
-/// The same beside that of the device at 24.
-fn log_beside(alloc: Global) -> Result<Vec<FrameEvent>, AllocError>
-    ensures { IfOk result (λ events. All IsFrameEvent events.items) }
-{
-    let mut events = Vec::new(alloc);
-    append_log(&mut events, 1_000_000, 23, 0)?;
-    append_log(&mut events, 1_000_500, 24, 0)?;
-    append_log(&mut events, 1_001_000, 23, 1)?;
-    append_log(&mut events, 1_001_500, 24, 1)?;
-    append_log(&mut events, 1_002_000, 23, 2)?;
-    append_log(&mut events, 1_002_500, 24, 2)?;
-    Ok(events)
-}
-
-/// Whether the log is all that the device says, alone and beside the other.
+/// Whether the log is all that the device at 23 says, alone and beside that of the device at 24.
 fn says_the_same(alloc: Global, left: &mut Gateway, right: &mut Gateway) -> Result<bool, Fail> {
-    let lefts = log_alone(alloc)?;
-    let rights = log_beside(alloc)?;
-    let (alone, beside) = same_from(alloc, left, right, 23, lefts.as_slice(), rights.as_slice())?;
+    let alone = [
+        log(1_000_000, 23, 0),
+        log(1_001_000, 23, 1),
+        log(1_002_000, 23, 2),
+    ];
+    let beside = [
+        log(1_000_000, 23, 0),
+        log(1_000_500, 24, 0),
+        log(1_001_000, 23, 1),
+        log(1_001_500, 24, 1),
+        log(1_002_000, 23, 2),
+        log(1_002_500, 24, 2),
+    ];
+    let (alone, beside) = same_from(alloc, left, right, 23, &alone, &beside)?;
     Ok(are_log(alone.as_slice(), beside.as_slice()))
 }
 

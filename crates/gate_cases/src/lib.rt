@@ -4,10 +4,6 @@
 #![tactic(auto)]
 
 #[cfg(test)]
-mod case;
-#[cfg(test)]
-mod following;
-#[cfg(test)]
 mod isolated;
 #[cfg(test)]
 mod setup;
