@@ -17,7 +17,7 @@ use n2k_id::{Frame, parts};
 use std::marker::Model;
 
 /// What became of a frame.
-#[derive(Clone, Copy, Debug, PartialEq, Eq)]
+#[derive(Clone, Copy)]
 pub enum Answered {
     /// It is no request that has to be answered.
     Nothing,

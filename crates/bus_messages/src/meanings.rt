@@ -20,7 +20,7 @@ use pgn_profile::{Kind, kind};
 use report_rules::{CLAIM_OR_REQUEST_MALFORMED, DUPLICATE_NAME, OWN_ADDRESS_USED, UNCLAIMED};
 
 /// What a frame is to the gateway: the first of these.
-#[derive(Clone, Copy, Debug, PartialEq, Eq)]
+#[derive(Clone, Copy)]
 pub enum Meaning {
     /// A claim of an address (ISO 11783-5).
     AddressClaim,

@@ -2,7 +2,7 @@ ghost use Rattle.std.specs.Prelude.{◌≡◌};
 ghost use Rattle.capture_text.specs.LineRule.{rule_number};
 
 /// The rule that a line of a capture breaks.
-#[derive(Clone, Copy, Debug, PartialEq, Eq)]
+#[derive(Clone, Copy, PartialEq, Eq)]
 pub enum LineRule {
     /// It has none of the forms of a line.
     Form,

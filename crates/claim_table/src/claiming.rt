@@ -20,7 +20,7 @@ pub const MOVE_PLACES: u8 = 252;
 const CLAIM_WAIT: u64 = 250_000;
 
 /// Who holds which address, and which is the gateway's own.
-#[derive(Debug, Drop)]
+#[derive(Drop)]
 pub struct ClaimTable {
     name: Name,
     holders: Vec<Option<Holder>>,

@@ -8,7 +8,7 @@ use n2k_id::address::ADDRESSES;
 use std::alloc::{AllocError, Global};
 
 /// A device whose address is known before it claims.
-#[derive(Clone, Copy, Debug, Default, PartialEq, Eq)]
+#[derive(Clone, Copy, Default)]
 pub struct Preset {
     /// 0 to 253.
     pub address: u8,

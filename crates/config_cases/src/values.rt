@@ -391,7 +391,7 @@ fn patterns_fit_names(rt: HostRuntime) {
         system_instance,
         industry,
     ] {
-        assert!(rt; !with_sources(&[widest, wide]).valid(), "{wide:?}");
+        assert!(rt; !with_sources(&[widest, wide]).valid());
     }
 }
 

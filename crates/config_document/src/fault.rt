@@ -22,7 +22,7 @@ pub enum Flaw {
 }
 
 /// What is wrong with a configuration, and with which key.
-#[derive(Clone, Debug, Drop)]
+#[derive(Drop)]
 pub enum ConfigFault {
     /// The bytes are no TOML document.
     NotToml,

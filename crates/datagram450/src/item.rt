@@ -11,7 +11,7 @@ use tag_block::{Tag, TagFault, TagRule};
 const MOST_ALONE: usize = 240;
 
 /// What a line of a datagram gives.
-#[derive(Clone, Copy, Debug)]
+#[derive(Clone, Copy)]
 pub enum LineItem<'a> {
     /// TAG blocks and a sentence.
     Line {

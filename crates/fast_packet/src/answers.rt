@@ -3,7 +3,7 @@
 use slot_views::View;
 
 /// Why a frame was refused.
-#[derive(Clone, Copy, Debug, PartialEq, Eq)]
+#[derive(Clone, Copy)]
 pub enum FastRefusal {
     /// A later frame of another sequence, or not the next one. The assembly ended.
     Order,
@@ -16,7 +16,7 @@ pub enum FastRefusal {
 }
 
 /// What became of a frame.
-#[derive(Clone, Copy, Debug, PartialEq, Eq)]
+#[derive(Clone, Copy)]
 pub enum FastOutcome<'a> {
     /// It was added, and more are to come.
     Held,
@@ -29,7 +29,7 @@ pub enum FastOutcome<'a> {
 }
 
 /// The answer to a frame.
-#[derive(Clone, Copy, Debug, PartialEq, Eq)]
+#[derive(Clone, Copy)]
 pub struct FastFed<'a> {
     /// A frame 0 came while the message before it was open, which is given up.
     pub restarted: bool,

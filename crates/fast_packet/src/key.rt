@@ -1,7 +1,7 @@
 //! Whose message it is.
 
 /// A sender and what it sends: the frames of one key make one message after another.
-#[derive(Clone, Copy, Debug, Default, PartialEq, Eq, PartialOrd, Ord)]
+#[derive(Clone, Copy, PartialEq, Eq, PartialOrd, Ord)]
 pub struct FastKey {
     pub source: u8,
     pub pgn: u32,

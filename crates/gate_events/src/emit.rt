@@ -3,7 +3,7 @@ use readings::Row;
 use sentence_text::{Group, Sfi};
 
 /// What a report names besides its rule.
-#[derive(Clone, Copy, Debug, PartialEq, Eq)]
+#[derive(Clone, Copy, PartialEq, Eq)]
 pub enum Detail {
     /// The rule says all.
     Nothing,
@@ -28,14 +28,14 @@ pub enum Detail {
 }
 
 /// A rule that was broken, by its number.
-#[derive(Clone, Copy, Debug, PartialEq, Eq)]
+#[derive(Clone, Copy, PartialEq, Eq)]
 pub struct Report {
     pub rule: u8,
     pub detail: Detail,
 }
 
 /// What a gateway emits.
-#[derive(Clone, Copy, Debug)]
+#[derive(Clone, Copy)]
 pub enum Emit<'a> {
     /// A frame for the bus.
     Can(Frame),

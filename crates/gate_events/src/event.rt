@@ -4,7 +4,7 @@ ghost use Rattle.gate_events.specs.Event.{moment_in, view};
 use n2k_id::Frame;
 
 /// What a line of a capture says. Each moment is in microseconds.
-#[derive(Clone, Copy, Debug, PartialEq, Eq)]
+#[derive(Clone, Copy)]
 pub enum Event<'a> {
     /// A frame on the bus.
     Frame { moment: u64, frame: Frame },

@@ -4,7 +4,7 @@ use n2k_id::Name;
 use readings::Reading;
 
 /// A message that is complete, with what it says where it is of a row of the profile and long enough.
-#[derive(Clone, Copy, Debug, PartialEq, Eq)]
+#[derive(Clone, Copy, PartialEq, Eq)]
 pub struct Done {
     pub source: u8,
     /// The NAME that holds the source.
@@ -14,7 +14,7 @@ pub struct Done {
 }
 
 /// A device tells the gateway to go to an address (ISO 11783-5, commanded address).
-#[derive(Clone, Copy, Debug, PartialEq, Eq)]
+#[derive(Clone, Copy)]
 pub struct Command {
     pub source: u8,
     pub address: u8,

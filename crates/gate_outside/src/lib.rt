@@ -52,5 +52,5 @@ pub use source::Source;
 pub use streams::{ReaderSource, WriterSink};
 
 /// A call failed. It is answered only where the object's count of faults rose in that call.
-#[derive(Clone, Copy, Debug, Default, PartialEq, Eq)]
+#[derive(Clone, Copy, Debug, PartialEq, Eq)]
 pub struct Failed;

@@ -10,7 +10,7 @@ use sentence_text::Group;
 pub const LARGEST_ARRIVAL: usize = 1_500;
 
 /// What a receive gave.
-#[derive(Clone, Copy, Debug, PartialEq, Eq)]
+#[derive(Clone, Copy, PartialEq, Eq)]
 pub enum Arrival {
     /// So many bytes, at the front of the buffer.
     Bytes(usize),

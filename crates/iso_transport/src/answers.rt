@@ -8,7 +8,7 @@ use crate::session::Session;
 use slot_views::{Ended, View};
 
 /// Why a frame was refused.
-#[derive(Clone, Copy, Debug, PartialEq, Eq)]
+#[derive(Clone, Copy)]
 pub enum IsoRefusal {
     /// A connection management frame of fewer than 8 bytes, an RTS to all, a BAM to this node, an opener with a size or a packet
     /// count that no message has, or a packet that holds less than it owes. The last two end an open session.
@@ -24,7 +24,7 @@ pub enum IsoRefusal {
 }
 
 /// What became of a frame.
-#[derive(Clone, Copy, Debug, PartialEq, Eq)]
+#[derive(Clone, Copy)]
 pub enum IsoOutcome<'a> {
     /// It is to another node, or gives nothing. Nothing changed.
     Ignored,
@@ -39,7 +39,7 @@ pub enum IsoOutcome<'a> {
 }
 
 /// The answer to a frame.
-#[derive(Clone, Copy, Debug, PartialEq, Eq)]
+#[derive(Clone, Copy)]
 pub struct IsoFed<'a> {
     /// An opener came while a session of this message was open, which is given up.
     pub restarted: Option<u32>,
@@ -49,7 +49,7 @@ pub struct IsoFed<'a> {
 }
 
 /// A session that was taken out, and the message that it was for.
-#[derive(Clone, Copy, Debug, PartialEq, Eq)]
+#[derive(Clone, Copy)]
 pub struct IsoEnded {
     pub addressed: bool,
     pub source: u8,

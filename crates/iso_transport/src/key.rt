@@ -7,7 +7,7 @@ use n2k_id::address::ALL;
 /// A sender, and whether it sends to this node alone or to all. One sender may have a session of each kind.
 ///
 /// Sessions to all come before those to this node, and each kind in the order of the senders.
-#[derive(Clone, Copy, Debug, Default, PartialEq, Eq, PartialOrd, Ord)]
+#[derive(Clone, Copy, PartialEq, Eq, PartialOrd, Ord)]
 pub struct IsoKey {
     pub addressed: bool,
     pub source: u8,

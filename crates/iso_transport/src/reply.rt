@@ -6,7 +6,7 @@ ghost use Rattle.iso_transport.specs.Replies.{reply_bytes, pgn_bytes, as_cm, nam
 use crate::connection::{ABORT, CTS, END_ACK};
 
 /// What the sender of a message to this node is told, in a connection management frame. `pgn` is the message's, of 24 bits.
-#[derive(Clone, Copy, Debug, PartialEq, Eq)]
+#[derive(Clone, Copy)]
 pub enum Reply {
     /// It may send `count` packets, from the packet `next` on (clear to send).
     Cts { count: u8, next: u8, pgn: u32 },

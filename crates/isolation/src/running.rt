@@ -11,7 +11,7 @@ use n2k_id::Frame;
 use std::alloc::{AllocError, Global};
 
 /// A frame that comes from the bus at a moment in microseconds, or that time passes.
-#[derive(Clone, Copy, Debug, PartialEq, Eq)]
+#[derive(Clone, Copy)]
 pub struct FrameEvent {
     pub moment: u64,
     /// None is a tick.

@@ -9,7 +9,7 @@ use std::cell::Cell;
 const LATELY: u32 = 256;
 
 /// How long a receive may wait for an arrival.
-#[derive(Clone, Copy, PartialEq, Eq)]
+#[derive(Clone, Copy)]
 pub(crate) enum Patience {
     /// Not at all.
     Hurry,

@@ -6,7 +6,7 @@ use crate::identifier::IDENTIFIER_END;
 ///
 /// A frame is valid where `id` is below `2^29`, `len` is at most 8 and the bytes from place `len`
 /// on are 0, so that two valid frames are equal exactly where they look the same on the bus.
-#[derive(Clone, Copy, Debug, Default, PartialEq, Eq)]
+#[derive(Clone, Copy, Default, PartialEq, Eq)]
 pub struct Frame {
     /// The identifier, whose fields `parts` reads.
     pub id: u32,

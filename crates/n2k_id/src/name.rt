@@ -3,7 +3,7 @@ ghost use Rattle.n2k_id.specs.Name.{IsMadeOf, bits_at, fields_of, name_at, name_
 
 /// The 64-bit NAME by which a device claims its address (ISO 11783-5). Of two devices that claim one
 /// address, the one whose NAME is the smaller number has it.
-#[derive(Clone, Copy, Debug, Default, PartialEq, Eq, PartialOrd, Ord)]
+#[derive(Clone, Copy, Default, PartialEq, Eq, PartialOrd, Ord)]
 pub struct Name(pub u64);
 
 /// The fields of a NAME, from bit 0 on (ISO 11783-5).
@@ -20,7 +20,7 @@ pub struct Name(pub u64);
 /// | system instance | 4 |
 /// | industry group; 4 is marine | 3 |
 /// | arbitrary address capable: the device may move to another address | 1 |
-#[derive(Clone, Copy, Debug, PartialEq, Eq)]
+#[derive(Clone, Copy, PartialEq, Eq)]
 pub struct NameFields {
     pub unique: u32,
     pub manufacturer: u16,

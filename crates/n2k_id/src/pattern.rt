@@ -4,7 +4,7 @@ ghost use Rattle.n2k_id.specs.Name.{fields_of, Matches, allows, matches, stating
 use crate::name::{Name, NameFields};
 
 /// A choice of devices by the fields of their NAMEs: what isn't stated may have any value.
-#[derive(Clone, Copy, Debug, Default, PartialEq, Eq)]
+#[derive(Clone, Copy, Default, PartialEq, Eq)]
 pub struct Pattern {
     pub unique: Option<u32>,
     pub manufacturer: Option<u16>,

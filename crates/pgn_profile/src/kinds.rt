@@ -1,5 +1,5 @@
 /// How a message of a PGN comes over the bus.
-#[derive(Clone, Copy, Debug, PartialEq, Eq)]
+#[derive(Clone, Copy)]
 pub enum Kind {
     /// In a single frame.
     Single,

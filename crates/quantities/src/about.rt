@@ -5,7 +5,7 @@ ghost use Rattle.quantities.specs.About.{about_of, number_of, quantities, quanti
 ghost use Rattle.sentence_text.specs.Byte.{is_capital};
 
 /// What a bus says besides the rows. They stand everywhere in this order.
-#[derive(Clone, Copy, Debug, PartialEq, Eq, PartialOrd, Ord)]
+#[derive(Clone, Copy, PartialEq, Eq, PartialOrd, Ord)]
 pub enum Quantity {
     Attitude,
     SetDrift,

@@ -4,7 +4,7 @@ use crate::about::Quantity;
 pub const VALUES: usize = 6;
 
 /// What a payload says of a quantity.
-#[derive(Clone, Copy, Debug, PartialEq, Eq)]
+#[derive(Clone, Copy, PartialEq, Eq)]
 pub struct Value {
     pub quantity: Quantity,
     /// Its values in their order, and none behind the last.
@@ -12,7 +12,7 @@ pub struct Value {
 }
 
 /// What a message says of the quantities.
-#[derive(Clone, Copy, Debug, PartialEq, Eq)]
+#[derive(Clone, Copy, PartialEq, Eq)]
 pub enum Told {
     /// A value of a quantity.
     Value(Value),

@@ -2,7 +2,7 @@
 //! bus, and is refused from the network.
 
 /// The raw values of a quantity, from the lowest to the highest.
-#[derive(Clone, Copy, Debug, PartialEq, Eq)]
+#[derive(Clone, Copy)]
 pub struct Range {
     pub low: i64,
     pub high: i64,

@@ -5,7 +5,7 @@ ghost use Rattle.readings.specs.Rows.{about_of, are_capitals, rows};
 
 /// The rows of the profile. Each is one kind of reading with a sentence of its own, and they stand
 /// everywhere in this order.
-#[derive(Clone, Copy, Debug, PartialEq, Eq, PartialOrd, Ord)]
+#[derive(Clone, Copy, PartialEq, Eq, PartialOrd, Ord)]
 pub enum Row {
     HeadingTrue,
     HeadingMagnetic,

@@ -10,7 +10,7 @@ use arrayvec::ArrayVec;
 use sentence_text::{begin, end};
 
 /// One sentence, from `$` to LF.
-#[derive(Debug, Drop)]
+#[derive(Drop)]
 pub struct SentenceText {
     pub bytes: ArrayVec<u8, 82>,
 }

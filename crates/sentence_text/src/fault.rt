@@ -1,7 +1,7 @@
 ghost use Rattle.std.specs.Prelude.{◌≡◌};
 
 /// The rules of a sentence, in the order in which they are tried.
-#[derive(Clone, Copy, Debug, PartialEq, Eq)]
+#[derive(Clone, Copy, PartialEq, Eq)]
 pub enum SentenceRule {
     /// The line has more than 120 bytes.
     Long,
@@ -20,7 +20,7 @@ pub enum SentenceRule {
 }
 
 /// The first rule that a line breaks, and the place of the byte that breaks it.
-#[derive(Clone, Copy, Debug, PartialEq, Eq)]
+#[derive(Clone, Copy, PartialEq, Eq)]
 pub struct SentenceFault {
     pub rule: SentenceRule,
     pub place: usize,

@@ -5,7 +5,7 @@ use crate::byte::all_address;
 use std::marker::Model;
 
 /// The name of a transmission group of IEC 61162-450, such as `NAVD`: four capital letters or digits.
-#[derive(Clone, Copy, Debug, PartialEq, Eq, PartialOrd, Ord, Hash)]
+#[derive(Clone, Copy, PartialEq, Eq)]
 pub struct Group([u8; 4]);
 
 impl Model for Group {

@@ -3,7 +3,7 @@ ghost use Rattle.std.specs.List.{position_or_len};
 ghost use Rattle.sentence_text.specs.Fields.{field_at_front, fields_of, field_of};
 
 /// A sentence, lent from its line.
-#[derive(Clone, Copy, Debug)]
+#[derive(Clone, Copy)]
 pub struct Sentence<'a> {
     /// `$`, or `!` before encapsulated data.
     pub start: u8,

@@ -5,7 +5,7 @@ use crate::byte::{all_capital, all_digits};
 use std::marker::Model;
 
 /// A system function identifier of IEC 61162-450, such as `II0001`: two capital letters and four digits.
-#[derive(Clone, Copy, Debug, PartialEq, Eq, PartialOrd, Ord, Hash)]
+#[derive(Clone, Copy, PartialEq, Eq, PartialOrd, Ord)]
 pub struct Sfi([u8; 6]);
 
 impl Model for Sfi {

@@ -1,14 +1,14 @@
 //! What the slots answer.
 
 /// The finished bytes of an entry, lent from the slots, and the entry's mark.
-#[derive(Clone, Copy, Debug, PartialEq, Eq)]
+#[derive(Clone, Copy)]
 pub struct View<'a> {
     pub bytes: &'a [u8],
     pub mark: u64,
 }
 
 /// The answer to `Slots::begin`.
-#[derive(Clone, Copy, Debug, PartialEq, Eq)]
+#[derive(Clone, Copy)]
 pub enum Begun<'a> {
     /// The key isn't held, and as many keys as the limit are. Nothing changed.
     Full,
@@ -19,7 +19,7 @@ pub enum Begun<'a> {
 }
 
 /// The answer to `Slots::grow`.
-#[derive(Clone, Copy, Debug, PartialEq, Eq)]
+#[derive(Clone, Copy)]
 pub enum Grown<'a> {
     /// The key isn't held.
     Absent,
@@ -32,7 +32,7 @@ pub enum Grown<'a> {
 }
 
 /// What is known of an entry that is held.
-#[derive(Clone, Copy, Debug, PartialEq, Eq)]
+#[derive(Clone, Copy, PartialEq, Eq)]
 pub struct Kept {
     /// The number of the piece that it waits for.
     pub next: u16,
@@ -44,7 +44,7 @@ pub struct Kept {
 }
 
 /// An entry that was taken out.
-#[derive(Clone, Copy, Debug, PartialEq, Eq)]
+#[derive(Clone, Copy)]
 pub struct Ended<K> {
     pub key: K,
     pub mark: u64,

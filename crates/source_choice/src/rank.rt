@@ -1,5 +1,5 @@
 /// The rank of a source: its place among those that are preferred, and then its NAME. The smaller rank is the better one.
-#[derive(Clone, Copy, Debug, Default, PartialEq, Eq, PartialOrd, Ord)]
+#[derive(Clone, Copy, PartialEq, Eq, PartialOrd, Ord)]
 pub struct Rank {
     /// The place in the list, from 0; the length of the list for others.
     pub place: u8,

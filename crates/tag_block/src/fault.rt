@@ -1,7 +1,7 @@
 ghost use Rattle.std.specs.Prelude.{◌≡◌};
 
 /// The rules of the TAG blocks of a line.
-#[derive(Clone, Copy, Debug, PartialEq, Eq)]
+#[derive(Clone, Copy, PartialEq, Eq)]
 pub enum TagRule {
     /// A byte can't continue the blocks, or the value of a group or of a count has another form.
     Form,
@@ -12,7 +12,7 @@ pub enum TagRule {
 }
 
 /// The first rule that a line breaks, and the place.
-#[derive(Clone, Copy, Debug, PartialEq, Eq)]
+#[derive(Clone, Copy, PartialEq, Eq)]
 pub struct TagFault {
     pub rule: TagRule,
     pub place: usize,

@@ -3,7 +3,7 @@
 use slot_views::View;
 
 /// What became of a line of a group.
-#[derive(Clone, Copy, Debug, PartialEq, Eq)]
+#[derive(Clone, Copy)]
 pub enum GroupOutcome<'a> {
     /// It was added, and more are to come.
     Held,
@@ -16,7 +16,7 @@ pub enum GroupOutcome<'a> {
 }
 
 /// The answer to a line of a group.
-#[derive(Clone, Copy, Debug, PartialEq, Eq)]
+#[derive(Clone, Copy)]
 pub struct GroupFed<'a> {
     /// A first line came while the group before it was open, which is given up.
     pub restarted: bool,

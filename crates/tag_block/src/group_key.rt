@@ -3,7 +3,7 @@
 use sentence_text::Sfi;
 
 /// Who sends the lines of a group, and the code that they have in common.
-#[derive(Clone, Copy, Debug, Default, PartialEq, Eq, PartialOrd, Ord)]
+#[derive(Clone, Copy, PartialEq, Eq, PartialOrd, Ord)]
 pub struct GroupKey {
     pub sfi: Sfi,
     pub code: u16,

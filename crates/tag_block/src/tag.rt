@@ -2,7 +2,7 @@ use crate::group_part::GroupPart;
 use sentence_text::Sfi;
 
 /// What the TAG blocks of a line say.
-#[derive(Clone, Copy, Debug)]
+#[derive(Clone, Copy)]
 pub struct Tag<'a> {
     /// Who speaks: `s`.
     pub source: Sfi,

@@ -20,7 +20,7 @@ pub const MOST_CODE: u8 = 99;
 pub type Packet = ArrayVec<u8, 512>;
 
 /// What the TAG block of a written line says.
-#[derive(Clone, Copy, Debug)]
+#[derive(Clone, Copy)]
 pub struct TagParts {
     pub group: Option<GroupPart>,
     pub source: Sfi,

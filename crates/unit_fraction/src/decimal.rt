@@ -1,5 +1,5 @@
 /// A decimal as it stood in a text: `digits / 10^places` with its sign.
-#[derive(Clone, Copy, Debug, PartialEq, Eq)]
+#[derive(Clone, Copy, PartialEq, Eq)]
 pub struct Decimal {
     pub negative: bool,
     pub digits: u64,
@@ -7,7 +7,7 @@ pub struct Decimal {
 }
 
 /// Why a text is no decimal.
-#[derive(Clone, Copy, Debug, PartialEq, Eq)]
+#[derive(Clone, Copy, PartialEq, Eq)]
 pub enum DecimalFault {
     /// There is no text.
     Empty,

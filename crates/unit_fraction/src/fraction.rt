@@ -4,7 +4,7 @@ ghost use Rattle.unit_fraction.specs.Round.{IsRound, nearest, round, signed};
 use crate::decimal::Decimal;
 
 /// A ratio of whole numbers, such as 900 / 463 from hundredths of a metre a second to hundredths of a knot.
-#[derive(Clone, Copy, Debug, PartialEq, Eq)]
+#[derive(Clone, Copy)]
 pub struct Fraction {
     pub num: u64,
     pub den: u64,
