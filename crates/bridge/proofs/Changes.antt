@@ -9,9 +9,9 @@ use Rattle.history.specs.Entries.{Entry, History}
 use Rattle.history.specs.Settings.{Settings}
 use Rattle.gate_model.specs.Machine.{Machine}
 use Rattle.gate_outbox.specs.Output.{Emitted, Output, and_told, emits_of, no_emits}
-use Rattle.source_watch.specs.SourceOut.{told}
-use Rattle.source_watch.specs.WatchStands.{IsWatchStep}
-use Rattle.source_watch.proofs.Steps.{commands_keep_names}
+use Rattle.bridge.specs.SourceOut.{told}
+use Rattle.bridge.specs.WatchStands.{IsWatchStep}
+use Rattle.bridge.proofs.WatchSteps.{commands_keep_names}
 use Rattle.bridge.specs.Beside.{IsChanging, SourcesStand}
 
 -- what is told where nothing was

@@ -1,4 +1,4 @@
-pub use Rattle.joined_rmc.proofs.Completed
+pub use Rattle.gate_core.proofs.Completed
 pub mod Answers
 pub mod Changes
 pub mod Joins
@@ -14,3 +14,4 @@ pub mod ReplayCases
 pub mod Reached
 pub mod Replays
 pub mod Events
+pub mod WatchSteps

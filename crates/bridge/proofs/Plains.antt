@@ -15,8 +15,8 @@ use Rattle.history.specs.Settings.{Settings}
 use Rattle.gate_outbox.specs.Output.{Emitted, emits_of}
 use Rattle.bus_identity.specs.Answers.{frames_from}
 use Rattle.bus_identity.specs.Requests.{is_due}
-use Rattle.joined_rmc.specs.Selected.{selected_at}
-use Rattle.source_watch.specs.SourceOut.{changed, told}
+use Rattle.gate_core.specs.Selected.{selected_at}
+use Rattle.bridge.specs.SourceOut.{changed, told}
 use Rattle.plain_out.specs.Plain.{plain_out}
 use Rattle.plain_out.proofs.Emits.{plain_append}
 use Rattle.bridge.specs.Answered.{answers, own_after, ready_after, sent_before}

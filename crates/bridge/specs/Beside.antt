@@ -17,7 +17,7 @@ use Rattle.further_bridge.specs.FurtherRule.{FurtherRule}
 use Rattle.further_bridge.specs.Kept.{FurtherKept}
 use Rattle.further_bridge.specs.Promises.{StandsFurther}
 use Rattle.plain_out.specs.Plain.{plain_out}
-use Rattle.source_watch.specs.WatchStands.{WatchStands}
+use Rattle.bridge.specs.WatchStands.{WatchStands}
 use Rattle.bus_identity.specs.Answers.{Kept as Counted}
 use Rattle.bridge.specs.declared.joining.Joining.{Joining}
 use Rattle.bridge.specs.Answered.{answers, sent_before}

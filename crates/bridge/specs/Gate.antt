@@ -13,7 +13,7 @@ use Rattle.ais_bridge.specs.AisOut.{ais_out}
 use Rattle.further_bridge.specs.FurtherOut.{further_out}
 use Rattle.further_bridge.specs.FurtherRule.{FurtherRule}
 use Rattle.plain_out.specs.Plain.{plain_out}
-use Rattle.source_watch.specs.SourceOut.{source_out}
+use Rattle.bridge.specs.SourceOut.{source_out}
 use Rattle.bridge.specs.Answered.{answers}
 use Rattle.bridge.specs.Parts.{Parts}
 

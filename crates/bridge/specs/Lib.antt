@@ -7,8 +7,7 @@ pub use Rattle.further_bridge.specs.FurtherRule
 pub use Rattle.gate_core.specs.Steps
 pub use Rattle.joined_rmc.specs.Lasting
 pub use Rattle.joined_rmc.specs.RmcOut
-pub use Rattle.joined_rmc.specs.Selected
-pub use Rattle.source_watch.specs.SourceOut
+pub use Rattle.gate_core.specs.Selected
 pub mod Answered
 pub mod Beside
 pub mod BridgeStands
@@ -20,3 +19,6 @@ pub mod Parts
 pub mod ReplayCases
 pub mod Replayed
 pub mod Replaying
+pub mod SourceOut
+pub mod WatchKept
+pub mod WatchStands

@@ -14,6 +14,7 @@ use crate::answering::Answering;
 use crate::joining::{Joining, join, joining_of};
 use crate::left::Left;
 use crate::measuring::{measure, measuring_of};
+use crate::source_watch::SourceWatch;
 use crate::sources::{sources_of, watch_sources};
 use crate::watching::{watch, watching_of};
 use ais_bridge::AisBridge;
@@ -22,7 +23,6 @@ use gate_core::{Command, Gateway, moment_of};
 use gate_events::{Emit, Event};
 use sentence_text::Group;
 use settings::{Further, Settings};
-use source_watch::SourceWatch;
 use std::alloc::{AllocError, Global};
 use std::marker::Model;
 

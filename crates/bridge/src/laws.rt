@@ -2,6 +2,7 @@
 ghost use Rattle.bridge.specs.Gate.{NothingFurther};
 ghost use Rattle.bridge.specs.LengthLaws.{LongLines};
 ghost use Rattle.bridge.specs.Replayed.{EventsAreReplayed, LinesAreReplayed};
+ghost use Rattle.bridge.specs.WatchStands.{CommandsKeepNames};
 
 /// What a new bridge gives of the lines of a capture, line by line, is the text of the definition over all of them.
 pub fn lines_are_replayed()
@@ -24,4 +25,10 @@ pub fn nothing_further_changes_nothing()
 #[tactic(auto, using(crate::proofs::Lengths::long_lines))]
 pub fn what_is_too_long_is_told()
     ensures lines { LongLines }
+{}
+
+/// The devices that rows are taken from, which stand for a history, stand for it with a command to go to an address as well: no row is taken
+/// from it.
+pub fn commands_keep_names()
+    ensures { CommandsKeepNames }
 {}

@@ -14,6 +14,7 @@ mod left;
 mod measuring;
 mod plain;
 mod replaying;
+mod source_watch;
 mod sources;
 mod watching;
 

@@ -5,9 +5,9 @@ ghost use Rattle.history.specs.Entries.{Entry};
 ghost use Rattle.bridge.specs.Beside.{IsChanging};
 ghost use Rattle.bridge.specs.BridgeStands.{IsOpenedSources};
 
+use crate::source_watch::SourceWatch;
 use gate_core::{Gateway, Outbox};
 use gate_outbox::Emits;
-use source_watch::SourceWatch;
 
 /// A change of the device that a row is taken from.
 pub(crate) type Change = Emits<1>;

@@ -6,3 +6,5 @@ pub mod Entering
 pub mod Hearing
 pub mod Promises
 pub mod Holding
+pub mod Completed
+pub mod Picks

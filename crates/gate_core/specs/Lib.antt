@@ -3,3 +3,5 @@ pub mod Steps
 pub mod Completing
 pub mod Promises
 pub mod Holding
+pub mod Selected
+pub mod Picked

@@ -4,9 +4,11 @@
 mod addresses;
 mod gateway;
 pub mod laws;
+mod selected_message;
 mod state;
 
 pub use config_values::{Config, Ends, RowConfig};
 pub use gate_outbox::{Command, Done, Outbox};
 pub use gateway::{Gateway, HeldCounts};
+pub use selected_message::SelectedMessage;
 pub use state::moment_of;

@@ -17,7 +17,7 @@ ghost use Rattle.gate_core.specs.Changes.{changed_of};
 ghost use Rattle.gate_core.specs.Steps.{IsEventValid, Stays, by_keys, and_step, entry_of};
 
 use crate::addresses::{Addresses, Changed};
-use crate::state::opening::{addresses_of, copy_of, fast_of, network_of, said_of, sessions_of};
+use crate::state::opening::{addresses_of, assemblers_of, copy_of, traffic_of};
 use arrayvec::ArrayVec;
 use bus_messages::endings::end_sessions;
 use bus_messages::fast::end_overdue;
@@ -84,13 +84,16 @@ impl State {
         ensures { IfOk result (λ s. s ≡ opened_machine (settings_ignoring ignored.now.items config.now)) }
     {
         let config = copy_of(config, ignored)?;
+        let addresses = addresses_of(alloc, &config)?;
+        let (fast, sessions) = assemblers_of(alloc, &config)?;
+        let (said, network) = traffic_of(alloc, &config)?;
         Ok(State {
-            addresses: addresses_of(alloc, &config)?,
+            addresses,
             moment: 0,
-            fast: fast_of(alloc, &config)?,
-            sessions: sessions_of(alloc, &config)?,
-            said: said_of(alloc, &config)?,
-            network: network_of(alloc, &config)?,
+            fast,
+            sessions,
+            said,
+            network,
             config,
         })
     }

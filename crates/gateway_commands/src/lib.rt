@@ -3,12 +3,15 @@
 #![tactic(auto)]
 
 mod demo_command;
+mod process_run;
 mod replay;
 mod replay_command;
 mod serve_command;
 mod top_call;
 
+pub use command_words::{Command, LineCommand};
 pub use demo_command::demo_with;
+pub use process_run::{run_with, words_to_tell};
 pub use replay::{replay_with, stream};
 pub use serving::{Bridge, Settings, serve_turns};
 pub use top_call::run;

@@ -97,10 +97,7 @@ pub(crate) fn replay_settings<S: Source, K: Sink>(
     ensures memory { number result ≡ 7 → (input.new ≡ input.old) × (out.new ≡ out.old) }
 {
     match Bridge::with(alloc, settings, further) {
-        Ok(bridge) => {
-            let mut bridge = bridge;
-            answer(&mut bridge, input, out)
-        }
+        Ok(mut bridge) => answer(&mut bridge, input, out),
         Err(_) => Status::NoMemory,
     }
 }

@@ -1,7 +1,10 @@
 //! `serve`: the gateway of a configuration between two links that live.
-ghost use Rattle.std.specs.Prelude.{◌≡◌};
+ghost use Rattle.std.specs.Prelude.{◌≡◌, ◌≢◌};
+ghost use Rattle.serving.specs.BridgeStands.{IsNew};
+ghost use Rattle.serving.specs.Parts.{parts_of};
 ghost use Rattle.serving.specs.Served.{outside};
 ghost use Rattle.settings.specs.Further.{IsFurther};
+ghost use Rattle.settings.specs.declared.further.Further.{Further};
 ghost use Rattle.settings.specs.Settings.{IsSettings};
 ghost use Rattle.statuses.specs.Statuses.{IsEarly, number};
 ghost use Rattle.gateway_commands.specs.ServeCommand.{AttachesBoth, ServesBy, ServesWith};
@@ -64,14 +67,33 @@ fn serve_with<K: Sink, B: Link, E: Link, C: Clock>(
     ensures unattached { number result ≡ 9 → (out.new ≡ out.old) × (clock.new ≡ clock.old) }
 {
     match Bridge::with(alloc, settings, further) {
-        Ok(bridge) => {
-            let mut bridge = bridge;
-            match attach_both(&settings.config.ends, bus, net) {
-                Ok(()) => take_turns(&mut bridge, turns, out, bus, net, clock),
-                Err(Failed) => Status::Unattached,
-            }
-        }
+        Ok(mut bridge) => serve_between(settings, &mut bridge, turns, out, bus, net, clock),
         Err(_) => Status::NoMemory,
+    }
+}
+
+/// Attaches both links by the settings, and lets a new bridge of them take its turns. It is apart from where the bridge is made, since whoever
+/// holds a bridge drops it on each way out, and each costs the prover.
+fn serve_between<K: Sink, B: Link, E: Link, C: Clock>(
+    settings: &Settings,
+    bridge: &mut Bridge,
+    turns: u32,
+    out: &mut K,
+    bus: &mut B,
+    net: &mut E,
+    clock: &mut C,
+) -> Status
+    ensures serves { (further : Further) → IsNew (parts_of settings.now further) bridge.old
+        → ServesWith settings.now further turns (C.readings clock.old) (C.readings clock.new)
+        (B.fault_count bus.old) (B.fault_count bus.new) (E.fault_count net.old) (E.fault_count net.new)
+        (outside (B.traffic bus.old) (E.traffic net.old) (K.taken out.old) (K.fault_count out.old))
+        (outside (B.traffic bus.new) (E.traffic net.new) (K.taken out.new) (K.fault_count out.new)) (number result) }
+    ensures memory { number result ≢ 7 }
+    ensures unattached { number result ≡ 9 → (out.new ≡ out.old) × (clock.new ≡ clock.old) }
+{
+    match attach_both(&settings.config.ends, bus, net) {
+        Ok(()) => take_turns(bridge, turns, out, bus, net, clock),
+        Err(Failed) => Status::Unattached,
     }
 }
 

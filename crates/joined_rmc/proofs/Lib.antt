@@ -1,4 +1,3 @@
-pub use Rattle.selected_messages.proofs.Completed
 pub mod Holders
 pub mod Chosen
 pub mod Rows

@@ -1,4 +1,3 @@
-pub use Rattle.selected_messages.specs.Selected
 pub mod Lasting
 pub mod Kept
 pub mod RmcOut

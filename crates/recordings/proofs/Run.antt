@@ -16,8 +16,8 @@ use Rattle.serving.specs.Gate.{from_events, opening}
 use Rattle.serving.specs.Parts.{Parts}
 use Rattle.serving.specs.Replayed.{AreRead, IsReplay, Running, emitted_text, event_in, events_in, gate_of}
 use Rattle.serving.proofs.Events.{events_are_replayed}
-use Rattle.idle_ticks.proofs.Busy.{start_is_idle}
-use Rattle.idle_ticks.proofs.Events.{idle_ticks}
+use Rattle.recordings.proofs.Busy.{start_is_idle}
+use Rattle.recordings.proofs.Events.{idle_ticks}
 use Rattle.serving.specs.Recorded.{made_in, recorded_in}
 use Rattle.serving.specs.Served.{NetFits, Outside, Serves, all_due}
 use Rattle.serving.specs.Turns.{Item, all_came, all_made, due_from, due_of, from_bus, from_net, moment_at, received, recorded_where, start_line, with_all}

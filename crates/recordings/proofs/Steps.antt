@@ -18,9 +18,9 @@ use Rattle.history.specs.Gate.{Stepped}
 use Rattle.serving.specs.Gate.{all_out, from_events, stepped}
 use Rattle.serving.specs.Parts.{Parts}
 use Rattle.serving.specs.Replayed.{AreRead, Running, entry_of, event_in, events_in}
-use Rattle.idle_ticks.specs.Idle.{BeginFrom}
-use Rattle.idle_ticks.proofs.Busy.{earlier, now_after}
-use Rattle.idle_ticks.proofs.Events.{idle_ticks}
+use Rattle.recordings.specs.Idle.{BeginFrom}
+use Rattle.recordings.proofs.Busy.{earlier, now_after}
+use Rattle.recordings.proofs.Events.{idle_ticks}
 use Rattle.serving.specs.Recorded.{made_in, recorded_in}
 use Rattle.serving.specs.Turns.{Item, all_made, emitted_at, event_line, is_recorded, received, recorded, recorded_where, with_event}
 use Rattle.recordings.proofs.Items.{made_behind, nothing_at, recorded_behind}

@@ -1,5 +1,21 @@
 //! What the recording of a run is good for. Each law is a function that does nothing, and whose clause is the law.
+ghost use Rattle.recordings.specs.IdleLaws.{StartIsIdle, IdleTicks, BusyEvents, BusyGate};
 ghost use Rattle.recordings.specs.Laws.{RecordingsAreTold, RecordingsReplay};
+
+/// A tick at which the gateway and the parts beside it emit nothing can stand anywhere among the events, or be left out: where the next event
+/// isn't earlier than the tick, all that is emitted from then on is the same. Before anything came, each tick is one at which nothing is
+/// emitted.
+pub fn idle_ticks_change_nothing()
+    ensures start { StartIsIdle }
+    ensures one { IdleTicks }
+{}
+
+/// So all such ticks can be left out at once, each judged by all that came before it, such ticks too: events whose moments don't go back give
+/// the same with them and without them, after any history and from the start of a bridge.
+pub fn recordings_need_no_idle_ticks()
+    ensures events { BusyEvents }
+    ensures start { BusyGate }
+{}
 
 /// The recording of a run that was served to its end, given to a replay with the same settings, gives all that the gateway made in the run: each
 /// frame, datagram and report in order, at its moment and as it was due, also where its send failed. What came and was no event is in neither. It

@@ -8,11 +8,11 @@
 ghost use Rattle.std.specs.Prelude.{◌≡◌, IfOk, OnErr};
 ghost use Rattle.std.specs.Process.{exit_status};
 
-use live_outside::{Activity, DiskFiles, SystemClock, ToldWriter, UdpLink};
-pub use process_run::{
+pub use gateway_commands::{
     Bridge, Command, LineCommand, Settings, demo_with, replay_with, run, serve_turns, stream,
 };
-use process_run::{run_with, words_to_tell};
+use gateway_commands::{run_with, words_to_tell};
+use live_outside::{Activity, DiskFiles, SystemClock, ToldWriter, UdpLink};
 use run_failures::{Kept, explain_run};
 use statuses::Status;
 use std::alloc::AllocError;

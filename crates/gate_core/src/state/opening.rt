@@ -52,9 +52,21 @@ pub(crate) fn addresses_of(alloc: Global, config: &SelectiveConfig) -> Result<Ad
     }
 }
 
+/// No message is in the making. What a gateway opens comes in pairs: each part that is there is let go where a later one has no memory, and each
+/// such way out costs the prover.
+pub(crate) fn assemblers_of(
+    alloc: Global,
+    config: &SelectiveConfig,
+) -> Result<(FastAssembler, IsoAssembler), AllocError>
+    ensures { IfOk result (λ a. (a.0 ≡ (opened_machine (settings_by config.now)).fast) × (a.1 ≡ (opened_machine (settings_by config.now)).sessions)) }
+{
+    let fast = fast_of(alloc, config)?;
+    Ok((fast, sessions_of(alloc, config)?))
+}
+
 /// No fast packet is in the making.
 #[tactic(auto, unfolding(config_values::specs::Settings::settings_ignoring))]
-pub(crate) fn fast_of(alloc: Global, config: &SelectiveConfig) -> Result<FastAssembler, AllocError>
+fn fast_of(alloc: Global, config: &SelectiveConfig) -> Result<FastAssembler, AllocError>
     ensures { IfOk result (λ a. a ≡ (opened_machine (settings_by config.now)).fast) }
 {
     FastAssembler::new(alloc, config.base.fast_slots)
@@ -62,17 +74,25 @@ pub(crate) fn fast_of(alloc: Global, config: &SelectiveConfig) -> Result<FastAss
 
 /// No session of the transport protocol is open.
 #[tactic(auto, unfolding(config_values::specs::Settings::settings_ignoring))]
-pub(crate) fn sessions_of(
-    alloc: Global,
-    config: &SelectiveConfig,
-) -> Result<IsoAssembler, AllocError>
+fn sessions_of(alloc: Global, config: &SelectiveConfig) -> Result<IsoAssembler, AllocError>
     ensures { IfOk result (λ a. a ≡ (opened_machine (settings_by config.now)).sessions) }
 {
     IsoAssembler::new(alloc, config.base.iso_slots)
 }
 
+/// Nothing was said or heard.
+pub(crate) fn traffic_of(
+    alloc: Global,
+    config: &SelectiveConfig,
+) -> Result<(Said, Network), AllocError>
+    ensures { IfOk result (λ t. (t.0 ≡ (opened_machine (settings_by config.now)).said) × (t.1 ≡ (opened_machine (settings_by config.now)).network)) }
+{
+    let said = said_of(alloc, config)?;
+    Ok((said, network_of(alloc, config)?))
+}
+
 /// Nothing was said.
-pub(crate) fn said_of(alloc: Global, config: &SelectiveConfig) -> Result<Said, AllocError>
+fn said_of(alloc: Global, config: &SelectiveConfig) -> Result<Said, AllocError>
     ensures { IfOk result (λ s. s ≡ (opened_machine (settings_by config.now)).said) }
 {
     Said::new(alloc, &timeouts_of(config))
@@ -80,7 +100,7 @@ pub(crate) fn said_of(alloc: Global, config: &SelectiveConfig) -> Result<Said, A
 
 /// Nothing was heard.
 #[tactic(auto, unfolding(config_values::specs::Settings::settings_ignoring))]
-pub(crate) fn network_of(alloc: Global, config: &SelectiveConfig) -> Result<Network, AllocError>
+fn network_of(alloc: Global, config: &SelectiveConfig) -> Result<Network, AllocError>
     ensures { IfOk result (λ n. n ≡ (opened_machine (settings_by config.now)).network) }
 {
     let timeouts = timeouts_of(config);

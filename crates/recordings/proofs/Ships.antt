@@ -1,0 +1,103 @@
+-- Reports of ships around, and further quantities, are the same with a tick before an entry and without it, where what is overdue at it is.
+use Rattle.std.proofs.Common.{◌≡◌, ℕ, ◌+◌, List, [], ◌∷◌, ◌++◌, length, map, refl, ap, ◌∙◌, arith}
+use Rattle.std.specs.Prelude.{Bool, Option, Some, None, option_and_then, option_map, if◌then◌else◌}
+use Rattle.quantities.specs.Told.{kind_of}
+use Rattle.quantities.specs.declared.value.Value.{Value}
+use Rattle.claim_table.specs.declared.answer.Holder.{Holder}
+use Rattle.settings.specs.declared.ais.AisConfig.{AisConfig}
+use Rattle.gate_model.specs.Said.{Complete, complete_of}
+use Rattle.gate_outbox.specs.Output.{emits_of}
+use Rattle.history.specs.Entries.{Entry, History, moment_of, tick}
+use Rattle.history.specs.Known.{Known, known}
+use Rattle.history.specs.Messages.{Message, messages_of}
+use Rattle.history.specs.Settings.{Settings}
+use Rattle.bridge.specs.Heard.{heard_expired}
+use Rattle.bridge.specs.AisOut.{ais_done, ais_out, ais_said, lines_said, report_kinds}
+use Rattle.bridge.specs.Reports.{line_count, said_by, said_gives}
+use Rattle.bridge.specs.FurtherOut as further
+use Rattle.bridge.specs.FurtherOut.{further_done, further_out, further_receiver, message_breaks, quantity_told, selected, selected_value, said_at, told_by, value_of}
+use Rattle.bridge.specs.FurtherRule.{FurtherRule, rule_at}
+use Rattle.recordings.proofs.Places.{closed}
+use Rattle.recordings.proofs.Renumbered.{holder_as}
+use Rattle.recordings.proofs.Known.{known_without}
+use Rattle.recordings.proofs.Noted.{message_as}
+use Rattle.recordings.proofs.Messages.{MessagesApart, chosen_as, messages_apart, messages_without}
+use Rattle.recordings.proofs.Gathered.{ap₃, joined}
+use Rattle.recordings.proofs.Listened.{heard_done_without, heard_out_without}
+
+-- ---- ships
+
+complete_as : (f : ℕ → ℕ) (d : Option Message) → option_map complete_of (option_map (message_as f) d) ≡ option_map complete_of d
+complete_as f None = refl
+complete_as f (Some d) = refl
+
+module _ (a : AisConfig) (c : Settings) (s m : ℕ) (h : History) where
+  ais_complete_without : (newer : History) (e : Entry) → option_map complete_of (ais_done a c s (newer ++ h) e) ≡ option_map complete_of (ais_done a c s (newer ++ tick m ∷ h) e)
+  ais_complete_without newer e =
+      ap (option_map complete_of) (heard_done_without report_kinds a.slots c s m h newer e) ∙ complete_as (closed (length h)) (ais_done a c s (newer ++ tick m ∷ h) e)
+
+  ais_lines_without : (newer : History) → lines_said a c s (newer ++ h) ≡ lines_said a c s (newer ++ tick m ∷ h)
+  ais_lines_without [] = by (lines_said a c s h)
+    where
+      by : (n : ℕ) → n ≡ n + 0
+      by n = omega arith
+  ais_lines_without (e ∷ newer) =
+      ap (λ (d : Option Complete). lines_said a c s (newer ++ h) + line_count (option_map said_by d)) (ais_complete_without newer e)
+      ∙ ap (λ (before : ℕ). before + line_count (ais_said a c s (newer ++ tick m ∷ h) e)) (ais_lines_without newer)
+
+  pub ais_without : (newer : History) (e : Entry)
+      → heard_expired report_kinds a.slots c s (newer ++ h) (moment_of e) ≡ heard_expired report_kinds a.slots c s (newer ++ tick m ∷ h) (moment_of e)
+      → ais_out a c s (newer ++ h) e ≡ ais_out a c s (newer ++ tick m ∷ h) e
+  ais_without newer e overdue =
+      joined (heard_out_without report_kinds a.slots c s m h newer e overdue)
+      (ap (λ (before : ℕ). emits_of (said_gives a.group c.sfi before (ais_said a c s (newer ++ h) e))) (ais_lines_without newer)
+      ∙ ap (λ (d : Option Complete). emits_of (said_gives a.group c.sfi (lines_said a c s (newer ++ tick m ∷ h)) (option_map said_by d))) (ais_complete_without newer e))
+
+-- ---- further quantities
+
+module _ (x : FurtherRule) (n : ℕ) (holders : List (Option Holder)) (older : List Message) (apart : MessagesApart n older) where
+  value_as : (d : Message) → selected x (map (holder_as (closed n)) holders) (map (message_as (closed n)) older) (message_as (closed n) d) ≡ selected x holders older d
+  value_as d = by (value_of d)
+    where
+      by : (v : Option Value) → option_and_then (selected_value x (map (holder_as (closed n)) holders) (map (message_as (closed n)) older) (message_as (closed n) d)) v
+          ≡ option_and_then (selected_value x holders older d) v
+      by None = refl
+      by (Some v) = ap (λ (b : Bool). if b then Some v else None) (chosen_as quantity_told n (λ y. refl) (rule_at x) holders older d (told_by v) apart)
+
+  pub value_in_as : (d : Option Message)
+      → option_and_then (selected x (map (holder_as (closed n)) holders) (map (message_as (closed n)) older)) (option_map (message_as (closed n)) d)
+      ≡ option_and_then (selected x holders older) d
+  value_in_as None = refl
+  value_in_as (Some d) = value_as d
+
+breaks_as : (f : ℕ → ℕ) (d : Option Message) → message_breaks (option_map (message_as f) d) ≡ message_breaks d
+breaks_as f None = refl
+breaks_as f (Some d) = refl
+
+module _ (x : FurtherRule) (c : Settings) (s m : ℕ) (h : History) where
+  value_without : (newer : History) (e : Entry) → said_at x c s (newer ++ h) e ≡ said_at x c s (newer ++ tick m ∷ h) e
+  value_without newer e =
+      let r = further_receiver x c in
+      let with_it = newer ++ tick m ∷ h in
+      ap₃ (λ (k : Known) (older : List Message) (d : Option Message). option_and_then (selected x k.claims.holders older) d)
+      (known_without r s m h newer) (messages_without r s m h newer) (heard_done_without kind_of x.slots c s m h newer e)
+      ∙ value_in_as x (length h) (known r s with_it).claims.holders (messages_of r s with_it) (messages_apart r s m h newer) (further_done x c s with_it e)
+
+  further_lines_without : (newer : History) → further.lines_said x c s (newer ++ h) ≡ further.lines_said x c s (newer ++ tick m ∷ h)
+  further_lines_without [] = by (further.lines_said x c s h)
+    where
+      by : (n : ℕ) → n ≡ n + 0
+      by n = omega arith
+  further_lines_without (e ∷ newer) =
+      ap (λ (v : Option Value). further.lines_said x c s (newer ++ h) + further.line_count v) (value_without newer e)
+      ∙ ap (λ (before : ℕ). before + further.line_count (said_at x c s (newer ++ tick m ∷ h) e)) (further_lines_without newer)
+
+  pub further_without : (newer : History) (e : Entry)
+      → heard_expired kind_of x.slots c s (newer ++ h) (moment_of e) ≡ heard_expired kind_of x.slots c s (newer ++ tick m ∷ h) (moment_of e)
+      → further_out x c s (newer ++ h) e ≡ further_out x c s (newer ++ tick m ∷ h) e
+  further_without newer e overdue =
+      let with_it = newer ++ tick m ∷ h in
+      joined (heard_out_without kind_of x.slots c s m h newer e overdue)
+      (joined (ap message_breaks (heard_done_without kind_of x.slots c s m h newer e) ∙ breaks_as (closed (length h)) (further_done x c s with_it e))
+      (ap (λ (before : ℕ). further.said_gives x c.sfi before (said_at x c s (newer ++ h) e)) (further_lines_without newer)
+      ∙ ap (λ (v : Option Value). further.said_gives x c.sfi (further.lines_said x c s with_it) v) (value_without newer e)))

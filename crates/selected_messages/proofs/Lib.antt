@@ -1,2 +1,0 @@
-pub mod Completed
-pub mod Picks

@@ -1,6 +1,0 @@
-use Rattle.selected_messages.proofs.Picks.{is_picked}
-use Rattle.selected_messages.proofs.selected_message.SelectedMessage.of.Goals as goal
-
-pub returns-clause-selected : goal.returns-clause-selected
-returns-clause-selected c =
-    is_picked c.args.gateway.now c.args.outbox.now c.moment.result c.picked.result c.moment.ensures.moment c.picked.ensures.selected

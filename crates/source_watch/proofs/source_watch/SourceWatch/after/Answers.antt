@@ -1,9 +1,0 @@
-use Rattle.source_watch.proofs.Steps.{watches}
-use Rattle.source_watch.proofs.source_watch.SourceWatch.after.Goals as goal
-
-pub returns : goal.returns
-returns c = record {
-  history =
-      watches c.args.gateway.now c.args.outbox.now c.of-selected.result c.args.self.now c.take.new.self c.take.result c.of-selected.ensures.selected
-      c.take.ensures.kept c.take.ensures.told;
-}

@@ -1,3 +1,0 @@
-pub mod SourceOut
-pub mod Kept
-pub mod WatchStands
