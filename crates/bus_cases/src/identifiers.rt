@@ -1,49 +1,103 @@
 use n2k_id::{Frame, Name, NameFields, Parts, Pattern, join, parts, read_name, write_name};
 
-fn to(destination: u8, priority: u8, pgn: u32, source: u8) -> Parts {
-    Parts {
-        priority,
-        pgn,
-        destination,
-        source,
-    }
+/// Identifiers and their parts.
+const IDENTIFIERS: [(u32, Parts); 6] = [
+    // vessel heading, to all
+    (
+        0x09F1_1217,
+        Parts {
+            priority: 2,
+            pgn: 127250,
+            destination: 255,
+            source: 0x17,
+        },
+    ),
+    // an address claim, to all
+    (
+        0x18EE_FF17,
+        Parts {
+            priority: 6,
+            pgn: 60928,
+            destination: 255,
+            source: 0x17,
+        },
+    ),
+    // a request to one node
+    (
+        0x18EA_2A17,
+        Parts {
+            priority: 6,
+            pgn: 59904,
+            destination: 0x2A,
+            source: 0x17,
+        },
+    ),
+    // PF 239 is the last with a destination, PF 240 the first without
+    (
+        0x1CEF_1200,
+        Parts {
+            priority: 7,
+            pgn: 61184,
+            destination: 0x12,
+            source: 0,
+        },
+    ),
+    (
+        0x1CF0_1200,
+        Parts {
+            priority: 7,
+            pgn: 61458,
+            destination: 255,
+            source: 0,
+        },
+    ),
+    // both pages
+    (
+        0x1FFF_FFFF,
+        Parts {
+            priority: 7,
+            pgn: 0x3_FFFF,
+            destination: 255,
+            source: 255,
+        },
+    ),
+];
+
+/// A message to one node of a parameter group that is to all.
+const MISDIRECTED: Parts = Parts {
+    priority: 6,
+    pgn: 61458,
+    destination: 0x17,
+    source: 0,
+};
+
+/// Whether the identifier has these parts, and they are joined to it.
+fn is_split(id: u32, held: Parts) -> bool {
+    parts(id) == Some(held) && join(held) == Some(id)
 }
 
 #[test]
 fn identifiers_are_split_and_joined(rt: HostRuntime) {
-    let rows = [
-        // vessel heading, to all
-        (0x09F1_1217, to(255, 2, 127250, 0x17)),
-        // an address claim, to all
-        (0x18EE_FF17, to(255, 6, 60928, 0x17)),
-        // a request to one node
-        (0x18EA_2A17, to(0x2A, 6, 59904, 0x17)),
-        // PF 239 is the last with a destination, PF 240 the first without
-        (0x1CEF_1200, to(0x12, 7, 61184, 0)),
-        (0x1CF0_1200, to(255, 7, 61458, 0)),
-        // both pages
-        (0x1FFF_FFFF, to(255, 7, 0x3_FFFF, 255)),
-    ];
-    for (id, expected) in rows {
-        assert!(rt; parts(id) == Some(expected));
-        assert!(rt; join(expected) == Some(id));
+    for (id, held) in &IDENTIFIERS {
+        assert!(rt; is_split(*id, *held));
     }
-    assert!(rt; parts(0x2000_0000) == None);
-    assert!(rt; join(to(0x17, 6, 61458, 0)) == None);
+    assert!(rt; parts(0x2000_0000).is_none() && join(MISDIRECTED).is_none());
+}
+
+/// Whether a frame of a heading's identifier holds the piece, and these bytes.
+fn is_held(piece: &[u8], bytes: [u8; 8]) -> bool {
+    match Frame::of(0x09F1_1217, piece) {
+        Some(frame) => frame.held() == piece && frame.bytes == bytes,
+        None => false,
+    }
 }
 
 #[test]
 fn a_frame_holds_its_piece(rt: HostRuntime) {
-    let piece = [0x00, 0x5C, 0x3D];
-    assert!(rt; Frame::of(0x2000_0000, &piece) == None);
-    assert!(rt; Frame::of(0, &[0; 9]) == None);
-    match Frame::of(0x09F1_1217, &piece) {
-        None => assert!(rt; false, "a frame of three bytes"),
-        Some(frame) => {
-            assert!(rt; frame.held() == piece.as_slice());
-            assert!(rt; frame.bytes == [0x00, 0x5C, 0x3D, 0, 0, 0, 0, 0]);
-        }
-    }
+    assert!(rt;
+        Frame::of(0x2000_0000, &[0x00, 0x5C, 0x3D]).is_none() && Frame::of(0, &[0; 9]).is_none()
+    );
+    assert!(rt; is_held(&[0x00, 0x5C, 0x3D], [0x00, 0x5C, 0x3D, 0, 0, 0, 0, 0]));
 }
 
 /// An attitude sensor that may move to another address.
@@ -74,21 +128,27 @@ const STRIPES: NameFields = NameFields {
     arbitrary: false,
 };
 
+/// Numbers of NAMEs, and their fields.
+const NAMES: [(u64, NameFields); 2] = [
+    (0xC078_8C00_FFC0_0005, SENSOR),
+    (0x70FE_FF07_001F_FFFF, STRIPES),
+];
+
+/// Whether the NAME has these fields, and they are joined to it.
+fn is_cut(number: u64, fields: NameFields) -> bool {
+    Name(number).fields() == fields && Name::of_fields(fields) == Some(Name(number))
+}
+
 #[test]
 fn names_are_cut_into_fields_and_joined(rt: HostRuntime) {
-    let rows = [
-        (0xC078_8C00_FFC0_0005, SENSOR),
-        (0x70FE_FF07_001F_FFFF, STRIPES),
-    ];
-    for (number, fields) in rows {
-        assert!(rt; Name(number).fields() == fields);
-        assert!(rt; Name::of_fields(fields) == Some(Name(number)));
+    for (number, fields) in &NAMES {
+        assert!(rt; is_cut(*number, *fields));
     }
     let wide = NameFields {
         industry: 8,
         ..SENSOR
     };
-    assert!(rt; Name::of_fields(wide) == None);
+    assert!(rt; Name::of_fields(wide).is_none());
     assert!(rt; Name(0xC032_8200_FFC0_0001) < Name(0xC078_8C00_FFC0_0005));
 }
 

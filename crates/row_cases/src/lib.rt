@@ -1,11 +1,8 @@
-//! What is carried: readings and further quantities, their payloads on the bus, their sentences on the network, and the reports of ships.
-//! All of it is tests: they stand apart from the crates that they are about, which are proved but once without them.
+//! What is carried, where the program doesn't show it: the payloads of readings to the unit, their ranges, and reports of ships that are read.
+//! All of it is tests: they stand apart from the crates that they are about, which are proved but once without them. The sentences of readings
+//! and of further quantities, what sentences are read as and their faults are tried by the program itself.
 #![tactic(auto)]
 
-#[cfg(test)]
-mod fields;
-#[cfg(test)]
-mod further;
 #[cfg(test)]
 mod payloads;
 #[cfg(test)]

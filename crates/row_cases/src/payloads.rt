@@ -1,49 +1,709 @@
-//! Each payload was worked out by hand from the layouts of the messages.
+//! Each payload was worked out by hand from the layouts of the messages. What stands here is tried to the unit of a reading; the program shows the
+//! sentences alone, which are rounded.
 
-mod rows;
+use pgn_profile::{Payload, Profiled, read, write};
+use readings::{Reading, valid};
 
-use pgn_profile::{Kind, Profiled, kind, priority, read};
-use readings::{Reading, Row};
-
-/// Payloads that end too early.
-const SHORT: [(u32, &[u8]); 6] = [
-    (127_250, &[0xFF, 0x00, 0x00]),
-    (127_245, &[0x02, 0xFF, 0xFF, 0x7F, 0x00]),
-    (128_259, &[0xFF, 0x00]),
-    (130_306, &[0xFF, 0x00, 0x00, 0x00, 0x00]),
-    (129_029, &[0xFF; 31]),
-    (130_316, &[]),
+/// At both ends of each range, and as it is written where nothing is available.
+const CARRIED: [(u32, &[u8], Reading); 51] = [
+    (
+        127_250,
+        &[0xFF, 0x00, 0x00, 0xFF, 0x7F, 0xFF, 0x7F, 0xFC],
+        Reading::HeadingTrue { heading: Some(0) },
+    ),
+    (
+        127_250,
+        &[0xFF, 0x70, 0xF5, 0xFF, 0x7F, 0xFF, 0x7F, 0xFC],
+        Reading::HeadingTrue {
+            heading: Some(62_832),
+        },
+    ),
+    (
+        127_250,
+        &[0xFF, 0x00, 0x00, 0x48, 0x85, 0x48, 0x85, 0xFD],
+        Reading::HeadingMagnetic {
+            heading: Some(0),
+            deviation: Some(-31_416),
+            variation: Some(-31_416),
+        },
+    ),
+    (
+        127_250,
+        &[0xFF, 0x70, 0xF5, 0xB8, 0x7A, 0xB8, 0x7A, 0xFD],
+        Reading::HeadingMagnetic {
+            heading: Some(62_832),
+            deviation: Some(31_416),
+            variation: Some(31_416),
+        },
+    ),
+    (
+        127_251,
+        &[0xFF, 0x64, 0x79, 0x84, 0xC8, 0xFF, 0xFF, 0xFF],
+        Reading::RateOfTurn {
+            rate: Some(-930_842_268),
+        },
+    ),
+    (
+        127_251,
+        &[0xFF, 0x9C, 0x86, 0x7B, 0x37, 0xFF, 0xFF, 0xFF],
+        Reading::RateOfTurn {
+            rate: Some(930_842_268),
+        },
+    ),
+    (
+        127_245,
+        &[0x00, 0xFF, 0xFF, 0x7F, 0xA4, 0xC2, 0xFF, 0xFF],
+        Reading::RudderFirst {
+            position: Some(-15_708),
+        },
+    ),
+    (
+        127_245,
+        &[0x00, 0xFF, 0xFF, 0x7F, 0x5C, 0x3D, 0xFF, 0xFF],
+        Reading::RudderFirst {
+            position: Some(15_708),
+        },
+    ),
+    (
+        127_245,
+        &[0x01, 0xFF, 0xFF, 0x7F, 0xA4, 0xC2, 0xFF, 0xFF],
+        Reading::RudderSecond {
+            position: Some(-15_708),
+        },
+    ),
+    (
+        127_245,
+        &[0x01, 0xFF, 0xFF, 0x7F, 0x5C, 0x3D, 0xFF, 0xFF],
+        Reading::RudderSecond {
+            position: Some(15_708),
+        },
+    ),
+    (
+        128_259,
+        &[0xFF, 0x00, 0x00, 0xFF, 0xFF, 0xFF, 0xFF, 0xFF],
+        Reading::WaterSpeed { speed: Some(0) },
+    ),
+    (
+        128_259,
+        &[0xFF, 0xFC, 0xFF, 0xFF, 0xFF, 0xFF, 0xFF, 0xFF],
+        Reading::WaterSpeed {
+            speed: Some(65_532),
+        },
+    ),
+    (
+        128_267,
+        &[0xFF, 0x00, 0x00, 0x00, 0x00, 0x04, 0x80, 0x00],
+        Reading::Depth {
+            depth: Some(0),
+            offset: Some(-32_764),
+            range: Some(0),
+        },
+    ),
+    (
+        128_267,
+        &[0xFF, 0x80, 0x4F, 0x12, 0x00, 0xFC, 0x7F, 0xFC],
+        Reading::Depth {
+            depth: Some(1_200_000),
+            offset: Some(32_764),
+            range: Some(252),
+        },
+    ),
+    (
+        128_275,
+        &[
+            0xFF, 0xFF, 0xFF, 0xFF, 0xFF, 0xFF, 0x00, 0x00, 0x00, 0x00, 0x00, 0x00, 0x00, 0x00,
+        ],
+        Reading::DistanceLog {
+            log: Some(0),
+            trip: Some(0),
+        },
+    ),
+    (
+        128_275,
+        &[
+            0xFF, 0xFF, 0xFF, 0xFF, 0xFF, 0xFF, 0x00, 0x8E, 0xC6, 0xDC, 0x00, 0x8E, 0xC6, 0xDC,
+        ],
+        Reading::DistanceLog {
+            log: Some(3_704_000_000),
+            trip: Some(3_704_000_000),
+        },
+    ),
+    (
+        129_025,
+        &[0x00, 0x17, 0x5B, 0xCA, 0x00, 0x2E, 0xB6, 0x94],
+        Reading::Position {
+            latitude: Some(-900_000_000),
+            longitude: Some(-1_800_000_000),
+        },
+    ),
+    (
+        129_025,
+        &[0x00, 0xE9, 0xA4, 0x35, 0x00, 0xD2, 0x49, 0x6B],
+        Reading::Position {
+            latitude: Some(900_000_000),
+            longitude: Some(1_800_000_000),
+        },
+    ),
+    (
+        129_026,
+        &[0xFF, 0xFC, 0x00, 0x00, 0x00, 0x00, 0xFF, 0xFF],
+        Reading::CourseSpeed {
+            magnetic: false,
+            course: Some(0),
+            speed: Some(0),
+        },
+    ),
+    (
+        129_026,
+        &[0xFF, 0xFD, 0x70, 0xF5, 0xFC, 0xFF, 0xFF, 0xFF],
+        Reading::CourseSpeed {
+            magnetic: true,
+            course: Some(62_832),
+            speed: Some(65_532),
+        },
+    ),
+    (
+        129_029,
+        &[
+            0xFF, 0x00, 0x00, 0x00, 0x00, 0x00, 0x00, 0x00, 0x00, 0x26, 0xB6, 0xC4, 0x8E, 0x82,
+            0xF3, 0x00, 0x00, 0x4C, 0x6C, 0x89, 0x1D, 0x05, 0xE7, 0xA0, 0xA2, 0xF5, 0xAB, 0xFD,
+            0xFF, 0xFF, 0xFF, 0x00, 0xFC, 0x00, 0x00, 0x00, 0xFF, 0x7F, 0x6A, 0x79, 0xFE, 0xFF,
+            0x00,
+        ],
+        Reading::Gnss {
+            date: Some(0),
+            time: Some(0),
+            latitude: Some(-900_000_000_000_000_000),
+            longitude: Some(-1_800_000_000_000_000_000),
+            altitude: Some(-9_999_900_000),
+            method: 0,
+            satellites: Some(0),
+            hdop: Some(0),
+            separation: Some(-99_990),
+        },
+    ),
+    (
+        129_029,
+        &[
+            0xFF, 0xFC, 0xFF, 0xFF, 0x97, 0x7F, 0x33, 0x00, 0x00, 0xDA, 0x49, 0x3B, 0x71, 0x7D,
+            0x0C, 0x00, 0x00, 0xB4, 0x93, 0x76, 0xE2, 0xFA, 0x18, 0x60, 0x5D, 0x0A, 0x54, 0x02,
+            0x00, 0x00, 0x00, 0x80, 0xFC, 0xFC, 0x0F, 0x27, 0xFF, 0x7F, 0x96, 0x86, 0x01, 0x00,
+            0x00,
+        ],
+        Reading::Gnss {
+            date: Some(65_532),
+            time: Some(863_999_999),
+            latitude: Some(900_000_000_000_000_000),
+            longitude: Some(1_800_000_000_000_000_000),
+            altitude: Some(9_999_900_000),
+            method: 8,
+            satellites: Some(252),
+            hdop: Some(9_999),
+            separation: Some(99_990),
+        },
+    ),
+    (
+        126_992,
+        &[0xFF, 0xFF, 0x00, 0x00, 0x00, 0x00, 0x00, 0x00],
+        Reading::Time {
+            date: Some(0),
+            time: Some(0),
+        },
+    ),
+    (
+        126_992,
+        &[0xFF, 0xFF, 0xFC, 0xFF, 0xFF, 0x97, 0x7F, 0x33],
+        Reading::Time {
+            date: Some(65_532),
+            time: Some(863_999_999),
+        },
+    ),
+    (
+        130_306,
+        &[0xFF, 0x00, 0x00, 0x00, 0x00, 0xFA, 0xFF, 0xFF],
+        Reading::WindApparent {
+            speed: Some(0),
+            angle: Some(0),
+        },
+    ),
+    (
+        130_306,
+        &[0xFF, 0xFC, 0xFF, 0x70, 0xF5, 0xFA, 0xFF, 0xFF],
+        Reading::WindApparent {
+            speed: Some(65_532),
+            angle: Some(62_832),
+        },
+    ),
+    (
+        130_306,
+        &[0xFF, 0x00, 0x00, 0x00, 0x00, 0xFB, 0xFF, 0xFF],
+        Reading::WindTrue {
+            speed: Some(0),
+            angle: Some(0),
+        },
+    ),
+    (
+        130_306,
+        &[0xFF, 0xFC, 0xFF, 0x70, 0xF5, 0xFB, 0xFF, 0xFF],
+        Reading::WindTrue {
+            speed: Some(65_532),
+            angle: Some(62_832),
+        },
+    ),
+    (
+        130_306,
+        &[0xFF, 0x00, 0x00, 0x00, 0x00, 0xF8, 0xFF, 0xFF],
+        Reading::WindNorth {
+            magnetic: false,
+            speed: Some(0),
+            angle: Some(0),
+        },
+    ),
+    (
+        130_306,
+        &[0xFF, 0xFC, 0xFF, 0x70, 0xF5, 0xF9, 0xFF, 0xFF],
+        Reading::WindNorth {
+            magnetic: true,
+            speed: Some(65_532),
+            angle: Some(62_832),
+        },
+    ),
+    (
+        130_316,
+        &[0xFF, 0x00, 0x00, 0x5E, 0xA4, 0x02, 0xFF, 0xFF],
+        Reading::WaterTemperature {
+            kelvin: Some(173_150),
+        },
+    ),
+    (
+        130_316,
+        &[0xFF, 0x00, 0x00, 0x9E, 0xB1, 0x05, 0xFF, 0xFF],
+        Reading::WaterTemperature {
+            kelvin: Some(373_150),
+        },
+    ),
+    (
+        129_283,
+        &[0xFF, 0x30, 0x40, 0x68, 0xE5, 0xFE, 0xFF, 0xFF],
+        Reading::CrossTrack {
+            distance: Some(-18_520_000),
+        },
+    ),
+    (
+        129_283,
+        &[0xFF, 0x30, 0xC0, 0x97, 0x1A, 0x01, 0xFF, 0xFF],
+        Reading::CrossTrack {
+            distance: Some(18_520_000),
+        },
+    ),
+    (
+        127_250,
+        &[0xFF, 0xFF, 0xFF, 0xFF, 0x7F, 0xFF, 0x7F, 0xFC],
+        Reading::HeadingTrue { heading: None },
+    ),
+    (
+        127_250,
+        &[0xFF, 0xFF, 0xFF, 0xFF, 0x7F, 0xFF, 0x7F, 0xFD],
+        Reading::HeadingMagnetic {
+            heading: None,
+            deviation: None,
+            variation: None,
+        },
+    ),
+    (
+        127_251,
+        &[0xFF, 0xFF, 0xFF, 0xFF, 0x7F, 0xFF, 0xFF, 0xFF],
+        Reading::RateOfTurn { rate: None },
+    ),
+    (
+        127_245,
+        &[0x00, 0xFF, 0xFF, 0x7F, 0xFF, 0x7F, 0xFF, 0xFF],
+        Reading::RudderFirst { position: None },
+    ),
+    (
+        127_245,
+        &[0x01, 0xFF, 0xFF, 0x7F, 0xFF, 0x7F, 0xFF, 0xFF],
+        Reading::RudderSecond { position: None },
+    ),
+    (
+        128_259,
+        &[0xFF, 0xFF, 0xFF, 0xFF, 0xFF, 0xFF, 0xFF, 0xFF],
+        Reading::WaterSpeed { speed: None },
+    ),
+    (
+        128_267,
+        &[0xFF, 0xFF, 0xFF, 0xFF, 0xFF, 0xFF, 0x7F, 0xFF],
+        Reading::Depth {
+            depth: None,
+            offset: None,
+            range: None,
+        },
+    ),
+    (
+        128_275,
+        &[
+            0xFF, 0xFF, 0xFF, 0xFF, 0xFF, 0xFF, 0xFF, 0xFF, 0xFF, 0xFF, 0xFF, 0xFF, 0xFF, 0xFF,
+        ],
+        Reading::DistanceLog {
+            log: None,
+            trip: None,
+        },
+    ),
+    (
+        129_025,
+        &[0xFF, 0xFF, 0xFF, 0x7F, 0xFF, 0xFF, 0xFF, 0x7F],
+        Reading::Position {
+            latitude: None,
+            longitude: None,
+        },
+    ),
+    (
+        129_026,
+        &[0xFF, 0xFC, 0xFF, 0xFF, 0xFF, 0xFF, 0xFF, 0xFF],
+        Reading::CourseSpeed {
+            magnetic: false,
+            course: None,
+            speed: None,
+        },
+    ),
+    (
+        129_029,
+        &[
+            0xFF, 0xFF, 0xFF, 0xFF, 0xFF, 0xFF, 0xFF, 0xFF, 0xFF, 0xFF, 0xFF, 0xFF, 0xFF, 0xFF,
+            0x7F, 0xFF, 0xFF, 0xFF, 0xFF, 0xFF, 0xFF, 0xFF, 0x7F, 0xFF, 0xFF, 0xFF, 0xFF, 0xFF,
+            0xFF, 0xFF, 0x7F, 0x00, 0xFC, 0xFF, 0xFF, 0x7F, 0xFF, 0x7F, 0xFF, 0xFF, 0xFF, 0x7F,
+            0x00,
+        ],
+        Reading::Gnss {
+            date: None,
+            time: None,
+            latitude: None,
+            longitude: None,
+            altitude: None,
+            method: 0,
+            satellites: None,
+            hdop: None,
+            separation: None,
+        },
+    ),
+    (
+        126_992,
+        &[0xFF, 0xFF, 0xFF, 0xFF, 0xFF, 0xFF, 0xFF, 0xFF],
+        Reading::Time {
+            date: None,
+            time: None,
+        },
+    ),
+    (
+        130_306,
+        &[0xFF, 0xFF, 0xFF, 0xFF, 0xFF, 0xFA, 0xFF, 0xFF],
+        Reading::WindApparent {
+            speed: None,
+            angle: None,
+        },
+    ),
+    (
+        130_306,
+        &[0xFF, 0xFF, 0xFF, 0xFF, 0xFF, 0xFB, 0xFF, 0xFF],
+        Reading::WindTrue {
+            speed: None,
+            angle: None,
+        },
+    ),
+    (
+        130_306,
+        &[0xFF, 0xFF, 0xFF, 0xFF, 0xFF, 0xF8, 0xFF, 0xFF],
+        Reading::WindNorth {
+            magnetic: false,
+            speed: None,
+            angle: None,
+        },
+    ),
+    (
+        130_316,
+        &[0xFF, 0x00, 0x00, 0xFF, 0xFF, 0xFF, 0xFF, 0xFF],
+        Reading::WaterTemperature { kelvin: None },
+    ),
+    (
+        129_283,
+        &[0xFF, 0x30, 0xFF, 0xFF, 0xFF, 0x7F, 0xFF, 0xFF],
+        Reading::CrossTrack { distance: None },
+    ),
 ];
 
-#[test]
-fn a_short_payload_is_short_whatever_its_selector(rt: HostRuntime) {
-    for &(pgn, payload) in &SHORT {
-        assert!(rt; read(pgn, payload) == Profiled::Short);
-    }
-}
-
-/// Payloads of no row.
-const OUTSIDE: [(u32, &[u8]); 8] = [
-    (127_250, &[0xFF, 0x00, 0x00, 0xFF, 0x7F, 0xFF, 0x7F, 0xFE]),
-    (127_245, &[0x02, 0xFF, 0xFF, 0x7F, 0x00, 0x00]),
-    (129_026, &[0xFF, 0xFE, 0x00, 0x00, 0x00, 0x00]),
-    (130_306, &[0xFF, 0x00, 0x00, 0x00, 0x00, 0xFD]),
-    (130_312, &[0xFF, 0x00, 0x01, 0x10, 0x70]),
-    (130_316, &[0xFF, 0x00, 0x01, 0x10, 0x70, 0x04]),
-    (130_311, &[0xFF; 8]),
-    (60_928, &[]),
+/// Just beyond the ranges, and what is read there.
+const BEYOND: [(u32, &[u8], Reading); 34] = [
+    (
+        127_250,
+        &[0xFF, 0x71, 0xF5, 0xFF, 0x7F, 0xFF, 0x7F, 0xFC],
+        Reading::HeadingTrue { heading: None },
+    ),
+    (
+        127_250,
+        &[0xFF, 0x71, 0xF5, 0xFF, 0x7F, 0xFF, 0x7F, 0xFC],
+        Reading::HeadingTrue { heading: None },
+    ),
+    (
+        127_250,
+        &[0xFF, 0x71, 0xF5, 0x47, 0x85, 0x47, 0x85, 0xFD],
+        Reading::HeadingMagnetic {
+            heading: None,
+            deviation: None,
+            variation: None,
+        },
+    ),
+    (
+        127_250,
+        &[0xFF, 0x71, 0xF5, 0xB9, 0x7A, 0xB9, 0x7A, 0xFD],
+        Reading::HeadingMagnetic {
+            heading: None,
+            deviation: None,
+            variation: None,
+        },
+    ),
+    (
+        127_251,
+        &[0xFF, 0x63, 0x79, 0x84, 0xC8, 0xFF, 0xFF, 0xFF],
+        Reading::RateOfTurn { rate: None },
+    ),
+    (
+        127_251,
+        &[0xFF, 0x9D, 0x86, 0x7B, 0x37, 0xFF, 0xFF, 0xFF],
+        Reading::RateOfTurn { rate: None },
+    ),
+    (
+        127_245,
+        &[0x00, 0xFF, 0xFF, 0x7F, 0xA3, 0xC2, 0xFF, 0xFF],
+        Reading::RudderFirst { position: None },
+    ),
+    (
+        127_245,
+        &[0x00, 0xFF, 0xFF, 0x7F, 0x5D, 0x3D, 0xFF, 0xFF],
+        Reading::RudderFirst { position: None },
+    ),
+    (
+        127_245,
+        &[0x01, 0xFF, 0xFF, 0x7F, 0xA3, 0xC2, 0xFF, 0xFF],
+        Reading::RudderSecond { position: None },
+    ),
+    (
+        127_245,
+        &[0x01, 0xFF, 0xFF, 0x7F, 0x5D, 0x3D, 0xFF, 0xFF],
+        Reading::RudderSecond { position: None },
+    ),
+    (
+        128_259,
+        &[0xFF, 0xFD, 0xFF, 0xFF, 0xFF, 0xFF, 0xFF, 0xFF],
+        Reading::WaterSpeed { speed: None },
+    ),
+    (
+        128_259,
+        &[0xFF, 0xFD, 0xFF, 0xFF, 0xFF, 0xFF, 0xFF, 0xFF],
+        Reading::WaterSpeed { speed: None },
+    ),
+    (
+        128_267,
+        &[0xFF, 0x81, 0x4F, 0x12, 0x00, 0x03, 0x80, 0xFD],
+        Reading::Depth {
+            depth: None,
+            offset: None,
+            range: None,
+        },
+    ),
+    (
+        128_267,
+        &[0xFF, 0x81, 0x4F, 0x12, 0x00, 0xFD, 0x7F, 0xFD],
+        Reading::Depth {
+            depth: None,
+            offset: None,
+            range: None,
+        },
+    ),
+    (
+        128_275,
+        &[
+            0xFF, 0xFF, 0xFF, 0xFF, 0xFF, 0xFF, 0x01, 0x8E, 0xC6, 0xDC, 0x01, 0x8E, 0xC6, 0xDC,
+        ],
+        Reading::DistanceLog {
+            log: None,
+            trip: None,
+        },
+    ),
+    (
+        128_275,
+        &[
+            0xFF, 0xFF, 0xFF, 0xFF, 0xFF, 0xFF, 0x01, 0x8E, 0xC6, 0xDC, 0x01, 0x8E, 0xC6, 0xDC,
+        ],
+        Reading::DistanceLog {
+            log: None,
+            trip: None,
+        },
+    ),
+    (
+        129_025,
+        &[0xFF, 0x16, 0x5B, 0xCA, 0xFF, 0x2D, 0xB6, 0x94],
+        Reading::Position {
+            latitude: None,
+            longitude: None,
+        },
+    ),
+    (
+        129_025,
+        &[0x01, 0xE9, 0xA4, 0x35, 0x01, 0xD2, 0x49, 0x6B],
+        Reading::Position {
+            latitude: None,
+            longitude: None,
+        },
+    ),
+    (
+        129_026,
+        &[0xFF, 0xFC, 0x71, 0xF5, 0xFD, 0xFF, 0xFF, 0xFF],
+        Reading::CourseSpeed {
+            magnetic: false,
+            course: None,
+            speed: None,
+        },
+    ),
+    (
+        129_026,
+        &[0xFF, 0xFC, 0x71, 0xF5, 0xFD, 0xFF, 0xFF, 0xFF],
+        Reading::CourseSpeed {
+            magnetic: false,
+            course: None,
+            speed: None,
+        },
+    ),
+    (
+        129_029,
+        &[
+            0xFF, 0xFD, 0xFF, 0x00, 0x98, 0x7F, 0x33, 0xFF, 0xFF, 0x25, 0xB6, 0xC4, 0x8E, 0x82,
+            0xF3, 0xFF, 0xFF, 0x4B, 0x6C, 0x89, 0x1D, 0x05, 0xE7, 0x9F, 0xA2, 0xF5, 0xAB, 0xFD,
+            0xFF, 0xFF, 0xFF, 0xF0, 0xFC, 0xFD, 0x10, 0x27, 0xFF, 0x7F, 0x69, 0x79, 0xFE, 0xFF,
+            0x00,
+        ],
+        Reading::Gnss {
+            date: None,
+            time: None,
+            latitude: None,
+            longitude: None,
+            altitude: None,
+            method: 0,
+            satellites: None,
+            hdop: None,
+            separation: None,
+        },
+    ),
+    (
+        129_029,
+        &[
+            0xFF, 0xFD, 0xFF, 0x00, 0x98, 0x7F, 0x33, 0x01, 0x00, 0xDA, 0x49, 0x3B, 0x71, 0x7D,
+            0x0C, 0x01, 0x00, 0xB4, 0x93, 0x76, 0xE2, 0xFA, 0x18, 0x61, 0x5D, 0x0A, 0x54, 0x02,
+            0x00, 0x00, 0x00, 0x90, 0xFC, 0xFD, 0x10, 0x27, 0xFF, 0x7F, 0x97, 0x86, 0x01, 0x00,
+            0x00,
+        ],
+        Reading::Gnss {
+            date: None,
+            time: None,
+            latitude: None,
+            longitude: None,
+            altitude: None,
+            method: 0,
+            satellites: None,
+            hdop: None,
+            separation: None,
+        },
+    ),
+    (
+        126_992,
+        &[0xFF, 0xFF, 0xFD, 0xFF, 0x00, 0x98, 0x7F, 0x33],
+        Reading::Time {
+            date: None,
+            time: None,
+        },
+    ),
+    (
+        126_992,
+        &[0xFF, 0xFF, 0xFD, 0xFF, 0x00, 0x98, 0x7F, 0x33],
+        Reading::Time {
+            date: None,
+            time: None,
+        },
+    ),
+    (
+        130_306,
+        &[0xFF, 0xFD, 0xFF, 0x71, 0xF5, 0xFA, 0xFF, 0xFF],
+        Reading::WindApparent {
+            speed: None,
+            angle: None,
+        },
+    ),
+    (
+        130_306,
+        &[0xFF, 0xFD, 0xFF, 0x71, 0xF5, 0xFA, 0xFF, 0xFF],
+        Reading::WindApparent {
+            speed: None,
+            angle: None,
+        },
+    ),
+    (
+        130_306,
+        &[0xFF, 0xFD, 0xFF, 0x71, 0xF5, 0xFB, 0xFF, 0xFF],
+        Reading::WindTrue {
+            speed: None,
+            angle: None,
+        },
+    ),
+    (
+        130_306,
+        &[0xFF, 0xFD, 0xFF, 0x71, 0xF5, 0xFB, 0xFF, 0xFF],
+        Reading::WindTrue {
+            speed: None,
+            angle: None,
+        },
+    ),
+    (
+        130_306,
+        &[0xFF, 0xFD, 0xFF, 0x71, 0xF5, 0xF8, 0xFF, 0xFF],
+        Reading::WindNorth {
+            magnetic: false,
+            speed: None,
+            angle: None,
+        },
+    ),
+    (
+        130_306,
+        &[0xFF, 0xFD, 0xFF, 0x71, 0xF5, 0xF8, 0xFF, 0xFF],
+        Reading::WindNorth {
+            magnetic: false,
+            speed: None,
+            angle: None,
+        },
+    ),
+    (
+        130_316,
+        &[0xFF, 0x00, 0x00, 0x5D, 0xA4, 0x02, 0xFF, 0xFF],
+        Reading::WaterTemperature { kelvin: None },
+    ),
+    (
+        130_316,
+        &[0xFF, 0x00, 0x00, 0x9F, 0xB1, 0x05, 0xFF, 0xFF],
+        Reading::WaterTemperature { kelvin: None },
+    ),
+    (
+        129_283,
+        &[0xFF, 0x30, 0x3F, 0x68, 0xE5, 0xFE, 0xFF, 0xFF],
+        Reading::CrossTrack { distance: None },
+    ),
+    (
+        129_283,
+        &[0xFF, 0x30, 0xC1, 0x97, 0x1A, 0x01, 0xFF, 0xFF],
+        Reading::CrossTrack { distance: None },
+    ),
 ];
 
-#[test]
-fn a_selector_of_no_row_is_outside(rt: HostRuntime) {
-    for &(pgn, payload) in &OUTSIDE {
-        assert!(rt; read(pgn, payload) == Profiled::Outside);
-    }
-}
-
-/// Payloads that are read and not written, and their readings.
+/// Other payloads of the same rows, and their readings.
 // The only rudder, a true wind to the water, PGN 129033, and 27315 hundredths of a kelvin.
-const OTHERS: [(u32, &[u8], Reading); 5] = [
+const OTHERS: [(u32, &[u8], Reading); 6] = [
     (
         127_245,
         &[0xFF, 0xFF, 0xFF, 0x7F, 0x5C, 0x3D],
@@ -84,44 +744,67 @@ const OTHERS: [(u32, &[u8], Reading); 5] = [
             range: None,
         },
     ),
+    // A fix from a whole fast packet.
+    (
+        129_029,
+        &[
+            0x00, 0xDB, 0x4C, 0x00, 0x08, 0xAF, 0x2F, 0x00, 0x00, 0x00, 0x00, 0x00, 0x00, 0x00,
+            0x08, 0x00, 0x00, 0x00, 0x00, 0x00, 0x00, 0x00, 0x02, 0xE0, 0xAE, 0xBB, 0x00, 0x00,
+            0x00, 0x00, 0x00, 0x10, 0xFC, 0x09, 0x69, 0x00, 0xFF, 0x7F, 0xF4, 0x06, 0x00, 0x00,
+            0x00,
+        ],
+        Reading::Gnss {
+            date: Some(19_675),
+            time: Some(800_000_000),
+            latitude: Some(576_460_752_303_423_488),
+            longitude: Some(144_115_188_075_855_872),
+            altitude: Some(12_300_000),
+            method: 1,
+            satellites: Some(9),
+            hdop: Some(105),
+            separation: Some(1_780),
+        },
+    ),
 ];
 
+/// Whether the payload is read as the reading.
+fn is_read(pgn: u32, payload: &[u8], reading: &Reading) -> bool {
+    read(pgn, payload) == Profiled::Reading(*reading)
+}
+
+/// Whether the reading, which is valid, is written as the payload.
+fn is_written(pgn: u32, payload: &[u8], reading: &Reading) -> bool {
+    if !valid(reading) {
+        return false;
+    }
+    let mut out = Payload::new();
+    write(reading, &mut out) == pgn && out.as_slice() == payload
+}
+
 #[test]
-fn other_payloads_of_the_same_rows_are_read(rt: HostRuntime) {
-    for &(pgn, payload, reading) in &OTHERS {
-        assert!(rt; read(pgn, payload) == Profiled::Reading(reading));
+fn each_payload_is_read(rt: HostRuntime) {
+    for (pgn, payload, reading) in &CARRIED {
+        assert!(rt; is_read(*pgn, payload, reading));
     }
 }
 
 #[test]
-fn a_fix_is_read_from_a_whole_fast_packet(rt: HostRuntime) {
-    let payload = [
-        0x00, 0xDB, 0x4C, 0x00, 0x08, 0xAF, 0x2F, 0x00, 0x00, 0x00, 0x00, 0x00, 0x00, 0x00, 0x08,
-        0x00, 0x00, 0x00, 0x00, 0x00, 0x00, 0x00, 0x02, 0xE0, 0xAE, 0xBB, 0x00, 0x00, 0x00, 0x00,
-        0x00, 0x10, 0xFC, 0x09, 0x69, 0x00, 0xFF, 0x7F, 0xF4, 0x06, 0x00, 0x00, 0x00,
-    ];
-    let fix = Reading::Gnss {
-        date: Some(19_675),
-        time: Some(800_000_000),
-        latitude: Some(576_460_752_303_423_488),
-        longitude: Some(144_115_188_075_855_872),
-        altitude: Some(12_300_000),
-        method: 1,
-        satellites: Some(9),
-        hdop: Some(105),
-        separation: Some(1_780),
-    };
-    assert!(rt; read(129_029, &payload) == Profiled::Reading(fix));
+fn each_payload_is_written(rt: HostRuntime) {
+    for (pgn, payload, reading) in &CARRIED {
+        assert!(rt; is_written(*pgn, payload, reading));
+    }
 }
 
 #[test]
-fn kinds_and_priorities_are_those_of_the_table(rt: HostRuntime) {
-    assert!(rt; kind(127_250) == Kind::Single);
-    assert!(rt; kind(128_275) == Kind::Fast);
-    assert!(rt; kind(129_029) == Kind::Fast);
-    assert!(rt; kind(129_038) == Kind::Outside);
-    assert!(rt; priority(Row::HeadingTrue) == 2);
-    assert!(rt; priority(Row::Gnss) == 3);
-    assert!(rt; priority(Row::WaterTemperature) == 5);
-    assert!(rt; priority(Row::DistanceLog) == 6);
+fn beyond_its_range_a_value_is_not_available(rt: HostRuntime) {
+    for (pgn, payload, reading) in &BEYOND {
+        assert!(rt; is_read(*pgn, payload, reading));
+    }
+}
+
+#[test]
+fn other_payloads_of_the_same_rows_are_read(rt: HostRuntime) {
+    for (pgn, payload, reading) in &OTHERS {
+        assert!(rt; is_read(*pgn, payload, reading));
+    }
 }

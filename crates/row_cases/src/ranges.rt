@@ -1,23 +1,30 @@
 use readings::{Reading, Row, bits, read_signed, read_unsigned, row, usable, valid};
 
+const BYTES: [u8; 6] = [0xFF, 0x5C, 0x3D, 0x51, 0xFF, 0x7F];
+
 #[test]
 fn numbers_stand_with_the_lowest_byte_first(rt: HostRuntime) {
-    let bytes = [0xFF, 0x5C, 0x3D, 0x51, 0xFF, 0x7F];
-    assert!(rt; read_unsigned(&bytes, 1, 2) == Some(15_708));
-    assert!(rt; read_unsigned(&bytes, 1, 3) == Some(5_324_124));
-    assert!(rt; read_signed(&bytes, 3, 2) == Some(-175));
-    assert!(rt; read_signed(&bytes, 4, 2) == Some(32_767));
-    assert!(rt; read_signed(&bytes, 5, 1) == Some(127));
-    assert!(rt; read_unsigned(&bytes, 5, 2) == None);
-    assert!(rt; read_signed(&bytes, 7, 1) == None);
+    assert!(rt;
+        read_unsigned(&BYTES, 1, 2) == Some(15_708)
+            && read_unsigned(&BYTES, 1, 3) == Some(5_324_124)
+            && read_unsigned(&BYTES, 5, 2).is_none()
+    );
+    assert!(rt;
+        read_signed(&BYTES, 3, 2) == Some(-175)
+            && read_signed(&BYTES, 4, 2) == Some(32_767)
+            && read_signed(&BYTES, 5, 1) == Some(127)
+            && read_signed(&BYTES, 7, 1).is_none()
+    );
 }
 
 #[test]
 fn bits_are_counted_from_the_lowest(rt: HostRuntime) {
-    assert!(rt; bits(0b1010_0110, 0, 2) == 0b10);
-    assert!(rt; bits(0b1010_0110, 4, 4) == 0b1010);
-    assert!(rt; bits(0b1010_0110, 0, 8) == 0b1010_0110);
-    assert!(rt; bits(0b1010_0110, 8, 0) == 0);
+    assert!(rt;
+        bits(0b1010_0110, 0, 2) == 0b10
+            && bits(0b1010_0110, 4, 4) == 0b1010
+            && bits(0b1010_0110, 0, 8) == 0b1010_0110
+            && bits(0b1010_0110, 8, 0) == 0
+    );
 }
 
 fn fix(method: u8, date: Option<i64>, longitude: Option<i64>) -> Reading {
