@@ -4,7 +4,7 @@ use crate::about::Quantity;
 pub const VALUES: usize = 6;
 
 /// What a payload says of a quantity.
-#[derive(Clone, Copy, PartialEq, Eq)]
+#[derive(Clone, Copy)]
 pub struct Value {
     pub quantity: Quantity,
     /// Its values in their order, and none behind the last.
@@ -12,7 +12,7 @@ pub struct Value {
 }
 
 /// What a message says of the quantities.
-#[derive(Clone, Copy, PartialEq, Eq)]
+#[derive(Clone, Copy)]
 pub enum Told {
     /// A value of a quantity.
     Value(Value),

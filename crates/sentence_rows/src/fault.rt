@@ -1,5 +1,5 @@
 /// Why a sentence gives no reading. Fields are counted from 1.
-#[derive(Clone, Copy, PartialEq, Eq)]
+#[derive(Clone, Copy)]
 pub enum FieldFault {
     /// The sentence is none of the profile.
     Outside,

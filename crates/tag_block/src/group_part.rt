@@ -1,5 +1,5 @@
 /// The place of a line in a group of lines: the number of the line, the total of lines, and the group's code.
-#[derive(Clone, Copy, PartialEq, Eq)]
+#[derive(Clone, Copy)]
 pub struct GroupPart {
     /// From 1 to the total.
     pub number: u8,

@@ -1,5 +1,5 @@
 /// A decimal as it stood in a text: `digits / 10^places` with its sign.
-#[derive(Clone, Copy, PartialEq, Eq)]
+#[derive(Clone, Copy)]
 pub struct Decimal {
     pub negative: bool,
     pub digits: u64,
