@@ -13,7 +13,7 @@ use config_document::{ConfigFault, ProductText, Section};
 
 pub(crate) const KEYS: [&str; 6] = ["code", "model", "software", "version", "serial", "load"];
 
-#[tactic(auto, using(crate::proofs::Values::product_text), unfolding(crate::specs::Keys::identity))]
+#[tactic(auto, unfolding(crate::specs::Keys::identity))]
 pub(crate) fn identity_keys(document: &Section) -> Result<Product, ConfigFault>
     ensures said { result ≡ table_in identity tt (place_of document.now) }
     ensures valid { IfOk result IsProduct }

@@ -1,6 +1,16 @@
 use Rattle.gate_config.specs.Keys.{identity}
+use Rattle.gate_config.proofs.Values.{product_text}
 use Rattle.gate_config.proofs.identity.identity_keys.Goals as goal
 
 pub returns-clause-said : goal.returns-clause-said
 unfolding identity
 returns-clause-said c = rw (c.in_ok-table.ensures, ← c.in_ok-code.ensures.said, ← c.in_ok-model.ensures.said, ← c.in_ok-load.ensures.said)
+
+pub returns-clause-valid : goal.returns-clause-valid
+returns-clause-valid c = record {
+  model = product_text _ c.in_ok-model.ensures.model;
+  software = product_text _ c.in_ok-model.ensures.software;
+  version = product_text _ c.in_ok-model.ensures.version;
+  serial = product_text _ c.in_ok-model.ensures.serial;
+  load = c.in_ok-load.ensures.valid.1;
+}
