@@ -31,6 +31,11 @@ pub said_few :
     → Some (record { items = xs }) ≡ said_in f most (items_view values)
 said_few f most values xs few each = rw (count-view values, le-leb (length values) most few, each) refl
 
+-- one that says nothing
+pub said_none : {A : Type 0} (f : List ℕ → Option A) (most : ℕ) (values : List Value) → length values ≤ most → each_said f (items_view values) ≡ None
+    → None ≡ said_in f most (items_view values)
+said_none f most values few none = rw (count-view values, le-leb (length values) most few, none) refl
+
 pub each_members-view : (values : List Value) → each_members (items_view values) ≡ map members_seen values
 each_members-view [] = refl
 each_members-view (value ∷ values) = ap (λ (t : List Members). members_seen value ∷ t) (each_members-view values)
