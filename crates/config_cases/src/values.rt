@@ -5,12 +5,12 @@ use config_values::{Config, Ends, RowConfig};
 use n2k_id::{Name, Pattern};
 use network_routes::{Address, MOST_ROUTES, Route, Routes};
 use sentence_text::{Group, Sfi};
-use std::test::Fail;
+use std::test::*;
 
 const OWN: u64 = 0xC032_8200_FFC0_0001;
 
 /// A pattern that states nothing.
-const ANY: Pattern = Pattern {
+pub(crate) const ANY: Pattern = Pattern {
     unique: None,
     manufacturer: None,
     instance_lower: None,
@@ -25,50 +25,15 @@ const ANY: Pattern = Pattern {
 
 /// Devices of the class of steering systems, and those of one function among them.
 const STEERING: Pattern = Pattern {
-    unique: None,
-    manufacturer: None,
-    instance_lower: None,
-    instance_upper: None,
-    function: None,
-    reserved: None,
     class: Some(40),
-    system_instance: None,
     industry: Some(4),
-    arbitrary: None,
+    ..ANY
 };
 
 const AUTOPILOT: Pattern = Pattern {
-    unique: None,
-    manufacturer: None,
-    instance_lower: None,
-    instance_upper: None,
     function: Some(150),
-    reserved: None,
-    class: Some(40),
-    system_instance: None,
-    industry: Some(4),
-    arbitrary: None,
+    ..STEERING
 };
-
-/// What of the configuration is put in the place of what stands there.
-#[derive(Clone, Copy)]
-enum Change {
-    Nothing,
-    Address(u8),
-    FastSlots(u16),
-    IsoSlots(u16),
-    GroupSlots(u16),
-    Presets(&'static [(u8, u64)]),
-    Sources(&'static [Pattern]),
-    Timeout(u32),
-    Talker([u8; 2]),
-    NetSources(&'static [&'static [u8]]),
-    NetListen(&'static [u8]),
-    NetSend(&'static [u8]),
-    BusListen(&'static [u8]),
-    BusSend(&'static [u8]),
-    Routes(&'static [(&'static [u8], &'static [u8])]),
-}
 
 fn endpoint(text: &[u8]) -> Address {
     let mut address = ArrayVec::new();
@@ -143,210 +108,220 @@ fn usual() -> Config {
     }
 }
 
-/// The last row stands for all in what is changed of a row.
-fn changed(change: Change) -> Config {
+fn is_valid_at(address: u8) -> bool {
     let mut config = usual();
-    match change {
-        Change::Nothing => {}
-        Change::Address(address) => config.address = address,
-        Change::FastSlots(slots) => config.fast_slots = slots,
-        Change::IsoSlots(slots) => config.iso_slots = slots,
-        Change::GroupSlots(slots) => config.group_slots = slots,
-        Change::Presets(list) => config.presets = presets(list),
-        Change::Sources(list) => config.rows[16].sources = sources(list),
-        Change::Timeout(milliseconds) => config.rows[16].timeout_ms = milliseconds,
-        Change::Talker(talker) => config.rows[16].talker = talker,
-        Change::NetSources(list) => config.net_sources = net_sources(list),
-        Change::NetListen(text) => config.ends.net_listen = endpoint(text),
-        Change::NetSend(text) => config.ends.net.other = endpoint(text),
-        Change::BusListen(text) => config.ends.bus_listen = endpoint(text),
-        Change::BusSend(text) => config.ends.bus_send = endpoint(text),
-        Change::Routes(list) => config.ends.net.list = routes(list),
-    }
-    config
+    config.address = address;
+    config.valid()
 }
 
-/// What is changed in a configuration, and whether it is valid then.
-const CHANGED: [(&str, Change, bool); 53] = [
-    ("as it stands", Change::Nothing, true),
-    ("the least address", Change::Address(0), true),
-    (
-        "an address of no device that moves",
-        Change::Address(252),
-        false,
-    ),
-    ("a preset's address", Change::Address(23), false),
-    ("no fast packet", Change::FastSlots(0), false),
-    ("one fast packet", Change::FastSlots(1), true),
-    ("the most fast packets", Change::FastSlots(256), true),
-    ("one fast packet too many", Change::FastSlots(257), false),
-    ("no session", Change::IsoSlots(0), false),
-    ("the most sessions", Change::IsoSlots(32), true),
-    ("one session too many", Change::IsoSlots(33), false),
-    ("no group of lines", Change::GroupSlots(0), false),
-    ("the most groups of lines", Change::GroupSlots(32), true),
-    ("one group of lines too many", Change::GroupSlots(33), false),
-    ("no preset", Change::Presets(&[]), true),
-    (
-        "the greatest address of a preset",
-        Change::Presets(&[(253, 5)]),
-        true,
-    ),
-    (
-        "a preset without an address",
-        Change::Presets(&[(254, 5)]),
-        false,
-    ),
-    (
-        "an address of two presets",
-        Change::Presets(&[(23, 5), (24, 6), (23, 7)]),
-        false,
-    ),
-    (
-        "a NAME of two presets",
-        Change::Presets(&[(23, 5), (24, 6), (25, 5)]),
-        false,
-    ),
-    (
-        "a preset at the own address",
-        Change::Presets(&[(23, 5), (251, 6)]),
-        false,
-    ),
-    (
-        "a preset of the own NAME",
-        Change::Presets(&[(23, 5), (24, OWN)]),
-        false,
-    ),
-    ("a pattern of all devices", Change::Sources(&[ANY]), true),
-    (
-        "two patterns",
-        Change::Sources(&[AUTOPILOT, STEERING]),
-        true,
-    ),
-    (
-        "a pattern twice",
-        Change::Sources(&[AUTOPILOT, STEERING, AUTOPILOT]),
-        false,
-    ),
-    ("the least timeout", Change::Timeout(100), true),
-    ("a timeout too short", Change::Timeout(99), false),
-    ("the longest timeout", Change::Timeout(60_000), true),
-    ("a timeout too long", Change::Timeout(60_001), false),
-    (
-        "a talker of the first and the last letter",
-        Change::Talker(*b"AZ"),
-        true,
-    ),
-    ("a talker of a small letter", Change::Talker(*b"Ii"), false),
-    ("a talker of a digit", Change::Talker(*b"1I"), false),
-    (
-        "two sources of the network",
-        Change::NetSources(&[b"II0002", b"II0003"]),
-        true,
-    ),
-    (
-        "a source of the network twice",
-        Change::NetSources(&[b"II0002", b"II0003", b"II0002"]),
-        false,
-    ),
-    (
-        "the gateway as its source",
-        Change::NetSources(&[b"II0002", b"II0001"]),
-        false,
-    ),
-    (
-        "the greatest address and port",
-        Change::NetListen(b"255.255.255.255:65535"),
-        true,
-    ),
-    (
-        "the least address and port",
-        Change::NetListen(b"0.0.0.0:1"),
-        true,
-    ),
-    ("no port", Change::NetListen(b"127.0.0.1"), false),
-    ("port 0", Change::NetListen(b"127.0.0.1:0"), false),
-    (
-        "a port too great",
-        Change::NetListen(b"127.0.0.1:65536"),
-        false,
-    ),
-    (
-        "a port with a leading zero",
-        Change::NetListen(b"127.0.0.1:060001"),
-        false,
-    ),
-    (
-        "a port with a sign",
-        Change::NetListen(b"127.0.0.1:+60001"),
-        false,
-    ),
-    (
-        "a port with a space",
-        Change::NetListen(b"127.0.0.1:60001 "),
-        false,
-    ),
-    (
-        "a number too great",
-        Change::NetListen(b"127.0.0.256:60001"),
-        false,
-    ),
-    (
-        "a number with a leading zero",
-        Change::NetListen(b"127.0.0.01:60001"),
-        false,
-    ),
-    ("three numbers", Change::NetListen(b"127.0.1:60001"), false),
-    ("a name", Change::NetListen(b"localhost:60001"), false),
-    ("an IPv6 address", Change::NetListen(b"[::1]:60001"), false),
-    (
-        "nowhere to send to on the network",
-        Change::NetSend(b""),
-        false,
-    ),
-    (
-        "nowhere to listen on the bus",
-        Change::BusListen(b""),
-        false,
-    ),
-    ("nowhere to send to on the bus", Change::BusSend(b""), false),
-    (
-        "two routes",
-        Change::Routes(&[
-            (b"NAVD", b"239.192.0.4:60004"),
-            (b"TGTD", b"239.192.0.4:60004"),
-        ]),
-        true,
-    ),
-    (
-        "a group of two routes",
-        Change::Routes(&[
-            (b"NAVD", b"239.192.0.4:60004"),
-            (b"NAVD", b"239.192.0.5:60005"),
-        ]),
-        false,
-    ),
-    (
-        "a route to nowhere",
-        Change::Routes(&[(b"NAVD", b"239.192.0.4")]),
-        false,
-    ),
+/// The own address as it stands, the least, one of no device that moves, and a preset's; and whether the configuration is valid then.
+const ADDRESSES: [(u8, bool); 4] = [(251, true), (0, true), (252, false), (23, false)];
+
+#[test]
+fn an_address_is_one_of_a_device_that_moves(rt: HostRuntime) {
+    for (address, expected) in &ADDRESSES {
+        assert!(rt; is_valid_at(*address) == *expected);
+    }
+}
+
+fn is_valid_with(limits: [u16; 3]) -> bool {
+    let mut config = usual();
+    config.fast_slots = limits[0];
+    config.iso_slots = limits[1];
+    config.group_slots = limits[2];
+    config.valid()
+}
+
+/// How many fast packets, sessions and groups of lines: of each none, the most, and one too many.
+const LIMITS: [([u16; 3], bool); 10] = [
+    ([0, 8, 8], false),
+    ([1, 8, 8], true),
+    ([256, 8, 8], true),
+    ([257, 8, 8], false),
+    ([64, 0, 8], false),
+    ([64, 32, 8], true),
+    ([64, 33, 8], false),
+    ([64, 8, 0], false),
+    ([64, 8, 32], true),
+    ([64, 8, 33], false),
 ];
 
 #[test]
-fn valid_is_what_is_in_range_and_nothing_twice(rt: HostRuntime) -> Result<(), Fail> {
-    for (what, change, expected) in &CHANGED {
-        if changed(*change).valid() != *expected {
-            return Err((*what).into());
-        }
+fn limits_are_one_to_the_most(rt: HostRuntime) {
+    for (limits, expected) in &LIMITS {
+        assert!(rt; is_valid_with(*limits) == *expected);
     }
-    Ok(())
+}
+
+/// The last row stands for all in what is changed of a row.
+fn is_row(timeout_ms: u32, talker: [u8; 2]) -> bool {
+    let mut config = usual();
+    config.rows[16].timeout_ms = timeout_ms;
+    config.rows[16].talker = talker;
+    config.valid()
+}
+
+/// Timeouts at both ends of their range and just beyond; talkers of the first and the last letter, of a small one and of a digit.
+const ROWS: [(u32, [u8; 2], bool); 7] = [
+    (100, *b"IN", true),
+    (99, *b"IN", false),
+    (60_000, *b"IN", true),
+    (60_001, *b"IN", false),
+    (5_000, *b"AZ", true),
+    (5_000, *b"Ii", false),
+    (5_000, *b"1I", false),
+];
+
+#[test]
+fn a_row_has_a_timeout_and_a_talker(rt: HostRuntime) {
+    for (timeout_ms, talker, expected) in &ROWS {
+        assert!(rt; is_row(*timeout_ms, *talker) == *expected);
+    }
+}
+
+fn are_presets(list: &[(u8, u64)]) -> bool {
+    let mut config = usual();
+    config.presets = presets(list);
+    config.valid()
+}
+
+/// No preset; the greatest address of one, and one that is none; an address and a NAME of two presets; the own address, and the own NAME.
+const PRESETS: [(&[(u8, u64)], bool); 7] = [
+    (&[], true),
+    (&[(253, 5)], true),
+    (&[(254, 5)], false),
+    (&[(23, 5), (24, 6), (23, 7)], false),
+    (&[(23, 5), (24, 6), (25, 5)], false),
+    (&[(23, 5), (251, 6)], false),
+    (&[(23, 5), (24, OWN)], false),
+];
+
+#[test]
+fn presets_are_apart(rt: HostRuntime) {
+    for (list, expected) in &PRESETS {
+        assert!(rt; are_presets(list) == *expected);
+    }
+}
+
+fn are_net_sources(list: &[&[u8]]) -> bool {
+    let mut config = usual();
+    config.net_sources = net_sources(list);
+    config.valid()
+}
+
+/// Two sources of the network, one of them twice, and the gateway itself.
+const NET_SOURCES: [(&[&[u8]], bool); 3] = [
+    (&[b"II0002", b"II0003"], true),
+    (&[b"II0002", b"II0003", b"II0002"], false),
+    (&[b"II0002", b"II0001"], false),
+];
+
+#[test]
+fn sources_of_the_network_are_apart(rt: HostRuntime) {
+    for (list, expected) in &NET_SOURCES {
+        assert!(rt; are_net_sources(list) == *expected);
+    }
+}
+
+fn is_listened_at(text: &[u8]) -> bool {
+    let mut config = usual();
+    config.ends.net_listen = endpoint(text);
+    config.valid()
+}
+
+/// The greatest and the least address and port, and each fault of both.
+const LISTENS: [(&[u8], bool); 13] = [
+    (b"255.255.255.255:65535", true),
+    (b"0.0.0.0:1", true),
+    (b"127.0.0.1", false),
+    (b"127.0.0.1:0", false),
+    (b"127.0.0.1:65536", false),
+    (b"127.0.0.1:060001", false),
+    (b"127.0.0.1:+60001", false),
+    (b"127.0.0.1:60001 ", false),
+    (b"127.0.0.256:60001", false),
+    (b"127.0.0.01:60001", false),
+    (b"127.0.1:60001", false),
+    (b"localhost:60001", false),
+    (b"[::1]:60001", false),
+];
+
+#[test]
+fn an_end_is_an_address_and_a_port(rt: HostRuntime) {
+    for (text, expected) in &LISTENS {
+        assert!(rt; is_listened_at(text) == *expected);
+    }
+}
+
+fn net_sends_nowhere() -> Config {
+    let mut config = usual();
+    config.ends.net.other = endpoint(b"");
+    config
+}
+
+fn bus_listens_nowhere() -> Config {
+    let mut config = usual();
+    config.ends.bus_listen = endpoint(b"");
+    config
+}
+
+fn bus_sends_nowhere() -> Config {
+    let mut config = usual();
+    config.ends.bus_send = endpoint(b"");
+    config
+}
+
+#[test]
+fn each_end_is_somewhere(rt: HostRuntime) {
+    assert!(rt; !net_sends_nowhere().valid());
+    assert!(rt; !bus_listens_nowhere().valid());
+    assert!(rt; !bus_sends_nowhere().valid());
+}
+
+fn are_routes(list: &[(&[u8], &[u8])]) -> bool {
+    let mut config = usual();
+    config.ends.net.list = routes(list);
+    config.valid()
+}
+
+/// Two routes, a group of two routes, and a route to nowhere.
+const ROUTES: [(&[(&[u8], &[u8])], bool); 3] = [
+    (
+        &[
+            (b"NAVD", b"239.192.0.4:60004"),
+            (b"TGTD", b"239.192.0.4:60004"),
+        ],
+        true,
+    ),
+    (
+        &[
+            (b"NAVD", b"239.192.0.4:60004"),
+            (b"NAVD", b"239.192.0.5:60005"),
+        ],
+        false,
+    ),
+    (&[(b"NAVD", b"239.192.0.4")], false),
+];
+
+#[test]
+fn routes_are_apart(rt: HostRuntime) {
+    for (list, expected) in &ROUTES {
+        assert!(rt; are_routes(list) == *expected);
+    }
 }
 
 fn with_sources(list: &[Pattern]) -> Config {
     let mut config = usual();
     config.rows[16].sources = sources(list);
     config
+}
+
+/// All devices, and two patterns of which the one is of some devices of the other; a pattern twice is refused.
+#[test]
+fn patterns_are_apart(rt: HostRuntime) {
+    assert!(rt; with_sources(&[ANY]).valid());
+    assert!(rt; with_sources(&[AUTOPILOT, STEERING]).valid());
+    assert!(rt; !with_sources(&[AUTOPILOT, STEERING, AUTOPILOT]).valid());
 }
 
 /// A stated value has no more bits than its field of a NAME.

@@ -1,0 +1,299 @@
+//! The settings of accepted files, which `check` doesn't show: each worked out by hand from the table of keys.
+use crate::values::ANY;
+use config_values::{Config, Ends, RowConfig};
+use gate_config::{Further, Quantities, QuantityConfig, Settings, read, read_all, read_whole};
+use n2k_id::{Name, Pattern};
+use readings::all_rows;
+use sentence_text::Group;
+use std::alloc::Global;
+use std::test::*;
+
+/// A gateway with an address, a NAME and an identifier, and nothing else.
+const OWN: &str = r#"gateway.name = "C0328200FFC00001"
+gateway.address = 251
+gateway.sfi = "II0001"
+"#;
+
+/// Whether the keys that have to be there are as they were given, and nothing is said of those beside them.
+fn has_usual_keys(config: &Config) -> bool {
+    config.name == Name(0xC032_8200_FFC0_0001)
+        && config.address == 251
+        && config.fast_slots == 64
+        && config.iso_slots == 8
+        && config.group_slots == 8
+        && !config.ths
+        && config.presets.is_empty()
+        && config.net_sources.is_empty()
+}
+
+/// Whether a row is heard from everybody for five seconds, and said by this talker to all.
+fn is_usual_row(row: &RowConfig, talker: [u8; 2]) -> bool {
+    row.sources.is_empty()
+        && row.others
+        && row.timeout_ms == 5_000
+        && row.talker == talker
+        && row.group.as_bytes() == b"NAVD"
+}
+
+fn has_usual_rows(config: &Config) -> bool {
+    config
+        .rows
+        .iter()
+        .zip(all_rows())
+        .all(|(row, which)| is_usual_row(row, which.talker()))
+}
+
+fn has_usual_ends(ends: &Ends) -> bool {
+    ends.net_listen.as_slice() == b"127.0.0.1:60001".as_slice()
+        && ends.net.other.as_slice() == b"127.0.0.1:60002".as_slice()
+        && ends.net.list.is_empty()
+        && ends.bus_listen.as_slice() == b"127.0.0.1:60101".as_slice()
+        && ends.bus_send.as_slice() == b"127.0.0.1:60102".as_slice()
+}
+
+/// Whether the gateway is the usual product, and nothing is joined or passed on.
+fn is_usual_product(settings: &Settings) -> bool {
+    let product = &settings.product;
+    product.code == 0
+        && product.model.as_slice() == b"shipgate".as_slice()
+        && product.software.as_slice() == b"1".as_slice()
+        && product.version.as_slice() == b"1".as_slice()
+        && product.serial.as_slice() == b"1".as_slice()
+        && product.load == 1
+        && settings.rmc.is_none()
+        && settings.ais.is_none()
+}
+
+/// Whether nothing is asked for besides.
+fn is_nothing(further: &Further) -> bool {
+    further.ignore.is_empty()
+        && further.quantities.is_none()
+        && !further.sources
+        && further.plain.is_none()
+        && !further.record
+}
+
+fn has_defaults(alloc: Global) -> bool {
+    match read_whole(alloc, OWN.as_bytes()) {
+        Ok((settings, further)) => {
+            has_usual_keys(&settings.config)
+                && has_usual_rows(&settings.config)
+                && has_usual_ends(&settings.config.ends)
+                && is_usual_product(&settings)
+                && settings.config.valid()
+                && is_nothing(&further)
+        }
+        Err(_) => false,
+    }
+}
+
+/// The settings of the own keys alone are the defaults, and nothing is asked for besides.
+#[test]
+fn defaults(rt: HostRuntime) {
+    assert!(rt; has_defaults(rt.alloc()));
+}
+
+/// The same with two presets and a source of the network.
+const USUAL: &str = r#"[gateway]
+name = "C0328200FFC00001"
+address = 251
+sfi = "II0001"
+[[preset]]
+address = 23
+name = "C0788C00FFC00005"
+[[preset]]
+address = 24
+name = "C0788C00FFC00006"
+[net]
+sources = ["II0002"]
+"#;
+
+fn has_two_presets(alloc: Global) -> bool {
+    match read_all(alloc, USUAL.as_bytes()) {
+        Ok(settings) => settings.config.presets.len() == 2,
+        Err(_) => false,
+    }
+}
+
+/// A number in the place of a truth value, behind all that is of the settings.
+const NO_TRUTH: &str = r#"gateway.name = "C0328200FFC00001"
+gateway.address = 251
+gateway.sfi = "II0001"
+report.sources = 1
+"#;
+
+fn is_refused(alloc: Global) -> bool {
+    match read_all(alloc, NO_TRUTH.as_bytes()) {
+        Ok(_) => false,
+        Err(fault) => match fault.line() {
+            Some(line) => line.as_slice() == b"config: kind report.sources".as_slice(),
+            None => false,
+        },
+    }
+}
+
+/// The settings alone are those of the whole file, and refused for the same fault.
+#[test]
+fn settings_alone(rt: HostRuntime) {
+    assert!(rt; has_two_presets(rt.alloc()));
+    assert!(rt; is_refused(rt.alloc()));
+}
+
+const PATTERNS: &str = r#"gateway.name = "C0328200FFC00001"
+gateway.address = 251
+gateway.sfi = "II0001"
+[row.rudder_first]
+sources = ["manufacturer=137 class=40 industry=4 arbitrary=1", "C0788C00FFC00005"]
+"#;
+
+const STATED: Pattern = Pattern {
+    manufacturer: Some(137),
+    class: Some(40),
+    industry: Some(4),
+    arbitrary: Some(true),
+    ..ANY
+};
+
+fn has_patterns(alloc: Global) -> bool {
+    let whole = Pattern::whole(Name(0xC078_8C00_FFC0_0005));
+    match read(alloc, PATTERNS.as_bytes()) {
+        Ok(config) => config.rows[3].sources.as_slice() == [STATED, whole].as_slice(),
+        Err(_) => false,
+    }
+}
+
+#[test]
+fn patterns_state_fields(rt: HostRuntime) {
+    assert!(rt; has_patterns(rt.alloc()));
+}
+
+const BESIDES: &str = r#"gateway.name = "C0328200FFC00001"
+gateway.address = 251
+gateway.sfi = "II0001"
+bus.ignore = ["class=25", "C0328200FFC00001"]
+report.sources = true
+plain.group = "PLAN"
+serve.record = true
+"#;
+
+const CONVERTERS: Pattern = Pattern {
+    class: Some(25),
+    ..ANY
+};
+
+/// Whether this is what `BESIDES` asks for.
+fn is_asked_for(further: &Further) -> bool {
+    let own = Pattern::whole(Name(0xC032_8200_FFC0_0001));
+    further.ignore.as_slice() == [CONVERTERS, own].as_slice()
+        && further.sources
+        && further.record
+        && further.quantities.is_none()
+        && further.plain == Group::of(b"PLAN")
+}
+
+fn asks_besides(alloc: Global) -> bool {
+    match read_whole(alloc, BESIDES.as_bytes()) {
+        Ok((_, further)) => is_asked_for(&further),
+        Err(_) => false,
+    }
+}
+
+/// A file with all that can be asked for besides.
+#[test]
+fn what_is_asked_for_besides(rt: HostRuntime) {
+    assert!(rt; asks_besides(rt.alloc()));
+}
+
+/// The talker of each quantity, in their order.
+const TALKERS: &[u8; 32] = b"IIIIVDWIWIWIYXERERERERIIIIIIIIII";
+
+/// Whether a quantity is taken from everybody for five seconds, and said by this talker.
+fn is_usual(quantity: &QuantityConfig, talker: &[u8]) -> bool {
+    quantity.sources.is_empty()
+        && quantity.others
+        && quantity.timeout_ms == 5_000
+        && quantity.talker.as_slice() == talker
+}
+
+/// How quantities are said that a file configures, where it is accepted.
+fn quantities_of(alloc: Global, file: &str) -> Option<Quantities> {
+    match read_whole(alloc, file.as_bytes()) {
+        Ok((_, further)) => further.quantities,
+        Err(_) => None,
+    }
+}
+
+/// The group of quantities alone.
+const MACHINERY: &str = r#"gateway.name = "C0328200FFC00001"
+gateway.address = 251
+gateway.sfi = "II0001"
+further.group = "MACH"
+"#;
+
+fn are_usual(quantities: &Quantities) -> bool {
+    quantities
+        .each
+        .as_slice()
+        .iter()
+        .zip(TALKERS.chunks(2))
+        .all(|(quantity, talker)| is_usual(quantity, talker))
+}
+
+fn has_usual_quantities(alloc: Global) -> bool {
+    match &quantities_of(alloc, MACHINERY) {
+        Some(quantities) => {
+            Some(quantities.group) == Group::of(b"MACH")
+                && quantities.slots == 16
+                && are_usual(quantities)
+        }
+        None => false,
+    }
+}
+
+/// With their group alone, quantities have their defaults.
+#[test]
+fn quantities_by_default(rt: HostRuntime) {
+    assert!(rt; has_usual_quantities(rt.alloc()));
+}
+
+const WATER: &str = r#"gateway.name = "C0328200FFC00001"
+gateway.address = 251
+gateway.sfi = "II0001"
+[further]
+group = "MACH"
+slots = 3
+[further.water_first]
+sources = ["class=75"]
+others = false
+timeout_ms = 60000
+talker = "TN"
+"#;
+
+const TANKS: Pattern = Pattern {
+    class: Some(75),
+    ..ANY
+};
+
+/// Whether a quantity is as `WATER` says of one.
+fn is_water(quantity: &QuantityConfig) -> bool {
+    quantity.sources.as_slice() == [TANKS].as_slice()
+        && !quantity.others
+        && quantity.timeout_ms == 60_000
+        && quantity.talker == *b"TN"
+}
+
+fn has_water(alloc: Global) -> bool {
+    match &quantities_of(alloc, WATER) {
+        Some(quantities) => {
+            let each = quantities.each.as_slice();
+            quantities.slots == 3 && is_water(&each[15]) && is_usual(&each[14], b"II")
+        }
+        None => false,
+    }
+}
+
+/// What is said of a quantity is its own, by its place among them.
+#[test]
+fn a_quantity_by_its_name(rt: HostRuntime) {
+    assert!(rt; has_water(rt.alloc()));
+}
