@@ -2,7 +2,6 @@
 ghost use Rattle.std.specs.Prelude.{◌≤◌, length};
 ghost use Rattle.gate_outside.specs.Link.{longest_address};
 
-use arrayvec::ArrayVec;
 use gate_outside::{Arrival, Clock, Failed, Files, LARGEST_ARRIVAL, Link, LoadFault};
 use live_outside::{Activity, DiskFiles, SystemClock, ToldWriter, UdpLink};
 use network_routes::{Address, Route, Routes};
@@ -11,29 +10,28 @@ use std::alloc::Global;
 use std::cell::Cell;
 use std::io;
 use std::io::{ErrorKind, Write};
-use std::net::{SocketAddr, UdpSocket};
-use std::test::Fail;
+use std::net::{Ipv4Addr, SocketAddr, SocketAddrV4, UdpSocket};
+use std::test::*;
 use std::time::Duration;
 
-// The text of an address.
-fn address_of(rt: &HostRuntime, host: &str, port: u16) -> Result<Address, Fail> {
-    let text = format!(in rt.alloc(); "{host}:{port}")?;
+// The text of an address, of a host with a colon and a port, which is said in five digits.
+fn address_of(host: &[u8], port: u16) -> Address {
     let mut address = Address::new();
-    let _fits = address.try_extend_from_slice(text.as_bytes());
-    Ok(address)
+    let _fits = address.try_extend_from_slice(host);
+    for place in &[10_000, 1_000, 100, 10, 1] {
+        let _fits = address.try_push(b'0' + (port / *place % 10) as u8);
+    }
+    address
 }
 
-// Routes that send each group to one address.
-fn routes_to(rt: &HostRuntime, host: &str, port: u16) -> Result<Routes, Fail> {
-    Ok(Routes {
-        list: ArrayVec::new(),
-        other: address_of(rt, host, port)?,
-    })
+// Routes that send each group to one port of the loopback.
+fn routes_to(port: u16) -> Routes {
+    Routes::all_to(&address_of(b"127.0.0.1:", port))
 }
 
-// A socket that listens at an address, and its port.
-fn peer_at(rt: &HostRuntime, address: &str) -> io::Result<(UdpSocket, u16)> {
-    let peer = UdpSocket::bind(rt, address)?;
+// A socket that listens at a port that was free, and that port.
+fn peer_at(rt: &HostRuntime, host: Ipv4Addr) -> io::Result<(UdpSocket, u16)> {
+    let peer = UdpSocket::bind(rt, SocketAddrV4::new(host, 0))?;
     peer.set_read_timeout(Some(Duration::from_secs(2)))?;
     let port = peer.local_addr()?.port();
     Ok((peer, port))
@@ -74,13 +72,16 @@ fn a_load_that_fails_tells_why(rt: HostRuntime) -> Result<(), Fail> {
     Ok(())
 }
 
-#[test]
-fn a_file_may_be_empty(rt: HostRuntime) -> Result<(), Fail> {
-    match DiskFiles::new(&rt).load(rt.alloc(), "/dev/null") {
-        Ok(bytes) => assert!(rt; bytes.is_empty()),
-        Err(_) => assert!(rt; false),
+fn is_empty(rt: &HostRuntime, name: &str) -> bool {
+    match DiskFiles::new(rt).load(rt.alloc(), name) {
+        Ok(bytes) => bytes.is_empty(),
+        Err(_) => false,
     }
-    Ok(())
+}
+
+#[test]
+fn a_file_may_be_empty(rt: HostRuntime) {
+    assert!(rt; is_empty(&rt, "/dev/null"));
 }
 
 // A pipe at whose other end nobody reads.
@@ -97,51 +98,53 @@ impl Write for ClosedPipe {
     }
 }
 
-#[test]
-fn a_writer_tells_why_it_failed(rt: HostRuntime) -> Result<(), Fail> {
+fn writes_untold() -> bool {
     let unwritten = Cell::new(None);
     let mut full = [0; 4];
     let written = ToldWriter::new(&mut full[..], &unwritten).write(b"text");
-    assert!(rt; matches!(&written, Ok(4)));
-    assert!(rt; unwritten.get().is_none());
-    let failed = ToldWriter::new(ClosedPipe, &unwritten).write(b"text");
-    assert!(rt; failed.is_err());
-    assert!(rt; unwritten.get() == Some(ErrorKind::BrokenPipe));
-    Ok(())
+    matches!(&written, Ok(4)) && unwritten.get().is_none()
 }
 
-// A link that sends a group to one address and all else elsewhere.
+fn tells_why() -> bool {
+    let unwritten = Cell::new(None);
+    let failed = ToldWriter::new(ClosedPipe, &unwritten).write(b"text");
+    failed.is_err() && matches!(unwritten.get(), Some(ErrorKind::BrokenPipe))
+}
+
+#[test]
+fn a_writer_tells_why_it_failed(rt: HostRuntime) {
+    assert!(rt; writes_untold());
+    assert!(rt; tells_why());
+}
+
+// A link that sends a group to one address and all else elsewhere. Where it can't be attached nothing comes from it.
 fn link_to<'a>(
     rt: &'a HostRuntime,
     activity: &'a Activity,
     group: Group,
-    host: &str,
-    port: u16,
-) -> Result<UdpLink<'a, HostRuntime>, Fail> {
+    address: Address,
+) -> UdpLink<'a, HostRuntime> {
     let (mut link, _net) = UdpLink::pair(rt, activity);
-    let mut routes = routes_to(rt, "127.0.0.1", 9)?;
-    let _fits = routes.list.try_push(Route {
-        group,
-        address: address_of(rt, host, port)?,
-    });
-    link.attach(b"127.0.0.1:0", &routes)?;
-    Ok(link)
+    let mut routes = routes_to(9);
+    let _fits = routes.list.try_push(Route { group, address });
+    let _attached = link.attach(b"127.0.0.1:0", &routes);
+    link
 }
 
-// Whether what a link sends under a group comes to the peer, and from where.
+// From where what a link sends under a group comes to the peer; what it sends under another one doesn't.
 fn comes_from(
     link: &mut UdpLink<'_, HostRuntime>,
     group: Group,
     peer: &UdpSocket,
-) -> Result<SocketAddr, Fail> {
-    link.send(Group::default(), b"elsewhere")?;
-    link.send(group, b"out")?;
+) -> io::Result<SocketAddr> {
+    let _sent = link.send(Group::default(), b"elsewhere");
+    let _sent = link.send(group, b"out");
     let mut buf = [0; 1500];
     let (count, from) = peer.recv_from(&mut buf)?;
-    if buf.get(..count) == Some(b"out".as_slice()) {
+    if count == 3 && buf.starts_with(b"out") {
         Ok(from)
     } else {
-        Err("another datagram".into())
+        Err(io::Error::from(ErrorKind::InvalidData))
     }
 }
 
@@ -154,7 +157,7 @@ fn arrives(
     peer: &UdpSocket,
     from: SocketAddr,
     (sent, count): (usize, usize),
-) -> Result<bool, Fail> {
+) -> io::Result<bool> {
     let bytes = [b'a'; 1501];
     let mut buf = [0; LARGEST_ARRIVAL];
     peer.send_to(bytes.get(..sent).unwrap_or(&[]), from)?;
@@ -162,67 +165,74 @@ fn arrives(
     Ok(arrival == Ok(Arrival::Bytes(count)) && buf.get(..count) == bytes.get(..count))
 }
 
-#[test]
-fn datagrams_move_each_way(rt: HostRuntime) -> Result<(), Fail> {
-    let (peer, port) = peer_at(&rt, "127.0.0.1:0")?;
+fn all_move(rt: &HostRuntime) -> io::Result<bool> {
+    let (peer, port) = peer_at(rt, Ipv4Addr::LOCALHOST)?;
     let activity = Activity::new();
     let group = Group::of(b"SATD").unwrap_or_default();
-    let mut link = link_to(&rt, &activity, group, "127.0.0.1", port)?;
+    let mut link = link_to(rt, &activity, group, address_of(b"127.0.0.1:", port));
     let from = comes_from(&mut link, group, &peer)?;
     for arrival in &ARRIVALS {
-        assert!(rt; arrives(&mut link, &peer, from, *arrival)?);
+        if !arrives(&mut link, &peer, from, *arrival)? {
+            return Ok(false);
+        }
     }
-    assert!(rt; link.receive(&mut [0; LARGEST_ARRIVAL]) == Ok(Arrival::Nothing));
+    Ok(link.receive(&mut [0; LARGEST_ARRIVAL]) == Ok(Arrival::Nothing))
+}
+
+#[test]
+fn datagrams_move_each_way(rt: HostRuntime) -> Result<(), Fail> {
+    assert!(rt; all_move(&rt)?);
     Ok(())
+}
+
+fn is_broadcast(rt: &HostRuntime) -> io::Result<bool> {
+    let (peer, port) = peer_at(rt, Ipv4Addr::UNSPECIFIED)?;
+    let activity = Activity::new();
+    let group = Group::default();
+    let mut link = link_to(rt, &activity, group, address_of(b"127.255.255.255:", port));
+    let _sent = link.send(group, b"all");
+    let (count, _) = peer.recv_from(&mut [0; 1500])?;
+    Ok(count == 3)
 }
 
 #[test]
 fn a_broadcast_address_is_sent_to(rt: HostRuntime) -> Result<(), Fail> {
-    let (peer, port) = peer_at(&rt, "0.0.0.0:0")?;
-    let activity = Activity::new();
-    let group = Group::default();
-    let mut link = link_to(&rt, &activity, group, "127.255.255.255", port)?;
-    link.send(group, b"all")?;
-    let (count, _) = peer.recv_from(&mut [0; 1500])?;
-    assert!(rt; count == 3);
+    assert!(rt; is_broadcast(&rt)?);
     Ok(())
 }
 
-// Whether an attach there fails, for this reason.
-fn is_refused(
-    link: &mut UdpLink<'_, HostRuntime>,
-    listen: &[u8],
-    routes: &Routes,
-    kind: ErrorKind,
-) -> bool
-    requires { length listen.now ≤ longest_address }
-{
-    let refused = link.attach(listen, routes) == Err(Failed);
+// Whether a link tells that it couldn't be attached there, for this reason.
+fn tells(link: &UdpLink<'_, HostRuntime>, listen: &[u8], kind: ErrorKind) -> bool {
     match link.unattached() {
-        Some(why) => refused && why.listen.as_slice() == listen && why.kind == kind,
+        Some(why) => why.listen.as_slice() == listen && why.kind == kind,
         None => false,
     }
 }
 
+// Whether an attach there fails, for this reason.
+fn is_refused(link: &mut UdpLink<'_, HostRuntime>, listen: &[u8], kind: ErrorKind) -> bool
+    requires { length listen.now ≤ longest_address }
+{
+    link.attach(listen, &routes_to(9)).is_err() && tells(link, listen, kind)
+}
+
+fn listens_nowhere(rt: &HostRuntime) -> io::Result<bool> {
+    let activity = Activity::new();
+    let (mut link, _net) = UdpLink::pair(rt, &activity);
+    let (_peer, port) = peer_at(rt, Ipv4Addr::LOCALHOST)?;
+    let taken = address_of(b"127.0.0.1:", port);
+    Ok(
+        is_refused(&mut link, b"localhost:0", ErrorKind::InvalidInput)
+            && is_refused(&mut link, b"192.0.2.1:0", ErrorKind::AddrNotAvailable)
+            && is_refused(&mut link, &taken, ErrorKind::AddrInUse)
+            && link.receive(&mut [0; LARGEST_ARRIVAL]) == Err(Failed)
+            && link.faults() == 4,
+    )
+}
+
 #[test]
 fn a_link_that_listens_nowhere_fails(rt: HostRuntime) -> Result<(), Fail> {
-    let activity = Activity::new();
-    let (mut link, _net) = UdpLink::pair(&rt, &activity);
-    let routes = routes_to(&rt, "127.0.0.1", 9)?;
-    let (_peer, port) = peer_at(&rt, "127.0.0.1:0")?;
-    let taken = address_of(&rt, "127.0.0.1", port)?;
-    assert!(rt; is_refused(&mut link, b"localhost:0", &routes, ErrorKind::InvalidInput));
-    assert!(rt;
-        is_refused(
-            &mut link,
-            b"192.0.2.1:0",
-            &routes,
-            ErrorKind::AddrNotAvailable
-        )
-    );
-    assert!(rt; is_refused(&mut link, &taken, &routes, ErrorKind::AddrInUse));
-    assert!(rt; link.receive(&mut [0; LARGEST_ARRIVAL]) == Err(Failed));
-    assert!(rt; link.faults() == 4);
+    assert!(rt; listens_nowhere(&rt)?);
     Ok(())
 }
 
@@ -236,24 +246,23 @@ struct Ends<'a> {
     to_net: SocketAddr,
 }
 
-// Where a link listens, which a peer sees by what it is sent.
+// Where a link listens, which a peer sees by what it is sent: nothing where the link can't be attached.
 fn attached(
-    rt: &HostRuntime,
     link: &mut UdpLink<'_, HostRuntime>,
     peer: &UdpSocket,
-) -> Result<SocketAddr, Fail> {
-    let port = peer.local_addr()?.port();
-    let routes = routes_to(rt, "127.0.0.1", port)?;
-    link.attach(b"127.0.0.1:0", &routes)?;
-    link.send(Group::default(), b"here")?;
-    Ok(peer.recv_from(&mut [0; 1500])?.1)
+    port: u16,
+) -> io::Result<SocketAddr> {
+    let _attached = link.attach(b"127.0.0.1:0", &routes_to(port));
+    let _sent = link.send(Group::default(), b"here");
+    let (_, from) = peer.recv_from(&mut [0; 1500])?;
+    Ok(from)
 }
 
-fn open_ends<'a>(rt: &'a HostRuntime, activity: &'a Activity) -> Result<Ends<'a>, Fail> {
-    let (peer, _) = peer_at(rt, "127.0.0.1:0")?;
+fn open_ends<'a>(rt: &'a HostRuntime, activity: &'a Activity) -> io::Result<Ends<'a>> {
+    let (peer, port) = peer_at(rt, Ipv4Addr::LOCALHOST)?;
     let (mut bus, mut net) = UdpLink::pair(rt, activity);
-    let to_bus = attached(rt, &mut bus, &peer)?;
-    let to_net = attached(rt, &mut net, &peer)?;
+    let to_bus = attached(&mut bus, &peer, port)?;
+    let to_net = attached(&mut net, &peer, port)?;
     Ok(Ends {
         bus,
         net,
@@ -264,7 +273,7 @@ fn open_ends<'a>(rt: &'a HostRuntime, activity: &'a Activity) -> Result<Ends<'a>
 }
 
 // Sends so many datagrams to an address.
-fn send(peer: &UdpSocket, to: SocketAddr, count: u32) -> Result<(), Fail> {
+fn send(peer: &UdpSocket, to: SocketAddr, count: u32) -> io::Result<()> {
     for _ in 0..count {
         peer.send_to(b"one", to)?;
     }
@@ -354,15 +363,15 @@ const TURNS: [Turns; 4] = [
     },
 ];
 
-// How long these turns take, in microseconds, where what comes is taken in its turn.
-fn time_of(rt: &HostRuntime, ends: &mut Ends<'_>, case: &Turns) -> Result<u64, Fail> {
+// How long these turns take, in microseconds, where what comes is taken in its turn, and else without end.
+fn time_of(rt: &HostRuntime, ends: &mut Ends<'_>, case: &Turns) -> io::Result<u64> {
     let mut clock = SystemClock::new(rt);
     let began = clock.now();
     for _ in 0..case.turns {
         send(&ends.peer, ends.to_bus, case.comes[0])?;
         send(&ends.peer, ends.to_net, case.comes[1])?;
         if take(ends, 1) != case.comes {
-            return Err(Fail::new(case.about));
+            return Ok(u64::MAX);
         }
     }
     Ok(clock.now().saturating_sub(began))
@@ -380,13 +389,17 @@ fn a_receive_waits_only_while_the_other_link_is_silent(rt: HostRuntime) -> Resul
     Ok(())
 }
 
-#[test]
-fn time_passes(rt: HostRuntime) -> Result<(), Fail> {
-    let mut clock = SystemClock::new(&rt);
+// 2020-01-01T00:00:00Z, in microseconds.
+const LONG_AGO: u64 = 1_577_836_800_000_000;
+
+fn passes(rt: &HostRuntime) -> bool {
+    let mut clock = SystemClock::new(rt);
     let first = clock.now();
-    std::thread::sleep(&rt, Duration::from_millis(2));
-    assert!(rt; clock.now() >= first.saturating_add(2000));
-    // 2020-01-01T00:00:00Z, in microseconds.
-    assert!(rt; first > 1_577_836_800_000_000);
-    Ok(())
+    std::thread::sleep(rt, Duration::from_millis(2));
+    clock.now() >= first.saturating_add(2000) && first > LONG_AGO
+}
+
+#[test]
+fn time_passes(rt: HostRuntime) {
+    assert!(rt; passes(&rt));
 }
