@@ -5,10 +5,13 @@
 //!
 //! PGN 127251, rate of turn: SID, rate (i32 at byte 1).
 
-ghost use Rattle.std.specs.Prelude.{◌≡◌};
-ghost use Rattle.pgn_profile.specs.Profiled.{profiled};
+ghost use Rattle.std.specs.Prelude.{◌≡◌, []};
+ghost use Rattle.readings.specs.declared.reading.Reading.TheVariants.{HeadingMagnetic, HeadingTrue, RateOfTurn};
+ghost use Rattle.pgn_profile.specs.Profiled.{payload_of, profiled};
 
 use crate::field::{signed, unsigned};
+use crate::piece::Piece::{Byte, Bytes, Signed, Unsigned};
+use crate::piece::{Payload, append_all};
 use crate::profiled::Profiled;
 use readings::range::{ANGLE, DEVIATION, RATE_OF_TURN};
 use readings::{Reading, bits};
@@ -43,4 +46,52 @@ pub fn read_rate_of_turn(payload: &[u8]) -> Profiled
     Profiled::Reading(Reading::RateOfTurn {
         rate: signed(payload, 1, 4, RATE_OF_TURN),
     })
+}
+
+/// The payload of a heading from true north.
+pub fn write_true(heading: Option<i64>, out: &mut Payload)
+    requires { out.old.items ≡ [] }
+    ensures { out.new.items ≡ payload_of (HeadingTrue heading) }
+{
+    append_all(
+        &[
+            Byte(0xFF),
+            Unsigned(2, heading),
+            Bytes(&[0xFF, 0x7F, 0xFF, 0x7F, 0xFC]),
+        ],
+        out,
+    );
+}
+
+/// The payload of a heading from magnetic north.
+pub fn write_magnetic(
+    heading: Option<i64>,
+    deviation: Option<i64>,
+    variation: Option<i64>,
+    out: &mut Payload,
+)
+    requires { out.old.items ≡ [] }
+    ensures { out.new.items ≡ payload_of (HeadingMagnetic heading deviation variation) }
+{
+    append_all(
+        &[
+            Byte(0xFF),
+            Unsigned(2, heading),
+            Signed(2, deviation),
+            Signed(2, variation),
+            Byte(0xFD),
+        ],
+        out,
+    );
+}
+
+/// The payload of a rate of turn.
+pub fn write_rate_of_turn(rate: Option<i64>, out: &mut Payload)
+    requires { out.old.items ≡ [] }
+    ensures { out.new.items ≡ payload_of (RateOfTurn rate) }
+{
+    append_all(
+        &[Byte(0xFF), Signed(4, rate), Bytes(&[0xFF, 0xFF, 0xFF])],
+        out,
+    );
 }

@@ -1,8 +1,7 @@
 //! The messages of the profile by their numbers: how each comes over the bus, how its payload is read, and how each reading is written.
 
-ghost use Rattle.std.specs.Prelude.{◌≡◌, [], ◌∷◌, ◌++◌};
+ghost use Rattle.std.specs.Prelude.{◌≡◌, []};
 ghost use Rattle.readings.specs.Rows.{IsValid, row_of};
-ghost use Rattle.pgn_profile.specs.Part.{unsigned_bytes};
 ghost use Rattle.pgn_profile.specs.Profiled.{GivesValid, kind_of, payload_of, pgn_of, priority_of, profiled};
 
 use crate::kinds::Kind;
@@ -80,10 +79,19 @@ pub fn read(pgn: u32, payload: &[u8]) -> Profiled
 
 /// As `read`, with a copy in its caller, where the reading need not go by way of memory: for one that reads of nearly each frame.
 #[inline(always)]
-#[tactic(auto, unfolding(crate::specs::Layout::messages), using(crate::proofs::Law::what_is_profiled_is_valid))]
+#[tactic(auto, using(crate::proofs::Law::what_is_profiled_is_valid))]
 pub fn read_in_place(pgn: u32, payload: &[u8]) -> Profiled
     ensures value { result ≡ profiled pgn payload.now }
     ensures valid { GivesValid result }
+{
+    read_by_number(pgn, payload)
+}
+
+/// Reads the payload as the reader of its parameter group does.
+#[inline(always)]
+#[tactic(auto, unfolding(crate::specs::Layout::messages))]
+fn read_by_number(pgn: u32, payload: &[u8]) -> Profiled
+    ensures { result ≡ profiled pgn payload.now }
 {
     match pgn {
         VESSEL_HEADING => heading::read_heading(payload),
@@ -135,95 +143,31 @@ fn write_payload(reading: &Reading, out: &mut Payload)
     ensures { out.new.items ≡ payload_of reading.now }
 {
     match *reading {
-        Reading::HeadingTrue { heading } => append_all(
-            &[
-                Byte(0xFF),
-                Unsigned(2, heading),
-                Bytes(&[0xFF, 0x7F, 0xFF, 0x7F, 0xFC]),
-            ],
-            out,
-        ),
+        Reading::HeadingTrue { heading } => heading::write_true(heading, out),
         Reading::HeadingMagnetic {
             heading,
             deviation,
             variation,
-        } => append_all(
-            &[
-                Byte(0xFF),
-                Unsigned(2, heading),
-                Signed(2, deviation),
-                Signed(2, variation),
-                Byte(0xFD),
-            ],
-            out,
-        ),
-        Reading::RateOfTurn { rate } => append_all(
-            &[Byte(0xFF), Signed(4, rate), Bytes(&[0xFF, 0xFF, 0xFF])],
-            out,
-        ),
-        Reading::RudderFirst { position } => append_all(
-            &[
-                Bytes(&[0, 0xFF, 0xFF, 0x7F]),
-                Signed(2, position),
-                Bytes(&[0xFF, 0xFF]),
-            ],
-            out,
-        ),
-        Reading::RudderSecond { position } => append_all(
-            &[
-                Bytes(&[1, 0xFF, 0xFF, 0x7F]),
-                Signed(2, position),
-                Bytes(&[0xFF, 0xFF]),
-            ],
-            out,
-        ),
-        Reading::WaterSpeed { speed } => append_all(
-            &[
-                Byte(0xFF),
-                Unsigned(2, speed),
-                Bytes(&[0xFF, 0xFF, 0xFF, 0xFF, 0xFF]),
-            ],
-            out,
-        ),
+        } => heading::write_magnetic(heading, deviation, variation, out),
+        Reading::RateOfTurn { rate } => heading::write_rate_of_turn(rate, out),
+        Reading::RudderFirst { position } => steering::write_rudder(0, position, out),
+        Reading::RudderSecond { position } => steering::write_rudder(1, position, out),
+        Reading::WaterSpeed { speed } => water::write_water_speed(speed, out),
         Reading::Depth {
             depth,
             offset,
             range,
-        } => append_all(
-            &[
-                Byte(0xFF),
-                Unsigned(4, depth),
-                Signed(2, offset),
-                Unsigned(1, range),
-            ],
-            out,
-        ),
-        Reading::DistanceLog { log, trip } => append_all(
-            &[
-                Bytes(&[0xFF, 0xFF, 0xFF, 0xFF, 0xFF, 0xFF]),
-                Unsigned(4, log),
-                Unsigned(4, trip),
-            ],
-            out,
-        ),
+        } => water::write_depth(depth, offset, range, out),
+        Reading::DistanceLog { log, trip } => water::write_distance_log(log, trip, out),
         Reading::Position {
             latitude,
             longitude,
-        } => append_all(&[Signed(4, latitude), Signed(4, longitude)], out),
+        } => position::write_position(latitude, longitude, out),
         Reading::CourseSpeed {
             magnetic,
             course,
             speed,
-        } => append_all(
-            &[
-                Byte(0xFF),
-                Byte(if magnetic { 0xFD } else { 0xFC }),
-                Unsigned(2, course),
-                Unsigned(2, speed),
-                Bytes(&[0xFF, 0xFF]),
-            ],
-            out,
-        ),
+        } => position::write_course(magnetic, course, speed, out),
         Reading::Gnss {
             date,
             time,
@@ -234,67 +178,35 @@ fn write_payload(reading: &Reading, out: &mut Payload)
             satellites,
             hdop,
             separation,
-        } => append_all(
-            &[
-                Byte(0xFF),
-                Unsigned(2, date),
-                Unsigned(4, time),
-                Signed(8, latitude),
-                Signed(8, longitude),
-                Signed(8, altitude),
-                Byte(method << 4),
-                Byte(0xFC),
-                Unsigned(1, satellites),
-                Signed(2, hdop),
-                Bytes(&[0xFF, 0x7F]),
-                Signed(4, separation),
-                Byte(0),
-            ],
-            out,
-        ),
-        Reading::Time { date, time } => append_all(
-            &[Bytes(&[0xFF, 0xFF]), Unsigned(2, date), Unsigned(4, time)],
-            out,
-        ),
-        Reading::WindApparent { speed, angle } => write_wind(speed, angle, 0xFA, out),
-        Reading::WindTrue { speed, angle } => write_wind(speed, angle, 0xFB, out),
+        } => {
+            append_all(
+                &[
+                    Byte(0xFF),
+                    Unsigned(2, date),
+                    Unsigned(4, time),
+                    Signed(8, latitude),
+                    Signed(8, longitude),
+                    Signed(8, altitude),
+                    Byte(method << 4),
+                    Byte(0xFC),
+                    Unsigned(1, satellites),
+                    Signed(2, hdop),
+                    Bytes(&[0xFF, 0x7F]),
+                    Signed(4, separation),
+                    Byte(0),
+                ],
+                out,
+            )
+        }
+        Reading::Time { date, time } => time::write_system_time(date, time, out),
+        Reading::WindApparent { speed, angle } => wind::write_wind(speed, angle, 0xFA, out),
+        Reading::WindTrue { speed, angle } => wind::write_wind(speed, angle, 0xFB, out),
         Reading::WindNorth {
             magnetic,
             speed,
             angle,
-        } => write_wind(speed, angle, if magnetic { 0xF9 } else { 0xF8 }, out),
-        Reading::WaterTemperature { kelvin } => append_all(
-            &[
-                Bytes(&[0xFF, 0, 0]),
-                Unsigned(3, kelvin),
-                Bytes(&[0xFF, 0xFF]),
-            ],
-            out,
-        ),
-        Reading::CrossTrack { distance } => append_all(
-            &[
-                Bytes(&[0xFF, 0x30]),
-                Signed(4, distance),
-                Bytes(&[0xFF, 0xFF]),
-            ],
-            out,
-        ),
+        } => wind::write_wind(speed, angle, if magnetic { 0xF9 } else { 0xF8 }, out),
+        Reading::WaterTemperature { kelvin } => water::write_extended_temperature(kelvin, out),
+        Reading::CrossTrack { distance } => position::write_cross_track(distance, out),
     }
-}
-
-/// The payload of a wind with its reference, above which all bits are set.
-fn write_wind(speed: Option<i64>, angle: Option<i64>, reference: u8, out: &mut Payload)
-    requires { out.old.items ≡ [] }
-    ensures { out.new.items ≡ 0xFF ∷ unsigned_bytes 2 speed ++ unsigned_bytes 2 angle ++ (reference ∷ 0xFF ∷ 0xFF ∷ []) }
-{
-    append_all(
-        &[
-            Byte(0xFF),
-            Unsigned(2, speed),
-            Unsigned(2, angle),
-            Byte(reference),
-            Bytes(&[0xFF, 0xFF]),
-        ],
-        out,
-    );
 }

@@ -11,12 +11,15 @@
 //!
 //! PGN 129283, cross track error: SID, mode and termination, distance (i32 at byte 2).
 
-ghost use Rattle.std.specs.Prelude.{◌≡◌};
+ghost use Rattle.std.specs.Prelude.{◌≡◌, []};
 ghost use Rattle.readings.specs.Numbers.{bits_of};
 ghost use Rattle.pgn_profile.specs.Part.{known};
-ghost use Rattle.pgn_profile.specs.Profiled.{profiled};
+ghost use Rattle.readings.specs.declared.reading.Reading.TheVariants.{CourseSpeed, CrossTrack, Position};
+ghost use Rattle.pgn_profile.specs.Profiled.{payload_of, profiled};
 
 use crate::field::{signed, unsigned};
+use crate::piece::Piece::{Byte, Bytes, Signed, Unsigned};
+use crate::piece::{Payload, append_all};
 use crate::profiled::Profiled;
 use readings::range::{
     ALTITUDE, ANGLE, CROSS_TRACK, DATE, FIX_LATITUDE, FIX_LONGITUDE, HDOP, LATITUDE, LONGITUDE,
@@ -101,4 +104,44 @@ pub fn read_cross_track(payload: &[u8]) -> Profiled
     Profiled::Reading(Reading::CrossTrack {
         distance: signed(payload, 2, 4, CROSS_TRACK),
     })
+}
+
+/// The payload of a position.
+pub fn write_position(latitude: Option<i64>, longitude: Option<i64>, out: &mut Payload)
+    requires { out.old.items ≡ [] }
+    ensures { out.new.items ≡ payload_of (Position latitude longitude) }
+{
+    append_all(&[Signed(4, latitude), Signed(4, longitude)], out);
+}
+
+/// The payload of course and speed over ground.
+pub fn write_course(magnetic: bool, course: Option<i64>, speed: Option<i64>, out: &mut Payload)
+    requires { out.old.items ≡ [] }
+    ensures { out.new.items ≡ payload_of (CourseSpeed magnetic course speed) }
+{
+    append_all(
+        &[
+            Byte(0xFF),
+            Byte(if magnetic { 0xFD } else { 0xFC }),
+            Unsigned(2, course),
+            Unsigned(2, speed),
+            Bytes(&[0xFF, 0xFF]),
+        ],
+        out,
+    );
+}
+
+/// The payload of a distance from the track.
+pub fn write_cross_track(distance: Option<i64>, out: &mut Payload)
+    requires { out.old.items ≡ [] }
+    ensures { out.new.items ≡ payload_of (CrossTrack distance) }
+{
+    append_all(
+        &[
+            Bytes(&[0xFF, 0x30]),
+            Signed(4, distance),
+            Bytes(&[0xFF, 0xFF]),
+        ],
+        out,
+    );
 }

@@ -11,10 +11,13 @@
 //!
 //! PGN 130316, temperature, extended range: the same with a temperature of three bytes in 0.001 K.
 
-ghost use Rattle.std.specs.Prelude.{◌≡◌};
-ghost use Rattle.pgn_profile.specs.Profiled.{profiled};
+ghost use Rattle.std.specs.Prelude.{◌≡◌, []};
+ghost use Rattle.readings.specs.declared.reading.Reading.TheVariants.{Depth, DistanceLog, WaterSpeed, WaterTemperature};
+ghost use Rattle.pgn_profile.specs.Profiled.{payload_of, profiled};
 
 use crate::field::{signed, unsigned};
+use crate::piece::Piece::{Byte, Bytes, Signed, Unsigned};
+use crate::piece::{Payload, append_all};
 use crate::profiled::Profiled;
 use readings::range::{DEPTH, DEPTH_SCALE, OFFSET, SPEED, WATER_DISTANCE, WATER_TEMPERATURE};
 use readings::{Range, Reading};
@@ -94,4 +97,65 @@ pub fn read_extended_temperature(payload: &[u8]) -> Profiled
     Profiled::Reading(Reading::WaterTemperature {
         kelvin: unsigned(payload, 3, 3, WATER_TEMPERATURE),
     })
+}
+
+/// The payload of a speed through the water.
+pub fn write_water_speed(speed: Option<i64>, out: &mut Payload)
+    requires { out.old.items ≡ [] }
+    ensures { out.new.items ≡ payload_of (WaterSpeed speed) }
+{
+    append_all(
+        &[
+            Byte(0xFF),
+            Unsigned(2, speed),
+            Bytes(&[0xFF, 0xFF, 0xFF, 0xFF, 0xFF]),
+        ],
+        out,
+    );
+}
+
+/// The payload of a depth.
+pub fn write_depth(depth: Option<i64>, offset: Option<i64>, range: Option<i64>, out: &mut Payload)
+    requires { out.old.items ≡ [] }
+    ensures { out.new.items ≡ payload_of (Depth depth offset range) }
+{
+    append_all(
+        &[
+            Byte(0xFF),
+            Unsigned(4, depth),
+            Signed(2, offset),
+            Unsigned(1, range),
+        ],
+        out,
+    );
+}
+
+/// The payload of the distances through the water.
+pub fn write_distance_log(log: Option<i64>, trip: Option<i64>, out: &mut Payload)
+    requires { out.old.items ≡ [] }
+    ensures { out.new.items ≡ payload_of (DistanceLog log trip) }
+{
+    append_all(
+        &[
+            Bytes(&[0xFF, 0xFF, 0xFF, 0xFF, 0xFF, 0xFF]),
+            Unsigned(4, log),
+            Unsigned(4, trip),
+        ],
+        out,
+    );
+}
+
+/// The payload of a temperature of the sea, of the extended range.
+pub fn write_extended_temperature(kelvin: Option<i64>, out: &mut Payload)
+    requires { out.old.items ≡ [] }
+    ensures { out.new.items ≡ payload_of (WaterTemperature kelvin) }
+{
+    append_all(
+        &[
+            Bytes(&[0xFF, 0, 0]),
+            Unsigned(3, kelvin),
+            Bytes(&[0xFF, 0xFF]),
+        ],
+        out,
+    );
 }
