@@ -1,7 +1,7 @@
 //! A position report.
 
 /// The position report of a ship (ITU-R M.1371, messages 1 to 3; canboat, PGN 129038).
-#[derive(Clone, Copy, Default, PartialEq, Eq)]
+#[derive(Clone, Copy, Default)]
 pub struct AisReport {
     /// The message: 1 and 2 come at their time, 3 answers an interrogation.
     pub kind: u8,
@@ -34,7 +34,7 @@ pub struct AisReport {
 }
 
 /// Why a payload is no report.
-#[derive(Clone, Copy, PartialEq, Eq)]
+#[derive(Clone, Copy)]
 pub enum AisFault {
     /// It has fewer than 26 bytes.
     Short,

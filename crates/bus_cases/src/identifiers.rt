@@ -71,9 +71,12 @@ const MISDIRECTED: Parts = Parts {
     source: 0,
 };
 
-/// Whether the identifier has these parts, and they are joined to it.
+/// Whether these parts are joined to the identifier, and so are those that it is split into.
 fn is_split(id: u32, held: Parts) -> bool {
-    parts(id) == Some(held) && join(held) == Some(id)
+    match parts(id) {
+        Some(found) => join(found) == Some(id) && join(held) == Some(id),
+        None => false,
+    }
 }
 
 #[test]
@@ -134,9 +137,10 @@ const NAMES: [(u64, NameFields); 2] = [
     (0x70FE_FF07_001F_FFFF, STRIPES),
 ];
 
-/// Whether the NAME has these fields, and they are joined to it.
+/// Whether these fields are joined to the NAME, and so are those into which it is cut.
 fn is_cut(number: u64, fields: NameFields) -> bool {
-    Name(number).fields() == fields && Name::of_fields(fields) == Some(Name(number))
+    let name = Some(Name(number));
+    Name::of_fields(Name(number).fields()) == name && Name::of_fields(fields) == name
 }
 
 #[test]

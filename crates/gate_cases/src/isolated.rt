@@ -7,6 +7,7 @@ use gate_core::{Done, Gateway};
 use isolation::FrameEvent;
 use isolation::laws::same_from;
 use n2k_id::{Frame, Name};
+use readings::Reading;
 use std::alloc::Global;
 use std::test::Fail;
 
@@ -31,19 +32,23 @@ fn log(moment: u64, source: u8, part: usize) -> FrameEvent
     }
 }
 
-/// Whether the log is all that was said.
+/// Whether the log, of one metre in all and on the trip, is all that was said.
 fn is_log(told: &[Done]) -> bool {
     match told {
         [done] => {
-            done.source == 23 && done.name == NAME && done.pgn == 128_275 && done.reading.is_some()
+            done.source == 23
+                && done.name == NAME
+                && done.pgn == 128_275
+                && matches!(
+                    done.reading,
+                    Some(Reading::DistanceLog {
+                        log: Some(1),
+                        trip: Some(1)
+                    })
+                )
         }
         _ => false,
     }
-}
-
-/// Whether the log is all that was said alone, and the same was said beside another.
-fn are_log(alone: &[Done], beside: &[Done]) -> bool {
-    is_log(alone) && alone == beside
 }
 
 /// Whether the log is all that the device at 23 says, alone and beside that of the device at 24.
@@ -62,7 +67,7 @@ fn says_the_same(alloc: Global, left: &mut Gateway, right: &mut Gateway) -> Resu
         log(1_002_500, 24, 2),
     ];
     let (alone, beside) = same_from(alloc, left, right, 23, &alone, &beside)?;
-    Ok(are_log(alone.as_slice(), beside.as_slice()))
+    Ok(is_log(alone.as_slice()) && is_log(beside.as_slice()))
 }
 
 #[test]

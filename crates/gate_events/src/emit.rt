@@ -3,7 +3,7 @@ use readings::Row;
 use sentence_text::{Group, Sfi};
 
 /// What a report names besides its rule.
-#[derive(Clone, Copy, PartialEq, Eq)]
+#[derive(Clone, Copy)]
 pub enum Detail {
     /// The rule says all.
     Nothing,
@@ -28,7 +28,7 @@ pub enum Detail {
 }
 
 /// A rule that was broken, by its number.
-#[derive(Clone, Copy, PartialEq, Eq)]
+#[derive(Clone, Copy)]
 pub struct Report {
     pub rule: u8,
     pub detail: Detail,

@@ -4,7 +4,7 @@ use n2k_id::Name;
 use readings::Reading;
 
 /// A message that is complete, with what it says where it is of a row of the profile and long enough.
-#[derive(Clone, Copy, PartialEq, Eq)]
+#[derive(Clone, Copy)]
 pub struct Done {
     pub source: u8,
     /// The NAME that holds the source.

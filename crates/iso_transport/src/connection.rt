@@ -3,7 +3,7 @@ ghost use Rattle.std.specs.Prelude.{◌≡◌, ◌≤◌, ◌<◌, ◌^◌, ◌�
 ghost use Rattle.iso_transport.specs.Connection.{size_at, pgn_at, cm_of, IsCm};
 
 /// What a connection management frame (TP.CM) says. `pgn` is the message's, of 24 bits; a size is in bytes.
-#[derive(Clone, Copy, PartialEq, Eq)]
+#[derive(Clone, Copy)]
 pub enum Cm {
     /// A request to send a message to one node. No more packets than `limit` may be granted at once.
     Rts {

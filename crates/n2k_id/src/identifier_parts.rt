@@ -1,5 +1,5 @@
 /// What a 29-bit identifier says (ISO 11783-3, 5.2).
-#[derive(Clone, Copy, PartialEq, Eq)]
+#[derive(Clone, Copy)]
 pub struct Parts {
     /// 0 to 7; 0 goes first on the bus.
     pub priority: u8,

@@ -20,7 +20,7 @@ pub struct Name(pub u64);
 /// | system instance | 4 |
 /// | industry group; 4 is marine | 3 |
 /// | arbitrary address capable: the device may move to another address | 1 |
-#[derive(Clone, Copy, PartialEq, Eq)]
+#[derive(Clone, Copy)]
 pub struct NameFields {
     pub unique: u32,
     pub manufacturer: u16,

@@ -1,7 +1,7 @@
 use readings::Reading;
 
 /// What a message's payload says.
-#[derive(Clone, Copy, PartialEq, Eq)]
+#[derive(Clone, Copy)]
 pub enum Profiled {
     /// A reading of the profile, with each value in its range.
     Reading(Reading),

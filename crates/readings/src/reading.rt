@@ -14,7 +14,7 @@ use crate::rows::Row;
 ///
 /// Angles are in 1e-4 radian, speeds in 0.01 m/s, dates in days since 1970-01-01 and times in 1e-4
 /// second since midnight (UTC).
-#[derive(Clone, Copy, PartialEq, Eq)]
+#[derive(Clone, Copy)]
 pub enum Reading {
     /// The heading, clockwise from true north.
     HeadingTrue {

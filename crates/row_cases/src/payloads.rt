@@ -343,9 +343,22 @@ const OTHERS: [(u32, &[u8], Reading); 6] = [
     ),
 ];
 
+/// Whether the readings, which are valid, are written as the same payload: each is read back, so they are one.
+fn are_same(one: &Reading, other: &Reading) -> bool {
+    if !valid(one) || !valid(other) {
+        return false;
+    }
+    let mut first = Payload::new();
+    let mut second = Payload::new();
+    write(one, &mut first) == write(other, &mut second) && first.as_slice() == second.as_slice()
+}
+
 /// Whether the payload is read as the reading.
 fn is_read(pgn: u32, payload: &[u8], reading: &Reading) -> bool {
-    read(pgn, payload) == Profiled::Reading(*reading)
+    match read(pgn, payload) {
+        Profiled::Reading(found) => are_same(&found, reading),
+        _ => false,
+    }
 }
 
 /// Whether the reading, which is valid, is written as the payload.

@@ -1,6 +1,6 @@
 //! What the program shows of reports is tried by the program itself; it reads none, and shows no message without a byte.
 
-use ais_report::{AisFault, convert, read_armour};
+use ais_report::{AisFault, armour, convert, read_armour};
 
 /// Message 1 of ship 200000000 under way: one degree east on the equator, to the east at 10.0 knots, heading east.
 const UNDER_WAY: [u8; 28] = [
@@ -28,24 +28,26 @@ const REPORTS: [(&[u8], u8, &[u8; 28]); 3] = [
     (&ENDS, b'A', b"2Nqc9woP?vk81`1<P6P0001o0001"),
 ];
 
-/// Whether the characters are read as the report of the payload, which is of this channel.
-fn is_read(payload: &[u8], letter: u8, text: &[u8]) -> bool {
-    match convert(payload) {
-        Ok((report, channel)) => channel == letter && read_armour(text) == Some(report),
-        Err(_) => false,
+/// Whether the characters are what the report of the payload, which is of this channel, is written as, and are read as a report that is.
+fn is_read(payload: &[u8], letter: u8, text: &[u8; 28]) -> bool {
+    match (convert(payload), read_armour(text.as_slice())) {
+        (Ok((report, channel)), Some(read)) => {
+            channel == letter && armour(&report) == *text && armour(&read) == *text
+        }
+        _ => false,
     }
 }
 
 #[test]
 fn a_report_is_read_as_it_is_written(rt: HostRuntime) {
     for (payload, letter, text) in &REPORTS {
-        assert!(rt; is_read(payload, *letter, text.as_slice()));
+        assert!(rt; is_read(payload, *letter, text));
     }
 }
 
 #[test]
 fn a_payload_without_a_byte_is_short(rt: HostRuntime) {
-    assert!(rt; convert(&[]).err() == Some(AisFault::Short));
+    assert!(rt; matches!(convert(&[]), Err(AisFault::Short)));
 }
 
 /// Characters that are no report.
