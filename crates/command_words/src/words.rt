@@ -1,5 +1,5 @@
 //! The words of the command line.
-ghost use Rattle.std.specs.Prelude.{map, MatchOption, string_bytes};
+ghost use Rattle.std.specs.Prelude.{[], ◌∷◌, map, MatchOption, string_bytes};
 ghost use Rattle.command_words.specs.Words.{AreTurnsOf, IsForm, IsNoDemo, IsNoForm, IsNoServe, IsSaid};
 
 use crate::numerals::number_between;
@@ -56,34 +56,49 @@ pub fn command_of(words: &[String]) -> Option<Command<'_>>
     ensures { MatchOption result (IsNoForm (map string_bytes words.now)) (IsForm (map string_bytes words.now)) }
 {
     match words {
-        [word] => {
-            if word.as_str() == "convert" {
-                Some(Command::Lines(LineCommand::Convert))
-            } else if word.as_str() == "show" {
-                Some(Command::Lines(LineCommand::Show))
-            } else {
-                None
-            }
-        }
-        [word, file] => {
-            if word.as_str() == "check" {
-                Some(Command::Check(file.as_str()))
-            } else if word.as_str() == "replay" {
-                Some(Command::Replay(file.as_str()))
-            } else {
-                None
-            }
-        }
-        [word, first, second] => {
-            if word.as_str() == "demo" {
-                demo_of(first.as_str(), second.as_str())
-            } else if word.as_str() == "serve" {
-                serve_of(first.as_str(), second.as_str())
-            } else {
-                None
-            }
-        }
+        [word] => command_of_one(word.as_str()),
+        [word, file] => command_of_two(word.as_str(), file.as_str()),
+        [word, first, second] => command_of_three(word.as_str(), first.as_str(), second.as_str()),
         _ => None,
+    }
+}
+
+/// The command of one word.
+fn command_of_one(word: &str) -> Option<Command<'static>>
+    ensures { MatchOption result (IsNoForm (word.now ∷ [])) (IsForm (word.now ∷ [])) }
+{
+    if word == "convert" {
+        Some(Command::Lines(LineCommand::Convert))
+    } else if word == "show" {
+        Some(Command::Lines(LineCommand::Show))
+    } else {
+        None
+    }
+}
+
+/// The command of a word and the name of a file.
+fn command_of_two<'a>(word: &str, file: &'a str) -> Option<Command<'a>>
+    ensures { MatchOption result (IsNoForm (word.now ∷ file.now ∷ [])) (IsForm (word.now ∷ file.now ∷ [])) }
+{
+    if word == "check" {
+        Some(Command::Check(file))
+    } else if word == "replay" {
+        Some(Command::Replay(file))
+    } else {
+        None
+    }
+}
+
+/// The command of a word and what two words behind it say.
+fn command_of_three<'a>(word: &str, first: &'a str, second: &str) -> Option<Command<'a>>
+    ensures { MatchOption result (IsNoForm (word.now ∷ first.now ∷ second.now ∷ [])) (IsForm (word.now ∷ first.now ∷ second.now ∷ [])) }
+{
+    if word == "demo" {
+        demo_of(first, second)
+    } else if word == "serve" {
+        serve_of(first, second)
+    } else {
+        None
     }
 }
 
