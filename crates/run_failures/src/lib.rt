@@ -3,10 +3,12 @@
 //! What a process says there no clause of std tells: clauses have the words for why, and the examples compare the lines.
 #![tactic(auto)]
 
+mod line;
 mod links;
 mod reasons;
 mod words;
 
+use crate::line::say;
 use crate::links::explain_links;
 use crate::reasons::{file_reason, reason_of, write_reason};
 use crate::words::explain_words;
@@ -35,7 +37,7 @@ pub fn explain_run(rt: &impl Eprint, ended: &Result<u8, AllocError>, kept: &Kept
     let status = match ended {
         Ok(number) => Status::of(*number).unwrap_or(Status::Done),
         Err(AllocError) => {
-            let _ = eprintln!(rt; "shipgate: there is no memory to begin with");
+            say(rt, "there is no memory to begin with", "", &"");
             return;
         }
     };
@@ -46,7 +48,7 @@ pub fn explain_run(rt: &impl Eprint, ended: &Result<u8, AllocError>, kept: &Kept
         Status::Unattached => explain_links(rt, kept),
         _ => {
             if let Some(why) = reason_of(status) {
-                let _ = eprintln!(rt; "shipgate: {why}");
+                say(rt, why, "", &"");
             }
         }
     }
@@ -55,7 +57,7 @@ pub fn explain_run(rt: &impl Eprint, ended: &Result<u8, AllocError>, kept: &Kept
 // Why standard output wasn't written.
 fn explain_write(rt: &impl Eprint, unwritten: Option<ErrorKind>) {
     if let Some(reason) = write_reason(unwritten) {
-        let _ = eprintln!(rt; "shipgate: the output{reason}");
+        say(rt, "the output", "", &reason);
     }
 }
 
@@ -65,6 +67,5 @@ fn explain_file(rt: &impl Eprint, words: &[String], unread: Option<ErrorKind>) {
         [_, _, file, ..] => file.as_str(),
         _ => "",
     };
-    let reason = file_reason(unread);
-    let _ = eprintln!(rt; "shipgate: the configuration {file}{reason}");
+    say(rt, "the configuration ", file, &file_reason(unread));
 }

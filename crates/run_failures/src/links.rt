@@ -1,5 +1,6 @@
 //! Which link couldn't be attached, and why.
 use crate::Kept;
+use crate::line::say;
 use crate::reasons::link_reason;
 use live_outside::Unattached;
 use std::str;
@@ -7,8 +8,8 @@ use std::str;
 /// Which link couldn't be attached. The network is tried once the bus is attached.
 pub(crate) fn explain_links(rt: &impl Eprint, kept: &Kept<'_>) {
     match (kept.bus, kept.net) {
-        (Some(why), _) => explain_link(rt, "bus", why),
-        (None, Some(why)) => explain_link(rt, "net", why),
+        (Some(why), _) => explain_link(rt, "bus.listen ", why),
+        (None, Some(why)) => explain_link(rt, "net.listen ", why),
         (None, None) => {}
     }
 }
@@ -16,6 +17,5 @@ pub(crate) fn explain_links(rt: &impl Eprint, kept: &Kept<'_>) {
 // Why a link couldn't be attached.
 fn explain_link(rt: &impl Eprint, link: &str, why: &Unattached) {
     let listen = str::from_utf8(why.listen.as_slice()).unwrap_or("");
-    let reason = link_reason(why.kind);
-    let _ = eprintln!(rt; "shipgate: {link}.listen {listen}{reason}");
+    say(rt, link, listen, &link_reason(why.kind));
 }

@@ -1,4 +1,5 @@
 //! Which word of the command line isn't one, and what the commands are.
+use crate::line::say;
 use command_words::{MOST_EVENTS, MOST_SEED, MOST_TURNS, number_between};
 
 /// The program's version, and the kit that proved it: as README.md has them.
@@ -15,22 +16,39 @@ const COMMANDS: &str =
 Each writes to standard output. Statuses: 0 done, 2 no command, 3 the configuration is refused, 4 a write failed, 5 a read failed, 6 the configuration can't be read, 7 no memory to begin with, 8 more than 2^40 bytes of input, 9 a link can't be attached. The manual is shipgate.1.";
 
 /// A word behind a command's name.
-#[derive(Clone, Copy)]
-enum Parameter {
-    /// The name of a file.
-    Config,
-    /// A number of this name, between these two.
-    Number(&'static str, u64, u64),
+struct Parameter {
+    name: &'static str,
+    /// The least and the greatest number that it may be; none for the name of a file.
+    range: Option<(u64, u64)>,
 }
 
-/// A command's name, and how many words of which kind follow it.
-#[derive(Clone, Copy)]
+/// A command's name, and the words that follow it.
 struct Form {
     name: &'static str,
     parameters: &'static [Parameter],
 }
 
-const FORMS: [Form; 6] = [
+const CONFIG: Parameter = Parameter {
+    name: "CONFIG",
+    range: None,
+};
+
+const TURNS: Parameter = Parameter {
+    name: "TURNS",
+    range: Some((1, MOST_TURNS)),
+};
+
+const SEED: Parameter = Parameter {
+    name: "SEED",
+    range: Some((0, MOST_SEED)),
+};
+
+const COUNT: Parameter = Parameter {
+    name: "COUNT",
+    range: Some((1, MOST_EVENTS)),
+};
+
+static FORMS: [Form; 6] = [
     Form {
         name: "convert",
         parameters: &[],
@@ -41,48 +59,49 @@ const FORMS: [Form; 6] = [
     },
     Form {
         name: "check",
-        parameters: &[Parameter::Config],
+        parameters: &[CONFIG],
     },
     Form {
         name: "replay",
-        parameters: &[Parameter::Config],
+        parameters: &[CONFIG],
     },
     Form {
         name: "serve",
-        parameters: &[Parameter::Config, Parameter::Number("TURNS", 1, MOST_TURNS)],
+        parameters: &[CONFIG, TURNS],
     },
     Form {
         name: "demo",
-        parameters: &[
-            Parameter::Number("SEED", 0, MOST_SEED),
-            Parameter::Number("COUNT", 1, MOST_EVENTS),
-        ],
+        parameters: &[SEED, COUNT],
     },
 ];
 
 /// Which word isn't one, and what the commands are; or the version alone, for who asks for it.
 pub(crate) fn explain_words(rt: &impl Eprint, words: &[String]) {
-    let _ = match words {
-        [] => eprintln!(rt; "shipgate: one of the words isn't UTF-8"),
-        [_] => eprintln!(rt; "shipgate: there is no command"),
-        [_, word, rest @ ..] => match form_of(word.as_str()) {
-            Some(form) => {
-                explain_parameters(rt, &form, rest);
-                Ok(())
-            }
-            None if matches!(word.as_str(), "--version" | "-V") => {
-                let _ = eprintln!(rt; "{VERSION}");
-                return;
-            }
-            None => eprintln!(rt; "shipgate: {word} is no command"),
-        },
+    let said = match words {
+        [_, word, ..] if matches!(word.as_str(), "--version" | "-V") => VERSION,
+        _ => {
+            explain_wrong(rt, words);
+            COMMANDS
+        }
     };
-    let _ = eprintln!(rt; "{COMMANDS}");
+    let _ = eprintln!(rt; "{said}");
+}
+
+// Which word isn't one.
+fn explain_wrong(rt: &impl Eprint, words: &[String]) {
+    match words {
+        [] => say(rt, "one of the words", "", &" isn't UTF-8"),
+        [_] => say(rt, "there is no command", "", &""),
+        [_, word, rest @ ..] => match form_of(word.as_str()) {
+            Some(form) => explain_parameters(rt, form, rest),
+            None => say(rt, "", word.as_str(), &" is no command"),
+        },
+    }
 }
 
 // The form of the command of a name.
-fn form_of(name: &str) -> Option<Form> {
-    for form in FORMS {
+fn form_of(name: &str) -> Option<&'static Form> {
+    for form in &FORMS {
         if form.name == name {
             return Some(form);
         }
@@ -92,25 +111,30 @@ fn form_of(name: &str) -> Option<Form> {
 
 // Which of the words behind a command's name isn't one.
 fn explain_parameters(rt: &impl Eprint, form: &Form, words: &[String]) {
-    let name = form.name;
     let mut words = words.iter();
     for parameter in form.parameters {
-        let _ = match (parameter, words.next()) {
-            (Parameter::Config, Some(_)) => continue,
-            (Parameter::Config, None) => eprintln!(rt; "shipgate: {name} lacks CONFIG"),
-            (Parameter::Number(what, _, _), None) => eprintln!(rt; "shipgate: {name} lacks {what}"),
-            (Parameter::Number(what, least, most), Some(word)) => {
-                if number_between(word.as_str(), *least, *most).is_some() {
-                    continue;
-                }
-                eprintln!(rt;
-                    "shipgate: {word} is no {what}: digits alone, from {least} to {most}, without a leading zero"
-                )
-            }
-        };
-        return;
+        match words.next() {
+            Some(word) if is_taken(rt, word.as_str(), parameter) => {}
+            Some(_) => return,
+            None => return say(rt, form.name, " lacks ", &parameter.name),
+        }
     }
     if let Some(word) = words.next() {
-        let _ = eprintln!(rt; "shipgate: {name} takes no word more: {word}");
+        say(rt, form.name, " takes no word more: ", &word.as_str());
     }
+}
+
+// Whether a word is one that may stand there. Says why it isn't.
+fn is_taken(rt: &impl Eprint, word: &str, parameter: &Parameter) -> bool {
+    let Some((least, most)) = parameter.range else {
+        return true;
+    };
+    let taken = number_between(word, least, most).is_some();
+    if !taken {
+        let name = parameter.name;
+        let _ = eprintln!(rt;
+            "shipgate: {word} is no {name}: digits alone, from {least} to {most}, without a leading zero"
+        );
+    }
+    taken
 }
