@@ -77,7 +77,7 @@ fn command_of_one(word: &str) -> Option<Command<'static>>
 }
 
 /// The command of a word and the name of a file.
-fn command_of_two<'a>(word: &str, file: &'a str) -> Option<Command<'a>>
+fn command_of_two<'a>(word: &'a str, file: &'a str) -> Option<Command<'a>>
     ensures { MatchOption result (IsNoForm (word.now ∷ file.now ∷ [])) (IsForm (word.now ∷ file.now ∷ [])) }
 {
     if word == "check" {
