@@ -12,7 +12,7 @@ ghost use Rattle.settings.specs.Further.{IsFurther};
 use crate::devices::devices;
 use crate::further_quantities::further_quantities;
 use crate::keys::{section, truth_or};
-use crate::links::BUS_KEYS;
+use crate::links::IGNORE;
 use crate::parts::{ais_group, own_group, rmc_group};
 use arrayvec::ArrayVec;
 use config_document::{ConfigFault, Section};
@@ -21,11 +21,17 @@ use n2k_id::Pattern;
 use sentence_text::Group;
 use settings::{Further, Quantities, QuantityConfigs, Settings};
 
-pub(crate) const REPORT_KEYS: [&str; 1] = ["sources"];
+const SOURCES: &str = "sources";
 
-pub(crate) const PLAIN_KEYS: [&str; 1] = ["group"];
+const GROUP: &str = "group";
 
-pub(crate) const SERVE_KEYS: [&str; 1] = ["record"];
+const RECORD: &str = "record";
+
+pub(crate) const REPORT_KEYS: [&str; 1] = [SOURCES];
+
+pub(crate) const PLAIN_KEYS: [&str; 1] = [GROUP];
+
+pub(crate) const SERVE_KEYS: [&str; 1] = [RECORD];
 
 /// What is asked for besides, beside the settings; further quantities are put into `each`.
 #[tactic(auto, unfolding(crate::specs::Keys::further_in))]
@@ -61,8 +67,7 @@ fn ignored_keys(document: &Section) -> Result<ArrayVec<Pattern, 16>, ConfigFault
     ensures valid { IfOk result (λ devices. AreSources devices.items) }
 {
     let table = section(document, "bus", b"bus.")?;
-    let [_, _, ignore] = BUS_KEYS;
-    devices(&table, ignore)
+    devices(&table, IGNORE)
 }
 
 /// Whether changes of a row's source are told.
@@ -71,8 +76,7 @@ fn report_keys(document: &Section) -> Result<bool, ConfigFault>
     ensures { result ≡ table_in report tt (place_of document.now) }
 {
     let table = section(document, "report", b"report.")?;
-    let [sources] = REPORT_KEYS;
-    truth_or(&table, sources, false)
+    truth_or(&table, SOURCES, false)
 }
 
 /// The group of plain sentences, which no row and no other part has.
@@ -86,8 +90,7 @@ fn plain_keys(
     ensures valid { IfOk result (λ group. ForSome group (IsGroupBeside rows.now parts.now)) }
 {
     let table = section(document, "plain", b"plain.")?;
-    let [group] = PLAIN_KEYS;
-    own_group(&table, group, rows, parts, false)
+    own_group(&table, GROUP, rows, parts, false)
 }
 
 /// Whether a run is recorded.
@@ -96,8 +99,7 @@ fn serve_keys(document: &Section) -> Result<bool, ConfigFault>
     ensures { result ≡ table_in serve tt (place_of document.now) }
 {
     let table = section(document, "serve", b"serve.")?;
-    let [recording] = SERVE_KEYS;
-    truth_or(&table, recording, false)
+    truth_or(&table, RECORD, false)
 }
 
 /// The group of further quantities.

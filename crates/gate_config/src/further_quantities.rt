@@ -24,7 +24,11 @@ use sentence_text::Group;
 use settings::{Quantities, QuantityConfig, QuantityConfigs};
 use toml::Table;
 
-pub(crate) const KEYS: [&str; 2] = ["group", "slots"];
+const GROUP: &str = "group";
+
+const SLOTS: &str = "slots";
+
+pub(crate) const KEYS: [&str; 2] = [GROUP, SLOTS];
 
 /// How quantities besides the rows are said, if they are: their group, which no row and no other part has, and each quantity, put into `each`.
 #[tactic(auto, using(crate::proofs::Tables::further_name), unfolding(crate::specs::Keys::quantities_in))]
@@ -57,9 +61,8 @@ fn further_keys(
     ensures group { IfOk result (λ all. ForSome all.0 (IsGroupBeside rows.now parts.now)) }
     ensures slots { IfOk result (λ all. IsInRange 1 256 all.1) }
 {
-    let [group, slots] = KEYS;
-    let group = own_group(table, group, rows, parts, is_asked(table))?;
-    let slots = number_or(table, slots, 1, 256, 16)? as u16;
+    let group = own_group(table, GROUP, rows, parts, is_asked(table))?;
+    let slots = number_or(table, SLOTS, 1, 256, 16)? as u16;
     Ok((group, slots))
 }
 
@@ -67,8 +70,7 @@ fn further_keys(
 fn is_asked(table: &Section) -> bool
     ensures { result ≡ is_asked (place_of table.now) }
 {
-    let [_, slots] = KEYS;
-    stands_at(table, slots) || any_asks(table, all_quantities())
+    stands_at(table, SLOTS) || any_asks(table, all_quantities())
 }
 
 fn any_asks(table: &Section, all: &[Quantity]) -> bool

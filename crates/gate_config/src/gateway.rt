@@ -10,15 +10,31 @@ use config_document::{ConfigFault, Section};
 use n2k_id::Name;
 use sentence_text::{Group, Sfi};
 
+const NAME: &str = "name";
+
+const ADDRESS: &str = "address";
+
+const SFI: &str = "sfi";
+
+const GROUP: &str = "group";
+
+const FAST_SLOTS: &str = "fast_slots";
+
+const ISO_SLOTS: &str = "iso_slots";
+
+const GROUP_SLOTS: &str = "group_slots";
+
+const THS: &str = "ths";
+
 pub(crate) const KEYS: [&str; 8] = [
-    "name",
-    "address",
-    "sfi",
-    "group",
-    "fast_slots",
-    "iso_slots",
-    "group_slots",
-    "ths",
+    NAME,
+    ADDRESS,
+    SFI,
+    GROUP,
+    FAST_SLOTS,
+    ISO_SLOTS,
+    GROUP_SLOTS,
+    THS,
 ];
 
 /// What the keys of `gateway` say.
@@ -37,17 +53,13 @@ pub(crate) struct Own {
 #[tactic(auto, unfolding(crate::specs::Keys::gateway))]
 pub(crate) fn gateway_keys(document: &Section) -> Result<Own, ConfigFault>
     ensures said { result ≡ table_in gateway tt (place_of document.now) }
-    ensures address { IfOk result (λ own. own.address < 252) }
-    ensures fast_slots { IfOk result (λ own. IsInRange 1 256 own.fast_slots) }
-    ensures iso_slots { IfOk result (λ own. IsInRange 1 32 own.iso_slots) }
-    ensures group_slots { IfOk result (λ own. IsInRange 1 32 own.group_slots) }
+    ensures valid { IfOk result (λ own. (own.address < 252) × IsInRange 1 256 own.fast_slots × IsInRange 1 32 own.iso_slots × IsInRange 1 32 own.group_slots) }
 {
     let table = section(document, "gateway", b"gateway.")?;
-    let [_, _, _, group, _, _, _, ths] = KEYS;
     let (name, address, sfi) = name_keys(&table)?;
-    let group = text_or(&table, group, Group::default())?;
+    let group = text_or(&table, GROUP, Group::default())?;
     let (fast_slots, iso_slots, group_slots) = slot_keys(&table)?;
-    let ths = truth_or(&table, ths, false)?;
+    let ths = truth_or(&table, THS, false)?;
     Ok(Own {
         name,
         address,
@@ -66,10 +78,9 @@ fn name_keys(table: &Section) -> Result<(Name, u8, Sfi), ConfigFault>
     ensures said { result ≡ names.read tt (place_of table.now) }
     ensures address { IfOk result (λ names. names.1 < 252) }
 {
-    let [name, address, sfi, _, _, _, _, _] = KEYS;
-    let name = needed_text(table, name)?;
-    let address = needed_number(table, address, 0, 251)? as u8;
-    let sfi = needed_text(table, sfi)?;
+    let name = needed_text(table, NAME)?;
+    let address = needed_number(table, ADDRESS, 0, 251)? as u8;
+    let sfi = needed_text(table, SFI)?;
     Ok((name, address, sfi))
 }
 
@@ -77,13 +88,10 @@ fn name_keys(table: &Section) -> Result<(Name, u8, Sfi), ConfigFault>
 #[tactic(auto, unfolding(crate::specs::Keys::slots))]
 fn slot_keys(table: &Section) -> Result<(u16, u16, u16), ConfigFault>
     ensures said { result ≡ slots.read tt (place_of table.now) }
-    ensures fast { IfOk result (λ s. IsInRange 1 256 s.0) }
-    ensures iso { IfOk result (λ s. IsInRange 1 32 s.1) }
-    ensures group { IfOk result (λ s. IsInRange 1 32 s.2) }
+    ensures valid { IfOk result (λ s. IsInRange 1 256 s.0 × IsInRange 1 32 s.1 × IsInRange 1 32 s.2) }
 {
-    let [_, _, _, _, fast, iso, group, _] = KEYS;
-    let fast = number_or(table, fast, 1, 256, 64)? as u16;
-    let iso = number_or(table, iso, 1, 32, 8)? as u16;
-    let group = number_or(table, group, 1, 32, 8)? as u16;
+    let fast = number_or(table, FAST_SLOTS, 1, 256, 64)? as u16;
+    let iso = number_or(table, ISO_SLOTS, 1, 32, 8)? as u16;
+    let group = number_or(table, GROUP_SLOTS, 1, 32, 8)? as u16;
     Ok((fast, iso, group))
 }

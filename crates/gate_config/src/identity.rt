@@ -11,7 +11,19 @@ use arrayvec::ArrayVec;
 use bus_identity::Product;
 use config_document::{ConfigFault, ProductText, Section};
 
-pub(crate) const KEYS: [&str; 6] = ["code", "model", "software", "version", "serial", "load"];
+const CODE: &str = "code";
+
+const MODEL: &str = "model";
+
+const SOFTWARE: &str = "software";
+
+const VERSION: &str = "version";
+
+const SERIAL: &str = "serial";
+
+const LOAD: &str = "load";
+
+pub(crate) const KEYS: [&str; 6] = [CODE, MODEL, SOFTWARE, VERSION, SERIAL, LOAD];
 
 #[tactic(auto, unfolding(crate::specs::Keys::identity))]
 pub(crate) fn identity_keys(document: &Section) -> Result<Product, ConfigFault>
@@ -19,11 +31,10 @@ pub(crate) fn identity_keys(document: &Section) -> Result<Product, ConfigFault>
     ensures valid { IfOk result IsProduct }
 {
     let table = section(document, "identity", b"identity.")?;
-    let [code, _, _, _, _, load] = KEYS;
-    let code = number_or(&table, code, 0, 65_535, 0)? as u16;
+    let code = number_or(&table, CODE, 0, 65_535, 0)? as u16;
     let (ProductText(model), ProductText(software), ProductText(version), ProductText(serial)) =
         text_keys(&table)?;
-    let load = number_or(&table, load, 0, 252, 1)? as u8;
+    let load = number_or(&table, LOAD, 0, 252, 1)? as u8;
     Ok(Product {
         code,
         model,
@@ -41,16 +52,12 @@ type Texts = (ProductText, ProductText, ProductText, ProductText);
 #[tactic(auto, unfolding(crate::specs::Keys::texts))]
 fn text_keys(table: &Section) -> Result<Texts, ConfigFault>
     ensures said { result ≡ texts.read tt (place_of table.now) }
-    ensures model { IfOk result (λ texts. IsProductText texts.0.0.items) }
-    ensures software { IfOk result (λ texts. IsProductText texts.1.0.items) }
-    ensures version { IfOk result (λ texts. IsProductText texts.2.0.items) }
-    ensures serial { IfOk result (λ texts. IsProductText texts.3.0.items) }
+    ensures valid { IfOk result (λ texts. IsProductText texts.0.0.items × IsProductText texts.1.0.items × IsProductText texts.2.0.items × IsProductText texts.3.0.items) }
 {
-    let [_, model, software, version, serial, _] = KEYS;
-    let model = text_or(table, model, default_text(b"shipgate"))?;
-    let software = text_or(table, software, default_text(b"1"))?;
-    let version = text_or(table, version, default_text(b"1"))?;
-    let serial = text_or(table, serial, default_text(b"1"))?;
+    let model = text_or(table, MODEL, default_text(b"shipgate"))?;
+    let software = text_or(table, SOFTWARE, default_text(b"1"))?;
+    let version = text_or(table, VERSION, default_text(b"1"))?;
+    let serial = text_or(table, SERIAL, default_text(b"1"))?;
     Ok((model, software, version, serial))
 }
 

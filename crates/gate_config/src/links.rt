@@ -17,9 +17,17 @@ use config_document::{ConfigFault, Flaw, Section, repeats};
 use network_routes::Address;
 use sentence_text::Sfi;
 
-pub(crate) const NET_KEYS: [&str; 3] = ["sources", "listen", "send"];
+const SOURCES: &str = "sources";
 
-pub(crate) const BUS_KEYS: [&str; 3] = ["listen", "send", "ignore"];
+const LISTEN: &str = "listen";
+
+const SEND: &str = "send";
+
+pub(crate) const IGNORE: &str = "ignore";
+
+pub(crate) const NET_KEYS: [&str; 3] = [SOURCES, LISTEN, SEND];
+
+pub(crate) const BUS_KEYS: [&str; 3] = [LISTEN, SEND, IGNORE];
 
 /// Whom the network is heard from, and where the link to it listens and sends.
 type NetKeys = (ArrayVec<Sfi, 32>, Address, Address);
@@ -31,11 +39,10 @@ pub(crate) fn net_keys(document: &Section, own: Sfi) -> Result<NetKeys, ConfigFa
     ensures valid { IfOk result (AreNetKeys own) }
 {
     let table = section(document, "net", b"net.")?;
-    let [sources, listen, send] = NET_KEYS;
     Ok((
-        net_sources(&table, sources, own)?,
-        link(&table, listen, 60_001)?,
-        link(&table, send, 60_002)?,
+        net_sources(&table, SOURCES, own)?,
+        link(&table, LISTEN, 60_001)?,
+        link(&table, SEND, 60_002)?,
     ))
 }
 
@@ -46,8 +53,7 @@ pub(crate) fn bus_keys(document: &Section) -> Result<(Address, Address), ConfigF
     ensures valid { IfOk result (λ bus. IsEndpoint bus.0.items × IsEndpoint bus.1.items) }
 {
     let table = section(document, "bus", b"bus.")?;
-    let [listen, send, _] = BUS_KEYS;
-    Ok((link(&table, listen, 60_101)?, link(&table, send, 60_102)?))
+    Ok((link(&table, LISTEN, 60_101)?, link(&table, SEND, 60_102)?))
 }
 
 /// Whom the network is heard from; the gateway isn't its own source.

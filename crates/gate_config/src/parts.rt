@@ -17,9 +17,15 @@ use config_values::RowConfig;
 use sentence_text::Group;
 use settings::{AisConfig, RmcConfig};
 
-pub(crate) const RMC_KEYS: [&str; 2] = ["group", "talker"];
+const GROUP: &str = "group";
 
-pub(crate) const AIS_KEYS: [&str; 2] = ["group", "slots"];
+const TALKER: &str = "talker";
+
+const SLOTS: &str = "slots";
+
+pub(crate) const RMC_KEYS: [&str; 2] = [GROUP, TALKER];
+
+pub(crate) const AIS_KEYS: [&str; 2] = [GROUP, SLOTS];
 
 #[tactic(auto, using(crate::proofs::Values::talker), unfolding(crate::specs::Keys::rmc))]
 pub(crate) fn rmc_keys(
@@ -30,9 +36,8 @@ pub(crate) fn rmc_keys(
     ensures valid { IfOk result (λ rmc. ForSome rmc (IsRmc rows.now)) }
 {
     let table = section(document, "rmc", b"rmc.")?;
-    let [group, talker] = RMC_KEYS;
-    let own = own_group(&table, group, rows, &[], stands_at(&table, talker))?;
-    let Talker(talker) = text_or(&table, talker, Talker(*b"GP"))?;
+    let own = own_group(&table, GROUP, rows, &[], stands_at(&table, TALKER))?;
+    let Talker(talker) = text_or(&table, TALKER, Talker(*b"GP"))?;
     match own {
         None => Ok(None),
         Some(group) => Ok(Some(RmcConfig { group, talker })),
@@ -49,9 +54,8 @@ pub(crate) fn ais_keys(
     ensures valid { IfOk result (λ ais. ForSome ais (IsAisBeside rows.now taken)) }
 {
     let table = section(document, "ais", b"ais.")?;
-    let [group, slots] = AIS_KEYS;
-    let own = own_group(&table, group, rows, &[taken], stands_at(&table, slots))?;
-    let slots = number_or(&table, slots, 1, 256, 16)? as u16;
+    let own = own_group(&table, GROUP, rows, &[taken], stands_at(&table, SLOTS))?;
+    let slots = number_or(&table, SLOTS, 1, 256, 16)? as u16;
     match own {
         None => Ok(None),
         Some(group) => Ok(Some(AisConfig { group, slots })),

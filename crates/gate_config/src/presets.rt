@@ -14,7 +14,11 @@ use claim_table::Preset;
 use config_document::{ConfigFault, Flaw, Section};
 use n2k_id::Name;
 
-pub(crate) const KEYS: [&str; 2] = ["address", "name"];
+const ADDRESS: &str = "address";
+
+const NAME: &str = "name";
+
+pub(crate) const KEYS: [&str; 2] = [ADDRESS, NAME];
 
 /// How many presets there may be.
 const MOST_PRESETS: usize = 253;
@@ -48,14 +52,13 @@ fn preset(section: &Section, own: &Preset, earlier: &[Preset]) -> Result<Preset,
     ensures said { result ≡ preset.read (own.now, earlier.now) (place_of section.now) }
     ensures valid { IfOk result (IsPresetBeside own.now earlier.now) }
 {
-    let [address, name] = KEYS;
-    let place = needed_number(section, address, 0, 253)? as u8;
+    let place = needed_number(section, ADDRESS, 0, 253)? as u8;
     if address_stands(own, earlier, place) {
-        return Err(section.fault(address, Flaw::Twice));
+        return Err(section.fault(ADDRESS, Flaw::Twice));
     }
-    let said = needed_text(section, name)?;
+    let said = needed_text(section, NAME)?;
     if name_stands(own, earlier, said) {
-        return Err(section.fault(name, Flaw::Twice));
+        return Err(section.fault(NAME, Flaw::Twice));
     }
     Ok(Preset {
         address: place,

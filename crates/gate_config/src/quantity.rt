@@ -10,10 +10,18 @@ use crate::keys::{number_or, text_or, truth_or};
 use config_document::{ConfigFault, Section, Talker};
 use settings::QuantityConfig;
 
-pub(crate) const KEYS: [&str; 4] = ["sources", "others", "timeout_ms", "talker"];
+pub(crate) const SOURCES: &str = "sources";
+
+pub(crate) const OTHERS: &str = "others";
+
+pub(crate) const TIMEOUT_MS: &str = "timeout_ms";
+
+pub(crate) const TALKER: &str = "talker";
+
+pub(crate) const KEYS: [&str; 4] = [SOURCES, OTHERS, TIMEOUT_MS, TALKER];
 
 /// Whom a quantity is taken from and who says it: this talker, where no other is configured.
-#[tactic(auto, using(crate::proofs::Values::talker), unfolding(crate::specs::Keys::quantity))]
+#[tactic(auto, unfolding(crate::specs::Keys::quantity))]
 pub(crate) fn quantity_keys(
     section: &Section,
     talker: [u8; 2],
@@ -22,11 +30,10 @@ pub(crate) fn quantity_keys(
     ensures said { result ≡ quantity.read talker (place_of section.now) }
     ensures valid { IfOk result IsQuantity }
 {
-    let [sources, others, timeout_ms, said_by] = KEYS;
-    let sources = devices(section, sources)?;
-    let others = truth_or(section, others, true)?;
-    let timeout_ms = number_or(section, timeout_ms, 100, 60_000, 5_000)?;
-    let Talker(talker) = text_or(section, said_by, Talker(talker))?;
+    let sources = devices(section, SOURCES)?;
+    let others = truth_or(section, OTHERS, true)?;
+    let timeout_ms = number_or(section, TIMEOUT_MS, 100, 60_000, 5_000)?;
+    let Talker(talker) = text_or(section, TALKER, Talker(talker))?;
     Ok(QuantityConfig {
         sources,
         others,

@@ -15,7 +15,11 @@ use config_document::{ConfigFault, Flaw, Section};
 use network_routes::{MOST_ROUTES, Route};
 use sentence_text::Group;
 
-pub(crate) const KEYS: [&str; 2] = ["group", "address"];
+const GROUP: &str = "group";
+
+const ADDRESS: &str = "address";
+
+pub(crate) const KEYS: [&str; 2] = [GROUP, ADDRESS];
 
 #[tactic(auto, using(crate::proofs::Beside::no_routes, crate::proofs::Beside::one_more_route), unfolding(crate::specs::Keys::route))]
 pub(crate) fn route_keys(document: &Section) -> Result<ArrayVec<Route, MOST_ROUTES>, ConfigFault>
@@ -42,12 +46,11 @@ fn route(section: &Section, earlier: &[Route]) -> Result<Route, ConfigFault>
     ensures said { result ≡ route.read (tt, earlier.now) (place_of section.now) }
     ensures valid { IfOk result (IsRouteBeside earlier.now) }
 {
-    let [group, address] = KEYS;
-    let said = needed_text(section, group)?;
+    let said = needed_text(section, GROUP)?;
     if have_group(earlier, said) {
-        return Err(section.fault(group, Flaw::Twice));
+        return Err(section.fault(GROUP, Flaw::Twice));
     }
-    let Endpoint(address) = needed_text(section, address)?;
+    let Endpoint(address) = needed_text(section, ADDRESS)?;
     Ok(Route {
         group: said,
         address,

@@ -8,7 +8,7 @@ ghost use Rattle.gate_config.specs.Reading.{each_from};
 
 use crate::items::key_prefix;
 use crate::keys::{section, text_or};
-use crate::quantity::quantity_keys;
+use crate::quantity::{OTHERS, SOURCES, TALKER, TIMEOUT_MS, quantity_keys};
 use arrayvec::ArrayVec;
 use config_document::{ConfigFault, Section};
 use config_values::RowConfig;
@@ -16,7 +16,9 @@ use readings::{ROWS, Row, all_rows};
 use sentence_text::Group;
 use settings::QuantityConfig;
 
-pub(crate) const KEYS: [&str; 5] = ["sources", "others", "timeout_ms", "talker", "group"];
+const GROUP: &str = "group";
+
+pub(crate) const KEYS: [&str; 5] = [SOURCES, OTHERS, TIMEOUT_MS, TALKER, GROUP];
 
 /// What each row is taken from and how it is said, in the order of the rows.
 #[tactic(auto, using(crate::proofs::Tables::row_name), unfolding(crate::specs::Keys::rows_in))]
@@ -73,8 +75,7 @@ fn keys_of_row(section: &Section, talker: [u8; 2], group: Group) -> Result<RowCo
     ensures valid { IfOk result IsRow }
 {
     let taken = quantity_keys(section, talker)?;
-    let [_, _, _, _, sent_to] = KEYS;
-    let group = text_or(section, sent_to, group)?;
+    let group = text_or(section, GROUP, group)?;
     let QuantityConfig {
         sources,
         others,

@@ -17,6 +17,12 @@ use readings::{ROWS, Row, all_rows};
 use std::alloc::{AllocError, Global};
 use toml::Value;
 
+/// The tables of a configuration.
+const TABLES: [&str; 13] = [
+    "gateway", "preset", "row", "net", "bus", "route", "identity", "rmc", "ais", "further",
+    "report", "plain", "serve",
+];
+
 /// The path of the key that isn't known, and that comes first of all such in the order of bytes.
 pub(crate) fn first_unknown(
     alloc: Global,
@@ -24,11 +30,7 @@ pub(crate) fn first_unknown(
 ) -> Result<Option<Vec<u8>>, AllocError>
     ensures { IfOk result (λ path. path_seen path ≡ first_unknown (place_of document.now)) }
 {
-    let tables = [
-        "gateway", "preset", "row", "net", "bus", "route", "identity", "rmc", "ais", "further",
-        "report", "plain", "serve",
-    ];
-    let least = least_unknown(alloc, document, &tables, None)?;
+    let least = least_unknown(alloc, document, &TABLES, None)?;
     let least = in_gateway(alloc, document, least)?;
     let least = in_links(alloc, document, least)?;
     let least = in_parts(alloc, document, least)?;

@@ -8,9 +8,9 @@ returns-clause-said c = rw (c.in_ok-table.ensures, ← c.in_ok-code.ensures.said
 
 pub returns-clause-valid : goal.returns-clause-valid
 returns-clause-valid c = record {
-  model = product_text _ c.in_ok-model.ensures.model;
-  software = product_text _ c.in_ok-model.ensures.software;
-  version = product_text _ c.in_ok-model.ensures.version;
-  serial = product_text _ c.in_ok-model.ensures.serial;
+  model = product_text _ c.in_ok-model.ensures.valid.0;
+  software = product_text _ c.in_ok-model.ensures.valid.1;
+  version = product_text _ c.in_ok-model.ensures.valid.2;
+  serial = product_text _ c.in_ok-model.ensures.valid.3;
   load = c.in_ok-load.ensures.valid.1;
 }
