@@ -11,7 +11,7 @@ use Rattle.gate_model.specs.Machine.{Machine}
 use Rattle.gate_outbox.specs.Output.{Emitted, Output, and_told, emits_of, no_emits}
 use Rattle.bridge.specs.SourceOut.{told}
 use Rattle.bridge.specs.WatchStands.{IsWatchStep}
-use Rattle.bridge.proofs.WatchSteps.{commands_keep_names}
+use Rattle.bridge.proofs.WatchSteps.{commands_keep_watched_names}
 use Rattle.bridge.specs.Beside.{IsChanging, SourcesStand}
 
 -- what is told where nothing was
@@ -41,4 +41,4 @@ pub commanded_names : (sources : Bool) (c : Settings) (s : ℕ) (h : History) (m
 commanded_names false c s h m source address None stands = stands
 commanded_names false c s h m source address (Some names) stands = stands
 commanded_names true c s h m source address None stands = stands
-commanded_names true c s h m source address (Some names) stands = commands_keep_names c s h m source address names stands
+commanded_names true c s h m source address (Some names) stands = commands_keep_watched_names c s h m source address names stands

@@ -19,7 +19,7 @@ use Rattle.gate_core.specs.Picked.{IsPicked, message_of}
 use Rattle.gate_core.specs.Selected.{Selected, last_of, newer, selected_at}
 use Rattle.bridge.specs.WatchKept.{change_by, is_by, name_at, names_after, no_names}
 use Rattle.bridge.specs.SourceOut.{changed, is_same}
-use Rattle.bridge.specs.WatchStands.{CommandsKeepNames, IsWatchStep, WatchStands, name_of}
+use Rattle.bridge.specs.WatchStands.{CommandsKeepWatchedNames, IsWatchStep, WatchStands, name_of}
 
 within : (row : Row) → row_number row < rows_count
 within row = grind arith
@@ -83,5 +83,5 @@ watches g left new before after told picked after_is told_is c s h e taken stand
       told_is = told_is ∙ ap (λ k. change_by k before) new_is ∙ told_after c s h before stands x;
     }
 
-pub commands_keep_names : CommandsKeepNames
-commands_keep_names c s h m source address names stands = record { long = stands.long; each = stands.each }
+pub commands_keep_watched_names : CommandsKeepWatchedNames
+commands_keep_watched_names c s h m source address names stands = record { long = stands.long; each = stands.each }

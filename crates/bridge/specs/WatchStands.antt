@@ -32,7 +32,7 @@ IsWatchStep gateway left before after told =
     (c : Settings) (s : ℕ) (h : History) (e : Entry) → IsTaken c s h e gateway left → WatchStands c s h before → IsWatched c s h e after told
 
 -- a command to go to an address is no message
-abbrev pub CommandsKeepNames : Type 0
-CommandsKeepNames =
+abbrev pub CommandsKeepWatchedNames : Type 0
+CommandsKeepWatchedNames =
     (c : Settings) (s : ℕ) (h : History) (m source address : ℕ) (names : List (Option Name))
     → WatchStands c s h names → WatchStands c s (command m source address ∷ h) names

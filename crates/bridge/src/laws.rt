@@ -2,7 +2,7 @@
 ghost use Rattle.bridge.specs.Gate.{NothingFurther};
 ghost use Rattle.bridge.specs.LengthLaws.{LongLines};
 ghost use Rattle.bridge.specs.Replayed.{EventsAreReplayed, LinesAreReplayed};
-ghost use Rattle.bridge.specs.WatchStands.{CommandsKeepNames};
+ghost use Rattle.bridge.specs.WatchStands.{CommandsKeepWatchedNames};
 
 /// What a new bridge gives of the lines of a capture, line by line, is the text of the definition over all of them.
 pub fn lines_are_replayed()
@@ -29,6 +29,6 @@ pub fn what_is_too_long_is_told()
 
 /// The devices that rows are taken from, which stand for a history, stand for it with a command to go to an address as well: no row is taken
 /// from it.
-pub fn commands_keep_names()
-    ensures { CommandsKeepNames }
+pub fn commands_keep_watched_names()
+    ensures { CommandsKeepWatchedNames }
 {}

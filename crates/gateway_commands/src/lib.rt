@@ -1,5 +1,5 @@
 //! The commands that run a gateway, and the top call: [`run`] takes the words of the command line and the outside as traits, and its contract
-//! says what each status means for the bytes that were read and written.
+//! says what each status means for the bytes that were read and written. [`run_with`] makes it over the words that a process was started with.
 #![tactic(auto)]
 
 mod demo_command;
