@@ -1,11 +1,11 @@
 -- What follows the interface of a bus: what is read is spelled so, and what is spelled so is read.
-use Rattle.std.proofs.Common.{◌≡◌, ℕ, suc, ◌%◌, ◌<◌, ◌≤◌, ◌^◌, Bool, true, false, cond, ltb, List, [], ◌∷◌, ◌++◌, length, get_or, take, drop, Option, Some, None, Result, Ok, Err, refl, sym, ap, subst, ◌∙◌, arith, inl, inr}
+use Rattle.std.proofs.Common.{◌≡◌, ℕ, suc, ◌+◌, ◌-◌, ◌%◌, ◌<◌, ◌≤◌, ◌^◌, Bool, true, false, cond, ltb, List, [], ◌∷◌, ◌++◌, length, get_or, take, drop, Option, Some, None, Result, Ok, Err, refl, sym, ap, subst, ◌∙◌, arith, inl, inr}
 use Rattle.std.specs.Prelude.{◌==◌, ◌||◌, ◌⊎◌, is_some}
 use Rattle.std.specs.Char.{is_ascii_hexdigit}
 use Rattle.std.specs.Int.{w32, from_be_bytes}
 use Rattle.std.specs.List.{list_all}
 use Rattle.std.proofs.lemmas.Bool.{cases_Bool, eqb-true, lt-ltb, le-ltb}
-use Rattle.std.proofs.lemmas.List.{length-take, get_or_append_left}
+use Rattle.std.proofs.lemmas.List.{length-drop, length-take, get_or_append_left, take_all}
 use Rattle.std.proofs.lemmas.List.Elements.{All-get_or}
 use Rattle.std.proofs.lemmas.List.Sums.{AllPass-from_list_all}
 use Rattle.hex.specs.Hex.{is_hex_digit}
@@ -114,6 +114,36 @@ wide_again tail identifier behind id h n =
     let rest : drop 9 text ≡ behind = cut.behind_is in
     let number : number_of identifier ≡ Some id = number_again identifier id n in
     ap frame_at h.spelled ∙ rw (longer, byte, front, rest, number) refl
+
+-- ---- what is read by the place of the `#`
+
+-- it stands at this place, with these bytes before and behind it
+abbrev pub IsSplit : List ℕ → ℕ → List ℕ → List ℕ → Type 0
+IsSplit text place front rest = ((get_or text place 0 == 35) ≡ true) × (front ≡ take place text) × (rest ≡ drop (place + 1) text)
+
+behind_one : (tail digits : List ℕ) → digits ≡ take (length tail - 1) (drop 1 tail) → digits ≡ drop 1 tail
+behind_one tail digits is = is ∙ take_all (length tail - 1) (drop 1 tail) (omega (arith, length-drop 1 tail))
+
+pub short_told : (tail digits identifier behind : List ℕ) (answer : Answer) → get_or tail 0 0 ≡ 32 → digits ≡ take (length tail - 1) (drop 1 tail)
+    → IsSplit digits 3 identifier behind → answer ≡ short_frame (list_all is_ascii_hexdigit identifier) behind → answer ≡ frame_at tail
+unfolding frame_at
+short_told tail digits identifier behind answer space is split answered =
+    let there = subst (λ (t : List ℕ). IsSplit t 3 identifier behind) (behind_one tail digits is) split in
+    let hash = there.0 in
+    let shape : frame_at tail ≡ short_frame (list_all is_ascii_hexdigit (take 3 (drop 1 tail))) (drop 4 (drop 1 tail)) = rw (space, hash) refl in
+    answered ∙ ap (λ (x : List ℕ). short_frame (list_all is_ascii_hexdigit x) behind) there.1
+    ∙ ap (λ (x : List ℕ). short_frame (list_all is_ascii_hexdigit (take 3 (drop 1 tail))) x) there.2 ∙ sym shape
+
+pub wide_told : (tail digits identifier behind : List ℕ) (answer : Answer) → get_or tail 0 0 ≡ 32 → digits ≡ take (length tail - 1) (drop 1 tail)
+    → (get_or digits 3 0 == 35) ≡ false → IsSplit digits 8 identifier behind → answer ≡ wide_frame (number_of identifier) behind → answer ≡ frame_at tail
+unfolding frame_at
+wide_told tail digits identifier behind answer space is longer split answered =
+    let whole = behind_one tail digits is in
+    let long = subst (λ (t : List ℕ). (get_or t 3 0 == 35) ≡ false) whole longer in
+    let there = subst (λ (t : List ℕ). IsSplit t 8 identifier behind) whole split in
+    let hash = there.0 in
+    let shape : frame_at tail ≡ wide_frame (number_of (take 8 (drop 1 tail))) (drop 9 (drop 1 tail)) = rw (space, long, hash) refl in
+    answered ∙ ap (λ (x : List ℕ). wide_frame (number_of x) behind) there.1 ∙ ap (λ (x : List ℕ). wide_frame (number_of (take 8 (drop 1 tail))) x) there.2 ∙ sym shape
 
 -- eight digits write a number
 number_there : (identifier : List ℕ) → list_all is_ascii_hexdigit identifier ≡ true → length identifier ≡ 8 → (id : ℕ) × IsNumber id identifier
