@@ -97,7 +97,6 @@ fn say(reading: &Reading, talker: [u8; 2], ths: bool, out: &mut Lines)
 
 /// Says the reading in one or two sentences of the talker, which `out`, empty before, then holds. A true heading
 /// is said in THS besides HDT where `ths`.
-#[tactic(auto, using(crate::proofs::Unique::is_text, crate::proofs::StableRows::stable_lines))]
 pub fn sentences(reading: &Reading, talker: [u8; 2], ths: bool, out: &mut Lines)
     requires empty { out.old.items ≡ [] }
     requires valid { IsValid reading.now }
