@@ -97,7 +97,12 @@ pub(crate) fn replay_settings<S: Source, K: Sink>(
     ensures memory { number result ≡ 7 → (input.new ≡ input.old) × (out.new ≡ out.old) }
 {
     match Bridge::with(alloc, settings, further) {
-        Ok(mut bridge) => answer(&mut bridge, input, out),
+        Ok(mut bridge) => {
+            let status = answer(&mut bridge, input, out);
+            // by one call, and not part by part where the arm ends
+            drop(bridge);
+            status
+        }
         Err(_) => Status::NoMemory,
     }
 }

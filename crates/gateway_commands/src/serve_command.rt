@@ -67,13 +67,18 @@ fn serve_with<K: Sink, B: Link, E: Link, C: Clock>(
     ensures unattached { number result ≡ 9 → (out.new ≡ out.old) × (clock.new ≡ clock.old) }
 {
     match Bridge::with(alloc, settings, further) {
-        Ok(mut bridge) => serve_between(settings, &mut bridge, turns, out, bus, net, clock),
+        Ok(mut bridge) => {
+            let status = serve_between(settings, &mut bridge, turns, out, bus, net, clock);
+            // by one call, and not part by part where the arm ends
+            drop(bridge);
+            status
+        }
         Err(_) => Status::NoMemory,
     }
 }
 
-/// Attaches both links by the settings, and lets a new bridge of them take its turns. It is apart from where the bridge is made, since whoever
-/// holds a bridge drops it on each way out, and each costs the prover.
+/// Attaches both links by the settings, and lets a new bridge of them take its turns. It is apart from where the bridge is made, so that whoever
+/// holds one has a single way out.
 fn serve_between<K: Sink, B: Link, E: Link, C: Clock>(
     settings: &Settings,
     bridge: &mut Bridge,

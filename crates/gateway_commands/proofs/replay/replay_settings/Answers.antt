@@ -4,7 +4,7 @@ use Rattle.gateway_commands.proofs.replay.replay_settings.Goals as goal
 
 pub returns-in-Ok-clause-runs : goal.returns-in-Ok-clause-runs
 returns-in-Ok-clause-runs g c =
-    let a = c.answer.ensures in
+    let a = c.answer-status.ensures in
     record {
       known = inr a.status;
       ends = a.ends (parts_of c.args.settings.now c.args.further.now) c.in-Ok.ensures;
