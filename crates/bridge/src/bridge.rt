@@ -85,6 +85,7 @@ impl Bridge {
         requires further { IsFurther settings.now further.now }
         ensures { IfOk result (IsNew (parts_of settings.now further.now)) }
     {
+        let left = Left::boxed(alloc)?;
         let watching = watching_of(alloc, &settings.ais, &settings.config)?;
         let measuring = measuring_of(
             alloc,
@@ -92,7 +93,6 @@ impl Bridge {
             &further.ignore,
             &settings.config,
         )?;
-        let left = Left::boxed(alloc)?;
         // The largest part, last: what is kept while others are made lies on the stack once more.
         let gateway = Gateway::ignoring(alloc, &settings.config, &further.ignore)?;
         let sources = sources_of(further.sources);
