@@ -1,14 +1,17 @@
 -- What is answered is what the definition over all that ever came says.
 use Rattle.std.proofs.Common.{◌≡◌, ℕ, ◌+◌, ◌*◌, ◌≤◌, Bool, true, false, List, [], ◌∷◌, length, refl, sym, ap, subst, ◌∙◌, arith}
-use Rattle.std.specs.Prelude.{◌%◌, ◌&&◌, ◌==◌, Option, if◌then◌else◌}
+use Rattle.std.specs.Prelude.{◌%◌, ◌&&◌, ◌==◌, map, Option, Some, IfSome, if◌then◌else◌}
 use Rattle.std.proofs.lemmas.Bool.{eqb-true}
-use Rattle.std.proofs.lemmas.List.{append-nil}
+use Rattle.std.proofs.lemmas.List.{append-nil, length-map}
 use Rattle.n2k_id.specs.declared.frame.Frame.{Frame}
 use Rattle.n2k_id.specs.Frame.{BusFrame, bus_frame}
 use Rattle.gate_events.specs.declared.event.Event.{Event}
 use Rattle.gate_events.specs.declared.event.Event.TheVariants as event
 use Rattle.claim_table.specs.Claims.{is_ready}
-use Rattle.gate_events.specs.Emit.{Emit}
+use Rattle.gate_events.specs.Emit.{Emit, can, report}
+use Rattle.gate_events.specs.declared.emit.Report.{Report}
+use Rattle.report_rules.specs.Rules as rules
+use Rattle.history.specs.Emits.{of_source}
 use Rattle.history.specs.Entries as entry
 use Rattle.history.specs.Entries.{Entry, History}
 use Rattle.history.specs.Settings.{receiver_of, Settings}
@@ -17,7 +20,12 @@ use Rattle.gate_model.proofs.AddressTells.{standing_tells_alike}
 use Rattle.gate_outbox.specs.Output.{Emitted, Output, and_told, emits_of, no_emits, told_with}
 use Rattle.gate_outbox.proofs.Telling.{told_fits}
 use Rattle.gate_core.specs.Steps.{entry_of}
-use Rattle.bus_identity.specs.Answers.{Kept, kept_after}
+use Rattle.n2k_id.specs.declared.identifier_parts.Parts.{Parts}
+use Rattle.n2k_id.specs.Identifier.{parts_of}
+use Rattle.n2k_id.specs.Pgns as pgns
+use Rattle.bus_identity.specs.declared.identity.Answered.{Answered}
+use Rattle.bus_identity.specs.declared.identity.Answered.TheVariants.{Nothing, Sent, NotReady}
+use Rattle.bus_identity.specs.Answers.{Kept, answer_frames, answered, answered_by, frames_from, kept_after}
 use Rattle.bus_identity.specs.PgnLists.{product_information, pgn_lists}
 use Rattle.n2k_id.specs.Pgns.{asked_of}
 use Rattle.bus_identity.specs.Requests.{is_due}
@@ -103,3 +111,58 @@ event_answered room e m f g before after empty given is nothing kept told few le
     (λ information c s h step stands.
     frame_answered information c s h g left before after given m (bus_frame f) step stands kept
     (ap emits_of (told ∙ ap (λ x. and_told room x es) nothing) ∙ all_told room es few))
+
+-- ---- a frame that the gateway has taken
+
+-- what is told of a frame, by what became of it
+abbrev pub told_by : Answered → List Emit → List Emit → List Emit
+told_by Nothing frames refusal = []
+told_by Sent frames refusal = frames
+told_by NotReady frames refusal = refusal
+
+answer_told : (due ready : Bool) (frames : List BusFrame) (refusal : List Emit)
+    → (if due then (if ready then map can frames else refusal) else [])
+    ≡ told_by (answered_by due ready) (map can (if due && ready then frames else [])) refusal
+answer_told false ready frames refusal = refl
+answer_told true true frames refusal = refl
+answer_told true false frames refusal = refl
+
+-- the report of a request that came before the gateway was ready
+abbrev pub unready : BusFrame → List Emit
+unready f = of_source rules.not_ready (parts_of f.id).source pgns.request ∷ []
+
+pub record IsFrameAnswered (room : ℕ) (own : Option ℕ) (ready : Bool) (f : BusFrame) (before after : Kept) (empty given : Emitted) : Type 0 where
+  pub kept : after ≡ kept_after before own ready f
+  pub told : given ≡ and_told room empty (answer_by before own ready f)
+  pub few : length (answer_by before own ready f) ≤ room
+
+-- it is answered as who the gateway is says, for the address and the readiness that the gateway has
+pub frame_told : (room : ℕ) (own own' : Option ℕ) (ready ready' : Bool) (f : BusFrame) (before after : Kept) (empty given : Emitted)
+    (frames : List BusFrame) (answer : Answered) → own ≡ own' → ready ≡ ready' → answer ≡ answered own ready f
+    → frames ≡ answer_frames before own ready f → after ≡ kept_after before own ready f
+    → given ≡ and_told room empty (told_by answer (map can frames) (unready f))
+    → length (told_by answer (map can frames) (unready f)) ≤ room → IsFrameAnswered room own' ready' f before after empty given
+frame_told room own own' ready ready' f before after empty given frames answer own_is ready_is is sent kept told few =
+    let whole : told_by answer (map can frames) (unready f) ≡ answer_by before own ready f =
+    ap (λ (a : Answered). told_by a (map can frames) (unready f)) is
+    ∙ ap (λ (x : List BusFrame). told_by (answered own ready f) (map can x) (unready f)) sent
+    ∙ sym (answer_told (is_due own f) ready (frames_from before own f) (unready f)) in
+    subst (λ (r : Bool). IsFrameAnswered room own' r f before after empty given) ready_is
+    (subst (λ (o : Option ℕ). IsFrameAnswered room o ready f before after empty given) own_is
+    (record {
+      kept = kept;
+      told = told ∙ ap (λ (es : List Emit). and_told room empty es) whole;
+      few = subst (λ (es : List Emit). length es ≤ room) whole few;
+    }))
+
+-- the report is told with the parts of the frame's identifier
+pub unready_told : (id : ℕ) (held : List ℕ) (o : Option Parts) (p : Parts) (r : Report) → o ≡ Some p → IfSome o (λ q. q ≡ parts_of id)
+    → report r ≡ of_source rules.not_ready p.source pgns.request → report r ∷ [] ≡ unready (record { id = id; held = held })
+unready_told id held o p r is of told =
+    let parts : p ≡ parts_of id = subst (λ (x : Option Parts). IfSome x (λ q. q ≡ parts_of id)) is of in
+    ap (λ (e : Emit). e ∷ []) (told ∙ ap (λ (q : Parts). of_source rules.not_ready q.source pgns.request) parts)
+
+-- as many are sent as there are frames
+pub frames_fit : (room : ℕ) (seen frames : List Frame) → seen ≡ frames → length seen ≤ room → length (map can (map bus_frame frames)) ≤ room
+frames_fit room seen frames same few =
+    subst (λ (n : ℕ). n ≤ room) (ap length same ∙ sym (length-map (map bus_frame frames) (λ x. can x) ∙ length-map frames bus_frame)) few

@@ -154,32 +154,18 @@ impl Bridge {
         requires quiet { self.old.left ≡ left_by self.old.left.outbox }
         ensures { IsBesideStep (entry_of event.now) self.old self.new }
     {
+        let gateway = &self.gateway;
         let left = self.left.as_mut();
-        self.answering
-            .answer(&self.gateway, event, &mut left.answer);
-        join(
-            &mut self.joining,
-            &self.gateway,
-            &left.outbox,
-            &mut left.joined,
-        );
-        watch(&mut self.watching, &self.gateway, event, &mut left.ships);
+        let outbox = &left.outbox;
+        self.answering.answer(gateway, event, &mut left.answer);
+        join(&mut self.joining, gateway, outbox, &mut left.joined);
+        watch(&mut self.watching, gateway, event, &mut left.ships);
         if self.asks {
-            measure(
-                &mut self.measuring,
-                &self.gateway,
-                event,
-                &mut left.quantities,
-            );
-            watch_sources(
-                &mut self.sources,
-                &self.gateway,
-                &left.outbox,
-                &mut left.changes,
-            );
+            measure(&mut self.measuring, gateway, event, &mut left.quantities);
+            watch_sources(&mut self.sources, gateway, outbox, &mut left.changes);
             left.plain.say(
                 &self.plain,
-                &left.outbox,
+                outbox,
                 &left.joined,
                 &left.ships,
                 &left.quantities,

@@ -3,13 +3,24 @@ use Rattle.std.proofs.Common.{◌≡◌, ◌≢◌, ℕ, ◌⊎◌, List, inr, a
 use Rattle.std.specs.Prelude.{Option, Ok}
 use Rattle.settings.specs.declared.further.Further.{Further}
 use Rattle.settings.specs.declared.settings.Settings.{Settings}
-use Rattle.statuses.specs.Statuses.{IsReplayStatus}
+use Rattle.statuses.specs.Statuses.{IsEarly, IsReplayStatus, IsStreamStatus}
 use Rattle.config_check.specs.Configuring.{FileSays}
 use Rattle.config_check.proofs.ConfigLemmas.{IsDone, configures}
 use Rattle.gateway_commands.specs.ReplayCommand.{ReplaysBy, RunsBy}
 
 is_done : (status : ℕ) → IsReplayStatus status → IsDone status
 is_done status known = (λ is. grind (arith, known, is), λ is. grind (arith, known, is))
+
+-- of the statuses before the first event a gateway that runs has the one for want of memory, and none of a configuration that is refused
+pub only_memory : (status : ℕ) → IsReplayStatus status → IsEarly status → status ≡ 7
+only_memory status known early = grind (arith, known, early)
+
+pub no_refusal : (status : ℕ) → IsReplayStatus status → status ≡ 3 → ⊥
+no_refusal status known is = grind (arith, known, is)
+
+-- for a capture that was answered there was memory
+pub memory_held : (status : ℕ) → IsStreamStatus status → status ≡ 7 → ⊥
+memory_held status known is = grind (arith, known, is)
 
 is_complete : (status : ℕ) → IsReplayStatus status → (status ≢ 7 → status ≡ 0) → (status ≡ 0) ⊎ (status ≡ 7)
 is_complete status known complete = search (arith, known, complete)

@@ -6,7 +6,7 @@ use Rattle.settings.specs.declared.settings.Settings.{Settings}
 use Rattle.serving.specs.Served.{Outside}
 use Rattle.config_check.specs.Configuring.{FileSays}
 use Rattle.gateway_commands.specs.ServeCommand.{IsServeStatus, IsTurnsStatus, ServesBy, ServesWith}
-use Rattle.statuses.specs.Statuses.{SteadyBy}
+use Rattle.statuses.specs.Statuses.{IsEarly, SteadyBy}
 use Rattle.config_check.proofs.ConfigLemmas.{IsDone, configures}
 use Rattle.statuses.proofs.StatusLemmas.{steady_unread}
 
@@ -15,6 +15,13 @@ Known status = (status ≡ 7) ⊎ ((status ≡ 9) ⊎ IsTurnsStatus status)
 
 is_done : (status : ℕ) → Known status → IsDone status
 is_done status known = (λ is. grind (arith, known, is), λ is. grind (arith, known, is))
+
+-- of the statuses before the first event a gateway of settings has the one for want of memory, and none of a configuration that is refused
+pub only_memory : (status : ℕ) → Known status → IsEarly status → status ≡ 7
+only_memory status known early = grind (arith, known, early)
+
+pub no_refusal : (status : ℕ) → Known status → status ≡ 3 → ⊥
+no_refusal status known is = grind (arith, known, is)
 
 is_complete : (status : ℕ) → Known status → (status ≢ 7 → status ≡ 0) → (status ≡ 0) ⊎ (status ≡ 7)
 is_complete status known complete = search (arith, known, complete)

@@ -79,19 +79,10 @@ pub fn read(pgn: u32, payload: &[u8]) -> Profiled
 
 /// As `read`, with a copy in its caller, where the reading need not go by way of memory: for one that reads of nearly each frame.
 #[inline(always)]
-#[tactic(auto, using(crate::proofs::Law::what_is_profiled_is_valid))]
+#[tactic(auto, unfolding(crate::specs::Layout::messages))]
 pub fn read_in_place(pgn: u32, payload: &[u8]) -> Profiled
     ensures value { result ≡ profiled pgn payload.now }
     ensures valid { GivesValid result }
-{
-    read_by_number(pgn, payload)
-}
-
-/// Reads the payload as the reader of its parameter group does.
-#[inline(always)]
-#[tactic(auto, unfolding(crate::specs::Layout::messages))]
-fn read_by_number(pgn: u32, payload: &[u8]) -> Profiled
-    ensures { result ≡ profiled pgn payload.now }
 {
     match pgn {
         VESSEL_HEADING => heading::read_heading(payload),

@@ -1,5 +1,7 @@
 use Rattle.std.proofs.Common.{inr}
 use Rattle.serving.specs.Parts.{parts_of}
+use Rattle.statuses.specs.Statuses.{number}
+use Rattle.gateway_commands.proofs.ReplayCommandLemmas.{memory_held}
 use Rattle.gateway_commands.proofs.replay.replay_settings.Goals as goal
 
 pub returns-in-Ok-clause-runs : goal.returns-in-Ok-clause-runs
@@ -13,3 +15,6 @@ returns-in-Ok-clause-runs g c =
       steady = a.steady;
       complete = λ no. a.complete (parts_of c.args.settings.now c.args.further.now) c.in-Ok.ensures;
     }
+
+pub returns-in-Ok-clause-memory : goal.returns-in-Ok-clause-memory
+returns-in-Ok-clause-memory g c = λ is. absurd (memory_held (number c.answer-status.result) c.answer-status.ensures.status is)

@@ -1,5 +1,5 @@
 use Rattle.statuses.specs.Statuses.{number}
-use Rattle.gateway_commands.proofs.ReplayCommandLemmas.{replayed}
+use Rattle.gateway_commands.proofs.ReplayCommandLemmas.{no_refusal, only_memory, replayed}
 use Rattle.gateway_commands.proofs.replay_command.replay.Goals as goal
 
 pub returns-in-Ok-clause-replays : goal.returns-in-Ok-clause-replays
@@ -8,3 +8,10 @@ returns-in-Ok-clause-replays g c =
     (g.S.Source.left c.args.input.now) (g.S.Source.left c.replay_settings.new.input) (g.S.Source.fault_count c.args.input.now) (g.S.Source.fault_count c.replay_settings.new.input)
     (g.K.Sink.taken c.args.out.now) (g.K.Sink.taken c.replay_settings.new.out) (g.K.Sink.fault_count c.args.out.now) (g.K.Sink.fault_count c.replay_settings.new.out) (number c.replay_settings.result)
     c.in-Ok.settings c.in-Ok.further c.in-Ok.ensures.2 c.replay_settings.ensures.runs
+
+pub returns-in-Ok-clause-refused : goal.returns-in-Ok-clause-refused
+returns-in-Ok-clause-refused g c = λ is. absurd (no_refusal (number c.replay_settings.result) c.replay_settings.ensures.runs.known is)
+
+pub returns-in-Ok-clause-quiet : goal.returns-in-Ok-clause-quiet
+returns-in-Ok-clause-quiet g c = λ early.
+    c.replay_settings.ensures.memory (only_memory (number c.replay_settings.result) c.replay_settings.ensures.runs.known early)

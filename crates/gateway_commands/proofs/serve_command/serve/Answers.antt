@@ -1,6 +1,6 @@
 use Rattle.serving.specs.Served.{outside}
 use Rattle.statuses.specs.Statuses.{number}
-use Rattle.gateway_commands.proofs.ServeLemmas.{served}
+use Rattle.gateway_commands.proofs.ServeLemmas.{no_refusal, only_memory, served}
 use Rattle.gateway_commands.proofs.serve_command.serve.Goals as goal
 
 pub returns-in-Ok-clause-serves : goal.returns-in-Ok-clause-serves
@@ -11,3 +11,10 @@ returns-in-Ok-clause-serves g c =
     served c.args.turns (g.F.Files.content c.args.files.now c.args.name.now) (g.F.Files.fault_count c.args.files.now) (g.F.Files.fault_count c.load_whole.new.files)
     (g.C.Clock.readings c.args.clock.now) (g.C.Clock.readings c.serve_with.new.clock) (g.B.Link.fault_count c.args.bus.now) (g.B.Link.fault_count c.serve_with.new.bus)
     (g.E.Link.fault_count c.args.net.now) (g.E.Link.fault_count c.serve_with.new.net) old new (number c.serve_with.result) c.in-Ok.settings c.in-Ok.further c.in-Ok.ensures.2 c.serve_with.ensures.serves
+
+pub returns-in-Ok-clause-refused : goal.returns-in-Ok-clause-refused
+returns-in-Ok-clause-refused g c = λ is. absurd (no_refusal (number c.serve_with.result) c.serve_with.ensures.serves.known is)
+
+pub returns-in-Ok-clause-quiet : goal.returns-in-Ok-clause-quiet
+returns-in-Ok-clause-quiet g c = λ early.
+    c.serve_with.ensures.memory (only_memory (number c.serve_with.result) c.serve_with.ensures.serves.known early)

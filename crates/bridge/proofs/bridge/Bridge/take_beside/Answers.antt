@@ -1,4 +1,4 @@
-use Rattle.std.proofs.Common.{refl, sym, subst}
+use Rattle.std.proofs.Common.{◌≡◌, true, false, refl, sym, subst, ◌∙◌}
 use Rattle.gate_core.specs.Steps.{entry_of}
 use Rattle.bridge.specs.declared.left.Left.{Left}
 use Rattle.bridge.specs.BridgeStands.{IsBesideStep}
@@ -6,6 +6,10 @@ use Rattle.bridge.specs.Kept.{Bridged, AreAbsent, IsUsual}
 use Rattle.bridge.proofs.Steps.{bridge_of}
 use Rattle.bridge.proofs.Usual.{unchanged, unmeasured, unsaid}
 use Rattle.bridge.proofs.bridge.Bridge.take_beside.Goals as goal
+
+pub invariant_of-self : goal.invariant_of-self
+invariant_of-self c =
+    (c.self.invariant.0, λ unasked. let never : true ≡ false = sym c.if-self.true ∙ unasked in absurd cc)
 
 pub returns-then-self : goal.returns-then-self
 returns-then-self c =
