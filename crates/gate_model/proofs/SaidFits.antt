@@ -19,7 +19,7 @@ use Rattle.history.specs.Emits.{part_of, lines_from}
 use Rattle.gate_model.specs.Net.{row_numbers}
 use Rattle.gate_model.specs.Said.{SaidKept, Complete, sentences_by, lines_at, message_after, lines_more, groups_more, counted, is_chosen, noted_by, ranked_after, rank_by, profiled_after, reading_by, without_source}
 use Rattle.gate_model.specs.SaidFits.{AreCounts, CountsFit, LinesFit, tag_of, ReadingsFit}
-use Rattle.sentence_rows.proofs.ShortSentences.{said_briefly}
+use Rattle.sentence_profile.proofs.ShortSentences.{said_briefly}
 
 -- ---- the counts
 

@@ -7,8 +7,8 @@ use Rattle.readings.specs.declared.rows.Row.{Row}
 use Rattle.readings.specs.Rows.{row_of, every_row, row_number}
 use Rattle.pgn_profile.specs.Profiled.{payload_of, pgn_of, priority_of}
 use Rattle.fast_packet.specs.FastRuns.{frames_of}
-use Rattle.sentence_rows.specs.declared.fault.FieldFault.{FieldFault}
-use Rattle.sentence_rows.specs.declared.fault.FieldFault.TheVariants.{Outside, Form, Range}
+use Rattle.sentence_profile.specs.declared.fault.FieldFault.{FieldFault}
+use Rattle.sentence_profile.specs.declared.fault.FieldFault.TheVariants.{Outside, Form, Range}
 use Rattle.source_choice.specs.declared.rank.Rank.{Rank}
 use Rattle.source_choice.specs.declared.note.Note.{Note}
 use Rattle.source_choice.specs.Notes.{SubjectNotes, is_selected}

@@ -14,7 +14,7 @@ use Rattle.pgn_profile.specs.Profiled.{profiled}
 use Rattle.source_choice.specs.declared.rank.Rank.{Rank}
 use Rattle.source_choice.specs.Choices as notes
 use Rattle.source_choice.specs.Choices.{Choices, opened, with_told}
-use Rattle.sentence_rows.specs.Writing.{sentences_of}
+use Rattle.sentence_profile.specs.Writing.{sentences_of}
 use Rattle.tag_block.specs.Tag.{most_count}
 use Rattle.tag_block.specs.Writing.{most_written_code}
 use Rattle.datagram450.specs.Datagram.{header}

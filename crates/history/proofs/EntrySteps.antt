@@ -13,7 +13,7 @@ use Rattle.readings.specs.declared.reading.Reading.{Reading}
 use Rattle.readings.specs.Rows.{row_of}
 use Rattle.pgn_profile.specs.declared.kinds.Kind.{Kind}
 use Rattle.iso_transport.specs.declared.key.IsoKey.{IsoKey}
-use Rattle.sentence_rows.specs.declared.fault.FieldFault.{FieldFault}
+use Rattle.sentence_profile.specs.declared.fault.FieldFault.{FieldFault}
 use Rattle.iso_transport.specs.declared.reply.Reply.{Reply}
 use Rattle.fast_packet.specs.declared.key.FastKey.{FastKey}
 use Rattle.gate_events.specs.declared.emit.Report.{Report}

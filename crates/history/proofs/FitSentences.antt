@@ -17,12 +17,12 @@ use Rattle.sentence_text.specs.declared.fault.SentenceFault.{SentenceFault}
 use Rattle.sentence_text.specs.Sentence.{SentenceParts}
 use Rattle.sentence_text.specs.Fields.{fields_of}
 use Rattle.sentence_text.specs.Reading as sentences
-use Rattle.sentence_rows.specs.declared.fault.FieldFault.{FieldFault}
-use Rattle.sentence_rows.specs.declared.fault.FieldFault.TheVariants.{Outside}
-use Rattle.sentence_rows.specs.declared.formatter.Formatter.{Formatter}
-use Rattle.sentence_rows.specs.Columns.{reads}
-use Rattle.sentence_rows.specs.Reading.{formatter_of, Found, alone, rudders, listed, read_as, read_behind}
-use Rattle.sentence_rows.specs.Reading as rows
+use Rattle.sentence_profile.specs.declared.fault.FieldFault.{FieldFault}
+use Rattle.sentence_profile.specs.declared.fault.FieldFault.TheVariants.{Outside}
+use Rattle.sentence_profile.specs.declared.formatter.Formatter.{Formatter}
+use Rattle.sentence_profile.specs.Columns.{reads}
+use Rattle.sentence_profile.specs.Reading.{formatter_of, Found, alone, rudders, listed, read_as, read_behind}
+use Rattle.sentence_profile.specs.Reading as rows
 use Rattle.history.specs.Settings.{Settings}
 use Rattle.history.specs.Emits.{reported}
 use Rattle.history.specs.Heard.{Taken}

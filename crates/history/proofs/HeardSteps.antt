@@ -1,7 +1,7 @@
 -- What a datagram gives, one item after another.
 use Rattle.std.proofs.Common.{◌≡◌, ℕ, List, [], ◌∷◌, ◌++◌, append_assoc, refl, arith}
 use Rattle.std.specs.Prelude.{Option, Result, Ok, Err}
-use Rattle.sentence_rows.specs.declared.fault.FieldFault.{FieldFault}
+use Rattle.sentence_profile.specs.declared.fault.FieldFault.{FieldFault}
 use Rattle.history.specs.Settings.{Settings}
 use Rattle.gate_events.specs.Emit.{Emit}
 use Rattle.history.specs.Heard.{HeardItem, Taken, with_each}

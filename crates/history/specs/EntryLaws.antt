@@ -3,7 +3,7 @@
 use Rattle.std.specs.Prelude.{◌≡◌, ℕ, List, [], ◌∷◌, length}
 use Rattle.readings.specs.declared.reading.Reading.{Reading}
 use Rattle.readings.specs.Rows.{row_of}
-use Rattle.sentence_rows.specs.Writing.{sentences_of}
+use Rattle.sentence_profile.specs.Writing.{sentences_of}
 use Rattle.history.specs.Entries.{Entry, History, frame, datagram, tick, command, IsOffered, IsHistory}
 use Rattle.history.specs.Settings.{Settings, RowRule, rule_of}
 use Rattle.gate_events.specs.Emit.{Emit, can, net, report}

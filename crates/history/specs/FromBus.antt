@@ -12,7 +12,7 @@ use Rattle.claim_table.specs.declared.answer.OwnAnswer.{OwnAnswer}
 use Rattle.claim_table.specs.declared.answer.OwnAnswer.TheVariants.{Silent, Defend, Move, CannotClaim, Duplicate}
 use Rattle.readings.specs.declared.reading.Reading.{Reading}
 use Rattle.readings.specs.Rows.{row_of}
-use Rattle.sentence_rows.specs.Writing.{sentences_of}
+use Rattle.sentence_profile.specs.Writing.{sentences_of}
 use Rattle.fast_packet.specs.FastRuns.{FastPiece}
 use Rattle.iso_transport.specs.declared.reply.Reply.{Reply}
 use Rattle.iso_transport.specs.Audience.{key_of}

@@ -3,7 +3,7 @@ use Rattle.std.specs.Prelude.{ℕ, not, List, [], ◌∷◌, ◌++◌, map, Opti
 use Rattle.readings.specs.Rows.{row_of}
 use Rattle.pgn_profile.specs.Profiled.{payload_of, pgn_of, priority_of}
 use Rattle.fast_packet.specs.FastRuns.{frames_of}
-use Rattle.sentence_rows.specs.declared.fault.FieldFault.{FieldFault}
+use Rattle.sentence_profile.specs.declared.fault.FieldFault.{FieldFault}
 use Rattle.datagram450.specs.declared.fault.DatagramFault.{DatagramFault}
 use Rattle.datagram450.specs.Datagram.{Item, line, bad}
 use Rattle.history.specs.Settings.{Settings}

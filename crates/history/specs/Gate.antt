@@ -4,7 +4,7 @@ use Rattle.std.specs.Prelude.{ℕ, List, [], ◌∷◌, ◌++◌, length, Option
 use Rattle.claim_table.specs.Claims.{is_ready}
 use Rattle.readings.specs.declared.reading.Reading.{Reading}
 use Rattle.readings.specs.Rows.{row_of}
-use Rattle.sentence_rows.specs.Writing.{sentences_of}
+use Rattle.sentence_profile.specs.Writing.{sentences_of}
 use Rattle.datagram450.specs.declared.fault.DatagramFault.{DatagramFault}
 use Rattle.datagram450.specs.Datagram as datagrams
 use Rattle.datagram450.specs.Datagram.{Item}

@@ -2,7 +2,7 @@
 use Rattle.std.specs.Prelude.{◌≡◌, ℕ, Bool, ◌&&◌, List, ◌∷◌, ◌++◌, Option, Result, if◌then◌else◌}
 use Rattle.readings.specs.Rows.{row_of}
 use Rattle.pgn_profile.specs.Profiled.{pgn_of}
-use Rattle.sentence_rows.specs.declared.fault.FieldFault.{FieldFault}
+use Rattle.sentence_profile.specs.declared.fault.FieldFault.{FieldFault}
 use Rattle.history.specs.Settings.{Settings}
 use Rattle.history.specs.Heard.{HeardItem, Taken, with_each}
 use Rattle.history.specs.NetReadings.{NetReading, with_readings, is_net_selected, is_fast_row, fast_sent}

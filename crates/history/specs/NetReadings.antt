@@ -9,9 +9,9 @@ use Rattle.pgn_profile.specs.Profiled.{pgn_of, kind_of}
 use Rattle.sentence_text.specs.declared.fault.SentenceFault.{SentenceFault}
 use Rattle.sentence_text.specs.Sentence.{SentenceParts}
 use Rattle.sentence_text.specs.Reading as sentences
-use Rattle.sentence_rows.specs.declared.fault.FieldFault.{FieldFault}
-use Rattle.sentence_rows.specs.declared.fault.FieldFault.TheVariants.{Outside}
-use Rattle.sentence_rows.specs.Reading.{read_row}
+use Rattle.sentence_profile.specs.declared.fault.FieldFault.{FieldFault}
+use Rattle.sentence_profile.specs.declared.fault.FieldFault.TheVariants.{Outside}
+use Rattle.sentence_profile.specs.Reading.{read_row}
 use Rattle.source_choice.specs.declared.rank.Rank.{Rank}
 use Rattle.history.specs.Settings.{Settings, RowRule, rule_of, same_text, is_some_that}
 use Rattle.history.specs.Opens.{is_fast}

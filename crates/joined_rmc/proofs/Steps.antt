@@ -5,7 +5,7 @@ use Rattle.std.specs.Prelude.{Option, Some, None, is_some, option_map, if◌then
 use Rattle.n2k_id.specs.declared.name.Name.{Name}
 use Rattle.readings.specs.declared.rows.Row.{Row}
 use Rattle.readings.specs.declared.rows.Row.TheVariants as row
-use Rattle.sentence_rows.specs.Rmc.{rmc_text}
+use Rattle.sentence_profile.specs.Rmc.{rmc_text}
 use Rattle.tag_block.specs.Tag.{most_count}
 use Rattle.datagram450.proofs.Counts.{counted_modulo}
 use Rattle.history.specs.AddressLaws.{IsReceiver}

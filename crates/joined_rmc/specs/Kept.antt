@@ -7,7 +7,7 @@ use Rattle.readings.specs.declared.reading.Reading.{Reading}
 use Rattle.readings.specs.declared.rows.Row.{Row}
 use Rattle.readings.specs.declared.rows.Row.TheVariants as row
 use Rattle.readings.specs.Rows.{row_of}
-use Rattle.sentence_rows.specs.declared.rmc.Minimum.{Minimum}
+use Rattle.sentence_profile.specs.declared.minimum.Minimum.{Minimum}
 use Rattle.tag_block.specs.Tag.{most_count}
 use Rattle.history.specs.Settings.{same_row}
 use Rattle.gate_core.specs.declared.selected_message.SelectedMessage.{SelectedMessage}

@@ -6,9 +6,9 @@ use Rattle.readings.specs.declared.reading.Reading.TheVariants as reading
 use Rattle.readings.specs.declared.rows.Row.{Row}
 use Rattle.readings.specs.declared.rows.Row.TheVariants as row
 use Rattle.readings.specs.Rows.{row_number}
-use Rattle.sentence_rows.specs.Writing.{only_if}
-use Rattle.sentence_rows.specs.declared.rmc.Minimum.{Minimum}
-use Rattle.sentence_rows.specs.Rmc.{rmc_text}
+use Rattle.sentence_profile.specs.Writing.{only_if}
+use Rattle.sentence_profile.specs.declared.minimum.Minimum.{Minimum}
+use Rattle.sentence_profile.specs.Rmc.{rmc_text}
 use Rattle.datagram450.specs.Datagram.{sentence_datagram}
 use Rattle.gate_events.specs.Emit.{Emit, net}
 use Rattle.history.specs.Entries.{Entry, History, moment_of}

@@ -2,7 +2,7 @@
 ghost use Rattle.std.specs.Prelude.{◌≡◌, IfSome};
 ghost use Rattle.readings.specs.Ranges.{Admits, date as date_range, latitude as latitude_range, longitude as longitude_range, speed as speed_range, deviation};
 ghost use Rattle.readings.specs.Rows.{IsValid};
-ghost use Rattle.sentence_rows.specs.Rmc.{IsMinimum};
+ghost use Rattle.sentence_profile.specs.Rmc.{IsMinimum};
 ghost use Rattle.joined_rmc.specs.RmcOut as values;
 ghost use Rattle.joined_rmc.specs.Kept.{lent};
 

@@ -4,7 +4,7 @@ ghost use Rattle.std.specs.List.{list_all};
 ghost use Rattle.sentence_text.specs.Byte.{is_capital};
 ghost use Rattle.sentence_text.specs.Names.{IsSfi};
 ghost use Rattle.readings.specs.Rows.{IsValid};
-ghost use Rattle.sentence_rows.specs.Rmc.{IsMinimum};
+ghost use Rattle.sentence_profile.specs.Rmc.{IsMinimum};
 ghost use Rattle.history.specs.Settings.{Settings};
 ghost use Rattle.gate_model.specs.AddressStands.{name_held};
 ghost use Rattle.joined_rmc.specs.JoinStands.{IsJoinStep, JoinStands};

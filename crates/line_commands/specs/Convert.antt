@@ -9,7 +9,7 @@ use Rattle.pgn_profile.specs.declared.kinds.Kind.TheVariants as kinds
 use Rattle.pgn_profile.specs.declared.profiled.Profiled.{Profiled}
 use Rattle.pgn_profile.specs.declared.profiled.Profiled.TheVariants as says
 use Rattle.pgn_profile.specs.Profiled.{kind_of, profiled}
-use Rattle.sentence_rows.specs.Writing.{IsText}
+use Rattle.sentence_profile.specs.Writing.{IsText}
 use Rattle.capture_text.specs.declared.line_rule.LineRule.{LineRule}
 use Rattle.gate_events.specs.declared.emit.Detail.TheVariants as detail
 use Rattle.capture_text.specs.LineRule.{rule_number}

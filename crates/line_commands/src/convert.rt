@@ -6,7 +6,7 @@ ghost use Rattle.n2k_id.specs.Identifier.{parts_of};
 ghost use Rattle.readings.specs.Rows.{IsValid as IsValidReading, row_of, about_of};
 ghost use Rattle.pgn_profile.specs.Profiled.{kind_of, GivesValid};
 ghost use Rattle.sentence_fields.specs.Field.{texts_of};
-ghost use Rattle.sentence_rows.specs.Writing.{IsText};
+ghost use Rattle.sentence_profile.specs.Writing.{IsText};
 ghost use Rattle.gate_events.specs.Event.{view, IsValid};
 ghost use Rattle.gate_outside.specs.Faults.{HasCause};
 ghost use Rattle.capture_text.specs.LineRule.{rule_number};

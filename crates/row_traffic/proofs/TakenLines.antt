@@ -3,7 +3,7 @@ use Rattle.std.proofs.Common.{◌≡◌, ℕ, true, false, List, Some, None, ref
 use Rattle.std.specs.declared.cmp.Ordering.{Ordering}
 use Rattle.sentence_text.specs.Sentence.{SentenceParts, IsSentence}
 use Rattle.sentence_text.proofs.Only.{only}
-use Rattle.sentence_rows.specs.Reading.{read_row}
+use Rattle.sentence_profile.specs.Reading.{read_row}
 use Rattle.tag_block.specs.declared.group_key.GroupKey.{GroupKey}
 use Rattle.tag_block.specs.Tag.{Said}
 use Rattle.history.specs.Heard.{several, place_of, is_own_line, is_elsewhere, is_taken}

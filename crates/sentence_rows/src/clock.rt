@@ -2,13 +2,13 @@
 
 ghost use Rattle.std.specs.Prelude.{◌≡◌, ◌<◌, ◌≤◌, ◌^◌, IsTrue};
 ghost use Rattle.jiff_core.specs.Date.{epoch_day};
-ghost use Rattle.sentence_rows.specs.Columns as spec;
+ghost use Rattle.sentence_profile.specs.Columns as spec;
 
 use crate::column::{field, is_blank};
-use crate::digits::{Fixed, digits, fixed_in};
-use crate::fault::FieldFault;
+use crate::digits::{digits, fixed_in};
 use jiff_core::civil::Date;
 use readings::range::DATE;
+use sentence_profile::{FieldFault, Fixed};
 use sentence_text::Sentence;
 
 /// Hours, minutes and seconds are of the day.
@@ -54,7 +54,7 @@ fn time_of(text: &[u8], at: u8) -> Result<Option<i64>, FieldFault>
 }
 
 /// A time of day, as hhmmss and decimals of a second; decimals that are missing are zeros.
-#[tactic(auto, unfolding(crate::specs::Columns::time))]
+#[tactic(auto, unfolding(sentence_profile::specs::Columns::time))]
 pub(crate) fn time(sentence: &Sentence<'_>, at: u8) -> Result<Option<i64>, FieldFault>
     ensures { result ≡ spec.time (spec.fields_in sentence.now) at }
 {
@@ -72,7 +72,7 @@ fn days_since_1970(date: Date) -> i64
 }
 
 /// The day's number, where the calendar has the day and the bus can say it.
-#[tactic(auto, unfolding(crate::specs::Columns::day_number))]
+#[tactic(auto, unfolding(sentence_profile::specs::Columns::day_number))]
 fn day_number(year: u64, month: u64, day: u64) -> Option<i64>
     requires year { year < 10 ^ 4 }
     requires month { month < 10 ^ 2 }
@@ -98,7 +98,7 @@ fn day_in(day: Option<i64>, at: u8) -> Result<Option<i64>, FieldFault>
 
 /// Day, month and year in three fields, all of them or none. A day that there isn't is out of the range of the
 /// first.
-#[tactic(auto, unfolding(crate::specs::Columns::date))]
+#[tactic(auto, unfolding(sentence_profile::specs::Columns::date))]
 pub(crate) fn date(sentence: &Sentence<'_>, at: u8) -> Result<Option<i64>, FieldFault>
     requires { at < 100 }
     ensures { result ≡ spec.date (spec.fields_in sentence.now) at }
@@ -114,7 +114,7 @@ pub(crate) fn date(sentence: &Sentence<'_>, at: u8) -> Result<Option<i64>, Field
 }
 
 /// Whether three fields are all empty.
-#[tactic(auto, unfolding(crate::specs::Columns::are_blank))]
+#[tactic(auto, unfolding(sentence_profile::specs::Columns::are_blank))]
 fn are_blank(sentence: &Sentence<'_>, at: u8) -> bool
     requires { at < 100 }
     ensures { result ≡ spec.are_blank (spec.fields_in sentence.now) at }

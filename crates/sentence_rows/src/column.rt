@@ -1,14 +1,14 @@
 //! The fields of a sentence by their numbers, counted from 1, and those that are letters.
 
 ghost use Rattle.std.specs.Prelude.{◌≡◌, option_map};
-ghost use Rattle.sentence_rows.specs.Columns.{fault};
-ghost use Rattle.sentence_rows.specs.Columns as spec;
+ghost use Rattle.sentence_profile.specs.Columns.{fault};
+ghost use Rattle.sentence_profile.specs.Columns as spec;
 
-use crate::fault::FieldFault;
+use sentence_profile::FieldFault;
 use sentence_text::Sentence;
 
 /// The text of a field; None where it is missing.
-#[tactic(auto, using(crate::proofs::Columns::field_by_number))]
+#[tactic(auto, using(sentence_profile::proofs::Columns::field_by_number))]
 pub(crate) fn field<'a>(sentence: &Sentence<'a>, at: u8) -> Option<&'a [u8]>
     ensures { option_map (λ f. f.now) result ≡ spec.field_at (spec.fields_in sentence.now) at }
 {
@@ -16,7 +16,7 @@ pub(crate) fn field<'a>(sentence: &Sentence<'a>, at: u8) -> Option<&'a [u8]>
 }
 
 /// Whether there is no such field, or no byte in it.
-#[tactic(auto, unfolding(crate::specs::Columns::is_blank, crate::specs::Columns::text))]
+#[tactic(auto, unfolding(sentence_profile::specs::Columns::is_blank, sentence_profile::specs::Columns::text))]
 pub(crate) fn is_blank(sentence: &Sentence<'_>, at: u8) -> bool
     ensures { result ≡ spec.is_blank (spec.fields_in sentence.now) at }
 {
@@ -27,7 +27,7 @@ pub(crate) fn is_blank(sentence: &Sentence<'_>, at: u8) -> bool
 }
 
 /// Whether of a true direction in the first field and a magnetic one in the third only the magnetic one is there.
-#[tactic(auto, unfolding(crate::specs::Columns::is_magnetic))]
+#[tactic(auto, unfolding(sentence_profile::specs::Columns::is_magnetic))]
 pub(crate) fn is_magnetic(sentence: &Sentence<'_>) -> bool
     ensures { result ≡ spec.is_magnetic (spec.fields_in sentence.now) }
 {
@@ -35,7 +35,7 @@ pub(crate) fn is_magnetic(sentence: &Sentence<'_>) -> bool
 }
 
 /// A field that isn't kept has only to be there.
-#[tactic(auto, unfolding(crate::specs::Columns::unkept))]
+#[tactic(auto, unfolding(sentence_profile::specs::Columns::unkept))]
 pub(crate) fn unkept(sentence: &Sentence<'_>, at: u8) -> Result<(), FieldFault>
     ensures { fault result ≡ spec.unkept (spec.fields_in sentence.now) at }
 {
@@ -58,7 +58,7 @@ pub(crate) fn is_letter(text: &[u8], letter: u8, may_lack: bool) -> bool
 }
 
 /// The letter of a unit, which may be left out beside an empty value.
-#[tactic(auto, unfolding(crate::specs::Columns::unit_letter))]
+#[tactic(auto, unfolding(sentence_profile::specs::Columns::unit_letter))]
 pub(crate) fn unit_letter(
     sentence: &Sentence<'_>,
     at: u8,
@@ -92,7 +92,7 @@ fn which(text: &[u8], at: u8, first: u8, second: u8, may_lack: bool) -> Result<b
 }
 
 /// Whether a status is `A`, valid, and not `V`; nothing counts as `V` beside empty values.
-#[tactic(auto, unfolding(crate::specs::Columns::status))]
+#[tactic(auto, unfolding(sentence_profile::specs::Columns::status))]
 pub(crate) fn status(
     sentence: &Sentence<'_>,
     at: u8,
@@ -107,7 +107,7 @@ pub(crate) fn status(
 }
 
 /// Whether a wind is `T`, the true one, and not `R`, the apparent one.
-#[tactic(auto, unfolding(crate::specs::Columns::reference))]
+#[tactic(auto, unfolding(sentence_profile::specs::Columns::reference))]
 pub(crate) fn reference(sentence: &Sentence<'_>, at: u8) -> Result<bool, FieldFault>
     ensures { result ≡ spec.reference (spec.fields_in sentence.now) at }
 {
@@ -118,7 +118,7 @@ pub(crate) fn reference(sentence: &Sentence<'_>, at: u8) -> Result<bool, FieldFa
 }
 
 /// Whether the letter that stands for a value's sign is the negative one. Beside an empty value it is ignored.
-#[tactic(auto, unfolding(crate::specs::Columns::side))]
+#[tactic(auto, unfolding(sentence_profile::specs::Columns::side))]
 pub(crate) fn side(
     sentence: &Sentence<'_>,
     at: u8,
@@ -139,7 +139,7 @@ pub(crate) fn side(
 }
 
 /// Whether a heading is valid: any capital letter but `V`.
-#[tactic(auto, unfolding(crate::specs::Columns::heading_mode))]
+#[tactic(auto, unfolding(sentence_profile::specs::Columns::heading_mode))]
 pub(crate) fn heading_mode(sentence: &Sentence<'_>, at: u8) -> Result<bool, FieldFault>
     ensures { result ≡ spec.heading_mode (spec.fields_in sentence.now) at }
 {

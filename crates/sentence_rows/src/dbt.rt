@@ -7,18 +7,17 @@ ghost use Rattle.std.specs.List.{list_all};
 ghost use Rattle.sentence_text.specs.Byte.{is_capital};
 ghost use Rattle.sentence_fields.specs.Field.{IsCounted, texts_of, sentence_by};
 ghost use Rattle.sentence_fields.specs.ReadBack.{IsReadBack};
-ghost use Rattle.sentence_rows.specs.Writing as text;
-ghost use Rattle.sentence_rows.specs.Columns.{fields_in};
-ghost use Rattle.sentence_rows.specs.Reading as spec;
+ghost use Rattle.sentence_profile.specs.Writing as text;
+ghost use Rattle.sentence_profile.specs.Columns.{fields_in};
+ghost use Rattle.sentence_profile.specs.Reading as spec;
 
 use crate::column::unkept;
-use crate::fault::FieldFault;
 use crate::number::measure;
-use crate::read_unit;
 use readings::Reading;
 use sentence_fields::Field::{Decimal, Letter};
 use sentence_fields::written_unit::{FATHOMS, FEET, METRES};
 use sentence_fields::{Lines, append};
+use sentence_profile::{FieldFault, read_unit};
 use sentence_text::Sentence;
 
 pub(crate) fn dbt(talker: [u8; 2], depth: Option<i64>, out: &mut Lines)
@@ -46,7 +45,7 @@ pub(crate) fn dbt(talker: [u8; 2], depth: Option<i64>, out: &mut Lines)
 }
 
 /// The depth that is read from its metres. Feet and fathoms are passed over.
-#[tactic(auto, unfolding(crate::specs::Reading::dbt))]
+#[tactic(auto, unfolding(sentence_profile::specs::Reading::dbt))]
 pub(crate) fn read(sentence: &Sentence<'_>) -> Result<Reading, FieldFault>
     ensures { result ≡ spec.dbt (fields_in sentence.now) }
 {

@@ -4,19 +4,11 @@ ghost use Rattle.std.specs.Prelude.{◌≡◌, ◌<◌, ◌≤◌, ◌^◌, drop
 ghost use Rattle.std.specs.Char.{is_ascii_digit};
 ghost use Rattle.std.specs.List.{list_all};
 ghost use Rattle.unit_fraction.specs.Digits.{number as number_of_digits};
-ghost use Rattle.sentence_rows.specs.Columns as spec;
+ghost use Rattle.sentence_profile.specs.Columns as spec;
 
 use crate::column::field;
-use crate::fault::FieldFault;
+use sentence_profile::{FieldFault, Fixed};
 use sentence_text::{Sentence, all_digits};
-
-/// A number with a fixed count of digits, and behind its point so many more that write another number.
-#[derive(Clone, Copy)]
-pub struct Fixed {
-    pub whole: u64,
-    pub part: u64,
-    pub places: u8,
-}
 
 fn are_digits(text: &[u8]) -> bool
     ensures { result ≡ list_all is_ascii_digit text.now }
@@ -25,7 +17,7 @@ fn are_digits(text: &[u8]) -> bool
 }
 
 /// The number that at most twelve digits write.
-#[tactic(auto, using(unit_fraction::proofs::Number::number_step, unit_fraction::proofs::Number::number_fits, crate::proofs::DigitNumbers::small, crate::proofs::DigitNumbers::in_range))]
+#[tactic(auto, using(unit_fraction::proofs::Number::number_step, unit_fraction::proofs::Number::number_fits, sentence_profile::proofs::DigitNumbers::small, sentence_profile::proofs::DigitNumbers::in_range))]
 fn number_of(digits: &[u8]) -> u64
     requires digits { IsTrue (list_all is_ascii_digit digits.now) }
     requires few { length digits.now ≤ 12 }
@@ -58,7 +50,7 @@ fn part_behind(text: &[u8], most: u8) -> Option<&[u8]>
 }
 
 /// So many digits, and behind a point, where there is one, at most so many more.
-#[tactic(auto, unfolding(crate::specs::Columns::fixed_in))]
+#[tactic(auto, unfolding(sentence_profile::specs::Columns::fixed_in))]
 pub(crate) fn fixed_in(text: &[u8], width: u8, most: u8) -> Option<Fixed>
     requires width { width ≤ 12 }
     requires most { most ≤ 12 }
@@ -104,7 +96,7 @@ fn digits_in(text: &[u8], at: u8, may_lack: bool, least: u8, most: u8) -> Result
 }
 
 /// The number of at least and at most so many digits. Where the field may be empty, that is 0.
-#[tactic(auto, unfolding(crate::specs::Columns::digits))]
+#[tactic(auto, unfolding(sentence_profile::specs::Columns::digits))]
 pub(crate) fn digits(
     sentence: &Sentence<'_>,
     at: u8,

@@ -8,17 +8,16 @@ ghost use Rattle.std.specs.List.{list_all};
 ghost use Rattle.sentence_text.specs.Byte.{is_capital};
 ghost use Rattle.sentence_fields.specs.Field.{IsCounted, texts_of, sentence_by};
 ghost use Rattle.sentence_fields.specs.ReadBack.{IsReadBack};
-ghost use Rattle.sentence_rows.specs.Writing as text;
-ghost use Rattle.sentence_rows.specs.Columns.{fields_in};
-ghost use Rattle.sentence_rows.specs.Reading as spec;
+ghost use Rattle.sentence_profile.specs.Writing as text;
+ghost use Rattle.sentence_profile.specs.Columns.{fields_in};
+ghost use Rattle.sentence_profile.specs.Reading as spec;
 
-use crate::fault::FieldFault;
 use crate::number::number;
-use crate::read_unit;
 use readings::Reading;
 use sentence_fields::Field::Decimal;
 use sentence_fields::written_unit::{METRES, OFFSET_METRES, RANGE_METRES};
 use sentence_fields::{Lines, append};
+use sentence_profile::{FieldFault, read_unit};
 use sentence_text::Sentence;
 
 pub(crate) fn dpt(
@@ -49,7 +48,7 @@ pub(crate) fn dpt(
 }
 
 /// The depth that is read. The range of the scale may be missing.
-#[tactic(auto, unfolding(crate::specs::Reading::dpt))]
+#[tactic(auto, unfolding(sentence_profile::specs::Reading::dpt))]
 pub(crate) fn read(sentence: &Sentence<'_>) -> Result<Reading, FieldFault>
     ensures { result ≡ spec.dpt (fields_in sentence.now) }
 {
@@ -64,7 +63,7 @@ pub(crate) fn read(sentence: &Sentence<'_>) -> Result<Reading, FieldFault>
 }
 
 /// The range of the depth's scale, which may be missing.
-#[tactic(auto, unfolding(crate::specs::Reading::depth_range))]
+#[tactic(auto, unfolding(sentence_profile::specs::Reading::depth_range))]
 fn scale_range(sentence: &Sentence<'_>) -> Result<Option<i64>, FieldFault>
     ensures { result ≡ spec.depth_range (fields_in sentence.now) }
 {

@@ -2,16 +2,16 @@
 
 ghost use Rattle.std.specs.Prelude.{◌≡◌, ◌<◌, nat_le, unsigned_abs};
 ghost use Rattle.readings.specs.Ranges.{method as method_range, satellites as satellites_range};
-ghost use Rattle.sentence_rows.specs.Columns as spec;
+ghost use Rattle.sentence_profile.specs.Columns as spec;
 
 use crate::column::is_blank;
 use crate::digits::digits;
-use crate::fault::FieldFault;
 use readings::range::{METHOD, SATELLITES};
+use sentence_profile::FieldFault;
 use sentence_text::Sentence;
 
 /// The method of a fix, 0 to 8; an empty field is 0.
-#[tactic(auto, unfolding(crate::specs::Columns::quality))]
+#[tactic(auto, unfolding(sentence_profile::specs::Columns::quality))]
 pub(crate) fn quality(sentence: &Sentence<'_>, at: u8) -> Result<u8, FieldFault>
     ensures { result ≡ spec.quality (spec.fields_in sentence.now) at }
 {
@@ -31,7 +31,7 @@ fn is_method(number: u64) -> bool
 }
 
 /// The number of satellites.
-#[tactic(auto, unfolding(crate::specs::Columns::satellites))]
+#[tactic(auto, unfolding(sentence_profile::specs::Columns::satellites))]
 pub(crate) fn satellites(sentence: &Sentence<'_>, at: u8) -> Result<Option<i64>, FieldFault>
     ensures { result ≡ spec.satellites (spec.fields_in sentence.now) at }
 {

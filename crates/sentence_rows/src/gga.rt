@@ -9,21 +9,20 @@ ghost use Rattle.std.specs.List.{list_all};
 ghost use Rattle.sentence_text.specs.Byte.{is_capital};
 ghost use Rattle.sentence_fields.specs.Field.{IsCounted, IsPrintable, texts_of, sentence_by};
 ghost use Rattle.sentence_fields.specs.ReadBack.{IsReadBack};
-ghost use Rattle.sentence_rows.specs.Writing as text;
-ghost use Rattle.sentence_rows.specs.Columns.{fields_in};
-ghost use Rattle.sentence_rows.specs.Reading as spec;
+ghost use Rattle.sentence_profile.specs.Writing as text;
+ghost use Rattle.sentence_profile.specs.Columns.{fields_in};
+ghost use Rattle.sentence_profile.specs.Reading as spec;
 
 use crate::clock::time;
-use crate::fault::FieldFault;
 use crate::fix::{quality, satellites};
 use crate::letter::beside;
 use crate::number::{measure, number};
 use crate::position::coordinate;
-use crate::read_unit;
 use readings::Reading;
 use sentence_fields::Field::{self, Decimal, Degrees, Empty, Letter, Satellites, Side, Time};
 use sentence_fields::written_unit::{ALTITUDE_METRES, DILUTION, FIX_MINUTES, SEPARATION_METRES};
 use sentence_fields::{Lines, append, letter_where};
+use sentence_profile::{FieldFault, read_unit};
 use sentence_text::Sentence;
 
 /// What is said of a fix, of whose latitude and longitude both are there or neither.
@@ -78,7 +77,7 @@ pub(crate) fn gga(talker: [u8; 2], fix: Fix, out: &mut Lines)
 }
 
 /// The fix that is read.
-#[tactic(auto, unfolding(crate::specs::Reading::gga))]
+#[tactic(auto, unfolding(sentence_profile::specs::Reading::gga))]
 pub(crate) fn read(sentence: &Sentence<'_>) -> Result<Reading, FieldFault>
     ensures { result ≡ spec.gga (fields_in sentence.now) }
 {

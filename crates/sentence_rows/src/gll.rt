@@ -8,19 +8,18 @@ ghost use Rattle.std.specs.List.{list_all};
 ghost use Rattle.sentence_text.specs.Byte.{is_capital};
 ghost use Rattle.sentence_fields.specs.Field.{IsCounted, texts_of, sentence_by};
 ghost use Rattle.sentence_fields.specs.ReadBack.{IsReadBack};
-ghost use Rattle.sentence_rows.specs.Writing as text;
-ghost use Rattle.sentence_rows.specs.Columns.{fields_in};
-ghost use Rattle.sentence_rows.specs.Reading as spec;
+ghost use Rattle.sentence_profile.specs.Writing as text;
+ghost use Rattle.sentence_profile.specs.Columns.{fields_in};
+ghost use Rattle.sentence_profile.specs.Reading as spec;
 
 use crate::column::{status, unkept};
-use crate::fault::FieldFault;
 use crate::letter::{beside, only_if};
 use crate::position::coordinate;
-use crate::read_unit;
 use readings::Reading;
 use sentence_fields::Field::{Degrees, Empty, Letter, Side};
 use sentence_fields::written_unit::MINUTES;
 use sentence_fields::{Lines, append, letter_where};
+use sentence_profile::{FieldFault, read_unit};
 use sentence_text::Sentence;
 
 pub(crate) fn gll(talker: [u8; 2], latitude: Option<i64>, longitude: Option<i64>, out: &mut Lines)
@@ -50,7 +49,7 @@ pub(crate) fn gll(talker: [u8; 2], latitude: Option<i64>, longitude: Option<i64>
 }
 
 /// The position that is read; a status of `V` makes it absent.
-#[tactic(auto, unfolding(crate::specs::Reading::gll))]
+#[tactic(auto, unfolding(sentence_profile::specs::Reading::gll))]
 pub(crate) fn read(sentence: &Sentence<'_>) -> Result<Reading, FieldFault>
     ensures { result ≡ spec.gll (fields_in sentence.now) }
 {

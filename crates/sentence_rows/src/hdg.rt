@@ -7,17 +7,16 @@ ghost use Rattle.std.specs.List.{list_all};
 ghost use Rattle.sentence_text.specs.Byte.{is_capital};
 ghost use Rattle.sentence_fields.specs.Field.{IsCounted, texts_of, sentence_by};
 ghost use Rattle.sentence_fields.specs.ReadBack.{IsReadBack};
-ghost use Rattle.sentence_rows.specs.Writing as text;
-ghost use Rattle.sentence_rows.specs.Columns.{fields_in};
-ghost use Rattle.sentence_rows.specs.Reading as spec;
+ghost use Rattle.sentence_profile.specs.Writing as text;
+ghost use Rattle.sentence_profile.specs.Columns.{fields_in};
+ghost use Rattle.sentence_profile.specs.Reading as spec;
 
-use crate::fault::FieldFault;
 use crate::number::{number, sided};
-use crate::read_unit;
 use readings::Reading;
 use sentence_fields::Field::{Angle, Magnitude, Side};
 use sentence_fields::written_unit::DEGREES;
 use sentence_fields::{Lines, append};
+use sentence_profile::{FieldFault, read_unit};
 use sentence_text::Sentence;
 
 pub(crate) fn hdg(
@@ -49,7 +48,7 @@ pub(crate) fn hdg(
 }
 
 /// The magnetic heading that is read.
-#[tactic(auto, unfolding(crate::specs::Reading::hdg))]
+#[tactic(auto, unfolding(sentence_profile::specs::Reading::hdg))]
 pub(crate) fn read(sentence: &Sentence<'_>) -> Result<Reading, FieldFault>
     ensures { result ≡ spec.hdg (fields_in sentence.now) }
 {

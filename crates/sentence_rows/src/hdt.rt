@@ -7,16 +7,15 @@ ghost use Rattle.std.specs.List.{list_all};
 ghost use Rattle.sentence_text.specs.Byte.{is_capital};
 ghost use Rattle.sentence_fields.specs.Field.{texts_of, sentence_by};
 ghost use Rattle.sentence_fields.specs.ReadBack.{IsReadBack};
-ghost use Rattle.sentence_rows.specs.Writing as text;
-ghost use Rattle.sentence_rows.specs.Columns.{fields_in};
-ghost use Rattle.sentence_rows.specs.Reading as spec;
+ghost use Rattle.sentence_profile.specs.Writing as text;
+ghost use Rattle.sentence_profile.specs.Columns.{fields_in};
+ghost use Rattle.sentence_profile.specs.Reading as spec;
 
-use crate::fault::FieldFault;
 use crate::number::measure;
-use crate::read_unit;
 use readings::Reading;
 use sentence_fields::Field::{Angle, Letter};
 use sentence_fields::{Lines, append};
+use sentence_profile::{FieldFault, read_unit};
 use sentence_text::Sentence;
 
 pub(crate) fn hdt(talker: [u8; 2], heading: Option<i64>, out: &mut Lines)
@@ -29,7 +28,7 @@ pub(crate) fn hdt(talker: [u8; 2], heading: Option<i64>, out: &mut Lines)
 }
 
 /// The true heading that is read.
-#[tactic(auto, unfolding(crate::specs::Reading::hdt))]
+#[tactic(auto, unfolding(sentence_profile::specs::Reading::hdt))]
 pub(crate) fn read(sentence: &Sentence<'_>) -> Result<Reading, FieldFault>
     ensures { result ≡ spec.hdt (fields_in sentence.now) }
 {

@@ -1,5 +1,5 @@
 ghost use Rattle.std.specs.Prelude.{◌≡◌, Some, None, is_some};
-ghost use Rattle.sentence_rows.specs.Writing as text;
+ghost use Rattle.sentence_profile.specs.Writing as text;
 
 /// The value, where it is the one that is meant.
 pub(crate) fn only_if(meant: bool, value: Option<i64>) -> Option<i64>

@@ -7,19 +7,18 @@ ghost use Rattle.std.specs.List.{list_all};
 ghost use Rattle.sentence_text.specs.Byte.{is_capital};
 ghost use Rattle.sentence_fields.specs.Field.{IsCounted, texts_of, sentence_by};
 ghost use Rattle.sentence_fields.specs.ReadBack.{IsReadBack};
-ghost use Rattle.sentence_rows.specs.Writing as text;
-ghost use Rattle.sentence_rows.specs.Columns.{fields_in};
-ghost use Rattle.sentence_rows.specs.Reading as spec;
+ghost use Rattle.sentence_profile.specs.Writing as text;
+ghost use Rattle.sentence_profile.specs.Columns.{fields_in};
+ghost use Rattle.sentence_profile.specs.Reading as spec;
 
 use crate::column::is_magnetic;
-use crate::fault::FieldFault;
 use crate::letter::only_if;
 use crate::number::either_unit;
-use crate::read_unit;
 use readings::Reading;
 use sentence_fields::Field::{Angle, Decimal, Letter};
 use sentence_fields::written_unit::{KNOTS, METRES_PER_SECOND};
 use sentence_fields::{Lines, append};
+use sentence_profile::{FieldFault, read_unit};
 use sentence_text::Sentence;
 
 pub(crate) fn mwd(
@@ -56,7 +55,7 @@ pub(crate) fn mwd(
 }
 
 /// The wind that is read: its direction, true or else magnetic, and its speed in knots or else in m/s.
-#[tactic(auto, unfolding(crate::specs::Reading::mwd))]
+#[tactic(auto, unfolding(sentence_profile::specs::Reading::mwd))]
 pub(crate) fn read(sentence: &Sentence<'_>) -> Result<Reading, FieldFault>
     ensures { result ≡ spec.mwd (fields_in sentence.now) }
 {

@@ -8,19 +8,18 @@ ghost use Rattle.std.specs.List.{list_all};
 ghost use Rattle.sentence_text.specs.Byte.{is_capital, is_field_byte};
 ghost use Rattle.sentence_fields.specs.Field.{IsCounted, texts_of, sentence_by};
 ghost use Rattle.sentence_fields.specs.ReadBack.{IsReadBack};
-ghost use Rattle.sentence_rows.specs.Writing as text;
-ghost use Rattle.sentence_rows.specs.Columns.{fields_in};
-ghost use Rattle.sentence_rows.specs.Reading as spec;
+ghost use Rattle.sentence_profile.specs.Writing as text;
+ghost use Rattle.sentence_profile.specs.Columns.{fields_in};
+ghost use Rattle.sentence_profile.specs.Reading as spec;
 
 use crate::column::{reference, status};
-use crate::fault::FieldFault;
 use crate::letter::only_if;
 use crate::number::{number, wind_speed};
-use crate::read_unit;
 use readings::Reading;
 use sentence_fields::Field::{Angle, Decimal, Letter};
 use sentence_fields::written_unit::KNOTS;
 use sentence_fields::{Lines, append, letter_where};
+use sentence_profile::{FieldFault, read_unit};
 use sentence_text::Sentence;
 
 pub(crate) fn mwv(
@@ -53,7 +52,7 @@ pub(crate) fn mwv(
 }
 
 /// The wind that is read; a status of `V` makes it absent.
-#[tactic(auto, unfolding(crate::specs::Reading::mwv))]
+#[tactic(auto, unfolding(sentence_profile::specs::Reading::mwv))]
 pub(crate) fn read(sentence: &Sentence<'_>) -> Result<Reading, FieldFault>
     ensures { result ≡ spec.mwv (fields_in sentence.now) }
 {

@@ -1,17 +1,17 @@
 //! The fields of a sentence that are numbers, with the letters of their units and of their signs.
 
 ghost use Rattle.std.specs.Prelude.{◌≡◌, ◌+◌, ◌<◌, ◌≤◌, ◌^◌, IfOk, IsTrue, unsigned_abs};
-ghost use Rattle.sentence_rows.specs.Columns as spec;
-ghost use Rattle.sentence_rows.specs.Columns.{is_fit};
+ghost use Rattle.sentence_profile.specs.Columns as spec;
+ghost use Rattle.sentence_profile.specs.Columns.{is_fit};
 
 use crate::column::{field, is_letter, side, unit_letter, unkept};
-use crate::fault::FieldFault;
-use crate::read_unit::{KILOMETRES_PER_HOUR, KNOTS, METRES_PER_SECOND, ReadUnit};
+use sentence_profile::FieldFault;
+use sentence_profile::read_unit::{KILOMETRES_PER_HOUR, KNOTS, METRES_PER_SECOND, ReadUnit};
 use sentence_text::Sentence;
 use unit_fraction::{Decimal, DecimalFault, Fraction, read_decimal, scale_decimal};
 
 /// A decimal, with a sign only where there may be one; None where the field is empty.
-#[tactic(auto, unfolding(crate::specs::Columns::decimal), using(crate::proofs::Columns::scalable))]
+#[tactic(auto, unfolding(sentence_profile::specs::Columns::decimal), using(sentence_profile::proofs::Columns::scalable))]
 fn decimal(
     sentence: &Sentence<'_>,
     at: u8,
@@ -38,7 +38,7 @@ fn decimal(
 }
 
 /// The raw value of a decimal.
-#[tactic(auto, unfolding(crate::specs::Columns::raw_of))]
+#[tactic(auto, unfolding(sentence_profile::specs::Columns::raw_of))]
 fn raw_of(q: ReadUnit, decimal: &Decimal) -> i128
     requires fit { IsTrue (is_fit q) }
     requires digits { decimal.now.digits < 10 ^ 14 }
@@ -76,7 +76,7 @@ pub(crate) fn scaled(
 }
 
 /// The raw value of a number; None where the field is empty.
-#[tactic(auto, unfolding(crate::specs::Columns::number))]
+#[tactic(auto, unfolding(sentence_profile::specs::Columns::number))]
 pub(crate) fn number(
     sentence: &Sentence<'_>,
     at: u8,
@@ -91,7 +91,7 @@ pub(crate) fn number(
 }
 
 /// A number, and behind it the letter of its unit.
-#[tactic(auto, unfolding(crate::specs::Columns::measure))]
+#[tactic(auto, unfolding(sentence_profile::specs::Columns::measure))]
 pub(crate) fn measure(
     sentence: &Sentence<'_>,
     at: u8,
@@ -109,7 +109,7 @@ pub(crate) fn measure(
 }
 
 /// The same in two units. The second isn't kept where the first isn't empty.
-#[tactic(auto, unfolding(crate::specs::Columns::either_unit))]
+#[tactic(auto, unfolding(sentence_profile::specs::Columns::either_unit))]
 pub(crate) fn either_unit(
     sentence: &Sentence<'_>,
     at: u8,
@@ -144,7 +144,7 @@ pub(crate) fn toward(negative: bool, value: Option<i64>) -> Option<i64>
 }
 
 /// A number, and behind it the letter of its sign.
-#[tactic(auto, unfolding(crate::specs::Columns::sided))]
+#[tactic(auto, unfolding(sentence_profile::specs::Columns::sided))]
 pub(crate) fn sided(
     sentence: &Sentence<'_>,
     at: u8,
@@ -178,7 +178,7 @@ fn speed_unit_of(text: &[u8], at: u8, beside_nothing: bool) -> Result<ReadUnit, 
 }
 
 /// The unit of a wind's speed, which may be left out beside an empty value.
-#[tactic(auto, unfolding(crate::specs::Columns::speed_unit))]
+#[tactic(auto, unfolding(sentence_profile::specs::Columns::speed_unit))]
 fn speed_unit(sentence: &Sentence<'_>, at: u8, beside_nothing: bool) -> Result<ReadUnit, FieldFault>
     ensures exact { result ≡ spec.speed_unit (spec.fields_in sentence.now) at beside_nothing }
     ensures fit { IfOk result (λ q. IsTrue (is_fit q)) }
@@ -190,7 +190,7 @@ fn speed_unit(sentence: &Sentence<'_>, at: u8, beside_nothing: bool) -> Result<R
 }
 
 /// A speed whose unit stands behind it, so that its range is known only there.
-#[tactic(auto, unfolding(crate::specs::Columns::wind_speed))]
+#[tactic(auto, unfolding(sentence_profile::specs::Columns::wind_speed))]
 pub(crate) fn wind_speed(sentence: &Sentence<'_>, at: u8) -> Result<Option<i64>, FieldFault>
     requires { at < 100 }
     ensures { result ≡ spec.wind_speed (spec.fields_in sentence.now) at }

@@ -1,14 +1,14 @@
 //! Latitude and longitude, as degrees and minutes with the letter of the hemisphere behind them.
 
 ghost use Rattle.std.specs.Prelude.{◌≡◌, ◌+◌, ◌*◌, ◌<◌, ◌≤◌, ◌^◌, IfOk, IsTrue};
-ghost use Rattle.sentence_rows.specs.Columns as spec;
-ghost use Rattle.sentence_rows.specs.Columns.{is_fit};
+ghost use Rattle.sentence_profile.specs.Columns as spec;
+ghost use Rattle.sentence_profile.specs.Columns.{is_fit};
 
 use crate::column::{field, side};
-use crate::digits::{Fixed, fixed_in};
-use crate::fault::FieldFault;
+use crate::digits::fixed_in;
 use crate::number::{scaled, toward};
-use crate::read_unit::ReadUnit;
+use sentence_profile::read_unit::ReadUnit;
+use sentence_profile::{FieldFault, Fixed};
 use sentence_text::Sentence;
 use unit_fraction::Decimal;
 
@@ -70,7 +70,7 @@ fn degrees_of(text: &[u8], at: u8, q: ReadUnit, width: u8) -> Result<Option<i64>
     }
 }
 
-#[tactic(auto, unfolding(crate::specs::Columns::degrees))]
+#[tactic(auto, unfolding(sentence_profile::specs::Columns::degrees))]
 fn degrees(
     sentence: &Sentence<'_>,
     at: u8,
@@ -89,7 +89,7 @@ fn degrees(
 }
 
 /// A coordinate, of so many digits before the point, and behind it the letter of its sign.
-#[tactic(auto, unfolding(crate::specs::Columns::coordinate))]
+#[tactic(auto, unfolding(sentence_profile::specs::Columns::coordinate))]
 pub(crate) fn coordinate(
     sentence: &Sentence<'_>,
     at: u8,

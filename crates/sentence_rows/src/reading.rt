@@ -1,14 +1,13 @@
 ghost use Rattle.std.specs.Prelude.{◌≡◌, [], All, IfOk};
 ghost use Rattle.readings.specs.Rows.{IsValid};
 ghost use Rattle.sentence_text.specs.Reading.{parts};
-ghost use Rattle.sentence_rows.specs.Columns.{fields_in};
-ghost use Rattle.sentence_rows.specs.Reading as spec;
+ghost use Rattle.sentence_profile.specs.Columns.{fields_in};
+ghost use Rattle.sentence_profile.specs.Reading as spec;
 
-use crate::fault::FieldFault;
-use crate::formatter::Formatter;
 use crate::{dbt, dpt, gga, gll, hdg, hdt, mtw, mwd, mwv, rot, rsa, ths, vhw, vlw, vtg, xte, zda};
 use arrayvec::ArrayVec;
 use readings::Reading;
+use sentence_profile::{FieldFault, Formatter};
 use sentence_text::Sentence;
 
 /// The readings of one sentence.
@@ -50,7 +49,7 @@ fn read_by(
 }
 
 /// The readings of a sentence that begins with `$`.
-#[tactic(auto, unfolding(crate::specs::Reading::read_sentence))]
+#[tactic(auto, unfolding(sentence_profile::specs::Reading::read_sentence))]
 fn read_sentence(sentence: &Sentence<'_>) -> Result<(Reading, Option<Reading>), FieldFault>
     ensures exact { result ≡ spec.read_sentence (parts sentence.now) }
     ensures valid { IfOk result spec.AreValid }

@@ -8,28 +8,14 @@ ghost use Rattle.std.specs.Prelude.{◌≡◌, [], codes, IsTrue};
 ghost use Rattle.std.specs.List.{list_all};
 ghost use Rattle.readings.specs.Ranges.{Admits, Holds, date as date_range};
 ghost use Rattle.sentence_text.specs.Byte.{is_capital};
-ghost use Rattle.sentence_rows.specs.Calendar.{civil_date as civil};
-ghost use Rattle.sentence_rows.specs.Rmc.{IsMinimum, date_number, date_said, rmc_text};
+ghost use Rattle.sentence_profile.specs.Calendar.{civil_date as civil};
+ghost use Rattle.sentence_profile.specs.Rmc.{IsMinimum, date_number, date_said, rmc_text};
 
 use crate::zda::{civil_date, year_of};
 use sentence_fields::Field::{Angle, Decimal, Degrees, Digits, Letter, Magnitude, Side, Time};
 use sentence_fields::written_unit::{DEGREES, KNOTS, MINUTES};
 use sentence_fields::{SentenceText, write_sentence};
-
-/// What RMC says, as raw values in the units of readings. A value is `None` where it isn't available.
-#[derive(Clone, Copy)]
-pub struct Minimum {
-    pub time: Option<i64>,
-    pub date: Option<i64>,
-    pub latitude: Option<i64>,
-    pub longitude: Option<i64>,
-    /// Over ground.
-    pub speed: Option<i64>,
-    /// Over ground, clockwise from true north.
-    pub course: Option<i64>,
-    /// East is positive.
-    pub variation: Option<i64>,
-}
+use sentence_profile::Minimum;
 
 /// The date as the number ddmmyy.
 fn date_number(day: i64) -> u64

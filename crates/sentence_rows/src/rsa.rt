@@ -8,19 +8,18 @@ ghost use Rattle.std.specs.List.{list_all};
 ghost use Rattle.sentence_text.specs.Byte.{is_capital};
 ghost use Rattle.sentence_fields.specs.Field.{IsCounted, texts_of, sentence_by};
 ghost use Rattle.sentence_fields.specs.ReadBack.{IsReadBack};
-ghost use Rattle.sentence_rows.specs.Writing as text;
-ghost use Rattle.sentence_rows.specs.Columns.{fields_in};
-ghost use Rattle.sentence_rows.specs.Reading as spec;
+ghost use Rattle.sentence_profile.specs.Writing as text;
+ghost use Rattle.sentence_profile.specs.Columns.{fields_in};
+ghost use Rattle.sentence_profile.specs.Reading as spec;
 
 use crate::column::status;
-use crate::fault::FieldFault;
 use crate::letter::only_if;
 use crate::number::number;
-use crate::read_unit;
 use readings::Reading;
 use sentence_fields::Field::{Decimal, Empty, Letter};
 use sentence_fields::written_unit::DEGREES;
 use sentence_fields::{Lines, append, letter_where};
+use sentence_profile::{FieldFault, read_unit};
 use sentence_text::Sentence;
 
 pub(crate) fn rsa_first(talker: [u8; 2], position: Option<i64>, out: &mut Lines)
@@ -67,7 +66,7 @@ pub(crate) fn rsa_second(talker: [u8; 2], position: Option<i64>, out: &mut Lines
 
 /// The rudders that are read: the first where its field isn't empty or both are, and the second where its field
 /// isn't. A status of `V` makes its rudder absent.
-#[tactic(auto, unfolding(crate::specs::Reading::rsa))]
+#[tactic(auto, unfolding(sentence_profile::specs::Reading::rsa))]
 pub(crate) fn read(sentence: &Sentence<'_>) -> Result<(Reading, Option<Reading>), FieldFault>
     ensures { result ≡ spec.rsa (fields_in sentence.now) }
 {

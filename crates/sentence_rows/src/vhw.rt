@@ -7,18 +7,17 @@ ghost use Rattle.std.specs.List.{list_all};
 ghost use Rattle.sentence_text.specs.Byte.{is_capital};
 ghost use Rattle.sentence_fields.specs.Field.{IsCounted, texts_of, sentence_by};
 ghost use Rattle.sentence_fields.specs.ReadBack.{IsReadBack};
-ghost use Rattle.sentence_rows.specs.Writing as text;
-ghost use Rattle.sentence_rows.specs.Columns.{fields_in};
-ghost use Rattle.sentence_rows.specs.Reading as spec;
+ghost use Rattle.sentence_profile.specs.Writing as text;
+ghost use Rattle.sentence_profile.specs.Columns.{fields_in};
+ghost use Rattle.sentence_profile.specs.Reading as spec;
 
 use crate::column::unkept;
-use crate::fault::FieldFault;
 use crate::number::either_unit;
-use crate::read_unit;
 use readings::Reading;
 use sentence_fields::Field::{Decimal, Empty, Letter};
 use sentence_fields::written_unit::{KILOMETRES_PER_HOUR, KNOTS};
 use sentence_fields::{Lines, append};
+use sentence_profile::{FieldFault, read_unit};
 use sentence_text::Sentence;
 
 pub(crate) fn vhw(talker: [u8; 2], speed: Option<i64>, out: &mut Lines)
@@ -47,7 +46,7 @@ pub(crate) fn vhw(talker: [u8; 2], speed: Option<i64>, out: &mut Lines)
 }
 
 /// The speed through the water that is read, in knots or else in km/h. Headings are passed over.
-#[tactic(auto, unfolding(crate::specs::Reading::vhw))]
+#[tactic(auto, unfolding(sentence_profile::specs::Reading::vhw))]
 pub(crate) fn read(sentence: &Sentence<'_>) -> Result<Reading, FieldFault>
     ensures { result ≡ spec.vhw (fields_in sentence.now) }
 {

@@ -7,17 +7,16 @@ ghost use Rattle.std.specs.List.{list_all};
 ghost use Rattle.sentence_text.specs.Byte.{is_capital};
 ghost use Rattle.sentence_fields.specs.Field.{IsCounted, texts_of, sentence_by};
 ghost use Rattle.sentence_fields.specs.ReadBack.{IsReadBack};
-ghost use Rattle.sentence_rows.specs.Writing as text;
-ghost use Rattle.sentence_rows.specs.Columns.{fields_in};
-ghost use Rattle.sentence_rows.specs.Reading as spec;
+ghost use Rattle.sentence_profile.specs.Writing as text;
+ghost use Rattle.sentence_profile.specs.Columns.{fields_in};
+ghost use Rattle.sentence_profile.specs.Reading as spec;
 
-use crate::fault::FieldFault;
 use crate::number::measure;
-use crate::read_unit;
 use readings::Reading;
 use sentence_fields::Field::{Decimal, Letter};
 use sentence_fields::written_unit::NAUTICAL_MILES;
 use sentence_fields::{Lines, append};
+use sentence_profile::{FieldFault, read_unit};
 use sentence_text::Sentence;
 
 pub(crate) fn vlw(talker: [u8; 2], log: Option<i64>, trip: Option<i64>, out: &mut Lines)
@@ -42,7 +41,7 @@ pub(crate) fn vlw(talker: [u8; 2], log: Option<i64>, trip: Option<i64>, out: &mu
 }
 
 /// The distances through the water that are read.
-#[tactic(auto, unfolding(crate::specs::Reading::vlw))]
+#[tactic(auto, unfolding(sentence_profile::specs::Reading::vlw))]
 pub(crate) fn read(sentence: &Sentence<'_>) -> Result<Reading, FieldFault>
     ensures { result ≡ spec.vlw (fields_in sentence.now) }
 {

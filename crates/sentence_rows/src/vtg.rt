@@ -8,19 +8,18 @@ ghost use Rattle.std.specs.List.{list_all};
 ghost use Rattle.sentence_text.specs.Byte.{is_capital};
 ghost use Rattle.sentence_fields.specs.Field.{IsCounted, texts_of, sentence_by};
 ghost use Rattle.sentence_fields.specs.ReadBack.{IsReadBack};
-ghost use Rattle.sentence_rows.specs.Writing as text;
-ghost use Rattle.sentence_rows.specs.Columns.{fields_in};
-ghost use Rattle.sentence_rows.specs.Reading as spec;
+ghost use Rattle.sentence_profile.specs.Writing as text;
+ghost use Rattle.sentence_profile.specs.Columns.{fields_in};
+ghost use Rattle.sentence_profile.specs.Reading as spec;
 
 use crate::column::{field, is_letter, is_magnetic};
-use crate::fault::FieldFault;
 use crate::letter::only_if;
 use crate::number::either_unit;
-use crate::read_unit;
 use readings::Reading;
 use sentence_fields::Field::{Angle, Decimal, Letter};
 use sentence_fields::written_unit::{KILOMETRES_PER_HOUR, KNOTS};
 use sentence_fields::{Lines, append, letter_where};
+use sentence_profile::{FieldFault, read_unit};
 use sentence_text::Sentence;
 
 pub(crate) fn vtg(
@@ -59,7 +58,7 @@ pub(crate) fn vtg(
 }
 
 /// The course, true or else magnetic, and the speed that are read; a mode of `N` makes them absent.
-#[tactic(auto, unfolding(crate::specs::Reading::vtg))]
+#[tactic(auto, unfolding(sentence_profile::specs::Reading::vtg))]
 pub(crate) fn read(sentence: &Sentence<'_>) -> Result<Reading, FieldFault>
     ensures { result ≡ spec.vtg (fields_in sentence.now) }
 {
@@ -81,7 +80,7 @@ pub(crate) fn read(sentence: &Sentence<'_>) -> Result<Reading, FieldFault>
 }
 
 /// Whether the mode, which may be missing, is `N`.
-#[tactic(auto, unfolding(crate::specs::Reading::is_invalid_mode, crate::specs::Columns::text))]
+#[tactic(auto, unfolding(sentence_profile::specs::Reading::is_invalid_mode, sentence_profile::specs::Columns::text))]
 fn is_invalid_mode(sentence: &Sentence<'_>) -> bool
     ensures { result ≡ spec.is_invalid_mode (fields_in sentence.now) }
 {

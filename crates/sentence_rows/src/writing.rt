@@ -3,8 +3,8 @@ ghost use Rattle.std.specs.List.{list_all};
 ghost use Rattle.readings.specs.Rows.{IsValid};
 ghost use Rattle.sentence_text.specs.Byte.{is_capital};
 ghost use Rattle.sentence_fields.specs.Field.{texts_of};
-ghost use Rattle.sentence_rows.specs.Stable.{IsSaid, IsStable};
-ghost use Rattle.sentence_rows.specs.Writing.{IsText};
+ghost use Rattle.sentence_profile.specs.Stable.{IsSaid, IsStable};
+ghost use Rattle.sentence_profile.specs.Writing.{IsText};
 
 use crate::letter::beside;
 use crate::{dbt, dpt, gga, gll, hdg, hdt, mtw, mwd, mwv, rot, rsa, ths, vhw, vlw, vtg, xte, zda};

@@ -8,19 +8,18 @@ ghost use Rattle.std.specs.List.{list_all};
 ghost use Rattle.sentence_text.specs.Byte.{is_capital};
 ghost use Rattle.sentence_fields.specs.Field.{IsCounted, texts_of, sentence_by};
 ghost use Rattle.sentence_fields.specs.ReadBack.{IsReadBack};
-ghost use Rattle.sentence_rows.specs.Writing as text;
-ghost use Rattle.sentence_rows.specs.Columns.{fields_in};
-ghost use Rattle.sentence_rows.specs.Reading as spec;
+ghost use Rattle.sentence_profile.specs.Writing as text;
+ghost use Rattle.sentence_profile.specs.Columns.{fields_in};
+ghost use Rattle.sentence_profile.specs.Reading as spec;
 
 use crate::column::{is_blank, status, unit_letter};
-use crate::fault::FieldFault;
 use crate::letter::only_if;
 use crate::number::sided;
-use crate::read_unit;
 use readings::Reading;
 use sentence_fields::Field::{Letter, Magnitude, Side};
 use sentence_fields::written_unit::TRACK_MILES;
 use sentence_fields::{Lines, append, letter_where};
+use sentence_profile::{FieldFault, read_unit};
 use sentence_text::Sentence;
 
 pub(crate) fn xte(talker: [u8; 2], distance: Option<i64>, out: &mut Lines)
@@ -48,7 +47,7 @@ pub(crate) fn xte(talker: [u8; 2], distance: Option<i64>, out: &mut Lines)
 }
 
 /// The distance from the track that is read; either status of `V` makes it absent.
-#[tactic(auto, unfolding(crate::specs::Reading::xte))]
+#[tactic(auto, unfolding(sentence_profile::specs::Reading::xte))]
 pub(crate) fn read(sentence: &Sentence<'_>) -> Result<Reading, FieldFault>
     ensures { result ≡ spec.xte (fields_in sentence.now) }
 {

@@ -9,17 +9,16 @@ ghost use Rattle.readings.specs.Ranges.{Admits, Holds, date as date_range};
 ghost use Rattle.sentence_text.specs.Byte.{is_capital};
 ghost use Rattle.sentence_fields.specs.Field.{texts_of, sentence_by};
 ghost use Rattle.sentence_fields.specs.ReadBack.{IsReadBack};
-ghost use Rattle.sentence_rows.specs.Writing as text;
-ghost use Rattle.sentence_rows.specs.Columns.{fields_in};
-ghost use Rattle.sentence_rows.specs.Reading as spec;
+ghost use Rattle.sentence_profile.specs.Writing as text;
+ghost use Rattle.sentence_profile.specs.Columns.{fields_in};
+ghost use Rattle.sentence_profile.specs.Reading as spec;
 
 use crate::clock::{date, time};
-use crate::fault::FieldFault;
-use crate::read_unit;
 use jiff_core::civil::Date;
 use readings::Reading;
 use sentence_fields::Field::{Digits, Time};
 use sentence_fields::{Lines, append};
+use sentence_profile::{FieldFault, read_unit};
 use sentence_text::Sentence;
 
 /// The days from the first date of the calendar, -9999-01-01, to 1970-01-01.
@@ -88,7 +87,7 @@ pub(crate) fn zda(talker: [u8; 2], day: Option<i64>, time: Option<i64>, out: &mu
 }
 
 /// The time and the date that are read. The local zone is passed over.
-#[tactic(auto, unfolding(crate::specs::Reading::zda))]
+#[tactic(auto, unfolding(sentence_profile::specs::Reading::zda))]
 pub(crate) fn read(sentence: &Sentence<'_>) -> Result<Reading, FieldFault>
     ensures { result ≡ spec.zda (fields_in sentence.now) }
 {

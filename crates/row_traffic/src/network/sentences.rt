@@ -2,7 +2,7 @@
 ghost use Rattle.std.specs.Prelude.{◌≡◌, ◌==◌, ◌+◌, ◌<◌, ◌≤◌, [], ◌∷◌, ◌++◌, false, length, MatchOption};
 ghost use Rattle.std.specs.List.{position_or_len};
 ghost use Rattle.sentence_text.specs.Reading.{parts};
-ghost use Rattle.sentence_rows.specs.Reading.{read_row};
+ghost use Rattle.sentence_profile.specs.Reading.{read_row};
 ghost use Rattle.datagram450.specs.Datagram.{cut};
 ghost use Rattle.history.specs.NetReadings.{read_sentence};
 ghost use Rattle.gate_model.specs.Net.{fault_emits, said_after, said_emits, sentences_after, sentences_emit};

@@ -1,7 +1,7 @@
 use Rattle.std.proofs.Common.{List, ℕ, false, refl, subst}
 use Rattle.std.specs.List.{flat_map}
 use Rattle.sentence_fields.specs.Field.{texts_of}
-use Rattle.sentence_rows.specs.Writing.{IsText}
+use Rattle.sentence_profile.specs.Writing.{IsText}
 use Rattle.readings.specs.Rows.{about_of}
 use Rattle.line_commands.proofs.convert.send_reading.Goals as goal
 

@@ -2,8 +2,8 @@
 use Rattle.std.proofs.Common.{◌∙◌, ap, refl, to_z, of_z, w8, w16, w64, FitsSigned, rules, arith}
 use Rattle.std.proofs.lemmas.Bool.{false≢true}
 use Rattle.std.proofs.lemmas.Int.{ints, to_z-of_z}
-use Rattle.sentence_rows.specs.Columns.{day_within}
-use Rattle.sentence_rows.proofs.Dates.{no_date_of, dated_of, inside, outside}
+use Rattle.sentence_profile.specs.Columns.{day_within}
+use Rattle.sentence_profile.proofs.Dates.{no_date_of, dated_of, inside, outside}
 use Rattle.sentence_rows.proofs.clock.day_number.Goals as goal
 
 pub returns-in-Err : goal.returns-in-Err

@@ -1,7 +1,7 @@
 -- So many digits write a number below that power of ten.
 use Rattle.std.proofs.Common.{length, arith}
 use Rattle.std.proofs.Math.Nat.{one-le-pow}
-use Rattle.sentence_rows.proofs.DigitNumbers.{below_most}
+use Rattle.sentence_profile.proofs.DigitNumbers.{below_most}
 use Rattle.sentence_rows.proofs.digits.digits_in.Goals as goal
 
 pub returns-then-may_lack-clause-small : goal.returns-then-may_lack-clause-small

@@ -2,7 +2,7 @@
 use Rattle.std.proofs.Common.{◌≡◌, arith}
 use Rattle.unit_fraction.specs.Digits.{number}
 use Rattle.unit_fraction.proofs.Number.{number_fits}
-use Rattle.sentence_rows.proofs.DigitNumbers.{ended, few_small, small}
+use Rattle.sentence_profile.proofs.DigitNumbers.{ended, few_small, small}
 use Rattle.sentence_rows.proofs.digits.number_of.Goals as goal
 
 pub overflow_mul-number : goal.overflow_mul-number

@@ -1,5 +1,5 @@
-use Rattle.sentence_rows.specs.Columns.{fields_in}
-use Rattle.sentence_rows.proofs.Valid.{valid_result}
+use Rattle.sentence_profile.specs.Columns.{fields_in}
+use Rattle.sentence_profile.proofs.Valid.{valid_result}
 use Rattle.sentence_rows.proofs.reading.read_sentence.Goals as goal
 
 pub returns-in-Some-clause-valid : goal.returns-in-Some-clause-valid

@@ -1,7 +1,7 @@
 -- Day, month and year are those of the date that is computed for the day.
 use Rattle.std.proofs.Common.{FitsSigned, w64, rules, ◌∙◌}
 use Rattle.std.proofs.lemmas.Int.{to_z-of_z}
-use Rattle.sentence_rows.proofs.Unique.{same_number}
+use Rattle.sentence_profile.proofs.Unique.{same_number}
 use Rattle.sentence_rows.proofs.rmc.date_number.Goals as goal
 
 pub returns : goal.returns

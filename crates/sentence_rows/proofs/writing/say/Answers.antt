@@ -1,5 +1,5 @@
 -- A day and a time are said with the date of the day.
-use Rattle.sentence_rows.proofs.Unique.{time_said}
+use Rattle.sentence_profile.proofs.Unique.{time_said}
 use Rattle.sentence_rows.proofs.writing.say.Goals as goal
 
 pub returns-in-Time : goal.returns-in-Time

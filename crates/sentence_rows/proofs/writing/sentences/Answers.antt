@@ -1,6 +1,6 @@
 -- What is said and read back is the text of the reading, and each of its lines is stable.
-use Rattle.sentence_rows.proofs.Unique.{is_text}
-use Rattle.sentence_rows.proofs.StableRows.{stable_lines}
+use Rattle.sentence_profile.proofs.Unique.{is_text}
+use Rattle.sentence_profile.proofs.StableRows.{stable_lines}
 use Rattle.sentence_rows.proofs.writing.sentences.Goals as goal
 
 pub returns-clause-said : goal.returns-clause-said

@@ -1,7 +1,7 @@
 -- The date of the day is the one whose number the day is.
 use Rattle.std.proofs.Common.{FitsSigned, w64, rules, ◌∙◌}
 use Rattle.std.proofs.lemmas.Int.{to_z-of_z}
-use Rattle.sentence_rows.proofs.Unique.{dated_zda}
+use Rattle.sentence_profile.proofs.Unique.{dated_zda}
 use Rattle.sentence_rows.proofs.zda.zda.Goals as goal
 
 pub returns-in-Some : goal.returns-in-Some

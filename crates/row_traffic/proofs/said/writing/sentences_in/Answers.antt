@@ -1,8 +1,8 @@
 use Rattle.std.proofs.Common.{ap, sym, ◌∙◌}
 use Rattle.readings.specs.Rows.{row_of}
 use Rattle.sentence_fields.specs.Field.{texts_of}
-use Rattle.sentence_rows.specs.Writing.{sentences_of}
-use Rattle.sentence_rows.proofs.Unique.{said_in_one_way}
+use Rattle.sentence_profile.specs.Writing.{sentences_of}
+use Rattle.sentence_profile.proofs.Unique.{said_in_one_way}
 use Rattle.history.specs.Settings.{rule_of}
 use Rattle.config_values.specs.Settings.{settings_by}
 use Rattle.row_traffic.proofs.Saying.{says_ths}

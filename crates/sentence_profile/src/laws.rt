@@ -1,6 +1,6 @@
 //! What is promised of dates and of the sentences that are written. Each law is a function that does nothing, and whose clause is
 //! the law.
-ghost use Rattle.sentence_rows.specs.Laws.{DatesAreTheCalendars, EachSaidBriefly, SaidInOneWay};
+ghost use Rattle.sentence_profile.specs.Laws.{DatesAreTheCalendars, EachSaidBriefly, SaidInOneWay};
 
 /// The date that the definitions compute for a day is the one that the calendar has for it.
 pub fn dates_are_the_calendars()

@@ -4,7 +4,7 @@ use Rattle.unit_fraction.specs.declared.decimal.Decimal.{Decimal}
 use Rattle.unit_fraction.specs.Reading.{IsDecimal, part_of}
 use Rattle.unit_fraction.proofs.Number.{number_small}
 use Rattle.sentence_text.specs.Fields.{fields_of, field_of}
-use Rattle.sentence_rows.specs.Columns.{field_at}
+use Rattle.sentence_profile.specs.Columns.{field_at}
 
 pub field_by_number : (body : List ℕ) (at : ℕ) → field_of body at ≡ field_at (fields_of body) at
 field_by_number body zero = refl

@@ -16,12 +16,12 @@ use Rattle.sentence_fields.specs.declared.field.Field.TheVariants.{Decimal, Degr
 use Rattle.sentence_fields.specs.declared.written_unit.WrittenUnit.{WrittenUnit}
 use Rattle.sentence_fields.specs.Field.{IsCounted, IsPrintable, body_width, is_sound, sentence_by, letter_where}
 use Rattle.sentence_fields.specs.Field as unit
-use Rattle.sentence_rows.specs.Writing.{beside, above_freezing, day_said, said_on, zda_on}
-use Rattle.sentence_rows.specs.Writing as text
-use Rattle.sentence_rows.specs.Calendar.{CivilDate, civil_date}
-use Rattle.sentence_rows.specs.Laws.{EachSaidBriefly}
+use Rattle.sentence_profile.specs.Writing.{beside, above_freezing, day_said, said_on, zda_on}
+use Rattle.sentence_profile.specs.Writing as text
+use Rattle.sentence_profile.specs.Calendar.{CivilDate, civil_date}
+use Rattle.sentence_profile.specs.Laws.{EachSaidBriefly}
 use Rattle.sentence_fields.proofs.Bodies.{sentence_fits}
-use Rattle.sentence_rows.proofs.Valid.{beside_within}
+use Rattle.sentence_profile.proofs.Valid.{beside_within}
 
 -- a formatter and fields that make a sentence of at most 82 bytes
 record Fits (s : List ℕ × List Field) : Type 0 where

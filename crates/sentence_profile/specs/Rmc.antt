@@ -5,8 +5,8 @@ use Rattle.readings.specs.Ranges.{Admits}
 use Rattle.sentence_fields.specs.Field.{degrees, knots, minutes, sentence_by}
 use Rattle.sentence_fields.specs.declared.field.Field.{Field}
 use Rattle.sentence_fields.specs.declared.field.Field.TheVariants.{Letter, Decimal, Magnitude, Side, Angle, Degrees, Time, Digits}
-use Rattle.sentence_rows.specs.declared.rmc.Minimum.{Minimum}
-use Rattle.sentence_rows.specs.Calendar.{CivilDate, civil_date}
+use Rattle.sentence_profile.specs.declared.minimum.Minimum.{Minimum}
+use Rattle.sentence_profile.specs.Calendar.{CivilDate, civil_date}
 
 -- what is printed with decimals is in its range
 pub record IsMinimum (x : Minimum) : Type 0 where

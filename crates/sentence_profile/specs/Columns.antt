@@ -2,11 +2,11 @@
 --
 -- A field that is missing has a fault of its form. Form comes before range, and what isn't kept is only counted.
 use Rattle.std.specs.Prelude.{ℕ, Bool, false, List, [], ◌∷◌, Option, Some, None, Result, Ok, Err, if◌then◌else◌, true, ◌&&◌, nat_lt, nat_le, ◌^◌, unsigned_abs, zero, suc, ◌+◌, ◌-◌, ◌*◌, ◌/◌, ◌%◌, ◌<◌, ◌≤◌, ℤ, pos, negsuc, neg_ℤ, not, ◌==◌, length, take, drop, slice_get, unwrap_or, is_none}
-use Rattle.sentence_rows.specs.declared.fault.FieldFault.{FieldFault}
-use Rattle.sentence_rows.specs.declared.fault.FieldFault.TheVariants.{Form, Range}
+use Rattle.sentence_profile.specs.declared.fault.FieldFault.{FieldFault}
+use Rattle.sentence_profile.specs.declared.fault.FieldFault.TheVariants.{Form, Range}
 use Rattle.readings.specs.declared.range.Range.{Range as Bounds}
 use Rattle.readings.specs.Ranges as ranges
-use Rattle.sentence_rows.specs.declared.read_unit.ReadUnit.{ReadUnit}
+use Rattle.sentence_profile.specs.declared.read_unit.ReadUnit.{ReadUnit}
 use Rattle.std.specs.Char.{is_ascii_digit}
 use Rattle.std.specs.List.{list_all}
 use Rattle.jiff_core.specs.Date.{epoch_day}
@@ -21,8 +21,8 @@ use Rattle.unit_fraction.specs.Round.{round, signed}
 use Rattle.sentence_text.specs.Byte.{is_capital}
 use Rattle.sentence_text.specs.Fields.{fields_of}
 use Rattle.sentence_text.specs.declared.sentence.Sentence.{Sentence}
-use Rattle.sentence_rows.specs.declared.digits.Fixed.{Fixed}
-use Rattle.sentence_rows.specs.Calendar.{date_of}
+use Rattle.sentence_profile.specs.declared.fixed.Fixed.{Fixed}
+use Rattle.sentence_profile.specs.Calendar.{date_of}
 
 -- ---- what is read of a field or of a sentence: the value, or the first fault with its field's number
 

@@ -8,8 +8,8 @@ use Rattle.jiff_core.specs.declared.civil.date.Date.{Date}
 use Rattle.jiff_core.specs.Calendar.{IsDate, IsYear, days_in_month}
 use Rattle.jiff_core.specs.Date.{IsYmd, epoch_day}
 use Rattle.readings.specs.Ranges.{Holds, date as date_range}
-use Rattle.sentence_rows.specs.Calendar.{is_year, is_month, is_day, date_if, date_of}
-use Rattle.sentence_rows.specs.Columns.{day_number, day_of, day_within}
+use Rattle.sentence_profile.specs.Calendar.{is_year, is_month, is_day, date_if, date_of}
+use Rattle.sentence_profile.specs.Columns.{day_number, day_of, day_within}
 
 none_if : (year month day : ℕ) (y m d : Bool) (ey : is_year year ≡ y) (em : is_month month ≡ m) (ed : is_day year month day ≡ d)
     → (IsDate (pos year) (pos month) (pos day) → ⊥) → day_of (date_if year month day y m d ey em ed) ≡ None

@@ -10,16 +10,16 @@ use Rattle.readings.specs.Ranges as ranges
 use Rattle.readings.specs.Ranges.{Admits, Holds}
 use Rattle.unit_fraction.specs.declared.decimal.Decimal.{Decimal}
 use Rattle.unit_fraction.specs.Round.{nearest}
-use Rattle.sentence_rows.specs.declared.digits.Fixed.{Fixed}
-use Rattle.sentence_rows.specs.declared.fault.FieldFault.{FieldFault}
-use Rattle.sentence_rows.specs.declared.formatter.Formatter.{Formatter}
-use Rattle.sentence_rows.specs.declared.formatter.Formatter.TheVariants as formatter
-use Rattle.sentence_rows.specs.declared.read_unit.ReadUnit.{ReadUnit}
-use Rattle.sentence_rows.specs.Columns as spec
-use Rattle.sentence_rows.specs.Columns.{IsFixed, value, range_of}
-use Rattle.sentence_rows.specs.Reading as rows
-use Rattle.sentence_rows.specs.Writing.{only_if, beside}
-use Rattle.sentence_rows.proofs.DigitNumbers.{decimals_below, small}
+use Rattle.sentence_profile.specs.declared.fixed.Fixed.{Fixed}
+use Rattle.sentence_profile.specs.declared.fault.FieldFault.{FieldFault}
+use Rattle.sentence_profile.specs.declared.formatter.Formatter.{Formatter}
+use Rattle.sentence_profile.specs.declared.formatter.Formatter.TheVariants as formatter
+use Rattle.sentence_profile.specs.declared.read_unit.ReadUnit.{ReadUnit}
+use Rattle.sentence_profile.specs.Columns as spec
+use Rattle.sentence_profile.specs.Columns.{IsFixed, value, range_of}
+use Rattle.sentence_profile.specs.Reading as rows
+use Rattle.sentence_profile.specs.Writing.{only_if, beside}
+use Rattle.sentence_profile.proofs.DigitNumbers.{decimals_below, small}
 
 -- ---- numbers
 

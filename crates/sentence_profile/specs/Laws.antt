@@ -5,8 +5,8 @@ use Rattle.readings.specs.declared.reading.Reading.{Reading}
 use Rattle.readings.specs.Ranges.{Holds, date as date_range}
 use Rattle.readings.specs.Rows.{IsValid}
 use Rattle.sentence_text.specs.Sentence.{longest_written}
-use Rattle.sentence_rows.specs.Calendar.{IsDateOf, civil_date}
-use Rattle.sentence_rows.specs.Writing.{IsText, sentences_of}
+use Rattle.sentence_profile.specs.Calendar.{IsDateOf, civil_date}
+use Rattle.sentence_profile.specs.Writing.{IsText, sentences_of}
 
 -- the date that is computed for a day is the calendar's
 abbrev pub DatesAreTheCalendars : Type 0

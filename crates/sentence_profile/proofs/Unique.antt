@@ -10,14 +10,14 @@ use Rattle.readings.specs.declared.reading.Reading.TheVariants as reading
 use Rattle.sentence_fields.specs.declared.lines.SentenceText.{SentenceText}
 use Rattle.sentence_fields.specs.Field.{texts_of, sentence_by}
 use Rattle.sentence_fields.specs.ReadBack.{IsReadBack}
-use Rattle.sentence_rows.specs.Stable.{IsSaid}
-use Rattle.sentence_rows.specs.Writing.{Dated, IsText, day_said, said, zda, zda_on}
+use Rattle.sentence_profile.specs.Stable.{IsSaid}
+use Rattle.sentence_profile.specs.Writing.{Dated, IsText, day_said, said, zda, zda_on}
 use Rattle.jiff_core.proofs.DateLemmas.{epoch_day_injective}
 use Rattle.readings.specs.Ranges.{Holds, date as date_range}
-use Rattle.sentence_rows.specs.Calendar.{civil_date}
-use Rattle.sentence_rows.specs.Laws.{SaidInOneWay}
-use Rattle.sentence_rows.specs.Rmc.{date_number}
-use Rattle.sentence_rows.proofs.CivilDates.{dates_are_the_calendars}
+use Rattle.sentence_profile.specs.Calendar.{civil_date}
+use Rattle.sentence_profile.specs.Laws.{SaidInOneWay}
+use Rattle.sentence_profile.specs.Rmc.{date_number}
+use Rattle.sentence_profile.proofs.CivilDates.{dates_are_the_calendars}
 
 -- a sentence is added and read back
 abbrev Adds : List ℕ → List (List ℕ) → List (List ℕ) → Option ℤ → Option Date → Type 0

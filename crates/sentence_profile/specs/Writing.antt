@@ -7,7 +7,7 @@ use Rattle.readings.specs.declared.reading.Reading.TheVariants as reading
 use Rattle.sentence_fields.specs.Field.{degrees, degrees_per_minute, knots, kilometres_per_hour, metres_per_second, metres, feet, fathoms, offset_metres, range_metres, nautical_miles, track_miles, minutes, fix_minutes, altitude_metres, separation_metres, dilution, celsius, letter_where, sentence_by}
 use Rattle.sentence_fields.specs.declared.field.Field.{Field}
 use Rattle.sentence_fields.specs.declared.field.Field.TheVariants.{Empty, Letter, Decimal, Magnitude, Side, Angle, Degrees, Time, Digits, Satellites}
-use Rattle.sentence_rows.specs.Calendar.{CivilDate, civil_date}
+use Rattle.sentence_profile.specs.Calendar.{CivilDate, civil_date}
 
 -- the value, where it is the one that is meant
 abbrev pub only_if : Bool → Option ℤ → Option ℤ

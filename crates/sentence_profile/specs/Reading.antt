@@ -1,8 +1,8 @@
 -- The readings of each sentence: for each formatter its fields in order, and the values that they give.
 use Rattle.std.specs.Prelude.{ℕ, List, [], ◌∷◌, codes, Option, find, ◌≡◌, ℤ, pos, ◌+ℤ◌, Bool, false, not, ◌&&◌, ◌==◌, nat_lt, length, Some, None, is_none, IfSome, Result, Ok, Err, if◌then◌else◌}
 use Rattle.std.specs.Str.{bytes_eq}
-use Rattle.sentence_rows.specs.declared.formatter.Formatter.{Formatter}
-use Rattle.sentence_rows.specs.declared.formatter.Formatter.TheVariants as formatter
+use Rattle.sentence_profile.specs.declared.formatter.Formatter.{Formatter}
+use Rattle.sentence_profile.specs.declared.formatter.Formatter.TheVariants as formatter
 use Rattle.std.specs.Option.{option_to_list}
 use Rattle.std.specs.Result.{result_unwrap_or}
 use Rattle.sentence_text.specs.Sentence.{SentenceParts}
@@ -10,11 +10,11 @@ use Rattle.sentence_text.specs.Fields.{fields_of}
 use Rattle.readings.specs.Rows.{IsValid}
 use Rattle.readings.specs.declared.reading.Reading.{Reading}
 use Rattle.readings.specs.declared.reading.Reading.TheVariants as reading
-use Rattle.sentence_rows.specs.declared.fault.FieldFault.{FieldFault}
-use Rattle.sentence_rows.specs.declared.fault.FieldFault.TheVariants.{Outside}
-use Rattle.sentence_rows.specs.Writing.{only_if, beside}
-use Rattle.sentence_rows.specs.Columns.{fault, value, holds, reads, is_blank, is_magnetic, is_letter, text, unkept, unit_letter, status, reference, heading_mode, number, measure, either_unit, sided, wind_speed, coordinate, time, date, quality, satellites}
-use Rattle.sentence_rows.specs.Columns as quantity
+use Rattle.sentence_profile.specs.declared.fault.FieldFault.{FieldFault}
+use Rattle.sentence_profile.specs.declared.fault.FieldFault.TheVariants.{Outside}
+use Rattle.sentence_profile.specs.Writing.{only_if, beside}
+use Rattle.sentence_profile.specs.Columns.{fault, value, holds, reads, is_blank, is_magnetic, is_letter, text, unkept, unit_letter, status, reference, heading_mode, number, measure, either_unit, sided, wind_speed, coordinate, time, date, quality, satellites}
+use Rattle.sentence_profile.specs.Columns as quantity
 
 abbrev pub all : List Formatter
 all =

@@ -6,8 +6,8 @@ use Rattle.sentence_text.specs.Reading.{read}
 use Rattle.sentence_text.specs.Sentence.{SentenceParts}
 use Rattle.sentence_fields.specs.Field.{sentence_by}
 use Rattle.sentence_fields.specs.ReadBack.{IsReadBack}
-use Rattle.sentence_rows.specs.Reading.{read_row}
-use Rattle.sentence_rows.specs.Writing.{Dated, IsText, day_said, said}
+use Rattle.sentence_profile.specs.Reading.{read_row}
+use Rattle.sentence_profile.specs.Writing.{Dated, IsText, day_said, said}
 
 -- the line is read as a sentence with one reading, and it is among the sentences in which the talker says that reading
 pub record IsStable (talker : List ℕ) (with_ths : Bool) (line : List ℕ) : Type 0 where

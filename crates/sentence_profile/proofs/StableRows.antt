@@ -14,24 +14,24 @@ use Rattle.readings.specs.declared.reading.Reading.TheVariants as reading
 use Rattle.sentence_text.specs.Fields.{fields_of}
 use Rattle.sentence_text.specs.Sentence.{sentence}
 use Rattle.sentence_fields.specs.declared.written_unit.WrittenUnit.{WrittenUnit}
-use Rattle.sentence_rows.specs.declared.read_unit.ReadUnit.{ReadUnit}
-use Rattle.sentence_rows.specs.declared.fault.FieldFault.{FieldFault}
-use Rattle.sentence_rows.specs.declared.formatter.Formatter.{Formatter}
-use Rattle.sentence_rows.specs.declared.formatter.Formatter.TheVariants as formatter
+use Rattle.sentence_profile.specs.declared.read_unit.ReadUnit.{ReadUnit}
+use Rattle.sentence_profile.specs.declared.fault.FieldFault.{FieldFault}
+use Rattle.sentence_profile.specs.declared.formatter.Formatter.{Formatter}
+use Rattle.sentence_profile.specs.declared.formatter.Formatter.TheVariants as formatter
 use Rattle.sentence_fields.specs.declared.field.Field.{Field}
 use Rattle.sentence_fields.specs.declared.field.Field.TheVariants.{Angle, Decimal, Letter}
 use Rattle.sentence_fields.specs.Field as unit
 use Rattle.sentence_fields.specs.Field.{body_text, text_of, sentence_by, letter_where}
-use Rattle.sentence_rows.specs.Columns as spec
-use Rattle.sentence_rows.specs.Reading.{formatter_of, name_of}
-use Rattle.sentence_rows.specs.Reading as rows
+use Rattle.sentence_profile.specs.Columns as spec
+use Rattle.sentence_profile.specs.Reading.{formatter_of, name_of}
+use Rattle.sentence_profile.specs.Reading as rows
 use Rattle.sentence_fields.specs.ReadBack.{IsReadBack, parts_by}
-use Rattle.sentence_rows.specs.Stable.{IsSaid, IsStable}
-use Rattle.sentence_rows.specs.Writing as text
-use Rattle.sentence_rows.specs.Writing.{Dated, IsText, beside, day_said, only_if, said}
-use Rattle.sentence_rows.proofs.Again.{ReadsAs, back, paired, reads_decimal, reads_nothing, same_decimal}
-use Rattle.sentence_rows.proofs.Texted.{Fields, angle_back, angle_of, back_angle, blank_angle, either_of, first_of_two, angle_measured, measured, measure_of, mode_said, number_back, number_of, reads_exactly, reference_of, same_angle, sided_back, status_of, texts, unit_of, wind_of, coordinate_back, quality_of, satellites_back, time_back, date_said, no_date_said}
-use Rattle.sentence_rows.proofs.Valid.{beside_within}
+use Rattle.sentence_profile.specs.Stable.{IsSaid, IsStable}
+use Rattle.sentence_profile.specs.Writing as text
+use Rattle.sentence_profile.specs.Writing.{Dated, IsText, beside, day_said, only_if, said}
+use Rattle.sentence_profile.proofs.Again.{ReadsAs, back, paired, reads_decimal, reads_nothing, same_decimal}
+use Rattle.sentence_profile.proofs.Texted.{Fields, angle_back, angle_of, back_angle, blank_angle, either_of, first_of_two, angle_measured, measured, measure_of, mode_said, number_back, number_of, reads_exactly, reference_of, same_angle, sided_back, status_of, texts, unit_of, wind_of, coordinate_back, quality_of, satellites_back, time_back, date_said, no_date_said}
+use Rattle.sentence_profile.proofs.Valid.{beside_within}
 
 -- ---- a whole sentence
 

@@ -1,5 +1,5 @@
 ghost use Rattle.std.specs.Prelude.{◌≡◌};
-ghost use Rattle.sentence_rows.specs.Reading.{formatter_of, name_of};
+ghost use Rattle.sentence_profile.specs.Reading.{formatter_of, name_of};
 
 /// The sentences that are read, by the last three characters of their address.
 #[derive(Clone, Copy)]
@@ -70,7 +70,7 @@ impl Formatter {
 
     /// The formatter of this name.
     #[tactic(auto, unfolding(crate::specs::Reading::formatter_of))]
-    pub(crate) fn of(text: &[u8]) -> Option<Formatter>
+    pub fn of(text: &[u8]) -> Option<Formatter>
         ensures { result ≡ formatter_of text.now }
     {
         ALL.iter().copied().find(|f| f.name().as_slice() == text)

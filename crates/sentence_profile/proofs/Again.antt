@@ -17,11 +17,11 @@ use Rattle.unit_fraction.proofs.Nearest.{nearest_between}
 use Rattle.unit_fraction.proofs.Round.{round_signed}
 use Rattle.unit_fraction.proofs.ThereAndBack.{sizes}
 use Rattle.sentence_fields.specs.declared.written_unit.WrittenUnit.{WrittenUnit}
-use Rattle.sentence_rows.specs.declared.read_unit.ReadUnit.{ReadUnit}
+use Rattle.sentence_profile.specs.declared.read_unit.ReadUnit.{ReadUnit}
 use Rattle.sentence_fields.specs.declared.field.Field.TheVariants.{Decimal, Degrees, Magnitude, Side}
-use Rattle.sentence_rows.specs.Columns.{range_of, given}
+use Rattle.sentence_profile.specs.Columns.{range_of, given}
 use Rattle.sentence_fields.specs.Field.{count, degrees_text, is_negative, text_of}
-use Rattle.sentence_rows.specs.Columns as spec
+use Rattle.sentence_profile.specs.Columns as spec
 use Rattle.sentence_fields.proofs.Bodies.{abs-neg, abs-round}
 
 -- a unit that is written and a quantity that is read are each other's inverse, and the ends of the range stay within it

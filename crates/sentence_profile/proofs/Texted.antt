@@ -7,15 +7,15 @@ use Rattle.readings.specs.Ranges.{Admits, Holds, date as date_range}
 use Rattle.unit_fraction.specs.Round.{nearest, signed}
 use Rattle.unit_fraction.specs.Text.{decimal_text, decimals}
 use Rattle.sentence_fields.specs.declared.written_unit.WrittenUnit.{WrittenUnit}
-use Rattle.sentence_rows.specs.declared.read_unit.ReadUnit.{ReadUnit}
-use Rattle.sentence_rows.specs.declared.fault.FieldFault.{FieldFault}
+use Rattle.sentence_profile.specs.declared.read_unit.ReadUnit.{ReadUnit}
+use Rattle.sentence_profile.specs.declared.fault.FieldFault.{FieldFault}
 use Rattle.sentence_fields.specs.declared.field.Field.{Field}
 use Rattle.sentence_fields.specs.declared.field.Field.TheVariants.{Angle, Decimal, Magnitude, Side, Degrees, Satellites, Time, Digits}
-use Rattle.sentence_rows.specs.Columns.{range_of, given}
+use Rattle.sentence_profile.specs.Columns.{range_of, given}
 use Rattle.sentence_fields.specs.Field as unit
 use Rattle.sentence_fields.specs.Field.{count, is_negative, text_of, degrees_text, time_text, letter_where}
-use Rattle.sentence_rows.specs.Columns as spec
-use Rattle.sentence_rows.proofs.Again.{Paired, ReadsAs, back, exact, is_paired, nearest_mono, no_more_either, paired, printed, printed_read, read_size, reads_decimal, reads_digits, reads_magnitude, reads_nothing, same_decimal, same_sided, there_again, count_size, nearest_quotient, quotient, same_coordinate, scales, size_again}
+use Rattle.sentence_profile.specs.Columns as spec
+use Rattle.sentence_profile.proofs.Again.{Paired, ReadsAs, back, exact, is_paired, nearest_mono, no_more_either, paired, printed, printed_read, read_size, reads_decimal, reads_digits, reads_magnitude, reads_nothing, same_decimal, same_sided, there_again, count_size, nearest_quotient, quotient, same_coordinate, scales, size_again}
 use Rattle.std.specs.Char.{is_ascii_digit}
 use Rattle.std.specs.Fmt.{decimal}
 use Rattle.std.specs.List.{list_all}
@@ -29,15 +29,15 @@ use Rattle.std.proofs.lemmas.Nat.{mul-le}
 use Rattle.unit_fraction.specs.Digits.{number_after, number}
 use Rattle.unit_fraction.proofs.Number.{number_after_append}
 use Rattle.unit_fraction.proofs.Text.{length-decimals, own}
-use Rattle.sentence_rows.specs.declared.digits.Fixed.{Fixed}
-use Rattle.sentence_rows.proofs.DigitNumbers.{list_all_digits}
+use Rattle.sentence_profile.specs.declared.fixed.Fixed.{Fixed}
+use Rattle.sentence_profile.proofs.DigitNumbers.{list_all_digits}
 use Rattle.std.specs.Int.{IsInRange}
 use Rattle.jiff_core.specs.declared.civil.date.Date.{Date}
 use Rattle.jiff_core.specs.Date.{epoch_day}
 use Rattle.jiff_core.proofs.DateLemmas.{epoch_day-lt}
 use Rattle.jiff_core.specs.Calendar.{days_in_month, is_leap_year, day_count, days_from_civil}
-use Rattle.sentence_rows.proofs.CivilDates.{no_months, years_least}
-use Rattle.sentence_rows.proofs.Dates.{dated, inside}
+use Rattle.sentence_profile.proofs.CivilDates.{no_months, years_least}
+use Rattle.sentence_profile.proofs.Dates.{dated, inside}
 
 abbrev pub Fields : Type 0
 Fields = List (List ℕ)

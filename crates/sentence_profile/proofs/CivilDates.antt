@@ -3,8 +3,8 @@ use Rattle.std.proofs.Common.{◌≡◌, ℕ, zero, suc, ◌+◌, ◌-◌, ◌*�
 use Rattle.std.proofs.lemmas.Bool.Decides.{nat_tests}
 use Rattle.std.proofs.lemmas.Int.{ints}
 use Rattle.jiff_core.specs.Calendar.{is_leap_year, days_of_years, days_of_months, days_in_month, days_in_year, days_from_civil, day_count}
-use Rattle.sentence_rows.specs.Calendar.{CivilDate, ymd, date_in_year, date_after, civil_date, IsDateOf}
-use Rattle.sentence_rows.specs.Laws.{DatesAreTheCalendars}
+use Rattle.sentence_profile.specs.Calendar.{CivilDate, ymd, date_in_year, date_after, civil_date, IsDateOf}
+use Rattle.sentence_profile.specs.Laws.{DatesAreTheCalendars}
 
 lt_true : (a b : ℕ) → nat_lt a b ≡ true → a < b
 lt_true a b e = grind (arith, nat_tests)

@@ -1,5 +1,0 @@
-use Rattle.sentence_rows.proofs.CivilDates.{dates_are_the_calendars}
-use Rattle.sentence_rows.proofs.laws.dates_are_the_calendars.Goals as goal
-
-pub returns : goal.returns
-returns c = dates_are_the_calendars

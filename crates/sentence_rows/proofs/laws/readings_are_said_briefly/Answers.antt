@@ -1,5 +1,0 @@
-use Rattle.sentence_rows.proofs.ShortSentences.{said_briefly}
-use Rattle.sentence_rows.proofs.laws.readings_are_said_briefly.Goals as goal
-
-pub returns : goal.returns
-returns c = said_briefly
