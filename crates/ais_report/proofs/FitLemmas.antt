@@ -1,11 +1,13 @@
 -- Which values fit, and that there is room for their bits.
-use Rattle.std.proofs.Common.{◌≡◌, ℕ, suc, ◌+◌, ◌-◌, ◌^◌, ◌<◌, ◌≤◌, Bool, true, false, List, ◌∷◌, ◌++◌, length, drop, slice_index_or, ap, ◌∙◌, length-append, arith}
-use Rattle.std.specs.Prelude.{ℤ, pos, negsuc, ◌-ℤ◌, ◌≤ℤ◌, unsigned_abs}
+use Rattle.std.proofs.Common.{◌≡◌, ℕ, ◌+◌, ◌-◌, ◌^◌, ◌<◌, ◌≤◌, Bool, true, false, List, ◌++◌, length, drop, slice_index_or, ap, length-append, arith}
+use Rattle.std.specs.Prelude.{ℤ, pos, ◌-ℤ◌, ◌≤ℤ◌, unsigned_abs}
+use Rattle.std.specs.Int.{IsInRange}
 use Rattle.std.specs.List.{flat_map}
 use Rattle.std.proofs.Math.Seq.{drop-cons}
 use Rattle.std.proofs.lemmas.Int.{ints}
+use Rattle.std.proofs.lemmas.Nat.{pow_below}
+use Rattle.std.proofs.Math.Nat.{pow-le-pow_right}
 use Rattle.ais_report.specs.declared.field.Field.{Field}
-use Rattle.ais_report.specs.Bits.{bit}
 use Rattle.ais_report.specs.Fields.{Fits, field_bits, flag, pattern_of, signed, unsigned}
 use Rattle.ais_report.proofs.BitLemmas.{length-bits}
 
@@ -30,3 +32,14 @@ next_has_room out start fields i limit inside whole room =
     let lengths = simp length-append at (ap length whole) in
     let parts = simp length-append at (ap (λ fs. length (flat_map field_bits fs)) (drop-cons fields i none inside)) in
     omega (arith, lengths, parts, length-bits f.width (pattern_of f.width f.value), room)
+
+-- a value that fits so many bits, and what it is as two's complement, is a number of 32 bits
+pub value_bounds : (w : ℕ) (s : Bool) (v : ℤ) → IsInRange 1 31 w → Fits (record { width = w; signed = s; value = v })
+    → ((pos 0 -ℤ pos (2 ^ w)) ≤ℤ v) × (v ≤ℤ pos 2147483647)
+value_bounds w true v range fits =
+    let half = pow_below (w - 1) w (omega arith) in
+    let most = pow-le-pow_right {n = 2} (omega arith) {i = w} {j = 31} (omega arith) in
+    (omega (arith, ints, fits.0), omega (arith, ints, fits.1))
+value_bounds w false v range fits =
+    let most = pow-le-pow_right {n = 2} (omega arith) {i = w} {j = 31} (omega arith) in
+    (omega (arith, ints, fits.0), omega (arith, ints, fits.1))

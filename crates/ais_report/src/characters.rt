@@ -54,7 +54,6 @@ fn character(number: u8) -> u8
 
 /// The valid report that `armour` writes in this text. None exactly where it writes none so: where the text isn't 28 of its characters,
 /// its values aren't those of a valid report, the rate of turn is told, or a spare bit is set.
-#[tactic(auto, using(crate::proofs::ReadLemmas::report_read_again, crate::proofs::ReadLemmas::length_armour, crate::proofs::SixLemmas::length_text))]
 pub fn read_armour(text: &[u8]) -> Option<AisReport>
     ensures found { IfSome result (λ r. IsReport r × (armour_of r ≡ text.now)) }
     ensures only { (r : AisReport) → IsReport r → armour_of r ≡ text.now → result ≡ Some r }
@@ -74,7 +73,6 @@ pub fn read_armour(text: &[u8]) -> Option<AisReport>
 }
 
 /// The bits of each character.
-#[tactic(auto, unfolding(crate::specs::Read::text_bits))]
 fn text_bits(text: &[u8]) -> Bits
     requires { length text.now ≡ 28 }
     ensures { result.items ≡ text_bits text.now }
