@@ -1,0 +1,6 @@
+-- The gap is the group's.
+use Rattle.std.proofs.Common.{rules}
+use Rattle.tag_block.proofs.group_assembler.GroupAssembler.grow.Goals as goal
+
+pub returns : goal.returns
+returns c = search rules
