@@ -11,3 +11,12 @@ returns-clause-again c = λ lines tail parts done h behind short.
     let text = c.args.sentence.now in
     let is : LineOf (said_by tag) text parts (line_text tag text) = record { front = block_text (block_of tag); tag = c.append_line.ensures.grammar; sentence = h; spelled = refl } in
     appended (said_by tag) text parts (line_text tag text) lines tail c.args.out.now.items c.append_line.new.out.items is (c.append_line.ensures.written done) behind.spelled behind.each behind.few short
+
+pub returns-clause-fits : goal.returns-clause-fits
+returns-clause-fits c = c.append_line.ensures.fits
+
+pub returns-clause-written : goal.returns-clause-written
+returns-clause-written c = c.append_line.ensures.written
+
+pub returns-clause-room : goal.returns-clause-room
+returns-clause-room c = c.append_line.ensures.room
