@@ -4,7 +4,7 @@ use Rattle.std.specs.List.{position, position_or_len, insert, list_any}
 use Rattle.std.proofs.lemmas.List.Edits.{length-insert}
 use Rattle.std.proofs.lemmas.List.Sums.{prefix_len-le-length}
 use Rattle.std.proofs.lemmas.Bool.Decides.{nat_tests}
-use Rattle.std.proofs.lemmas.Bool.{eqb-true, eq-eqb, and_parts, leb-true, le-leb, not-true, or_parts}
+use Rattle.std.proofs.lemmas.Bool.{eqb-true, eq-eqb, and_parts, leb-true, leb-false, le-leb, ltb-true, ltb-false, not-true, or_parts}
 use Rattle.source_choice.specs.declared.note.Note.{Note}
 use Rattle.source_choice.specs.Notes.{SubjectNotes, AreFrom, is_fresh, is_selected, note_of, outranks, with_note, without}
 use Rattle.source_choice.specs.Ranks.{is_before, IsBefore}
@@ -39,32 +39,37 @@ from_with low top x (n ∷ ns) l b from = by (nat_lt x.source n.source) refl (n.
         → AreFrom low top (if t then x ∷ n ∷ ns else if u then x ∷ ns else n ∷ with_note x ns)
     by t lt u e onward = grind (arith, nat_tests, eqb-true)
 
--- how the sources of two notes compare
-three_ways : (a b : ℕ) (t u v : Bool) → nat_le a b ≡ t → nat_lt a b ≡ u → (b == a) ≡ v → (t ≡ false → (u ≡ false) × (v ≡ false)) × (b ≡ a → (t ≡ true) × (u ≡ false) × (v ≡ true)) × (t ≡ true → b ≢ a → u ≡ true)
-three_ways a b t u v e f g = (λ h. (grind (arith, nat_tests), grind (arith, nat_tests)), λ h. (grind (arith, nat_tests), grind (arith, nat_tests), rw (← g) (eq-eqb b a h)), λ h k. grind (arith, nat_tests))
-
 abbrev pub with_first : Note → Note → List Note → Bool → Bool → List Note
 with_first x n ns u v = if u then x ∷ n ∷ ns else if v then x ∷ ns else n ∷ with_note x ns
 
 set_step : (x d n : Note) (ns : List Note) (k : ℕ) (t u v : Bool) → nat_le x.source n.source ≡ t → nat_lt x.source n.source ≡ u → (n.source == x.source) ≡ v
     → cond (not t) (1 + k) 0 < length (n ∷ ns) → (get_or (n ∷ ns) (cond (not t) (1 + k) 0) d).source ≡ x.source
     → (k < length ns → (get_or ns k d).source ≡ x.source → set ns k x ≡ with_note x ns) → set (n ∷ ns) (cond (not t) (1 + k) 0) x ≡ with_first x n ns u v
-set_step x d n ns k t u v e f g l same rest = grind (arith, three_ways)
+set_step x d n ns k true true v e f g l same rest = absurd (omega (arith, ltb-true x.source n.source f, same))
+set_step x d n ns k true false true e f g l same rest = refl
+set_step x d n ns k true false false e f g l same rest = cc (eq-eqb n.source x.source same)
+set_step x d n ns k false true v e f g l same rest = absurd (omega (arith, ltb-true x.source n.source f, leb-false x.source n.source e))
+set_step x d n ns k false false true e f g l same rest = absurd (omega (arith, eqb-true n.source x.source g, leb-false x.source n.source e))
+set_step x d n ns k false false false e f g l same rest = grind arith
 
 -- the note of a source is replaced in its place
 pub set_is : (x d : Note) (ns : List Note) → place x.source ns < length ns → (get_or ns (place x.source ns) d).source ≡ x.source → set ns (place x.source ns) x ≡ with_note x ns
 set_is x d [] l same = absurd (omega (arith, l))
-set_is x d (n ∷ ns) l same = grind (arith, set_is x d ns, set_step)
+set_is x d (n ∷ ns) l same = set_step x d n ns (place x.source ns) _ _ _ refl refl refl l same (set_is x d ns)
 
 insert_step : (x d n : Note) (ns : List Note) (k : ℕ) (t u v : Bool) → nat_le x.source n.source ≡ t → nat_lt x.source n.source ≡ u → (n.source == x.source) ≡ v
     → (cond (not t) (1 + k) 0 < length (n ∷ ns) → (get_or (n ∷ ns) (cond (not t) (1 + k) 0) d).source ≢ x.source)
     → ((k < length ns → (get_or ns k d).source ≢ x.source) → insert ns k x ≡ with_note x ns) → insert (n ∷ ns) (cond (not t) (1 + k) 0) x ≡ with_first x n ns u v
-insert_step x d n ns k t u v e f g other rest = grind (arith, three_ways)
+insert_step x d n ns k true true v e f g other rest = refl
+insert_step x d n ns k true false v e f g other rest = absurd (other (omega arith) (omega (arith, ltb-false x.source n.source f, leb-true x.source n.source e)))
+insert_step x d n ns k false true v e f g other rest = absurd (omega (arith, ltb-true x.source n.source f, leb-false x.source n.source e))
+insert_step x d n ns k false false true e f g other rest = absurd (omega (arith, eqb-true n.source x.source g, leb-false x.source n.source e))
+insert_step x d n ns k false false false e f g other rest = grind arith
 
 -- and a new one is put in
 pub insert_is : (x d : Note) (ns : List Note) → (place x.source ns < length ns → (get_or ns (place x.source ns) d).source ≢ x.source) → insert ns (place x.source ns) x ≡ with_note x ns
 insert_is x d [] other = refl
-insert_is x d (n ∷ ns) other = grind (arith, insert_is x d ns, insert_step)
+insert_is x d (n ∷ ns) other = insert_step x d n ns (place x.source ns) _ _ _ refl refl refl other (insert_is x d ns)
 
 -- a source that isn't noted yet finds room
 pub room : (top : ℕ) (x d : Note) (ns : List Note) → x.source < top → AreFrom 0 top ns → (place x.source ns < length ns → (get_or ns (place x.source ns) d).source ≢ x.source) → length ns < top
