@@ -1,4 +1,5 @@
 use Rattle.std.proofs.Common.{arith}
+use Rattle.std.proofs.lemmas.Grind.{common_steps}
 use Rattle.live_outside.proofs.Ways.{goes_here, goes_past}
 use Rattle.live_outside.proofs.destinations.Destinations.address.Goals as goal
 
@@ -12,3 +13,6 @@ loop-to-preserved c = record {
   behind = λ a goes. c.loop-to.invariant.behind a
       (goes_past c.args.group c.as_slice-to-items.result.now c.loop-to.to-index c.to-item.result c.args.self.now.other a c.eq.result c.to-item.is (omega arith) c.eq.ensures c.if-eq.false goes);
 }
+
+pub returns : goal.returns
+returns c = grind (arith, common_steps)
