@@ -19,3 +19,9 @@ returns-clause-won c =
     let holders = subst (λ (z : Machine). length z.addresses.claims.holders ≡ places) (sym c.self.view_is) c.requires.stays.holders in
     let fits = claims_fit k.claims (claim_of c.args.address c.args.name.0 k.count c.args.moment) holders in
     subst (λ step. IfSome (address_won step) (λ a. a < 254)) (sym c.claim.ensures.step) fits.won
+
+pub returns-clause-after : goal.returns-clause-after
+returns-clause-after c = rw (← c.self.view_is, c.claim.ensures.after)
+
+pub returns-clause-step : goal.returns-clause-step
+returns-clause-step c = rw (← c.self.view_is) c.claim.ensures.step
