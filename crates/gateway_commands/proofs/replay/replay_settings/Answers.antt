@@ -1,4 +1,4 @@
-use Rattle.std.proofs.Common.{inr}
+use Rattle.std.proofs.Common.{inr, rules}
 use Rattle.serving.specs.Parts.{parts_of}
 use Rattle.statuses.specs.Statuses.{number}
 use Rattle.gateway_commands.proofs.ReplayCommandLemmas.{memory_held}
@@ -18,3 +18,6 @@ returns-in-Ok-clause-runs g c =
 
 pub returns-in-Ok-clause-memory : goal.returns-in-Ok-clause-memory
 returns-in-Ok-clause-memory g c = λ is. absurd (memory_held (number c.answer-status.result) c.answer-status.ensures.status is)
+
+pub returns-in-Err-clause-runs : goal.returns-in-Err-clause-runs
+returns-in-Err-clause-runs g c = search rules
