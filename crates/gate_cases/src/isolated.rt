@@ -3,10 +3,11 @@ ghost use Rattle.n2k_id.specs.Frame.{IsFrame};
 ghost use Rattle.isolation.specs.Runs.{IsFrameEvent};
 
 use crate::setup::started;
-use gate_core::Done;
+use gate_core::{Done, Gateway};
 use isolation::FrameEvent;
 use isolation::laws::same_from;
 use n2k_id::Frame;
+use std::alloc::Global;
 use std::test::Fail;
 
 /// The heading 90.0 from an address.
@@ -30,13 +31,31 @@ fn is_heading(told: &[Done]) -> bool {
     }
 }
 
-#[test]
-fn a_device_says_the_same_beside_another(rt: HostRuntime) -> Result<(), Fail> {
-    let mut left = started(rt.alloc(), 0)?;
-    let mut right = started(rt.alloc(), 0)?;
+/// Whether the heading is all that the device at 23 says, alone and beside that of the device at 24.
+fn says_the_same(alloc: Global, left: &mut Gateway, right: &mut Gateway) -> Result<bool, Fail> {
     let alone = [heading(1_000_000, 23)];
     let beside = [heading(1_000_000, 23), heading(1_000_500, 24)];
-    let (alone, beside) = same_from(rt.alloc(), &mut left, &mut right, 23, &alone, &beside)?;
-    assert!(rt; is_heading(alone.as_slice()) && is_heading(beside.as_slice()));
+    let (alone, beside) = same_from(alloc, left, right, 23, &alone, &beside)?;
+    Ok(is_heading(alone.as_slice()) && is_heading(beside.as_slice()))
+}
+
+// A gateway has many parts: whoever holds one lets it go by one call, on a single way out.
+fn beside_another(alloc: Global, left: &mut Gateway) -> Result<bool, Fail> {
+    let mut right = started(alloc, 0)?;
+    let same = says_the_same(alloc, left, &mut right);
+    drop(right);
+    same
+}
+
+fn finds_memory(alloc: Global) -> Result<bool, Fail> {
+    let mut left = started(alloc, 0)?;
+    let same = beside_another(alloc, &mut left);
+    drop(left);
+    same
+}
+
+#[test]
+fn a_device_says_the_same_beside_another(rt: HostRuntime) -> Result<(), Fail> {
+    assert!(rt; finds_memory(rt.alloc())?);
     Ok(())
 }

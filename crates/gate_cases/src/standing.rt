@@ -53,12 +53,19 @@ fn holds(gateway: &Gateway, fast: u16, iso: u16, group: u16) -> bool {
     gateway.held() == HeldCounts { fast, iso, group }
 }
 
+/// Whether a gateway that hears the request tells so of itself.
+fn tells_how_it_stands(gateway: &mut Gateway) -> bool {
+    hear(gateway, MOMENT, SESSION_BEGINS, &mut Outbox::new());
+    is_ready(gateway) && holds(gateway, 0, 1, 0)
+}
+
 #[test]
 fn the_gateway_tells_how_it_stands(rt: HostRuntime) -> Result<(), Fail> {
     let mut gateway = started(rt.alloc(), 10_000_000)?;
-    hear(&mut gateway, MOMENT, SESSION_BEGINS, &mut Outbox::new());
-    assert!(rt; is_ready(&gateway));
-    assert!(rt; holds(&gateway, 0, 1, 0));
+    let tells = tells_how_it_stands(&mut gateway);
+    // by one call, and not part by part
+    drop(gateway);
+    assert!(rt; tells);
     Ok(())
 }
 
@@ -114,20 +121,30 @@ fn is_too_early(out: &Outbox) -> bool {
     }
 }
 
+/// Whether a gateway hears at the end of time, and nothing from before it, and loses what was in the making.
+fn hears_at_the_end(gateway: &mut Gateway, out: &mut Outbox) -> bool {
+    hear(gateway, END_OF_TIME - 1, HEADING, out);
+    let early = is_too_early(out);
+    hear(gateway, END_OF_TIME, HEADING, out);
+    let heard = tells_heading(out);
+    wait(gateway, END_OF_TIME, out);
+    early && heard && is_empty(out)
+}
+
 /// The moment may go to the end of time and stand still there, but not go back.
+fn goes_on(gateway: &mut Gateway) -> bool {
+    let mut out = Outbox::new();
+    hear(gateway, MOMENT, FIX_BEGINS, &mut out);
+    let silent = is_empty(&out);
+    wait(gateway, END_OF_TIME, &mut out);
+    silent && loses_the_fix(&out) && hears_at_the_end(gateway, &mut out)
+}
+
 #[test]
 fn a_gateway_goes_on_to_the_end_of_time(rt: HostRuntime) -> Result<(), Fail> {
     let mut gateway = started(rt.alloc(), 10_000_000)?;
-    let mut out = Outbox::new();
-    hear(&mut gateway, MOMENT, FIX_BEGINS, &mut out);
-    assert!(rt; is_empty(&out));
-    wait(&mut gateway, END_OF_TIME, &mut out);
-    assert!(rt; loses_the_fix(&out));
-    hear(&mut gateway, END_OF_TIME - 1, HEADING, &mut out);
-    assert!(rt; is_too_early(&out));
-    hear(&mut gateway, END_OF_TIME, HEADING, &mut out);
-    assert!(rt; tells_heading(&out));
-    wait(&mut gateway, END_OF_TIME, &mut out);
-    assert!(rt; is_empty(&out));
+    let on = goes_on(&mut gateway);
+    drop(gateway);
+    assert!(rt; on);
     Ok(())
 }
