@@ -11,7 +11,6 @@ use sentence_text::byte_at;
 const USUAL_TIME: usize = 20;
 
 /// Whether all are decimal digits. All are tested, many at once, and none is a reason to stop.
-#[tactic(auto, using(std::proofs::lemmas::List::Folds::list_all_more))]
 fn all_decimal(text: &[u8]) -> bool
     ensures { result ≡ list_all is_ascii_digit text.now }
 {
