@@ -1,11 +1,14 @@
-use Rattle.std.proofs.Common.{sym, arith}
+use Rattle.std.proofs.Common.{sym, ap, ◌∙◌, arith}
+use Rattle.slot_views.specs.Shelf.{entries_of}
 use Rattle.slot_views.proofs.Places.{gap_removed}
 use Rattle.slot_views.proofs.Order.{removed_found, held_found, lookup_gap, remove_gap}
 use Rattle.slot_views.proofs.Sound.{seen_is}
 use Rattle.slot_views.proofs.shelf.Shelf.vacate.Goals as goal
 
 pub returns-in-Ok-clause-after : goal.returns-in-Ok-clause-after
-returns-in-Ok-clause-after g c = grind (arith, seen_is, removed_found)
+returns-in-Ok-clause-after g c =
+    seen_is c.args.self.now c.retire.new.self _ c.retire.ensures.limit
+    (ap entries_of c.retire.ensures.slots ∙ sym (removed_found g.K.Ord.cmp c.args.place.key c.args.self.now.slots.items c.in-Ok.at c.in-Ok.ensures.found))
 
 pub returns-in-Ok-clause-replaced : goal.returns-in-Ok-clause-replaced
 returns-in-Ok-clause-replaced g c = sym (held_found g.K.Ord.cmp c.args.place.key c.args.self.now.slots.items c.in-Ok.at c.in-Ok.ensures.found)
