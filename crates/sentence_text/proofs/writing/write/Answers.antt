@@ -1,5 +1,6 @@
 -- What is begun and ended behind a comma and the body is the sentence.
 use Rattle.std.proofs.Common.{◌≡◌, ◌∷◌, ◌++◌, [], append_assoc, List, ℕ, length, length-append, refl, sym, ap, subst, ◌∙◌, arith, rules}
+use Rattle.std.proofs.lemmas.Grind.{common_steps}
 use Rattle.sentence_text.specs.Reading.{read}
 use Rattle.sentence_text.specs.Sentence.{IsSentence, parts_of, sentence}
 use Rattle.sentence_text.proofs.Fields.{is_body}
@@ -34,3 +35,9 @@ returns-clause-grammar c = λ yes. subst (λ (bytes : List ℕ). IsSentence (par
 
 pub returns-clause-again : goal.returns-clause-again
 returns-clause-again c = λ yes. ap read (text c) ∙ read_back (parts_of c.args.talker c.args.formatter c.args.body.now) (is_written c)
+
+pub end-requires-clause-room : goal.end-requires-clause-room
+end-requires-clause-room c = grind (arith, common_steps)
+
+pub returns-clause-fits : goal.returns-clause-fits
+returns-clause-fits c = grind (arith, common_steps)
