@@ -41,7 +41,8 @@ module _ (n : NotedFrame) (rest : List Rule) (ready : Bool) (y : IsoPiece) where
   -- ---- a packet
 
   packet_alone : (addressed : Bool) → y.packet ≡ true → Is addressed None
-  packet_alone addressed ep = grind arith
+  packet_alone false ep = rw ep refl
+  packet_alone true ep = rw ep refl
 
   packet_by : (addressed : Bool) (acc : List IsoPiece) (short rep nxt : Bool) → y.packet ≡ true → nat_lt (length y.bytes) (end_of (left_of_run acc)) ≡ short → is_repeat acc y ≡ rep
       → is_next acc y ≡ nxt → Is addressed (Some acc)
@@ -62,7 +63,10 @@ module _ (n : NotedFrame) (rest : List Rule) (ready : Bool) (y : IsoPiece) where
     bam_by q addressed sized ad ec es ea room = grind arith
 
     abort_by : (q : Option (List IsoPiece)) (addressed : Bool) → control_at y.bytes ≡ 255 → Is addressed q
-    abort_by q addressed ec = grind arith
+    abort_by None false ec = rw (ep, el, eg, ec) refl
+    abort_by None true ec = rw (ep, el, eg, ec) refl
+    abort_by (Some acc) false ec = rw (ep, el, eg, ec) refl
+    abort_by (Some acc) true ec = rw (ep, el, eg, ec) refl
 
     -- of no other control byte
     nothing_by : (q : Option (List IsoPiece)) (addressed a b : Bool) → (control_at y.bytes == 16) ≡ false → (control_at y.bytes == 32) ≡ false → (control_at y.bytes == 255) ≡ false
