@@ -208,6 +208,10 @@ impl Bridge {
         self.gateway.moment()
     }
 
+    /// Lets the bridge go. Whoever made one calls this where it is done with: of what a bridge consists, and how each part is let go, is
+    /// known here alone then.
+    pub fn close(self) {}
+
     /// Whether what comes is to be written down.
     pub fn records(&self) -> bool
         ensures { result ≡ self.now.records }

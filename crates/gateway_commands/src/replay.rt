@@ -99,8 +99,7 @@ pub(crate) fn replay_settings<S: Source, K: Sink>(
     match Bridge::with(alloc, settings, further) {
         Ok(mut bridge) => {
             let status = answer(&mut bridge, input, out);
-            // by one call, and not part by part where the arm ends
-            drop(bridge);
+            bridge.close();
             status
         }
         Err(_) => Status::NoMemory,

@@ -69,8 +69,7 @@ fn serve_with<K: Sink, B: Link, E: Link, C: Clock>(
     match Bridge::with(alloc, settings, further) {
         Ok(mut bridge) => {
             let status = serve_between(settings, &mut bridge, turns, out, bus, net, clock);
-            // by one call, and not part by part where the arm ends
-            drop(bridge);
+            bridge.close();
             status
         }
         Err(_) => Status::NoMemory,
