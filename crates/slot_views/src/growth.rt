@@ -19,6 +19,7 @@ pub enum Growth {
 
 impl<K: Copy + Ord, const CAP: usize, const PIECE: usize> Shelf<K, CAP, PIECE> {
     // Adds the piece with that number to the entry of the key that stands there.
+    #[tactic(auto, using(crate::proofs::Lists::holds_read))]
     pub fn grow(
         &mut self,
         place: Place<K>,

@@ -1,8 +1,8 @@
-use Rattle.std.proofs.Common.{◌≡◌, ◌≢◌, ◌+◌, Some, None, sym, ◌∙◌, ap, subst, refl, true, false, eq-eqb, arith}
+use Rattle.std.proofs.Common.{◌≡◌, ◌≢◌, Some, None, sym, ◌∙◌, ap, subst, refl, true, false, eq-eqb, arith}
 use Rattle.std.proofs.lemmas.Bool.{ne_eqb}
 use Rattle.slot_views.specs.Slots.{Entry, grown, entry_at, is_complete}
 use Rattle.slot_views.specs.Shelf.{entry_of, entries_of, seen, HasRoom, HasFinished, Extends}
-use Rattle.slot_views.proofs.Lists.{all_get, holds_read}
+use Rattle.slot_views.proofs.Lists.{all_get}
 use Rattle.slot_views.proofs.Order.{lookup_read, lookup_gap, removed_found, changed_found}
 use Rattle.slot_views.proofs.Sound.{seen_is}
 use Rattle.slot_views.proofs.Steps.{grown_absent, grown_other, grown_last, grown_more, on_entry}
@@ -57,12 +57,6 @@ returns-then-kept-need-clause-answer g c =
     (λ e. (e.next ≡ c.args.next) × (is_complete (grown e c.args.piece.now c.args.moment c.args.gap) ≡ true) × HasFinished c.retire-then-kept-need.new.self (grown e c.args.piece.now c.args.moment c.args.gap).bytes × (c.index-slot.result.now.mark ≡ e.mark))
     (entry g s) (found g s)
     (c.if-kept-next.false, eq-eqb _ _ c.if-kept-need.true, rw c.index-slot.ensures (c.retire-then-kept-need.ensures.finished c.index-slot.result.now), refl)
-
-pub extend-requires : goal.extend-requires
-extend-requires g c =
-    let in_range = c.in-Ok.ensures.found.in_range in
-    let more = holds_read (λ x. x.next + 1 ≢ x.need) c.args.self.now.slots.items c.in-Ok.at c.index-slot.result.now in
-    (omega arith, (c.requires.sound, (in_range, (c.requires.piece_fits, λ d. more d in_range c.index-slot.ensures c.if-kept-need.false))))
 
 pub returns-clause-after : goal.returns-clause-after
 returns-clause-after g c =

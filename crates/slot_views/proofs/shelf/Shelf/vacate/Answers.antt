@@ -1,4 +1,4 @@
-use Rattle.std.proofs.Common.{sym, ap, ◌∙◌, arith}
+use Rattle.std.proofs.Common.{refl, sym, ap, ◌∙◌, is_some}
 use Rattle.slot_views.specs.Shelf.{entries_of}
 use Rattle.slot_views.proofs.Places.{gap_removed}
 use Rattle.slot_views.proofs.Order.{removed_found, held_found, lookup_gap, remove_gap}
@@ -20,7 +20,8 @@ pub returns-in-Ok-clause-room : goal.returns-in-Ok-clause-room
 returns-in-Ok-clause-room g c = λ _. c.retire.ensures.some
 
 pub returns-in-Err-clause-after : goal.returns-in-Err-clause-after
-returns-in-Err-clause-after g c = grind (arith, seen_is, remove_gap)
+returns-in-Err-clause-after g c =
+    seen_is c.args.self.now c.args.self.now _ refl (sym (remove_gap g.K.Ord.cmp c.args.place.key c.args.self.now.slots.items c.in-Err.at c.in-Err.ensures.absent.below c.in-Err.ensures.absent.above))
 
 pub returns-in-Err-clause-replaced : goal.returns-in-Err-clause-replaced
-returns-in-Err-clause-replaced g c = grind (arith, lookup_gap)
+returns-in-Err-clause-replaced g c = sym (ap is_some (lookup_gap g.K.Ord.cmp c.args.place.key c.args.self.now.slots.items c.in-Err.at c.in-Err.ensures.absent.below c.in-Err.ensures.absent.above))

@@ -1,9 +1,10 @@
-use Rattle.std.proofs.Common.{refl, arith}
+use Rattle.std.proofs.Common.{refl}
 use Rattle.slot_views.proofs.Sound.{map_seen}
 use Rattle.slot_views.proofs.slots.Slots.begin_at.Goals as goal
 
 pub returns-in-Full : goal.returns-in-Full
-returns-in-Full g c = grind (arith, map_seen)
+returns-in-Full g c =
+    ((refl, λ _. tt, rw (← c.self.view_is) c.in-Full.ensures.after), record { map = rw (← c.self.view_is) (map_seen c.self.inside.shelf c.self.invariant); after = tt; answer = rw (← c.self.view_is) c.in-Full.ensures.answer })
 
 pub returns-in-Held : goal.returns-in-Held
 returns-in-Held g c =

@@ -1,18 +1,19 @@
-use Rattle.std.proofs.Common.{sym, ap, option_map, arith}
+use Rattle.std.proofs.Common.{sym, ap, ◌∙◌, option_map}
+use Rattle.std.specs.List.{remove}
 use Rattle.slot_views.specs.Answers.{ended_of}
 use Rattle.slot_views.specs.Slots.{has_expired}
+use Rattle.slot_views.specs.Shelf.{entries_of}
 use Rattle.slot_views.proofs.Sound.{seen_is, map_seen}
 use Rattle.slot_views.proofs.Steps.{without_first_at, without_none, find_none, ended_first}
 use Rattle.slot_views.proofs.slots.Slots.expire_one.Goals as goal
-
-pub end-requires : goal.end-requires
-end-requires g c = (omega arith, (c.in-Some.ensures.sound, rw c.in-Some.ensures.slots c.in-Some.ensures.found.in_range))
 
 pub returns-in-Some-clause-map : goal.returns-in-Some-clause-map
 returns-in-Some-clause-map g c = rw (← c.self.view_is) (map_seen c.self.inside.shelf c.self.invariant)
 
 pub returns-in-Some-clause-after : goal.returns-in-Some-clause-after
-returns-in-Some-clause-after g c = grind (arith, seen_is, without_first_at)
+returns-in-Some-clause-after g c =
+    rw (← c.self.view_is) (seen_is c.self.inside.shelf c.end.new.self _ (c.end.ensures.limit ∙ ap (λ s. s.limit) c.in-Some.ensures.same)
+    (ap entries_of (c.end.ensures.slots ∙ ap (λ xs. remove xs c.in-Some.at) c.in-Some.ensures.slots) ∙ sym (without_first_at (has_expired c.args.moment) c.self.inside.shelf.slots.items c.in-Some.at c.in-Some.ensures.found)))
 
 pub returns-in-Some-clause-answer : goal.returns-in-Some-clause-answer
 returns-in-Some-clause-answer g c =
@@ -22,7 +23,8 @@ pub returns-in-None-clause-map : goal.returns-in-None-clause-map
 returns-in-None-clause-map g c = rw (← c.self.view_is) (map_seen c.self.inside.shelf c.self.invariant)
 
 pub returns-in-None-clause-after : goal.returns-in-None-clause-after
-returns-in-None-clause-after g c = grind (arith, seen_is, without_none)
+returns-in-None-clause-after g c =
+    rw (← c.self.view_is) (seen_is c.self.inside.shelf c.expired.new.self _ (ap (λ s. s.limit) c.in-None.ensures.same) (ap entries_of c.in-None.ensures.slots ∙ sym (without_none (has_expired c.args.moment) c.self.inside.shelf.slots.items c.in-None.ensures.absent)))
 
 pub returns-in-None-clause-answer : goal.returns-in-None-clause-answer
 returns-in-None-clause-answer g c = rw (← c.self.view_is) (sym (ap (option_map ended_of) (find_none (has_expired c.args.moment) c.self.inside.shelf.slots.items c.in-None.ensures.absent)))
