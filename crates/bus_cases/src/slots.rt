@@ -13,13 +13,10 @@ fn begins(slots: &mut Small, key: u8, piece: &[u8; 2], mark: u64) -> bool {
 
 /// Whether the key's entry waits for its second piece.
 fn waits(slots: &Small, key: u8, mark: u64) -> bool {
-    slots.kept(key)
-        == Some(Kept {
-            next: 1,
-            need: 2,
-            length: 2,
-            mark,
-        })
+    matches!(
+        slots.kept(key),
+        Some(Kept { next: 1, need: 2, length: 2, mark: kept }) if kept == mark
+    )
 }
 
 /// Whether the second piece of 7 hands over the message that `ab` began.

@@ -32,7 +32,7 @@ pub enum Grown<'a> {
 }
 
 /// What is known of an entry that is held.
-#[derive(Clone, Copy, PartialEq, Eq)]
+#[derive(Clone, Copy)]
 pub struct Kept {
     /// The number of the piece that it waits for.
     pub next: u16,
@@ -44,7 +44,7 @@ pub struct Kept {
 }
 
 /// An entry that was taken out.
-#[derive(Clone, Copy)]
+#[derive(Drop)]
 pub struct Ended<K> {
     pub key: K,
     pub mark: u64,
