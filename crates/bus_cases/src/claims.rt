@@ -15,12 +15,6 @@ const SMALLER: Name = Name(0x4032_8200_FFC0_0000);
 
 const SECOND: u64 = 1_000_000;
 
-const NOTHING: ClaimStep = ClaimStep {
-    lost: None,
-    released: None,
-    own: OwnAnswer::Silent,
-};
-
 fn preset(address: u8, name: u64) -> Preset
     ensures { result.address ≡ address }
 {
@@ -30,27 +24,47 @@ fn preset(address: u8, name: u64) -> Preset
     }
 }
 
+/// Whether the claim won and left no address, and the gateway answers nothing.
+fn is_quiet(step: ClaimStep) -> bool {
+    matches!(
+        step,
+        ClaimStep {
+            lost: None,
+            released: None,
+            own: OwnAnswer::Silent,
+        }
+    )
+}
+
+/// Whether the claim won 20 from the NAME 0x60, and did nothing else.
+fn is_won(step: ClaimStep) -> bool {
+    matches!(
+        step,
+        ClaimStep {
+            lost: Some((20, Name(0x60))),
+            released: None,
+            own: OwnAnswer::Silent,
+        }
+    )
+}
+
+/// Whether the holder is this NAME, since this index.
+fn is_since(holder: Option<Holder>, name: Name, index: u64) -> bool {
+    match holder {
+        None => false,
+        Some(holder) => holder.name == name && holder.since == index,
+    }
+}
+
 #[test]
 #[tactic(auto, using(claim_table::proofs::LawLemmas::since_grows))]
 fn an_address_is_held_since_the_first_claim_of_its_holder(rt: HostRuntime) -> Result<(), Fail> {
     let mut table = ClaimTable::new(rt.alloc(), OWN, 10, &[])?;
-    assert!(rt; table.claim(20, Name(0x60), 3, 3 * SECOND) == NOTHING);
-    assert!(rt; table.claim(20, Name(0x60), 4, 4 * SECOND) == NOTHING);
-    let first = Holder {
-        name: Name(0x60),
-        since: 3,
-    };
-    assert!(rt; table.holder(20) == Some(first));
-    let won = ClaimStep {
-        lost: Some((20, Name(0x60))),
-        ..NOTHING
-    };
-    assert!(rt; table.claim(20, Name(0x40), 5, 5 * SECOND) == won);
-    let second = Holder {
-        name: Name(0x40),
-        since: 5,
-    };
-    assert!(rt; table.holder(20) == Some(second));
+    assert!(rt; is_quiet(table.claim(20, Name(0x60), 3, 3 * SECOND)));
+    assert!(rt; is_quiet(table.claim(20, Name(0x60), 4, 4 * SECOND)));
+    assert!(rt; is_since(table.holder(20), Name(0x60), 3));
+    assert!(rt; is_won(table.claim(20, Name(0x40), 5, 5 * SECOND)));
+    assert!(rt; is_since(table.holder(20), Name(0x40), 5));
     Ok(())
 }
 
@@ -77,10 +91,25 @@ fn presets_that_clash_are_refused(rt: HostRuntime) {
     let twice_by_name = [preset(20, 0x50), preset(21, 0x50)];
     let own_address = [preset(20, 0x50), preset(10, 0x60)];
     let own_name = [preset(20, OWN.0)];
-    assert!(rt; refused(rt.alloc(), &twice_by_address) == Some(ClaimFault::PresetTwice));
-    assert!(rt; refused(rt.alloc(), &twice_by_name) == Some(ClaimFault::PresetTwice));
-    assert!(rt; refused(rt.alloc(), &own_address) == Some(ClaimFault::OwnTaken));
-    assert!(rt; refused(rt.alloc(), &own_name) == Some(ClaimFault::OwnTaken));
+    assert!(rt;
+        matches!(
+            refused(rt.alloc(), &twice_by_address),
+            Some(ClaimFault::PresetTwice)
+        )
+    );
+    assert!(rt;
+        matches!(
+            refused(rt.alloc(), &twice_by_name),
+            Some(ClaimFault::PresetTwice)
+        )
+    );
+    assert!(rt;
+        matches!(
+            refused(rt.alloc(), &own_address),
+            Some(ClaimFault::OwnTaken)
+        )
+    );
+    assert!(rt; matches!(refused(rt.alloc(), &own_name), Some(ClaimFault::OwnTaken)));
 }
 
 /// Whether the fault is said so.

@@ -1,7 +1,7 @@
 use n2k_id::Name;
 
 /// Who holds an address.
-#[derive(Clone, Copy, PartialEq, Eq)]
+#[derive(Clone, Copy)]
 pub struct Holder {
     pub name: Name,
     /// The index of the claim since which the NAME holds the address; 0 for a preset.
@@ -9,7 +9,7 @@ pub struct Holder {
 }
 
 /// What a claim changed, and what the gateway answers.
-#[derive(Clone, Copy, PartialEq, Eq)]
+#[derive(Clone, Copy)]
 pub struct ClaimStep {
     /// The address that the claim won from another NAME, and that NAME.
     pub lost: Option<(u8, Name)>,
@@ -19,7 +19,7 @@ pub struct ClaimStep {
 }
 
 /// What the gateway does about its own address.
-#[derive(Clone, Copy, PartialEq, Eq)]
+#[derive(Clone, Copy)]
 pub enum OwnAnswer {
     /// Nothing: the claim isn't about the own address.
     Silent,
