@@ -3,14 +3,13 @@
 //! 1 depth below the transducer in metres, 2 the offset of the transducer in metres, 3 the range of the scale in
 //! metres.
 
-ghost use Rattle.std.specs.Prelude.{◌≡◌, ◌<◌, [], ◌∷◌, ◌++◌, codes, length, IsTrue};
-ghost use Rattle.std.specs.List.{list_all};
-ghost use Rattle.sentence_text.specs.Byte.{is_capital};
+ghost use Rattle.std.specs.Prelude.{◌≡◌, [], ◌∷◌, ◌++◌, codes};
 ghost use Rattle.sentence_fields.specs.Field.{IsCounted, texts_of, sentence_by};
 ghost use Rattle.sentence_fields.specs.ReadBack.{IsReadBack};
 ghost use Rattle.sentence_profile.specs.Writing as text;
 ghost use Rattle.sentence_profile.specs.Columns.{fields_in};
 ghost use Rattle.sentence_profile.specs.Reading as spec;
+ghost use Rattle.sentence_rows.specs.Ready.{IsReady};
 
 use crate::number::number;
 use readings::Reading;
@@ -27,8 +26,7 @@ pub(crate) fn dpt(
     range: Option<i64>,
     out: &mut Lines,
 )
-    requires room { length out.old.items < 2 }
-    requires talker { IsTrue (list_all is_capital talker) }
+    requires ready { IsReady talker out.old.items }
     requires depth { IsCounted METRES depth }
     requires offset { IsCounted OFFSET_METRES offset }
     requires range { IsCounted RANGE_METRES range }

@@ -4,14 +4,13 @@
 //! satellites, 8 the horizontal dilution of precision, 9 and 10 the altitude in metres, 11 and 12 the height of the
 //! geoid in metres, 13 and 14 of a differential station, which is not written.
 
-ghost use Rattle.std.specs.Prelude.{◌≡◌, ◌<◌, ◌≤◌, [], ◌∷◌, ◌++◌, codes, length, IsTrue};
-ghost use Rattle.std.specs.List.{list_all};
-ghost use Rattle.sentence_text.specs.Byte.{is_capital};
+ghost use Rattle.std.specs.Prelude.{◌≡◌, ◌≤◌, [], ◌∷◌, ◌++◌, codes};
 ghost use Rattle.sentence_fields.specs.Field.{IsCounted, IsPrintable, texts_of, sentence_by};
 ghost use Rattle.sentence_fields.specs.ReadBack.{IsReadBack};
 ghost use Rattle.sentence_profile.specs.Writing as text;
 ghost use Rattle.sentence_profile.specs.Columns.{fields_in};
 ghost use Rattle.sentence_profile.specs.Reading as spec;
+ghost use Rattle.sentence_rows.specs.Ready.{IsReady};
 
 use crate::clock::time;
 use crate::fix::{quality, satellites};
@@ -39,8 +38,7 @@ pub(crate) struct Fix {
 }
 
 pub(crate) fn gga(talker: [u8; 2], fix: Fix, out: &mut Lines)
-    requires room { length out.old.items < 2 }
-    requires talker { IsTrue (list_all is_capital talker) }
+    requires ready { IsReady talker out.old.items }
     requires latitude { IsCounted FIX_MINUTES fix.latitude }
     requires longitude { IsCounted FIX_MINUTES fix.longitude }
     requires altitude { IsCounted ALTITUDE_METRES fix.altitude }

@@ -3,14 +3,13 @@
 //! 1 and 2 latitude as ddmm.mmmm and `N` or `S`, 3 and 4 longitude as dddmm.mmmm and `E` or `W`, 5 time, which is
 //! not written, 6 the status: `A` valid, `V` not, 7 the mode: `A` autonomous, `N` not valid.
 
-ghost use Rattle.std.specs.Prelude.{◌≡◌, ◌<◌, [], ◌∷◌, ◌++◌, codes, length, IsTrue};
-ghost use Rattle.std.specs.List.{list_all};
-ghost use Rattle.sentence_text.specs.Byte.{is_capital};
+ghost use Rattle.std.specs.Prelude.{◌≡◌, [], ◌∷◌, ◌++◌, codes};
 ghost use Rattle.sentence_fields.specs.Field.{IsCounted, texts_of, sentence_by};
 ghost use Rattle.sentence_fields.specs.ReadBack.{IsReadBack};
 ghost use Rattle.sentence_profile.specs.Writing as text;
 ghost use Rattle.sentence_profile.specs.Columns.{fields_in};
 ghost use Rattle.sentence_profile.specs.Reading as spec;
+ghost use Rattle.sentence_rows.specs.Ready.{IsReady};
 
 use crate::column::{status, unkept};
 use crate::letter::{beside, only_if};
@@ -23,8 +22,7 @@ use sentence_profile::{FieldFault, read_unit};
 use sentence_text::Sentence;
 
 pub(crate) fn gll(talker: [u8; 2], latitude: Option<i64>, longitude: Option<i64>, out: &mut Lines)
-    requires room { length out.old.items < 2 }
-    requires talker { IsTrue (list_all is_capital talker) }
+    requires ready { IsReady talker out.old.items }
     requires latitude { IsCounted MINUTES latitude }
     requires longitude { IsCounted MINUTES longitude }
     ensures said { texts_of out.new ≡ texts_of out.old ++ sentence_by talker (codes "GLL") (text.gll latitude longitude) ∷ [] }

@@ -2,14 +2,13 @@
 //!
 //! 1 heading in degrees magnetic, 2 and 3 deviation and `E` or `W`, 4 and 5 variation and `E` or `W`.
 
-ghost use Rattle.std.specs.Prelude.{◌≡◌, ◌<◌, [], ◌∷◌, ◌++◌, codes, length, IsTrue};
-ghost use Rattle.std.specs.List.{list_all};
-ghost use Rattle.sentence_text.specs.Byte.{is_capital};
+ghost use Rattle.std.specs.Prelude.{◌≡◌, [], ◌∷◌, ◌++◌, codes};
 ghost use Rattle.sentence_fields.specs.Field.{IsCounted, texts_of, sentence_by};
 ghost use Rattle.sentence_fields.specs.ReadBack.{IsReadBack};
 ghost use Rattle.sentence_profile.specs.Writing as text;
 ghost use Rattle.sentence_profile.specs.Columns.{fields_in};
 ghost use Rattle.sentence_profile.specs.Reading as spec;
+ghost use Rattle.sentence_rows.specs.Ready.{IsReady};
 
 use crate::number::{number, sided};
 use readings::Reading;
@@ -26,8 +25,7 @@ pub(crate) fn hdg(
     variation: Option<i64>,
     out: &mut Lines,
 )
-    requires room { length out.old.items < 2 }
-    requires talker { IsTrue (list_all is_capital talker) }
+    requires ready { IsReady talker out.old.items }
     requires deviation { IsCounted DEGREES deviation }
     requires variation { IsCounted DEGREES variation }
     ensures said { texts_of out.new ≡ texts_of out.old ++ sentence_by talker (codes "HDG") (text.hdg heading deviation variation) ∷ [] }

@@ -2,15 +2,14 @@
 //!
 //! 1 and 2 the temperature in degrees Celsius.
 
-ghost use Rattle.std.specs.Prelude.{◌≡◌, ◌<◌, [], ◌∷◌, ◌++◌, codes, length, IsTrue};
-ghost use Rattle.std.specs.List.{list_all};
+ghost use Rattle.std.specs.Prelude.{◌≡◌, [], ◌∷◌, ◌++◌, codes};
 ghost use Rattle.readings.specs.Ranges.{Admits, water_temperature as temperature_range};
-ghost use Rattle.sentence_text.specs.Byte.{is_capital};
 ghost use Rattle.sentence_fields.specs.Field.{IsCounted, texts_of, sentence_by};
 ghost use Rattle.sentence_fields.specs.ReadBack.{IsReadBack};
 ghost use Rattle.sentence_profile.specs.Writing as text;
 ghost use Rattle.sentence_profile.specs.Columns.{IsSmall, fields_in};
 ghost use Rattle.sentence_profile.specs.Reading as spec;
+ghost use Rattle.sentence_rows.specs.Ready.{IsReady};
 
 use crate::number::measure;
 use readings::Reading;
@@ -21,8 +20,7 @@ use sentence_profile::{FieldFault, read_unit};
 use sentence_text::Sentence;
 
 pub(crate) fn mtw(talker: [u8; 2], kelvin: Option<i64>, out: &mut Lines)
-    requires room { length out.old.items < 2 }
-    requires talker { IsTrue (list_all is_capital talker) }
+    requires ready { IsReady talker out.old.items }
     requires kelvin { IsCounted CELSIUS (text.above_freezing kelvin) }
     requires range { Admits temperature_range kelvin }
     ensures said { texts_of out.new ≡ texts_of out.old ++ sentence_by talker (codes "MTW") (text.mtw kelvin) ∷ [] }

@@ -2,14 +2,13 @@
 //!
 //! 1 and 2 direction in degrees true, 3 and 4 magnetic, 5 and 6 speed in knots, 7 and 8 in m/s.
 
-ghost use Rattle.std.specs.Prelude.{◌≡◌, ◌<◌, [], ◌∷◌, ◌++◌, codes, length, IsTrue};
-ghost use Rattle.std.specs.List.{list_all};
-ghost use Rattle.sentence_text.specs.Byte.{is_capital};
+ghost use Rattle.std.specs.Prelude.{◌≡◌, [], ◌∷◌, ◌++◌, codes};
 ghost use Rattle.sentence_fields.specs.Field.{IsCounted, texts_of, sentence_by};
 ghost use Rattle.sentence_fields.specs.ReadBack.{IsReadBack};
 ghost use Rattle.sentence_profile.specs.Writing as text;
 ghost use Rattle.sentence_profile.specs.Columns.{fields_in};
 ghost use Rattle.sentence_profile.specs.Reading as spec;
+ghost use Rattle.sentence_rows.specs.Ready.{IsReady};
 
 use crate::column::is_magnetic;
 use crate::letter::only_if;
@@ -28,8 +27,7 @@ pub(crate) fn mwd(
     angle: Option<i64>,
     out: &mut Lines,
 )
-    requires room { length out.old.items < 2 }
-    requires talker { IsTrue (list_all is_capital talker) }
+    requires ready { IsReady talker out.old.items }
     requires knots { IsCounted KNOTS speed }
     requires metres { IsCounted METRES_PER_SECOND speed }
     ensures said { texts_of out.new ≡ texts_of out.old ++ sentence_by talker (codes "MWD") (text.mwd magnetic speed angle) ∷ [] }

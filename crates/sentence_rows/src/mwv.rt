@@ -3,14 +3,14 @@
 //! 1 angle in degrees from the bow, 2 the reference: `R` relative, `T` theoretical, 3 and 4 speed in knots, 5 the
 //! status: `A` valid, `V` not.
 
-ghost use Rattle.std.specs.Prelude.{◌≡◌, ◌<◌, [], ◌∷◌, ◌++◌, codes, length, IsTrue};
-ghost use Rattle.std.specs.List.{list_all};
-ghost use Rattle.sentence_text.specs.Byte.{is_capital, is_field_byte};
+ghost use Rattle.std.specs.Prelude.{◌≡◌, [], ◌∷◌, ◌++◌, codes, IsTrue};
+ghost use Rattle.sentence_text.specs.Byte.{is_field_byte};
 ghost use Rattle.sentence_fields.specs.Field.{IsCounted, texts_of, sentence_by};
 ghost use Rattle.sentence_fields.specs.ReadBack.{IsReadBack};
 ghost use Rattle.sentence_profile.specs.Writing as text;
 ghost use Rattle.sentence_profile.specs.Columns.{fields_in};
 ghost use Rattle.sentence_profile.specs.Reading as spec;
+ghost use Rattle.sentence_rows.specs.Ready.{IsReady};
 
 use crate::column::{reference, status};
 use crate::letter::only_if;
@@ -29,8 +29,7 @@ pub(crate) fn mwv(
     angle: Option<i64>,
     out: &mut Lines,
 )
-    requires room { length out.old.items < 2 }
-    requires talker { IsTrue (list_all is_capital talker) }
+    requires ready { IsReady talker out.old.items }
     requires reference { IsTrue (is_field_byte reference) }
     requires speed { IsCounted KNOTS speed }
     ensures said { texts_of out.new ≡ texts_of out.old ++ sentence_by talker (codes "MWV") (text.mwv reference speed angle) ∷ [] }

@@ -2,14 +2,13 @@
 //!
 //! 1 rate in degrees per minute, to port negative, 2 the status: `A` valid, `V` not.
 
-ghost use Rattle.std.specs.Prelude.{◌≡◌, ◌<◌, [], ◌∷◌, ◌++◌, codes, length, IsTrue};
-ghost use Rattle.std.specs.List.{list_all};
-ghost use Rattle.sentence_text.specs.Byte.{is_capital};
+ghost use Rattle.std.specs.Prelude.{◌≡◌, [], ◌∷◌, ◌++◌, codes};
 ghost use Rattle.sentence_fields.specs.Field.{IsCounted, texts_of, sentence_by};
 ghost use Rattle.sentence_fields.specs.ReadBack.{IsReadBack};
 ghost use Rattle.sentence_profile.specs.Writing as text;
 ghost use Rattle.sentence_profile.specs.Columns.{fields_in};
 ghost use Rattle.sentence_profile.specs.Reading as spec;
+ghost use Rattle.sentence_rows.specs.Ready.{IsReady};
 
 use crate::column::status;
 use crate::letter::only_if;
@@ -22,8 +21,7 @@ use sentence_profile::{FieldFault, read_unit};
 use sentence_text::Sentence;
 
 pub(crate) fn rot(talker: [u8; 2], rate: Option<i64>, out: &mut Lines)
-    requires room { length out.old.items < 2 }
-    requires talker { IsTrue (list_all is_capital talker) }
+    requires ready { IsReady talker out.old.items }
     requires rate { IsCounted DEGREES_PER_MINUTE rate }
     ensures said { texts_of out.new ≡ texts_of out.old ++ sentence_by talker (codes "ROT") (text.rot rate) ∷ [] }
     ensures again { IsReadBack talker (codes "ROT") (text.rot rate) }

@@ -3,14 +3,13 @@
 //! 1 and 2 the only or starboard rudder in degrees and its status, 3 and 4 the port rudder and its status:
 //! `A` valid, `V` not.
 
-ghost use Rattle.std.specs.Prelude.{◌≡◌, ◌<◌, [], ◌∷◌, ◌++◌, codes, length, IsTrue};
-ghost use Rattle.std.specs.List.{list_all};
-ghost use Rattle.sentence_text.specs.Byte.{is_capital};
+ghost use Rattle.std.specs.Prelude.{◌≡◌, [], ◌∷◌, ◌++◌, codes};
 ghost use Rattle.sentence_fields.specs.Field.{IsCounted, texts_of, sentence_by};
 ghost use Rattle.sentence_fields.specs.ReadBack.{IsReadBack};
 ghost use Rattle.sentence_profile.specs.Writing as text;
 ghost use Rattle.sentence_profile.specs.Columns.{fields_in};
 ghost use Rattle.sentence_profile.specs.Reading as spec;
+ghost use Rattle.sentence_rows.specs.Ready.{IsReady};
 
 use crate::column::status;
 use crate::letter::only_if;
@@ -23,8 +22,7 @@ use sentence_profile::{FieldFault, read_unit};
 use sentence_text::Sentence;
 
 pub(crate) fn rsa_first(talker: [u8; 2], position: Option<i64>, out: &mut Lines)
-    requires room { length out.old.items < 2 }
-    requires talker { IsTrue (list_all is_capital talker) }
+    requires ready { IsReady talker out.old.items }
     requires position { IsCounted DEGREES position }
     ensures said { texts_of out.new ≡ texts_of out.old ++ sentence_by talker (codes "RSA") (text.rsa_first position) ∷ [] }
     ensures again { IsReadBack talker (codes "RSA") (text.rsa_first position) }
@@ -44,8 +42,7 @@ pub(crate) fn rsa_first(talker: [u8; 2], position: Option<i64>, out: &mut Lines)
 }
 
 pub(crate) fn rsa_second(talker: [u8; 2], position: Option<i64>, out: &mut Lines)
-    requires room { length out.old.items < 2 }
-    requires talker { IsTrue (list_all is_capital talker) }
+    requires ready { IsReady talker out.old.items }
     requires position { IsCounted DEGREES position }
     ensures said { texts_of out.new ≡ texts_of out.old ++ sentence_by talker (codes "RSA") (text.rsa_second position) ∷ [] }
     ensures again { IsReadBack talker (codes "RSA") (text.rsa_second position) }

@@ -2,14 +2,13 @@
 //!
 //! 1 to 4 the headings, which are not written, 5 and 6 the speed in knots, 7 and 8 in km/h.
 
-ghost use Rattle.std.specs.Prelude.{◌≡◌, ◌<◌, [], ◌∷◌, ◌++◌, codes, length, IsTrue};
-ghost use Rattle.std.specs.List.{list_all};
-ghost use Rattle.sentence_text.specs.Byte.{is_capital};
+ghost use Rattle.std.specs.Prelude.{◌≡◌, [], ◌∷◌, ◌++◌, codes};
 ghost use Rattle.sentence_fields.specs.Field.{IsCounted, texts_of, sentence_by};
 ghost use Rattle.sentence_fields.specs.ReadBack.{IsReadBack};
 ghost use Rattle.sentence_profile.specs.Writing as text;
 ghost use Rattle.sentence_profile.specs.Columns.{fields_in};
 ghost use Rattle.sentence_profile.specs.Reading as spec;
+ghost use Rattle.sentence_rows.specs.Ready.{IsReady};
 
 use crate::column::unkept;
 use crate::number::either_unit;
@@ -21,8 +20,7 @@ use sentence_profile::{FieldFault, read_unit};
 use sentence_text::Sentence;
 
 pub(crate) fn vhw(talker: [u8; 2], speed: Option<i64>, out: &mut Lines)
-    requires room { length out.old.items < 2 }
-    requires talker { IsTrue (list_all is_capital talker) }
+    requires ready { IsReady talker out.old.items }
     requires knots { IsCounted KNOTS speed }
     requires kilometres { IsCounted KILOMETRES_PER_HOUR speed }
     ensures said { texts_of out.new ≡ texts_of out.old ++ sentence_by talker (codes "VHW") (text.vhw speed) ∷ [] }

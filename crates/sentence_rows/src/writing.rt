@@ -5,6 +5,7 @@ ghost use Rattle.sentence_text.specs.Byte.{is_capital};
 ghost use Rattle.sentence_fields.specs.Field.{texts_of};
 ghost use Rattle.sentence_profile.specs.Stable.{IsSaid, IsStable};
 ghost use Rattle.sentence_profile.specs.Writing.{IsText};
+ghost use Rattle.sentence_rows.specs.Ready.{IsReady};
 
 use crate::letter::beside;
 use crate::{dbt, dpt, gga, gll, hdg, hdt, mtw, mwd, mwv, rot, rsa, ths, vhw, vlw, vtg, xte, zda};
@@ -14,8 +15,8 @@ use sentence_fields::Lines;
 /// Says the reading in its sentences.
 fn say(reading: &Reading, talker: [u8; 2], ths: bool, out: &mut Lines)
     requires empty { out.old.items ≡ [] }
+    requires ready { IsReady talker out.old.items }
     requires valid { IsValid reading.now }
-    requires talker { IsTrue (list_all is_capital talker) }
     ensures { IsSaid reading.now talker ths (texts_of out.new) }
 {
     match *reading {

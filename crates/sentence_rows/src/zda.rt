@@ -2,16 +2,15 @@
 //!
 //! 1 time as hhmmss.ss, 2 day, 3 month, 4 year, 5 and 6 the local zone, which is always UTC.
 
-ghost use Rattle.std.specs.Prelude.{◌≡◌, ◌<◌, [], ◌∷◌, ◌++◌, codes, length, unsigned_abs, IsTrue};
-ghost use Rattle.std.specs.List.{list_all};
+ghost use Rattle.std.specs.Prelude.{◌≡◌, [], ◌∷◌, ◌++◌, codes, unsigned_abs};
 ghost use Rattle.jiff_core.specs.Date.{epoch_day};
 ghost use Rattle.readings.specs.Ranges.{Admits, Holds, date as date_range};
-ghost use Rattle.sentence_text.specs.Byte.{is_capital};
 ghost use Rattle.sentence_fields.specs.Field.{texts_of, sentence_by};
 ghost use Rattle.sentence_fields.specs.ReadBack.{IsReadBack};
 ghost use Rattle.sentence_profile.specs.Writing as text;
 ghost use Rattle.sentence_profile.specs.Columns.{fields_in};
 ghost use Rattle.sentence_profile.specs.Reading as spec;
+ghost use Rattle.sentence_rows.specs.Ready.{IsReady};
 
 use crate::clock::{date, time};
 use jiff_core::civil::Date;
@@ -40,8 +39,7 @@ pub(crate) fn year_of(date: Date) -> u64
 }
 
 fn append_date(talker: [u8; 2], time: Option<i64>, date: Date, out: &mut Lines)
-    requires room { length out.old.items < 2 }
-    requires talker { IsTrue (list_all is_capital talker) }
+    requires ready { IsReady talker out.old.items }
     ensures said { texts_of out.new ≡ texts_of out.old ++ sentence_by talker (codes "ZDA") (text.zda time (Some date)) ∷ [] }
     ensures again { IsReadBack talker (codes "ZDA") (text.zda time (Some date)) }
 {
@@ -57,8 +55,7 @@ fn append_date(talker: [u8; 2], time: Option<i64>, date: Date, out: &mut Lines)
 }
 
 fn append_no_date(talker: [u8; 2], time: Option<i64>, out: &mut Lines)
-    requires room { length out.old.items < 2 }
-    requires talker { IsTrue (list_all is_capital talker) }
+    requires ready { IsReady talker out.old.items }
     ensures said { texts_of out.new ≡ texts_of out.old ++ sentence_by talker (codes "ZDA") (text.zda time None) ∷ [] }
     ensures again { IsReadBack talker (codes "ZDA") (text.zda time None) }
 {
@@ -74,8 +71,7 @@ fn append_no_date(talker: [u8; 2], time: Option<i64>, out: &mut Lines)
 }
 
 pub(crate) fn zda(talker: [u8; 2], day: Option<i64>, time: Option<i64>, out: &mut Lines)
-    requires room { length out.old.items < 2 }
-    requires talker { IsTrue (list_all is_capital talker) }
+    requires ready { IsReady talker out.old.items }
     requires day { Admits date_range day }
     ensures { text.Dated day (λ d. (texts_of out.new ≡ texts_of out.old ++ sentence_by talker (codes "ZDA") (text.zda time d) ∷ []) ×
         IsReadBack talker (codes "ZDA") (text.zda time d)) }
