@@ -49,6 +49,19 @@ impl Model for Identity {
     ghost invariant = { λ i. (length i.information.items ≡ 134) × (i.products < 8) × (i.lists < 8) };
 }
 
+/// What becomes of a frame that has to be answered or not.
+fn answered_by(due: bool, ready: bool) -> Answered
+    ensures { result ≡ answers.answered_by due ready }
+{
+    if !due {
+        Answered::Nothing
+    } else if ready {
+        Answered::Sent
+    } else {
+        Answered::NotReady
+    }
+}
+
 impl Identity {
     /// The gateway that is this product, and has sent nothing yet.
     pub fn new(product: &Product) -> Identity
@@ -90,16 +103,11 @@ impl Identity {
     {
         let parts = parts(frame.id).unwrap();
         let held = frame.held();
-        if !is_due(own, &parts, held) {
-            return Answered::Nothing;
+        let answered = answered_by(is_due(own, &parts, held), ready);
+        if let Answered::Sent = answered {
+            self.send(own.unwrap(), answered_address(parts.source), held, out);
         }
-        match own {
-            Some(own) if ready => {
-                self.send(own, answered_address(parts.source), held, out);
-                Answered::Sent
-            }
-            _ => Answered::NotReady,
-        }
+        answered
     }
 
     /// Appends the answer to who asked in these bytes, and counts it.
