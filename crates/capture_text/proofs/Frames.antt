@@ -145,6 +145,15 @@ wide_told tail digits identifier behind answer space is longer split answered =
     let shape : frame_at tail ≡ wide_frame (number_of (take 8 (drop 1 tail))) (drop 9 (drop 1 tail)) = rw (space, long, hash) refl in
     answered ∙ ap (λ (x : List ℕ). wide_frame (number_of x) behind) there.1 ∙ ap (λ (x : List ℕ). wide_frame (number_of (take 8 (drop 1 tail))) x) there.2 ∙ sym shape
 
+pub no_hash_told : (tail digits : List ℕ) → get_or tail 0 0 ≡ 32 → digits ≡ take (length tail - 1) (drop 1 tail)
+    → (get_or digits 3 0 == 35) ≡ false → (get_or digits 8 0 == 35) ≡ false → refused Form ≡ frame_at tail
+unfolding frame_at
+no_hash_told tail digits space is no_short no_wide =
+    let whole = behind_one tail digits is in
+    let long = subst (λ (t : List ℕ). (get_or t 3 0 == 35) ≡ false) whole no_short in
+    let other = subst (λ (t : List ℕ). (get_or t 8 0 == 35) ≡ false) whole no_wide in
+    rw (space, long, other) refl
+
 -- eight digits write a number
 number_there : (identifier : List ℕ) → list_all is_ascii_hexdigit identifier ≡ true → length identifier ≡ 8 → (id : ℕ) × IsNumber id identifier
 number_there identifier digits eight =
