@@ -4,7 +4,7 @@ use Rattle.std.specs.Prelude.{◌==◌}
 use Rattle.std.specs.Char.{is_ascii_digit}
 use Rattle.std.specs.List.{prefix_len, list_all}
 use Rattle.std.proofs.lemmas.Bool.{and_parts, eqb-true, leb-true, le-leb}
-use Rattle.std.proofs.lemmas.List.{drop-drop, get_or-drop, length-drop, length-take, take_at, take_more}
+use Rattle.std.proofs.lemmas.List.{drop-drop, get_or-drop, length-drop, length-take, take_all, take_at, take_more}
 use Rattle.std.proofs.lemmas.List.Sums.{prefix_len-le-length}
 use Rattle.std.proofs.Math.Seq.{take-append-add}
 use Rattle.sentence_text.proofs.Bytes.{all_parts, front_passes, run_of}
@@ -41,6 +41,24 @@ pub six_counted : (seconds : ℕ) (text : List ℕ) → seconds < 10 ^ 10 → pr
 six_counted seconds text small run =
     let digits = front_digits 6 6 text run in
     (digits, micros_fit seconds text small digits)
+
+-- what a call answers whose rest is a slice to the end
+pub with_rest : (text : List ℕ) (n moment : ℕ) (at : Option Timed) → at ≡ Some (record { moment = moment; rest = drop n text })
+    → at ≡ Some (record { moment = moment; rest = take (length text - n) (drop n text) })
+with_rest text n moment at e =
+    rw (take_all (length text - n) (drop n text) (omega (arith, length-drop n text))) e
+
+pub seconds_told : (text : List ℕ) (count moment : ℕ) → count ≡ prefix_len is_ascii_digit (take 10 text) → 1 ≤ count → get_or text count 0 ≡ 46
+    → moment ≡ number_after 0 (take count text) → seconds_at text ≡ Some (record { moment = moment; rest = take (length text - (count + 1)) (drop (count + 1) text) })
+unfolding seconds_at
+seconds_told text count moment run some point value =
+    with_rest text (count + 1) moment (seconds_at text) (rw (← run, le-leb 1 count some, point, value) refl)
+
+pub micros_told : (seconds : ℕ) (text : List ℕ) (moment : ℕ) → prefix_len is_ascii_digit (take 6 text) ≡ 6 → get_or text 6 0 ≡ 41 → get_or text 7 0 ≡ 32
+    → moment ≡ number_after seconds (take 6 text) → micros_at seconds text ≡ Some (record { moment = moment; rest = take (length text - 8) (drop 8 text) })
+unfolding micros_at
+micros_told seconds text moment run closed space value =
+    with_rest text 8 moment (micros_at seconds text) (rw (run, closed, space, value) refl)
 
 other_first : (k c : ℕ) (rest : List ℕ) → is_ascii_digit c ≡ false → prefix_len is_ascii_digit (take k (c ∷ rest)) ≡ 0
 other_first zero c rest e = refl
