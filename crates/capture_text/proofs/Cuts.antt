@@ -1,5 +1,6 @@
 -- Lists that are cut at a byte, and tests that have passed.
 use Rattle.std.proofs.Common.{◌≡◌, ℕ, suc, ◌+◌, ◌-◌, ◌<◌, Bool, true, false, cond, List, [], ◌∷◌, ◌++◌, length, get_or, take, drop, drop-cons, Option, Some, None, Result, Ok, Err, refl, sym, ap, ◌∙◌, append_assoc, length-append, add-one, arith, inl, inr}
+use Rattle.std.specs.List.{refill}
 use Rattle.std.specs.Result.{result_ok}
 use Rattle.std.specs.Prelude.{◌==◌}
 use Rattle.std.proofs.lemmas.Bool.{cases_lt, eqb-true}
@@ -40,6 +41,13 @@ pub put_end : (room bytes : List ℕ) (done : ℕ) → put_mid done (length room
 put_end room bytes done =
     let none : drop (length room - done) (drop done room) ≡ [] = drop_all (length room - done) (drop done room) (omega (arith, length-drop done room)) in
     ap (λ (x : List ℕ). take done room ++ (bytes ++ x)) none ∙ ap (λ (x : List ℕ). take done room ++ x) (append-nil bytes)
+
+-- a list whose end is lent and written
+pub put_back : (start : ℕ) (old room grown lent put bytes : List ℕ) → grown ≡ old ++ room → lent ≡ grown → start ≡ length old → put ≡ take start lent ++ bytes
+    → length put ≡ length lent → refill (length grown) grown put ≡ old ++ bytes
+put_back start old room grown lent put bytes grown_is lent_is begins written kept =
+    take_at put (drop (length put) grown) (length grown) (kept ∙ ap length lent_is)
+    ∙ written ∙ ap (λ (x : List ℕ). take start x ++ bytes) (lent_is ∙ grown_is) ∙ ap (λ (x : List ℕ). x ++ bytes) (take_at old room start (sym begins))
 
 pub four : (xs : List ℕ) → length xs ≡ 4 → (a b c d : ℕ) × (xs ≡ a ∷ b ∷ c ∷ d ∷ [])
 four [] e = absurd (omega arith)
