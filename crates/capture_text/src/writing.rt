@@ -127,32 +127,66 @@ fn append_part(key: &[u8], number: u64, out: &mut Line)
     append_number(number, out);
 }
 
+/// Two keys with their numbers.
+fn append_parts(key: &[u8], number: u64, next: &[u8], other: u64, out: &mut Line)
+    requires key { length key.now ≤ 7 }
+    requires next { length next.now ≤ 7 }
+    requires room { array_vec_len out.old ≤ 2000 }
+    ensures { out.new.items ≡ out.old.items ++ ((key.now ++ decimal number) ++ (next.now ++ decimal other)) }
+{
+    append_part(key, number, out);
+    append_part(next, other, out);
+}
+
+/// A key with its name, and one with its number.
+fn append_named(key: &[u8], name: &[u8], next: &[u8], number: u64, out: &mut Line)
+    requires key { length key.now ≤ 7 }
+    requires name { length name.now ≤ 100 }
+    requires next { length next.now ≤ 7 }
+    requires room { array_vec_len out.old ≤ 2000 }
+    ensures { out.new.items ≡ out.old.items ++ (key.now ++ (name.now ++ (next.now ++ decimal number))) }
+{
+    append(key, out);
+    append(name, out);
+    append_part(next, number, out);
+}
+
 fn append_detail(detail: &Detail, out: &mut Line)
     requires { array_vec_len out.old ≤ 2000 }
     ensures { out.new.items ≡ out.old.items ++ detail_text detail.now }
 {
     match detail {
         Detail::Nothing => {}
-        Detail::Source { address, pgn } => {
-            append_part(b" src=", u64::from(*address), out);
-            append_part(b" pgn=", u64::from(*pgn), out);
-        }
+        Detail::Source { address, pgn } => append_parts(
+            b" src=",
+            u64::from(*address),
+            b" pgn=",
+            u64::from(*pgn),
+            out,
+        ),
         Detail::Address(address) => append_part(b" addr=", u64::from(*address), out),
-        Detail::Row { row, address } => {
-            append(b" row=", out);
-            append(row.name().as_bytes(), out);
-            append_part(b" src=", u64::from(*address), out);
-        }
+        Detail::Row { row, address } => append_named(
+            b" row=",
+            row.name().as_bytes(),
+            b" src=",
+            u64::from(*address),
+            out,
+        ),
         Detail::At(at) => append_part(b" at=", u64::from(*at), out),
-        Detail::AtField { at, field } => {
-            append_part(b" at=", u64::from(*at), out);
-            append_part(b" field=", u64::from(*field), out);
-        }
-        Detail::GroupKey { sfi, code } => {
-            append(b" sfi=", out);
-            append(sfi.as_bytes(), out);
-            append_part(b" group=", u64::from(*code), out);
-        }
+        Detail::AtField { at, field } => append_parts(
+            b" at=",
+            u64::from(*at),
+            b" field=",
+            u64::from(*field),
+            out,
+        ),
+        Detail::GroupKey { sfi, code } => append_named(
+            b" sfi=",
+            sfi.as_bytes(),
+            b" group=",
+            u64::from(*code),
+            out,
+        ),
         Detail::Line(line) => append_part(b" line=", *line, out),
         Detail::Bus => append(b" link=bus", out),
         Detail::Net => append(b" link=net", out),
