@@ -5,7 +5,7 @@ use Rattle.std.specs.Global.{Vec}
 use Rattle.std.proofs.lemmas.List.{take_at, length-append}
 use Rattle.gate_outside.specs.declared.link.Arrival.{Arrival}
 use Rattle.gate_outside.specs.declared.link.Arrival.TheVariants.{Bytes, Nothing}
-use Rattle.gate_outside.specs.Link.{Handed, Attachment, GoesOn, received_also, outcome_of}
+use Rattle.gate_outside.specs.Link.{Handed, Attachment, Fits, GoesOn, received_also, outcome_of}
 use Rattle.gate_outside.specs.LinkMemory.{QuietTraffic, arrival_of, arrival_at, traffic_of, IsArrivalThere}
 
 pub arrival_past : (script : List (Option (Vec ℕ))) (place : ℕ) → length script ≤ place → arrival_at (map arrival_of script) place ≡ None
@@ -30,6 +30,12 @@ outcome_is buffer None (Bytes count) h = absurd h
 outcome_is buffer None Nothing h = refl
 outcome_is buffer (Some bytes) (Bytes count) h = ap (λ (bs : List ℕ). Ok (Some bs)) h.1
 outcome_is buffer (Some bytes) Nothing h = absurd h
+
+pub arrival_fits : (buffer : List ℕ) (arrival : Option (List ℕ)) (result : Arrival) → IsArrivalThere buffer arrival result → Fits buffer (Ok result)
+arrival_fits buffer None (Bytes count) there = absurd there
+arrival_fits buffer None Nothing there = tt
+arrival_fits buffer (Some bytes) (Bytes count) there = there.0
+arrival_fits buffer (Some bytes) Nothing there = absurd there
 
 abbrev pub quiet : List (Option (List ℕ)) → ℕ → Option (List Handed) → ℕ → ℕ → Option Attachment → QuietTraffic
 quiet script receives handed room most attached = record { script = script; receives = receives; over = record { handed = handed; room = room; most = most }; attached = attached }

@@ -1,12 +1,12 @@
 -- Calls that fail by their numbers.
-use Rattle.std.proofs.Common.{◌≡◌, ℕ, zero, suc, ◌+◌, ◌-◌, ◌<◌, ◌≤◌, Bool, true, false, cond, List, [], ◌∷◌, ◌++◌, refl, sym, ap, subst, ◌∙◌, arith}
-use Rattle.std.specs.Prelude.{Option, Some, None, Result, Ok, Err, IsSome, nat_le}
+use Rattle.std.proofs.Common.{◌≡◌, ℕ, zero, suc, ◌+◌, ◌-◌, ◌<◌, ◌≤◌, Bool, true, false, cond, List, [], ◌∷◌, ◌++◌, inl, inr, refl, sym, ap, subst, ◌∙◌, arith}
+use Rattle.std.specs.Prelude.{Option, Some, None, Result, Ok, Err, IsSome, min, nat_le}
 use Rattle.std.specs.Global.{Vec}
-use Rattle.std.proofs.lemmas.Bool.{leb-false}
+use Rattle.std.proofs.lemmas.Bool.{cases_lt, leb-false}
 use Rattle.gate_outside.specs.declared.Failed.{Failed}
 use Rattle.gate_outside.specs.declared.link.Arrival.{Arrival}
 use Rattle.gate_outside.specs.declared.load_fault.LoadFault.{LoadFault}
-use Rattle.gate_outside.specs.Faults.{Script, last_count, one_more, fails_next, after_call}
+use Rattle.gate_outside.specs.Faults.{HasCause, Script, last_count, one_more, fails_next, after_call}
 use Rattle.gate_outside.specs.Link.{Handed, Outcome, Traffic, Attachment, GoesOn, Receives, Sends, received_also, handed_also, failed_also, outcome_of}
 use Rattle.gate_outside.specs.LinkMemory.{HandedOver, arrival_at, told_after}
 use Rattle.gate_outside.specs.MemFile.{Gives}
@@ -39,6 +39,26 @@ still_counted s new is small counted =
     let there : failed_of s.failing (one_more s.calls) ≡ failed_of s.failing (suc s.calls) = ap (λ (n : ℕ). failed_of s.failing n) (next_count s.calls small) in
     let old : s.faults + cond (fails_next s) 1 0 ≡ failed_of s.failing s.calls + cond (fails_next s) 1 0 = ap (λ (n : ℕ). n + cond (fails_next s) 1 0) counted in
     subst (λ (t : Script). t.faults ≡ failed_of t.failing t.calls) (sym is) (here ∙ (old ∙ sym there))
+
+-- the count of a link after a call that failed, and after one that didn't
+pub raised : {T : Type 0} (before base : ℕ) (fault : Failed) → HasCause {T = T} {E = Failed} (min (base + before) last_count) (min (base + one_more before) last_count) (Err fault)
+raised before base fault = record {
+  never_falls = omega arith;
+  rose = elim (cases_lt (min (base + before) last_count) (min (base + one_more before) last_count)) [ inl lt ↦ inl lt | inr le ↦ inr (omega (arith, le)) ];
+  steady = tt;
+}
+
+pub stayed : {T : Type 0} (count : ℕ) (value : T) → HasCause {T = T} {E = Failed} count count (Ok value)
+stayed count value = record { never_falls = omega arith; rose = tt; steady = refl }
+
+-- what is told after a call was told before it
+pub told_before : (stops : Bool) (handed : Option (List Handed)) → IsSome (cond stops None handed) → (stops ≡ false) × IsSome handed
+told_before true handed some = absurd cc
+told_before false handed some = (refl, some)
+
+pub told_before_more : (handed : Option (List Handed)) (room most : ℕ) (pair : Handed) → IsSome (told_after handed room most pair) → IsSome handed
+told_before_more None room most pair some = some
+told_before_more (Some pairs) room most pair some = refl
 
 -- ---- what a receive adds
 

@@ -132,7 +132,6 @@ impl Link for MemLink {
         Ok(())
     }
 
-    #[tactic(auto, using(crate::proofs::Numbered::told_received, crate::proofs::Numbered::still_counted))]
     fn receive(&mut self, buf: &mut [u8; LARGEST_ARRIVAL]) -> Result<Arrival, Failed>
         ensures fits { Fits buf.new result }
         ensures told { Receives buf.new (mem_traffic_of self.old) (mem_traffic_of self.new) result }
@@ -150,7 +149,6 @@ impl Link for MemLink {
         Ok(arrival_at(&self.script, place, buf))
     }
 
-    #[tactic(auto, using(crate::proofs::Numbered::told_sent))]
     fn send(&mut self, group: Group, bytes: &[u8]) -> Result<(), Failed>
         ensures told { Sends (group, bytes.now) (mem_traffic_of self.old) (mem_traffic_of self.new) result }
         ensures cause { HasCause (link_faults self.old) (link_faults self.new) result }
