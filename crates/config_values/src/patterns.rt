@@ -23,12 +23,12 @@ impl Valid for Pattern {
     fn is_valid(&self) -> bool {
         fits(21, self.unique)
             && fits(11, self.manufacturer.map(u32::from))
-            && fits(3, self.instance_lower.map(u32::from))
-            && fits(5, self.instance_upper.map(u32::from))
-            && fits(1, self.reserved.map(u32::from))
-            && fits(7, self.class.map(u32::from))
-            && fits(4, self.system_instance.map(u32::from))
-            && fits(3, self.industry.map(u32::from))
+            && byte_fits(3, self.instance_lower)
+            && byte_fits(5, self.instance_upper)
+            && byte_fits(1, self.reserved)
+            && byte_fits(7, self.class)
+            && byte_fits(4, self.system_instance)
+            && byte_fits(3, self.industry)
     }
 }
 
@@ -41,4 +41,12 @@ fn fits(width: u32, stated: Option<u32>) -> bool
         None => true,
         Some(value) => value < 1 << width,
     }
+}
+
+/// Whether the value isn't stated, or has no more than so many bits.
+fn byte_fits(width: u32, stated: Option<u8>) -> bool
+    requires { width ≤ 21 }
+    ensures { IsTrue result ↔ Fits width stated }
+{
+    fits(width, stated.map(u32::from))
 }
