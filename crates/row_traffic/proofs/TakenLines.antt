@@ -1,45 +1,55 @@
--- What a line leaves and gives that is taken, and is in no group of two lines or more.
-use Rattle.std.proofs.Common.{◌≡◌, ℕ, true, false, List, Some, None, refl, ap, ◌∙◌, append-nil}
+-- What a line leaves and gives: one that is the gateway's own, for another device or of a source that isn't listed, and one that is taken.
+use Rattle.std.proofs.Common.{◌≡◌, ℕ, true, false, List, [], ◌∷◌, Option, Some, None, refl, ap}
 use Rattle.std.specs.declared.cmp.Ordering.{Ordering}
+use Rattle.report_rules.specs.Rules as rules
 use Rattle.sentence_text.specs.Sentence.{SentenceParts, IsSentence}
 use Rattle.sentence_text.proofs.Only.{only}
 use Rattle.sentence_profile.specs.Reading.{read_row}
 use Rattle.tag_block.specs.declared.group_key.GroupKey.{GroupKey}
 use Rattle.tag_block.specs.Tag.{Said}
-use Rattle.history.specs.Heard.{several, place_of, is_own_line, is_elsewhere, is_taken}
+use Rattle.gate_events.specs.declared.emit.Detail.TheVariants as detail
+use Rattle.history.specs.Emits.{broken}
+use Rattle.history.specs.Heard.{several, place_of, is_own_line, is_elsewhere}
 use Rattle.history.specs.NetReadings.{read_parts, read_sentence}
-use Rattle.gate_model.specs.Net.{LineHeard, said_after, said_emits}
-use Rattle.gate_model.specs.NetLines.{NetKept}
+use Rattle.gate_model.specs.NetLines.{NetKept, line_at, line_after, line_emits, taken_after, taken_emits}
 use Rattle.row_traffic.specs.declared.network.hearing.Hearing.{Hearing}
-use Rattle.row_traffic.specs.NetCalls.{line_of, heard_by, after_line, line_gives}
+use Rattle.row_traffic.specs.NetCalls.{heard_by, after_line, line_gives}
 
 -- what a sentence says is what its parts say
-says_its_row : (parts : SentenceParts) (text : List ℕ) → IsSentence parts text → read_sentence text ≡ read_row parts
+pub says_its_row : (parts : SentenceParts) (text : List ℕ) → IsSentence parts text → read_sentence text ≡ read_row parts
 says_its_row parts text is = ap read_parts (only text parts is)
 
-module _ (cmp : GroupKey → GroupKey → Ordering) (h : Hearing) (k : NetKept) (place : ℕ) (said : Said) (text : List ℕ) (parts : SentenceParts) (source : ℕ) where
-  abbrev l : LineHeard
-  l = line_of (record { came = h.came; place = place; source = source })
+module _ (cmp : GroupKey → GroupKey → Ordering) (h : Hearing) (k : NetKept) (place : ℕ) (said : Said) (text : List ℕ) where
+  -- it leaves all as it was, and its rule is reported
+  pub record IsPassed (rule : ℕ) (source : Option ℕ) : Type 0 where
+    pub after : line_after cmp (heard_by h) h.came.moment h.came.ready k place said text source ≡ k
+    pub emits : line_emits cmp (heard_by h) h.came.moment h.came.ready h.came.own k place said text source ≡ broken rule (detail.At place) ∷ []
 
-  -- a line of a source that is listed, which is not the gateway's own nor for another device, and is in no group
-  pub record IsAlone : Type 0 where
-    pub own : is_own_line (heard_by h) said ≡ false
-    pub elsewhere : is_elsewhere (heard_by h) said.destination ≡ false
-    pub at : place_of (heard_by h) said.source ≡ Some source
-    pub group : several said.group ≡ None
-    pub sentence : IsSentence parts text
+  pub own_line : is_own_line (heard_by h) said ≡ true → IsPassed rules.own_line (place_of (heard_by h) said.source)
+  own_line own = by (place_of (heard_by h) said.source)
+    where
+      by : (source : Option ℕ) → IsPassed rules.own_line source
+      by None = record { after = refl; emits = rw own }
+      by (Some source) = record { after = rw own; emits = rw own }
 
-  module _ (is : IsAlone) where
-    taken : is_taken (heard_by h) said ≡ true
-    taken = rw (is.own, is.elsewhere, is.at) refl
+  pub line_elsewhere : is_own_line (heard_by h) said ≡ false → is_elsewhere (heard_by h) said.destination ≡ true
+      → IsPassed rules.other_destination (place_of (heard_by h) said.source)
+  line_elsewhere own elsewhere = by (place_of (heard_by h) said.source)
+    where
+      by : (source : Option ℕ) → IsPassed rules.other_destination source
+      by None = record { after = refl; emits = rw (own, elsewhere) }
+      by (Some source) = record { after = rw (own, elsewhere); emits = rw (own, elsewhere) }
 
-    pub alone_leaves : after_line cmp h k place said text ≡ record k { readings = said_after k.readings l (read_row parts) }
-    alone_leaves =
-        rw (is.at, taken, is.group)
-        (ap (λ s. let kept : NetKept = record k { readings = said_after k.readings l s } in kept) (says_its_row parts text is.sentence))
+  module _ (own : is_own_line (heard_by h) said ≡ false) (elsewhere : is_elsewhere (heard_by h) said.destination ≡ false) where
+    pub line_unlisted : place_of (heard_by h) said.source ≡ None → IsPassed rules.unlisted_source (place_of (heard_by h) said.source)
+    line_unlisted at = record { after = rw at; emits = rw (at, own, elsewhere, at) }
 
-    pub alone_gives : line_gives cmp h k place said text ≡ said_emits h.came.own k.readings l (read_row parts)
-    alone_gives =
-        rw (is.at, taken, is.group)
-        (append-nil (said_emits h.came.own k.readings l (read_sentence text))
-        ∙ ap (said_emits h.came.own k.readings l) (says_its_row parts text is.sentence))
+    -- it leaves and gives what the source's line does
+    pub record IsTaken (source : ℕ) : Type 0 where
+      pub after : after_line cmp h k place said text
+          ≡ taken_after cmp (heard_by h) h.came.moment h.came.ready k (line_at cmp (heard_by h) h.came.moment h.came.ready place source) said.source text (several said.group)
+      pub emits : line_gives cmp h k place said text
+          ≡ taken_emits cmp (heard_by h) h.came.moment h.came.ready h.came.own k (line_at cmp (heard_by h) h.came.moment h.came.ready place source) said.source text (several said.group)
+
+    pub line_taken : (source : ℕ) → place_of (heard_by h) said.source ≡ Some source → IsTaken source
+    line_taken source at = record { after = rw (at, own, elsewhere, at); emits = rw (at, own, elsewhere, at) }

@@ -1,7 +1,6 @@
--- What is reported of a line, and what a line of a group gives (IEC 61162-450).
-use Rattle.std.specs.Prelude.{ℕ, Bool, ◌&&◌, not, List, [], ◌∷◌, ◌++◌, None}
+-- What is reported of a line of a group, and what it gives (IEC 61162-450).
+use Rattle.std.specs.Prelude.{ℕ, Bool, List, [], ◌∷◌, ◌++◌, None}
 use Rattle.std.specs.declared.cmp.Ordering.{Ordering}
-use Rattle.report_rules.specs.Rules as rules
 use Rattle.slot_views.specs.Slots.{SlotMap}
 use Rattle.tag_block.specs.declared.group_key.GroupKey.{GroupKey}
 use Rattle.tag_block.specs.declared.group_part.GroupPart.{GroupPart}
@@ -13,16 +12,6 @@ use Rattle.gate_model.specs.Net.{ReadingsKept, sentences_emit}
 use Rattle.gate_model.specs.NetLines.{GroupAnswer, group_answer, group_reports, sentences_within}
 use Rattle.row_traffic.specs.declared.network.heard.Heard.{Heard}
 use Rattle.row_traffic.specs.NetCalls.{line_of}
-
--- why a line isn't taken: it is of the gateway itself, for another device, or of a source that isn't listed
-abbrev pub untaken : Bool → Bool → Bool → ℕ → List Emit
-untaken own elsewhere unlisted place =
-    reported
-    (broken_of
-    (breaks (not own && (not elsewhere && unlisted)) rules.unlisted_source (detail.At place)
-    ∷ breaks own rules.own_line (detail.At place)
-    ∷ breaks (not own && elsewhere) rules.other_destination (detail.At place)
-    ∷ []))
 
 -- a rule, where a line of the group broke it
 abbrev pub group_fault : Bool → ℕ → GroupKey → List Emit

@@ -1,5 +1,5 @@
 //! What the gateway keeps of the network (IEC 61162-450), and what a datagram makes of it and gives.
-ghost use Rattle.std.specs.Prelude.{◌≡◌, ◌+◌, ◌≤◌, [], ◌∷◌, ◌++◌, false, length, IfOk};
+ghost use Rattle.std.specs.Prelude.{◌≡◌, ◌+◌, ◌<◌, ◌≤◌, [], ◌∷◌, ◌++◌, false, length, IfOk};
 ghost use Rattle.std.specs.List.{AllByRecursion};
 ghost use Rattle.sentence_text.specs.Reading.{parts};
 ghost use Rattle.tag_block.specs.Reading.{said};
@@ -7,10 +7,9 @@ ghost use Rattle.datagram450.specs.Datagram.{item_view, line, IsItem, read};
 ghost use Rattle.history.specs.Heard.{several};
 ghost use Rattle.history.specs.Settings.{Settings};
 ghost use Rattle.gate_model.specs.Endings.{groups_overdue};
-ghost use Rattle.gate_model.specs.NetLines.{kept_until, datagram_after, datagram_emits};
-ghost use Rattle.row_traffic.specs.NetCalls.{Hears, IsHeardBy, opened_net};
+ghost use Rattle.gate_model.specs.NetLines.{kept_until, taken_after, taken_emits, datagram_after, datagram_emits};
+ghost use Rattle.row_traffic.specs.NetCalls.{Hears, IsHeardBy, line_of, opened_net};
 ghost use Rattle.row_traffic.specs.NetCalls.{after_line, line_gives, after_item, item_gives, after_items, items_give, datagram_gives};
-ghost use Rattle.row_traffic.specs.NetFaults.{untaken};
 ghost use Rattle.gate_outbox.specs.Output.{and_told, most_told};
 
 mod groups;
@@ -148,30 +147,53 @@ impl Network {
         ensures after { self.new ≡ after_line ⟦<GroupKey as Ord>⟧.cmp hearing.now self.old place (said tag.now) text.now }
         ensures emits { out.new ≡ and_told most_told out.old (line_gives ⟦<GroupKey as Ord>⟧.cmp hearing.now self.old place (said tag.now) text.now) }
     {
-        let own = hearing.is_own(tag);
-        let elsewhere = hearing.is_elsewhere(tag);
-        let source = hearing.place_of(tag.source);
-        match source {
-            Some(source) if !own && !elsewhere => {
-                let heard = Heard {
-                    came: hearing.came,
-                    place,
-                    source: source as u8,
-                };
-                match several(tag.group) {
-                    Some(part) => take_part(
-                        &mut self.groups,
-                        &mut self.readings,
-                        heard,
-                        tag.source,
-                        part,
-                        text,
-                        out,
-                    ),
-                    None => take_sentence(&mut self.readings, heard, sentence, out),
+        if hearing.is_own(tag) {
+            out.tell(at_place(OWN_LINE, place));
+        } else if hearing.is_elsewhere(tag) {
+            out.tell(at_place(OTHER_DESTINATION, place));
+        } else {
+            match hearing.place_of(tag.source) {
+                Some(source) => {
+                    let heard = Heard {
+                        came: hearing.came,
+                        place,
+                        source: source as u8,
+                    };
+                    self.take_line(heard, tag, text, sentence, out);
                 }
+                None => out.tell(at_place(UNLISTED_SOURCE, place)),
             }
-            _ => tell_untaken(own, elsewhere, source.is_none(), place, out),
+        }
+    }
+
+    /// Takes a line that is heard: as a line of a group, or by its sentence.
+    fn take_line(
+        &mut self,
+        heard: Heard,
+        tag: &Tag<'_>,
+        text: &[u8],
+        sentence: &Sentence<'_>,
+        out: &mut StepEmits,
+    )
+        requires is { IsItem (line heard.place (said tag.now) text.now (parts sentence.now)) }
+        requires source { heard.source < self.old.readings.choices.sources }
+        ensures after { (c : Settings) → self.new
+            ≡ taken_after ⟦<GroupKey as Ord>⟧.cmp c heard.came.moment heard.came.ready self.old (line_of heard) (said tag.now).source text.now (several tag.now.group) }
+        ensures emits { (c : Settings) → out.new
+            ≡ and_told most_told out.old (taken_emits ⟦<GroupKey as Ord>⟧.cmp c heard.came.moment heard.came.ready heard.came.own self.old (line_of heard)
+            (said tag.now).source text.now (several tag.now.group)) }
+    {
+        match several(tag.group) {
+            Some(part) => take_part(
+                &mut self.groups,
+                &mut self.readings,
+                heard,
+                tag.source,
+                part,
+                text,
+                out,
+            ),
+            None => take_sentence(&mut self.readings, heard, sentence, out),
         }
     }
 }
@@ -181,17 +203,4 @@ fn several(group: Option<GroupPart>) -> Option<GroupPart>
     ensures { result ≡ several group }
 {
     group.filter(|part| part.total >= 2)
-}
-
-/// Reports why a line isn't taken: it is the gateway's own, for another device, or of a source that isn't listed.
-fn tell_untaken(own: bool, elsewhere: bool, unlisted: bool, place: u16, out: &mut StepEmits)
-    ensures emits { out.new ≡ and_told most_told out.old (untaken own elsewhere unlisted place) }
-{
-    if own {
-        out.tell(at_place(OWN_LINE, place));
-    } else if elsewhere {
-        out.tell(at_place(OTHER_DESTINATION, place));
-    } else if unlisted {
-        out.tell(at_place(UNLISTED_SOURCE, place));
-    }
 }
