@@ -1,2 +1,3 @@
 pub mod Datagrams
+pub mod Items
 pub mod Telling

@@ -1,5 +1,5 @@
 //! What is to be sent and reported.
-ghost use Rattle.std.specs.Prelude.{◌≡◌, ◌<◌, ◌↔◌, ◌∷◌, [], filter, length, option_map, slice_get, IfSome, IsSome};
+ghost use Rattle.std.specs.Prelude.{◌≡◌, ◌==◌, ◌<◌, ◌↔◌, ◌&&◌, ◌∷◌, [], filter, length, option_map, slice_get, IfSome, IsSome};
 ghost use Rattle.std.specs.Borrow.{sem};
 ghost use Rattle.n2k_id.specs.Frame.{IsFrame, bus_frame};
 ghost use Rattle.gate_events.specs.Emit.{CanWrite, can, report};
@@ -73,14 +73,18 @@ impl<const ROOM: usize> Emits<ROOM> {
         ensures beyond { IsSome result ↔ (place < length (emits_of self.now)) }
         ensures valid { IfSome result CanWrite }
     {
-        match self.kept.get(place) {
-            Some(Kept::Frame { len, id, bytes }) => Some(Emit::Can(Frame { id, len, bytes })),
-            Some(Kept::Report { rule, detail }) => Some(Emit::Report(Report { rule, detail })),
-            None if self.posted && place == self.kept.len() => {
-                Some(Emit::Net(self.datagram.group, self.datagram.packet.as_slice()))
-            }
-            None => None,
+        if self.posts_at(place) {
+            Some(Emit::Net(self.datagram.group, self.datagram.packet.as_slice()))
+        } else {
+            self.kept.get(place)
         }
+    }
+
+    /// Whether the datagram stands at this place.
+    fn posts_at(&self, place: usize) -> bool
+        ensures { result ≡ (is_there self.now.posted && (place == length self.now.told)) }
+    {
+        self.posted && place == self.kept.len()
     }
 
     /// Whether a datagram is there.

@@ -1,10 +1,11 @@
 //! A frame or a report, as it is kept: in 24 bytes.
 ghost use Rattle.std.specs.Prelude.{◌≡◌};
 ghost use Rattle.n2k_id.specs.Frame.{IsFrame, bus_frame};
-ghost use Rattle.gate_events.specs.Emit.{can, report};
+ghost use Rattle.gate_events.specs.Emit.{CanWrite, can, report};
 ghost use Rattle.gate_outbox.specs.Kept.{IsKept, kept_emit};
+ghost use Rattle.gate_outbox.specs.Output.{emit_of};
 
-use gate_events::{Detail, Report};
+use gate_events::{Detail, Emit, Report};
 use n2k_id::Frame;
 
 /// A frame or a report.
@@ -40,5 +41,17 @@ impl Kept {
     {
         let Report { rule, detail } = told;
         Kept::Report { rule, detail }
+    }
+
+    /// What is sent or reported of it.
+    pub(crate) fn emit(self) -> Emit<'static>
+        requires { IsKept self }
+        ensures emit { emit_of result ≡ kept_emit self }
+        ensures valid { CanWrite result }
+    {
+        match self {
+            Kept::Frame { len, id, bytes } => Emit::Can(Frame { id, len, bytes }),
+            Kept::Report { rule, detail } => Emit::Report(Report { rule, detail }),
+        }
     }
 }

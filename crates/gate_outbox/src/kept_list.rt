@@ -1,8 +1,10 @@
 //! Frames and reports in their order, each in a place that was there from the first.
 ghost use Rattle.std.specs.Prelude.{◌≡◌, ◌≤◌, [], ◌∷◌, filter, length, option_map, slice_get, IfSome};
-ghost use Rattle.gate_outbox.specs.Output.{is_datagram, told_with};
+ghost use Rattle.gate_events.specs.Emit.{CanWrite};
+ghost use Rattle.gate_outbox.specs.Output.{emit_of, is_datagram, told_with};
 
 use crate::kept::{BLANK, Kept};
+use gate_events::Emit;
 use std::marker::Model;
 
 /// A place for each, in a struct of its own: Rattle has no proof of a call of the list that leaves an array of the list's own untouched.
@@ -73,12 +75,12 @@ impl<const ROOM: usize> KeptList<ROOM> {
         }
     }
 
-    pub(crate) fn get(&self, place: usize) -> Option<Kept>
-        ensures emit { option_map kept_emit result ≡ slice_get self.now place }
-        ensures valid { IfSome result IsKept }
+    pub(crate) fn get(&self, place: usize) -> Option<Emit<'_>>
+        ensures emit { option_map emit_of result ≡ slice_get self.now place }
+        ensures valid { IfSome result CanWrite }
     {
         if place < self.count {
-            Some(self.places.cells[place])
+            Some(self.places.cells[place].emit())
         } else {
             None
         }
