@@ -13,3 +13,9 @@ returns-clause-output c =
     (fast_output (the_view c.self.inside) c.args.moment (bus_frame c.args.frame.now) c.args.parts.now _ c.requires.parts _ (lent_message c.message_of.result) c.hear-payload.new.out
     c.complete.new.out refl c.hear-payload.ensures.emits
     (c.message_of.ensures ∙ ap (option_map (carried c.args.parts.now.pgn)) c.hear-payload.ensures.payload) gives)
+
+pub complete-requires : goal.complete-requires
+complete-requires c = record {
+  config = c.self.invariant;
+  places = rw c.claims.ensures (rw (← c.self.view_is) at c.requires.stays.holders);
+}

@@ -20,3 +20,9 @@ returns-clause-output c =
     rw (← c.self.view_is, ← c.out.view_is)
     (session_output g c.args.moment (bus_frame c.args.frame.now) c.args.parts.now _ c.requires.parts (answer_in c.hear-fed.result) (lent_message c.message_in.result)
     c.hear-fed.new.out next _ (rw own at c.hear-fed.ensures.answer) tells c.message_in.ensures gives replies)
+
+pub complete-requires : goal.complete-requires
+complete-requires c = record {
+  config = c.self.invariant;
+  places = rw c.claims.ensures (rw (← c.self.view_is) at c.requires.stays.holders);
+}
