@@ -22,3 +22,9 @@ send_single-requires c =
           (c.priority.ensures ∙ ap priority_of c.row.ensures) c.write-pgn.ensures.pgn;
       fits = subst (λ p. length p ≤ 8) (sym (c.deref-else-is_fast.ensures.0 ∙ c.write-pgn.ensures.payload)) (fits_a_frame r single);
     }
+
+pub write-pgn-requires-clause-valid : goal.write-pgn-requires-clause-valid
+write-pgn-requires-clause-valid c = c.requires.valid
+
+pub send_fast-requires-clause-sequence : goal.send_fast-requires-clause-sequence
+send_fast-requires-clause-sequence c = c.requires.sequence

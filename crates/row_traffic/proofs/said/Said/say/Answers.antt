@@ -39,3 +39,9 @@ returns-clause-emits c =
     ∙ ap (λ rule. rule.group) (c.row_config.ensures.rule ∙ ap (rule_of settings) c.row-row.ensures) in
     ap (λ g. with_posted c.args.out.now (net g c.write_datagram.new.packet.items ∷ [])) group
     ∙ ap (λ bytes. with_posted c.args.out.now (net (rule_of settings (row_of r)).group bytes ∷ [])) (c.write_datagram.ensures ∙ same)
+
+pub sentences_in-requires-clause-config : goal.sentences_in-requires-clause-config
+sentences_in-requires-clause-config c = c.requires.config
+
+pub sentences_in-requires-clause-valid : goal.sentences_in-requires-clause-valid
+sentences_in-requires-clause-valid c = c.requires.valid
