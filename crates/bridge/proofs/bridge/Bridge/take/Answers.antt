@@ -2,7 +2,7 @@ use Rattle.std.proofs.Common.{sym, ap, subst, ◌∙◌}
 use Rattle.gate_core.specs.Steps.{entry_of}
 use Rattle.bridge.specs.declared.left.Left.{Left}
 use Rattle.bridge.specs.BridgeStands.{IsBesideStep, IsBridgeStep}
-use Rattle.bridge.specs.Kept.{Bridged}
+use Rattle.bridge.specs.Kept.{Bridged, IsUsual}
 use Rattle.bridge.proofs.Steps.{accepted_step, bridge_of, left_after, refused_step, with_gateway}
 use Rattle.bridge.proofs.bridge.Bridge.take.Goals as goal
 
@@ -36,3 +36,12 @@ returns-else-accepted c =
           (refused_step c.args.event.now before g o c.step.ensures.history (sym c.accepts-accepted.ensures ∙ c.if-accepted.false)));
       started = ap (λ (b : Bridged). b.started) c.self.view_is ∙ c.requires.started;
     }
+
+pub step-requires-clause-valid : goal.step-requires-clause-valid
+step-requires-clause-valid c = c.requires.valid
+
+pub take_beside-requires-clause-valid : goal.take_beside-requires-clause-valid
+take_beside-requires-clause-valid c = c.requires.valid
+
+pub clear-requires : goal.clear-requires
+clear-requires c = λ unasked. subst IsUsual (sym c.as_mut-left.ensures.value) (c.self.invariant.1 unasked).1

@@ -60,3 +60,12 @@ returns-else-self c =
     } in
     subst (λ (b : Bridged). IsBesideStep e b after) c.self.view_is
     (subst (λ (l : Left). IsBesideStep e (bridge_of i.started i.gateway i.answering.identity i.joining i.watching i.measuring i.sources i.plain i.records l) after) c.as_mut-left.ensures.value step)
+
+pub answer-requires-clause-valid : goal.answer-requires-clause-valid
+answer-requires-clause-valid c = c.requires.valid
+
+pub watch-requires-clause-valid : goal.watch-requires-clause-valid
+watch-requires-clause-valid c = c.requires.valid
+
+pub measure-requires-clause-valid : goal.measure-requires-clause-valid
+measure-requires-clause-valid c = c.requires.valid

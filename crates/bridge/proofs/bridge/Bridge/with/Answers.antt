@@ -18,3 +18,9 @@ returns c = record {
   plain = refl;
   records = refl;
 }
+
+pub watching_of-requires-clause-config : goal.watching_of-requires-clause-config
+watching_of-requires-clause-config c = c.requires.settings.config
+
+pub ignoring-requires : goal.ignoring-requires
+ignoring-requires c = c.requires.settings.config
