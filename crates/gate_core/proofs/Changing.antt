@@ -1,5 +1,5 @@
 -- A frame that claims an address (ISO 11783-5) is meant as a claim.
-use Rattle.std.proofs.Common.{◌≡◌, ℕ, Bool, true, false, ◌&&◌, ◌==◌, refl, ap}
+use Rattle.std.proofs.Common.{◌≡◌, ℕ, true, ◌==◌, refl, ap}
 use Rattle.std.proofs.lemmas.Bool.{and_parts}
 use Rattle.n2k_id.specs.Frame.{BusFrame}
 use Rattle.n2k_id.specs.Identifier.{parts_of}
