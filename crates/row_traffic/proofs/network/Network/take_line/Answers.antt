@@ -21,3 +21,9 @@ returns-in-None c =
       after = λ s. rw (is, ← c.self.view_is, says, c.take_sentence.ensures.after);
       emits = λ s. rw (is, ← c.self.view_is, says, append-nil) c.take_sentence.ensures.emits;
     }
+
+pub take_part-requires-clause-source : goal.take_part-requires-clause-source
+take_part-requires-clause-source c = rw (← c.self.view_is) at c.requires.source
+
+pub take_sentence-requires : goal.take_sentence-requires
+take_sentence-requires c = record { source = rw (← c.self.view_is) at c.requires.source }
