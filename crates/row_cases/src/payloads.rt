@@ -1,153 +1,101 @@
 //! Each payload was worked out by hand from the layouts of the messages. What stands here is tried to the unit of a reading; the program shows the
 //! sentences alone, which are rounded.
 
+mod absent;
 mod carried;
 
+use absent::{
+    NO_APPARENT_WIND, NO_COURSE, NO_CROSS_TRACK, NO_DEPTH, NO_DISTANCE, NO_FIRST_RUDDER, NO_FIX,
+    NO_MAGNETIC_HEADING, NO_POSITION, NO_RATE_OF_TURN, NO_SECOND_RUDDER, NO_TEMPERATURE, NO_TIME,
+    NO_TRUE_HEADING, NO_TRUE_WIND, NO_WATER_SPEED, NO_WIND_BY_NORTH,
+};
 use carried::CARRIED;
 use pgn_profile::{Payload, Profiled, read, write};
 use readings::{Reading, valid};
 
 /// Just beyond the ranges, and what is read there.
-const BEYOND: [(u32, &[u8], Reading); 34] = [
+const BEYOND: [(u32, &[u8], Reading); 26] = [
     (
         127_250,
         &[0xFF, 0x71, 0xF5, 0xFF, 0x7F, 0xFF, 0x7F, 0xFC],
-        Reading::HeadingTrue { heading: None },
-    ),
-    (
-        127_250,
-        &[0xFF, 0x71, 0xF5, 0xFF, 0x7F, 0xFF, 0x7F, 0xFC],
-        Reading::HeadingTrue { heading: None },
+        NO_TRUE_HEADING,
     ),
     (
         127_250,
         &[0xFF, 0x71, 0xF5, 0x47, 0x85, 0x47, 0x85, 0xFD],
-        Reading::HeadingMagnetic {
-            heading: None,
-            deviation: None,
-            variation: None,
-        },
+        NO_MAGNETIC_HEADING,
     ),
     (
         127_250,
         &[0xFF, 0x71, 0xF5, 0xB9, 0x7A, 0xB9, 0x7A, 0xFD],
-        Reading::HeadingMagnetic {
-            heading: None,
-            deviation: None,
-            variation: None,
-        },
+        NO_MAGNETIC_HEADING,
     ),
     (
         127_251,
         &[0xFF, 0x63, 0x79, 0x84, 0xC8, 0xFF, 0xFF, 0xFF],
-        Reading::RateOfTurn { rate: None },
+        NO_RATE_OF_TURN,
     ),
     (
         127_251,
         &[0xFF, 0x9D, 0x86, 0x7B, 0x37, 0xFF, 0xFF, 0xFF],
-        Reading::RateOfTurn { rate: None },
+        NO_RATE_OF_TURN,
     ),
     (
         127_245,
         &[0x00, 0xFF, 0xFF, 0x7F, 0xA3, 0xC2, 0xFF, 0xFF],
-        Reading::RudderFirst { position: None },
+        NO_FIRST_RUDDER,
     ),
     (
         127_245,
         &[0x00, 0xFF, 0xFF, 0x7F, 0x5D, 0x3D, 0xFF, 0xFF],
-        Reading::RudderFirst { position: None },
+        NO_FIRST_RUDDER,
     ),
     (
         127_245,
         &[0x01, 0xFF, 0xFF, 0x7F, 0xA3, 0xC2, 0xFF, 0xFF],
-        Reading::RudderSecond { position: None },
+        NO_SECOND_RUDDER,
     ),
     (
         127_245,
         &[0x01, 0xFF, 0xFF, 0x7F, 0x5D, 0x3D, 0xFF, 0xFF],
-        Reading::RudderSecond { position: None },
+        NO_SECOND_RUDDER,
     ),
     (
         128_259,
         &[0xFF, 0xFD, 0xFF, 0xFF, 0xFF, 0xFF, 0xFF, 0xFF],
-        Reading::WaterSpeed { speed: None },
-    ),
-    (
-        128_259,
-        &[0xFF, 0xFD, 0xFF, 0xFF, 0xFF, 0xFF, 0xFF, 0xFF],
-        Reading::WaterSpeed { speed: None },
+        NO_WATER_SPEED,
     ),
     (
         128_267,
         &[0xFF, 0x81, 0x4F, 0x12, 0x00, 0x03, 0x80, 0xFD],
-        Reading::Depth {
-            depth: None,
-            offset: None,
-            range: None,
-        },
+        NO_DEPTH,
     ),
     (
         128_267,
         &[0xFF, 0x81, 0x4F, 0x12, 0x00, 0xFD, 0x7F, 0xFD],
-        Reading::Depth {
-            depth: None,
-            offset: None,
-            range: None,
-        },
+        NO_DEPTH,
     ),
     (
         128_275,
         &[
             0xFF, 0xFF, 0xFF, 0xFF, 0xFF, 0xFF, 0x01, 0x8E, 0xC6, 0xDC, 0x01, 0x8E, 0xC6, 0xDC,
         ],
-        Reading::DistanceLog {
-            log: None,
-            trip: None,
-        },
-    ),
-    (
-        128_275,
-        &[
-            0xFF, 0xFF, 0xFF, 0xFF, 0xFF, 0xFF, 0x01, 0x8E, 0xC6, 0xDC, 0x01, 0x8E, 0xC6, 0xDC,
-        ],
-        Reading::DistanceLog {
-            log: None,
-            trip: None,
-        },
+        NO_DISTANCE,
     ),
     (
         129_025,
         &[0xFF, 0x16, 0x5B, 0xCA, 0xFF, 0x2D, 0xB6, 0x94],
-        Reading::Position {
-            latitude: None,
-            longitude: None,
-        },
+        NO_POSITION,
     ),
     (
         129_025,
         &[0x01, 0xE9, 0xA4, 0x35, 0x01, 0xD2, 0x49, 0x6B],
-        Reading::Position {
-            latitude: None,
-            longitude: None,
-        },
+        NO_POSITION,
     ),
     (
         129_026,
         &[0xFF, 0xFC, 0x71, 0xF5, 0xFD, 0xFF, 0xFF, 0xFF],
-        Reading::CourseSpeed {
-            magnetic: false,
-            course: None,
-            speed: None,
-        },
-    ),
-    (
-        129_026,
-        &[0xFF, 0xFC, 0x71, 0xF5, 0xFD, 0xFF, 0xFF, 0xFF],
-        Reading::CourseSpeed {
-            magnetic: false,
-            course: None,
-            speed: None,
-        },
+        NO_COURSE,
     ),
     (
         129_029,
@@ -157,17 +105,7 @@ const BEYOND: [(u32, &[u8], Reading); 34] = [
             0xFF, 0xFF, 0xFF, 0xF0, 0xFC, 0xFD, 0x10, 0x27, 0xFF, 0x7F, 0x69, 0x79, 0xFE, 0xFF,
             0x00,
         ],
-        Reading::Gnss {
-            date: None,
-            time: None,
-            latitude: None,
-            longitude: None,
-            altitude: None,
-            method: 0,
-            satellites: None,
-            hdop: None,
-            separation: None,
-        },
+        NO_FIX,
     ),
     (
         129_029,
@@ -177,103 +115,47 @@ const BEYOND: [(u32, &[u8], Reading); 34] = [
             0x00, 0x00, 0x00, 0x90, 0xFC, 0xFD, 0x10, 0x27, 0xFF, 0x7F, 0x97, 0x86, 0x01, 0x00,
             0x00,
         ],
-        Reading::Gnss {
-            date: None,
-            time: None,
-            latitude: None,
-            longitude: None,
-            altitude: None,
-            method: 0,
-            satellites: None,
-            hdop: None,
-            separation: None,
-        },
+        NO_FIX,
     ),
     (
         126_992,
         &[0xFF, 0xFF, 0xFD, 0xFF, 0x00, 0x98, 0x7F, 0x33],
-        Reading::Time {
-            date: None,
-            time: None,
-        },
-    ),
-    (
-        126_992,
-        &[0xFF, 0xFF, 0xFD, 0xFF, 0x00, 0x98, 0x7F, 0x33],
-        Reading::Time {
-            date: None,
-            time: None,
-        },
+        NO_TIME,
     ),
     (
         130_306,
         &[0xFF, 0xFD, 0xFF, 0x71, 0xF5, 0xFA, 0xFF, 0xFF],
-        Reading::WindApparent {
-            speed: None,
-            angle: None,
-        },
-    ),
-    (
-        130_306,
-        &[0xFF, 0xFD, 0xFF, 0x71, 0xF5, 0xFA, 0xFF, 0xFF],
-        Reading::WindApparent {
-            speed: None,
-            angle: None,
-        },
+        NO_APPARENT_WIND,
     ),
     (
         130_306,
         &[0xFF, 0xFD, 0xFF, 0x71, 0xF5, 0xFB, 0xFF, 0xFF],
-        Reading::WindTrue {
-            speed: None,
-            angle: None,
-        },
-    ),
-    (
-        130_306,
-        &[0xFF, 0xFD, 0xFF, 0x71, 0xF5, 0xFB, 0xFF, 0xFF],
-        Reading::WindTrue {
-            speed: None,
-            angle: None,
-        },
+        NO_TRUE_WIND,
     ),
     (
         130_306,
         &[0xFF, 0xFD, 0xFF, 0x71, 0xF5, 0xF8, 0xFF, 0xFF],
-        Reading::WindNorth {
-            magnetic: false,
-            speed: None,
-            angle: None,
-        },
-    ),
-    (
-        130_306,
-        &[0xFF, 0xFD, 0xFF, 0x71, 0xF5, 0xF8, 0xFF, 0xFF],
-        Reading::WindNorth {
-            magnetic: false,
-            speed: None,
-            angle: None,
-        },
+        NO_WIND_BY_NORTH,
     ),
     (
         130_316,
         &[0xFF, 0x00, 0x00, 0x5D, 0xA4, 0x02, 0xFF, 0xFF],
-        Reading::WaterTemperature { kelvin: None },
+        NO_TEMPERATURE,
     ),
     (
         130_316,
         &[0xFF, 0x00, 0x00, 0x9F, 0xB1, 0x05, 0xFF, 0xFF],
-        Reading::WaterTemperature { kelvin: None },
+        NO_TEMPERATURE,
     ),
     (
         129_283,
         &[0xFF, 0x30, 0x3F, 0x68, 0xE5, 0xFE, 0xFF, 0xFF],
-        Reading::CrossTrack { distance: None },
+        NO_CROSS_TRACK,
     ),
     (
         129_283,
         &[0xFF, 0x30, 0xC1, 0x97, 0x1A, 0x01, 0xFF, 0xFF],
-        Reading::CrossTrack { distance: None },
+        NO_CROSS_TRACK,
     ),
 ];
 

@@ -1,5 +1,10 @@
 //! What is written of readings and read back.
 
+use super::absent::{
+    NO_APPARENT_WIND, NO_COURSE, NO_CROSS_TRACK, NO_DEPTH, NO_DISTANCE, NO_FIRST_RUDDER, NO_FIX,
+    NO_MAGNETIC_HEADING, NO_POSITION, NO_RATE_OF_TURN, NO_SECOND_RUDDER, NO_TEMPERATURE, NO_TIME,
+    NO_TRUE_HEADING, NO_TRUE_WIND, NO_WATER_SPEED, NO_WIND_BY_NORTH,
+};
 use readings::Reading;
 
 /// At both ends of each range, and as it is written where nothing is available.
@@ -297,72 +302,54 @@ pub(super) const CARRIED: [(u32, &[u8], Reading); 51] = [
     (
         127_250,
         &[0xFF, 0xFF, 0xFF, 0xFF, 0x7F, 0xFF, 0x7F, 0xFC],
-        Reading::HeadingTrue { heading: None },
+        NO_TRUE_HEADING,
     ),
     (
         127_250,
         &[0xFF, 0xFF, 0xFF, 0xFF, 0x7F, 0xFF, 0x7F, 0xFD],
-        Reading::HeadingMagnetic {
-            heading: None,
-            deviation: None,
-            variation: None,
-        },
+        NO_MAGNETIC_HEADING,
     ),
     (
         127_251,
         &[0xFF, 0xFF, 0xFF, 0xFF, 0x7F, 0xFF, 0xFF, 0xFF],
-        Reading::RateOfTurn { rate: None },
+        NO_RATE_OF_TURN,
     ),
     (
         127_245,
         &[0x00, 0xFF, 0xFF, 0x7F, 0xFF, 0x7F, 0xFF, 0xFF],
-        Reading::RudderFirst { position: None },
+        NO_FIRST_RUDDER,
     ),
     (
         127_245,
         &[0x01, 0xFF, 0xFF, 0x7F, 0xFF, 0x7F, 0xFF, 0xFF],
-        Reading::RudderSecond { position: None },
+        NO_SECOND_RUDDER,
     ),
     (
         128_259,
         &[0xFF, 0xFF, 0xFF, 0xFF, 0xFF, 0xFF, 0xFF, 0xFF],
-        Reading::WaterSpeed { speed: None },
+        NO_WATER_SPEED,
     ),
     (
         128_267,
         &[0xFF, 0xFF, 0xFF, 0xFF, 0xFF, 0xFF, 0x7F, 0xFF],
-        Reading::Depth {
-            depth: None,
-            offset: None,
-            range: None,
-        },
+        NO_DEPTH,
     ),
     (
         128_275,
         &[
             0xFF, 0xFF, 0xFF, 0xFF, 0xFF, 0xFF, 0xFF, 0xFF, 0xFF, 0xFF, 0xFF, 0xFF, 0xFF, 0xFF,
         ],
-        Reading::DistanceLog {
-            log: None,
-            trip: None,
-        },
+        NO_DISTANCE,
     ),
     (
         129_025,
         &[0xFF, 0xFF, 0xFF, 0x7F, 0xFF, 0xFF, 0xFF, 0x7F],
-        Reading::Position {
-            latitude: None,
-            longitude: None,
-        },
+        NO_POSITION,
     ),
     (
         129_026,
         &[0xFF, 0xFC, 0xFF, 0xFF, 0xFF, 0xFF, 0xFF, 0xFF],
-        Reading::CourseSpeed {
-            magnetic: false,
-            course: None,
-            speed: None,
-        },
+        NO_COURSE,
     ),
     (
         129_029,
@@ -372,59 +359,36 @@ pub(super) const CARRIED: [(u32, &[u8], Reading); 51] = [
             0xFF, 0xFF, 0x7F, 0x00, 0xFC, 0xFF, 0xFF, 0x7F, 0xFF, 0x7F, 0xFF, 0xFF, 0xFF, 0x7F,
             0x00,
         ],
-        Reading::Gnss {
-            date: None,
-            time: None,
-            latitude: None,
-            longitude: None,
-            altitude: None,
-            method: 0,
-            satellites: None,
-            hdop: None,
-            separation: None,
-        },
+        NO_FIX,
     ),
     (
         126_992,
         &[0xFF, 0xFF, 0xFF, 0xFF, 0xFF, 0xFF, 0xFF, 0xFF],
-        Reading::Time {
-            date: None,
-            time: None,
-        },
+        NO_TIME,
     ),
     (
         130_306,
         &[0xFF, 0xFF, 0xFF, 0xFF, 0xFF, 0xFA, 0xFF, 0xFF],
-        Reading::WindApparent {
-            speed: None,
-            angle: None,
-        },
+        NO_APPARENT_WIND,
     ),
     (
         130_306,
         &[0xFF, 0xFF, 0xFF, 0xFF, 0xFF, 0xFB, 0xFF, 0xFF],
-        Reading::WindTrue {
-            speed: None,
-            angle: None,
-        },
+        NO_TRUE_WIND,
     ),
     (
         130_306,
         &[0xFF, 0xFF, 0xFF, 0xFF, 0xFF, 0xF8, 0xFF, 0xFF],
-        Reading::WindNorth {
-            magnetic: false,
-            speed: None,
-            angle: None,
-        },
+        NO_WIND_BY_NORTH,
     ),
     (
         130_316,
         &[0xFF, 0x00, 0x00, 0xFF, 0xFF, 0xFF, 0xFF, 0xFF],
-        Reading::WaterTemperature { kelvin: None },
+        NO_TEMPERATURE,
     ),
     (
         129_283,
         &[0xFF, 0x30, 0xFF, 0xFF, 0xFF, 0x7F, 0xFF, 0xFF],
-        Reading::CrossTrack { distance: None },
+        NO_CROSS_TRACK,
     ),
 ];
