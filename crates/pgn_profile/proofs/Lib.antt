@@ -3,3 +3,4 @@ pub mod Law
 pub mod Parts
 pub mod Pieces
 pub mod ReadBack
+pub mod Selected

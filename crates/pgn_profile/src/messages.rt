@@ -5,9 +5,10 @@ ghost use Rattle.readings.specs.Rows.{IsValid, row_of};
 ghost use Rattle.pgn_profile.specs.Profiled.{GivesValid, kind_of, payload_of, pgn_of, priority_of, profiled};
 
 use crate::kinds::Kind;
-use crate::piece::Piece::{Byte, Bytes, Signed, Unsigned};
-use crate::piece::{Payload, append_all};
+use crate::piece::Payload;
 use crate::profiled::Profiled;
+use crate::steering::Rudder;
+use crate::wind::Wind;
 use crate::{heading, position, steering, time, water, wind};
 use readings::{Reading, Row, row};
 
@@ -96,7 +97,7 @@ pub fn read_in_place(pgn: u32, payload: &[u8]) -> Profiled
         GNSS_POSITION_DATA => position::read_fix(payload),
         SYSTEM_TIME => time::read_system_time(payload),
         TIME_AND_DATE => time::read_time_and_date(payload),
-        WIND_DATA => wind::read_wind(payload),
+        WIND_DATA => wind::read(payload),
         TEMPERATURE => water::read_temperature(payload),
         TEMPERATURE_EXTENDED_RANGE => water::read_extended_temperature(payload),
         CROSS_TRACK_ERROR => position::read_cross_track(payload),
@@ -141,8 +142,8 @@ fn write_payload(reading: &Reading, out: &mut Payload)
             variation,
         } => heading::write_magnetic(heading, deviation, variation, out),
         Reading::RateOfTurn { rate } => heading::write_rate_of_turn(rate, out),
-        Reading::RudderFirst { position } => steering::write_rudder(0, position, out),
-        Reading::RudderSecond { position } => steering::write_rudder(1, position, out),
+        Reading::RudderFirst { position } => steering::write_rudder(Rudder::First, position, out),
+        Reading::RudderSecond { position } => steering::write_rudder(Rudder::Second, position, out),
         Reading::WaterSpeed { speed } => water::write_water_speed(speed, out),
         Reading::Depth {
             depth,
@@ -159,44 +160,15 @@ fn write_payload(reading: &Reading, out: &mut Payload)
             course,
             speed,
         } => position::write_course(magnetic, course, speed, out),
-        Reading::Gnss {
-            date,
-            time,
-            latitude,
-            longitude,
-            altitude,
-            method,
-            satellites,
-            hdop,
-            separation,
-        } => {
-            append_all(
-                &[
-                    Byte(0xFF),
-                    Unsigned(2, date),
-                    Unsigned(4, time),
-                    Signed(8, latitude),
-                    Signed(8, longitude),
-                    Signed(8, altitude),
-                    Byte(method << 4),
-                    Byte(0xFC),
-                    Unsigned(1, satellites),
-                    Signed(2, hdop),
-                    Bytes(&[0xFF, 0x7F]),
-                    Signed(4, separation),
-                    Byte(0),
-                ],
-                out,
-            )
-        }
+        Reading::Gnss { .. } => position::write_fix(reading, out),
         Reading::Time { date, time } => time::write_system_time(date, time, out),
-        Reading::WindApparent { speed, angle } => wind::write_wind(speed, angle, 0xFA, out),
-        Reading::WindTrue { speed, angle } => wind::write_wind(speed, angle, 0xFB, out),
+        Reading::WindApparent { speed, angle } => wind::write(Wind::Apparent, speed, angle, out),
+        Reading::WindTrue { speed, angle } => wind::write(Wind::True, speed, angle, out),
         Reading::WindNorth {
             magnetic,
             speed,
             angle,
-        } => wind::write_wind(speed, angle, if magnetic { 0xF9 } else { 0xF8 }, out),
+        } => wind::write(Wind::North { magnetic }, speed, angle, out),
         Reading::WaterTemperature { kelvin } => water::write_extended_temperature(kelvin, out),
         Reading::CrossTrack { distance } => position::write_cross_track(distance, out),
     }

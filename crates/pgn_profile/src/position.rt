@@ -15,6 +15,8 @@ ghost use Rattle.std.specs.Prelude.{◌≡◌, []};
 ghost use Rattle.readings.specs.Numbers.{bits_of};
 ghost use Rattle.pgn_profile.specs.Part.{known};
 ghost use Rattle.readings.specs.declared.reading.Reading.TheVariants.{CourseSpeed, CrossTrack, Position};
+ghost use Rattle.readings.specs.declared.rows.Row.TheVariants as rows;
+ghost use Rattle.readings.specs.Rows.{IsValid, row_of};
 ghost use Rattle.pgn_profile.specs.Profiled.{payload_of, profiled};
 
 use crate::field::{signed, unsigned};
@@ -126,6 +128,47 @@ pub fn write_course(magnetic: bool, course: Option<i64>, speed: Option<i64>, out
             Unsigned(2, course),
             Unsigned(2, speed),
             Bytes(&[0xFF, 0xFF]),
+        ],
+        out,
+    );
+}
+
+/// The payload of a satellite fix: of GPS, with its integrity unchecked, and without reference stations.
+pub fn write_fix(fix: &Reading, out: &mut Payload)
+    requires empty { out.old.items ≡ [] }
+    requires row { row_of fix.now ≡ rows.Gnss }
+    requires valid { IsValid fix.now }
+    ensures { out.new.items ≡ payload_of fix.now }
+{
+    let Reading::Gnss {
+        date,
+        time,
+        latitude,
+        longitude,
+        altitude,
+        method,
+        satellites,
+        hdop,
+        separation,
+    } = *fix
+    else {
+        unreachable!();
+    };
+    append_all(
+        &[
+            Byte(0xFF),
+            Unsigned(2, date),
+            Unsigned(4, time),
+            Signed(8, latitude),
+            Signed(8, longitude),
+            Signed(8, altitude),
+            Byte(method << 4),
+            Byte(0xFC),
+            Unsigned(1, satellites),
+            Signed(2, hdop),
+            Bytes(&[0xFF, 0x7F]),
+            Signed(4, separation),
+            Byte(0),
         ],
         out,
     );

@@ -2,9 +2,9 @@
 //! reference: 0 true north, 1 magnetic north, 2 apparent, 3 true to the boat's course over ground and
 //! 4 true to its course through the water.
 
-ghost use Rattle.std.specs.Prelude.{◌≡◌, [], ◌∷◌, ◌++◌};
-ghost use Rattle.pgn_profile.specs.Part.{unsigned_bytes};
-ghost use Rattle.pgn_profile.specs.Profiled.{profiled};
+ghost use Rattle.std.specs.Prelude.{◌≡◌, [], None, slice_index};
+ghost use Rattle.pgn_profile.specs.Profiled.{payload_of, profiled};
+ghost use Rattle.pgn_profile.specs.Selector.{wind_of};
 
 use crate::field::unsigned;
 use crate::piece::Piece::{Byte, Bytes, Unsigned};
@@ -13,8 +13,34 @@ use crate::profiled::Profiled;
 use readings::range::{ANGLE, SPEED};
 use readings::{Reading, bits};
 
+/// A wind by its reference.
+#[derive(Clone, Copy)]
+pub enum Wind {
+    /// As it is felt aboard; the angle is from the bow.
+    Apparent,
+    /// Relative to ground or water; the angle is from the bow.
+    True,
+    /// Relative to ground; the angle is from magnetic or true north.
+    North { magnetic: bool },
+}
+
+impl Wind {
+    /// The byte of the reference in a payload, with all bits above it set. Of the two references of a
+    /// true wind it is the one to the course over ground.
+    fn reference(self) -> u8
+        ensures { result ≡ slice_index (payload_of (wind_of self None None)) 5 }
+    {
+        match self {
+            Wind::North { magnetic: false } => 0xF8,
+            Wind::North { magnetic: true } => 0xF9,
+            Wind::Apparent => 0xFA,
+            Wind::True => 0xFB,
+        }
+    }
+}
+
 #[tactic(auto, unfolding(crate::specs::Layout::messages))]
-pub fn read_wind(payload: &[u8]) -> Profiled
+pub fn read(payload: &[u8]) -> Profiled
     ensures { result ≡ profiled 130306 payload.now }
 {
     if payload.len() < 6 {
@@ -39,17 +65,18 @@ pub fn read_wind(payload: &[u8]) -> Profiled
     }
 }
 
-/// The payload of a wind with its reference, above which all bits are set.
-pub fn write_wind(speed: Option<i64>, angle: Option<i64>, reference: u8, out: &mut Payload)
+/// The payload of a wind.
+#[tactic(auto, using(crate::proofs::Selected::wind_payload))]
+pub fn write(wind: Wind, speed: Option<i64>, angle: Option<i64>, out: &mut Payload)
     requires { out.old.items ≡ [] }
-    ensures { out.new.items ≡ 0xFF ∷ unsigned_bytes 2 speed ++ unsigned_bytes 2 angle ++ (reference ∷ 0xFF ∷ 0xFF ∷ []) }
+    ensures { out.new.items ≡ payload_of (wind_of wind speed angle) }
 {
     append_all(
         &[
             Byte(0xFF),
             Unsigned(2, speed),
             Unsigned(2, angle),
-            Byte(reference),
+            Byte(wind.reference()),
             Bytes(&[0xFF, 0xFF]),
         ],
         out,
