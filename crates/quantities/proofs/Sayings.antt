@@ -11,11 +11,11 @@ use Rattle.sentence_text.proofs.Spelling.{read_back}
 use Rattle.sentence_fields.specs.Field.{IsPrintable, body_text, body_width, sentence_by}
 use Rattle.sentence_fields.proofs.Bodies.{capitals_are_address}
 use Rattle.quantities.specs.declared.about.Quantity.{Quantity}
-use Rattle.quantities.specs.declared.column.Column.{Column as CodeColumn}
+use Rattle.quantities.specs.declared.layout.Layout.{Layout as CodeLayout}
 use Rattle.quantities.specs.declared.payloads.Entry.{Entry}
 use Rattle.quantities.specs.declared.value.Value.{Value}
 use Rattle.quantities.specs.Part.{AreIn}
-use Rattle.quantities.specs.Layout.{Column, Layout, field_by, layout_of, seen, text_in}
+use Rattle.quantities.specs.Layout.{Layout, field_by, layout_of, seen, seen_layout, text_in}
 use Rattle.quantities.specs.Laws.{EachIsSaid, TheTablesAreSound}
 use Rattle.quantities.specs.Saying.{AreSaid, parts_in, sentence_of}
 use Rattle.quantities.specs.Sound.{are_apart, columns_width, is_entry_readable, is_entry_sound, is_layout_sound, is_sayable, is_writable}
@@ -87,33 +87,36 @@ pub sayable : (v : Value) → IsFrom entries v → Sayable (layout_of v.quantity
 sayable v from =
     of_table layout_of entries v ((and_parts (list_all (is_entry_sound layout_of) entries) (are_apart entries) tables_are_sound).0) from
 
-pub few_columns : (v : Value) (columns : List CodeColumn) → IsFrom entries v → map seen columns ≡ (layout_of v.quantity).columns → length columns ≤ 10
-few_columns v columns from e =
+-- the columns of a sentence as the code has it
+columns_are : (v : Value) (l : CodeLayout) → seen_layout l ≡ layout_of v.quantity → map seen l.columns.now ≡ (layout_of v.quantity).columns
+columns_are v l e = ap (λ (seen : Layout). seen.columns) e
+
+pub few_columns : (v : Value) (l : CodeLayout) → IsFrom entries v → seen_layout l ≡ layout_of v.quantity → length l.columns.now ≤ 10
+few_columns v l from e =
     let s = (sayable v from).sound.few in
-    let len : length columns ≡ length (layout_of v.quantity).columns = sym (length-map columns seen) ∙ ap length e in
+    let len : length l.columns.now ≡ length (layout_of v.quantity).columns = sym (length-map l.columns.now seen) ∙ ap length (columns_are v l e) in
     omega (arith, s, len)
 
-pub printable : (v : Value) (columns : List CodeColumn) → IsFrom entries v → map seen columns ≡ (layout_of v.quantity).columns
-    → AllByRecursion IsPrintable (map (field_by v.values) columns)
-printable v columns from e =
+pub printable : (v : Value) (l : CodeLayout) → IsFrom entries v → seen_layout l ≡ layout_of v.quantity
+    → AllByRecursion IsPrintable (map (field_by v.values) l.columns.now)
+printable v l from e =
     let s = sayable v from in
-    fields_printable (parts_of s.entry) v.values columns (rw e s.writable) s.inside
+    fields_printable (parts_of s.entry) v.values l.columns.now (rw (columns_are v l e) s.writable) s.inside
 
-pub short : (v : Value) (columns : List CodeColumn) → IsFrom entries v → map seen columns ≡ (layout_of v.quantity).columns → body_width (map (field_by v.values) columns) ≤ 71
-short v columns from e =
+pub short : (v : Value) (l : CodeLayout) → IsFrom entries v → seen_layout l ≡ layout_of v.quantity → body_width (map (field_by v.values) l.columns.now) ≤ 71
+short v l from e =
     let s = (sayable v from).sound.short in
-    let w = fields_width v.values columns ∙ ap columns_width e in
+    let w = fields_width v.values l.columns.now ∙ ap columns_width (columns_are v l e) in
     omega (arith, s, w)
 
-pub address : (v : Value) → IsFrom entries v → IsTrue (list_all is_address_byte (layout_of v.quantity).formatter)
-address v from = (sayable v from).sound.address
+pub address : (v : Value) (l : CodeLayout) → IsFrom entries v → seen_layout l ≡ layout_of v.quantity → IsTrue (list_all is_address_byte l.formatter)
+address v l from e = subst (λ (s : Layout). IsTrue (list_all is_address_byte s.formatter)) (sym e) (sayable v from).sound.address
 
-pub same_sentence : (v : Value) (talker : List ℕ) (columns : List CodeColumn) → map seen columns ≡ (layout_of v.quantity).columns
-    → sentence_by talker (layout_of v.quantity).formatter (map (field_by v.values) columns) ≡ sentence_of talker v
-same_sentence v talker columns e =
-    let body : body_text (map (field_by v.values) columns) ≡ body_of (map (text_in v.values) (layout_of v.quantity).columns) =
-    same_body v.values columns ∙ ap (λ (cs : List Column). body_of (map (text_in v.values) cs)) e in
-    ap (λ (b : List ℕ). sentence (record { start = 36; talker = talker; formatter = (layout_of v.quantity).formatter; body = b })) body
+pub same_sentence : (v : Value) (talker : List ℕ) (l : CodeLayout) → seen_layout l ≡ layout_of v.quantity
+    → sentence_by talker l.formatter (map (field_by v.values) l.columns.now) ≡ sentence_of talker v
+same_sentence v talker l e =
+    ap (λ (b : List ℕ). sentence (record { start = 36; talker = talker; formatter = l.formatter; body = b })) (same_body v.values l.columns.now)
+    ∙ ap (λ (s : Layout). sentence (parts_in s talker v.values)) e
 
 pub form : (v : Value) (talker : List ℕ) → length talker ≡ 2 → IsTrue (list_all is_capital talker) → IsFrom entries v → AreSaid (layout_of v.quantity) talker v.values
 form v talker two capital from = each_is_said layout_of entries tables_are_sound v from talker two capital

@@ -1,5 +1,5 @@
 -- The sentence in which each quantity is said.
-use Rattle.std.specs.Prelude.{ℕ, ℤ, pos, ◌-ℤ◌, List, [], ◌∷◌, codes, Option, Some, None, is_some, slice_get, unwrap_or}
+use Rattle.std.specs.Prelude.{ℕ, ℤ, pos, ◌-ℤ◌, List, [], ◌∷◌, codes, map, Option, Some, None, is_some, slice_get, unwrap_or}
 use Rattle.sentence_fields.specs.declared.field.Field.{Field}
 use Rattle.sentence_fields.specs.declared.field.Field.TheVariants as field
 use Rattle.sentence_fields.specs.declared.written_unit.WrittenUnit.{WrittenUnit}
@@ -8,6 +8,7 @@ use Rattle.quantities.specs.declared.about.Quantity.{Quantity}
 use Rattle.quantities.specs.declared.about.Quantity.TheVariants as quantity
 use Rattle.quantities.specs.declared.column.Column.{Column as CodeColumn}
 use Rattle.quantities.specs.declared.column.Column.TheVariants as code
+use Rattle.quantities.specs.declared.layout.Layout.{Layout as CodeLayout}
 
 -- ---- units: the fraction, the decimals, the largest value of either sign and the most digits
 
@@ -130,6 +131,9 @@ seen (code.Decimal at unit) = decimal at unit
 seen (code.Course at) = course at
 seen (code.Celsius at) = temperature at
 seen (code.Status at) = status at
+
+abbrev pub seen_layout : CodeLayout → Layout
+seen_layout l = record { formatter = l.formatter; telling = l.telling; columns = map seen l.columns.now }
 
 -- the field whose text stands in the column
 abbrev pub field_by : List (Option ℤ) → CodeColumn → Field

@@ -1,6 +1,6 @@
 //! The sentences in which the quantities are said.
-ghost use Rattle.std.specs.Prelude.{◌≡◌, map};
-ghost use Rattle.quantities.specs.Layout.{layout_of, seen};
+ghost use Rattle.std.specs.Prelude.{◌≡◌};
+ghost use Rattle.quantities.specs.Layout.{layout_of, seen_layout};
 
 use crate::about::{QUANTITIES, Quantity};
 use crate::column::Column;
@@ -9,11 +9,12 @@ use crate::unit::{AIR_BARS, AMPERES, COMPONENT_KNOTS, OIL_BARS, PERCENT, REVOLUT
 use sentence_fields::written_unit::{DEGREES, KNOTS};
 
 /// The sentence of a quantity.
-struct Layout {
-    formatter: [u8; 3],
+pub(crate) struct Layout {
+    pub formatter: [u8; 3],
     /// Of so many values, the first ones, one has to be there for a message to be usable.
-    telling: usize,
-    columns: &'static [Column],
+    pub telling: usize,
+    /// Its fields.
+    pub columns: &'static [Column],
 }
 
 /// A sentence by its formatter, how many values tell, and its columns.
@@ -208,24 +209,10 @@ static LAYOUTS: [Layout; QUANTITIES] = [
 ];
 
 impl Quantity {
-    /// The formatter of its sentence.
-    pub(crate) fn formatter(self) -> [u8; 3]
-        ensures { result ≡ (layout_of self).formatter }
+    /// Its sentence.
+    pub(crate) fn layout(self) -> &'static Layout
+        ensures { seen_layout result.now ≡ layout_of self }
     {
-        LAYOUTS[self as usize].formatter
-    }
-
-    /// How many of its values, the first ones, make a message usable where one of them is there.
-    pub(crate) fn telling(self) -> usize
-        ensures { result ≡ (layout_of self).telling }
-    {
-        LAYOUTS[self as usize].telling
-    }
-
-    /// The fields of its sentence.
-    pub(crate) fn columns(self) -> &'static [Column]
-        ensures { map seen result.now ≡ (layout_of self).columns }
-    {
-        LAYOUTS[self as usize].columns
+        &LAYOUTS[self as usize]
     }
 }

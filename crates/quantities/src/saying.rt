@@ -19,10 +19,11 @@ const MOST_FIELDS: usize = 10;
 pub fn usable(value: &Value) -> bool
     ensures { result ≡ is_usable value.now }
 {
+    let telling = value.quantity.layout().telling;
     value
         .values
         .iter()
-        .take(value.quantity.telling())
+        .take(telling)
         .any(|value| value.is_some())
 }
 
@@ -48,6 +49,7 @@ pub fn sentence(value: &Value, talker: [u8; 2], out: &mut SentenceText)
     // It is a sentence of IEC 61162-1.
     ensures form { AreSaid (layout_of value.now.quantity) talker value.now.values }
 {
-    let fields = fields_of(value.quantity.columns(), &value.values);
-    write_sentence(talker, value.quantity.formatter(), &fields, out);
+    let layout = value.quantity.layout();
+    let fields = fields_of(layout.columns, &value.values);
+    write_sentence(talker, layout.formatter, &fields, out);
 }
