@@ -104,8 +104,10 @@ impl Identity {
         let parts = parts(frame.id).unwrap();
         let held = frame.held();
         let answered = answered_by(is_due(own, &parts, held), ready);
-        if let Answered::Sent = answered {
-            self.send(own.unwrap(), answered_address(parts.source), held, out);
+        if let Answered::Sent = answered
+            && let Some(own) = own
+        {
+            self.send(own, answered_address(parts.source), held, out);
         }
         answered
     }
