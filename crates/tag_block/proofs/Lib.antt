@@ -1,6 +1,7 @@
 pub mod Run
 pub mod Sum
 pub mod Loops
+pub mod Numbers
 pub mod Found
 pub mod Settling
 pub mod Laws

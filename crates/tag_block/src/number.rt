@@ -1,30 +1,35 @@
-ghost use Rattle.std.specs.Prelude.{◌≡◌, ◌-◌, ◌≤◌, length};
+ghost use Rattle.std.specs.Prelude.{◌≡◌, ◌≤◌, IsTrue, length};
+ghost use Rattle.std.specs.List.{list_all};
+ghost use Rattle.sentence_text.specs.Byte.{is_digit};
 ghost use Rattle.tag_block.specs.Reading.{number_in, group_in, is_from_1 as spec_from_1, has_group_form as has_form};
+ghost use Rattle.tag_block.specs.Tag as spec;
 
 use crate::group_part::GroupPart;
 use sentence_text::{all_digits, byte_at};
-
-fn digit(byte: u8) -> u16
-    ensures { result ≡ byte - 48 }
-{
-    byte.saturating_sub(b'0') as u16
-}
 
 /// The number of one digit or more, at most so many.
 pub(crate) fn number(most: usize, text: &[u8]) -> Option<u16>
     requires { most ≤ 4 }
     ensures { result ≡ number_in most text.now }
 {
-    if text.len() > most || !all_digits(text) {
+    if text.is_empty() || text.len() > most || !all_digits(text) {
         return None;
     }
-    match text {
-        [a] => Some(digit(*a)),
-        [a, b] => Some(digit(*a) * 10 + digit(*b)),
-        [a, b, c] => Some((digit(*a) * 10 + digit(*b)) * 10 + digit(*c)),
-        [a, b, c, d] => Some(((digit(*a) * 10 + digit(*b)) * 10 + digit(*c)) * 10 + digit(*d)),
-        _ => None,
+    Some(number_of(text))
+}
+
+/// The number that at most four digits write.
+#[tactic(auto, using(crate::proofs::Numbers::step, crate::proofs::Numbers::in_range))]
+fn number_of(digits: &[u8]) -> u16
+    requires digits { IsTrue (list_all is_digit digits.now) }
+    requires few { length digits.now ≤ 4 }
+    ensures { result ≡ spec.number digits.now }
+{
+    let mut number = 0;
+    for digit in digits {
+        number = number * 10 + u16::from(*digit - b'0');
     }
+    number
 }
 
 fn is_from_1(byte: u8) -> bool
