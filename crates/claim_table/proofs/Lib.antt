@@ -1,4 +1,5 @@
 pub mod CaseLemmas
+pub mod HandlingLemmas
 pub mod RenumberedLemmas
 pub mod FirstFreeLemmas
 pub mod LawLemmas

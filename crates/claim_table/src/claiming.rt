@@ -148,7 +148,6 @@ impl ClaimTable {
     }
 
     /// The claim itself, for any index.
-    #[tactic(auto, unfolding(crate::specs::Claims::claim, crate::specs::Claims::left_by))]
     fn handle(&mut self, address: u8, name: Name, index: u64, moment: u64) -> ClaimStep
         requires { address < 255 }
         ensures after { self.new ≡ (claim self.old (claim_of address name.0 index moment)).after }
@@ -267,12 +266,13 @@ impl ClaimTable {
         }
     }
 
-    /// What comes of a claim that the gateway doesn't give way to, once the NAME holds no other address.
+    /// What comes of a claim that the gateway doesn't give way to, once the NAME holds no other address. Its
+    /// moment plays no part.
     fn settle(&mut self, address: u8, name: Name, index: u64) -> ClaimStep
         requires within { address < 255 }
         requires stays { address < places → self.old.own ≡ Some address → self.old.name < name.0 }
-        ensures after { self.new ≡ (settled self.old (claim_of address name.0 index 0) (address == 254)).after }
-        ensures step { result ≡ (settled self.old (claim_of address name.0 index 0) (address == 254)).step }
+        ensures after { (moment : ℕ) → self.new ≡ (settled self.old (claim_of address name.0 index moment) (address == 254)).after }
+        ensures step { (moment : ℕ) → result ≡ (settled self.old (claim_of address name.0 index moment) (address == 254)).step }
     {
         if address == NULL_ADDRESS {
             return step_of(None, OwnAnswer::Silent);
@@ -295,8 +295,8 @@ impl ClaimTable {
     /// An address that isn't the gateway's is claimed: the smaller NAME has it.
     fn contest(&mut self, address: u8, name: Name, index: u64) -> ClaimStep
         requires { address < places }
-        ensures after { self.new ≡ (at_other self.old (claim_of address name.0 index 0) (holder_at self.old.holders address)).after }
-        ensures step { result ≡ (at_other self.old (claim_of address name.0 index 0) (holder_at self.old.holders address)).step }
+        ensures after { (moment : ℕ) → self.new ≡ (at_other self.old (claim_of address name.0 index moment) (holder_at self.old.holders address)).after }
+        ensures step { (moment : ℕ) → result ≡ (at_other self.old (claim_of address name.0 index moment) (holder_at self.old.holders address)).step }
     {
         match self.holder(address) {
             None => {

@@ -54,7 +54,6 @@ impl Preset {
 }
 
 /// The presets, each at its address.
-#[tactic(auto, using(crate::proofs::PresetLemmas::placed_further, crate::proofs::PresetLemmas::placed_end))]
 pub(crate) fn placed(alloc: Global, presets: &[Preset]) -> Result<Vec<Option<Holder>>, AllocError>
     requires { All (λ p. p.address < places) presets.now }
     ensures holders { IfOk result (λ holders. holders.items ≡ with_presets (replicate places None) presets.now) }
