@@ -37,7 +37,7 @@ pub fn explain_run(rt: &impl Eprint, ended: &Result<u8, AllocError>, kept: &Kept
     let status = match ended {
         Ok(number) => Status::of(*number).unwrap_or(Status::Done),
         Err(AllocError) => {
-            say(rt, "there is no memory to begin with", "", &"");
+            say(rt, &"there is no memory to begin with");
             return;
         }
     };
@@ -48,7 +48,7 @@ pub fn explain_run(rt: &impl Eprint, ended: &Result<u8, AllocError>, kept: &Kept
         Status::Unattached => explain_links(rt, kept),
         _ => {
             if let Some(why) = reason_of(status) {
-                say(rt, why, "", &"");
+                say(rt, &why);
             }
         }
     }
@@ -57,7 +57,7 @@ pub fn explain_run(rt: &impl Eprint, ended: &Result<u8, AllocError>, kept: &Kept
 // Why standard output wasn't written.
 fn explain_write(rt: &impl Eprint, unwritten: Option<ErrorKind>) {
     if let Some(reason) = write_reason(unwritten) {
-        say(rt, "the output", "", &reason);
+        say(rt, &format_args!("the output{reason}"));
     }
 }
 
@@ -67,5 +67,6 @@ fn explain_file(rt: &impl Eprint, words: &[String], unread: Option<ErrorKind>) {
         [_, _, file, ..] => file.as_str(),
         _ => "",
     };
-    say(rt, "the configuration ", file, &file_reason(unread));
+    let reason = file_reason(unread);
+    say(rt, &format_args!("the configuration {file}{reason}"));
 }

@@ -1,7 +1,7 @@
 //! A line of standard error.
 use std::fmt::Display;
 
-/// A line with what it is about, and what is said of it.
-pub(crate) fn say(rt: &impl Eprint, about: &str, name: &str, said: &impl Display) {
-    let _ = eprintln!(rt; "shipgate: {about}{name}{said}");
+/// Says a line. Where standard error is closed, nobody is there to be told.
+pub(crate) fn say(rt: &impl Eprint, said: &impl Display) {
+    let _ = eprintln!(rt; "shipgate: {said}");
 }

@@ -90,11 +90,11 @@ pub(crate) fn explain_words(rt: &impl Eprint, words: &[String]) {
 // Which word isn't one.
 fn explain_wrong(rt: &impl Eprint, words: &[String]) {
     match words {
-        [] => say(rt, "one of the words", "", &" isn't UTF-8"),
-        [_] => say(rt, "there is no command", "", &""),
+        [] => say(rt, &"one of the words isn't UTF-8"),
+        [_] => say(rt, &"there is no command"),
         [_, word, rest @ ..] => match form_of(word.as_str()) {
             Some(form) => explain_parameters(rt, form, rest),
-            None => say(rt, "", word.as_str(), &" is no command"),
+            None => say(rt, &format_args!("{word} is no command")),
         },
     }
 }
@@ -116,11 +116,17 @@ fn explain_parameters(rt: &impl Eprint, form: &Form, words: &[String]) {
         match words.next() {
             Some(word) if is_taken(rt, word.as_str(), parameter) => {}
             Some(_) => return,
-            None => return say(rt, form.name, " lacks ", &parameter.name),
+            None => {
+                say(rt, &format_args!("{} lacks {}", form.name, parameter.name));
+                return;
+            }
         }
     }
     if let Some(word) = words.next() {
-        say(rt, form.name, " takes no word more: ", &word.as_str());
+        say(
+            rt,
+            &format_args!("{} takes no word more: {word}", form.name),
+        );
     }
 }
 
@@ -132,8 +138,11 @@ fn is_taken(rt: &impl Eprint, word: &str, parameter: &Parameter) -> bool {
     let taken = number_between(word, least, most).is_some();
     if !taken {
         let name = parameter.name;
-        let _ = eprintln!(rt;
-            "shipgate: {word} is no {name}: digits alone, from {least} to {most}, without a leading zero"
+        say(
+            rt,
+            &format_args!(
+                "{word} is no {name}: digits alone, from {least} to {most}, without a leading zero"
+            ),
         );
     }
     taken
