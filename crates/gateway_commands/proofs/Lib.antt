@@ -1,4 +1,5 @@
-pub mod LineLemmas
+pub mod FormLemmas
+pub mod KnownLemmas
 pub mod ReplayCommandLemmas
 pub mod ReplayLemmas
 pub mod ServeLemmas

@@ -1,11 +1,12 @@
 -- What follows of the statuses of a gateway between two links.
-use Rattle.std.proofs.Common.{◌≡◌, ◌≢◌, ℕ, ◌⊎◌, List, refl, inl, arith}
+use Rattle.std.proofs.Common.{◌≡◌, ◌≢◌, ℕ, ◌⊎◌, List, refl, inl, inr, arith}
 use Rattle.std.specs.Prelude.{Option, Ok}
+use Rattle.gate_outside.specs.Faults.{Rose}
 use Rattle.settings.specs.declared.further.Further.{Further}
 use Rattle.settings.specs.declared.settings.Settings.{Settings}
 use Rattle.serving.specs.Served.{Outside}
 use Rattle.config_check.specs.Configuring.{FileSays}
-use Rattle.gateway_commands.specs.ServeCommand.{IsServeStatus, IsTurnsStatus, ServesBy, ServesWith}
+use Rattle.gateway_commands.specs.ServeCommand.{IsServeStatus, IsTurnsStatus, ServesBy, ServesWith, Unattached}
 use Rattle.statuses.specs.Statuses.{IsEarly, SteadyBy}
 use Rattle.config_check.proofs.ConfigLemmas.{IsDone, configures}
 use Rattle.statuses.proofs.StatusLemmas.{steady_unread}
@@ -48,3 +49,8 @@ pub serve_steady : (turns : ℕ) (content : Option (List ℕ)) (files files' : �
 serve_steady turns content files files' clock clock' bus bus' net net' old new source status s =
     let none = no_read status s.known in
     steady_unread source source old.faults new.faults status refl (λ is. ((s.serves (inl is)).3.ends.done is).passes.steady) none.0 none.1
+
+-- a link that can't be attached has its cause in its count of faults
+pub link_cause : (content : Option (List ℕ)) (bus bus' net net' : ℕ) (old new : Outside) → Unattached content bus bus' net net' old new → Rose bus bus' ⊎ Rose net net'
+link_cause content bus bus' net net' old new (settings, further, file, inl of_bus) = inl of_bus.2
+link_cause content bus bus' net net' old new (settings, further, file, inr of_net) = inr of_net.2
