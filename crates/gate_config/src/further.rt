@@ -12,20 +12,14 @@ ghost use Rattle.settings.specs.Further.{IsFurther};
 use crate::devices::devices;
 use crate::further_quantities::further_quantities;
 use crate::keys::{section, truth_or};
-use crate::links::IGNORE;
 use crate::parts::{ais_group, own_group, rmc_group};
+use crate::words::{GROUP, IGNORE, RECORD, SOURCES};
 use arrayvec::ArrayVec;
 use config_document::{ConfigFault, Section};
 use config_values::RowConfig;
 use n2k_id::Pattern;
 use sentence_text::Group;
 use settings::{Further, Quantities, QuantityConfigs, Settings};
-
-const SOURCES: &str = "sources";
-
-const GROUP: &str = "group";
-
-const RECORD: &str = "record";
 
 pub(crate) const REPORT_KEYS: [&str; 1] = [SOURCES];
 

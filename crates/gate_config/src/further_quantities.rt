@@ -17,16 +17,13 @@ use crate::items::key_prefix;
 use crate::keys::{number_or, section, stands_at};
 use crate::parts::own_group;
 use crate::quantity::{self, quantity_keys};
+use crate::words::{GROUP, SLOTS};
 use config_document::{ConfigFault, Section};
 use config_values::RowConfig;
 use quantities::{Quantity, all_quantities};
 use sentence_text::Group;
 use settings::{Quantities, QuantityConfig, QuantityConfigs};
 use toml::Table;
-
-const GROUP: &str = "group";
-
-const SLOTS: &str = "slots";
 
 pub(crate) const KEYS: [&str; 2] = [GROUP, SLOTS];
 

@@ -6,25 +6,10 @@ ghost use Rattle.gate_config.specs.Keys.{gateway, names, slots};
 ghost use Rattle.gate_config.specs.Reading.{table_in};
 
 use crate::keys::{needed_number, needed_text, number_or, section, text_or, truth_or};
+use crate::words::{ADDRESS, FAST_SLOTS, GROUP, GROUP_SLOTS, ISO_SLOTS, NAME, SFI, THS};
 use config_document::{ConfigFault, Section};
 use n2k_id::Name;
 use sentence_text::{Group, Sfi};
-
-const NAME: &str = "name";
-
-const ADDRESS: &str = "address";
-
-const SFI: &str = "sfi";
-
-const GROUP: &str = "group";
-
-const FAST_SLOTS: &str = "fast_slots";
-
-const ISO_SLOTS: &str = "iso_slots";
-
-const GROUP_SLOTS: &str = "group_slots";
-
-const THS: &str = "ths";
 
 pub(crate) const KEYS: [&str; 8] = [
     NAME,

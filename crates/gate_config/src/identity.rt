@@ -7,21 +7,10 @@ ghost use Rattle.gate_config.specs.Reading.{table_in};
 ghost use Rattle.settings.specs.Settings.{IsProduct};
 
 use crate::keys::{number_or, section, text_or};
+use crate::words::{CODE, LOAD, MODEL, SERIAL, SOFTWARE, VERSION};
 use arrayvec::ArrayVec;
 use bus_identity::Product;
 use config_document::{ConfigFault, ProductText, Section};
-
-const CODE: &str = "code";
-
-const MODEL: &str = "model";
-
-const SOFTWARE: &str = "software";
-
-const VERSION: &str = "version";
-
-const SERIAL: &str = "serial";
-
-const LOAD: &str = "load";
 
 pub(crate) const KEYS: [&str; 6] = [CODE, MODEL, SOFTWARE, VERSION, SERIAL, LOAD];
 

@@ -18,6 +18,7 @@ mod reading;
 mod routes;
 mod rows;
 mod unknown;
+mod words;
 
 pub use bus_identity::Product;
 pub use config_document::{ConfigFault, FaultLine, Key};

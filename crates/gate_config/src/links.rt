@@ -12,18 +12,11 @@ ghost use Rattle.gate_config.specs.Texts.{same_text};
 
 use crate::endpoint::{Endpoint, loopback};
 use crate::keys::{section, text_or};
+use crate::words::{IGNORE, LISTEN, SEND, SOURCES};
 use arrayvec::ArrayVec;
 use config_document::{ConfigFault, Flaw, Section, repeats};
 use network_routes::Address;
 use sentence_text::Sfi;
-
-const SOURCES: &str = "sources";
-
-const LISTEN: &str = "listen";
-
-const SEND: &str = "send";
-
-pub(crate) const IGNORE: &str = "ignore";
 
 pub(crate) const NET_KEYS: [&str; 3] = [SOURCES, LISTEN, SEND];
 

@@ -12,16 +12,11 @@ ghost use Rattle.gate_config.specs.Texts.{same_text};
 ghost use Rattle.settings.specs.Settings.{IsRmc};
 
 use crate::keys::{number_or, section, stands_at, text_or};
+use crate::words::{GROUP, SLOTS, TALKER};
 use config_document::{ConfigFault, Flaw, Section, Talker};
 use config_values::RowConfig;
 use sentence_text::Group;
 use settings::{AisConfig, RmcConfig};
-
-const GROUP: &str = "group";
-
-const TALKER: &str = "talker";
-
-const SLOTS: &str = "slots";
 
 pub(crate) const RMC_KEYS: [&str; 2] = [GROUP, TALKER];
 

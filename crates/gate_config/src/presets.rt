@@ -9,14 +9,11 @@ ghost use Rattle.gate_config.specs.Reading.{items_in};
 
 use crate::items::item_prefix;
 use crate::keys::{needed_number, needed_text};
+use crate::words::{ADDRESS, NAME};
 use arrayvec::ArrayVec;
 use claim_table::Preset;
 use config_document::{ConfigFault, Flaw, Section};
 use n2k_id::Name;
-
-const ADDRESS: &str = "address";
-
-const NAME: &str = "name";
 
 pub(crate) const KEYS: [&str; 2] = [ADDRESS, NAME];
 

@@ -7,16 +7,9 @@ ghost use Rattle.settings.specs.Further.{IsQuantity};
 
 use crate::devices::devices;
 use crate::keys::{number_or, text_or, truth_or};
+use crate::words::{OTHERS, SOURCES, TALKER, TIMEOUT_MS};
 use config_document::{ConfigFault, Section, Talker};
 use settings::QuantityConfig;
-
-pub(crate) const SOURCES: &str = "sources";
-
-pub(crate) const OTHERS: &str = "others";
-
-pub(crate) const TIMEOUT_MS: &str = "timeout_ms";
-
-pub(crate) const TALKER: &str = "talker";
 
 pub(crate) const KEYS: [&str; 4] = [SOURCES, OTHERS, TIMEOUT_MS, TALKER];
 

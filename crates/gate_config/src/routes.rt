@@ -10,14 +10,11 @@ ghost use Rattle.gate_config.specs.Reading.{items_in};
 use crate::endpoint::Endpoint;
 use crate::items::item_prefix;
 use crate::keys::needed_text;
+use crate::words::{ADDRESS, GROUP};
 use arrayvec::ArrayVec;
 use config_document::{ConfigFault, Flaw, Section};
 use network_routes::{MOST_ROUTES, Route};
 use sentence_text::Group;
-
-const GROUP: &str = "group";
-
-const ADDRESS: &str = "address";
 
 pub(crate) const KEYS: [&str; 2] = [GROUP, ADDRESS];
 

@@ -8,15 +8,14 @@ ghost use Rattle.gate_config.specs.Reading.{each_from};
 
 use crate::items::key_prefix;
 use crate::keys::{section, text_or};
-use crate::quantity::{OTHERS, SOURCES, TALKER, TIMEOUT_MS, quantity_keys};
+use crate::quantity::quantity_keys;
+use crate::words::{GROUP, OTHERS, SOURCES, TALKER, TIMEOUT_MS};
 use arrayvec::ArrayVec;
 use config_document::{ConfigFault, Section};
 use config_values::RowConfig;
 use readings::{ROWS, Row, all_rows};
 use sentence_text::Group;
 use settings::QuantityConfig;
-
-const GROUP: &str = "group";
 
 pub(crate) const KEYS: [&str; 5] = [SOURCES, OTHERS, TIMEOUT_MS, TALKER, GROUP];
 
