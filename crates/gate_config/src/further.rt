@@ -13,7 +13,10 @@ use crate::devices::devices;
 use crate::further_quantities::further_quantities;
 use crate::keys::{section, truth_or};
 use crate::parts::{ais_group, own_group, rmc_group};
-use crate::words::{GROUP, IGNORE, RECORD, SOURCES};
+use crate::words::{
+    BUS, BUS_PREFIX, GROUP, IGNORE, PLAIN, PLAIN_PREFIX, RECORD, REPORT, REPORT_PREFIX, SERVE,
+    SERVE_PREFIX, SOURCES,
+};
 use arrayvec::ArrayVec;
 use config_document::{ConfigFault, Section};
 use config_values::RowConfig;
@@ -60,7 +63,7 @@ fn ignored_keys(document: &Section) -> Result<ArrayVec<Pattern, 16>, ConfigFault
     ensures said { result ≡ table_in ignored tt (place_of document.now) }
     ensures valid { IfOk result (λ devices. AreSources devices.items) }
 {
-    let table = section(document, "bus", b"bus.")?;
+    let table = section(document, BUS, BUS_PREFIX)?;
     devices(&table, IGNORE)
 }
 
@@ -69,7 +72,7 @@ fn ignored_keys(document: &Section) -> Result<ArrayVec<Pattern, 16>, ConfigFault
 fn report_keys(document: &Section) -> Result<bool, ConfigFault>
     ensures { result ≡ table_in report tt (place_of document.now) }
 {
-    let table = section(document, "report", b"report.")?;
+    let table = section(document, REPORT, REPORT_PREFIX)?;
     truth_or(&table, SOURCES, false)
 }
 
@@ -83,7 +86,7 @@ fn plain_keys(
     ensures said { result ≡ table_in plain (rows.now, parts.now) (place_of document.now) }
     ensures valid { IfOk result (λ group. ForSome group (IsGroupBeside rows.now parts.now)) }
 {
-    let table = section(document, "plain", b"plain.")?;
+    let table = section(document, PLAIN, PLAIN_PREFIX)?;
     own_group(&table, GROUP, rows, parts, false)
 }
 
@@ -92,7 +95,7 @@ fn plain_keys(
 fn serve_keys(document: &Section) -> Result<bool, ConfigFault>
     ensures { result ≡ table_in serve tt (place_of document.now) }
 {
-    let table = section(document, "serve", b"serve.")?;
+    let table = section(document, SERVE, SERVE_PREFIX)?;
     truth_or(&table, RECORD, false)
 }
 

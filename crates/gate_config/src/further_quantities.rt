@@ -17,7 +17,7 @@ use crate::items::key_prefix;
 use crate::keys::{number_or, section, stands_at};
 use crate::parts::own_group;
 use crate::quantity::{self, quantity_keys};
-use crate::words::{GROUP, SLOTS};
+use crate::words::{FURTHER, FURTHER_PREFIX, GROUP, SLOTS};
 use config_document::{ConfigFault, Section};
 use config_values::RowConfig;
 use quantities::{Quantity, all_quantities};
@@ -38,7 +38,7 @@ pub(crate) fn further_quantities(
     ensures said { result ≡ quantities_in rows.now parts.now (place_of document.now) }
     ensures valid { IfOk result (λ all. ForSome all (AreQuantitiesBeside rows.now parts.now)) }
 {
-    let table = section(document, "further", b"further.")?;
+    let table = section(document, FURTHER, FURTHER_PREFIX)?;
     let (group, slots) = further_keys(&table, rows, parts)?;
     let each = each_quantity(&table, each)?;
     match group {
@@ -115,7 +115,7 @@ fn each_quantity(table: &Section, mut read: QuantityConfigs) -> Result<QuantityC
     let _all = read.as_slice();
     for each in all_quantities() {
         let name = each.name();
-        let prefix = key_prefix(b"further.", name);
+        let prefix = key_prefix(FURTHER_PREFIX, name);
         let quantity = quantity(table, name, prefix.as_slice(), each.talker())?;
         read.set(*each, quantity);
     }

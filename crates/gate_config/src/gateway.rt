@@ -6,7 +6,9 @@ ghost use Rattle.gate_config.specs.Keys.{gateway, names, slots};
 ghost use Rattle.gate_config.specs.Reading.{table_in};
 
 use crate::keys::{needed_number, needed_text, number_or, section, text_or, truth_or};
-use crate::words::{ADDRESS, FAST_SLOTS, GROUP, GROUP_SLOTS, ISO_SLOTS, NAME, SFI, THS};
+use crate::words::{
+    ADDRESS, FAST_SLOTS, GATEWAY, GATEWAY_PREFIX, GROUP, GROUP_SLOTS, ISO_SLOTS, NAME, SFI, THS,
+};
 use config_document::{ConfigFault, Section};
 use n2k_id::Name;
 use sentence_text::{Group, Sfi};
@@ -40,7 +42,7 @@ pub(crate) fn gateway_keys(document: &Section) -> Result<Own, ConfigFault>
     ensures said { result ≡ table_in gateway tt (place_of document.now) }
     ensures valid { IfOk result (λ own. (own.address < 252) × IsInRange 1 256 own.fast_slots × IsInRange 1 32 own.iso_slots × IsInRange 1 32 own.group_slots) }
 {
-    let table = section(document, "gateway", b"gateway.")?;
+    let table = section(document, GATEWAY, GATEWAY_PREFIX)?;
     let (name, address, sfi) = name_keys(&table)?;
     let group = text_or(&table, GROUP, Group::default())?;
     let (fast_slots, iso_slots, group_slots) = slot_keys(&table)?;

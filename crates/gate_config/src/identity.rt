@@ -7,7 +7,7 @@ ghost use Rattle.gate_config.specs.Reading.{table_in};
 ghost use Rattle.settings.specs.Settings.{IsProduct};
 
 use crate::keys::{number_or, section, text_or};
-use crate::words::{CODE, LOAD, MODEL, SERIAL, SOFTWARE, VERSION};
+use crate::words::{CODE, IDENTITY, IDENTITY_PREFIX, LOAD, MODEL, SERIAL, SOFTWARE, VERSION};
 use arrayvec::ArrayVec;
 use bus_identity::Product;
 use config_document::{ConfigFault, ProductText, Section};
@@ -19,7 +19,7 @@ pub(crate) fn identity_keys(document: &Section) -> Result<Product, ConfigFault>
     ensures said { result ≡ table_in identity tt (place_of document.now) }
     ensures valid { IfOk result IsProduct }
 {
-    let table = section(document, "identity", b"identity.")?;
+    let table = section(document, IDENTITY, IDENTITY_PREFIX)?;
     let code = number_or(&table, CODE, 0, 65_535, 0)? as u16;
     let (ProductText(model), ProductText(software), ProductText(version), ProductText(serial)) =
         text_keys(&table)?;

@@ -12,7 +12,7 @@ ghost use Rattle.gate_config.specs.Texts.{same_text};
 
 use crate::endpoint::{Endpoint, loopback};
 use crate::keys::{section, text_or};
-use crate::words::{IGNORE, LISTEN, SEND, SOURCES};
+use crate::words::{BUS, BUS_PREFIX, IGNORE, LISTEN, NET, NET_PREFIX, SEND, SOURCES};
 use arrayvec::ArrayVec;
 use config_document::{ConfigFault, Flaw, Section, repeats};
 use network_routes::Address;
@@ -31,7 +31,7 @@ pub(crate) fn net_keys(document: &Section, own: Sfi) -> Result<NetKeys, ConfigFa
     ensures said { result ≡ table_in net own (place_of document.now) }
     ensures valid { IfOk result (AreNetKeys own) }
 {
-    let table = section(document, "net", b"net.")?;
+    let table = section(document, NET, NET_PREFIX)?;
     Ok((
         net_sources(&table, SOURCES, own)?,
         link(&table, LISTEN, 60_001)?,
@@ -45,7 +45,7 @@ pub(crate) fn bus_keys(document: &Section) -> Result<(Address, Address), ConfigF
     ensures said { result ≡ table_in bus tt (place_of document.now) }
     ensures valid { IfOk result (λ bus. IsEndpoint bus.0.items × IsEndpoint bus.1.items) }
 {
-    let table = section(document, "bus", b"bus.")?;
+    let table = section(document, BUS, BUS_PREFIX)?;
     Ok((link(&table, LISTEN, 60_101)?, link(&table, SEND, 60_102)?))
 }
 

@@ -12,7 +12,7 @@ ghost use Rattle.gate_config.specs.Texts.{same_text};
 ghost use Rattle.settings.specs.Settings.{IsRmc};
 
 use crate::keys::{number_or, section, stands_at, text_or};
-use crate::words::{GROUP, SLOTS, TALKER};
+use crate::words::{AIS, AIS_PREFIX, GROUP, RMC, RMC_PREFIX, SLOTS, TALKER};
 use config_document::{ConfigFault, Flaw, Section, Talker};
 use config_values::RowConfig;
 use sentence_text::Group;
@@ -30,7 +30,7 @@ pub(crate) fn rmc_keys(
     ensures said { result ≡ table_in rmc rows.now (place_of document.now) }
     ensures valid { IfOk result (λ rmc. ForSome rmc (IsRmc rows.now)) }
 {
-    let table = section(document, "rmc", b"rmc.")?;
+    let table = section(document, RMC, RMC_PREFIX)?;
     let own = own_group(&table, GROUP, rows, &[], stands_at(&table, TALKER))?;
     let Talker(talker) = text_or(&table, TALKER, Talker(*b"GP"))?;
     match own {
@@ -48,7 +48,7 @@ pub(crate) fn ais_keys(
     ensures said { result ≡ table_in ais (rows.now, taken) (place_of document.now) }
     ensures valid { IfOk result (λ ais. ForSome ais (IsAisBeside rows.now taken)) }
 {
-    let table = section(document, "ais", b"ais.")?;
+    let table = section(document, AIS, AIS_PREFIX)?;
     let own = own_group(&table, GROUP, rows, &[taken], stands_at(&table, SLOTS))?;
     let slots = number_or(&table, SLOTS, 1, 256, 16)? as u16;
     match own {

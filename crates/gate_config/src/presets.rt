@@ -9,7 +9,7 @@ ghost use Rattle.gate_config.specs.Reading.{items_in};
 
 use crate::items::item_prefix;
 use crate::keys::{needed_number, needed_text};
-use crate::words::{ADDRESS, NAME};
+use crate::words::{ADDRESS, NAME, PRESET, PRESET_PREFIX};
 use arrayvec::ArrayVec;
 use claim_table::Preset;
 use config_document::{ConfigFault, Flaw, Section};
@@ -29,10 +29,10 @@ pub(crate) fn preset_keys(
     ensures said { result ≡ items_in preset 253 own.now (place_of document.now) }
     ensures valid { IfOk result (λ presets. ArePresets own.now.name own.now.address presets.items) }
 {
-    let values = document.tables_at("preset", MOST_PRESETS)?;
+    let values = document.tables_at(PRESET, MOST_PRESETS)?;
     let mut presets = ArrayVec::new();
     for value in values {
-        let prefix = item_prefix(b"preset.", presets.len() + 1);
+        let prefix = item_prefix(PRESET_PREFIX, presets.len() + 1);
         let section = Section {
             prefix: prefix.as_slice(),
             table: value.as_table(),

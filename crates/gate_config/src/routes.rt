@@ -10,7 +10,7 @@ ghost use Rattle.gate_config.specs.Reading.{items_in};
 use crate::endpoint::Endpoint;
 use crate::items::item_prefix;
 use crate::keys::needed_text;
-use crate::words::{ADDRESS, GROUP};
+use crate::words::{ADDRESS, GROUP, ROUTE, ROUTE_PREFIX};
 use arrayvec::ArrayVec;
 use config_document::{ConfigFault, Flaw, Section};
 use network_routes::{MOST_ROUTES, Route};
@@ -23,10 +23,10 @@ pub(crate) fn route_keys(document: &Section) -> Result<ArrayVec<Route, MOST_ROUT
     ensures said { result ≡ items_in route most_routes tt (place_of document.now) }
     ensures valid { IfOk result (λ routes. AreRoutes routes.items) }
 {
-    let values = document.tables_at("route", MOST_ROUTES)?;
+    let values = document.tables_at(ROUTE, MOST_ROUTES)?;
     let mut routes = ArrayVec::new();
     for value in values {
-        let prefix = item_prefix(b"route.", routes.len() + 1);
+        let prefix = item_prefix(ROUTE_PREFIX, routes.len() + 1);
         let section = Section {
             prefix: prefix.as_slice(),
             table: value.as_table(),

@@ -9,7 +9,7 @@ ghost use Rattle.gate_config.specs.Reading.{each_from};
 use crate::items::key_prefix;
 use crate::keys::{section, text_or};
 use crate::quantity::quantity_keys;
-use crate::words::{GROUP, OTHERS, SOURCES, TALKER, TIMEOUT_MS};
+use crate::words::{GROUP, OTHERS, ROW, ROW_PREFIX, SOURCES, TALKER, TIMEOUT_MS};
 use arrayvec::ArrayVec;
 use config_document::{ConfigFault, Section};
 use config_values::RowConfig;
@@ -25,7 +25,7 @@ pub(crate) fn row_keys(document: &Section, group: Group) -> Result<[RowConfig; R
     ensures said { result ≡ rows_in group (place_of document.now) }
     ensures valid { IfOk result (All IsRow) }
 {
-    each_row(&section(document, "row", b"row.")?, group, all_rows())
+    each_row(&section(document, ROW, ROW_PREFIX)?, group, all_rows())
 }
 
 /// These rows, each with its own talker where none is configured.
@@ -40,7 +40,7 @@ fn each_row(
     let mut read = ArrayVec::new();
     for each in all {
         let name = each.name();
-        let prefix = key_prefix(b"row.", name);
+        let prefix = key_prefix(ROW_PREFIX, name);
         let row = row(rows, name, prefix.as_slice(), each.talker(), group)?;
         read.push(row);
     }

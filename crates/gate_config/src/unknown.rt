@@ -7,6 +7,11 @@ ghost use Rattle.config_document.specs.Unknown.{path_seen};
 ghost use Rattle.gate_config.specs.Unknown.{each_noted, first_unknown, further_noted, gateway_noted, items_of, links_noted, noted, noted_items, parts_noted, place_under, quantities_noted, quantity_names, row_names, rows_noted};
 
 use crate::items::{item_prefix, key_prefix};
+use crate::words::{
+    AIS, AIS_PREFIX, BUS, BUS_PREFIX, FURTHER, FURTHER_PREFIX, GATEWAY, GATEWAY_PREFIX, IDENTITY,
+    IDENTITY_PREFIX, NET, NET_PREFIX, PLAIN, PLAIN_PREFIX, PRESET, PRESET_PREFIX, REPORT,
+    REPORT_PREFIX, RMC, RMC_PREFIX, ROUTE, ROUTE_PREFIX, ROW, ROW_PREFIX, SERVE, SERVE_PREFIX,
+};
 use crate::{
     further, further_quantities, gateway, identity, links, parts, presets, quantity, routes, rows,
 };
@@ -19,8 +24,7 @@ use toml::Value;
 
 /// The tables of a configuration.
 const TABLES: [&str; 13] = [
-    "gateway", "preset", "row", "net", "bus", "route", "identity", "rmc", "ais", "further",
-    "report", "plain", "serve",
+    GATEWAY, PRESET, ROW, NET, BUS, ROUTE, IDENTITY, RMC, AIS, FURTHER, REPORT, PLAIN, SERVE,
 ];
 
 /// The path of the key that isn't known, and that comes first of all such in the order of bytes.
@@ -48,14 +52,14 @@ fn in_gateway(
     let least = under(
         alloc,
         document,
-        "gateway",
-        b"gateway.",
+        GATEWAY,
+        GATEWAY_PREFIX,
         &gateway::KEYS,
         least,
     )?;
-    let presets = items(document, "preset");
-    let least = in_items(alloc, presets, b"preset.", &presets::KEYS, least)?;
-    in_row_table(alloc, &table_under(document, "row", b"row."), least)
+    let presets = items(document, PRESET);
+    let least = in_items(alloc, presets, PRESET_PREFIX, &presets::KEYS, least)?;
+    in_row_table(alloc, &table_under(document, ROW, ROW_PREFIX), least)
 }
 
 /// The same of the links, and of the routes between them.
@@ -66,10 +70,10 @@ fn in_links(
 ) -> Result<Option<Vec<u8>>, AllocError>
     ensures { IfOk result (λ path. path_seen path ≡ links_noted (place_of document.now) (path_seen least)) }
 {
-    let least = under(alloc, document, "net", b"net.", &links::NET_KEYS, least)?;
-    let least = under(alloc, document, "bus", b"bus.", &links::BUS_KEYS, least)?;
-    let routes = items(document, "route");
-    in_items(alloc, routes, b"route.", &routes::KEYS, least)
+    let least = under(alloc, document, NET, NET_PREFIX, &links::NET_KEYS, least)?;
+    let least = under(alloc, document, BUS, BUS_PREFIX, &links::BUS_KEYS, least)?;
+    let routes = items(document, ROUTE);
+    in_items(alloc, routes, ROUTE_PREFIX, &routes::KEYS, least)
 }
 
 /// The same of what the gateway says of itself, and of the parts beside it.
@@ -83,13 +87,13 @@ fn in_parts(
     let least = under(
         alloc,
         document,
-        "identity",
-        b"identity.",
+        IDENTITY,
+        IDENTITY_PREFIX,
         &identity::KEYS,
         least,
     )?;
-    let least = under(alloc, document, "rmc", b"rmc.", &parts::RMC_KEYS, least)?;
-    under(alloc, document, "ais", b"ais.", &parts::AIS_KEYS, least)
+    let least = under(alloc, document, RMC, RMC_PREFIX, &parts::RMC_KEYS, least)?;
+    under(alloc, document, AIS, AIS_PREFIX, &parts::AIS_KEYS, least)
 }
 
 /// The same of what is asked for besides.
@@ -100,29 +104,29 @@ fn in_further(
 ) -> Result<Option<Vec<u8>>, AllocError>
     ensures { IfOk result (λ path. path_seen path ≡ further_noted (place_of document.now) (path_seen least)) }
 {
-    let quantities = table_under(document, "further", b"further.");
+    let quantities = table_under(document, FURTHER, FURTHER_PREFIX);
     let least = in_quantities(alloc, &quantities, least)?;
     let least = under(
         alloc,
         document,
-        "report",
-        b"report.",
+        REPORT,
+        REPORT_PREFIX,
         &further::REPORT_KEYS,
         least,
     )?;
     let least = under(
         alloc,
         document,
-        "plain",
-        b"plain.",
+        PLAIN,
+        PLAIN_PREFIX,
         &further::PLAIN_KEYS,
         least,
     )?;
     under(
         alloc,
         document,
-        "serve",
-        b"serve.",
+        SERVE,
+        SERVE_PREFIX,
         &further::SERVE_KEYS,
         least,
     )
@@ -139,7 +143,14 @@ fn in_row_table(
 {
     let names = row_names(all_rows());
     let least = least_unknown(alloc, rows, names.as_slice(), least)?;
-    under_each(alloc, rows, b"row.", names.as_slice(), &rows::KEYS, least)
+    under_each(
+        alloc,
+        rows,
+        ROW_PREFIX,
+        names.as_slice(),
+        &rows::KEYS,
+        least,
+    )
 }
 
 /// The same of the table of further quantities, and of each quantity's table.
@@ -157,7 +168,7 @@ fn in_quantities(
     under_each(
         alloc,
         table,
-        b"further.",
+        FURTHER_PREFIX,
         names.as_slice(),
         &quantity::KEYS,
         least,

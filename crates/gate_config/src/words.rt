@@ -1,4 +1,57 @@
-//! The words that keys are called by, in whichever tables they stand.
+//! The words of a configuration: the names of its tables with what stands before their keys in their paths, and what keys are called by, in
+//! whichever tables they stand.
+
+pub(crate) const GATEWAY: &str = "gateway";
+
+pub(crate) const GATEWAY_PREFIX: &[u8] = b"gateway.";
+
+pub(crate) const PRESET: &str = "preset";
+
+pub(crate) const PRESET_PREFIX: &[u8] = b"preset.";
+
+pub(crate) const ROW: &str = "row";
+
+pub(crate) const ROW_PREFIX: &[u8] = b"row.";
+
+pub(crate) const NET: &str = "net";
+
+pub(crate) const NET_PREFIX: &[u8] = b"net.";
+
+pub(crate) const BUS: &str = "bus";
+
+pub(crate) const BUS_PREFIX: &[u8] = b"bus.";
+
+pub(crate) const ROUTE: &str = "route";
+
+pub(crate) const ROUTE_PREFIX: &[u8] = b"route.";
+
+pub(crate) const IDENTITY: &str = "identity";
+
+pub(crate) const IDENTITY_PREFIX: &[u8] = b"identity.";
+
+pub(crate) const RMC: &str = "rmc";
+
+pub(crate) const RMC_PREFIX: &[u8] = b"rmc.";
+
+pub(crate) const AIS: &str = "ais";
+
+pub(crate) const AIS_PREFIX: &[u8] = b"ais.";
+
+pub(crate) const FURTHER: &str = "further";
+
+pub(crate) const FURTHER_PREFIX: &[u8] = b"further.";
+
+pub(crate) const REPORT: &str = "report";
+
+pub(crate) const REPORT_PREFIX: &[u8] = b"report.";
+
+pub(crate) const PLAIN: &str = "plain";
+
+pub(crate) const PLAIN_PREFIX: &[u8] = b"plain.";
+
+pub(crate) const SERVE: &str = "serve";
+
+pub(crate) const SERVE_PREFIX: &[u8] = b"serve.";
 
 pub(crate) const ADDRESS: &str = "address";
 
