@@ -8,7 +8,7 @@ use arrayvec::ArrayVec;
 const MOST_KEY: usize = 128;
 
 /// The path of a key, cut after 128 bytes.
-pub type Key = ArrayVec<u8, 128>;
+pub type Key = ArrayVec<u8, MOST_KEY>;
 
 /// What is wrong with the value of a key.
 #[derive(Clone, Copy)]

@@ -25,7 +25,7 @@ const MOST_PRESETS: usize = 253;
 pub(crate) fn preset_keys(
     document: &Section,
     own: &Preset,
-) -> Result<ArrayVec<Preset, 253>, ConfigFault>
+) -> Result<ArrayVec<Preset, MOST_PRESETS>, ConfigFault>
     ensures said { result ≡ items_in preset 253 own.now (place_of document.now) }
     ensures valid { IfOk result (λ presets. ArePresets own.now.name own.now.address presets.items) }
 {
