@@ -14,7 +14,6 @@ use tag_block::Packet;
 type Line = ArrayVec<u8, 82>;
 
 /// Writes the datagram of a report. So many lines were said before.
-#[tactic(auto, unfolding(crate::specs::Reports::report_datagram))]
 pub(crate) fn write_report(
     source: Sfi,
     before: u16,
