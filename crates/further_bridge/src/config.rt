@@ -49,7 +49,6 @@ impl FurtherConfig {
     }
 
     /// The rank of a NAME in the quantity.
-    #[tactic(auto, using(crate::proofs::Rules::rank_is))]
     pub(crate) fn rank(&self, quantity: Quantity, name: Name) -> Option<Rank>
         ensures { result ≡ rank_of (rule_at (further_rule self.now.ignored.items self.now.quantities) (number_of quantity)) name.0 }
     {
