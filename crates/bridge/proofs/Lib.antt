@@ -3,15 +3,10 @@ pub mod Answers
 pub mod Changes
 pub mod Joins
 pub mod Plains
-pub mod Lengths
 pub mod Ships
 pub mod Quantities
 pub mod Usual
 pub mod Steps
-pub mod Sending
 pub mod PartCases
-pub mod ReplayCases
 pub mod Reached
-pub mod Replays
-pub mod Events
 pub mod WatchSteps

@@ -14,9 +14,8 @@ use Rattle.history.specs.Messages.{done}
 use Rattle.history.specs.Settings.{receiver_of}
 use Rattle.bridge.specs.BridgeStands.{BridgeStands, IsBridged, IsBridgeStep, IsOrder, IsRefused}
 use Rattle.bridge.specs.Gate.{all_out, stepped, with_command}
-use Rattle.bridge.specs.Kept.{Bridged, left_of}
+use Rattle.bridge.specs.Kept.{Bridged, left_at, left_of, ordered_left}
 use Rattle.bridge.specs.Parts.{Parts}
-use Rattle.bridge.specs.Replaying.{left_at, ordered_left}
 
 pub both_at : (m : ℕ) (xs ys : List Emit) → at m xs ++ at m ys ≡ at m (xs ++ ys)
 both_at m xs ys = sym (map-append (λ (e : Emit). record { moment = m; emit = e }) xs ys)

@@ -1,7 +1,9 @@
 -- What the bridge keeps and leaves, as plain values.
-use Rattle.std.specs.Prelude.{◌≡◌, ℕ, Bool, List, ◌++◌, Option, None}
-use Rattle.gate_events.specs.Emit.{Emit}
+use Rattle.std.specs.Prelude.{◌≡◌, ℕ, Bool, List, [], ◌++◌, Option, Some, None}
+use Rattle.gate_events.specs.Emit.{Emit, Emitted}
+use Rattle.history.specs.Emits.{at}
 use Rattle.gate_model.specs.Machine.{Machine}
+use Rattle.gate_outbox.specs.declared.done.Command.{Command}
 use Rattle.gate_outbox.specs.Output.{Output, emits_of, no_emits, nothing}
 use Rattle.bus_identity.specs.Answers.{Kept as Counted}
 use Rattle.n2k_id.specs.declared.name.Name.{Name}
@@ -61,6 +63,15 @@ all_left x = emits_of x.outbox.emits ++ beside_left x
 
 abbrev pub left_of : Bridged → List Emit
 left_of b = all_left b.left
+
+-- at this moment
+abbrev pub left_at : ℕ → Bridged → List Emitted
+left_at m b = at m (left_of b)
+
+-- where the command was obeyed that the last event left, and nothing where it left none
+abbrev pub ordered_left : Option Command → Bridged → List Emitted
+ordered_left None after = []
+ordered_left (Some c) after = left_at after.gateway.moment after
 
 -- ---- where few ask for it: further quantities, changes of devices, plain sentences
 

@@ -13,12 +13,9 @@ pub mod Beside
 pub mod BridgeStands
 pub mod Gate
 pub mod Kept
-pub mod LengthLaws
 pub mod PartCases
 pub mod Parts
-pub mod ReplayCases
-pub mod Replayed
-pub mod Replaying
+pub mod Running
 pub mod SourceOut
 pub mod WatchKept
 pub mod WatchStands

@@ -14,7 +14,11 @@ use Rattle.history.specs.Entries.{Entry, frame}
 use Rattle.bridge.specs.Gate.{gate}
 use Rattle.bridge.specs.Parts.{Parts}
 
--- a gateway of two devices whose product information is ten bytes, which says RMC on RCOM and reports of ships on TGTD
+-- a gateway of two devices that says neither RMC nor reports of ships around
+abbrev pub alone : Parts
+alone = record { gateway = two_devices; information = []; rmc = None; ais = None; quantities = None; sources = false; plain = None; records = false }
+
+-- one whose product information is ten bytes, which says RMC on RCOM and reports of ships on TGTD
 abbrev pub all_parts : Parts
 all_parts = record {
   gateway = two_devices;

@@ -1,15 +1,5 @@
-//! Cases of the definition, computed: the lines of a capture and all that is written of them, and what the parts beside the gateway give.
+//! Cases of the definition, computed: what the parts beside the gateway give.
 ghost use Rattle.bridge.specs.PartCases as part_cases;
-ghost use Rattle.bridge.specs.ReplayCases as replay_cases;
-
-/// The text of captures.
-pub fn captures_are_replayed()
-    ensures one_line { replay_cases.OneLine }
-    ensures backwards { replay_cases.Backwards }
-    ensures cut_off_in_data { replay_cases.CutOffInData }
-    ensures cut_off_in_identifier { replay_cases.CutOffInIdentifier }
-    ensures not_extended { replay_cases.NotExtended }
-{}
 
 /// Who asks what the gateway is: twice, before it is ready, and from no address.
 pub fn who_asks_is_answered()

@@ -13,11 +13,10 @@ pub mod laws;
 mod left;
 mod measuring;
 mod plain;
-mod replaying;
 mod source_watch;
 mod sources;
 mod watching;
 
 pub use bridge::Bridge;
-pub use gate_core::{Command, HeldCounts};
+pub use gate_core::{Command, HeldCounts, moment_of};
 pub use settings::{Further, Settings};

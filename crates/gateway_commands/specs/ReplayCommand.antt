@@ -4,7 +4,7 @@ use Rattle.gate_outside.specs.Faults.{Rose}
 use Rattle.settings.specs.declared.further.Further.{Further}
 use Rattle.settings.specs.declared.settings.Settings.{Settings}
 use Rattle.serving.specs.Parts.{parts_of}
-use Rattle.serving.specs.Replayed.{IsReplay}
+use Rattle.replaying.specs.Replayed.{IsReplay}
 use Rattle.config_check.specs.Configuring.{ConfiguresBy, FileSays, IsToldAs}
 use Rattle.statuses.specs.declared.Status.TheVariants as statuses
 use Rattle.statuses.specs.Statuses.{EndsBy, IsReplayStatus, IsStreamStatus, IsUnhindered, SteadyBy, number}

@@ -5,12 +5,12 @@ ghost use Rattle.settings.specs.Further.{IsFurther, nothing_further};
 ghost use Rattle.settings.specs.Settings.{IsSettings};
 ghost use Rattle.serving.specs.BridgeStands.{IsNew};
 ghost use Rattle.serving.specs.Parts.{Parts, parts_of};
-ghost use Rattle.serving.specs.Replayed.{IsReplay};
+ghost use Rattle.replaying.specs.Replayed.{IsReplay};
 ghost use Rattle.gateway_commands.specs.ReplayCommand.{RunsBy};
 ghost use Rattle.statuses.specs.Statuses.{EndsBy, IsReplayStatus, IsStreamStatus, IsUnhindered, SteadyBy, number};
 
-use capture_stream::answer_capture;
 use gate_outside::{Sink, Source};
+use replaying::replay_capture;
 use serving::{Bridge, Further, Settings};
 use statuses::{Status, status_of};
 use std::alloc::Global;
@@ -52,7 +52,7 @@ fn answer<S: Source, K: Sink>(bridge: &mut Bridge, input: &mut S, out: &mut K) -
         → IsUnhindered (S.left input.old) (S.fault_count input.old) (S.fault_count input.new) (K.fault_count out.old) (K.fault_count out.new)
         → number result ≡ 0 }
 {
-    status_of(answer_capture(bridge, input, out))
+    status_of(replay_capture(bridge, input, out))
 }
 
 /// Runs a gateway of these settings, with the parts beside it, over a capture, and answers a status.

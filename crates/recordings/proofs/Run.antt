@@ -14,8 +14,9 @@ use Rattle.history.specs.Entries.{now, tick}
 use Rattle.history.specs.Gate.{Stepped}
 use Rattle.serving.specs.Gate.{from_events, opening}
 use Rattle.serving.specs.Parts.{Parts}
-use Rattle.serving.specs.Replayed.{AreRead, IsReplay, Running, emitted_text, event_in, events_in, gate_of}
-use Rattle.serving.proofs.Events.{events_are_replayed}
+use Rattle.serving.specs.Running.{Running}
+use Rattle.replaying.specs.Replayed.{AreRead, IsReplay, emitted_text, event_in, events_in, gate_of}
+use Rattle.replaying.proofs.Events.{events_are_replayed}
 use Rattle.recordings.proofs.Busy.{start_is_idle}
 use Rattle.recordings.proofs.Events.{idle_ticks}
 use Rattle.serving.specs.Recorded.{made_in, recorded_in}

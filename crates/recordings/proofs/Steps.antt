@@ -17,7 +17,8 @@ use Rattle.history.specs.Entries.{History, moment_of, now, tick}
 use Rattle.history.specs.Gate.{Stepped}
 use Rattle.serving.specs.Gate.{all_out, from_events, stepped}
 use Rattle.serving.specs.Parts.{Parts}
-use Rattle.serving.specs.Replayed.{AreRead, Running, entry_of, event_in, events_in}
+use Rattle.serving.specs.Running.{Running, entry_of}
+use Rattle.replaying.specs.Replayed.{AreRead, event_in, events_in}
 use Rattle.recordings.specs.Idle.{BeginFrom}
 use Rattle.recordings.proofs.Busy.{earlier, now_after}
 use Rattle.recordings.proofs.Events.{idle_ticks}

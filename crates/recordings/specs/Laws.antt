@@ -2,7 +2,7 @@
 use Rattle.std.specs.Prelude.{◌≡◌, ℕ, ◌^◌, ◌<◌, true, List, Option}
 use Rattle.std.specs.List.{AllByRecursion}
 use Rattle.serving.specs.Parts.{Parts}
-use Rattle.serving.specs.Replayed.{IsReplay, emitted_text}
+use Rattle.replaying.specs.Replayed.{IsReplay, emitted_text}
 use Rattle.serving.specs.Recorded.{made_in, recorded_in}
 use Rattle.serving.specs.Served.{Outside, Serves, all_due}
 use Rattle.recordings.specs.Told.{IsTold, ReportsAreLines}

@@ -2,7 +2,7 @@
 use Rattle.std.proofs.Common.{◌≡◌, List, [], ◌∷◌, ◌++◌, refl, sym, ap, subst, ◌∙◌, append_assoc}
 use Rattle.std.proofs.lemmas.List.{append-nil}
 use Rattle.gate_outside.specs.Link.{Outcome}
-use Rattle.bridge.specs.Replayed.{Running}
+use Rattle.bridge.specs.Running.{Running}
 use Rattle.bridge.specs.Kept.{Bridged}
 use Rattle.bridge.specs.Parts.{Parts}
 use Rattle.serving.specs.Handing.{DoesAll, DoesSome, HandsAll, HandsSome, RunStands, passed}

@@ -14,10 +14,9 @@ use Rattle.history.specs.Messages.{done}
 use Rattle.history.specs.Settings.{receiver_of}
 use Rattle.bridge.specs.BridgeStands.{BridgeStands, IsBridged, IsBridgeStep, IsOrder}
 use Rattle.bridge.specs.Gate.{all_out, stepped, with_command}
-use Rattle.bridge.specs.Kept.{Bridged}
+use Rattle.bridge.specs.Kept.{Bridged, left_at, ordered_left}
 use Rattle.bridge.specs.Parts.{Parts}
-use Rattle.bridge.specs.Replayed.{entry_of}
-use Rattle.bridge.specs.Replaying.{left_at, ordered_left}
+use Rattle.bridge.specs.Running.{entry_of}
 use Rattle.bridge.proofs.Reached.{both_at, left_is, reached}
 use Rattle.serving.specs.Handing.{Does, DoesAll, DoesSome, Hands, HandsAll, HandsSome, RunStands}
 use Rattle.serving.specs.Served.{IsFront, Outside, all_due}

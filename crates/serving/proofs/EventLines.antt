@@ -21,7 +21,7 @@ use Rattle.bridge.specs.BridgeStands.{BridgeStands, IsBridgeStep}
 use Rattle.bridge.specs.Gate.{all_out, stepped, with_command}
 use Rattle.bridge.specs.Kept.{Bridged, left_of}
 use Rattle.bridge.specs.Parts.{Parts}
-use Rattle.bridge.specs.Replayed.{Running, entry_of}
+use Rattle.bridge.specs.Running.{Running, entry_of}
 use Rattle.serving.specs.Handing.{Does, DoesAll, DoesSome, HandsAll, HandsSome, RunStands, passed}
 use Rattle.serving.specs.Served.{Outside, all_due}
 use Rattle.serving.specs.Turns.{Item, all_made, emitted_at, event_line, is_recorded, made, recorded_where, with_event}

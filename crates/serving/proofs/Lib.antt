@@ -1,5 +1,3 @@
-pub use Rattle.bridge.proofs.Events
-pub use Rattle.bridge.proofs.Replays
 pub mod Doing
 pub mod Entries
 pub mod Items

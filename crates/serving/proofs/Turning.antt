@@ -8,7 +8,7 @@ use Rattle.gate_outside.specs.Told.{Joins}
 use Rattle.gate_events.specs.Emit as emits
 use Rattle.gate_events.specs.Emit.{Emit}
 use Rattle.history.specs.Emits.{at}
-use Rattle.bridge.specs.Replayed.{Running, RunningStands}
+use Rattle.bridge.specs.Running.{Running, RunningStands}
 use Rattle.gate_model.specs.Machine.{Machine}
 use Rattle.bridge.specs.BridgeStands.{IsStart}
 use Rattle.bridge.specs.Kept.{Bridged, left_of}

@@ -6,8 +6,9 @@ use Rattle.gate_events.specs.declared.emit.Detail.TheVariants.{At, Bus, Line, Ne
 use Rattle.gate_outside.specs.Link.{Outcome}
 use Rattle.history.specs.Cases.{can_frame, emitted, navd, started}
 use Rattle.history.specs.Emits.{broken}
+use Rattle.capture_stream.specs.Progress.{with_lf}
+use Rattle.bridge.specs.PartCases.{alone}
 use Rattle.bridge.specs.Parts.{Parts}
-use Rattle.bridge.specs.ReplayCases.{alone, text}
 use Rattle.serving.specs.Served.{Tried, to_bus, to_text}
 use Rattle.serving.specs.Turns.{all_made, due_of, made, recorded, told}
 
@@ -74,10 +75,10 @@ three fails =
 abbrev pub SendsFail : Type 0
 SendsFail =
     flat_map to_text (three true)
-    ≡ text (codes "(10.000000) rule 50 link=bus" ∷ codes "(10.100000) rule 50 link=net" ∷ codes "(10.200000) rule 1 line=4" ∷ [])
+    ≡ flat_map with_lf (codes "(10.000000) rule 50 link=bus" ∷ codes "(10.100000) rule 50 link=net" ∷ codes "(10.200000) rule 1 line=4" ∷ [])
 
 abbrev pub FramesAreLines : Type 0
 FramesAreLines = flat_map to_bus (three false) ≡ (codes "CAN0", codes "(10.000000) can0 18EEFFFB#0100C0FF008232C0") ∷ []
 
 abbrev pub ReportsAreLines : Type 0
-ReportsAreLines = flat_map to_text (three false) ≡ text (codes "(10.200000) rule 1 line=4" ∷ [])
+ReportsAreLines = flat_map to_text (three false) ≡ flat_map with_lf (codes "(10.200000) rule 1 line=4" ∷ [])

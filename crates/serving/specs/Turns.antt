@@ -13,7 +13,7 @@ use Rattle.capture_text.specs.Writing.{event_text, start_mark}
 use Rattle.gate_outside.specs.Link.{Outcome}
 use Rattle.gate_events.specs.Emit.{Emitted, report}
 use Rattle.history.specs.Emits.{at, report_of}
-use Rattle.bridge.specs.Replayed.{Running, entry_of, moment_in}
+use Rattle.bridge.specs.Running.{Running, entry_of, moment_in}
 use Rattle.bridge.specs.Gate.{opening, stepped}
 use Rattle.bridge.specs.Parts.{Parts}
 

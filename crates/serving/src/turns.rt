@@ -5,7 +5,7 @@ ghost use Rattle.gate_events.specs.Event.{view};
 ghost use Rattle.bridge.specs.Steps.{IsEventValid};
 ghost use Rattle.gate_outside.specs.Faults.{Rose};
 ghost use Rattle.gate_outside.specs.Link.{Outcome};
-ghost use Rattle.bridge.specs.Replayed.{RunningStands};
+ghost use Rattle.bridge.specs.Running.{RunningStands};
 ghost use Rattle.serving.specs.Handing.{Does, Ends, Hears, RunStands, TakesTurn};
 ghost use Rattle.serving.specs.Served.{NetFits, outside};
 ghost use Rattle.serving.specs.Turns.{from_bus, from_net, with_start, tick_behind, with_came, with_event};

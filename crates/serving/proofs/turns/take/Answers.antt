@@ -2,7 +2,7 @@ use Rattle.std.proofs.Common.{[], sym, subst, ◌∙◌}
 use Rattle.history.specs.Entries.{Entry}
 use Rattle.gate_events.specs.Event.{view}
 use Rattle.bridge.specs.BridgeStands.{IsBridgeStep}
-use Rattle.bridge.specs.Replaying.{left_at}
+use Rattle.bridge.specs.Kept.{left_at}
 use Rattle.bridge.proofs.Reached.{ordered_none, ordered_some}
 use Rattle.serving.proofs.Doing.{hands_none}
 use Rattle.serving.proofs.Entries.{taken_all, taken_first, taken_then}

@@ -1,5 +1,0 @@
-use Rattle.bridge.proofs.Events.{events_are_replayed}
-use Rattle.bridge.proofs.laws.events_are_replayed.Goals as goal
-
-pub returns : goal.returns
-returns c = events_are_replayed

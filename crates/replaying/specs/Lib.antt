@@ -1,0 +1,4 @@
+pub mod LengthLaws
+pub mod ReplayCases
+pub mod Replayed
+pub mod Replaying
