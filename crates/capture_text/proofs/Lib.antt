@@ -1,4 +1,5 @@
 pub mod Again
+pub mod Computed
 pub mod Cuts
 pub mod Data
 pub mod Decimals

@@ -1,14 +1,8 @@
 -- Computed: the text of captures.
 use Rattle.std.proofs.Common.{refl}
-use Rattle.std.specs.Prelude.{⊤}
 use Rattle.replaying.specs.ReplayCases.{OneLine, Backwards, CutOffInData, CutOffInIdentifier, NotExtended}
 use Rattle.history.proofs.Computed.{cases}
-use Rattle.capture_text.specs.Reading.{seconds_at, micros_at, time_at, bytes_before_end, bytes_at, number_of, frame_at, seen_behind, read}
-
--- and what a line unfolds
-unfoldable pub lines : ⊤
-unfolding seconds_at micros_at time_at bytes_before_end bytes_at number_of frame_at seen_behind read
-lines = tt
+use Rattle.capture_text.proofs.Computed.{lines}
 
 pub one_line : OneLine
 unfolding cases lines

@@ -1,14 +1,8 @@
 -- Computed: turns between two links.
 use Rattle.std.proofs.Common.{refl}
-use Rattle.std.specs.Prelude.{⊤}
 use Rattle.history.proofs.Computed.{cases}
-use Rattle.capture_text.specs.Reading.{seconds_at, micros_at, time_at, bytes_before_end, bytes_at, number_of, frame_at, seen_behind, read}
+use Rattle.capture_text.proofs.Computed.{lines}
 use Rattle.serving.specs.TurnCases.{ARunIsRecorded, ReceivesFail, SendsFail, FramesAreLines, ReportsAreLines}
-
--- and what a line unfolds
-unfoldable lines : ⊤
-unfolding seconds_at micros_at time_at bytes_before_end bytes_at number_of frame_at seen_behind read
-lines = tt
 
 pub receives_fail : ReceivesFail
 unfolding cases lines
