@@ -16,6 +16,7 @@ mod udp_link;
 
 pub use activity::Activity;
 pub use disk_files::DiskFiles;
+pub use socket::Failure;
 pub use system_clock::SystemClock;
 pub use told_writer::ToldWriter;
 pub use udp_link::{UdpLink, Unattached};

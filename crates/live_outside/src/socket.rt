@@ -19,12 +19,22 @@ pub(crate) const LONGEST_WAIT_MS: u64 = 4;
 /// How many networks a multicast datagram crosses: none but the ship's own.
 const MULTICAST_TTL: u32 = 1;
 
+/// Why a call of a link failed.
+#[derive(Clone, Copy)]
+pub struct Failure {
+    /// Where a send was to go; None of a receive.
+    pub to: Option<SocketAddrV4>,
+    /// What the system said. A datagram that was sent in part is `WriteZero`.
+    pub kind: ErrorKind,
+}
+
 /// A socket that listens, and where it sends.
 #[derive(Drop)]
 pub(crate) struct Socket {
     socket: UdpSocket,
     destinations: Destinations,
     waits: bool,
+    failure: Option<Failure>,
 }
 
 // A socket that listens at an address, and whose receives wait.
@@ -64,18 +74,35 @@ impl Socket {
                 socket,
                 destinations,
                 waits: true,
+                failure: None,
             }),
             Err(error) => Err(error.kind()),
         }
     }
 
+    /// Why the last call failed that did.
+    pub(crate) fn failure(&self) -> Option<Failure> {
+        self.failure
+    }
+
+    /// The address that a group is sent to.
+    pub(crate) fn destination(&self, group: Group) -> SocketAddrV4 {
+        self.destinations.address(group)
+    }
+
+    // Notes why a call fails: a receive, or a send to an address.
+    fn fail(&mut self, to: Option<SocketAddrV4>, kind: ErrorKind) -> Failed {
+        self.failure = Some(Failure { to, kind });
+        Failed
+    }
+
     // Makes the next call wait or not. A socket keeps its way, so that a busy one isn't set each turn.
-    fn set_waiting(&mut self, waits: bool) -> Result<(), Failed> {
+    fn set_waiting(&mut self, waits: bool) -> Result<(), ErrorKind> {
         if self.waits != waits {
-            if self.socket.set_nonblocking(!waits).is_err() {
-                return Err(Failed);
+            match self.socket.set_nonblocking(!waits) {
+                Ok(()) => self.waits = waits,
+                Err(error) => return Err(error.kind()),
             }
-            self.waits = waits;
         }
         Ok(())
     }
@@ -88,23 +115,34 @@ impl Socket {
     ) -> Result<Arrival, Failed>
         ensures { Fits buf.new result }
     {
-        if self.set_waiting(waits).is_err() {
-            return Err(Failed);
+        if let Err(kind) = self.set_waiting(waits) {
+            return Err(self.fail(None, kind));
         }
         match self.socket.recv_from(buf) {
             Ok((count, _)) => Ok(Arrival::Bytes(count)),
-            Err(error) => without_arrival(error.kind()),
+            Err(error) => {
+                let outcome = without_arrival(error.kind());
+                if outcome.is_err() {
+                    self.failure = Some(Failure {
+                        to: None,
+                        kind: error.kind(),
+                    });
+                }
+                outcome
+            }
         }
     }
 
     /// Sends a datagram to the address of a group. A send that would wait fails.
     pub(crate) fn send(&mut self, group: Group, bytes: &[u8]) -> Result<(), Failed> {
-        if self.set_waiting(false).is_err() {
-            return Err(Failed);
+        let to = self.destinations.address(group);
+        if let Err(kind) = self.set_waiting(false) {
+            return Err(self.fail(Some(to), kind));
         }
-        match self.socket.send_to(bytes, self.destinations.address(group)) {
+        match self.socket.send_to(bytes, to) {
             Ok(count) if count == bytes.len() => Ok(()),
-            _ => Err(Failed),
+            Ok(_) => Err(self.fail(Some(to), ErrorKind::WriteZero)),
+            Err(error) => Err(self.fail(Some(to), error.kind())),
         }
     }
 }

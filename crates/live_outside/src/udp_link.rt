@@ -1,12 +1,12 @@
 //! A link over UDP.
 use crate::activity::{Activity, Patience, Side};
-use crate::socket::{LONGEST_WAIT_MS, Socket};
+use crate::socket::{Failure, LONGEST_WAIT_MS, Socket};
 use gate_outside::{Arrival, Failed, LARGEST_ARRIVAL, Link};
 use network_routes::{Address, Routes};
 use sentence_text::Group;
 use std::io::ErrorKind;
 use std::marker::Model;
-use std::net::Net;
+use std::net::{Net, SocketAddrV4};
 use std::thread;
 use std::time::{Clock, Duration};
 
@@ -80,6 +80,22 @@ impl<'a, R: Net + Clock> UdpLink<'a, R> {
     /// Why the last call of `attach` failed, if one did.
     pub fn unattached(&self) -> Option<&Unattached> {
         self.unattached.as_ref()
+    }
+
+    /// Why the last receive or send failed that did. None before the link is attached.
+    pub fn failure(&self) -> Option<Failure> {
+        match &self.socket {
+            Some(socket) => socket.failure(),
+            None => None,
+        }
+    }
+
+    /// The address that a group is sent to. None before the link is attached.
+    pub fn destination(&self, group: Group) -> Option<SocketAddrV4> {
+        match &self.socket {
+            Some(socket) => Some(socket.destination(group)),
+            None => None,
+        }
     }
 }
 

@@ -8,9 +8,10 @@ mod links;
 mod reasons;
 mod words;
 
-use crate::line::say;
+pub use crate::line::say;
 use crate::links::explain_links;
 use crate::reasons::{file_reason, reason_of, write_reason};
+pub use crate::words::VERSION;
 use crate::words::explain_words;
 use live_outside::Unattached;
 use statuses::Status;

@@ -14,6 +14,7 @@ pub use gateway_commands::{
 use gateway_commands::{run_with, words_to_tell};
 use live_outside::{Activity, DiskFiles, SystemClock, ToldWriter, UdpLink};
 use run_failures::{Kept, explain_run};
+use run_notes::{NotedClock, NotedFiles, NotedLink, NotedWriter, Shared, Side};
 use statuses::Status;
 use std::alloc::AllocError;
 use std::cell::Cell;
@@ -32,30 +33,32 @@ fn exit_code(status: Result<u8, AllocError>) -> ExitCode
 }
 
 fn main(rt: HostRuntime) -> ExitCode {
-    let mut files = DiskFiles::new(&rt);
+    let shared = Shared::new();
+    let mut files = NotedFiles::new(DiskFiles::new(&rt), &shared);
     let activity = Activity::new();
     let (bus, net) = UdpLink::pair(&rt, &activity);
-    let mut bus = bus;
-    let mut net = net;
-    let mut clock = SystemClock::new(&rt);
+    let mut bus = NotedLink::new(&rt, bus, Side::Bus, &shared);
+    let mut net = NotedLink::new(&rt, net, Side::Net, &shared);
+    let mut clock = NotedClock::new(SystemClock::new(&rt), &shared);
     let unwritten = Cell::new(None);
     let status = run_with(
         rt.alloc(),
         env::args(&rt),
         &mut files,
         rt.stdin(),
-        ToldWriter::new(rt.stdout(), &unwritten),
+        NotedWriter::new(&rt, ToldWriter::new(rt.stdout(), &unwritten), &shared),
         &mut bus,
         &mut net,
         &mut clock,
     );
     let kept = Kept {
         words: words_to_tell(&rt, &status),
-        unread: files.unread(),
+        unread: files.files().unread(),
         unwritten: unwritten.get(),
-        bus: bus.unattached(),
-        net: net.unattached(),
+        bus: bus.link().unattached(),
+        net: net.link().unattached(),
     };
     explain_run(&rt, &status, &kept);
+    shared.say_end(&rt, &status, unwritten.get());
     exit_code(status)
 }

@@ -1,0 +1,26 @@
+//! What standard error says of a run of `serve` while it goes on: which program it is and where it listens and sends, which
+//! sends and receives fail and until when, whom the gateway doesn't hear, and at its end why and how much came.
+//!
+//! What a process says there no clause of std tells. The wrappers here pass on each call to what they wrap, and keep its
+//! contract; of each kind of line at most one a second is said, and at most a hundred in a run, so a journal that nobody reads stops nothing.
+#![tactic(auto)]
+
+mod begin;
+mod link_notes;
+mod noted_clock;
+mod noted_files;
+mod noted_link;
+mod noted_writer;
+mod pace;
+mod processor;
+mod sends;
+mod shared;
+mod trouble;
+mod unlisted;
+mod why;
+
+pub use noted_clock::NotedClock;
+pub use noted_files::NotedFiles;
+pub use noted_link::NotedLink;
+pub use noted_writer::NotedWriter;
+pub use shared::{Shared, Side};
