@@ -12,6 +12,9 @@ use std::str;
 /// The place of the first line of a datagram, behind its header.
 const FIRST_LINE: usize = 6;
 
+/// The end of a report, from behind its moment on, with its LF.
+type End = ArrayVec<u8, 32>;
+
 /// How many sources are named in one run.
 const MOST_NAMED: usize = 32;
 
@@ -20,25 +23,25 @@ const MOST_NAMED: usize = 32;
 pub(crate) struct Unlisted<'a, R> {
     rt: &'a R,
     shared: &'a Shared,
-    report: ArrayVec<u8, LONGEST_LINE>,
+    report: End,
     named: ArrayVec<Sfi, MOST_NAMED>,
     pace: Pace,
 }
 
 // The line of the report that the source of a datagram's first line isn't listed, from behind its moment on.
-fn report_of_first_line() -> ArrayVec<u8, LONGEST_LINE> {
+fn report_of_first_line() -> End {
     let report = Report {
         rule: UNLISTED_SOURCE,
         detail: Detail::At(FIRST_LINE as u16),
     };
-    let mut line = ArrayVec::new();
+    let mut line: ArrayVec<u8, LONGEST_LINE> = ArrayVec::new();
     write_emit(&Emit::Report(report), 0, &mut line);
-    let mut text = ArrayVec::new();
+    let mut end = ArrayVec::new();
     if let Some(space) = line.iter().position(|byte| *byte == b' ') {
-        let _fits = text.try_extend_from_slice(&line.as_slice()[space..]);
-        let _fits = text.try_push(b'\n');
+        let _fits = end.try_extend_from_slice(&line.as_slice()[space..]);
+        let _fits = end.try_push(b'\n');
     }
-    text
+    end
 }
 
 // Who says the first line of a datagram, where its front has the whole TAG block.
