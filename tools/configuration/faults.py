@@ -12,6 +12,10 @@ MOST_PATH = 128
 MOST_STOOD = 70
 # of so many keys that aren't known it is looked for the ones that may be meant
 MOST_NEAREST = 200
+# of a key's name so many of the parts between its underlines, each of so many letters, are looked for in other names
+MOST_NAME_PARTS, LEAST_PART = 8, 2
+# how alike two such parts have to be, of 1
+ALIKE = 0.8
 # parts with a transmission group of their own
 PARTS = ("rmc", "ais", "further", "plain")
 
@@ -240,9 +244,16 @@ class Looking:
         elsewhere = [f"{table}.{key.name}" for table, keys in self.page.tables.items() for key in keys if key.name == name]
         elsewhere += [f"row.{row.name}" for row in self.page.rows if row.name == name]
         elsewhere += [f"further.{quantity}" for quantity in self.page.quantities if quantity == name]
-        near = difflib.get_close_matches(name, known, 3, 0.5) or [word for word in known if name and (word.startswith(name) or name in word.split("_"))]
+        near = difflib.get_close_matches(name, known, 3, 0.5) + [word for word in known if shares_a_part(name, word)]
         meant = list(dict.fromkeys([prefix + word for word in near] + elsewhere))
         return " or ".join(meant) if meant else f"{'these' if prefix else 'these tables'}: {', '.join(known)}"
+
+
+def shares_a_part(name, word):
+    """Whether a part of a name begins a part of a word, or is spelled like it: wind is so of all three winds."""
+    others = word.split("_")
+    parts = [part for part in name.split("_", MOST_NAME_PARTS)[:MOST_NAME_PARTS] if len(part) >= LEAST_PART]
+    return any(difflib.get_close_matches(part, others, 1, ALIKE) or any(other.startswith(part) for other in others) for part in parts)
 
 
 def number(text):
