@@ -1,4 +1,4 @@
-"""Names of makers, functions and messages, by the tables in this folder; what isn't in them is shown as a number."""
+"""Names of makers, functions, classes, industries and messages, by the tables in this folder; what isn't in them is shown as a number."""
 
 import os
 
@@ -19,6 +19,7 @@ def table_of(name, numbers):
 
 
 MAKERS, FUNCTIONS, PGNS = table_of("makers.txt", 1), table_of("functions.txt", 2), table_of("pgns.txt", 1)
+CLASSES, INDUSTRIES = table_of("classes.txt", 1), table_of("industries.txt", 1)
 # a PGN of which makers themselves say what it holds
 PROPRIETARY = ((61184, 61184), (65280, 65535), (126720, 126720), (130816, 131071))
 
@@ -32,6 +33,11 @@ def function_of(name):
     fields = name_fields(name)
     pair = fields["class"], fields["function"]
     return FUNCTIONS.get(pair, f"class {pair[0]}, function {pair[1]}")
+
+
+def has_known_function(name):
+    fields = name_fields(name)
+    return (fields["class"], fields["function"]) in FUNCTIONS
 
 
 def message_of(pgn):

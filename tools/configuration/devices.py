@@ -1,93 +1,68 @@
-"""The devices of a recording beside a configuration: which each pattern is of, which rows would have no source, and who never claimed."""
-
-import collections
+"""The devices of a recording beside a configuration: which each pattern is of, which rows would have no source, who never claimed, and what fails in
+silence among them."""
 
 from bus_names import function_of, maker_of
-from onboard.candump import NoFrame, read_line
-from onboard.identifiers import ADDRESS_CLAIM, ALL, NULL_ADDRESS, name_of, name_text, parts_of
+from onboard.identifiers import name_fields, name_text
 
+from .accepted import Warned
 from .keys import is_matched
-from .messages import selectors
+from .paces import MICROSECONDS
 
 # greater than every NAME of a device, so that a claim takes the address from it
 MADE_UP_NAME = 0xFFFFFFFFFFFFFF00
+# the class and the function of what joins the bus with a network, as this gateway does
+GATEWAY = 25, 130
 
 
 class Devices:
-    """Who held which address, and what was sent from it. A device that didn't claim has no NAME, unless a preset gives it one."""
+    """Those that were heard."""
 
-    def __init__(self, accepted):
-        self.accepted, self.selectors = accepted, selectors()
-        self.own_name = int(accepted.root["gateway"]["name"], 16)
+    def __init__(self, accepted, heard):
+        self.accepted, self.heard = accepted, heard
         self.own_address = accepted.root["gateway"]["address"]
         self.ignored = accepted.root.get("bus", {}).get("ignore", [])
-        self.presets = {preset["address"]: int(preset["name"], 16) for preset in accepted.root.get("preset", [])}
-        self.holders, self.names = dict(self.presets), set(self.presets.values())
-        self.said = collections.Counter()
-        self.frames = self.error_frames = self.other_lines = 0
-
-    def take(self, line):
-        try:
-            frame = read_line(line).frame
-        except NoFrame:
-            self.other_lines += 1
-            return
-        if frame.is_error:
-            self.error_frames += 1
-            return
-        self.frames += 1
-        parts = parts_of(frame.identifier)
-        if parts.pgn == ADDRESS_CLAIM and name_of(frame.data) is not None and parts.source != ALL:
-            self.claim(parts.source, name_of(frame.data))
-        elif parts.source < NULL_ADDRESS:
-            self.said[parts.source, self.holders.get(parts.source), parts.pgn, self.selected(parts.pgn, frame.data)] += 1
-
-    def claim(self, address, name):
-        """Of two NAMEs the smaller one has the address (ISO 11783-5)."""
-        self.names.add(name)
-        for left in [left for left, holder in self.holders.items() if holder == name and left != address]:
-            del self.holders[left]
-        if address != NULL_ADDRESS and name <= self.holders.get(address, name):
-            self.holders[address] = name
-
-    def selected(self, pgn, data):
-        """What a message says of which row it is."""
-        byte, low, bits = self.selectors.get(pgn, (None, 0, 0))
-        return data[byte] >> low & (1 << bits) - 1 if byte is not None and byte < len(data) else None
 
     def who(self, address, name):
         named = "never claimed" if name is None else f"{name_text(name)}  {maker_of(name)}, {function_of(name)}"
-        return f"address {address}  {named}" + (" (a preset)" if name is not None and self.presets.get(address) == name else "")
+        return f"address {address}  {named}" + (" (a preset)" if name is not None and self.heard.presets.get(address) == name else "")
+
+    # ---- what is warned of
+
+    def warnings(self):
+        yield from self.timeouts_below_the_pace()
+        yield from self.gateways_that_are_heard()
+
+    def timeouts_below_the_pace(self):
+        for path, address, name, pace in self.heard.paces.too_slow():
+            if (address, name) in self.heard.pairs() and (name is None or self.is_taken(name, self.heard.tables[path])):
+                timeout = self.heard.paces.timeouts_us[path] / MICROSECONDS
+                why = f"{named(address, name)} says it each {pace.usual_seconds():.3g} s, and counts as silent {timeout:g} s after each message"
+                yield Warned(".".join((*path, "timeout_ms")), self.accepted.place(*path, "timeout_ms"), why)
+
+    def gateways_that_are_heard(self):
+        """Other gateways that rows are taken from: what one of them puts on the bus may be what this one said on the network."""
+        others = {name: address for address, name in self.heard.pairs() if name is not None and is_gateway(name) and not self.is_ignored(name)}
+        for name, address in others.items():
+            why = f"{named(address, name)} is another gateway. Two that hear each other are a loop: add \"{name_text(name)}\", unless it hears no network"
+            yield Warned("bus.ignore", self.accepted.place("bus", "ignore"), why)
 
     # ---- what is told
 
     def lines(self):
         """All that is told of the recording."""
-        yield f"{self.frames} frames, {self.error_frames} error frames, {self.other_lines} other lines"
+        yield f"{self.heard.frames} frames, {self.heard.error_frames} error frames, {self.heard.other_lines} other lines"
         yield ""
         yield "who spoke:"
-        for address, name in self.pairs():
+        for address, name in self.heard.pairs():
             yield f"  {self.who(address, name)}"
         yield from self.of_patterns()
         yield from self.of_rows()
         yield from self.of_presets()
 
-    def pairs(self):
-        """Who said something, or claimed."""
-        spoke = {(address, name) for address, name, _, _ in self.said} | set(self.holders.items())
-        return sorted((pair for pair in spoke if pair[1] != self.own_name), key=lambda pair: (pair[0], pair[1] or 0))
-
-    def sayers(self, row):
-        """Who said what a row is taken from."""
-        return [
-            pair for pair in self.pairs()
-            if any((address, name) == pair and pgn in row.pgns and (row.selector is None or selected in row.values) for address, name, pgn, selected in self.said)
-        ]
-
     def of_patterns(self):
-        yield from self.of_list("bus.ignore", self.ignored, self.pairs())
+        yield from self.of_list("bus.ignore", self.ignored, self.heard.pairs())
         for row in self.accepted.page.rows:
-            yield from self.of_list(f"row.{row.name}.sources", self.accepted.row(row.name).get("sources", []), self.sayers(row))
+            yield from self.of_list(f"row.{row.name}.sources", self.accepted.row(row.name).get("sources", []), self.heard.sayers(row))
 
     def of_list(self, path, patterns, sayers):
         """The devices that each pattern of a list is of; of those that aren't among the sayers it is told besides."""
@@ -95,7 +70,7 @@ class Devices:
             yield ""
             yield f"{path}:"
         for place, pattern in enumerate(patterns, 1):
-            found = [pair for pair in self.pairs() if pair[1] is not None and is_matched(pattern, pair[1])]
+            found = [pair for pair in self.heard.pairs() if pair[1] is not None and is_matched(pattern, pair[1])]
             yield f"  {place}, {pattern}:" + ("" if found else " no device of the recording")
             for pair in found:
                 yield f"    {self.who(*pair)}" + ("" if pair in sayers else ", which said nothing of this row")
@@ -105,7 +80,7 @@ class Devices:
         yield ""
         yield "rows without a source:"
         for row in self.accepted.page.rows:
-            sayers, table = self.sayers(row), self.accepted.row(row.name)
+            sayers, table = self.heard.sayers(row), self.accepted.row(row.name)
             if not sayers:
                 silent.append(row.name)
             elif not any(self.is_taken(name, table) for _, name in sayers):
@@ -125,11 +100,11 @@ class Devices:
 
     def of_presets(self):
         """Presets that make each device known from the first frame on; those that the configuration has are left out."""
-        claimed = {address: name for address, name in self.holders.items() if name not in (self.own_name, *self.presets.values())}
-        unclaimed = sorted({address for address, name in self.pairs() if name is None} - set(self.holders))
-        for address in [address for address in claimed if address in self.presets]:
+        claimed = {address: name for address, name in self.heard.holders.items() if name not in (self.heard.own_name, *self.heard.presets.values())}
+        unclaimed = sorted({address for address, name in self.heard.pairs() if name is None} - set(self.heard.holders))
+        for address in [address for address in claimed if address in self.heard.presets]:
             del claimed[address]
-            yield f"  preset of address {address}: in the recording {self.who(address, self.holders[address])} has it"
+            yield f"  preset of address {address}: in the recording {self.who(address, self.heard.holders[address])} has it"
         wanted = [(address, claimed.get(address)) for address in sorted([*claimed, *unclaimed]) if address != self.own_address]
         yield ""
         yield "presets to add, by which each device is known from its first frame on:" if wanted else "no preset has to be added"
@@ -139,3 +114,13 @@ class Devices:
             yield f"# {maker_of(name)}, {function_of(name)}" if name is not None else "# a NAME made up: this device never claimed in the recording"
             yield f"address = {address}"
             yield f'name = "{name_text(MADE_UP_NAME | address if name is None else name)}"'
+
+
+def named(address, name):
+    """A device in a sentence."""
+    return f"address {address}" + (", which never claimed," if name is None else f" ({name_text(name)}, {maker_of(name)}, {function_of(name)})")
+
+
+def is_gateway(name):
+    fields = name_fields(name)
+    return (fields["class"], fields["function"]) == GATEWAY

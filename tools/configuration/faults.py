@@ -6,6 +6,7 @@ from typing import NamedTuple, Optional
 
 from .document import Array, Table
 from .keys import pattern_of
+from .patterns import numbers_meant
 
 # as much of a path as the program shows, in bytes
 MOST_PATH = 128
@@ -28,6 +29,8 @@ class Fault(NamedTuple):
     place: Optional[tuple]
     stood: str
     allowed: str
+    # the numbers that words in it may mean
+    numbers: str = ""
 
     def line(self):
         """The program's line for it, were it the first."""
@@ -43,14 +46,14 @@ class Looking:
         self.own, self.group_of = {}, {}
         self.unknown_keys = 0
 
-    def add(self, kind, path, spans, allowed, item=None):
+    def add(self, kind, path, spans, allowed, item=None, numbers=""):
         """A fault at the spans of a key and of its value, or nowhere."""
         place = stood = None
         if spans is not None:
             place, written = self.document.place(spans[0][0]), self.document.written(spans[1])
             stood = written.split("\n")[0].strip("\r")
             stood = stood if stood == written and len(stood) <= MOST_STOOD else stood[:MOST_STOOD] + " ..."
-        self.faults.append(Fault(kind, path, place, stood if item is None else f"{stood}, the item {item} of the list", allowed))
+        self.faults.append(Fault(kind, path, place, stood if item is None else f"{stood}, the item {item} of the list", allowed, numbers))
 
     def all(self):
         """The faults of all tables, in the order of the page; those of keys that aren't known come last."""
@@ -185,7 +188,7 @@ class Looking:
         for kind, is_wrong in (("kind", lambda item: type(item) is not str), ("range", lambda item: type(item) is str and not form.is_allowed(item))):
             for place, item, span in items:
                 if is_wrong(item):
-                    self.add(kind, path, (span, span), form.allowed, place)
+                    self.add(kind, path, (span, span), form.allowed, place, numbers_meant(item) if kind == "range" else "")
         if len(value) > form.most:
             self.add("range", path, spans, f"at most {form.most} items; here are {len(value)}")
         return len(self.faults) == before

@@ -2,14 +2,41 @@
 
 import os
 import re
-from typing import NamedTuple
+from typing import NamedTuple, Optional
 
-from .keys import PAGES
+from .keys import PAGES, PageChanged
 
 PAGE = "formats.md"
 ROW = re.compile(r"^\| (\d{6}) \|[^|]*\| (?:single|fast) \| \d+ \|([^|]*)\|([^|]*)\|[^|]*\|$", re.MULTILINE)
 FIELD = re.compile(r"(\w+) ([ui])(\d+) at (\d+)")
 SELECTOR = re.compile(r"(?:reference|instance|source), byte (\d+)(?: bits (\d)-(\d))?:")
+# further quantities: their words, and what a message says of which of them it is
+QUANTITIES = re.compile(r"^\| ([a-z][^|]*) \| (\d{6}) \|[^|]*\| (?:single|fast) \| \d+ \|([^|]*)\|[^|]*\|$", re.MULTILINE)
+SELECTS = re.compile(r"byte (\d+)(?: bits (\d)-(\d))?: (.*)")
+VALUE = re.compile(r"\b(?:0x[0-9A-F]{2}|\d+)\b")
+
+
+class Selector(NamedTuple):
+    """Where a message says of which row or quantity it is: the byte, the lowest bit and how many."""
+
+    byte: int
+    low: int
+    bits: int
+
+    def value(self, data):
+        """What it says there; nothing where the byte is missing."""
+        return data[self.byte] >> self.low & (1 << self.bits) - 1 if self.byte < len(data) else None
+
+
+class Source(NamedTuple):
+    """A message that a row or a quantity is taken from: of which PGN, and where and what it says that it is of this one, unless all of them are."""
+
+    pgn: int
+    selector: Optional[Selector]
+    values: tuple
+
+    def is_said_by(self, pgn, data):
+        return pgn == self.pgn and (self.selector is None or self.selector.value(data) in self.values)
 
 
 class Field(NamedTuple):
@@ -28,9 +55,13 @@ class Field(NamedTuple):
         return value if value < (1 << 8 * self.bytes - self.is_signed) - 3 else None
 
 
-def rows():
+def text_of_page():
     with open(os.path.join(PAGES, PAGE), encoding="utf-8") as file:
-        return ROW.findall(file.read())
+        return file.read()
+
+
+def rows():
+    return ROW.findall(text_of_page())
 
 
 def fields():
@@ -38,7 +69,45 @@ def fields():
     return {int(pgn): {word: Field(int(first), int(bits) // 8, sign == "i") for word, sign, bits, first in FIELD.findall(cells)} for pgn, cells, _ in rows()}
 
 
+def selector_of(byte, first_bit, last_bit):
+    """A selector by the digits of the page; without bits it is the whole byte."""
+    low, high = int(first_bit or 0), int(last_bit or 7)
+    return Selector(int(byte), low, high - low + 1)
+
+
 def selectors():
-    """Where each PGN says of which row it is: the byte, the lowest bit and how many."""
+    """The selector of each PGN of several rows."""
     found = ((int(pgn), SELECTOR.search(cell)) for pgn, _, cell in rows())
-    return {pgn: (int(match.group(1)), int(match.group(2) or 0), int(match.group(3) or 7) - int(match.group(2) or 0) + 1) for pgn, match in found if match}
+    return {pgn: selector_of(*match.groups()) for pgn, match in found if match}
+
+
+def sources_of_rows(rows_of_page):
+    """The messages that each row is taken from, by the row's name."""
+    selecting = selectors()
+    for row in rows_of_page:
+        if row.selector and not selecting.keys() >= set(row.pgns):
+            raise PageChanged(f"docs/{PAGE}: what tells the row {row.name} from others isn't where it was")
+    return {row.name: [Source(pgn, selecting[pgn] if row.selector else None, tuple(row.values)) for pgn in row.pgns] for row in rows_of_page}
+
+
+def sources_of_quantities(names_of_page):
+    """The messages that each further quantity is taken from, by the quantity's name."""
+    found = {}
+    for words, pgn, selects in QUANTITIES.findall(text_of_page()):
+        names, match = names_of_quantities(words), SELECTS.search(selects)
+        values = [int(value, 0) for value in VALUE.findall(match.group(4))] if match else []
+        for place, name in enumerate(names):
+            own = tuple(values if len(names) == 1 else values[place : place + 1])
+            found.setdefault(name, []).append(Source(int(pgn), selector_of(*match.groups()[:3]) if match else None, own))
+    if sorted(found) != sorted(names_of_page):
+        raise PageChanged(f"docs/{PAGE}: the messages of further quantities aren't where they were")
+    return found
+
+
+def names_of_quantities(words):
+    """The names of what a line of the page is of: `fuel, first and second; water, first` are three."""
+    names = []
+    for part in words.split("; "):
+        name, _, ordinals = part.partition(", ")
+        names += [f"{name} {ordinal}" for ordinal in ordinals.split(" and ")] if ordinals else [name.replace(" and ", " ")]
+    return [name.replace(" ", "_") for name in names]

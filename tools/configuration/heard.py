@@ -1,0 +1,82 @@
+"""What a recording holds for a configuration: who held which address, and who said what is taken from devices, how often."""
+
+from onboard.candump import NoFrame, read_line
+from onboard.fast_packets import Joiner
+from onboard.identifiers import ADDRESS_CLAIM, ALL, NULL_ADDRESS, name_of, parts_of
+
+from .messages import sources_of_quantities, sources_of_rows
+from .paces import Paces
+
+# as many devices at an address each are kept: more than any bus has, whatever its claims say
+MOST_SPEAKERS = 4096
+
+
+class Heard:
+    """Who held which address, and what was sent from it. A device that didn't claim has no NAME, unless a preset gives it one."""
+
+    def __init__(self, accepted):
+        self.accepted, self.joiner = accepted, Joiner()
+        self.own_name = int(accepted.root["gateway"]["name"], 16)
+        self.presets = {preset["address"]: int(preset["name"], 16) for preset in accepted.root.get("preset", [])}
+        self.holders = dict(self.presets)
+        # who spoke, by address and NAME, and who said what is taken from devices
+        self.spoke, self.said = set(), set()
+        self.tables = dict(accepted.chosen())
+        default = accepted.page.default("row.R", "timeout_ms")
+        self.paces = Paces({path: 1000 * int(table.get("timeout_ms", default)) for path, table in self.tables.items()})
+        self.sources = self.sources_by_pgn()
+        self.frames = self.error_frames = self.other_lines = 0
+
+    def sources_by_pgn(self):
+        """The messages that something is taken from, each with the path of what that is."""
+        by_path = {("row", name): sources for name, sources in sources_of_rows(self.accepted.page.rows).items()}
+        by_path.update({("further", name): sources for name, sources in sources_of_quantities(self.accepted.page.quantities).items()})
+        found = {}
+        for path in self.tables:
+            for source in by_path[path]:
+                found.setdefault(source.pgn, []).append((path, source))
+        return found
+
+    def take(self, line):
+        try:
+            moment_us, _, frame, _ = read_line(line)
+        except NoFrame:
+            self.other_lines += 1
+            return
+        if frame.is_error:
+            self.error_frames += 1
+            return
+        self.frames += 1
+        parts = parts_of(frame.identifier)
+        if parts.pgn == ADDRESS_CLAIM and name_of(frame.data) is not None and parts.source != ALL:
+            self.claim(parts.source, name_of(frame.data))
+        elif parts.source < NULL_ADDRESS:
+            self.frame(moment_us, frame, (parts.source, self.holders.get(parts.source)))
+
+    def claim(self, address, name):
+        """Of two NAMEs the smaller one has the address (ISO 11783-5)."""
+        for left in [left for left, holder in self.holders.items() if holder == name and left != address]:
+            del self.holders[left]
+        if address != NULL_ADDRESS and name <= self.holders.get(address, name):
+            self.holders[address] = name
+
+    def frame(self, moment_us, frame, who):
+        """A frame of a device, by its address and NAME, and the message that is whole with it, if one is."""
+        if who not in self.spoke and len(self.spoke) >= MOST_SPEAKERS:
+            return
+        self.spoke.add(who)
+        message = self.joiner.message_of(frame)
+        if message is None:
+            return
+        for path, source in self.sources.get(message.parts.pgn, ()):
+            if source.is_said_by(message.parts.pgn, message.data):
+                self.said.add((path, *who))
+                self.paces.take(path, *who, moment_us)
+
+    def pairs(self):
+        """Who said something, or claimed."""
+        return sorted((pair for pair in self.spoke | set(self.holders.items()) if pair[1] != self.own_name), key=lambda pair: (pair[0], pair[1] or 0))
+
+    def sayers(self, row):
+        """Who said what a row is taken from."""
+        return [pair for pair in self.pairs() if (("row", row.name), *pair) in self.said]
