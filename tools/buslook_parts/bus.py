@@ -4,7 +4,7 @@ import collections
 
 from onboard.bus_load import BITS_BEHIND, HEAD_BITS, SUM_BITS, bits_of
 from onboard.candump import Frame
-from onboard.fast_packets import Joiner
+from onboard.fast_packets import Joiner, begins, is_fast
 from onboard.identifiers import PRODUCT_INFORMATION, parts_of
 
 from .gathering import MOST_MARKS, Counts, Series
@@ -51,17 +51,30 @@ class Speaker:
 
 
 class Message:
-    """The frames of one PGN from one address."""
+    """One PGN from one address: its frames, and the messages that begin with them, of which a fast packet has several frames."""
 
-    __slots__ = ("count", "first", "last", "gap", "gap_at", "stuffed", "counted")
+    __slots__ = ("is_fast", "frames", "count", "first", "last", "gap", "gap_at", "stuffed", "counted")
 
-    def __init__(self, moment):
-        self.count, self.first, self.last, self.gap, self.gap_at, self.stuffed, self.counted = 0, moment, moment, 0, moment, 0, 0
+    def __init__(self, pgn, moment):
+        self.is_fast, self.frames, self.count, self.first, self.last, self.gap, self.gap_at = is_fast(pgn), 0, 0, moment, moment, 0, moment
+        self.stuffed, self.counted = 0, 0
+
+    def take(self, moment, data):
+        """A frame, of which the time counts where it begins a message."""
+        self.frames += 1
+        if self.is_fast and not (data and begins(int(data[:2], 16))):
+            return
+        if self.count == 0:
+            self.first = moment
+        elif moment - self.last > self.gap:
+            self.gap, self.gap_at = moment - self.last, self.last
+        self.count += 1
+        self.last = moment
 
     def bits(self, identifier, data):
         """The bits of a frame on the bus: those that are stuffed as the mean of the ones that were counted."""
         plain = HEAD_BITS + 4 * len(data) + SUM_BITS + BITS_BEHIND
-        if self.count < COUNTED_BITS or self.count % COUNTED_EACH == 0:
+        if self.frames < COUNTED_BITS or self.frames % COUNTED_EACH == 0:
             self.stuffed += bits_of(Frame(identifier, bytes.fromhex(data.decode()))) - plain
             self.counted += 1
         return plain + self.stuffed / self.counted
@@ -83,12 +96,9 @@ class Bus:
         key = frame.identifier & 0x3FFFFFF if pgn & 0xFF00 >= 0xF000 else frame.identifier & 0x3FF00FF
         message = self.messages.get(key)
         if message is None:
-            message = self._new_message(key, moment)
-        elif moment - message.last > message.gap:
-            message.gap, message.gap_at = moment - message.last, message.last
+            message = self._new_message(key, pgn, moment)
         bits = message.bits(frame.identifier, frame.data)
-        message.count += 1
-        message.last = moment
+        message.take(moment, frame.data)
         speaker = self.speakers.get(source)
         if speaker is None:
             speaker = self.speakers[source] = Speaker(self.begin, moment)
@@ -105,9 +115,9 @@ class Bus:
         if pgn == PRODUCT_INFORMATION:
             self._product(frame)
 
-    def _new_message(self, key, moment):
+    def _new_message(self, key, pgn, moment):
         """A message that is new; where there are too many, it isn't kept."""
-        message = Message(moment)
+        message = Message(pgn, moment)
         if len(self.messages) < MOST_MESSAGES:
             self.messages[key] = message
         else:

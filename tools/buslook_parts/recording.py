@@ -6,7 +6,7 @@ import re
 from configuration.keys import Page, is_matched
 from onboard.candump import NoFrame, read_line
 from onboard.error_frames import kinds_of
-from onboard.fast_packets import is_fast
+from onboard.fast_packets import begins, is_fast
 from onboard.identifiers import ADDRESS_CLAIM, ALL, NULL_ADDRESS, name_of, name_text, parts_of
 
 from .bus import Bus
@@ -245,7 +245,7 @@ class Recording:
         key = None
         if parts.pgn == CONNECTION_MANAGEMENT and len(data) == 16 and int(data[:2], 16) in BEGINNINGS:
             key = parts.source, int.from_bytes(bytes.fromhex(data[10:].decode()), "little")
-        elif data and is_fast(parts.pgn) and int(data[:2], 16) & 0x1F == 0:
+        elif data and is_fast(parts.pgn) and begins(int(data[:2], 16)):
             key = parts.source, parts.pgn
         if key is not None:
             self.beginnings[key] = number, excerpt_of(line)

@@ -119,7 +119,8 @@ def gap_of(message, scale):
 
 
 def message_row(source, pgn, message, scale):
-    return source, pgn, text(message_of(pgn)), message.count, pace_of(message), gap_of(message, scale)
+    count = f"{message.count} in {message.frames} frames" if message.is_fast else message.count
+    return source, pgn, text(message_of(pgn)), count, pace_of(message), gap_of(message, scale)
 
 
 def load_drawn(recording, scale):
@@ -140,11 +141,12 @@ def the_bus(recording, scale):
     if not bus.messages:
         return ""
     rows = [message_row(source, pgn, message, scale) for source, pgn, message in bus.messages_in_order()]
-    heads = ("From", "PGN", "Message", "Frames", "How often", "Greatest gap")
+    heads = ("From", "PGN", "Message", "How many", "How often", "Greatest gap")
     others = f"<p>and {bus.others} frames of other messages, of which there are too many to tell</p>" if bus.others else ""
     return section(
         "What was on the bus",
         "The share of 250 kbit/s that all frames took, by the second or longer, stuff bits as a sample of each message has them; "
-        "then each message of each device, with the greatest time between two frames of it. Bold is a gap of more than a second and five times the usual one.",
+        "then each message of each device, with the greatest time between two of them. A fast packet is one message, however many frames it has. "
+        "Bold is a gap of more than a second and five times the usual one.",
         load_drawn(recording, scale) + rows_folded(heads, rows, SHOWN_MESSAGES, "messages") + others,
     )

@@ -42,6 +42,11 @@ def is_fast(pgn):
     return pgn in FAST_PGNS or pgn >= FIRST_ALWAYS_FAST
 
 
+def begins(byte):
+    """Whether a frame of a fast packet with this first byte is the one that begins it."""
+    return byte & (1 << COUNTER_BITS) - 1 == 0
+
+
 class Splitter:
     """Makes frames of messages, with a sequence of its own for each source and PGN."""
 
