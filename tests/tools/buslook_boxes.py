@@ -14,6 +14,8 @@ LIMIT_SECONDS = 180
 SCHEMES = {"dark": 0, "light": 1}
 # texts of drawings are at least so high on the screen, and a contrast is at least that of WCAG AA
 LEAST_HEIGHT, LEAST_CONTRAST = 9, 4.5
+# where in a drawing the middle of its time is, of its width
+MIDDLE = 0.5875
 
 SCRIPT = """
 const wrong = [], seen = new Set();
@@ -64,8 +66,12 @@ for (const folded of document.querySelectorAll('details')) folded.open = false;
 dispatchEvent(new Event('beforeprint'));
 for (const folded of document.querySelectorAll('details')) if (!folded.open) tell('is not printed', folded);
 for (const one of document.querySelectorAll('svg[role=img]')) if (!one.getAttribute('aria-label')) tell('has no label', one);
+// the middle of a drawing's time is pointed to
+const drawing = document.querySelector('svg.time'), place = drawing ? drawing.getBoundingClientRect() : null;
+if (drawing) drawing.dispatchEvent(new PointerEvent('pointermove', {clientX: place.left + place.width * MIDDLE}));
+const moment = drawing ? document.getElementById('moment').textContent : '';
 const dark = matchMedia('(prefers-color-scheme: dark)').matches, texts = document.querySelectorAll('svg text').length;
-parent.postMessage(JSON.stringify({wrong, width: innerWidth, dark, texts}), '*');
+parent.postMessage(JSON.stringify({wrong, width: innerWidth, dark, texts, moment}), '*');
 """
 # a window is never narrower than 500 pixels, and a frame in it may be
 FRAME = """<!DOCTYPE html><meta name="color-scheme" content="light dark"><script>
@@ -77,7 +83,7 @@ addEventListener('message', message => {
   document.body.append(report);
 });
 </script><body><iframe src="page.html" style="width:WIDTHpx;height:1200px;border:0"></iframe></body>"""
-SCRIPT = SCRIPT.replace("LEAST_HEIGHT", str(LEAST_HEIGHT)).replace("LEAST_CONTRAST", str(LEAST_CONTRAST))
+SCRIPT = SCRIPT.replace("LEAST_HEIGHT", str(LEAST_HEIGHT)).replace("LEAST_CONTRAST", str(LEAST_CONTRAST)).replace("MIDDLE", str(MIDDLE))
 
 
 def browser():

@@ -2,10 +2,13 @@
 
 import html
 import math
+import time
 
 from .gathering import MANY
 
 WIDTH, LEFT, RIGHT = 1000, 190, 985
+# where the word for the times of an axis ends, left of its first mark
+UTC_END = 125
 # colours that those can tell apart who don't see red and green (after Okabe and Ito); white is read on the first one alone, black on all others
 COLOURS = ("#0072b2", "#e69f00", "#009e73", "#cc79a7", "#56b4e9", "#d55e00", "#f0e442")
 LIGHT_TEXT_ON = COLOURS[:1]
@@ -14,7 +17,16 @@ OWN_COLOUR, NOT_READY_COLOUR, LINE_COLOUR, ALARM_COLOUR, ERROR_COLOUR = "var(--o
 LEVELS = 5
 # how far a line may pass by a point that it leaves out, in units of a drawing
 THIN = 0.4
-STEPS = (1, 2, 5, 10, 15, 30, 60, 120, 300, 600, 900, 1800, 3600, 7200, 10800, 21600, 43200, 86400, 172800, 604800, 2592000, 31536000)
+SECOND_US, MINUTE_US, DAY_US = 1_000_000, 60_000_000, 86_400_000_000
+# from one mark of an axis to the next: parts of a second, seconds, minutes, hours, days, and then as many of these as it takes
+STEPS_US = (
+    *(digit * 10**power for power in range(6) for digit in (1, 2, 5)), *(seconds * SECOND_US for seconds in (1, 2, 5, 10, 15, 30)),
+    *(minutes * MINUTE_US for minutes in (1, 2, 5, 10, 15, 30, 60, 120, 180, 360, 720)), *(days * DAY_US for days in (1, 2, 7, 30, 365, 3650, 36500)),
+)
+# below a drawing there is room for so many times of day, and for so many with parts of a second
+MOST_MARKS, MOST_LONG_MARKS = 10, 5
+# half of what a character of a mark takes
+HALF_CHARACTER = 3.6
 
 
 def text(value):
@@ -36,31 +48,38 @@ def clock(seconds):
 
 
 class Scale:
-    """Where a moment stands in a drawing."""
+    """Where a moment stands in a drawing, and what it is called: its time of day in UTC, by the recording's own clock."""
 
     def __init__(self, begin, end):
         self.begin, self.length = begin, max(1, end - begin)
+        self.has_days = begin // DAY_US != end // DAY_US
 
     def x(self, moment):
         return LEFT + (RIGHT - LEFT) * (moment - self.begin) / self.length
 
-    def since(self, moment):
-        """The time since the start, in seconds, or from a minute on as a clock has it."""
-        thousandths = (moment - self.begin) // 1000
-        seconds, rest = divmod(thousandths, 1000)
-        if seconds < 60:
-            return f"{seconds}.{rest:03d} s"
-        hours = f"{seconds // 3600}:{seconds % 3600 // 60:02d}" if seconds >= 3600 else f"{seconds // 60}"
-        return f"{hours}:{seconds % 60:02d}.{rest:03d}"
+    def at(self, moment):
+        """The time of day to the thousandth, with its date where the recording is of several days."""
+        return f"{stamp(moment, '%Y-%m-%d %H:%M:%S' if self.has_days else '%H:%M:%S')}.{moment % SECOND_US // 1000:03d}"
 
     def marks(self):
-        """The seconds that stand below a drawing: at most ten."""
-        length = self.length / 1_000_000
-        small = 10.0 ** -6
-        while small < 1 and length / small > 10:
-            small *= 10
-        step = small if small < 1 else next((step for step in STEPS if length / step <= 10), STEPS[-1])
-        return [round(place * step, 6) for place in range(int(length / step + 1e-9) + 1)]
+        """The moments that stand below a drawing, round ones, with their words."""
+        step = next(step for step in STEPS_US if self.length / step <= (MOST_MARKS if step >= SECOND_US else MOST_LONG_MARKS))
+        first = -(-self.begin // step) * step
+        return [(moment, words_of_mark(moment, step, self.has_days)) for moment in range(first, self.begin + self.length + 1, step)]
+
+
+def stamp(moment, form):
+    return time.strftime(form, time.gmtime(moment // SECOND_US))
+
+
+def words_of_mark(moment, step, has_days):
+    """A round time of day, as long as the step between two needs; a day by its date, at its beginning."""
+    if step >= DAY_US or has_days and moment % DAY_US == 0:
+        return stamp(moment, "%Y-%m-%d")
+    if step >= MINUTE_US:
+        return stamp(moment, "%H:%M")
+    digits = "" if step >= SECOND_US else f".{moment % SECOND_US:06d}"[: 8 - len(str(step))]
+    return stamp(moment, "%H:%M:%S") + digits
 
 
 class Palette:
@@ -77,14 +96,17 @@ class Palette:
 
 def drawing(title, height, scale, body):
     """A drawing over time with its axis below."""
-    marks = "".join(
-        f'<line class="grid" x1="{x:.1f}" x2="{x:.1f}" y1="0" y2="{height}"/><text class="small" x="{x:.1f}" y="{height + 14}" text-anchor="middle">{clock(second)}</text>'
-        for second in scale.marks()
-        for x in [scale.x(scale.begin + second * 1_000_000)]
-    )
-    axis = f'<line class="axis" x1="{LEFT}" x2="{RIGHT}" y1="{height}" y2="{height}"/>'
+    marks = "".join(mark_drawn(scale.x(moment), height, words) for moment, words in scale.marks())
+    axis = f'<line class="axis" x1="{LEFT}" x2="{RIGHT}" y1="{height}" y2="{height}"/><text class="small" x="{UTC_END}" y="{height + 14}" text-anchor="end">UTC</text>'
     cursor = f'<line class="cursor" x1="-9" x2="-9" y1="0" y2="{height}"/>'
     return wide(title, f'<svg class="time" viewBox="0 0 {WIDTH} {height + 20}" role="img" aria-label="{text(title)}">{marks}{body}{axis}{cursor}</svg>')
+
+
+def mark_drawn(x, height, words):
+    """A line through a drawing, and what it stands for below, which doesn't leave the drawing at the right."""
+    words_x = min(x, WIDTH - HALF_CHARACTER * len(words))
+    line = f'<line class="grid" x1="{x:.1f}" x2="{x:.1f}" y1="0" y2="{height}"/>'
+    return f'{line}<text class="small" x="{words_x:.1f}" y="{height + 14}" text-anchor="middle">{words}</text>'
 
 
 def wide(title, body):

@@ -3,11 +3,10 @@
 import math
 import os
 import re
-import time
 
 from .drawing import (
     ALARM_COLOUR, LEFT, LINE_COLOUR, NOT_READY_COLOUR, OWN_COLOUR, RIGHT, SHAPES, WIDTH, Palette, Scale, anchor, bar, clock, columns, drawing, folded, key_of,
-    label, line_of, mark, rows_folded, section, table, text, wide)
+    label, line_of, mark, rows_folded, section, stamp, table, text, wide)
 from .gathering import MANY
 from .recording import CURVES, RATES
 from .rules import known_rules
@@ -33,13 +32,13 @@ def shown_name(name):
 
 def bar_of_holder(addresses, span, scale, end, y, palette):
     is_own = span.value == addresses.own_name
-    words = f"{shown_name(span.value)}, from {scale.since(span.begin)}" + ("" if span.end is None else f" to {scale.since(span.end)}")
+    words = f"{shown_name(span.value)}, from {scale.at(span.begin)}" + ("" if span.end is None else f" to {scale.at(span.end)}")
     colour = NOT_READY_COLOUR if is_own else palette.colour(span.value)
     return bar(scale, span.begin, end if span.end is None else span.end, y, colour, words, "" if is_own else shown_name(span.value))
 
 
 def bar_of_readiness(span, scale, end, y):
-    words = f"the gateway is ready to send, from {scale.since(span.begin)}"
+    words = f"the gateway is ready to send, from {scale.at(span.begin)}"
     return bar(scale, span.begin, end if span.end is None else span.end, y, OWN_COLOUR, words, "the gateway, ready to send")
 
 
@@ -48,7 +47,7 @@ def marks_of(what, series, scale, y):
 
 
 def title_of(what, one, scale):
-    return f"{what} at {scale.since(one.moment)}: {shown_name(one.name)}" + (f", {one.times} times soon after each other" if one.times > 1 else "")
+    return f"{what} at {scale.at(one.moment)}: {shown_name(one.name)}" + (f", {one.times} times soon after each other" if one.times > 1 else "")
 
 
 def row_of_address(addresses, address, scale, end, y, palette):
@@ -64,13 +63,13 @@ def who_was_there(recording, scale):
     rows = [address for address in sorted(addresses.spans) if addresses.spans[address].list]
     drawn = "".join(row_of_address(addresses, address, scale, recording.end, 20 + 27 * place, palette) for place, address in enumerate(rows))
     key = "".join(key_of(what) for what in SHAPES if any(kind == what and address in rows for address, kind in addresses.marks))
-    events = [(scale.since(moment), address, text(what), f"<code>{shown_name(name)}</code>") for moment, address, what, name in addresses.events]
+    events = [(scale.at(moment), address, text(what), f"<code>{shown_name(name)}</code>") for moment, address, what, name in addresses.events]
     more = f"<p>and {addresses.more_events} more</p>" if addresses.more_events else ""
     return section(
         "Who was there",
         "For each address the NAME that held it, worked out from the claims. The gateway's own is light until it may send, and dark from then on.",
         drawing("who held each address", 20 + 27 * len(rows), scale, drawn) + f'<p class="keys">{key}</p>'
-        + folded("As a table", table(("After", "Address", "What", "NAME"), events) + more),
+        + folded("As a table", table(("At", "Address", "What", "NAME"), events) + more),
     )
 
 
@@ -82,13 +81,13 @@ def bar_of_device(words, span, scale, y, palette):
     if device == MANY:
         return bar(scale, span.begin, span.end, y, palette.colour(MANY), MANY, MANY)
     inside = device.label.removeprefix("address ") + (f", {device.rank_text}" if device.rank_text else "")
-    title = f"{words}: {device.label} {device.name} {device.rank_text}, from {scale.since(span.begin)} to {scale.since(span.end)}"
+    title = f"{words}: {device.label} {device.name} {device.rank_text}, from {scale.at(span.begin)} to {scale.at(span.end)}"
     return bar(scale, span.begin, span.end, y, palette.colour((device.label, device.name)), title, inside)
 
 
 def mark_of_change(change, scale, y):
     moment, better, last = change
-    title = f"taken at {scale.since(moment)}: {better} was said last at {scale.since(last)}"
+    title = f"taken at {scale.at(moment)}: {better} was said last at {scale.at(last)}"
     return mark(scale.x(moment), y + 8, "taken over", title)
 
 
@@ -99,7 +98,7 @@ def strip_drawn(words, strip, scale, y, palette):
 
 def rows_of_strip(words, strip, scale):
     return [
-        (text(words), text(span.value.label), f"<code>{span.value.name}</code>", text(span.value.rank_text), scale.since(span.begin), scale.since(span.end))
+        (text(words), text(span.value.label), f"<code>{span.value.name}</code>", text(span.value.rank_text), scale.at(span.begin), scale.at(span.end))
         for span in strip.spans.list
         if span.value != MANY
     ]
@@ -282,9 +281,9 @@ def how_much(recording, scale):
 def summary(recording):
     if recording.begin is None:
         return "Nothing happened: the recording has no frame, no datagram and no tick."
-    begin, length = recording.begin // 1_000_000, (recording.end - recording.begin) / 1_000_000
-    stamp = time.strftime("%Y-%m-%d %H:%M:%S", time.gmtime(begin))
-    return f"{recording.counts['lines of the recording']} lines over {clock(round(length, 1))}, from {stamp} by the recording's own clock (UTC)."
+    length = clock(round((recording.end - recording.begin) / 1_000_000, 1))
+    begin = stamp(recording.begin, "%Y-%m-%d %H:%M:%S")
+    return f"{recording.counts['lines of the recording']} lines over {length}, from {begin}. All times are those of the recording's own clock, in UTC."
 
 
 def glance(recording, scale):
@@ -308,7 +307,7 @@ def glance_at_the_bus(recording, scale):
         lines.append(("Who spoke", f"{few(never)} spoke and never claimed"))
     silences = sorted(((speaker.longest, address) for address, speaker in bus.speakers.items() if speaker.longest), key=lambda one: -one[0].seconds())
     for silence, address in silences[:3]:
-        lines.append(("Who spoke", f"address {address} said nothing for {silence.seconds():.1f} s from {scale.since(silence.begin)}"))
+        lines.append(("Who spoke", f"address {address} said nothing for {silence.seconds():.1f} s from {scale.at(silence.begin)}"))
     if len(bus.interfaces) > 1:
         names = text(b", ".join(sorted(bus.interfaces)))
         lines.append(("What was on the bus", f"frames of the interfaces {names} are taken for those of one bus: look at each alone"))
@@ -337,12 +336,12 @@ def page(recording, capture, config):
     scale = None if recording.begin is None else Scale(recording.begin, recording.end)
     parts = (who_spoke, the_bus, who_was_there, who_was_heard, what_was_said) if scale is not None else (who_spoke,)
     body = "".join(part(recording, scale) for part in (*parts, what_was_refused, how_much))
-    seconds = 0 if scale is None else scale.length / 1_000_000
+    times = "" if scale is None else f' data-begin="{scale.begin / 1000}" data-seconds="{scale.length / 1_000_000}" data-days="{scale.has_days:d}"'
     title = f"{text(os.path.basename(capture))}, by {text(os.path.basename(config))}"
     links = "".join(f'<a href="#{anchor(name)}">{name}</a>' for name in SECTIONS if f'id="{anchor(name)}"' in body)
     return (
         '<!DOCTYPE html>\n<html lang="en">\n<head>\n<meta charset="utf-8">\n<meta name="viewport" content="width=device-width">\n'
-        f'<link rel="icon" href="data:,">\n<title>{title}</title>\n<style>{STYLE}</style>\n</head>\n<body data-seconds="{seconds}">\n'
+        f'<link rel="icon" href="data:,">\n<title>{title}</title>\n<style>{STYLE}</style>\n</head>\n<body{times}>\n'
         f'{HATCH}<h1>{title}</h1>\n<p>{summary(recording)}</p>\n{glance(recording, scale)}<nav aria-label="sections">{links}</nav>\n'
         f'{body}\n<output id="moment"></output>\n<script>{SCRIPT}</script>\n</body>\n</html>\n'
     )

@@ -52,7 +52,7 @@ def source_row(recording, words, unit, address, beside, scale):
     name = recording.addresses.holders.get(address)
     taken = "taken" if beside.taken == beside.times else f"{100 * beside.taken / beside.times:.0f} % taken" if beside.taken else "never taken"
     mean = f"{beside.sum / beside.compared:.3g} {unit}" if beside.compared else ""
-    most = f"{beside.most:.3g} {unit} at {scale.since(beside.most_at)}" if beside.compared else ""
+    most = f"{beside.most:.3g} {unit} at {scale.at(beside.most_at)}" if beside.compared else ""
     return text(words), f"address {address}", "" if name is None else text(maker_of(name)), beside.times, taken, mean, most
 
 

@@ -44,7 +44,7 @@ def speaker_drawn(recording, address, y, scale):
     for silence in speaker.silences.in_order():
         left, right = scale.x(silence.begin), scale.x(silence.end)
         times = f", {silence.times} times" if silence.times > 1 else ""
-        title = text(f"address {address} silent from {scale.since(silence.begin)} to {scale.since(silence.end)}{times}")
+        title = text(f"address {address} silent from {scale.at(silence.begin)} to {scale.at(silence.end)}{times}")
         parts.append(f'<rect class="silent" x="{left:.1f}" y="{y + 9}" width="{max(2, right - left):.1f}" height="{TALL + 2}"><title>{title}</title></rect>')
     return "".join(parts)
 
@@ -73,11 +73,11 @@ def speaker_row(recording, address, scale):
     shown = "<br>".join(f"<code>{name_text(name)}</code>" for name in names[-MOST_NAMES:]) + earlier
     product = {} if speaker.product is None else speaker.product
     products = ", ".join(text(product[part]) for part in ("model", "software", "serial") if product.get(part))
-    silence = "" if speaker.longest is None else f"{speaker.longest.seconds():.1f} s from {scale.since(speaker.longest.begin)}"
+    silence = "" if speaker.longest is None else f"{speaker.longest.seconds():.1f} s from {scale.at(speaker.longest.begin)}"
     claimed = shown or '<span class="never">never claimed</span>'
     unclaimed = f"<b>{speaker.unclaimed}</b>" if speaker.unclaimed else "0"
     makers = (text(maker_of(names[-1])), text(function_of(names[-1]))) if names else ("", "")
-    return address, claimed, *makers, products, speaker.frames, unclaimed, scale.since(speaker.first), scale.since(speaker.last), silence
+    return address, claimed, *makers, products, speaker.frames, unclaimed, scale.at(speaker.first), scale.at(speaker.last), silence
 
 
 def who_spoke(recording, scale):
@@ -113,7 +113,7 @@ def rounded(number):
 def gap_of(message, scale):
     if message.count < 2:
         return ""
-    words = f"{rounded(message.gap / 1_000_000)} s from {scale.since(message.gap_at)}"
+    words = f"{rounded(message.gap / 1_000_000)} s from {scale.at(message.gap_at)}"
     usual = (message.last - message.first - message.gap) / max(1, message.count - 2)
     return f"<b>{words}</b>" if message.gap > max(GAP_US, GAP_TIMES * usual) and message.count > 3 else words
 

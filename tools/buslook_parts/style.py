@@ -21,13 +21,15 @@ th{background:var(--head);white-space:nowrap}.counts td:last-child,.devices td:l
 """
 # a line through all drawings at the moment that is pointed to, or gone to by the arrow keys; what is folded is opened to be printed
 SCRIPT = f"""
-const told = document.getElementById('moment'), seconds = Number(document.body.dataset.seconds), left = {LEFT}, right = {RIGHT};
+const told = document.getElementById('moment'), times = document.body.dataset, left = {LEFT}, right = {RIGHT};
 let at = left;
 function go(x) {{
   if (x < left || x > right) return;
   at = x;
   for (const line of document.querySelectorAll('.cursor')) for (const end of ['x1', 'x2']) line.setAttribute(end, x);
-  told.textContent = ((x - left) / (right - left) * seconds).toFixed(3) + ' s';
+  const seconds = (x - left) / (right - left) * Number(times.seconds);
+  const moment = new Date(Number(times.begin) + 1000 * seconds).toISOString().replace('T', ' ').slice(times.days === '1' ? 0 : 11, 23);
+  told.textContent = moment + ', ' + seconds.toFixed(3) + ' s after the start';
 }}
 for (const drawing of document.querySelectorAll('svg.time')) {{
   drawing.addEventListener('pointermove', event => {{
