@@ -4,7 +4,7 @@ import collections
 
 from onboard.bus_load import BITS_BEHIND, HEAD_BITS, SUM_BITS, bits_of
 from onboard.candump import Frame
-from onboard.fast_packets import Joiner, begins, is_fast
+from onboard.fast_packets import Joiner, is_fast
 from onboard.identifiers import PRODUCT_INFORMATION, parts_of
 
 from .gathering import MOST_MARKS, Counts, Series
@@ -59,10 +59,10 @@ class Message:
         self.is_fast, self.frames, self.count, self.first, self.last, self.gap, self.gap_at = is_fast(pgn), 0, 0, moment, moment, 0, moment
         self.stuffed, self.counted = 0, 0
 
-    def take(self, moment, data):
+    def take(self, moment, begins):
         """A frame, of which the time counts where it begins a message."""
         self.frames += 1
-        if self.is_fast and not (data and begins(int(data[:2], 16))):
+        if not begins:
             return
         if self.count == 0:
             self.first = moment
@@ -98,7 +98,7 @@ class Bus:
         if message is None:
             message = self._new_message(key, pgn, moment)
         bits = message.bits(frame.identifier, frame.data)
-        message.take(moment, frame.data)
+        message.take(moment, frame.begins(pgn))
         speaker = self.speakers.get(source)
         if speaker is None:
             speaker = self.speakers[source] = Speaker(self.begin, moment)
@@ -125,7 +125,7 @@ class Bus:
         return message
 
     def _product(self, frame):
-        message = self.joiner.message_of(Frame(frame.identifier, bytes.fromhex(frame.data.decode())))
+        message = self.joiner.message_of(frame.read())
         if message is not None and len(message.data) >= PRODUCT_TEXTS[-1][1] + TEXT_BYTES:
             texts = {name: message.data[first : first + TEXT_BYTES] for name, first in PRODUCT_TEXTS}
             self.speakers[message.parts.source].product = {name: text_of(text) for name, text in texts.items()}

@@ -5,7 +5,9 @@ import subprocess
 import threading
 from typing import NamedTuple
 
+from onboard import candump
 from onboard.candump import MOST_LINE
+from onboard.fast_packets import begins, is_fast
 
 # longer than every line that can say something, so that of such a line the rest needn't be kept
 MOST_BYTES = 8192
@@ -39,6 +41,14 @@ class Frame(NamedTuple):
     interface: bytes
     identifier: int
     data: bytes
+
+    def begins(self, pgn):
+        """Whether a message of this PGN begins with it: a fast packet does with the first of its frames."""
+        return not is_fast(pgn) or self.data != b"" and begins(int(self.data[:2], 16))
+
+    def read(self):
+        """The frame with the bytes of its data."""
+        return candump.Frame(self.identifier, bytes.fromhex(self.data.decode()))
 
 
 def read_frame(text):

@@ -4,8 +4,6 @@ import math
 from typing import NamedTuple
 
 from configuration.messages import fields, selectors
-from onboard.candump import Frame
-from onboard.fast_packets import Joiner, is_fast
 
 from .gathering import Point, Series
 
@@ -55,8 +53,15 @@ QUANTITIES = {
     130312: {0: (Quantity(*SEA, 0.01, 273.15),)},
     130316: {0: (Quantity(*SEA, 0.001, 273.15),)},
 }
-# positions, of which two lie so many metres from each other: the row, and what a raw unit is of a degree
-POSITIONS = {129025: ("position", "position", 1e-7), 129029: ("position of the fix", "gnss", 1e-16)}
+class Position(NamedTuple):
+    """A position of a row, of which two lie so many metres from each other: its words, and what a raw unit is of a degree."""
+
+    words: str
+    row: str
+    factor: float
+
+
+POSITIONS = {129025: Position("position", "position", 1e-7), 129029: Position("position of the fix", "gnss", 1e-16)}
 
 
 class Beside:
@@ -85,26 +90,20 @@ class Compared:
         self.begin, self.ranks = begin, ranks
         self.fields, self.selectors = fields(), selectors()
         # by the words of a quantity: its unit, and its sources by their addresses
-        self.units, self.sources = {}, {}
-        self.said, self.joiner = {}, Joiner()
+        self.units, self.sources, self.said = {}, {}, {}
 
-    def frame(self, moment, frame, pgn, source, rows_said):
-        """A frame from the bus, and the rows that were said at it."""
-        data = bytes.fromhex(frame.data.decode())
-        if is_fast(pgn):
-            message = self.joiner.message_of(Frame(frame.identifier, data))
-            if message is None:
-                return
-            data = message.data
+    def message(self, moment, message, rows_said):
+        """A whole message from the bus, and the rows that were said at it. Gives the rows that it is of and has no value of."""
+        pgn, source, data = message.parts.pgn, message.parts.source, message.data
         if pgn in POSITIONS:
-            self._position(moment, pgn, source, data, rows_said)
-            return
-        byte, low, bits = self.selectors.get(pgn, (None, 0, 0))
-        selected = None if byte is None else data[byte] >> low & (1 << bits) - 1 if byte < len(data) else -1
-        for quantity in QUANTITIES[pgn].get(selected, ()):
-            raw = self.fields[pgn][quantity.field].value(data)
+            return set() if self._position(moment, pgn, source, data, rows_said) else {POSITIONS[pgn].row}
+        selector = self.selectors.get(pgn)
+        quantities = QUANTITIES.get(pgn, {}).get(selector and selector.value(data), ())
+        raws = [self.fields[pgn][quantity.field].value(data) for quantity in quantities]
+        for quantity, raw in zip(quantities, raws):
             if raw is not None:
                 self._value(moment, quantity, source, raw * quantity.factor - quantity.less, rows_said)
+        return {quantity.row for quantity in quantities} if all(raw is None for raw in raws) else set()
 
     def _value(self, moment, quantity, source, value, rows_said):
         def distance(first, second):
@@ -114,12 +113,15 @@ class Compared:
         self._compare(moment, quantity.words, quantity.row, source, value, distance, rows_said)
 
     def _position(self, moment, pgn, source, data, rows_said):
+        """Takes the position of a message, and says whether there is one."""
         words, row, factor = POSITIONS[pgn]
         raw = [self.fields[pgn][word].value(data) for word in ("latitude", "longitude")]
-        if None not in raw:
-            beside = self._beside(words, "metres apart", source)
-            beside.points, beside.times = None, beside.times + 1
-            self._compare(moment, words, row, source, tuple(part * factor for part in raw), metres_between, rows_said)
+        if None in raw:
+            return False
+        beside = self._beside(words, "metres apart", source)
+        beside.points, beside.times = None, beside.times + 1
+        self._compare(moment, words, row, source, tuple(part * factor for part in raw), metres_between, rows_said)
+        return True
 
     def _beside(self, words, unit, source):
         sources = self.sources.setdefault(words, {})
@@ -148,5 +150,3 @@ def metres_between(first, second):
     north, east = first[0] - second[0], (first[1] - second[1] + 180) % 360 - 180
     return METRES_A_DEGREE * math.hypot(north, east * math.cos(math.radians(first[0])))
 
-
-COMPARED_PGNS = frozenset((*QUANTITIES, *POSITIONS))

@@ -6,15 +6,16 @@ import re
 from configuration.keys import Page, is_matched
 from onboard.candump import NoFrame, read_line
 from onboard.error_frames import kinds_of
-from onboard.fast_packets import begins, is_fast
+from onboard.fast_packets import Joiner, is_fast
 from onboard.identifiers import ADDRESS_CLAIM, ALL, NULL_ADDRESS, name_of, name_text, parts_of
 
 from .bus import Bus
 from .gathering import MOST_MARKS, Counts, Mark, Point, Series, Spans, Strip, Tally, first_of, sum_of
 from .program import ITEM, SHOWN_FRAME, Frame
-from .quantities import COMPARED_PGNS, Compared
+from .quantities import Compared
 from .rows import Rows
 from .rules import rule_named
+from .unsaid import Unsaid
 
 READY_AFTER_US = 250_000
 MOST_EVENTS = 200
@@ -93,6 +94,9 @@ class Addresses:
         self.spans[address].change(moment, name)
         self.tell(moment, address, what, name)
 
+    def holder_of(self, address):
+        return self.own_name if address == self.own else self.holders.get(address)
+
     def claim(self, moment, address, name):
         if name == self.own_name:
             return self.tell(moment, address, "claimed with the gateway's own NAME", name)
@@ -101,7 +105,7 @@ class Addresses:
             self.leave(moment, left, name, "left")
         if address == NULL_ADDRESS:
             return None
-        holder = self.own_name if address == self.own else self.holders.get(address)
+        holder = self.holder_of(address)
         if holder is None:
             return self.take(moment, address, name, "claimed")
         if holder == name:
@@ -164,7 +168,9 @@ class Recording:
     """All that the page says, gathered line by line."""
 
     def __init__(self, config):
-        self.addresses, self.ranks, self.rows = Addresses(config), Ranks(config), Rows(Page())
+        page = Page()
+        self.addresses, self.ranks, self.rows, self.unsaid = Addresses(config), Ranks(config), Rows(page), Unsaid(config, page.rows)
+        self.joiner = Joiner()
         # the transmission group of further quantities, whose sentences say no row
         self.further_group = config.get("further", {}).get("group")
         self.begin = self.end = None
@@ -198,9 +204,8 @@ class Recording:
             self.datagram(items)
         rows_said = self.emitted(number, line, items, parts, emits)
         if frame is not None and not is_passed_over:
-            if parts.pgn in COMPARED_PGNS:
-                self.compared.frame(moment, frame, parts.pgn, parts.source, rows_said)
-            self.begins(number, line, parts, frame.data)
+            self.row_frame(moment, frame, parts, rows_said)
+            self.begins(number, line, parts, frame)
 
     def reach(self, moment):
         if self.begin is None:
@@ -219,6 +224,18 @@ class Recording:
             self.addresses.claim(self.end, source, name_of(bytes.fromhex(frame.data.decode())))
         is_claimed = source in self.addresses.holders or source in (self.addresses.own, NULL_ADDRESS)
         self.bus.frame(self.end, frame, parts.pgn, source, is_claimed)
+
+    def row_frame(self, moment, frame, parts, rows_said):
+        """A frame, and the rows that were said at it, which by the transport protocol may be of another PGN."""
+        message = None
+        if parts.pgn in self.unsaid.sources:
+            message = self.joiner.message_of(frame.read())
+            self.unsaid.frame(frame, parts)
+        if message is None:
+            self.unsaid.said |= rows_said
+            return
+        rows_empty = self.compared.message(moment, message, rows_said)
+        self.unsaid.message(message, self.addresses.holder_of(parts.source), rows_said, rows_empty)
 
     def error(self, line):
         """A line that is refused may be an error frame, which tells what is wrong with the cable."""
@@ -240,12 +257,12 @@ class Recording:
                 self.counts["sentences from the network"] += 1
                 self.heard_sources.add((item.group(2).decode(), item.group(3), item.group(4).split(b",")[0]))
 
-    def begins(self, number, line, parts, data):
+    def begins(self, number, line, parts, frame):
         """Keeps where a message of several frames began, for the rule that tells that its end never came."""
-        key = None
+        key, data = None, frame.data
         if parts.pgn == CONNECTION_MANAGEMENT and len(data) == 16 and int(data[:2], 16) in BEGINNINGS:
             key = parts.source, int.from_bytes(bytes.fromhex(data[10:].decode()), "little")
-        elif data and is_fast(parts.pgn) and begins(int(data[:2], 16)):
+        elif is_fast(parts.pgn) and frame.begins(parts.pgn):
             key = parts.source, parts.pgn
         if key is not None:
             self.beginnings[key] = number, excerpt_of(line)
@@ -267,7 +284,7 @@ class Recording:
             if match.group(3) is not None:
                 self.reported(number, line, items, int(match.group(3)), (match.group(4) or b"").decode())
             elif match.group(5) is not None:
-                self.sent_to_bus(parts_of(int(match.group(5), 16)), items)
+                self.sent_to_bus(parts_of(int(match.group(5), 16)), bytes.fromhex(match.group(6).decode()), items)
             else:
                 self.sent_to_network(match.group(7).decode(), bytes.fromhex(match.group(8).decode()), parts, rows_said)
         return rows_said
@@ -296,8 +313,9 @@ class Recording:
             self.rule_lines[rule].append(number)
             self.excerpt[number] = shown
 
-    def sent_to_bus(self, parts, items):
+    def sent_to_bus(self, parts, data, items):
         self.count("frames to the bus")
+        self.unsaid.sent_frame(parts.pgn, data)
         if parts.pgn == ADDRESS_CLAIM:
             if parts.source != self.addresses.own:
                 self.addresses.move(self.end, parts.source)
