@@ -98,7 +98,7 @@ class Bus:
         if message is None:
             message = self._new_message(key, pgn, moment)
         bits = message.bits(frame.identifier, frame.data)
-        message.take(moment, frame.begins(pgn))
+        message.take(moment, not message.is_fast or frame.begins_fast_packet())
         speaker = self.speakers.get(source)
         if speaker is None:
             speaker = self.speakers[source] = Speaker(self.begin, moment)

@@ -37,14 +37,19 @@ def text(value):
     return html.escape(shown, quote=True)
 
 
-def clock(seconds):
-    """Time since the start of the recording, in words that are as long as it needs."""
-    whole = int(seconds)
-    if whole < 60:
-        return f"{seconds:g} s"
-    if whole < 3600:
-        return f"{whole // 60}:{whole % 60:02d}"
-    return f"{whole // 3600}:{whole % 3600 // 60:02d}:{whole % 60:02d}"
+def lasting(microseconds):
+    """How long something lasts, in two units at most."""
+    tenths = (microseconds + 50_000) // 100_000
+    seconds = tenths // 10
+    if seconds < 60:
+        return f"{tenths / 10:g} s"
+    if seconds < 3600:
+        return f"{seconds // 60} min {seconds % 60} s"
+    return f"{seconds // 3600:,} h {seconds % 3600 // 60} min"
+
+
+def counted(number, word):
+    return f"{number:,} {word}{'' if number == 1 else 's'}"
 
 
 class Scale:

@@ -5,19 +5,17 @@ import os
 import re
 
 from .drawing import (
-    ALARM_COLOUR, LEFT, LINE_COLOUR, NOT_READY_COLOUR, OWN_COLOUR, RIGHT, SHAPES, WIDTH, Palette, Scale, anchor, bar, clock, columns, drawing, folded, key_of,
-    label, line_of, mark, rows_folded, section, stamp, table, text, wide)
+    ALARM_COLOUR, LEFT, LINE_COLOUR, NOT_READY_COLOUR, OWN_COLOUR, RIGHT, SHAPES, WIDTH, Palette, Scale, anchor, bar, columns, drawing, folded, key_of, label,
+    lasting, line_of, mark, rows_folded, section, stamp, table, text, wide)
 from .gathering import MANY
+from .glance import glance
 from .recording import CURVES, RATES
 from .rules import known_rules
-from .sources import beside_each_other
-from .speakers import names_at, the_bus, who_spoke
+from .sources import beside_each_other, rows_unsaid, worth_a_look
+from .speakers import the_bus, who_spoke
 from .style import SCRIPT, STYLE
-from .unsaid import by_reasons, few
 
 SHOWN_ROWS = 40
-# of rows that nobody said so many reasons stand at the top
-MOST_REASONS = 8
 # the rules by which messages, and groups of lines, end before they are whole
 ENDS = (
     ("messages that ended unfinished", (11, 14, 16, 17, 19, 21)),
@@ -107,27 +105,11 @@ def rows_of_strip(words, strip, scale):
     ]
 
 
-def claimed_addresses(recording):
-    return {address for address in recording.addresses.spans if names_at(recording.addresses, address)}
-
-
-def words_of_rows(recording, rows):
-    return text("; ".join(recording.rows.words[row] for row in rows))
-
-
-def rows_unsaid(recording):
-    """The rows that nobody said, with what came of them and why none of it was taken."""
-    found = recording.unsaid.not_taken(claimed_addresses(recording))
-    told = table(("Row", "Messages", "Why none was taken"), [(words_of_rows(recording, one.rows), f"{one.messages:,}", text(one.why())) for one in found]) if found else ""
-    not_there = words_of_rows(recording, recording.unsaid.not_there())
-    told += f"<p>No message came of {not_there}.</p>" if not_there else ""
-    return f"<h3>Rows that nobody said</h3>{told}" if told else ""
-
-
 def who_was_heard(recording, scale):
     palette, strips = Palette(), sorted(recording.strips.items())
+    beside = rows_unsaid(recording) + worth_a_look(recording, scale) + beside_each_other(recording, scale)
     if not strips:
-        return section("Who was heard", "Nothing was said of any row.", rows_unsaid(recording) + beside_each_other(recording, scale))
+        return section("Who was heard", "Nothing was said of any row.", beside)
     drawn = "".join(strip_drawn(words, strip, scale, 16 + 26 * place, palette) for place, (words, strip) in enumerate(strips))
     rows = [row for words, strip in strips for row in rows_of_strip(words, strip, scale)]
     return section(
@@ -136,8 +118,7 @@ def who_was_heard(recording, scale):
         "No bar where nothing was said for the row's timeout. A triangle stands where a worse device was taken, since the better one had fallen silent "
         "or lost its address.",
         drawing("which device was said in each row", 16 + 26 * len(strips), scale, drawn)
-        + folded("As a table", table(("Row", "Device", "NAME", "Rank", "First said", "Last said"), rows)) + rows_unsaid(recording)
-        + beside_each_other(recording, scale),
+        + folded("As a table", table(("Row", "Device", "NAME", "Rank", "First said", "Last said"), rows)) + beside,
     )
 
 
@@ -302,51 +283,8 @@ def how_much(recording, scale):
 def summary(recording):
     if recording.begin is None:
         return "Nothing happened: the recording has no frame, no datagram and no tick."
-    length = clock(round((recording.end - recording.begin) / 1_000_000, 1))
-    begin = stamp(recording.begin, "%Y-%m-%d %H:%M:%S")
+    length, begin = lasting(recording.end - recording.begin), stamp(recording.begin, "%Y-%m-%d %H:%M:%S")
     return f"{recording.counts['lines of the recording']} lines over {length}, from {begin}. All times are those of the recording's own clock, in UTC."
-
-
-def glance(recording, scale):
-    """What is worth a look first, each in a line that leads to its section."""
-    lines = []
-    if recording.counts["error frames"]:
-        kinds = ", ".join(f"{text(kind)} {counted(count, 'time')}" for kind, count in recording.errors.most(3))
-        lines.append(("Who spoke", f"{counted(recording.counts['error frames'], 'error frame')}: {kinds}"))
-    if scale is not None:
-        lines += glance_at_the_bus(recording, scale) + glance_at_rows(recording)
-    if recording.rules:
-        rules = few([rule for rule, _ in recording.rules.most_common()], "")
-        lines.append(("What was refused", f"{counted(sum(recording.rules.values()), 'report')}, of rule {rules}"))
-    return "<ul>" + "".join(f'<li><a href="#{anchor(title)}">{words}</a>' for title, words in lines) + "</ul>" if lines else ""
-
-
-def glance_at_the_bus(recording, scale):
-    bus, lines = recording.bus, []
-    never = [address for address in sorted(bus.speakers) if not names_at(recording.addresses, address)]
-    if never:
-        lines.append(("Who spoke", f"{few(never)} spoke and never claimed"))
-    silences = sorted(((speaker.longest, address) for address, speaker in bus.speakers.items() if speaker.longest), key=lambda one: -one[0].seconds())
-    for silence, address in silences[:3]:
-        lines.append(("Who spoke", f"address {address} said nothing for {silence.seconds():.1f} s from {scale.at(silence.begin)}"))
-    if len(bus.interfaces) > 1:
-        names = text(b", ".join(sorted(bus.interfaces)))
-        lines.append(("What was on the bus", f"frames of the interfaces {names} are taken for those of one bus: look at each alone"))
-    return lines
-
-
-def glance_at_rows(recording):
-    """The rows that nobody said: those of the same reasons in one line, and last those of which nothing came."""
-    found = by_reasons(recording.unsaid.not_taken(claimed_addresses(recording)))
-    lines = [f"{words_of_rows(recording, one.rows)}: {counted(one.messages, 'message')}, none taken: {text(one.why())}" for one in found[:MOST_REASONS]]
-    lines += [f"and {counted(len(found) - MOST_REASONS, 'more row')} that nobody said"] if len(found) > MOST_REASONS else []
-    not_there = words_of_rows(recording, recording.unsaid.not_there())
-    lines += [f"nobody says {not_there}"] if not_there and recording.bus.speakers else []
-    return [("Who was heard", line) for line in lines]
-
-
-def counted(number, word):
-    return f"{number:,} {word}{'' if number == 1 else 's'}"
 
 
 # what fills bars of changes that are too quick to draw

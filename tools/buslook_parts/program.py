@@ -7,7 +7,7 @@ from typing import NamedTuple
 
 from onboard import candump
 from onboard.candump import MOST_LINE
-from onboard.fast_packets import begins, is_fast
+from onboard.fast_packets import begins
 
 # longer than every line that can say something, so that of such a line the rest needn't be kept
 MOST_BYTES = 8192
@@ -42,9 +42,9 @@ class Frame(NamedTuple):
     identifier: int
     data: bytes
 
-    def begins(self, pgn):
-        """Whether a message of this PGN begins with it: a fast packet does with the first of its frames."""
-        return not is_fast(pgn) or self.data != b"" and begins(int(self.data[:2], 16))
+    def begins_fast_packet(self):
+        """Whether a message begins with it that comes as a fast packet."""
+        return self.data != b"" and begins(int(self.data[:2], 16))
 
     def read(self):
         """The frame with the bytes of its data."""

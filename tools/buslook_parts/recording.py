@@ -6,7 +6,7 @@ import re
 from configuration.keys import Page, is_matched
 from onboard.candump import NoFrame, read_line
 from onboard.error_frames import kinds_of
-from onboard.fast_packets import Joiner, is_fast
+from onboard.fast_packets import Joiner, Message, is_fast
 from onboard.identifiers import ADDRESS_CLAIM, ALL, NULL_ADDRESS, name_of, name_text, parts_of
 
 from .bus import Bus
@@ -229,8 +229,8 @@ class Recording:
         """A frame, and the rows that were said at it, which by the transport protocol may be of another PGN."""
         message = None
         if parts.pgn in self.unsaid.sources:
-            message = self.joiner.message_of(frame.read())
             self.unsaid.frame(frame, parts)
+            message = self.joiner.message_of(frame.read()) if is_fast(parts.pgn) else Message(parts, bytes.fromhex(frame.data.decode()))
         if message is None:
             self.unsaid.said |= rows_said
             return
@@ -262,7 +262,7 @@ class Recording:
         key, data = None, frame.data
         if parts.pgn == CONNECTION_MANAGEMENT and len(data) == 16 and int(data[:2], 16) in BEGINNINGS:
             key = parts.source, int.from_bytes(bytes.fromhex(data[10:].decode()), "little")
-        elif is_fast(parts.pgn) and frame.begins(parts.pgn):
+        elif is_fast(parts.pgn) and frame.begins_fast_packet():
             key = parts.source, parts.pgn
         if key is not None:
             self.beginnings[key] = number, excerpt_of(line)

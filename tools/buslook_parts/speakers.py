@@ -4,7 +4,7 @@ from bus_names import function_of, maker_of, message_of
 from onboard.bus_load import BITS_A_SECOND
 from onboard.identifiers import name_text
 
-from .drawing import ALARM_COLOUR, ERROR_COLOUR, LEFT, LINE_COLOUR, RIGHT, columns, drawing, folded, label, rows_folded, section, strip, table, text
+from .drawing import ALARM_COLOUR, ERROR_COLOUR, LEFT, LINE_COLOUR, RIGHT, columns, drawing, folded, label, lasting, rows_folded, section, strip, table, text
 
 ROW, TALL = 34, 16
 MOST_NAMES, MOST_WORDS, MOST_SMALL_WORDS = 3, 24, 27
@@ -18,6 +18,11 @@ GAP_TIMES, GAP_US = 5, 1_000_000
 def names_at(addresses, address):
     """The NAMEs that an address had, in their order."""
     return list(dict.fromkeys(span.value for span in addresses.spans[address].list if isinstance(span.value, int)))
+
+
+def claimed_addresses(addresses):
+    """The addresses that were ever held by a NAME."""
+    return {address for address in addresses.spans if names_at(addresses, address)}
 
 
 def cut(words, most):
@@ -73,7 +78,8 @@ def speaker_row(recording, address, scale):
     shown = "<br>".join(f"<code>{name_text(name)}</code>" for name in names[-MOST_NAMES:]) + earlier
     product = {} if speaker.product is None else speaker.product
     products = ", ".join(text(product[part]) for part in ("model", "software", "serial") if product.get(part))
-    silence = "" if speaker.longest is None else f"{speaker.longest.seconds():.1f} s from {scale.at(speaker.longest.begin)}"
+    longest = speaker.longest
+    silence = "" if longest is None else f"{lasting(longest.end - longest.begin)} from {scale.at(longest.begin)}"
     claimed = shown or '<span class="never">never claimed</span>'
     unclaimed = f"<b>{speaker.unclaimed}</b>" if speaker.unclaimed else "0"
     makers = (text(maker_of(names[-1])), text(function_of(names[-1]))) if names else ("", "")

@@ -43,24 +43,24 @@ class Unsaid:
         self.said, self.sent = set(), set()
         # asked at each message
         self.reason = functools.lru_cache(maxsize=MOST_KEPT)(self._reason)
-        self.sources = collections.defaultdict(list)
+        self.sources = {}
         for row, sources in sources_of_rows(rows_of_page).items():
             for source in sources:
-                self.sources[source.pgn].append((row, source))
+                self.sources.setdefault(source.pgn, []).append((row, source))
 
     def frame(self, frame, parts):
         """A frame of several may begin a message that is never whole; of such a PGN each message is of the same row."""
-        if is_fast(parts.pgn) and frame.begins(parts.pgn):
-            for row, _ in self.sources.get(parts.pgn, ()):
+        for row, _ in self.sources[parts.pgn]:
+            if row not in self.said and is_fast(parts.pgn) and frame.begins_fast_packet():
                 self.came[row].begun[parts.source] += 1
 
     def message(self, message, name, rows_said, rows_empty):
         """A whole message by the NAME that holds its address, the rows that were said at it, and those of which it has no value."""
-        source = message.parts.source
-        for row, said in self.sources.get(message.parts.pgn, ()):
-            if row in self.said or not said.is_said_by(message.parts.pgn, message.data):
+        pgn, source = message.parts.pgn, message.parts.source
+        for row, said in self.sources[pgn]:
+            if row in self.said or not said.is_said_by(pgn, message.data):
                 continue
-            self.came[row].begun[source] += not is_fast(message.parts.pgn)
+            self.came[row].begun[source] += not is_fast(pgn)
             if row not in rows_said:
                 self.came[row].reasons[source, self.reason(row, name)] += 1
             elif row in rows_empty:
