@@ -16,11 +16,15 @@ AGAIN_SECONDS = 60.0
 DAY_US = 86_400 * MICROSECONDS
 
 
+def stamp(seconds):
+    """A second since 1970 as it stands in the names of files: day and time (UTC)."""
+    return time.strftime("%Y%m%dT%H%M%SZ", time.gmtime(seconds))
+
+
 def path_at(path, moment_us, number):
     """The path of a file that begins at a moment; of several of one second the number tells them apart."""
     base, suffix = os.path.splitext(path)
-    stamp = time.strftime("%Y%m%dT%H%M%SZ", time.gmtime(moment_us // MICROSECONDS))
-    return f"{base}-{stamp}{f'-{number}' if number > 1 else ''}{suffix}"
+    return f"{base}-{stamp(moment_us // MICROSECONDS)}{f'-{number}' if number > 1 else ''}{suffix}"
 
 
 def open_new(path, moment_us):
