@@ -2,7 +2,7 @@
 
 import collections
 
-from onboard.endpoints import PIECE_BYTES, LineCutter
+from onboard.lines import PIECE_BYTES, LineCutter
 from onboard.words import LeftOut
 
 from .run_lines import GOES_ON, KNOWN, LOST, START, counted, is_recorded, moment_of

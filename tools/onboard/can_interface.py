@@ -9,7 +9,9 @@ import struct
 import subprocess
 
 from .candump import ERROR_FLAG, IDENTIFIER_BITS, MOST_DATA, REMOTE, STANDARD, Frame
-from .endpoints import RETRY_SECONDS, Told, make_room
+from .endpoints import make_room
+from .line_device import RETRY_SECONDS
+from .words import Told
 
 # struct can_frame of <linux/can.h>: the identifier with its flags, the length, padding, the data
 CAN_FRAME = struct.Struct("=IB3x8s")
@@ -52,7 +54,9 @@ def opened_on(name):
 
 
 class CanInterface:
-    """Frames of an interface, by the same calls as a device in the network has for lines."""
+    """Frames of an interface, by the same calls as a device in the network has for lines: a bus that never ends."""
+
+    is_ended, is_in_time = False, True
 
     def __init__(self, name, bitrate, teller, left_out):
         self.name, self.bitrate, self.left_out = name, bitrate, left_out

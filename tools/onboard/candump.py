@@ -14,6 +14,8 @@ MOST_DATA = 8
 # a longer line is none, as the gateway has it
 MOST_LINE = 4096
 MICROSECONDS = 1_000_000
+# in the lines of what has no interface
+INTERFACE = "can0"
 RECEIVED, SENT = "R", "T"
 
 # why a line has no frame: each a constant, so that they can be counted

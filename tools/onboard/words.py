@@ -36,3 +36,15 @@ class LeftOut:
     def since(self, earlier):
         """What came to the counts since these were a copy of them, as words."""
         return [f"left out {count - earlier[reason]}: {reason}" for reason, count in sorted(self.counts.items()) if count > earlier[reason]]
+
+
+class Told:
+    """Tells what became of a way, once each time that it changes."""
+
+    def __init__(self, name, teller):
+        self.name, self.teller, self.last = name, teller, None
+
+    def now(self, text):
+        if text != self.last:
+            self.last = text
+            self.teller.tell(f"{self.name}: {text}")
