@@ -5,7 +5,7 @@ They have a time of day, then source, destination and priority, the PGN, and the
 
 import re
 
-from .candump import NO_FORM, NoFrame
+from .candump import NoFrame, OtherForm
 from .clocks import MICROSECONDS, time_of_day_us
 from .fast_packets import MOST_BYTES, Message
 from .identifiers import parts_of_message
@@ -14,6 +14,7 @@ HEX = rb"[0-9A-Fa-f]"
 LINE = re.compile(
     rb"A(\d\d)(\d\d)(\d\d)\.(\d{3}) (" + HEX + rb"{2})(" + HEX + rb"{2})([0-7]) ([0-3]" + HEX + rb"{4}) ((?:" + HEX + rb"{2})*) ?\r?\n?"
 )
+NO_FORM = "a line that isn't Actisense's N2K ASCII"
 LONG = f"a message of more than {MOST_BYTES} bytes"
 
 
@@ -21,7 +22,7 @@ def read_line(text):
     """The time of day in microseconds, and the message; of a line that has none NoFrame says why."""
     match = LINE.fullmatch(text)
     if match is None:
-        raise NoFrame(NO_FORM)
+        raise OtherForm(NO_FORM)
     *time, source, destination, priority, pgn, data = match.groups()
     if len(data) > 2 * MOST_BYTES:
         raise NoFrame(LONG)

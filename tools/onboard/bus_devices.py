@@ -17,9 +17,10 @@ class Device:
     def __init__(self, peer, echo_seconds, left_out):
         self.peer, self.left_out = peer, left_out
         self.echoes = Echoes(echo_seconds)
-        self.fileno, self.tend, self.close = peer.fileno, peer.tend, peer.close
+        self.told, self.fileno, self.tend, self.close = peer.told, peer.fileno, peer.tend, peer.close
 
     due = property(lambda self: self.peer.due)
+    is_open = property(lambda self: self.peer.is_open)
     openings = property(lambda self: self.peer.openings)
     wants_to_write = property(lambda self: self.peer.wants_to_write)
 

@@ -6,8 +6,8 @@ import fcntl
 import os
 import socket
 import struct
-import subprocess
 
+from . import bus_load, ip_command
 from .candump import ERROR_FLAG, IDENTIFIER_BITS, MOST_DATA, REMOTE, STANDARD, Frame
 from .endpoints import make_room
 from .line_device import RETRY_SECONDS
@@ -29,7 +29,6 @@ WAIT_SECONDS, MOST_WAITING, AGAIN_SECONDS = 0.5, 1024, 0.002
 GONE = (errno.ENODEV, errno.ENXIO)
 FULL = (errno.ENOBUFS, errno.EAGAIN)
 NO_ROOM = "the interface's queue is full"
-RESTART_MS = "100"
 
 
 def is_up(opened, name):
@@ -61,11 +60,15 @@ class CanInterface:
     def __init__(self, name, bitrate, teller, left_out):
         self.name, self.bitrate, self.left_out = name, bitrate, left_out
         self.told = Told(name, teller)
-        self.socket, self.is_down, self.due, self.lost = None, False, 0.0, 0
+        self.socket, self.is_down, self.is_to_set_up, self.due, self.lost = None, False, False, 0.0, 0
         # frames for which the interface's queue had no room, each with when it is too old
         self.waiting = collections.deque()
         self.wants_to_write = False
         self.openings = 0
+
+    @property
+    def is_open(self):
+        return self.socket is not None and not self.is_down
 
     def fileno(self):
         return -1 if self.socket is None else self.socket.fileno()
@@ -86,40 +89,48 @@ class CanInterface:
     def _open(self):
         try:
             self.socket = opened_on(self.name)
-            self.is_down, self.lost = True, 0
-            if self.bitrate is not None and not is_up(self.socket, self.name):
-                self._set_up()
-            # a socket that was bound to an interface that was down tells it once, be it up by now
+            # bound to an interface that is down it tells so once, be that up by then
             self.socket.getsockopt(socket.SOL_SOCKET, socket.SO_ERROR)
         except OSError as error:
             if error.errno == errno.EAFNOSUPPORT:
-                raise
+                raise OSError(error.errno, f"{self.name}: this system has no SocketCAN") from error
             self._lose("isn't there" if error.errno in GONE else error.strerror)
             return
+        self.is_down, self.lost, self.is_to_set_up = True, 0, self.bitrate is not None
         self._look()
 
     def _set_up(self):
-        """Sets an interface up that has just come, and isn't; one without a bit rate, which is no bus, is set up as it is."""
-        plain = ["ip", "link", "set", self.name, "up"]
-        words = [[*plain, "type", "can", "bitrate", str(self.bitrate), "restart-ms", RESTART_MS], plain]
-        for words_of_one in words:
-            try:
-                if subprocess.run(words_of_one, stdin=subprocess.DEVNULL, stderr=subprocess.DEVNULL, timeout=5, check=False).returncode == 0:
-                    self.told.now("set up by " + " ".join(words_of_one))
-                    return
-            except (OSError, subprocess.TimeoutExpired):
-                break
-        self.told.now("couldn't be set up by ip")
+        """Sets an interface up that has come, and isn't; one that is set down later stays so."""
+        try:
+            self.told.now(ip_command.set_up(self.name, self.bitrate))
+        except ip_command.Refused as why:
+            self.told.now(f"is down, and can't be set up with {self.bitrate} bits a second: {why}; trying again each second")
+        else:
+            self.is_to_set_up = False
 
     def _look(self):
         """Whether the interface is up."""
         try:
+            if self.is_to_set_up and not is_up(self.socket, self.name):
+                self._set_up()
             self.is_down = not is_up(self.socket, self.name)
         except OSError as error:
             self._lose("isn't there" if error.errno in GONE else error.strerror)
             return
-        self.told.now("is down; waiting until it is up" if self.is_down else "is up")
-        self.openings += not self.is_down
+        if not self.is_down:
+            self.is_to_set_up = False
+            self.told.now("is up")
+            self.openings += 1
+            self._compare_bitrate()
+        elif not self.is_to_set_up:
+            self.told.now("is down; waiting until it is up")
+
+    def _compare_bitrate(self):
+        """At another rate than the bus has, nothing is understood, and each frame that is sent disturbs it."""
+        wanted, found = self.bitrate or bus_load.BITS_A_SECOND, ip_command.bitrate_of(self.name)
+        if found not in (None, wanted):
+            again = f"ip link set {self.name} down, and then ip link set {self.name} up type can bitrate {wanted} restart-ms {ip_command.RESTART_MS}"
+            self.told.now(f"runs at {found} bits a second, and not at {wanted}: {again}")
 
     def _lose(self, why):
         self.told.now(f"{why}; trying again each second")

@@ -44,6 +44,10 @@ class NoFrame(ValueError):
     """A line has no frame that can be carried; its text is one of the reasons above."""
 
 
+class OtherForm(NoFrame):
+    """A line hasn't the form that was looked for."""
+
+
 class Frame(NamedTuple):
     """A data frame with a 29-bit identifier, or an error frame, whose identifier has ERROR_FLAG besides its kinds."""
 
@@ -68,7 +72,8 @@ def read_line(text):
     """What the line, bytes with or without its end, says; of a line without a frame NoFrame says why."""
     match = FRAME_LINE.fullmatch(text)
     if match is None or len(text) > MOST_LINE or match.group(3) in (DATAGRAM_INTERFACE, TICK_INTERFACE):
-        raise NoFrame(reason_against(text))
+        reason = reason_against(text)
+        raise OtherForm(reason) if reason == NO_FORM else NoFrame(reason)
     seconds, fraction, interface, digits, data, rest = match.groups()
     identifier = int(digits, 16)
     if identifier & ~IDENTIFIER_BITS not in (0, ERROR_FLAG):

@@ -14,9 +14,17 @@ SO_RCVBUFFORCE = 33
 def host_and_port(text):
     """HOST:PORT, for argparse."""
     host, _, port = text.rpartition(":")
-    if not host or not port.isascii() or not port.isdigit() or not 0 < int(port) < 65536:
+    if not is_host(host) or not port.isascii() or not port.isdigit() or not 0 < int(port) < 65536:
         raise argparse.ArgumentTypeError(f"{text!r} isn't HOST:PORT")
     return host, int(port)
+
+
+def is_host(text):
+    """Whether a text is an address, or has the form of a name."""
+    try:
+        return bool(text.encode("idna"))
+    except UnicodeError:
+        return False
 
 
 def device(text):
@@ -36,15 +44,15 @@ def make_room(opened):
 
 
 def udp_socket(address):
-    """A socket that doesn't wait, on an address of this machine, with room for what comes in a burst."""
+    """A socket that doesn't wait, on an address of this machine, with room for what comes in a burst; a failure names the address."""
     opened = socket.socket(socket.AF_INET, socket.SOCK_DGRAM)
     try:
         make_room(opened)
         opened.bind(address)
         opened.setblocking(False)
-    except OSError:
+    except OSError as error:
         opened.close()
-        raise
+        raise OSError(error.errno, f"can't listen on {address[0]}:{address[1]}: {error.strerror}") from error
     return opened
 
 

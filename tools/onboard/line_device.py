@@ -5,10 +5,11 @@ Each has: `fileno()`, below 0 while it is closed; `tend(now)`, to be called befo
 sent, or nothing; `is_open`, and `openings`, how often it was opened; `told`, by which it tells.
 """
 
-from .silence import Silence
 from .words import Told
 
 RETRY_SECONDS = 1.0
+# when an open way is tended again, where nothing else comes before
+REST_SECONDS = 10.0
 
 
 class LineDevice:
@@ -16,18 +17,19 @@ class LineDevice:
 
     is_open = wants_to_write = False
 
-    def __init__(self, name, cutter, teller, left_out):
-        self.told, self.cutter, self.left_out = Told(name, teller), cutter, left_out
-        self.silence = Silence(self.told)
+    def __init__(self, name, spoken, cutter, teller, left_out):
+        self.told, self.spoken, self.cutter, self.left_out = Told(name, teller), spoken, cutter, left_out
         self.due, self.openings = 0.0, 0
 
-    def _begin(self, text, now):
+    def _begin(self, text):
         """The device is there."""
         self.is_open = True
         self.openings += 1
         self.told.now(text)
-        self.silence.begin(now)
+        self.spoken.begin()
 
-    def _lines_of(self, piece, now):
-        self.silence.heard(now)
+    def _lines_of(self, piece):
+        hint = self.spoken.hear(piece)
+        if hint is not None:
+            self.told.now(hint)
         return [line for line in self.cutter.lines_of(piece) if line]

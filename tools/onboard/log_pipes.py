@@ -8,11 +8,11 @@ import time
 from . import candump
 from .candump import INTERFACE, NoFrame
 from .echoes import Echoes
+from .line_device import REST_SECONDS
 from .lines import PIECE_BYTES, LineCutter
+from .words import Told
 
 MOST_FRAMES = 256
-# how long it may be before there is something to tend
-REST_SECONDS = 10.0
 # a pause of a recording that is longer is told
 LONG_PAUSE_SECONDS = 60.0
 
@@ -41,12 +41,16 @@ class Logs:
     name, openings, wants_to_write = INTERFACE, 0, False
 
     def __init__(self, pace, echo_seconds, teller, left_out):
-        self.pace, self.teller, self.left_out = pace, teller, left_out
+        self.pace, self.told, self.left_out = pace, Told("standard input", teller), left_out
         self.echoes, self.cutter = Echoes(echo_seconds), LineCutter(left_out)
         self.lines, self.next_line, self.due = collections.deque(), None, 0.0
         self.is_read, self.interfaces = False, set()
         # else the lines of an hour may come in a second, and say nothing of how full the bus was
         self.is_in_time = pace is not None
+
+    @property
+    def is_open(self):
+        return not self.is_read
 
     @property
     def is_ended(self):
@@ -75,7 +79,10 @@ class Logs:
         return frames
 
     def _read(self):
-        piece = os.read(sys.stdin.fileno(), PIECE_BYTES)
+        try:
+            piece = os.read(sys.stdin.fileno(), PIECE_BYTES)
+        except OSError as error:
+            raise OSError(error.errno, f"standard input: {error.strerror}") from error
         self.is_read = not piece
         self.lines.extend(self.cutter.lines_of(piece) if piece else self.cutter.end())
 
@@ -104,12 +111,15 @@ class Logs:
             self.interfaces.add(interface)
             if len(self.interfaces) == 2:
                 names = " and ".join(sorted(self.interfaces))
-                self.teller.tell(f"the log has the interfaces {names}, which become one bus here: choose one, as by grep ' {interface} '")
+                self.told.now(f"the log has the interfaces {names}, which become one bus here: choose one, as by grep ' {interface} '")
 
     def send(self, frame, now):
         self.echoes.add(frame, now)
-        sys.stdout.buffer.write(candump.write_line(time.time_ns() // 1000, INTERFACE, frame) + b"\n")
-        sys.stdout.buffer.flush()
+        try:
+            sys.stdout.buffer.write(candump.write_line(time.time_ns() // 1000, INTERFACE, frame) + b"\n")
+            sys.stdout.buffer.flush()
+        except OSError as error:
+            raise OSError(error.errno, f"standard output: {error.strerror}") from error
 
     def close(self):
         pass

@@ -5,20 +5,26 @@ SILENT_SECONDS = 10.0
 
 
 class Silence:
-    """Tells a way on which nothing comes, and when something comes again."""
+    """Tells that nothing comes any more, and when something comes again."""
 
-    def __init__(self, told):
-        self.told, self.since, self.is_told = told, None, False
+    def __init__(self, told, whence):
+        self.told, self.whence = told, whence
+        self.since, self.is_told = None, False
 
     def begin(self, now):
+        """From here on something should come."""
         self.since, self.is_told = now, False
+
+    def pause(self):
+        """Nothing can come: that the way is closed is told by itself."""
+        self.since, self.is_told = None, False
 
     def heard(self, now):
         if self.is_told:
-            self.told.now("speaks again")
-        self.since, self.is_told = now, False
+            self.told.now(f"frames come {self.whence} again, after {now - self.since:.0f} seconds")
+        self.begin(now)
 
     def tend(self, now):
         if self.since is not None and not self.is_told and now - self.since >= SILENT_SECONDS:
             self.is_told = True
-            self.told.now(f"nothing came for {SILENT_SECONDS:.0f} seconds")
+            self.told.now(f"nothing came {self.whence} for {SILENT_SECONDS:.0f} seconds")

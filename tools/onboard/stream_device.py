@@ -11,8 +11,8 @@ NOT_NOW = (errno.EAGAIN, errno.EINTR)
 class StreamDevice(LineDevice):
     """A kind of stream reads by `_take()`, writes by `_put(content)`, and closes by `_shut()`."""
 
-    def __init__(self, name, most_waiting_bytes, cutter, teller, left_out):
-        super().__init__(name, cutter, teller, left_out)
+    def __init__(self, name, most_waiting_bytes, spoken, cutter, teller, left_out):
+        super().__init__(name, spoken, cutter, teller, left_out)
         self.most_waiting_bytes, self.waiting = most_waiting_bytes, b""
 
     @property
@@ -48,7 +48,7 @@ class StreamDevice(LineDevice):
         if not piece:
             self._lose("closed by the device", now)
             return []
-        return self._lines_of(piece, now)
+        return self._lines_of(piece)
 
     def send(self, line, now):
         if not self.is_open:

@@ -3,8 +3,9 @@
 import os
 import socket
 
+from .line_device import REST_SECONDS
 from .lines import PIECE_BYTES
-from .silence import SILENT_SECONDS
+from .lookups import LOOK_SECONDS, Lookup
 from .stream_device import StreamDevice
 
 CONNECT_SECONDS = 5.0
@@ -16,9 +17,10 @@ MOST_WAITING_BYTES = 65536
 class TcpDevice(StreamDevice):
     """It is connected to, and again after each loss."""
 
-    def __init__(self, host, port, cutter, teller, left_out):
-        super().__init__(f"tcp:{host}:{port}", MOST_WAITING_BYTES, cutter, teller, left_out)
-        self.host, self.port, self.socket = host, port, None
+    def __init__(self, host, port, spoken, cutter, teller, left_out):
+        super().__init__(f"tcp:{host}:{port}", MOST_WAITING_BYTES, spoken, cutter, teller, left_out)
+        self.host, self.port = host, port
+        self.lookup = self.socket = None
 
     @property
     def wants_to_write(self):
@@ -28,15 +30,27 @@ class TcpDevice(StreamDevice):
         return -1 if self.socket is None else self.socket.fileno()
 
     def tend(self, now):
-        if self.socket is None and now >= self.due:
-            self._connect(now)
-        elif self.socket is not None and not self.is_open and now >= self.due:
-            self._lose("no answer", now)
         if self.is_open:
-            self.silence.tend(now)
-            self.due = now + SILENT_SECONDS
+            self.due = now + REST_SECONDS
+        elif now >= self.due:
+            if self.socket is not None:
+                self._lose("no answer", now)
+            else:
+                self._find(now)
 
-    def _connect(self, now):
+    def _find(self, now):
+        """The name is looked up anew for each connection, since the device may have got another address."""
+        self.lookup = self.lookup or Lookup(self.host)
+        if not self.lookup.is_done:
+            self.due = now + LOOK_SECONDS
+            return
+        found, self.lookup = self.lookup, None
+        if found.address is None:
+            self._lose(found.failure, now)
+        else:
+            self._connect(found.address, now)
+
+    def _connect(self, address, now):
         opened = socket.socket(socket.AF_INET, socket.SOCK_STREAM)
         opened.setblocking(False)
         self.socket, self.due = opened, now + CONNECT_SECONDS
@@ -45,13 +59,13 @@ class TcpDevice(StreamDevice):
             opened.setsockopt(socket.IPPROTO_TCP, socket.TCP_NODELAY, 1)
             for option, value in KEEP_ALIVE:
                 opened.setsockopt(socket.IPPROTO_TCP, option, value)
-            opened.connect((socket.gethostbyname(self.host), self.port))
+            opened.connect((address, self.port))
         except BlockingIOError:
             return
         except OSError as error:
             self._lose(error.strerror, now)
             return
-        self._begin("connected", now)
+        self._begin("connected")
 
     def ready_to_write(self, now):
         """A connection is there, or has failed; or what waits may go on."""
@@ -60,7 +74,7 @@ class TcpDevice(StreamDevice):
             if failure:
                 self._lose(os.strerror(failure), now)
                 return
-            self._begin("connected", now)
+            self._begin("connected")
         super().ready_to_write(now)
 
     def _take(self):
@@ -70,9 +84,9 @@ class TcpDevice(StreamDevice):
         return self.socket.send(content)
 
     def _shut(self):
-        self.socket.close()
+        if self.socket is not None:
+            self.socket.close()
         self.socket = None
 
     def close(self):
-        if self.socket is not None:
-            self._shut()
+        self._shut()

@@ -31,7 +31,11 @@ class LeftOut:
         if count > 0:
             if reason not in self.counts:
                 self.teller.tell(f"left out: {reason}" + (f" ({example})" if example else ""))
-            self.counts[reason] += count
+            self.count(reason, count)
+
+    def count(self, reason, count=1):
+        """Counts what is told in another way, or in the counts alone."""
+        self.counts[reason] += count
 
     def since(self, earlier):
         """What came to the counts since these were a copy of them, as words."""

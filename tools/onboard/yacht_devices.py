@@ -5,11 +5,12 @@ The device says a time of day, whether it received the frame from the bus (R) or
 
 import re
 
-from .candump import IDENTIFIER_BITS, NO_FORM, WIDE, Frame, NoFrame
+from .candump import IDENTIFIER_BITS, WIDE, Frame, NoFrame, OtherForm
 from .clocks import time_of_day_us
 
 LINE = re.compile(rb"(\d\d):(\d\d):(\d\d)\.(\d{3}) ([RT]) ([0-9A-Fa-f]{8})((?: [0-9A-Fa-f]{2}){0,8}) ?\r?\n?")
 TO_DEVICE = re.compile(rb"[0-9A-Fa-f]{8}(?: [0-9A-Fa-f]{2}){0,8} ?\r?\n?")
+NO_FORM = "a line that isn't Yacht Devices' RAW"
 NOT_FROM_DEVICE = "a line to the device, and not from it"
 
 
@@ -17,7 +18,7 @@ def read_line(text):
     """The time of day in microseconds, RECEIVED or SENT, and the frame; of a line that has none NoFrame says why."""
     match = LINE.fullmatch(text)
     if match is None:
-        raise NoFrame(NOT_FROM_DEVICE if TO_DEVICE.fullmatch(text) else NO_FORM)
+        raise NoFrame(NOT_FROM_DEVICE) if TO_DEVICE.fullmatch(text) else OtherForm(NO_FORM)
     *time, direction, digits, data = match.groups()
     identifier = int(digits, 16)
     if identifier > IDENTIFIER_BITS:
