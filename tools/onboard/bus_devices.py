@@ -1,4 +1,4 @@
-"""Devices in the network as a bus: frames by the lines that they speak."""
+"""Devices as a bus: frames by the lines that they speak."""
 
 import time
 
@@ -9,41 +9,53 @@ from .fast_packets import Joiner, Splitter
 
 
 class Device:
-    """A gateway in the network, by the lines that it speaks."""
+    """A device by the lines that it speaks, over any way that leads to it."""
 
     is_ended, is_in_time = False, True
     name = INTERFACE
 
-    def __init__(self, peer, echo_seconds, left_out):
-        self.peer, self.left_out = peer, left_out
-        self.echoes = Echoes(echo_seconds)
-        self.told, self.fileno, self.tend, self.close = peer.told, peer.fileno, peer.tend, peer.close
+    def __init__(self, way, left_out):
+        self.way, self.told, self.fileno, self.left_out = way, way.told, way.fileno, left_out
 
-    due = property(lambda self: self.peer.due)
-    is_open = property(lambda self: self.peer.is_open)
-    openings = property(lambda self: self.peer.openings)
-    wants_to_write = property(lambda self: self.peer.wants_to_write)
+    due = property(lambda self: self.way.due)
+    is_open = property(lambda self: self.way.is_open)
+    openings = property(lambda self: self.way.openings)
+    wants_to_write = property(lambda self: self.way.wants_to_write)
+
+    def tend(self, now):
+        self.way.tend(now)
 
     def ready_to_write(self, now):
-        self.peer.ready_to_write(now)
+        self.way.ready_to_write(now)
 
     def receive(self, now):
         frames = []
-        for line in self.peer.receive(now):
+        for line in self.way.receive(now):
             try:
                 frames += self.frames_of(line, now)
             except NoFrame as reason:
                 self.left_out.add(f"from the device, {reason}")
         return frames
 
+    def close(self):
+        self.way.close()
+
+
+class EchoingDevice(Device):
+    """A device that may show what was sent by it."""
+
+    def __init__(self, way, echo_seconds, left_out):
+        super().__init__(way, left_out)
+        self.echoes = Echoes(echo_seconds)
+
     def _send(self, line, what, now):
-        failure = self.peer.send(line, now)
+        failure = self.way.send(line, now)
         if failure is None:
             self.echoes.add(what, now)
         return failure
 
 
-class YachtDevice(Device):
+class YachtDevice(EchoingDevice):
     """One line is one frame; what the device sent itself has a mark."""
 
     def frames_of(self, line, now):
@@ -54,11 +66,11 @@ class YachtDevice(Device):
         return self._send(yacht_devices.write_line(frame), frame, now)
 
 
-class ActisenseDevice(Device):
+class ActisenseDevice(EchoingDevice):
     """One line is one message, of one frame or of several."""
 
-    def __init__(self, peer, echo_seconds, left_out):
-        super().__init__(peer, echo_seconds, left_out)
+    def __init__(self, way, echo_seconds, left_out):
+        super().__init__(way, echo_seconds, left_out)
         self.joiner, self.splitter = Joiner(), Splitter()
 
     def frames_of(self, line, now):

@@ -27,14 +27,6 @@ def is_host(text):
         return False
 
 
-def device(text):
-    """udp:HOST:PORT or tcp:HOST:PORT, for argparse."""
-    kind, _, rest = text.partition(":")
-    if kind not in ("udp", "tcp"):
-        raise argparse.ArgumentTypeError(f"{text!r} is neither udp:HOST:PORT nor tcp:HOST:PORT")
-    return (kind, *host_and_port(rest))
-
-
 def make_room(opened):
     """Gives a socket room for what comes in a second or two, while a busy machine has no processor for it."""
     try:

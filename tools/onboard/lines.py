@@ -9,11 +9,12 @@ PIECE_BYTES = 65536
 class LineCutter:
     """Cuts what comes in pieces into lines; a line that is too long costs no memory and is counted once."""
 
-    def __init__(self, left_out):
-        self.left_out, self.rest, self.is_skipping = left_out, b"", False
+    def __init__(self, left_out, line_end=b"\n"):
+        self.left_out, self.line_end = left_out, line_end
+        self.rest, self.is_skipping = b"", False
 
     def lines_of(self, piece):
-        *lines, rest = (self.rest + piece).split(b"\n")
+        *lines, rest = (self.rest + piece).split(self.line_end)
         if lines and self.is_skipping:
             self.is_skipping = False
             del lines[0]

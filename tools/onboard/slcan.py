@@ -14,13 +14,17 @@ TIME_DIGITS = 4
 OTHER_LINE = re.compile(rb"[trRdDbB][0-9A-Fa-f]{4,}")
 OTHERS = {b"t": STANDARD, b"r": REMOTE, b"R": REMOTE, b"d": FLEXIBLE, b"D": FLEXIBLE, b"b": FLEXIBLE, b"B": FLEXIBLE}
 NO_FORM = "a line that isn't SLCAN's"
-END, REFUSED = b"\r", b"\a"
+FRAME, END, REFUSED = b"T", b"\r", b"\a"
+# what may stand before the end of an answer to a frame that was sent
+SENT = (b"z", b"Z")
 # the commands, of which the rate is that of NMEA 2000: 250 kbit/s
 CLOSE, RATE, NO_TIMES, OPEN = b"C", b"S5", b"Z0", b"O"
 
 
 def read_line(text):
     """The frame; of a line that has none NoFrame says why."""
+    if text in SENT:
+        raise NoFrame("an answer to a frame that was sent")
     if OTHER_LINE.fullmatch(text):
         raise NoFrame(OTHERS[text[:1]])
     match = LINE.fullmatch(text)
@@ -35,4 +39,4 @@ def read_line(text):
 
 def write_line(frame):
     """The command that sends a frame, with its end."""
-    return f"T{frame.identifier:08X}{len(frame.data)}{frame.data.hex().upper()}".encode() + END
+    return FRAME + f"{frame.identifier:08X}{len(frame.data)}{frame.data.hex().upper()}".encode() + END

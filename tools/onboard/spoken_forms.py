@@ -18,7 +18,8 @@ ADVICE = {
     SENTENCES: "it holds no frames of the bus, so set the device to RAW or to N2K ASCII",
     BINARY: "set the device to N2K ASCII; one that has no other form can be listened to by canboat's actisense-serial",
 }
-LINE_ENDS = re.compile(rb"[\r\n\a]+")
+LINE_END_BYTES = b"\r\n\a"
+LINE_ENDS = re.compile(rb"[" + LINE_END_BYTES + rb"]+")
 # so much tells what is spoken
 ENOUGH_BYTES = 4096
 SHOWN_BYTES = 60
@@ -58,7 +59,8 @@ class Spoken:
         """What there is to tell of another form than the expected one; mostly nothing."""
         if self.is_clear:
             return None
-        self.heard = (self.heard + piece)[:ENOUGH_BYTES]
+        # ends of lines alone, such as the answers of an adapter, tell nothing
+        self.heard = (self.heard + piece).lstrip(LINE_END_BYTES)[:ENOUGH_BYTES]
         found = self._found()
         if found is None and len(self.heard) < ENOUGH_BYTES:
             return None

@@ -11,6 +11,8 @@ NOT_NOW = (errno.EAGAIN, errno.EINTR)
 class StreamDevice(LineDevice):
     """A kind of stream reads by `_take()`, writes by `_put(content)`, and closes by `_shut()`."""
 
+    ended = "closed by the device"
+
     def __init__(self, name, most_waiting_bytes, spoken, cutter, teller, left_out):
         super().__init__(name, spoken, cutter, teller, left_out)
         self.most_waiting_bytes, self.waiting = most_waiting_bytes, b""
@@ -27,12 +29,16 @@ class StreamDevice(LineDevice):
         self._shut()
         self.is_open, self.waiting, self.due = False, b"", now + RETRY_SECONDS
 
+    def _why(self, error):
+        """An error in words."""
+        return error.strerror
+
     def ready_to_write(self, now):
         try:
             sent = self._put(self.waiting) if self.waiting else 0
         except OSError as error:
             if error.errno not in NOT_NOW:
-                self._lose(error.strerror, now)
+                self._lose(self._why(error), now)
             return
         self.waiting = self.waiting[sent:]
 
@@ -43,10 +49,10 @@ class StreamDevice(LineDevice):
             piece = self._take()
         except OSError as error:
             if error.errno not in NOT_NOW:
-                self._lose(error.strerror, now)
+                self._lose(self._why(error), now)
             return []
         if not piece:
-            self._lose("closed by the device", now)
+            self._lose(self.ended, now)
             return []
         return self._lines_of(piece)
 
