@@ -22,7 +22,7 @@ class Form:
 
 
 Key = collections.namedtuple("Key", "name form default is_required")
-Row = collections.namedtuple("Row", "name words pgns selector values sentences talker sent_pgn")
+Row = collections.namedtuple("Row", "name words pgns selector values sentences talker heard sent_pgn")
 
 
 def text_form(pattern):
@@ -138,15 +138,16 @@ class Page:
 
     def rows_of_page(self):
         """The rows: their words; the PGNs, selectors and selectors' values that they are taken from; their sentences, each with the letter or the
-        number of the field that tells it from another row's; their talker, and the PGN that is sent to the bus."""
+        number of the field that tells it from another row's; their talker; the formatters that are heard, and the PGN that is sent to the bus."""
         rows = []
-        for name, words, taken, said, talker, _, sent in self.table("R"):
+        for name, words, taken, said, talker, heard, sent in self.table("R"):
             pgns = [int(pgn) for pgn in re.findall(r"\b\d{6}\b", taken)]
             selector = re.search(r"(reference|instance|source) (\d+(?: or \d+)*)", taken)
             values = [] if selector is None else [int(value) for value in selector.group(2).split(" or ")]
             told = re.findall(r"\b([A-Z]{3})\b(?: with (?:field (\d)|([A-Z])\b))?", said)
             sentences = [(formatter, int(field) if field else letter or None) for formatter, field, letter in told]
-            rows.append(Row(name.strip("`"), words, pgns, selector and selector.group(1), values, sentences, talker, int(sent)))
+            formatters = re.findall(r"\b[A-Z]{3}\b", heard)
+            rows.append(Row(name.strip("`"), words, pgns, selector and selector.group(1), values, sentences, talker, formatters, int(sent)))
         return rows
 
     def most_tables(self):
