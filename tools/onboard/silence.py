@@ -7,8 +7,8 @@ SILENT_SECONDS = 10.0
 class Silence:
     """Tells that nothing comes any more, and when something comes again."""
 
-    def __init__(self, told, whence):
-        self.told, self.whence = told, whence
+    def __init__(self, told, whence, what="frames"):
+        self.told, self.whence, self.what = told, whence, what
         self.since, self.is_told = None, False
 
     def begin(self, now):
@@ -21,7 +21,7 @@ class Silence:
 
     def heard(self, now):
         if self.is_told:
-            self.told.now(f"frames come {self.whence} again, after {now - self.since:.0f} seconds")
+            self.told.now(f"{self.what} come {self.whence} again, after {now - self.since:.0f} seconds")
         self.begin(now)
 
     def tend(self, now):

@@ -47,8 +47,8 @@ def shown(content):
 class Spoken:
     """Hears what comes until it is clear what is spoken."""
 
-    def __init__(self, expected):
-        self.expected = expected
+    def __init__(self, expected, advice=ADVICE):
+        self.expected, self.advice = expected, advice
         self.begin()
 
     def begin(self):
@@ -68,7 +68,7 @@ class Spoken:
         form, line = found or (None, self.heard)
         if form == self.expected:
             return None
-        return f"this is {form}: {ADVICE[form]} (it says: {shown(line)})" if form else f"this is no form that is known here (it says: {shown(line)})"
+        return f"this is {form}: {self.advice[form]} (it says: {shown(line)})" if form else f"this is no form that is known here (it says: {shown(line)})"
 
     def _found(self):
         """The first thing that has a form, with that; of lines with the expected form the first of all."""

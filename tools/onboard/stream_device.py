@@ -6,6 +6,7 @@ from .line_device import RETRY_SECONDS, LineDevice
 
 # that nothing has come, or that nothing is taken now: no loss
 NOT_NOW = (errno.EAGAIN, errno.EINTR)
+CUT_OFF = "a line that was cut off by the end of the connection"
 
 
 class StreamDevice(LineDevice):
@@ -25,7 +26,7 @@ class StreamDevice(LineDevice):
         """Closes what is open; a line that hasn't ended is lost with it, and what waits is too old by the time of the next one."""
         self.told.now(f"{why}; trying again each second")
         if self.cutter.end():
-            self.left_out.add("a line that was cut off by the end of the connection")
+            self.left_out.add(CUT_OFF)
         self._shut()
         self.is_open, self.waiting, self.due = False, b"", now + RETRY_SECONDS
 
