@@ -130,18 +130,17 @@ class Source:
         if why is not None:
             self.counts.add_unwanted(sentence.kind, why)
             return None
-        if not self.rate.takes(now):
-            self.left_out.add(TOO_MANY)
-            return None
         return sentence
 
     def datagrams_of(self, sentences, said, now):
-        """The datagrams of sentences, but for those that the gateway said."""
+        """The datagrams of sentences, but for those that the gateway said, and for what is too many besides these."""
         due = []
         for sentence in sentences:
             if said.has(sentence, now):
                 self.left_out.add(ECHO, example=sentence.text.decode().strip())
-            else:
+            elif self.rate.takes(now):
                 due.append(sentence)
+            else:
+                self.left_out.add(TOO_MANY)
         self.counts.went.update(sentence.kind for sentence in due)
         return self.wrapper.datagrams_of(due)
