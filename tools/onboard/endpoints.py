@@ -27,6 +27,15 @@ def is_host(text):
         return False
 
 
+def looked_up(place):
+    """A host and a port by the host's address; OSError says that it has none."""
+    host, port = place
+    try:
+        return socket.gethostbyname(host), port
+    except OSError as error:
+        raise OSError(error.errno, f"no address of {host}: {error.strerror}") from error
+
+
 def make_room(opened):
     """Gives a socket room for what comes in a second or two, while a busy machine has no processor for it."""
     try:
@@ -56,3 +65,13 @@ def datagrams_of(opened):
         except OSError:
             # none waits, or one couldn't be taken: then the next turn tries again
             return
+
+
+def is_own_address(host):
+    """Whether an address is one of this machine."""
+    with socket.socket(socket.AF_INET, socket.SOCK_DGRAM) as probe:
+        try:
+            probe.bind((host, 0))
+        except OSError:
+            return False
+    return True
