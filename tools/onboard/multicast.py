@@ -9,6 +9,7 @@ import socket
 import struct
 
 from .endpoints import host_and_port
+from .routes import interface_towards
 from .words import Told
 
 # <linux/in.h>: whether a socket is given what others joined; <linux/sockios.h>: the address of an interface
@@ -48,6 +49,19 @@ class NamedInterface:
             raise NotJoined(f"there is no interface {self.name}") from None
 
 
+class RoutedInterface:
+    """The interface by which datagrams to a group leave, from an address of this machine or from any."""
+
+    def __init__(self, address, source):
+        self.address, self.source = address, source
+
+    def index(self):
+        try:
+            return interface_towards(self.address, self.source)
+        except OSError as error:
+            raise NotJoined(f"no route leads to it, so nothing is sent there either: {error.strerror}") from error
+
+
 class Member:
     """A group on an interface. It hears the datagrams for it, or joins alone."""
 
@@ -61,6 +75,10 @@ class Member:
             self.socket.setsockopt(socket.SOL_SOCKET, socket.SO_REUSEADDR, 1)
             self.socket.setsockopt(socket.IPPROTO_IP, IP_MULTICAST_ALL, 0)
             self.bind()
+
+    @property
+    def is_open(self):
+        return self.index > 0
 
     def bind(self):
         try:

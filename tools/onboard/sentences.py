@@ -15,7 +15,8 @@ MOST_COUNT = 999
 # the start, the address with its fields, and the sum
 SENTENCE = re.compile(rb"([$!])([A-Z0-9]{3,12}(?:,[^\x00-\x1f\x7f-\xff$!\\*]*)?)(?:\*([0-9A-Fa-f]{2}))?")
 # TAG blocks, a sentence, and what it ends with
-LINE = re.compile(rb"(?:\\[^\\\r\n]*\\)*([$!][ -~]{1,%d}\r\n)" % (MOST_SENTENCE_BYTES - len(b"$") - len(END)))
+SENTENCE_LINE = rb"([$!][ -~]{1,%d}\r\n)" % (MOST_SENTENCE_BYTES - len(b"$") - len(END))
+LINE, PLAIN_LINE = re.compile(rb"(?:\\[^\\\r\n]*\\)*" + SENTENCE_LINE), re.compile(SENTENCE_LINE)
 
 # why a line has no sentence: each a constant, so that they can be counted
 NO_FORM = "a line that is no sentence"
@@ -70,11 +71,15 @@ def read_line(text, needs_sum=True):
     return sentence
 
 
+def is_plain(datagram):
+    """Whether it has no header of IEC 61162-450, and so sentences alone at most, as the gateway sends them to plain.group."""
+    return not datagram.startswith(HEADER)
+
+
 def sentences_of(datagram):
-    """The sentences of a datagram, without its header and their TAG blocks; lines of another form are left out."""
-    if not datagram.startswith(HEADER):
-        return []
-    found = (LINE.fullmatch(line) for line in datagram[len(HEADER) :].splitlines(keepends=True))
+    """The sentences of a datagram, without its header and their TAG blocks, or of one that has sentences alone; lines of another form are left out."""
+    form, lines = (PLAIN_LINE, datagram) if is_plain(datagram) else (LINE, datagram[len(HEADER) :])
+    found = map(form.fullmatch, lines.splitlines(keepends=True))
     return [match.group(1) for match in found if match is not None]
 
 
