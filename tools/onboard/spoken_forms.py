@@ -5,16 +5,18 @@ import re
 from . import actisense, candump, slcan, yacht_devices
 from .candump import NoFrame, OtherForm
 
-YACHT, ACTISENSE, SLCAN, LOG, SENTENCES, BINARY = (
-    "Yacht Devices' RAW", "Actisense's N2K ASCII", "SLCAN", "a candump log", "NMEA 0183", "the binary form of an Actisense NGT-1",
+YACHT, ACTISENSE, SLCAN, LOG, SEASMART, SENTENCES, BINARY = (
+    "Yacht Devices' RAW", "Actisense's N2K ASCII", "SLCAN", "a candump log", "SeaSmart", "NMEA 0183", "the binary form of an Actisense NGT-1",
 )
 # what reads a line of each form
 READERS = {YACHT: yacht_devices.read_line, ACTISENSE: actisense.read_line, SLCAN: slcan.read_line, LOG: candump.read_line}
-SENTENCE = re.compile(rb"[$!][A-Z][A-Z0-9]{2,}(?:,[ -~]*)?")
+# messages of the bus in sentences, and sentences of any kind
+SENTENCE_FORMS = {SEASMART: re.compile(rb"\$PCDIN,[ -~]*"), SENTENCES: re.compile(rb"[$!][A-Z][A-Z0-9]{2,}(?:,[ -~]*)?")}
 # DLE STX, bytes of which a DLE is doubled, and DLE ETX
 BINARY_MESSAGE = re.compile(rb"\x10\x02(?:[^\x10]|\x10\x10){1,512}\x10\x03")
 ADVICE = {
     YACHT: "use --yd", ACTISENSE: "use --actisense", SLCAN: "use --slcan", LOG: "use --stdio",
+    SEASMART: "set the device to RAW or to N2K ASCII; else it can be listened to, through tolog and --stdio",
     SENTENCES: "it holds no frames of the bus, so set the device to RAW or to N2K ASCII",
     BINARY: "set the device to N2K ASCII; one that has no other form can be listened to by canboat's actisense-serial",
 }
@@ -36,7 +38,7 @@ def form_of(line):
             # a line of this form all the same
             pass
         return name
-    return SENTENCES if SENTENCE.fullmatch(line) else None
+    return next((name for name, pattern in SENTENCE_FORMS.items() if pattern.fullmatch(line)), None)
 
 
 def shown(content):
