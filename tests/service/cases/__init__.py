@@ -1,6 +1,6 @@
 """What tests/service/boot tries in the machine. A module has its cases in CASES; each is a function that answers what it saw, or raises Failed."""
 
-MODULES = ("restarts",)
+MODULES = ("priority", "restarts")
 
 
 class Failed(Exception):
