@@ -1,6 +1,7 @@
 """What tests/service/boot tries in the machine. A module has its cases in CASES; each is a function that answers what it saw, or raises Failed."""
 
-MODULES = ("priority", "restarts")
+# in this order: the first looks at the boot
+MODULES = ("clock", "priority", "restarts")
 
 
 class Failed(Exception):
