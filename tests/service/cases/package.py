@@ -1,9 +1,10 @@
-"""The package while systemd runs: an upgrade, a removal, a purge and a first install."""
+"""The package while systemd runs: an upgrade, a removal, a purge and a first install; and the removal of an install without a package."""
 
 import os
 
 from cases import wanted
-from cases.system import CONFIG, GATEWAY, done, is_active, number_of, property_of, until, write
+from cases.system import CONFIG, GATEWAY, alone, done, is_active, number_of, property_of, run, until, write
+from cases.variants import LOCAL
 
 INSTANCE = "shipgate-bus@case.service"
 # a way to the bus that needs no interface: nobody speaks at these ports
@@ -15,6 +16,20 @@ SERVICES = (GATEWAY, INSTANCE)
 def is_enabled(unit):
     """Whether its link is there, of a service that isn't there too."""
     return os.path.lexists(f"/etc/systemd/system/multi-user.target.wants/{unit}")
+
+
+def an_uninstall():
+    """Of an install of which a service runs it removes nothing, and says what to do; once that is done, it removes it."""
+    place = f"/usr/local/lib/systemd/system/{LOCAL}"
+    with alone(LOCAL):
+        done("systemctl", "start", LOCAL)
+        refused = run("/shared/uninstall", "/usr/local")
+        says = f"systemctl disable --now {LOCAL}"
+        wanted(f"it ended with {refused.returncode}: {refused.stdout}", refused.returncode == 1 and says in refused.stdout and os.path.exists(place))
+        done("systemctl", "disable", "--now", LOCAL)
+        done("/shared/uninstall", "/usr/local")
+    wanted(f"{place} is there", not os.path.exists(place))
+    return "it left what runs, and removed it once it was stopped"
 
 
 def an_upgrade():
@@ -61,4 +76,4 @@ def a_first_install():
     return "nothing is enabled or runs, and it is told what to do next"
 
 
-CASES = (an_upgrade, a_removal, a_purge, a_first_install)
+CASES = (an_uninstall, an_upgrade, a_removal, a_purge, a_first_install)

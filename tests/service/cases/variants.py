@@ -18,5 +18,9 @@ DROP_INS = {
 }
 
 
+# one that stands below /usr/local, as ./shipgate install puts it there
+LOCAL = "shipgate-local.service"
+
+
 def unit_of(name):
     return f"shipgate-{name}.service"
