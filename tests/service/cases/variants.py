@@ -15,6 +15,8 @@ DROP_INS = {
     "full_disk": f"[Service]\nStandardOutput=append:{FULL_DISK}/night.log\n",
     # too little for the gateway, and enough for the shell beside it
     "little_memory": "[Service]\nLimitDATA=400K\n",
+    # tests/service/boot gives it the drop-in that the package has
+    "recorded": "",
 }
 
 
