@@ -81,5 +81,5 @@ class Network:
         return (LOOPBACK if self.listen.is_of_all() else self.listen.host, self.listen.port)
 
     def source(self):
-        """The address from which datagrams leave; nothing where the system chooses it."""
+        """The address from which datagrams leave; nothing if the system chooses it."""
         return None if self.listen.is_of_all() else self.listen.host

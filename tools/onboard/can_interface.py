@@ -89,7 +89,7 @@ class CanInterface:
     def _open(self):
         try:
             self.socket = opened_on(self.name)
-            # bound to an interface that is down it tells so once, be that up by then
+            # a socket that was bound to an interface that is down says so once, even if that is up by then
             self.socket.getsockopt(socket.SOL_SOCKET, socket.SO_ERROR)
         except OSError as error:
             if error.errno == errno.EAFNOSUPPORT:

@@ -7,7 +7,7 @@ from .endpoints import host_and_port
 from .serial_device import RATE, RATES
 
 SERIAL = "serial"
-# a path may have colons itself; one behind which there are digits alone begins the rate
+# a path may have colons itself; the last one begins the rate if digits alone follow it
 PATH_AND_RATE = re.compile(r"(.+?)(?::(\d+))?", re.ASCII)
 
 

@@ -10,7 +10,7 @@ from .line_device import RETRY_SECONDS
 from .lookups import LOOK_SECONDS, Lookup
 from .words import Told
 
-# that nobody takes what is sent is told where it lasts so long, and so is its end
+# that nobody takes what is sent is told if it lasts so long, and so is its end
 UNTAKEN_SECONDS = 2.0
 # what the system says of a datagram before: that its port isn't listened on, or that its machine isn't there
 UNTAKEN = (errno.ECONNREFUSED, errno.EHOSTUNREACH, errno.ENETUNREACH)
@@ -48,7 +48,7 @@ class Untaken:
 
 
 class GatewayLink:
-    """Both sockets of the link. The one that sends is connected, so that the system says where nobody listens."""
+    """Both sockets of the link. The one that sends is connected, so that the system says if nobody listens."""
 
     def __init__(self, listen, to, teller, left_out):
         self.heard = udp_socket(listen)

@@ -30,7 +30,7 @@ def ip(*words):
 
 
 def said_of(name, *path):
-    """What `ip` says of the kind of an interface, by the names that lead there; nothing where it doesn't say so."""
+    """What `ip` says of the kind of an interface, by the names that lead there; nothing if it doesn't say so."""
     try:
         found = json.loads(ip("-details", "-json", "link", "show", name))[0]["linkinfo"]
         for word in path:
@@ -61,6 +61,6 @@ def set_up(name, bitrate):
 
 
 def bitrate_of(name):
-    """At how many bits a second an interface runs; nothing where that isn't said."""
+    """At how many bits a second an interface runs; nothing if that isn't said."""
     bitrate = said_of(name, "info_data", "bittiming", "bitrate")
     return bitrate if isinstance(bitrate, int) else None

@@ -8,7 +8,7 @@ sent, or nothing; `is_open`, and `openings`, how often it was opened; `told`, by
 from .words import Told
 
 RETRY_SECONDS = 1.0
-# when an open way is tended again, where nothing else comes before
+# an open way is tended again after so long, if nothing comes before
 REST_SECONDS = 10.0
 
 

@@ -87,7 +87,7 @@ class Member:
             raise OSError(error.errno, f"can't listen on {self.group.address}:{self.group.port}, for {self.group.name}: {error.strerror}") from error
 
     def tend(self):
-        """Joins where it isn't a member; an interface that came back under another number is joined anew."""
+        """Joins if it isn't a member; on an interface that came back under another number it joins anew."""
         try:
             index = self.interface.index()
             if index != self.index:
@@ -104,7 +104,7 @@ class Member:
         except OSError as error:
             if error.errno == errno.ENODEV:
                 raise NotJoined(f"the interface {self.name_of(index)} carries no IPv4") from error
-            # the system says so where it is a member already
+            # the system says so of a member
             if error.errno != errno.EADDRINUSE:
                 raise NotJoined(error.strerror) from error
         self.index = index

@@ -14,7 +14,7 @@ from .stream_device import StreamDevice
 # bits a second, of which a byte takes ten; to a USB device that is no line the rate says nothing
 RATE = 115_200
 RATES = {int(name[1:]): getattr(termios, name) for name in dir(termios) if re.fullmatch(r"B[1-9]\d+", name)}
-# what waits longer would say on the bus what isn't so any more
+# what waits longer would be too old for the bus
 WAIT_SECONDS, BITS_A_BYTE = 0.5, 10
 REASONS = {
     errno.ENOENT: "isn't there", errno.ENXIO: "isn't there", errno.ENODEV: "isn't there", errno.EIO: "is gone",

@@ -1,7 +1,7 @@
 """Lines of CAN adapters in the form SLCAN (LAWICEL AB, "CAN232 manual"), as CANable and CANUSB speak it: `T09F112178005C3DFF7FFF7FFC`.
 
 A frame has the letter T, its identifier, its length and its bytes, and ends with CR. So do commands to the adapter, which it answers by CR alone, by z
-or Z and CR for a frame that it sent, or by BEL where it refuses. There are adapters that answer nothing.
+or Z and CR for a frame that it sent, or by BEL if it refuses. There are adapters that answer nothing.
 """
 
 import re
@@ -9,7 +9,7 @@ import re
 from .candump import FLEXIBLE, IDENTIFIER_BITS, REMOTE, STANDARD, WIDE, Frame, NoFrame, OtherForm
 
 LINE = re.compile(rb"T([0-9A-Fa-f]{8})([0-8])([0-9A-Fa-f]*)")
-# behind the bytes, from adapters that were told to add it once
+# after the bytes, from adapters that were told to add it once
 TIME_DIGITS = 4
 OTHER_LINE = re.compile(rb"[trRdDbB][0-9A-Fa-f]{4,}")
 OTHERS = {b"t": STANDARD, b"r": REMOTE, b"R": REMOTE, b"d": FLEXIBLE, b"D": FLEXIBLE, b"b": FLEXIBLE, b"B": FLEXIBLE}

@@ -9,14 +9,14 @@ from .lines import LineCutter
 
 # how long an answer to a command is waited for: there are adapters that give none
 ANSWER_SECONDS = 0.5
-# an end of its own ends what another program began to say; a channel that was left open has to be closed before its rate is set
+# The first one is empty: it ends what another program began to say. A channel that was left open has to be closed before its rate is set.
 COMMANDS = (b"", slcan.CLOSE, slcan.RATE, slcan.NO_TIMES, slcan.OPEN)
 # what may be refused: to close a channel that is closed, and what an adapter doesn't know
 NEEDED = {slcan.RATE: "the rate of 250 kbit/s (S5)", slcan.OPEN: "to open the bus (O)"}
 
 
 class AnswerCutter(LineCutter):
-    """Cuts at CR, and behind BEL. An answer of CR alone is a line too, and LF says nothing."""
+    """Cuts at CR, and after BEL. An answer of CR alone is a line too, and LF says nothing."""
 
     def __init__(self, left_out):
         super().__init__(left_out, slcan.END)
@@ -68,7 +68,7 @@ class SlcanDevice(Device):
         self.way.send(self.commands[0] + slcan.END, now)
 
     def _go_on(self, now):
-        """The next command, where the one before was answered or won't be; after a refusal all of them once more."""
+        """Says the next command, once the one before was answered or won't be; after a refusal all of them once more."""
         if not self.commands:
             self._begin(now)
             return
@@ -91,7 +91,7 @@ class SlcanDevice(Device):
         return [slcan.read_line(line)]
 
     def _answered(self, line, now):
-        """A line that came before all commands were answered. A frame is an answer to the last one, and to others what an open adapter goes on to say."""
+        """Takes a line that came before all commands were answered. A frame answers the last command; before that an adapter that was left open says it."""
         if not self.commands:
             return
         command, is_refused = self.commands[0], line.endswith(slcan.REFUSED)
