@@ -12,8 +12,9 @@ from cases.system import (BUS_LISTEN, CONFIG, GATEWAY, RECORDS, RECORDS_NOT, Bus
 from cases.variants import FULL_DISK, unit_of
 
 COUNTED_SECONDS = 10
-# An emulated processor beside other work takes seconds to start a program: an end is followed by the next start in as many of these, and a second.
-STARTS_AGAIN = 3
+# An emulated processor beside other work takes seconds to start a program, so the limit is this many starts and a second. What the service adds to a start
+# is what systemd says of it.
+STARTS_AGAIN = 10
 # what no configuration may have
 NO_VALUE = "record = perhaps"
 
