@@ -2,6 +2,7 @@
 use Rattle.std.specs.Prelude.{◌≡◌, ℕ, ◌+◌, true, false, List, [], ◌∷◌, ◌++◌, map, codes, slice_index}
 use Rattle.std.specs.Int.{w64, to_be_bytes}
 use Rattle.claim_table.specs.declared.preset.Preset.{Preset}
+use Rattle.claim_table.specs.Claims.{claim_wait}
 use Rattle.readings.specs.declared.rows.Row.{Row}
 use Rattle.readings.specs.Rows.{about_of, every_row}
 use Rattle.datagram450.specs.Datagram.{header}
@@ -19,6 +20,10 @@ can_frame id bytes = can (record { id = id; held = to_be_bytes w64 bytes })
 
 abbrev pub emitted : ℕ → Emit → Emitted
 emitted moment e = record { moment = moment; emit = e }
+
+-- from when on a gateway may send that starts at 10 seconds
+abbrev pub when_ready : ℕ
+when_ready = 10000000 + claim_wait
 
 -- a datagram of one line: what stands in its TAG block, and its sentence
 abbrev pub lined : List ℕ → List ℕ → List ℕ

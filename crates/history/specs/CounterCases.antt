@@ -1,5 +1,5 @@
 -- What is counted as said and as sent (IEC 61162-450; fast packets by canboat's tables).
-use Rattle.std.specs.Prelude.{ℕ, List, [], ◌∷◌, ◌++◌, map, codes}
+use Rattle.std.specs.Prelude.{ℕ, ◌+◌, List, [], ◌∷◌, ◌++◌, map, codes}
 use Rattle.readings.specs.declared.rows.Row.{Row}
 use Rattle.readings.specs.declared.rows.Row.TheVariants as row
 use Rattle.datagram450.specs.Datagram.{header}
@@ -7,7 +7,7 @@ use Rattle.history.specs.Entries.{datagram, tick}
 use Rattle.history.specs.Settings.{Settings, RowRule}
 use Rattle.gate_events.specs.Emit.{Emit, net}
 use Rattle.readings.specs.Rows.{every_row}
-use Rattle.history.specs.Cases.{Emits, full, can_frame, emitted, lined, navd, two_devices, plain_rule}
+use Rattle.history.specs.Cases.{Emits, full, can_frame, emitted, lined, navd, two_devices, plain_rule, when_ready}
 
 -- depths are said on a transmission group of their own
 abbrev pub on_satd : Row → RowRule
@@ -40,21 +40,21 @@ abbrev pub EachMessageItsSequence : Type 0
 EachMessageItsSequence =
     Emits two_devices 10000000
     (tick 10000000
-    ∷ datagram 10250000 (header ++ lined (codes "s:II0002,n:1*02") (codes "$VWVLW,1.00,N,0.50,N*48"))
-    ∷ datagram 10260000 (header ++ lined (codes "s:II0002,n:1*02") (codes "$GPGGA,,,,,,0,,,,M,,M,,*66"))
-    ∷ datagram 10270000 (header ++ lined (codes "s:II0002,n:1*02") (codes "$VWVLW,1.00,N,0.50,N*48"))
+    ∷ datagram when_ready (header ++ lined (codes "s:II0002,n:1*02") (codes "$VWVLW,1.00,N,0.50,N*48"))
+    ∷ datagram (when_ready + 10000) (header ++ lined (codes "s:II0002,n:1*02") (codes "$GPGGA,,,,,,0,,,,M,,M,,*66"))
+    ∷ datagram (when_ready + 20000) (header ++ lined (codes "s:II0002,n:1*02") (codes "$VWVLW,1.00,N,0.50,N*48"))
     ∷ [])
-    (emitted 10250000 (can_frame 0x19F513FB 0x000EFFFFFFFFFFFF)
-    ∷ emitted 10250000 (can_frame 0x19F513FB 0x013C0700009E0300)
-    ∷ emitted 10250000 (can_frame 0x19F513FB 0x0200FFFFFFFFFFFF)
-    ∷ emitted 10260000 (can_frame 0x0DF805FB 0x002BFFFFFFFFFFFF)
-    ∷ emitted 10260000 (can_frame 0x0DF805FB 0x01FFFFFFFFFFFFFF)
-    ∷ emitted 10260000 (can_frame 0x0DF805FB 0x02FF7FFFFFFFFFFF)
-    ∷ emitted 10260000 (can_frame 0x0DF805FB 0x03FFFF7FFFFFFFFF)
-    ∷ emitted 10260000 (can_frame 0x0DF805FB 0x04FFFFFF7F00FCFF)
-    ∷ emitted 10260000 (can_frame 0x0DF805FB 0x05FF7FFF7FFFFFFF)
-    ∷ emitted 10260000 (can_frame 0x0DF805FB 0x067F00FFFFFFFFFF)
-    ∷ emitted 10270000 (can_frame 0x19F513FB 0x200EFFFFFFFFFFFF)
-    ∷ emitted 10270000 (can_frame 0x19F513FB 0x213C0700009E0300)
-    ∷ emitted 10270000 (can_frame 0x19F513FB 0x2200FFFFFFFFFFFF)
+    (emitted when_ready (can_frame 0x19F513FB 0x000EFFFFFFFFFFFF)
+    ∷ emitted when_ready (can_frame 0x19F513FB 0x013C0700009E0300)
+    ∷ emitted when_ready (can_frame 0x19F513FB 0x0200FFFFFFFFFFFF)
+    ∷ emitted (when_ready + 10000) (can_frame 0x0DF805FB 0x002BFFFFFFFFFFFF)
+    ∷ emitted (when_ready + 10000) (can_frame 0x0DF805FB 0x01FFFFFFFFFFFFFF)
+    ∷ emitted (when_ready + 10000) (can_frame 0x0DF805FB 0x02FF7FFFFFFFFFFF)
+    ∷ emitted (when_ready + 10000) (can_frame 0x0DF805FB 0x03FFFF7FFFFFFFFF)
+    ∷ emitted (when_ready + 10000) (can_frame 0x0DF805FB 0x04FFFFFF7F00FCFF)
+    ∷ emitted (when_ready + 10000) (can_frame 0x0DF805FB 0x05FF7FFF7FFFFFFF)
+    ∷ emitted (when_ready + 10000) (can_frame 0x0DF805FB 0x067F00FFFFFFFFFF)
+    ∷ emitted (when_ready + 20000) (can_frame 0x19F513FB 0x200EFFFFFFFFFFFF)
+    ∷ emitted (when_ready + 20000) (can_frame 0x19F513FB 0x213C0700009E0300)
+    ∷ emitted (when_ready + 20000) (can_frame 0x19F513FB 0x2200FFFFFFFFFFFF)
     ∷ [])

@@ -1,12 +1,13 @@
 -- Cases that one word of the definition decides: each would come out otherwise if that word were another.
-use Rattle.std.specs.Prelude.{[], ◌∷◌, ◌++◌, codes}
+use Rattle.std.specs.Prelude.{◌+◌, ◌-◌, [], ◌∷◌, ◌++◌, codes}
 use Rattle.gate_events.specs.declared.emit.Detail.TheVariants as detail
 use Rattle.datagram450.specs.Datagram.{header}
 use Rattle.report_rules.specs.Rules.{claim_lost, claim_or_request_malformed, expired, fast_length, fast_orphan, group_order, not_ready, restarted, short_message}
+use Rattle.fast_packet.specs.FastRuns.{gap}
 use Rattle.history.specs.Entries.{datagram, frame, tick}
 use Rattle.history.specs.Settings.{Settings}
 use Rattle.history.specs.Emits.{broken, of_source}
-use Rattle.history.specs.Cases.{Emits, IsSilent, full, can_frame, emitted, lined, navd, two_devices, fix, fix_said}
+use Rattle.history.specs.Cases.{Emits, IsSilent, full, can_frame, emitted, lined, navd, two_devices, fix, fix_said, when_ready}
 use Rattle.history.specs.EndingCases.{exchanged, log}
 use Rattle.history.specs.TransportCases.{one_slot}
 
@@ -41,9 +42,9 @@ CommandBehindItsEvent =
     ∷ fix 10100000 23 0
     ∷ full 10200000 0x1CECFF18 0x20090002FFD8FE00
     ∷ full 10500000 0x1CEBFF18 0x010100C0FF008232
-    ∷ full 10850001 0x1CEBFF18 0x02C064FFFFFFFFFF
+    ∷ full (10100000 + gap + 1) 0x1CEBFF18 0x02C064FFFFFFFFFF
     ∷ [])
-    (emitted 10850001 (of_source expired 23 129029) ∷ emitted 10850001 (can_frame 0x18EEFF64 0x0100C0FF008232C0) ∷ [])
+    (emitted (10100000 + gap + 1) (of_source expired 23 129029) ∷ emitted (10100000 + gap + 1) (can_frame 0x18EEFF64 0x0100C0FF008232C0) ∷ [])
 
 -- a request to another device isn't answered
 abbrev pub RequestToAnother : Type 0
@@ -92,13 +93,13 @@ abbrev pub UnsentUncounted : Type 0
 UnsentUncounted =
     Emits two_devices 10000000
     (tick 10000000
-    ∷ datagram 10249999 (header ++ lined (codes "s:II0002,n:1*02") (codes "$VWVLW,1.00,N,0.50,N*48"))
-    ∷ datagram 10250000 (header ++ lined (codes "s:II0002,n:1*02") (codes "$VWVLW,1.00,N,0.50,N*48"))
+    ∷ datagram (when_ready - 1) (header ++ lined (codes "s:II0002,n:1*02") (codes "$VWVLW,1.00,N,0.50,N*48"))
+    ∷ datagram when_ready (header ++ lined (codes "s:II0002,n:1*02") (codes "$VWVLW,1.00,N,0.50,N*48"))
     ∷ [])
-    (emitted 10249999 (broken not_ready (detail.At 6))
-    ∷ emitted 10250000 (can_frame 0x19F513FB 0x000EFFFFFFFFFFFF)
-    ∷ emitted 10250000 (can_frame 0x19F513FB 0x013C0700009E0300)
-    ∷ emitted 10250000 (can_frame 0x19F513FB 0x0200FFFFFFFFFFFF)
+    (emitted (when_ready - 1) (broken not_ready (detail.At 6))
+    ∷ emitted when_ready (can_frame 0x19F513FB 0x000EFFFFFFFFFFFF)
+    ∷ emitted when_ready (can_frame 0x19F513FB 0x013C0700009E0300)
+    ∷ emitted when_ready (can_frame 0x19F513FB 0x0200FFFFFFFFFFFF)
     ∷ [])
 
 -- ---- the transport protocol (ISO 11783-3)
@@ -108,20 +109,20 @@ abbrev pub GivenUpBehind : Type 0
 GivenUpBehind =
     Emits two_devices 10000000
     (tick 10000000
-    ∷ full 10250000 0x1CECFB17 0x102B0007FF05F801
-    ∷ full 10251000 0x1CEBFB17 0x0100DB4C0008AF2F
-    ∷ full 10252000 0x1CEBFB17 0x0200000000000000
-    ∷ full 10253000 0x1CEBFB17 0x0308000000000000
-    ∷ full 10254000 0x1CEBFB17 0x040002E0AEBB0000
-    ∷ full 10255000 0x1CEBFB17 0x0500000010FC0969
-    ∷ full 10256000 0x1CEBFB17 0x0600FF7FF4060000
-    ∷ full 10257000 0x1CEBFB17 0x0700FFFFFFFFFFFF
-    ∷ full 10258000 0x1CECFB17 0xFF01FFFFFF05F801
-    ∷ full 10259000 0x1CECFB17 0x110708FFFF05F801
+    ∷ full when_ready 0x1CECFB17 0x102B0007FF05F801
+    ∷ full (when_ready + 1000) 0x1CEBFB17 0x0100DB4C0008AF2F
+    ∷ full (when_ready + 2000) 0x1CEBFB17 0x0200000000000000
+    ∷ full (when_ready + 3000) 0x1CEBFB17 0x0308000000000000
+    ∷ full (when_ready + 4000) 0x1CEBFB17 0x040002E0AEBB0000
+    ∷ full (when_ready + 5000) 0x1CEBFB17 0x0500000010FC0969
+    ∷ full (when_ready + 6000) 0x1CEBFB17 0x0600FF7FF4060000
+    ∷ full (when_ready + 7000) 0x1CEBFB17 0x0700FFFFFFFFFFFF
+    ∷ full (when_ready + 8000) 0x1CECFB17 0xFF01FFFFFF05F801
+    ∷ full (when_ready + 9000) 0x1CECFB17 0x110708FFFF05F801
     ∷ [])
-    (emitted 10250000 (can_frame 0x1CEC17FB 0x110701FFFF05F801)
-    ∷ emitted 10257000 (can_frame 0x1CEC17FB 0x132B0007FF05F801)
-    ∷ emitted 10257000 (navd (codes "s:II0001,n:1*01") fix_said)
+    (emitted when_ready (can_frame 0x1CEC17FB 0x110701FFFF05F801)
+    ∷ emitted (when_ready + 7000) (can_frame 0x1CEC17FB 0x132B0007FF05F801)
+    ∷ emitted (when_ready + 7000) (navd (codes "s:II0001,n:1*01") fix_said)
     ∷ [])
 
 -- a request to send that comes again needs no more room than its session has
@@ -129,12 +130,12 @@ abbrev pub SessionAgainAtTheLimit : Type 0
 SessionAgainAtTheLimit =
     Emits one_slot 10000000
     (tick 10000000
-    ∷ full 10250000 0x1CECFB17 0x10F906FFFF05F801
-    ∷ full 10251000 0x1CECFB17 0x10F906FFFF05F801
+    ∷ full when_ready 0x1CECFB17 0x10F906FFFF05F801
+    ∷ full (when_ready + 1000) 0x1CECFB17 0x10F906FFFF05F801
     ∷ [])
-    (emitted 10250000 (can_frame 0x1CEC17FB 0x110801FFFF05F801)
-    ∷ emitted 10251000 (of_source restarted 23 129029)
-    ∷ emitted 10251000 (can_frame 0x1CEC17FB 0x110801FFFF05F801)
+    (emitted when_ready (can_frame 0x1CEC17FB 0x110801FFFF05F801)
+    ∷ emitted (when_ready + 1000) (of_source restarted 23 129029)
+    ∷ emitted (when_ready + 1000) (can_frame 0x1CEC17FB 0x110801FFFF05F801)
     ∷ [])
 
 -- of an address that another NAME takes the fast packets end before the sessions
@@ -142,21 +143,21 @@ abbrev pub FastPacketsEndFirst : Type 0
 FastPacketsEndFirst =
     Emits two_devices 10000000
     (tick 10000000
-    ∷ full 10250000 0x1CECFF17 0x202B0007FF05F801
-    ∷ log 10251000 23
-    ∷ full 10252000 0x18EEFF17 0x0200C0FF00823280
+    ∷ full when_ready 0x1CECFF17 0x202B0007FF05F801
+    ∷ log (when_ready + 1000) 23
+    ∷ full (when_ready + 2000) 0x18EEFF17 0x0200C0FF00823280
     ∷ [])
-    (emitted 10252000 (of_source claim_lost 23 128275) ∷ emitted 10252000 (of_source claim_lost 23 129029) ∷ [])
+    (emitted (when_ready + 2000) (of_source claim_lost 23 128275) ∷ emitted (when_ready + 2000) (of_source claim_lost 23 129029) ∷ [])
 
 -- a session to the gateway ends once where its sender goes to another address
 abbrev pub LeftOnce : Type 0
 LeftOnce =
     Emits exchanged 10000000
     (tick 10000000
-    ∷ full 10250000 0x1CECFB18 0x10F906FFFF05F801
-    ∷ full 10251000 0x18EEFF17 0x0500C0FF008C78C0
+    ∷ full when_ready 0x1CECFB18 0x10F906FFFF05F801
+    ∷ full (when_ready + 1000) 0x18EEFF17 0x0500C0FF008C78C0
     ∷ [])
-    (emitted 10250000 (can_frame 0x1CEC18FB 0x110801FFFF05F801) ∷ emitted 10251000 (of_source claim_lost 24 129029) ∷ [])
+    (emitted when_ready (can_frame 0x1CEC18FB 0x110801FFFF05F801) ∷ emitted (when_ready + 1000) (of_source claim_lost 24 129029) ∷ [])
 
 -- ---- groups of lines (IEC 61162-450)
 
@@ -168,11 +169,11 @@ abbrev pub GroupAgainAtTheLimit : Type 0
 GroupAgainAtTheLimit =
     Emits one_group 10000000
     (tick 10000000
-    ∷ datagram 10250000 (header ++ lined (codes "g:1-2-7,s:II0002,n:1*47") (codes "$HEHDT,90.0,T*16"))
-    ∷ datagram 10260000 (header ++ lined (codes "g:1-2-7,s:II0002,n:1*47") (codes "$HEHDT,90.1,T*17"))
-    ∷ datagram 10270000 (header ++ lined (codes "g:2-2-7,s:II0002,n:2*47") (codes "$HEHDT,90.0,T*16"))
+    ∷ datagram when_ready (header ++ lined (codes "g:1-2-7,s:II0002,n:1*47") (codes "$HEHDT,90.0,T*16"))
+    ∷ datagram (when_ready + 10000) (header ++ lined (codes "g:1-2-7,s:II0002,n:1*47") (codes "$HEHDT,90.1,T*17"))
+    ∷ datagram (when_ready + 20000) (header ++ lined (codes "g:2-2-7,s:II0002,n:2*47") (codes "$HEHDT,90.0,T*16"))
     ∷ [])
-    (emitted 10260000 (broken group_order (detail.GroupKey (codes "II0002") 7))
-    ∷ emitted 10270000 (can_frame 0x09F112FB 0xFF6D3DFF7FFF7FFC)
-    ∷ emitted 10270000 (can_frame 0x09F112FB 0xFF5C3DFF7FFF7FFC)
+    (emitted (when_ready + 10000) (broken group_order (detail.GroupKey (codes "II0002") 7))
+    ∷ emitted (when_ready + 20000) (can_frame 0x09F112FB 0xFF6D3DFF7FFF7FFC)
+    ∷ emitted (when_ready + 20000) (can_frame 0x09F112FB 0xFF5C3DFF7FFF7FFC)
     ∷ [])

@@ -1,5 +1,6 @@
 -- What is emitted of fast packets.
-use Rattle.std.specs.Prelude.{ℕ, ◌+◌, List, [], ◌∷◌, codes}
+use Rattle.std.specs.Prelude.{ℕ, ◌+◌, ◌*◌, List, [], ◌∷◌, codes}
+use Rattle.fast_packet.specs.FastRuns as fast
 use Rattle.history.specs.Entries.{Entry, tick}
 use Rattle.history.specs.Settings.{Settings}
 use Rattle.history.specs.Emits.{of_source}
@@ -17,14 +18,14 @@ InTurn =
     ∷ emitted 1014000 (of_source 12 23 129029)
     ∷ [])
 
--- a frame may come 750 ms after the one before it, and no later
+-- a frame may come as long after the one before it as the gap, and no later
 abbrev pub JustInTime : Type 0
-JustInTime = IsSilent two_devices 5000000 (fix 5000000 23 0 ∷ fix 5750000 23 1 ∷ [])
+JustInTime = IsSilent two_devices 5000000 (fix 5000000 23 0 ∷ fix (5000000 + fast.gap) 23 1 ∷ [])
 
 abbrev pub TooLate : Type 0
 TooLate =
-    Emits two_devices 5000000 (fix 5000000 23 0 ∷ fix 5750001 23 1 ∷ [])
-    (emitted 5750001 (of_source 16 23 129029) ∷ emitted 5750001 (of_source 12 23 129029) ∷ [])
+    Emits two_devices 5000000 (fix 5000000 23 0 ∷ fix (5000000 + fast.gap + 1) 23 1 ∷ [])
+    (emitted (5000000 + fast.gap + 1) (of_source 16 23 129029) ∷ emitted (5000000 + fast.gap + 1) (of_source 12 23 129029) ∷ [])
 
 -- with room for one message, an opener of another is refused until the first has ended
 abbrev pub one_slot : Settings
@@ -32,13 +33,13 @@ one_slot = record two_devices { fast_slots = 1 }
 
 abbrev pub NoRoom : Type 0
 NoRoom =
-    Emits one_slot 5000000 (fix 5000000 23 0 ∷ fix 5100000 24 0 ∷ tick 5750001 ∷ fix 5800000 24 0 ∷ [])
-    (emitted 5100000 (of_source 15 24 129029) ∷ emitted 5750001 (of_source 16 23 129029) ∷ [])
+    Emits one_slot 5000000 (fix 5000000 23 0 ∷ fix 5100000 24 0 ∷ tick (5000000 + fast.gap + 1) ∷ fix (5000000 + fast.gap + 50000) 24 0 ∷ [])
+    (emitted 5100000 (of_source 15 24 129029) ∷ emitted (5000000 + fast.gap + 1) (of_source 16 23 129029) ∷ [])
 
--- lengths of 224 and 0
+-- a length of one byte too many, and of none
 abbrev pub WrongLengths : Type 0
 WrongLengths =
-    Emits two_devices 1000000 (full 1000000 0x0DF80517 0x00E0000000000000 ∷ full 1001000 0x0DF80517 0 ∷ [])
+    Emits two_devices 1000000 (full 1000000 0x0DF80517 ((fast.longest + 1) * 0x1000000000000) ∷ full 1001000 0x0DF80517 0 ∷ [])
     (emitted 1000000 (of_source 13 23 129029) ∷ emitted 1001000 (of_source 13 23 129029) ∷ [])
 
 -- a frame that comes twice is passed over, and the message is said once

@@ -1,10 +1,10 @@
 -- A device's messages, with and without another device between them.
-use Rattle.std.specs.Prelude.{◌≡◌, ℕ, List, [], ◌∷◌, reverse, map}
+use Rattle.std.specs.Prelude.{◌≡◌, ℕ, ◌+◌, List, [], ◌∷◌, reverse, map}
 use Rattle.history.specs.Entries.{Entry, tick}
 use Rattle.history.specs.Settings.{receiver_of}
 use Rattle.history.specs.Messages.{messages_of}
 use Rattle.history.specs.IsolationLaws.{from, NoneRefused}
-use Rattle.history.specs.Cases.{Emits, full, can_frame, emitted, two_devices, fix}
+use Rattle.history.specs.Cases.{Emits, full, can_frame, emitted, two_devices, fix, when_ready}
 use Rattle.history.specs.TransportCases.{one_slot}
 
 -- a position fix of 23 alone, and with one of 24 in turn
@@ -29,10 +29,10 @@ OneDone = done_from alone ≡ 1006000 ∷ []
 -- while 24 has the one session for which there is room, 23 asks the node at 50 for one: that is no matter of the gateway, which
 -- says nothing of it and has refused nothing of 23
 abbrev pub elsewhere : List Entry
-elsewhere = tick 10000000 ∷ full 10250000 0x1CECFB18 0x10F906FFFF05F801 ∷ full 10251000 0x1CEC3217 0x10F906FFFF05F801 ∷ []
+elsewhere = tick 10000000 ∷ full when_ready 0x1CECFB18 0x10F906FFFF05F801 ∷ full (when_ready + 1000) 0x1CEC3217 0x10F906FFFF05F801 ∷ []
 
 abbrev pub Unheard : Type 0
-Unheard = Emits one_slot 10000000 elsewhere (emitted 10250000 (can_frame 0x1CEC18FB 0x110801FFFF05F801) ∷ [])
+Unheard = Emits one_slot 10000000 elsewhere (emitted when_ready (can_frame 0x1CEC18FB 0x110801FFFF05F801) ∷ [])
 
 abbrev pub NotRefused : Type 0
 NotRefused = NoneRefused (receiver_of one_slot) 10000000 (reverse elsewhere) 23

@@ -1,12 +1,12 @@
 -- Which source of the network is sent on (each reading counts, sent on or not).
-use Rattle.std.specs.Prelude.{[], ◌∷◌, ◌++◌, codes}
+use Rattle.std.specs.Prelude.{◌+◌, ◌-◌, [], ◌∷◌, ◌++◌, codes}
 use Rattle.gate_events.specs.declared.emit.Detail.TheVariants as detail
 use Rattle.datagram450.specs.Datagram.{header}
 use Rattle.report_rules.specs.Rules.{not_ready}
 use Rattle.history.specs.Entries.{datagram, tick}
 use Rattle.history.specs.Settings.{Settings}
 use Rattle.history.specs.Emits.{broken}
-use Rattle.history.specs.Cases.{Emits, can_frame, emitted, lined, two_devices}
+use Rattle.history.specs.Cases.{Emits, can_frame, emitted, lined, two_devices, when_ready}
 
 -- three sources in this order of preference
 abbrev pub listed : Settings
@@ -17,15 +17,15 @@ abbrev pub FirstListed : Type 0
 FirstListed =
     Emits listed 10000000
     (tick 10000000
-    ∷ datagram 10250000 (header ++ lined (codes "s:II0003,n:1*03") (codes "$HEHDT,90.0,T*16"))
-    ∷ datagram 10260000 (header ++ lined (codes "s:II0002,n:1*02") (codes "$HEHDT,90.1,T*17"))
-    ∷ datagram 10270000 (header ++ lined (codes "s:II0003,n:1*03") (codes "$HEHDT,90.0,T*16"))
-    ∷ datagram 15260000 (header ++ lined (codes "s:II0003,n:1*03") (codes "$HEHDT,90.0,T*16"))
-    ∷ datagram 15260001 (header ++ lined (codes "s:II0003,n:1*03") (codes "$HEHDT,90.0,T*16"))
+    ∷ datagram when_ready (header ++ lined (codes "s:II0003,n:1*03") (codes "$HEHDT,90.0,T*16"))
+    ∷ datagram (when_ready + 10000) (header ++ lined (codes "s:II0002,n:1*02") (codes "$HEHDT,90.1,T*17"))
+    ∷ datagram (when_ready + 20000) (header ++ lined (codes "s:II0003,n:1*03") (codes "$HEHDT,90.0,T*16"))
+    ∷ datagram (when_ready + 5010000) (header ++ lined (codes "s:II0003,n:1*03") (codes "$HEHDT,90.0,T*16"))
+    ∷ datagram (when_ready + 5010001) (header ++ lined (codes "s:II0003,n:1*03") (codes "$HEHDT,90.0,T*16"))
     ∷ [])
-    (emitted 10250000 (can_frame 0x09F112FB 0xFF5C3DFF7FFF7FFC)
-    ∷ emitted 10260000 (can_frame 0x09F112FB 0xFF6D3DFF7FFF7FFC)
-    ∷ emitted 15260001 (can_frame 0x09F112FB 0xFF5C3DFF7FFF7FFC)
+    (emitted when_ready (can_frame 0x09F112FB 0xFF5C3DFF7FFF7FFC)
+    ∷ emitted (when_ready + 10000) (can_frame 0x09F112FB 0xFF6D3DFF7FFF7FFC)
+    ∷ emitted (when_ready + 5010001) (can_frame 0x09F112FB 0xFF5C3DFF7FFF7FFC)
     ∷ [])
 
 -- a reading counts as heard where it is not sent on: the second source keeps the third one back
@@ -33,13 +33,13 @@ abbrev pub HeardWhileSilent : Type 0
 HeardWhileSilent =
     Emits listed 10000000
     (tick 10000000
-    ∷ datagram 10250000 (header ++ lined (codes "s:II0002,n:1*02") (codes "$HEHDT,90.0,T*16"))
-    ∷ datagram 11250000 (header ++ lined (codes "s:II0003,n:1*03") (codes "$HEHDT,90.1,T*17"))
-    ∷ datagram 15250001 (header ++ lined (codes "s:II0004,n:1*04") (codes "$HEHDT,90.1,T*17"))
-    ∷ datagram 16250001 (header ++ lined (codes "s:II0004,n:1*04") (codes "$HEHDT,90.1,T*17"))
+    ∷ datagram when_ready (header ++ lined (codes "s:II0002,n:1*02") (codes "$HEHDT,90.0,T*16"))
+    ∷ datagram (when_ready + 1000000) (header ++ lined (codes "s:II0003,n:1*03") (codes "$HEHDT,90.1,T*17"))
+    ∷ datagram (when_ready + 5000001) (header ++ lined (codes "s:II0004,n:1*04") (codes "$HEHDT,90.1,T*17"))
+    ∷ datagram (when_ready + 6000001) (header ++ lined (codes "s:II0004,n:1*04") (codes "$HEHDT,90.1,T*17"))
     ∷ [])
-    (emitted 10250000 (can_frame 0x09F112FB 0xFF5C3DFF7FFF7FFC)
-    ∷ emitted 16250001 (can_frame 0x09F112FB 0xFF6D3DFF7FFF7FFC)
+    (emitted when_ready (can_frame 0x09F112FB 0xFF5C3DFF7FFF7FFC)
+    ∷ emitted (when_ready + 6000001) (can_frame 0x09F112FB 0xFF6D3DFF7FFF7FFC)
     ∷ [])
 
 -- and where the gateway can't send yet
@@ -47,10 +47,10 @@ abbrev pub HeardBeforeReady : Type 0
 HeardBeforeReady =
     Emits listed 10000000
     (tick 10000000
-    ∷ datagram 10249999 (header ++ lined (codes "s:II0002,n:1*02") (codes "$HEHDT,90.0,T*16"))
-    ∷ datagram 10250000 (header ++ lined (codes "s:II0003,n:1*03") (codes "$HEHDT,90.1,T*17"))
+    ∷ datagram (when_ready - 1) (header ++ lined (codes "s:II0002,n:1*02") (codes "$HEHDT,90.0,T*16"))
+    ∷ datagram when_ready (header ++ lined (codes "s:II0003,n:1*03") (codes "$HEHDT,90.1,T*17"))
     ∷ [])
-    (emitted 10249999 (broken not_ready (detail.At 6))
+    (emitted (when_ready - 1) (broken not_ready (detail.At 6))
     ∷ [])
 
 -- a source that says that it has no heading is sent on, and keeps nobody back
@@ -58,11 +58,11 @@ abbrev pub NothingToSay : Type 0
 NothingToSay =
     Emits listed 10000000
     (tick 10000000
-    ∷ datagram 10250000 (header ++ lined (codes "s:II0002,n:1*02") (codes "$HEHDT,,T*01"))
-    ∷ datagram 10260000 (header ++ lined (codes "s:II0003,n:1*03") (codes "$HEHDT,90.1,T*17"))
+    ∷ datagram when_ready (header ++ lined (codes "s:II0002,n:1*02") (codes "$HEHDT,,T*01"))
+    ∷ datagram (when_ready + 10000) (header ++ lined (codes "s:II0003,n:1*03") (codes "$HEHDT,90.1,T*17"))
     ∷ [])
-    (emitted 10250000 (can_frame 0x09F112FB 0xFFFFFFFF7FFF7FFC)
-    ∷ emitted 10260000 (can_frame 0x09F112FB 0xFF6D3DFF7FFF7FFC)
+    (emitted when_ready (can_frame 0x09F112FB 0xFFFFFFFF7FFF7FFC)
+    ∷ emitted (when_ready + 10000) (can_frame 0x09F112FB 0xFF6D3DFF7FFF7FFC)
     ∷ [])
 
 -- lines of one datagram are heard in their order
@@ -70,7 +70,7 @@ abbrev pub SameDatagram : Type 0
 SameDatagram =
     Emits listed 10000000
     (tick 10000000
-    ∷ datagram 10250000 (header ++ lined (codes "s:II0002,n:1*02") (codes "$HEHDT,90.0,T*16") ++ lined (codes "s:II0003,n:1*03") (codes "$HEHDT,90.1,T*17"))
+    ∷ datagram when_ready (header ++ lined (codes "s:II0002,n:1*02") (codes "$HEHDT,90.0,T*16") ++ lined (codes "s:II0003,n:1*03") (codes "$HEHDT,90.1,T*17"))
     ∷ [])
-    (emitted 10250000 (can_frame 0x09F112FB 0xFF5C3DFF7FFF7FFC)
+    (emitted when_ready (can_frame 0x09F112FB 0xFF5C3DFF7FFF7FFC)
     ∷ [])

@@ -1,26 +1,27 @@
 -- What is emitted of the transport protocol.
-use Rattle.std.specs.Prelude.{[], ◌∷◌, codes}
+use Rattle.std.specs.Prelude.{◌+◌, ◌-◌, [], ◌∷◌, codes}
+use Rattle.iso_transport.specs.IsoRuns.{granted_gap}
 use Rattle.history.specs.Entries.{frame, tick}
 use Rattle.history.specs.Settings.{Settings}
 use Rattle.history.specs.Emits.{of_source}
-use Rattle.history.specs.Cases.{Emits, full, can_frame, emitted, navd, two_devices, fix_said}
+use Rattle.history.specs.Cases.{Emits, full, can_frame, emitted, navd, two_devices, fix_said, when_ready}
 
 -- a message of 1785 bytes to the gateway is begun: it grants the first eight packets; a size of 8 is refused
 abbrev pub Granted : Type 0
 Granted =
-    Emits two_devices 10000000 (tick 10000000 ∷ full 10250000 0x1CECFB17 0x10F906FFFF05F801 ∷ [])
-    (emitted 10250000 (can_frame 0x1CEC17FB 0x110801FFFF05F801) ∷ [])
+    Emits two_devices 10000000 (tick 10000000 ∷ full when_ready 0x1CECFB17 0x10F906FFFF05F801 ∷ [])
+    (emitted when_ready (can_frame 0x1CEC17FB 0x110801FFFF05F801) ∷ [])
 
 abbrev pub WrongSize : Type 0
 WrongSize =
-    Emits two_devices 10000000 (tick 10000000 ∷ full 10250000 0x1CECFB17 0x10080002FF05F801 ∷ [])
-    (emitted 10250000 (of_source 18 23 60416) ∷ emitted 10250000 (can_frame 0x1CEC17FB 0xFF02FFFFFF05F801) ∷ [])
+    Emits two_devices 10000000 (tick 10000000 ∷ full when_ready 0x1CECFB17 0x10080002FF05F801 ∷ [])
+    (emitted when_ready (of_source 18 23 60416) ∷ emitted when_ready (can_frame 0x1CEC17FB 0xFF02FFFFFF05F801) ∷ [])
 
--- before the gateway has had its address for 250 ms it answers no sender
+-- before the gateway has had its address for the wait of a claim it answers no sender
 abbrev pub TooEarly : Type 0
 TooEarly =
-    Emits two_devices 10000000 (tick 10000000 ∷ full 10249999 0x1CECFB17 0x10F906FFFF05F801 ∷ [])
-    (emitted 10249999 (of_source 45 23 60416) ∷ [])
+    Emits two_devices 10000000 (tick 10000000 ∷ full (when_ready - 1) 0x1CECFB17 0x10F906FFFF05F801 ∷ [])
+    (emitted (when_ready - 1) (of_source 45 23 60416) ∷ [])
 
 -- with room for one session a second sender is told so, and the first one that it came too late
 abbrev pub one_slot : Settings
@@ -29,12 +30,12 @@ one_slot = record two_devices { iso_slots = 1 }
 abbrev pub NoRoom : Type 0
 NoRoom =
     Emits one_slot 10000000
-    (tick 10000000 ∷ full 10250000 0x1CECFB17 0x10F906FFFF05F801 ∷ full 10251000 0x1CECFB18 0x10F906FFFF05F801 ∷ tick 11500001 ∷ [])
-    (emitted 10250000 (can_frame 0x1CEC17FB 0x110801FFFF05F801)
-    ∷ emitted 10251000 (of_source 15 24 129029)
-    ∷ emitted 10251000 (can_frame 0x1CEC18FB 0xFF01FFFFFF05F801)
-    ∷ emitted 11500001 (of_source 16 23 129029)
-    ∷ emitted 11500001 (can_frame 0x1CEC17FB 0xFF03FFFFFF05F801)
+    (tick 10000000 ∷ full when_ready 0x1CECFB17 0x10F906FFFF05F801 ∷ full (when_ready + 1000) 0x1CECFB18 0x10F906FFFF05F801 ∷ tick (when_ready + granted_gap + 1) ∷ [])
+    (emitted when_ready (can_frame 0x1CEC17FB 0x110801FFFF05F801)
+    ∷ emitted (when_ready + 1000) (of_source 15 24 129029)
+    ∷ emitted (when_ready + 1000) (can_frame 0x1CEC18FB 0xFF01FFFFFF05F801)
+    ∷ emitted (when_ready + granted_gap + 1) (of_source 16 23 129029)
+    ∷ emitted (when_ready + granted_gap + 1) (can_frame 0x1CEC17FB 0xFF03FFFFFF05F801)
     ∷ [])
 
 -- a position fix to all
@@ -63,15 +64,15 @@ abbrev pub GrantedOnce : Type 0
 GrantedOnce =
     Emits two_devices 10000000
     (tick 10000000
-    ∷ full 10250000 0x1CECFB17 0x10F906FFFF05F801
-    ∷ full 10251000 0x1CEBFB17 0x0100DB4C0008AF2F
-    ∷ full 10252000 0x1CEBFB17 0x0200000000000000
-    ∷ full 10253000 0x1CEBFB17 0x0308000000000000
-    ∷ full 10254000 0x1CEBFB17 0x040002E0AEBB0000
-    ∷ full 10255000 0x1CEBFB17 0x0500000010FC0969
-    ∷ full 10256000 0x1CEBFB17 0x0600FF7FF4060000
-    ∷ full 10257000 0x1CEBFB17 0x0700FFFFFFFFFFFF
-    ∷ full 10258000 0x1CEBFB17 0x08FFFFFFFFFFFFFF
-    ∷ full 10259000 0x1CEBFB17 0x08FFFFFFFFFFFFFF
+    ∷ full when_ready 0x1CECFB17 0x10F906FFFF05F801
+    ∷ full (when_ready + 1000) 0x1CEBFB17 0x0100DB4C0008AF2F
+    ∷ full (when_ready + 2000) 0x1CEBFB17 0x0200000000000000
+    ∷ full (when_ready + 3000) 0x1CEBFB17 0x0308000000000000
+    ∷ full (when_ready + 4000) 0x1CEBFB17 0x040002E0AEBB0000
+    ∷ full (when_ready + 5000) 0x1CEBFB17 0x0500000010FC0969
+    ∷ full (when_ready + 6000) 0x1CEBFB17 0x0600FF7FF4060000
+    ∷ full (when_ready + 7000) 0x1CEBFB17 0x0700FFFFFFFFFFFF
+    ∷ full (when_ready + 8000) 0x1CEBFB17 0x08FFFFFFFFFFFFFF
+    ∷ full (when_ready + 9000) 0x1CEBFB17 0x08FFFFFFFFFFFFFF
     ∷ [])
-    (emitted 10250000 (can_frame 0x1CEC17FB 0x110801FFFF05F801) ∷ emitted 10258000 (can_frame 0x1CEC17FB 0x110809FFFF05F801) ∷ [])
+    (emitted when_ready (can_frame 0x1CEC17FB 0x110801FFFF05F801) ∷ emitted (when_ready + 8000) (can_frame 0x1CEC17FB 0x110809FFFF05F801) ∷ [])
