@@ -1,5 +1,5 @@
 -- The parts beside the gateway: who is asked for, RMC, a ship around, the device that a row is taken from, and plain sentences.
-use Rattle.std.specs.Prelude.{◌≡◌, ℕ, true, false, List, [], ◌∷◌, ◌++◌, map, Some, None, codes}
+use Rattle.std.specs.Prelude.{◌≡◌, ℕ, ◌+◌, ◌-◌, true, false, List, [], ◌∷◌, ◌++◌, map, Some, None, codes}
 use Rattle.report_rules.specs.Rules.{claim_lost, fast_orphan, not_ready, source_changed}
 use Rattle.readings.specs.declared.rows.Row.{Row}
 use Rattle.readings.specs.declared.rows.Row.TheVariants as row
@@ -7,7 +7,7 @@ use Rattle.readings.specs.Rows.{every_row}
 use Rattle.datagram450.specs.Datagram.{header}
 use Rattle.gate_events.specs.declared.emit.Detail.TheVariants as detail
 use Rattle.gate_events.specs.Emit.{Emit, Emitted, net}
-use Rattle.history.specs.Cases.{can_frame, emitted, full, lined, navd, started, two_devices}
+use Rattle.history.specs.Cases.{can_frame, emitted, full, lined, navd, started, two_devices, when_ready}
 use Rattle.history.specs.ChoiceCases.{ranked}
 use Rattle.history.specs.Emits.{broken, of_source}
 use Rattle.history.specs.Entries.{Entry, frame}
@@ -46,21 +46,21 @@ asks moment id a b c = frame moment (record { id = id; held = a ∷ b ∷ c ∷ 
 -- each answer is the next fast packet
 abbrev pub AskedTwice : Type 0
 AskedTwice =
-    AllEmit (asks 10250000 0x18EAFB17 0x14 0xF0 0x01 ∷ asks 10260000 0x18EAFF18 0x14 0xF0 0x01 ∷ [])
-    (emitted 10250000 (can_frame 0x19F014FB 0x000A010203040506)
-    ∷ emitted 10250000 (can_frame 0x19F014FB 0x010708090AFFFFFF)
-    ∷ emitted 10260000 (can_frame 0x19F014FB 0x200A010203040506)
-    ∷ emitted 10260000 (can_frame 0x19F014FB 0x210708090AFFFFFF)
+    AllEmit (asks when_ready 0x18EAFB17 0x14 0xF0 0x01 ∷ asks (when_ready + 10000) 0x18EAFF18 0x14 0xF0 0x01 ∷ [])
+    (emitted when_ready (can_frame 0x19F014FB 0x000A010203040506)
+    ∷ emitted when_ready (can_frame 0x19F014FB 0x010708090AFFFFFF)
+    ∷ emitted (when_ready + 10000) (can_frame 0x19F014FB 0x200A010203040506)
+    ∷ emitted (when_ready + 10000) (can_frame 0x19F014FB 0x210708090AFFFFFF)
     ∷ [])
 
 abbrev pub AskedEarly : Type 0
-AskedEarly = AllEmit (asks 10249999 0x18EAFB17 0x14 0xF0 0x01 ∷ []) (emitted 10249999 (of_source not_ready 23 59904) ∷ [])
+AskedEarly = AllEmit (asks (when_ready - 1) 0x18EAFB17 0x14 0xF0 0x01 ∷ []) (emitted (when_ready - 1) (of_source not_ready 23 59904) ∷ [])
 
 -- who holds no address is answered, too; without one of its own it hears what goes to all
 abbrev pub AskedByNobody : Type 0
 AskedByNobody =
-    AllEmit (asks 10250000 0x18EAFB19 0x12 0xF1 0x01 ∷ asks 10260000 0x18EAFBFE 0x12 0xF1 0x01 ∷ [])
-    (emitted 10250000 (can_frame 0x18E819FB 0x01FFFFFFFF12F101) ∷ emitted 10260000 (can_frame 0x18E8FFFB 0x01FFFFFFFF12F101) ∷ [])
+    AllEmit (asks when_ready 0x18EAFB19 0x12 0xF1 0x01 ∷ asks (when_ready + 10000) 0x18EAFBFE 0x12 0xF1 0x01 ∷ [])
+    (emitted when_ready (can_frame 0x18E819FB 0x01FFFFFFFF12F101) ∷ emitted (when_ready + 10000) (can_frame 0x18E8FFFB 0x01FFFFFFFF12F101) ∷ [])
 
 -- ---- RMC
 
