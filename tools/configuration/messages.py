@@ -7,11 +7,11 @@ from typing import NamedTuple, Optional
 from .keys import PAGES, PageChanged
 
 PAGE = "formats.md"
-ROW = re.compile(r"^\| (\d{6}) \|[^|]*\| (?:single|fast) \| \d+ \|([^|]*)\|([^|]*)\|[^|]*\|$", re.MULTILINE)
-FIELD = re.compile(r"(\w+) ([ui])(\d+) at (\d+)")
+ROW = re.compile(r"^\| (\d{6}) \| (?:single|fast), \d+ \|([^|]*)\|([^|]*)\|$", re.MULTILINE)
+FIELD = re.compile(r"(\w+) ([ui])(\d+)@(\d+)")
 SELECTOR = re.compile(r"(?:reference|instance|source), byte (\d+)(?: bits (\d)-(\d))?:")
 # further quantities: their words, and what a message says of which of them it is
-QUANTITIES = re.compile(r"^\| ([a-z][^|]*) \| (\d{6}) \|[^|]*\| (?:single|fast) \| \d+ \|([^|]*)\|[^|]*\|$", re.MULTILINE)
+QUANTITIES = re.compile(r"^\| ([a-z][^|]*) \| (\d{6})[^|]* \| (?:single|fast), \d+ \|([^|]*)\|[^|]*\|[^|]*\|$", re.MULTILINE)
 SELECTS = re.compile(r"byte (\d+)(?: bits (\d)-(\d))?: (.*)")
 VALUE = re.compile(r"\b(?:0x[0-9A-F]{2}|\d+)\b")
 
