@@ -4,6 +4,7 @@ import math
 from typing import Any, NamedTuple, Optional
 
 from configuration.messages import fields, selectors
+from configuration.pages import FORMATS, PageChanged
 
 from .gathering import Point, Series
 from .motion import Motion, Stood
@@ -72,6 +73,7 @@ class Position(NamedTuple):
     moves: bool = True
 
 
+PLACE = "latitude", "longitude"
 POSITIONS = {129025: Position("position", "position", 1e-7), 129029: Position("position of the fix", "gnss", 1e-16)}
 
 
@@ -111,8 +113,18 @@ class Compared:
     def __init__(self, begin, ranks):
         self.begin, self.ranks = begin, ranks
         self.fields, self.selectors = fields(), selectors()
+        self._find_all()
         # by the words of a quantity: what it is, and its sources by their addresses
         self.quantities, self.sources, self.said = {}, {}, {}
+
+    def _find_all(self):
+        """Whether the page has each field that is compared, and each selector."""
+        words = {(pgn, quantity.field) for pgn, by_selector in QUANTITIES.items() for quantities in by_selector.values() for quantity in quantities}
+        words |= {(pgn, word) for pgn in POSITIONS for word in PLACE}
+        missing = {pgn for pgn, word in words if word not in self.fields.get(pgn, ())}
+        missing |= {pgn for pgn, by_selector in QUANTITIES.items() if None not in by_selector and pgn not in self.selectors}
+        if missing:
+            raise PageChanged(FORMATS, f"the fields of {', '.join(map(str, sorted(missing)))} aren't where they were")
 
     def message(self, moment, message, rows_said):
         """A whole message from the bus, and the rows that were said at it. Gives the rows that it is of and has no value of."""
@@ -134,7 +146,7 @@ class Compared:
     def _position(self, moment, pgn, source, data, rows_said):
         """Takes the position of a message, and says whether there is one."""
         position = POSITIONS[pgn]
-        raw = [self.fields[pgn][word].value(data) for word in ("latitude", "longitude")]
+        raw = [self.fields[pgn][word].value(data) for word in PLACE]
         if None in raw:
             return False
         self._beside(position, source).points = None

@@ -1,17 +1,11 @@
 """The keys of a configuration with what each allows, read off docs/configuration.md: it is said there and nowhere else."""
 
 import collections
-import os
 import re
 
 from onboard.identifiers import NAME_FIELDS, name_fields
 
-PAGES = os.path.join(os.path.dirname(os.path.realpath(__file__)), "..", "..", "docs")
-PAGE = "configuration.md"
-
-
-class PageChanged(Exception):
-    """What this reader doesn't find on the page."""
+from .pages import CONFIGURATION, PageChanged, text_of
 
 
 class Form:
@@ -61,12 +55,16 @@ def is_matched(pattern, name):
     return all(fields[field] == value for field, value in stated.items())
 
 
+def cells_of(line):
+    """The cells of a row of a table."""
+    return [cell.strip() for cell in line.strip("|").split(" | ")]
+
+
 class Page:
     """docs/configuration.md as tables and paragraphs."""
 
-    def __init__(self, folder=PAGES):
-        with open(os.path.join(folder, PAGE), encoding="utf-8") as file:
-            self.text = file.read()
+    def __init__(self):
+        self.text = text_of(CONFIGURATION)
         self.runs = self.runs_of_keys()
         self.tables = self.tables_of_keys()
         self.rows = self.rows_of_page()
@@ -75,7 +73,7 @@ class Page:
     def found(self, pattern, what):
         match = re.search(pattern, self.text, re.MULTILINE)
         if match is None:
-            raise PageChanged(f"docs/{PAGE}: {what} isn't where it was")
+            raise PageChanged(CONFIGURATION, f"{what} isn't where it was")
         return match
 
     def paragraph(self, beginning):
@@ -84,12 +82,14 @@ class Page:
 
     def table(self, head):
         """The rows below a table's head, each as its cells."""
-        lines = self.text[self.found(rf"^\| {head} \|.*\n\|[-|]*\n", f"the table of {head!r}").end() :].splitlines()
-        rows = []
-        for line in lines:
+        found = self.found(rf"^(\| {head} \|.*)\n\|[-|]*\n", f"the table of {head!r}")
+        columns, rows = len(cells_of(found.group(1))), []
+        for line in self.text[found.end() :].splitlines():
             if not line.startswith("|"):
-                return rows
-            rows.append([cell.strip() for cell in line.strip("|").split(" | ")])
+                break
+            rows.append(cells_of(line))
+            if len(rows[-1]) != columns:
+                raise PageChanged(CONFIGURATION, f"in the table of {head!r} this row hasn't {columns} cells: {line}")
         return rows
 
     def form_of(self, words):
@@ -115,7 +115,7 @@ class Page:
             "a text": Form(self.paragraph("A text of"), str, text_form("[ -~]{0,32}")),
         }
         if words not in forms:
-            raise PageChanged(f"docs/{PAGE}: no form is known for {words!r}")
+            raise PageChanged(CONFIGURATION, f"no form is known for {words!r}")
         return forms[words]
 
     def runs_of_keys(self):
@@ -147,6 +147,8 @@ class Page:
             told = re.findall(r"\b([A-Z]{3})\b(?: with (?:field (\d)|([A-Z])\b))?", said)
             sentences = [(formatter, int(field) if field else letter or None) for formatter, field, letter in told]
             formatters = re.findall(r"\b[A-Z]{3}\b", heard)
+            if re.fullmatch(r"\d{6}", sent) is None:
+                raise PageChanged(CONFIGURATION, f"the row {name} isn't sent as {sent!r}")
             rows.append(Row(name.strip("`"), words, pgns, selector and selector.group(1), values, sentences, talker, formatters, int(sent)))
         return rows
 

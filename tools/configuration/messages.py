@@ -1,12 +1,10 @@
 """Where the messages of the bus have their values and selectors, read off docs/formats.md: it is said there and nowhere else."""
 
-import os
 import re
 from typing import NamedTuple, Optional
 
-from .keys import PAGES, PageChanged
+from .pages import FORMATS, PageChanged, text_of
 
-PAGE = "formats.md"
 ROW = re.compile(r"^\| (\d{6}) \| (?:single|fast), \d+ \|([^|]*)\|([^|]*)\|$", re.MULTILINE)
 FIELD = re.compile(r"(\w+) ([ui])(\d+)@(\d+)")
 SELECTOR = re.compile(r"(?:reference|instance|source), byte (\d+)(?: bits (\d)-(\d))?:")
@@ -55,13 +53,8 @@ class Field(NamedTuple):
         return value if value < (1 << 8 * self.bytes - self.is_signed) - 3 else None
 
 
-def text_of_page():
-    with open(os.path.join(PAGES, PAGE), encoding="utf-8") as file:
-        return file.read()
-
-
 def rows():
-    return ROW.findall(text_of_page())
+    return ROW.findall(text_of(FORMATS))
 
 
 def fields():
@@ -86,21 +79,21 @@ def sources_of_rows(rows_of_page):
     selecting = selectors()
     for row in rows_of_page:
         if row.selector and not selecting.keys() >= set(row.pgns):
-            raise PageChanged(f"docs/{PAGE}: what tells the row {row.name} from others isn't where it was")
+            raise PageChanged(FORMATS, f"what tells the row {row.name} from others isn't where it was")
     return {row.name: [Source(pgn, selecting[pgn] if row.selector else None, tuple(row.values)) for pgn in row.pgns] for row in rows_of_page}
 
 
 def sources_of_quantities(names_of_page):
     """The messages that each further quantity is taken from, by the quantity's name."""
     found = {}
-    for words, pgn, selects in QUANTITIES.findall(text_of_page()):
+    for words, pgn, selects in QUANTITIES.findall(text_of(FORMATS)):
         names, match = names_of_quantities(words), SELECTS.search(selects)
         values = [int(value, 0) for value in VALUE.findall(match.group(4))] if match else []
         for place, name in enumerate(names):
             own = tuple(values if len(names) == 1 else values[place : place + 1])
             found.setdefault(name, []).append(Source(int(pgn), selector_of(*match.groups()[:3]) if match else None, own))
     if sorted(found) != sorted(names_of_page):
-        raise PageChanged(f"docs/{PAGE}: the messages of further quantities aren't where they were")
+        raise PageChanged(FORMATS, "the messages of further quantities aren't where they were")
     return found
 
 
