@@ -12,11 +12,11 @@ _shipgate() {
   fi
 }
 
-# The words of a tool are those of its help; whatever else stands there may be a file.
+# A tool's options are those that its help lists: each begins a line there. Its text also names options of other tools. Any other word may be a file.
 _shipgate_tool() {
   local word=${COMP_WORDS[COMP_CWORD]}
   case $word in
-    -*) mapfile -t COMPREPLY < <(compgen -W "$("$1" --help 2>/dev/null | grep -o -- '--[a-z][a-z-]*' | sort -u)" -- "$word") ;;
+    -*) mapfile -t COMPREPLY < <(compgen -W "$("$1" --help 2>/dev/null | sed -n 's/^  \(-h, \)\?\(--[a-z-]*\).*/\2/p')" -- "$word") ;;
     *) mapfile -t COMPREPLY < <(compgen -f -- "$word") ;;
   esac
 }
