@@ -1,0 +1,53 @@
+-- What a part beside the gateway makes of one more entry, which the gateway has taken.
+use Rattle.std.specs.Prelude.{◌≡◌, ℕ, List, ◌∷◌}
+use Rattle.gate_events.specs.Emit.{Emit}
+use Rattle.history.specs.AddressLaws.{AreSettings}
+use Rattle.history.specs.Entries.{Entry, History, IsHistory, command, now}
+use Rattle.history.specs.Settings.{Settings}
+use Rattle.gate_model.specs.Machine.{Machine}
+use Rattle.gate_outbox.specs.Output.{Emitted, Output, emits_of}
+use Rattle.gate_core.specs.Promises.{IsTaken}
+
+-- the most emits of all parts at one event
+abbrev pub most_output : ℕ
+most_output = 65535
+
+-- the gateway has taken the entry, with this output
+pub record IsStepped (c : Settings) (s : ℕ) (h : History) (e : Entry) (gateway : Machine) (outbox : Output) : Type 0 where
+  pub settings : AreSettings c
+  pub could : IsHistory (e ∷ h)
+  pub taken : IsTaken c s h e gateway outbox
+
+-- the part stands for one entry more, and what it gave is what the history says that it gives
+pub record IsGiven {R K : Type 0} (stands : R → Settings → ℕ → History → K → Type 0) (gives : R → Settings → ℕ → History → Entry → List Emit)
+    (output : K → List Emit) (r : R) (c : Settings) (s : ℕ) (h : History) (e : Entry) (after : K) : Type 0 where
+  pub stood : stands r c s (e ∷ h) after
+  pub emits : output after ≡ gives r c s h e
+
+-- for every history for which it stands before
+abbrev pub Takes : {R K : Type 0} → (R → Settings → ℕ → History → K → Type 0) → (R → Settings → ℕ → History → Entry → List Emit)
+    → (K → List Emit) → Machine → Output → Entry → K → K → Type 0
+Takes {R} {K} stands gives output gateway outbox e before after =
+    (r : R) (c : Settings) (s : ℕ) (h : History) → IsStepped c s h e gateway outbox → stands r c s h before → IsGiven stands gives output r c s h e after
+
+-- it stands for the same histories as before
+abbrev pub Keeps : {R K : Type 0} → (R → Settings → ℕ → History → K → Type 0) → K → K → Type 0
+Keeps {R} {K} stands before after = (r : R) (c : Settings) (s : ℕ) (h : History) → stands r c s h before → stands r c s h after
+
+-- it stands for a history with a command as well, which comes at the moment of the last entry
+abbrev pub KeepsCommands : {R K : Type 0} → (R → Settings → ℕ → History → K → Type 0) → Type 0
+KeepsCommands {R} {K} stands =
+    (r : R) (c : Settings) (s : ℕ) (h : History) (source address : ℕ) (k : K) → AreSettings c → stands r c s h k
+    → stands r c s (command (now h) source address ∷ h) k
+
+-- ---- of one part, what it gave
+
+pub record IsSaid {R K : Type 0} (stands : R → Settings → ℕ → History → K → Type 0) (gives : R → Settings → ℕ → History → Entry → List Emit)
+    (r : R) (c : Settings) (s : ℕ) (h : History) (e : Entry) (after : K) (given : Emitted) : Type 0 where
+  pub stood : stands r c s (e ∷ h) after
+  pub emits : emits_of given ≡ gives r c s h e
+
+abbrev pub Says : {R K : Type 0} → (R → Settings → ℕ → History → K → Type 0) → (R → Settings → ℕ → History → Entry → List Emit)
+    → Machine → Output → Entry → K → K → Emitted → Type 0
+Says {R} {K} stands gives gateway outbox e before after given =
+    (r : R) (c : Settings) (s : ℕ) (h : History) → IsStepped c s h e gateway outbox → stands r c s h before → IsSaid stands gives r c s h e after given

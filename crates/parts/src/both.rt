@@ -1,0 +1,63 @@
+//! Parts, and others behind them.
+ghost use Rattle.std.specs.Prelude.{◌≡◌, ◌+◌, ◌≤◌, ◌++◌, length};
+ghost use Rattle.parts.specs.Compose.{both_give, both_keep_commands, both_output, both_stand};
+
+use crate::parts::Parts;
+use gate_core::{Gateway, Outbox};
+use gate_events::{Emit, Event};
+use sentence_text::Group;
+
+impl<A: Parts, B: Parts> Parts for (A, B) {
+    ghost Rule = { A.Rule × B.Rule };
+
+    ghost stands = { both_stand A.stands B.stands };
+
+    ghost gives = { both_give A.gives B.gives };
+
+    ghost output = { both_output A.output B.output };
+
+    ghost plain = { both_output A.plain B.plain };
+
+    ghost most = { A.most + B.most };
+
+    fn clear(&mut self) {
+        self.0.clear();
+        self.1.clear();
+    }
+
+    fn after(&mut self, gateway: &Gateway, outbox: &Outbox, event: &Event<'_>) -> bool {
+        let first_gave = self.0.after(gateway, outbox, event);
+        let second_gave = self.1.after(gateway, outbox, event);
+        first_gave || second_gave
+    }
+
+    #[tactic(auto, using(plain_out::proofs::Emits::plain_append))]
+    fn say_plain(&mut self, group: Group) {
+        self.0.say_plain(group);
+        self.1.say_plain(group);
+    }
+
+    fn len(&self) -> usize {
+        self.0.len() + self.1.len()
+    }
+
+    fn item(&self, place: usize) -> Option<Emit<'_>> {
+        match place.checked_sub(self.0.len()) {
+            None => self.0.item(place),
+            Some(place) => self.1.item(place),
+        }
+    }
+
+    fn plain_len(&self) -> usize {
+        self.0.plain_len() + self.1.plain_len()
+    }
+
+    fn plain_item(&self, place: usize) -> Option<Emit<'_>> {
+        match place.checked_sub(self.0.plain_len()) {
+            None => self.0.plain_item(place),
+            Some(place) => self.1.plain_item(place),
+        }
+    }
+
+    ghost commands = { both_keep_commands A.stands B.stands A.commands B.commands };
+}

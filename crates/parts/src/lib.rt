@@ -1,0 +1,15 @@
+//! Parts beside the gateway, in one form: what each keeps, what it gives at an event that the gateway took, and how several are put together.
+//!
+//! No call but [`Lane::new`] takes memory.
+#![tactic(auto)]
+
+mod both;
+mod given;
+mod lane;
+mod maybe;
+mod part;
+mod parts;
+
+pub use lane::Lane;
+pub use part::Part;
+pub use parts::Parts;

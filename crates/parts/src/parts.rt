@@ -1,0 +1,81 @@
+//! Parts beside the gateway, put together.
+ghost use Rattle.std.specs.Prelude.{◌≡◌, ◌≤◌, ℕ, false, List, [], length, option_map, slice_get, IfSome};
+ghost use Rattle.gate_events.specs.Emit.{CanWrite, Emit};
+ghost use Rattle.gate_outbox.specs.Output.{emit_of};
+ghost use Rattle.gate_core.specs.Steps.{IsEventValid, entry_of};
+ghost use Rattle.history.specs.Entries.{Entry, History};
+ghost use Rattle.history.specs.Settings.{Settings};
+ghost use Rattle.plain_out.specs.Plain.{plain_out};
+ghost use Rattle.parts.specs.PartSteps.{Keeps, KeepsCommands, Takes, most_output};
+
+use gate_core::{Gateway, Outbox};
+use gate_events::{Emit, Event};
+use sentence_text::Group;
+
+/// Parts that keep what they gave at the last event, those of each behind those of the one before.
+pub trait Parts: Drop {
+    /// By what they are configured.
+    ghost Rule: { Type 0 };
+
+    /// What they keep stands for a history of a gateway of these settings since this start.
+    ghost stands: { Rule → Settings → ℕ → History → Self → Type 0 };
+
+    /// What they give at an entry, over everything that ever came.
+    ghost gives: { Rule → Settings → ℕ → History → Entry → List Emit };
+
+    /// What they gave at the last event, in its order.
+    ghost output: { Self → List Emit };
+
+    /// The datagrams of it once more, as plain sentences.
+    ghost plain: { Self → List Emit };
+
+    /// The most emits of an event.
+    ghost most: { ℕ };
+
+    /// Forgets what they gave.
+    fn clear(&mut self)
+        ensures kept { Keeps stands self.old self.new }
+        ensures output { output self.new ≡ [] }
+        ensures plain { plain self.new ≡ [] };
+
+    /// Takes an event that the gateway took in its last step, with this output. Says whether any part gave something: if none did, nobody
+    /// has to ask each.
+    fn after(&mut self, gateway: &Gateway, outbox: &Outbox, event: &Event<'_>) -> bool
+        requires valid { IsEventValid event.now }
+        ensures takes { Takes stands gives output gateway.now outbox.now (entry_of event.now) self.old self.new }
+        ensures plain { plain self.new ≡ plain self.old }
+        ensures gave { result ≡ false → output self.new ≡ [] };
+
+    /// Says the datagrams of the last event once more, as plain sentences for this transmission group.
+    fn say_plain(&mut self, group: Group)
+        ensures kept { Keeps stands self.old self.new }
+        ensures output { output self.new ≡ output self.old }
+        ensures plain { plain self.new ≡ plain_out group (output self.old) };
+
+    /// How many emits they gave at the last event.
+    fn len(&self) -> usize
+        requires { most ≤ most_output }
+        ensures len { result ≡ length (output self.now) }
+        ensures few { length (output self.now) ≤ most };
+
+    /// The emit at this place of those that they gave at the last event, from 0; None exactly beyond the list.
+    fn item(&self, place: usize) -> Option<Emit<'_>>
+        requires { most ≤ most_output }
+        ensures emit { option_map emit_of result ≡ slice_get (output self.now) place }
+        ensures valid { IfSome result CanWrite };
+
+    /// How many plain datagrams there are.
+    fn plain_len(&self) -> usize
+        requires { most ≤ most_output }
+        ensures len { result ≡ length (plain self.now) }
+        ensures few { length (plain self.now) ≤ most };
+
+    /// The plain datagram at this place, from 0; None exactly beyond the list.
+    fn plain_item(&self, place: usize) -> Option<Emit<'_>>
+        requires { most ≤ most_output }
+        ensures emit { option_map emit_of result ≡ slice_get (plain self.now) place }
+        ensures valid { IfSome result CanWrite };
+
+    /// A command to go to an address is no event for them.
+    ghost commands: { KeepsCommands stands };
+}
