@@ -30,7 +30,9 @@ use Rattle.bus_identity.specs.PgnLists.{product_information, pgn_lists}
 use Rattle.n2k_id.specs.Pgns.{asked_of}
 use Rattle.bus_identity.specs.Requests.{is_due}
 use Rattle.bridge.specs.Answered.{answer_by, answered_before, own_after, ready_after, sent_before}
-use Rattle.bridge.specs.Beside.{AnsweringStands, IsAnswered, IsAnswering, IsStepped}
+use Rattle.bridge.specs.Beside.{answering_gives, answering_stands}
+use Rattle.bridge.specs.declared.answering.Answering.{Answering}
+use Rattle.parts.specs.PartSteps.{IsSaid, IsStepped, Says}
 
 -- ---- what is told
 
@@ -77,11 +79,11 @@ sent_then c s information h m f =
 
 -- ---- an entry that the gateway has taken
 
-module _ (information : List ℕ) (c : Settings) (s : ℕ) (h : History) (g : Machine) (left : Output) (before after : Kept) (given : Emitted) where
-  frame_answered : (m : ℕ) (f : BusFrame) → IsStepped c s h (entry.frame m f) g left → AnsweringStands information c s h before
-      → after ≡ kept_after before g.addresses.claims.own (is_ready g.addresses.claims g.moment) f
-      → emits_of given ≡ answer_by before g.addresses.claims.own (is_ready g.addresses.claims g.moment) f
-      → IsAnswered information c s h (entry.frame m f) after given
+module _ (information : List ℕ) (c : Settings) (s : ℕ) (h : History) (g : Machine) (left : Output) (before after : Answering) (given : Emitted) where
+  frame_answered : (m : ℕ) (f : BusFrame) → IsStepped c s h (entry.frame m f) g left → answering_stands information c s h before
+      → after.identity ≡ kept_after before.identity g.addresses.claims.own (is_ready g.addresses.claims g.moment) f
+      → emits_of given ≡ answer_by before.identity g.addresses.claims.own (is_ready g.addresses.claims g.moment) f
+      → IsSaid answering_stands answering_gives information c s h (entry.frame m f) after given
   frame_answered m f step stands kept is =
       let e : Entry = entry.frame m f in
       let standing = step.taken.stands in
@@ -90,7 +92,7 @@ module _ (information : List ℕ) (c : Settings) (s : ℕ) (h : History) (g : Ma
       let ready : is_ready g.addresses.claims g.moment ≡ ready_after c s h e =
       ap (is_ready g.addresses.claims) standing.moment ∙ tells.ready m in
       record {
-        stands = kept ∙ ap (λ (k : Kept). kept_after k g.addresses.claims.own (is_ready g.addresses.claims g.moment) f) stands
+        stood = kept ∙ ap (λ (k : Kept). kept_after k g.addresses.claims.own (is_ready g.addresses.claims g.moment) f) stands
             ∙ ap (λ (o : Option ℕ). kept_after (sent_before c s information h) o (is_ready g.addresses.claims g.moment) f) own
             ∙ ap (λ (r : Bool). kept_after (sent_before c s information h) (own_after c s h e) r f) ready
             ∙ sym (sent_then c s information h m f);
@@ -100,14 +102,15 @@ module _ (information : List ℕ) (c : Settings) (s : ℕ) (h : History) (g : Ma
       }
 
 -- a frame is answered where nothing was told before
-pub event_answered : (room : ℕ) (e : Event) (m : ℕ) (f : Frame) (g : Machine) (before after : Kept) (empty given : Emitted) → e ≡ event.Frame m f → empty ≡ no_emits
-    → after ≡ kept_after before g.addresses.claims.own (is_ready g.addresses.claims g.moment) (bus_frame f)
-    → given ≡ and_told room empty (answer_by before g.addresses.claims.own (is_ready g.addresses.claims g.moment) (bus_frame f))
-    → length (answer_by before g.addresses.claims.own (is_ready g.addresses.claims g.moment) (bus_frame f)) ≤ room
-    → (left : Output) → IsAnswering g left (entry_of e) before after given
+pub event_answered : (room : ℕ) (e : Event) (m : ℕ) (f : Frame) (g : Machine) (before after : Answering) (empty given : Emitted) → e ≡ event.Frame m f
+    → empty ≡ no_emits
+    → after.identity ≡ kept_after before.identity g.addresses.claims.own (is_ready g.addresses.claims g.moment) (bus_frame f)
+    → given ≡ and_told room empty (answer_by before.identity g.addresses.claims.own (is_ready g.addresses.claims g.moment) (bus_frame f))
+    → length (answer_by before.identity g.addresses.claims.own (is_ready g.addresses.claims g.moment) (bus_frame f)) ≤ room
+    → (left : Output) → Says answering_stands answering_gives g left (entry_of e) before after given
 event_answered room e m f g before after empty given is nothing kept told few left =
-    let es = answer_by before g.addresses.claims.own (is_ready g.addresses.claims g.moment) (bus_frame f) in
-    subst (λ (x : Event). IsAnswering g left (entry_of x) before after given) (sym is)
+    let es = answer_by before.identity g.addresses.claims.own (is_ready g.addresses.claims g.moment) (bus_frame f) in
+    subst (λ (x : Event). Says answering_stands answering_gives g left (entry_of x) before after given) (sym is)
     (λ information c s h step stands.
     frame_answered information c s h g left before after given m (bus_frame f) step stands kept
     (ap emits_of (told ∙ ap (λ x. and_told room x es) nothing) ∙ all_told room es few))

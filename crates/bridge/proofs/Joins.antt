@@ -1,8 +1,7 @@
 -- What RMC gives beside the gateway is what the definition over all that ever came says.
 use Rattle.std.proofs.Common.{◌≡◌, ℕ, Bool, true, false, List, [], ◌∷◌, ◌++◌, refl, sym, ap, ◌∙◌}
 use Rattle.std.specs.Prelude.{Option, Some, None, is_some}
-use Rattle.history.specs.Entries as entry
-use Rattle.history.specs.Entries.{Entry, History}
+use Rattle.history.specs.Entries.{Entry}
 use Rattle.history.specs.Settings.{Settings}
 use Rattle.gate_model.specs.Machine.{Machine}
 use Rattle.gate_events.specs.Emit.{net}
@@ -10,8 +9,8 @@ use Rattle.gate_outbox.specs.Output.{Emitted, Output, emits_of, no_emits, with_p
 use Rattle.joined_rmc.specs.JoinStands.{IsJoinStep}
 use Rattle.joined_rmc.specs.Kept.{bytes_in}
 use Rattle.joined_rmc.specs.RmcOut.{RmcRule, rmc_datagram, sent_to}
-use Rattle.joined_rmc.proofs.Commands.{commands_keep_joins}
-use Rattle.bridge.specs.Beside.{IsJoining, JoiningStands}
+use Rattle.parts.specs.PartSteps.{Says}
+use Rattle.bridge.specs.Beside.{joining_gives, joining_stands}
 use Rattle.bridge.specs.declared.joining.Joining.{Joining}
 
 -- it is said exactly where the history says so, as it says
@@ -27,34 +26,19 @@ none_sent r c s (Some bytes) said = absurd cc
 module _ (g : Machine) (left : Output) (e : Entry) (before after : Joining) (said : Bool) (packet : List ℕ)
     (is : IsJoinStep g left before.join after.join said packet) (same : after.group ≡ before.group) where
   pub rmc_said : (out : Emitted) (group : List ℕ) → out ≡ no_emits → group ≡ before.group → said ≡ true
-      → IsJoining g left e (Some before) (Some after) (with_posted out (net group packet ∷ []))
-  rmc_said out group empty to there None c s h step stands = absurd stands
-  rmc_said out group empty to there (Some r) c s h step stands =
+      → Says joining_stands joining_gives g left e before after (with_posted out (net group packet ∷ []))
+  rmc_said out group empty to there r c s h step stands =
       let j = is r c s h e step.settings step.taken stands.1 in
       record {
-        stands = (same ∙ stands.0, j.stands);
+        stood = (same ∙ stands.0, j.stands);
         emits = ap (λ x. x.told ++ net group packet ∷ []) empty
             ∙ sent_as r c s group packet (rmc_datagram r c s h e) (to ∙ stands.0) j.packet_is (sym there ∙ j.said_is);
       }
 
-  pub rmc_silent : (given : Emitted) → given ≡ no_emits → said ≡ false → IsJoining g left e (Some before) (Some after) given
-  rmc_silent given empty none None c s h step stands = absurd stands
-  rmc_silent given empty none (Some r) c s h step stands =
+  pub rmc_silent : (given : Emitted) → given ≡ no_emits → said ≡ false → Says joining_stands joining_gives g left e before after given
+  rmc_silent given empty none r c s h step stands =
       let j = is r c s h e step.settings step.taken stands.1 in
       record {
-        stands = (same ∙ stands.0, j.stands);
+        stood = (same ∙ stands.0, j.stands);
         emits = ap emits_of empty ∙ none_sent r c s (rmc_datagram r c s h e) (sym none ∙ j.said_is);
       }
-
-pub none_joined : (g : Machine) (left : Output) (e : Entry) → IsJoining g left e None None no_emits
-none_joined g left e None c s h step stands = record { stands = tt; emits = refl }
-none_joined g left e (Some r) c s h step stands = absurd stands
-
--- ---- a command
-
-pub commanded_joins : (rmc : Option RmcRule) (c : Settings) (s : ℕ) (h : History) (m source address : ℕ) (j : Option Joining)
-    → JoiningStands rmc c s h j → JoiningStands rmc c s (entry.command m source address ∷ h) j
-commanded_joins None c s h m source address None stands = stands
-commanded_joins None c s h m source address (Some j) stands = stands
-commanded_joins (Some r) c s h m source address None stands = stands
-commanded_joins (Some r) c s h m source address (Some j) stands = (stands.0, commands_keep_joins r c s h m source address j.join stands.1)

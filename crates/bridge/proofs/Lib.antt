@@ -2,10 +2,9 @@ pub use Rattle.gate_core.proofs.Completed
 pub mod Answers
 pub mod Changes
 pub mod Joins
-pub mod Plains
-pub mod Ships
-pub mod Quantities
-pub mod Usual
+pub mod Made
+pub mod ShipSteps
+pub mod QuantitySteps
 pub mod Steps
 pub mod PartCases
 pub mod Reached

@@ -14,25 +14,25 @@ use Rattle.history.specs.Messages.{done}
 use Rattle.history.specs.Settings.{receiver_of}
 use Rattle.bridge.specs.BridgeStands.{BridgeStands, IsBridged, IsBridgeStep, IsOrder, IsRefused}
 use Rattle.bridge.specs.Gate.{all_out, stepped, with_command}
-use Rattle.bridge.specs.Kept.{Bridged, left_at, left_of, ordered_left}
-use Rattle.bridge.specs.Parts.{Parts}
+use Rattle.bridge.specs.Kept.{Bridged, output_at, output_of, ordered_output}
+use Rattle.bridge.specs.BridgeSettings.{BridgeSettings}
 
 pub both_at : (m : ℕ) (xs ys : List Emit) → at m xs ++ at m ys ≡ at m (xs ++ ys)
 both_at m xs ys = sym (map-append (λ (e : Emit). record { moment = m; emit = e }) xs ys)
 
-pub left_is : (b : Bridged) (k m : ℕ) (emits : List Emit) → k ≡ m → left_of b ≡ emits → left_at k b ≡ at m emits
-left_is b k m emits same is = ap (λ (x : ℕ). left_at x b) same ∙ ap (λ (es : List Emit). at m es) is
+pub output_is : (b : Bridged) (k m : ℕ) (emits : List Emit) → k ≡ m → output_of b ≡ emits → output_at k b ≡ at m emits
+output_is b k m emits same is = ap (λ (x : ℕ). output_at x b) same ∙ ap (λ (es : List Emit). at m es) is
 
-module _ (p : Parts) (s : ℕ) (h : History) (e : Entry) where
+module _ (p : BridgeSettings) (s : ℕ) (h : History) (e : Entry) where
   pub record Reached (x : Stepped p.gateway s) (due : List Emitted) (after : Bridged) : Type 0 where
     pub due_is : due ≡ x.emits
     pub could : IsHistory x.after
     pub stands : BridgeStands p s x.after after
 
-  ordered : (c : Option Command) (b after : Bridged) → IsHistory (e ∷ h) → BridgeStands p s (e ∷ h) b → left_of b ≡ all_out p s h e → IsOrder c b after
-      → Reached (with_command p s h e (option_map (entry_by (moment_of e)) c)) (left_at b.gateway.moment b ++ ordered_left c after) after
+  ordered : (c : Option Command) (b after : Bridged) → IsHistory (e ∷ h) → BridgeStands p s (e ∷ h) b → output_of b ≡ all_out p s h e → IsOrder c b after
+      → Reached (with_command p s h e (option_map (entry_by (moment_of e)) c)) (output_at b.gateway.moment b ++ ordered_output c after) after
   ordered None b after could stands left same = record {
-    due_is = append-nil (left_at b.gateway.moment b) ∙ left_is b b.gateway.moment (moment_of e) (all_out p s h e) stands.gateway.moment left;
+    due_is = append-nil (output_at b.gateway.moment b) ∙ output_is b b.gateway.moment (moment_of e) (all_out p s h e) stands.gateway.moment left;
     could = could;
     stands = subst (λ (x : Bridged). BridgeStands p s (e ∷ h) x) (sym same) stands;
   }
@@ -42,55 +42,55 @@ module _ (p : Parts) (s : ℕ) (h : History) (e : Entry) where
       let next = entry_by m c in
       record {
         due_is =
-            ap (λ (x : List Emitted). left_at b.gateway.moment b ++ x)
-            (left_is after after.gateway.moment m (out p.gateway s (e ∷ h) next) obeyed.stands.gateway.moment obeyed.emits)
+            ap (λ (x : List Emitted). output_at b.gateway.moment b ++ x)
+            (output_is after after.gateway.moment m (out p.gateway s (e ∷ h) next) obeyed.stands.gateway.moment obeyed.emits)
             ∙ ap (λ (x : List Emitted). x ++ at m (out p.gateway s (e ∷ h) next))
-            (left_is b b.gateway.moment m (all_out p s h e) stands.gateway.moment left)
+            (output_is b b.gateway.moment m (all_out p s h e) stands.gateway.moment left)
             ∙ both_at m (all_out p s h e) (out p.gateway s (e ∷ h) next);
         could = obeyed.could;
         stands = obeyed.stands;
       }
 
-  accepted : (b after : Bridged) → is_accepted h e ≡ true → IsBridged p s h e b → IsOrder b.left.outbox.command b after
-      → Reached (stepped p s h e) (left_at b.gateway.moment b ++ ordered_left b.left.outbox.command after) after
+  accepted : (b after : Bridged) → is_accepted h e ≡ true → IsBridged p s h e b → IsOrder b.output.outbox.command b after
+      → Reached (stepped p s h e) (output_at b.gateway.moment b ++ ordered_output b.output.outbox.command after) after
   accepted b after accepts is order =
       let c = command_in p.gateway s (done (receiver_of p.gateway) s h e) (moment_of e) in
       let so : stepped p s h e ≡ with_command p s h e c = rw accepts refl in
-      subst (λ (x : Stepped p.gateway s). Reached x (left_at b.gateway.moment b ++ ordered_left b.left.outbox.command after) after)
+      subst (λ (x : Stepped p.gateway s). Reached x (output_at b.gateway.moment b ++ ordered_output b.output.outbox.command after) after)
       (ap (with_command p s h e) is.ordered ∙ sym so)
-      (ordered b.left.outbox.command b after is.could is.stands is.emits order)
+      (ordered b.output.outbox.command b after is.could is.stands is.emits order)
 
-  refused : (b after : Bridged) → IsHistory h → is_accepted h e ≡ false → IsRefused p s h b → IsOrder b.left.outbox.command b after
-      → Reached (stepped p s h e) (left_at b.gateway.moment b ++ ordered_left b.left.outbox.command after) after
+  refused : (b after : Bridged) → IsHistory h → is_accepted h e ≡ false → IsRefused p s h b → IsOrder b.output.outbox.command b after
+      → Reached (stepped p s h e) (output_at b.gateway.moment b ++ ordered_output b.output.outbox.command after) after
   refused b after could refuses is order =
       let same : after ≡ b = subst (λ (c : Option Command). IsOrder c b after) is.unordered order in
       let early : Stepped p.gateway s = record { emits = at (now h) (broken rules.moment_back detail.Nothing ∷ []); after = h } in
       let so : stepped p s h e ≡ early = rw refuses refl in
-      subst (λ (x : Stepped p.gateway s). Reached x (left_at b.gateway.moment b ++ ordered_left b.left.outbox.command after) after) (sym so)
+      subst (λ (x : Stepped p.gateway s). Reached x (output_at b.gateway.moment b ++ ordered_output b.output.outbox.command after) after) (sym so)
       (record {
         due_is =
-            ap (λ (c : Option Command). left_at b.gateway.moment b ++ ordered_left c after) is.unordered
-            ∙ append-nil (left_at b.gateway.moment b)
-            ∙ left_is b b.gateway.moment (now h) (broken rules.moment_back detail.Nothing ∷ []) is.stands.gateway.moment is.emits;
+            ap (λ (c : Option Command). output_at b.gateway.moment b ++ ordered_output c after) is.unordered
+            ∙ append-nil (output_at b.gateway.moment b)
+            ∙ output_is b b.gateway.moment (now h) (broken rules.moment_back detail.Nothing ∷ []) is.stands.gateway.moment is.emits;
         could = could;
         stands = subst (λ (x : Bridged). BridgeStands p s h x) (sym same) is.stands;
       })
 
   reached_by : (answer : Bool) → is_accepted h e ≡ answer → (before b after : Bridged) → IsHistory h → BridgeStands p s h before → IsBridgeStep e before b
-      → IsOrder b.left.outbox.command b after → Reached (stepped p s h e) (left_at b.gateway.moment b ++ ordered_left b.left.outbox.command after) after
+      → IsOrder b.output.outbox.command b after → Reached (stepped p s h e) (output_at b.gateway.moment b ++ ordered_output b.output.outbox.command after) after
   reached_by true accepts before b after could stands step order = accepted b after accepts ((step p s h could stands).0 accepts) order
   reached_by false refuses before b after could stands step order = refused b after could refuses ((step p s h could stands).1 refuses) order
 
-  pub reached : (before b after : Bridged) → IsHistory h → BridgeStands p s h before → IsBridgeStep e before b → IsOrder b.left.outbox.command b after
-      → Reached (stepped p s h e) (left_at b.gateway.moment b ++ ordered_left b.left.outbox.command after) after
+  pub reached : (before b after : Bridged) → IsHistory h → BridgeStands p s h before → IsBridgeStep e before b → IsOrder b.output.outbox.command b after
+      → Reached (stepped p s h e) (output_at b.gateway.moment b ++ ordered_output b.output.outbox.command after) after
   reached before b after could stands step order = reached_by (is_accepted h e) refl before b after could stands step order
 
 -- ---- the command that an event left, or none
 
-pub ordered_some : (c : Option Command) (after : Bridged) (m : ℕ) → is_some c ≡ true → m ≡ after.gateway.moment → left_at m after ≡ ordered_left c after
+pub ordered_some : (c : Option Command) (after : Bridged) (m : ℕ) → is_some c ≡ true → m ≡ after.gateway.moment → output_at m after ≡ ordered_output c after
 ordered_some None after m some same = absurd cc
-ordered_some (Some c) after m some same = ap (λ (k : ℕ). left_at k after) same
+ordered_some (Some c) after m some same = ap (λ (k : ℕ). output_at k after) same
 
-pub ordered_none : (c : Option Command) (after : Bridged) → is_some c ≡ false → [] ≡ ordered_left c after
+pub ordered_none : (c : Option Command) (after : Bridged) → is_some c ≡ false → [] ≡ ordered_output c after
 ordered_none None after none = refl
 ordered_none (Some c) after none = absurd cc

@@ -1,7 +1,6 @@
 -- What each call of the bridge makes of what stands, put together from the gateway's call and those of the parts beside it.
-use Rattle.std.proofs.Common.{◌≡◌, ℕ, ◌<◌, Bool, true, false, List, [], ◌∷◌, ◌++◌, refl, sym, ap, subst, ◌∙◌, arith}
+use Rattle.std.proofs.Common.{◌≡◌, ℕ, ◌<◌, Bool, true, false, List, [], ◌∷◌, ◌++◌, refl, sym, ap, subst, ◌∙◌, append_assoc, arith}
 use Rattle.std.specs.Prelude.{nat_le, Option, None, Some, option_map}
-use Rattle.n2k_id.specs.declared.name.Name.{Name}
 use Rattle.std.proofs.lemmas.Bool.{leb-true}
 use Rattle.std.proofs.lemmas.List.{append-nil, length-take}
 use Rattle.gate_events.specs.Event as lines
@@ -17,23 +16,18 @@ use Rattle.gate_outbox.specs.declared.done.Command.{Command}
 use Rattle.gate_outbox.specs.Output.{Output, emits_of}
 use Rattle.gate_core.specs.Promises.{IsTaken, IsTooEarly, IsStep, IsCommandStep, entry_by}
 use Rattle.gate_core.specs.Steps.{by_keys, entry_of, only_told, IsEventValid}
-use Rattle.bridge.specs.Beside.{IsStepped, plain_each}
-use Rattle.bridge.specs.BridgeStands.{BridgeStands, IsBesideStep, IsBridged, IsBridgeStep, IsCommanded, IsObeyed, IsRefused, IsStart}
+use Rattle.parts.specs.PartSteps.{IsStepped, Takes}
+use Rattle.plain_out.specs.Plain.{plain_out}
+use Rattle.plain_out.proofs.Emits.{behind_none}
+use Rattle.bridge.specs.Beside.{AreCleared, BesideKept, are_beside, beside_give, beside_output, beside_plain, rules_of}
+use Rattle.bridge.specs.Commands.{beside_keep_commands}
+use Rattle.bridge.specs.BridgeStands.{BridgeStands, IsBesideStep, IsBridged, IsBridgeStep, IsCommanded, IsObeyed, IsRefused, IsSaidAgain, IsStart, IsUnposted}
 use Rattle.bridge.specs.Answered.{answers}
 use Rattle.bridge.specs.Gate.{NothingFurther, changes_of, plain_of, quantities_of, rmc_of, ships_of, tagged_out}
-use Rattle.ais_bridge.specs.AisKept.{AisKept}
 use Rattle.further_bridge.specs.FurtherRule.{FurtherRule}
-use Rattle.further_bridge.specs.Kept.{FurtherKept}
-use Rattle.bus_identity.specs.Answers.{Kept as Counted}
-use Rattle.bridge.specs.declared.joining.Joining.{Joining}
-use Rattle.bridge.specs.declared.left.Left.{Left}
-use Rattle.bridge.specs.Kept.{Bridged, all_left, left_by, nothing_left, plain_left}
-use Rattle.bridge.specs.Parts.{Parts}
-use Rattle.bridge.proofs.Changes.{commanded_names}
-use Rattle.bridge.proofs.Joins.{commanded_joins}
-use Rattle.bridge.proofs.Plains.{answers_plain, behind_all, changes_plain, each_plain}
-use Rattle.bridge.proofs.Quantities.{commanded_quantities}
-use Rattle.bridge.proofs.Ships.{commanded_ships}
+use Rattle.bridge.specs.declared.call_output.CallOutput.{CallOutput}
+use Rattle.bridge.specs.Kept.{Bridged, output_by, no_output, plain_output}
+use Rattle.bridge.specs.BridgeSettings.{BridgeSettings}
 
 -- ---- an event may follow
 
@@ -52,30 +46,26 @@ goes_on e h valid could accepted = (offered e valid, in_time e h accepted, could
 
 -- ---- the gateway was called, and left this
 
-abbrev pub bridge_of : Bool → Machine → Counted → Option Joining → Option AisKept → Option FurtherKept → Option (List (Option Name)) → Option (List ℕ) → Bool → Left → Bridged
-bridge_of started g answering joining watching measuring sources plain records left = record {
+abbrev pub bridge_of : Bool → Machine → BesideKept → Option (List ℕ) → Bool → CallOutput → Bridged
+bridge_of started g parts plain records output = record {
   started = started;
   gateway = g;
-  answering = answering;
-  joining = joining;
-  watching = watching;
-  measuring = measuring;
-  sources = sources;
+  parts = parts;
   plain = plain;
   records = records;
-  left = left;
+  output = output;
 }
 
-abbrev pub with_gateway : Bool → Machine → Output → Bridged → Bridged
-with_gateway started g o b = bridge_of started g b.answering b.joining b.watching b.measuring b.sources b.plain b.records (left_by o)
+abbrev pub with_gateway : Bool → Machine → Output → BesideKept → Bridged → Bridged
+with_gateway started g o parts b = bridge_of started g parts b.plain b.records (output_by o)
 
 -- what is left is forgotten before
-pub left_after : (forgotten : Left) (o : Output) → forgotten ≡ nothing_left → record forgotten { outbox = o } ≡ left_by o
-left_after forgotten o is = ap (λ (l : Left). let left : Left = record l { outbox = o } in left) is
+pub output_after : (forgotten : CallOutput) (o : Output) → forgotten ≡ no_output → record forgotten { outbox = o } ≡ output_by o
+output_after forgotten o is = ap (λ (l : CallOutput). let left : CallOutput = record l { outbox = o } in left) is
 
 -- nothing is left beside it
-alone_left : (o : Output) → all_left (left_by o) ≡ emits_of o.emits
-alone_left o = append-nil (emits_of o.emits)
+alone_output : (es beside plain : List Emit) → beside ≡ [] → plain ≡ [] → es ++ (beside ++ plain) ≡ es
+alone_output es beside plain none unsaid = ap (λ (x : List Emit). es ++ (x ++ plain)) none ∙ ap (λ (x : List Emit). es ++ x) unsaid ∙ append-nil es
 
 -- ---- no command is left where none would be an entry
 
@@ -85,117 +75,94 @@ none_mapped f (Some x) is = cc
 
 -- ---- the start
 
-pub is_start : (s : ℕ) (before : Bridged) (g : Machine) (o : Output) → Stands by_keys g.settings s [] g → g.settings ≡ before.gateway.settings
-    → o ≡ only_told (opening_emits before.gateway.settings) → IsStart s before (with_gateway true g o before)
-is_start s before g o stands settings is p new =
+pub is_start : (s : ℕ) (before : Bridged) (g : Machine) (o : Output) (parts : BesideKept) → Stands by_keys g.settings s [] g
+    → g.settings ≡ before.gateway.settings → o ≡ only_told (opening_emits before.gateway.settings) → AreCleared before.parts parts
+    → IsStart s before (with_gateway true g o parts before)
+is_start s before g o parts stands settings is cleared p new =
     let here : before.gateway.settings ≡ p.gateway = ap (λ (x : Machine). x.settings) new.gateway in
     record {
       stands = record {
         settings = new.settings;
         started = refl;
         gateway = subst (λ (z : Settings). Stands by_keys z s [] g) (settings ∙ here) stands;
-        answering = new.answering;
-        joining = new.joining p.gateway s;
-        watching = new.watching s;
-        measuring = new.measuring s;
-        sources = new.sources p.gateway s;
+        parts = cleared.kept (rules_of p) p.gateway s [] (new.parts.stood s);
         plain = new.plain;
         records = new.records;
       };
-      emits = alone_left o ∙ ap (λ (x : Output). emits_of x.emits) is ∙ ap opening_emits here;
+      emits = alone_output (emits_of o.emits) (beside_output parts) (beside_plain parts) cleared.emits cleared.said
+          ∙ ap (λ (x : Output). emits_of x.emits) is ∙ ap opening_emits here;
       unordered = ap (λ (x : Output). x.command) is;
     }
 
 -- ---- one more entry
 
-module _ (p : Parts) (s : ℕ) (h : History) (before : Bridged) (stands : BridgeStands p s h before) where
+module _ (p : BridgeSettings) (s : ℕ) (h : History) (before : Bridged) (stands : BridgeStands p s h before) where
   pub bridged : (e : Entry) (g : Machine) (o : Output) (after : Bridged) → IsHistory (e ∷ h) → IsTaken p.gateway s h e g o
-      → IsBesideStep e (with_gateway before.started g o before) after → IsBridged p s h e after
+      → IsBesideStep e (with_gateway before.started g o before.parts before) after → IsBridged p s h e after
   bridged e g o after could taken step =
       let stepped : IsStepped p.gateway s h e g o = record { settings = stands.settings; could = could; taken = taken } in
-      let answered = step.answering p.information p.gateway s h stepped stands.answering in
-      let joined = step.joining p.rmc p.gateway s h stepped stands.joining in
-      let watched = step.watching p.ais p.gateway s h stepped stands.watching in
-      let measured = step.measuring p.quantities p.gateway s h stepped stands.measuring in
-      let changed = step.sources p.sources p.gateway s h stepped stands.sources in
-      let x = after.left in
+      let parts = step.parts (rules_of p) p.gateway s h stepped stands.parts in
       let own = out p.gateway s h e in
-      let answered_to = answers p.gateway s p.information h e in
-      let rmc = rmc_of p.rmc p.gateway s h e in
-      let ships = ships_of p.ais p.gateway s h e in
-      let quantities = quantities_of p.quantities p.gateway s h e in
-      let changes = changes_of p.sources p.gateway s h e in
-      let left = ap (λ (o : Output). emits_of o.emits) step.outbox ∙ taken.emits in
+      let given = beside_give (rules_of p) p.gateway s h e in
+      let left = beside_output after.parts in
+      let plain = plain_output after.output after.parts in
       record {
         could = could;
         stands = record {
           settings = stands.settings;
           started = step.started ∙ stands.started;
           gateway = subst (λ (z : Machine). Stands by_keys p.gateway s (e ∷ h) z) (sym step.gateway) taken.stands;
-          answering = answered.stands;
-          joining = joined.stands;
-          watching = watched.stands;
-          measuring = measured.stands;
-          sources = changed.stands;
+          parts = parts.stood;
           plain = step.group ∙ stands.plain;
           records = step.records ∙ stands.records;
         };
         emits =
-            ap (λ (es : List Emit). es ++ (emits_of x.answer ++ (emits_of x.joined ++ (emits_of x.ships ++ (emits_of x.quantities ++ (emits_of x.changes ++ plain_left x.plain)))))) left
-            ∙ ap (λ (es : List Emit). own ++ (es ++ (emits_of x.joined ++ (emits_of x.ships ++ (emits_of x.quantities ++ (emits_of x.changes ++ plain_left x.plain)))))) answered.emits
-            ∙ ap (λ (es : List Emit). own ++ (answered_to ++ (es ++ (emits_of x.ships ++ (emits_of x.quantities ++ (emits_of x.changes ++ plain_left x.plain)))))) joined.emits
-            ∙ ap (λ (es : List Emit). own ++ (answered_to ++ (rmc ++ (es ++ (emits_of x.quantities ++ (emits_of x.changes ++ plain_left x.plain)))))) watched.emits
-            ∙ ap (λ (es : List Emit). own ++ (answered_to ++ (rmc ++ (ships ++ (es ++ (emits_of x.changes ++ plain_left x.plain)))))) measured.emits
-            ∙ ap (λ (es : List Emit). own ++ (answered_to ++ (rmc ++ (ships ++ (quantities ++ (es ++ plain_left x.plain)))))) changed.emits
-            ∙ behind_all own answered_to rmc ships quantities changes (plain_left x.plain)
-            ∙ ap (λ (es : List Emit). tagged_out p s h e ++ es)
-            (step.plain ∙ ap (λ (group : Option (List ℕ)). plain_each group x.outbox.emits x.joined x.ships x.quantities) stands.plain
-            ∙ each_plain own answered_to rmc ships quantities changes p.plain x.outbox.emits x.joined x.ships x.quantities left joined.emits watched.emits measured.emits
-            (λ group. answers_plain group p.gateway s p.information h e) (λ group. changes_plain group p.sources p.gateway s h e));
-        ordered = ap (λ (o : Output). option_map (entry_by (moment_of e)) o.command) step.outbox ∙ taken.ordered;
+            ap (λ (es : List Emit). es ++ (left ++ plain)) (ap (λ (x : Output). emits_of x.emits) step.outbox ∙ taken.emits)
+            ∙ ap (λ (es : List Emit). own ++ (es ++ plain)) parts.emits
+            ∙ ap (λ (es : List Emit). own ++ (given ++ es))
+            (step.plain ∙ ap (λ (group : Option (List ℕ)). plain_of group (emits_of o.emits ++ left)) stands.plain
+            ∙ ap (λ (es : List Emit). plain_of p.plain (es ++ left)) taken.emits
+            ∙ ap (λ (es : List Emit). plain_of p.plain (own ++ es)) parts.emits)
+            ∙ sym (append_assoc own given (plain_of p.plain (own ++ given)));
+        ordered = ap (λ (x : Output). option_map (entry_by (moment_of e)) x.command) step.outbox ∙ taken.ordered;
       }
 
-  pub refused : (g : Machine) (o : Output) → IsTooEarly before.gateway g o → IsRefused p s h (with_gateway before.started g o before)
-  refused g o early = record {
+  pub refused : (g : Machine) (o : Output) (parts : BesideKept) → IsTooEarly before.gateway g o → AreCleared before.parts parts
+      → IsRefused p s h (with_gateway before.started g o parts before)
+  refused g o parts early cleared = record {
     stands = record {
       settings = stands.settings;
       started = stands.started;
       gateway = subst (λ (z : Machine). Stands by_keys p.gateway s h z) (sym early.unchanged) stands.gateway;
-      answering = stands.answering;
-      joining = stands.joining;
-      watching = stands.watching;
-      measuring = stands.measuring;
-      sources = stands.sources;
+      parts = cleared.kept (rules_of p) p.gateway s h stands.parts;
       plain = stands.plain;
       records = stands.records;
     };
-    emits = alone_left o ∙ ap (λ (x : Output). emits_of x.emits) early.reported;
+    emits = alone_output (emits_of o.emits) (beside_output parts) (beside_plain parts) cleared.emits cleared.said ∙ ap (λ (x : Output). emits_of x.emits) early.reported;
     unordered = ap (λ (x : Output). x.command) early.reported;
   }
 
-  pub obeyed : (c : Command) (g : Machine) (o : Output) → IsHistory (entry_by (now h) c ∷ h) → IsTaken p.gateway s h (entry_by (now h) c) g o
-      → IsObeyed p s h (entry_by (now h) c) (with_gateway before.started g o before)
-  obeyed c g o could taken = record {
+  pub obeyed : (c : Command) (g : Machine) (o : Output) (parts : BesideKept) → IsHistory (entry_by (now h) c ∷ h)
+      → IsTaken p.gateway s h (entry_by (now h) c) g o → AreCleared before.parts parts
+      → IsObeyed p s h (entry_by (now h) c) (with_gateway before.started g o parts before)
+  obeyed c g o parts could taken cleared = record {
     could = could;
     stands = record {
       settings = stands.settings;
       started = stands.started;
       gateway = taken.stands;
-      answering = stands.answering;
-      joining = commanded_joins p.rmc p.gateway s h (now h) c.source c.address before.joining stands.joining;
-      watching = commanded_ships p.ais p.gateway s h c.source c.address before.watching stands.settings stands.watching;
-      measuring = commanded_quantities p.quantities p.gateway s h c.source c.address before.measuring stands.settings stands.measuring;
-      sources = commanded_names p.sources p.gateway s h (now h) c.source c.address before.sources stands.sources;
+      parts = beside_keep_commands (rules_of p) p.gateway s h c.source c.address parts stands.settings
+          (cleared.kept (rules_of p) p.gateway s h stands.parts);
       plain = stands.plain;
       records = stands.records;
     };
-    emits = alone_left o ∙ taken.emits;
+    emits = alone_output (emits_of o.emits) (beside_output parts) (beside_plain parts) cleared.emits cleared.said ∙ taken.emits;
     unordered = none_mapped (entry_by (now h)) o.command taken.ordered;
   }
 
 pub accepted_step : (e : Event) (before : Bridged) (g : Machine) (o : Output) (after : Bridged) → IsEventValid e → IsStep (entry_of e) before.gateway g o
     → nat_le before.gateway.moment (moment_of (entry_of e)) ≡ true
-    → IsBesideStep (entry_of e) (with_gateway before.started g o before) after → IsBridgeStep (entry_of e) before after
+    → IsBesideStep (entry_of e) (with_gateway before.started g o before.parts before) after → IsBridgeStep (entry_of e) before after
 accepted_step e before g o after valid step accepted beside p s h could stands = (taken, declines)
   where
     next : Entry
@@ -218,9 +185,10 @@ accepted_step e before g o after valid step accepted beside p s h could stands =
     declines : is_accepted h next ≡ false → IsRefused p s h after
     declines refuses = let never : true ≡ false = sym is ∙ refuses in absurd cc
 
-pub refused_step : (e : Event) (before : Bridged) (g : Machine) (o : Output) → IsStep (entry_of e) before.gateway g o
-    → nat_le before.gateway.moment (moment_of (entry_of e)) ≡ false → IsBridgeStep (entry_of e) before (with_gateway before.started g o before)
-refused_step e before g o step early p s h could stands = (takes, declines)
+pub refused_step : (e : Event) (before : Bridged) (g : Machine) (o : Output) (parts : BesideKept) → IsStep (entry_of e) before.gateway g o
+    → nat_le before.gateway.moment (moment_of (entry_of e)) ≡ false → AreCleared before.parts parts
+    → IsBridgeStep (entry_of e) before (with_gateway before.started g o parts before)
+refused_step e before g o parts step early cleared p s h could stands = (takes, declines)
   where
     next : Entry
     next = entry_of e
@@ -231,19 +199,19 @@ refused_step e before g o step early p s h could stands = (takes, declines)
     is : is_accepted h next ≡ false
     is = subst (λ (m : ℕ). nat_le m (moment_of next) ≡ false) stands.gateway.moment early
 
-    takes : is_accepted h next ≡ true → IsBridged p s h next (with_gateway before.started g o before)
+    takes : is_accepted h next ≡ true → IsBridged p s h next (with_gateway before.started g o parts before)
     takes accepts = let never : true ≡ false = sym accepts ∙ is in absurd cc
 
-    declines : is_accepted h next ≡ false → IsRefused p s h (with_gateway before.started g o before)
-    declines refuses = refused p s h before stands g o ((step s h could here).1 refuses)
+    declines : is_accepted h next ≡ false → IsRefused p s h (with_gateway before.started g o parts before)
+    declines refuses = refused p s h before stands g o parts ((step s h could here).1 refuses) cleared
 
-pub commanded : (c : Command) (before : Bridged) (g : Machine) (o : Output) → c.source < 256 → IsCommandStep c.source c.address before.gateway g o
-    → IsCommanded c before (with_gateway before.started g o before)
-commanded c before g o from step p s h could stands =
+pub commanded : (c : Command) (before : Bridged) (g : Machine) (o : Output) (parts : BesideKept) → c.source < 256
+    → IsCommandStep c.source c.address before.gateway g o → AreCleared before.parts parts → IsCommanded c before (with_gateway before.started g o parts before)
+commanded c before g o parts from step cleared p s h could stands =
     let here : Stands by_keys before.gateway.settings s h before.gateway =
     subst (λ (z : Settings). Stands by_keys z s h before.gateway) (sym stands.gateway.settings) stands.gateway in
-    obeyed p s h before stands c g o (from, refl, could)
-    (subst (λ (z : Settings). IsTaken z s h (entry_by (now h) c) g o) stands.gateway.settings (step s h could here))
+    obeyed p s h before stands c g o parts (from, refl, could)
+    (subst (λ (z : Settings). IsTaken z s h (entry_by (now h) c) g o) stands.gateway.settings (step s h could here)) cleared
 
 pub event_valid : (e : Event) → lines.IsValid e → IsEventValid e
 event_valid (event.Frame moment frame) valid = valid
@@ -263,3 +231,56 @@ nothing_further p s h e unsaid untold unplain =
     ∙ ap (λ (x : Option FurtherRule). own ++ (answered ++ (rmc ++ (ships ++ (quantities_of x p.gateway s h e ++ changes_of p.sources p.gateway s h e))))) unsaid
     ∙ ap (λ (b : Bool). own ++ (answered ++ (rmc ++ (ships ++ changes_of b p.gateway s h e)))) untold
     ∙ ap (λ (es : List Emit). own ++ (answered ++ (rmc ++ es))) (append-nil ships)
+
+-- ---- the parts have taken an entry, and its datagrams are said once more where that is asked for
+
+module _ (e : Entry) (before : Bridged) (g : Machine) (o : Output) (parts : BesideKept)
+    (takes : Takes are_beside beside_give beside_output g o e before.parts parts) (stays : beside_plain parts ≡ beside_plain before.parts) where
+  pub none_said : before.plain ≡ None → plain_output before.output before.parts ≡ []
+      → IsBesideStep e (with_gateway before.started g o before.parts before)
+      (bridge_of before.started g parts before.plain before.records (record { outbox = o; plain = before.output.plain }))
+  none_said none unsaid = record {
+    started = refl;
+    gateway = refl;
+    outbox = refl;
+    parts = takes;
+    group = refl;
+    records = refl;
+    plain = ap (λ (es : List Emit). emits_of before.output.plain ++ es) stays ∙ unsaid
+        ∙ sym (ap (λ (x : Option (List ℕ)). plain_of x (emits_of o.emits ++ beside_output parts)) none);
+  }
+
+  -- nothing was said before, and there is no datagram
+  pub nothing_said : (group : List ℕ) → before.plain ≡ Some group → plain_output before.output before.parts ≡ [] → beside_output parts ≡ []
+      → IsUnposted o
+      → IsBesideStep e (with_gateway before.started g o before.parts before)
+      (bridge_of before.started g parts before.plain before.records (record { outbox = o; plain = before.output.plain }))
+  nothing_said group is unsaid none unposted = record {
+    started = refl;
+    gateway = refl;
+    outbox = refl;
+    parts = takes;
+    group = refl;
+    records = refl;
+    plain = ap (λ (es : List Emit). emits_of before.output.plain ++ es) stays ∙ unsaid
+        ∙ sym (ap (λ (x : Option (List ℕ)). plain_of x (emits_of o.emits ++ beside_output parts)) is
+        ∙ ap (λ (es : List Emit). plain_out group (emits_of o.emits ++ es)) none
+        ∙ ap (plain_out group) (append-nil (emits_of o.emits))
+        ∙ behind_none group o.emits.told o.emits.posted unposted.told
+        ∙ ap (plain_out group) unposted.posted);
+  }
+
+  pub all_said : (group : List ℕ) (was output : CallOutput) (after : BesideKept) → before.plain ≡ Some group → was.outbox ≡ o
+      → IsSaidAgain group was parts output after
+      → IsBesideStep e (with_gateway before.started g o before.parts before) (bridge_of before.started g after before.plain before.records output)
+  all_said group was output after is same said = record {
+    started = refl;
+    gateway = refl;
+    outbox = said.outbox ∙ same;
+    parts = λ r c s h step stands. let t = takes r c s h step stands in record { stood = said.kept r c s (e ∷ h) t.stood; emits = said.beside ∙ t.emits };
+    group = refl;
+    records = refl;
+    plain = said.plain ∙ ap (λ (x : Output). plain_out group (emits_of x.emits ++ beside_output parts)) same
+        ∙ ap (λ (es : List Emit). plain_out group (emits_of o.emits ++ es)) (sym said.beside)
+        ∙ sym (ap (λ (x : Option (List ℕ)). plain_of x (emits_of o.emits ++ beside_output after)) is);
+  }

@@ -1,117 +1,135 @@
--- When each part beside the gateway stands for everything that ever came, and what one more entry makes of it and makes it give.
-use Rattle.std.specs.Prelude.{◌≡◌, ℕ, Bool, true, false, List, [], ◌∷◌, ◌++◌, Option, Some, None}
+-- The parts beside the gateway: when what each keeps stands for everything that ever came, what each gives at one more entry, and all of them in
+-- the order in which their emits go out.
+use Rattle.std.specs.Prelude.{◌≡◌, ℕ, Bool, true, false, List, [], Option, Some, None}
 use Rattle.n2k_id.specs.declared.name.Name.{Name}
 use Rattle.gate_events.specs.Emit.{Emit}
-use Rattle.history.specs.AddressLaws.{AreSettings}
-use Rattle.history.specs.Entries.{Entry, History, IsHistory}
+use Rattle.history.specs.Entries.{Entry, History}
 use Rattle.history.specs.Settings.{Settings}
 use Rattle.settings.specs.declared.ais.AisConfig.{AisConfig}
-use Rattle.gate_model.specs.Machine.{Machine}
-use Rattle.gate_outbox.specs.Output.{Emitted, Output, emits_of}
-use Rattle.gate_core.specs.Promises.{IsTaken}
-use Rattle.joined_rmc.specs.JoinStands.{JoinStands}
-use Rattle.joined_rmc.specs.RmcOut.{RmcRule}
-use Rattle.ais_bridge.specs.AisKept.{AisKept}
-use Rattle.ais_bridge.specs.Promises.{StandsAis}
-use Rattle.further_bridge.specs.FurtherRule.{FurtherRule}
-use Rattle.further_bridge.specs.Kept.{FurtherKept}
-use Rattle.further_bridge.specs.Promises.{StandsFurther}
-use Rattle.plain_out.specs.Plain.{plain_out}
-use Rattle.bridge.specs.WatchStands.{WatchStands}
 use Rattle.bus_identity.specs.Answers.{Kept as Counted}
-use Rattle.bridge.specs.declared.joining.Joining.{Joining}
+use Rattle.joined_rmc.specs.JoinStands.{JoinStands}
+use Rattle.joined_rmc.specs.RmcOut.{RmcRule, rmc_out}
+use Rattle.ais_bridge.specs.AisOut.{ais_out}
+use Rattle.ais_bridge.specs.Promises.{StandsAis}
+use Rattle.further_bridge.specs.FurtherOut.{further_out}
+use Rattle.further_bridge.specs.FurtherRule.{FurtherRule}
+use Rattle.further_bridge.specs.Promises.{StandsFurther}
+use Rattle.parts.specs.Compose.{both_give, both_output, both_stand, maybe_give, maybe_output, maybe_stand}
+use Rattle.parts.specs.PartSteps.{Keeps}
+use Rattle.parts.specs.Lanes.{lane_output, lane_plain, lane_stands}
+use Rattle.parts.specs.declared.lane.Lane.{Lane}
 use Rattle.bridge.specs.Answered.{answers, sent_before}
-use Rattle.bridge.specs.Gate.{changes_of, quantities_of, rmc_of, ships_of}
+use Rattle.bridge.specs.BridgeSettings.{BridgeSettings}
+use Rattle.bridge.specs.SourceOut.{source_out}
+use Rattle.bridge.specs.WatchStands.{WatchStands}
+use Rattle.bridge.specs.declared.answering.Answering.{Answering}
+use Rattle.bridge.specs.declared.joining.Joining.{Joining}
+use Rattle.bridge.specs.declared.quantities.Quantities.{Quantities}
+use Rattle.bridge.specs.declared.ships.Ships.{Ships}
 
--- ---- a part stands for a history of the gateway with these settings
+-- ---- who the gateway is
 
-abbrev pub AnsweringStands : List ℕ → Settings → ℕ → History → Counted → Type 0
-AnsweringStands information c s h kept = kept ≡ sent_before c s information h
+-- nothing was answered yet
+abbrev pub unanswered : List ℕ → Counted
+unanswered information = record { information = information; products = 0; lists = 0 }
 
--- RMC is joined exactly where it is configured
-abbrev pub JoiningStands : Option RmcRule → Settings → ℕ → History → Option Joining → Type 0
-JoiningStands None c s h None = Unit {0}
-JoiningStands (Some r) c s h (Some j) = (j.group ≡ r.group) × JoinStands r c s h j.join
-JoiningStands None c s h (Some j) = ⊥
-JoiningStands (Some r) c s h None = ⊥
+-- the most frames of an answer
+abbrev pub most_answered : ℕ
+most_answered = 20
 
--- reports of ships around are passed on exactly where that is configured
-abbrev pub WatchingStands : Option AisConfig → Settings → ℕ → History → Option AisKept → Type 0
-WatchingStands None c s h None = Unit {0}
-WatchingStands (Some a) c s h (Some w) = StandsAis a c s h w
-WatchingStands None c s h (Some w) = ⊥
-WatchingStands (Some a) c s h None = ⊥
+abbrev pub answering_stands : List ℕ → Settings → ℕ → History → Answering → Type 0
+answering_stands information c s h k = k.identity ≡ sent_before c s information h
 
--- further quantities are said exactly where that is configured
-abbrev pub MeasuringStands : Option FurtherRule → Settings → ℕ → History → Option FurtherKept → Type 0
-MeasuringStands None c s h None = Unit {0}
-MeasuringStands (Some x) c s h (Some k) = StandsFurther x c s h k
-MeasuringStands None c s h (Some k) = ⊥
-MeasuringStands (Some x) c s h None = ⊥
+abbrev pub answering_gives : List ℕ → Settings → ℕ → History → Entry → List Emit
+answering_gives information c s h e = answers c s information h e
 
--- the device that each row is taken from is kept exactly where a change is told
-abbrev pub SourcesStand : Bool → Settings → ℕ → History → Option (List (Option Name)) → Type 0
-SourcesStand false c s h None = Unit {0}
-SourcesStand true c s h (Some names) = WatchStands c s h names
-SourcesStand false c s h (Some names) = ⊥
-SourcesStand true c s h None = ⊥
+-- ---- RMC
 
--- ---- one more entry, which the gateway has taken
+abbrev pub joining_stands : RmcRule → Settings → ℕ → History → Joining → Type 0
+joining_stands r c s h k = (k.group ≡ r.group) × JoinStands r c s h k.join
 
-pub record IsStepped (c : Settings) (s : ℕ) (h : History) (e : Entry) (gateway : Machine) (left : Output) : Type 0 where
-  pub settings : AreSettings c
-  pub could : IsHistory (e ∷ h)
-  pub taken : IsTaken c s h e gateway left
+abbrev pub joining_gives : RmcRule → Settings → ℕ → History → Entry → List Emit
+joining_gives r c s h e = rmc_out r c s h e
 
-pub record IsAnswered (information : List ℕ) (c : Settings) (s : ℕ) (h : History) (e : Entry) (after : Counted) (given : Emitted) : Type 0 where
-  pub stands : AnsweringStands information c s (e ∷ h) after
-  pub emits : emits_of given ≡ answers c s information h e
+-- ---- reports of ships around
 
-pub record IsJoinedBeside (rmc : Option RmcRule) (c : Settings) (s : ℕ) (h : History) (e : Entry) (after : Option Joining) (given : Emitted) : Type 0 where
-  pub stands : JoiningStands rmc c s (e ∷ h) after
-  pub emits : emits_of given ≡ rmc_of rmc c s h e
+abbrev pub most_of_ships : ℕ
+most_of_ships = 299
 
-pub record IsWatched (ais : Option AisConfig) (c : Settings) (s : ℕ) (h : History) (e : Entry) (after : Option AisKept) (given : Emitted) : Type 0 where
-  pub stands : WatchingStands ais c s (e ∷ h) after
-  pub emits : emits_of given ≡ ships_of ais c s h e
+abbrev pub ships_stand : AisConfig → Settings → ℕ → History → Ships → Type 0
+ships_stand a c s h k = StandsAis a c s h k.bridge
 
-pub record IsMeasured (quantities : Option FurtherRule) (c : Settings) (s : ℕ) (h : History) (e : Entry) (after : Option FurtherKept) (given : Emitted) : Type 0 where
-  pub stands : MeasuringStands quantities c s (e ∷ h) after
-  pub emits : emits_of given ≡ quantities_of quantities c s h e
+abbrev pub ships_give : AisConfig → Settings → ℕ → History → Entry → List Emit
+ships_give a c s h e = ais_out a c s h e
 
-pub record IsChanged (sources : Bool) (c : Settings) (s : ℕ) (h : History) (e : Entry) (after : Option (List (Option Name))) (given : Emitted) : Type 0 where
-  pub stands : SourcesStand sources c s (e ∷ h) after
-  pub emits : emits_of given ≡ changes_of sources c s h e
+-- ---- further quantities
 
--- for every history for which the part stands before the entry
-abbrev pub IsAnswering : Machine → Output → Entry → Counted → Counted → Emitted → Type 0
-IsAnswering gateway left e before after given =
-    (information : List ℕ) (c : Settings) (s : ℕ) (h : History) → IsStepped c s h e gateway left → AnsweringStands information c s h before
-    → IsAnswered information c s h e after given
+abbrev pub most_of_quantities : ℕ
+most_of_quantities = 259
 
-abbrev pub IsJoining : Machine → Output → Entry → Option Joining → Option Joining → Emitted → Type 0
-IsJoining gateway left e before after given =
-    (rmc : Option RmcRule) (c : Settings) (s : ℕ) (h : History) → IsStepped c s h e gateway left → JoiningStands rmc c s h before
-    → IsJoinedBeside rmc c s h e after given
+abbrev pub quantities_stand : FurtherRule → Settings → ℕ → History → Quantities → Type 0
+quantities_stand x c s h k = StandsFurther x c s h k.bridge
 
-abbrev pub IsWatching : Machine → Output → Entry → Option AisKept → Option AisKept → Emitted → Type 0
-IsWatching gateway left e before after given =
-    (ais : Option AisConfig) (c : Settings) (s : ℕ) (h : History) → IsStepped c s h e gateway left → WatchingStands ais c s h before
-    → IsWatched ais c s h e after given
+abbrev pub quantities_give : FurtherRule → Settings → ℕ → History → Entry → List Emit
+quantities_give x c s h e = further_out x c s h e
 
-abbrev pub IsMeasuring : Machine → Output → Entry → Option FurtherKept → Option FurtherKept → Emitted → Type 0
-IsMeasuring gateway left e before after given =
-    (quantities : Option FurtherRule) (c : Settings) (s : ℕ) (h : History) → IsStepped c s h e gateway left → MeasuringStands quantities c s h before
-    → IsMeasured quantities c s h e after given
+-- ---- a change of the device that a row is taken from
 
-abbrev pub IsChanging : Machine → Output → Entry → Option (List (Option Name)) → Option (List (Option Name)) → Emitted → Type 0
-IsChanging gateway left e before after given =
-    (sources : Bool) (c : Settings) (s : ℕ) (h : History) → IsStepped c s h e gateway left → SourcesStand sources c s h before
-    → IsChanged sources c s h e after given
+-- it is told if that is wanted
+abbrev pub wanted : Bool → Option (Unit {0})
+wanted false = None
+wanted true = Some tt
 
--- ---- plain sentences, of the datagrams of rows, RMC, ships and further quantities: nothing else has one
+abbrev pub sources_stand : Unit {0} → Settings → ℕ → History → List (Option Name) → Type 0
+sources_stand r c s h names = WatchStands c s h names
 
-abbrev pub plain_each : Option (List ℕ) → Emitted → Emitted → Emitted → Emitted → List Emit
-plain_each None rows joined ships quantities = []
-plain_each (Some group) rows joined ships quantities =
-    plain_out group (emits_of rows) ++ (plain_out group (emits_of joined) ++ (plain_out group (emits_of ships) ++ plain_out group (emits_of quantities)))
+abbrev pub sources_give : Unit {0} → Settings → ℕ → History → Entry → List Emit
+sources_give r c s h e = source_out c s h e
+
+-- ---- all, in the order in which their emits go out
+
+abbrev pub BesideKept : Type 0
+BesideKept =
+    Lane Answering most_answered
+    × (Option (Lane Joining 0) × (Option (Lane Ships most_of_ships) × (Option (Lane Quantities most_of_quantities) × Option (Lane (List (Option Name)) 1))))
+
+abbrev pub Rules : Type 0
+Rules = List ℕ × (Option RmcRule × (Option AisConfig × (Option FurtherRule × Option (Unit {0}))))
+
+abbrev pub rules_of : BridgeSettings → Rules
+rules_of p = (p.information, (p.rmc, (p.ais, (p.quantities, wanted p.sources))))
+
+abbrev pub are_beside : Rules → Settings → ℕ → History → BesideKept → Type 0
+are_beside =
+    both_stand (lane_stands answering_stands)
+    (both_stand (maybe_stand (lane_stands joining_stands))
+    (both_stand (maybe_stand (lane_stands ships_stand))
+    (both_stand (maybe_stand (lane_stands quantities_stand)) (maybe_stand (lane_stands sources_stand)))))
+
+abbrev pub beside_give : Rules → Settings → ℕ → History → Entry → List Emit
+beside_give =
+    both_give answering_gives
+    (both_give (maybe_give joining_gives) (both_give (maybe_give ships_give) (both_give (maybe_give quantities_give) (maybe_give sources_give))))
+
+abbrev pub beside_output : BesideKept → List Emit
+beside_output = both_output lane_output (both_output (maybe_output lane_output) (both_output (maybe_output lane_output) (both_output (maybe_output lane_output) (maybe_output lane_output))))
+
+abbrev pub beside_plain : BesideKept → List Emit
+beside_plain = both_output lane_plain (both_output (maybe_output lane_plain) (both_output (maybe_output lane_plain) (both_output (maybe_output lane_plain) (maybe_output lane_plain))))
+
+-- ---- a part with nothing heard yet, whenever the gateway will start
+
+abbrev pub IsOpened : {R K : Type 0} → (R → Settings → ℕ → History → K → Type 0) → R → Settings → K → Type 0
+IsOpened stands r c k = (s : ℕ) → stands r c s [] k
+
+pub record AreNew (p : BridgeSettings) (k : BesideKept) : Type 0 where
+  pub stood : IsOpened are_beside (rules_of p) p.gateway k
+  pub emits : beside_output k ≡ []
+  pub said : beside_plain k ≡ []
+
+-- ---- what the parts gave is forgotten
+
+pub record AreCleared (before after : BesideKept) : Type 0 where
+  pub kept : Keeps are_beside before after
+  pub emits : beside_output after ≡ []
+  pub said : beside_plain after ≡ []

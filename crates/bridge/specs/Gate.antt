@@ -1,47 +1,41 @@
 -- What the gateway with the parts beside it emits, over everything that ever came: at each event what the gateway itself emits, then its
 -- answers to who asks who it is, RMC, the reports of ships around, further quantities, and a change of the device that a row is taken from; all datagrams of
 -- these once more as plain sentences; and then what it emits at the command that the event completes (ISO 11783-5).
-use Rattle.std.specs.Prelude.{◌≡◌, ℕ, Bool, true, false, List, [], ◌++◌, Option, Some, None}
+use Rattle.std.specs.Prelude.{◌≡◌, ℕ, Bool, false, List, [], ◌++◌, Option, Some, None}
 use Rattle.gate_events.specs.Emit.{Emit, Emitted}
 use Rattle.history.specs.Entries.{Entry, History}
 use Rattle.history.specs.Gate as of_gateway
 use Rattle.history.specs.Gate.{Stepped, out, opening_emits, with_command_by, stepped_by, events_by, gate_by}
 use Rattle.history.specs.Settings.{Settings}
 use Rattle.settings.specs.declared.ais.AisConfig.{AisConfig}
-use Rattle.joined_rmc.specs.RmcOut.{RmcRule, rmc_out}
-use Rattle.ais_bridge.specs.AisOut.{ais_out}
-use Rattle.further_bridge.specs.FurtherOut.{further_out}
+use Rattle.joined_rmc.specs.RmcOut.{RmcRule}
 use Rattle.further_bridge.specs.FurtherRule.{FurtherRule}
 use Rattle.plain_out.specs.Plain.{plain_out}
-use Rattle.bridge.specs.SourceOut.{source_out}
+use Rattle.parts.specs.Compose.{maybe_give}
 use Rattle.bridge.specs.Answered.{answers}
-use Rattle.bridge.specs.Parts.{Parts}
+use Rattle.bridge.specs.Beside.{joining_gives, quantities_give, ships_give, sources_give, wanted}
+use Rattle.bridge.specs.BridgeSettings.{BridgeSettings}
 
--- RMC and the reports of ships around, where they are said
+-- RMC, the reports of ships around and further quantities, if they are said
 abbrev pub rmc_of : Option RmcRule → Settings → ℕ → History → Entry → List Emit
-rmc_of None c s h e = []
-rmc_of (Some r) c s h e = rmc_out r c s h e
+rmc_of = maybe_give joining_gives
 
 abbrev pub ships_of : Option AisConfig → Settings → ℕ → History → Entry → List Emit
-ships_of None c s h e = []
-ships_of (Some a) c s h e = ais_out a c s h e
+ships_of = maybe_give ships_give
 
--- further quantities, where they are said
 abbrev pub quantities_of : Option FurtherRule → Settings → ℕ → History → Entry → List Emit
-quantities_of None c s h e = []
-quantities_of (Some x) c s h e = further_out x c s h e
+quantities_of = maybe_give quantities_give
 
 -- a change of the device that a row is taken from, where it is told
 abbrev pub changes_of : Bool → Settings → ℕ → History → Entry → List Emit
-changes_of false c s h e = []
-changes_of true c s h e = source_out c s h e
+changes_of is_wanted = maybe_give sources_give (wanted is_wanted)
 
 -- plain sentences, where they are said
 abbrev pub plain_of : Option (List ℕ) → List Emit → List Emit
 plain_of None emits = []
 plain_of (Some group) emits = plain_out group emits
 
-module _ (p : Parts) (s : ℕ) where
+module _ (p : BridgeSettings) (s : ℕ) where
   -- what the parts beside the gateway give
   abbrev pub beside : History → Entry → List Emit
   beside h e =
@@ -75,6 +69,6 @@ module _ (p : Parts) (s : ℕ) where
 -- where neither further quantities and plain sentences are said nor a change of devices is told, the gateway, its answers, RMC and ships are all
 abbrev pub NothingFurther : Type 0
 NothingFurther =
-    (p : Parts) (s : ℕ) (h : History) (e : Entry) → p.quantities ≡ None → p.sources ≡ false → p.plain ≡ None
+    (p : BridgeSettings) (s : ℕ) (h : History) (e : Entry) → p.quantities ≡ None → p.sources ≡ false → p.plain ≡ None
     → all_out p s h e
     ≡ out p.gateway s h e ++ (answers p.gateway s p.information h e ++ (rmc_of p.rmc p.gateway s h e ++ ships_of p.ais p.gateway s h e))

@@ -11,10 +11,11 @@ pub use Rattle.gate_core.specs.Selected
 pub mod Answered
 pub mod Beside
 pub mod BridgeStands
+pub mod Commands
 pub mod Gate
 pub mod Kept
 pub mod PartCases
-pub mod Parts
+pub mod BridgeSettings
 pub mod Running
 pub mod SourceOut
 pub mod WatchKept

@@ -12,14 +12,14 @@ use Rattle.history.specs.ChoiceCases.{ranked}
 use Rattle.history.specs.Emits.{broken, of_source}
 use Rattle.history.specs.Entries.{Entry, frame}
 use Rattle.bridge.specs.Gate.{gate}
-use Rattle.bridge.specs.Parts.{Parts}
+use Rattle.bridge.specs.BridgeSettings.{BridgeSettings}
 
 -- a gateway of two devices that says neither RMC nor reports of ships around
-abbrev pub alone : Parts
+abbrev pub alone : BridgeSettings
 alone = record { gateway = two_devices; information = []; rmc = None; ais = None; quantities = None; sources = false; plain = None; records = false }
 
 -- one whose product information is ten bytes, which says RMC on RCOM and reports of ships on TGTD
-abbrev pub all_parts : Parts
+abbrev pub all_parts : BridgeSettings
 all_parts = record {
   gateway = two_devices;
   information = 1 ∷ 2 ∷ 3 ∷ 4 ∷ 5 ∷ 6 ∷ 7 ∷ 8 ∷ 9 ∷ 10 ∷ [];
@@ -32,7 +32,7 @@ all_parts = record {
 }
 
 -- they started at this moment, and emit this at the events
-abbrev pub PartsEmit : Parts → ℕ → List Entry → List Emitted → Type 0
+abbrev pub PartsEmit : BridgeSettings → ℕ → List Entry → List Emitted → Type 0
 PartsEmit p s events after = gate p s events ≡ started s ++ after
 
 abbrev pub AllEmit : List Entry → List Emitted → Type 0
@@ -109,7 +109,7 @@ ShipAcrossAClaim =
 
 -- ---- the device that a row is taken from
 
-abbrev pub watched : Parts
+abbrev pub watched : BridgeSettings
 watched = record all_parts { gateway = ranked; sources = true }
 
 abbrev pub taken_from : Row → ℕ → Emit
@@ -157,7 +157,7 @@ AddressIsNoChange =
 
 -- ---- plain sentences
 
-abbrev pub plain_parts : Parts
+abbrev pub plain_parts : BridgeSettings
 plain_parts = record all_parts { sources = true; plain = Some (codes "PLAN") }
 
 abbrev pub ended : List ℕ → List ℕ

@@ -6,7 +6,7 @@ use Rattle.history.specs.Entries.{Entry, History, IsHistory, now}
 use Rattle.history.specs.Entries as entry
 use Rattle.bridge.specs.BridgeStands.{BridgeStands, IsNew}
 use Rattle.bridge.specs.Kept.{Bridged}
-use Rattle.bridge.specs.Parts.{Parts}
+use Rattle.bridge.specs.BridgeSettings.{BridgeSettings}
 
 -- what is said of an event, as an entry
 abbrev pub entry_of : Seen → Entry
@@ -23,6 +23,6 @@ abbrev pub moment_in : Option Running → ℕ
 moment_in None = 0
 moment_in (Some g) = now g.history
 
-abbrev pub RunningStands : Parts → Option Running → Bridged → Type 0
+abbrev pub RunningStands : BridgeSettings → Option Running → Bridged → Type 0
 RunningStands p None b = IsNew p b
 RunningStands p (Some g) b = IsHistory g.history × BridgeStands p g.start g.history b

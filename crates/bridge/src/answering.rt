@@ -1,4 +1,5 @@
 //! The gateway's answers to who asks on the bus who it is.
+ghost use Rattle.std.proofs.Common.{arith};
 ghost use Rattle.std.specs.Prelude.{◌≡◌, ◌≤◌, length, map};
 ghost use Rattle.std.specs.List.{AllByRecursion};
 ghost use Rattle.n2k_id.specs.Frame.{IsFrame, bus_frame};
@@ -6,23 +7,26 @@ ghost use Rattle.gate_events.specs.Emit.{can};
 ghost use Rattle.claim_table.specs.Claims.{is_ready};
 ghost use Rattle.bus_identity.specs.Answers.{kept_after};
 ghost use Rattle.bus_identity.specs.Payloads.{information_of};
-ghost use Rattle.gate_outbox.specs.Output.{Output, and_told, no_emits};
-ghost use Rattle.gate_core.specs.Steps.{IsEventValid, entry_of};
+ghost use Rattle.gate_outbox.specs.Output.{and_told};
 ghost use Rattle.bridge.specs.Answered.{answer_by};
-ghost use Rattle.bridge.specs.Beside.{IsAnswering};
-ghost use Rattle.bridge.specs.Kept.{most_answered, unanswered};
+ghost use Rattle.bridge.specs.Beside.{answering_gives, answering_stands, most_answered, unanswered};
+ghost use Rattle.bridge.specs.Commands.{answering_keeps_commands};
 
 use bus_identity::{Answered, Frames, Identity, Product};
-use gate_core::Gateway;
+use gate_core::{Gateway, Outbox};
 use gate_events::Event;
 use gate_outbox::Emits;
 use gate_outbox::reports::of_source;
 use n2k_id::pgn::REQUEST;
 use n2k_id::{Frame, parts};
+use parts::Part;
 use report_rules::NOT_READY;
 
+/// The most frames of an answer.
+pub(crate) const MOST_ANSWERED: usize = 20;
+
 /// The answer to an event: the frames of a message, or the report of a request that came before the gateway was ready.
-pub(crate) type Answer = Emits<20>;
+type Answer = Emits<MOST_ANSWERED>;
 
 /// Who the gateway is.
 #[derive(Drop)]
@@ -40,17 +44,6 @@ impl Answering {
         Answering {
             identity: Identity::new(product),
             frames: Frames::new(),
-        }
-    }
-
-    /// Answers an event that the gateway has taken.
-    pub(crate) fn answer(&mut self, gateway: &Gateway, event: &Event<'_>, out: &mut Answer)
-        requires valid { IsEventValid event.now }
-        requires empty { out.old ≡ no_emits }
-        ensures { (left : Output) → IsAnswering gateway.now left (entry_of event.now) self.old.identity self.new.identity out.new }
-    {
-        if let Event::Frame { frame, .. } = event {
-            self.answer_frame(gateway, frame, out);
         }
     }
 
@@ -76,6 +69,32 @@ impl Answering {
             }
         }
     }
+}
+
+impl Part<MOST_ANSWERED> for Answering {
+    ghost use Rattle.std.specs.Prelude.{ℕ, List};
+
+    ghost Rule = { List ℕ };
+
+    ghost stands = { answering_stands };
+
+    ghost gives = { answering_gives };
+
+    fn after(
+        &mut self,
+        gateway: &Gateway,
+        _output: &Outbox,
+        event: &Event<'_>,
+        emits: &mut Emits<MOST_ANSWERED>,
+    ) {
+        if let Event::Frame { frame, .. } = event {
+            self.answer_frame(gateway, frame, emits);
+        }
+    }
+
+    ghost commands = { answering_keeps_commands };
+
+    ghost room = { omega arith };
 }
 
 fn send_all(frames: &[Frame], out: &mut Answer)

@@ -1,26 +1,21 @@
 //! The gateway with the parts beside it.
-ghost use Rattle.std.specs.Prelude.{◌≡◌, true, false, length, option_map, slice_get, is_some, nat_le, IfOk, IfSome};
+ghost use Rattle.std.specs.Prelude.{◌≡◌, ◌≤◌, true, false, length, option_map, slice_get, is_some, nat_le, IfOk, IfSome};
 ghost use Rattle.gate_events.specs.Emit.{CanWrite};
 ghost use Rattle.gate_outbox.specs.Output.{emit_of};
 ghost use Rattle.gate_core.specs.Steps.{IsEventValid, entry_of};
 ghost use Rattle.history.specs.Entries.{moment_of};
 ghost use Rattle.settings.specs.Further.{IsFurther, nothing_further};
 ghost use Rattle.settings.specs.Settings.{IsSettings};
-ghost use Rattle.bridge.specs.BridgeStands.{IsBesideStep, IsBridgeStep, IsCommanded, IsNew, IsOrder, IsStart};
-ghost use Rattle.bridge.specs.Kept.{AreAbsent, left_by, left_of};
-ghost use Rattle.bridge.specs.Parts.{parts_of};
+ghost use Rattle.bridge.specs.BridgeStands.{IsBridgeStep, IsCommanded, IsNew, IsOrder, IsSaidAgain, IsStart, IsUnposted};
+ghost use Rattle.bridge.specs.Kept.{beside_out, output_of};
+ghost use Rattle.bridge.specs.BridgeSettings.{bridge_settings_of};
 
-use crate::answering::Answering;
-use crate::joining::{Joining, join, joining_of};
-use crate::left::Left;
-use crate::measuring::{measure, measuring_of};
-use crate::source_watch::SourceWatch;
-use crate::sources::{sources_of, watch_sources};
-use crate::watching::{watch, watching_of};
-use ais_bridge::AisBridge;
-use further_bridge::FurtherBridge;
-use gate_core::{Command, Gateway, moment_of};
+use crate::beside::{Beside, beside_of};
+use crate::call_output::CallOutput;
+use gate_core::{Command, Gateway, Outbox, moment_of};
 use gate_events::{Emit, Event};
+use parts::Parts;
+use plain_out::say_plain;
 use sentence_text::Group;
 use settings::{Further, Settings};
 use std::alloc::{AllocError, Global};
@@ -31,50 +26,43 @@ use std::marker::Model;
 pub struct Bridge {
     gateway: Gateway,
     started: bool,
-    answering: Answering,
-    joining: Option<Joining>,
-    watching: Option<AisBridge>,
-    measuring: Option<FurtherBridge>,
-    sources: Option<SourceWatch>,
+    parts: Beside,
     /// The transmission group of plain sentences.
     plain: Option<Group>,
     /// Whether what comes is written down.
     records: bool,
-    /// Whether one of the last three is there. Few ask for them: where none is, an event costs nothing for them.
-    asks: bool,
+    /// Whether the last call gave nothing but what the gateway itself emits. Most calls do, and then no part is asked for its output.
+    alone: bool,
     /// Most of all that is kept, and so not on the stack.
-    left: Box<Left>,
+    output: Box<CallOutput>,
 }
 
 impl Model for Bridge {
-    ghost use Rattle.std.specs.Prelude.{◌≡◌, false};
+    ghost use Rattle.std.specs.Prelude.{◌≡◌, true, false, [], None};
     ghost use Rattle.gate_model.specs.Machine.{opened_machine};
-    ghost use Rattle.bridge.specs.Kept.{AreAbsent, Bridged, IsUsual};
+    ghost use Rattle.bridge.specs.Kept.{Bridged, IsAlone, plain_output};
 
     ghost Value = { Bridged };
 
     ghost view = { λ b. record {
       started = b.started;
       gateway = b.gateway;
-      answering = b.answering.identity;
-      joining = b.joining;
-      watching = b.watching;
-      measuring = b.measuring;
-      sources = b.sources;
+      parts = b.parts;
       plain = b.plain;
       records = b.records;
-      left = b.left.value;
+      output = b.output.value;
     } };
 
     ghost invariant = { λ b. (b.started ≡ false → b.gateway ≡ opened_machine b.gateway.settings)
-        × (b.asks ≡ false → AreAbsent b.measuring b.sources b.plain × IsUsual b.left.value) };
+        × (b.alone ≡ true → IsAlone b.output.value b.parts)
+        × (b.plain ≡ None → plain_output b.output.value b.parts ≡ []) };
 }
 
 impl Bridge {
     /// A bridge of these settings, with nothing further, before it starts.
     pub fn new(alloc: Global, settings: &Settings) -> Result<Bridge, AllocError>
         requires { IsSettings settings.now }
-        ensures { IfOk result (IsNew (parts_of settings.now nothing_further)) }
+        ensures { IfOk result (IsNew (bridge_settings_of settings.now nothing_further)) }
     {
         Bridge::with(alloc, settings, &Further::none())
     }
@@ -83,32 +71,20 @@ impl Bridge {
     pub fn with(alloc: Global, settings: &Settings, further: &Further) -> Result<Bridge, AllocError>
         requires settings { IsSettings settings.now }
         requires further { IsFurther settings.now further.now }
-        ensures { IfOk result (IsNew (parts_of settings.now further.now)) }
+        ensures { IfOk result (IsNew (bridge_settings_of settings.now further.now)) }
     {
-        let left = Left::boxed(alloc)?;
-        let watching = watching_of(alloc, &settings.ais, &settings.config)?;
-        let measuring = measuring_of(
-            alloc,
-            &further.quantities,
-            &further.ignore,
-            &settings.config,
-        )?;
+        let output = CallOutput::boxed(alloc)?;
+        let parts = beside_of(alloc, settings, further)?;
         // The largest part, last: what is kept while others are made lies on the stack once more.
         let gateway = Gateway::ignoring(alloc, &settings.config, &further.ignore)?;
-        let sources = sources_of(further.sources);
-        let asks = is_any_there(&measuring, &sources, &further.plain);
         Ok(Bridge {
             gateway,
             started: false,
-            answering: Answering::new(&settings.product),
-            joining: joining_of(&settings.rmc, &settings.config),
-            watching,
-            measuring,
-            sources,
+            parts,
             plain: further.plain,
             records: further.record,
-            asks,
-            left,
+            alone: true,
+            output,
         })
     }
 
@@ -125,9 +101,11 @@ impl Bridge {
         ensures start { IsStart moment self.old self.new }
         ensures started { self.new.started ≡ true }
     {
-        let left = self.left.as_mut();
-        left.clear(self.asks);
-        self.gateway.start(moment, &mut left.outbox);
+        let output = self.output.as_mut();
+        output.clear();
+        self.parts.clear();
+        self.alone = true;
+        self.gateway.start(moment, &mut output.outbox);
         self.started = true;
     }
 
@@ -140,47 +118,36 @@ impl Bridge {
         ensures started { self.new.started ≡ true }
     {
         let accepted = accepts(&self.gateway, event);
-        let left = self.left.as_mut();
-        left.clear(self.asks);
-        self.gateway.step(event, &mut left.outbox);
-        if accepted {
-            self.take_beside(event);
+        let output = self.output.as_mut();
+        output.outbox.clear();
+        self.gateway.step(event, &mut output.outbox);
+        if !accepted {
+            output.plain.clear();
+            self.parts.clear();
+            self.alone = true;
+            return;
         }
-    }
-
-    /// Lets the parts beside the gateway take an event that it has taken.
-    fn take_beside(&mut self, event: &Event<'_>)
-        requires valid { IsEventValid event.now }
-        requires quiet { self.old.left ≡ left_by self.old.left.outbox }
-        ensures { IsBesideStep (entry_of event.now) self.old self.new }
-    {
-        let gateway = &self.gateway;
-        let left = self.left.as_mut();
-        let outbox = &left.outbox;
-        self.answering.answer(gateway, event, &mut left.answer);
-        join(&mut self.joining, gateway, outbox, &mut left.joined);
-        watch(&mut self.watching, gateway, event, &mut left.ships);
-        if self.asks {
-            measure(&mut self.measuring, gateway, event, &mut left.quantities);
-            watch_sources(&mut self.sources, gateway, outbox, &mut left.changes);
-            left.plain.say(
-                &self.plain,
-                outbox,
-                &left.joined,
-                &left.ships,
-                &left.quantities,
-            );
+        let gave = self.parts.after(&self.gateway, &output.outbox, event);
+        match &self.plain {
+            None => self.alone = !gave,
+            Some(group) => {
+                if gave || posts(&output.outbox) || !self.alone {
+                    self.alone = false;
+                    say_again(*group, output, &mut self.parts);
+                }
+            }
         }
     }
 
     /// Takes the command that the last event left, where it left one, as an entry of its own at the same moment. Says whether it did.
+    #[inline(always)]
     pub fn obey(&mut self) -> bool
         requires { self.old.started ≡ true }
-        ensures order { IsOrder self.old.left.outbox.command self.old self.new }
-        ensures was { result ≡ is_some self.old.left.outbox.command }
+        ensures order { IsOrder self.old.output.outbox.command self.old self.new }
+        ensures was { result ≡ is_some self.old.output.outbox.command }
         ensures started { self.new.started ≡ true }
     {
-        match self.left.outbox.command() {
+        match self.output.outbox.command() {
             Some(command) => {
                 self.order(command.source, command.address);
                 true
@@ -190,15 +157,18 @@ impl Bridge {
     }
 
     /// Takes a command from this source to go to an address, which concerns the gateway alone.
+    #[inline(never)]
     fn order(&mut self, source: u8, address: u8)
         requires { self.old.started ≡ true }
         ensures order { IsCommanded (record { source = source; address = address }) self.old self.new }
         ensures started { self.new.started ≡ true }
     {
-        let left = self.left.as_mut();
-        left.clear(self.asks);
+        let output = self.output.as_mut();
+        output.clear();
+        self.parts.clear();
+        self.alone = true;
         self.gateway
-            .command(Command { source, address }, &mut left.outbox);
+            .command(Command { source, address }, &mut output.outbox);
     }
 
     /// The moment of the last entry, in microseconds; 0 before any.
@@ -220,19 +190,72 @@ impl Bridge {
     }
 
     /// How many emits the last call left.
+    #[inline(always)]
     pub fn len(&self) -> usize
-        ensures { result ≡ length (left_of self.now) }
+        ensures { result ≡ length (output_of self.now) }
     {
-        self.left.len(self.asks)
+        let own = self.output.outbox.len();
+        if self.alone {
+            own
+        } else {
+            own + self.len_beside()
+        }
+    }
+
+    /// How many emits stand behind those of the gateway itself.
+    #[inline(never)]
+    fn len_beside(&self) -> usize
+        ensures len { result ≡ length (beside_out self.now) }
+        ensures few { length (beside_out self.now) ≤ 65535 }
+    {
+        self.parts.len() + self.output.plain.len() + self.parts.plain_len()
     }
 
     /// The emit at this place of all that the last call left, in its order, from 0; None exactly beyond the list.
     pub fn emit(&self, place: usize) -> Option<Emit<'_>>
-        ensures emit { option_map emit_of result ≡ slice_get (left_of self.now) place }
+        ensures emit { option_map emit_of result ≡ slice_get (output_of self.now) place }
         ensures valid { IfSome result CanWrite }
     {
-        self.left.item(place)
+        match place.checked_sub(self.output.outbox.len()) {
+            None => self.output.outbox.item(place),
+            Some(place) => self.emit_beside(place),
+        }
     }
+
+    /// The emit at this place behind those of the gateway itself. Nearly all are its own: these are kept apart from them.
+    #[inline(never)]
+    fn emit_beside(&self, place: usize) -> Option<Emit<'_>>
+        ensures emit { option_map emit_of result ≡ slice_get (beside_out self.now) place }
+        ensures valid { IfSome result CanWrite }
+    {
+        let Some(place) = place.checked_sub(self.parts.len()) else {
+            return self.parts.item(place);
+        };
+        match place.checked_sub(self.output.plain.len()) {
+            None => self.output.plain.item(place),
+            Some(place) => self.parts.plain_item(place),
+        }
+    }
+}
+
+/// Whether the gateway itself has a datagram.
+fn posts(outbox: &Outbox) -> bool
+    ensures { result ≡ false → IsUnposted outbox.now }
+{
+    match outbox.emits.datagram() {
+        Some(_) => true,
+        None => false,
+    }
+}
+
+/// Says the datagrams of an event once more, as plain sentences for this transmission group.
+#[inline(never)]
+fn say_again(group: Group, output: &mut CallOutput, parts: &mut Beside)
+    ensures { IsSaidAgain group output.old parts.old output.new parts.new }
+{
+    output.plain.clear();
+    say_plain(group, &output.outbox.emits, &mut output.plain);
+    parts.say_plain(group);
 }
 
 /// Whether an event isn't earlier than the last entry.
@@ -240,18 +263,4 @@ fn accepts(gateway: &Gateway, event: &Event<'_>) -> bool
     ensures { result ≡ nat_le gateway.now.moment (moment_of (entry_of event.now)) }
 {
     gateway.moment() <= moment_of(event)
-}
-
-/// Whether any of these parts is there.
-fn is_any_there(
-    measuring: &Option<FurtherBridge>,
-    sources: &Option<SourceWatch>,
-    plain: &Option<Group>,
-) -> bool
-    ensures { result ≡ false → AreAbsent measuring.now sources.now plain.now }
-{
-    match (measuring, sources, plain) {
-        (None, None, None) => false,
-        _ => true,
-    }
 }

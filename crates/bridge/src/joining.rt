@@ -1,21 +1,20 @@
 //! RMC beside the gateway.
-ghost use Rattle.std.specs.Prelude.{◌≡◌, IfSome, Some};
+ghost use Rattle.std.proofs.Common.{arith};
+ghost use Rattle.std.specs.Prelude.{◌≡◌};
 ghost use Rattle.config_values.specs.Rows.{IsTalker};
-ghost use Rattle.gate_outbox.specs.Output.{no_emits};
-ghost use Rattle.history.specs.Entries.{Entry};
-ghost use Rattle.bridge.specs.Beside.{IsJoining};
-ghost use Rattle.bridge.specs.BridgeStands.{IsOpenedJoining};
-ghost use Rattle.bridge.specs.Parts.{rmc_rule, timeouts_of};
+ghost use Rattle.history.specs.Settings.{Settings};
+ghost use Rattle.bridge.specs.Beside.{IsOpened, joining_gives, joining_stands};
+ghost use Rattle.bridge.specs.BridgeSettings.{rmc_rule_of, timeouts_of};
+ghost use Rattle.bridge.specs.Commands.{joining_keeps_commands};
 
 use config_values::{Config, RowConfig};
 use gate_core::{Gateway, Outbox};
+use gate_events::Event;
 use gate_outbox::Emits;
 use joined_rmc::{RmcConfig, RmcJoin};
+use parts::Part;
 use readings::ROWS;
 use sentence_text::Group;
-
-/// The datagram with RMC, alone.
-pub(crate) type Joined = Emits<0>;
 
 /// RMC, and the transmission group that it goes to.
 #[derive(Drop)]
@@ -26,27 +25,43 @@ pub(crate) struct Joining {
 
 impl Joining {
     /// With nothing joined yet.
-    fn new(rmc: &RmcConfig, config: &Config) -> Joining
+    pub(crate) fn new(rmc: &RmcConfig, config: &Config) -> Joining
         requires { IsTalker rmc.now.talker }
-        ensures { IsOpenedJoining (rmc_rule config.now (Some rmc.now)) (Some result) }
+        ensures { (c : Settings) → IsOpened joining_stands (rmc_rule_of config.now rmc.now) c result }
     {
         Joining {
             group: rmc.group,
             join: RmcJoin::new(rmc, config.sfi, &timeouts_of(&config.rows)),
         }
     }
+}
 
-    /// Takes what a step of the gateway left that accepted its event.
-    fn join(&mut self, gateway: &Gateway, outbox: &Outbox, out: &mut Joined)
-        requires { out.old ≡ no_emits }
-        ensures { (e : Entry) → IsJoining gateway.now outbox.now e (Some self.old) (Some self.new) out.new }
-    {
-        let datagram = out.post(self.group);
-        let said = self.join.after(gateway, outbox, &mut datagram.packet);
+impl Part<0> for Joining {
+    ghost use Rattle.joined_rmc.specs.RmcOut.{RmcRule};
+
+    ghost Rule = { RmcRule };
+
+    ghost stands = { joining_stands };
+
+    ghost gives = { joining_gives };
+
+    fn after(
+        &mut self,
+        gateway: &Gateway,
+        output: &Outbox,
+        _event: &Event<'_>,
+        emits: &mut Emits<0>,
+    ) {
+        let datagram = emits.post(self.group);
+        let said = self.join.after(gateway, output, &mut datagram.packet);
         if !said {
-            out.clear();
+            emits.clear();
         }
     }
+
+    ghost commands = { joining_keeps_commands };
+
+    ghost room = { omega arith };
 }
 
 /// How long a source of each row counts, in milliseconds.
@@ -58,30 +73,4 @@ fn timeouts_of(rows: &[RowConfig; ROWS]) -> [u32; ROWS]
         timeouts[row] = rows[row].timeout_ms;
     }
     timeouts
-}
-
-/// With nothing joined yet, where RMC is configured.
-pub(crate) fn joining_of(rmc: &Option<RmcConfig>, config: &Config) -> Option<Joining>
-    requires { IfSome rmc.now (λ r. IsTalker r.talker) }
-    ensures { IsOpenedJoining (rmc_rule config.now rmc.now) result }
-{
-    match rmc {
-        Some(rmc) => Some(Joining::new(rmc, config)),
-        None => None,
-    }
-}
-
-/// Takes what a step of the gateway left that accepted its event.
-pub(crate) fn join(
-    joining: &mut Option<Joining>,
-    gateway: &Gateway,
-    outbox: &Outbox,
-    out: &mut Joined,
-)
-    requires { out.old ≡ no_emits }
-    ensures { (e : Entry) → IsJoining gateway.now outbox.now e joining.old joining.new out.new }
-{
-    if let Some(joining) = joining {
-        joining.join(gateway, outbox, out);
-    }
 }

@@ -6,16 +6,15 @@
 #![tactic(auto)]
 
 mod answering;
+mod beside;
 mod bridge;
+mod call_output;
 pub mod cases;
 mod joining;
 pub mod laws;
-mod left;
-mod measuring;
-mod plain;
+mod quantities;
+mod ships;
 mod source_watch;
-mod sources;
-mod watching;
 
 pub use bridge::Bridge;
 pub use gate_core::{Command, HeldCounts, moment_of};

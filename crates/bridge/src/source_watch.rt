@@ -1,20 +1,25 @@
 //! The device that each row was taken from last.
-ghost use Rattle.std.specs.Prelude.{◌≡◌, ◌<◌, ℕ, [], Some};
+ghost use Rattle.std.proofs.Common.{arith};
+ghost use Rattle.std.specs.Prelude.{◌≡◌, ◌<◌, Some};
 ghost use Rattle.readings.specs.Rows.{row_of, row_number, rows_count};
 ghost use Rattle.history.specs.Settings.{Settings};
+ghost use Rattle.bridge.specs.Beside.{IsOpened, sources_give, sources_stand};
 ghost use Rattle.bridge.specs.WatchKept.{change_by, is_by, names_after, no_names};
-ghost use Rattle.bridge.specs.WatchStands.{IsWatchStep, WatchStands};
+ghost use Rattle.bridge.specs.WatchStands.{IsWatchStep};
+ghost use Rattle.bridge.specs.Commands.{sources_keep_commands};
 
 use gate_core::{Gateway, Outbox, SelectedMessage};
-use gate_events::{Detail, Report};
+use gate_events::{Detail, Event, Report};
+use gate_outbox::Emits;
 use n2k_id::Name;
+use parts::Part;
 use readings::{ROWS, row};
 use report_rules::SOURCE_CHANGED;
 use std::marker::Model;
 
 /// The device that each row was taken from last, by the row's number.
 #[derive(Drop)]
-pub struct SourceWatch {
+pub(crate) struct SourceWatch {
     names: [Option<Name>; ROWS],
 }
 
@@ -29,9 +34,9 @@ impl Model for SourceWatch {
 
 impl SourceWatch {
     /// No row was taken from any device yet.
-    pub fn new() -> SourceWatch
+    pub(crate) fn new() -> SourceWatch
         ensures kept { result ≡ no_names }
-        ensures stands { (c : Settings) (s : ℕ) → WatchStands c s [] result }
+        ensures stands { (c : Settings) → IsOpened sources_stand tt c result }
     {
         SourceWatch {
             names: [None; ROWS],
@@ -39,26 +44,26 @@ impl SourceWatch {
     }
 
     /// Takes what a step of the gateway left that accepted its event. Tells where a row is taken from another device than before.
-    pub fn after(&mut self, gateway: &Gateway, outbox: &Outbox) -> Option<Report>
+    fn change(&mut self, gateway: &Gateway, outbox: &Outbox) -> Option<Report>
         ensures history { IsWatchStep gateway.now outbox.now self.old self.new result }
     {
         let selected = SelectedMessage::of(gateway, outbox);
-        self.take(&selected)
+        self.handle_selected(&selected)
     }
 
-    /// Takes the message that a step selected, or none.
-    fn take(&mut self, selected: &Option<SelectedMessage>) -> Option<Report>
+    /// Handles the message that a step selected, or none.
+    fn handle_selected(&mut self, selected: &Option<SelectedMessage>) -> Option<Report>
         ensures kept { self.new ≡ names_after selected.now self.old }
         ensures told { result ≡ change_by selected.now self.old }
     {
         match selected {
-            Some(message) => self.take_message(message),
+            Some(message) => self.handle_message(message),
             None => None,
         }
     }
 
-    /// Takes a message that was selected.
-    fn take_message(&mut self, message: &SelectedMessage) -> Option<Report>
+    /// Handles a message that was selected.
+    fn handle_message(&mut self, message: &SelectedMessage) -> Option<Report>
         ensures kept { self.new ≡ names_after (Some message.now) self.old }
         ensures told { result ≡ change_by (Some message.now) self.old }
     {
@@ -77,6 +82,30 @@ impl SourceWatch {
             })
         }
     }
+}
+
+impl Part<1> for SourceWatch {
+    ghost Rule = { Unit {0} };
+
+    ghost stands = { sources_stand };
+
+    ghost gives = { sources_give };
+
+    fn after(
+        &mut self,
+        gateway: &Gateway,
+        output: &Outbox,
+        _event: &Event<'_>,
+        emits: &mut Emits<1>,
+    ) {
+        if let Some(change) = self.change(gateway, output) {
+            emits.tell(change);
+        }
+    }
+
+    ghost commands = { sources_keep_commands };
+
+    ghost room = { omega arith };
 }
 
 /// Whether the device is this one.

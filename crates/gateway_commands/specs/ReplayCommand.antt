@@ -3,7 +3,7 @@ use Rattle.std.specs.Prelude.{◌≡◌, ◌≢◌, ◌⊎◌, ℕ, List, Option
 use Rattle.gate_outside.specs.Faults.{Rose}
 use Rattle.settings.specs.declared.further.Further.{Further}
 use Rattle.settings.specs.declared.settings.Settings.{Settings}
-use Rattle.serving.specs.Parts.{parts_of}
+use Rattle.serving.specs.BridgeSettings.{bridge_settings_of}
 use Rattle.replaying.specs.Replayed.{IsReplay}
 use Rattle.config_check.specs.Configuring.{ConfiguresBy, FileSays, IsToldAs}
 use Rattle.statuses.specs.declared.Status.TheVariants as statuses
@@ -12,7 +12,7 @@ use Rattle.statuses.specs.Statuses.{EndsBy, IsReplayStatus, IsStreamStatus, IsUn
 -- what a gateway of these settings, with what is asked for besides, says by its status, which was run over a capture
 pub record RunsBy (settings : Settings) (further : Further) (left left' : Option (List ℕ)) (source source' : ℕ) (told told' : Option (List ℕ)) (sink sink' status : ℕ) : Type 0 where
   pub known : IsReplayStatus status
-  pub ends : EndsBy (IsReplay (parts_of settings further)) left left' told told' status
+  pub ends : EndsBy (IsReplay (bridge_settings_of settings further)) left left' told told' status
   pub sink_cause : status ≡ number statuses.SinkFailed → Rose sink sink'
   pub source_cause : status ≡ number statuses.SourceFailed → Rose source source'
   pub steady : SteadyBy source source' sink sink' status
@@ -27,7 +27,7 @@ pub record Replays (content : Option (List ℕ)) (left left' told told' : Option
   pub settings : Settings
   pub further : Further
   pub file : FileSays content (Ok (settings, further))
-  pub ends : EndsBy (IsReplay (parts_of settings further)) left left' told told' status
+  pub ends : EndsBy (IsReplay (bridge_settings_of settings further)) left left' told told' status
 
 pub record ReplaysBy (content : Option (List ℕ)) (files files' : ℕ) (left left' : Option (List ℕ)) (source source' : ℕ) (told told' : Option (List ℕ))
     (sink sink' status : ℕ) : Type 0 where

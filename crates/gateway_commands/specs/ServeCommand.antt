@@ -6,7 +6,7 @@ use Rattle.gate_outside.specs.Faults.{Rose}
 use Rattle.gate_outside.specs.Link.{Attachment, GoesOn, Traffic, attachment}
 use Rattle.settings.specs.declared.further.Further.{Further}
 use Rattle.settings.specs.declared.settings.Settings.{Settings}
-use Rattle.serving.specs.Parts.{parts_of}
+use Rattle.serving.specs.BridgeSettings.{bridge_settings_of}
 use Rattle.serving.specs.Served.{Outside, EndsBy, outside}
 use Rattle.config_check.specs.Configuring.{ConfiguresBy, FileSays, IsToldAs}
 use Rattle.statuses.specs.declared.Status.TheVariants as statuses
@@ -56,7 +56,7 @@ pub record TakesTurns (settings : Settings) (further : Further) (turns : ℕ) (c
   pub net : Option Traffic
   pub bus_attached : IsAttached (bus_attachment settings.config.ends) old.bus bus
   pub net_attached : IsAttached (net_attachment settings.config.ends) old.net net
-  pub ends : EndsBy (parts_of settings further) turns clock clock' (outside bus net old.taken old.faults) new status
+  pub ends : EndsBy (bridge_settings_of settings further) turns clock clock' (outside bus net old.taken old.faults) new status
 
 -- What each status of a gateway of these settings says. Want of memory is free.
 pub record ServesWith (settings : Settings) (further : Further) (turns : ℕ) (clock clock' : Option (List ℕ)) (bus bus' net net' : ℕ) (old new : Outside) (status : ℕ) : Type 0 where

@@ -4,7 +4,7 @@ ghost use Rattle.gate_outside.specs.Faults.{Rose};
 ghost use Rattle.settings.specs.Further.{IsFurther, nothing_further};
 ghost use Rattle.settings.specs.Settings.{IsSettings};
 ghost use Rattle.serving.specs.BridgeStands.{IsNew};
-ghost use Rattle.serving.specs.Parts.{Parts, parts_of};
+ghost use Rattle.serving.specs.BridgeSettings.{BridgeSettings, bridge_settings_of};
 ghost use Rattle.replaying.specs.Replayed.{IsReplay};
 ghost use Rattle.gateway_commands.specs.ReplayCommand.{RunsBy};
 ghost use Rattle.statuses.specs.Statuses.{EndsBy, IsReplayStatus, IsStreamStatus, IsUnhindered, SteadyBy, number};
@@ -27,12 +27,12 @@ use std::alloc::Global;
 /// Of 4, 5 and 8 the first call that fails decides: with 0 and 8 no call failed, with 4 no read did, and with 5 no write.
 pub fn stream<S: Source, K: Sink>(bridge: &mut Bridge, input: &mut S, out: &mut K) -> u8
     ensures status { IsStreamStatus result }
-    ensures ends { (p : Parts) → IsNew p bridge.old
+    ensures ends { (p : BridgeSettings) → IsNew p bridge.old
         → EndsBy (IsReplay p) (S.left input.old) (S.left input.new) (K.taken out.old) (K.taken out.new) result }
     ensures sink_cause { result ≡ 4 → Rose (K.fault_count out.old) (K.fault_count out.new) }
     ensures source_cause { result ≡ 5 → Rose (S.fault_count input.old) (S.fault_count input.new) }
     ensures steady { SteadyBy (S.fault_count input.old) (S.fault_count input.new) (K.fault_count out.old) (K.fault_count out.new) result }
-    ensures complete { (p : Parts) → IsNew p bridge.old
+    ensures complete { (p : BridgeSettings) → IsNew p bridge.old
         → IsUnhindered (S.left input.old) (S.fault_count input.old) (S.fault_count input.new) (K.fault_count out.old) (K.fault_count out.new)
         → result ≡ 0 }
 {
@@ -43,12 +43,12 @@ pub fn stream<S: Source, K: Sink>(bridge: &mut Bridge, input: &mut S, out: &mut 
 #[inline(never)]
 fn answer<S: Source, K: Sink>(bridge: &mut Bridge, input: &mut S, out: &mut K) -> Status
     ensures status { IsStreamStatus (number result) }
-    ensures ends { (p : Parts) → IsNew p bridge.old
+    ensures ends { (p : BridgeSettings) → IsNew p bridge.old
         → EndsBy (IsReplay p) (S.left input.old) (S.left input.new) (K.taken out.old) (K.taken out.new) (number result) }
     ensures sink_cause { number result ≡ 4 → Rose (K.fault_count out.old) (K.fault_count out.new) }
     ensures source_cause { number result ≡ 5 → Rose (S.fault_count input.old) (S.fault_count input.new) }
     ensures steady { SteadyBy (S.fault_count input.old) (S.fault_count input.new) (K.fault_count out.old) (K.fault_count out.new) (number result) }
-    ensures complete { (p : Parts) → IsNew p bridge.old
+    ensures complete { (p : BridgeSettings) → IsNew p bridge.old
         → IsUnhindered (S.left input.old) (S.fault_count input.old) (S.fault_count input.new) (K.fault_count out.old) (K.fault_count out.new)
         → number result ≡ 0 }
 {
@@ -69,7 +69,7 @@ pub fn replay_with<S: Source, K: Sink>(
 ) -> u8
     requires { IsSettings settings.now }
     ensures status { IsReplayStatus result }
-    ensures ends { EndsBy (IsReplay (parts_of settings.now nothing_further)) (S.left input.old) (S.left input.new) (K.taken out.old) (K.taken out.new) result }
+    ensures ends { EndsBy (IsReplay (bridge_settings_of settings.now nothing_further)) (S.left input.old) (S.left input.new) (K.taken out.old) (K.taken out.new) result }
     ensures memory { result ≡ 7 → (input.new ≡ input.old) × (out.new ≡ out.old) }
     ensures sink_cause { result ≡ 4 → Rose (K.fault_count out.old) (K.fault_count out.new) }
     ensures source_cause { result ≡ 5 → Rose (S.fault_count input.old) (S.fault_count input.new) }

@@ -1,7 +1,7 @@
 //! `serve`: the gateway of a configuration between two links that live.
 ghost use Rattle.std.specs.Prelude.{◌≡◌, ◌≢◌};
 ghost use Rattle.serving.specs.BridgeStands.{IsNew};
-ghost use Rattle.serving.specs.Parts.{parts_of};
+ghost use Rattle.serving.specs.BridgeSettings.{bridge_settings_of};
 ghost use Rattle.serving.specs.Served.{outside};
 ghost use Rattle.settings.specs.Further.{IsFurther};
 ghost use Rattle.settings.specs.declared.further.Further.{Further};
@@ -87,7 +87,7 @@ fn serve_between<K: Sink, B: Link, E: Link, C: Clock>(
     net: &mut E,
     clock: &mut C,
 ) -> Status
-    ensures serves { (further : Further) → IsNew (parts_of settings.now further) bridge.old
+    ensures serves { (further : Further) → IsNew (bridge_settings_of settings.now further) bridge.old
         → ServesWith settings.now further turns (C.readings clock.old) (C.readings clock.new)
         (B.fault_count bus.old) (B.fault_count bus.new) (E.fault_count net.old) (E.fault_count net.new)
         (outside (B.traffic bus.old) (E.traffic net.old) (K.taken out.old) (K.fault_count out.old))

@@ -21,7 +21,7 @@ use Rattle.bridge.specs.FurtherOut.{further_done, message_breaks, said_at, lines
 use Rattle.bridge.specs.FurtherRule.{FurtherRule}
 use Rattle.bridge.specs.Answered.{answer_by, answered_before, answers, is_answered, own_after, ready_after, sent_before}
 use Rattle.bridge.specs.Gate.{all_out, beside, changes_of, plain_of, quantities_of, rmc_of, ships_of, tagged_out}
-use Rattle.bridge.specs.Parts.{Parts}
+use Rattle.bridge.specs.BridgeSettings.{BridgeSettings}
 use Rattle.recordings.proofs.Known.{known_without}
 use Rattle.recordings.proofs.Gathered.{ap₃, joined, none_left, none_right}
 use Rattle.recordings.proofs.Overdue.{expired_later, expired_first_later}
@@ -100,7 +100,7 @@ module _ (c : Settings) (s m : ℕ) (h newer : History) (e : Entry) where
 
 -- ---- all of it
 
-module _ (p : Parts) (s : ℕ) where
+module _ (p : BridgeSettings) (s : ℕ) where
   -- what is overdue by a moment is the same of two histories
   pub record AreOver (g h : History) (t : ℕ) : Type 0 where
     pub gateway : expired p.gateway s g t ≡ expired p.gateway s h t

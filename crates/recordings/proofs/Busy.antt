@@ -12,7 +12,7 @@ use Rattle.history.specs.Settings.{Settings, receiver_of}
 use Rattle.bridge.specs.RmcOut.{RmcRule}
 use Rattle.bridge.specs.FurtherRule.{FurtherRule}
 use Rattle.bridge.specs.Gate.{all_out, changes_of, from_events, plain_of, quantities_of, rmc_of, ships_of, stepped, with_command}
-use Rattle.bridge.specs.Parts.{Parts}
+use Rattle.bridge.specs.BridgeSettings.{BridgeSettings}
 use Rattle.recordings.specs.Idle.{AreFrom, BeginFrom, busy, is_idle}
 use Rattle.recordings.specs.IdleLaws.{StartIsIdle, BusyEvents, BusyGate}
 use Rattle.recordings.proofs.Events.{idle_ticks}
@@ -57,7 +57,7 @@ pub earlier : (m n : ℕ) (es : List Entry) → m ≤ n → BeginFrom n es → B
 earlier m n [] le from = tt
 earlier m n (e ∷ es) le from = omega (arith, le, from)
 
-module _ (p : Parts) (s : ℕ) where
+module _ (p : BridgeSettings) (s : ℕ) where
   -- an event that is accepted is the last one then, or its command is, at the same moment
   now_is : (h : History) (e : Entry) (d : Option Message) → now (with_command p s h e (command_in p.gateway s d (moment_of e))).after ≡ moment_of e
   now_is h e None = refl

@@ -11,7 +11,7 @@ use Rattle.history.specs.Gate.{Stepped, command_in, with_command_by}
 use Rattle.history.specs.Messages.{Message, done}
 use Rattle.history.specs.Settings.{receiver_of}
 use Rattle.bridge.specs.Gate.{all_out, from_events}
-use Rattle.bridge.specs.Parts.{Parts}
+use Rattle.bridge.specs.BridgeSettings.{BridgeSettings}
 use Rattle.recordings.specs.IdleLaws.{IdleTicks}
 use Rattle.recordings.proofs.Places.{closed}
 use Rattle.recordings.proofs.Noted.{message_as}
@@ -21,7 +21,7 @@ use Rattle.recordings.proofs.Overdue.{expired_later}
 use Rattle.recordings.proofs.Out.{out_without}
 use Rattle.recordings.proofs.All.{AreOver, all_alike, over_first, over_later}
 
-module _ (p : Parts) (s : ℕ) where
+module _ (p : BridgeSettings) (s : ℕ) where
   -- an event that is accepted or not, with the command that it completes, and the events after it
   abbrev stepped_if : Bool → Option Entry → History → Entry → Stepped p.gateway s
   stepped_if b ordered h e =

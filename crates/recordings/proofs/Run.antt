@@ -13,7 +13,7 @@ use Rattle.history.specs.Emits.{at}
 use Rattle.history.specs.Entries.{now, tick}
 use Rattle.history.specs.Gate.{Stepped}
 use Rattle.serving.specs.Gate.{from_events, opening}
-use Rattle.serving.specs.Parts.{Parts}
+use Rattle.serving.specs.BridgeSettings.{BridgeSettings}
 use Rattle.serving.specs.Running.{Running}
 use Rattle.replaying.specs.Replayed.{AreRead, IsReplay, emitted_text, event_in, events_in, gate_of}
 use Rattle.replaying.proofs.Events.{events_are_replayed}
@@ -33,7 +33,7 @@ below_both a b n first second =
     let le : max a b ≤ n - 1 = max-le {a = a} {b = b} {k = n - 1} (omega (arith, first)) (omega (arith, second)) in
     omega (arith, le, first)
 
-module _ (p : Parts) (records : p.records ≡ true) where
+module _ (p : BridgeSettings) (records : p.records ≡ true) where
   -- ---- the turns of a gateway that runs
 
   turns_again : (number : ℕ) (readings : List ℕ) (bus net : List Outcome) (g : Running) → length bus ≡ length readings → length net ≡ length readings
@@ -118,7 +118,7 @@ module _ (p : Parts) (records : p.records ≡ true) where
   whole_replays : (items : List Item) → Whole items → IsReplay p (recorded_in items) (emitted_text (made_in items))
   whole_replays items x = ap emitted_text x.same ∙ sym (events_are_replayed p (recorded_in items) x.are_read)
 
-served_again : (p : Parts) (records : p.records ≡ true) (turns : ℕ) (clock clock' : Option (List ℕ)) (old new : Outside)
+served_again : (p : BridgeSettings) (records : p.records ≡ true) (turns : ℕ) (clock clock' : Option (List ℕ)) (old new : Outside)
     (x : Serves p turns clock clock' old new) → AreEarly x.readings → Whole p records (all_due x.passed.tried)
 served_again p records turns clock clock' old new x early =
     subst (λ (items : List Item). Whole p records items) (sym x.is_run)
@@ -128,6 +128,6 @@ pub recordings_replay : RecordingsReplay
 recordings_replay p turns clock clock' old new records x early =
     whole_replays p records (all_due x.passed.tried) (served_again p records turns clock clock' old new x early)
 
-pub served_plain : (p : Parts) (records : p.records ≡ true) (turns : ℕ) (clock clock' : Option (List ℕ)) (old new : Outside)
+pub served_plain : (p : BridgeSettings) (records : p.records ≡ true) (turns : ℕ) (clock clock' : Option (List ℕ)) (old new : Outside)
     (x : Serves p turns clock clock' old new) → AreEarly x.readings → AllByRecursion IsPlain (recorded_in (all_due x.passed.tried))
 served_plain p records turns clock clock' old new x early = (served_again p records turns clock clock' old new x early).are_plain

@@ -16,7 +16,7 @@ use Rattle.history.specs.Emits.{at}
 use Rattle.history.specs.Entries.{History, moment_of, now, tick}
 use Rattle.history.specs.Gate.{Stepped}
 use Rattle.serving.specs.Gate.{all_out, from_events, stepped}
-use Rattle.serving.specs.Parts.{Parts}
+use Rattle.serving.specs.BridgeSettings.{BridgeSettings}
 use Rattle.serving.specs.Running.{Running, entry_of}
 use Rattle.replaying.specs.Replayed.{AreRead, event_in, events_in}
 use Rattle.recordings.specs.Idle.{BeginFrom}
@@ -30,17 +30,17 @@ use Rattle.recordings.proofs.Plain.{IsPlain, plain_event}
 -- ---- lines that give again what was emitted
 
 -- They are read and plain, none of their events is earlier than a moment, and after a history they give these emits.
-pub record IsAgain (p : Parts) (m s : ℕ) (h : History) (lines : List (List ℕ)) (emits : List Emitted) : Type 0 where
+pub record IsAgain (p : BridgeSettings) (m s : ℕ) (h : History) (lines : List (List ℕ)) (emits : List Emitted) : Type 0 where
   pub are_read : AreRead lines
   pub are_plain : AllByRecursion IsPlain lines
   pub from : BeginFrom m (events_in lines)
   pub same : emits ≡ from_events p s h (events_in lines)
 
 -- what is recorded in items gives what was made in them
-abbrev pub Again : Parts → ℕ → Running → List Item → Type 0
+abbrev pub Again : BridgeSettings → ℕ → Running → List Item → Type 0
 Again p m g items = IsAgain p m g.start g.history (recorded_in items) (made_in items)
 
-module _ (p : Parts) where
+module _ (p : BridgeSettings) where
   restated : (m s : ℕ) (h : History) (lines lines' : List (List ℕ)) (emits emits' : List Emitted) → lines ≡ lines' → emits ≡ emits'
       → IsAgain p m s h lines emits → IsAgain p m s h lines' emits'
   restated m s h lines lines' emits emits' line emit x =

@@ -9,7 +9,7 @@ use Rattle.capture_text.specs.EventLaws.{Fits}
 use Rattle.capture_text.specs.Reading.{read}
 use Rattle.capture_text.proofs.Again.{frames_fit}
 use Rattle.history.specs.Entries.{now}
-use Rattle.serving.specs.Parts.{Parts}
+use Rattle.serving.specs.BridgeSettings.{BridgeSettings}
 use Rattle.serving.specs.Running.{Running}
 use Rattle.serving.specs.Served.{NetFits}
 use Rattle.serving.specs.Turns.{Arrived, Item, all_came, from_bus, from_net, is_event, line_says, text_of, tick_behind, with_all, with_came, with_event}
@@ -49,7 +49,7 @@ tick_comes m false = (refl, tt)
 
 -- ---- what is made of it
 
-module _ (p : Parts) (m : ℕ) where
+module _ (p : BridgeSettings) (m : ℕ) where
   -- it ends at the moment of the turn where there was an event, and where it began otherwise
   came_now : (e : Seen) (g : Running) → (moment_in e ≡ m) × Fits e → now g.history ≤ m → now (with_event p e g).after.history ≡ m
   came_now e g comes le = event_now p e g (subst (λ (k : ℕ). now g.history ≤ k) (sym comes.0) le) ∙ comes.0

@@ -3,7 +3,7 @@ use Rattle.std.specs.Prelude.{ℕ, ◌≤◌, Bool, false, ◌&&◌, not, List, 
 use Rattle.history.specs.Emits.{is_there}
 use Rattle.history.specs.Entries.{Entry, History, frame, datagram, tick, command, is_accepted, moment_of}
 use Rattle.bridge.specs.Gate.{all_out, stepped}
-use Rattle.bridge.specs.Parts.{Parts}
+use Rattle.bridge.specs.BridgeSettings.{BridgeSettings}
 
 -- none of the events is earlier than this moment, nor than the one before it
 abbrev pub AreFrom : ℕ → List Entry → Type 0
@@ -15,7 +15,7 @@ abbrev pub BeginFrom : ℕ → List Entry → Type 0
 BeginFrom m [] = Unit {0}
 BeginFrom m (e ∷ es) = m ≤ moment_of e
 
-module _ (p : Parts) (s : ℕ) where
+module _ (p : BridgeSettings) (s : ℕ) where
   abbrev pub is_idle : History → Entry → Bool
   is_idle h (frame m f) = false
   is_idle h (datagram m bytes) = false

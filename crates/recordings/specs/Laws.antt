@@ -1,7 +1,7 @@
 -- The recording of a run gives, when it is replayed, what the gateway made in the run.
 use Rattle.std.specs.Prelude.{◌≡◌, ℕ, ◌^◌, ◌<◌, true, List, Option}
 use Rattle.std.specs.List.{AllByRecursion}
-use Rattle.serving.specs.Parts.{Parts}
+use Rattle.serving.specs.BridgeSettings.{BridgeSettings}
 use Rattle.replaying.specs.Replayed.{IsReplay, emitted_text}
 use Rattle.serving.specs.Recorded.{made_in, recorded_in}
 use Rattle.serving.specs.Served.{Outside, Serves, all_due}
@@ -13,11 +13,11 @@ AreEarly readings = AllByRecursion (λ m. m < 10 ^ 16) readings
 
 abbrev pub RecordingsReplay : Type 0
 RecordingsReplay =
-    (p : Parts) (turns : ℕ) (clock clock' : Option (List ℕ)) (old new : Outside) → p.records ≡ true → (x : Serves p turns clock clock' old new) → AreEarly x.readings
+    (p : BridgeSettings) (turns : ℕ) (clock clock' : Option (List ℕ)) (old new : Outside) → p.records ≡ true → (x : Serves p turns clock clock' old new) → AreEarly x.readings
     → IsReplay p (recorded_in (all_due x.passed.tried)) (emitted_text (made_in (all_due x.passed.tried)))
 
 -- it is told from the reports in what was written, where each report is one line
 abbrev pub RecordingsAreTold : Type 0
 RecordingsAreTold =
-    (p : Parts) (turns : ℕ) (clock clock' : Option (List ℕ)) (old new : Outside) → p.records ≡ true → (y : Serves p turns clock clock' old new) → AreEarly y.readings
+    (p : BridgeSettings) (turns : ℕ) (clock clock' : Option (List ℕ)) (old new : Outside) → p.records ≡ true → (y : Serves p turns clock clock' old new) → AreEarly y.readings
     → ReportsAreLines y.passed.tried → IsTold y.passed.tried

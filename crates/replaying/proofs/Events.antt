@@ -9,9 +9,9 @@ use Rattle.history.specs.Entries.{History, moment_of}
 use Rattle.bridge.specs.Running.{entry_of}
 use Rattle.replaying.specs.Replayed.{AreRead, EventsAreReplayed, Replayed, event_in, events_in, gate_of, emitted_text, replayed_from, with_read}
 use Rattle.bridge.specs.Gate.{from_events, opening, stepped}
-use Rattle.bridge.specs.Parts.{Parts}
+use Rattle.bridge.specs.BridgeSettings.{BridgeSettings}
 
-module _ (p : Parts) where
+module _ (p : BridgeSettings) where
   -- of a line that says an event, the same as of the event
   abbrev behind : ℕ → List (List ℕ) → Replayed → List Emitted
   behind number ls x = x.emits ++ replayed_from p (number + 1) x.after ls

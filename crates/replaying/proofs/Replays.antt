@@ -21,11 +21,11 @@ use Rattle.replaying.specs.Replayed.{IsReplayFrom, emitted_text, replayed_from, 
 use Rattle.capture_text.specs.Emitted.{line_of}
 use Rattle.bridge.specs.BridgeStands.{BridgeStands, IsBridgeStep}
 use Rattle.bridge.specs.Gate.{opening, stepped}
-use Rattle.bridge.specs.Kept.{Bridged, left_at, ordered_left}
-use Rattle.bridge.specs.Parts.{Parts}
+use Rattle.bridge.specs.Kept.{Bridged, output_at, ordered_output}
+use Rattle.bridge.specs.BridgeSettings.{BridgeSettings}
 use Rattle.bridge.specs.Running as running
 use Rattle.bridge.specs.Running.{Running, RunningStands}
-use Rattle.replaying.specs.Replaying.{GivesReplay, IsAnswer, IsOpening, IsOrdered, IsReplayed, left_text, ordered_text}
+use Rattle.replaying.specs.Replaying.{GivesReplay, IsAnswer, IsOpening, IsOrdered, IsReplayed, output_text, ordered_text}
 use Rattle.bridge.proofs.Reached.{reached}
 
 -- ---- a line that says something
@@ -45,17 +45,17 @@ from_start before xs first b text start is =
     ∙ sym (flat_map-append line_of before xs)
 
 -- the text of an event and of the command that it completes
-texts_given : (b after : Bridged) (text : List ℕ) (emits : List Emitted) → text ≡ ordered_text b.left.outbox.command after
-    → left_at b.gateway.moment b ++ ordered_left b.left.outbox.command after ≡ emits → left_text b.gateway.moment b ++ text ≡ emitted_text emits
+texts_given : (b after : Bridged) (text : List ℕ) (emits : List Emitted) → text ≡ ordered_text b.output.outbox.command after
+    → output_at b.gateway.moment b ++ ordered_output b.output.outbox.command after ≡ emits → output_text b.gateway.moment b ++ text ≡ emitted_text emits
 texts_given b after text emits is due =
-    ap (λ (x : List ℕ). left_text b.gateway.moment b ++ x) is
-    ∙ sym (flat_map-append line_of (left_at b.gateway.moment b) (ordered_left b.left.outbox.command after))
+    ap (λ (x : List ℕ). output_text b.gateway.moment b ++ x) is
+    ∙ sym (flat_map-append line_of (output_at b.gateway.moment b) (ordered_output b.output.outbox.command after))
     ∙ ap emitted_text due
 
 module _ (e : Entry) (number : ℕ) (before opened b after : Bridged) (first text : List ℕ) (opens : IsOpening (moment_of e) before first opened)
     (step : IsBridgeStep e opened b) (order : IsOrdered b text after) where
-  entry_given : (p : Parts) (g : Option Running) → RunningStands p g before
-      → IsReplayed p (with_event p g e) ((first ++ left_text b.gateway.moment b) ++ text) after
+  entry_given : (p : BridgeSettings) (g : Option Running) → RunningStands p g before
+      → IsReplayed p (with_event p g e) ((first ++ output_text b.gateway.moment b) ++ text) after
   entry_given p None new =
       let s = moment_of e in
       let x = opens.first new.waits in
@@ -63,7 +63,7 @@ module _ (e : Entry) (number : ℕ) (before opened b after : Bridged) (first tex
       let r = reached p s [] e opened b after tt start.stands step order.order in
       record {
         text_is =
-            from_start (opening p s) (stepped p s [] e).emits first (left_text b.gateway.moment b) text
+            from_start (opening p s) (stepped p s [] e).emits first (output_text b.gateway.moment b) text
             (x.0 ∙ ap (λ (es : List Emit). emitted_text (at s es)) start.emits)
             (texts_given b after text (stepped p s [] e).emits order.text_is r.due_is);
         stands = (r.could, r.stands);
@@ -76,16 +76,16 @@ module _ (e : Entry) (number : ℕ) (before opened b after : Bridged) (first tex
       let r = reached p s h e opened b after stands.0 here step order.order in
       record {
         text_is =
-            from_start [] (stepped p s h e).emits first (left_text b.gateway.moment b) text x.0
+            from_start [] (stepped p s h e).emits first (output_text b.gateway.moment b) text x.0
             (texts_given b after text (stepped p s h e).emits order.text_is r.due_is);
         stands = (r.could, r.stands);
       }
 
 pub gives_event : (e : Event) (number : ℕ) (before opened b after : Bridged) (first text : List ℕ) → IsOpening (moment_of (entry_of e)) before first opened
     → IsBridgeStep (entry_of e) opened b → IsOrdered b text after
-    → GivesReplay before number (Ok (view e)) ((first ++ left_text b.gateway.moment b) ++ text) after
+    → GivesReplay before number (Ok (view e)) ((first ++ output_text b.gateway.moment b) ++ text) after
 gives_event e number before opened b after first text opens step order p g stands =
-    subst (λ (x : Entry). IsReplayed p (with_event p g x) ((first ++ left_text b.gateway.moment b) ++ text) after) (sym (entry_same e))
+    subst (λ (x : Entry). IsReplayed p (with_event p g x) ((first ++ output_text b.gateway.moment b) ++ text) after) (sym (entry_same e))
     (entry_given (entry_of e) number before opened b after first text opens step order p g stands)
 
 -- ---- a line that breaks a rule
@@ -109,14 +109,14 @@ gives_refusal rule number b p (Some g) stands = record {
 
 -- ---- all lines
 
-line_given : (p : Parts) (g : Option Running) (n : ℕ) (line text : List ℕ) (r after : Replay) → RunningStands p g r.bridge.now → LineGives IsAnswer r n line text after
+line_given : (p : BridgeSettings) (g : Option Running) (n : ℕ) (line text : List ℕ) (r after : Replay) → RunningStands p g r.bridge.now → LineGives IsAnswer r n line text after
     → IsReplayed p (with_line p n g line) text after.bridge.now
 unfolding LineGives
 line_given p g n [] text r after stands gives =
     record { text_is = gives.0; stands = subst (λ (x : Replay). RunningStands p g x.bridge.now) (sym gives.1) stands }
 line_given p g n (c ∷ bytes) text r after stands gives = gives p g stands
 
-lines_given : (p : Parts) (g : Option Running) (n : ℕ) (lines : List (List ℕ)) (text : List ℕ) (r after : Replay) → RunningStands p g r.bridge.now
+lines_given : (p : BridgeSettings) (g : Option Running) (n : ℕ) (lines : List (List ℕ)) (text : List ℕ) (r after : Replay) → RunningStands p g r.bridge.now
     → AreTexts (LineGives IsAnswer) r n lines text after → text ≡ emitted_text (replayed_from p n g lines)
 lines_given p g n [] text r after stands a = a.0
 lines_given p g n (line ∷ lines) text r after stands a =
@@ -127,6 +127,6 @@ lines_given p g n (line ∷ lines) text r after stands a =
     ∙ sym (flat_map-append line_of y.emits (replayed_from p (n + 1) y.after lines))
 
 -- what a bridge that is lent gives of the lines of a capture
-pub replays : (p : Parts) (g : Option Running) (r : Replay) → RunningStands p g r.bridge.now → (lines : List (List ℕ)) (text : List ℕ)
+pub replays : (p : BridgeSettings) (g : Option Running) (r : Replay) → RunningStands p g r.bridge.now → (lines : List (List ℕ)) (text : List ℕ)
     → IsTextFrom (LineGives IsAnswer) r lines text → IsReplayFrom p g lines text
 replays p g r stands lines text a = lines_given p g 1 lines text r a.0 stands a.1

@@ -4,11 +4,11 @@ use Rattle.gate_events.specs.declared.emit.Detail.TheVariants as detail
 use Rattle.capture_text.specs.Capture.{longest_line}
 use Rattle.report_rules.specs.Rules.{line_long}
 use Rattle.history.specs.Emits.{at, broken}
-use Rattle.bridge.specs.Parts.{Parts}
+use Rattle.bridge.specs.BridgeSettings.{BridgeSettings}
 use Rattle.bridge.specs.Running.{Running, moment_in}
 use Rattle.replaying.specs.Replayed.{with_line}
 
 abbrev pub LongLines : Type 0
 LongLines =
-    (p : Parts) (number : ℕ) (g : Option Running) (line : List ℕ) → longest_line < length line
+    (p : BridgeSettings) (number : ℕ) (g : Option Running) (line : List ℕ) → longest_line < length line
     → with_line p number g line ≡ record { emits = at (moment_in g) (broken line_long (detail.Line number) ∷ []); after = g }

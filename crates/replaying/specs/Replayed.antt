@@ -11,7 +11,7 @@ use Rattle.gate_events.specs.Emit.{Emitted}
 use Rattle.history.specs.Emits.{at, broken}
 use Rattle.history.specs.Entries.{Entry, History, moment_of}
 use Rattle.bridge.specs.Gate.{gate, opening, stepped}
-use Rattle.bridge.specs.Parts.{Parts}
+use Rattle.bridge.specs.BridgeSettings.{BridgeSettings}
 use Rattle.bridge.specs.Running.{Running, entry_of, moment_in}
 
 -- the lines of what was emitted
@@ -25,7 +25,7 @@ pub record Replayed : Type 0 where
   pub emits : List Emitted
   pub after : Option Running
 
-module _ (p : Parts) where
+module _ (p : BridgeSettings) where
   abbrev pub stepped_from : ℕ → History → List Emitted → Entry → Replayed
   stepped_from s h before e = let x = stepped p s h e in
       record { emits = before ++ x.emits; after = Some (record { start = s; history = x.after }) }
@@ -80,10 +80,10 @@ AreRead ([] ∷ ls) = AreRead ls
 AreRead ((x ∷ xs) ∷ ls) = ((seen : Seen) × (read (x ∷ xs) ≡ Ok seen)) × AreRead ls
 
 -- the gateway starts at the moment of the first event, and never where there is none
-abbrev pub gate_of : Parts → List Entry → List Emitted
+abbrev pub gate_of : BridgeSettings → List Entry → List Emitted
 gate_of p [] = []
 gate_of p (e ∷ es) = gate p (moment_of e) (e ∷ es)
 
 -- its text is all that is emitted at these events, a line each
 abbrev pub EventsAreReplayed : Type 0
-EventsAreReplayed = (p : Parts) (lines : List (List ℕ)) → AreRead lines → replay_text p lines ≡ emitted_text (gate_of p (events_in lines))
+EventsAreReplayed = (p : BridgeSettings) (lines : List (List ℕ)) → AreRead lines → replay_text p lines ≡ emitted_text (gate_of p (events_in lines))

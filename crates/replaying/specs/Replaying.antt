@@ -7,8 +7,8 @@ use Rattle.capture_text.specs.declared.line_rule.LineRule.{LineRule}
 use Rattle.gate_events.specs.Event.{Seen}
 use Rattle.history.specs.Emits.{at}
 use Rattle.bridge.specs.BridgeStands.{IsOrder, IsStart}
-use Rattle.bridge.specs.Kept.{Bridged, left_at, left_of, ordered_left}
-use Rattle.bridge.specs.Parts.{Parts}
+use Rattle.bridge.specs.Kept.{Bridged, output_at, output_of, ordered_output}
+use Rattle.bridge.specs.BridgeSettings.{BridgeSettings}
 use Rattle.bridge.specs.Running.{Running, RunningStands}
 use Rattle.replaying.specs.declared.replay.Replay.{Replay}
 use Rattle.replaying.specs.Replayed.{Replayed, emitted_text, with_read}
@@ -26,36 +26,36 @@ SendsThen text told' faults' waiting' sent told'' faults'' waiting'' result =
     → IsSent told faults waiting (before ++ text) told'' faults'' waiting'' result
 
 -- the lines of all that a call left, at this moment
-abbrev pub left_text : ℕ → Bridged → List ℕ
-left_text m b = emitted_text (left_at m b)
+abbrev pub output_text : ℕ → Bridged → List ℕ
+output_text m b = emitted_text (output_at m b)
 
 -- the line of the emit at a place, and nothing beyond the list
 abbrev pub line_at : ℕ → ℕ → Bridged → List ℕ
-line_at m place b = emitted_text (at m (take 1 (drop place (left_of b))))
+line_at m place b = emitted_text (at m (take 1 (drop place (output_of b))))
 
 -- the first event starts the gateway
 pub record IsOpening (m : ℕ) (before : Bridged) (text : List ℕ) (after : Bridged) : Type 0 where
   pub started : after.started ≡ true
   pub later : before.started ≡ true → (text ≡ []) × (after ≡ before)
-  pub first : before.started ≡ false → (text ≡ left_text m after) × IsStart m before after
+  pub first : before.started ≡ false → (text ≡ output_text m after) × IsStart m before after
 
 -- the command is obeyed that the last event left
 abbrev pub ordered_text : Option Command → Bridged → List ℕ
-ordered_text c after = emitted_text (ordered_left c after)
+ordered_text c after = emitted_text (ordered_output c after)
 
 pub record IsOrdered (before : Bridged) (text : List ℕ) (after : Bridged) : Type 0 where
-  pub order : IsOrder before.left.outbox.command before after
-  pub text_is : text ≡ ordered_text before.left.outbox.command after
+  pub order : IsOrder before.output.outbox.command before after
+  pub text_is : text ≡ ordered_text before.output.outbox.command after
 
 -- ---- a line of a capture
 
-pub record IsReplayed (p : Parts) (x : Replayed) (text : List ℕ) (after : Bridged) : Type 0 where
+pub record IsReplayed (p : BridgeSettings) (x : Replayed) (text : List ℕ) (after : Bridged) : Type 0 where
   pub text_is : text ≡ emitted_text x.emits
   pub stands : RunningStands p x.after after
 
 abbrev pub GivesReplay : Bridged → ℕ → Result Seen LineRule → List ℕ → Bridged → Type 0
 GivesReplay before number said text after =
-    (p : Parts) (g : Option Running) → RunningStands p g before → IsReplayed p (with_read p number g said) text after
+    (p : BridgeSettings) (g : Option Running) → RunningStands p g before → IsReplayed p (with_read p number g said) text after
 
 -- the bridge is lent
 abbrev pub IsAnswer : Replay → ℕ → Result Seen LineRule → List ℕ → Replay → Type 0

@@ -2,11 +2,11 @@
 ghost use Rattle.std.specs.Prelude.{◌≡◌, Option};
 ghost use Rattle.gate_outside.specs.Faults.{Rose};
 ghost use Rattle.capture_stream.specs.Progress.{Ends, Steady};
-ghost use Rattle.bridge.specs.Parts.{Parts};
+ghost use Rattle.bridge.specs.BridgeSettings.{BridgeSettings};
 ghost use Rattle.bridge.specs.Running.{Running, RunningStands};
 ghost use Rattle.replaying.specs.Replayed.{IsReplayFrom};
 
-use crate::sending::{open, send_left, send_line, send_ordered};
+use crate::sending::{open, send_line, send_ordered, send_output};
 use bridge::{Bridge, moment_of};
 use capture_stream::{Answers, Ending, Writer, answer_capture};
 use capture_text::LineRule;
@@ -37,7 +37,7 @@ impl Answers for Replay<'_> {
         let bridge = &mut *self.bridge;
         let opened = open(bridge, moment_of(event), writer, out);
         bridge.take(event);
-        let taken = send_left(opened, bridge, bridge.moment(), writer, out);
+        let taken = send_output(opened, bridge, bridge.moment(), writer, out);
         send_ordered(taken, bridge, writer, out)
     }
 
@@ -59,7 +59,7 @@ impl Answers for Replay<'_> {
 /// Answers each line of a capture by what the bridge leaves at its event, to the end of the input or until a call fails, as
 /// [`answer_capture`] goes over them. The first event starts the bridge, where it wasn't started.
 pub fn replay_capture<S: Source, K: Sink>(bridge: &mut Bridge, input: &mut S, out: &mut K) -> Ending
-    ensures ends { (p : Parts) (g : Option Running) → RunningStands p g bridge.old
+    ensures ends { (p : BridgeSettings) (g : Option Running) → RunningStands p g bridge.old
         → Ends (IsReplayFrom p g) (S.left input.old) (S.left input.new) (K.taken out.old) (K.taken out.new) result }
     ensures source { result ≡ Ending.SourceFailed → Rose (S.fault_count input.old) (S.fault_count input.new) }
     ensures sink { result ≡ Ending.SinkFailed → Rose (K.fault_count out.old) (K.fault_count out.new) }

@@ -5,8 +5,8 @@ ghost use Rattle.capture_stream.specs.Writer.{Writes};
 ghost use Rattle.gate_outbox.specs.Output.{emit_of};
 ghost use Rattle.gate_outside.specs.Faults.{HasCause};
 ghost use Rattle.capture_text.specs.Emitted.{line_of};
-ghost use Rattle.bridge.specs.Kept.{left_of};
-ghost use Rattle.replaying.specs.Replaying.{IsOpening, IsOrdered, IsSent, SendsThen, left_text, line_at};
+ghost use Rattle.bridge.specs.Kept.{output_of};
+ghost use Rattle.replaying.specs.Replaying.{IsOpening, IsOrdered, IsSent, SendsThen, output_text, line_at};
 
 use bridge::Bridge;
 use capture_stream::Writer;
@@ -42,21 +42,21 @@ pub(crate) fn send_ordered<K: Sink>(
         × SendsThen text (K.taken out.old) (K.fault_count out.old) writer.old sent (K.taken out.new) (K.fault_count out.new) writer.new result }
 {
     if bridge.obey() {
-        send_left(sent, bridge, bridge.moment(), writer, out)
+        send_output(sent, bridge, bridge.moment(), writer, out)
     } else {
         sent
     }
 }
 
 /// Sends what the last call left, where all before was sent.
-pub(crate) fn send_left<K: Sink>(
+pub(crate) fn send_output<K: Sink>(
     sent: Result<(), Failed>,
     bridge: &Bridge,
     moment: u64,
     writer: &mut Writer,
     out: &mut K,
 ) -> Result<(), Failed>
-    ensures { SendsThen (left_text moment bridge.now) (K.taken out.old) (K.fault_count out.old) writer.old sent
+    ensures { SendsThen (output_text moment bridge.now) (K.taken out.old) (K.fault_count out.old) writer.old sent
         (K.taken out.new) (K.fault_count out.new) writer.new result }
 {
     match sent {
@@ -73,7 +73,7 @@ fn send_lines<K: Sink>(
     writer: &mut Writer,
     out: &mut K,
 ) -> Result<(), Failed>
-    ensures sent { Writes (K.taken out.old) (K.taken out.new) (writer.old ++ left_text moment bridge.now) writer.new result }
+    ensures sent { Writes (K.taken out.old) (K.taken out.new) (writer.old ++ output_text moment bridge.now) writer.new result }
     ensures cause { HasCause (K.fault_count out.old) (K.fault_count out.new) result }
 {
     let count = bridge.len();
@@ -92,8 +92,8 @@ fn send_each<K: Sink>(
     writer: &mut Writer,
     out: &mut K,
 ) -> Result<(), Failed>
-    requires { count ≡ length (left_of bridge.now) }
-    ensures sent { Writes (K.taken out.old) (K.taken out.new) (writer.old ++ left_text moment bridge.now) writer.new result }
+    requires { count ≡ length (output_of bridge.now) }
+    ensures sent { Writes (K.taken out.old) (K.taken out.new) (writer.old ++ output_text moment bridge.now) writer.new result }
     ensures cause { HasCause (K.fault_count out.old) (K.fault_count out.new) result }
 {
     for place in 0..count {

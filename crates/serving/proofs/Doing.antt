@@ -4,7 +4,7 @@ use Rattle.std.proofs.lemmas.List.{append-nil}
 use Rattle.gate_outside.specs.Link.{Outcome}
 use Rattle.bridge.specs.Running.{Running}
 use Rattle.bridge.specs.Kept.{Bridged}
-use Rattle.bridge.specs.Parts.{Parts}
+use Rattle.bridge.specs.BridgeSettings.{BridgeSettings}
 use Rattle.serving.specs.Handing.{DoesAll, DoesSome, HandsAll, HandsSome, RunStands, passed}
 use Rattle.serving.specs.Served.{IsFront, Outside, all_due}
 use Rattle.serving.specs.Turns.{Item, Turned}
@@ -76,7 +76,7 @@ partly_all old now all rest x none =
 
 -- ---- what is made of what came before
 
-abbrev pub nothing : Parts → Running → Turned
+abbrev pub nothing : BridgeSettings → Running → Turned
 nothing p g = record { due = []; after = g }
 
 pub does_nothing : (b : Bridged) (o : Outside) → DoesAll RunStands nothing [] [] b b o o
@@ -88,12 +88,12 @@ does_nothing b o = record {
 }
 
 -- one behind the other
-abbrev pub along : {S : Type 0} → (Parts → S → Turned) → (Parts → Running → Turned) → Parts → S → Turned
+abbrev pub along : {S : Type 0} → (BridgeSettings → S → Turned) → (BridgeSettings → Running → Turned) → BridgeSettings → S → Turned
 along makes next p g = let x = makes p g in let y = next p x.after in record { due = x.due ++ y.due; after = y.after }
 
-module _ {S : Type 0} (Stands : Parts → S → Bridged → Type 0) where
-  pub does_as : (makes makes' : Parts → S → Turned) (bus net : List Outcome) (before after : Bridged) (old new : Outside)
-      → ((p : Parts) (g : S) → Stands p g before → makes p g ≡ makes' p g)
+module _ {S : Type 0} (Stands : BridgeSettings → S → Bridged → Type 0) where
+  pub does_as : (makes makes' : BridgeSettings → S → Turned) (bus net : List Outcome) (before after : Bridged) (old new : Outside)
+      → ((p : BridgeSettings) (g : S) → Stands p g before → makes p g ≡ makes' p g)
       → DoesAll Stands makes bus net before after old new → DoesAll Stands makes' bus net before after old new
   does_as makes makes' bus net before after old new same x = record {
     tried = x.tried;
@@ -102,8 +102,8 @@ module _ {S : Type 0} (Stands : Parts → S → Bridged → Type 0) where
     stands = λ p g stands. subst (λ (t : Turned). RunStands p t.after after) (same p g stands) (x.stands p g stands);
   }
 
-  pub does_some_as : (makes makes' : Parts → S → Turned) (bus net : List Outcome) (before : Bridged) (old new : Outside)
-      → ((p : Parts) (g : S) → Stands p g before → makes p g ≡ makes' p g)
+  pub does_some_as : (makes makes' : BridgeSettings → S → Turned) (bus net : List Outcome) (before : Bridged) (old new : Outside)
+      → ((p : BridgeSettings) (g : S) → Stands p g before → makes p g ≡ makes' p g)
       → DoesSome Stands makes bus net before old new → DoesSome Stands makes' bus net before old new
   does_some_as makes makes' bus net before old new same x = record {
     tried = x.tried;
@@ -112,7 +112,7 @@ module _ {S : Type 0} (Stands : Parts → S → Bridged → Type 0) where
     is_front = λ p g stands. subst (λ (t : Turned). IsFront (all_due (x.tried ++ x.last ∷ [])) t.due) (same p g stands) (x.is_front p g stands);
   }
 
-  module _ (makes : Parts → S → Turned) (next : Parts → Running → Turned) (bus net : List Outcome) (before : Bridged) (old : Outside) where
+  module _ (makes : BridgeSettings → S → Turned) (next : BridgeSettings → Running → Turned) (bus net : List Outcome) (before : Bridged) (old : Outside) where
     pub does_then : (bus' net' : List Outcome) (mid after : Bridged) (between new : Outside) → DoesAll Stands makes bus net before mid old between
         → DoesAll RunStands next bus' net' mid after between new → DoesAll Stands (along makes next) (bus ++ bus') (net ++ net') before after old new
     does_then bus' net' mid after between new x y = record {

@@ -19,8 +19,8 @@ use Rattle.history.specs.Messages.{done}
 use Rattle.history.specs.Settings.{receiver_of}
 use Rattle.bridge.specs.BridgeStands.{BridgeStands, IsBridgeStep}
 use Rattle.bridge.specs.Gate.{all_out, stepped, with_command}
-use Rattle.bridge.specs.Kept.{Bridged, left_of}
-use Rattle.bridge.specs.Parts.{Parts}
+use Rattle.bridge.specs.Kept.{Bridged, output_of}
+use Rattle.bridge.specs.BridgeSettings.{BridgeSettings}
 use Rattle.bridge.specs.Running.{Running, entry_of}
 use Rattle.serving.specs.Handing.{Does, DoesAll, DoesSome, HandsAll, HandsSome, RunStands, passed}
 use Rattle.serving.specs.Served.{Outside, all_due}
@@ -35,11 +35,11 @@ same_entry (event.Tick moment) = refl
 
 -- ---- an event that is accepted, and one that is too early
 
-if_accepted : (p : Parts) (s : ℕ) (h : History) (e : Entry) → is_accepted h e ≡ true
+if_accepted : (p : BridgeSettings) (s : ℕ) (h : History) (e : Entry) → is_accepted h e ≡ true
     → stepped p s h e ≡ with_command p s h e (command_in p.gateway s (done (receiver_of p.gateway) s h e) (moment_of e))
 if_accepted p s h e accepts = rw accepts refl
 
-if_refused : (p : Parts) (s : ℕ) (h : History) (e : Entry) → is_accepted h e ≡ false
+if_refused : (p : BridgeSettings) (s : ℕ) (h : History) (e : Entry) → is_accepted h e ≡ false
     → stepped p s h e ≡ record { emits = at (now h) (broken rules.moment_back detail.Nothing ∷ []); after = h }
 if_refused p s h e refuses = rw refuses refl
 
@@ -48,13 +48,13 @@ if_refused p s h e refuses = rw refuses refl
 made_counted : (k : ℕ) (emits : List Emit) → length emits ≡ length (all_made (at k emits))
 made_counted k emits = sym (length-map (at k emits) made ∙ length-map emits (λ (e : Emit). record { moment = k; emit = e }))
 
-module _ (p : Parts) (s : ℕ) (h : History) (before b : Bridged) (could : IsHistory h) (stands : BridgeStands p s h before) where
+module _ (p : BridgeSettings) (s : ℕ) (h : History) (before b : Bridged) (could : IsHistory h) (stands : BridgeStands p s h before) where
   kept_by : (e : Entry) (answer : Bool) → is_accepted h e ≡ answer → IsBridgeStep e before b → b.records ≡ p.records
   kept_by e true accepts step = ((step p s h could stands).0 accepts).stands.records
   kept_by e false refuses step = ((step p s h could stands).1 refuses).stands.records
 
   counted : (m : ℕ) (answer : Bool) → is_accepted h (entry.tick m) ≡ answer → IsBridgeStep (entry.tick m) before b
-      → length (left_of b) ≡ length (all_made (stepped p s h (entry.tick m)).emits)
+      → length (output_of b) ≡ length (all_made (stepped p s h (entry.tick m)).emits)
   counted m true accepts step =
       ap (λ (es : List Emit). length es) ((step p s h could stands).0 accepts).emits
       ∙ made_counted m (all_out p s h (entry.tick m))
@@ -64,7 +64,7 @@ module _ (p : Parts) (s : ℕ) (h : History) (before b : Bridged) (could : IsHis
       ∙ made_counted (now h) (broken rules.moment_back detail.Nothing ∷ [])
       ∙ ap (λ (x : Stepped p.gateway s). length (all_made x.emits)) (sym (if_refused p s h (entry.tick m) refuses))
 
-  has_line : (e : Seen) → IsBridgeStep (entry_of e) before b → is_recorded e (left_of b) ≡ is_recorded e (all_made (stepped p s h (entry_of e)).emits)
+  has_line : (e : Seen) → IsBridgeStep (entry_of e) before b → is_recorded e (output_of b) ≡ is_recorded e (all_made (stepped p s h (entry_of e)).emits)
   has_line (capture.frame m f) step = refl
   has_line (capture.datagram m bytes) step = refl
   has_line (capture.tick m) step = ap (λ (n : ℕ). nat_lt 0 n) (counted m (is_accepted h (entry.tick m)) refl step)
@@ -74,14 +74,14 @@ module _ (p : Parts) (s : ℕ) (h : History) (before b : Bridged) (could : IsHis
 module _ (e : Seen) (before b : Bridged) (step : IsBridgeStep (entry_of e) before b) where
   -- the line of the event, where it has one
   abbrev pub line : List Item
-  line = recorded_where (b.records && is_recorded e (left_of b)) (event_line e)
+  line = recorded_where (b.records && is_recorded e (output_of b)) (event_line e)
 
-  line_is : (p : Parts) (g : Running) → RunStands p g before → line ++ (emitted_at p e g).due ≡ (with_event p e g).due
+  line_is : (p : BridgeSettings) (g : Running) → RunStands p g before → line ++ (emitted_at p e g).due ≡ (with_event p e g).due
   line_is p g stands =
       let s = g.start in
       let h = g.history in
       let due = (emitted_at p e g).due in
-      ap (λ (r : Bool). recorded_where (r && is_recorded e (left_of b)) (event_line e) ++ due)
+      ap (λ (r : Bool). recorded_where (r && is_recorded e (output_of b)) (event_line e) ++ due)
       (kept_by p s h before b stands.0 stands.1 (entry_of e) (is_accepted h (entry_of e)) refl step)
       ∙ ap (λ (there : Bool). recorded_where (p.records && there) (event_line e) ++ due) (has_line p s h before b stands.0 stands.1 e step)
 

@@ -11,7 +11,7 @@ use Rattle.capture_stream.proofs.WriterLemmas.{Joins-nil, Joins-then}
 use Rattle.bridge.specs.Running.{Running, RunningStands}
 use Rattle.bridge.specs.BridgeStands.{IsNew}
 use Rattle.bridge.specs.Kept.{Bridged}
-use Rattle.bridge.specs.Parts.{Parts}
+use Rattle.bridge.specs.BridgeSettings.{BridgeSettings}
 use Rattle.serving.specs.Handing.{Ends, TurnsAll, TurnsSome, passed}
 use Rattle.serving.specs.Served.{IsFront, NetFits, Outside, Passes, Tried, all_due}
 use Rattle.serving.specs.Turns.{Item, Turned, due_from, due_of, turn}
@@ -32,7 +32,7 @@ by_bus heard = map (λ h. h.bus) heard
 abbrev pub by_net : List Heard → List Outcome
 by_net heard = map (λ h. h.net) heard
 
-module _ (p : Parts) where
+module _ (p : BridgeSettings) where
   abbrev pub turn_of : ℕ → Heard → Option Running → Turned
   turn_of number h g = turn p number h.reading (h.bus ∷ []) (h.net ∷ []) g
 
@@ -79,8 +79,8 @@ pub record Progress (count : ℕ) (first now : Bridged) (clock clock' : Option (
   pub fits : AllByRecursion NetFits (by_net heard)
   pub reads : Joins clock clock' (readings heard)
   pub passes : Passes old new (passed (by_bus heard) (by_net heard) tried)
-  pub is_due : (p : Parts) → IsNew p first → all_due tried ≡ due_of p (readings heard) (by_bus heard) (by_net heard)
-  pub stands : (p : Parts) → IsNew p first → RunningStands p (after_turns p 1 None heard) now
+  pub is_due : (p : BridgeSettings) → IsNew p first → all_due tried ≡ due_of p (readings heard) (by_bus heard) (by_net heard)
+  pub stands : (p : BridgeSettings) → IsNew p first → RunningStands p (after_turns p 1 None heard) now
 
 pub progress_none : (first : Bridged) (clock : Option (List ℕ)) (old : Outside) → Progress 0 first first clock clock old old
 progress_none first clock old = record {

@@ -11,8 +11,8 @@ use Rattle.history.specs.Emits.{at}
 use Rattle.bridge.specs.Running.{Running, RunningStands}
 use Rattle.gate_model.specs.Machine.{Machine}
 use Rattle.bridge.specs.BridgeStands.{IsStart}
-use Rattle.bridge.specs.Kept.{Bridged, left_of}
-use Rattle.bridge.specs.Parts.{Parts}
+use Rattle.bridge.specs.Kept.{Bridged, output_of}
+use Rattle.bridge.specs.BridgeSettings.{BridgeSettings}
 use Rattle.serving.specs.Handing.{Does, DoesAll, DoesSome, Hands, HandsAll, HandsSome, RunStands, TakesTurn, passed}
 use Rattle.serving.specs.Served.{IsFront, NetFits, Outside, Passes, all_due}
 use Rattle.serving.specs.Turns.{Arrived, Item, Turned, all_made, came_in, from_bus, from_net, in_turn, is_event, moment_at, recorded_where, start_line, with_start, tick_behind, turn, with_all, with_came}
@@ -23,11 +23,11 @@ use Rattle.serving.proofs.Passing.{front_as, front_before, passes_none, passes_t
 -- ---- the start
 
 module _ (m : ℕ) where
-  started_due : (b : Bridged) → b.started ≡ true → (p : Parts) (g : Option Running) → RunningStands p g b → [] ≡ (with_start p m g).due
+  started_due : (b : Bridged) → b.started ≡ true → (p : BridgeSettings) (g : Option Running) → RunningStands p g b → [] ≡ (with_start p m g).due
   started_due b is p None new = let never : true ≡ false = sym is ∙ new.waits in absurd cc
   started_due b is p (Some g) stands = refl
 
-  started_stands : (b : Bridged) → b.started ≡ true → (p : Parts) (g : Option Running) → RunningStands p g b → RunStands p (with_start p m g).after b
+  started_stands : (b : Bridged) → b.started ≡ true → (p : BridgeSettings) (g : Option Running) → RunningStands p g b → RunStands p (with_start p m g).after b
   started_stands b is p None new = let never : true ≡ false = sym is ∙ new.waits in absurd cc
   started_stands b is p (Some g) stands = stands
 
@@ -36,16 +36,16 @@ module _ (m : ℕ) where
 
   module _ (before after : Bridged) (waits : before.started ≡ false) (start : IsStart m before after) where
     abbrev opening_items : List Item
-    opening_items = recorded_where after.records (start_line m) ++ all_made (at m (left_of after))
+    opening_items = recorded_where after.records (start_line m) ++ all_made (at m (output_of after))
 
-    opening_due : (p : Parts) (g : Option Running) → RunningStands p g before → opening_items ≡ (with_start p m g).due
+    opening_due : (p : BridgeSettings) (g : Option Running) → RunningStands p g before → opening_items ≡ (with_start p m g).due
     opening_due p None new =
         let x = start p new in
-        ap (λ (b : Bool). recorded_where b (start_line m) ++ all_made (at m (left_of after))) x.stands.records
+        ap (λ (b : Bool). recorded_where b (start_line m) ++ all_made (at m (output_of after))) x.stands.records
         ∙ ap (λ (es : List Emit). recorded_where p.records (start_line m) ++ all_made (at m es)) x.emits
     opening_due p (Some g) stands = let never : true ≡ false = sym stands.1.started ∙ waits in absurd cc
 
-    opening_stands : (p : Parts) (g : Option Running) → RunningStands p g before → RunStands p (with_start p m g).after after
+    opening_stands : (p : BridgeSettings) (g : Option Running) → RunningStands p g before → RunStands p (with_start p m g).after after
     opening_stands p None new = (tt, (start p new).stands)
     opening_stands p (Some g) stands = let never : true ≡ false = sym stands.1.started ∙ waits in absurd cc
 
@@ -59,7 +59,7 @@ module _ (m : ℕ) where
       is_front = λ p g stands.
           let front = all_due (h.tried ++ h.last ∷ []) in
           front_as front front opening_items (with_start p m g).due refl (opening_due p g stands)
-          (front_before front (recorded_where after.records (start_line m)) (all_made (at m (left_of after))) h.is_front);
+          (front_before front (recorded_where after.records (start_line m)) (all_made (at m (output_of after))) h.is_front);
     }
 
     opens_all : (old new : Outside) → HandsAll old new opening_items → DoesAll RunningStands (λ p g. with_start p m g) [] [] before after old new
@@ -81,11 +81,11 @@ module _ (m : ℕ) where
 
     -- it was, and what the start left goes out behind it
     pub opens_new : (old between new : Outside) (result : Result (Unit {0}) Failed) → HandsAll old between (recorded_where after.records (start_line m))
-        → Hands between new (all_made (at m (left_of after))) result → Does RunningStands (λ p g. with_start p m g) [] [] before after old new result
+        → Hands between new (all_made (at m (output_of after))) result → Does RunningStands (λ p g. with_start p m g) [] [] before after old new result
     opens_new old between new (Ok done) line h =
-        opens_all old new (hands_then old between new (recorded_where after.records (start_line m)) (all_made (at m (left_of after))) line h)
+        opens_all old new (hands_then old between new (recorded_where after.records (start_line m)) (all_made (at m (output_of after))) line h)
     opens_new old between new (Err e) line h =
-        opens_some old new (hands_some_then old between new (recorded_where after.records (start_line m)) (all_made (at m (left_of after))) line h)
+        opens_some old new (hands_some_then old between new (recorded_where after.records (start_line m)) (all_made (at m (output_of after))) line h)
 
 -- ---- what came by one link
 
@@ -135,21 +135,21 @@ reports_some h = record {
 
 -- ---- the turn
 
-abbrev start_at : ℕ → Parts → Option Running → Turned
+abbrev start_at : ℕ → BridgeSettings → Option Running → Turned
 start_at m p g = with_start p m g
 
-abbrev stage : ℕ → Arrived → Parts → Running → Turned
+abbrev stage : ℕ → Arrived → BridgeSettings → Running → Turned
 stage m came p g = with_came p m came g
 
-abbrev stages : ℕ → List Arrived → Parts → Running → Turned
+abbrev stages : ℕ → List Arrived → BridgeSettings → Running → Turned
 stages m cames p g = with_all p m cames g
 
 module _ (m reading number : ℕ) (before : Bridged) (is : m ≡ max reading before.gateway.moment) where
-  same_moment : (p : Parts) (g : Option Running) → RunningStands p g before → m ≡ moment_at g reading
+  same_moment : (p : BridgeSettings) (g : Option Running) → RunningStands p g before → m ≡ moment_at g reading
   same_moment p None new = is ∙ ap (λ (k : ℕ). max reading k) (ap (λ (x : Machine). x.moment) new.gateway)
   same_moment p (Some g) stands = is ∙ ap (λ (k : ℕ). max reading k) stands.1.gateway.moment
 
-  as_turn : (bus net : List Outcome) (p : Parts) (g : Option Running) → RunningStands p g before
+  as_turn : (bus net : List Outcome) (p : BridgeSettings) (g : Option Running) → RunningStands p g before
       → in_turn p m (came_in m number bus net) g ≡ turn p number reading bus net g
   as_turn bus net p g stands = ap (λ (k : ℕ). in_turn p k (came_in k number bus net) g) (same_moment p g stands)
 

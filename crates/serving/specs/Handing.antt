@@ -11,7 +11,7 @@ use Rattle.gate_events.specs.Event as capture
 use Rattle.bridge.specs.Running.{Running, RunningStands}
 use Rattle.bridge.specs.BridgeStands.{IsNew}
 use Rattle.bridge.specs.Kept.{Bridged}
-use Rattle.bridge.specs.Parts.{Parts}
+use Rattle.bridge.specs.BridgeSettings.{BridgeSettings}
 use Rattle.serving.specs.Served.{EndsBy, IsCut, IsFront, NetFits, Outside, Passed, Passes, Stops, Tried, all_due}
 use Rattle.serving.specs.Turns.{Arrived, Item, Turned, is_event, turn, with_came}
 
@@ -54,26 +54,26 @@ Hands old new due (Err e) = HandsSome old new due
 
 -- ---- what came is answered, by what came before
 
-abbrev pub RunStands : Parts → Running → Bridged → Type 0
+abbrev pub RunStands : BridgeSettings → Running → Bridged → Type 0
 RunStands p g b = RunningStands p (Some g) b
 
 -- By these outcomes of receives all that the definition makes of what came before went out, and the bridge stands for what it leaves.
-pub record DoesAll {S : Type 0} (Stands : Parts → S → Bridged → Type 0) (makes : Parts → S → Turned) (bus net : List Outcome) (before after : Bridged)
+pub record DoesAll {S : Type 0} (Stands : BridgeSettings → S → Bridged → Type 0) (makes : BridgeSettings → S → Turned) (bus net : List Outcome) (before after : Bridged)
     (old new : Outside) : Type 0 where
   pub tried : List Tried
   pub passes : Passes old new (passed bus net tried)
-  pub is_due : (p : Parts) (g : S) → Stands p g before → all_due tried ≡ (makes p g).due
-  pub stands : (p : Parts) (g : S) → Stands p g before → RunStands p (makes p g).after after
+  pub is_due : (p : BridgeSettings) (g : S) → Stands p g before → all_due tried ≡ (makes p g).due
+  pub stands : (p : BridgeSettings) (g : S) → Stands p g before → RunStands p (makes p g).after after
 
 -- A write failed, and the first of it went out, the last item in part.
-pub record DoesSome {S : Type 0} (Stands : Parts → S → Bridged → Type 0) (makes : Parts → S → Turned) (bus net : List Outcome) (before : Bridged)
+pub record DoesSome {S : Type 0} (Stands : BridgeSettings → S → Bridged → Type 0) (makes : BridgeSettings → S → Turned) (bus net : List Outcome) (before : Bridged)
     (old new : Outside) : Type 0 where
   pub tried : List Tried
   pub last : Tried
   pub stops : Stops old new (passed bus net tried) last
-  pub is_front : (p : Parts) (g : S) → Stands p g before → IsFront (all_due (tried ++ last ∷ [])) (makes p g).due
+  pub is_front : (p : BridgeSettings) (g : S) → Stands p g before → IsFront (all_due (tried ++ last ∷ [])) (makes p g).due
 
-abbrev pub Does : {S : Type 0} → (Parts → S → Bridged → Type 0) → (Parts → S → Turned) → List Outcome → List Outcome → Bridged → Bridged → Outside → Outside
+abbrev pub Does : {S : Type 0} → (BridgeSettings → S → Bridged → Type 0) → (BridgeSettings → S → Turned) → List Outcome → List Outcome → Bridged → Bridged → Outside → Outside
     → Result (Unit {0}) Failed → Type 0
 Does Stands makes bus net before after old new (Ok done) = DoesAll Stands makes bus net before after old new
 Does Stands makes bus net before after old new (Err e) = DoesSome Stands makes bus net before old new
@@ -119,4 +119,4 @@ TakesTurn number before after clock clock' old new (Err e) = TurnsSome number be
 -- ---- all turns
 
 abbrev pub Ends : ℕ → Bridged → Option (List ℕ) → Option (List ℕ) → Outside → Outside → ℕ → Type 0
-Ends turns before clock clock' old new status = (p : Parts) → IsNew p before → EndsBy p turns clock clock' old new status
+Ends turns before clock clock' old new status = (p : BridgeSettings) → IsNew p before → EndsBy p turns clock clock' old new status

@@ -1,7 +1,7 @@
 pub use Rattle.bridge.specs.BridgeStands
 pub use Rattle.bridge.specs.Gate
 pub use Rattle.bridge.specs.Kept
-pub use Rattle.bridge.specs.Parts
+pub use Rattle.bridge.specs.BridgeSettings
 pub use Rattle.bridge.specs.Running
 pub mod Handing
 pub mod Recorded

@@ -14,7 +14,7 @@ use Rattle.gate_events.specs.Emit as emits
 use Rattle.gate_events.specs.Emit.{Emit, Emitted}
 use Rattle.history.specs.Emits.{broken}
 use Rattle.capture_text.specs.Emitted.{line_of}
-use Rattle.bridge.specs.Parts.{Parts}
+use Rattle.bridge.specs.BridgeSettings.{BridgeSettings}
 use Rattle.statuses.specs.declared.Status.TheVariants.{Done, SinkFailed}
 use Rattle.statuses.specs.Statuses.{number}
 use Rattle.serving.specs.Turns.{Item, due_of, made, recorded, told}
@@ -173,7 +173,7 @@ NetFits (Ok None) = Unit {0}
 NetFits (Err e) = Unit {0}
 
 -- All turns were taken: each read the clock once and received once from each link, and all that they make went out.
-pub record Serves (p : Parts) (turns : ℕ) (clock clock' : Option (List ℕ)) (old new : Outside) : Type 0 where
+pub record Serves (p : BridgeSettings) (turns : ℕ) (clock clock' : Option (List ℕ)) (old new : Outside) : Type 0 where
   pub readings : List ℕ
   pub passed : Passed
   pub reads : Joins clock clock' readings
@@ -190,7 +190,7 @@ IsCut readings bus net = (net ≤ bus) × (bus ≤ readings) × (readings ≤ ne
 
 -- A write failed: of what the turns make by what was read and received so far the first items went out, the last of them a report or a
 -- recorded line, in part.
-pub record Breaks (p : Parts) (turns : ℕ) (clock clock' : Option (List ℕ)) (old new : Outside) : Type 0 where
+pub record Breaks (p : BridgeSettings) (turns : ℕ) (clock clock' : Option (List ℕ)) (old new : Outside) : Type 0 where
   pub readings : List ℕ
   pub passed : Passed
   pub last : Tried
@@ -201,6 +201,6 @@ pub record Breaks (p : Parts) (turns : ℕ) (clock clock' : Option (List ℕ)) (
   pub cut : IsCut (length readings) (length passed.from_bus) (length passed.from_net)
 
 -- what each status of a run says
-pub record EndsBy (p : Parts) (turns : ℕ) (clock clock' : Option (List ℕ)) (old new : Outside) (status : ℕ) : Type 0 where
+pub record EndsBy (p : BridgeSettings) (turns : ℕ) (clock clock' : Option (List ℕ)) (old new : Outside) (status : ℕ) : Type 0 where
   pub done : status ≡ number Done → Serves p turns clock clock' old new
   pub sink_failed : status ≡ number SinkFailed → Breaks p turns clock clock' old new

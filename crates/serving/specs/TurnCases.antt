@@ -8,7 +8,7 @@ use Rattle.history.specs.Cases.{can_frame, emitted, navd, started}
 use Rattle.history.specs.Emits.{broken}
 use Rattle.capture_stream.specs.Progress.{with_lf}
 use Rattle.bridge.specs.PartCases.{alone}
-use Rattle.bridge.specs.Parts.{Parts}
+use Rattle.bridge.specs.BridgeSettings.{BridgeSettings}
 use Rattle.serving.specs.Served.{Tried, to_bus, to_text}
 use Rattle.serving.specs.Turns.{all_made, due_of, made, recorded, told}
 
@@ -38,7 +38,7 @@ ReceivesFail =
     ∷ made (emitted 10300000 (broken unclaimed (Source 25 127250)))
     ∷ [])
 
-abbrev pub recording : Parts
+abbrev pub recording : BridgeSettings
 recording = record alone { records = true }
 
 -- A run that is recorded: the start, at which nothing comes; a heading, whose own time is none; the first frame of a message, and a datagram of

@@ -15,7 +15,7 @@ use Rattle.gate_events.specs.Emit.{Emitted, report}
 use Rattle.history.specs.Emits.{at, report_of}
 use Rattle.bridge.specs.Running.{Running, entry_of, moment_in}
 use Rattle.bridge.specs.Gate.{opening, stepped}
-use Rattle.bridge.specs.Parts.{Parts}
+use Rattle.bridge.specs.BridgeSettings.{BridgeSettings}
 
 -- ---- what a receive gives a turn
 
@@ -116,7 +116,7 @@ recorded_where true line = recorded line ∷ []
 abbrev pub moment_at : Option Running → ℕ → ℕ
 moment_at g reading = max reading (moment_in g)
 
-module _ (p : Parts) where
+module _ (p : BridgeSettings) where
   -- the first turn starts the gateway
   abbrev pub with_start : ℕ → Option Running → Turned
   with_start m None = record { due = recorded_where p.records (start_line m) ++ all_made (opening p m); after = record { start = m; history = [] } }

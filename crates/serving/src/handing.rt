@@ -9,7 +9,7 @@ ghost use Rattle.gate_outbox.specs.Output.{emit_of};
 ghost use Rattle.gate_events.specs.Emit as emits;
 ghost use Rattle.history.specs.Emits.{at, report_of};
 ghost use Rattle.capture_text.specs.Emitted.{line_of};
-ghost use Rattle.bridge.specs.Kept.{left_of};
+ghost use Rattle.bridge.specs.Kept.{output_of};
 ghost use Rattle.serving.specs.Handing.{Hands, Takes};
 ghost use Rattle.serving.specs.Served.{outside};
 ghost use Rattle.serving.specs.Turns.{all_made};
@@ -37,7 +37,7 @@ pub(crate) fn hand_on<K: Sink, B: Link, E: Link>(
     net: &mut E,
 ) -> Result<(), Failed>
     ensures { Hands (outside (B.traffic bus.old) (E.traffic net.old) (K.taken out.old) (K.fault_count out.old))
-        (outside (B.traffic bus.new) (E.traffic net.new) (K.taken out.new) (K.fault_count out.new)) (all_made (at moment (left_of bridge.now))) result }
+        (outside (B.traffic bus.new) (E.traffic net.new) (K.taken out.new) (K.fault_count out.new)) (all_made (at moment (output_of bridge.now))) result }
 {
     for place in 0..bridge.len() {
         match hand_at(bridge, place, moment, out, bus, net) {
@@ -59,7 +59,7 @@ fn hand_at<K: Sink, B: Link, E: Link>(
 ) -> Result<(), Failed>
     ensures { Hands (outside (B.traffic bus.old) (E.traffic net.old) (K.taken out.old) (K.fault_count out.old))
         (outside (B.traffic bus.new) (E.traffic net.new) (K.taken out.new) (K.fault_count out.new))
-        (all_made (at moment (take 1 (drop place (left_of bridge.now))))) result }
+        (all_made (at moment (take 1 (drop place (output_of bridge.now))))) result }
 {
     match bridge.emit(place) {
         Some(emit) => hand(&emit, moment, out, bus, net),

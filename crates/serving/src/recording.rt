@@ -3,7 +3,7 @@ ghost use Rattle.std.specs.Prelude.{◌≡◌, ◌≤◌, ◌&&◌, Option, leng
 ghost use Rattle.gate_events.specs.Event.{view};
 ghost use Rattle.gate_outside.specs.Link.{Traffic};
 ghost use Rattle.capture_text.specs.Writing.{CanRecord};
-ghost use Rattle.bridge.specs.Kept.{left_of};
+ghost use Rattle.bridge.specs.Kept.{output_of};
 ghost use Rattle.serving.specs.Handing.{Hands};
 ghost use Rattle.serving.specs.Served.{outside};
 ghost use Rattle.serving.specs.Turns.{event_line, is_recorded, received, recorded_where, start_line};
@@ -45,7 +45,7 @@ pub(crate) fn record_event<K: Sink>(
     requires { CanRecord event.now }
     ensures { (bus net : Option Traffic) → Hands (outside bus net (K.taken out.old) (K.fault_count out.old))
         (outside bus net (K.taken out.new) (K.fault_count out.new))
-        (recorded_where (bridge.now.records && is_recorded (view event.now) (left_of bridge.now)) (event_line (view event.now))) result }
+        (recorded_where (bridge.now.records && is_recorded (view event.now) (output_of bridge.now)) (event_line (view event.now))) result }
 {
     if is_recorded(bridge, event) {
         write_line(&event_line(event), out)
@@ -56,7 +56,7 @@ pub(crate) fn record_event<K: Sink>(
 
 /// Whether the bridge records and the event has a line: a tick only where the bridge left something.
 fn is_recorded(bridge: &Bridge, event: &Event<'_>) -> bool
-    ensures { result ≡ (bridge.now.records && is_recorded (view event.now) (left_of bridge.now)) }
+    ensures { result ≡ (bridge.now.records && is_recorded (view event.now) (output_of bridge.now)) }
 {
     bridge.records()
         && match event {

@@ -1,5 +1,5 @@
 use Rattle.std.proofs.Common.{◌≡◌, true, false, [], refl, sym, ◌∙◌}
-use Rattle.replaying.specs.Replaying.{left_text}
+use Rattle.replaying.specs.Replaying.{output_text}
 use Rattle.replaying.proofs.SendingLemmas.{sent_none}
 use Rattle.replaying.proofs.sending.open.Goals as goal
 
@@ -18,7 +18,7 @@ returns-then-started g c =
 pub returns : goal.returns
 returns g c =
     let waits : c.args.bridge.now.started ≡ false = sym c.started.ensures ∙ c.if-started.false in (
-      left_text c.args.moment c.start.new.self,
+      output_text c.args.moment c.start.new.self,
       record {
         started = c.start.ensures.started;
         later = λ is. let never : true ≡ false = sym is ∙ waits in absurd cc;

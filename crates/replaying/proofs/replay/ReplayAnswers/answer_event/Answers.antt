@@ -1,6 +1,6 @@
 use Rattle.std.proofs.Common.{ℕ, ◌++◌, Ok, subst, sym}
 use Rattle.gate_events.specs.Event.{view}
-use Rattle.replaying.specs.Replaying.{GivesReplay, IsAnswer, IsOpening, left_text}
+use Rattle.replaying.specs.Replaying.{GivesReplay, IsAnswer, IsOpening, output_text}
 use Rattle.replaying.proofs.Replays.{gives_event}
 use Rattle.replaying.proofs.SendingLemmas.{is_sent}
 use Rattle.bridge.proofs.Steps.{event_valid}
@@ -22,13 +22,13 @@ returns g c =
     let first = c.open-opened.ensures in
     let next = c.send_ordered.ensures in
     let after = c.send_ordered.new.bridge in
-    let s = next.2 t f w (first.0 ++ left_text c.moment.result b) (c.send_left-taken.ensures t f w first.0 first.2) in
+    let s = next.2 t f w (first.0 ++ output_text c.moment.result b) (c.send_output-taken.ensures t f w first.0 first.2) in
     let opens = subst (λ (m : ℕ). IsOpening m before first.0 c.open-opened.new.bridge) c.moment_of.ensures first.1 in
     let gives = gives_event e n before c.open-opened.new.bridge b after first.0 next.0 opens c.take.ensures.step next.1 in
     record {
-      sent = is_sent (IsAnswer c.args.self.now n (Ok (view e))) t (g.K.Sink.taken c.send_ordered.new.out) w ((first.0 ++ left_text c.moment.result b) ++ next.0)
+      sent = is_sent (IsAnswer c.args.self.now n (Ok (view e))) t (g.K.Sink.taken c.send_ordered.new.out) w ((first.0 ++ output_text c.moment.result b) ++ next.0)
           c.send_ordered.new.writer (record { bridge = record lent { now = after } }) c.send_ordered.result
-          (subst (λ (m : ℕ). GivesReplay before n (Ok (view e)) ((first.0 ++ left_text m b) ++ next.0) after) (sym c.moment.ensures) gives)
+          (subst (λ (m : ℕ). GivesReplay before n (Ok (view e)) ((first.0 ++ output_text m b) ++ next.0) after) (sym c.moment.ensures) gives)
           s.writes;
       cause = s.cause;
     }

@@ -1,0 +1,44 @@
+//! The reports of ships around beside the gateway.
+ghost use Rattle.std.proofs.Common.{arith};
+ghost use Rattle.std.specs.Prelude.{◌≡◌};
+ghost use Rattle.bridge.specs.Beside.{ships_give, ships_stand};
+ghost use Rattle.bridge.specs.Commands.{ships_keep_commands};
+
+use ais_bridge::AisBridge;
+use gate_core::{Gateway, Outbox};
+use gate_events::Event;
+use gate_outbox::Emits;
+use parts::Part;
+
+/// The most frames and reports of [`ais_bridge::AisEmits`].
+pub(crate) const MOST_OF_SHIPS: usize = 299;
+
+/// What says the reports of ships around.
+#[derive(Drop)]
+pub(crate) struct Ships {
+    pub(crate) bridge: AisBridge,
+}
+
+impl Part<MOST_OF_SHIPS> for Ships {
+    ghost use Rattle.settings.specs.declared.ais.AisConfig.{AisConfig};
+
+    ghost Rule = { AisConfig };
+
+    ghost stands = { ships_stand };
+
+    ghost gives = { ships_give };
+
+    fn after(
+        &mut self,
+        gateway: &Gateway,
+        _output: &Outbox,
+        event: &Event<'_>,
+        emits: &mut Emits<MOST_OF_SHIPS>,
+    ) {
+        self.bridge.after(gateway, event, emits);
+    }
+
+    ghost commands = { ships_keep_commands };
+
+    ghost room = { omega arith };
+}
