@@ -10,7 +10,7 @@ use Rattle.gate_core.specs.Steps.{by_keys}
 use Rattle.further_bridge.specs.Promises.{IsFurtherStep, IsFurtherTaken, StandsFurther}
 use Rattle.parts.specs.PartSteps.{Says}
 use Rattle.bridge.specs.Beside.{quantities_give, quantities_stand}
-use Rattle.bridge.specs.declared.quantities.Quantities.{Quantities}
+use Rattle.bridge.specs.declared.further_quantities.Quantities.{Quantities}
 
 pub quantities_said : (g : Machine) (left : Output) (e : Entry) (before after : Quantities) (given : Emitted) → IsFurtherStep g e before.bridge after.bridge (emits_of given)
     → Says quantities_stand quantities_give g left e before after given

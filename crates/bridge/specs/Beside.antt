@@ -24,7 +24,7 @@ use Rattle.bridge.specs.SourceOut.{source_out}
 use Rattle.bridge.specs.WatchStands.{WatchStands}
 use Rattle.bridge.specs.declared.answering.Answering.{Answering}
 use Rattle.bridge.specs.declared.joining.Joining.{Joining}
-use Rattle.bridge.specs.declared.quantities.Quantities.{Quantities}
+use Rattle.bridge.specs.declared.further_quantities.Quantities.{Quantities}
 use Rattle.bridge.specs.declared.ships.Ships.{Ships}
 
 -- ---- who the gateway is

@@ -13,8 +13,8 @@ ghost use Rattle.bridge.specs.Beside.{AreNew, IsOpened, joining_stands, quantiti
 ghost use Rattle.bridge.specs.BridgeSettings.{bridge_settings_of, quantities_rule, rmc_rule};
 
 use crate::answering::{Answering, MOST_ANSWERED};
+use crate::further_quantities::{MOST_OF_QUANTITIES, Quantities};
 use crate::joining::Joining;
-use crate::quantities::{MOST_OF_QUANTITIES, Quantities};
 use crate::ships::{MOST_OF_SHIPS, Ships};
 use crate::source_watch::SourceWatch;
 use ais_bridge::AisBridge;

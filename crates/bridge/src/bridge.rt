@@ -31,8 +31,8 @@ pub struct Bridge {
     plain: Option<Group>,
     /// Whether what comes is written down.
     records: bool,
-    /// Whether the last call gave nothing but what the gateway itself emits. Most calls do, and then no part is asked for its output.
-    alone: bool,
+    /// Whether the last call may have given more than the gateway itself emits. Most give no more, and then no part is asked for its output.
+    gave: bool,
     /// Most of all that is kept, and so not on the stack.
     output: Box<CallOutput>,
 }
@@ -54,7 +54,7 @@ impl Model for Bridge {
     } };
 
     ghost invariant = { λ b. (b.started ≡ false → b.gateway ≡ opened_machine b.gateway.settings)
-        × (b.alone ≡ true → IsAlone b.output.value b.parts)
+        × (b.gave ≡ false → IsAlone b.output.value b.parts)
         × (b.plain ≡ None → plain_output b.output.value b.parts ≡ []) };
 }
 
@@ -83,7 +83,7 @@ impl Bridge {
             parts,
             plain: further.plain,
             records: further.record,
-            alone: true,
+            gave: false,
             output,
         })
     }
@@ -104,7 +104,7 @@ impl Bridge {
         let output = self.output.as_mut();
         output.clear();
         self.parts.clear();
-        self.alone = true;
+        self.gave = false;
         self.gateway.start(moment, &mut output.outbox);
         self.started = true;
     }
@@ -124,15 +124,15 @@ impl Bridge {
         if !accepted {
             output.plain.clear();
             self.parts.clear();
-            self.alone = true;
+            self.gave = false;
             return;
         }
         let gave = self.parts.after(&self.gateway, &output.outbox, event);
         match &self.plain {
-            None => self.alone = !gave,
+            None => self.gave = gave,
             Some(group) => {
-                if gave || posts(&output.outbox) || !self.alone {
-                    self.alone = false;
+                if gave || posts(&output.outbox) || self.gave {
+                    self.gave = true;
                     say_again(*group, output, &mut self.parts);
                 }
             }
@@ -166,7 +166,7 @@ impl Bridge {
         let output = self.output.as_mut();
         output.clear();
         self.parts.clear();
-        self.alone = true;
+        self.gave = false;
         self.gateway
             .command(Command { source, address }, &mut output.outbox);
     }
@@ -195,10 +195,10 @@ impl Bridge {
         ensures { result ≡ length (output_of self.now) }
     {
         let own = self.output.outbox.len();
-        if self.alone {
-            own
-        } else {
+        if self.gave {
             own + self.len_beside()
+        } else {
+            own
         }
     }
 

@@ -45,6 +45,7 @@ impl Part<0> for Joining {
 
     ghost gives = { joining_gives };
 
+    #[inline(never)]
     fn after(
         &mut self,
         gateway: &Gateway,

@@ -10,9 +10,9 @@ mod beside;
 mod bridge;
 mod call_output;
 pub mod cases;
+mod further_quantities;
 mod joining;
 pub mod laws;
-mod quantities;
 mod ships;
 mod source_watch;
 

@@ -28,6 +28,7 @@ impl Part<MOST_OF_SHIPS> for Ships {
 
     ghost gives = { ships_give };
 
+    #[inline(never)]
     fn after(
         &mut self,
         gateway: &Gateway,

@@ -91,6 +91,7 @@ impl Part<1> for SourceWatch {
 
     ghost gives = { sources_give };
 
+    #[inline(never)]
     fn after(
         &mut self,
         gateway: &Gateway,

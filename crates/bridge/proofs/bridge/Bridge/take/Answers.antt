@@ -58,8 +58,8 @@ returns-then-gave-clause-step c =
     subst (λ (b : Bridged). IsBridgeStep e b after) c.self.view_is
     (accepted_step c.args.event.now before g o after c.requires.valid c.step.ensures.history (sym c.if-not-accepted.ensures) beside)
 
-pub returns-else-not-self-clause-step : goal.returns-else-not-self-clause-step
-returns-else-not-self-clause-step c =
+pub returns-else-self-clause-step : goal.returns-else-self-clause-step
+returns-else-self-clause-step c =
     let i = c.self.inside in
     let e = entry_of c.args.event.now in
     let g = c.step.new.self in
@@ -68,7 +68,7 @@ returns-else-not-self-clause-step c =
     let before = bridge_of i.started i.gateway i.parts i.plain i.records i.output.value in
     let after = bridge_of i.started g parts i.plain i.records (record { outbox = o; plain = i.output.value.plain }) in
     let beside = nothing_said e before g o parts c.after-gave.ensures.takes c.after-gave.ensures.plain c.in-Some.group c.in-Some.is
-    (c.self.invariant.1 c.if-not-self.false).said (c.after-gave.ensures.gave c.if-gave.false) (c.posts.ensures c.if-posts.false) in
+    (c.self.invariant.1 c.if-self.false).said (c.after-gave.ensures.gave c.if-gave.false) (c.posts.ensures c.if-posts.false) in
     subst (λ (x : CallOutput). IsBridgeStep e c.args.self.now (bridge_of i.started g parts i.plain i.records (record { outbox = o; plain = x.plain })))
     (sym c.as_mut-output.ensures.value)
     (subst (λ (b : Bridged). IsBridgeStep e b after) c.self.view_is

@@ -28,6 +28,7 @@ impl Part<MOST_OF_QUANTITIES> for Quantities {
 
     ghost gives = { quantities_give };
 
+    #[inline(never)]
     fn after(
         &mut self,
         gateway: &Gateway,
