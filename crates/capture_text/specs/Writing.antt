@@ -26,6 +26,8 @@ abbrev pub detail_text : Detail → List ℕ
 detail_text detail.Nothing = []
 detail_text (detail.Source address pgn) = part (codes "src") address ++ part (codes "pgn") pgn
 detail_text (detail.Address address) = part (codes "addr") address
+detail_text (detail.Own None) = codes " own=none"
+detail_text (detail.Own (Some address)) = part (codes "own") address
 detail_text (detail.Row row address) = codes " row=" ++ (about_of row).name ++ part (codes "src") address
 detail_text (detail.At at) = part (codes "at") at
 detail_text (detail.AtField at field) = part (codes "at") at ++ part (codes "field") field

@@ -165,6 +165,10 @@ fn append_detail(detail: &Detail, out: &mut Line)
             out,
         ),
         Detail::Address(address) => append_part(b" addr=", u64::from(*address), out),
+        Detail::Own { address: None } => append(b" own=none", out),
+        Detail::Own {
+            address: Some(address),
+        } => append_part(b" own=", u64::from(*address), out),
         Detail::Row { row, address } => append_named(
             b" row=",
             row.name().as_bytes(),

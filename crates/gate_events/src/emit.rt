@@ -11,6 +11,8 @@ pub enum Detail {
     Source { address: u8, pgn: u32 },
     /// An address of the bus.
     Address(u8),
+    /// The gateway's own address; None: it has none.
+    Own { address: Option<u8> },
     /// A row, and the address that it is taken from.
     Row { row: Row, address: u8 },
     /// A place in a datagram.

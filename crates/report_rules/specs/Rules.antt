@@ -22,6 +22,10 @@ not_extended = 4
 abbrev pub not_converted : ℕ
 not_converted = 5
 
+-- the gateway's own address is another one, or it has none any more
+abbrev pub own_address : ℕ
+own_address = 9
+
 -- a frame came from an address that no device has claimed
 abbrev pub unclaimed : ℕ
 unclaimed = 10
@@ -184,7 +188,7 @@ capture_rules = capture_form ∷ line_long ∷ moment_back ∷ not_extended ∷ 
 
 -- of the bus
 abbrev pub bus_rules : List ℕ
-bus_rules = unclaimed ∷ fast_order ∷ fast_orphan ∷ fast_length ∷ restarted ∷ slots_full ∷ expired ∷ claim_lost ∷ iso_size ∷
+bus_rules = own_address ∷ unclaimed ∷ fast_order ∷ fast_orphan ∷ fast_length ∷ restarted ∷ slots_full ∷ expired ∷ claim_lost ∷ iso_size ∷
     iso_order ∷ iso_orphan ∷ iso_aborted ∷ short_message ∷ duplicate_name ∷ own_address_used ∷ claim_or_request_malformed ∷
     command_not_obeyed ∷ ais_report_outside ∷ source_changed ∷ []
 

@@ -1,7 +1,7 @@
 //! The rules that a report can name, by their numbers.
 //!
 //! A report says which rule a piece of the input broke. The numbers are shipgate's own, and they stand in its output: what
-//! causes each and what to do about it is in `docs/reports.md`. Rules 1 to 5 speak of captures and events, 10 to 28 of the
+//! causes each and what to do about it is in `docs/reports.md`. Rules 1 to 5 speak of captures and events, 9 to 28 of the
 //! bus, 30 to 47 of datagrams, 50 and 51 of the two links.
 #![tactic(auto)]
 
@@ -23,6 +23,9 @@ pub const NOT_EXTENDED: u8 = 4;
 
 /// A line of a capture says something that has no sentence.
 pub const NOT_CONVERTED: u8 = 5;
+
+/// The gateway's own address is another one, or it has none any more.
+pub const OWN_ADDRESS: u8 = 9;
 
 /// A frame came from an address that no device has claimed.
 pub const UNCLAIMED: u8 = 10;

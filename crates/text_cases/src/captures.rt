@@ -108,7 +108,7 @@ fn a_datagram_is_written_as_a_line(rt: HostRuntime) {
 }
 
 /// The rule and the detail of a report, its moment, and its line.
-const REPORTS: [(u8, Detail, u64, &[u8]); 13] = [
+const REPORTS: [(u8, Detail, u64, &[u8]); 15] = [
     (3, Detail::Nothing, 5_000_000, b"(5.000000) rule 3"),
     (
         10,
@@ -118,6 +118,18 @@ const REPORTS: [(u8, Detail, u64, &[u8]); 13] = [
         },
         1,
         b"(0.000001) rule 10 src=23 pgn=127250",
+    ),
+    (
+        9,
+        Detail::Own { address: Some(0) },
+        10_300_000,
+        b"(10.300000) rule 9 own=0",
+    ),
+    (
+        9,
+        Detail::Own { address: None },
+        10_300_000,
+        b"(10.300000) rule 9 own=none",
     ),
     (23, Detail::Address(251), 0, b"(0.000000) rule 23 addr=251"),
     (
