@@ -5,6 +5,7 @@ pub mod Changing
 pub mod Entering
 pub mod Hearing
 pub mod Promises
+pub mod Ordering
 pub mod Holding
 pub mod Completed
 pub mod Picks

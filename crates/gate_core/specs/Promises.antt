@@ -1,5 +1,5 @@
 -- What each call of the gateway gives, in the words of the history: of everything that ever came.
-use Rattle.std.specs.Prelude.{◌≡◌, ℕ, true, false, [], ◌∷◌, option_map, is_some}
+use Rattle.std.specs.Prelude.{◌≡◌, ℕ, true, false, [], ◌∷◌, ◌++◌, option_map, is_some}
 use Rattle.report_rules.specs.Rules as rules
 use Rattle.gate_events.specs.declared.emit.Detail.TheVariants as detail
 use Rattle.history.specs.Entries as entry
@@ -50,3 +50,15 @@ abbrev pub IsCommandStep : ℕ → ℕ → Machine → Machine → Output → Ty
 IsCommandStep source address before after left =
     (s : ℕ) (h : History) → IsHistory h → Stands by_keys before.settings s h before
     → IsTaken before.settings s h (entry.command (now h) source address) after left
+
+-- the command that an entry gave was taken: what it gives stands behind what is told of that entry
+pub record IsOrdered (c : Settings) (s : ℕ) (h : History) (e : Entry) (after : Machine) (before left : Output) : Type 0 where
+  pub stands : Stands by_keys c s (e ∷ h) after
+  pub told : left.emits.told ≡ before.emits.told ++ out c s h e
+  pub posted : left.emits.posted ≡ before.emits.posted
+
+-- for every history, and every entry that was its last
+abbrev pub IsOrderStep : Command → Machine → Machine → Output → Output → Type 0
+IsOrderStep o before after outbox left =
+    (s : ℕ) (h : History) (e : Entry) → IsHistory (e ∷ h) → IsTaken before.settings s h e before outbox
+    → IsOrdered before.settings s (e ∷ h) (entry_by (now (e ∷ h)) o) after outbox left

@@ -13,9 +13,9 @@ ghost use Rattle.gate_model.specs.Stands.{Stands};
 ghost use Rattle.config_values.specs.Configs.{IsConfig};
 ghost use Rattle.config_values.specs.Settings.{settings_of, settings_ignoring};
 ghost use Rattle.gate_outbox.specs.Output.{nothing};
-ghost use Rattle.gate_core.specs.Steps.{IsEventValid, by_keys, entry_of, only_told, output_of};
+ghost use Rattle.gate_core.specs.Steps.{IsEventValid, and_step, by_keys, entry_of, only_told, output_of};
 ghost use Rattle.gate_core.specs.Holding.{IsHeld, IsWithin};
-ghost use Rattle.gate_core.specs.Promises.{IsStep, IsCommandStep};
+ghost use Rattle.gate_core.specs.Promises.{IsStep, IsCommandStep, IsOrderStep};
 
 use crate::state::State;
 use arrayvec::ArrayVec;
@@ -118,6 +118,24 @@ impl Gateway {
         ensures after { self.new ≡ (commanded self.old source address).after }
         ensures output { out.new ≡ output_of self.old.settings.name (commanded self.old source address) }
         ensures history { IsCommandStep source address self.old self.new out.new }
+    {
+        self.state.obey(Command { source, address }, out);
+    }
+
+    /// Takes the command that the last step left, at the moment of the last entry: what it gives stands behind what is told of that entry.
+    pub fn obey(&mut self, command: Command, out: &mut Outbox)
+        ensures after { self.new ≡ (commanded self.old command.source command.address).after }
+        ensures output { out.new ≡ and_step self.old.settings.name out.old (commanded self.old command.source command.address) }
+        ensures history { IsOrderStep command self.old self.new out.old out.new }
+    {
+        self.order_behind(command.source, command.address, out);
+    }
+
+    /// Takes a command from this source to go to an address, behind what is told already.
+    fn order_behind(&mut self, source: u8, address: u8, out: &mut Outbox)
+        ensures after { self.new ≡ (commanded self.old source address).after }
+        ensures output { out.new ≡ and_step self.old.settings.name out.old (commanded self.old source address) }
+        ensures history { IsOrderStep (record { source = source; address = address }) self.old self.new out.old out.new }
     {
         self.state.obey(Command { source, address }, out);
     }
