@@ -32,7 +32,9 @@ use Rattle.bus_identity.specs.Requests.{is_due}
 use Rattle.bridge.specs.Answered.{answer_by, answered_before, own_after, ready_after, sent_before}
 use Rattle.bridge.specs.Beside.{answering_gives, answering_stands}
 use Rattle.bridge.specs.declared.answering.Answering.{Answering}
-use Rattle.parts.specs.PartSteps.{IsSaid, IsStepped, Says}
+use Rattle.gate_core.specs.Promises.{IsTaken}
+use Rattle.parts.specs.PartSteps.{IsSaid, Says, entry_at}
+use Rattle.parts.specs.declared.part.Step.{Step}
 
 -- ---- what is told
 
@@ -80,13 +82,13 @@ sent_then c s information h m f =
 -- ---- an entry that the gateway has taken
 
 module _ (information : List ℕ) (c : Settings) (s : ℕ) (h : History) (g : Machine) (left : Output) (before after : Answering) (given : Emitted) where
-  frame_answered : (m : ℕ) (f : BusFrame) → IsStepped c s h (entry.frame m f) g left → answering_stands information c s h before
+  frame_answered : (m : ℕ) (f : BusFrame) → IsTaken c s h (entry.frame m f) g left → answering_stands information c s h before
       → after.identity ≡ kept_after before.identity g.addresses.claims.own (is_ready g.addresses.claims g.moment) f
       → emits_of given ≡ answer_by before.identity g.addresses.claims.own (is_ready g.addresses.claims g.moment) f
       → IsSaid answering_stands answering_gives information c s h (entry.frame m f) after given
-  frame_answered m f step stands kept is =
+  frame_answered m f taken stands kept is =
       let e : Entry = entry.frame m f in
-      let standing = step.taken.stands in
+      let standing = taken.stands in
       let tells = standing_tells_alike (receiver_of c) s (e ∷ h) g.addresses standing.addresses in
       let own : g.addresses.claims.own ≡ own_after c s h e = tells.own in
       let ready : is_ready g.addresses.claims g.moment ≡ ready_after c s h e =
@@ -101,19 +103,24 @@ module _ (information : List ℕ) (c : Settings) (s : ℕ) (h : History) (g : Ma
             ∙ ap (λ (r : Bool). answer_by (sent_before c s information h) (own_after c s h e) r f) ready;
       }
 
+pub record IsFrameAnswered (room : ℕ) (own : Option ℕ) (ready : Bool) (f : BusFrame) (before after : Kept) (empty given : Emitted) : Type 0 where
+  pub kept : after ≡ kept_after before own ready f
+  pub told : given ≡ and_told room empty (answer_by before own ready f)
+  pub few : length (answer_by before own ready f) ≤ room
+
 -- a frame is answered where nothing was told before
-pub event_answered : (room : ℕ) (e : Event) (m : ℕ) (f : Frame) (g : Machine) (before after : Answering) (empty given : Emitted) → e ≡ event.Frame m f
-    → empty ≡ no_emits
-    → after.identity ≡ kept_after before.identity g.addresses.claims.own (is_ready g.addresses.claims g.moment) (bus_frame f)
-    → given ≡ and_told room empty (answer_by before.identity g.addresses.claims.own (is_ready g.addresses.claims g.moment) (bus_frame f))
-    → length (answer_by before.identity g.addresses.claims.own (is_ready g.addresses.claims g.moment) (bus_frame f)) ≤ room
-    → (left : Output) → Says answering_stands answering_gives g left (entry_of e) before after given
-event_answered room e m f g before after empty given is nothing kept told few left =
+pub event_answered : (room : ℕ) (t : Step) (m : ℕ) (f : Frame) (before after : Answering) (empty given : Emitted) → t.event.now ≡ event.Frame m f
+    → empty ≡ no_emits → (let g = t.gateway.now in IsFrameAnswered room g.addresses.claims.own (is_ready g.addresses.claims g.moment) (bus_frame f)
+    before.identity after.identity empty given)
+    → Says answering_stands answering_gives t before after given
+event_answered room t m f before after empty given is nothing answered information c s h step stands =
+    let g = t.gateway.now in
     let es = answer_by before.identity g.addresses.claims.own (is_ready g.addresses.claims g.moment) (bus_frame f) in
-    subst (λ (x : Event). Says answering_stands answering_gives g left (entry_of x) before after given) (sym is)
-    (λ information c s h step stands.
-    frame_answered information c s h g left before after given m (bus_frame f) step stands kept
-    (ap emits_of (told ∙ ap (λ x. and_told room x es) nothing) ∙ all_told room es few))
+    let here : entry_at t ≡ entry.frame m (bus_frame f) = ap entry_of is in
+    subst (λ (e : Entry). IsSaid answering_stands answering_gives information c s h e after given) (sym here)
+    (frame_answered information c s h g t.outbox.now before after given m (bus_frame f)
+    (subst (λ (e : Entry). IsTaken c s h e g t.outbox.now) here step.taken) stands answered.kept
+    (ap emits_of (answered.told ∙ ap (λ x. and_told room x es) nothing) ∙ all_told room es answered.few))
 
 -- ---- a frame that the gateway has taken
 
@@ -133,11 +140,6 @@ answer_told true false frames refusal = refl
 -- the report of a request that came before the gateway was ready
 abbrev pub unready : BusFrame → List Emit
 unready f = of_source rules.not_ready (parts_of f.id).source pgns.request ∷ []
-
-pub record IsFrameAnswered (room : ℕ) (own : Option ℕ) (ready : Bool) (f : BusFrame) (before after : Kept) (empty given : Emitted) : Type 0 where
-  pub kept : after ≡ kept_after before own ready f
-  pub told : given ≡ and_told room empty (answer_by before own ready f)
-  pub few : length (answer_by before own ready f) ≤ room
 
 -- it is answered as who the gateway is says, for the address and the readiness that the gateway has
 pub frame_told : (room : ℕ) (own own' : Option ℕ) (ready ready' : Bool) (f : BusFrame) (before after : Kept) (empty given : Emitted)

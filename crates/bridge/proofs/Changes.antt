@@ -7,7 +7,8 @@ use Rattle.gate_events.specs.Emit.{report}
 use Rattle.history.specs.Entries.{Entry}
 use Rattle.gate_model.specs.Machine.{Machine}
 use Rattle.gate_outbox.specs.Output.{Emitted, Output, and_told, emits_of, no_emits}
-use Rattle.parts.specs.PartSteps.{Says}
+use Rattle.parts.specs.PartSteps.{Says, entry_at}
+use Rattle.parts.specs.declared.part.Step.{Step}
 use Rattle.bridge.specs.SourceOut.{told}
 use Rattle.bridge.specs.WatchStands.{IsWatchStep}
 use Rattle.bridge.specs.Beside.{sources_give, sources_stand}
@@ -21,8 +22,8 @@ told_so : (change : Option Report) (given : Emitted) → tells change given → 
 told_so None given is = ap emits_of is
 told_so (Some change) given is = ap emits_of is
 
-pub change_told : (g : Machine) (left : Output) (e : Entry) (before after : List (Option Name)) (change : Option Report) (given : Emitted)
-    → IsWatchStep g left before after change → tells change given → Says sources_stand sources_give g left e before after given
-change_told g left e before after change given is so r c s h step stands =
-    let w = is c s h e step.taken stands in
+pub change_told : (t : Step) (before after : List (Option Name)) (change : Option Report) (given : Emitted)
+    → IsWatchStep t.gateway.now t.outbox.now before after change → tells change given → Says sources_stand sources_give t before after given
+change_told t before after change given is so r c s h step stands =
+    let w = is c s h (entry_at t) step.taken stands in
     record { stood = w.stands; emits = told_so change given so ∙ ap told w.told_is }

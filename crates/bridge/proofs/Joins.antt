@@ -9,7 +9,8 @@ use Rattle.gate_outbox.specs.Output.{Emitted, Output, emits_of, no_emits, with_p
 use Rattle.joined_rmc.specs.JoinStands.{IsJoinStep}
 use Rattle.joined_rmc.specs.Kept.{bytes_in}
 use Rattle.joined_rmc.specs.RmcOut.{RmcRule, rmc_datagram, sent_to}
-use Rattle.parts.specs.PartSteps.{Says}
+use Rattle.parts.specs.PartSteps.{Says, entry_at}
+use Rattle.parts.specs.declared.part.Step.{Step}
 use Rattle.bridge.specs.Beside.{joining_gives, joining_stands}
 use Rattle.bridge.specs.declared.joining.Joining.{Joining}
 
@@ -23,22 +24,22 @@ none_sent : (r : RmcRule) (c : Settings) (s : ℕ) (d : Option (List ℕ)) → f
 none_sent r c s None said = refl
 none_sent r c s (Some bytes) said = absurd cc
 
-module _ (g : Machine) (left : Output) (e : Entry) (before after : Joining) (said : Bool) (packet : List ℕ)
-    (is : IsJoinStep g left before.join after.join said packet) (same : after.group ≡ before.group) where
+module _ (t : Step) (before after : Joining) (said : Bool) (packet : List ℕ)
+    (is : IsJoinStep t.gateway.now t.outbox.now before.join after.join said packet) (same : after.group ≡ before.group) where
   pub rmc_said : (out : Emitted) (group : List ℕ) → out ≡ no_emits → group ≡ before.group → said ≡ true
-      → Says joining_stands joining_gives g left e before after (with_posted out (net group packet ∷ []))
+      → Says joining_stands joining_gives t before after (with_posted out (net group packet ∷ []))
   rmc_said out group empty to there r c s h step stands =
-      let j = is r c s h e step.settings step.taken stands.1 in
+      let j = is r c s h (entry_at t) step.settings step.taken stands.1 in
       record {
         stood = (same ∙ stands.0, j.stands);
         emits = ap (λ x. x.told ++ net group packet ∷ []) empty
-            ∙ sent_as r c s group packet (rmc_datagram r c s h e) (to ∙ stands.0) j.packet_is (sym there ∙ j.said_is);
+            ∙ sent_as r c s group packet (rmc_datagram r c s h (entry_at t)) (to ∙ stands.0) j.packet_is (sym there ∙ j.said_is);
       }
 
-  pub rmc_silent : (given : Emitted) → given ≡ no_emits → said ≡ false → Says joining_stands joining_gives g left e before after given
+  pub rmc_silent : (given : Emitted) → given ≡ no_emits → said ≡ false → Says joining_stands joining_gives t before after given
   rmc_silent given empty none r c s h step stands =
-      let j = is r c s h e step.settings step.taken stands.1 in
+      let j = is r c s h (entry_at t) step.settings step.taken stands.1 in
       record {
         stood = (same ∙ stands.0, j.stands);
-        emits = ap emits_of empty ∙ none_sent r c s (rmc_datagram r c s h e) (sym none ∙ j.said_is);
+        emits = ap emits_of empty ∙ none_sent r c s (rmc_datagram r c s h (entry_at t)) (sym none ∙ j.said_is);
       }

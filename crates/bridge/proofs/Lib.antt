@@ -7,5 +7,6 @@ pub mod ShipSteps
 pub mod QuantitySteps
 pub mod Steps
 pub mod PartCases
-pub mod Reached
+pub mod Ordered
+pub mod Places
 pub mod WatchSteps

@@ -8,13 +8,16 @@ use Rattle.gate_model.specs.Stands.{Stands}
 use Rattle.gate_outbox.specs.Output.{Emitted, Output, emits_of}
 use Rattle.gate_core.specs.Steps.{by_keys}
 use Rattle.further_bridge.specs.Promises.{IsFurtherStep, IsFurtherTaken, StandsFurther}
-use Rattle.parts.specs.PartSteps.{Says}
+use Rattle.parts.specs.PartSteps.{Says, entry_at}
+use Rattle.parts.specs.declared.part.Step.{Step}
 use Rattle.bridge.specs.Beside.{quantities_give, quantities_stand}
 use Rattle.bridge.specs.declared.further_quantities.Quantities.{Quantities}
 
-pub quantities_said : (g : Machine) (left : Output) (e : Entry) (before after : Quantities) (given : Emitted) → IsFurtherStep g e before.bridge after.bridge (emits_of given)
-    → Says quantities_stand quantities_give g left e before after given
-quantities_said g left e before after given is x c s h step stands =
+pub quantities_said : (t : Step) (before after : Quantities) (given : Emitted)
+    → IsFurtherStep t.gateway.now (entry_at t) before.bridge after.bridge (emits_of given) → Says quantities_stand quantities_give t before after given
+quantities_said t before after given is x c s h step stands =
+    let g = t.gateway.now in
+    let e = entry_at t in
     let same : g.settings ≡ c = step.taken.stands.settings in
     let here : IsFurtherTaken x g.settings s h e after.bridge (emits_of given) =
     is x s h (subst (λ (z : Settings). AreSettings z) (sym same) step.settings) step.could

@@ -1,33 +1,39 @@
--- What each call of the bridge makes of what stands, put together from the gateway's call and those of the parts beside it.
-use Rattle.std.proofs.Common.{◌≡◌, ℕ, ◌<◌, Bool, true, false, List, [], ◌∷◌, ◌++◌, refl, sym, ap, subst, ◌∙◌, append_assoc, arith}
-use Rattle.std.specs.Prelude.{nat_le, Option, None, Some, option_map}
+-- What each call of the bridge makes of what stands, put together from the gateway's calls and those of the parts beside it.
+use Rattle.std.proofs.Common.{◌≡◌, ℕ, ◌+◌, ◌-◌, ◌<◌, Bool, true, false, List, [], ◌∷◌, ◌++◌, length, refl, sym, ap, subst, ◌∙◌, append_assoc, length-append, arith}
+use Rattle.std.specs.Prelude.{take, drop, Option, None, Some, option_map}
+use Rattle.std.proofs.Math.Seq.{take-length, take-append_seam, drop-append_seam}
 use Rattle.std.proofs.lemmas.Bool.{leb-true}
-use Rattle.std.proofs.lemmas.List.{append-nil, length-take}
+use Rattle.std.proofs.lemmas.List.{append-nil, drop_all, length-take}
+use Rattle.report_rules.specs.Rules as rules
+use Rattle.gate_events.specs.declared.emit.Detail.TheVariants as detail
 use Rattle.gate_events.specs.Event as lines
 use Rattle.gate_events.specs.declared.event.Event.{Event}
 use Rattle.gate_events.specs.declared.event.Event.TheVariants as event
 use Rattle.gate_events.specs.Emit.{Emit}
+use Rattle.history.specs.Emits.{at, broken}
 use Rattle.history.specs.Entries.{Entry, History, IsHistory, IsOffered, IsTimely, is_accepted, moment_of, now}
-use Rattle.history.specs.Gate.{out, opening_emits}
-use Rattle.history.specs.Settings.{Settings}
+use Rattle.history.specs.Gate.{Stepped, command_in, out, opening_emits}
+use Rattle.history.specs.Messages.{done}
+use Rattle.history.specs.Settings.{Settings, receiver_of}
 use Rattle.gate_model.specs.Machine.{Machine}
 use Rattle.gate_model.specs.Stands.{Stands}
 use Rattle.gate_outbox.specs.declared.done.Command.{Command}
-use Rattle.gate_outbox.specs.Output.{Output, emits_of}
-use Rattle.gate_core.specs.Promises.{IsTaken, IsTooEarly, IsStep, IsCommandStep, entry_by}
+use Rattle.gate_outbox.specs.Output.{Emitted, Output, emits_of, no_emits}
+use Rattle.gate_core.specs.Promises.{IsTaken, entry_by}
 use Rattle.gate_core.specs.Steps.{by_keys, entry_of, only_told, IsEventValid}
-use Rattle.parts.specs.PartSteps.{IsStepped, Takes}
+use Rattle.parts.specs.PartSteps.{IsGiven}
 use Rattle.plain_out.specs.Plain.{plain_out}
 use Rattle.plain_out.proofs.Emits.{behind_none}
-use Rattle.bridge.specs.Beside.{AreCleared, BesideKept, are_beside, beside_give, beside_output, beside_plain, rules_of}
+use Rattle.bridge.specs.Beside.{BesideKept, are_beside, beside_give, beside_output, beside_plain, rules_of}
 use Rattle.bridge.specs.Commands.{beside_keep_commands}
-use Rattle.bridge.specs.BridgeStands.{BridgeStands, IsBesideStep, IsBridged, IsBridgeStep, IsCommanded, IsObeyed, IsRefused, IsSaidAgain, IsStart, IsUnposted}
+use Rattle.bridge.specs.BridgeStands.{AreTold, BridgeStands, IsBesideStep, IsBridged, IsForgotten, IsGatewayStep, IsOrder, IsStart, IsUnposted}
 use Rattle.bridge.specs.Answered.{answers}
-use Rattle.bridge.specs.Gate.{NothingFurther, changes_of, plain_of, quantities_of, rmc_of, ships_of, tagged_out}
+use Rattle.bridge.specs.Gate.{NothingFurther, all_out, changes_of, plain_of, quantities_of, rmc_of, ships_of, stepped, tagged_out, with_command}
 use Rattle.further_bridge.specs.FurtherRule.{FurtherRule}
 use Rattle.bridge.specs.declared.call_output.CallOutput.{CallOutput}
-use Rattle.bridge.specs.Kept.{Bridged, output_by, no_output, plain_output}
+use Rattle.bridge.specs.Kept.{Bridged, IsAlone, beside_out, given_count, ordered_output, output_at, output_of, own_output, plain_output}
 use Rattle.bridge.specs.BridgeSettings.{BridgeSettings}
+use Rattle.bridge.proofs.Ordered.{unposted}
 
 -- ---- an event may follow
 
@@ -44,174 +50,226 @@ in_time (event.Tick moment) h accepted = leb-true (now h) moment accepted
 pub goes_on : (e : Event) (h : History) → IsEventValid e → IsHistory h → is_accepted h (entry_of e) ≡ true → IsHistory (entry_of e ∷ h)
 goes_on e h valid could accepted = (offered e valid, in_time e h accepted, could)
 
--- ---- the gateway was called, and left this
+-- ---- what is given, and where it stands
 
-abbrev pub bridge_of : Bool → Machine → BesideKept → Option (List ℕ) → Bool → CallOutput → Bridged
-bridge_of started g parts plain records output = record {
-  started = started;
-  gateway = g;
-  parts = parts;
-  plain = plain;
-  records = records;
-  output = output;
-}
+-- all is the event's own where no command gave anything
+all_given : (x : CallOutput) → x.ordered ≡ 0 → given_count x ≡ length (emits_of x.outbox.emits)
+all_given x none = omega (arith, none)
 
-abbrev pub with_gateway : Bool → Machine → Output → BesideKept → Bridged → Bridged
-with_gateway started g o parts b = bridge_of started g parts b.plain b.records (output_by o)
+pub own_all : (x : CallOutput) → x.ordered ≡ 0 → own_output x ≡ emits_of x.outbox.emits
+own_all x none = ap (λ (n : ℕ). take n (emits_of x.outbox.emits)) (all_given x none) ∙ take-length (emits_of x.outbox.emits)
 
--- what is left is forgotten before
-pub output_after : (forgotten : CallOutput) (o : Output) → forgotten ≡ no_output → record forgotten { outbox = o } ≡ output_by o
-output_after forgotten o is = ap (λ (l : CallOutput). let left : CallOutput = record l { outbox = o } in left) is
+pub ordered_none : (x : CallOutput) → x.ordered ≡ 0 → ordered_output x ≡ []
+ordered_none x none =
+    ap (λ (n : ℕ). drop n (emits_of x.outbox.emits)) (all_given x none) ∙ drop_all (length (emits_of x.outbox.emits)) (emits_of x.outbox.emits) (omega arith)
 
--- nothing is left beside it
-alone_output : (es beside plain : List Emit) → beside ≡ [] → plain ≡ [] → es ++ (beside ++ plain) ≡ es
-alone_output es beside plain none unsaid = ap (λ (x : List Emit). es ++ (x ++ plain)) none ∙ ap (λ (x : List Emit). es ++ x) unsaid ∙ append-nil es
-
--- ---- no command is left where none would be an entry
-
-none_mapped : {X Y : Type 0} (f : X → Y) (o : Option X) → option_map f o ≡ None → o ≡ None
-none_mapped f None is = refl
-none_mapped f (Some x) is = cc
+-- nothing stands beside it
+pub alone_output : (b : Bridged) → b.output.ordered ≡ 0 → beside_output b.parts ≡ [] → plain_output b.output b.parts ≡ []
+    → output_of b ≡ emits_of b.output.outbox.emits
+alone_output b none silent unsaid =
+    ap (λ (x : List Emit). x ++ beside_out b) (own_all b.output none)
+    ∙ ap (λ (x : List Emit). emits_of b.output.outbox.emits ++ (x ++ (plain_output b.output b.parts ++ ordered_output b.output))) silent
+    ∙ ap (λ (x : List Emit). emits_of b.output.outbox.emits ++ (x ++ ordered_output b.output)) unsaid
+    ∙ ap (λ (x : List Emit). emits_of b.output.outbox.emits ++ x) (ordered_none b.output none)
+    ∙ append-nil (emits_of b.output.outbox.emits)
 
 -- ---- the start
 
-pub is_start : (s : ℕ) (before : Bridged) (g : Machine) (o : Output) (parts : BesideKept) → Stands by_keys g.settings s [] g
-    → g.settings ≡ before.gateway.settings → o ≡ only_told (opening_emits before.gateway.settings) → AreCleared before.parts parts
-    → IsStart s before (with_gateway true g o parts before)
-is_start s before g o parts stands settings is cleared p new =
-    let here : before.gateway.settings ≡ p.gateway = ap (λ (x : Machine). x.settings) new.gateway in
+pub is_start : (s : ℕ) (before between after : Bridged) → IsForgotten before between → Stands by_keys after.gateway.settings s [] after.gateway
+    → after.gateway.settings ≡ between.gateway.settings → after.output.outbox ≡ only_told (opening_emits between.gateway.settings)
+    → after ≡ record between { started = true; start = s; gateway = after.gateway; output = record between.output { outbox = after.output.outbox } }
+    → IsStart s before after
+is_start s before between after forgot stands settings left is p new =
+    let here : between.gateway.settings ≡ p.gateway = ap (λ (x : Machine). x.settings) (forgot.gateway ∙ new.gateway) in
+    let parts : after.parts ≡ between.parts = ap (λ (b : Bridged). b.parts) is in
+    let plain : after.output.plain ≡ no_emits = ap (λ (b : Bridged). b.output.plain) is ∙ ap (λ (x : CallOutput). x.plain) forgot.output in
     record {
       stands = record {
         settings = new.settings;
-        started = refl;
-        gateway = subst (λ (z : Settings). Stands by_keys z s [] g) (settings ∙ here) stands;
-        parts = cleared.kept (rules_of p) p.gateway s [] (new.parts.stood s);
-        plain = new.plain;
-        records = new.records;
+        started = ap (λ (b : Bridged). b.started) is;
+        start = ap (λ (b : Bridged). b.start) is;
+        gateway = subst (λ (z : Settings). Stands by_keys z s [] after.gateway) (settings ∙ here) stands;
+        parts = subst (are_beside (rules_of p) p.gateway s []) (sym parts) (forgot.kept (rules_of p) p.gateway s [] (new.parts.stood s));
+        plain = ap (λ (b : Bridged). b.plain) is ∙ forgot.plain ∙ new.plain;
+        records = ap (λ (b : Bridged). b.records) is ∙ forgot.records ∙ new.records;
       };
-      emits = alone_output (emits_of o.emits) (beside_output parts) (beside_plain parts) cleared.emits cleared.said
-          ∙ ap (λ (x : Output). emits_of x.emits) is ∙ ap opening_emits here;
-      unordered = ap (λ (x : Output). x.command) is;
+      emits = alone_output after (ap (λ (b : Bridged). b.output.ordered) is ∙ ap (λ (x : CallOutput). x.ordered) forgot.output)
+          (ap beside_output parts ∙ forgot.emits)
+          (ap (λ (x : Emitted). emits_of x ++ beside_plain after.parts) plain ∙ ap beside_plain parts ∙ forgot.said)
+          ∙ ap (λ (x : Output). emits_of x.emits) left ∙ ap opening_emits here;
     }
 
--- ---- one more entry
+-- ---- one more event
 
-module _ (p : BridgeSettings) (s : ℕ) (h : History) (before : Bridged) (stands : BridgeStands p s h before) where
-  pub bridged : (e : Entry) (g : Machine) (o : Output) (after : Bridged) → IsHistory (e ∷ h) → IsTaken p.gateway s h e g o
-      → IsBesideStep e (with_gateway before.started g o before.parts before) after → IsBridged p s h e after
-  bridged e g o after could taken step =
-      let stepped : IsStepped p.gateway s h e g o = record { settings = stands.settings; could = could; taken = taken } in
-      let parts = step.parts (rules_of p) p.gateway s h stepped stands.parts in
-      let own = out p.gateway s h e in
-      let given = beside_give (rules_of p) p.gateway s h e in
-      let left = beside_output after.parts in
-      let plain = plain_output after.output after.parts in
-      record {
+module _ (p : BridgeSettings) (s : ℕ) (h : History) (before forgotten stepped_on : Bridged) (e : Entry) (could : IsHistory h)
+    (stands : BridgeStands p s h before) (forgot : IsForgotten before forgotten) (went : IsGatewayStep e forgotten stepped_on) where
+  -- the gateway that takes it stands for what came before
+  here : Stands by_keys forgotten.gateway.settings s h forgotten.gateway
+  here =
+      let same : forgotten.gateway.settings ≡ p.gateway = ap (λ (g : Machine). g.settings) forgot.gateway ∙ stands.gateway.settings in
+      subst (λ (g : Machine). Stands by_keys g.settings s h g) (sym forgot.gateway)
+      (subst (λ (z : Settings). Stands by_keys z s h before.gateway) (sym stands.gateway.settings) stands.gateway)
+
+  settings : forgotten.gateway.settings ≡ p.gateway
+  settings = ap (λ (g : Machine). g.settings) forgot.gateway ∙ stands.gateway.settings
+
+  parts_on : stepped_on.parts ≡ forgotten.parts
+  parts_on = ap (λ (b : Bridged). b.parts) went.rest
+
+  stood : are_beside (rules_of p) p.gateway s h stepped_on.parts
+  stood = subst (are_beside (rules_of p) p.gateway s h) (sym parts_on) (forgot.kept (rules_of p) p.gateway s h stands.parts)
+
+  started_on : stepped_on.started ≡ true
+  started_on = ap (λ (b : Bridged). b.started) went.rest ∙ forgot.started ∙ stands.started
+
+  start_on : stepped_on.start ≡ s
+  start_on = ap (λ (b : Bridged). b.start) went.rest ∙ forgot.start ∙ stands.start
+
+  plain_on : stepped_on.plain ≡ p.plain
+  plain_on = ap (λ (b : Bridged). b.plain) went.rest ∙ forgot.plain ∙ stands.plain
+
+  records_on : stepped_on.records ≡ p.records
+  records_on = ap (λ (b : Bridged). b.records) went.rest ∙ forgot.records ∙ stands.records
+
+  -- it is too early: the gateway says so, and nothing else is left
+  pub refused : is_accepted h e ≡ false → IsBridged p s (stepped p s h e) stepped_on
+  refused refuses =
+      let early = (went.step s h could here).1 refuses in
+      let told = broken rules.moment_back detail.Nothing ∷ [] in
+      let due : Stepped p.gateway s = record { emits = at (now h) told; after = h } in
+      let so : stepped p s h e ≡ due = rw refuses refl in
+      let same : stepped_on.gateway ≡ before.gateway = early.unchanged ∙ forgot.gateway in
+      let gave : output_of stepped_on ≡ told =
+      alone_output stepped_on (ap (λ (b : Bridged). b.output.ordered) went.rest ∙ ap (λ (x : CallOutput). x.ordered) forgot.output)
+      (ap beside_output parts_on ∙ forgot.emits)
+      (ap (λ (x : Emitted). emits_of x ++ beside_plain stepped_on.parts) (ap (λ (b : Bridged). b.output.plain) went.rest ∙ ap (λ (x : CallOutput). x.plain) forgot.output)
+      ∙ ap beside_plain parts_on ∙ forgot.said)
+      ∙ ap (λ (x : Output). emits_of x.emits) early.reported in
+      subst (λ (x : Stepped p.gateway s). IsBridged p s x stepped_on) (sym so) (record {
         could = could;
         stands = record {
           settings = stands.settings;
-          started = step.started ∙ stands.started;
-          gateway = subst (λ (z : Machine). Stands by_keys p.gateway s (e ∷ h) z) (sym step.gateway) taken.stands;
-          parts = parts.stood;
-          plain = step.group ∙ stands.plain;
-          records = step.records ∙ stands.records;
+          started = started_on;
+          start = start_on;
+          gateway = subst (λ (g : Machine). Stands by_keys p.gateway s h g) (sym same) stands.gateway;
+          parts = stood;
+          plain = plain_on;
+          records = records_on;
         };
-        emits =
-            ap (λ (es : List Emit). es ++ (left ++ plain)) (ap (λ (x : Output). emits_of x.emits) step.outbox ∙ taken.emits)
-            ∙ ap (λ (es : List Emit). own ++ (es ++ plain)) parts.emits
-            ∙ ap (λ (es : List Emit). own ++ (given ++ es))
-            (step.plain ∙ ap (λ (group : Option (List ℕ)). plain_of group (emits_of o.emits ++ left)) stands.plain
-            ∙ ap (λ (es : List Emit). plain_of p.plain (es ++ left)) taken.emits
-            ∙ ap (λ (es : List Emit). plain_of p.plain (own ++ es)) parts.emits)
-            ∙ sym (append_assoc own given (plain_of p.plain (own ++ given)));
-        ordered = ap (λ (x : Output). option_map (entry_by (moment_of e)) x.command) step.outbox ∙ taken.ordered;
-      }
+        emits = ap (λ (g : Machine). output_at g.moment stepped_on) same ∙ ap (λ (m : ℕ). output_at m stepped_on) stands.gateway.moment
+            ∙ ap (at (now h)) gave;
+      })
 
-  pub refused : (g : Machine) (o : Output) (parts : BesideKept) → IsTooEarly before.gateway g o → AreCleared before.parts parts
-      → IsRefused p s h (with_gateway before.started g o parts before)
-  refused g o parts early cleared = record {
-    stands = record {
+  -- it is taken: then the parts take it, and the gateway the command that it gives
+  module _ (accepts : is_accepted h e ≡ true) (could_on : IsHistory (e ∷ h)) (told : Bridged) (beside : IsBesideStep e stepped_on told) where
+    taken : IsTaken p.gateway s h e stepped_on.gateway stepped_on.output.outbox
+    taken = subst (λ (z : Settings). IsTaken z s h e stepped_on.gateway stepped_on.output.outbox) settings ((went.step s h could here).0 accepts)
+
+    given : IsGiven are_beside beside_give beside_output (rules_of p) p.gateway s h e told.parts
+    given = beside.parts (rules_of p) p.gateway s h stands.settings start_on could_on taken stood
+
+    own_is : emits_of told.output.outbox.emits ≡ out p.gateway s h e
+    own_is = ap (λ (x : Output). emits_of x.emits) beside.outbox ∙ taken.emits
+
+    plain_is : plain_output told.output told.parts ≡ plain_of p.plain (tagged_out p s h e)
+    plain_is =
+        beside.plain ∙ ap (λ (group : Option (List ℕ)). plain_of group (emits_of stepped_on.output.outbox.emits ++ beside_output told.parts)) plain_on
+        ∙ ap (λ (es : List Emit). plain_of p.plain (es ++ beside_output told.parts)) taken.emits
+        ∙ ap (λ (es : List Emit). plain_of p.plain (out p.gateway s h e ++ es)) given.emits
+
+    -- all that the event gave, as it stands in front of what the command gives
+    all_is : (more : List Emit)
+        → out p.gateway s h e ++ (beside_output told.parts ++ (plain_output told.output told.parts ++ more)) ≡ all_out p s h e ++ more
+    all_is more =
+        let own = out p.gateway s h e in
+        let gave = beside_give (rules_of p) p.gateway s h e in
+        let plain = plain_of p.plain (own ++ gave) in
+        ap (λ (es : List Emit). own ++ (es ++ (plain_output told.output told.parts ++ more))) given.emits
+        ∙ ap (λ (es : List Emit). own ++ (gave ++ (es ++ more))) plain_is
+        ∙ sym (append_assoc own gave (plain ++ more)) ∙ sym (append_assoc (own ++ gave) plain more)
+
+    stands_told : BridgeStands p s (e ∷ h) told
+    stands_told = record {
       settings = stands.settings;
-      started = stands.started;
-      gateway = subst (λ (z : Machine). Stands by_keys p.gateway s h z) (sym early.unchanged) stands.gateway;
-      parts = cleared.kept (rules_of p) p.gateway s h stands.parts;
-      plain = stands.plain;
-      records = stands.records;
-    };
-    emits = alone_output (emits_of o.emits) (beside_output parts) (beside_plain parts) cleared.emits cleared.said ∙ ap (λ (x : Output). emits_of x.emits) early.reported;
-    unordered = ap (λ (x : Output). x.command) early.reported;
-  }
+      started = beside.started ∙ started_on;
+      start = beside.start ∙ start_on;
+      gateway = subst (λ (g : Machine). Stands by_keys p.gateway s (e ∷ h) g) (sym beside.gateway) taken.stands;
+      parts = given.stood;
+      plain = beside.group ∙ plain_on;
+      records = beside.records ∙ records_on;
+    }
 
-  pub obeyed : (c : Command) (g : Machine) (o : Output) (parts : BesideKept) → IsHistory (entry_by (now h) c ∷ h)
-      → IsTaken p.gateway s h (entry_by (now h) c) g o → AreCleared before.parts parts
-      → IsObeyed p s h (entry_by (now h) c) (with_gateway before.started g o parts before)
-  obeyed c g o parts could taken cleared = record {
-    could = could;
-    stands = record {
-      settings = stands.settings;
-      started = stands.started;
-      gateway = taken.stands;
-      parts = beside_keep_commands (rules_of p) p.gateway s h c.source c.address parts stands.settings
-          (cleared.kept (rules_of p) p.gateway s h stands.parts);
-      plain = stands.plain;
-      records = stands.records;
-    };
-    emits = alone_output (emits_of o.emits) (beside_output parts) (beside_plain parts) cleared.emits cleared.said ∙ taken.emits;
-    unordered = none_mapped (entry_by (now h)) o.command taken.ordered;
-  }
+    by_order : (o : Option Command) (after : Bridged) → told.output.outbox.command ≡ o → IsOrder o told after
+        → IsBridged p s (with_command p s h e (option_map (entry_by (moment_of e)) o)) after
+    by_order None after left same = record {
+      could = could_on;
+      stands = subst (λ (b : Bridged). BridgeStands p s (e ∷ h) b) (sym same) stands_told;
+      emits = ap (λ (b : Bridged). output_at b.gateway.moment b) same ∙ ap (λ (m : ℕ). output_at m told) stands_told.gateway.moment
+          ∙ ap (at (moment_of e))
+          (ap (λ (es : List Emit). es ++ beside_out told) (own_all told.output beside.ordered ∙ own_is)
+          ∙ ap (λ (es : List Emit). out p.gateway s h e ++ (beside_output told.parts ++ (plain_output told.output told.parts ++ es)))
+          (ordered_none told.output beside.ordered)
+          ∙ all_is [] ∙ append-nil (all_out p s h e));
+    }
+    by_order (Some o) after left obeyed =
+        let taken_here : IsTaken told.gateway.settings s h e told.gateway told.output.outbox =
+        subst (λ (z : Settings). IsTaken z s h e told.gateway told.output.outbox) (sym stands_told.gateway.settings)
+        (subst (λ (g : Machine). IsTaken p.gateway s h e g told.output.outbox) (sym beside.gateway)
+        (subst (λ (x : Output). IsTaken p.gateway s h e stepped_on.gateway x) (sym beside.outbox) taken)) in
+        let is = obeyed.step s h e could_on taken_here in
+        let next = entry_by (moment_of e) o in
+        let was = told.output.outbox in
+        let now_left = after.output.outbox in
+        let silent : was.emits.posted ≡ [] = unposted told.gateway.settings s h e told.gateway was taken_here o left in
+        let more = out p.gateway s (e ∷ h) next in
+        let more_is : out told.gateway.settings s (e ∷ h) next ≡ more = ap (λ (z : Settings). out z s (e ∷ h) next) stands_told.gateway.settings in
+        let all_told : emits_of now_left.emits ≡ emits_of was.emits ++ more =
+        ap (λ (es : List Emit). es ++ now_left.emits.posted) is.told
+        ∙ ap (λ (es : List Emit). (was.emits.told ++ out told.gateway.settings s (e ∷ h) next) ++ es) (is.posted ∙ silent)
+        ∙ append-nil (was.emits.told ++ out told.gateway.settings s (e ∷ h) next)
+        ∙ ap (λ (es : List Emit). was.emits.told ++ es) more_is
+        ∙ ap (λ (es : List Emit). es ++ more) (sym (ap (λ (es : List Emit). was.emits.told ++ es) silent ∙ append-nil was.emits.told)) in
+        let lengths = length-append (emits_of was.emits) more in
+        let total : length (emits_of now_left.emits) ≡ length (emits_of was.emits) + length more = ap length all_told ∙ lengths in
+        let count : given_count after.output ≡ length (emits_of was.emits) = omega (arith, obeyed.ordered, total) in
+        let own_now : own_output after.output ≡ out p.gateway s h e =
+        ap (λ (n : ℕ). take n (emits_of now_left.emits)) count ∙ ap (take (length (emits_of was.emits))) all_told
+        ∙ take-append_seam (emits_of was.emits) more ∙ own_is in
+        let ordered_now : ordered_output after.output ≡ more =
+        ap (λ (n : ℕ). drop n (emits_of now_left.emits)) count ∙ ap (drop (length (emits_of was.emits))) all_told
+        ∙ drop-append_seam (emits_of was.emits) more in
+        let parts : after.parts ≡ told.parts = ap (λ (b : Bridged). b.parts) obeyed.rest in
+        let plain : plain_output after.output after.parts ≡ plain_output told.output told.parts =
+        ap (λ (b : Bridged). plain_output b.output b.parts) obeyed.rest in
+        record {
+          could = (obeyed.from, refl, could_on);
+          stands = record {
+            settings = stands.settings;
+            started = ap (λ (b : Bridged). b.started) obeyed.rest ∙ stands_told.started;
+            start = ap (λ (b : Bridged). b.start) obeyed.rest ∙ stands_told.start;
+            gateway = subst (λ (z : Settings). Stands by_keys z s (next ∷ e ∷ h) after.gateway) stands_told.gateway.settings is.stands;
+            parts = subst (are_beside (rules_of p) p.gateway s (next ∷ e ∷ h)) (sym parts)
+                (beside_keep_commands (rules_of p) p.gateway s (e ∷ h) o.source o.address told.parts stands.settings given.stood);
+            plain = ap (λ (b : Bridged). b.plain) obeyed.rest ∙ stands_told.plain;
+            records = ap (λ (b : Bridged). b.records) obeyed.rest ∙ stands_told.records;
+          };
+          emits = ap (λ (m : ℕ). output_at m after) is.stands.moment
+              ∙ ap (at (moment_of e))
+              (ap (λ (es : List Emit). es ++ beside_out after) own_now
+              ∙ ap (λ (k : BesideKept). out p.gateway s h e ++ (beside_output k ++ (plain_output after.output after.parts ++ ordered_output after.output))) parts
+              ∙ ap (λ (es : List Emit). out p.gateway s h e ++ (beside_output told.parts ++ (es ++ ordered_output after.output))) plain
+              ∙ ap (λ (es : List Emit). out p.gateway s h e ++ (beside_output told.parts ++ (plain_output told.output told.parts ++ es))) ordered_now
+              ∙ all_is more);
+        }
 
-pub accepted_step : (e : Event) (before : Bridged) (g : Machine) (o : Output) (after : Bridged) → IsEventValid e → IsStep (entry_of e) before.gateway g o
-    → nat_le before.gateway.moment (moment_of (entry_of e)) ≡ true
-    → IsBesideStep (entry_of e) (with_gateway before.started g o before.parts before) after → IsBridgeStep (entry_of e) before after
-accepted_step e before g o after valid step accepted beside p s h could stands = (taken, declines)
-  where
-    next : Entry
-    next = entry_of e
-
-    settings : before.gateway.settings ≡ p.gateway
-    settings = stands.gateway.settings
-
-    here : Stands by_keys before.gateway.settings s h before.gateway
-    here = subst (λ (z : Settings). Stands by_keys z s h before.gateway) (sym settings) stands.gateway
-
-    is : is_accepted h next ≡ true
-    is = subst (λ (m : ℕ). nat_le m (moment_of next) ≡ true) stands.gateway.moment accepted
-
-    taken : is_accepted h next ≡ true → IsBridged p s h next after
-    taken accepts =
-        bridged p s h before stands next g o after (goes_on e h valid could accepts)
-        (subst (λ (z : Settings). IsTaken z s h next g o) settings ((step s h could here).0 accepts)) beside
-
-    declines : is_accepted h next ≡ false → IsRefused p s h after
-    declines refuses = let never : true ≡ false = sym is ∙ refuses in absurd cc
-
-pub refused_step : (e : Event) (before : Bridged) (g : Machine) (o : Output) (parts : BesideKept) → IsStep (entry_of e) before.gateway g o
-    → nat_le before.gateway.moment (moment_of (entry_of e)) ≡ false → AreCleared before.parts parts
-    → IsBridgeStep (entry_of e) before (with_gateway before.started g o parts before)
-refused_step e before g o parts step early cleared p s h could stands = (takes, declines)
-  where
-    next : Entry
-    next = entry_of e
-
-    here : Stands by_keys before.gateway.settings s h before.gateway
-    here = subst (λ (z : Settings). Stands by_keys z s h before.gateway) (sym stands.gateway.settings) stands.gateway
-
-    is : is_accepted h next ≡ false
-    is = subst (λ (m : ℕ). nat_le m (moment_of next) ≡ false) stands.gateway.moment early
-
-    takes : is_accepted h next ≡ true → IsBridged p s h next (with_gateway before.started g o parts before)
-    takes accepts = let never : true ≡ false = sym accepts ∙ is in absurd cc
-
-    declines : is_accepted h next ≡ false → IsRefused p s h (with_gateway before.started g o parts before)
-    declines refuses = refused p s h before stands g o parts ((step s h could here).1 refuses) cleared
-
-pub commanded : (c : Command) (before : Bridged) (g : Machine) (o : Output) (parts : BesideKept) → c.source < 256
-    → IsCommandStep c.source c.address before.gateway g o → AreCleared before.parts parts → IsCommanded c before (with_gateway before.started g o parts before)
-commanded c before g o parts from step cleared p s h could stands =
-    let here : Stands by_keys before.gateway.settings s h before.gateway =
-    subst (λ (z : Settings). Stands by_keys z s h before.gateway) (sym stands.gateway.settings) stands.gateway in
-    obeyed p s h before stands c g o parts (from, refl, could)
-    (subst (λ (z : Settings). IsTaken z s h (entry_by (now h) c) g o) stands.gateway.settings (step s h could here)) cleared
+    pub accepted : (after : Bridged) → IsOrder told.output.outbox.command told after → IsBridged p s (stepped p s h e) after
+    accepted after order =
+        let c = command_in p.gateway s (done (receiver_of p.gateway) s h e) (moment_of e) in
+        let so : stepped p s h e ≡ with_command p s h e c = rw accepts refl in
+        let ordered : option_map (entry_by (moment_of e)) told.output.outbox.command ≡ c =
+        ap (λ (x : Output). option_map (entry_by (moment_of e)) x.command) beside.outbox ∙ taken.ordered in
+        subst (λ (x : Stepped p.gateway s). IsBridged p s x after) (ap (with_command p s h e) ordered ∙ sym so)
+        (by_order told.output.outbox.command after refl order)
 
 pub event_valid : (e : Event) → lines.IsValid e → IsEventValid e
 event_valid (event.Frame moment frame) valid = valid
@@ -234,53 +292,25 @@ nothing_further p s h e unsaid untold unplain =
 
 -- ---- the parts have taken an entry, and its datagrams are said once more where that is asked for
 
-module _ (e : Entry) (before : Bridged) (g : Machine) (o : Output) (parts : BesideKept)
-    (takes : Takes are_beside beside_give beside_output g o e before.parts parts) (stays : beside_plain parts ≡ beside_plain before.parts) where
-  pub none_said : before.plain ≡ None → plain_output before.output before.parts ≡ []
-      → IsBesideStep e (with_gateway before.started g o before.parts before)
-      (bridge_of before.started g parts before.plain before.records (record { outbox = o; plain = before.output.plain }))
-  none_said none unsaid = record {
-    started = refl;
-    gateway = refl;
-    outbox = refl;
-    parts = takes;
-    group = refl;
-    records = refl;
-    plain = ap (λ (es : List Emit). emits_of before.output.plain ++ es) stays ∙ unsaid
-        ∙ sym (ap (λ (x : Option (List ℕ)). plain_of x (emits_of o.emits ++ beside_output parts)) none);
-  }
+-- nothing is said
+pub is_beside_step : (e : Entry) (before : Bridged) (parts : BesideKept) → AreTold e before parts → IsAlone before.output before.parts → beside_plain parts ≡ []
+    → plain_of before.plain (emits_of before.output.outbox.emits ++ beside_output parts) ≡ [] → IsBesideStep e before (record before { parts = parts })
+is_beside_step e before parts told alone unsaid none = record {
+  started = refl;
+  start = refl;
+  gateway = refl;
+  outbox = refl;
+  ordered = alone.ordered;
+  parts = told;
+  group = refl;
+  records = refl;
+  plain = ap (λ (x : Emitted). emits_of x ++ beside_plain parts) alone.plain ∙ unsaid ∙ sym none;
+}
 
-  -- nothing was said before, and there is no datagram
-  pub nothing_said : (group : List ℕ) → before.plain ≡ Some group → plain_output before.output before.parts ≡ [] → beside_output parts ≡ []
-      → IsUnposted o
-      → IsBesideStep e (with_gateway before.started g o before.parts before)
-      (bridge_of before.started g parts before.plain before.records (record { outbox = o; plain = before.output.plain }))
-  nothing_said group is unsaid none unposted = record {
-    started = refl;
-    gateway = refl;
-    outbox = refl;
-    parts = takes;
-    group = refl;
-    records = refl;
-    plain = ap (λ (es : List Emit). emits_of before.output.plain ++ es) stays ∙ unsaid
-        ∙ sym (ap (λ (x : Option (List ℕ)). plain_of x (emits_of o.emits ++ beside_output parts)) is
-        ∙ ap (λ (es : List Emit). plain_out group (emits_of o.emits ++ es)) none
-        ∙ ap (plain_out group) (append-nil (emits_of o.emits))
-        ∙ behind_none group o.emits.told o.emits.posted unposted.told
-        ∙ ap (plain_out group) unposted.posted);
-  }
-
-  pub all_said : (group : List ℕ) (was output : CallOutput) (after : BesideKept) → before.plain ≡ Some group → was.outbox ≡ o
-      → IsSaidAgain group was parts output after
-      → IsBesideStep e (with_gateway before.started g o before.parts before) (bridge_of before.started g after before.plain before.records output)
-  all_said group was output after is same said = record {
-    started = refl;
-    gateway = refl;
-    outbox = said.outbox ∙ same;
-    parts = λ r c s h step stands. let t = takes r c s h step stands in record { stood = said.kept r c s (e ∷ h) t.stood; emits = said.beside ∙ t.emits };
-    group = refl;
-    records = refl;
-    plain = said.plain ∙ ap (λ (x : Output). plain_out group (emits_of x.emits ++ beside_output parts)) same
-        ∙ ap (λ (es : List Emit). plain_out group (emits_of o.emits ++ es)) (sym said.beside)
-        ∙ sym (ap (λ (x : Option (List ℕ)). plain_of x (emits_of o.emits ++ beside_output after)) is);
-  }
+-- nothing was said before, and there is no datagram
+pub nothing_said : (group : List ℕ) (o : Output) (es : List Emit) → es ≡ [] → IsUnposted o → plain_out group (emits_of o.emits ++ es) ≡ []
+nothing_said group o es none unposted =
+    ap (λ (x : List Emit). plain_out group (emits_of o.emits ++ x)) none
+    ∙ ap (plain_out group) (append-nil (emits_of o.emits))
+    ∙ behind_none group o.emits.told o.emits.posted unposted.told
+    ∙ ap (plain_out group) unposted.posted

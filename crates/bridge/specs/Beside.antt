@@ -15,9 +15,7 @@ use Rattle.further_bridge.specs.FurtherOut.{further_out}
 use Rattle.further_bridge.specs.FurtherRule.{FurtherRule}
 use Rattle.further_bridge.specs.Promises.{StandsFurther}
 use Rattle.parts.specs.Compose.{both_give, both_output, both_stand, maybe_give, maybe_output, maybe_stand}
-use Rattle.parts.specs.PartSteps.{Keeps}
-use Rattle.parts.specs.Lanes.{lane_output, lane_plain, lane_stands}
-use Rattle.parts.specs.declared.lane.Lane.{Lane}
+use Rattle.parts.specs.Lanes.{LaneKept, lane_output, lane_plain, lane_stands}
 use Rattle.bridge.specs.Answered.{answers, sent_before}
 use Rattle.bridge.specs.BridgeSettings.{BridgeSettings}
 use Rattle.bridge.specs.SourceOut.{source_out}
@@ -90,8 +88,8 @@ sources_give r c s h e = source_out c s h e
 
 abbrev pub BesideKept : Type 0
 BesideKept =
-    Lane Answering most_answered
-    × (Option (Lane Joining 0) × (Option (Lane Ships most_of_ships) × (Option (Lane Quantities most_of_quantities) × Option (Lane (List (Option Name)) 1))))
+    LaneKept Answering most_answered
+    × (Option (LaneKept Joining 0) × (Option (LaneKept Ships most_of_ships) × (Option (LaneKept Quantities most_of_quantities) × Option (LaneKept (List (Option Name)) 1))))
 
 abbrev pub Rules : Type 0
 Rules = List ℕ × (Option RmcRule × (Option AisConfig × (Option FurtherRule × Option (Unit {0}))))
@@ -126,10 +124,3 @@ pub record AreNew (p : BridgeSettings) (k : BesideKept) : Type 0 where
   pub stood : IsOpened are_beside (rules_of p) p.gateway k
   pub emits : beside_output k ≡ []
   pub said : beside_plain k ≡ []
-
--- ---- what the parts gave is forgotten
-
-pub record AreCleared (before after : BesideKept) : Type 0 where
-  pub kept : Keeps are_beside before after
-  pub emits : beside_output after ≡ []
-  pub said : beside_plain after ≡ []

@@ -13,13 +13,13 @@ ghost use Rattle.bridge.specs.Beside.{answering_gives, answering_stands, most_an
 ghost use Rattle.bridge.specs.Commands.{answering_keeps_commands};
 
 use bus_identity::{Answered, Frames, Identity, Product};
-use gate_core::{Gateway, Outbox};
+use gate_core::Gateway;
 use gate_events::Event;
 use gate_outbox::Emits;
 use gate_outbox::reports::of_source;
 use n2k_id::pgn::REQUEST;
 use n2k_id::{Frame, parts};
-use parts::Part;
+use parts::{Part, Step};
 use report_rules::NOT_READY;
 
 /// The most frames of an answer.
@@ -80,15 +80,14 @@ impl Part<MOST_ANSWERED> for Answering {
 
     ghost gives = { answering_gives };
 
-    fn after(
-        &mut self,
-        gateway: &Gateway,
-        _output: &Outbox,
-        event: &Event<'_>,
-        emits: &mut Emits<MOST_ANSWERED>,
-    ) {
-        if let Event::Frame { frame, .. } = event {
-            self.answer_frame(gateway, frame, emits);
+    #[tactic(auto, using(parts::proofs::Empty::none_emitted, std::proofs::lemmas::List::nil_from_length))]
+    fn after(&mut self, step: &Step<'_>, emits: &mut Emits<MOST_ANSWERED>) -> bool {
+        match step.event {
+            Event::Frame { frame, .. } => {
+                self.answer_frame(step.gateway, frame, emits);
+                emits.len() != 0
+            }
+            _ => false,
         }
     }
 

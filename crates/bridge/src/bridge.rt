@@ -1,20 +1,21 @@
 //! The gateway with the parts beside it.
-ghost use Rattle.std.specs.Prelude.{◌≡◌, ◌≤◌, true, false, length, option_map, slice_get, is_some, nat_le, IfOk, IfSome};
+ghost use Rattle.std.specs.Prelude.{◌≡◌, ◌≤◌, ◌+◌, ◌++◌, [], true, false, length, option_map, slice_get, nat_le, IfOk, IfSome};
 ghost use Rattle.gate_events.specs.Emit.{CanWrite};
-ghost use Rattle.gate_outbox.specs.Output.{emit_of};
+ghost use Rattle.gate_outbox.specs.Output.{emit_of, no_emits};
 ghost use Rattle.gate_core.specs.Steps.{IsEventValid, entry_of};
 ghost use Rattle.history.specs.Entries.{moment_of};
 ghost use Rattle.settings.specs.Further.{IsFurther, nothing_further};
 ghost use Rattle.settings.specs.Settings.{IsSettings};
-ghost use Rattle.bridge.specs.BridgeStands.{IsBridgeStep, IsCommanded, IsNew, IsOrder, IsSaidAgain, IsStart, IsUnposted};
-ghost use Rattle.bridge.specs.Kept.{beside_out, output_of};
+ghost use Rattle.bridge.specs.Beside.{beside_plain};
+ghost use Rattle.bridge.specs.BridgeStands.{IsBesideStep, IsBridgeStep, IsForgotten, IsGatewayStep, IsNew, IsObeyed, IsOrder, IsSaidAgain, IsStart, IsUnposted};
+ghost use Rattle.bridge.specs.Kept.{IsAlone, beside_out, given_count, len_beside, no_output, ordered_output, output_of, plain_output};
 ghost use Rattle.bridge.specs.BridgeSettings.{bridge_settings_of};
 
 use crate::beside::{Beside, beside_of};
 use crate::call_output::CallOutput;
 use gate_core::{Command, Gateway, Outbox, moment_of};
 use gate_events::{Emit, Event};
-use parts::Parts;
+use parts::{Parts, Step};
 use plain_out::say_plain;
 use sentence_text::Group;
 use settings::{Further, Settings};
@@ -26,6 +27,8 @@ use std::marker::Model;
 pub struct Bridge {
     gateway: Gateway,
     started: bool,
+    /// The moment at which it started.
+    start: u64,
     parts: Beside,
     /// The transmission group of plain sentences.
     plain: Option<Group>,
@@ -38,14 +41,15 @@ pub struct Bridge {
 }
 
 impl Model for Bridge {
-    ghost use Rattle.std.specs.Prelude.{◌≡◌, true, false, [], None};
+    ghost use Rattle.std.specs.Prelude.{◌≡◌, false};
     ghost use Rattle.gate_model.specs.Machine.{opened_machine};
-    ghost use Rattle.bridge.specs.Kept.{Bridged, IsAlone, plain_output};
+    ghost use Rattle.bridge.specs.Kept.{Bridged, MayGive};
 
     ghost Value = { Bridged };
 
     ghost view = { λ b. record {
       started = b.started;
+      start = b.start;
       gateway = b.gateway;
       parts = b.parts;
       plain = b.plain;
@@ -53,9 +57,7 @@ impl Model for Bridge {
       output = b.output.value;
     } };
 
-    ghost invariant = { λ b. (b.started ≡ false → b.gateway ≡ opened_machine b.gateway.settings)
-        × (b.gave ≡ false → IsAlone b.output.value b.parts)
-        × (b.plain ≡ None → plain_output b.output.value b.parts ≡ []) };
+    ghost invariant = { λ b. (b.started ≡ false → b.gateway ≡ opened_machine b.gateway.settings) × MayGive b.gave b.output.value b.parts };
 }
 
 impl Bridge {
@@ -80,6 +82,7 @@ impl Bridge {
         Ok(Bridge {
             gateway,
             started: false,
+            start: 0,
             parts,
             plain: further.plain,
             records: further.record,
@@ -101,16 +104,14 @@ impl Bridge {
         ensures start { IsStart moment self.old self.new }
         ensures started { self.new.started ≡ true }
     {
-        let output = self.output.as_mut();
-        output.clear();
-        self.parts.clear();
-        self.gave = false;
-        self.gateway.start(moment, &mut output.outbox);
+        self.forget();
+        self.gateway.start(moment, &mut self.output.as_mut().outbox);
         self.started = true;
+        self.start = moment;
     }
 
-    /// Takes an event: where it isn't earlier than the last entry, the gateway takes it, and then the parts beside it; else it is
-    /// reported, and changes nothing.
+    /// Takes an event: where it isn't earlier than the last entry, the gateway takes it, then the parts beside it, and then the gateway the
+    /// command that it completes, as an entry of its own at the same moment; else it is reported, and changes nothing.
     pub fn take(&mut self, event: &Event<'_>)
         requires started { self.old.started ≡ true }
         requires valid { IsEventValid event.now }
@@ -118,41 +119,72 @@ impl Bridge {
         ensures started { self.new.started ≡ true }
     {
         let accepted = accepts(&self.gateway, event);
+        self.forget();
+        self.step(event);
+        if accepted {
+            self.tell(event);
+            self.obey();
+        }
+    }
+
+    /// Forgets what the last call left.
+    #[inline(always)]
+    fn forget(&mut self)
+        ensures { IsForgotten self.old self.new }
+    {
         let output = self.output.as_mut();
         output.outbox.clear();
-        self.gateway.step(event, &mut output.outbox);
-        if !accepted {
+        if self.gave {
+            output.ordered = 0;
             output.plain.clear();
             self.parts.clear();
             self.gave = false;
-            return;
         }
-        let gave = self.parts.after(&self.gateway, &output.outbox, event);
-        match &self.plain {
-            None => self.gave = gave,
-            Some(group) => {
-                if gave || posts(&output.outbox) || self.gave {
-                    self.gave = true;
-                    say_again(*group, output, &mut self.parts);
-                }
+    }
+
+    /// Lets the gateway itself take an event.
+    #[inline(always)]
+    fn step(&mut self, event: &Event<'_>)
+        requires started { self.old.started ≡ true }
+        requires valid { IsEventValid event.now }
+        requires empty { self.old.output ≡ no_output }
+        ensures { IsGatewayStep (entry_of event.now) self.old self.new }
+    {
+        self.gateway.step(event, &mut self.output.as_mut().outbox);
+    }
+
+    /// Lets the parts beside the gateway take the event that it has taken, and says the datagrams of all once more where that is asked for.
+    #[inline(always)]
+    fn tell(&mut self, event: &Event<'_>)
+        requires started { self.old.started ≡ true }
+        requires valid { IsEventValid event.now }
+        requires alone { IsAlone self.old.output self.old.parts }
+        ensures { IsBesideStep (entry_of event.now) self.old self.new }
+    {
+        let output = self.output.as_mut();
+        let step = Step {
+            gateway: &self.gateway,
+            outbox: &output.outbox,
+            event,
+            start: self.start,
+        };
+        self.gave = self.parts.after(&step);
+        if let Some(group) = &self.plain {
+            if self.gave || posts(&output.outbox) {
+                self.gave = true;
+                say_again(*group, output, &mut self.parts);
             }
         }
     }
 
-    /// Takes the command that the last event left, where it left one, as an entry of its own at the same moment. Says whether it did.
+    /// Takes the command that the event left, where it left one.
     #[inline(always)]
-    pub fn obey(&mut self) -> bool
+    fn obey(&mut self)
         requires { self.old.started ≡ true }
-        ensures order { IsOrder self.old.output.outbox.command self.old self.new }
-        ensures was { result ≡ is_some self.old.output.outbox.command }
-        ensures started { self.new.started ≡ true }
+        ensures { IsOrder self.old.output.outbox.command self.old self.new }
     {
-        match self.output.outbox.command() {
-            Some(command) => {
-                self.order(command.source, command.address);
-                true
-            }
-            None => false,
+        if let Some(command) = self.output.outbox.command() {
+            self.order(command.source, command.address);
         }
     }
 
@@ -160,15 +192,14 @@ impl Bridge {
     #[inline(never)]
     fn order(&mut self, source: u8, address: u8)
         requires { self.old.started ≡ true }
-        ensures order { IsCommanded (record { source = source; address = address }) self.old self.new }
-        ensures started { self.new.started ≡ true }
+        ensures { IsObeyed (record { source = source; address = address }) self.old self.new }
     {
         let output = self.output.as_mut();
-        output.clear();
-        self.parts.clear();
-        self.gave = false;
+        let given = output.outbox.len();
         self.gateway
-            .command(Command { source, address }, &mut output.outbox);
+            .obey(Command { source, address }, &mut output.outbox);
+        output.ordered = output.outbox.len().saturating_sub(given);
+        self.gave = true;
     }
 
     /// The moment of the last entry, in microseconds; 0 before any.
@@ -202,11 +233,11 @@ impl Bridge {
         }
     }
 
-    /// How many emits stand behind those of the gateway itself.
+    /// How many emits the parts beside the gateway gave, and plain sentences.
     #[inline(never)]
     fn len_beside(&self) -> usize
-        ensures len { result ≡ length (beside_out self.now) }
-        ensures few { length (beside_out self.now) ≤ 65535 }
+        ensures len { result ≡ len_beside self.now }
+        ensures few { len_beside self.now ≤ 65535 }
     {
         self.parts.len() + self.output.plain.len() + self.parts.plain_len()
     }
@@ -216,25 +247,56 @@ impl Bridge {
         ensures emit { option_map emit_of result ≡ slice_get (output_of self.now) place }
         ensures valid { IfSome result CanWrite }
     {
-        match place.checked_sub(self.output.outbox.len()) {
+        match place.checked_sub(self.own_len()) {
             None => self.output.outbox.item(place),
             Some(place) => self.emit_beside(place),
         }
     }
 
-    /// The emit at this place behind those of the gateway itself. Nearly all are its own: these are kept apart from them.
+    /// How many emits the gateway itself gave at the event.
+    #[inline(always)]
+    fn own_len(&self) -> usize
+        ensures { result ≡ given_count self.now.output }
+    {
+        self.output.outbox.len() - self.output.ordered
+    }
+
+    /// The emit at this place behind those that the gateway itself gave at the event. Nearly all are its own: these are kept apart from them.
     #[inline(never)]
     fn emit_beside(&self, place: usize) -> Option<Emit<'_>>
+        requires { given_count self.now.output + place ≤ 18446744073709551615 }
         ensures emit { option_map emit_of result ≡ slice_get (beside_out self.now) place }
         ensures valid { IfSome result CanWrite }
     {
-        let Some(place) = place.checked_sub(self.parts.len()) else {
-            return self.parts.item(place);
-        };
-        match place.checked_sub(self.output.plain.len()) {
-            None => self.output.plain.item(place),
-            Some(place) => self.parts.plain_item(place),
+        match place.checked_sub(self.parts.len()) {
+            None => self.parts.item(place),
+            Some(place) => self.emit_plain(place),
         }
+    }
+
+    /// The emit at this place behind those of the parts: a plain datagram, or what the command gave.
+    fn emit_plain(&self, place: usize) -> Option<Emit<'_>>
+        requires { given_count self.now.output + place ≤ 18446744073709551615 }
+        ensures emit { option_map emit_of result ≡ slice_get (plain_output self.now.output self.now.parts ++ ordered_output self.now.output) place }
+        ensures valid { IfSome result CanWrite }
+    {
+        let Some(place) = place.checked_sub(self.output.plain.len()) else {
+            return self.output.plain.item(place);
+        };
+        match place.checked_sub(self.parts.plain_len()) {
+            None => self.parts.plain_item(place),
+            Some(place) => self.emit_ordered(place),
+        }
+    }
+
+    /// The emit at this place of what the command gave.
+    #[tactic(auto, using(crate::proofs::Places::get_dropped))]
+    fn emit_ordered(&self, place: usize) -> Option<Emit<'_>>
+        requires { given_count self.now.output + place ≤ 18446744073709551615 }
+        ensures emit { option_map emit_of result ≡ slice_get (ordered_output self.now.output) place }
+        ensures valid { IfSome result CanWrite }
+    {
+        self.output.outbox.item(self.own_len() + place)
     }
 }
 
@@ -251,9 +313,10 @@ fn posts(outbox: &Outbox) -> bool
 /// Says the datagrams of an event once more, as plain sentences for this transmission group.
 #[inline(never)]
 fn say_again(group: Group, output: &mut CallOutput, parts: &mut Beside)
+    requires plain { output.old.plain ≡ no_emits }
+    requires parts { beside_plain parts.old ≡ [] }
     ensures { IsSaidAgain group output.old parts.old output.new parts.new }
 {
-    output.plain.clear();
     say_plain(group, &output.outbox.emits, &mut output.plain);
     parts.say_plain(group);
 }

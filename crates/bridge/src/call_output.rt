@@ -10,6 +10,8 @@ use std::alloc::{AllocError, Global};
 #[derive(Drop)]
 pub(crate) struct CallOutput {
     pub(crate) outbox: Outbox,
+    /// How many of its emits, at its end, the command gave that the event completed.
+    pub(crate) ordered: usize,
     pub(crate) plain: PlainEmits,
 }
 
@@ -23,16 +25,9 @@ impl CallOutput {
             alloc,
             CallOutput {
                 outbox: Outbox::new(),
+                ordered: 0,
                 plain: PlainEmits::new(),
             },
         )?)
-    }
-
-    /// Forgets all.
-    pub(crate) fn clear(&mut self)
-        ensures { self.new ≡ no_output }
-    {
-        self.outbox.clear();
-        self.plain.clear();
     }
 }

@@ -5,10 +5,8 @@ ghost use Rattle.bridge.specs.Beside.{quantities_give, quantities_stand};
 ghost use Rattle.bridge.specs.Commands.{quantities_keep_commands};
 
 use further_bridge::FurtherBridge;
-use gate_core::{Gateway, Outbox};
-use gate_events::Event;
 use gate_outbox::Emits;
-use parts::Part;
+use parts::{Part, Step};
 
 /// The most frames and reports of [`further_bridge::FurtherEmits`].
 pub(crate) const MOST_OF_QUANTITIES: usize = 259;
@@ -28,15 +26,10 @@ impl Part<MOST_OF_QUANTITIES> for Quantities {
 
     ghost gives = { quantities_give };
 
-    #[inline(never)]
-    fn after(
-        &mut self,
-        gateway: &Gateway,
-        _output: &Outbox,
-        event: &Event<'_>,
-        emits: &mut Emits<MOST_OF_QUANTITIES>,
-    ) {
-        self.bridge.after(gateway, event, emits);
+    #[tactic(auto, using(parts::proofs::Empty::none_emitted, std::proofs::lemmas::List::nil_from_length))]
+    fn after(&mut self, step: &Step<'_>, emits: &mut Emits<MOST_OF_QUANTITIES>) -> bool {
+        self.bridge.after(step.gateway, step.event, emits);
+        emits.len() != 0
     }
 
     ghost commands = { quantities_keep_commands };

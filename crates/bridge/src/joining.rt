@@ -8,11 +8,9 @@ ghost use Rattle.bridge.specs.BridgeSettings.{rmc_rule_of, timeouts_of};
 ghost use Rattle.bridge.specs.Commands.{joining_keeps_commands};
 
 use config_values::{Config, RowConfig};
-use gate_core::{Gateway, Outbox};
-use gate_events::Event;
 use gate_outbox::Emits;
 use joined_rmc::{RmcConfig, RmcJoin};
-use parts::Part;
+use parts::{Part, Step};
 use readings::ROWS;
 use sentence_text::Group;
 
@@ -45,19 +43,15 @@ impl Part<0> for Joining {
 
     ghost gives = { joining_gives };
 
-    #[inline(never)]
-    fn after(
-        &mut self,
-        gateway: &Gateway,
-        output: &Outbox,
-        _event: &Event<'_>,
-        emits: &mut Emits<0>,
-    ) {
+    fn after(&mut self, step: &Step<'_>, emits: &mut Emits<0>) -> bool {
         let datagram = emits.post(self.group);
-        let said = self.join.after(gateway, output, &mut datagram.packet);
+        let said = self
+            .join
+            .after(step.gateway, step.outbox, &mut datagram.packet);
         if !said {
             emits.clear();
         }
+        said
     }
 
     ghost commands = { joining_keeps_commands };

@@ -5,10 +5,8 @@ ghost use Rattle.bridge.specs.Beside.{ships_give, ships_stand};
 ghost use Rattle.bridge.specs.Commands.{ships_keep_commands};
 
 use ais_bridge::AisBridge;
-use gate_core::{Gateway, Outbox};
-use gate_events::Event;
 use gate_outbox::Emits;
-use parts::Part;
+use parts::{Part, Step};
 
 /// The most frames and reports of [`ais_bridge::AisEmits`].
 pub(crate) const MOST_OF_SHIPS: usize = 299;
@@ -28,15 +26,10 @@ impl Part<MOST_OF_SHIPS> for Ships {
 
     ghost gives = { ships_give };
 
-    #[inline(never)]
-    fn after(
-        &mut self,
-        gateway: &Gateway,
-        _output: &Outbox,
-        event: &Event<'_>,
-        emits: &mut Emits<MOST_OF_SHIPS>,
-    ) {
-        self.bridge.after(gateway, event, emits);
+    #[tactic(auto, using(parts::proofs::Empty::none_emitted, std::proofs::lemmas::List::nil_from_length))]
+    fn after(&mut self, step: &Step<'_>, emits: &mut Emits<MOST_OF_SHIPS>) -> bool {
+        self.bridge.after(step.gateway, step.event, emits);
+        emits.len() != 0
     }
 
     ghost commands = { ships_keep_commands };

@@ -9,10 +9,10 @@ ghost use Rattle.bridge.specs.WatchStands.{IsWatchStep};
 ghost use Rattle.bridge.specs.Commands.{sources_keep_commands};
 
 use gate_core::{Gateway, Outbox, SelectedMessage};
-use gate_events::{Detail, Event, Report};
+use gate_events::{Detail, Report};
 use gate_outbox::Emits;
 use n2k_id::Name;
-use parts::Part;
+use parts::{Part, Step};
 use readings::{ROWS, row};
 use report_rules::SOURCE_CHANGED;
 use std::marker::Model;
@@ -91,16 +91,13 @@ impl Part<1> for SourceWatch {
 
     ghost gives = { sources_give };
 
-    #[inline(never)]
-    fn after(
-        &mut self,
-        gateway: &Gateway,
-        output: &Outbox,
-        _event: &Event<'_>,
-        emits: &mut Emits<1>,
-    ) {
-        if let Some(change) = self.change(gateway, output) {
-            emits.tell(change);
+    fn after(&mut self, step: &Step<'_>, emits: &mut Emits<1>) -> bool {
+        match self.change(step.gateway, step.outbox) {
+            Some(change) => {
+                emits.tell(change);
+                true
+            }
+            None => false,
         }
     }
 

@@ -4,19 +4,25 @@ use Rattle.gate_events.specs.Emit.{Emit}
 use Rattle.history.specs.AddressLaws.{AreSettings}
 use Rattle.history.specs.Entries.{Entry, History, IsHistory, command, now}
 use Rattle.history.specs.Settings.{Settings}
-use Rattle.gate_model.specs.Machine.{Machine}
-use Rattle.gate_outbox.specs.Output.{Emitted, Output, emits_of}
+use Rattle.gate_outbox.specs.Output.{Emitted, emits_of}
 use Rattle.gate_core.specs.Promises.{IsTaken}
+use Rattle.gate_core.specs.Steps.{entry_of}
+use Rattle.parts.specs.declared.part.Step.{Step}
 
 -- the most emits of all parts at one event
 abbrev pub most_output : ℕ
 most_output = 65535
 
--- the gateway has taken the entry, with this output
-pub record IsStepped (c : Settings) (s : ℕ) (h : History) (e : Entry) (gateway : Machine) (outbox : Output) : Type 0 where
+-- the event as an entry
+abbrev pub entry_at : Step → Entry
+entry_at t = entry_of t.event.now
+
+-- the gateway has taken it, and says so
+pub record IsStepped (c : Settings) (s : ℕ) (h : History) (t : Step) : Type 0 where
   pub settings : AreSettings c
-  pub could : IsHistory (e ∷ h)
-  pub taken : IsTaken c s h e gateway outbox
+  pub start : t.start ≡ s
+  pub could : IsHistory (entry_at t ∷ h)
+  pub taken : IsTaken c s h (entry_at t) t.gateway.now t.outbox.now
 
 -- the part stands for one entry more, and what it gave is what the history says that it gives
 pub record IsGiven {R K : Type 0} (stands : R → Settings → ℕ → History → K → Type 0) (gives : R → Settings → ℕ → History → Entry → List Emit)
@@ -26,9 +32,9 @@ pub record IsGiven {R K : Type 0} (stands : R → Settings → ℕ → History �
 
 -- for every history for which it stands before
 abbrev pub Takes : {R K : Type 0} → (R → Settings → ℕ → History → K → Type 0) → (R → Settings → ℕ → History → Entry → List Emit)
-    → (K → List Emit) → Machine → Output → Entry → K → K → Type 0
-Takes {R} {K} stands gives output gateway outbox e before after =
-    (r : R) (c : Settings) (s : ℕ) (h : History) → IsStepped c s h e gateway outbox → stands r c s h before → IsGiven stands gives output r c s h e after
+    → (K → List Emit) → Step → K → K → Type 0
+Takes {R} {K} stands gives output t before after =
+    (r : R) (c : Settings) (s : ℕ) (h : History) → IsStepped c s h t → stands r c s h before → IsGiven stands gives output r c s h (entry_at t) after
 
 -- it stands for the same histories as before
 abbrev pub Keeps : {R K : Type 0} → (R → Settings → ℕ → History → K → Type 0) → K → K → Type 0
@@ -48,6 +54,6 @@ pub record IsSaid {R K : Type 0} (stands : R → Settings → ℕ → History �
   pub emits : emits_of given ≡ gives r c s h e
 
 abbrev pub Says : {R K : Type 0} → (R → Settings → ℕ → History → K → Type 0) → (R → Settings → ℕ → History → Entry → List Emit)
-    → Machine → Output → Entry → K → K → Emitted → Type 0
-Says {R} {K} stands gives gateway outbox e before after given =
-    (r : R) (c : Settings) (s : ℕ) (h : History) → IsStepped c s h e gateway outbox → stands r c s h before → IsSaid stands gives r c s h e after given
+    → Step → K → K → Emitted → Type 0
+Says {R} {K} stands gives t before after given =
+    (r : R) (c : Settings) (s : ℕ) (h : History) → IsStepped c s h t → stands r c s h before → IsSaid stands gives r c s h (entry_at t) after given

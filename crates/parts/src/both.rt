@@ -2,9 +2,9 @@
 ghost use Rattle.std.specs.Prelude.{◌≡◌, ◌+◌, ◌≤◌, ◌++◌, length};
 ghost use Rattle.parts.specs.Compose.{both_give, both_keep_commands, both_output, both_stand};
 
+use crate::part::Step;
 use crate::parts::Parts;
-use gate_core::{Gateway, Outbox};
-use gate_events::{Emit, Event};
+use gate_events::Emit;
 use sentence_text::Group;
 
 impl<A: Parts, B: Parts> Parts for (A, B) {
@@ -25,13 +25,14 @@ impl<A: Parts, B: Parts> Parts for (A, B) {
         self.1.clear();
     }
 
-    fn after(&mut self, gateway: &Gateway, outbox: &Outbox, event: &Event<'_>) -> bool {
-        let first_gave = self.0.after(gateway, outbox, event);
-        let second_gave = self.1.after(gateway, outbox, event);
+    #[tactic(auto, using(crate::proofs::Empty::first_empty, crate::proofs::Empty::second_empty))]
+    fn after(&mut self, step: &Step<'_>) -> bool {
+        let first_gave = self.0.after(step);
+        let second_gave = self.1.after(step);
         first_gave || second_gave
     }
 
-    #[tactic(auto, using(plain_out::proofs::Emits::plain_append))]
+    #[tactic(auto, using(plain_out::proofs::Emits::plain_append, crate::proofs::Empty::first_empty, crate::proofs::Empty::second_empty))]
     fn say_plain(&mut self, group: Group) {
         self.0.say_plain(group);
         self.1.say_plain(group);

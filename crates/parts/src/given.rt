@@ -1,6 +1,6 @@
 //! What a part gives at an event.
 ghost use Rattle.std.specs.Prelude.{◌≡◌, IfOk};
-ghost use Rattle.gate_outbox.specs.Output.{emits_of};
+ghost use Rattle.gate_outbox.specs.Output.{emits_of, no_emits};
 ghost use Rattle.plain_out.specs.Plain.{plain_out};
 ghost use Rattle.parts.specs.Lanes.{nothing_given};
 
@@ -41,10 +41,10 @@ impl<const ROOM: usize> Given<ROOM> {
 
     /// Says the datagram once more, if one is there.
     pub(crate) fn say_plain(&mut self, group: Group)
+        requires { self.old.plain ≡ no_emits }
         ensures emits { self.new.emits ≡ self.old.emits }
         ensures plain { emits_of self.new.plain ≡ plain_out group (emits_of self.old.emits) }
     {
-        self.plain.clear();
         say_plain(group, &self.emits, &mut self.plain);
     }
 }

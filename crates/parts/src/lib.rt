@@ -11,5 +11,5 @@ mod part;
 mod parts;
 
 pub use lane::Lane;
-pub use part::Part;
+pub use part::{Part, Step};
 pub use parts::Parts;

@@ -2,9 +2,9 @@
 ghost use Rattle.std.specs.Prelude.{◌≡◌, ◌≤◌, [], length};
 ghost use Rattle.parts.specs.Compose.{maybe_give, maybe_keep_commands, maybe_output, maybe_stand};
 
+use crate::part::Step;
 use crate::parts::Parts;
-use gate_core::{Gateway, Outbox};
-use gate_events::{Emit, Event};
+use gate_events::Emit;
 use sentence_text::Group;
 
 impl<A: Parts> Parts for Option<A> {
@@ -28,9 +28,9 @@ impl<A: Parts> Parts for Option<A> {
         }
     }
 
-    fn after(&mut self, gateway: &Gateway, outbox: &Outbox, event: &Event<'_>) -> bool {
+    fn after(&mut self, step: &Step<'_>) -> bool {
         match self {
-            Some(part) => part.after(gateway, outbox, event),
+            Some(part) => part.after(step),
             None => false,
         }
     }

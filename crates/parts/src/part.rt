@@ -1,8 +1,8 @@
 //! A part beside the gateway.
-ghost use Rattle.std.specs.Prelude.{◌≡◌, ◌≤◌, ℕ, List};
+ghost use Rattle.std.specs.Prelude.{◌≡◌, ◌≤◌, ℕ, false, List};
 ghost use Rattle.gate_events.specs.Emit.{Emit};
 ghost use Rattle.gate_outbox.specs.Output.{no_emits};
-ghost use Rattle.gate_core.specs.Steps.{IsEventValid, entry_of};
+ghost use Rattle.gate_core.specs.Steps.{IsEventValid};
 ghost use Rattle.history.specs.Entries.{Entry, History};
 ghost use Rattle.history.specs.Settings.{Settings};
 ghost use Rattle.parts.specs.PartSteps.{KeepsCommands, Says, most_output};
@@ -10,6 +10,18 @@ ghost use Rattle.parts.specs.PartSteps.{KeepsCommands, Says, most_output};
 use gate_core::{Gateway, Outbox};
 use gate_events::Event;
 use gate_outbox::Emits;
+
+/// An event that the gateway took in its last step.
+#[derive(Drop)]
+pub struct Step<'a> {
+    /// The gateway after the step.
+    pub gateway: &'a Gateway,
+    /// What the step left: the message that it selected is there, too.
+    pub outbox: &'a Outbox,
+    pub event: &'a Event<'a>,
+    /// The moment at which the gateway started, in microseconds.
+    pub start: u64,
+}
 
 /// A part beside the gateway: it is told each event that the gateway took, and gives at most `ROOM` frames and reports, and a datagram behind them.
 pub trait Part<const ROOM: usize>: Drop {
@@ -22,17 +34,12 @@ pub trait Part<const ROOM: usize>: Drop {
     /// What it gives at an entry, over everything that ever came.
     ghost gives: { Rule → Settings → ℕ → History → Entry → List Emit };
 
-    /// Takes an event that the gateway took in its last step, with this output.
-    fn after(
-        &mut self,
-        gateway: &Gateway,
-        outbox: &Outbox,
-        event: &Event<'_>,
-        emits: &mut Emits<ROOM>,
-    )
-        requires valid { IsEventValid event.now }
+    /// Takes an event. False: it gives nothing.
+    fn after(&mut self, step: &Step<'_>, emits: &mut Emits<ROOM>) -> bool
+        requires valid { IsEventValid step.now.event.now }
         requires empty { emits.old ≡ no_emits }
-        ensures { Says stands gives gateway.now outbox.now (entry_of event.now) self.old self.new emits.new };
+        ensures takes { Says stands gives step.now self.old self.new emits.new }
+        ensures gave { result ≡ false → emits.new ≡ no_emits };
 
     /// A command to go to an address is no event for it.
     ghost commands: { KeepsCommands stands };

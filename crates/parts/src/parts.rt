@@ -2,14 +2,14 @@
 ghost use Rattle.std.specs.Prelude.{◌≡◌, ◌≤◌, ℕ, false, List, [], length, option_map, slice_get, IfSome};
 ghost use Rattle.gate_events.specs.Emit.{CanWrite, Emit};
 ghost use Rattle.gate_outbox.specs.Output.{emit_of};
-ghost use Rattle.gate_core.specs.Steps.{IsEventValid, entry_of};
+ghost use Rattle.gate_core.specs.Steps.{IsEventValid};
 ghost use Rattle.history.specs.Entries.{Entry, History};
 ghost use Rattle.history.specs.Settings.{Settings};
 ghost use Rattle.plain_out.specs.Plain.{plain_out};
 ghost use Rattle.parts.specs.PartSteps.{Keeps, KeepsCommands, Takes, most_output};
 
-use gate_core::{Gateway, Outbox};
-use gate_events::{Emit, Event};
+use crate::part::Step;
+use gate_events::Emit;
 use sentence_text::Group;
 
 /// Parts that keep what they gave at the last event, those of each behind those of the one before.
@@ -38,16 +38,18 @@ pub trait Parts: Drop {
         ensures output { output self.new ≡ [] }
         ensures plain { plain self.new ≡ [] };
 
-    /// Takes an event that the gateway took in its last step, with this output. Says whether any part gave something: if none did, nobody
-    /// has to ask each.
-    fn after(&mut self, gateway: &Gateway, outbox: &Outbox, event: &Event<'_>) -> bool
-        requires valid { IsEventValid event.now }
-        ensures takes { Takes stands gives output gateway.now outbox.now (entry_of event.now) self.old self.new }
-        ensures plain { plain self.new ≡ plain self.old }
+    /// Takes an event. Says whether any part gave something: if none did, nobody has to ask each.
+    fn after(&mut self, step: &Step<'_>) -> bool
+        requires valid { IsEventValid step.now.event.now }
+        requires empty { output self.old ≡ [] }
+        requires unsaid { plain self.old ≡ [] }
+        ensures takes { Takes stands gives output step.now self.old self.new }
+        ensures unsaid { plain self.new ≡ [] }
         ensures gave { result ≡ false → output self.new ≡ [] };
 
     /// Says the datagrams of the last event once more, as plain sentences for this transmission group.
     fn say_plain(&mut self, group: Group)
+        requires { plain self.old ≡ [] }
         ensures kept { Keeps stands self.old self.new }
         ensures output { output self.new ≡ output self.old }
         ensures plain { plain self.new ≡ plain_out group (output self.old) };

@@ -21,12 +21,11 @@ use Rattle.replaying.specs.Replayed.{IsReplayFrom, emitted_text, replayed_from, 
 use Rattle.capture_text.specs.Emitted.{line_of}
 use Rattle.bridge.specs.BridgeStands.{BridgeStands, IsBridgeStep}
 use Rattle.bridge.specs.Gate.{opening, stepped}
-use Rattle.bridge.specs.Kept.{Bridged, output_at, ordered_output}
+use Rattle.bridge.specs.Kept.{Bridged}
 use Rattle.bridge.specs.BridgeSettings.{BridgeSettings}
 use Rattle.bridge.specs.Running as running
 use Rattle.bridge.specs.Running.{Running, RunningStands}
-use Rattle.replaying.specs.Replaying.{GivesReplay, IsAnswer, IsOpening, IsOrdered, IsReplayed, output_text, ordered_text}
-use Rattle.bridge.proofs.Reached.{reached}
+use Rattle.replaying.specs.Replaying.{GivesReplay, IsAnswer, IsOpening, IsReplayed, output_text}
 
 -- ---- a line that says something
 
@@ -36,36 +35,26 @@ entry_same (event.Datagram moment bytes) = refl
 entry_same (event.Tick moment) = refl
 
 -- behind what the start gives, where it was the first
-from_start : (before xs : List Emitted) (first b text : List ℕ) → first ≡ emitted_text before → b ++ text ≡ emitted_text xs
-    → (first ++ b) ++ text ≡ emitted_text (before ++ xs)
-from_start before xs first b text start is =
-    append_assoc first b text
-    ∙ ap (λ (t : List ℕ). t ++ (b ++ text)) start
+from_start : (before xs : List Emitted) (first text : List ℕ) → first ≡ emitted_text before → text ≡ emitted_text xs
+    → first ++ text ≡ emitted_text (before ++ xs)
+from_start before xs first text start is =
+    ap (λ (t : List ℕ). t ++ text) start
     ∙ ap (λ (t : List ℕ). emitted_text before ++ t) is
     ∙ sym (flat_map-append line_of before xs)
 
--- the text of an event and of the command that it completes
-texts_given : (b after : Bridged) (text : List ℕ) (emits : List Emitted) → text ≡ ordered_text b.output.outbox.command after
-    → output_at b.gateway.moment b ++ ordered_output b.output.outbox.command after ≡ emits → output_text b.gateway.moment b ++ text ≡ emitted_text emits
-texts_given b after text emits is due =
-    ap (λ (x : List ℕ). output_text b.gateway.moment b ++ x) is
-    ∙ sym (flat_map-append line_of (output_at b.gateway.moment b) (ordered_output b.output.outbox.command after))
-    ∙ ap emitted_text due
-
-module _ (e : Entry) (number : ℕ) (before opened b after : Bridged) (first text : List ℕ) (opens : IsOpening (moment_of e) before first opened)
-    (step : IsBridgeStep e opened b) (order : IsOrdered b text after) where
+module _ (e : Entry) (number : ℕ) (before opened after : Bridged) (first : List ℕ) (opens : IsOpening (moment_of e) before first opened)
+    (step : IsBridgeStep e opened after) where
   entry_given : (p : BridgeSettings) (g : Option Running) → RunningStands p g before
-      → IsReplayed p (with_event p g e) ((first ++ output_text b.gateway.moment b) ++ text) after
+      → IsReplayed p (with_event p g e) (first ++ output_text after.gateway.moment after) after
   entry_given p None new =
       let s = moment_of e in
       let x = opens.first new.waits in
       let start = x.1 p new in
-      let r = reached p s [] e opened b after tt start.stands step order.order in
+      let r = step p s [] tt start.stands in
       record {
         text_is =
-            from_start (opening p s) (stepped p s [] e).emits first (output_text b.gateway.moment b) text
-            (x.0 ∙ ap (λ (es : List Emit). emitted_text (at s es)) start.emits)
-            (texts_given b after text (stepped p s [] e).emits order.text_is r.due_is);
+            from_start (opening p s) (stepped p s [] e).emits first (output_text after.gateway.moment after)
+            (x.0 ∙ ap (λ (es : List Emit). emitted_text (at s es)) start.emits) (ap emitted_text r.emits);
         stands = (r.could, r.stands);
       }
   entry_given p (Some g) stands =
@@ -73,20 +62,17 @@ module _ (e : Entry) (number : ℕ) (before opened b after : Bridged) (first tex
       let h = g.history in
       let x = opens.later stands.1.started in
       let here : BridgeStands p s h opened = subst (λ (z : Bridged). BridgeStands p s h z) (sym x.1) stands.1 in
-      let r = reached p s h e opened b after stands.0 here step order.order in
+      let r = step p s h stands.0 here in
       record {
-        text_is =
-            from_start [] (stepped p s h e).emits first (output_text b.gateway.moment b) text x.0
-            (texts_given b after text (stepped p s h e).emits order.text_is r.due_is);
+        text_is = from_start [] (stepped p s h e).emits first (output_text after.gateway.moment after) x.0 (ap emitted_text r.emits);
         stands = (r.could, r.stands);
       }
 
-pub gives_event : (e : Event) (number : ℕ) (before opened b after : Bridged) (first text : List ℕ) → IsOpening (moment_of (entry_of e)) before first opened
-    → IsBridgeStep (entry_of e) opened b → IsOrdered b text after
-    → GivesReplay before number (Ok (view e)) ((first ++ output_text b.gateway.moment b) ++ text) after
-gives_event e number before opened b after first text opens step order p g stands =
-    subst (λ (x : Entry). IsReplayed p (with_event p g x) ((first ++ output_text b.gateway.moment b) ++ text) after) (sym (entry_same e))
-    (entry_given (entry_of e) number before opened b after first text opens step order p g stands)
+pub gives_event : (e : Event) (number : ℕ) (before opened after : Bridged) (first : List ℕ) → IsOpening (moment_of (entry_of e)) before first opened
+    → IsBridgeStep (entry_of e) opened after → GivesReplay before number (Ok (view e)) (first ++ output_text after.gateway.moment after) after
+gives_event e number before opened after first opens step p g stands =
+    subst (λ (x : Entry). IsReplayed p (with_event p g x) (first ++ output_text after.gateway.moment after) after) (sym (entry_same e))
+    (entry_given (entry_of e) number before opened after first opens step p g stands)
 
 -- ---- a line that breaks a rule
 

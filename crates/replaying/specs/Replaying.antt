@@ -1,13 +1,12 @@
 -- What the calls that answer a line of a capture send, and what they make of the bridge, whatever came before.
 use Rattle.std.specs.Prelude.{◌≡◌, ℕ, true, false, List, [], ◌++◌, take, drop, Option, Result}
-use Rattle.gate_outbox.specs.declared.done.Command.{Command}
 use Rattle.gate_outside.specs.Faults.{HasCause}
 use Rattle.capture_stream.specs.Writer.{Writes}
 use Rattle.capture_text.specs.declared.line_rule.LineRule.{LineRule}
 use Rattle.gate_events.specs.Event.{Seen}
 use Rattle.history.specs.Emits.{at}
-use Rattle.bridge.specs.BridgeStands.{IsOrder, IsStart}
-use Rattle.bridge.specs.Kept.{Bridged, output_at, output_of, ordered_output}
+use Rattle.bridge.specs.BridgeStands.{IsStart}
+use Rattle.bridge.specs.Kept.{Bridged, output_at, output_of}
 use Rattle.bridge.specs.BridgeSettings.{BridgeSettings}
 use Rattle.bridge.specs.Running.{Running, RunningStands}
 use Rattle.replaying.specs.declared.replay.Replay.{Replay}
@@ -38,14 +37,6 @@ pub record IsOpening (m : ℕ) (before : Bridged) (text : List ℕ) (after : Bri
   pub started : after.started ≡ true
   pub later : before.started ≡ true → (text ≡ []) × (after ≡ before)
   pub first : before.started ≡ false → (text ≡ output_text m after) × IsStart m before after
-
--- the command is obeyed that the last event left
-abbrev pub ordered_text : Option Command → Bridged → List ℕ
-ordered_text c after = emitted_text (ordered_output c after)
-
-pub record IsOrdered (before : Bridged) (text : List ℕ) (after : Bridged) : Type 0 where
-  pub order : IsOrder before.output.outbox.command before after
-  pub text_is : text ≡ ordered_text before.output.outbox.command after
 
 -- ---- a line of a capture
 

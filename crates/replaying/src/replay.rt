@@ -6,7 +6,7 @@ ghost use Rattle.bridge.specs.BridgeSettings.{BridgeSettings};
 ghost use Rattle.bridge.specs.Running.{Running, RunningStands};
 ghost use Rattle.replaying.specs.Replayed.{IsReplayFrom};
 
-use crate::sending::{open, send_line, send_ordered, send_output};
+use crate::sending::{open, send_line, send_output};
 use bridge::{Bridge, moment_of};
 use capture_stream::{Answers, Ending, Writer, answer_capture};
 use capture_text::LineRule;
@@ -37,8 +37,7 @@ impl Answers for Replay<'_> {
         let bridge = &mut *self.bridge;
         let opened = open(bridge, moment_of(event), writer, out);
         bridge.take(event);
-        let taken = send_output(opened, bridge, bridge.moment(), writer, out);
-        send_ordered(taken, bridge, writer, out)
+        send_output(opened, bridge, bridge.moment(), writer, out)
     }
 
     fn answer_refusal<K: Sink>(

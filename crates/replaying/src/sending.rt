@@ -6,7 +6,7 @@ ghost use Rattle.gate_outbox.specs.Output.{emit_of};
 ghost use Rattle.gate_outside.specs.Faults.{HasCause};
 ghost use Rattle.capture_text.specs.Emitted.{line_of};
 ghost use Rattle.bridge.specs.Kept.{output_of};
-ghost use Rattle.replaying.specs.Replaying.{IsOpening, IsOrdered, IsSent, SendsThen, output_text, line_at};
+ghost use Rattle.replaying.specs.Replaying.{IsOpening, IsSent, SendsThen, output_text, line_at};
 
 use bridge::Bridge;
 use capture_stream::Writer;
@@ -28,24 +28,6 @@ pub(crate) fn open<K: Sink>(
     }
     bridge.start(moment);
     send_lines(bridge, moment, writer, out)
-}
-
-/// Takes the command that the last event left, and sends what it leaves, where all before was sent.
-pub(crate) fn send_ordered<K: Sink>(
-    sent: Result<(), Failed>,
-    bridge: &mut Bridge,
-    writer: &mut Writer,
-    out: &mut K,
-) -> Result<(), Failed>
-    requires { bridge.old.started ≡ true }
-    ensures { (text : List ℕ) × IsOrdered bridge.old text bridge.new
-        × SendsThen text (K.taken out.old) (K.fault_count out.old) writer.old sent (K.taken out.new) (K.fault_count out.new) writer.new result }
-{
-    if bridge.obey() {
-        send_output(sent, bridge, bridge.moment(), writer, out)
-    } else {
-        sent
-    }
 }
 
 /// Sends what the last call left, where all before was sent.

@@ -8,7 +8,7 @@ use Rattle.gate_events.specs.declared.event.Event.{Event}
 use Rattle.gate_events.specs.declared.event.Event.TheVariants as event
 use Rattle.gate_outside.specs.declared.Failed.{Failed}
 use Rattle.bridge.specs.Steps as core
-use Rattle.gate_events.specs.Emit.{Emit}
+use Rattle.gate_events.specs.Emit.{Emit, Emitted}
 use Rattle.gate_events.specs.Event as capture
 use Rattle.gate_events.specs.Event.{Seen, view}
 use Rattle.history.specs.Emits.{at, broken}
@@ -33,41 +33,23 @@ same_entry (event.Frame moment frame) = refl
 same_entry (event.Datagram moment bytes) = refl
 same_entry (event.Tick moment) = refl
 
--- ---- an event that is accepted, and one that is too early
-
-if_accepted : (p : BridgeSettings) (s : ℕ) (h : History) (e : Entry) → is_accepted h e ≡ true
-    → stepped p s h e ≡ with_command p s h e (command_in p.gateway s (done (receiver_of p.gateway) s h e) (moment_of e))
-if_accepted p s h e accepts = rw accepts refl
-
-if_refused : (p : BridgeSettings) (s : ℕ) (h : History) (e : Entry) → is_accepted h e ≡ false
-    → stepped p s h e ≡ record { emits = at (now h) (broken rules.moment_back detail.Nothing ∷ []); after = h }
-if_refused p s h e refuses = rw refuses refl
-
 -- ---- whether the event has a line shows in what it left
 
 made_counted : (k : ℕ) (emits : List Emit) → length emits ≡ length (all_made (at k emits))
 made_counted k emits = sym (length-map (at k emits) made ∙ length-map emits (λ (e : Emit). record { moment = k; emit = e }))
 
 module _ (p : BridgeSettings) (s : ℕ) (h : History) (before b : Bridged) (could : IsHistory h) (stands : BridgeStands p s h before) where
-  kept_by : (e : Entry) (answer : Bool) → is_accepted h e ≡ answer → IsBridgeStep e before b → b.records ≡ p.records
-  kept_by e true accepts step = ((step p s h could stands).0 accepts).stands.records
-  kept_by e false refuses step = ((step p s h could stands).1 refuses).stands.records
+  kept : (e : Entry) → IsBridgeStep e before b → b.records ≡ p.records
+  kept e step = (step p s h could stands).stands.records
 
-  counted : (m : ℕ) (answer : Bool) → is_accepted h (entry.tick m) ≡ answer → IsBridgeStep (entry.tick m) before b
-      → length (output_of b) ≡ length (all_made (stepped p s h (entry.tick m)).emits)
-  counted m true accepts step =
-      ap (λ (es : List Emit). length es) ((step p s h could stands).0 accepts).emits
-      ∙ made_counted m (all_out p s h (entry.tick m))
-      ∙ ap (λ (x : Stepped p.gateway s). length (all_made x.emits)) (sym (if_accepted p s h (entry.tick m) accepts))
-  counted m false refuses step =
-      ap (λ (es : List Emit). length es) ((step p s h could stands).1 refuses).emits
-      ∙ made_counted (now h) (broken rules.moment_back detail.Nothing ∷ [])
-      ∙ ap (λ (x : Stepped p.gateway s). length (all_made x.emits)) (sym (if_refused p s h (entry.tick m) refuses))
+  counted : (e : Entry) → IsBridgeStep e before b → length (output_of b) ≡ length (all_made (stepped p s h e).emits)
+  counted e step =
+      made_counted b.gateway.moment (output_of b) ∙ ap (λ (es : List Emitted). length (all_made es)) (step p s h could stands).emits
 
   has_line : (e : Seen) → IsBridgeStep (entry_of e) before b → is_recorded e (output_of b) ≡ is_recorded e (all_made (stepped p s h (entry_of e)).emits)
   has_line (capture.frame m f) step = refl
   has_line (capture.datagram m bytes) step = refl
-  has_line (capture.tick m) step = ap (λ (n : ℕ). nat_lt 0 n) (counted m (is_accepted h (entry.tick m)) refl step)
+  has_line (capture.tick m) step = ap (λ (n : ℕ). nat_lt 0 n) (counted (entry.tick m) step)
 
 -- ---- in front of what the event makes
 
@@ -82,7 +64,7 @@ module _ (e : Seen) (before b : Bridged) (step : IsBridgeStep (entry_of e) befor
       let h = g.history in
       let due = (emitted_at p e g).due in
       ap (λ (r : Bool). recorded_where (r && is_recorded e (output_of b)) (event_line e) ++ due)
-      (kept_by p s h before b stands.0 stands.1 (entry_of e) (is_accepted h (entry_of e)) refl step)
+      (kept p s h before b stands.0 stands.1 (entry_of e) step)
       ∙ ap (λ (there : Bool). recorded_where (p.records && there) (event_line e) ++ due) (has_line p s h before b stands.0 stands.1 e step)
 
   -- the line couldn't be written whole

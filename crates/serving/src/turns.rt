@@ -219,8 +219,7 @@ fn pass_time<K: Sink, B: Link, E: Link>(
     take(bridge, &Event::Tick { moment }, out, bus, net)
 }
 
-/// Lets the bridge take an event, and then the command that it completes, and hands on what each leaves. The event's line comes before it,
-/// where it has one.
+/// Lets the bridge take an event, and hands on what it leaves. The event's line comes before it, where it has one.
 fn take<K: Sink, B: Link, E: Link>(
     bridge: &mut Bridge,
     event: &Event<'_>,
@@ -241,13 +240,5 @@ fn take<K: Sink, B: Link, E: Link>(
         Ok(()) => {}
         Err(Failed) => return Err(Failed),
     }
-    match hand_on(bridge, bridge.moment(), out, bus, net) {
-        Ok(()) => {}
-        Err(Failed) => return Err(Failed),
-    }
-    if bridge.obey() {
-        hand_on(bridge, bridge.moment(), out, bus, net)
-    } else {
-        Ok(())
-    }
+    hand_on(bridge, bridge.moment(), out, bus, net)
 }

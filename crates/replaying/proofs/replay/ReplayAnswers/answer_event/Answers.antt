@@ -18,17 +18,16 @@ returns g c =
     let w = c.args.writer.now in
     let lent = c.args.self.now.bridge in
     let before = lent.now in
-    let b = c.take.new.self in
+    let after = c.take.new.self in
     let first = c.open-opened.ensures in
-    let next = c.send_ordered.ensures in
-    let after = c.send_ordered.new.bridge in
-    let s = next.2 t f w (first.0 ++ output_text c.moment.result b) (c.send_output-taken.ensures t f w first.0 first.2) in
+    let text = first.0 ++ output_text c.moment.result after in
+    let s = c.send_output.ensures t f w first.0 first.2 in
     let opens = subst (λ (m : ℕ). IsOpening m before first.0 c.open-opened.new.bridge) c.moment_of.ensures first.1 in
-    let gives = gives_event e n before c.open-opened.new.bridge b after first.0 next.0 opens c.take.ensures.step next.1 in
+    let gives = gives_event e n before c.open-opened.new.bridge after first.0 opens c.take.ensures.step in
     record {
-      sent = is_sent (IsAnswer c.args.self.now n (Ok (view e))) t (g.K.Sink.taken c.send_ordered.new.out) w ((first.0 ++ output_text c.moment.result b) ++ next.0)
-          c.send_ordered.new.writer (record { bridge = record lent { now = after } }) c.send_ordered.result
-          (subst (λ (m : ℕ). GivesReplay before n (Ok (view e)) ((first.0 ++ output_text m b) ++ next.0) after) (sym c.moment.ensures) gives)
+      sent = is_sent (IsAnswer c.args.self.now n (Ok (view e))) t (g.K.Sink.taken c.send_output.new.out) w text
+          c.send_output.new.writer (record { bridge = record lent { now = after } }) c.send_output.result
+          (subst (λ (m : ℕ). GivesReplay before n (Ok (view e)) (first.0 ++ output_text m after) after) (sym c.moment.ensures) gives)
           s.writes;
       cause = s.cause;
     }
