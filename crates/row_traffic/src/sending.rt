@@ -37,7 +37,7 @@ pub(crate) fn send_reading(address: u8, sequence: u8, reading: &Reading, out: &m
 }
 
 /// Whether the message comes as a fast packet.
-fn is_fast(kind: Kind) -> bool
+pub(crate) fn is_fast(kind: Kind) -> bool
     ensures { result ≡ is_fast kind }
 {
     kind == Kind::Fast

@@ -10,9 +10,10 @@ ghost use Rattle.gate_outbox.specs.Output.{and_told, most_told};
 
 use crate::network::heard::Heard;
 use crate::rows::{number, says_something};
-use crate::sending::send_reading;
+use crate::sending::{is_fast, send_reading};
 use gate_outbox::StepEmits;
 use gate_outbox::reports::at_place;
+use pgn_profile::kind;
 use readings::{ROWS, Reading, Row, row};
 use report_rules::NOT_READY;
 use source_choice::{Choice, Rank};
@@ -139,7 +140,7 @@ impl Readings {
         ensures { self.new ≡ reading_after self.old (line_of line) reading.now }
     {
         let row = row(reading);
-        if chosen && line.came.ready && is_fast(row) {
+        if chosen && line.came.ready && is_fast_row(row) {
             let number = number(row);
             self.sequences[number] = (self.sequences[number] + 1) % 8;
         }
@@ -154,11 +155,10 @@ impl Readings {
 }
 
 /// Whether messages of the row are sent as fast packets.
-#[tactic(auto, unfolding(pgn_profile::specs::Profiled::messages))]
-fn is_fast(row: Row) -> bool
+fn is_fast_row(row: Row) -> bool
     ensures { result ≡ is_fast_row row }
 {
-    matches!(row, Row::DistanceLog | Row::Gnss)
+    is_fast(kind(row.pgn()))
 }
 
 /// The rank of a source is its place among those that are listed.
