@@ -1,5 +1,6 @@
 -- The sentence in which each quantity is said.
 use Rattle.std.specs.Prelude.{ℕ, ℤ, pos, ◌-ℤ◌, List, [], ◌∷◌, codes, map, Option, Some, None, is_some, slice_get, unwrap_or}
+use Rattle.readings.specs.Ranges.{greatest_u16}
 use Rattle.sentence_fields.specs.declared.field.Field.{Field}
 use Rattle.sentence_fields.specs.declared.field.Field.TheVariants as field
 use Rattle.sentence_fields.specs.declared.written_unit.WrittenUnit.{WrittenUnit}
@@ -25,7 +26,7 @@ air_bars = by 1 100 4 2000000 5
 
 -- from 100 Pa
 abbrev pub oil_bars : WrittenUnit
-oil_bars = by 1 10 2 65532 4
+oil_bars = by 1 10 2 greatest_u16 4
 
 -- from 0.004 %
 abbrev pub percent : WrittenUnit
@@ -37,7 +38,7 @@ celsius = by 1 100 1 16504062 6
 
 -- from 0.25 a minute
 abbrev pub revolutions : WrittenUnit
-revolutions = by 5 2 1 65532 6
+revolutions = by 5 2 1 greatest_u16 6
 
 -- from 0.01 V
 abbrev pub volts : WrittenUnit

@@ -1,6 +1,6 @@
 -- The payloads that say the quantities, after canboat's tables.
 use Rattle.std.specs.Prelude.{ℕ, List, [], ◌∷◌}
-use Rattle.readings.specs.Ranges.{either_side, up_to}
+use Rattle.readings.specs.Ranges.{either_side, greatest_u16, up_to}
 use Rattle.pgn_profile.specs.declared.kinds.Kind.{Kind}
 use Rattle.pgn_profile.specs.declared.kinds.Kind.TheVariants.{Single, Fast}
 use Rattle.quantities.specs.declared.about.Quantity.{Quantity}
@@ -32,19 +32,19 @@ alone first = pair first Absent
 unfoldable pub entries : List Entry
 entries =
     entry quantity.Attitude 127257 Single 7 Always (pair (Signed 3 2 (either_side 31416)) (Signed 5 2 (either_side 31416)))
-    ∷ entry quantity.SetDrift 129291 Single 6 (Bits 1 0 2 0) (triple (Unsigned 2 2 (up_to 62832)) Absent (Unsigned 4 2 (up_to 65532)))
-    ∷ entry quantity.SetDrift 129291 Single 6 (Bits 1 0 2 1) (triple Absent (Unsigned 2 2 (up_to 62832)) (Unsigned 4 2 (up_to 65532)))
+    ∷ entry quantity.SetDrift 129291 Single 6 (Bits 1 0 2 0) (triple (Unsigned 2 2 (up_to 62832)) Absent (Unsigned 4 2 (up_to greatest_u16)))
+    ∷ entry quantity.SetDrift 129291 Single 6 (Bits 1 0 2 1) (triple Absent (Unsigned 2 2 (up_to 62832)) (Unsigned 4 2 (up_to greatest_u16)))
     ∷ entry quantity.SpeedComponents 130578 Fast 12 Always (six (Signed 0 2 (either_side 32764)) (Signed 2 2 (either_side 32764)) (Signed 4 2 (either_side 32764)) (Signed 6 2 (either_side 32764)) (Signed 8 2 (either_side 32764)) (Signed 10 2 (either_side 32764)))
     ∷ entry quantity.AirPressure 130314 Single 7 (Bits 2 0 8 0) (alone (Signed 3 4 (up_to 2000000)))
     ∷ entry quantity.AirHumidity 130313 Single 5 (Bits 2 0 8 1) (alone (Signed 3 2 (up_to 25000)))
-    ∷ entry quantity.AirTemperature 130312 Single 5 (Bits 2 0 8 1) (alone (Multiple 3 2 65532 10))
+    ∷ entry quantity.AirTemperature 130312 Single 5 (Bits 2 0 8 1) (alone (Multiple 3 2 greatest_u16 10))
     ∷ entry quantity.AirTemperature 130316 Single 6 (Bits 2 0 8 1) (alone (Unsigned 3 3 (up_to 16777212)))
-    ∷ entry quantity.SeaTemperature 130310 Single 3 Always (alone (Multiple 1 2 65532 10))
-    ∷ entry quantity.SeaTemperature 130311 Single 4 (Bits 1 0 6 0) (alone (Multiple 2 2 65532 10))
-    ∷ entry quantity.EngineFirst 127488 Single 3 (Bits 0 0 8 0) (alone (Unsigned 1 2 (up_to 65532)))
-    ∷ entry quantity.EngineSecond 127488 Single 3 (Bits 0 0 8 1) (alone (Unsigned 1 2 (up_to 65532)))
-    ∷ entry quantity.EngineStateFirst 127489 Fast 26 (Bits 0 0 8 0) (pair (Multiple 5 2 65532 10) (Unsigned 1 2 (up_to 65532)))
-    ∷ entry quantity.EngineStateSecond 127489 Fast 26 (Bits 0 0 8 1) (pair (Multiple 5 2 65532 10) (Unsigned 1 2 (up_to 65532)))
+    ∷ entry quantity.SeaTemperature 130310 Single 3 Always (alone (Multiple 1 2 greatest_u16 10))
+    ∷ entry quantity.SeaTemperature 130311 Single 4 (Bits 1 0 6 0) (alone (Multiple 2 2 greatest_u16 10))
+    ∷ entry quantity.EngineFirst 127488 Single 3 (Bits 0 0 8 0) (alone (Unsigned 1 2 (up_to greatest_u16)))
+    ∷ entry quantity.EngineSecond 127488 Single 3 (Bits 0 0 8 1) (alone (Unsigned 1 2 (up_to greatest_u16)))
+    ∷ entry quantity.EngineStateFirst 127489 Fast 26 (Bits 0 0 8 0) (pair (Multiple 5 2 greatest_u16 10) (Unsigned 1 2 (up_to greatest_u16)))
+    ∷ entry quantity.EngineStateSecond 127489 Fast 26 (Bits 0 0 8 1) (pair (Multiple 5 2 greatest_u16 10) (Unsigned 1 2 (up_to greatest_u16)))
     ∷ entry quantity.BatteryFirst 127508 Single 5 (Bits 0 0 8 0) (pair (Signed 1 2 (either_side 32764)) (Signed 3 2 (either_side 32764)))
     ∷ entry quantity.BatterySecond 127508 Single 5 (Bits 0 0 8 1) (pair (Signed 1 2 (either_side 32764)) (Signed 3 2 (either_side 32764)))
     ∷ entry quantity.FuelFirst 127505 Single 3 (Bits 0 0 8 0x00) (alone (Signed 1 2 (up_to 25000)))

@@ -9,6 +9,7 @@ use crate::about::Quantity;
 use crate::part::{Part, Selector};
 use pgn_profile::Kind;
 use readings::Range;
+use readings::range::GREATEST_U16;
 
 /// The payloads of one parameter group that say a quantity.
 pub(crate) struct Entry {
@@ -83,7 +84,7 @@ macro_rules! bits {
 
 /// An unsigned number by its place, its width and its greatest value.
 macro_rules! unsigned {
-    ($place:literal, $width:literal, $high:literal) => {
+    ($place:literal, $width:literal, $high:expr) => {
         Part::Unsigned {
             place: $place,
             width: $width,
@@ -97,11 +98,11 @@ macro_rules! unsigned {
 
 /// The same, kept times a factor.
 macro_rules! multiple {
-    ($place:literal, $width:literal, $high:literal, $factor:literal) => {
+    ($place:literal, $width:literal, $high:expr, $factor:literal) => {
         Part::Multiple {
             place: $place,
             width: $width,
-            high: $high,
+            high: $high as u32,
             factor: $factor,
         }
     };
@@ -144,19 +145,19 @@ const ENTRIES: usize = 19;
 /// The payloads of each quantity, in the order of the quantities.
 static TABLE: [Entry; ENTRIES] = [
     entry!(Attitude, ATTITUDE, Single, 7, Selector::Always, first: signed!(3, 2, -31_416, 31_416), second: signed!(5, 2, -31_416, 31_416)),
-    entry!(SetDrift, SET_DRIFT_RAPID_UPDATE, Single, 6, bits!(1, 0, 2, 0), first: unsigned!(2, 2, 62_832), second: Part::Absent, third: unsigned!(4, 2, 65_532)),
-    entry!(SetDrift, SET_DRIFT_RAPID_UPDATE, Single, 6, bits!(1, 0, 2, 1), first: Part::Absent, second: unsigned!(2, 2, 62_832), third: unsigned!(4, 2, 65_532)),
+    entry!(SetDrift, SET_DRIFT_RAPID_UPDATE, Single, 6, bits!(1, 0, 2, 0), first: unsigned!(2, 2, 62_832), second: Part::Absent, third: unsigned!(4, 2, GREATEST_U16)),
+    entry!(SetDrift, SET_DRIFT_RAPID_UPDATE, Single, 6, bits!(1, 0, 2, 1), first: Part::Absent, second: unsigned!(2, 2, 62_832), third: unsigned!(4, 2, GREATEST_U16)),
     entry!(SpeedComponents, VESSEL_SPEED_COMPONENTS, Fast, 12, Selector::Always, first: signed!(0, 2, -32_764, 32_764), second: signed!(2, 2, -32_764, 32_764), third: signed!(4, 2, -32_764, 32_764), fourth: signed!(6, 2, -32_764, 32_764), fifth: signed!(8, 2, -32_764, 32_764), sixth: signed!(10, 2, -32_764, 32_764)),
     entry!(AirPressure, ACTUAL_PRESSURE, Single, 7, bits!(2, 0, 8, 0), first: signed!(3, 4, 0, 2_000_000)),
     entry!(AirHumidity, HUMIDITY, Single, 5, bits!(2, 0, 8, 1), first: signed!(3, 2, 0, 25_000)),
-    entry!(AirTemperature, TEMPERATURE, Single, 5, bits!(2, 0, 8, 1), first: multiple!(3, 2, 65_532, 10)),
+    entry!(AirTemperature, TEMPERATURE, Single, 5, bits!(2, 0, 8, 1), first: multiple!(3, 2, GREATEST_U16, 10)),
     entry!(AirTemperature, TEMPERATURE_EXTENDED_RANGE, Single, 6, bits!(2, 0, 8, 1), first: unsigned!(3, 3, 16_777_212)),
-    entry!(SeaTemperature, ENVIRONMENTAL_PARAMETERS_OBSOLETE, Single, 3, Selector::Always, first: multiple!(1, 2, 65_532, 10)),
-    entry!(SeaTemperature, ENVIRONMENTAL_PARAMETERS, Single, 4, bits!(1, 0, 6, 0), first: multiple!(2, 2, 65_532, 10)),
-    entry!(EngineFirst, ENGINE_PARAMETERS_RAPID_UPDATE, Single, 3, bits!(0, 0, 8, 0), first: unsigned!(1, 2, 65_532)),
-    entry!(EngineSecond, ENGINE_PARAMETERS_RAPID_UPDATE, Single, 3, bits!(0, 0, 8, 1), first: unsigned!(1, 2, 65_532)),
-    entry!(EngineStateFirst, ENGINE_PARAMETERS_DYNAMIC, Fast, 26, bits!(0, 0, 8, 0), first: multiple!(5, 2, 65_532, 10), second: unsigned!(1, 2, 65_532)),
-    entry!(EngineStateSecond, ENGINE_PARAMETERS_DYNAMIC, Fast, 26, bits!(0, 0, 8, 1), first: multiple!(5, 2, 65_532, 10), second: unsigned!(1, 2, 65_532)),
+    entry!(SeaTemperature, ENVIRONMENTAL_PARAMETERS_OBSOLETE, Single, 3, Selector::Always, first: multiple!(1, 2, GREATEST_U16, 10)),
+    entry!(SeaTemperature, ENVIRONMENTAL_PARAMETERS, Single, 4, bits!(1, 0, 6, 0), first: multiple!(2, 2, GREATEST_U16, 10)),
+    entry!(EngineFirst, ENGINE_PARAMETERS_RAPID_UPDATE, Single, 3, bits!(0, 0, 8, 0), first: unsigned!(1, 2, GREATEST_U16)),
+    entry!(EngineSecond, ENGINE_PARAMETERS_RAPID_UPDATE, Single, 3, bits!(0, 0, 8, 1), first: unsigned!(1, 2, GREATEST_U16)),
+    entry!(EngineStateFirst, ENGINE_PARAMETERS_DYNAMIC, Fast, 26, bits!(0, 0, 8, 0), first: multiple!(5, 2, GREATEST_U16, 10), second: unsigned!(1, 2, GREATEST_U16)),
+    entry!(EngineStateSecond, ENGINE_PARAMETERS_DYNAMIC, Fast, 26, bits!(0, 0, 8, 1), first: multiple!(5, 2, GREATEST_U16, 10), second: unsigned!(1, 2, GREATEST_U16)),
     entry!(BatteryFirst, BATTERY_STATUS, Single, 5, bits!(0, 0, 8, 0), first: signed!(1, 2, -32_764, 32_764), second: signed!(3, 2, -32_764, 32_764)),
     entry!(BatterySecond, BATTERY_STATUS, Single, 5, bits!(0, 0, 8, 1), first: signed!(1, 2, -32_764, 32_764), second: signed!(3, 2, -32_764, 32_764)),
     entry!(FuelFirst, FLUID_LEVEL, Single, 3, bits!(0, 0, 8, 0x00), first: signed!(1, 2, 0, 25_000)),

@@ -1,10 +1,11 @@
 //! The units in which the quantities are said.
 
+use readings::range::GREATEST_U16;
 use sentence_fields::written_unit::WrittenUnit;
 
 /// A unit by its fraction, its decimals, the largest value of either sign and the most digits.
 macro_rules! unit {
-    ($num:literal / $den:literal, $places:literal, $largest:literal, $digits:literal) => {
+    ($num:literal / $den:literal, $places:literal, $largest:expr, $digits:literal) => {
         WrittenUnit {
             num: $num,
             den: $den,
@@ -22,7 +23,7 @@ pub const COMPONENT_KNOTS: WrittenUnit = unit!(90 / 463, 2, 32_764, 4);
 pub const AIR_BARS: WrittenUnit = unit!(1 / 100, 4, 2_000_000, 5);
 
 /// The oil's pressure, from 100 Pa.
-pub const OIL_BARS: WrittenUnit = unit!(1 / 10, 2, 65_532, 4);
+pub const OIL_BARS: WrittenUnit = unit!(1 / 10, 2, GREATEST_U16 as u64, 4);
 
 /// Humidity and levels, from 0.004 %.
 pub const PERCENT: WrittenUnit = unit!(1 / 25, 1, 25_000, 4);
@@ -31,7 +32,7 @@ pub const PERCENT: WrittenUnit = unit!(1 / 25, 1, 25_000, 4);
 pub const CELSIUS: WrittenUnit = unit!(1 / 100, 1, 16_504_062, 6);
 
 /// Revolutions a minute, from 0.25.
-pub const REVOLUTIONS: WrittenUnit = unit!(5 / 2, 1, 65_532, 6);
+pub const REVOLUTIONS: WrittenUnit = unit!(5 / 2, 1, GREATEST_U16 as u64, 6);
 
 /// From 0.01 V.
 pub const VOLTS: WrittenUnit = unit!(1 / 1, 2, 32_764, 5);

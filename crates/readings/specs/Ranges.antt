@@ -11,6 +11,10 @@ up_to high = from_to (pos 0) (pos high)
 abbrev pub either_side : ℕ → Range
 either_side high = from_to (pos 0 -ℤ pos high) (pos high)
 
+-- the greatest unsigned number of two bytes that says something: the three above it are reserved, an error, and not available
+abbrev pub greatest_u16 : ℕ
+greatest_u16 = 65532
+
 abbrev pub angle : Range
 angle = up_to 62832
 
@@ -24,7 +28,7 @@ abbrev pub rudder : Range
 rudder = either_side 15708
 
 abbrev pub speed : Range
-speed = up_to 65532
+speed = up_to greatest_u16
 
 abbrev pub depth : Range
 depth = up_to 1200000
@@ -45,7 +49,7 @@ abbrev pub longitude : Range
 longitude = either_side 1800000000
 
 abbrev pub date : Range
-date = up_to 65532
+date = up_to greatest_u16
 
 abbrev pub time : Range
 time = up_to 863999999

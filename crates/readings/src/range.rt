@@ -32,6 +32,9 @@ impl Range {
     }
 }
 
+/// The greatest unsigned number of two bytes that says something. The three above it are reserved, an error, and not available.
+pub const GREATEST_U16: i64 = 65_532;
+
 /// Headings, courses and the angle of the wind: once round, in 1e-4 radian.
 pub const ANGLE: Range = Range {
     low: 0,
@@ -59,7 +62,7 @@ pub const RUDDER: Range = Range {
 /// Speeds of ship and wind, in 0.01 m/s.
 pub const SPEED: Range = Range {
     low: 0,
-    high: 65_532,
+    high: GREATEST_U16,
 };
 
 /// The depth below the transducer, in 0.01 m.
@@ -98,7 +101,7 @@ pub const LONGITUDE: Range = Range {
 /// Days since 1970-01-01.
 pub const DATE: Range = Range {
     low: 0,
-    high: 65_532,
+    high: GREATEST_U16,
 };
 
 /// The time of day, without leap seconds, in 1e-4 second.

@@ -1,6 +1,8 @@
 //! The units in which sentences say raw values. A raw value times the fraction, rounded to the nearest
 //! whole number, counts the last decimals that are printed.
 
+use readings::range;
+
 /// A unit of a sentence: the fraction from raw values, the decimals, the largest raw value of either
 /// sign, and the most digits that its count has.
 #[derive(Clone, Copy)]
@@ -14,7 +16,7 @@ pub struct WrittenUnit {
 
 /// A unit by its fraction, its decimals, the largest raw value and the most digits.
 macro_rules! unit {
-    ($num:literal / $den:literal, $places:literal, $largest:literal, $digits:literal) => {
+    ($num:literal / $den:literal, $places:literal, $largest:expr, $digits:literal) => {
         WrittenUnit {
             num: $num,
             den: $den,
@@ -37,13 +39,13 @@ pub const DEGREES_PER_MINUTE: WrittenUnit = unit!(
 );
 
 /// From 0.01 m/s.
-pub const KNOTS: WrittenUnit = unit!(900 / 463, 2, 65_532, 6);
+pub const KNOTS: WrittenUnit = unit!(900 / 463, 2, range::SPEED.high as u64, 6);
 
 /// From 0.01 m/s.
-pub const KILOMETRES_PER_HOUR: WrittenUnit = unit!(18 / 5, 2, 65_532, 6);
+pub const KILOMETRES_PER_HOUR: WrittenUnit = unit!(18 / 5, 2, range::SPEED.high as u64, 6);
 
 /// From 0.01 m/s.
-pub const METRES_PER_SECOND: WrittenUnit = unit!(1 / 1, 2, 65_532, 5);
+pub const METRES_PER_SECOND: WrittenUnit = unit!(1 / 1, 2, range::SPEED.high as u64, 5);
 
 /// Depth, from 0.01 m.
 pub const METRES: WrittenUnit = unit!(1 / 1, 2, 1_200_000, 7);

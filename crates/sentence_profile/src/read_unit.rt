@@ -1,6 +1,8 @@
 //! The quantities that sentences write. What is written times the fraction, rounded to the nearest whole number,
 //! is the raw value.
 
+use readings::range;
+
 /// A quantity in a unit of a sentence: the fraction to raw values, the largest raw value of either sign, and
 /// whether a sign may be written.
 #[derive(Clone, Copy)]
@@ -13,7 +15,7 @@ pub struct ReadUnit {
 
 /// A unit by its fraction, the largest raw value, and whether a sign may be written.
 macro_rules! unit {
-    ($num:literal / $den:literal, $most:literal, $signed:literal) => {
+    ($num:literal / $den:literal, $most:expr, $signed:literal) => {
         ReadUnit {
             num: $num,
             den: $den,
@@ -40,11 +42,11 @@ pub const RATE_OF_TURN: ReadUnit = unit!(
 );
 
 /// Knots, to 0.01 m/s.
-pub const KNOTS: ReadUnit = unit!(463 / 9, 65_532, false);
+pub const KNOTS: ReadUnit = unit!(463 / 9, range::SPEED.high as u64, false);
 
-pub const KILOMETRES_PER_HOUR: ReadUnit = unit!(250 / 9, 65_532, false);
+pub const KILOMETRES_PER_HOUR: ReadUnit = unit!(250 / 9, range::SPEED.high as u64, false);
 
-pub const METRES_PER_SECOND: ReadUnit = unit!(100 / 1, 65_532, false);
+pub const METRES_PER_SECOND: ReadUnit = unit!(100 / 1, range::SPEED.high as u64, false);
 
 /// A depth in metres, to 0.01 m.
 pub const METRES: ReadUnit = unit!(100 / 1, 1_200_000, false);
