@@ -9,8 +9,11 @@ use crate::reply::Reply;
 /// How many sizes there are, 0 included: the longest message has 255 packets of 7 bytes.
 const SIZES: u64 = 1786;
 
-/// How many windows there are, 1 to 8.
-const WINDOWS: u64 = 8;
+/// The most packets that are granted at once.
+pub(crate) const GREATEST_WINDOW: u8 = 8;
+
+/// How many windows there are, from 1 on.
+const WINDOWS: u64 = GREATEST_WINDOW as u64;
 
 /// How long the first packet of a grant may take, in microseconds (ISO 11783-3, the longest wait behind a clear to send).
 const GRANTED_GAP: u32 = 1_250_000;

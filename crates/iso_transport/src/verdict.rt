@@ -9,7 +9,7 @@ ghost use Rattle.iso_transport.specs.Verdicts as verdicts;
 use crate::answers::IsoRefusal;
 use crate::connection::{Cm, read_cm};
 use crate::reply::Reply;
-use crate::session::Session;
+use crate::session::{GREATEST_WINDOW, Session};
 use n2k_id::address::ALL;
 use slot_views::Kept;
 
@@ -97,7 +97,7 @@ pub(crate) fn management_verdict(
                 pgn,
             },
         ) => {
-            let window = limit.clamp(1, 8);
+            let window = limit.clamp(1, GREATEST_WINDOW);
             let session = Session { pgn, size, window };
             sized_verdict(addressed, crowded, held, session, packets)
         }
