@@ -1,13 +1,12 @@
 //! Requests (ISO 11783-3, PGN 59904): bytes 0 to 2 are the parameter group that is asked for, low byte first.
 
 ghost use Rattle.std.specs.Prelude.{◌≡◌, ◌≤◌, ◌↔◌, IsTrue, length};
-ghost use Rattle.n2k_id.specs.Identifier.{is_own};
 ghost use Rattle.n2k_id.specs.Pgns.{asked_of};
 ghost use Rattle.bus_identity.specs.Requests as requests;
 
 use crate::pgn;
 use n2k_id::Parts;
-use n2k_id::address::ALL;
+use n2k_id::address::{is_own, is_to};
 use n2k_id::pgn::{ADDRESS_CLAIMED, REQUEST};
 
 /// Whether the frame is a request that has to be answered, by the own address.
@@ -25,7 +24,7 @@ fn concerns(own: Option<u8>, parts: &Parts, held: &[u8]) -> bool
 {
     parts.pgn == REQUEST
         && held.len() >= 3
-        && (parts.destination == ALL || is_own(own, parts.destination))
+        && is_to(own, parts.destination)
         && !is_own(own, parts.source)
 }
 
@@ -38,15 +37,6 @@ fn is_answered(own: Option<u8>, destination: u8, asked: u32) -> bool
         && (asked == pgn::PRODUCT_INFORMATION
             || asked == pgn::PGN_LISTS
             || is_own(own, destination))
-}
-
-fn is_own(own: Option<u8>, address: u8) -> bool
-    ensures { result ≡ is_own own address }
-{
-    match own {
-        Some(own) => address == own,
-        None => false,
-    }
 }
 
 /// What is asked for.

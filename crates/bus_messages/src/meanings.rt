@@ -1,7 +1,6 @@
 //! What a frame is to the gateway, and what a frame breaks that is neither of a fast packet nor of the transport protocol.
 ghost use Rattle.std.specs.Prelude.{◌≡◌, if◌then◌else◌, None};
 ghost use Rattle.pgn_profile.specs.Profiled.{kind_of};
-ghost use Rattle.n2k_id.specs.Identifier.{is_own, is_to};
 ghost use Rattle.history.specs.Emits.{reported};
 ghost use Rattle.history.specs.Meanings.{address_claim, request, if_held, by_kind, meaning_of};
 ghost use Rattle.history.specs.Traces.{is_transport};
@@ -13,7 +12,7 @@ use claim_table::ClaimTable;
 use gate_events::{Detail, Report};
 use gate_outbox::StepEmits;
 use gate_outbox::reports::of_source;
-use n2k_id::address::ALL;
+use n2k_id::address::{ALL, is_own, is_to};
 use n2k_id::pgn::{ADDRESS_CLAIMED, CONNECTION_MANAGEMENT, DATA_TRANSFER, REQUEST};
 use n2k_id::{Name, Parts, read_name};
 use pgn_profile::{Kind, kind};
@@ -63,23 +62,6 @@ pub fn meaning_of(claims: &ClaimTable, parts: &Parts) -> Meaning
     } else {
         by_kind(kind(parts.pgn), held)
     }
-}
-
-/// Whether the address is the gateway's.
-pub fn is_own(own: Option<u8>, address: u8) -> bool
-    ensures { result ≡ is_own own address }
-{
-    match own {
-        Some(own) => address == own,
-        None => false,
-    }
-}
-
-/// Whether a frame is to all or to the gateway.
-fn is_to(own: Option<u8>, destination: u8) -> bool
-    ensures { result ≡ is_to own destination }
-{
-    destination == ALL || is_own(own, destination)
 }
 
 fn is_transport(parts: &Parts) -> bool

@@ -14,7 +14,8 @@ ghost use Rattle.iso_transport.specs.Assembly.{verdict_of, fed_by, fed_after, is
 use crate::answers::{IsoEnded, IsoFed, IsoOutcome, IsoRefusal};
 use crate::key::IsoKey;
 use crate::session::Session;
-use crate::verdict::{Verdict, is_to, management_verdict, packet_verdict};
+use crate::verdict::{Verdict, management_verdict, packet_verdict};
+use n2k_id::address::is_to;
 use n2k_id::pgn::{CONNECTION_MANAGEMENT, DATA_TRANSFER};
 use n2k_id::{Frame, Parts};
 use slot_views::{Begun, Grown, Place, Slots};

@@ -3,14 +3,12 @@ ghost use Rattle.std.specs.Prelude.{◌≡◌, ◌≤◌, []};
 ghost use Rattle.slot_views.specs.Answers.{as_entry};
 ghost use Rattle.iso_transport.specs.IsoRuns as runs;
 ghost use Rattle.iso_transport.specs.Sessions as sessions;
-ghost use Rattle.n2k_id.specs.Identifier.{is_to};
 ghost use Rattle.iso_transport.specs.Verdicts as verdicts;
 
 use crate::answers::IsoRefusal;
 use crate::connection::{Cm, read_cm};
 use crate::reply::Reply;
 use crate::session::{GREATEST_WINDOW, Session};
-use n2k_id::address::ALL;
 use slot_views::Kept;
 
 /// What a frame is.
@@ -64,13 +62,6 @@ impl Verdict {
             Verdict::Next(session, number, _) => session.reply_after(addressed, number),
         }
     }
-}
-
-/// Whether the address is all nodes, or this one.
-pub(crate) fn is_to(own: Option<u8>, destination: u8) -> bool
-    ensures { result ≡ is_to own destination }
-{
-    destination == ALL || own == Some(destination)
 }
 
 /// What a connection management frame is, where the session of its key is of the message `held`. `crowded` says that as many are
