@@ -13,11 +13,9 @@ use fast_packet::FastAssembler;
 use gate_outbox::StepEmits;
 use gate_outbox::frames::reply_from;
 use gate_outbox::reports::of_source;
+use iso_transport::abort_reason::TIMEOUT;
 use iso_transport::{IsoAssembler, IsoEnded, Reply};
 use report_rules::{CLAIM_LOST, EXPIRED};
-
-/// The reason of an abort: a time limit (ISO 11783-3).
-const TIMED_OUT: u8 = 3;
 
 /// Ends the sessions that are overdue at the moment, in the order of their keys. Where the gateway has an address, it tells the
 /// sender of an addressed session.
@@ -39,7 +37,7 @@ fn tell_overdue(own: Option<u8>, ended: IsoEnded, out: &mut StepEmits)
     match own {
         Some(own) if ended.addressed => {
             let reply = Reply::Abort {
-                reason: TIMED_OUT,
+                reason: TIMEOUT,
                 pgn: ended.pgn,
             };
             out.send(reply_from(own, ended.source, &reply));

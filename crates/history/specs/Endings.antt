@@ -9,6 +9,7 @@ use Rattle.gate_events.specs.declared.emit.Detail.TheVariants as detail
 use Rattle.pgn_profile.specs.declared.kinds.Kind.{Kind}
 use Rattle.fast_packet.specs.declared.key.FastKey.{FastKey}
 use Rattle.iso_transport.specs.declared.key.IsoKey.{IsoKey}
+use Rattle.iso_transport.specs.AbortReasons.{timeout}
 use Rattle.tag_block.specs.declared.group_key.GroupKey.{GroupKey}
 use Rattle.history.specs.Known.{Known}
 use Rattle.history.specs.Traces.{NotedFrame}
@@ -33,7 +34,7 @@ session_pgn before notes key = open_pgn (iso_open before.known notes key before.
 
 -- the sender of a session that is addressed is told that it is given up
 abbrev pub abort_reply : Bool → ℕ → Option Reply
-abort_reply addressed pgn = if addressed then Some (Abort 3 pgn) else None
+abort_reply addressed pgn = if addressed then Some (Abort timeout pgn) else None
 
 -- groups of lines know no addresses
 abbrev pub group_ended : List Taken → ℕ → ℕ → GroupKey → Bool

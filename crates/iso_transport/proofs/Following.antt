@@ -13,6 +13,7 @@ use Rattle.iso_transport.specs.declared.session.Session.{Session}
 use Rattle.iso_transport.specs.declared.verdict.Verdict.{Verdict}
 use Rattle.iso_transport.specs.declared.verdict.Verdict.TheVariants.{Again, Refused, Ends, Next}
 use Rattle.iso_transport.specs.Connection.{cm_of}
+use Rattle.iso_transport.specs.AbortReasons.{resources_needed}
 use Rattle.iso_transport.specs.Sessions.{abort_to}
 use Rattle.iso_transport.specs.Answers.{reply_by}
 use Rattle.iso_transport.specs.IsoRuns.{IsoPiece, number_of, end_of, part_of, session_of, need_of, is_next, is_repeat, iso_rules, joined, payload, pgn_of, left_of_run}
@@ -71,7 +72,7 @@ told_is x management addressed q long =
     ∙ cond-false (nat_lt (length x.bytes) 8) (Refused refusal.Size None) (kind_verdict addressed (not x.admitted) pgn (cm_of x.bytes)) long
 
 -- nobody is told anything of a packet to all
-tests_quiet : (s : Session) (left number : ℕ) (short again next : Bool) → reply_by false (if short then Ends refusal.Size (abort_to false 2 s.pgn) else if again then Again else if next then Next s number (end_of left) else Ends refusal.Order (abort_to false 2 s.pgn)) ≡ None
+tests_quiet : (s : Session) (left number : ℕ) (short again next : Bool) → reply_by false (if short then Ends refusal.Size (abort_to false resources_needed s.pgn) else if again then Again else if next then Next s number (end_of left) else Ends refusal.Order (abort_to false resources_needed s.pgn)) ≡ None
 tests_quiet s left number true again next = refl
 tests_quiet s left number false true next = refl
 tests_quiet s left number false false true = refl

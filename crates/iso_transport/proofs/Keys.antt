@@ -24,6 +24,7 @@ use Rattle.iso_transport.specs.declared.session.Session.{Session}
 use Rattle.iso_transport.specs.declared.verdict.Verdict.{Verdict}
 use Rattle.iso_transport.specs.declared.verdict.Verdict.TheVariants.{Ignored, Again, Refused, Ends, Opens, Next}
 use Rattle.iso_transport.specs.Connection.{cm_of}
+use Rattle.iso_transport.specs.AbortReasons.{resources_needed}
 use Rattle.iso_transport.specs.Sessions.{abort_to}
 use Rattle.iso_transport.specs.IsoRuns.{is_size, opens, announced, gap_after, IsoPiece, number_of, end_of, session_of, is_next, is_repeat, iso_rules, pgn_of, left_of_run}
 use Rattle.iso_transport.specs.Audience.{key_of, is_data}
@@ -245,7 +246,7 @@ module _ {cmp : IsoKey → IsoKey → Ordering} (o : IsTotalOrder cmp) (same : (
 -- ---- the answer to one frame
 
 -- what the message that is given up is, by what the frame says
-sized_restarts : (a crowded : Bool) (pgn : Option ℕ) (s : Session) (b : Bool) → restarted_by (if b then opener_verdict a crowded pgn s else Ends refusal.Size (abort_to a 2 s.pgn)) ≡ (if b then pgn else None)
+sized_restarts : (a crowded : Bool) (pgn : Option ℕ) (s : Session) (b : Bool) → restarted_by (if b then opener_verdict a crowded pgn s else Ends refusal.Size (abort_to a resources_needed s.pgn)) ≡ (if b then pgn else None)
 sized_restarts a crowded pgn s false = refl
 sized_restarts a crowded (Some old) s true = refl
 sized_restarts a true None s true = refl
@@ -275,7 +276,7 @@ tests_restart s left number short late false false false first last = last
 packet_restarts : (a : Bool) (q : Option (List IsoPiece)) (x : IsoPiece) → restarted_by (packet_run_verdict a q x) ≡ None
 packet_restarts a None x = refl
 packet_restarts a (Some acc) x =
-    tests_restart (session_of acc) (left_of_run acc) (number_of x.bytes) (Ends refusal.Size (abort_to a 2 (pgn_of acc))) (Ends refusal.Order (abort_to a 2 (pgn_of acc)))
+    tests_restart (session_of acc) (left_of_run acc) (number_of x.bytes) (Ends refusal.Size (abort_to a resources_needed (pgn_of acc))) (Ends refusal.Order (abort_to a resources_needed (pgn_of acc)))
     (nat_lt (length x.bytes) (end_of (left_of_run acc))) (is_repeat acc x) (is_next acc x) refl refl
 
 restarts : (a : Bool) (q : Option (List IsoPiece)) (x : IsoPiece) → restarted_by (run_verdict a q x) ≡ given_up a q x

@@ -4,6 +4,7 @@ use Rattle.std.proofs.Common.{◌≡◌, ℕ, ◌-◌, ◌%◌, ◌==◌, ◌&&�
 use Rattle.std.proofs.Math.Bool.{and-false, or-false}
 use Rattle.slot_views.specs.RunLaws.{fed, finished}
 use Rattle.slot_views.specs.Slots.{Entry}
+use Rattle.iso_transport.specs.AbortReasons.{resources_needed}
 use Rattle.iso_transport.specs.declared.connection.Cm.{Cm}
 use Rattle.iso_transport.specs.declared.session.Session.{Session}
 use Rattle.iso_transport.specs.declared.reply.Reply.{Reply}
@@ -148,7 +149,7 @@ module _ (x : IsoPiece) (management : x.packet ≡ false) where
   sized_replied q packets true request admits ef eo =
       let opened = opened_from true x.bytes (and_parts _ _ eo).1 in
       let told : sized_verdict true (not x.admitted) (option_map pgn_of q) (announced (cm_of x.bytes)) packets ≡ opener_verdict true (not x.admitted) (option_map pgn_of q) (announced (cm_of x.bytes)) = rw ef refl in
-      let rest : Option Reply = if is_request (cm_of x.bytes) then Some (reply.Abort 2 (pgn_of (x ∷ []))) else None in
+      let rest : Option Reply = if is_request (cm_of x.bytes) then Some (reply.Abort resources_needed (pgn_of (x ∷ []))) else None in
       let opener : Option Reply = Some (reply_to_opener (session_of (x ∷ [])) x.admitted) in
       let right : reply_to true q x ≡ Some (reply_to_opener (announced (cm_of x.bytes)) x.admitted) =
       cond-false x.packet (reply_to_packet q x) (if is_opener true x then opener else rest) management ∙ cond-true (is_opener true x) opener rest eo in

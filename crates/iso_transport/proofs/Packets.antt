@@ -11,6 +11,7 @@ use Rattle.iso_transport.specs.declared.answers.IsoRefusal.TheVariants as refusa
 use Rattle.iso_transport.specs.declared.session.Session.{Session}
 use Rattle.iso_transport.specs.declared.verdict.Verdict.{Verdict}
 use Rattle.iso_transport.specs.declared.verdict.Verdict.TheVariants.{Again, Ends, Next}
+use Rattle.iso_transport.specs.AbortReasons.{resources_needed}
 use Rattle.iso_transport.specs.Sessions.{reply_after, abort_to}
 use Rattle.iso_transport.specs.IsoRuns.{packets_of, gap_after, IsoPiece, number_of, end_of, session_of, need_of, is_next, is_repeat, iso_rules, payload, pgn_of, left_of_run}
 use Rattle.iso_transport.specs.Answers.{reply_by}
@@ -57,10 +58,10 @@ reply_is s n most = reply_by_tests s n _ _ refl refl (before_last n (packets_of 
 -- what it is, by the session, the bytes left and the tests of a repeat and of the number
 abbrev by_tests : Bool → Session → ℕ → Bool → Bool → List ℕ → Verdict
 by_tests addressed s left again number bytes =
-    if nat_lt (length bytes) (end_of left) then Ends refusal.Size (abort_to addressed 2 s.pgn)
+    if nat_lt (length bytes) (end_of left) then Ends refusal.Size (abort_to addressed resources_needed s.pgn)
     else if again then Again
     else if number then Next s (number_of bytes) (end_of left)
-    else Ends refusal.Order (abort_to addressed 2 s.pgn)
+    else Ends refusal.Order (abort_to addressed resources_needed s.pgn)
 
 tests_same : (addressed number : Bool) (bytes : List ℕ) (s t : Session) (i j : ℕ) (a b : Bool) → s ≡ t → i ≡ j → a ≡ b → by_tests addressed s i a number bytes ≡ by_tests addressed t j b number bytes
 tests_same addressed number bytes s t i j a b e f g = rw (e, f, g) refl

@@ -1,3 +1,4 @@
+pub mod AbortReasons
 pub mod Connection
 pub mod Replies
 pub mod Sessions

@@ -3,6 +3,7 @@
 use Rattle.std.specs.Prelude.{ℕ, ◌/◌, ◌%◌, ◌^◌, ◌<◌, List, [], ◌∷◌, Option, IfSome, ◌+◌, ◌-◌, Bool, true, false, ◌==◌, min, if◌then◌else◌, Some, None}
 use Rattle.iso_transport.specs.declared.connection.Cm.{Cm}
 use Rattle.iso_transport.specs.declared.connection.Cm.TheVariants as cm
+use Rattle.iso_transport.specs.AbortReasons.{cannot_support_another, resources_needed}
 use Rattle.iso_transport.specs.Connection as control
 use Rattle.iso_transport.specs.declared.reply.Reply.{Reply}
 use Rattle.iso_transport.specs.declared.session.Session.{Session}
@@ -46,11 +47,11 @@ reply_to_next s number = if number == packets_of s.size then Some (reply.EndAck 
 abbrev pub reply_to_packet : Option (List IsoPiece) → IsoPiece → Option Reply
 reply_to_packet None x = None
 reply_to_packet (Some acc) x = if is_next acc x then reply_to_next (session_of acc) (number_of x.bytes)
-    else if is_repeat acc x then None else Some (reply.Abort 2 (pgn_of acc))
+    else if is_repeat acc x then None else Some (reply.Abort resources_needed (pgn_of acc))
 
 -- to an opener: the first grant, or an abort where there is no room
 abbrev pub reply_to_opener : Session → Bool → Reply
-reply_to_opener s admitted = if admitted then reply.Cts (min s.window (packets_of s.size)) 1 s.pgn else reply.Abort 1 s.pgn
+reply_to_opener s admitted = if admitted then reply.Cts (min s.window (packets_of s.size)) 1 s.pgn else reply.Abort cannot_support_another s.pgn
 
 -- the frame is an RTS
 abbrev pub is_request : Option Cm → Bool
@@ -66,4 +67,4 @@ abbrev pub reply_to : Bool → Option (List IsoPiece) → IsoPiece → Option Re
 reply_to false o x = None
 reply_to true o x = if x.packet then reply_to_packet o x
     else if is_opener true x then Some (reply_to_opener (session_of (x ∷ [])) x.admitted)
-    else if is_request (cm_of x.bytes) then Some (reply.Abort 2 (pgn_of (x ∷ []))) else None
+    else if is_request (cm_of x.bytes) then Some (reply.Abort resources_needed (pgn_of (x ∷ []))) else None

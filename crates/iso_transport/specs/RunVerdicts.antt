@@ -6,6 +6,7 @@ use Rattle.iso_transport.specs.declared.answers.IsoRefusal.TheVariants as refusa
 use Rattle.iso_transport.specs.declared.session.Session.{Session}
 use Rattle.iso_transport.specs.declared.verdict.Verdict.{Verdict}
 use Rattle.iso_transport.specs.declared.verdict.Verdict.TheVariants.{Ignored, Again, Refused, Ends, Opens, Next}
+use Rattle.iso_transport.specs.AbortReasons.{resources_needed}
 use Rattle.iso_transport.specs.Sessions.{abort_to, mark_of}
 use Rattle.iso_transport.specs.IsoRuns.{packets_of, gap_after, IsoPiece, number_of, end_of, session_of, pgn_of, left_of_run, is_next, is_repeat, joined, payload}
 use Rattle.iso_transport.specs.Verdicts.{management_verdict, frame_verdict}
@@ -17,10 +18,10 @@ use Rattle.iso_transport.specs.Assembly.{opening, extended}
 abbrev pub packet_run_verdict : Bool → Option (List IsoPiece) → IsoPiece → Verdict
 packet_run_verdict addressed None x = Refused refusal.Orphan None
 packet_run_verdict addressed (Some acc) x =
-    if nat_lt (length x.bytes) (end_of (left_of_run acc)) then Ends refusal.Size (abort_to addressed 2 (pgn_of acc))
+    if nat_lt (length x.bytes) (end_of (left_of_run acc)) then Ends refusal.Size (abort_to addressed resources_needed (pgn_of acc))
     else if is_repeat acc x then Again
     else if is_next acc x then Next (session_of acc) (number_of x.bytes) (end_of (left_of_run acc))
-    else Ends refusal.Order (abort_to addressed 2 (pgn_of acc))
+    else Ends refusal.Order (abort_to addressed resources_needed (pgn_of acc))
 
 -- a frame that is no packet is told by what it says and the message that is open
 abbrev pub run_verdict : Bool → Option (List IsoPiece) → IsoPiece → Verdict

@@ -9,6 +9,7 @@ use Rattle.iso_transport.specs.declared.answers.IsoRefusal.TheVariants as refusa
 use Rattle.iso_transport.specs.declared.session.Session.{Session}
 use Rattle.iso_transport.specs.declared.verdict.Verdict.{Verdict}
 use Rattle.iso_transport.specs.declared.verdict.Verdict.TheVariants.{Ignored, Again, Refused, Ends, Opens, Next}
+use Rattle.iso_transport.specs.AbortReasons.{cannot_support_another, resources_needed}
 use Rattle.iso_transport.specs.Connection as control
 use Rattle.iso_transport.specs.Connection.{cm_of, control_at}
 use Rattle.iso_transport.specs.Sessions.{abort_to, session_at}
@@ -41,11 +42,11 @@ left_of e = (session_in e).size - length e.bytes
 -- an opener finds room where its key's session is open, which it replaces, or fewer are than the limit
 abbrev pub opener_verdict : Bool → Bool → Option ℕ → Session → Verdict
 opener_verdict addressed crowded (Some old) s = Opens s (Some old)
-opener_verdict addressed crowded None s = if crowded then Refused (refusal.Full s.pgn) (abort_to addressed 1 s.pgn) else Opens s None
+opener_verdict addressed crowded None s = if crowded then Refused (refusal.Full s.pgn) (abort_to addressed cannot_support_another s.pgn) else Opens s None
 
 abbrev pub sized_verdict : Bool → Bool → Option ℕ → Session → ℕ → Verdict
 sized_verdict addressed crowded pgn s packets =
-    if is_size s.size packets then opener_verdict addressed crowded pgn s else Ends refusal.Size (abort_to addressed 2 s.pgn)
+    if is_size s.size packets then opener_verdict addressed crowded pgn s else Ends refusal.Size (abort_to addressed resources_needed s.pgn)
 
 abbrev pub abort_verdict : Option ℕ → Verdict
 abort_verdict None = Ignored
@@ -76,10 +77,10 @@ is_again e bytes = (length bytes == 8) && (nat_le 2 e.next && (nat_lt e.next e.n
 abbrev pub packet_verdict : Bool → Option Entry → List ℕ → Verdict
 packet_verdict addressed None bytes = Refused refusal.Orphan None
 packet_verdict addressed (Some e) bytes =
-    if nat_lt (length bytes) (end_of (left_of e)) then Ends refusal.Size (abort_to addressed 2 (pgn_in e))
+    if nat_lt (length bytes) (end_of (left_of e)) then Ends refusal.Size (abort_to addressed resources_needed (pgn_in e))
     else if is_again e bytes then Again
     else if number_of bytes == e.next then Next (session_in e) (number_of bytes) (end_of (left_of e))
-    else Ends refusal.Order (abort_to addressed 2 (pgn_in e))
+    else Ends refusal.Order (abort_to addressed resources_needed (pgn_in e))
 
 -- ---- any frame, in the order in which it is tried
 

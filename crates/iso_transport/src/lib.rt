@@ -2,6 +2,7 @@
 //! one to this node waits for.
 #![tactic(auto)]
 
+pub mod abort_reason;
 mod answers;
 mod assembler;
 mod connection;

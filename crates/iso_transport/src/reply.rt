@@ -12,8 +12,7 @@ pub enum Reply {
     Cts { count: u8, next: u8, pgn: u32 },
     /// The message of `size` bytes came whole, in so many packets (end of message acknowledgement).
     EndAck { size: u16, packets: u8, pgn: u32 },
-    /// The message is given up (connection abort). Reasons: 1, no room for another session; 2, a frame that doesn't fit the
-    /// session, or a size that no message has; 3, a time limit.
+    /// The message is given up (connection abort), for one of the reasons of `abort_reason`.
     Abort { reason: u8, pgn: u32 },
 }
 

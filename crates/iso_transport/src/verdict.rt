@@ -5,6 +5,7 @@ ghost use Rattle.iso_transport.specs.IsoRuns as runs;
 ghost use Rattle.iso_transport.specs.Sessions as sessions;
 ghost use Rattle.iso_transport.specs.Verdicts as verdicts;
 
+use crate::abort_reason::{CANNOT_SUPPORT_ANOTHER, RESOURCES_NEEDED};
 use crate::answers::IsoRefusal;
 use crate::connection::{Cm, read_cm};
 use crate::reply::Reply;
@@ -27,12 +28,6 @@ pub enum Verdict {
     /// The next packet of this session, with this number; its part of the message ends at this place.
     Next(Session, u8, usize),
 }
-
-/// The reason of an abort where there is no room for another session.
-const NO_ROOM: u8 = 1;
-
-/// The reason of an abort where a frame doesn't fit its session, or no message has the size.
-const MISFIT: u8 = 2;
 
 impl Verdict {
     ghost use Rattle.iso_transport.specs.Answers.{reply_by, restarted_by};
@@ -113,11 +108,11 @@ fn sized_verdict(
     ensures { result ≡ verdicts.sized_verdict addressed crowded held session packets }
 {
     if !is_size(session.size, packets) {
-        let reply = abort_to(addressed, MISFIT, session.pgn);
+        let reply = abort_to(addressed, RESOURCES_NEEDED, session.pgn);
         return Verdict::Ends(IsoRefusal::Size, reply);
     }
     if crowded && held.is_none() {
-        let reply = abort_to(addressed, NO_ROOM, session.pgn);
+        let reply = abort_to(addressed, CANNOT_SUPPORT_ANOTHER, session.pgn);
         return Verdict::Refused(IsoRefusal::Full(session.pgn), reply);
     }
     Verdict::Opens(session, held)
@@ -159,14 +154,14 @@ pub(crate) fn packet_verdict(addressed: bool, kept: Kept, held: &[u8], bytes: &[
     let left = usize::from(session.size).saturating_sub(held.len());
     let end = 1 + left.min(7);
     if bytes.len() < end {
-        let reply = abort_to(addressed, MISFIT, session.pgn);
+        let reply = abort_to(addressed, RESOURCES_NEEDED, session.pgn);
         return Verdict::Ends(IsoRefusal::Size, reply);
     }
     if is_again(kept, held, bytes) {
         return Verdict::Again;
     }
     if u16::from(bytes[0]) != kept.next {
-        let reply = abort_to(addressed, MISFIT, session.pgn);
+        let reply = abort_to(addressed, RESOURCES_NEEDED, session.pgn);
         return Verdict::Ends(IsoRefusal::Order, reply);
     }
     Verdict::Next(session, bytes[0], end)
