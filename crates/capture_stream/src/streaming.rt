@@ -10,15 +10,12 @@ use crate::answering::Answers;
 use crate::ending::Ending;
 use crate::line_reader::{LineReader, Next};
 use crate::writer::Writer;
-use capture_text::{LineRule, read_line, usual_frame};
+use capture_text::{LineRule, MOST_BYTES, Room, read_line, usual_frame};
 use gate_events::Event;
 use gate_outside::{Failed, Sink, Source};
 
 /// How many bytes an input may have.
 const LIMIT: u64 = 1 << 40;
-
-/// Room for the bytes of the datagram that a line holds.
-type Room = [u8; 2048];
 
 // Sends what a line of any layout gives. It is kept apart from the way of nearly all lines, whose event then needn't go by way of memory.
 #[inline(never)]
@@ -161,7 +158,7 @@ pub fn answer_capture<A: Answers, S: Source, K: Sink>(
 {
     let mut reader = LineReader::new();
     let mut writer = Writer::new();
-    let mut room: Room = [0; 2048];
+    let mut room: Room = [0; MOST_BYTES];
     let mut number = 0;
     let mut total = 0;
     'pieces: loop {

@@ -17,6 +17,6 @@ mod writing;
 
 pub use gate_events::{Detail, Emit, Event, Report};
 pub use line_rule::LineRule;
-pub use reading::{LONGEST_LINE, read_line};
+pub use reading::{LONGEST_LINE, MOST_BYTES, Room, read_line};
 pub use usual::usual_frame;
 pub use writing::{write_emit, write_event};

@@ -17,6 +17,12 @@ use sentence_text::byte_at;
 /// The most bytes of a line. A longer one is refused unread.
 pub const LONGEST_LINE: usize = 4096;
 
+/// The most bytes of the datagram that a line holds, each in two digits.
+pub const MOST_BYTES: usize = 2048;
+
+/// Room for the bytes of the datagram that a line holds.
+pub type Room = [u8; MOST_BYTES];
+
 /// Puts the bytes that the digits write into the room, and says how many there are.
 fn put_bytes(digits: &[u8], room: &mut [u8]) -> Option<usize>
     ensures { spec.IsPut result room.new (spec.bytes_of (length room.old) digits.now) }
@@ -46,7 +52,7 @@ fn put_bytes_before_end(text: &[u8], room: &mut [u8]) -> Option<usize>
 
 /// Puts the bytes of a datagram into the room, and says how many there are.
 #[tactic(auto, unfolding(crate::specs::Reading::bytes_at))]
-fn put_datagram(tail: &[u8], room: &mut [u8; 2048]) -> Option<usize>
+fn put_datagram(tail: &[u8], room: &mut Room) -> Option<usize>
     ensures { spec.IsPut result room.new (spec.bytes_at tail.now) }
 {
     if byte_at(tail, 0) != b' ' || byte_at(tail, 5) != b'#' || !is_group(&tail[1..5]) {
@@ -187,7 +193,7 @@ fn event<'a>(
     moment: u64,
     name: &[u8],
     tail: &[u8],
-    room: &'a mut [u8; 2048],
+    room: &'a mut Room,
 ) -> Result<Event<'a>, LineRule>
     ensures reads { spec.seen result ≡ spec.seen_behind moment name.now tail.now }
     ensures valid { IfOk result IsValid }
@@ -212,7 +218,7 @@ fn event<'a>(
 }
 
 #[tactic(auto, unfolding(crate::specs::Reading::read))]
-fn parse<'a>(line: &[u8], room: &'a mut [u8; 2048]) -> Result<Event<'a>, LineRule>
+fn parse<'a>(line: &[u8], room: &'a mut Room) -> Result<Event<'a>, LineRule>
     ensures reads { spec.seen result ≡ spec.read line.now }
     ensures valid { IfOk result IsValid }
 {
@@ -229,7 +235,7 @@ fn parse<'a>(line: &[u8], room: &'a mut [u8; 2048]) -> Result<Event<'a>, LineRul
 }
 
 /// What a line of a capture says, without its line end. The bytes of a datagram are put into the room.
-pub fn read_line<'a>(line: &[u8], room: &'a mut [u8; 2048]) -> Result<Event<'a>, LineRule>
+pub fn read_line<'a>(line: &[u8], room: &'a mut Room) -> Result<Event<'a>, LineRule>
     // What is read is spelled so.
     ensures found { IfOk result (λ e. IsLine (view e) line.now) }
     // What is spelled so is read.

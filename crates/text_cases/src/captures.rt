@@ -1,5 +1,5 @@
 use arrayvec::ArrayVec;
-use capture_text::{Detail, Emit, Event, LineRule, Report, read_line, write_emit};
+use capture_text::{Detail, Emit, Event, LineRule, MOST_BYTES, Report, read_line, write_emit};
 use n2k_id::Frame;
 use readings::Row;
 use sentence_text::{Group, Sfi};
@@ -29,7 +29,7 @@ const FRAMES: [(&[u8], u64, u32, &[u8]); 4] = [
 
 /// Whether a line says this frame.
 fn says_frame(line: &[u8], at: u64, id: u32, held: &[u8]) -> bool {
-    match read_line(line, &mut [0; 2048]) {
+    match read_line(line, &mut [0; MOST_BYTES]) {
         Ok(Event::Frame { moment, frame }) => moment == at && Frame::of(id, held) == Some(frame),
         _ => false,
     }
@@ -56,7 +56,7 @@ const DATAGRAMS: [(&[u8], &[u8]); 4] = [
 
 /// Whether a line says this datagram.
 fn says_datagram(line: &[u8], at: u64, held: &[u8]) -> bool {
-    match read_line(line, &mut [0; 2048]) {
+    match read_line(line, &mut [0; MOST_BYTES]) {
         Ok(Event::Datagram { moment, bytes }) => moment == at && bytes == held,
         _ => false,
     }
@@ -71,7 +71,7 @@ fn lines_say_datagrams(rt: HostRuntime) {
 
 /// Whether a line says that time passes, at the first second.
 fn is_tick(line: &[u8]) -> bool {
-    match read_line(line, &mut [0; 2048]) {
+    match read_line(line, &mut [0; MOST_BYTES]) {
         Ok(Event::Tick { moment }) => moment == 1_000_000,
         _ => false,
     }
@@ -85,7 +85,7 @@ fn lines_say_ticks(rt: HostRuntime) {
 
 #[test]
 fn a_line_without_a_byte_says_nothing(rt: HostRuntime) {
-    assert!(rt; read_line(b"", &mut [0; 2048]).err() == Some(LineRule::Form));
+    assert!(rt; read_line(b"", &mut [0; MOST_BYTES]).err() == Some(LineRule::Form));
 }
 
 /// Whether the datagram is written as this line.
