@@ -13,5 +13,5 @@ mod writing;
 
 pub use fault::DatagramFault;
 pub use item::LineItem;
-pub use line_iter::{LONGEST_DATAGRAM, LineIter, lines};
+pub use line_iter::{LONGEST_DATAGRAM, LineIter, lines, text_run};
 pub use writing::{begin, push_line, write_sentence};

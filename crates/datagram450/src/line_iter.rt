@@ -82,7 +82,7 @@ impl<'a> Iterator for LineIter<'a> {
 }
 
 /// How many bytes come before the first LF.
-fn text_run(bytes: &[u8]) -> usize
+pub fn text_run(bytes: &[u8]) -> usize
     ensures run { result ≡ position_or_len (λ c. c == 10) bytes.now }
     ensures within { result ≤ length bytes.now }
 {

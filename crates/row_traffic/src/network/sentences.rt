@@ -1,6 +1,5 @@
 //! The sentences from the network (IEC 61162-1), and the readings that they give.
 ghost use Rattle.std.specs.Prelude.{◌≡◌, ◌==◌, ◌+◌, ◌<◌, ◌≤◌, [], ◌∷◌, ◌++◌, false, length, MatchOption};
-ghost use Rattle.std.specs.List.{position_or_len};
 ghost use Rattle.sentence_text.specs.Reading.{parts};
 ghost use Rattle.sentence_profile.specs.Reading.{read_row};
 ghost use Rattle.datagram450.specs.Datagram.{cut};
@@ -11,6 +10,7 @@ ghost use Rattle.gate_outbox.specs.Output.{and_told, most_told};
 
 use crate::network::heard::Heard;
 use crate::network::rows::Readings;
+use datagram450::text_run;
 use gate_events::{Detail, Report};
 use gate_outbox::StepEmits;
 use report_rules::{FIELD_FORM, FIELD_RANGE};
@@ -29,14 +29,6 @@ pub(crate) fn take_joined(readings: &mut Readings, line: Heard, joined: &[u8], o
         take_text(readings, line, text, out);
         rest = behind;
     }
-}
-
-/// How many bytes come before the first LF.
-fn text_run(bytes: &[u8]) -> usize
-    ensures run { result ≡ position_or_len (λ c. c == 10) bytes.now }
-    ensures within { result ≤ length bytes.now }
-{
-    bytes.iter().take_while(|byte| **byte != b'\n').count()
 }
 
 /// The first line, up to its LF, and what follows it.
