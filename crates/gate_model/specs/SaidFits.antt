@@ -7,6 +7,7 @@ use Rattle.readings.specs.Rows.{IsValid, row_of}
 use Rattle.claim_table.specs.declared.answer.ClaimStep.{ClaimStep}
 use Rattle.sentence_text.specs.Names.{IsSfi}
 use Rattle.sentence_text.specs.Sentence.{longest_written}
+use Rattle.sentence_fields.specs.Field.{most_sentences}
 use Rattle.tag_block.specs.declared.writing.TagParts.{TagParts}
 use Rattle.tag_block.specs.Tag.{most_count}
 use Rattle.tag_block.specs.Writing.{IsWritable, most_written_code, longest_block, longest_packet}
@@ -42,7 +43,7 @@ tag_of c k r number before = record { group = part_of (length (sentences_by c r)
 pub record ReadingFits (c : Settings) (k : SaidKept) (r : Reading) : Type 0 where
   -- one sentence or two
   pub some : 1 ≤ length (sentences_by c r)
-  pub few : length (sentences_by c r) ≤ 2
+  pub few : length (sentences_by c r) ≤ most_sentences
   pub short : AllByRecursion (λ x. length x ≤ longest_written) (sentences_by c r)
   pub tags : (number before : ℕ) → 1 ≤ number → number ≤ length (sentences_by c r) → IsWritable (tag_of c k r number before)
   pub room : length (datagram_by c k r) ≤ longest_packet

@@ -5,6 +5,7 @@ ghost use Rattle.std.specs.List.{AllByRecursion};
 ghost use Rattle.readings.specs.Rows.{IsValid, row_of, row_number};
 ghost use Rattle.sentence_text.specs.Byte.{is_capital};
 ghost use Rattle.source_choice.specs.Choices.{opened, forgotten};
+ghost use Rattle.sentence_fields.specs.Field.{most_sentences};
 ghost use Rattle.tag_block.specs.Tag.{most_count};
 ghost use Rattle.history.specs.Choice.{rank_of, reading_in};
 ghost use Rattle.gate_events.specs.Emit.{net};
@@ -161,7 +162,7 @@ impl Said {
 
     /// Counts so many lines that were said on a transmission group.
     fn count(&mut self, config: &SelectiveConfig, group: Group, count: u16)
-        requires { count ≤ 2 }
+        requires { count ≤ most_sentences }
         ensures { self.new ≡ record self.old {
           lines = map (lines_more (settings_by config.now) self.old group count) row_numbers;
           groups = groups_more self.old count;
@@ -172,7 +173,7 @@ impl Said {
     }
 
     fn count_lines(&mut self, config: &SelectiveConfig, group: Group, count: u16)
-        requires { count ≤ 2 }
+        requires { count ≤ most_sentences }
         ensures { self.new ≡ record self.old { lines = map (lines_more (settings_by config.now) self.old group count) row_numbers } }
     {
         self.lines = self.counted_lines(config, group, count);
@@ -180,7 +181,7 @@ impl Said {
 
     /// How many lines were said on the transmission group of each row, with so many more on a transmission group.
     fn counted_lines(&self, config: &SelectiveConfig, group: Group, count: u16) -> [u16; ROWS]
-        requires { count ≤ 2 }
+        requires { count ≤ most_sentences }
         ensures lines { result ≡ map (lines_more (settings_by config.now) self.now group count) row_numbers }
         ensures small { AllByRecursion (λ n. n < most_count) result }
     {
@@ -194,7 +195,7 @@ impl Said {
     /// How many lines were said on the transmission group of a row, with so many more on a transmission group.
     fn lines_more(&self, config: &SelectiveConfig, group: Group, count: u16, number: usize) -> u16
         requires row { number < ROWS }
-        requires few { count ≤ 2 }
+        requires few { count ≤ most_sentences }
         ensures lines { result ≡ lines_more (settings_by config.now) self.now group count number }
         ensures within { result < most_count }
     {

@@ -169,6 +169,10 @@ body_width (field ∷ fields) = 1 + width_of field + body_width fields
 
 -- ---- sentences
 
+-- the most sentences of one reading: a depth has DPT and DBT, and a true heading HDT and THS
+abbrev pub most_sentences : ℕ
+most_sentences = 2
+
 -- the bytes of each sentence
 abbrev pub texts_of : ArrayVec SentenceText → List (List ℕ)
 texts_of lines = map (λ text. text.bytes.items) lines.items

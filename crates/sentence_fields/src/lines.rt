@@ -2,7 +2,7 @@ ghost use Rattle.std.specs.Prelude.{◌≡◌, ◌≤◌, ◌<◌, [], ◌∷◌
 ghost use Rattle.std.specs.List.{AllByRecursion, list_all};
 ghost use Rattle.arrayvec.specs.ArrayVec.{array_vec_len};
 ghost use Rattle.sentence_text.specs.Byte.{is_address_byte, is_capital};
-ghost use Rattle.sentence_fields.specs.Field.{IsPrintable, body_text, body_width, texts_of, sentence_by};
+ghost use Rattle.sentence_fields.specs.Field.{IsPrintable, body_text, body_width, most_sentences, texts_of, sentence_by};
 ghost use Rattle.sentence_fields.specs.ReadBack.{IsReadBack};
 
 use crate::field::Field;
@@ -27,8 +27,11 @@ impl Default for SentenceText {
     }
 }
 
+/// The most sentences of one reading: a depth has DPT and DBT, and a true heading HDT and THS.
+pub const MOST_SENTENCES: usize = 2;
+
 /// The sentences of one reading.
-pub type Lines = ArrayVec<SentenceText, 2>;
+pub type Lines = ArrayVec<SentenceText, MOST_SENTENCES>;
 
 /// Appends the fields, each behind a comma.
 fn append_fields(fields: &[Field], out: &mut ArrayVec<u8, 82>)
@@ -68,7 +71,7 @@ pub fn write_sentence(
 
 /// Adds the sentence of the fields.
 pub fn append(talker: [u8; 2], formatter: [u8; 3], fields: &[Field], out: &mut Lines)
-    requires room { length out.old.items < 2 }
+    requires room { length out.old.items < most_sentences }
     requires talker { IsTrue (list_all is_capital talker) }
     requires formatter { IsTrue (list_all is_address_byte formatter) }
     requires printable { AllByRecursion IsPrintable fields.now }

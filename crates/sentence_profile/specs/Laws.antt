@@ -5,6 +5,7 @@ use Rattle.readings.specs.declared.reading.Reading.{Reading}
 use Rattle.readings.specs.Ranges.{Holds, date as date_range}
 use Rattle.readings.specs.Rows.{IsValid}
 use Rattle.sentence_text.specs.Sentence.{longest_written}
+use Rattle.sentence_fields.specs.Field.{most_sentences}
 use Rattle.sentence_profile.specs.Calendar.{IsDateOf, civil_date}
 use Rattle.sentence_profile.specs.Writing.{IsText, sentences_of}
 
@@ -20,7 +21,7 @@ SaidInOneWay =
 -- a reading is said in one sentence or two; a talker of two letters says a valid one in sentences of at most 82 bytes each
 pub record SaidBriefly (talker : List ℕ) (with_ths : Bool) (r : Reading) : Type 0 where
   pub some : 1 ≤ length (sentences_of talker with_ths r)
-  pub few : length (sentences_of talker with_ths r) ≤ 2
+  pub few : length (sentences_of talker with_ths r) ≤ most_sentences
   pub short : length talker ≡ 2 → IsValid r → AllByRecursion (λ x. length x ≤ longest_written) (sentences_of talker with_ths r)
 
 abbrev pub EachSaidBriefly : Type 0

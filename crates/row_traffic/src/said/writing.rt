@@ -3,7 +3,7 @@ ghost use Rattle.std.specs.Prelude.{◌≡◌, ◌+◌, ◌<◌, ◌≤◌, ◌+
 ghost use Rattle.readings.specs.Rows.{IsValid};
 ghost use Rattle.sentence_text.specs.Names.{IsSfi};
 ghost use Rattle.arrayvec.specs.ArrayVec.{array_vec_len};
-ghost use Rattle.sentence_fields.specs.Field.{texts_of};
+ghost use Rattle.sentence_fields.specs.Field.{most_sentences, texts_of};
 ghost use Rattle.tag_block.specs.Tag.{most_count};
 ghost use Rattle.tag_block.specs.Writing.{longest_packet, most_written_code};
 ghost use Rattle.datagram450.specs.Datagram.{header};
@@ -60,7 +60,7 @@ pub(crate) fn write_datagram(
     requires least_code { 1 ≤ code }
     requires most_code { code ≤ most_written_code }
     requires count { before < most_count }
-    requires few { length sentences.now ≤ 2 }
+    requires few { length sentences.now ≤ most_sentences }
     requires room { length (header ++ lines_from source (length sentences.now) code before 1 (texts sentences.now)) ≤ longest_packet }
     ensures { packet.new.items ≡ header ++ lines_from source (length sentences.now) code before 1 (texts sentences.now) }
 {
@@ -73,7 +73,7 @@ fn write_lines(source: Sfi, code: u16, before: u16, sentences: &[SentenceText], 
     requires least_code { 1 ≤ code }
     requires most_code { code ≤ most_written_code }
     requires count { before < most_count }
-    requires few { length sentences.now ≤ 2 }
+    requires few { length sentences.now ≤ most_sentences }
     requires room { array_vec_len packet.old
         + length (lines_from source (length sentences.now) code before 1 (texts sentences.now)) ≤ longest_packet }
     ensures { packet.new.items ≡ packet.old.items ++ lines_from source (length sentences.now) code before 1 (texts sentences.now) }
