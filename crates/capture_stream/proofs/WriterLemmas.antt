@@ -1,12 +1,12 @@
 -- What is written in several calls.
-use Rattle.std.proofs.Common.{◌≡◌, ℕ, suc, ◌+◌, ◌-◌, ◌<◌, ◌≤◌, get_or, drop-cons, add-one, List, [], ◌++◌, length, take, drop, refl, sym, ap, subst, ◌∙◌, append_assoc, arith}
-use Rattle.std.specs.Prelude.{Option, Some, None, Result, Ok, Err}
+use Rattle.std.proofs.Common.{◌≡◌, ◌≢◌, ℕ, suc, ◌+◌, ◌-◌, ◌<◌, ◌≤◌, Bool, true, false, get_or, drop-cons, add-one, List, [], ◌∷◌, ◌++◌, length, take, drop, refl, sym, ap, subst, ◌∙◌, append_assoc, arith}
+use Rattle.std.specs.Prelude.{◌==◌, Option, Some, None, Result, Ok, Err}
 use Rattle.std.proofs.lemmas.List.{append-nil, take-append-drop, take_all, length-drop, drop_all}
 use Rattle.std.specs.Borrow.{Bor}
 use Rattle.std.specs.List.{flat_map}
 use Rattle.std.proofs.lemmas.List.Concat.{flat_map-cons}
 use Rattle.gate_outside.specs.Told.{Joins}
-use Rattle.capture_stream.specs.Writer.{Sends, Writes}
+use Rattle.capture_stream.specs.Writer.{Sends, SendsPart, Writes}
 
 pub Joins-nil : (told : Option (List ℕ)) → Joins told told []
 Joins-nil None = tt
@@ -42,6 +42,19 @@ pub Sends-write : (a b c : Option (List ℕ)) (bytes left : List ℕ) (count : �
 Sends-write a b c bytes left count s joins =
     let all : take (length left - count) (drop count left) ≡ drop count left = take_all (length left - count) (drop count left) (omega (arith, length-drop count left)) in
     rw all (Sends-more a b c bytes left (take count left) (drop count left) s joins (take-append-drop count left))
+
+-- a write fails while bytes are left
+not_empty : (left : List ℕ) (answer : Bool) → answer ≡ (length left == 0) → answer ≡ false → left ≢ []
+not_empty [] answer is test same = let never : true ≡ false = sym is ∙ test in absurd cc
+not_empty (x ∷ xs) answer is test same = absurd cc
+
+pub part-of : (a b c : Option (List ℕ)) (bytes left : List ℕ) (answer : Bool) → Sends a b bytes left → Joins b c [] → answer ≡ (length left == 0) → answer ≡ false
+    → SendsPart a c bytes
+part-of a b c bytes left answer s joins is test = record {
+  left = left;
+  sends = Sends-more a b c bytes left [] left s joins refl;
+  some = not_empty left answer is test;
+}
 
 -- more text came behind what waited, and more was written
 pub Sends-then : (a b c : Option (List ℕ)) (done text waiting left : List ℕ) → Sends a b done waiting → Sends b c (waiting ++ text) left → Sends a c (done ++ text) left

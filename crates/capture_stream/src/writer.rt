@@ -1,7 +1,7 @@
 //! Gathers what is written, so that many short texts cost one call.
-ghost use Rattle.std.specs.Prelude.{[]};
+ghost use Rattle.std.specs.Prelude.{[], OnErr};
 ghost use Rattle.gate_outside.specs.Faults.{HasCause};
-ghost use Rattle.capture_stream.specs.Writer.{Writes};
+ghost use Rattle.capture_stream.specs.Writer.{SendsPart, Writes};
 
 use arrayvec::ArrayVec;
 use capture_text::{LONGEST_LINE, write_emit};
@@ -28,9 +28,10 @@ impl Model for Writer {
     ghost view = { λ w. w.waiting.items };
 }
 
-/// Writes the whole piece.
+/// Writes the whole piece, or the part of it that the sink takes before a write fails.
 pub fn send_now<K: Sink>(piece: &[u8], out: &mut K) -> Result<(), Failed>
     ensures sent { Writes (K.taken out.old) (K.taken out.new) piece.now [] result }
+    ensures part { OnErr result (SendsPart (K.taken out.old) (K.taken out.new) piece.now) }
     ensures cause { HasCause (K.fault_count out.old) (K.fault_count out.new) result }
 {
     let mut rest = piece;

@@ -1,6 +1,6 @@
 -- What one item does to the outside.
 use Rattle.std.proofs.Common.{◌≡◌, ◌≢◌, ℕ, ◌+◌, ◌-◌, ◌≤◌, zero, suc, Bool, true, false, List, [], ◌∷◌, ◌++◌, length, take, drop, refl, sym, ap, subst, ◌∙◌, append_assoc, add-one, arith}
-use Rattle.std.specs.Prelude.{◌==◌, codes, Option, Some, None, Result, Ok, Err}
+use Rattle.std.specs.Prelude.{codes, OnErr, Option, Some, None, Result, Ok, Err}
 use Rattle.std.specs.List.{slice_get}
 use Rattle.std.proofs.lemmas.Bool.{eqb-true}
 use Rattle.std.proofs.lemmas.List.{append-nil, take-append-drop, take_all, length-drop, length-take, nil_from_length}
@@ -11,11 +11,12 @@ use Rattle.gate_events.specs.declared.emit.Report.{Report}
 use Rattle.hex.specs.Hex.{IsBytes}
 use Rattle.capture_text.specs.Writing.{frame_text, time_text}
 use Rattle.gate_outside.specs.declared.Failed.{Failed}
-use Rattle.gate_outside.specs.Faults.{Rose}
+use Rattle.gate_outside.specs.Faults.{HasCause}
 use Rattle.gate_outside.specs.Link.{GoesOn, Handed, Outcome, Traffic, failed_also, handed_also, received_also}
 use Rattle.gate_outside.specs.LinkMemory.{largest_arrival}
 use Rattle.gate_outside.specs.Told.{Joins}
-use Rattle.capture_stream.proofs.WriterLemmas.{Joins-nil, Joins-then}
+use Rattle.capture_stream.specs.Writer.{SendsPart, Writes}
+use Rattle.capture_stream.proofs.WriterLemmas.{Joins-nil}
 use Rattle.gate_events.specs.Emit as emits
 use Rattle.gate_events.specs.Emit.{Emit}
 use Rattle.history.specs.Emits.{at, broken, report_of}
@@ -82,49 +83,20 @@ failed_one t =
 
 -- ---- a text is written
 
--- what is in front of the rest was taken
-pub record Taken (told told' : Option (List ℕ)) (text rest : List ℕ) : Type 0 where
-  pub part : List ℕ
-  pub joins : Joins told told' part
-  pub split : part ++ rest ≡ text
-
-pub taken_none : (told : Option (List ℕ)) (text : List ℕ) → Taken told told text text
-taken_none told text = record { part = []; joins = Joins-nil told; split = refl }
-
-pub taken_more : (a b c : Option (List ℕ)) (text rest : List ℕ) (count : ℕ) → Taken a b text rest → Joins b c (take count rest)
-    → Taken a c text (take (length rest - count) (drop count rest))
-taken_more a b c text rest count t joins =
-    let all : take (length rest - count) (drop count rest) ≡ drop count rest =
-    take_all (length rest - count) (drop count rest) (omega (arith, length-drop count rest)) in
-    record {
-      part = t.part ++ take count rest;
-      joins = Joins-then a b c t.part (take count rest) t.joins joins;
-      split =
-          append_assoc t.part (take count rest) (take (length rest - count) (drop count rest))
-          ∙ ap (λ (x : List ℕ). t.part ++ (take count rest ++ x)) all
-          ∙ ap (λ (x : List ℕ). t.part ++ x) (take-append-drop count rest)
-          ∙ t.split;
-    }
-
-pub not_empty : (rest : List ℕ) (answer : Bool) → answer ≡ (length rest == 0) → answer ≡ false → rest ≢ []
-not_empty [] answer is test same = let never : true ≡ false = sym is ∙ test in absurd cc
-not_empty (x ∷ xs) answer is test same = absurd cc
-
-pub broken_off : (a b c : Option (List ℕ)) (faults faults' : ℕ) (text rest : List ℕ) → Taken a b text rest → Joins b c [] → rest ≢ [] → Rose faults faults'
-    → Broken a c faults faults' text
-broken_off a b c faults faults' text rest t joins some rose = record {
-  part = t.part ++ [];
-  untaken = rest;
-  joins = Joins-then a b c t.part [] t.joins joins;
-  front = ap (λ (x : List ℕ). x ++ rest) (append-nil t.part) ∙ t.split;
-  some = some;
-  rose = rose;
+pub taken_so : (a b : Option (List ℕ)) (faults faults' : ℕ) (text : List ℕ) (result : Result (Unit {0}) Failed) → Writes a b text [] result → OnErr result (SendsPart a b text)
+    → HasCause faults faults' result → Takes a b faults faults' text result
+taken_so a b faults faults' text (Ok done) sends part cause = (
+  subst (λ (x : List ℕ). Joins a b x) (sym (append-nil sends.sent) ∙ sends.whole) sends.joins,
+  cause.steady,
+)
+taken_so a b faults faults' text (Err e) sends part cause = record {
+  part = part.sends.sent;
+  untaken = part.left;
+  joins = part.sends.joins;
+  front = part.sends.whole;
+  some = part.some;
+  rose = cause.rose;
 }
-
-pub taken_all : (a b : Option (List ℕ)) (text rest : List ℕ) (answer : Bool) → Taken a b text rest → answer ≡ (length rest == 0) → answer ≡ true → Joins a b text
-taken_all a b text rest answer t is test =
-    let none : rest ≡ [] = nil_from_length rest (eqb-true (length rest) 0 (sym is ∙ test)) in
-    subst (λ (x : List ℕ). Joins a b x) (sym (append-nil t.part) ∙ ap (λ (x : List ℕ). t.part ++ x) (sym none) ∙ t.split) t.joins
 
 -- ---- an item
 

@@ -16,6 +16,7 @@ ghost use Rattle.serving.specs.Turns.{all_made};
 
 use arrayvec::ArrayVec;
 use bridge::Bridge;
+use capture_stream::send_now;
 use capture_text::{LONGEST_LINE, write_emit};
 use gate_events::{Detail, Emit, Report};
 use gate_outside::{Failed, Link, Sink};
@@ -131,10 +132,11 @@ pub(crate) fn write_report<K: Sink>(report: Report, moment: u64, out: &mut K) ->
 }
 
 /// Writes a line and its end, in one piece.
+#[tactic(auto, using(crate::proofs::Items::taken_so))]
 pub(crate) fn write_line<K: Sink>(line: &Line, out: &mut K) -> Result<(), Failed>
     ensures { Takes (K.taken out.old) (K.taken out.new) (K.fault_count out.old) (K.fault_count out.new) (line.now.items ++ 10 ∷ []) result }
 {
-    write_all(with_line_end(line).as_slice(), out)
+    send_now(with_line_end(line).as_slice(), out)
 }
 
 /// A line with its LF.
@@ -145,18 +147,4 @@ fn with_line_end(line: &Line) -> ArrayVec<u8, LONGEST_ENDED>
     let _fits = text.try_extend_from_slice(line.as_slice());
     text.push(b'\n');
     text
-}
-
-/// Writes a text whole, or the part of it that the sink takes before a write fails.
-fn write_all<K: Sink>(text: &[u8], out: &mut K) -> Result<(), Failed>
-    ensures { Takes (K.taken out.old) (K.taken out.new) (K.fault_count out.old) (K.fault_count out.new) text.now result }
-{
-    let mut rest = text;
-    while !rest.is_empty() {
-        match out.write(rest) {
-            Ok(count) => rest = &rest[count..],
-            Err(Failed) => return Err(Failed),
-        }
-    }
-    Ok(())
 }
