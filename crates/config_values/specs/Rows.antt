@@ -7,6 +7,10 @@ use Rattle.n2k_id.specs.declared.pattern.Pattern.{Pattern}
 use Rattle.config_values.specs.declared.row_config.RowConfig.{RowConfig}
 use Rattle.config_values.specs.Patterns.{IsPattern}
 
+-- how long a source counts where no other time is configured, in milliseconds
+abbrev pub usual_timeout : ℕ
+usual_timeout = 5000
+
 -- two capital letters
 pub record IsTalker (talker : List ℕ) : Type 0 where
   pub len : length talker ≡ 2

@@ -15,5 +15,5 @@ mod selective_config;
 
 pub use config::{Config, Ends};
 pub use endpoint::is_endpoint;
-pub use row_config::RowConfig;
+pub use row_config::{RowConfig, USUAL_TIMEOUT_MS};
 pub use selective_config::SelectiveConfig;

@@ -28,10 +28,14 @@ const LEAST_TIMEOUT_MS: u32 = 100;
 
 const MOST_TIMEOUT_MS: u32 = 60_000;
 
+/// The timeout where no other is configured, in milliseconds.
+pub const USUAL_TIMEOUT_MS: u32 = 5_000;
+
 impl Default for RowConfig {
     ghost use Rattle.std.specs.Prelude.{◌≡◌, [], true, codes};
+    ghost use Rattle.config_values.specs.Rows.{usual_timeout};
 
-    ghost is_default = { λ row. (row.sources.items ≡ []) × (row.others ≡ true) × (row.timeout_ms ≡ 5000) × (row.talker ≡ codes "IN")
+    ghost is_default = { λ row. (row.sources.items ≡ []) × (row.others ≡ true) × (row.timeout_ms ≡ usual_timeout) × (row.talker ≡ codes "IN")
         × (row.group ≡ codes "NAVD") };
 
     /// Taken from all alike, with the timeout that stands where no other was put; the talker is that of integrated navigation.
@@ -39,7 +43,7 @@ impl Default for RowConfig {
         RowConfig {
             sources: ArrayVec::new(),
             others: true,
-            timeout_ms: 5_000,
+            timeout_ms: USUAL_TIMEOUT_MS,
             talker: *b"IN",
             group: Group::default(),
         }

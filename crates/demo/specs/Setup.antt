@@ -3,6 +3,7 @@ use Rattle.std.specs.Prelude.{true, false, [], ◌∷◌, map, codes}
 use Rattle.readings.specs.declared.rows.Row.{Row}
 use Rattle.readings.specs.Rows.{about_of, rows}
 use Rattle.history.specs.Settings.{RowRule, Settings}
+use Rattle.config_values.specs.Rows.{usual_timeout}
 
 -- a row that is taken from all alike, and said by its own talker
 abbrev pub row_said : Row → RowRule
@@ -10,7 +11,7 @@ row_said row = record {
   sources = [];
   others = true;
   ignored = [];
-  timeout = 5000;
+  timeout = usual_timeout;
   talker = (about_of row).talker;
   group = codes "NAVD";
 }

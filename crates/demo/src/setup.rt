@@ -8,7 +8,7 @@ ghost use Rattle.config_values.specs.Settings.{rule_of_row, settings_of};
 ghost use Rattle.demo.specs.Setup.{demo_settings, row_said};
 
 use arrayvec::ArrayVec;
-use config_values::{Config, Ends, RowConfig};
+use config_values::{Config, Ends, RowConfig, USUAL_TIMEOUT_MS};
 use n2k_id::Name;
 use network_routes::{Address, Routes};
 use readings::{ROWS, Row, all_rows};
@@ -73,7 +73,7 @@ fn row_said(row: Row) -> RowConfig
     RowConfig {
         sources: ArrayVec::new(),
         others: true,
-        timeout_ms: 5_000,
+        timeout_ms: USUAL_TIMEOUT_MS,
         talker: row.talker(),
         group: Group::of(b"NAVD").unwrap(),
     }
