@@ -21,6 +21,7 @@ use Rattle.config_document.specs.declared.fault.Flaw.TheVariants as flaw
 use Rattle.bus_identity.specs.declared.product.Product.{Product}
 use Rattle.config_values.specs.declared.config.Ends.{Ends}
 use Rattle.config_values.specs.declared.row_config.RowConfig.{RowConfig}
+use Rattle.config_values.specs.Rows.{usual_timeout}
 use Rattle.network_routes.specs.Routes.{most_routes}
 use Rattle.network_routes.specs.declared.Route.{Route}
 use Rattle.settings.specs.declared.ais.AisConfig.{AisConfig}
@@ -91,7 +92,7 @@ quantity =
     table (codes "further") (λ sources others timeout talker. record { sources = sources; others = others; timeout_ms = timeout; talker = talker.0 })
     & key (codes "sources") devices
     & key (codes "others") (default true truth_at)
-    & key (codes "timeout_ms") (default 5000 (number_at 100 60000))
+    & key (codes "timeout_ms") (default usual_timeout (number_at 100 60000))
     & key_beside (codes "talker") (λ talker. default (record { 0 = talker }) (text_at talker_in))
 
 -- row.R: the same, and the group that it is sent to; beside the talker and the group that it has by default

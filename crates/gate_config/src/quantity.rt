@@ -9,6 +9,7 @@ use crate::devices::devices;
 use crate::keys::{number_or, text_or, truth_or};
 use crate::words::{OTHERS, SOURCES, TALKER, TIMEOUT_MS};
 use config_document::{ConfigFault, Section, Talker};
+use config_values::USUAL_TIMEOUT_MS;
 use settings::QuantityConfig;
 
 pub(crate) const KEYS: [&str; 4] = [SOURCES, OTHERS, TIMEOUT_MS, TALKER];
@@ -25,7 +26,7 @@ pub(crate) fn quantity_keys(
 {
     let sources = devices(section, SOURCES)?;
     let others = truth_or(section, OTHERS, true)?;
-    let timeout_ms = number_or(section, TIMEOUT_MS, 100, 60_000, 5_000)?;
+    let timeout_ms = number_or(section, TIMEOUT_MS, 100, 60_000, USUAL_TIMEOUT_MS)?;
     let Talker(talker) = text_or(section, TALKER, Talker(talker))?;
     Ok(QuantityConfig {
         sources,

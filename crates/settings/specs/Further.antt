@@ -2,7 +2,7 @@
 use Rattle.std.specs.Prelude.{◌≢◌, ℕ, false, true, List, [], All, Option, None, codes}
 use Rattle.std.specs.Int.{IsInRange}
 use Rattle.std.specs.Option.{ForSome}
-use Rattle.config_values.specs.Rows.{AreSources, IsTalker}
+use Rattle.config_values.specs.Rows.{AreSources, IsTalker, usual_timeout}
 use Rattle.settings.specs.Settings.{IsOwnGroup}
 use Rattle.settings.specs.declared.further.Further.{Further}
 use Rattle.settings.specs.declared.quantity_config.Quantities.{Quantities}
@@ -21,7 +21,7 @@ pub record IsFurtherGroup (s : Settings) (group : List ℕ) : Type 0 where
 
 -- where nothing else was put: from all alike, for five seconds, and said by integrated instruments (IEC 61162-1)
 abbrev pub usual_quantity : QuantityConfig
-usual_quantity = record { sources = record { items = [] }; others = true; timeout_ms = 5000; talker = codes "II" }
+usual_quantity = record { sources = record { items = [] }; others = true; timeout_ms = usual_timeout; talker = codes "II" }
 
 pub record IsQuantity (q : QuantityConfig) : Type 0 where
   pub sources : AreSources q.sources.items

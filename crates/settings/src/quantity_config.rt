@@ -2,6 +2,7 @@
 
 use crate::quantity_configs::QuantityConfigs;
 use arrayvec::ArrayVec;
+use config_values::USUAL_TIMEOUT_MS;
 use n2k_id::Pattern;
 use sentence_text::Group;
 
@@ -29,7 +30,7 @@ impl Default for QuantityConfig {
         QuantityConfig {
             sources: ArrayVec::new(),
             others: true,
-            timeout_ms: 5_000,
+            timeout_ms: USUAL_TIMEOUT_MS,
             talker: *b"II",
         }
     }
