@@ -6,10 +6,9 @@ use Rattle.config_values.specs.declared.config.Config.{Config}
 use Rattle.config_values.specs.declared.row_config.RowConfig.{RowConfig}
 use Rattle.config_values.specs.Settings.{settings_ignoring}
 use Rattle.settings.specs.declared.ais.AisConfig.{AisConfig}
-use Rattle.settings.specs.declared.further.Further.{Further}
 use Rattle.settings.specs.declared.quantity_config.Quantities.{Quantities}
 use Rattle.settings.specs.declared.rmc.RmcConfig.{RmcConfig}
-use Rattle.settings.specs.declared.settings.Settings.{Settings as Configured}
+use Rattle.settings.specs.declared.setup.Setup.{Setup}
 use Rattle.n2k_id.specs.declared.pattern.Pattern.{Pattern}
 use Rattle.further_bridge.specs.FurtherRule.{FurtherRule, further_rule}
 use Rattle.joined_rmc.specs.RmcOut.{RmcRule, rule_by}
@@ -44,14 +43,14 @@ rmc_rule c rmc = option_map (rmc_rule_of c) rmc
 abbrev pub quantities_rule : List Pattern → Option Quantities → Option FurtherRule
 quantities_rule ignored quantities = option_map (further_rule ignored) quantities
 
-unfoldable pub bridge_settings_of : Configured → Further → BridgeSettings
-bridge_settings_of x further = record {
-  gateway = settings_ignoring further.ignore.items x.config;
-  information = information_of x.product;
-  rmc = rmc_rule x.config x.rmc;
-  ais = x.ais;
-  quantities = quantities_rule further.ignore.items further.quantities;
-  sources = further.sources;
-  plain = further.plain;
-  records = further.«record»;
+unfoldable pub bridge_settings_of : Setup → BridgeSettings
+bridge_settings_of x = record {
+  gateway = settings_ignoring x.ignore.items x.settings.config;
+  information = information_of x.settings.product;
+  rmc = rmc_rule x.settings.config x.settings.rmc;
+  ais = x.settings.ais;
+  quantities = quantities_rule x.ignore.items x.quantities;
+  sources = x.sources;
+  plain = x.plain;
+  records = x.«record»;
 }

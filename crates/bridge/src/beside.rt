@@ -6,8 +6,7 @@ ghost use Rattle.n2k_id.specs.declared.pattern.Pattern.{Pattern};
 ghost use Rattle.config_values.specs.Rows.{IsTalker};
 ghost use Rattle.config_values.specs.Settings.{settings_ignoring};
 ghost use Rattle.history.specs.Settings.{Settings as GatewaySettings};
-ghost use Rattle.settings.specs.Further.{IsFurther, IsQuantity};
-ghost use Rattle.settings.specs.Settings.{IsSettings};
+ghost use Rattle.settings.specs.Setup.{IsQuantity, IsSetup};
 ghost use Rattle.parts.specs.Compose.{maybe_stand};
 ghost use Rattle.bridge.specs.Beside.{AreNew, IsOpened, joining_stands, quantities_stand, ships_stand, sources_stand, wanted};
 ghost use Rattle.bridge.specs.BridgeSettings.{bridge_settings_of, quantities_rule, rmc_rule};
@@ -20,7 +19,7 @@ use crate::source_watch::SourceWatch;
 use ais_bridge::AisBridge;
 use further_bridge::FurtherBridge;
 use parts::Lane;
-use settings::{Further, Settings};
+use settings::{Settings, Setup};
 use std::alloc::{AllocError, Global};
 
 /// The parts beside the gateway, in the order in which their emits go out.
@@ -39,20 +38,15 @@ pub(crate) type Beside = (
 );
 
 /// The parts that are asked for, with nothing heard yet.
-pub(crate) fn beside_of(
-    alloc: Global,
-    settings: &Settings,
-    further: &Further,
-) -> Result<Beside, AllocError>
-    requires settings { IsSettings settings.now }
-    requires further { IsFurther settings.now further.now }
-    ensures { IfOk result (AreNew (bridge_settings_of settings.now further.now)) }
+pub(crate) fn beside_of(alloc: Global, setup: &Setup) -> Result<Beside, AllocError>
+    requires { IsSetup setup.now }
+    ensures { IfOk result (AreNew (bridge_settings_of setup.now)) }
 {
-    let answering = Lane::new(alloc, Answering::new(&settings.product))?;
-    let joining = Lane::maybe(alloc, joining_of(settings))?;
-    let ships = Lane::maybe(alloc, ships_of(alloc, settings)?)?;
-    let quantities = Lane::maybe(alloc, quantities_of(alloc, settings, further)?)?;
-    let sources = Lane::maybe(alloc, sources_of(further.sources))?;
+    let answering = Lane::new(alloc, Answering::new(&setup.settings.product))?;
+    let joining = Lane::maybe(alloc, joining_of(&setup.settings))?;
+    let ships = Lane::maybe(alloc, ships_of(alloc, &setup.settings)?)?;
+    let quantities = Lane::maybe(alloc, quantities_of(alloc, setup)?)?;
+    let sources = Lane::maybe(alloc, sources_of(setup.sources))?;
     Ok((answering, (joining, (ships, (quantities, sources)))))
 }
 
@@ -81,19 +75,16 @@ fn ships_of(alloc: Global, settings: &Settings) -> Result<Option<Ships>, AllocEr
 }
 
 /// Further quantities, if they are said.
-fn quantities_of(
-    alloc: Global,
-    settings: &Settings,
-    further: &Further,
-) -> Result<Option<Quantities>, AllocError>
-    requires slots { ForSome further.now.quantities (λ q. IsInRange 1 256 q.slots) }
-    requires each { ForSome further.now.quantities (λ q. All IsQuantity q.each) }
-    ensures { IfOk result (IsOpened (maybe_stand quantities_stand) (quantities_rule further.now.ignore.items further.now.quantities)
-        (settings_ignoring further.now.ignore.items settings.now.config)) }
+fn quantities_of(alloc: Global, setup: &Setup) -> Result<Option<Quantities>, AllocError>
+    requires slots { ForSome setup.now.quantities (λ q. IsInRange 1 256 q.slots) }
+    requires each { ForSome setup.now.quantities (λ q. All IsQuantity q.each) }
+    ensures { IfOk result (IsOpened (maybe_stand quantities_stand) (quantities_rule setup.now.ignore.items setup.now.quantities)
+        (settings_ignoring setup.now.ignore.items setup.now.settings.config)) }
 {
-    match &further.quantities {
+    let sfi = setup.settings.config.sfi;
+    match &setup.quantities {
         Some(quantities) => Ok(Some(Quantities {
-            bridge: FurtherBridge::new(alloc, quantities, &further.ignore, settings.config.sfi)?,
+            bridge: FurtherBridge::new(alloc, quantities, &setup.ignore, sfi)?,
         })),
         None => Ok(None),
     }

@@ -4,8 +4,8 @@ ghost use Rattle.gate_events.specs.Emit.{CanWrite};
 ghost use Rattle.gate_outbox.specs.Output.{emit_of, no_emits};
 ghost use Rattle.gate_core.specs.Steps.{IsEventValid, entry_of};
 ghost use Rattle.history.specs.Entries.{moment_of};
-ghost use Rattle.settings.specs.Further.{IsFurther, nothing_further};
 ghost use Rattle.settings.specs.Settings.{IsSettings};
+ghost use Rattle.settings.specs.Setup.{IsSetup, alone};
 ghost use Rattle.bridge.specs.Beside.{beside_plain};
 ghost use Rattle.bridge.specs.BridgeStands.{IsBesideStep, IsBridgeStep, IsForgotten, IsGatewayStep, IsNew, IsObeyed, IsOrder, IsSaidAgain, IsStart, IsUnposted};
 ghost use Rattle.bridge.specs.Kept.{IsAlone, beside_out, given_count, len_beside, no_output, ordered_output, output_of, plain_output};
@@ -18,7 +18,7 @@ use gate_events::{Emit, Event};
 use parts::{Parts, Step};
 use plain_out::say_plain;
 use sentence_text::Group;
-use settings::{Further, Settings};
+use settings::{Settings, Setup};
 use std::alloc::{AllocError, Global};
 use std::marker::Model;
 
@@ -61,31 +61,31 @@ impl Model for Bridge {
 }
 
 impl Bridge {
-    /// A bridge of these settings, with nothing further, before it starts.
+    /// A bridge of a copy of these settings, with nothing that further keys ask for, before it starts.
     pub fn new(alloc: Global, settings: &Settings) -> Result<Bridge, AllocError>
         requires { IsSettings settings.now }
-        ensures { IfOk result (IsNew (bridge_settings_of settings.now nothing_further)) }
+        ensures { IfOk result (IsNew (bridge_settings_of (alone settings.now))) }
     {
-        Bridge::with(alloc, settings, &Further::none())
+        let setup = Setup::alone(settings)?;
+        Bridge::with(alloc, &setup)
     }
 
-    /// A bridge of these settings and of what is asked for besides, before it starts.
-    pub fn with(alloc: Global, settings: &Settings, further: &Further) -> Result<Bridge, AllocError>
-        requires settings { IsSettings settings.now }
-        requires further { IsFurther settings.now further.now }
-        ensures { IfOk result (IsNew (bridge_settings_of settings.now further.now)) }
+    /// A bridge of all that a file configures, before it starts.
+    pub fn with(alloc: Global, setup: &Setup) -> Result<Bridge, AllocError>
+        requires { IsSetup setup.now }
+        ensures { IfOk result (IsNew (bridge_settings_of setup.now)) }
     {
         let output = CallOutput::boxed(alloc)?;
-        let parts = beside_of(alloc, settings, further)?;
+        let parts = beside_of(alloc, setup)?;
         // The largest part, last: what is kept while others are made lies on the stack once more.
-        let gateway = Gateway::ignoring(alloc, &settings.config, &further.ignore)?;
+        let gateway = Gateway::ignoring(alloc, &setup.settings.config, &setup.ignore)?;
         Ok(Bridge {
             gateway,
             started: false,
             start: 0,
             parts,
-            plain: further.plain,
-            records: further.record,
+            plain: setup.plain,
+            records: setup.record,
             gave: false,
             output,
         })

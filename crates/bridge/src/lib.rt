@@ -18,4 +18,4 @@ mod source_watch;
 
 pub use bridge::Bridge;
 pub use gate_core::{Command, HeldCounts, moment_of};
-pub use settings::{Further, Settings};
+pub use settings::{Settings, Setup};

@@ -10,7 +10,7 @@ ghost use Rattle.bus_identity.specs.Payloads.{information_of, text_field};
 use arrayvec::ArrayVec;
 
 /// What the gateway is. Texts have at most 32 bytes.
-#[derive(Drop)]
+#[derive(Clone, Drop)]
 pub struct Product {
     /// The product code that NMEA gave the maker.
     pub code: u16,

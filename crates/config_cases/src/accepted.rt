@@ -1,7 +1,7 @@
 //! The settings of accepted files, which `check` doesn't show: each worked out by hand from the table of keys.
 use crate::values::ANY;
 use config_values::{Config, Ends, RowConfig};
-use gate_config::{Further, Quantities, QuantityConfig, Settings, read, read_all, read_whole};
+use gate_config::{Quantities, QuantityConfig, Settings, Setup, read, read_all, read_whole};
 use n2k_id::{Name, Pattern};
 use readings::all_rows;
 use sentence_text::Group;
@@ -64,29 +64,29 @@ fn is_usual_product(settings: &Settings) -> bool {
         && settings.ais.is_none()
 }
 
-/// Whether nothing is asked for besides.
-fn is_nothing(further: &Further) -> bool {
-    further.ignore.is_empty()
-        && further.quantities.is_none()
-        && !further.sources
-        && further.plain.is_none()
-        && !further.record
+/// Whether no further key asks for anything.
+fn is_alone(setup: &Setup) -> bool {
+    setup.ignore.is_empty()
+        && setup.quantities.is_none()
+        && !setup.sources
+        && setup.plain.is_none()
+        && !setup.record
 }
 
 fn has_defaults(alloc: Global) -> bool {
     match read_whole(alloc, OWN.as_bytes()) {
-        Ok((settings, further)) => {
-            has_usual_keys(&settings.config)
-                && has_usual_rows(&settings.config)
-                && has_usual_ends(&settings.config.ends)
-                && is_usual_product(&settings)
-                && is_nothing(&further)
+        Ok(setup) => {
+            has_usual_keys(&setup.settings.config)
+                && has_usual_rows(&setup.settings.config)
+                && has_usual_ends(&setup.settings.config.ends)
+                && is_usual_product(&setup.settings)
+                && is_alone(&setup)
         }
         Err(_) => false,
     }
 }
 
-/// The settings of the own keys alone are the defaults, and nothing is asked for besides.
+/// What the own keys alone configure is the defaults.
 #[test]
 fn defaults(rt: HostRuntime) {
     assert!(rt; has_defaults(rt.alloc()));
@@ -166,7 +166,7 @@ fn patterns_state_fields(rt: HostRuntime) {
     assert!(rt; has_patterns(rt.alloc()));
 }
 
-const BESIDES: &str = r#"gateway.name = "C0328200FFC00001"
+const FURTHER: &str = r#"gateway.name = "C0328200FFC00001"
 gateway.address = 251
 gateway.sfi = "II0001"
 bus.ignore = ["class=25", "C0328200FFC00001"]
@@ -180,27 +180,27 @@ const CONVERTERS: Pattern = Pattern {
     ..ANY
 };
 
-/// Whether this is what `BESIDES` asks for.
-fn is_asked_for(further: &Further) -> bool {
+/// Whether this is what `FURTHER` asks for.
+fn is_asked_for(setup: &Setup) -> bool {
     let own = Pattern::whole(Name(0xC032_8200_FFC0_0001));
-    further.ignore.as_slice() == [CONVERTERS, own].as_slice()
-        && further.sources
-        && further.record
-        && further.quantities.is_none()
-        && further.plain == Group::of(b"PLAN")
+    setup.ignore.as_slice() == [CONVERTERS, own].as_slice()
+        && setup.sources
+        && setup.record
+        && setup.quantities.is_none()
+        && setup.plain == Group::of(b"PLAN")
 }
 
-fn asks_besides(alloc: Global) -> bool {
-    match read_whole(alloc, BESIDES.as_bytes()) {
-        Ok((_, further)) => is_asked_for(&further),
+fn has_further_keys(alloc: Global) -> bool {
+    match read_whole(alloc, FURTHER.as_bytes()) {
+        Ok(setup) => is_asked_for(&setup),
         Err(_) => false,
     }
 }
 
-/// A file with all that can be asked for besides.
+/// A file with further keys, but for those of further quantities.
 #[test]
-fn what_is_asked_for_besides(rt: HostRuntime) {
-    assert!(rt; asks_besides(rt.alloc()));
+fn further_keys(rt: HostRuntime) {
+    assert!(rt; has_further_keys(rt.alloc()));
 }
 
 /// The talker of each quantity, in their order.
@@ -217,7 +217,7 @@ fn is_usual(quantity: &QuantityConfig, talker: &[u8]) -> bool {
 /// How quantities are said that a file configures, where it is accepted.
 fn quantities_of(alloc: Global, file: &str) -> Option<Quantities> {
     match read_whole(alloc, file.as_bytes()) {
-        Ok((_, further)) => further.quantities,
+        Ok(setup) => setup.quantities,
         Err(_) => None,
     }
 }

@@ -2,8 +2,8 @@
 use Rattle.std.specs.Prelude.{◌≡◌, ◌⊎◌, ℕ, List, codes, Option, Ok}
 use Rattle.gate_outside.specs.Faults.{Rose}
 use Rattle.gate_outside.specs.Told.{Joins}
-use Rattle.gate_config.specs.ConfigOf.{Whole}
 use Rattle.config_check.specs.Configuring.{ConfiguresBy, FileSays, IsToldAs}
+use Rattle.settings.specs.declared.setup.Setup.{Setup}
 use Rattle.statuses.specs.declared.Status.TheVariants as statuses
 use Rattle.statuses.specs.Statuses.{Offers, number}
 
@@ -15,7 +15,7 @@ IsCheckStatus status = (status ≡ number statuses.Done) ⊎ ((status ≡ number
 
 -- the file is an accepted configuration
 abbrev pub IsAccepted : Option (List ℕ) → Type 0
-IsAccepted content = (whole : Whole) × FileSays content (Ok whole)
+IsAccepted content = (setup : Setup) × FileSays content (Ok setup)
 
 -- it was written that a configuration is accepted, or a front of that was, and the count of faults rose
 pub record Accepts (told told' : Option (List ℕ)) (sink sink' status : ℕ) : Type 0 where
@@ -33,4 +33,4 @@ pub record ChecksBy (content : Option (List ℕ)) (files files' : ℕ) (told tol
   pub sink_cause : status ≡ number statuses.SinkFailed → Rose sink sink'
   pub steady : status ≡ number statuses.Done → sink' ≡ sink
   -- where nothing fails, it is said of an accepted configuration that it is one, unless memory ran out
-  pub complete : (whole : Whole) → IsToldAs content (Ok whole) → (Rose files files' → ⊥) → (Rose sink sink' → ⊥) → (status ≡ number statuses.Done) ⊎ (status ≡ number statuses.NoMemory)
+  pub complete : (setup : Setup) → IsToldAs content (Ok setup) → (Rose files files' → ⊥) → (Rose sink sink' → ⊥) → (status ≡ number statuses.Done) ⊎ (status ≡ number statuses.NoMemory)

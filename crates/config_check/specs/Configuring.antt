@@ -4,9 +4,9 @@ use Rattle.gate_outside.specs.Faults.{Rose}
 use Rattle.gate_outside.specs.Files.{largest_file}
 use Rattle.config_document.specs.declared.fault.ConfigFault.{ConfigFault}
 use Rattle.config_document.specs.Faults.{line_of}
-use Rattle.gate_config.specs.ConfigOf.{IsWholeConfigOf, Whole}
-use Rattle.settings.specs.Further.{IsFurther}
-use Rattle.settings.specs.Settings.{IsSettings}
+use Rattle.gate_config.specs.ConfigOf.{IsWholeConfigOf}
+use Rattle.settings.specs.Setup.{IsSetup}
+use Rattle.settings.specs.declared.setup.Setup.{Setup}
 use Rattle.config_check.specs.declared.configuring.Unconfigured.{Unconfigured}
 use Rattle.config_check.specs.declared.configuring.Unconfigured.TheVariants.{Unread, Refused, Memory}
 use Rattle.statuses.specs.declared.Status.TheVariants as statuses
@@ -16,9 +16,9 @@ use Rattle.statuses.specs.Statuses.{Offers, number}
 abbrev pub with_end : List ℕ → List ℕ
 with_end line = line ++ 10 ∷ []
 
--- The file was loaded, which has at most 1 MiB, and this is what its bytes say: settings and what is asked for besides, or the first fault. Where the file's bytes are told,
--- they are these.
-pub record FileSays (told : Option (List ℕ)) (said : Result Whole ConfigFault) : Type 0 where
+-- The file was loaded, which has at most 1 MiB, and this is what its bytes say: all that they configure, or the first fault. Where the file's
+-- bytes are told, they are these.
+pub record FileSays (told : Option (List ℕ)) (said : Result Setup ConfigFault) : Type 0 where
   pub bytes : List ℕ
   pub own : (all : List ℕ) → told ≡ Some all → bytes ≡ all
   pub within : length bytes ≤ largest_file
@@ -33,7 +33,7 @@ pub record Refuses (content told told' : Option (List ℕ)) (sink sink' : ℕ) :
   pub offers : Offers told told' sink sink' (with_end line)
 
 -- The file's bytes are told and within 1 MiB, and say this.
-pub record IsToldAs (told : Option (List ℕ)) (said : Result Whole ConfigFault) : Type 0 where
+pub record IsToldAs (told : Option (List ℕ)) (said : Result Setup ConfigFault) : Type 0 where
   pub bytes : List ℕ
   pub told_by : told ≡ Some bytes
   pub within : length bytes ≤ largest_file
@@ -43,16 +43,16 @@ pub record IsToldAs (told : Option (List ℕ)) (said : Result Whole ConfigFault)
 abbrev pub IsUnread : Option (List ℕ) → ℕ → ℕ → Type 0
 IsUnread told before after = Rose before after ⊎ ((bytes : List ℕ) → told ≡ Some bytes → largest_file < length bytes)
 
--- All that a file says, the settings and what is asked for besides, which are valid, or why there is nothing. Want of memory is free.
-abbrev pub LoadsWhole : Option (List ℕ) → ℕ → ℕ → Result Whole Unconfigured → Type 0
-LoadsWhole told before after (Ok whole) = IsSettings whole.0 × IsFurther whole.0 whole.1 × FileSays told (Ok whole)
+-- All that a file configures, which is valid, or why there is nothing. Want of memory is free.
+abbrev pub LoadsWhole : Option (List ℕ) → ℕ → ℕ → Result Setup Unconfigured → Type 0
+LoadsWhole told before after (Ok setup) = IsSetup setup × FileSays told (Ok setup)
 LoadsWhole told before after (Err Unread) = IsUnread told before after
 LoadsWhole told before after (Err (Refused line)) = (fault : ConfigFault) × (line_of fault ≡ Some line.items) × FileSays told (Err fault)
 LoadsWhole told before after (Err Memory) = Unit {0}
 
 -- the same of bytes that were loaded
-abbrev pub SaysWhole : List ℕ → Result Whole Unconfigured → Type 0
-SaysWhole bytes (Ok whole) = IsSettings whole.0 × IsFurther whole.0 whole.1 × IsWholeConfigOf bytes (Ok whole)
+abbrev pub SaysWhole : List ℕ → Result Setup Unconfigured → Type 0
+SaysWhole bytes (Ok setup) = IsSetup setup × IsWholeConfigOf bytes (Ok setup)
 SaysWhole bytes (Err Unread) = ⊥
 SaysWhole bytes (Err (Refused line)) = (fault : ConfigFault) × (line_of fault ≡ Some line.items) × IsWholeConfigOf bytes (Err fault)
 SaysWhole bytes (Err Memory) = Unit {0}

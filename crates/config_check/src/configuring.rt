@@ -7,7 +7,7 @@ use arrayvec::ArrayVec;
 use capture_stream::send_now;
 use gate_config::{FaultLine, read_whole};
 use gate_outside::{Files, LoadFault, Sink};
-use settings::{Further, Settings};
+use settings::Setup;
 use statuses::Status;
 use std::alloc::Global;
 
@@ -22,13 +22,9 @@ pub enum Unconfigured {
     Memory,
 }
 
-/// All that the file of this name says: the settings, and what is asked for besides.
+/// All that the file of this name configures.
 #[inline(never)]
-pub fn load_whole<F: Files>(
-    alloc: Global,
-    name: &str,
-    files: &mut F,
-) -> Result<(Settings, Further), Unconfigured>
+pub fn load_whole<F: Files>(alloc: Global, name: &str, files: &mut F) -> Result<Setup, Unconfigured>
     ensures { LoadsWhole (F.content files.old name.now) (F.fault_count files.old) (F.fault_count files.new) result }
 {
     match files.load(alloc, name) {
@@ -39,12 +35,12 @@ pub fn load_whole<F: Files>(
     }
 }
 
-// All that these bytes say.
-fn whole_of(alloc: Global, bytes: &[u8]) -> Result<(Settings, Further), Unconfigured>
+// All that these bytes configure.
+fn whole_of(alloc: Global, bytes: &[u8]) -> Result<Setup, Unconfigured>
     ensures { SaysWhole bytes.now result }
 {
     match read_whole(alloc, bytes) {
-        Ok(whole) => Ok(whole),
+        Ok(setup) => Ok(setup),
         Err(fault) => match fault.line() {
             Some(line) => Err(Unconfigured::Refused(line)),
             None => Err(Unconfigured::Memory),

@@ -1,7 +1,7 @@
 //! Further quantities beside the gateway.
 ghost use Rattle.std.specs.Prelude.{◌≡◌, ◌≤◌, All, IfOk, length};
 ghost use Rattle.std.specs.Int.{IsInRange};
-ghost use Rattle.settings.specs.Further.{IsQuantity};
+ghost use Rattle.settings.specs.Setup.{IsQuantity};
 ghost use Rattle.quantities.specs.Told.{kind_of};
 ghost use Rattle.gate_outbox.specs.Output.{and_left, emits_of, no_emits};
 ghost use Rattle.bus_listener.specs.Steps.{IsEventValid, entry_of};
@@ -51,7 +51,7 @@ impl Model for FurtherBridge {
     ghost use Rattle.claim_table.specs.Claims.{places};
     ghost use Rattle.quantities.specs.About.{quantities_count};
     ghost use Rattle.tag_block.specs.Tag.{most_count};
-    ghost use Rattle.settings.specs.Further.{IsQuantity};
+    ghost use Rattle.settings.specs.Setup.{IsQuantity};
     ghost use Rattle.further_bridge.specs.FurtherRule.{further_rule};
     ghost use Rattle.further_bridge.specs.Kept.{FurtherKept};
 

@@ -3,7 +3,7 @@ ghost use Rattle.std.specs.Prelude.{◌≡◌, All, IfOk, IsTrue, length, map};
 ghost use Rattle.std.specs.List.{list_all};
 ghost use Rattle.sentence_text.specs.Byte.{is_capital};
 ghost use Rattle.quantities.specs.About.{number_of};
-ghost use Rattle.settings.specs.Further.{IsQuantity};
+ghost use Rattle.settings.specs.Setup.{IsQuantity};
 ghost use Rattle.source_choice.specs.SubjectRules.{rank_of};
 ghost use Rattle.further_bridge.specs.FurtherRule.{further_rule, rule_at, rule_of_quantity, talker_at};
 

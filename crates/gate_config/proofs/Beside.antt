@@ -17,13 +17,13 @@ use Rattle.config_values.specs.Presets.{AreApart, ArePresets}
 use Rattle.config_values.specs.declared.row_config.RowConfig.{RowConfig}
 use Rattle.network_routes.specs.declared.Route.{Route}
 use Rattle.config_values.specs.Rows.{AreSources}
-use Rattle.settings.specs.Further.{AreQuantities, IsFurther, IsFurtherGroup, IsPlainGroup}
-use Rattle.settings.specs.Settings.{IsAis}
+use Rattle.settings.specs.Setup.{AreQuantities, IsFurtherGroup, IsPlainGroup, IsSetup}
+use Rattle.settings.specs.Settings.{IsAis, IsSettings}
 use Rattle.settings.specs.declared.ais.AisConfig.{AisConfig}
-use Rattle.settings.specs.declared.further.Further.{Further}
 use Rattle.settings.specs.declared.quantity_config.Quantities.{Quantities}
 use Rattle.settings.specs.declared.rmc.RmcConfig.{RmcConfig}
 use Rattle.settings.specs.declared.settings.Settings.{Settings}
+use Rattle.settings.specs.declared.setup.Setup.{Setup}
 use Rattle.gate_config.specs.Beside.{AreQuantitiesBeside, IsAisBeside, IsGroupBeside, IsPresetBeside, IsRouteBeside}
 use Rattle.gate_config.specs.Keys.{address_stands, group_stands, is_group_of, name_stands, part_groups}
 use Rattle.gate_config.specs.Texts.{same_text}
@@ -123,11 +123,12 @@ plain_beside s quantities group beside = record {
   from_quantities = λ q is. beside.from_parts 0 None (omega arith) q.group (ap (option_map (λ (q : Quantities). q.group)) is);
 }
 
-pub further_beside :
-    (s : Settings) (f : Further) → AreSources f.ignore.items → ForSome f.quantities (AreQuantitiesBeside s.config.rows (part_groups s))
-    → ForSome f.plain (IsGroupBeside s.config.rows (option_map (λ q. q.group) f.quantities ∷ part_groups s)) → IsFurther s f
-further_beside s f ignore quantities plain = record {
+pub setup_beside :
+    (x : Setup) → IsSettings x.settings → AreSources x.ignore.items → ForSome x.quantities (AreQuantitiesBeside x.settings.config.rows (part_groups x.settings))
+    → ForSome x.plain (IsGroupBeside x.settings.config.rows (option_map (λ q. q.group) x.quantities ∷ part_groups x.settings)) → IsSetup x
+setup_beside x settings ignore quantities plain = record {
+  settings = settings;
   ignore = ignore;
-  quantities = λ all is. quantities_beside s all (quantities all is);
-  plain = λ group is. plain_beside s f.quantities group (plain group is);
+  quantities = λ all is. quantities_beside x.settings all (quantities all is);
+  plain = λ group is. plain_beside x.settings x.quantities group (plain group is);
 }

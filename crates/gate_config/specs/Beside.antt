@@ -13,7 +13,7 @@ use Rattle.config_values.specs.Presets.{AreApart}
 use Rattle.config_values.specs.declared.config.Ends.{Ends}
 use Rattle.config_values.specs.declared.row_config.RowConfig.{RowConfig}
 use Rattle.network_routes.specs.declared.Route.{Route}
-use Rattle.settings.specs.Further.{IsQuantity}
+use Rattle.settings.specs.Setup.{IsQuantity}
 use Rattle.settings.specs.Settings.{IsAis, IsOwnGroup, IsProduct, IsRmc}
 use Rattle.settings.specs.declared.ais.AisConfig.{AisConfig}
 use Rattle.settings.specs.declared.quantity_config.Quantities.{Quantities}

@@ -25,11 +25,11 @@ use Rattle.config_values.specs.Rows.{usual_timeout}
 use Rattle.network_routes.specs.Routes.{most_routes}
 use Rattle.network_routes.specs.declared.Route.{Route}
 use Rattle.settings.specs.declared.ais.AisConfig.{AisConfig}
-use Rattle.settings.specs.declared.further.Further.{Further}
 use Rattle.settings.specs.declared.quantity_config.Quantities.{Quantities}
 use Rattle.settings.specs.declared.quantity_config.QuantityConfig.{QuantityConfig}
 use Rattle.settings.specs.declared.rmc.RmcConfig.{RmcConfig}
 use Rattle.settings.specs.declared.settings.Settings.{Settings}
+use Rattle.settings.specs.declared.setup.Setup.{Setup}
 use Rattle.config_document.specs.declared.texts.ProductText.{ProductText}
 use Rattle.config_document.specs.Texts.{group_in, name_in, product_text_in, sfi_in, talker_in}
 use Rattle.gate_config.specs.declared.gateway.Own.{Own}
@@ -316,19 +316,13 @@ settings_in document = do
 abbrev pub part_groups : Settings → List (Option (List ℕ))
 part_groups s = option_map (λ r. r.group) s.rmc ∷ option_map (λ a. a.group) s.ais ∷ []
 
--- the keys behind those of the settings, beside them
-unfoldable pub further_in : Settings → Place → Result Further ConfigFault
-further_in settings document = do
+-- all keys: those of the settings, and behind them what is read beside them
+unfoldable pub setup_in : Place → Result Setup ConfigFault
+setup_in document = do
+  settings ← settings_in document
   devices ← table_in ignored tt document
   quantities ← quantities_in settings.config.rows (part_groups settings) document
   sources ← table_in report tt document
   group ← table_in plain (settings.config.rows, option_map (λ q. q.group) quantities ∷ part_groups settings) document
   recording ← table_in serve tt document
-  Ok (record { ignore = devices; quantities = quantities; sources = sources; plain = group; «record» = recording })
-
--- all keys
-unfoldable pub whole_in : Place → Result (Settings × Further) ConfigFault
-whole_in document = do
-  settings ← settings_in document
-  further ← further_in settings document
-  Ok (settings, further)
+  Ok (record { settings = settings; ignore = devices; quantities = quantities; sources = sources; plain = group; «record» = recording })

@@ -83,7 +83,7 @@ links_noted document best = items Keys.route document (bus_noted document (once 
 unfoldable pub parts_noted : Place → Option (List ℕ) → Option (List ℕ)
 parts_noted document best = once Keys.ais document (once Keys.rmc document (once Keys.identity document best))
 
--- what is asked for besides
+-- further keys
 unfoldable pub further_noted : Place → Option (List ℕ) → Option (List ℕ)
 further_noted document best =
     once Keys.serve document (once Keys.plain document (once Keys.report document

@@ -2,15 +2,16 @@
 ghost use Rattle.std.specs.Prelude.{◌≡◌, IfOk};
 ghost use Rattle.config_document.specs.Places.{place_of};
 ghost use Rattle.gate_config.specs.Beside.{AreLinks, AreParts};
-ghost use Rattle.gate_config.specs.Keys.{links_in, parts_in, settings_in, whole_in};
-ghost use Rattle.settings.specs.Further.{IsFurther};
+ghost use Rattle.gate_config.specs.Keys.{links_in, parts_in, settings_in, setup_in};
 ghost use Rattle.settings.specs.Settings.{IsSettings};
+ghost use Rattle.settings.specs.Setup.{IsSetup};
 
-use crate::further::further_keys;
+use crate::further::{ignored_keys, plain_keys, quantities_group, report_keys, serve_keys};
+use crate::further_quantities::further_quantities;
 use crate::gateway::gateway_keys;
 use crate::identity::identity_keys;
 use crate::links::{bus_keys, net_keys};
-use crate::parts::{ais_keys, rmc_group, rmc_keys};
+use crate::parts::{ais_group, ais_keys, rmc_group, rmc_keys};
 use crate::presets::preset_keys;
 use crate::routes::route_keys;
 use crate::rows::row_keys;
@@ -21,24 +22,34 @@ use config_document::{ConfigFault, Section};
 use config_values::{Config, Ends, RowConfig};
 use network_routes::Routes;
 use sentence_text::Sfi;
-use settings::{AisConfig, Further, QuantityConfigs, RmcConfig, Settings};
+use settings::{AisConfig, QuantityConfigs, RmcConfig, Settings, Setup};
 
 /// What the gateway says of itself, and the parts beside it.
 type Parts = (Product, Option<RmcConfig>, Option<AisConfig>);
 
-/// The settings that the document says and what it asks for besides, but for keys that aren't known; further quantities are put into `each`.
-#[tactic(auto, unfolding(crate::specs::Keys::whole_in))]
-pub(crate) fn all_keys(
-    document: &Section,
-    each: QuantityConfigs,
-) -> Result<(Settings, Further), ConfigFault>
-    ensures said { result ≡ whole_in (place_of document.now) }
-    ensures settings { IfOk result (λ whole. IsSettings whole.0) }
-    ensures further { IfOk result (λ whole. IsFurther whole.0 whole.1) }
+/// All that the document says, but for keys that aren't known; further quantities are put into `each`.
+#[tactic(auto, unfolding(crate::specs::Keys::setup_in))]
+pub(crate) fn all_keys(document: &Section, each: QuantityConfigs) -> Result<Setup, ConfigFault>
+    ensures said { result ≡ setup_in (place_of document.now) }
+    ensures valid { IfOk result IsSetup }
 {
     let settings = setting_keys(document)?;
-    let further = further_keys(document, &settings, each)?;
-    Ok((settings, further))
+    let ignore = ignored_keys(document)?;
+    let parts = [rmc_group(&settings.rmc), ais_group(&settings.ais)];
+    let quantities = further_quantities(document, &settings.config.rows, &parts, each)?;
+    let sources = report_keys(document)?;
+    let [rmc, ais] = parts;
+    let parts = [quantities_group(&quantities), rmc, ais];
+    let plain = plain_keys(document, &settings.config.rows, &parts)?;
+    let recording = serve_keys(document)?;
+    Ok(Setup {
+        settings,
+        ignore,
+        quantities,
+        sources,
+        plain,
+        record: recording,
+    })
 }
 
 /// The settings that the document says.

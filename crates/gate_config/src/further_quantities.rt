@@ -11,7 +11,7 @@ ghost use Rattle.gate_config.specs.Beside.{AreQuantitiesBeside, IsGroupBeside};
 ghost use Rattle.gate_config.specs.Keys.{any_asks, asks, asks_by, further, is_asked, quantities_in, quantity, quantity_at, quantity_of, stands_at};
 ghost use Rattle.gate_config.specs.Reading.{each_from};
 ghost use Rattle.quantities.specs.About.{quantities};
-ghost use Rattle.settings.specs.Further.{IsQuantity};
+ghost use Rattle.settings.specs.Setup.{IsQuantity};
 
 use crate::items::key_prefix;
 use crate::keys::{number_or, section, stands_at};

@@ -25,5 +25,5 @@ pub use config_document::{ConfigFault, FaultLine, Key};
 pub use config_values::{Config, Ends, RowConfig};
 pub use reading::{read, read_all, read_whole};
 pub use settings::{
-    AisConfig, Further, Quantities, QuantityConfig, QuantityConfigs, RmcConfig, Settings,
+    AisConfig, Quantities, QuantityConfig, QuantityConfigs, RmcConfig, Settings, Setup,
 };

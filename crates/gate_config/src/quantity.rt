@@ -3,7 +3,7 @@ ghost use Rattle.std.specs.Prelude.{◌≡◌, IfOk};
 ghost use Rattle.config_document.specs.Places.{place_of};
 ghost use Rattle.config_document.specs.Texts.{IsTalker};
 ghost use Rattle.gate_config.specs.Keys.{quantity};
-ghost use Rattle.settings.specs.Further.{IsQuantity};
+ghost use Rattle.settings.specs.Setup.{IsQuantity};
 
 use crate::devices::devices;
 use crate::keys::{number_or, text_or, truth_or};

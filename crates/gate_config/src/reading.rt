@@ -4,25 +4,24 @@ ghost use Rattle.config_document.specs.Places.{place_of};
 ghost use Rattle.config_values.specs.Configs.{IsConfig};
 ghost use Rattle.gate_config.specs.ConfigOf.{IsConfigAlone, IsConfigOf, IsWholeConfigOf, config_in};
 ghost use Rattle.config_document.specs.declared.fault.ConfigFault.TheVariants.{Memory};
-ghost use Rattle.settings.specs.Further.{IsFurther};
 ghost use Rattle.settings.specs.Settings.{IsSettings};
+ghost use Rattle.settings.specs.Setup.{IsSetup};
 
 use crate::all::all_keys;
 use crate::unknown::first_unknown;
 use config_document::{ConfigFault, Section, key_of};
 use config_values::Config;
-use settings::{Further, QuantityConfigs, Settings};
+use settings::{QuantityConfigs, Settings, Setup};
 use std::alloc::Global;
 use std::str;
 
-/// All that a configuration file says, the settings and what is asked for besides, or the first thing that is wrong with it: keys are read in
-/// their order, for each is tried whether it is missing, of another type, out of range or a repeat, and keys that aren't known come last.
-pub fn read_whole(alloc: Global, bytes: &[u8]) -> Result<(Settings, Further), ConfigFault>
+/// All that a configuration file says, or the first thing that is wrong with it. Keys are read in their order. For each it is tried whether
+/// it is missing, of another type, out of range or a repeat. Keys that aren't known come last.
+pub fn read_whole(alloc: Global, bytes: &[u8]) -> Result<Setup, ConfigFault>
     // exactly the values or the fault that the definition gives, unless memory ran out
     ensures exact { (result ≡ Err Memory) ⊎ IsWholeConfigOf bytes.now result }
     // each value of them is in its range, and nothing stands twice that may stand only once
-    ensures settings { IfOk result (λ whole. IsSettings whole.0) }
-    ensures further { IfOk result (λ whole. IsFurther whole.0 whole.1) }
+    ensures valid { IfOk result IsSetup }
 {
     let text = match str::from_utf8(bytes) {
         Err(_) => return Err(ConfigFault::NotToml),
@@ -53,7 +52,7 @@ pub fn read_all(alloc: Global, bytes: &[u8]) -> Result<Settings, ConfigFault>
     ensures valid { IfOk result IsSettings }
 {
     match read_whole(alloc, bytes) {
-        Ok((settings, _further)) => Ok(settings),
+        Ok(setup) => Ok(setup.settings),
         Err(fault) => Err(fault),
     }
 }
@@ -72,22 +71,21 @@ pub fn read(alloc: Global, bytes: &[u8]) -> Result<Config, ConfigFault>
 
 /// What a document says of which every key is known.
 #[tactic(auto, unfolding(crate::specs::ConfigOf::config_in))]
-fn accepted(alloc: Global, document: &Section) -> Result<(Settings, Further), ConfigFault>
+fn accepted(alloc: Global, document: &Section) -> Result<Setup, ConfigFault>
     ensures exact { (result ≡ Err Memory) ⊎ (result ≡ config_in (place_of document.now)) }
-    ensures settings { IfOk result (λ whole. IsSettings whole.0) }
-    ensures further { IfOk result (λ whole. IsFurther whole.0 whole.1) }
+    ensures valid { IfOk result IsSetup }
 {
     let each = match QuantityConfigs::new(alloc) {
         Err(_) => return Err(ConfigFault::Memory),
         Ok(each) => each,
     };
-    let whole = match all_keys(document, each) {
+    let setup = match all_keys(document, each) {
         Err(fault) => return Err(fault),
-        Ok(whole) => whole,
+        Ok(setup) => setup,
     };
     match first_unknown(alloc, document) {
         Err(_) => Err(ConfigFault::Memory),
-        Ok(None) => Ok(whole),
+        Ok(None) => Ok(setup),
         Ok(Some(path)) => Err(ConfigFault::Unknown(key_of(path.as_slice(), b""))),
     }
 }

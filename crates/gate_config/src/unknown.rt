@@ -96,7 +96,7 @@ fn in_parts(
     under(alloc, document, AIS, AIS_PREFIX, &parts::AIS_KEYS, least)
 }
 
-/// The same of what is asked for besides.
+/// The same of further keys.
 fn in_further(
     alloc: Global,
     document: &Section,

@@ -1,8 +1,7 @@
 -- What follows of the statuses of a gateway over a capture.
 use Rattle.std.proofs.Common.{◌≡◌, ◌≢◌, ℕ, ◌⊎◌, List, inr, arith}
 use Rattle.std.specs.Prelude.{Option, Ok}
-use Rattle.settings.specs.declared.further.Further.{Further}
-use Rattle.settings.specs.declared.settings.Settings.{Settings}
+use Rattle.settings.specs.declared.setup.Setup.{Setup}
 use Rattle.statuses.specs.Statuses.{IsEarly, IsReplayStatus, IsStreamStatus}
 use Rattle.config_check.specs.Configuring.{FileSays}
 use Rattle.config_check.proofs.ConfigLemmas.{IsDone, configures}
@@ -25,15 +24,15 @@ memory_held status known is = grind (arith, known, is)
 is_complete : (status : ℕ) → IsReplayStatus status → (status ≢ 7 → status ≡ 0) → (status ≡ 0) ⊎ (status ≡ 7)
 is_complete status known complete = search (arith, known, complete)
 
-pub replayed : (content : Option (List ℕ)) (files files' : ℕ) (left left' : Option (List ℕ)) (source source' : ℕ) (told told' : Option (List ℕ)) (sink sink' status : ℕ) (settings : Settings) (further : Further)
-    → FileSays content (Ok (settings, further)) → RunsBy settings further left left' source source' told told' sink sink' status
+pub replayed : (content : Option (List ℕ)) (files files' : ℕ) (left left' : Option (List ℕ)) (source source' : ℕ) (told told' : Option (List ℕ)) (sink sink' status : ℕ) (setup : Setup)
+    → FileSays content (Ok setup) → RunsBy setup left left' source source' told told' sink sink' status
     → ReplaysBy content files files' left left' source source' told told' sink sink' status
-replayed content files files' left left' source source' told told' sink sink' status settings further f r = record {
+replayed content files files' left left' source source' told told' sink sink' status setup f r = record {
   known = inr (inr r.known);
-  configures = configures content files files' told told' sink sink' status (settings, further) f (is_done status r.known);
-  replays = λ is. record { settings = settings; further = further; file = f; ends = r.ends };
+  configures = configures content files files' told told' sink sink' status setup f (is_done status r.known);
+  replays = λ is. record { setup = setup; file = f; ends = r.ends };
   sink_cause = r.sink_cause;
   source_cause = r.source_cause;
   steady = r.steady;
-  complete = λ other besides t held unhindered. is_complete status r.known (λ no. r.complete no unhindered);
+  complete = λ other t held unhindered. is_complete status r.known (λ no. r.complete no unhindered);
 }

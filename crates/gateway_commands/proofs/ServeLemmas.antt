@@ -2,8 +2,7 @@
 use Rattle.std.proofs.Common.{◌≡◌, ◌≢◌, ℕ, ◌⊎◌, List, refl, inl, inr, arith}
 use Rattle.std.specs.Prelude.{Option, Ok}
 use Rattle.gate_outside.specs.Faults.{Rose}
-use Rattle.settings.specs.declared.further.Further.{Further}
-use Rattle.settings.specs.declared.settings.Settings.{Settings}
+use Rattle.settings.specs.declared.setup.Setup.{Setup}
 use Rattle.serving.specs.Served.{Outside}
 use Rattle.config_check.specs.Configuring.{FileSays}
 use Rattle.gateway_commands.specs.ServeCommand.{IsServeStatus, IsTurnsStatus, ServesBy, ServesWith, Unattached}
@@ -28,15 +27,15 @@ is_complete : (status : ℕ) → Known status → (status ≢ 7 → status ≡ 0
 is_complete status known complete = search (arith, known, complete)
 
 pub served : (turns : ℕ) (content : Option (List ℕ)) (files files' : ℕ) (clock clock' : Option (List ℕ)) (bus bus' net net' : ℕ) (old new : Outside) (status : ℕ)
-    (settings : Settings) (further : Further) → FileSays content (Ok (settings, further)) → ServesWith settings further turns clock clock' bus bus' net net' old new status
+    (setup : Setup) → FileSays content (Ok setup) → ServesWith setup turns clock clock' bus bus' net net' old new status
     → ServesBy turns content files files' clock clock' bus bus' net net' old new status
-served turns content files files' clock clock' bus bus' net net' old new status settings further f s = record {
+served turns content files files' clock clock' bus bus' net net' old new status setup f s = record {
   known = search (arith, s.known);
-  configures = configures content files files' old.taken new.taken old.faults new.faults status (settings, further) f (is_done status s.known);
-  serves = λ is. (settings, further, f, s.serves is);
-  unattached = λ is. (settings, further, f, s.unattached is);
+  configures = configures content files files' old.taken new.taken old.faults new.faults status setup f (is_done status s.known);
+  serves = λ is. (setup, f, s.serves is);
+  unattached = λ is. (setup, f, s.unattached is);
   sink_cause = s.sink_cause;
-  complete = λ other besides told files_held bus_held net_held sink_held. is_complete status s.known (λ no. s.complete no bus_held net_held sink_held);
+  complete = λ other told files_held bus_held net_held sink_held. is_complete status s.known (λ no. s.complete no bus_held net_held sink_held);
 }
 
 -- no status of a gateway between two links is that of a read
@@ -48,9 +47,9 @@ pub serve_steady : (turns : ℕ) (content : Option (List ℕ)) (files files' : �
     (source status : ℕ) → ServesBy turns content files files' clock clock' bus bus' net net' old new status → SteadyBy source source old.faults new.faults status
 serve_steady turns content files files' clock clock' bus bus' net net' old new source status s =
     let none = no_read status s.known in
-    steady_unread source source old.faults new.faults status refl (λ is. ((s.serves (inl is)).3.ends.done is).passes.steady) none.0 none.1
+    steady_unread source source old.faults new.faults status refl (λ is. ((s.serves (inl is)).2.ends.done is).passes.steady) none.0 none.1
 
 -- a link that can't be attached has its cause in its count of faults
 pub link_cause : (content : Option (List ℕ)) (bus bus' net net' : ℕ) (old new : Outside) → Unattached content bus bus' net net' old new → Rose bus bus' ⊎ Rose net net'
-link_cause content bus bus' net net' old new (settings, further, file, inl of_bus) = inl of_bus.2
-link_cause content bus bus' net net' old new (settings, further, file, inr of_net) = inr of_net.2
+link_cause content bus bus' net net' old new (setup, file, inl of_bus) = inl of_bus.2
+link_cause content bus bus' net net' old new (setup, file, inr of_net) = inr of_net.2

@@ -1,18 +1,17 @@
 -- What each status of `replay` says of the file, of the bytes that were read and of those that were written.
 use Rattle.std.specs.Prelude.{◌≡◌, ◌≢◌, ◌⊎◌, ℕ, List, Option, Ok}
 use Rattle.gate_outside.specs.Faults.{Rose}
-use Rattle.settings.specs.declared.further.Further.{Further}
-use Rattle.settings.specs.declared.settings.Settings.{Settings}
+use Rattle.settings.specs.declared.setup.Setup.{Setup}
 use Rattle.serving.specs.BridgeSettings.{bridge_settings_of}
 use Rattle.replaying.specs.Replayed.{IsReplay}
 use Rattle.config_check.specs.Configuring.{ConfiguresBy, FileSays, IsToldAs}
 use Rattle.statuses.specs.declared.Status.TheVariants as statuses
 use Rattle.statuses.specs.Statuses.{EndsBy, IsReplayStatus, IsStreamStatus, IsUnhindered, SteadyBy, number}
 
--- what a gateway of these settings, with what is asked for besides, says by its status, which was run over a capture
-pub record RunsBy (settings : Settings) (further : Further) (left left' : Option (List ℕ)) (source source' : ℕ) (told told' : Option (List ℕ)) (sink sink' status : ℕ) : Type 0 where
+-- what a gateway of this setup says by its status, which was run over a capture
+pub record RunsBy (setup : Setup) (left left' : Option (List ℕ)) (source source' : ℕ) (told told' : Option (List ℕ)) (sink sink' status : ℕ) : Type 0 where
   pub known : IsReplayStatus status
-  pub ends : EndsBy (IsReplay (bridge_settings_of settings further)) left left' told told' status
+  pub ends : EndsBy (IsReplay (bridge_settings_of setup)) left left' told told' status
   pub sink_cause : status ≡ number statuses.SinkFailed → Rose sink sink'
   pub source_cause : status ≡ number statuses.SourceFailed → Rose source source'
   pub steady : SteadyBy source source' sink sink' status
@@ -24,10 +23,9 @@ IsReplayCommandStatus status = (status ≡ number statuses.Refused) ⊎ ((status
 
 -- a gateway of all that the file says was run over the capture, and this is what it says by its status
 pub record Replays (content : Option (List ℕ)) (left left' told told' : Option (List ℕ)) (status : ℕ) : Type 0 where
-  pub settings : Settings
-  pub further : Further
-  pub file : FileSays content (Ok (settings, further))
-  pub ends : EndsBy (IsReplay (bridge_settings_of settings further)) left left' told told' status
+  pub setup : Setup
+  pub file : FileSays content (Ok setup)
+  pub ends : EndsBy (IsReplay (bridge_settings_of setup)) left left' told told' status
 
 pub record ReplaysBy (content : Option (List ℕ)) (files files' : ℕ) (left left' : Option (List ℕ)) (source source' : ℕ) (told told' : Option (List ℕ))
     (sink sink' status : ℕ) : Type 0 where
@@ -38,4 +36,4 @@ pub record ReplaysBy (content : Option (List ℕ)) (files files' : ℕ) (left le
   pub source_cause : status ≡ number statuses.SourceFailed → Rose source source'
   pub steady : SteadyBy source source' sink sink' status
   -- where nothing fails, a gateway of an accepted configuration is run over the whole capture, unless memory ran out
-  pub complete : (settings : Settings) (further : Further) → IsToldAs content (Ok (settings, further)) → (Rose files files' → ⊥) → IsUnhindered left source source' sink sink' → (status ≡ number statuses.Done) ⊎ (status ≡ number statuses.NoMemory)
+  pub complete : (setup : Setup) → IsToldAs content (Ok setup) → (Rose files files' → ⊥) → IsUnhindered left source source' sink sink' → (status ≡ number statuses.Done) ⊎ (status ≡ number statuses.NoMemory)

@@ -4,8 +4,7 @@ use Rattle.config_values.specs.declared.config.Ends.{Ends}
 use Rattle.gate_outside.specs.declared.Failed.{Failed}
 use Rattle.gate_outside.specs.Faults.{Rose}
 use Rattle.gate_outside.specs.Link.{Attachment, GoesOn, Traffic, attachment}
-use Rattle.settings.specs.declared.further.Further.{Further}
-use Rattle.settings.specs.declared.settings.Settings.{Settings}
+use Rattle.settings.specs.declared.setup.Setup.{Setup}
 use Rattle.serving.specs.BridgeSettings.{bridge_settings_of}
 use Rattle.serving.specs.Served.{Outside, EndsBy, outside}
 use Rattle.config_check.specs.Configuring.{ConfiguresBy, FileSays, IsToldAs}
@@ -49,20 +48,19 @@ AttachesBoth ends bus bus' bus_faults bus_faults' net net' net_faults net_faults
 abbrev pub IsTurnsStatus : ℕ → Type 0
 IsTurnsStatus status = (status ≡ number statuses.Done) ⊎ (status ≡ number statuses.SinkFailed)
 
--- Both links were attached by the settings, and then told this. A gateway of the settings, with what is asked for besides, took turns
--- between them, which says this by its status.
-pub record TakesTurns (settings : Settings) (further : Further) (turns : ℕ) (clock clock' : Option (List ℕ)) (old new : Outside) (status : ℕ) : Type 0 where
+-- Both links were attached by the settings, and then told this. A gateway of the setup took turns between them, which says this by its status.
+pub record TakesTurns (setup : Setup) (turns : ℕ) (clock clock' : Option (List ℕ)) (old new : Outside) (status : ℕ) : Type 0 where
   pub bus : Option Traffic
   pub net : Option Traffic
-  pub bus_attached : IsAttached (bus_attachment settings.config.ends) old.bus bus
-  pub net_attached : IsAttached (net_attachment settings.config.ends) old.net net
-  pub ends : EndsBy (bridge_settings_of settings further) turns clock clock' (outside bus net old.taken old.faults) new status
+  pub bus_attached : IsAttached (bus_attachment setup.settings.config.ends) old.bus bus
+  pub net_attached : IsAttached (net_attachment setup.settings.config.ends) old.net net
+  pub ends : EndsBy (bridge_settings_of setup) turns clock clock' (outside bus net old.taken old.faults) new status
 
--- What each status of a gateway of these settings says. Want of memory is free.
-pub record ServesWith (settings : Settings) (further : Further) (turns : ℕ) (clock clock' : Option (List ℕ)) (bus bus' net net' : ℕ) (old new : Outside) (status : ℕ) : Type 0 where
+-- What each status of a gateway of this setup says. Want of memory is free.
+pub record ServesWith (setup : Setup) (turns : ℕ) (clock clock' : Option (List ℕ)) (bus bus' net net' : ℕ) (old new : Outside) (status : ℕ) : Type 0 where
   pub known : (status ≡ number statuses.NoMemory) ⊎ ((status ≡ number statuses.Unattached) ⊎ IsTurnsStatus status)
-  pub serves : IsTurnsStatus status → TakesTurns settings further turns clock clock' old new status
-  pub unattached : status ≡ number statuses.Unattached → FailsToAttach settings.config.ends old.bus new.bus bus bus' old.net new.net net net'
+  pub serves : IsTurnsStatus status → TakesTurns setup turns clock clock' old new status
+  pub unattached : status ≡ number statuses.Unattached → FailsToAttach setup.settings.config.ends old.bus new.bus bus bus' old.net new.net net net'
   pub sink_cause : status ≡ number statuses.SinkFailed → Rose old.faults new.faults
   -- where memory was found and nothing fails, all turns are taken
   pub complete : status ≢ number statuses.NoMemory → (Rose bus bus' → ⊥) → (Rose net net' → ⊥) → (Rose old.faults new.faults → ⊥) → status ≡ number statuses.Done
@@ -76,12 +74,12 @@ IsServeStatus status = (status ≡ number statuses.Refused) ⊎ ((status ≡ num
 -- the gateway was one of all that the file says
 abbrev pub Serves : ℕ → Option (List ℕ) → Option (List ℕ) → Option (List ℕ) → Outside → Outside → ℕ → Type 0
 Serves turns content clock clock' old new status =
-    (settings : Settings) × (further : Further) × FileSays content (Ok (settings, further)) × TakesTurns settings further turns clock clock' old new status
+    (setup : Setup) × FileSays content (Ok setup) × TakesTurns setup turns clock clock' old new status
 
 -- a link couldn't be attached by the settings that the file says
 abbrev pub Unattached : Option (List ℕ) → ℕ → ℕ → ℕ → ℕ → Outside → Outside → Type 0
 Unattached content bus bus' net net' old new =
-    (settings : Settings) × (further : Further) × FileSays content (Ok (settings, further)) × FailsToAttach settings.config.ends old.bus new.bus bus bus' old.net new.net net net'
+    (setup : Setup) × FileSays content (Ok setup) × FailsToAttach setup.settings.config.ends old.bus new.bus bus bus' old.net new.net net net'
 
 -- By the counts of faults of the files and of both links, by the clock's readings, and by what is told of the links and the sink.
 pub record ServesBy (turns : ℕ) (content : Option (List ℕ)) (files files' : ℕ) (clock clock' : Option (List ℕ)) (bus bus' net net' : ℕ)
@@ -92,5 +90,5 @@ pub record ServesBy (turns : ℕ) (content : Option (List ℕ)) (files files' : 
   pub unattached : status ≡ number statuses.Unattached → Unattached content bus bus' net net' old new
   pub sink_cause : status ≡ number statuses.SinkFailed → Rose old.faults new.faults
   -- where nothing fails, a gateway of an accepted configuration takes all turns, unless memory ran out
-  pub complete : (settings : Settings) (further : Further) → IsToldAs content (Ok (settings, further)) → (Rose files files' → ⊥) → (Rose bus bus' → ⊥) → (Rose net net' → ⊥)
+  pub complete : (setup : Setup) → IsToldAs content (Ok setup) → (Rose files files' → ⊥) → (Rose bus bus' → ⊥) → (Rose net net' → ⊥)
       → (Rose old.faults new.faults → ⊥) → (status ≡ number statuses.Done) ⊎ (status ≡ number statuses.NoMemory)

@@ -1,8 +1,8 @@
 //! The gateway over a capture: what it would have sent and reported, line by line.
 ghost use Rattle.std.specs.Prelude.{◌≡◌, ◌≢◌};
 ghost use Rattle.gate_outside.specs.Faults.{Rose};
-ghost use Rattle.settings.specs.Further.{IsFurther, nothing_further};
 ghost use Rattle.settings.specs.Settings.{IsSettings};
+ghost use Rattle.settings.specs.Setup.{IsSetup, alone};
 ghost use Rattle.serving.specs.BridgeStands.{IsNew};
 ghost use Rattle.serving.specs.BridgeSettings.{BridgeSettings, bridge_settings_of};
 ghost use Rattle.replaying.specs.Replayed.{IsReplay};
@@ -11,7 +11,7 @@ ghost use Rattle.statuses.specs.Statuses.{EndsBy, IsReplayStatus, IsStreamStatus
 
 use gate_outside::{Sink, Source};
 use replaying::replay_capture;
-use serving::{Bridge, Further, Settings};
+use serving::{Bridge, Settings, Setup};
 use statuses::{Status, status_of};
 use std::alloc::Global;
 
@@ -69,7 +69,7 @@ pub fn replay_with<S: Source, K: Sink>(
 ) -> u8
     requires { IsSettings settings.now }
     ensures status { IsReplayStatus result }
-    ensures ends { EndsBy (IsReplay (bridge_settings_of settings.now nothing_further)) (S.left input.old) (S.left input.new) (K.taken out.old) (K.taken out.new) result }
+    ensures ends { EndsBy (IsReplay (bridge_settings_of (alone settings.now))) (S.left input.old) (S.left input.new) (K.taken out.old) (K.taken out.new) result }
     ensures memory { result ≡ 7 → (input.new ≡ input.old) × (out.new ≡ out.old) }
     ensures sink_cause { result ≡ 4 → Rose (K.fault_count out.old) (K.fault_count out.new) }
     ensures source_cause { result ≡ 5 → Rose (S.fault_count input.old) (S.fault_count input.new) }
@@ -78,25 +78,26 @@ pub fn replay_with<S: Source, K: Sink>(
         → IsUnhindered (S.left input.old) (S.fault_count input.old) (S.fault_count input.new) (K.fault_count out.old) (K.fault_count out.new)
         → result ≡ 0 }
 {
-    replay_settings(alloc, settings, &Further::none(), input, out).number()
+    match Setup::alone(settings) {
+        Ok(setup) => replay_setup(alloc, &setup, input, out).number(),
+        Err(_) => Status::NoMemory.number(),
+    }
 }
 
-/// [`replay_with`] a gateway of what is asked for besides, with the status whose number that answers.
+/// Runs a gateway of all that a file configures over a capture. Answers the status whose number [`replay_with`] answers.
 #[inline(never)]
-pub(crate) fn replay_settings<S: Source, K: Sink>(
+pub(crate) fn replay_setup<S: Source, K: Sink>(
     alloc: Global,
-    settings: &Settings,
-    further: &Further,
+    setup: &Setup,
     input: &mut S,
     out: &mut K,
 ) -> Status
-    requires settings { IsSettings settings.now }
-    requires further { IsFurther settings.now further.now }
-    ensures runs { RunsBy settings.now further.now (S.left input.old) (S.left input.new) (S.fault_count input.old) (S.fault_count input.new)
+    requires { IsSetup setup.now }
+    ensures runs { RunsBy setup.now (S.left input.old) (S.left input.new) (S.fault_count input.old) (S.fault_count input.new)
         (K.taken out.old) (K.taken out.new) (K.fault_count out.old) (K.fault_count out.new) (number result) }
     ensures memory { number result ≡ 7 → (input.new ≡ input.old) × (out.new ≡ out.old) }
 {
-    match Bridge::with(alloc, settings, further) {
+    match Bridge::with(alloc, setup) {
         Ok(mut bridge) => {
             let status = answer(&mut bridge, input, out);
             bridge.close();

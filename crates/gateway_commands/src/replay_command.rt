@@ -3,7 +3,7 @@ ghost use Rattle.std.specs.Prelude.{◌≡◌};
 ghost use Rattle.gateway_commands.specs.ReplayCommand.{ReplaysBy};
 ghost use Rattle.statuses.specs.Statuses.{IsEarly, number};
 
-use crate::replay::replay_settings;
+use crate::replay::replay_setup;
 use config_check::{give_up, load_whole};
 use gate_outside::{Files, Sink, Source};
 use statuses::Status;
@@ -25,7 +25,7 @@ pub(crate) fn replay<F: Files, S: Source, K: Sink>(
     ensures quiet { IsEarly (number result) → (input.new ≡ input.old) × (out.new ≡ out.old) }
 {
     match load_whole(alloc, name, files) {
-        Ok((settings, further)) => replay_settings(alloc, &settings, &further, input, out),
+        Ok(setup) => replay_setup(alloc, &setup, input, out),
         Err(why) => give_up(&why, out),
     }
 }

@@ -3,9 +3,7 @@ ghost use Rattle.std.specs.Prelude.{◌≡◌, ◌≢◌};
 ghost use Rattle.serving.specs.BridgeStands.{IsNew};
 ghost use Rattle.serving.specs.BridgeSettings.{bridge_settings_of};
 ghost use Rattle.serving.specs.Served.{outside};
-ghost use Rattle.settings.specs.Further.{IsFurther};
-ghost use Rattle.settings.specs.declared.further.Further.{Further};
-ghost use Rattle.settings.specs.Settings.{IsSettings};
+ghost use Rattle.settings.specs.Setup.{IsSetup};
 ghost use Rattle.statuses.specs.Statuses.{IsEarly, number};
 ghost use Rattle.gateway_commands.specs.ServeCommand.{AttachesBoth, ServesBy, ServesWith};
 
@@ -13,7 +11,7 @@ use config_check::{give_up, load_whole};
 use config_values::Ends;
 use gate_outside::{Clock, Failed, Files, Link, Sink};
 use network_routes::Routes;
-use serving::{Bridge, Further, Settings, take_turns};
+use serving::{Bridge, Setup, take_turns};
 use statuses::Status;
 use std::alloc::Global;
 
@@ -38,37 +36,33 @@ pub(crate) fn serve<F: Files, K: Sink, B: Link, E: Link, C: Clock>(
     ensures unattached { number result ≡ 9 → (out.new ≡ out.old) × (clock.new ≡ clock.old) }
 {
     match load_whole(alloc, name, files) {
-        Ok((settings, further)) => {
-            serve_with(alloc, &settings, &further, turns, out, bus, net, clock)
-        }
+        Ok(setup) => serve_with(alloc, &setup, turns, out, bus, net, clock),
         Err(why) => give_up(&why, out),
     }
 }
 
-/// Runs a gateway of these settings, with what is asked for besides, between two links, for so many turns, and answers the status.
+/// Runs a gateway of all that a file configures between two links, for so many turns, and answers the status.
 #[inline(never)]
 fn serve_with<K: Sink, B: Link, E: Link, C: Clock>(
     alloc: Global,
-    settings: &Settings,
-    further: &Further,
+    setup: &Setup,
     turns: u32,
     out: &mut K,
     bus: &mut B,
     net: &mut E,
     clock: &mut C,
 ) -> Status
-    requires settings { IsSettings settings.now }
-    requires further { IsFurther settings.now further.now }
-    ensures serves { ServesWith settings.now further.now turns (C.readings clock.old) (C.readings clock.new)
+    requires { IsSetup setup.now }
+    ensures serves { ServesWith setup.now turns (C.readings clock.old) (C.readings clock.new)
         (B.fault_count bus.old) (B.fault_count bus.new) (E.fault_count net.old) (E.fault_count net.new)
         (outside (B.traffic bus.old) (E.traffic net.old) (K.taken out.old) (K.fault_count out.old))
         (outside (B.traffic bus.new) (E.traffic net.new) (K.taken out.new) (K.fault_count out.new)) (number result) }
     ensures memory { number result ≡ 7 → (out.new ≡ out.old) × (bus.new ≡ bus.old) × (net.new ≡ net.old) × (clock.new ≡ clock.old) }
     ensures unattached { number result ≡ 9 → (out.new ≡ out.old) × (clock.new ≡ clock.old) }
 {
-    match Bridge::with(alloc, settings, further) {
+    match Bridge::with(alloc, setup) {
         Ok(mut bridge) => {
-            let status = serve_between(settings, &mut bridge, turns, out, bus, net, clock);
+            let status = serve_between(setup, &mut bridge, turns, out, bus, net, clock);
             bridge.close();
             status
         }
@@ -79,7 +73,7 @@ fn serve_with<K: Sink, B: Link, E: Link, C: Clock>(
 /// Attaches both links by the settings, and lets a new bridge of them take its turns. It is apart from where the bridge is made, so that whoever
 /// holds one has a single way out.
 fn serve_between<K: Sink, B: Link, E: Link, C: Clock>(
-    settings: &Settings,
+    setup: &Setup,
     bridge: &mut Bridge,
     turns: u32,
     out: &mut K,
@@ -87,15 +81,15 @@ fn serve_between<K: Sink, B: Link, E: Link, C: Clock>(
     net: &mut E,
     clock: &mut C,
 ) -> Status
-    ensures serves { (further : Further) → IsNew (bridge_settings_of settings.now further) bridge.old
-        → ServesWith settings.now further turns (C.readings clock.old) (C.readings clock.new)
+    ensures serves { IsNew (bridge_settings_of setup.now) bridge.old
+        → ServesWith setup.now turns (C.readings clock.old) (C.readings clock.new)
         (B.fault_count bus.old) (B.fault_count bus.new) (E.fault_count net.old) (E.fault_count net.new)
         (outside (B.traffic bus.old) (E.traffic net.old) (K.taken out.old) (K.fault_count out.old))
         (outside (B.traffic bus.new) (E.traffic net.new) (K.taken out.new) (K.fault_count out.new)) (number result) }
     ensures memory { number result ≢ 7 }
     ensures unattached { number result ≡ 9 → (out.new ≡ out.old) × (clock.new ≡ clock.old) }
 {
-    match attach_both(&settings.config.ends, bus, net) {
+    match attach_both(&setup.settings.config.ends, bus, net) {
         Ok(()) => take_turns(bridge, turns, out, bus, net, clock),
         Err(Failed) => Status::Unattached,
     }

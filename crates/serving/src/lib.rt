@@ -9,5 +9,5 @@ mod handing;
 mod recording;
 mod turns;
 
-pub use bridge::{Bridge, Further, Settings};
+pub use bridge::{Bridge, Settings, Setup};
 pub use turns::{serve_turns, take_turns};

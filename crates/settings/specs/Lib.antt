@@ -1,2 +1,2 @@
 pub mod Settings
-pub mod Further
+pub mod Setup

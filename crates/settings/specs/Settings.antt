@@ -1,4 +1,4 @@
--- When all that one file configures is valid: the gateway and the parts beside it. Joined sentences (RMC, IEC 61162-1) and reports of ships
+-- When settings are valid: the gateway, what it says of itself, RMC and reports of ships. Joined sentences (RMC, IEC 61162-1) and reports of ships
 -- around each have a transmission group (IEC 61162-450) of their own. The conditions stand in the order of the keys.
 use Rattle.std.specs.Prelude.{◌≢◌, ℕ, ◌≤◌, List, length, All, Option}
 use Rattle.std.specs.Int.{IsInRange}

@@ -3,7 +3,7 @@
 use sentence_text::Group;
 
 /// How position reports of ships around are passed on.
-#[derive(Drop)]
+#[derive(Clone, Drop)]
 pub struct AisConfig {
     /// The transmission group that they are sent to, which is sent nothing else.
     pub group: Group,

@@ -4,15 +4,15 @@
 #![tactic(auto)]
 
 mod ais;
-mod further;
 mod quantity_config;
 mod quantity_configs;
 mod rmc;
 mod settings;
+mod setup;
 
 pub use ais::AisConfig;
-pub use further::Further;
 pub use quantity_config::{Quantities, QuantityConfig};
 pub use quantity_configs::QuantityConfigs;
 pub use rmc::RmcConfig;
 pub use settings::Settings;
+pub use setup::Setup;

@@ -21,7 +21,7 @@ pub struct QuantityConfig {
 
 impl Default for QuantityConfig {
     ghost use Rattle.std.specs.Prelude.{◌≡◌};
-    ghost use Rattle.settings.specs.Further.{usual_quantity};
+    ghost use Rattle.settings.specs.Setup.{usual_quantity};
 
     ghost is_default = { λ q. q ≡ usual_quantity };
 

@@ -1,7 +1,7 @@
 //! How each of the quantities is said.
 ghost use Rattle.std.specs.Prelude.{◌≡◌, ◌<◌, IfOk, length, replicate, set, slice_index_or};
 ghost use Rattle.quantities.specs.About.{number_of, quantities_count};
-ghost use Rattle.settings.specs.Further.{usual_quantity};
+ghost use Rattle.settings.specs.Setup.{usual_quantity};
 
 use crate::quantity_config::QuantityConfig;
 use quantities::{QUANTITIES, Quantity};

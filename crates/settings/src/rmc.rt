@@ -3,7 +3,7 @@
 use sentence_text::Group;
 
 /// How the sentence RMC is said.
-#[derive(Drop)]
+#[derive(Clone, Drop)]
 pub struct RmcConfig {
     /// The transmission group that it is sent to, which is sent nothing else.
     pub group: Group,

@@ -1,12 +1,12 @@
-//! All that one file configures.
+//! The settings of a gateway.
 
 use crate::ais::AisConfig;
 use crate::rmc::RmcConfig;
 use bus_identity::Product;
 use config_values::Config;
 
-/// All that one file configures: the gateway, and the parts beside it.
-#[derive(Drop)]
+/// How the gateway is configured, what it says of itself, and how RMC and reports of ships are passed on.
+#[derive(Clone, Drop)]
 pub struct Settings {
     /// The gateway itself.
     pub config: Config,

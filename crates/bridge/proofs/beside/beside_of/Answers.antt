@@ -9,13 +9,13 @@ use Rattle.bridge.proofs.Made.{all_empty, slots_of}
 use Rattle.bridge.proofs.beside.beside_of.Goals as goal
 
 pub ships_of-requires : goal.ships_of-requires
-ships_of-requires c = slots_of c.args.settings.now.config.rows c.args.settings.now.rmc c.args.settings.now.ais c.requires.settings.ais
+ships_of-requires c = slots_of c.args.setup.now.settings.config.rows c.args.setup.now.settings.rmc c.args.setup.now.settings.ais c.requires.settings.ais
 
 pub returns : goal.returns
 unfolding bridge_settings_of
 returns c =
-    let x = c.args.settings.now in
-    let ignored = c.args.further.now.ignore.items in
+    let x = c.args.setup.now.settings in
+    let ignored = c.args.setup.now.ignore.items in
     let here = settings_ignoring ignored x.config in
     record {
       stood = λ s. (
@@ -25,8 +25,8 @@ returns c =
           (
             c.in_ok-ships.ensures.stood x.ais here s [] (c.in_ok-ships_of.ensures ignored s),
             (
-              c.in_ok-quantities.ensures.stood (quantities_rule ignored c.args.further.now.quantities) here s [] (c.in_ok-quantities_of.ensures s),
-              c.in_ok-sources.ensures.stood (wanted c.args.further.now.sources) here s [] (c.sources_of.ensures here s),
+              c.in_ok-quantities.ensures.stood (quantities_rule ignored c.args.setup.now.quantities) here s [] (c.in_ok-quantities_of.ensures s),
+              c.in_ok-sources.ensures.stood (wanted c.args.setup.now.sources) here s [] (c.sources_of.ensures here s),
             ),
           ),
         ),

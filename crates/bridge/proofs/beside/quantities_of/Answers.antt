@@ -10,7 +10,7 @@ use Rattle.bridge.proofs.beside.quantities_of.Goals as goal
 pub returns-in_ok-new-in-Some : goal.returns-in_ok-new-in-Some
 unfolding settings_ignoring
 returns-in_ok-new-in-Some c =
-    let ignored = c.args.further.now.ignore.items in
-    let here = settings_ignoring ignored c.args.settings.now.config in
+    let ignored = c.args.setup.now.ignore.items in
+    let here = settings_ignoring ignored c.args.setup.now.settings.config in
     subst (λ (q : Option Quantities). IsOpened (maybe_stand quantities_stand) (quantities_rule ignored q) here (Some (record { bridge = c.in_ok-new-in-Some.field-0 })))
     (sym c.in-Some.is) (λ s. c.in_ok-new-in-Some.ensures.history here s refl)

@@ -4,7 +4,7 @@ use Rattle.std.proofs.lemmas.List.Elements.{All-push}
 use Rattle.quantities.specs.declared.about.Quantity.TheVariants as quantity
 use Rattle.quantities.specs.About.{about_of, number_of, quantities, quantities_count}
 use Rattle.config_document.specs.Places.{place_of}
-use Rattle.settings.specs.Further.{IsQuantity}
+use Rattle.settings.specs.Setup.{IsQuantity}
 use Rattle.settings.specs.declared.quantity_config.QuantityConfig.{QuantityConfig}
 use Rattle.gate_config.specs.Keys.{quantity_of}
 use Rattle.gate_config.specs.Reading.{key_prefix}

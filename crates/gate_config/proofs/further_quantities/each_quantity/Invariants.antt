@@ -1,7 +1,7 @@
 use Rattle.std.proofs.Common.{◌≡◌, [], All, length, take, drop}
 use Rattle.quantities.specs.About.{quantities, quantities_count}
 use Rattle.config_document.specs.Places.{place_of}
-use Rattle.settings.specs.Further.{IsQuantity}
+use Rattle.settings.specs.Setup.{IsQuantity}
 use Rattle.gate_config.specs.Keys.{quantity_of}
 use Rattle.gate_config.specs.Reading.{each_from}
 use Rattle.gate_config.proofs.further_quantities.each_quantity.Given as goal

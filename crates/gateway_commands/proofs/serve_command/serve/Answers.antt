@@ -10,7 +10,7 @@ returns-in-Ok-clause-serves g c =
     (g.K.Sink.fault_count c.serve_with.new.out) in
     served c.args.turns (g.F.Files.content c.args.files.now c.args.name.now) (g.F.Files.fault_count c.args.files.now) (g.F.Files.fault_count c.load_whole.new.files)
     (g.C.Clock.readings c.args.clock.now) (g.C.Clock.readings c.serve_with.new.clock) (g.B.Link.fault_count c.args.bus.now) (g.B.Link.fault_count c.serve_with.new.bus)
-    (g.E.Link.fault_count c.args.net.now) (g.E.Link.fault_count c.serve_with.new.net) old new (number c.serve_with.result) c.in-Ok.settings c.in-Ok.further c.in-Ok.ensures.2 c.serve_with.ensures.serves
+    (g.E.Link.fault_count c.args.net.now) (g.E.Link.fault_count c.serve_with.new.net) old new (number c.serve_with.result) c.in-Ok.setup c.in-Ok.ensures.1 c.serve_with.ensures.serves
 
 pub returns-in-Ok-clause-refused : goal.returns-in-Ok-clause-refused
 returns-in-Ok-clause-refused g c = λ is. absurd (no_refusal (number c.serve_with.result) c.serve_with.ensures.serves.known is)

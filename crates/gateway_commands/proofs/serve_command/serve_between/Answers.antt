@@ -3,7 +3,7 @@ use Rattle.gateway_commands.proofs.serve_command.serve_between.Goals as goal
 
 -- both links are attached, and the turns end as those of a new bridge do
 pub returns-in-Ok-clause-serves : goal.returns-in-Ok-clause-serves
-returns-in-Ok-clause-serves g c = λ further new. record {
+returns-in-Ok-clause-serves g c = λ new. record {
   known = inr (inr c.take_turns.ensures.status);
   serves = λ is. record {
     bus = g.B.Link.traffic c.attach_both.new.bus;

@@ -4,7 +4,7 @@ use Rattle.std.proofs.lemmas.List.{length-map}
 use Rattle.slot_views.specs.Slots.{SlotMap}
 use Rattle.fast_packet.specs.declared.key.FastKey.{FastKey}
 use Rattle.claim_table.specs.Claims.{places}
-use Rattle.settings.specs.Further.{IsQuantity}
+use Rattle.settings.specs.Setup.{IsQuantity}
 use Rattle.source_choice.specs.Choices.{Choices, nothing, opened}
 use Rattle.bus_listener.specs.Promises.{IsOpening}
 use Rattle.further_bridge.specs.declared.config.FurtherConfig.{FurtherConfig}

@@ -1,17 +1,17 @@
--- What is asked for by keys of its own, and when it can stand beside the other settings.
+-- All that one file configures, and when it is valid: the settings, and what further keys ask for beside them.
 use Rattle.std.specs.Prelude.{◌≢◌, ℕ, false, true, List, [], All, Option, None, codes}
 use Rattle.std.specs.Int.{IsInRange}
 use Rattle.std.specs.Option.{ForSome}
 use Rattle.config_values.specs.Rows.{AreSources, IsTalker, usual_timeout}
-use Rattle.settings.specs.Settings.{IsOwnGroup}
-use Rattle.settings.specs.declared.further.Further.{Further}
+use Rattle.settings.specs.Settings.{IsOwnGroup, IsSettings}
 use Rattle.settings.specs.declared.quantity_config.Quantities.{Quantities}
 use Rattle.settings.specs.declared.quantity_config.QuantityConfig.{QuantityConfig}
 use Rattle.settings.specs.declared.settings.Settings.{Settings}
+use Rattle.settings.specs.declared.setup.Setup.{Setup}
 
--- without any of these keys
-abbrev pub nothing_further : Further
-nothing_further = record { ignore = record { items = [] }; quantities = None; sources = false; plain = None; «record» = false }
+-- without any further key
+abbrev pub alone : Settings → Setup
+alone s = record { settings = s; ignore = record { items = [] }; quantities = None; sources = false; plain = None; «record» = false }
 
 -- a group of its own: no row, no RMC and no reports of ships are sent to it
 pub record IsFurtherGroup (s : Settings) (group : List ℕ) : Type 0 where
@@ -38,7 +38,8 @@ pub record IsPlainGroup (s : Settings) (quantities : Option Quantities) (group :
   pub beside : IsFurtherGroup s group
   pub from_quantities : ForSome quantities (λ q. q.group ≢ group)
 
-pub record IsFurther (s : Settings) (f : Further) : Type 0 where
-  pub ignore : AreSources f.ignore.items
-  pub quantities : ForSome f.quantities (AreQuantities s)
-  pub plain : ForSome f.plain (IsPlainGroup s f.quantities)
+pub record IsSetup (x : Setup) : Type 0 where
+  pub settings : IsSettings x.settings
+  pub ignore : AreSources x.ignore.items
+  pub quantities : ForSome x.quantities (AreQuantities x.settings)
+  pub plain : ForSome x.plain (IsPlainGroup x.settings x.quantities)

@@ -1,0 +1,16 @@
+use Rattle.gate_config.proofs.Beside.{setup_beside}
+use Rattle.gate_config.proofs.all.all_keys.Goals as goal
+
+pub returns-clause-valid : goal.returns-clause-valid
+returns-clause-valid c =
+    setup_beside (record {
+      settings = c.in_ok-settings.settings;
+      ignore = c.in_ok-ignore.ignore;
+      quantities = c.in_ok-quantities.quantities;
+      sources = c.in_ok-sources.sources;
+      plain = c.in_ok-plain.plain;
+      «record» = c.in_ok-recording.recording;
+    })
+    c.in_ok-settings.ensures.valid c.in_ok-ignore.ensures.valid
+    (rw (c.rmc_group.ensures, c.ais_group.ensures) at c.in_ok-quantities.ensures.valid)
+    (rw (c.quantities_group.ensures, c.rmc_group.ensures, c.ais_group.ensures) at c.in_ok-plain.ensures.valid)

@@ -1,0 +1,57 @@
+//! All that one file configures.
+ghost use Rattle.std.specs.Prelude.{◌≡◌, IfOk};
+
+use crate::quantity_config::Quantities;
+use crate::settings::Settings;
+use arrayvec::ArrayVec;
+use n2k_id::Pattern;
+use sentence_text::Group;
+use std::alloc::AllocError;
+
+/// All that one file configures: the settings, and what further keys ask for.
+#[derive(Drop)]
+pub struct Setup {
+    /// The gateway itself, what it says of itself, RMC and reports of ships.
+    pub settings: Settings,
+    /// The devices that no row is taken from.
+    pub ignore: ArrayVec<Pattern, 16>,
+    /// How further quantities are said; none: they aren't.
+    pub quantities: Option<Quantities>,
+    /// Whether a change of the device that a row is taken from is told.
+    pub sources: bool,
+    /// The transmission group that all sentences are sent to once more, without headers and TAG blocks; none: they aren't.
+    pub plain: Option<Group>,
+    /// Whether a run writes down what comes.
+    pub record: bool,
+}
+
+impl Setup {
+    ghost use Rattle.std.specs.Prelude.{◌≡◌, IfOk};
+    ghost use Rattle.settings.specs.Settings.{IsSettings};
+    ghost use Rattle.settings.specs.Setup.{IsSetup, alone};
+
+    /// A copy of these settings, with nothing that further keys ask for.
+    #[tactic(auto, using(crate::proofs::Alone::is_setup))]
+    pub fn alone(settings: &Settings) -> Result<Setup, AllocError>
+        requires { IsSettings settings.now }
+        ensures value { IfOk result (λ setup. setup ≡ alone settings.now) }
+        ensures valid { IfOk result IsSetup }
+    {
+        Ok(Setup {
+            settings: copy_of(settings)?,
+            ignore: ArrayVec::new(),
+            quantities: None,
+            sources: false,
+            plain: None,
+            record: false,
+        })
+    }
+}
+
+/// A copy of these settings.
+#[tactic(auto, using(std::proofs::lemmas::List::Elements::same_from_all_zip))]
+fn copy_of(settings: &Settings) -> Result<Settings, AllocError>
+    ensures { IfOk result (λ copy. copy ≡ settings.now) }
+{
+    settings.clone()
+}
