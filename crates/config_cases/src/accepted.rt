@@ -69,6 +69,7 @@ fn is_alone(setup: &Setup) -> bool {
     setup.ignore.is_empty()
         && setup.quantities.is_none()
         && !setup.sources
+        && !setup.address
         && setup.plain.is_none()
         && !setup.record
 }
@@ -171,6 +172,7 @@ gateway.address = 251
 gateway.sfi = "II0001"
 bus.ignore = ["class=25", "C0328200FFC00001"]
 report.sources = true
+report.address = true
 plain.group = "PLAN"
 serve.record = true
 "#;
@@ -185,6 +187,7 @@ fn is_asked_for(setup: &Setup) -> bool {
     let own = Pattern::whole(Name(0xC032_8200_FFC0_0001));
     setup.ignore.as_slice() == [CONVERTERS, own].as_slice()
         && setup.sources
+        && setup.address
         && setup.record
         && setup.quantities.is_none()
         && setup.plain == Group::of(b"PLAN")

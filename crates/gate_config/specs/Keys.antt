@@ -257,9 +257,12 @@ quantities_in rows parts document = do
   each ← each_from (quantity_of place) [] all_quantities
   Ok (option_map (λ group. record { group = group; slots = all.1; each = each }) all.0)
 
--- report
-unfoldable pub report : Table ⊤ Bool
-report = table (codes "report") (λ sources. sources) & key (codes "sources") (default false truth_at)
+-- report: whether it is told that a row is taken from another device, and that the gateway has another address
+unfoldable pub report : Table ⊤ (Bool × Bool)
+report =
+    table (codes "report") (λ sources address. (sources, address))
+    & key (codes "sources") (default false truth_at)
+    & key (codes "address") (default false truth_at)
 
 -- plain, beside the rows and the groups of the other parts; nothing asks for its group
 unfoldable pub plain : Table (List RowConfig × List (Option (List ℕ))) (Option (List ℕ))
@@ -322,7 +325,7 @@ setup_in document = do
   settings ← settings_in document
   devices ← table_in ignored tt document
   quantities ← quantities_in settings.config.rows (part_groups settings) document
-  sources ← table_in report tt document
+  reports ← table_in report tt document
   group ← table_in plain (settings.config.rows, option_map (λ q. q.group) quantities ∷ part_groups settings) document
   recording ← table_in serve tt document
-  Ok (record { settings = settings; ignore = devices; quantities = quantities; sources = sources; plain = group; «record» = recording })
+  Ok (record { settings = settings; ignore = devices; quantities = quantities; sources = reports.0; address = reports.1; plain = group; «record» = recording })

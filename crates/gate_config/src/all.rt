@@ -37,7 +37,7 @@ pub(crate) fn all_keys(document: &Section, each: QuantityConfigs) -> Result<Setu
     let ignore = ignored_keys(document)?;
     let parts = [rmc_group(&settings.rmc), ais_group(&settings.ais)];
     let quantities = further_quantities(document, &settings.config.rows, &parts, each)?;
-    let sources = report_keys(document)?;
+    let (sources, address) = report_keys(document)?;
     let [rmc, ais] = parts;
     let parts = [quantities_group(&quantities), rmc, ais];
     let plain = plain_keys(document, &settings.config.rows, &parts)?;
@@ -47,6 +47,7 @@ pub(crate) fn all_keys(document: &Section, each: QuantityConfigs) -> Result<Setu
         ignore,
         quantities,
         sources,
+        address,
         plain,
         record: recording,
     })

@@ -1,5 +1,5 @@
-//! Keys that are read behind those of the settings: devices that no row is taken from, whether changes of a source are told, the transmission
-//! group of plain sentences, and whether a run is recorded.
+//! Keys that are read behind those of the settings: devices that no row is taken from, whether changes of a source and of the gateway's own
+//! address are told, the transmission group of plain sentences, and whether a run is recorded.
 ghost use Rattle.std.specs.Prelude.{◌≡◌, IfOk, option_map};
 ghost use Rattle.std.specs.Option.{ForSome};
 ghost use Rattle.config_document.specs.Places.{place_of};
@@ -12,8 +12,8 @@ use crate::devices::devices;
 use crate::keys::{section, truth_or};
 use crate::parts::own_group;
 use crate::words::{
-    BUS, BUS_PREFIX, GROUP, IGNORE, PLAIN, PLAIN_PREFIX, RECORD, REPORT, REPORT_PREFIX, SERVE,
-    SERVE_PREFIX, SOURCES,
+    ADDRESS, BUS, BUS_PREFIX, GROUP, IGNORE, PLAIN, PLAIN_PREFIX, RECORD, REPORT, REPORT_PREFIX,
+    SERVE, SERVE_PREFIX, SOURCES,
 };
 use arrayvec::ArrayVec;
 use config_document::{ConfigFault, Section};
@@ -22,7 +22,7 @@ use n2k_id::Pattern;
 use sentence_text::Group;
 use settings::Quantities;
 
-pub(crate) const REPORT_KEYS: [&str; 1] = [SOURCES];
+pub(crate) const REPORT_KEYS: [&str; 2] = [SOURCES, ADDRESS];
 
 pub(crate) const PLAIN_KEYS: [&str; 1] = [GROUP];
 
@@ -38,13 +38,15 @@ pub(crate) fn ignored_keys(document: &Section) -> Result<ArrayVec<Pattern, 16>, 
     devices(&table, IGNORE)
 }
 
-/// Whether changes of a row's source are told.
+/// Whether changes of a row's source are told, and changes of the gateway's own address.
 #[tactic(auto, unfolding(crate::specs::Keys::report))]
-pub(crate) fn report_keys(document: &Section) -> Result<bool, ConfigFault>
+pub(crate) fn report_keys(document: &Section) -> Result<(bool, bool), ConfigFault>
     ensures { result ≡ table_in report tt (place_of document.now) }
 {
     let table = section(document, REPORT, REPORT_PREFIX)?;
-    truth_or(&table, SOURCES, false)
+    let sources = truth_or(&table, SOURCES, false)?;
+    let address = truth_or(&table, ADDRESS, false)?;
+    Ok((sources, address))
 }
 
 /// The group of plain sentences, which no row and no other part has.

@@ -11,7 +11,7 @@ use Rattle.settings.specs.declared.setup.Setup.{Setup}
 
 -- without any further key
 abbrev pub alone : Settings → Setup
-alone s = record { settings = s; ignore = record { items = [] }; quantities = None; sources = false; plain = None; «record» = false }
+alone s = record { settings = s; ignore = record { items = [] }; quantities = None; sources = false; address = false; plain = None; «record» = false }
 
 -- a group of its own: no row, no RMC and no reports of ships are sent to it
 pub record IsFurtherGroup (s : Settings) (group : List ℕ) : Type 0 where

@@ -19,6 +19,8 @@ pub struct Setup {
     pub quantities: Option<Quantities>,
     /// Whether a change of the device that a row is taken from is told.
     pub sources: bool,
+    /// Whether a change of the gateway's own address is told.
+    pub address: bool,
     /// The transmission group that all sentences are sent to once more, without headers and TAG blocks; none: they aren't.
     pub plain: Option<Group>,
     /// Whether a run writes down what comes.
@@ -42,6 +44,7 @@ impl Setup {
             ignore: ArrayVec::new(),
             quantities: None,
             sources: false,
+            address: false,
             plain: None,
             record: false,
         })

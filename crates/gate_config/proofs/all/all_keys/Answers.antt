@@ -8,6 +8,7 @@ returns-clause-valid c =
       ignore = c.in_ok-ignore.ignore;
       quantities = c.in_ok-quantities.quantities;
       sources = c.in_ok-sources.sources;
+      address = c.in_ok-sources.address;
       plain = c.in_ok-plain.plain;
       «record» = c.in_ok-recording.recording;
     })

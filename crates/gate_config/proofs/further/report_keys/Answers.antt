@@ -1,8 +1,6 @@
-use Rattle.std.proofs.Common.{sym}
 use Rattle.gate_config.specs.Keys.{report}
-use Rattle.gate_config.proofs.Tables.{alone}
 use Rattle.gate_config.proofs.further.report_keys.Goals as goal
 
 pub returns : goal.returns
 unfolding report
-returns c = rw (c.in_ok-table.ensures, ← c.truth_or.ensures) (sym (alone c.truth_or.result))
+returns c = rw (c.in_ok-table.ensures, ← c.in_ok-sources.ensures, ← c.in_ok-address.ensures)
