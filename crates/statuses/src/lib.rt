@@ -3,7 +3,7 @@
 //! No call takes memory.
 #![tactic(auto)]
 
-ghost use Rattle.std.specs.Prelude.{◌≡◌, Some};
+ghost use Rattle.std.specs.Prelude.{◌≡◌, Some, IfSome};
 ghost use Rattle.statuses.specs.declared.Status.{Status};
 ghost use Rattle.statuses.specs.Statuses.{IsStreamStatus, number, status_of};
 
@@ -40,9 +40,10 @@ impl Status {
         self as u8
     }
 
-    /// The status that has this number.
+    /// The status that has this number; none for a number that no status has.
     pub fn of(code: u8) -> Option<Self>
-        ensures of { (status : Status) → number status ≡ code → result ≡ Some status }
+        ensures found { IfSome result (λ status. number status ≡ code) }
+        ensures only { (status : Status) → number status ≡ code → result ≡ Some status }
     {
         let status = match code {
             0 => Self::Done,
