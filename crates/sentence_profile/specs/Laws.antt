@@ -1,12 +1,16 @@
 -- What is promised of dates and of the sentences that are written.
-use Rattle.std.specs.Prelude.{◌≡◌, ◌↔◌, ℕ, ◌≤◌, ℤ, Bool, List, length}
-use Rattle.std.specs.List.{AllByRecursion}
+use Rattle.std.specs.Prelude.{◌≡◌, ◌↔◌, ℕ, ◌≤◌, ℤ, Bool, List, length, IsTrue, Ok}
+use Rattle.std.specs.List.{AllByRecursion, list_all}
 use Rattle.readings.specs.declared.reading.Reading.{Reading}
 use Rattle.readings.specs.Ranges.{Holds, date as date_range}
 use Rattle.readings.specs.Rows.{IsValid}
-use Rattle.sentence_text.specs.Sentence.{longest_written}
+use Rattle.sentence_text.specs.Sentence.{SentenceParts, longest_written}
 use Rattle.sentence_fields.specs.Field.{most_sentences}
+use Rattle.sentence_text.specs.Byte.{is_capital}
+use Rattle.sentence_text.specs.Reading.{read}
+use Rattle.sentence_profile.specs.declared.minimum.Minimum.{Minimum}
 use Rattle.sentence_profile.specs.Calendar.{IsDateOf, civil_date}
+use Rattle.sentence_profile.specs.Rmc.{IsMinimum, rmc_text}
 use Rattle.sentence_profile.specs.Writing.{IsText, sentences_of}
 
 -- the date that is computed for a day is the calendar's
@@ -26,3 +30,22 @@ pub record SaidBriefly (talker : List ℕ) (with_ths : Bool) (r : Reading) : Typ
 
 abbrev pub EachSaidBriefly : Type 0
 EachSaidBriefly = (talker : List ℕ) (with_ths : Bool) (r : Reading) → SaidBriefly talker with_ths r
+
+-- ---- what is said is a sentence
+
+-- the line is read as a sentence of IEC 61162-1, and is no longer than one that is written may be
+pub record IsOneSentence (line : List ℕ) : Type 0 where
+  pub parts : SentenceParts
+  pub is_read : read line ≡ Ok parts
+  pub short : length line ≤ longest_written
+
+-- a talker of two capital letters says a valid reading in sentences
+abbrev pub EachIsASentence : Type 0
+EachIsASentence =
+    (talker : List ℕ) (with_ths : Bool) (r : Reading) → length talker ≡ 2 → IsTrue (list_all is_capital talker) → IsValid r
+    → AllByRecursion IsOneSentence (sentences_of talker with_ths r)
+
+-- and values in their ranges in one RMC
+abbrev pub RmcIsASentence : Type 0
+RmcIsASentence =
+    (talker : List ℕ) (x : Minimum) → length talker ≡ 2 → IsTrue (list_all is_capital talker) → IsMinimum x → IsOneSentence (rmc_text talker x)
