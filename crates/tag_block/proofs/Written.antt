@@ -1,20 +1,22 @@
 -- A block that is written is in the grammar.
-use Rattle.std.proofs.Common.{◌≡◌, ℕ, ◌+◌, ◌-◌, ◌*◌, ◌/◌, ◌%◌, ◌<◌, ◌≤◌, true, List, [], ◌∷◌, take, drop, All, Option, Some, None, refl, sym, ap, subst, ◌∙◌, arith, rules}
-use Rattle.std.specs.Prelude.{IfSome, option_map}
+use Rattle.std.proofs.Common.{◌≡◌, ℕ, ◌+◌, ◌-◌, ◌*◌, ◌/◌, ◌%◌, ◌<◌, ◌≤◌, Bool, true, List, [], ◌∷◌, take, drop, All, Option, Some, None, refl, sym, ap, subst, ◌∙◌, arith, rules}
+use Rattle.std.specs.Prelude.{IfSome, option_map, bit_xor, nat_lt}
 use Rattle.std.specs.Fmt.{decimal}
 use Rattle.std.specs.List.{list_all, fold, flat_map}
-use Rattle.std.proofs.lemmas.Bool.{and_from}
+use Rattle.std.proofs.lemmas.Bool.{and_from, and_parts}
+use Rattle.std.proofs.lemmas.Bool.Decides.{nat_tests}
 use Rattle.std.proofs.lemmas.Fmt.{decimal_nonempty, length-decimal-le, digits_decimal, digits_value-decimal}
+use Rattle.std.proofs.lemmas.Grind.{widths}
 use Rattle.std.proofs.lemmas.List.{append-nil, take-append-drop}
 use Rattle.std.proofs.lemmas.List.Concat.{flat_map-cons}
-use Rattle.std.proofs.lemmas.List.Elements.{All-nil, All-cons}
+use Rattle.std.proofs.lemmas.List.Elements.{All-nil, All-cons, All-head, All-tail}
 use Rattle.std.proofs.lemmas.Str.Parse.{IsNumeralModel, numerals_by_fold}
 use Rattle.sentence_text.specs.Names.{IsSfi}
 use Rattle.sentence_text.specs.Byte.{is_capital, is_digit}
 use Rattle.sentence_text.proofs.Bytes.{all_weaker, all_append}
 use Rattle.tag_block.specs.declared.group_part.GroupPart.{GroupPart}
 use Rattle.tag_block.specs.declared.writing.TagParts.{TagParts}
-use Rattle.tag_block.specs.Tag.{is_value_byte, Parameter, IsParameter, content, xor_of, IsBlock, block_text, parameters, Standing, stands, nothing, standing, IsTag, IsGroupOf, IsCountOf, most_count, number, IsNumber}
+use Rattle.tag_block.specs.Tag.{is_code_byte, is_value_byte, Parameter, IsParameter, parameter_text, content, xor_of, IsBlock, block_text, parameters, Standing, stands, nothing, standing, IsTag, IsGroupOf, IsCountOf, most_count, number, IsNumber}
 use Rattle.sentence_text.proofs.Spelling.{digit_value-capital_digit}
 use Rattle.tag_block.specs.Writing.{IsWritable, IsWritableGroup, group_parameter, source_parameter, count_parameter, summed, block_with, block_of, said_by}
 
@@ -99,7 +101,7 @@ group_said (Some part) h = (
   },
 )
 
-pub is_tag : (parts : TagParts) → IsWritable parts → IsSfi parts.source → xor_of (content (block_of parts).first (block_of parts).others) < 256 → IsTag (said_by parts) (block_text (block_of parts))
+is_tag : (parts : TagParts) → IsWritable parts → IsSfi parts.source → xor_of (content (block_of parts).first (block_of parts).others) < 256 → IsTag (said_by parts) (block_text (block_of parts))
 is_tag parts h sfi byte =
     let b = block_of parts in
     let all : flat_map parameters (b ∷ []) ≡ parameters b = flat_map-cons parameters b [] ∙ append-nil (parameters b) in
@@ -115,3 +117,52 @@ is_tag parts h sfi byte =
       group = subst (λ (v : Standing). IsGroupOf v.group parts.group) (sym stood) (group_said parts.group h.group);
       count = subst (λ (v : Standing). IsCountOf v.count (Some parts.count)) (sym stood) (parts.count, refl, number_is parts.count 3 (omega (arith, h.small)) (omega arith));
     }
+
+-- ---- the sum of what is written is a byte
+
+abbrev is_byte : ℕ → Bool
+is_byte c = nat_lt c 256
+
+sum_below : (sum : ℕ) (bytes : List ℕ) → sum < 256 → list_all is_byte bytes ≡ true → fold bit_xor sum bytes < 256
+sum_below sum [] s h = s
+sum_below sum (c ∷ cs) s h =
+    let p = and_parts (is_byte c) (list_all is_byte cs) h in
+    let small : c < 256 = grind (arith, nat_tests) in
+    let next : bit_xor sum c < 256 = grind (arith, widths) in
+    sum_below (bit_xor sum c) cs next p.1
+
+code_is_byte : (c : ℕ) → is_code_byte c ≡ true → is_byte c ≡ true
+code_is_byte c h = grind (arith, nat_tests)
+
+value_is_byte : (c : ℕ) → is_value_byte c ≡ true → is_byte c ≡ true
+value_is_byte c h = grind (arith, nat_tests)
+
+parameter_bytes : (p : Parameter) → IsParameter p → list_all is_byte (parameter_text p) ≡ true
+parameter_bytes p h =
+    all_append is_byte p.code (58 ∷ p.value) (all_weaker is_code_byte is_byte code_is_byte p.code h.code)
+    (all_weaker is_value_byte is_byte value_is_byte p.value h.value)
+
+others_bytes : (ps : List Parameter) → All IsParameter ps → list_all is_byte (flat_map (λ p. 44 ∷ parameter_text p) ps) ≡ true
+others_bytes [] h = refl
+others_bytes (p ∷ ps) h =
+    ap (list_all is_byte) (flat_map-cons (λ p. 44 ∷ parameter_text p) p ps)
+    ∙ all_append is_byte (44 ∷ parameter_text p) (flat_map (λ p. 44 ∷ parameter_text p) ps) (parameter_bytes p (All-head IsParameter p ps h))
+    (others_bytes ps (All-tail IsParameter p ps h))
+
+content_sum : (first : Parameter) (others : List Parameter) → IsParameter first → All IsParameter others → xor_of (content first others) < 256
+content_sum first others h hs =
+    sum_below 0 (content first others) (omega arith)
+    (all_append is_byte (parameter_text first) (flat_map (λ p. 44 ∷ parameter_text p) others) (parameter_bytes first h) (others_bytes others hs))
+
+block_sum : (group : Option GroupPart) (source : List ℕ) (count : ℕ) → IfSome group IsWritableGroup → count ≤ most_count → IsSfi source
+    → xor_of (content (block_with group source count).first (block_with group source count).others) < 256
+block_sum None source count h small sfi =
+    content_sum (source_parameter source) (count_parameter count ∷ []) (source_is source sfi)
+    (All-cons IsParameter (count_parameter count) [] (count_is count small) (All-nil IsParameter))
+block_sum (Some part) source count h small sfi =
+    content_sum (group_parameter part) (source_parameter source ∷ count_parameter count ∷ []) (group_is part h)
+    (All-cons IsParameter (source_parameter source) (count_parameter count ∷ []) (source_is source sfi) (All-cons IsParameter (count_parameter count) [] (count_is count small) (All-nil IsParameter)))
+
+-- what a block is written of is what it says
+pub written : (parts : TagParts) → IsWritable parts → IsSfi parts.source → IsTag (said_by parts) (block_text (block_of parts))
+written parts h sfi = is_tag parts h sfi (block_sum parts.group parts.source parts.count h.group h.small sfi)

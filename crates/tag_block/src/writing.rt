@@ -1,8 +1,8 @@
-ghost use Rattle.std.specs.Prelude.{◌≡◌, ◌+◌, ◌/◌, ◌%◌, ◌<◌, ◌≤◌, ◌↔◌, [], ◌∷◌, ◌++◌, List, ℕ, length, false, IsTrue, Ok};
+ghost use Rattle.std.specs.Prelude.{◌≡◌, ◌+◌, ◌/◌, ◌%◌, ◌≤◌, ◌↔◌, [], ◌∷◌, ◌++◌, List, ℕ, length, false, IsTrue, Ok};
 ghost use Rattle.std.specs.Fmt.{decimal};
 ghost use Rattle.arrayvec.specs.ArrayVec.{array_vec_len};
 ghost use Rattle.sentence_text.specs.Names.{IsSfi};
-ghost use Rattle.tag_block.specs.Tag.{IsTag, BeginsNoBlock, block_text, content, parameter_text, xor_of, most_count};
+ghost use Rattle.tag_block.specs.Tag.{IsTag, BeginsNoBlock, block_text, content, parameter_text, most_count};
 ghost use Rattle.tag_block.specs.Reading.{read};
 ghost use Rattle.tag_block.specs.Writing.{IsWritable, IsWritableGroup, longest_block, longest_packet, group_parameter, source_parameter, count_parameter, capital_digit, block_with, block_of, said_by};
 
@@ -126,7 +126,6 @@ fn block(parts: &TagParts) -> BlockText
     requires { IsWritable parts.now }
     ensures text { result.items ≡ block_text (block_of parts.now) }
     ensures short { length (block_text (block_of parts.now)) ≤ longest_block }
-    ensures sum { xor_of (content (block_of parts.now).first (block_of parts.now).others) < 256 }
     ensures sfi { IsSfi parts.now.source }
 {
     let mut text = BlockText::new();
