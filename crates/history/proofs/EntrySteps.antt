@@ -29,7 +29,7 @@ use Rattle.gate_events.specs.Emit.{Emit, can, net, report}
 use Rattle.history.specs.Emits.{reported, replied, own_claim}
 use Rattle.history.specs.Heard.{HeardItem, Taken}
 use Rattle.history.specs.NetReadings.{NetReading}
-use Rattle.history.specs.FromBus.{selected_in, said_in, own_answer, step_gives, from_command, frame_refused, answers_by, meaning_at}
+use Rattle.history.specs.FromBus.{selected_in, said_at, said_in, own_answer, step_gives, from_command, frame_refused, answers_by, meaning_at}
 use Rattle.history.specs.FromNet.{sent_from, reading_gives, said_gives, handed_gives, items_give}
 use Rattle.history.specs.Gate.{out, with_spoken, spoken_of, with_command, command_in, expired}
 use Rattle.history.specs.EntryLaws.{IsEvent, StepsKeepHistory, nets_in, SaysOne, nothing, one, EntriesSayOne}
@@ -69,20 +69,20 @@ steps_keep_history c s h e is event offered = grind (arith, timely, leb-true, or
 
 -- ---- what is said on the network
 
-nets_append : (a b : List Emit) → nets_in (a ++ b) ≡ nets_in a ++ nets_in b
+pub nets_append : (a b : List Emit) → nets_in (a ++ b) ≡ nets_in a ++ nets_in b
 nets_append [] b = refl
 nets_append (net group bytes ∷ a) b = ap (λ (l : List (List ℕ × List ℕ)). (group, bytes) ∷ l) (nets_append a b)
 nets_append (can f ∷ a) b = nets_append a b
 nets_append (report r ∷ a) b = nets_append a b
 
-none : (a b : List Emit) → nets_in a ≡ [] → nets_in b ≡ [] → nets_in (a ++ b) ≡ []
+pub none : (a b : List Emit) → nets_in a ≡ [] → nets_in b ≡ [] → nets_in (a ++ b) ≡ []
 none a b ea eb = nets_append a b ∙ rw (ea, eb) refl
 
-no_flat : {A : Type 0} (f : A → List Emit) → ((x : A) → nets_in (f x) ≡ []) → (xs : List A) → nets_in (flat_map f xs) ≡ []
+pub no_flat : {A : Type 0} (f : A → List Emit) → ((x : A) → nets_in (f x) ≡ []) → (xs : List A) → nets_in (flat_map f xs) ≡ []
 no_flat f each [] = refl
 no_flat f each (x ∷ xs) = none (f x) (flat_map f xs) (each x) (no_flat f each xs)
 
-no_reports : (rs : List Report) → nets_in (reported rs) ≡ []
+pub no_reports : (rs : List Report) → nets_in (reported rs) ≡ []
 no_reports [] = refl
 no_reports (r ∷ rs) = no_reports rs
 
@@ -96,12 +96,12 @@ no_frames f each (x ∷ xs) = none (f x ∷ []) (map f xs) (each x) (no_frames f
 no_own : (name : ℕ) (own : Option ℕ) → nets_in (own_claim name own ∷ []) ≡ []
 no_own name own = grind arith
 
-if_none : (b : Bool) (x y : List Emit) → nets_in x ≡ [] → nets_in y ≡ [] → nets_in (if b then x else y) ≡ []
+pub if_none : (b : Bool) (x y : List Emit) → nets_in x ≡ [] → nets_in y ≡ [] → nets_in (if b then x else y) ≡ []
 if_none b x y ex ey = grind arith
 
 -- ---- what ends
 
-no_fast_expired : (k : Known) (notes : List NotedFrame) (earlier m : ℕ) (kinds : ℕ → Kind) → nets_in (fast_expired (side k earlier) (side k m) notes kinds) ≡ []
+pub no_fast_expired : (k : Known) (notes : List NotedFrame) (earlier m : ℕ) (kinds : ℕ → Kind) → nets_in (fast_expired (side k earlier) (side k m) notes kinds) ≡ []
 no_fast_expired k notes earlier m kinds = grind (arith, no_flat)
 
 no_iso_expired : (k : Known) (notes : List NotedFrame) (earlier m : ℕ) → nets_in (iso_expired (side k earlier) (side k m) notes) ≡ []
@@ -163,11 +163,11 @@ module _ (c : Settings) (own : Option ℕ) where
 
 module _ (c : Settings) (s : ℕ) (h : History) where
   -- what a frame says is what it is chosen to say
-  says : (e : Entry) (quiet : List Emit) (o : Option Reading) → nets_in (out c s h e) ≡ nets_in quiet ++ nets_in (said_in c (spoken_of c s h) o) → nets_in quiet ≡ []
+  says : (e : Entry) (quiet : List Emit) (o : Option Reading) → said_at c s h e ≡ o → nets_in (out c s h e) ≡ nets_in quiet ++ nets_in (said_in c (spoken_of c s h) o) → nets_in quiet ≡ []
       → spoken_of c s (e ∷ h) ≡ with_spoken c s o (spoken_of c s h) → SaysOne c s h e
-  says e quiet None is none_before counted = nothing (is ∙ ap (λ (l : List (List ℕ × List ℕ)). l ++ []) none_before) counted
-  says e quiet (Some r) is none_before counted =
-      one r (rule_of c (row_of r)) _ refl refl (is ∙ ap (λ (l : List (List ℕ × List ℕ)). l ++ nets_in (said_in c (spoken_of c s h) (Some r))) none_before) counted
+  says e quiet None selected is none_before counted = nothing selected (is ∙ ap (λ (l : List (List ℕ × List ℕ)). l ++ []) none_before) counted
+  says e quiet (Some r) selected is none_before counted =
+      one r (rule_of c (row_of r)) _ selected refl refl (is ∙ ap (λ (l : List (List ℕ × List ℕ)). l ++ nets_in (said_in c (spoken_of c s h) (Some r))) none_before) counted
 
 pub entries_say_one : EntriesSayOne
 entries_say_one c s h (frame m f) =
@@ -178,10 +178,10 @@ entries_say_one c s h (frame m f) =
     let quiet : nets_in (expired c s h m ++ (breaks ++ answers)) ≡ [] =
     none (expired c s h m) (breaks ++ answers) (no_expired c s h m)
     (none breaks answers (no_reports (frame_refused (receiver_of c) s h m f)) (no_answers c s h m f (meaning_at (receiver_of c) s h m f))) in
-    says c s h (frame m f) (expired c s h m ++ (breaks ++ answers)) o
+    says c s h (frame m f) (expired c s h m ++ (breaks ++ answers)) o refl
     (nets_append (expired c s h m) (breaks ++ answers ++ said) ∙ rw (no_expired c s h m)
     (nets_append (breaks ++ answers) said ∙ ap (λ (l : List (List ℕ × List ℕ)). l ++ nets_in said) (none breaks answers (no_reports (frame_refused (receiver_of c) s h m f)) (no_answers c s h m f (meaning_at (receiver_of c) s h m f)) ∙ sym quiet)))
     quiet refl
 entries_say_one c s h (datagram m bytes) = grind (arith, none, no_expired, no_reports, no_items)
-entries_say_one c s h (tick m) = nothing (none (expired c s h m) [] (no_expired c s h m) refl) refl
+entries_say_one c s h (tick m) = nothing refl (none (expired c s h m) [] (no_expired c s h m) refl) refl
 entries_say_one c s h (command m source address) = grind (arith, none, no_expired, no_command)

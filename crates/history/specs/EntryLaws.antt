@@ -1,6 +1,6 @@
 -- Each event that is accepted, with the command that it completes, keeps a history one; and an entry says at most one datagram, which is
 -- counted as it is emitted.
-use Rattle.std.specs.Prelude.{◌≡◌, ℕ, List, [], ◌∷◌, length}
+use Rattle.std.specs.Prelude.{◌≡◌, ℕ, List, [], ◌∷◌, length, Some, None}
 use Rattle.readings.specs.declared.reading.Reading.{Reading}
 use Rattle.readings.specs.Rows.{row_of}
 use Rattle.sentence_profile.specs.Writing.{sentences_of}
@@ -8,6 +8,7 @@ use Rattle.history.specs.Entries.{Entry, History, frame, datagram, tick, command
 use Rattle.history.specs.Settings.{Settings, RowRule, rule_of}
 use Rattle.gate_events.specs.Emit.{Emit, can, net, report}
 use Rattle.history.specs.Emits.{datagram_of}
+use Rattle.history.specs.FromBus.{said_at}
 use Rattle.history.specs.Gate.{out, spoken_of, stepped}
 
 -- commands are made by the gateway, and come from nowhere else
@@ -29,10 +30,12 @@ nets_in (net group bytes ∷ emits) = (group, bytes) ∷ nets_in emits
 nets_in (can f ∷ emits) = nets_in emits
 nets_in (report r ∷ emits) = nets_in emits
 
--- an entry says nothing and counts nothing; or it says one reading in one datagram by all that was said before, and counts its sentences
+-- an entry that completes no selected message says nothing and counts nothing; any other says the reading of that message in one datagram by all
+-- that was said before, and counts its sentences
 pub data SaysOne (c : Settings) (s : ℕ) (h : History) (e : Entry) : Type 0 where
-  nothing : nets_in (out c s h e) ≡ [] → spoken_of c s (e ∷ h) ≡ spoken_of c s h → SaysOne c s h e
-  one : (r : Reading) (rule : RowRule) (sentences : List (List ℕ)) → rule ≡ rule_of c (row_of r) → sentences ≡ sentences_of rule.talker c.ths r
+  nothing : said_at c s h e ≡ None → nets_in (out c s h e) ≡ [] → spoken_of c s (e ∷ h) ≡ spoken_of c s h → SaysOne c s h e
+  one : (r : Reading) (rule : RowRule) (sentences : List (List ℕ)) → said_at c s h e ≡ Some r → rule ≡ rule_of c (row_of r)
+      → sentences ≡ sentences_of rule.talker c.ths r
       → nets_in (out c s h e) ≡ (rule.group, datagram_of c.sfi (spoken_of c s h) rule.group sentences) ∷ []
       → spoken_of c s (e ∷ h) ≡ record { group = rule.group; lines = length sentences } ∷ spoken_of c s h → SaysOne c s h e
 

@@ -94,8 +94,8 @@ pub fn steps_keep_history()
     ensures { StepsKeepHistory }
 {}
 
-/// An entry says nothing on the network; or it says one reading, in one datagram by all that was said before, whose sentences are counted
-/// from then on.
+/// An entry says nothing on the network, where it completes no message that is selected; or it says the reading of that message, in one
+/// datagram by all that was said before, whose sentences are counted from then on.
 pub fn entries_say_one()
     ensures { EntriesSayOne }
 {}
