@@ -7,6 +7,7 @@ pub mod ShipSteps
 pub mod QuantitySteps
 pub mod Steps
 pub mod PartCases
+pub mod FurtherCases
 pub mod Ordered
 pub mod Places
 pub mod WatchSteps

@@ -15,6 +15,7 @@ pub mod Commands
 pub mod Gate
 pub mod Kept
 pub mod PartCases
+pub mod FurtherCases
 pub mod BridgeSettings
 pub mod Running
 pub mod SourceOut

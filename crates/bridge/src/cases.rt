@@ -1,4 +1,5 @@
 //! Cases of the definition, computed: what the parts beside the gateway give.
+ghost use Rattle.bridge.specs.FurtherCases as further_cases;
 ghost use Rattle.bridge.specs.PartCases as part_cases;
 
 /// Who asks what the gateway is: twice, before it is ready, and from no address.
@@ -28,4 +29,11 @@ pub fn sentences_are_said_once_more()
 /// A report of a ship, in the making while its sender's address changes hands.
 pub fn reports_of_ships_end_with_a_claim()
     ensures { part_cases.ShipAcrossAClaim }
+{}
+
+/// Further quantities: their lines counted on their transmission group, of two devices the first, and as plain sentences.
+pub fn further_quantities_are_said()
+    ensures lines_are_counted { further_cases.LinesAreCounted }
+    ensures first_of_two { further_cases.FirstOfTwoIsSaid }
+    ensures said_once_more { further_cases.SaidOnceMore }
 {}
