@@ -1,3 +1,4 @@
 pub mod CommandLemmas
 pub mod EventLemmas
 pub mod RoomLemmas
+pub mod SentenceLemmas

@@ -1,6 +1,9 @@
 -- What the bridge gives, in the words of the history: of all that ever came.
-use Rattle.std.specs.Prelude.{◌≡◌, ℕ, ◌%◌, ◌≤◌, List, [], ◌∷◌, length}
+use Rattle.std.specs.Prelude.{◌≡◌, ℕ, ◌%◌, ◌≤◌, List, [], ◌∷◌, length, Ok}
+use Rattle.sentence_text.specs.Sentence.{IsSentence, longest_written}
 use Rattle.tag_block.specs.Tag.{most_count}
+use Rattle.ais_report.specs.declared.report.AisReport.{AisReport}
+use Rattle.ais_report.specs.Converted.{converted}
 use Rattle.settings.specs.declared.ais.AisConfig.{AisConfig}
 use Rattle.history.specs.Entries as entry
 use Rattle.history.specs.Entries.{Entry, History, IsHistory, now}
@@ -14,6 +17,7 @@ use Rattle.gate_model.specs.Stands.{Stands}
 use Rattle.bus_listener.specs.Steps.{by_keys}
 use Rattle.bus_listener.specs.Promises.{StandsListening}
 use Rattle.ais_bridge.specs.AisOut.{ais_receiver, ais_out, lines_said, report_kinds}
+use Rattle.ais_bridge.specs.Reports.{report_parts, report_sentence}
 use Rattle.ais_bridge.specs.AisKept.{AisKept, AisStep, ais_step}
 
 -- what the bridge keeps stands for a history of the gateway with these settings
@@ -58,3 +62,14 @@ abbrev pub ReportsKeepTheLimit : Type 0
 ReportsKeepTheLimit =
     (a : AisConfig) (c : Settings) (s : ℕ) (h : History) (m : ℕ) → AreSettings c → IsHistory h → now h ≤ m
     → length (open_fast_keys (ais_receiver a c).kinds (known (ais_receiver a c) s h).claims.holders (notes_of (ais_receiver a c) s h) m) ≤ a.slots
+
+-- ---- what is said can be read
+
+-- the report, with the letter of its channel, is said in a sentence of IEC 61162-1, which has at most 82 bytes
+pub record IsSaid (x : AisReport × ℕ) : Type 0 where
+  pub is_sentence : IsSentence (report_parts x) (report_sentence x)
+  pub short : length (report_sentence x) ≤ longest_written
+
+-- so is the report of each payload that has one
+abbrev pub ReportsAreSaid : Type 0
+ReportsAreSaid = (payload : List ℕ) (x : AisReport × ℕ) → converted payload ≡ Ok x → IsSaid x

@@ -13,5 +13,5 @@ mod writing;
 
 pub use ais_report::{AisFault, AisReport, armour, convert, read_armour};
 pub use bridge::{AisBridge, AisEmits};
-pub use laws::{commands_leave_the_bridge, open_reports_keep_the_limit};
+pub use laws::{commands_leave_the_bridge, open_reports_keep_the_limit, reports_are_sentences};
 pub use settings::AisConfig;

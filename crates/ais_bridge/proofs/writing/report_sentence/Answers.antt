@@ -1,6 +1,7 @@
-use Rattle.std.proofs.Common.{◌≡◌, ℕ, ◌-◌, List, [], ◌∷◌, ◌++◌, length, take, drop, refl, append_assoc, arith}
+use Rattle.std.proofs.Common.{◌≡◌, ℕ, ◌-◌, List, ◌∷◌, length, take, drop, refl, append_assoc, arith}
 use Rattle.std.proofs.lemmas.Grind.{common_steps}
-use Rattle.ais_report.specs.Armour.{armour_of}
+use Rattle.sentence_text.specs.Sentence.{content}
+use Rattle.ais_bridge.specs.Reports.{report_parts}
 use Rattle.ais_bridge.proofs.writing.report_sentence.Goals as goal
 
 -- what stands behind the first byte
@@ -12,6 +13,7 @@ armour-requires c = record { valid = c.requires.valid }
 
 pub returns-clause-text : goal.returns-clause-text
 returns-clause-text c =
-    let begun : c.append-5.new.line.items ≡ 33 ∷ 65 ∷ 73 ∷ 86 ∷ 68 ∷ 77 ∷ 44 ∷ 49 ∷ 44 ∷ 49 ∷ 44 ∷ 44 ∷ c.args.channel ∷ 44 ∷ (armour_of c.args.report.now ++ 44 ∷ 48 ∷ [])
+    let parts = report_parts (c.args.report.now, c.args.channel) in
+    let begun : c.append-5.new.line.items ≡ parts.start ∷ content parts
     = rw (c.append-5.ensures, c.append-4.ensures, c.append-3.ensures, c.append-2.ensures, c.append.ensures, c.new-line.ensures, c.armour.ensures) refl in
     rw (c.append-8.ensures, c.append-7.ensures, c.append-6.ensures, c.sum_digits.ensures, c.xor-sum.ensures, behind_first c.deref.result.now, c.deref.ensures.0, begun) (simp append_assoc)
