@@ -2,8 +2,12 @@
 //!
 //! What each status then says of the words, of the files, of what the reader had left and of the links and the clock stands in
 //! `specs/Program`. A process can't tell what its writer wrote, so nothing is said of that here: the clauses of `run` have it.
-ghost use Rattle.std.specs.Prelude.{◌≡◌, drop, map, string_bytes, IfOk};
+ghost use Rattle.std.specs.Prelude.{◌≡◌, ◌≢◌, [], drop, map, string_bytes, IfErr, IfOk, IsErr, IsOkAnd, OnErr};
+ghost use Rattle.std.specs.IoError.{error_kind};
 ghost use Rattle.std.specs.Vec.Iter.{into_iter_items};
+ghost use Rattle.std.specs.declared.io.ErrorKind.TheVariants.{OutOfMemory};
+ghost use Rattle.statuses.specs.declared.Status.TheVariants.{NoCommand, Unread};
+ghost use Rattle.statuses.specs.Statuses.{number};
 ghost use Rattle.gateway_commands.specs.Program.{RunsOver, live};
 
 use crate::top_call::run;
@@ -28,7 +32,9 @@ fn all_words(alloc: Global, args: Args) -> Result<Vec<String>, AllocError>
 
 // The arguments of the process. Some that are no text stand for none at all: they are no command.
 fn words_of(alloc: Global, args: io::Result<Args>) -> Result<Vec<String>, AllocError>
-    ensures { IfOk args (λ args. IfOk result (λ words. words.items ≡ into_iter_items args)) }
+    ensures words { IfOk args (λ args. IfOk result (λ words. words.items ≡ into_iter_items args)) }
+    ensures no_text { IfErr args (λ error. error_kind error ≢ OutOfMemory → IsOkAnd result (λ words. words.items ≡ [])) }
+    ensures no_memory { IfErr args (λ error. error_kind error ≡ OutOfMemory → IsErr result) }
 {
     match args {
         Ok(args) => all_words(alloc, args),
@@ -68,7 +74,7 @@ fn run_over<F: Files, R: Read + Drop, W: Write + Drop, B: Link, E: Link, C: Cloc
     run(alloc, words, files, &mut input, &mut out, bus, net, clock)
 }
 
-/// The program over the arguments of a process, none of which can be read where one is no text.
+/// The program over the arguments of a process. Where one of them is no text, none can be read, and they are no command.
 ///
 /// The status is that of `run`. An error is want of memory for the words, before the program began.
 pub fn run_with<F: Files, R: Read + Drop, W: Write + Drop, B: Link, E: Link, C: Clock>(
@@ -81,10 +87,12 @@ pub fn run_with<F: Files, R: Read + Drop, W: Write + Drop, B: Link, E: Link, C: 
     net: &mut E,
     clock: &mut C,
 ) -> Result<u8, AllocError>
-    ensures { IfOk args (λ args. IfOk result (RunsOver (drop 1 (map string_bytes (into_iter_items args)))
+    ensures runs { IfOk args (λ args. IfOk result (RunsOver (drop 1 (map string_bytes (into_iter_items args)))
         (F.content files.old) (F.fault_count files.old) (F.fault_count files.new) (R.remaining reader)
         (live (B.traffic bus.old) (B.fault_count bus.old) (E.traffic net.old) (E.fault_count net.old) (C.readings clock.old))
         (live (B.traffic bus.new) (B.fault_count bus.new) (E.traffic net.new) (E.fault_count net.new) (C.readings clock.new)))) }
+    ensures no_text { IfErr args (λ error. error_kind error ≢ OutOfMemory → IsOkAnd result (λ status. status ≡ number NoCommand)) }
+    ensures no_memory { IfErr args (λ error. error_kind error ≡ OutOfMemory → IsErr result) }
 {
     let words = words_of(alloc, args)?;
     Ok(run_over(
@@ -103,7 +111,10 @@ pub fn run_with<F: Files, R: Read + Drop, W: Write + Drop, B: Link, E: Link, C: 
 pub fn words_to_tell<R: Env + Alloc<A = Global>>(
     rt: &R,
     status: &Result<u8, AllocError>,
-) -> Vec<String> {
+) -> Vec<String>
+    ensures other { IfOk status.now (λ status. status ≢ number NoCommand → status ≢ number Unread → result.items ≡ []) }
+    ensures no_memory { OnErr status.now (result.items ≡ []) }
+{
     match status.map(Status::of) {
         Ok(Some(Status::NoCommand | Status::Unread)) => words_of(
             rt.alloc(),
