@@ -30,7 +30,7 @@ use Rattle.capture_text.proofs.Data.{written_digits}
 use Rattle.capture_text.proofs.Laws.{again, found}
 use Rattle.capture_text.proofs.Numbers.{all_digits, length-decimals}
 
-abbrev time_of : ℕ → List ℕ
+abbrev pub time_of : ℕ → List ℕ
 time_of moment = 40 ∷ (decimal_text false moment 6 ++ 41 ∷ [])
 
 is_time : (moment : ℕ) → moment < 10 ^ 16 → IsTime moment (time_of moment)
@@ -53,7 +53,7 @@ is_time moment early =
     }
 
 -- a written line begins with its time, a space and its interface
-shape : (moment : ℕ) (rest : List ℕ) → time_text moment ++ rest ≡ time_of moment ++ 32 ∷ rest
+pub shape : (moment : ℕ) (rest : List ℕ) → time_text moment ++ rest ≡ time_of moment ++ 32 ∷ rest
 shape moment rest =
     let d = decimal_text false moment 6 in
     ap (λ (x : List ℕ). 40 ∷ x) (append_assoc d (41 ∷ 32 ∷ []) rest ∙ sym (append_assoc d (41 ∷ []) (32 ∷ rest)))

@@ -10,5 +10,6 @@ pub mod Laws
 pub mod LineEnds
 pub mod Lines
 pub mod Numbers
+pub mod OneLine
 pub mod Times
 mod UsualLines

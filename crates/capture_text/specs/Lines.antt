@@ -1,9 +1,13 @@
 -- The lines of a capture, whose bytes they are.
-use Rattle.std.specs.Prelude.{ℕ, Bool, ◌==◌, if◌then◌else◌, List, [], ◌∷◌, map}
-use Rattle.std.specs.List.{slice_split}
+use Rattle.std.specs.Prelude.{ℕ, Bool, ◌==◌, not, if◌then◌else◌, List, [], ◌∷◌, map}
+use Rattle.std.specs.List.{list_all, slice_split}
 
 abbrev pub is_lf : ℕ → Bool
 is_lf byte = byte == 10
+
+-- no LF stands in it
+abbrev pub is_one_line : List ℕ → Bool
+is_one_line line = list_all (λ c. not (is_lf c)) line
 
 -- a line without the CR at its end
 abbrev pub without_cr : List ℕ → List ℕ

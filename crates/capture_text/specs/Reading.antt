@@ -57,6 +57,10 @@ is_no_space c = not (c == 32)
 abbrev pub up_to_space : List ℕ → List ℕ
 up_to_space text = take (prefix_len is_no_space text) text
 
+-- what stands behind the first space, up to the next one or the end
+abbrev pub second_word : List ℕ → List ℕ
+second_word line = up_to_space (drop 1 (drop (prefix_len is_no_space line) line))
+
 -- at most so many bytes, in two digits each
 abbrev pub bytes_of : ℕ → List ℕ → Option (List ℕ)
 bytes_of most digits = if nat_le (length digits) (2 * most) then result_ok (decode_of digits) else None

@@ -1,5 +1,5 @@
 -- The line that is written of an emit, and that of an event.
-use Rattle.std.specs.Prelude.{ℕ, ◌≤◌, false, List, [], ◌∷◌, ◌++◌, length, codes, Option, Some, None}
+use Rattle.std.specs.Prelude.{◌≡◌, ℕ, ◌≤◌, false, true, List, [], ◌∷◌, ◌++◌, length, codes, Option, Some, None}
 use Rattle.std.specs.Fmt.{decimal}
 use Rattle.std.specs.Int.{w32, to_be_bytes}
 use Rattle.hex.specs.Hex.{encode_upper}
@@ -13,6 +13,8 @@ use Rattle.gate_events.specs.declared.emit.Emit.{Emit}
 use Rattle.gate_events.specs.declared.emit.Emit.TheVariants as emit
 use Rattle.gate_events.specs.declared.event.Event.{Event}
 use Rattle.gate_events.specs.Event.{IsValid, Seen, frame, datagram, tick, view}
+use Rattle.capture_text.specs.Lines.{is_one_line}
+use Rattle.capture_text.specs.Reading.{second_word}
 
 -- the seconds and six digits of microseconds in parentheses, and a space
 abbrev pub time_text : ℕ → List ℕ
@@ -52,6 +54,16 @@ emit_text (emit.Report report) = report_text report
 
 abbrev pub line_text : Emit → ℕ → List ℕ
 line_text emitted moment = time_text moment ++ emit_text emitted
+
+-- a report is one line whose second word is `rule`
+pub record IsReportLine (line : List ℕ) : Type 0 where
+  pub one : is_one_line line ≡ true
+  pub word : second_word line ≡ codes "rule"
+
+abbrev pub IsToldIn : Emit → List ℕ → Type 0
+IsToldIn (emit.Can f) line = Unit {0}
+IsToldIn (emit.Net group bytes) line = Unit {0}
+IsToldIn (emit.Report report) line = IsReportLine line
 
 -- what a line says that is written of a frame or of a datagram
 abbrev pub said : Emit → ℕ → Option Seen

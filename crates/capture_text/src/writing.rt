@@ -1,4 +1,4 @@
-ghost use Rattle.std.specs.Prelude.{◌≡◌, ◌+◌, ◌*◌, ◌<◌, ◌≤◌, ◌^◌, [], ◌∷◌, ◌++◌, codes, length, take, false, Ok, IfSome};
+ghost use Rattle.std.specs.Prelude.{◌≡◌, ◌+◌, ◌*◌, ◌<◌, ◌≤◌, ◌^◌, [], ◌∷◌, ◌++◌, codes, length, take, false, true, Ok, IfSome};
 ghost use Rattle.std.specs.Fmt.{decimal};
 ghost use Rattle.arrayvec.specs.ArrayVec.{array_vec_len};
 ghost use Rattle.hex.specs.Hex.{encode_upper, IsBytes};
@@ -6,8 +6,9 @@ ghost use Rattle.n2k_id.specs.Frame.{IsFrame, bus_frame, held_bytes};
 ghost use Rattle.sentence_text.specs.Names.{IsGroup};
 ghost use Rattle.unit_fraction.specs.Text.{decimal_text};
 ghost use Rattle.capture_text.specs.Capture.{IsLine, longest_line};
+ghost use Rattle.capture_text.specs.Lines.{is_one_line};
 ghost use Rattle.capture_text.specs.Reading.{read};
-ghost use Rattle.capture_text.specs.Writing.{CanRecord, time_text, detail_text, report_text, frame_text, datagram_text, event_text, line_text, most_recorded, said};
+ghost use Rattle.capture_text.specs.Writing.{CanRecord, IsToldIn, time_text, detail_text, report_text, frame_text, datagram_text, event_text, line_text, most_recorded, said};
 ghost use Rattle.gate_events.specs.Emit.{CanWrite};
 ghost use Rattle.gate_events.specs.Event.{moment_in, view};
 
@@ -34,10 +35,11 @@ fn append(piece: &[u8], out: &mut Line)
 }
 
 /// The number in decimal digits.
-#[tactic(auto, using(crate::proofs::Numbers::length_decimal))]
+#[tactic(auto, using(crate::proofs::Numbers::length_decimal, crate::proofs::OneLine::number_in_line))]
 fn append_number(number: u64, out: &mut Line)
     requires { array_vec_len out.old ≤ 4000 }
     ensures text { out.new.items ≡ out.old.items ++ decimal number }
+    ensures one { is_one_line (decimal number) ≡ true }
     ensures len { array_vec_len out.new ≤ array_vec_len out.old + 20 }
 {
     let mut digits = [0; 20];
@@ -117,10 +119,12 @@ fn append_time(moment: u64, out: &mut Line)
 }
 
 /// A key between a space and `=`, and its number.
+#[tactic(auto, using(crate::proofs::OneLine::joined))]
 fn append_part(key: &[u8], number: u64, out: &mut Line)
     requires key { length key.now ≤ 7 }
     requires room { array_vec_len out.old ≤ 3000 }
     ensures text { out.new.items ≡ out.old.items ++ (key.now ++ decimal number) }
+    ensures one { is_one_line key.now ≡ true → is_one_line (key.now ++ decimal number) ≡ true }
     ensures len { array_vec_len out.new ≤ array_vec_len out.old + 40 }
 {
     append(key, out);
@@ -128,23 +132,29 @@ fn append_part(key: &[u8], number: u64, out: &mut Line)
 }
 
 /// Two keys with their numbers.
+#[tactic(auto, using(crate::proofs::OneLine::joined))]
 fn append_parts(key: &[u8], number: u64, next: &[u8], other: u64, out: &mut Line)
     requires key { length key.now ≤ 7 }
     requires next { length next.now ≤ 7 }
     requires room { array_vec_len out.old ≤ 2000 }
-    ensures { out.new.items ≡ out.old.items ++ ((key.now ++ decimal number) ++ (next.now ++ decimal other)) }
+    ensures text { out.new.items ≡ out.old.items ++ ((key.now ++ decimal number) ++ (next.now ++ decimal other)) }
+    ensures one { is_one_line key.now ≡ true → is_one_line next.now ≡ true
+        → is_one_line ((key.now ++ decimal number) ++ (next.now ++ decimal other)) ≡ true }
 {
     append_part(key, number, out);
     append_part(next, other, out);
 }
 
 /// A key with its name, and one with its number.
+#[tactic(auto, using(crate::proofs::OneLine::joined))]
 fn append_named(key: &[u8], name: &[u8], next: &[u8], number: u64, out: &mut Line)
     requires key { length key.now ≤ 7 }
     requires name { length name.now ≤ 100 }
     requires next { length next.now ≤ 7 }
     requires room { array_vec_len out.old ≤ 2000 }
-    ensures { out.new.items ≡ out.old.items ++ (key.now ++ (name.now ++ (next.now ++ decimal number))) }
+    ensures text { out.new.items ≡ out.old.items ++ (key.now ++ (name.now ++ (next.now ++ decimal number))) }
+    ensures one { is_one_line key.now ≡ true → is_one_line name.now ≡ true → is_one_line next.now ≡ true
+        → is_one_line (key.now ++ (name.now ++ (next.now ++ decimal number))) ≡ true }
 {
     append(key, out);
     append(name, out);
@@ -153,7 +163,8 @@ fn append_named(key: &[u8], name: &[u8], next: &[u8], number: u64, out: &mut Lin
 
 fn append_detail(detail: &Detail, out: &mut Line)
     requires { array_vec_len out.old ≤ 2000 }
-    ensures { out.new.items ≡ out.old.items ++ detail_text detail.now }
+    ensures text { out.new.items ≡ out.old.items ++ detail_text detail.now }
+    ensures one { is_one_line (detail_text detail.now) ≡ true }
 {
     match detail {
         Detail::Nothing => {}
@@ -197,9 +208,11 @@ fn append_detail(detail: &Detail, out: &mut Line)
     }
 }
 
+#[tactic(auto, using(crate::proofs::OneLine::report_in_line))]
 fn append_report(report: &Report, out: &mut Line)
     requires { array_vec_len out.old ≤ 1000 }
-    ensures { out.new.items ≡ out.old.items ++ report_text report.now }
+    ensures text { out.new.items ≡ out.old.items ++ report_text report.now }
+    ensures one { is_one_line (report_text report.now) ≡ true }
 {
     append(b"rule ", out);
     append_number(u64::from(report.rule), out);
@@ -280,6 +293,9 @@ pub fn write_emit(emit: &Emit<'_>, moment: u64, out: &mut ArrayVec<u8, LONGEST_L
     requires empty { out.old.items ≡ [] }
     requires can { CanWrite emit.now }
     ensures text { out.new.items ≡ line_text emit.now moment }
+    // Nothing in it ends the line before its end, and a report is told by its second word.
+    ensures one { is_one_line out.new.items ≡ true }
+    ensures report { IsToldIn emit.now out.new.items }
     // Below 10^16 microseconds the line of a frame or of a datagram is read back.
     ensures again { moment < 10 ^ 16 → IfSome (said emit.now moment) (λ event. IsLine event out.new.items × (read out.new.items ≡ Ok event)) }
 {
