@@ -1,9 +1,9 @@
--- The bytes of recorded lines: none is an LF, and none an `l`, so no line holds the word of a report.
+-- The bytes of recorded lines: none ends a line, and none is an `l`, so no line holds the word of a report.
 use Rattle.std.proofs.Common.{◌≡◌, ℕ, ◌^◌, ◌<◌, Bool, true, false, not, List, [], ◌∷◌, ◌++◌, drop, length, take, refl, sym, ap, ◌∙◌, append_assoc, arith}
 use Rattle.std.specs.Prelude.{◌&&◌, ◌||◌, ◌==◌, codes, nat_eq}
 use Rattle.std.specs.Char.{is_ascii_digit, is_ascii_hexdigit}
 use Rattle.std.specs.Int.{w32, to_be_bytes}
-use Rattle.std.specs.List.{list_all, starts_with}
+use Rattle.std.specs.List.{list_all, prefix_len, starts_with}
 use Rattle.std.specs.Cmp.Lexicographic.{same_text}
 use Rattle.std.proofs.lemmas.Bool.{and_parts}
 use Rattle.std.proofs.lemmas.List.{take-append-drop}
@@ -16,16 +16,18 @@ use Rattle.gate_events.specs.Event as capture
 use Rattle.gate_events.specs.Event.{Seen, moment_in}
 use Rattle.n2k_id.specs.Frame.{BusFrame}
 use Rattle.capture_text.specs.EventLaws.{Fits}
+use Rattle.capture_text.specs.Lines.{is_one_line}
+use Rattle.capture_text.specs.Reading.{is_no_space, second_word}
 use Rattle.capture_text.specs.Writing.{datagram_text, frame_text, start_mark, time_text}
 use Rattle.capture_text.proofs.Again.{number_bytes}
 use Rattle.capture_text.proofs.Data.{written_digits}
 use Rattle.capture_text.proofs.Numbers.{all_digits}
 use Rattle.serving.specs.Turns.{event_line, received, start_line}
-use Rattle.recordings.specs.Told.{is_one_line, is_report}
+use Rattle.recordings.specs.Separation.{is_report, is_rule}
 
--- neither an LF nor an `l`
+-- neither an LF or a CR nor an `l`
 abbrev pub is_plain : ℕ → Bool
-is_plain c = not (c == 10) && not (c == 108)
+is_plain c = not (c == 10) && (not (c == 13) && not (c == 108))
 
 abbrev pub IsPlain : List ℕ → Type 0
 IsPlain line = list_all is_plain line ≡ true
@@ -96,6 +98,23 @@ plain_is_no_report [] plain = refl
 plain_is_no_report (c ∷ line) plain =
     ap (λ (b : Bool). b || is_report line) (no_word (c ∷ line) plain)
     ∙ plain_is_no_report line (and_parts (is_plain c) (list_all is_plain line) plain).1
+
+-- so is its second word, which isn't that of a report
+no_rule : (line : List ℕ) → IsPlain line → (b : Bool) → is_rule line ≡ b → b ≡ false
+no_rule line plain false is = refl
+no_rule line plain true is =
+    let n = prefix_len is_no_space line in
+    let behind = all_parts is_plain (take n line) (drop n line) (ap (λ (x : List ℕ). list_all is_plain x) (take-append-drop n line) ∙ plain) in
+    let rest = drop n line in
+    let words = all_parts is_plain (take 1 rest) (drop 1 rest) (ap (λ (x : List ℕ). list_all is_plain x) (take-append-drop 1 rest) ∙ behind.1) in
+    let from = drop 1 rest in
+    let k = prefix_len is_no_space from in
+    let word = all_parts is_plain (take k from) (drop k from) (ap (λ (x : List ℕ). list_all is_plain x) (take-append-drop k from) ∙ words.1) in
+    let wrong : false ≡ true = ap (λ (x : List ℕ). list_all is_plain x) (sym (same_text (second_word line) (codes "rule") (sym is))) ∙ word.0 in
+    absurd (cc)
+
+pub plain_is_no_rule : (line : List ℕ) → IsPlain line → is_rule line ≡ false
+plain_is_no_rule line plain = no_rule line plain (is_rule line) refl
 
 -- ---- a report
 

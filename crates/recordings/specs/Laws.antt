@@ -5,7 +5,7 @@ use Rattle.serving.specs.BridgeSettings.{BridgeSettings}
 use Rattle.replaying.specs.Replayed.{IsReplay, emitted_text}
 use Rattle.serving.specs.Recorded.{made_in, recorded_in}
 use Rattle.serving.specs.Served.{Outside, Serves, all_due}
-use Rattle.recordings.specs.Told.{IsTold, ReportsAreLines}
+use Rattle.recordings.specs.Separation.{IsTold}
 
 -- no reading of the clock reaches 10^16 microseconds, so no moment does
 abbrev pub AreEarly : List ℕ → Type 0
@@ -16,8 +16,8 @@ RecordingsReplay =
     (p : BridgeSettings) (turns : ℕ) (clock clock' : Option (List ℕ)) (old new : Outside) → p.records ≡ true → (x : Serves p turns clock clock' old new) → AreEarly x.readings
     → IsReplay p (recorded_in (all_due x.passed.tried)) (emitted_text (made_in (all_due x.passed.tried)))
 
--- it is told from the reports in what was written, where each report is one line
+-- it is told from the reports in what was written
 abbrev pub RecordingsAreTold : Type 0
 RecordingsAreTold =
     (p : BridgeSettings) (turns : ℕ) (clock clock' : Option (List ℕ)) (old new : Outside) → p.records ≡ true → (y : Serves p turns clock clock' old new) → AreEarly y.readings
-    → ReportsAreLines y.passed.tried → IsTold y.passed.tried
+    → IsTold y.passed.tried

@@ -1,4 +1,4 @@
 pub mod Idle
 pub mod IdleLaws
 pub mod Laws
-pub mod Told
+pub mod Separation

@@ -24,8 +24,8 @@ pub fn recordings_replay()
     ensures { RecordingsReplay }
 {}
 
-/// Where each report of such a run is one line, the lines of what was written that don't hold ` rule ` are the recording, in order and each
-/// whole: no recorded line holds that word or an LF, and each report holds the word.
+/// The lines of what such a run wrote that don't hold ` rule ` are the recording, in order and each whole, and so are those whose second word
+/// isn't `rule`: each report is one line with this second word, and no recorded line holds the word or an LF.
 pub fn recordings_are_told()
     ensures { RecordingsAreTold }
 {}

@@ -19,10 +19,10 @@ use Rattle.capture_stream.specs.Writer.{SendsPart, Writes}
 use Rattle.capture_stream.proofs.WriterLemmas.{Joins-nil}
 use Rattle.gate_events.specs.Emit as emits
 use Rattle.gate_events.specs.Emit.{Emit}
-use Rattle.history.specs.Emits.{at, broken, report_of}
+use Rattle.history.specs.Emits.{at, report_of}
 use Rattle.capture_text.specs.Emitted.{line_of}
-use Rattle.serving.specs.Handing.{Broken, Hands, HandsAll, Takes, passed}
-use Rattle.serving.specs.Served.{IsWritten, NetFits, Passes, Stops, Tried, item_of, outside, over_bus, over_net, to_text}
+use Rattle.serving.specs.Handing.{Broken, Hands, HandsAll, Takes, WritesReport, passed}
+use Rattle.serving.specs.Served.{ItemHasLine, IsWritten, NetFits, Passes, Stops, Tried, item_of, outside, over_bus, over_net, to_text}
 use Rattle.serving.specs.Turns as turns
 use Rattle.serving.specs.Turns.{Item, all_made, made, recorded_where}
 use Rattle.serving.proofs.Passing.{goes_as, goes_still, traffic_same, traffic_still}
@@ -37,6 +37,7 @@ receives_by_bus outcome {b} {b'} {n} {told} {faults} goes = record {
       traffic_same t.attached r r t.handed (t.handed ++ []) t.sends (t.sends ++ []) refl (sym (append-nil t.handed)) (sym (append-nil t.sends))) b b' goes;
   net = goes_still (over_net (passed (outcome ∷ []) [] [])) traffic_still n;
   text = Joins-nil told;
+  lines = tt;
   steady = refl;
 }
 
@@ -48,6 +49,7 @@ receives_by_net outcome {b} {n} {n'} {told} {faults} goes = record {
       (λ t. let r = t.received ++ outcome ∷ [] in
       traffic_same t.attached r r t.handed (t.handed ++ []) t.sends (t.sends ++ []) refl (sym (append-nil t.handed)) (sym (append-nil t.sends))) n n' goes;
   text = Joins-nil told;
+  lines = tt;
   steady = refl;
 }
 
@@ -116,6 +118,7 @@ frame_sent m f b b' n told faults goes = record {
         (sent_one (codes "CAN0", time_text m ++ frame_text f)) b b' goes;
     net = goes_still (over_net (passed [] [] (item m (emits.can f) false ∷ []))) traffic_still n;
     text = Joins-nil told;
+    lines = (tt, tt);
     steady = refl;
   };
   is_due = refl;
@@ -129,13 +132,14 @@ datagram_sent m group bytes b n n' told faults goes = record {
     bus = goes_still (over_bus (passed [] [] (item m (emits.net group bytes) false ∷ []))) traffic_still b;
     net = goes_as (handed_also (group, bytes)) (over_net (passed [] [] (item m (emits.net group bytes) false ∷ []))) (sent_one (group, bytes)) n n' goes;
     text = Joins-nil told;
+    lines = (tt, tt);
     steady = refl;
   };
   is_due = refl;
 }
 
 -- The item is written, or the report in its place: its line was, or a part of it.
-module _ (t : Tried) (line : List ℕ) (is : IsWritten (item_of t)) (text : to_text t ≡ line) where
+module _ (t : Tried) (line : List ℕ) (is : IsWritten (item_of t)) (one : ItemHasLine (item_of t)) (text : to_text t ≡ line) where
   pub written_passes : (bus net : List Outcome) (b b' n n' : Option Traffic) (told told' : Option (List ℕ)) (faults faults' : ℕ)
       → GoesOn (over_bus (passed bus net (t ∷ []))) b b' → GoesOn (over_net (passed bus net (t ∷ []))) n n'
       → Joins told told' line → faults' ≡ faults
@@ -144,6 +148,7 @@ module _ (t : Tried) (line : List ℕ) (is : IsWritten (item_of t)) (text : to_t
     bus = over_b;
     net = over_n;
     text = subst (λ (x : List ℕ). Joins told told' x) (sym (append-nil (to_text t) ∙ text)) joins;
+    lines = (one, tt);
     steady = steady;
   }
 
@@ -180,21 +185,21 @@ module _ (t : Tried) (line : List ℕ) (is : IsWritten (item_of t)) (text : to_t
 
 -- a report
 pub report_written : (m : ℕ) (r : Report) (b n : Option Traffic) (told told' : Option (List ℕ)) (faults faults' : ℕ) (result : Result (Unit {0}) Failed)
-    → Takes told told' faults faults' (line_of (record { moment = m; emit = emits.report r })) result
+    → WritesReport m r told told' faults faults' result
     → Hands (outside b n told faults) (outside b n told' faults') (due_now m (emits.report r)) result
 report_written m r b n told told' faults faults' result x =
     let t = item m (emits.report r) false in
-    written_hands t (line_of (record { moment = m; emit = emits.report r })) (r, refl) refl b b n n told told' faults faults' result
-    (goes_still (over_bus (passed [] [] (t ∷ []))) traffic_still b) (goes_still (over_net (passed [] [] (t ∷ []))) traffic_still n) x
+    written_hands t (line_of (record { moment = m; emit = emits.report r })) (r, refl) x.0 refl b b n n told told' faults faults' result
+    (goes_still (over_bus (passed [] [] (t ∷ []))) traffic_still b) (goes_still (over_net (passed [] [] (t ∷ []))) traffic_still n) x.1
 
 -- a report of what came and was no event
 pub report_told : (m : ℕ) (r : Report) (b n : Option Traffic) (told told' : Option (List ℕ)) (faults faults' : ℕ) (result : Result (Unit {0}) Failed)
-    → Takes told told' faults faults' (line_of (record { moment = m; emit = emits.report r })) result
+    → WritesReport m r told told' faults faults' result
     → Hands (outside b n told faults) (outside b n told' faults') (told_now m (emits.report r)) result
 report_told m r b n told told' faults faults' result x =
     let t : Tried = record { due = turns.told (record { moment = m; emit = emits.report r }); failed = false } in
-    written_hands t (line_of (record { moment = m; emit = emits.report r })) (r, refl) refl b b n n told told' faults faults' result
-    (goes_still (over_bus (passed [] [] (t ∷ []))) traffic_still b) (goes_still (over_net (passed [] [] (t ∷ []))) traffic_still n) x
+    written_hands t (line_of (record { moment = m; emit = emits.report r })) (r, refl) x.0 refl b b n n told told' faults faults' result
+    (goes_still (over_bus (passed [] [] (t ∷ []))) traffic_still b) (goes_still (over_net (passed [] [] (t ∷ []))) traffic_still n) x.1
 
 -- a line of what came
 pub line_recorded : (line : List ℕ) (b n : Option Traffic) (told told' : Option (List ℕ)) (faults faults' : ℕ) (result : Result (Unit {0}) Failed)
@@ -202,28 +207,28 @@ pub line_recorded : (line : List ℕ) (b n : Option Traffic) (told told' : Optio
     → Hands (outside b n told faults) (outside b n told' faults') (recorded_where true line) result
 line_recorded line b n told told' faults faults' result x =
     let t : Tried = record { due = turns.recorded line; failed = false } in
-    written_hands t (line ++ 10 ∷ []) tt refl b b n n told told' faults faults' result
+    written_hands t (line ++ 10 ∷ []) tt tt refl b b n n told told' faults faults' result
     (goes_still (over_bus (passed [] [] (t ∷ []))) traffic_still b) (goes_still (over_net (passed [] [] (t ∷ []))) traffic_still n) x
 
 -- a frame or a datagram couldn't be sent, and a report was written in its place
 pub frame_failed : (m : ℕ) (f : BusFrame) (b b' n : Option Traffic) (told told' : Option (List ℕ)) (faults faults' : ℕ) (result : Result (Unit {0}) Failed)
-    → GoesOn failed_also b b' → Takes told told' faults faults' (line_of (record { moment = m; emit = broken rules.send_failed detail.Bus })) result
+    → GoesOn failed_also b b' → WritesReport m (report_of rules.send_failed detail.Bus) told told' faults faults' result
     → Hands (outside b n told faults) (outside b' n told' faults') (due_now m (emits.can f)) result
 frame_failed m f b b' n told told' faults faults' result goes x =
     let t = item m (emits.can f) true in
     let r = report_of rules.send_failed detail.Bus in
-    written_hands t (line_of (record { moment = m; emit = emits.report r })) (r, refl) refl b b' n n told told' faults faults' result
-    (goes_as failed_also (over_bus (passed [] [] (t ∷ []))) failed_one b b' goes) (goes_still (over_net (passed [] [] (t ∷ []))) traffic_still n) x
+    written_hands t (line_of (record { moment = m; emit = emits.report r })) (r, refl) x.0 refl b b' n n told told' faults faults' result
+    (goes_as failed_also (over_bus (passed [] [] (t ∷ []))) failed_one b b' goes) (goes_still (over_net (passed [] [] (t ∷ []))) traffic_still n) x.1
 
 pub datagram_failed : (m : ℕ) (group bytes : List ℕ) (b n n' : Option Traffic) (told told' : Option (List ℕ)) (faults faults' : ℕ)
     (result : Result (Unit {0}) Failed)
-    → GoesOn failed_also n n' → Takes told told' faults faults' (line_of (record { moment = m; emit = broken rules.send_failed detail.Net })) result
+    → GoesOn failed_also n n' → WritesReport m (report_of rules.send_failed detail.Net) told told' faults faults' result
     → Hands (outside b n told faults) (outside b n' told' faults') (due_now m (emits.net group bytes)) result
 datagram_failed m group bytes b n n' told told' faults faults' result goes x =
     let t = item m (emits.net group bytes) true in
     let r = report_of rules.send_failed detail.Net in
-    written_hands t (line_of (record { moment = m; emit = emits.report r })) (r, refl) refl b b n n' told told' faults faults' result
-    (goes_still (over_bus (passed [] [] (t ∷ []))) traffic_still b) (goes_as failed_also (over_net (passed [] [] (t ∷ []))) failed_one n n' goes) x
+    written_hands t (line_of (record { moment = m; emit = emits.report r })) (r, refl) x.0 refl b b n n' told told' faults faults' result
+    (goes_still (over_bus (passed [] [] (t ∷ []))) traffic_still b) (goes_as failed_also (over_net (passed [] [] (t ∷ []))) failed_one n n' goes) x.1
 
 -- ---- the items of a list, from a place on
 

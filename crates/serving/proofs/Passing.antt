@@ -9,7 +9,7 @@ use Rattle.gate_outside.specs.Link.{Attachment, GoesOn, Handed, Outcome, Traffic
 use Rattle.gate_outside.specs.Told.{Joins}
 use Rattle.capture_stream.proofs.WriterLemmas.{Joins-nil, Joins-then}
 use Rattle.serving.specs.Handing.{passed}
-use Rattle.serving.specs.Served.{IsFront, Outside, Passed, Passes, Stops, Tried, all_due, bus_sends, net_sends, over_bus, over_net, to_bus, to_net, to_text, with_last}
+use Rattle.serving.specs.Served.{IsFront, Outside, Passed, Passes, ReportsAreLines, Stops, Tried, all_due, bus_sends, net_sends, over_bus, over_net, to_bus, to_net, to_text, with_last}
 use Rattle.serving.specs.Turns.{Item}
 
 -- ---- what a link tells goes on
@@ -73,11 +73,16 @@ net_then x y t =
 
 -- ---- all that passes
 
+lines_then : (xs ys : List Tried) → ReportsAreLines xs → ReportsAreLines ys → ReportsAreLines (xs ++ ys)
+lines_then [] ys first second = second
+lines_then (t ∷ xs) ys first second = (first.0, lines_then xs ys first.1 second)
+
 pub passes_none : (o : Outside) → Passes o o (passed [] [] [])
 passes_none o = record {
   bus = goes_still (over_bus (passed [] [] [])) traffic_still o.bus;
   net = goes_still (over_net (passed [] [] [])) traffic_still o.net;
   text = Joins-nil o.taken;
+  lines = tt;
   steady = refl;
 }
 
@@ -87,6 +92,7 @@ passes_then a b c x y p q = record {
   net = goes_then (over_net x) (over_net y) (over_net (both x y)) (net_then x y) a.net b.net c.net p.net q.net;
   text = subst (λ (t : List ℕ). Joins a.taken c.taken t) (sym (flat_map-append to_text x.tried y.tried))
       (Joins-then a.taken b.taken c.taken (flat_map to_text x.tried) (flat_map to_text y.tried) p.text q.text);
+  lines = lines_then x.tried y.tried p.lines q.lines;
   steady = q.steady ∙ p.steady;
 }
 

@@ -7,12 +7,14 @@ use Rattle.gate_outside.specs.declared.Failed.{Failed}
 use Rattle.gate_outside.specs.Faults.{Rose}
 use Rattle.gate_outside.specs.Link.{Outcome}
 use Rattle.gate_outside.specs.Told.{Joins}
+use Rattle.capture_text.specs.Emitted.{line_of}
+use Rattle.gate_events.specs.Emit as emits
 use Rattle.gate_events.specs.Event as capture
 use Rattle.bridge.specs.Running.{Running, RunningStands}
 use Rattle.bridge.specs.BridgeStands.{IsNew}
 use Rattle.bridge.specs.Kept.{Bridged}
 use Rattle.bridge.specs.BridgeSettings.{BridgeSettings}
-use Rattle.serving.specs.Served.{EndsBy, IsCut, IsFront, NetFits, Outside, Passed, Passes, Stops, Tried, all_due}
+use Rattle.serving.specs.Served.{EndsBy, HasReportLine, IsCut, IsFront, NetFits, Outside, Passed, Passes, Stops, Tried, all_due}
 use Rattle.serving.specs.Turns.{Arrived, Item, Turned, is_event, turn, with_came}
 
 -- ---- a text is written
@@ -29,6 +31,11 @@ pub record Broken (told told' : Option (List ℕ)) (faults faults' : ℕ) (text 
 abbrev pub Takes : Option (List ℕ) → Option (List ℕ) → ℕ → ℕ → List ℕ → Result (Unit {0}) Failed → Type 0
 Takes told told' faults faults' text (Ok done) = Joins told told' text × (faults' ≡ faults)
 Takes told told' faults faults' text (Err e) = Broken told told' faults faults' text
+
+-- the line of a report is written, which is one line
+abbrev pub WritesReport : ℕ → Report → Option (List ℕ) → Option (List ℕ) → ℕ → ℕ → Result (Unit {0}) Failed → Type 0
+WritesReport m r told told' faults faults' result =
+    HasReportLine m (emits.report r) × Takes told told' faults faults' (line_of (record { moment = m; emit = emits.report r })) result
 
 -- ---- items go out, in order
 

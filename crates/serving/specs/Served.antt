@@ -5,7 +5,7 @@ use Rattle.report_rules.specs.Rules as rules
 use Rattle.gate_events.specs.declared.emit.Detail.TheVariants as detail
 use Rattle.gate_events.specs.declared.emit.Report.{Report}
 use Rattle.hex.specs.Hex.{IsBytes}
-use Rattle.capture_text.specs.Writing.{time_text, frame_text}
+use Rattle.capture_text.specs.Writing.{IsReportLine, time_text, frame_text, report_text}
 use Rattle.gate_outside.specs.Faults.{Rose}
 use Rattle.gate_outside.specs.Link.{GoesOn, Handed, Outcome, Traffic}
 use Rattle.gate_outside.specs.LinkMemory.{largest_arrival}
@@ -99,6 +99,23 @@ bus_sends t = map (λ pair. t.failed) (item_on_bus t.due)
 abbrev pub net_sends : Tried → List Bool
 net_sends t = map (λ pair. t.failed) (item_on_net t.due)
 
+-- ---- lines of text
+
+-- what is written of a report is one line, whose second word says so
+abbrev pub HasReportLine : ℕ → Emit → Type 0
+HasReportLine m (emits.can f) = Unit {0}
+HasReportLine m (emits.net group bytes) = Unit {0}
+HasReportLine m (emits.report r) = IsReportLine (time_text m ++ report_text r)
+
+abbrev pub ItemHasLine : Item → Type 0
+ItemHasLine (made e) = HasReportLine e.moment e.emit
+ItemHasLine (told e) = HasReportLine e.moment e.emit
+ItemHasLine (recorded line) = Unit {0}
+
+-- each report that was written is such a line
+abbrev pub ReportsAreLines : List Tried → Type 0
+ReportsAreLines tried = AllByRecursion (λ t. ItemHasLine (item_of t)) tried
+
 -- ---- what is told of the links and of the sink
 
 -- what each link tells, what the sink took, and how often a write failed
@@ -133,11 +150,13 @@ over_net x t = record {
   attached = t.attached;
 }
 
--- All of this passed: each link that tells was handed its items, the text of the reports and of the recorded lines was taken, and no write failed.
+-- All of this passed: each link that tells was handed its items, the text of the reports and of the recorded lines was taken, each report one
+-- line of it, and no write failed.
 pub record Passes (old new : Outside) (x : Passed) : Type 0 where
   pub bus : GoesOn (over_bus x) old.bus new.bus
   pub net : GoesOn (over_net x) old.net new.net
   pub text : Joins old.taken new.taken (flat_map to_text x.tried)
+  pub lines : ReportsAreLines x.tried
   pub steady : new.faults ≡ old.faults
 
 abbrev pub with_last : Passed → Tried → Passed

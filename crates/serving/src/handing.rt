@@ -6,11 +6,9 @@ ghost use Rattle.capture_text.specs.Writing.{frame_text, time_text};
 ghost use Rattle.gate_events.specs.Emit.{CanWrite};
 ghost use Rattle.gate_outside.specs.Link.{Sends};
 ghost use Rattle.gate_outbox.specs.Output.{emit_of};
-ghost use Rattle.gate_events.specs.Emit as emits;
 ghost use Rattle.history.specs.Emits.{at, report_of};
-ghost use Rattle.capture_text.specs.Emitted.{line_of};
 ghost use Rattle.bridge.specs.Kept.{output_of};
-ghost use Rattle.serving.specs.Handing.{Hands, Takes};
+ghost use Rattle.serving.specs.Handing.{Hands, Takes, WritesReport};
 ghost use Rattle.serving.specs.Served.{outside};
 ghost use Rattle.serving.specs.Turns.{all_made};
 
@@ -123,8 +121,7 @@ fn bus_group() -> Group
 
 /// Writes the line of a report at this moment, in one piece.
 pub(crate) fn write_report<K: Sink>(report: Report, moment: u64, out: &mut K) -> Result<(), Failed>
-    ensures { Takes (K.taken out.old) (K.taken out.new) (K.fault_count out.old) (K.fault_count out.new)
-        (line_of (record { moment = moment; emit = emits.report report })) result }
+    ensures { WritesReport moment report (K.taken out.old) (K.taken out.new) (K.fault_count out.old) (K.fault_count out.new) result }
 {
     let mut line = Line::new();
     write_emit(&Emit::Report(report), moment, &mut line);

@@ -3,9 +3,7 @@ use Rattle.n2k_id.specs.Frame.{bus_frame}
 use Rattle.gate_events.specs.declared.emit.Emit.{Emit}
 use Rattle.gate_events.specs.declared.emit.Report.{Report}
 use Rattle.gate_outbox.specs.Output.{emit_of}
-use Rattle.gate_events.specs.Emit as emits
-use Rattle.capture_text.specs.Emitted.{line_of}
-use Rattle.serving.specs.Handing.{Hands, HandsAll, Takes}
+use Rattle.serving.specs.Handing.{Hands, HandsAll, WritesReport}
 use Rattle.serving.specs.Served.{outside}
 use Rattle.serving.proofs.Items.{datagram_failed, datagram_sent, due_now, frame_failed, frame_sent, report_written}
 use Rattle.serving.proofs.handing.hand.Goals as goal
@@ -33,7 +31,7 @@ returns-in-Err g c =
     let result = c.write_report.result in
     subst (λ (e : Emit). Hands (outside b n told faults) (outside b' n told' faults') (due_now m (emit_of e)) result) (sym c.in-Can.is)
     (frame_failed m (bus_frame c.in-Can.frame) b b' n told told' faults faults' result c.in-Err.ensures
-    (subst (λ (r : Report). Takes told told' faults faults' (line_of (record { moment = m; emit = emits.report r })) result) c.unsent.ensures
+    (subst (λ (r : Report). WritesReport m r told told' faults faults' result) c.unsent.ensures
     c.write_report.ensures))
 
 pub returns-in-Ok-send : goal.returns-in-Ok-send
@@ -59,7 +57,7 @@ returns-in-Err-send g c =
     let result = c.write_report-in-Err-send.result in
     subst (λ (e : Emit). Hands (outside b n told faults) (outside b n' told' faults') (due_now m (emit_of e)) result) (sym c.in-Net.is)
     (datagram_failed m c.in-Net.group c.in-Net.bytes.now b n n' told told' faults faults' result c.in-Err-send.ensures.told
-    (subst (λ (r : Report). Takes told told' faults faults' (line_of (record { moment = m; emit = emits.report r })) result) c.unsent-in-Err-send.ensures
+    (subst (λ (r : Report). WritesReport m r told told' faults faults' result) c.unsent-in-Err-send.ensures
     c.write_report-in-Err-send.ensures))
 
 pub returns-in-Report : goal.returns-in-Report
