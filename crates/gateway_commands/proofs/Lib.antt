@@ -1,3 +1,5 @@
+pub use Rattle.replaying.proofs.Events
+pub use Rattle.serving.proofs.Completed
 pub mod FormLemmas
 pub mod KnownLemmas
 pub mod ReplayCommandLemmas

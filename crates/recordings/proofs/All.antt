@@ -14,14 +14,14 @@ use Rattle.history.specs.Entries as entry
 use Rattle.history.specs.Gate.{expired, out}
 use Rattle.history.specs.Known.{Known}
 use Rattle.history.specs.Settings.{Settings, receiver_of}
-use Rattle.bridge.specs.Heard.{heard_expired}
-use Rattle.bridge.specs.RmcOut.{RmcRule}
-use Rattle.bridge.specs.AisOut.{report_gives, report_kinds}
-use Rattle.bridge.specs.FurtherOut.{further_done, message_breaks, said_at, lines_said, said_gives}
-use Rattle.bridge.specs.FurtherRule.{FurtherRule}
-use Rattle.bridge.specs.Answered.{answer_by, answered_before, answers, is_answered, own_after, ready_after, sent_before}
-use Rattle.bridge.specs.Gate.{all_out, beside, changes_of, plain_of, quantities_of, rmc_of, ships_of, tagged_out}
-use Rattle.bridge.specs.BridgeSettings.{BridgeSettings}
+use Rattle.gateway_commands.specs.Heard.{heard_expired}
+use Rattle.gateway_commands.specs.RmcOut.{RmcRule}
+use Rattle.gateway_commands.specs.AisOut.{report_gives, report_kinds}
+use Rattle.gateway_commands.specs.FurtherOut.{further_done, message_breaks, said_at, lines_said, said_gives}
+use Rattle.gateway_commands.specs.FurtherRule.{FurtherRule}
+use Rattle.gateway_commands.specs.Answered.{answer_by, answered_before, answers, is_answered, own_after, ready_after, sent_before}
+use Rattle.gateway_commands.specs.Gate.{all_out, beside, changes_of, plain_of, quantities_of, rmc_of, ships_of, tagged_out}
+use Rattle.gateway_commands.specs.BridgeSettings.{BridgeSettings}
 use Rattle.recordings.proofs.Known.{known_without}
 use Rattle.recordings.proofs.Gathered.{ap₃, joined, none_left, none_right}
 use Rattle.recordings.proofs.Overdue.{expired_later, expired_first_later}

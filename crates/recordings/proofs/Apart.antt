@@ -8,9 +8,9 @@ use Rattle.gate_events.specs.Emit.{Emit}
 use Rattle.capture_text.specs.Lines.{is_one_line}
 use Rattle.capture_text.specs.Reading.{is_name}
 use Rattle.capture_text.specs.Writing.{detail_text, report_text, time_text}
-use Rattle.serving.specs.Recorded.{recorded_in}
-use Rattle.serving.specs.Served.{HasReportLine, ItemHasLine, ReportsAreLines, Tried, all_due, as_text, item_as, item_as_text, item_of, to_text}
-use Rattle.serving.specs.Turns.{Item, made, recorded, told}
+use Rattle.gateway_commands.specs.Recorded.{recorded_in}
+use Rattle.gateway_commands.specs.Served.{HasReportLine, ItemHasLine, ReportsAreLines, Tried, all_due, as_text, item_as, item_as_text, item_of, to_text}
+use Rattle.gateway_commands.specs.Turns.{Item, made, recorded, told}
 use Rattle.recordings.specs.Laws.{RecordingsAreTold}
 use Rattle.recordings.specs.Separation.{AreLines, IsTold, is_report, is_rule, without_reports, without_rules}
 use Rattle.recordings.proofs.Plain.{IsPlain, plain_is_no_report, plain_is_no_rule, plain_is_one_line, times_report}

@@ -9,10 +9,10 @@ use Rattle.history.specs.Entries.{Entry, History, frame, datagram, tick, command
 use Rattle.history.specs.Gate.{command_in, opening}
 use Rattle.history.specs.Messages.{Message, done, ordered_in}
 use Rattle.history.specs.Settings.{Settings, receiver_of}
-use Rattle.bridge.specs.RmcOut.{RmcRule}
-use Rattle.bridge.specs.FurtherRule.{FurtherRule}
-use Rattle.bridge.specs.Gate.{all_out, changes_of, from_events, plain_of, quantities_of, rmc_of, ships_of, stepped, with_command}
-use Rattle.bridge.specs.BridgeSettings.{BridgeSettings}
+use Rattle.gateway_commands.specs.RmcOut.{RmcRule}
+use Rattle.gateway_commands.specs.FurtherRule.{FurtherRule}
+use Rattle.gateway_commands.specs.Gate.{all_out, changes_of, from_events, plain_of, quantities_of, rmc_of, ships_of, stepped, with_command}
+use Rattle.gateway_commands.specs.BridgeSettings.{BridgeSettings}
 use Rattle.recordings.specs.Idle.{AreFrom, BeginFrom, busy, is_idle}
 use Rattle.recordings.specs.IdleLaws.{StartIsIdle, BusyEvents, BusyGate}
 use Rattle.recordings.proofs.Events.{idle_ticks}

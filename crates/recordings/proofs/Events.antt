@@ -10,8 +10,8 @@ use Rattle.history.specs.Entries.{Entry, History, moment_of, now, tick}
 use Rattle.history.specs.Gate.{Stepped, command_in, with_command_by}
 use Rattle.history.specs.Messages.{Message, done}
 use Rattle.history.specs.Settings.{receiver_of}
-use Rattle.bridge.specs.Gate.{all_out, from_events}
-use Rattle.bridge.specs.BridgeSettings.{BridgeSettings}
+use Rattle.gateway_commands.specs.Gate.{all_out, from_events}
+use Rattle.gateway_commands.specs.BridgeSettings.{BridgeSettings}
 use Rattle.recordings.specs.IdleLaws.{IdleTicks}
 use Rattle.recordings.proofs.Places.{closed}
 use Rattle.recordings.proofs.Noted.{message_as}

@@ -2,8 +2,8 @@
 use Rattle.std.proofs.Common.{◌≡◌, ℕ, List, [], ◌∷◌, ◌++◌, refl, ap}
 use Rattle.gate_events.specs.Emit.{Emit, Emitted}
 use Rattle.history.specs.Emits.{at}
-use Rattle.serving.specs.Recorded.{made_in, recorded_in}
-use Rattle.serving.specs.Turns.{Item, all_made}
+use Rattle.gateway_commands.specs.Recorded.{made_in, recorded_in}
+use Rattle.gateway_commands.specs.Turns.{Item, all_made}
 
 pub recorded_behind : (emits : List Emitted) (items : List Item) → recorded_in (all_made emits ++ items) ≡ recorded_in items
 recorded_behind [] items = refl

@@ -24,3 +24,5 @@ pub mod Steps
 pub mod Turn
 pub mod Run
 pub mod Apart
+pub mod RecordedLines
+pub mod RecordedRuns

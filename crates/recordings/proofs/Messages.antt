@@ -16,7 +16,7 @@ use Rattle.history.specs.Settings.{Receiver}
 use Rattle.history.specs.Subjects.{holder_rank, is_about, is_better, is_chosen, is_current, is_first, is_fresh, is_of, last_of, outranks, still_counts}
 use Rattle.history.specs.Traces.{NotedFrame}
 use Rattle.history.proofs.FreshSteps.{below}
-use Rattle.bridge.proofs.Completed.{done_by}
+use Rattle.gateway_commands.proofs.Completed.{done_by}
 use Rattle.recordings.proofs.Places.{closed, closed_before, closed_order, place_of, apart_from}
 use Rattle.recordings.proofs.Renumbered.{holder_as, at_as, since_as}
 use Rattle.recordings.proofs.Known.{known_without}

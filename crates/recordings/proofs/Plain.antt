@@ -22,7 +22,7 @@ use Rattle.capture_text.specs.Writing.{datagram_text, frame_text, start_mark, ti
 use Rattle.capture_text.proofs.Again.{number_bytes}
 use Rattle.capture_text.proofs.Data.{written_digits}
 use Rattle.capture_text.proofs.Numbers.{all_digits}
-use Rattle.serving.specs.Turns.{event_line, received, start_line}
+use Rattle.gateway_commands.specs.Turns.{event_line, received, start_line}
 use Rattle.recordings.specs.Separation.{is_report, is_rule}
 
 -- neither an LF or a CR nor an `l`

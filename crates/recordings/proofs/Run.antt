@@ -12,16 +12,16 @@ use Rattle.capture_text.proofs.Again.{starts_are_ticks}
 use Rattle.history.specs.Emits.{at}
 use Rattle.history.specs.Entries.{now, tick}
 use Rattle.history.specs.Gate.{Stepped}
-use Rattle.serving.specs.Gate.{from_events, opening}
-use Rattle.serving.specs.BridgeSettings.{BridgeSettings}
-use Rattle.serving.specs.Running.{Running}
-use Rattle.replaying.specs.Replayed.{AreRead, IsReplay, emitted_text, event_in, events_in, gate_of}
-use Rattle.replaying.proofs.Events.{events_are_replayed}
+use Rattle.gateway_commands.specs.Gate.{from_events, opening}
+use Rattle.gateway_commands.specs.BridgeSettings.{BridgeSettings}
+use Rattle.gateway_commands.specs.Running.{Running}
+use Rattle.gateway_commands.specs.Replayed.{AreRead, IsReplay, emitted_text, event_in, events_in, gate_of}
+use Rattle.gateway_commands.proofs.Events.{events_are_replayed}
 use Rattle.recordings.proofs.Busy.{start_is_idle}
 use Rattle.recordings.proofs.Events.{idle_ticks}
-use Rattle.serving.specs.Recorded.{made_in, recorded_in}
-use Rattle.serving.specs.Served.{NetFits, Outside, Serves, all_due}
-use Rattle.serving.specs.Turns.{Item, all_came, all_made, due_from, due_of, from_bus, from_net, moment_at, received, recorded_where, start_line, with_all}
+use Rattle.gateway_commands.specs.Recorded.{made_in, recorded_in}
+use Rattle.gateway_commands.specs.Served.{NetFits, Outside, Serves, all_due}
+use Rattle.gateway_commands.specs.Turns.{Item, all_came, all_made, due_from, due_of, from_bus, from_net, moment_at, received, recorded_where, start_line, with_all}
 use Rattle.recordings.specs.Laws.{AreEarly, RecordingsReplay}
 use Rattle.recordings.proofs.Items.{made_behind, recorded_behind}
 use Rattle.recordings.proofs.Plain.{IsPlain, plain_start}

@@ -15,15 +15,15 @@ use Rattle.unit_fraction.specs.Text.{decimal_text}
 use Rattle.history.specs.Emits.{at}
 use Rattle.history.specs.Entries.{History, moment_of, now, tick}
 use Rattle.history.specs.Gate.{Stepped}
-use Rattle.serving.specs.Gate.{all_out, from_events, stepped}
-use Rattle.serving.specs.BridgeSettings.{BridgeSettings}
-use Rattle.serving.specs.Running.{Running, entry_of}
-use Rattle.replaying.specs.Replayed.{AreRead, event_in, events_in}
+use Rattle.gateway_commands.specs.Gate.{all_out, from_events, stepped}
+use Rattle.gateway_commands.specs.BridgeSettings.{BridgeSettings}
+use Rattle.gateway_commands.specs.Running.{Running, entry_of}
+use Rattle.gateway_commands.specs.Replayed.{AreRead, event_in, events_in}
 use Rattle.recordings.specs.Idle.{BeginFrom}
 use Rattle.recordings.proofs.Busy.{earlier, now_after}
 use Rattle.recordings.proofs.Events.{idle_ticks}
-use Rattle.serving.specs.Recorded.{made_in, recorded_in}
-use Rattle.serving.specs.Turns.{Item, all_made, emitted_at, event_line, is_recorded, received, recorded, recorded_where, with_event}
+use Rattle.gateway_commands.specs.Recorded.{made_in, recorded_in}
+use Rattle.gateway_commands.specs.Turns.{Item, all_made, emitted_at, event_line, is_recorded, received, recorded, recorded_where, with_event}
 use Rattle.recordings.proofs.Items.{made_behind, nothing_at, recorded_behind}
 use Rattle.recordings.proofs.Plain.{IsPlain, plain_event}
 

@@ -9,10 +9,10 @@ use Rattle.capture_text.specs.EventLaws.{Fits}
 use Rattle.capture_text.specs.Reading.{read}
 use Rattle.capture_text.proofs.Again.{frames_fit}
 use Rattle.history.specs.Entries.{now}
-use Rattle.serving.specs.BridgeSettings.{BridgeSettings}
-use Rattle.serving.specs.Running.{Running}
-use Rattle.serving.specs.Served.{NetFits}
-use Rattle.serving.specs.Turns.{Arrived, Item, all_came, from_bus, from_net, is_event, line_says, text_of, tick_behind, with_all, with_came, with_event}
+use Rattle.gateway_commands.specs.BridgeSettings.{BridgeSettings}
+use Rattle.gateway_commands.specs.Running.{Running}
+use Rattle.gateway_commands.specs.Served.{NetFits}
+use Rattle.gateway_commands.specs.Turns.{Arrived, Item, all_came, from_bus, from_net, is_event, line_says, text_of, tick_behind, with_all, with_came, with_event}
 use Rattle.recordings.proofs.Steps.{Again, event_again, event_now}
 
 -- ---- what comes in a turn

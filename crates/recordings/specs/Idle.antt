@@ -2,8 +2,8 @@
 use Rattle.std.specs.Prelude.{ℕ, ◌≤◌, Bool, false, ◌&&◌, not, List, [], ◌∷◌, if◌then◌else◌}
 use Rattle.history.specs.Emits.{is_there}
 use Rattle.history.specs.Entries.{Entry, History, frame, datagram, tick, command, is_accepted, moment_of}
-use Rattle.bridge.specs.Gate.{all_out, stepped}
-use Rattle.bridge.specs.BridgeSettings.{BridgeSettings}
+use Rattle.gateway_commands.specs.Gate.{all_out, stepped}
+use Rattle.gateway_commands.specs.BridgeSettings.{BridgeSettings}
 
 -- none of the events is earlier than this moment, nor than the one before it
 abbrev pub AreFrom : ℕ → List Entry → Type 0

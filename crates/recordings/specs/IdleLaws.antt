@@ -1,8 +1,8 @@
 -- A tick at which nothing is emitted can be left out of the events or put into them, and nothing that is emitted changes.
 use Rattle.std.specs.Prelude.{◌≡◌, ℕ, ◌≤◌, List, [], ◌∷◌}
 use Rattle.history.specs.Entries.{Entry, History, now, tick}
-use Rattle.bridge.specs.Gate.{all_out, from_events, gate}
-use Rattle.bridge.specs.BridgeSettings.{BridgeSettings}
+use Rattle.gateway_commands.specs.Gate.{all_out, from_events, gate}
+use Rattle.gateway_commands.specs.BridgeSettings.{BridgeSettings}
 use Rattle.recordings.specs.Idle.{AreFrom, BeginFrom, busy}
 
 -- before anything came, nothing is emitted at a tick, whenever it is

@@ -1,10 +1,10 @@
 -- The recording of a run gives, when it is replayed, what the gateway made in the run.
 use Rattle.std.specs.Prelude.{◌≡◌, ℕ, ◌^◌, ◌<◌, true, List, Option}
 use Rattle.std.specs.List.{AllByRecursion}
-use Rattle.serving.specs.BridgeSettings.{BridgeSettings}
-use Rattle.replaying.specs.Replayed.{IsReplay, emitted_text}
-use Rattle.serving.specs.Recorded.{made_in, recorded_in}
-use Rattle.serving.specs.Served.{Outside, Serves, all_due}
+use Rattle.gateway_commands.specs.BridgeSettings.{BridgeSettings}
+use Rattle.gateway_commands.specs.Replayed.{IsReplay, emitted_text}
+use Rattle.gateway_commands.specs.Recorded.{made_in, recorded_in}
+use Rattle.gateway_commands.specs.Served.{Outside, Serves, all_due}
 use Rattle.recordings.specs.Separation.{IsTold}
 
 -- no reading of the clock reaches 10^16 microseconds, so no moment does

@@ -1,4 +1,5 @@
 pub mod Idle
 pub mod IdleLaws
 pub mod Laws
+pub mod RecordedRuns
 pub mod Separation

@@ -4,8 +4,8 @@ use Rattle.std.specs.Prelude.{◌≡◌, ℕ, Bool, true, false, ◌||◌, nat_e
 use Rattle.std.specs.List.{AllByRecursion, flat_map, starts_with}
 use Rattle.capture_text.specs.Lines.{is_one_line}
 use Rattle.capture_text.specs.Reading.{is_name, second_word}
-use Rattle.serving.specs.Recorded.{recorded_in}
-use Rattle.serving.specs.Served.{Tried, all_due, to_text}
+use Rattle.gateway_commands.specs.Recorded.{recorded_in}
+use Rattle.gateway_commands.specs.Served.{Tried, all_due, to_text}
 
 -- ---- lines of a text
 

@@ -1,6 +1,7 @@
 //! What the recording of a run is good for. Each law is a function that does nothing, and whose clause is the law.
 ghost use Rattle.recordings.specs.IdleLaws.{StartIsIdle, IdleTicks, BusyEvents, BusyGate};
 ghost use Rattle.recordings.specs.Laws.{RecordingsAreTold, RecordingsReplay};
+ghost use Rattle.recordings.specs.RecordedRuns.{RecordedRunsReplay};
 
 /// A tick at which the gateway and the parts beside it emit nothing can stand anywhere among the events, or be left out: where the next event
 /// isn't earlier than the tick, all that is emitted from then on is the same. Before anything came, each tick is one at which nothing is
@@ -28,4 +29,12 @@ pub fn recordings_replay()
 /// isn't `rule`: each report is one line with this second word, and no recorded line holds the word or an LF.
 pub fn recordings_are_told()
     ensures { RecordingsAreTold }
+{}
+
+/// Of a `run` of `serve` that ends with status 0, with a file that asks for a recording: its lines whose second word isn't `rule`, given to a
+/// `run` of `replay` with the same file that ends with status 0, give each frame, datagram and report that the gateway made in the first run,
+/// in order, at its moment and as it was due, also where its send failed. What came and was no event is in neither. Links, clock and sink tell,
+/// and no reading of the clock reaches 10^16 microseconds. What a run says is what `gateway_commands::run` says by `serves` and `replays`.
+pub fn recorded_runs_replay()
+    ensures { RecordedRunsReplay }
 {}

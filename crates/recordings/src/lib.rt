@@ -5,6 +5,6 @@
 mod laws;
 
 pub use laws::{
-    idle_ticks_change_nothing, recordings_are_told, recordings_need_no_idle_ticks,
-    recordings_replay,
+    idle_ticks_change_nothing, recorded_runs_replay, recordings_are_told,
+    recordings_need_no_idle_ticks, recordings_replay,
 };

@@ -1,3 +1,14 @@
+pub use Rattle.bridge.specs.AisOut
+pub use Rattle.bridge.specs.Answered
+pub use Rattle.bridge.specs.FurtherOut
+pub use Rattle.bridge.specs.FurtherRule
+pub use Rattle.bridge.specs.Heard
+pub use Rattle.bridge.specs.Kinds
+pub use Rattle.bridge.specs.Lasting
+pub use Rattle.bridge.specs.Reports
+pub use Rattle.bridge.specs.RmcOut
+pub use Rattle.bridge.specs.Selected
+pub use Rattle.bridge.specs.SourceOut
 pub use Rattle.bridge.specs.BridgeStands
 pub use Rattle.bridge.specs.Gate
 pub use Rattle.bridge.specs.Kept
