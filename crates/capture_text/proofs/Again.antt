@@ -24,7 +24,7 @@ use Rattle.capture_text.specs.EventLaws.{EventsAreReadBack, Fits, FramesFit, Sta
 use Rattle.capture_text.specs.Reading.{read}
 use Rattle.gate_events.specs.declared.emit.Emit.{Emit}
 use Rattle.gate_events.specs.declared.emit.Emit.TheVariants as emit
-use Rattle.capture_text.specs.Writing.{time_text, frame_text, datagram_text, event_text, most_recorded, said, start_mark}
+use Rattle.capture_text.specs.Writing.{time_text, frame_text, datagram_text, event_text, line_meaning, most_recorded, start_mark}
 use Rattle.gate_events.specs.Emit.{CanWrite}
 use Rattle.capture_text.proofs.Data.{written_digits}
 use Rattle.capture_text.proofs.Laws.{again, found}
@@ -193,7 +193,7 @@ event_said e what m before behind line is at starts text says =
 
 -- what the line of an emit says, if it says something
 abbrev pub SaysAgain : Emit → ℕ → List ℕ → Type 0
-SaysAgain emitted moment line = IfSome (said emitted moment) (λ event. IsLine event line × (read line ≡ Ok event))
+SaysAgain emitted moment line = IfSome (line_meaning emitted moment) (λ event. IsLine event line × (read line ≡ Ok event))
 
 pub can_again : (emitted : Emit) (f : Frame) (moment : ℕ) (before line : List ℕ) → emitted ≡ emit.Can f → CanWrite emitted → IsBytes (held_bytes f)
     → before ≡ time_text moment → line ≡ before ++ frame_text (bus_frame f) → moment < 10 ^ 16 → SaysAgain emitted moment line

@@ -66,10 +66,10 @@ IsToldIn (emit.Net group bytes) line = Unit {0}
 IsToldIn (emit.Report report) line = IsReportLine line
 
 -- what a line says that is written of a frame or of a datagram
-abbrev pub said : Emit → ℕ → Option Seen
-said (emit.Can f) moment = Some (frame moment (bus_frame f))
-said (emit.Net group bytes) moment = Some (datagram moment bytes.now)
-said (emit.Report report) moment = None
+abbrev pub line_meaning : Emit → ℕ → Option Seen
+line_meaning (emit.Can f) moment = Some (frame moment (bus_frame f))
+line_meaning (emit.Net group bytes) moment = Some (datagram moment bytes.now)
+line_meaning (emit.Report report) moment = None
 
 -- ---- an event
 

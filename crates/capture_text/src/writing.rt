@@ -8,7 +8,7 @@ ghost use Rattle.unit_fraction.specs.Text.{decimal_text};
 ghost use Rattle.capture_text.specs.Capture.{IsLine, longest_line};
 ghost use Rattle.capture_text.specs.Lines.{is_one_line};
 ghost use Rattle.capture_text.specs.Reading.{read};
-ghost use Rattle.capture_text.specs.Writing.{CanRecord, IsToldIn, time_text, detail_text, report_text, frame_text, datagram_text, event_text, line_text, most_recorded, said};
+ghost use Rattle.capture_text.specs.Writing.{CanRecord, IsToldIn, time_text, detail_text, report_text, frame_text, datagram_text, event_text, line_text, line_meaning, most_recorded};
 ghost use Rattle.gate_events.specs.Emit.{CanWrite};
 ghost use Rattle.gate_events.specs.Event.{moment_in, view};
 
@@ -297,7 +297,7 @@ pub fn write_emit(emit: &Emit<'_>, moment: u64, out: &mut ArrayVec<u8, LONGEST_L
     ensures one { is_one_line out.new.items ≡ true }
     ensures report { IsToldIn emit.now out.new.items }
     // Below 10^16 microseconds the line of a frame or of a datagram is read back.
-    ensures again { moment < 10 ^ 16 → IfSome (said emit.now moment) (λ event. IsLine event out.new.items × (read out.new.items ≡ Ok event)) }
+    ensures again { moment < 10 ^ 16 → IfSome (line_meaning emit.now moment) (λ event. IsLine event out.new.items × (read out.new.items ≡ Ok event)) }
 {
     append_time(moment, out);
     match emit {
