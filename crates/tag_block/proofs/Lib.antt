@@ -8,6 +8,8 @@ pub mod Laws
 pub mod Again
 pub mod Decimal
 pub mod Written
+pub mod FormMachine
+pub mod FormFaults
 pub mod GroupVerdicts
 pub mod GroupPrefixes
 pub mod GroupKeys

@@ -2,6 +2,7 @@ pub mod Tag
 pub mod Reading
 pub mod Content
 pub mod Writing
+pub mod FormLaws
 pub mod Groups
 pub mod GroupAnswers
 pub mod GroupRows

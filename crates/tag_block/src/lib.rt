@@ -9,6 +9,7 @@
 
 mod byte;
 mod fault;
+mod form_laws;
 mod group_answers;
 mod group_assembler;
 mod group_key;
@@ -22,6 +23,7 @@ mod values;
 mod writing;
 
 pub use fault::{TagFault, TagRule};
+pub use form_laws::a_form_fault_is_where_no_blocks_go_on;
 pub use group_answers::{GroupFed, GroupOutcome};
 pub use group_assembler::GroupAssembler;
 pub use group_key::GroupKey;

@@ -16,8 +16,8 @@ use Rattle.tag_block.specs.Tag.{is_code_byte, is_value_byte, xor_of, is_code, Sa
 use Rattle.tag_block.specs.Reading.{Placed, Values, no_values, Scan, parameter_at, parameters_at, block_end_at, block_at, blocks_at, number_in, group_in, group_said, count_said, source_said, is_sfi, found_or, text_of, settle, read, ◌>>=◌}
 use Rattle.tag_block.proofs.Found.{blocks_found, BlocksRead}
 use Rattle.tag_block.proofs.Settling.{group_again, number_again}
-use Rattle.tag_laws.specs.Laws.{Begins, EndsAt, AreFront, StandsAt, HasNoGroupAt, HasNoCountAt, FormFaultsTell}
-use Rattle.tag_laws.proofs.Machine.{State, Outside, Opening, Coding, Valuing, High, Low, Closing, step, run, run-append, begins, begins_none, some_codes_run, values_run}
+use Rattle.tag_block.specs.FormLaws.{Begins, EndsAt, AreFront, StandsAt, HasNoGroupAt, HasNoCountAt, FormFaultsTell}
+use Rattle.tag_block.proofs.FormMachine.{State, Outside, Opening, Coding, Valuing, High, Low, Closing, step, run, run-append, begins, begins_none, some_codes_run, values_run}
 
 abbrev some_state : State → Option State
 some_state s = Some s

@@ -7,7 +7,7 @@ use Rattle.std.proofs.lemmas.Bool.{cases_Bool, and_parts, and_from, eqb-true, le
 use Rattle.std.proofs.lemmas.List.Elements.{All-nil, All-cons, All-head, All-tail}
 use Rattle.std.proofs.lemmas.List.Concat.{flat_map-cons}
 use Rattle.tag_block.specs.Tag.{is_code_byte, is_value_byte, Parameter, IsParameter, parameter_text, content, Block, block_text}
-use Rattle.tag_laws.specs.Laws.{HasForm, Begins}
+use Rattle.tag_block.specs.FormLaws.{HasForm, Begins}
 
 pub data State : Type 0 where
   Outside : State

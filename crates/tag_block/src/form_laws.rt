@@ -1,5 +1,5 @@
 //! What the place of a fault says about the line.
-ghost use Rattle.tag_laws.specs.Laws.{FormFaultsTell};
+ghost use Rattle.tag_block.specs.FormLaws.{FormFaultsTell};
 
 /// Where a line is refused for its form, the bytes before the place begin TAG blocks, and together with the byte at the place, where
 /// the line has one, they begin none, whatever would follow. Else whole blocks are at the front, and at the place stands, whole, a

@@ -1,5 +1,0 @@
-use Rattle.tag_laws.proofs.Faults.{form_faults_tell}
-use Rattle.tag_laws.proofs.laws.a_form_fault_is_where_no_blocks_go_on.Goals as goal
-
-pub returns : goal.returns
-returns c = form_faults_tell
