@@ -30,7 +30,7 @@ use Rattle.bus_identity.specs.PgnLists.{product_information, pgn_lists}
 use Rattle.n2k_id.specs.Pgns.{asked_of}
 use Rattle.bus_identity.specs.Requests.{is_due}
 use Rattle.bridge.specs.Answered.{answer_by, answered_before, own_after, ready_after, sent_before}
-use Rattle.bridge.specs.Beside.{answering_gives, answering_stands}
+use Rattle.bridge.specs.Each.{answering_gives, answering_stands}
 use Rattle.bridge.specs.declared.answering.Answering.{Answering}
 use Rattle.gate_core.specs.Promises.{IsTaken}
 use Rattle.parts.specs.PartSteps.{IsSaid, Says, entry_at}

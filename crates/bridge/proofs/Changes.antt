@@ -11,7 +11,7 @@ use Rattle.parts.specs.PartSteps.{Says, entry_at}
 use Rattle.parts.specs.declared.part.Step.{Step}
 use Rattle.bridge.specs.SourceOut.{told}
 use Rattle.bridge.specs.WatchStands.{IsWatchStep}
-use Rattle.bridge.specs.Beside.{sources_give, sources_stand}
+use Rattle.bridge.specs.Each.{sources_give, sources_stand}
 
 -- what is told where nothing was
 abbrev pub tells : (change : Option Report) → Emitted → Type 0

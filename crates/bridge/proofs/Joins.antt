@@ -11,7 +11,7 @@ use Rattle.joined_rmc.specs.Kept.{bytes_in}
 use Rattle.joined_rmc.specs.RmcOut.{RmcRule, rmc_datagram, sent_to}
 use Rattle.parts.specs.PartSteps.{Says, entry_at}
 use Rattle.parts.specs.declared.part.Step.{Step}
-use Rattle.bridge.specs.Beside.{joining_gives, joining_stands}
+use Rattle.bridge.specs.Each.{joining_gives, joining_stands}
 use Rattle.bridge.specs.declared.joining.Joining.{Joining}
 
 -- it is said exactly where the history says so, as it says

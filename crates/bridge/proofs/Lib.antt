@@ -1,4 +1,5 @@
 pub use Rattle.gate_core.proofs.Completed
+pub mod AddressCases
 pub mod Answers
 pub mod Changes
 pub mod Joins

@@ -14,6 +14,7 @@ pub slots_of : (rows : List RowConfig) (rmc : Option RmcConfig) (ais : Option Ai
 slots_of rows rmc None is = tt
 slots_of rows rmc (Some a) is = (is a refl).slots
 
-pub all_empty : (a b c d e : List Emit) → a ≡ [] → b ≡ [] → c ≡ [] → d ≡ [] → e ≡ [] → a ++ (b ++ (c ++ (d ++ e))) ≡ []
-all_empty a b c d e a_is b_is c_is d_is e_is =
-    ap (λ x. x ++ (b ++ (c ++ (d ++ e)))) a_is ∙ ap (λ x. x ++ (c ++ (d ++ e))) b_is ∙ ap (λ x. x ++ (d ++ e)) c_is ∙ ap (λ x. x ++ e) d_is ∙ e_is
+pub all_empty : (a b c d e f : List Emit) → a ≡ [] → b ≡ [] → c ≡ [] → d ≡ [] → e ≡ [] → f ≡ [] → a ++ (b ++ (c ++ (d ++ (e ++ f)))) ≡ []
+all_empty a b c d e f a_is b_is c_is d_is e_is f_is =
+    ap (λ x. x ++ (b ++ (c ++ (d ++ (e ++ f))))) a_is ∙ ap (λ x. x ++ (c ++ (d ++ (e ++ f)))) b_is ∙ ap (λ x. x ++ (d ++ (e ++ f))) c_is
+    ∙ ap (λ x. x ++ (e ++ f)) d_is ∙ ap (λ x. x ++ f) e_is ∙ f_is

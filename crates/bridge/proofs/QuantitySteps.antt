@@ -10,7 +10,7 @@ use Rattle.gate_core.specs.Steps.{by_keys}
 use Rattle.further_bridge.specs.Promises.{IsFurtherStep, IsFurtherTaken, StandsFurther}
 use Rattle.parts.specs.PartSteps.{Says, entry_at}
 use Rattle.parts.specs.declared.part.Step.{Step}
-use Rattle.bridge.specs.Beside.{quantities_give, quantities_stand}
+use Rattle.bridge.specs.Each.{quantities_give, quantities_stand}
 use Rattle.bridge.specs.declared.further_quantities.Quantities.{Quantities}
 
 pub quantities_said : (t : Step) (before after : Quantities) (given : Emitted)

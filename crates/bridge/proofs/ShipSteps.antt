@@ -10,7 +10,7 @@ use Rattle.gate_core.specs.Steps.{by_keys}
 use Rattle.ais_bridge.specs.Promises.{IsAisStep, IsAisTaken, StandsAis}
 use Rattle.parts.specs.PartSteps.{Says, entry_at}
 use Rattle.parts.specs.declared.part.Step.{Step}
-use Rattle.bridge.specs.Beside.{ships_give, ships_stand}
+use Rattle.bridge.specs.Each.{ships_give, ships_stand}
 use Rattle.bridge.specs.declared.ships.Ships.{Ships}
 
 pub ships_said : (t : Step) (before after : Ships) (given : Emitted) → IsAisStep t.gateway.now (entry_at t) before.bridge after.bridge (emits_of given)

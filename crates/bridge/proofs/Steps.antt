@@ -24,11 +24,13 @@ use Rattle.gate_core.specs.Steps.{by_keys, entry_of, only_told, IsEventValid}
 use Rattle.parts.specs.PartSteps.{IsGiven}
 use Rattle.plain_out.specs.Plain.{plain_out}
 use Rattle.plain_out.proofs.Emits.{behind_none}
-use Rattle.bridge.specs.Beside.{BesideKept, are_beside, beside_give, beside_output, beside_plain, rules_of}
-use Rattle.bridge.specs.Commands.{beside_keep_commands}
+use Rattle.own_address.specs.AddressOut.{address_gives}
+use Rattle.parts.specs.Compose.{maybe_give}
+use Rattle.bridge.specs.Beside.{BesideKept, are_beside, beside, beside_give, beside_output, beside_plain, rules_of, wanted}
+use Rattle.bridge.specs.Each.{joining_gives, quantities_give, ships_give, sources_give}
 use Rattle.bridge.specs.BridgeStands.{AreTold, BridgeStands, IsBesideStep, IsBridged, IsForgotten, IsGatewayStep, IsOrder, IsStart, IsUnposted}
 use Rattle.bridge.specs.Answered.{answers}
-use Rattle.bridge.specs.Gate.{NothingFurther, all_out, changes_of, plain_of, quantities_of, rmc_of, ships_of, stepped, tagged_out, with_command}
+use Rattle.bridge.specs.Gate.{NothingFurther, all_out, plain_of, stepped, tagged_out, with_command}
 use Rattle.further_bridge.specs.FurtherRule.{FurtherRule}
 use Rattle.bridge.specs.declared.call_output.CallOutput.{CallOutput}
 use Rattle.bridge.specs.Kept.{Bridged, IsAlone, beside_out, given_count, ordered_output, output_at, output_of, own_output, plain_output}
@@ -249,7 +251,7 @@ module _ (p : BridgeSettings) (s : ℕ) (h : History) (before forgotten stepped_
             start = ap (λ (b : Bridged). b.start) obeyed.rest ∙ stands_told.start;
             gateway = subst (λ (z : Settings). Stands by_keys z s (next ∷ e ∷ h) after.gateway) stands_told.gateway.settings is.stands;
             parts = subst (are_beside (rules_of p) p.gateway s (next ∷ e ∷ h)) (sym parts)
-                (beside_keep_commands (rules_of p) p.gateway s (e ∷ h) o.source o.address told.parts stands.settings given.stood);
+                (beside.commands (rules_of p) p.gateway s (e ∷ h) o.source o.address told.parts stands.settings given.stood);
             plain = ap (λ (b : Bridged). b.plain) obeyed.rest ∙ stands_told.plain;
             records = ap (λ (b : Bridged). b.records) obeyed.rest ∙ stands_told.records;
           };
@@ -279,15 +281,18 @@ event_valid (event.Tick moment) valid = tt
 -- ---- without a change that is told and without plain sentences
 
 pub nothing_further : NothingFurther
-nothing_further p s h e unsaid untold unplain =
+nothing_further p s h e unsaid untold kept unplain =
     let own = out p.gateway s h e in
     let answered = answers p.gateway s p.information h e in
-    let rmc = rmc_of p.rmc p.gateway s h e in
-    let ships = ships_of p.ais p.gateway s h e in
+    let rmc = maybe_give joining_gives p.rmc p.gateway s h e in
+    let ships = maybe_give ships_give p.ais p.gateway s h e in
+    let changes = λ (b : Bool). maybe_give sources_give (wanted b) p.gateway s h e in
+    let address = λ (b : Bool). maybe_give address_gives (wanted b) p.gateway s h e in
     ap (λ (group : Option (List ℕ)). tagged_out p s h e ++ plain_of group (tagged_out p s h e)) unplain
     ∙ append-nil (tagged_out p s h e)
-    ∙ ap (λ (x : Option FurtherRule). own ++ (answered ++ (rmc ++ (ships ++ (quantities_of x p.gateway s h e ++ changes_of p.sources p.gateway s h e))))) unsaid
-    ∙ ap (λ (b : Bool). own ++ (answered ++ (rmc ++ (ships ++ changes_of b p.gateway s h e)))) untold
+    ∙ ap (λ (x : Option FurtherRule). own ++ (answered ++ (rmc ++ (ships ++ (maybe_give quantities_give x p.gateway s h e ++ (changes p.sources ++ address p.address)))))) unsaid
+    ∙ ap (λ (b : Bool). own ++ (answered ++ (rmc ++ (ships ++ (changes b ++ address p.address))))) untold
+    ∙ ap (λ (b : Bool). own ++ (answered ++ (rmc ++ (ships ++ address b)))) kept
     ∙ ap (λ (es : List Emit). own ++ (answered ++ (rmc ++ es))) (append-nil ships)
 
 -- ---- the parts have taken an entry, and its datagrams are said once more where that is asked for

@@ -1,124 +1,62 @@
--- The parts beside the gateway: when what each keeps stands for everything that ever came, what each gives at one more entry, and all of them in
--- the order in which their emits go out.
+-- The parts beside the gateway, in the order in which their emits go out.
 use Rattle.std.specs.Prelude.{◌≡◌, ℕ, Bool, true, false, List, [], Option, Some, None}
-use Rattle.n2k_id.specs.declared.name.Name.{Name}
 use Rattle.gate_events.specs.Emit.{Emit}
 use Rattle.history.specs.Entries.{Entry, History}
 use Rattle.history.specs.Settings.{Settings}
-use Rattle.settings.specs.declared.ais.AisConfig.{AisConfig}
-use Rattle.bus_identity.specs.Answers.{Kept as Counted}
-use Rattle.joined_rmc.specs.JoinStands.{JoinStands}
-use Rattle.joined_rmc.specs.RmcOut.{RmcRule, rmc_out}
-use Rattle.ais_bridge.specs.AisOut.{ais_out}
-use Rattle.ais_bridge.specs.Promises.{StandsAis}
-use Rattle.further_bridge.specs.FurtherOut.{further_out}
-use Rattle.further_bridge.specs.FurtherRule.{FurtherRule}
-use Rattle.further_bridge.specs.Promises.{StandsFurther}
-use Rattle.parts.specs.Compose.{both_give, both_output, both_stand, maybe_give, maybe_output, maybe_stand}
-use Rattle.parts.specs.Lanes.{LaneKept, lane_output, lane_plain, lane_stands}
-use Rattle.bridge.specs.Answered.{answers, sent_before}
+use Rattle.own_address.specs.AddressOut.{address_gives, address_keeps_commands, address_stands}
+use Rattle.parts.specs.Forms.{Form, both, lane, maybe}
 use Rattle.bridge.specs.BridgeSettings.{BridgeSettings}
-use Rattle.bridge.specs.SourceOut.{source_out}
-use Rattle.bridge.specs.WatchStands.{WatchStands}
-use Rattle.bridge.specs.declared.answering.Answering.{Answering}
-use Rattle.bridge.specs.declared.joining.Joining.{Joining}
-use Rattle.bridge.specs.declared.further_quantities.Quantities.{Quantities}
-use Rattle.bridge.specs.declared.ships.Ships.{Ships}
+use Rattle.bridge.specs.Commands.{answering_keeps_commands, joining_keeps_commands, quantities_keep_commands, ships_keep_commands, sources_keep_commands}
+use Rattle.bridge.specs.Each.{
+  IsOpened,
+  answering_gives,
+  answering_stands,
+  joining_gives,
+  joining_stands,
+  most_answered,
+  most_of_quantities,
+  most_of_ships,
+  quantities_give,
+  quantities_stand,
+  ships_give,
+  ships_stand,
+  sources_give,
+  sources_stand,
+}
 
--- ---- who the gateway is
+abbrev pub beside : Form
+beside =
+    both (lane most_answered answering_stands answering_gives answering_keeps_commands)
+    (both (maybe (lane 0 joining_stands joining_gives joining_keeps_commands))
+    (both (maybe (lane most_of_ships ships_stand ships_give ships_keep_commands))
+    (both (maybe (lane most_of_quantities quantities_stand quantities_give quantities_keep_commands))
+    (both (maybe (lane 1 sources_stand sources_give sources_keep_commands))
+    (maybe (lane 1 address_stands address_gives address_keeps_commands))))))
 
--- nothing was answered yet
-abbrev pub unanswered : List ℕ → Counted
-unanswered information = record { information = information; products = 0; lists = 0 }
-
--- the most frames of an answer
-abbrev pub most_answered : ℕ
-most_answered = 20
-
-abbrev pub answering_stands : List ℕ → Settings → ℕ → History → Answering → Type 0
-answering_stands information c s h k = k.identity ≡ sent_before c s information h
-
-abbrev pub answering_gives : List ℕ → Settings → ℕ → History → Entry → List Emit
-answering_gives information c s h e = answers c s information h e
-
--- ---- RMC
-
-abbrev pub joining_stands : RmcRule → Settings → ℕ → History → Joining → Type 0
-joining_stands r c s h k = (k.group ≡ r.group) × JoinStands r c s h k.join
-
-abbrev pub joining_gives : RmcRule → Settings → ℕ → History → Entry → List Emit
-joining_gives r c s h e = rmc_out r c s h e
-
--- ---- reports of ships around
-
-abbrev pub most_of_ships : ℕ
-most_of_ships = 299
-
-abbrev pub ships_stand : AisConfig → Settings → ℕ → History → Ships → Type 0
-ships_stand a c s h k = StandsAis a c s h k.bridge
-
-abbrev pub ships_give : AisConfig → Settings → ℕ → History → Entry → List Emit
-ships_give a c s h e = ais_out a c s h e
-
--- ---- further quantities
-
-abbrev pub most_of_quantities : ℕ
-most_of_quantities = 259
-
-abbrev pub quantities_stand : FurtherRule → Settings → ℕ → History → Quantities → Type 0
-quantities_stand x c s h k = StandsFurther x c s h k.bridge
-
-abbrev pub quantities_give : FurtherRule → Settings → ℕ → History → Entry → List Emit
-quantities_give x c s h e = further_out x c s h e
-
--- ---- a change of the device that a row is taken from
-
--- it is told if that is wanted
+-- a part that a flag asks for
 abbrev pub wanted : Bool → Option (Unit {0})
 wanted false = None
 wanted true = Some tt
 
-abbrev pub sources_stand : Unit {0} → Settings → ℕ → History → List (Option Name) → Type 0
-sources_stand r c s h names = WatchStands c s h names
-
-abbrev pub sources_give : Unit {0} → Settings → ℕ → History → Entry → List Emit
-sources_give r c s h e = source_out c s h e
-
--- ---- all, in the order in which their emits go out
+abbrev pub rules_of : BridgeSettings → beside.rule
+rules_of p = (p.information, (p.rmc, (p.ais, (p.quantities, (wanted p.sources, wanted p.address)))))
 
 abbrev pub BesideKept : Type 0
-BesideKept =
-    LaneKept Answering most_answered
-    × (Option (LaneKept Joining 0) × (Option (LaneKept Ships most_of_ships) × (Option (LaneKept Quantities most_of_quantities) × Option (LaneKept (List (Option Name)) 1))))
+BesideKept = beside.kept
 
-abbrev pub Rules : Type 0
-Rules = List ℕ × (Option RmcRule × (Option AisConfig × (Option FurtherRule × Option (Unit {0}))))
+abbrev pub are_beside : beside.rule → Settings → ℕ → History → BesideKept → Type 0
+are_beside = beside.stand
 
-abbrev pub rules_of : BridgeSettings → Rules
-rules_of p = (p.information, (p.rmc, (p.ais, (p.quantities, wanted p.sources))))
-
-abbrev pub are_beside : Rules → Settings → ℕ → History → BesideKept → Type 0
-are_beside =
-    both_stand (lane_stands answering_stands)
-    (both_stand (maybe_stand (lane_stands joining_stands))
-    (both_stand (maybe_stand (lane_stands ships_stand))
-    (both_stand (maybe_stand (lane_stands quantities_stand)) (maybe_stand (lane_stands sources_stand)))))
-
-abbrev pub beside_give : Rules → Settings → ℕ → History → Entry → List Emit
-beside_give =
-    both_give answering_gives
-    (both_give (maybe_give joining_gives) (both_give (maybe_give ships_give) (both_give (maybe_give quantities_give) (maybe_give sources_give))))
+abbrev pub beside_give : beside.rule → Settings → ℕ → History → Entry → List Emit
+beside_give = beside.give
 
 abbrev pub beside_output : BesideKept → List Emit
-beside_output = both_output lane_output (both_output (maybe_output lane_output) (both_output (maybe_output lane_output) (both_output (maybe_output lane_output) (maybe_output lane_output))))
+beside_output = beside.output
 
 abbrev pub beside_plain : BesideKept → List Emit
-beside_plain = both_output lane_plain (both_output (maybe_output lane_plain) (both_output (maybe_output lane_plain) (both_output (maybe_output lane_plain) (maybe_output lane_plain))))
+beside_plain = beside.plain
 
--- ---- a part with nothing heard yet, whenever the gateway will start
-
-abbrev pub IsOpened : {R K : Type 0} → (R → Settings → ℕ → History → K → Type 0) → R → Settings → K → Type 0
-IsOpened stands r c k = (s : ℕ) → stands r c s [] k
+-- ---- with nothing heard yet
 
 pub record AreNew (p : BridgeSettings) (k : BesideKept) : Type 0 where
   pub stood : IsOpened are_beside (rules_of p) p.gateway k

@@ -25,6 +25,8 @@ pub record BridgeSettings : Type 0 where
   pub quantities : Option FurtherRule
   -- whether it is told from which device a row is taken
   pub sources : Bool
+  -- whether a change of the gateway's own address is told
+  pub address : Bool
   -- the transmission group that all sentences are sent to once more, without headers and TAG blocks, where they are
   pub plain : Option (List ℕ)
   -- whether what comes is written down
@@ -51,6 +53,7 @@ bridge_settings_of x = record {
   ais = x.settings.ais;
   quantities = quantities_rule x.ignore.items x.quantities;
   sources = x.sources;
+  address = x.address;
   plain = x.plain;
   records = x.«record»;
 }

@@ -13,7 +13,7 @@ use Rattle.gate_outbox.specs.Output.{Output, emits_of, is_datagram}
 use Rattle.parts.specs.PartSteps.{IsGiven, Keeps}
 use Rattle.plain_out.specs.Plain.{plain_out}
 use Rattle.bridge.specs.declared.call_output.CallOutput.{CallOutput}
-use Rattle.bridge.specs.Beside.{AreNew, BesideKept, Rules, are_beside, beside_give, beside_output, beside_plain, rules_of}
+use Rattle.bridge.specs.Beside.{AreNew, BesideKept, are_beside, beside, beside_give, beside_output, beside_plain, rules_of}
 use Rattle.bridge.specs.Gate.{plain_of, stepped}
 use Rattle.bridge.specs.Kept.{Bridged, no_output, output_at, output_of, plain_output}
 use Rattle.bridge.specs.BridgeSettings.{BridgeSettings}
@@ -79,7 +79,7 @@ pub record IsGatewayStep (e : Entry) (before after : Bridged) : Type 0 where
 -- the parts beside the gateway take the event that it has taken
 abbrev pub AreTold : Entry → Bridged → BesideKept → Type 0
 AreTold e before after =
-    (r : Rules) (c : Settings) (s : ℕ) (h : History) → AreSettings c → before.start ≡ s → IsHistory (e ∷ h)
+    (r : beside.rule) (c : Settings) (s : ℕ) (h : History) → AreSettings c → before.start ≡ s → IsHistory (e ∷ h)
     → IsTaken c s h e before.gateway before.output.outbox → are_beside r c s h before.parts → IsGiven are_beside beside_give beside_output r c s h e after
 
 pub record IsBesideStep (e : Entry) (before after : Bridged) : Type 0 where

@@ -1,12 +1,10 @@
--- A command to go to an address is no event for the parts beside the gateway: what they keep stands for the history with it as well.
+-- A command to go to an address is no event for a part beside the gateway: what it keeps stands for the history with it as well.
 use Rattle.history.specs.Entries.{now}
 use Rattle.joined_rmc.proofs.Commands.{commands_keep_joins}
 use Rattle.ais_bridge.proofs.CommandLemmas.{commands_leave_ais}
 use Rattle.further_bridge.proofs.StepLemmas.{commands_leave_further}
-use Rattle.parts.specs.Compose.{maybe_keep_commands}
-use Rattle.parts.specs.Lanes.{lane_keeps_commands, lane_stands}
 use Rattle.parts.specs.PartSteps.{KeepsCommands}
-use Rattle.bridge.specs.Beside.{answering_stands, are_beside, joining_stands, quantities_stand, ships_stand, sources_stand}
+use Rattle.bridge.specs.Each.{answering_stands, joining_stands, quantities_stand, ships_stand, sources_stand}
 
 pub answering_keeps_commands : KeepsCommands answering_stands
 answering_keeps_commands information c s h source address k are stands = stands
@@ -22,20 +20,3 @@ quantities_keep_commands x c s h source address k are stands = commands_leave_fu
 
 pub sources_keep_commands : KeepsCommands sources_stand
 sources_keep_commands r c s h source address names are stands = record { long = stands.long; each = stands.each }
-
-pub beside_keep_commands : KeepsCommands are_beside
-beside_keep_commands r c s h source address k are stands = (
-  answering_keeps_commands r.0 c s h source address k.0.part are stands.0,
-  (
-    maybe_keep_commands (lane_stands joining_stands) (lane_keeps_commands joining_stands joining_keeps_commands) r.1.0 c s h source address k.1.0 are stands.1.0,
-    (
-      maybe_keep_commands (lane_stands ships_stand) (lane_keeps_commands ships_stand ships_keep_commands) r.1.1.0 c s h source address k.1.1.0 are stands.1.1.0,
-      (
-        maybe_keep_commands (lane_stands quantities_stand) (lane_keeps_commands quantities_stand quantities_keep_commands)
-            r.1.1.1.0 c s h source address k.1.1.1.0 are stands.1.1.1.0,
-        maybe_keep_commands (lane_stands sources_stand) (lane_keeps_commands sources_stand sources_keep_commands)
-            r.1.1.1.1 c s h source address k.1.1.1.1 are stands.1.1.1.1,
-      ),
-    ),
-  ),
-)

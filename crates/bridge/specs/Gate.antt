@@ -1,34 +1,18 @@
 -- What the gateway with the parts beside it emits, over everything that ever came: at each event what the gateway itself emits, then its
--- answers to who asks who it is, RMC, the reports of ships around, further quantities, and a change of the device that a row is taken from; all datagrams of
--- these once more as plain sentences; and then what it emits at the command that the event completes (ISO 11783-5).
+-- answers to who asks who it is, RMC, the reports of ships around, further quantities, a change of the device that a row is taken from, and one
+-- of the gateway's own address; all datagrams of these once more as plain sentences; and then what it emits at the command that the event
+-- completes (ISO 11783-5).
 use Rattle.std.specs.Prelude.{◌≡◌, ℕ, Bool, false, List, [], ◌++◌, Option, Some, None}
 use Rattle.gate_events.specs.Emit.{Emit, Emitted}
 use Rattle.history.specs.Entries.{Entry, History}
 use Rattle.history.specs.Gate as of_gateway
 use Rattle.history.specs.Gate.{Stepped, out, opening_emits, with_command_by, stepped_by, events_by, gate_by}
-use Rattle.history.specs.Settings.{Settings}
-use Rattle.settings.specs.declared.ais.AisConfig.{AisConfig}
-use Rattle.joined_rmc.specs.RmcOut.{RmcRule}
-use Rattle.further_bridge.specs.FurtherRule.{FurtherRule}
 use Rattle.plain_out.specs.Plain.{plain_out}
 use Rattle.parts.specs.Compose.{maybe_give}
 use Rattle.bridge.specs.Answered.{answers}
-use Rattle.bridge.specs.Beside.{joining_gives, quantities_give, ships_give, sources_give, wanted}
+use Rattle.bridge.specs.Beside.{beside_give, rules_of}
 use Rattle.bridge.specs.BridgeSettings.{BridgeSettings}
-
--- RMC, the reports of ships around and further quantities, if they are said
-abbrev pub rmc_of : Option RmcRule → Settings → ℕ → History → Entry → List Emit
-rmc_of = maybe_give joining_gives
-
-abbrev pub ships_of : Option AisConfig → Settings → ℕ → History → Entry → List Emit
-ships_of = maybe_give ships_give
-
-abbrev pub quantities_of : Option FurtherRule → Settings → ℕ → History → Entry → List Emit
-quantities_of = maybe_give quantities_give
-
--- a change of the device that a row is taken from, where it is told
-abbrev pub changes_of : Bool → Settings → ℕ → History → Entry → List Emit
-changes_of is_wanted = maybe_give sources_give (wanted is_wanted)
+use Rattle.bridge.specs.Each.{joining_gives, ships_give}
 
 -- plain sentences, where they are said
 abbrev pub plain_of : Option (List ℕ) → List Emit → List Emit
@@ -37,14 +21,12 @@ plain_of (Some group) emits = plain_out group emits
 
 module _ (p : BridgeSettings) (s : ℕ) where
   -- what the parts beside the gateway give
-  abbrev pub beside : History → Entry → List Emit
-  beside h e =
-      answers p.gateway s p.information h e
-      ++ (rmc_of p.rmc p.gateway s h e ++ (ships_of p.ais p.gateway s h e ++ (quantities_of p.quantities p.gateway s h e ++ changes_of p.sources p.gateway s h e)))
+  abbrev pub given : History → Entry → List Emit
+  given h e = beside_give (rules_of p) p.gateway s h e
 
   -- but for plain sentences
   abbrev pub tagged_out : History → Entry → List Emit
-  tagged_out h e = out p.gateway s h e ++ beside h e
+  tagged_out h e = out p.gateway s h e ++ given h e
 
   abbrev pub all_out : History → Entry → List Emit
   all_out h e = tagged_out h e ++ plain_of p.plain (tagged_out h e)
@@ -66,9 +48,10 @@ module _ (p : BridgeSettings) (s : ℕ) where
   abbrev pub gate : List Entry → List Emitted
   gate events = gate_by p.gateway s all_out events
 
--- where neither further quantities and plain sentences are said nor a change of devices is told, the gateway, its answers, RMC and ships are all
+-- where nothing is asked for that stands behind the reports of ships, the gateway, its answers, RMC and ships are all
 abbrev pub NothingFurther : Type 0
 NothingFurther =
-    (p : BridgeSettings) (s : ℕ) (h : History) (e : Entry) → p.quantities ≡ None → p.sources ≡ false → p.plain ≡ None
+    (p : BridgeSettings) (s : ℕ) (h : History) (e : Entry) → p.quantities ≡ None → p.sources ≡ false → p.address ≡ false → p.plain ≡ None
     → all_out p s h e
-    ≡ out p.gateway s h e ++ (answers p.gateway s p.information h e ++ (rmc_of p.rmc p.gateway s h e ++ ships_of p.ais p.gateway s h e))
+    ≡ out p.gateway s h e
+    ++ (answers p.gateway s p.information h e ++ (maybe_give joining_gives p.rmc p.gateway s h e ++ maybe_give ships_give p.ais p.gateway s h e))

@@ -7,9 +7,13 @@ pub use Rattle.further_bridge.specs.FurtherRule
 pub use Rattle.gate_core.specs.Steps
 pub use Rattle.joined_rmc.specs.Lasting
 pub use Rattle.joined_rmc.specs.RmcOut
+pub use Rattle.own_address.specs.AddressOut
+pub use Rattle.parts.specs.Forms
 pub use Rattle.gate_core.specs.Selected
+pub mod AddressCases
 pub mod Answered
 pub mod Beside
+pub mod Each
 pub mod BridgeStands
 pub mod Commands
 pub mod Gate

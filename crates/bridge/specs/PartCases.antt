@@ -16,7 +16,7 @@ use Rattle.bridge.specs.BridgeSettings.{BridgeSettings}
 
 -- a gateway of two devices that says neither RMC nor reports of ships around
 abbrev pub alone : BridgeSettings
-alone = record { gateway = two_devices; information = []; rmc = None; ais = None; quantities = None; sources = false; plain = None; records = false }
+alone = record { gateway = two_devices; information = []; rmc = None; ais = None; quantities = None; sources = false; address = false; plain = None; records = false }
 
 -- one whose product information is ten bytes, which says RMC on RCOM and reports of ships on TGTD
 abbrev pub all_parts : BridgeSettings
@@ -27,6 +27,7 @@ all_parts = record {
   ais = Some (record { group = codes "TGTD"; slots = 16 });
   quantities = None;
   sources = false;
+  address = false;
   plain = None;
   records = false;
 }

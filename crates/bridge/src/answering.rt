@@ -9,7 +9,7 @@ ghost use Rattle.bus_identity.specs.Answers.{kept_after};
 ghost use Rattle.bus_identity.specs.Payloads.{information_of};
 ghost use Rattle.gate_outbox.specs.Output.{and_told};
 ghost use Rattle.bridge.specs.Answered.{answer_by};
-ghost use Rattle.bridge.specs.Beside.{answering_gives, answering_stands, most_answered, unanswered};
+ghost use Rattle.bridge.specs.Each.{answering_gives, answering_stands, most_answered, unanswered};
 ghost use Rattle.bridge.specs.Commands.{answering_keeps_commands};
 
 use bus_identity::{Answered, Frames, Identity, Product};

@@ -7,8 +7,10 @@ ghost use Rattle.config_values.specs.Rows.{IsTalker};
 ghost use Rattle.config_values.specs.Settings.{settings_ignoring};
 ghost use Rattle.history.specs.Settings.{Settings as GatewaySettings};
 ghost use Rattle.settings.specs.Setup.{IsQuantity, IsSetup};
+ghost use Rattle.own_address.specs.AddressOut.{address_stands};
 ghost use Rattle.parts.specs.Compose.{maybe_stand};
-ghost use Rattle.bridge.specs.Beside.{AreNew, IsOpened, joining_stands, quantities_stand, ships_stand, sources_stand, wanted};
+ghost use Rattle.bridge.specs.Beside.{AreNew, wanted};
+ghost use Rattle.bridge.specs.Each.{IsOpened, joining_stands, quantities_stand, ships_stand, sources_stand};
 ghost use Rattle.bridge.specs.BridgeSettings.{bridge_settings_of, quantities_rule, rmc_rule};
 
 use crate::answering::{Answering, MOST_ANSWERED};
@@ -18,6 +20,7 @@ use crate::ships::{MOST_OF_SHIPS, Ships};
 use crate::source_watch::SourceWatch;
 use ais_bridge::AisBridge;
 use further_bridge::FurtherBridge;
+use own_address::OwnAddress;
 use parts::Lane;
 use settings::{Settings, Setup};
 use std::alloc::{AllocError, Global};
@@ -31,7 +34,7 @@ pub(crate) type Beside = (
             Option<Lane<Ships, MOST_OF_SHIPS>>,
             (
                 Option<Lane<Quantities, MOST_OF_QUANTITIES>>,
-                Option<Lane<SourceWatch, 1>>,
+                (Option<Lane<SourceWatch, 1>>, Option<Lane<OwnAddress, 1>>),
             ),
         ),
     ),
@@ -47,7 +50,11 @@ pub(crate) fn beside_of(alloc: Global, setup: &Setup) -> Result<Beside, AllocErr
     let ships = Lane::maybe(alloc, ships_of(alloc, &setup.settings)?)?;
     let quantities = Lane::maybe(alloc, quantities_of(alloc, setup)?)?;
     let sources = Lane::maybe(alloc, sources_of(setup.sources))?;
-    Ok((answering, (joining, (ships, (quantities, sources)))))
+    let address = Lane::maybe(alloc, address_of(setup))?;
+    Ok((
+        answering,
+        (joining, (ships, (quantities, (sources, address)))),
+    ))
 }
 
 /// RMC, if it is configured.
@@ -96,6 +103,18 @@ fn sources_of(is_wanted: bool) -> Option<SourceWatch>
 {
     if is_wanted {
         Some(SourceWatch::new())
+    } else {
+        None
+    }
+}
+
+/// The gateway's own address, if a change of it is told.
+#[tactic(auto, unfolding(config_values::specs::Settings::settings_ignoring))]
+fn address_of(setup: &Setup) -> Option<OwnAddress>
+    ensures { IsOpened (maybe_stand address_stands) (wanted setup.now.address) (settings_ignoring setup.now.ignore.items setup.now.settings.config) result }
+{
+    if setup.address {
+        Some(OwnAddress::new(setup.settings.config.address))
     } else {
         None
     }

@@ -1,4 +1,5 @@
 //! Cases of the definition, computed: what the parts beside the gateway give.
+ghost use Rattle.bridge.specs.AddressCases as address_cases;
 ghost use Rattle.bridge.specs.FurtherCases as further_cases;
 ghost use Rattle.bridge.specs.PartCases as part_cases;
 
@@ -36,4 +37,11 @@ pub fn further_quantities_are_said()
     ensures lines_are_counted { further_cases.LinesAreCounted }
     ensures first_of_two { further_cases.FirstOfTwoIsSaid }
     ensures said_once_more { further_cases.SaidOnceMore }
+{}
+
+/// The gateway's own address: a move, the loss of the last one, and a command.
+pub fn changes_of_the_own_address_are_told()
+    ensures move_is_told { address_cases.MoveIsTold }
+    ensures loss_is_told { address_cases.LossIsTold }
+    ensures command_is_told_next { address_cases.CommandIsToldNext }
 {}

@@ -1,7 +1,7 @@
 //! Further quantities beside the gateway.
 ghost use Rattle.std.proofs.Common.{arith};
 ghost use Rattle.std.specs.Prelude.{◌≡◌};
-ghost use Rattle.bridge.specs.Beside.{quantities_give, quantities_stand};
+ghost use Rattle.bridge.specs.Each.{quantities_give, quantities_stand};
 ghost use Rattle.bridge.specs.Commands.{quantities_keep_commands};
 
 use further_bridge::FurtherBridge;

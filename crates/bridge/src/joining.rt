@@ -3,7 +3,7 @@ ghost use Rattle.std.proofs.Common.{arith};
 ghost use Rattle.std.specs.Prelude.{◌≡◌};
 ghost use Rattle.config_values.specs.Rows.{IsTalker};
 ghost use Rattle.history.specs.Settings.{Settings};
-ghost use Rattle.bridge.specs.Beside.{IsOpened, joining_gives, joining_stands};
+ghost use Rattle.bridge.specs.Each.{IsOpened, joining_gives, joining_stands};
 ghost use Rattle.bridge.specs.BridgeSettings.{rmc_rule_of, timeouts_of};
 ghost use Rattle.bridge.specs.Commands.{joining_keeps_commands};
 

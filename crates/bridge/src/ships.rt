@@ -1,7 +1,7 @@
 //! The reports of ships around beside the gateway.
 ghost use Rattle.std.proofs.Common.{arith};
 ghost use Rattle.std.specs.Prelude.{◌≡◌};
-ghost use Rattle.bridge.specs.Beside.{ships_give, ships_stand};
+ghost use Rattle.bridge.specs.Each.{ships_give, ships_stand};
 ghost use Rattle.bridge.specs.Commands.{ships_keep_commands};
 
 use ais_bridge::AisBridge;

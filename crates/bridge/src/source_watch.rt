@@ -3,7 +3,7 @@ ghost use Rattle.std.proofs.Common.{arith};
 ghost use Rattle.std.specs.Prelude.{◌≡◌, ◌<◌, Some};
 ghost use Rattle.readings.specs.Rows.{row_of, row_number, rows_count};
 ghost use Rattle.history.specs.Settings.{Settings};
-ghost use Rattle.bridge.specs.Beside.{IsOpened, sources_give, sources_stand};
+ghost use Rattle.bridge.specs.Each.{IsOpened, sources_give, sources_stand};
 ghost use Rattle.bridge.specs.WatchKept.{change_by, is_by, names_after, no_names};
 ghost use Rattle.bridge.specs.WatchStands.{IsWatchStep};
 ghost use Rattle.bridge.specs.Commands.{sources_keep_commands};

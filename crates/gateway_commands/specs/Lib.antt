@@ -1,6 +1,11 @@
+pub use Rattle.serving.specs.AddressOut
 pub use Rattle.serving.specs.AisOut
 pub use Rattle.serving.specs.Answered
+pub use Rattle.serving.specs.Beside
 pub use Rattle.serving.specs.BridgeSettings
+pub use Rattle.serving.specs.Commands
+pub use Rattle.serving.specs.Each
+pub use Rattle.serving.specs.Forms
 pub use Rattle.serving.specs.FurtherOut
 pub use Rattle.serving.specs.FurtherRule
 pub use Rattle.serving.specs.Gate

@@ -1,3 +1,4 @@
 pub mod Compose
+pub mod Forms
 pub mod Lanes
 pub mod PartSteps

@@ -1,4 +1,4 @@
--- All that is emitted at an entry is the same with a tick before it and without it, where what is overdue at it is.
+-- All that is emitted at an entry is the same with a tick before it and without it, where nothing is emitted at that tick.
 use Rattle.std.proofs.Common.{◌≡◌, ℕ, ◌+◌, ◌*◌, ◌%◌, ◌≤◌, Bool, true, false, ◌&&◌, ◌==◌, List, [], ◌∷◌, ◌++◌, refl, ap, ◌∙◌}
 use Rattle.std.specs.Prelude.{Option, Some, None, if◌then◌else◌}
 use Rattle.n2k_id.specs.Pgns.{asked_of}
@@ -7,23 +7,29 @@ use Rattle.bus_identity.specs.PgnLists.{product_information, pgn_lists}
 use Rattle.bus_identity.specs.Requests.{is_due}
 use Rattle.claim_table.specs.Claims.{is_ready}
 use Rattle.quantities.specs.Told.{kind_of}
-use Rattle.settings.specs.declared.ais.AisConfig.{AisConfig}
 use Rattle.gate_events.specs.Emit.{Emit}
 use Rattle.history.specs.Entries.{Entry, History, frame, datagram, tick, moment_of, now}
 use Rattle.history.specs.Entries as entry
 use Rattle.history.specs.Gate.{expired, out}
 use Rattle.history.specs.Known.{Known}
 use Rattle.history.specs.Settings.{Settings, receiver_of}
+use Rattle.pgn_profile.specs.declared.kinds.Kind.{Kind}
 use Rattle.gateway_commands.specs.Heard.{heard_expired}
-use Rattle.gateway_commands.specs.RmcOut.{RmcRule}
 use Rattle.gateway_commands.specs.AisOut.{report_gives, report_kinds}
 use Rattle.gateway_commands.specs.FurtherOut.{further_done, message_breaks, said_at, lines_said, said_gives}
-use Rattle.gateway_commands.specs.FurtherRule.{FurtherRule}
 use Rattle.gateway_commands.specs.Answered.{answer_by, answered_before, answers, is_answered, own_after, ready_after, sent_before}
-use Rattle.gateway_commands.specs.Gate.{all_out, beside, changes_of, plain_of, quantities_of, rmc_of, ships_of, tagged_out}
+use Rattle.gateway_commands.specs.Gate.{all_out, given, plain_of, tagged_out}
+use Rattle.gateway_commands.specs.AddressOut.{address_gives, address_keeps_commands, address_stands}
+use Rattle.gateway_commands.specs.Beside.{beside, rules_of}
+use Rattle.gateway_commands.specs.Commands.{answering_keeps_commands, joining_keeps_commands, quantities_keep_commands, ships_keep_commands, sources_keep_commands}
+use Rattle.gateway_commands.specs.Each.{answering_gives, answering_stands, joining_gives, joining_stands, most_answered, most_of_quantities, most_of_ships,
+    quantities_give, quantities_stand, ships_give, ships_stand, sources_give, sources_stand}
+use Rattle.gateway_commands.specs.Forms.{lane}
 use Rattle.gateway_commands.specs.BridgeSettings.{BridgeSettings}
 use Rattle.recordings.proofs.Known.{known_without}
 use Rattle.recordings.proofs.Gathered.{ap₃, joined, none_left, none_right}
+use Rattle.recordings.proofs.OwnAddress.{address_first, address_without}
+use Rattle.recordings.proofs.Quiet.{IsQuiet, both_quiet, maybe_quiet}
 use Rattle.recordings.proofs.Overdue.{expired_later, expired_first_later}
 use Rattle.recordings.proofs.Out.{out_without}
 use Rattle.recordings.proofs.Listened.{heard_later, heard_first_later}
@@ -68,106 +74,81 @@ module _ (c : Settings) (s m : ℕ) (h : History) where
   answers_without information newer (tick t) = refl
   answers_without information newer (entry.command t source address) = refl
 
--- ---- the parts, where they are
+-- ---- each part beside the gateway
 
--- what is overdue of ships, and of further quantities, is the same
-abbrev pub ShipsEnd : Option AisConfig → Settings → ℕ → History → History → ℕ → Type 0
-ShipsEnd None c s g h t = Unit {0}
-ShipsEnd (Some a) c s g h t = heard_expired report_kinds a.slots c s g t ≡ heard_expired report_kinds a.slots c s h t
+-- what was overdue at a tick is told at it: since then it is the same
+abbrev heard_since : (kinds : ℕ → Kind) (limit : ℕ) (c : Settings) (s m : ℕ) (h : History) → now h ≤ m → heard_expired kinds limit c s h m ≡ []
+    → (newer : History) (t : ℕ) → heard_expired kinds limit c s (newer ++ h) t ≡ heard_expired kinds limit c s (newer ++ tick m ∷ h) t
+heard_since kinds limit c s m h le none [] t = heard_first_later kinds limit c s m h le none t
+heard_since kinds limit c s m h le none (e ∷ newer) t = heard_later kinds limit c s m h e newer t
 
-abbrev pub QuantitiesEnd : Option FurtherRule → Settings → ℕ → History → History → ℕ → Type 0
-QuantitiesEnd None c s g h t = Unit {0}
-QuantitiesEnd (Some x) c s g h t = heard_expired kind_of x.slots c s g t ≡ heard_expired kind_of x.slots c s h t
+answering_quiet : IsQuiet (lane most_answered answering_stands answering_gives answering_keeps_commands)
+answering_quiet = record {
+  first = λ information c s m. refl;
+  later = λ information c s m h le none newer e. answers_without c s m h information newer e;
+}
 
-module _ (c : Settings) (s m : ℕ) (h newer : History) (e : Entry) where
-  rmc_alike : (rmc : Option RmcRule) → rmc_of rmc c s (newer ++ h) e ≡ rmc_of rmc c s (newer ++ tick m ∷ h) e
-  rmc_alike None = refl
-  rmc_alike (Some r) = rmc_without r c s m h newer e
+rmc_quiet : IsQuiet (lane 0 joining_stands joining_gives joining_keeps_commands)
+rmc_quiet = record {
+  first = λ r c s m. refl;
+  later = λ r c s m h le none newer e. rmc_without r c s m h newer e;
+}
 
-  ships_alike : (ais : Option AisConfig) → ShipsEnd ais c s (newer ++ h) (newer ++ tick m ∷ h) (moment_of e)
-      → ships_of ais c s (newer ++ h) e ≡ ships_of ais c s (newer ++ tick m ∷ h) e
-  ships_alike None end = refl
-  ships_alike (Some a) end = ais_without a c s m h newer e end
+ships_quiet : IsQuiet (lane most_of_ships ships_stand ships_give ships_keep_commands)
+ships_quiet = record {
+  first = λ a c s m. refl;
+  later = λ a c s m h le none newer e.
+      ais_without a c s m h newer e
+      (heard_since report_kinds a.slots c s m h le (none_left (heard_expired report_kinds a.slots c s h m) (report_gives a c s h (tick m)) none) newer (moment_of e));
+}
 
-  quantities_alike : (quantities : Option FurtherRule) → QuantitiesEnd quantities c s (newer ++ h) (newer ++ tick m ∷ h) (moment_of e)
-      → quantities_of quantities c s (newer ++ h) e ≡ quantities_of quantities c s (newer ++ tick m ∷ h) e
-  quantities_alike None end = refl
-  quantities_alike (Some x) end = further_without x c s m h newer e end
+quantities_quiet : IsQuiet (lane most_of_quantities quantities_stand quantities_give quantities_keep_commands)
+quantities_quiet = record {
+  first = λ x c s m. refl;
+  later = λ x c s m h le none newer e.
+      further_without x c s m h newer e
+      (heard_since kind_of x.slots c s m h le
+      (none_left (heard_expired kind_of x.slots c s h m)
+      (message_breaks (further_done x c s h (tick m)) ++ said_gives x c.sfi (lines_said x c s h) (said_at x c s h (tick m))) none) newer (moment_of e));
+}
 
-  changes_alike : (sources : Bool) → changes_of sources c s (newer ++ h) e ≡ changes_of sources c s (newer ++ tick m ∷ h) e
-  changes_alike false = refl
-  changes_alike true = source_without c s m h newer e
+sources_quiet : IsQuiet (lane 1 sources_stand sources_give sources_keep_commands)
+sources_quiet = record {
+  first = λ r c s m. refl;
+  later = λ r c s m h le none newer e. source_without c s m h newer e;
+}
 
--- ---- all of it
+address_quiet : IsQuiet (lane 1 address_stands address_gives address_keeps_commands)
+address_quiet = record {
+  first = λ r c s m. address_first c s m;
+  later = λ r c s m h le none newer e. address_without c s m h none newer e;
+}
 
-module _ (p : BridgeSettings) (s : ℕ) where
-  -- what is overdue by a moment is the same of two histories
-  pub record AreOver (g h : History) (t : ℕ) : Type 0 where
-    pub gateway : expired p.gateway s g t ≡ expired p.gateway s h t
-    pub ships : ShipsEnd p.ais p.gateway s g h t
-    pub quantities : QuantitiesEnd p.quantities p.gateway s g h t
+-- all of them, in the order in which their emits go out
+pub beside_quiet : IsQuiet beside
+beside_quiet =
+    both_quiet _ _ answering_quiet
+    (both_quiet _ _ (maybe_quiet _ rmc_quiet)
+    (both_quiet _ _ (maybe_quiet _ ships_quiet)
+    (both_quiet _ _ (maybe_quiet _ quantities_quiet) (both_quiet _ _ (maybe_quiet _ sources_quiet) (maybe_quiet _ address_quiet)))))
 
-  module _ (m : ℕ) (h newer : History) (e : Entry) (over : AreOver (newer ++ h) (newer ++ tick m ∷ h) (moment_of e)) where
-    beside_alike : beside p s (newer ++ h) e ≡ beside p s (newer ++ tick m ∷ h) e
-    beside_alike =
-        let c = p.gateway in
-        joined (answers_without c s m h p.information newer e)
-        (joined (rmc_alike c s m h newer e p.rmc)
-        (joined (ships_alike c s m h newer e p.ais over.ships)
-        (joined (quantities_alike c s m h newer e p.quantities over.quantities) (changes_alike c s m h newer e p.sources))))
+-- ---- all that is emitted, where nothing is at a tick
 
-    tagged_alike : tagged_out p s (newer ++ h) e ≡ tagged_out p s (newer ++ tick m ∷ h) e
-    tagged_alike = joined (out_without p.gateway s m h newer e over.gateway) beside_alike
+module _ (p : BridgeSettings) (s m : ℕ) (h : History) (le : now h ≤ m) (none : all_out p s h (tick m) ≡ []) where
+  tagged_none : tagged_out p s h (tick m) ≡ []
+  tagged_none = none_left (tagged_out p s h (tick m)) (plain_of p.plain (tagged_out p s h (tick m))) none
 
-    pub all_alike : all_out p s (newer ++ h) e ≡ all_out p s (newer ++ tick m ∷ h) e
-    all_alike = ap (λ (x : List Emit). x ++ plain_of p.plain x) tagged_alike
+  -- what is overdue of the gateway itself is the same
+  pub over : (newer : History) (t : ℕ) → expired p.gateway s (newer ++ h) t ≡ expired p.gateway s (newer ++ tick m ∷ h) t
+  over [] t =
+      expired_first_later p.gateway s m h le
+      (none_left (expired p.gateway s h m) [] (none_left (out p.gateway s h (tick m)) (given p s h (tick m)) tagged_none)) t
+  over (e ∷ newer) t = expired_later p.gateway s m h e newer t
 
-  -- since an entry that came after the tick, what is overdue is the same
-  module _ (m : ℕ) (h : History) where
-    ships_later : (ais : Option AisConfig) (e : Entry) (newer : History) (t : ℕ) → ShipsEnd ais p.gateway s (e ∷ newer ++ h) (e ∷ newer ++ tick m ∷ h) t
-    ships_later None e newer t = tt
-    ships_later (Some a) e newer t = heard_later report_kinds a.slots p.gateway s m h e newer t
+  tagged_alike : (newer : History) (e : Entry) → tagged_out p s (newer ++ h) e ≡ tagged_out p s (newer ++ tick m ∷ h) e
+  tagged_alike newer e =
+      joined (out_without p.gateway s m h newer e (over newer (moment_of e)))
+      (beside_quiet.later (rules_of p) p.gateway s m h le (none_right (out p.gateway s h (tick m)) (given p s h (tick m)) tagged_none) newer e)
 
-    quantities_later : (quantities : Option FurtherRule) (e : Entry) (newer : History) (t : ℕ) → QuantitiesEnd quantities p.gateway s (e ∷ newer ++ h) (e ∷ newer ++ tick m ∷ h) t
-    quantities_later None e newer t = tt
-    quantities_later (Some x) e newer t = heard_later kind_of x.slots p.gateway s m h e newer t
-
-    pub over_later : (e : Entry) (newer : History) (t : ℕ) → AreOver (e ∷ newer ++ h) (e ∷ newer ++ tick m ∷ h) t
-    over_later e newer t = record {
-      gateway = expired_later p.gateway s m h e newer t;
-      ships = ships_later p.ais e newer t;
-      quantities = quantities_later p.quantities e newer t;
-    }
-
-  -- and since the tick, where nothing is emitted at it
-  module _ (m : ℕ) (h : History) (le : now h ≤ m) where
-    ships_first : (ais : Option AisConfig) (t : ℕ) → ships_of ais p.gateway s h (tick m) ≡ [] → ShipsEnd ais p.gateway s h (tick m ∷ h) t
-    ships_first None t none = tt
-    ships_first (Some a) t none =
-        heard_first_later report_kinds a.slots p.gateway s m h le
-        (none_left (heard_expired report_kinds a.slots p.gateway s h m) (report_gives a p.gateway s h (tick m)) none) t
-
-    quantities_first : (quantities : Option FurtherRule) (t : ℕ) → quantities_of quantities p.gateway s h (tick m) ≡ [] → QuantitiesEnd quantities p.gateway s h (tick m ∷ h) t
-    quantities_first None t none = tt
-    quantities_first (Some x) t none =
-        heard_first_later kind_of x.slots p.gateway s m h le
-        (none_left (heard_expired kind_of x.slots p.gateway s h m)
-        (message_breaks (further_done x p.gateway s h (tick m)) ++ said_gives x p.gateway.sfi (lines_said x p.gateway s h) (said_at x p.gateway s h (tick m))) none) t
-
-    pub over_first : all_out p s h (tick m) ≡ [] → (t : ℕ) → AreOver h (tick m ∷ h) t
-    over_first none t =
-        let c = p.gateway in
-        let e = tick m in
-        let tagged = none_left (tagged_out p s h (tick m)) (plain_of p.plain (tagged_out p s h (tick m))) none in
-        let given = none_left (out c s h e) (beside p s h e) tagged in
-        let parts = none_right (out c s h e) (beside p s h e) tagged in
-        let changes = changes_of p.sources c s h e in
-        let quantities = quantities_of p.quantities c s h e in
-        let ships = ships_of p.ais c s h e in
-        let after_rmc = none_right (rmc_of p.rmc c s h e) (ships ++ (quantities ++ changes)) parts in
-        let after_ships = none_right ships (quantities ++ changes) after_rmc in
-        record {
-          gateway = expired_first_later c s m h le (none_left (expired c s h m) [] given) t;
-          ships = ships_first p.ais t (none_left ships (quantities ++ changes) after_rmc);
-          quantities = quantities_first p.quantities t (none_left quantities changes after_ships);
-        }
+  pub all_alike : (newer : History) (e : Entry) → all_out p s (newer ++ h) e ≡ all_out p s (newer ++ tick m ∷ h) e
+  all_alike newer e = ap (λ (x : List Emit). x ++ plain_of p.plain x) (tagged_alike newer e)

@@ -3,38 +3,20 @@ use Rattle.std.proofs.Common.{◌≡◌, ℕ, ◌≤◌, Bool, true, false, not,
 use Rattle.std.specs.Prelude.{Option, Some, None, option_map, if◌then◌else◌}
 use Rattle.std.proofs.lemmas.Bool.{and_parts, le-leb}
 use Rattle.gate_events.specs.Emit.{Emit, Emitted}
-use Rattle.settings.specs.declared.ais.AisConfig.{AisConfig}
 use Rattle.history.specs.Emits.{at, is_there}
 use Rattle.history.specs.Entries.{Entry, History, frame, datagram, tick, command, is_accepted, moment_of, now}
 use Rattle.history.specs.Gate.{command_in, opening}
 use Rattle.history.specs.Messages.{Message, done, ordered_in}
 use Rattle.history.specs.Settings.{Settings, receiver_of}
-use Rattle.gateway_commands.specs.RmcOut.{RmcRule}
-use Rattle.gateway_commands.specs.FurtherRule.{FurtherRule}
-use Rattle.gateway_commands.specs.Gate.{all_out, changes_of, from_events, plain_of, quantities_of, rmc_of, ships_of, stepped, with_command}
+use Rattle.gateway_commands.specs.Gate.{all_out, from_events, plain_of, stepped, with_command}
 use Rattle.gateway_commands.specs.BridgeSettings.{BridgeSettings}
 use Rattle.recordings.specs.Idle.{AreFrom, BeginFrom, busy, is_idle}
 use Rattle.recordings.specs.IdleLaws.{StartIsIdle, BusyEvents, BusyGate}
+use Rattle.gateway_commands.specs.Beside.{rules_of}
 use Rattle.recordings.proofs.Events.{idle_ticks}
-use Rattle.recordings.proofs.Gathered.{joined}
+use Rattle.recordings.proofs.All.{beside_quiet}
 
 -- ---- before anything came
-
-rmc_idle : (rmc : Option RmcRule) (c : Settings) (s m : ℕ) → rmc_of rmc c s [] (tick m) ≡ []
-rmc_idle None c s m = refl
-rmc_idle (Some r) c s m = refl
-
-ships_idle : (ais : Option AisConfig) (c : Settings) (s m : ℕ) → ships_of ais c s [] (tick m) ≡ []
-ships_idle None c s m = refl
-ships_idle (Some a) c s m = refl
-
-quantities_idle : (quantities : Option FurtherRule) (c : Settings) (s m : ℕ) → quantities_of quantities c s [] (tick m) ≡ []
-quantities_idle None c s m = refl
-quantities_idle (Some x) c s m = refl
-
-changes_idle : (sources : Bool) (c : Settings) (s m : ℕ) → changes_of sources c s [] (tick m) ≡ []
-changes_idle false c s m = refl
-changes_idle true c s m = refl
 
 plain_idle : (plain : Option (List ℕ)) → plain_of plain [] ≡ []
 plain_idle None = refl
@@ -44,7 +26,7 @@ pub start_is_idle : StartIsIdle
 start_is_idle p s m =
     let c = p.gateway in
     ap (λ (x : List Emit). x ++ plain_of p.plain x)
-    (joined (rmc_idle p.rmc c s m) (joined (ships_idle p.ais c s m) (joined (quantities_idle p.quantities c s m) (changes_idle p.sources c s m))))
+    (beside_quiet.first (rules_of p) c s m)
     ∙ plain_idle p.plain
 
 -- ---- all of them

@@ -19,7 +19,7 @@ use Rattle.recordings.proofs.Messages.{done_without}
 use Rattle.recordings.proofs.Gathered.{joined}
 use Rattle.recordings.proofs.Overdue.{expired_later}
 use Rattle.recordings.proofs.Out.{out_without}
-use Rattle.recordings.proofs.All.{AreOver, all_alike, over_first, over_later}
+use Rattle.recordings.proofs.All.{all_alike}
 
 module _ (p : BridgeSettings) (s : ℕ) where
   -- an event that is accepted or not, with the command that it completes, and the events after it
@@ -38,21 +38,21 @@ module _ (p : BridgeSettings) (s : ℕ) where
   ordered_as f None t = refl
   ordered_as f (Some d) t = refl
 
-  module _ (m : ℕ) (h : History) where
+  module _ (m : ℕ) (h : History) (le : now h ≤ m) (none : all_out p s h (tick m) ≡ []) where
     ordered_without : (newer : History) (e : Entry) → ordered_at (newer ++ h) e ≡ ordered_at (newer ++ tick m ∷ h) e
     ordered_without newer e =
         ap (λ (d : Option Message). command_in p.gateway s d (moment_of e)) (done_without (receiver_of p.gateway) s m h newer e)
         ∙ ordered_as (closed (length h)) (done (receiver_of p.gateway) s (newer ++ tick m ∷ h) e) (moment_of e)
 
     -- an event that is accepted, by what the events after it give
-    accepted : (newer : History) (e : Entry) (ordered : Option Entry) (es : List Entry) → AreOver p s (newer ++ h) (newer ++ tick m ∷ h) (moment_of e)
+    accepted : (newer : History) (e : Entry) (ordered : Option Entry) (es : List Entry)
         → ((e' : Entry) (newer' : History) → from_events p s (e' ∷ newer' ++ h) es ≡ from_events p s (e' ∷ newer' ++ tick m ∷ h) es)
         → run true ordered (newer ++ h) e es ≡ run true ordered (newer ++ tick m ∷ h) e es
-    accepted newer e None es over rest =
-        joined (ap (at (moment_of e)) (all_alike p s m h newer e over)) (rest e newer)
-    accepted newer e (Some ordered) es over rest =
+    accepted newer e None es rest =
+        joined (ap (at (moment_of e)) (all_alike p s m h le none newer e)) (rest e newer)
+    accepted newer e (Some ordered) es rest =
         joined (ap (at (moment_of e))
-        (joined (all_alike p s m h newer e over) (out_without p.gateway s m h (e ∷ newer) ordered (expired_later p.gateway s m h e newer (moment_of ordered)))))
+        (joined (all_alike p s m h le none newer e) (out_without p.gateway s m h (e ∷ newer) ordered (expired_later p.gateway s m h e newer (moment_of ordered)))))
         (rest ordered (e ∷ newer))
 
     -- one that comes after another
@@ -61,7 +61,7 @@ module _ (p : BridgeSettings) (s : ℕ) where
         → run b (ordered_at (last ∷ newer ++ h) e) (last ∷ newer ++ h) e es ≡ run b (ordered_at (last ∷ newer ++ tick m ∷ h) e) (last ∷ newer ++ tick m ∷ h) e es
     next true last newer e es rest =
         ap (λ (ordered : Option Entry). run true ordered (last ∷ newer ++ h) e es) (ordered_without (last ∷ newer) e)
-        ∙ accepted (last ∷ newer) e (ordered_at (last ∷ newer ++ tick m ∷ h) e) es (over_later p s m h last newer (moment_of e)) rest
+        ∙ accepted (last ∷ newer) e (ordered_at (last ∷ newer ++ tick m ∷ h) e) es rest
     next false last newer e es rest =
         ap (λ (given : List Emitted). at (moment_of last) (broken rules.moment_back detail.Nothing ∷ []) ++ given) (rest last newer)
 
@@ -70,10 +70,10 @@ module _ (p : BridgeSettings) (s : ℕ) where
     later (e ∷ es) last newer = next (nat_le (moment_of last) (moment_of e)) last newer e es (later es)
 
     -- the first one after the tick
-    first : now h ≤ m → all_out p s h (tick m) ≡ [] → (e : Entry) (es : List Entry) → m ≤ moment_of e → from_events p s (tick m ∷ h) (e ∷ es) ≡ from_events p s h (e ∷ es)
-    first le none e es from =
+    first : (e : Entry) (es : List Entry) → m ≤ moment_of e → from_events p s (tick m ∷ h) (e ∷ es) ≡ from_events p s h (e ∷ es)
+    first e es from =
         ap (λ (b : Bool). run b (ordered_at (tick m ∷ h) e) (tick m ∷ h) e es) (le-leb m (moment_of e) from)
-        ∙ sym (accepted [] e (ordered_at (tick m ∷ h) e) es (over_first p s m h le none (moment_of e)) (later es))
+        ∙ sym (accepted [] e (ordered_at (tick m ∷ h) e) es (later es))
         ∙ ap (λ (ordered : Option Entry). run true ordered h e es) (sym (ordered_without [] e))
         ∙ ap (λ (b : Bool). run b (ordered_at h e) h e es) (sym (le-leb (now h) (moment_of e) (omega arith)))
 

@@ -15,6 +15,8 @@ pub mod Out
 pub mod Listened
 pub mod Rmc
 pub mod Ships
+pub mod OwnAddress
+pub mod Quiet
 pub mod All
 pub mod Events
 pub mod Busy

@@ -3,7 +3,7 @@ use Rattle.std.proofs.Common.{◌≡◌, map, drop}
 use Rattle.n2k_id.specs.Frame.{bus_frame}
 use Rattle.gate_events.specs.Emit.{can}
 use Rattle.gate_outbox.specs.Output.{and_told}
-use Rattle.bridge.specs.Beside.{most_answered}
+use Rattle.bridge.specs.Each.{most_answered}
 use Rattle.bridge.proofs.answering.send_all.Given as goal
 
 abbrev pub invariant-loop-frame : goal.invariant-loop-frame

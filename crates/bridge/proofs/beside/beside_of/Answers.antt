@@ -26,15 +26,18 @@ returns c =
             c.in_ok-ships.ensures.stood x.ais here s [] (c.in_ok-ships_of.ensures ignored s),
             (
               c.in_ok-quantities.ensures.stood (quantities_rule ignored c.args.setup.now.quantities) here s [] (c.in_ok-quantities_of.ensures s),
-              c.in_ok-sources.ensures.stood (wanted c.args.setup.now.sources) here s [] (c.sources_of.ensures here s),
+              (
+                c.in_ok-sources.ensures.stood (wanted c.args.setup.now.sources) here s [] (c.sources_of.ensures here s),
+                c.in_ok-address.ensures.stood (wanted c.args.setup.now.address) here s [] (c.address_of.ensures s),
+              ),
             ),
           ),
         ),
       );
       emits = all_empty (lane_output c.in_ok-answering.answering) (maybe_output lane_output c.in_ok-joining.joining) (maybe_output lane_output c.in_ok-ships.ships)
-          (maybe_output lane_output c.in_ok-quantities.quantities) (maybe_output lane_output c.in_ok-sources.sources)
-          c.in_ok-answering.ensures.emits c.in_ok-joining.ensures.emits c.in_ok-ships.ensures.emits c.in_ok-quantities.ensures.emits c.in_ok-sources.ensures.emits;
+          (maybe_output lane_output c.in_ok-quantities.quantities) (maybe_output lane_output c.in_ok-sources.sources) (maybe_output lane_output c.in_ok-address.address)
+          c.in_ok-answering.ensures.emits c.in_ok-joining.ensures.emits c.in_ok-ships.ensures.emits c.in_ok-quantities.ensures.emits c.in_ok-sources.ensures.emits c.in_ok-address.ensures.emits;
       said = all_empty (lane_plain c.in_ok-answering.answering) (maybe_output lane_plain c.in_ok-joining.joining) (maybe_output lane_plain c.in_ok-ships.ships)
-          (maybe_output lane_plain c.in_ok-quantities.quantities) (maybe_output lane_plain c.in_ok-sources.sources)
-          c.in_ok-answering.ensures.said c.in_ok-joining.ensures.said c.in_ok-ships.ensures.said c.in_ok-quantities.ensures.said c.in_ok-sources.ensures.said;
+          (maybe_output lane_plain c.in_ok-quantities.quantities) (maybe_output lane_plain c.in_ok-sources.sources) (maybe_output lane_plain c.in_ok-address.address)
+          c.in_ok-answering.ensures.said c.in_ok-joining.ensures.said c.in_ok-ships.ensures.said c.in_ok-quantities.ensures.said c.in_ok-sources.ensures.said c.in_ok-address.ensures.said;
     }

@@ -2,7 +2,7 @@ use Rattle.std.proofs.Common.{subst, sym}
 use Rattle.std.specs.Prelude.{Option, Some}
 use Rattle.settings.specs.declared.rmc.RmcConfig.{RmcConfig}
 use Rattle.parts.specs.Compose.{maybe_stand}
-use Rattle.bridge.specs.Beside.{IsOpened, joining_stands}
+use Rattle.bridge.specs.Each.{IsOpened, joining_stands}
 use Rattle.bridge.specs.BridgeSettings.{rmc_rule}
 use Rattle.bridge.proofs.beside.joining_of.Goals as goal
 

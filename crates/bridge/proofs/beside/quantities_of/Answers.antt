@@ -3,7 +3,7 @@ use Rattle.std.specs.Prelude.{Option, Some}
 use Rattle.config_values.specs.Settings.{settings_ignoring}
 use Rattle.settings.specs.declared.quantity_config.Quantities.{Quantities}
 use Rattle.parts.specs.Compose.{maybe_stand}
-use Rattle.bridge.specs.Beside.{IsOpened, quantities_stand}
+use Rattle.bridge.specs.Each.{IsOpened, quantities_stand}
 use Rattle.bridge.specs.BridgeSettings.{quantities_rule}
 use Rattle.bridge.proofs.beside.quantities_of.Goals as goal
 

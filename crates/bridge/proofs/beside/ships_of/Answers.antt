@@ -3,7 +3,7 @@ use Rattle.std.specs.Prelude.{Option, Some}
 use Rattle.config_values.specs.Settings.{settings_ignoring}
 use Rattle.settings.specs.declared.ais.AisConfig.{AisConfig}
 use Rattle.parts.specs.Compose.{maybe_stand}
-use Rattle.bridge.specs.Beside.{IsOpened, ships_stand}
+use Rattle.bridge.specs.Each.{IsOpened, ships_stand}
 use Rattle.bridge.proofs.beside.ships_of.Goals as goal
 
 pub returns-in_ok-new-in-Some : goal.returns-in_ok-new-in-Some

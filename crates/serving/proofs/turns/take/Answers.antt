@@ -12,8 +12,8 @@ returns-in-Err-clause-does g c =
     unrecorded (view c.args.event.now) c.args.bridge.now c.take.new.self step _ _
     (c.in-Err.ensures (g.B.Link.traffic c.args.bus.now) (g.E.Link.traffic c.args.net.now))
 
-pub returns-in-Ok-clause-does : goal.returns-in-Ok-clause-does
-returns-in-Ok-clause-does g c =
+pub returns-clause-does : goal.returns-clause-does
+returns-clause-does g c =
     let e = view c.args.event.now in
     let after = c.take.new.self in
     let step = subst (λ (x : Entry). IsBridgeStep x c.args.bridge.now after) (same_entry c.args.event.now) c.take.ensures.step in

@@ -3,7 +3,7 @@ use Rattle.gate_events.specs.Emit.{Emit, can}
 use Rattle.gate_outbox.specs.Output.{and_told}
 use Rattle.n2k_id.specs.declared.frame.Frame.{Frame}
 use Rattle.n2k_id.specs.Frame.{bus_frame}
-use Rattle.bridge.specs.Beside.{most_answered}
+use Rattle.bridge.specs.Each.{most_answered}
 use Rattle.bridge.proofs.Answers.{frame_told, frames_fit, unready_told}
 use Rattle.bridge.proofs.answering.Answering.answer_frame.Goals as goal
 

@@ -1,4 +1,4 @@
-use Rattle.bridge.specs.Beside.{most_answered}
+use Rattle.bridge.specs.Each.{most_answered}
 use Rattle.bridge.proofs.Answers.{event_answered}
 use Rattle.bridge.proofs.answering.AnsweringPartMOST_ANSWERED.after.Goals as goal
 
