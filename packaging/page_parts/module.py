@@ -6,7 +6,7 @@ They stand here, and not among the crates: the gate builds for the program's pro
 NAME = "shipgate_page"
 
 # the libraries that the module names
-USED = ("capture_stream", "capture_text", "command_words", "gate_outside", "line_commands", "statuses")
+USED = ("capture_stream", "capture_text", "command_line", "gate_outside", "line_commands")
 
 SOURCES = {}
 
@@ -17,12 +17,12 @@ SOURCES["src/lib.rt"] = """//! `convert` and `show` of shipgate for a web page: 
 mod capture;
 mod room;
 
-ghost use Rattle.command_words.specs.declared.words.LineCommand.TheVariants.{Convert, Show};
+ghost use Rattle.command_line.specs.declared.words.LineCommand.TheVariants.{Convert, Show};
 ghost use Rattle.shipgate_page.specs.Answer.{Answers};
 
 use crate::capture::Capture;
 use crate::room::Room;
-use command_words::LineCommand;
+use command_line::LineCommand;
 use line_commands::answer_lines;
 
 /// Writes the sentences of a capture into the room, counts their bytes, and answers the status that the program would end with.
@@ -158,7 +158,7 @@ SOURCES["specs/Answer.antt"] = """-- What a page learns from a call.
 use Rattle.std.specs.Prelude.{◌≡◌, ◌<◌, ◌≤◌, ◌⊎◌, ℕ, List, [], length, take, Some}
 use Rattle.capture_stream.specs.Progress.{input_limit, WritesAll, WritesSome}
 use Rattle.capture_text.specs.Lines.{lines_of}
-use Rattle.command_words.specs.declared.words.LineCommand.{LineCommand}
+use Rattle.command_line.specs.declared.words.LineCommand.{LineCommand}
 use Rattle.line_commands.specs.LineCommand.{AreTextsOf}
 
 -- So many bytes at the front of the room are a front of the text that a command writes for the first lines of a capture. By the status of the program
@@ -185,9 +185,9 @@ use Rattle.gate_outside.specs.Faults.{Rose}
 use Rattle.gate_outside.specs.Told.{Leaves}
 use Rattle.capture_text.specs.Lines.{is_lf, without_cr, front, lines_of, complete_lines}
 use Rattle.capture_stream.specs.Progress.{AreAll, WritesAll, WritesSome, Finishes, StopsWriting, PassesLimit}
-use Rattle.command_words.specs.declared.words.LineCommand.{LineCommand}
+use Rattle.command_line.specs.declared.words.LineCommand.{LineCommand}
 use Rattle.line_commands.specs.LineCommand.{AreTextsOf}
-use Rattle.statuses.specs.Statuses.{EndsBy, IsStreamStatus}
+use Rattle.command_line.specs.Statuses.{EndsBy, IsStreamStatus}
 use Rattle.shipgate_page.specs.Answer.{Answers}
 
 -- ---- the complete lines of what was read are the first of all

@@ -4,8 +4,8 @@ use Rattle.gate_outside.specs.Faults.{Rose}
 use Rattle.gate_outside.specs.Told.{Joins}
 use Rattle.config_check.specs.Configuring.{ConfiguresBy, FileSays, IsToldAs}
 use Rattle.settings.specs.declared.setup.Setup.{Setup}
-use Rattle.statuses.specs.declared.Status.TheVariants as statuses
-use Rattle.statuses.specs.Statuses.{Offers, number}
+use Rattle.command_line.specs.declared.statuses.Status.TheVariants as statuses
+use Rattle.command_line.specs.Statuses.{Offers, number}
 
 abbrev pub accepted_line : List ℕ
 accepted_line = codes "config ok\n"

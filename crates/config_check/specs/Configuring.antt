@@ -9,8 +9,8 @@ use Rattle.settings.specs.Setup.{IsSetup}
 use Rattle.settings.specs.declared.setup.Setup.{Setup}
 use Rattle.config_check.specs.declared.configuring.Unconfigured.{Unconfigured}
 use Rattle.config_check.specs.declared.configuring.Unconfigured.TheVariants.{Unread, Refused, Memory}
-use Rattle.statuses.specs.declared.Status.TheVariants as statuses
-use Rattle.statuses.specs.Statuses.{Offers, number}
+use Rattle.command_line.specs.declared.statuses.Status.TheVariants as statuses
+use Rattle.command_line.specs.Statuses.{Offers, number}
 
 -- a line with its end
 abbrev pub with_end : List ℕ → List ℕ

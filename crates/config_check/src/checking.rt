@@ -1,12 +1,12 @@
 //! `check`: whether a file is an accepted configuration, or the first thing that is wrong with it.
 ghost use Rattle.std.specs.Prelude.{◌≡◌};
 ghost use Rattle.config_check.specs.Check.{Accepts, ChecksBy};
-ghost use Rattle.statuses.specs.Statuses.{IsEarly, number};
+ghost use Rattle.command_line.specs.Statuses.{IsEarly, number};
 
 use crate::configuring::{give_up, load_whole};
 use capture_stream::send_now;
+use command_line::Status;
 use gate_outside::{Failed, Files, Sink};
-use statuses::Status;
 use std::alloc::Global;
 
 /// What is written of an accepted configuration.

@@ -1,14 +1,14 @@
 //! A command's configuration, loaded from its file.
 ghost use Rattle.std.specs.Prelude.{◌≡◌, ◌≤◌, length};
 ghost use Rattle.config_check.specs.Configuring.{GivesUp, LoadsWhole, SaysWhole, with_end};
-ghost use Rattle.statuses.specs.Statuses.{IsEarly, number};
+ghost use Rattle.command_line.specs.Statuses.{IsEarly, number};
 
 use arrayvec::ArrayVec;
 use capture_stream::send_now;
+use command_line::Status;
 use gate_config::{FaultLine, read_whole};
 use gate_outside::{Files, LoadFault, Sink};
 use settings::Setup;
-use statuses::Status;
 use std::alloc::Global;
 
 /// Why there is no configuration.

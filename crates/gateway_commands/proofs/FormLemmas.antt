@@ -1,8 +1,8 @@
 -- The words of each command are of no other one.
 use Rattle.std.proofs.Common.{◌≡◌, List, ℕ, refl, sym, ◌∙◌}
-use Rattle.command_words.specs.declared.words.LineCommand.{LineCommand}
-use Rattle.command_words.specs.declared.words.LineCommand.TheVariants.{Convert, Show}
-use Rattle.command_words.specs.Words.{check_words, demo_words, line_words, replay_words, serve_words}
+use Rattle.command_line.specs.declared.words.LineCommand.{LineCommand}
+use Rattle.command_line.specs.declared.words.LineCommand.TheVariants.{Convert, Show}
+use Rattle.command_line.specs.Words.{check_words, demo_words, line_words, replay_words, serve_words}
 
 -- words are of one command over lines at most
 pub one_line : (words : List (List ℕ)) (a b : LineCommand) → words ≡ line_words a → words ≡ line_words b → a ≡ b

@@ -6,7 +6,7 @@ use Rattle.std.proofs.lemmas.Bool.Decides.{nat_tests}
 use Rattle.config_check.specs.Check.{IsCheckStatus}
 use Rattle.gateway_commands.specs.ReplayCommand.{IsReplayCommandStatus}
 use Rattle.gateway_commands.specs.ServeCommand.{IsServeStatus}
-use Rattle.statuses.specs.Statuses.{IsDemoStatus, IsEarly, IsStatus}
+use Rattle.command_line.specs.Statuses.{IsDemoStatus, IsEarly, IsStatus}
 
 abbrev pub IsAmong : ℕ → List ℕ → Type 0
 IsAmong status [] = ⊥

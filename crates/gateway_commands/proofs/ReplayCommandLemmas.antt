@@ -2,7 +2,7 @@
 use Rattle.std.proofs.Common.{◌≡◌, ◌≢◌, ℕ, ◌⊎◌, List, inr, arith}
 use Rattle.std.specs.Prelude.{Option, Ok}
 use Rattle.settings.specs.declared.setup.Setup.{Setup}
-use Rattle.statuses.specs.Statuses.{IsEarly, IsReplayStatus, IsStreamStatus}
+use Rattle.command_line.specs.Statuses.{IsEarly, IsReplayStatus, IsStreamStatus}
 use Rattle.config_check.specs.Configuring.{FileSays}
 use Rattle.config_check.proofs.ConfigLemmas.{IsDone, configures}
 use Rattle.gateway_commands.specs.ReplayCommand.{ReplaysBy, RunsBy}

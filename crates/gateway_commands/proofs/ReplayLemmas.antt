@@ -6,7 +6,7 @@ use Rattle.gate_outside.specs.Told.{Leaves}
 use Rattle.capture_stream.specs.declared.ending.Ending.{Ending}
 use Rattle.capture_stream.specs.declared.ending.Ending.TheVariants.{Done, SinkFailed, SourceFailed, TooLong}
 use Rattle.capture_stream.specs.Progress.{Ends, input_limit}
-use Rattle.statuses.specs.Statuses.{IsUnhindered, number, status_of}
+use Rattle.command_line.specs.Statuses.{IsUnhindered, number, status_of}
 
 left_by : (bytes : List ℕ) (left' : Option (List ℕ)) (read : List ℕ) → Leaves (Some bytes) left' read → length read ≤ length bytes
 left_by bytes None read leaves = absurd leaves

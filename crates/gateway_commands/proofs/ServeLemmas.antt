@@ -6,9 +6,9 @@ use Rattle.settings.specs.declared.setup.Setup.{Setup}
 use Rattle.serving.specs.Served.{Outside}
 use Rattle.config_check.specs.Configuring.{FileSays}
 use Rattle.gateway_commands.specs.ServeCommand.{IsServeStatus, IsTurnsStatus, ServesBy, ServesWith, Unattached}
-use Rattle.statuses.specs.Statuses.{IsEarly, SteadyBy}
+use Rattle.command_line.specs.Statuses.{IsEarly, SteadyBy}
 use Rattle.config_check.proofs.ConfigLemmas.{IsDone, configures}
-use Rattle.statuses.proofs.StatusLemmas.{steady_unread}
+use Rattle.command_line.proofs.StatusLemmas.{steady_unread}
 
 abbrev Known : ℕ → Type 0
 Known status = (status ≡ 7) ⊎ ((status ≡ 9) ⊎ IsTurnsStatus status)

@@ -2,8 +2,8 @@
 use Rattle.std.specs.Prelude.{◌≡◌, ◌≢◌, ℕ, List, Option}
 use Rattle.demo.specs.Demo.{demo_text}
 use Rattle.gate_outside.specs.Faults.{Rose}
-use Rattle.statuses.specs.declared.Status.TheVariants as statuses
-use Rattle.statuses.specs.Statuses.{IsDemoStatus, WritesBy, number}
+use Rattle.command_line.specs.declared.statuses.Status.TheVariants as statuses
+use Rattle.command_line.specs.Statuses.{IsDemoStatus, WritesBy, number}
 
 pub record DemosBy (seed count : ℕ) (told told' : Option (List ℕ)) (sink sink' status : ℕ) : Type 0 where
   pub known : IsDemoStatus status

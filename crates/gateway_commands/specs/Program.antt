@@ -3,15 +3,15 @@
 use Rattle.std.specs.Prelude.{◌≡◌, ◌↔◌, ℕ, List, Option, None}
 use Rattle.gate_outside.specs.Link.{Traffic}
 use Rattle.serving.specs.Served.{outside}
-use Rattle.command_words.specs.declared.words.LineCommand.{LineCommand}
+use Rattle.command_line.specs.declared.words.LineCommand.{LineCommand}
 use Rattle.config_check.specs.Check.{ChecksBy}
 use Rattle.gateway_commands.specs.DemoCommand.{DemosBy}
 use Rattle.line_commands.specs.LineCommand.{AreTextsOf}
 use Rattle.gateway_commands.specs.ReplayCommand.{ReplaysBy}
-use Rattle.statuses.specs.declared.Status.TheVariants.{NoCommand}
-use Rattle.statuses.specs.Statuses.{EndsBy, IsStatus, number}
+use Rattle.command_line.specs.declared.statuses.Status.TheVariants.{NoCommand}
+use Rattle.command_line.specs.Statuses.{EndsBy, IsStatus, number}
 use Rattle.gateway_commands.specs.ServeCommand.{ServesBy}
-use Rattle.command_words.specs.Words.{AreNumbers, IsNoForm, IsTurns, line_words, check_words, replay_words, serve_words, demo_words}
+use Rattle.command_line.specs.Words.{AreNumbers, IsNoForm, IsTurns, line_words, check_words, replay_words, serve_words, demo_words}
 
 -- what is told of two links and of a clock, and how often a call of each link failed
 pub record Live : Type 0 where

@@ -5,8 +5,8 @@ use Rattle.settings.specs.declared.setup.Setup.{Setup}
 use Rattle.serving.specs.BridgeSettings.{bridge_settings_of}
 use Rattle.replaying.specs.Replayed.{IsReplay}
 use Rattle.config_check.specs.Configuring.{ConfiguresBy, FileSays, IsToldAs}
-use Rattle.statuses.specs.declared.Status.TheVariants as statuses
-use Rattle.statuses.specs.Statuses.{EndsBy, IsReplayStatus, IsStreamStatus, IsUnhindered, SteadyBy, number}
+use Rattle.command_line.specs.declared.statuses.Status.TheVariants as statuses
+use Rattle.command_line.specs.Statuses.{EndsBy, IsReplayStatus, IsStreamStatus, IsUnhindered, SteadyBy, number}
 
 -- what a gateway of this setup says by its status, which was run over a capture
 pub record RunsBy (setup : Setup) (left left' : Option (List ℕ)) (source source' : ℕ) (told told' : Option (List ℕ)) (sink sink' status : ℕ) : Type 0 where

@@ -8,8 +8,8 @@ use Rattle.settings.specs.declared.setup.Setup.{Setup}
 use Rattle.serving.specs.BridgeSettings.{bridge_settings_of}
 use Rattle.serving.specs.Served.{Outside, EndsBy, outside}
 use Rattle.config_check.specs.Configuring.{ConfiguresBy, FileSays, IsToldAs}
-use Rattle.statuses.specs.declared.Status.TheVariants as statuses
-use Rattle.statuses.specs.Statuses.{number}
+use Rattle.command_line.specs.declared.statuses.Status.TheVariants as statuses
+use Rattle.command_line.specs.Statuses.{number}
 
 -- ---- where the links listen and send
 

@@ -1,12 +1,12 @@
 //! The gateway over a made-up input that a seed gives.
 ghost use Rattle.std.specs.Prelude.{◌≡◌, ◌≤◌};
 ghost use Rattle.gateway_commands.specs.DemoCommand.{DemosBy};
-ghost use Rattle.statuses.specs.Statuses.{number};
+ghost use Rattle.command_line.specs.Statuses.{number};
 
 use capture_stream::send_now;
+use command_line::Status;
 use demo::demo_line;
 use gate_outside::{Failed, Sink};
-use statuses::Status;
 use std::alloc::Global;
 
 /// Runs a gateway over so many events, at most 1,000,000, of the made-up input of a seed, writes the line that sums up what it emits,

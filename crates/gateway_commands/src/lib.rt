@@ -9,7 +9,7 @@ mod replay_command;
 mod serve_command;
 mod top_call;
 
-pub use command_words::{Command, LineCommand};
+pub use command_line::{Command, LineCommand};
 pub use demo_command::demo_with;
 pub use process_run::{run_with, words_to_tell};
 pub use replay::{replay_with, stream};

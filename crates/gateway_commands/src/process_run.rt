@@ -6,13 +6,13 @@ ghost use Rattle.std.specs.Prelude.{◌≡◌, ◌≢◌, [], drop, map, string_
 ghost use Rattle.std.specs.IoError.{error_kind};
 ghost use Rattle.std.specs.Vec.Iter.{into_iter_items};
 ghost use Rattle.std.specs.declared.io.ErrorKind.TheVariants.{OutOfMemory};
-ghost use Rattle.statuses.specs.declared.Status.TheVariants.{NoCommand, Unread};
-ghost use Rattle.statuses.specs.Statuses.{number};
+ghost use Rattle.command_line.specs.declared.statuses.Status.TheVariants.{NoCommand, Unread};
+ghost use Rattle.command_line.specs.Statuses.{number};
 ghost use Rattle.gateway_commands.specs.Program.{RunsOver, live};
 
 use crate::top_call::run;
+use command_line::Status;
 use gate_outside::{Clock, Files, Link, ReaderSource, WriterSink};
-use statuses::Status;
 use std::alloc::{AllocError, Global};
 use std::env::{Args, Env};
 use std::io::{ErrorKind, Read, Write};

@@ -7,12 +7,12 @@ ghost use Rattle.serving.specs.BridgeStands.{IsNew};
 ghost use Rattle.serving.specs.BridgeSettings.{BridgeSettings, bridge_settings_of};
 ghost use Rattle.replaying.specs.Replayed.{IsReplay};
 ghost use Rattle.gateway_commands.specs.ReplayCommand.{RunsBy};
-ghost use Rattle.statuses.specs.Statuses.{EndsBy, IsReplayStatus, IsStreamStatus, IsUnhindered, SteadyBy, number};
+ghost use Rattle.command_line.specs.Statuses.{EndsBy, IsReplayStatus, IsStreamStatus, IsUnhindered, SteadyBy, number};
 
+use command_line::{Status, status_of};
 use gate_outside::{Sink, Source};
 use replaying::replay_capture;
 use serving::{Bridge, Settings, Setup};
-use statuses::{Status, status_of};
 use std::alloc::Global;
 
 /// Runs a new bridge over a capture, whose first event starts it, and answers a status.

@@ -1,12 +1,12 @@
 //! `replay`: the gateway of a configuration over a capture.
 ghost use Rattle.std.specs.Prelude.{◌≡◌};
 ghost use Rattle.gateway_commands.specs.ReplayCommand.{ReplaysBy};
-ghost use Rattle.statuses.specs.Statuses.{IsEarly, number};
+ghost use Rattle.command_line.specs.Statuses.{IsEarly, number};
 
 use crate::replay::replay_setup;
+use command_line::Status;
 use config_check::{give_up, load_whole};
 use gate_outside::{Files, Sink, Source};
-use statuses::Status;
 use std::alloc::Global;
 
 /// Runs a gateway of the configuration in the file of this name over a capture, and answers the status.

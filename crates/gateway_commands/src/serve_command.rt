@@ -4,15 +4,15 @@ ghost use Rattle.serving.specs.BridgeStands.{IsNew};
 ghost use Rattle.serving.specs.BridgeSettings.{bridge_settings_of};
 ghost use Rattle.serving.specs.Served.{outside};
 ghost use Rattle.settings.specs.Setup.{IsSetup};
-ghost use Rattle.statuses.specs.Statuses.{IsEarly, number};
+ghost use Rattle.command_line.specs.Statuses.{IsEarly, number};
 ghost use Rattle.gateway_commands.specs.ServeCommand.{AttachesBoth, ServesBy, ServesWith};
 
+use command_line::Status;
 use config_check::{give_up, load_whole};
 use config_values::Ends;
 use gate_outside::{Clock, Failed, Files, Link, Sink};
 use network_routes::Routes;
 use serving::{Bridge, Setup, take_turns};
-use statuses::Status;
 use std::alloc::Global;
 
 /// Runs a gateway of the configuration in the file of this name between two links, for so many turns, and answers the status.

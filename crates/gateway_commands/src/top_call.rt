@@ -7,18 +7,17 @@ ghost use Rattle.line_commands.specs.LineCommand.{AreTextsOf};
 ghost use Rattle.serving.specs.Served.{outside};
 ghost use Rattle.gateway_commands.specs.ReplayCommand.{ReplaysBy};
 ghost use Rattle.gateway_commands.specs.ServeCommand.{ServesBy};
-ghost use Rattle.command_words.specs.Words.{AreNumbers, IsNoForm, IsNotServe, IsTurns, line_words, check_words, replay_words, serve_words, demo_words, usage_line};
-ghost use Rattle.statuses.specs.Statuses.{Offers, IsEarly, IsStatus, IsStreamStatus, EndsBy, IsUnhindered, SteadyBy};
+ghost use Rattle.command_line.specs.Words.{AreNumbers, IsNoForm, IsNotServe, IsTurns, line_words, check_words, replay_words, serve_words, demo_words, usage_line};
+ghost use Rattle.command_line.specs.Statuses.{Offers, IsEarly, IsStatus, IsStreamStatus, EndsBy, IsUnhindered, SteadyBy};
 
 use crate::demo_command::demo;
 use crate::replay_command::replay;
 use crate::serve_command::serve;
 use capture_stream::send_now;
-use command_words::{Command, LineCommand, USAGE, command_of};
+use command_line::{Command, LineCommand, Status, USAGE, command_of};
 use config_check::check;
 use gate_outside::{Clock, Files, Link, Sink, Source};
 use line_commands::answer_lines;
-use statuses::Status;
 use std::alloc::Global;
 
 /// Runs the command that the words name, without the program's own name, and answers its status.

@@ -3,8 +3,8 @@ use Rattle.std.specs.Prelude.{◌≡◌, ◌+◌, ℕ, List, [], ◌∷◌, ◌+
 use Rattle.capture_text.specs.declared.line_rule.LineRule.{LineRule}
 use Rattle.gate_events.specs.Event.{Seen}
 use Rattle.line_commands.specs.Says.{Says}
-use Rattle.command_words.specs.declared.words.LineCommand.{LineCommand}
-use Rattle.command_words.specs.declared.words.LineCommand.TheVariants.{Convert, Show}
+use Rattle.command_line.specs.declared.words.LineCommand.{LineCommand}
+use Rattle.command_line.specs.declared.words.LineCommand.TheVariants.{Convert, Show}
 use Rattle.line_commands.specs.declared.line_command.Lines.{Lines}
 use Rattle.line_commands.specs.Convert.{IsSaidText}
 use Rattle.line_commands.specs.Show.{said_text}

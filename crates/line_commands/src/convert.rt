@@ -27,7 +27,7 @@ use sentence_fields::Lines;
 use sentence_rows::sentences;
 
 // The report of a rule about a line.
-#[tactic(auto, using(command_words::proofs::Numbers::digits_of_a_byte, command_words::proofs::Numbers::digits_of_a_long), unfolding(crate::specs::Convert::refusal))]
+#[tactic(auto, using(command_line::proofs::Numbers::digits_of_a_byte, command_line::proofs::Numbers::digits_of_a_long), unfolding(crate::specs::Convert::refusal))]
 fn refusal_of(rule: u8, number: u64) -> LineText
     ensures { result.items ≡ refusal rule number }
 {

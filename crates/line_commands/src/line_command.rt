@@ -4,15 +4,14 @@ ghost use Rattle.gate_outside.specs.Faults.{HasCause, Rose};
 ghost use Rattle.gate_events.specs.Event.{view, IsValid};
 ghost use Rattle.capture_stream.specs.Writer.{SendsText};
 ghost use Rattle.line_commands.specs.LineCommand.{IsTextOf, AreTextsOf};
-ghost use Rattle.statuses.specs.Statuses.{EndsBy, IsStreamStatus, IsUnhindered, SteadyBy, number};
+ghost use Rattle.command_line.specs.Statuses.{EndsBy, IsStreamStatus, IsUnhindered, SteadyBy, number};
 
 use crate::{convert, show};
 use capture_stream::{Answers, Writer, answer_capture};
 use capture_text::LineRule;
-use command_words::LineCommand;
+use command_line::{LineCommand, Status, status_of};
 use gate_events::Event;
 use gate_outside::{Failed, Sink, Source};
-use statuses::{Status, status_of};
 
 // Sends what a line gives that says something.
 #[inline(always)]

@@ -17,7 +17,7 @@ pub(crate) fn append(piece: &[u8], text: &mut LineText)
     let _fits = text.try_extend_from_slice(piece);
 }
 
-#[tactic(auto, using(command_words::proofs::Numbers::plain_decimal))]
+#[tactic(auto, using(command_line::proofs::Numbers::plain_decimal))]
 pub(crate) fn append_number(number: u64, text: &mut LineText)
     requires { array_vec_len text.old + length (decimal number) ≤ 82 }
     ensures text { text.new.items ≡ text.old.items ++ decimal number }

@@ -23,7 +23,7 @@ use report_rules::{DATAGRAM_HEADER, DATAGRAM_LONG};
 use sentence_text::Sfi;
 use tag_block::GroupPart;
 
-#[tactic(auto, using(command_words::proofs::Numbers::digits_of_a_long))]
+#[tactic(auto, using(command_line::proofs::Numbers::digits_of_a_long))]
 fn write_start(number: u64, text: &mut LineText)
     requires { text.old.items ≡ [] }
     ensures text { text.new.items ≡ spec.start number }
@@ -40,7 +40,7 @@ fn write_tick(number: u64, text: &mut LineText)
     append(b" tick\n", text);
 }
 
-#[tactic(auto, using(command_words::proofs::Numbers::digits_of_a_byte))]
+#[tactic(auto, using(command_line::proofs::Numbers::digits_of_a_byte))]
 fn append_rule(rule: u8, text: &mut LineText)
     requires { array_vec_len text.old ≤ 50 }
     ensures { text.new.items ≡ text.old.items ++ spec.rule_end rule }
@@ -57,7 +57,7 @@ fn write_rule(number: u64, rule: u8, text: &mut LineText)
     append_rule(rule, text);
 }
 
-#[tactic(auto, using(command_words::proofs::Numbers::digits_of_a_short))]
+#[tactic(auto, using(command_line::proofs::Numbers::digits_of_a_short))]
 fn write_place(number: u64, at: u16, rule: u8, text: &mut LineText)
     requires { text.old.items ≡ [] }
     ensures { text.new.items ≡ spec.place_text number at rule }
@@ -68,7 +68,7 @@ fn write_place(number: u64, at: u16, rule: u8, text: &mut LineText)
 }
 
 // The parts of the identifier, and how many data bytes there are.
-#[tactic(auto, using(command_words::proofs::Numbers::digits_of_a_byte, command_words::proofs::Numbers::digits_of_a_word))]
+#[tactic(auto, using(command_line::proofs::Numbers::digits_of_a_byte, command_line::proofs::Numbers::digits_of_a_word))]
 fn write_frame(number: u64, frame: &Frame, text: &mut LineText)
     requires empty { text.old.items ≡ [] }
     requires valid { IsFrame frame.now }
@@ -87,7 +87,7 @@ fn write_frame(number: u64, frame: &Frame, text: &mut LineText)
     append(b"\n", text);
 }
 
-#[tactic(auto, using(command_words::proofs::Numbers::digits_of_a_byte, command_words::proofs::Numbers::digits_of_a_short))]
+#[tactic(auto, using(command_line::proofs::Numbers::digits_of_a_byte, command_line::proofs::Numbers::digits_of_a_short))]
 fn append_group_part(number: u8, total: u8, code: u16, text: &mut LineText)
     requires { array_vec_len text.old ≤ 20 }
     ensures text { text.new.items ≡ text.old.items ++ spec.group_text number total code }
@@ -109,7 +109,7 @@ fn append_group(group: &Option<GroupPart>, text: &mut LineText)
     }
 }
 
-#[tactic(auto, using(command_words::proofs::Numbers::digits_of_a_short))]
+#[tactic(auto, using(command_line::proofs::Numbers::digits_of_a_short))]
 fn append_count(count: &Option<u16>, text: &mut LineText)
     requires { array_vec_len text.old ≤ 50 }
     ensures text { text.new.items ≡ text.old.items ++ spec.count_or_dash count.now }
@@ -122,7 +122,7 @@ fn append_count(count: &Option<u16>, text: &mut LineText)
 }
 
 // A line of a datagram up to its destination.
-#[tactic(auto, using(command_words::proofs::Numbers::digits_of_a_short))]
+#[tactic(auto, using(command_line::proofs::Numbers::digits_of_a_short))]
 fn write_front(number: u64, at: u16, source: &Sfi, text: &mut LineText)
     requires { text.old.items ≡ [] }
     ensures { text.new.items ≡ spec.front_text number at source.now }

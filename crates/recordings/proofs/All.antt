@@ -22,8 +22,21 @@ use Rattle.gateway_commands.specs.Gate.{all_out, given, plain_of, tagged_out}
 use Rattle.gateway_commands.specs.AddressOut.{address_gives, address_keeps_commands, address_stands}
 use Rattle.gateway_commands.specs.Beside.{beside, rules_of}
 use Rattle.gateway_commands.specs.Commands.{answering_keeps_commands, joining_keeps_commands, quantities_keep_commands, ships_keep_commands, sources_keep_commands}
-use Rattle.gateway_commands.specs.Each.{answering_gives, answering_stands, joining_gives, joining_stands, most_answered, most_of_quantities, most_of_ships,
-    quantities_give, quantities_stand, ships_give, ships_stand, sources_give, sources_stand}
+use Rattle.gateway_commands.specs.Each.{
+  answering_gives,
+  answering_stands,
+  joining_gives,
+  joining_stands,
+  most_answered,
+  most_of_quantities,
+  most_of_ships,
+  quantities_give,
+  quantities_stand,
+  ships_give,
+  ships_stand,
+  sources_give,
+  sources_stand,
+}
 use Rattle.gateway_commands.specs.Forms.{lane}
 use Rattle.gateway_commands.specs.BridgeSettings.{BridgeSettings}
 use Rattle.recordings.proofs.Known.{known_without}

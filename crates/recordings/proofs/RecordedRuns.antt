@@ -9,8 +9,8 @@ use Rattle.gate_outside.specs.Link.{Attachment, GoesOn, Traffic}
 use Rattle.settings.specs.declared.further.Further.{Further}
 use Rattle.settings.specs.declared.settings.Settings.{Settings}
 use Rattle.gate_config.specs.ConfigOf.{IsWholeConfigOf, Whole, config_in, document_place}
-use Rattle.statuses.specs.declared.Status.TheVariants.{Done}
-use Rattle.statuses.specs.Statuses.{EndsBy, number}
+use Rattle.command_line.specs.declared.statuses.Status.TheVariants.{Done}
+use Rattle.command_line.specs.Statuses.{EndsBy, number}
 use Rattle.gateway_commands.specs.BridgeSettings.{BridgeSettings, bridge_settings_of}
 use Rattle.gateway_commands.specs.Recorded.{made_in, recorded_in}
 use Rattle.gateway_commands.specs.Served.{Outside, Serves, all_due, outside, over_bus, over_net, to_text}

@@ -7,8 +7,8 @@ use Rattle.gate_outside.specs.Link.{Traffic}
 use Rattle.settings.specs.declared.further.Further.{Further}
 use Rattle.settings.specs.declared.settings.Settings.{Settings}
 use Rattle.gate_config.specs.ConfigOf.{IsWholeConfigOf}
-use Rattle.statuses.specs.declared.Status.TheVariants.{Done}
-use Rattle.statuses.specs.Statuses.{number}
+use Rattle.command_line.specs.declared.statuses.Status.TheVariants.{Done}
+use Rattle.command_line.specs.Statuses.{number}
 use Rattle.gateway_commands.specs.BridgeSettings.{bridge_settings_of}
 use Rattle.gateway_commands.specs.Recorded.{made_in}
 use Rattle.gateway_commands.specs.Served.{Passed, all_due, outside, over_bus, over_net, to_text}

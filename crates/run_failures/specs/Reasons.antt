@@ -2,8 +2,8 @@
 use Rattle.std.specs.Prelude.{ℕ, List, codes, Option, Some, None}
 use Rattle.std.specs.declared.io.ErrorKind.{ErrorKind}
 use Rattle.std.specs.declared.io.ErrorKind.TheVariants.{AddrInUse, AddrNotAvailable, BrokenPipe, FileTooLarge, IsADirectory, NotFound}
-use Rattle.statuses.specs.declared.Status.{Status}
-use Rattle.statuses.specs.declared.Status.TheVariants.{Done, NoCommand, Refused, SinkFailed, SourceFailed, Unread, NoMemory, TooLong, Unattached}
+use Rattle.command_line.specs.declared.statuses.Status.{Status}
+use Rattle.command_line.specs.declared.statuses.Status.TheVariants.{Done, NoCommand, Refused, SinkFailed, SourceFailed, Unread, NoMemory, TooLong, Unattached}
 use Rattle.run_failures.specs.declared.reasons.Reason.{Reason}
 
 -- of a status that says all: no words, no file, no kind of a failure belong to it

@@ -13,8 +13,8 @@ use crate::links::explain_links;
 use crate::reasons::{file_reason, reason_of, write_reason};
 pub use crate::words::VERSION;
 use crate::words::explain_words;
+use command_line::Status;
 use live_outside::Unattached;
-use statuses::Status;
 use std::alloc::AllocError;
 use std::io::ErrorKind;
 

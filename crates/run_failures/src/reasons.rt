@@ -2,7 +2,7 @@
 ghost use Rattle.std.specs.Prelude.{◌≡◌, option_map};
 ghost use Rattle.run_failures.specs.Reasons.{file_reason, link_reason, reason_of, said_of, told, write_reason};
 
-use statuses::Status;
+use command_line::Status;
 use std::fmt;
 use std::fmt::{Display, Formatter};
 use std::io::ErrorKind;

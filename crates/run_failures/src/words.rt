@@ -1,6 +1,6 @@
 //! Which word of the command line isn't one, and what the commands are.
 use crate::line::say;
-use command_words::{MOST_EVENTS, MOST_SEED, MOST_TURNS, number_between};
+use command_line::{MOST_EVENTS, MOST_SEED, MOST_TURNS, number_between};
 
 /// The program's version, and the kit that proved it: as README.md has them.
 pub const VERSION: &str = "shipgate 1.0.0, built with rattle-kit-13f logic dac8208d650f15bf";

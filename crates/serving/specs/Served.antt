@@ -15,8 +15,8 @@ use Rattle.gate_events.specs.Emit.{Emit, Emitted}
 use Rattle.history.specs.Emits.{broken}
 use Rattle.capture_text.specs.Emitted.{line_of}
 use Rattle.bridge.specs.BridgeSettings.{BridgeSettings}
-use Rattle.statuses.specs.declared.Status.TheVariants.{Done, SinkFailed}
-use Rattle.statuses.specs.Statuses.{number}
+use Rattle.command_line.specs.declared.statuses.Status.TheVariants.{Done, SinkFailed}
+use Rattle.command_line.specs.Statuses.{number}
 use Rattle.serving.specs.Turns.{Item, due_of, made, recorded, told}
 
 -- ---- an item, and what became of it

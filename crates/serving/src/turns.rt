@@ -9,16 +9,16 @@ ghost use Rattle.bridge.specs.Running.{RunningStands};
 ghost use Rattle.serving.specs.Handing.{Does, Ends, Hears, RunStands, TakesTurn};
 ghost use Rattle.serving.specs.Served.{NetFits, outside};
 ghost use Rattle.serving.specs.Turns.{from_bus, from_net, with_start, tick_behind, with_came, with_event};
-ghost use Rattle.statuses.specs.Statuses.{number};
+ghost use Rattle.command_line.specs.Statuses.{number};
 
 use crate::arrival::{front, receive_frame};
 use crate::handing::{hand_on, write_report};
 use crate::recording::{record_event, record_start};
 use bridge::Bridge;
+use command_line::Status;
 use gate_events::{Detail, Event, Report};
 use gate_outside::{Arrival, Clock, Failed, LARGEST_ARRIVAL, Link, Sink};
 use report_rules::RECEIVE_FAILED;
-use statuses::Status;
 
 /// What can't be received from the network is reported.
 const UNHEARD: Report = Report {

@@ -8,6 +8,7 @@
 ghost use Rattle.std.specs.Prelude.{◌≡◌, IfOk, OnErr};
 ghost use Rattle.std.specs.Process.{exit_status};
 
+use command_line::Status;
 pub use gateway_commands::{
     Bridge, Command, LineCommand, Settings, demo_with, replay_with, run, serve_turns, stream,
 };
@@ -15,7 +16,6 @@ use gateway_commands::{run_with, words_to_tell};
 use live_outside::{Activity, DiskFiles, SystemClock, ToldWriter, UdpLink};
 use run_failures::{Kept, explain_run};
 use run_notes::{NotedClock, NotedFiles, NotedLink, NotedWriter, Shared, Side};
-use statuses::Status;
 use std::alloc::AllocError;
 use std::cell::Cell;
 use std::env;

@@ -1,5 +1,5 @@
 use Rattle.config_check.proofs.ConfigLemmas.{accepted}
-use Rattle.statuses.specs.Statuses.{number}
+use Rattle.command_line.specs.Statuses.{number}
 use Rattle.config_check.proofs.checking.check.Goals as goal
 
 pub returns-in-Ok-clause-checks : goal.returns-in-Ok-clause-checks

@@ -2,7 +2,7 @@ use Rattle.std.proofs.Common.{ℕ, List, ap, subst}
 use Rattle.std.specs.Prelude.{Option, None}
 use Rattle.line_commands.specs.LineCommand.{AreTextsOf}
 use Rattle.gateway_commands.specs.ReplayCommand.{ReplaysBy}
-use Rattle.statuses.specs.Statuses.{EndsBy}
+use Rattle.command_line.specs.Statuses.{EndsBy}
 use Rattle.gateway_commands.proofs.process_run.run_over.Goals as goal
 
 pub returns : goal.returns

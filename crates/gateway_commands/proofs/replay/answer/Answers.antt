@@ -1,9 +1,9 @@
 use Rattle.std.proofs.Common.{◌≡◌, subst, sym}
 use Rattle.std.specs.Prelude.{None}
 use Rattle.replaying.specs.Replayed.{IsReplay}
-use Rattle.statuses.specs.declared.Status.{Status}
-use Rattle.statuses.specs.Statuses.{EndsBy, SteadyBy, number}
-use Rattle.statuses.proofs.StatusLemmas.{ends_by, steady_by}
+use Rattle.command_line.specs.declared.statuses.Status.{Status}
+use Rattle.command_line.specs.Statuses.{EndsBy, SteadyBy, number}
+use Rattle.command_line.proofs.StatusLemmas.{ends_by, steady_by}
 use Rattle.gateway_commands.proofs.ReplayLemmas.{unhindered}
 use Rattle.gateway_commands.proofs.replay.answer.Goals as goal
 

@@ -1,6 +1,6 @@
 use Rattle.std.proofs.Common.{inr, rules}
 use Rattle.serving.specs.BridgeSettings.{bridge_settings_of}
-use Rattle.statuses.specs.Statuses.{number}
+use Rattle.command_line.specs.Statuses.{number}
 use Rattle.gateway_commands.proofs.ReplayCommandLemmas.{memory_held}
 use Rattle.gateway_commands.proofs.replay.replay_setup.Goals as goal
 

@@ -1,4 +1,4 @@
-use Rattle.statuses.specs.Statuses.{number}
+use Rattle.command_line.specs.Statuses.{number}
 use Rattle.gateway_commands.proofs.ReplayCommandLemmas.{no_refusal, only_memory, replayed}
 use Rattle.gateway_commands.proofs.replay_command.replay.Goals as goal
 

@@ -1,5 +1,5 @@
 use Rattle.serving.specs.Served.{outside}
-use Rattle.statuses.specs.Statuses.{number}
+use Rattle.command_line.specs.Statuses.{number}
 use Rattle.gateway_commands.proofs.ServeLemmas.{no_refusal, only_memory, served}
 use Rattle.gateway_commands.proofs.serve_command.serve.Goals as goal
 

@@ -1,23 +1,23 @@
 use Rattle.std.proofs.Common.{◌≡◌, ℕ, List, [], ◌∷◌, map, refl, subst, inl, inr}
 use Rattle.std.specs.Prelude.{Option, Result, Ok, Err, false, string_bytes}
 use Rattle.capture_stream.specs.Writer.{Writes}
-use Rattle.command_words.specs.declared.words.Command.{Command}
-use Rattle.command_words.specs.declared.words.Command.TheVariants.{Check, Demo, Lines, Replay, Serve}
-use Rattle.command_words.specs.declared.words.LineCommand.{LineCommand}
+use Rattle.command_line.specs.declared.words.Command.{Command}
+use Rattle.command_line.specs.declared.words.Command.TheVariants.{Check, Demo, Lines, Replay, Serve}
+use Rattle.command_line.specs.declared.words.LineCommand.{LineCommand}
 use Rattle.config_check.specs.Check.{ChecksBy}
 use Rattle.gate_outside.specs.declared.Failed.{Failed}
 use Rattle.gate_outside.specs.Faults.{HasCause}
 use Rattle.serving.specs.Served.{outside}
 use Rattle.gateway_commands.specs.DemoCommand.{DemosBy}
 use Rattle.line_commands.specs.LineCommand.{AreTextsOf}
-use Rattle.statuses.specs.Statuses.{EndsBy, Offers, number}
+use Rattle.command_line.specs.Statuses.{EndsBy, Offers, number}
 use Rattle.gateway_commands.specs.ReplayCommand.{ReplaysBy}
 use Rattle.gateway_commands.specs.ServeCommand.{ServesBy}
-use Rattle.command_words.specs.Words.{IsDemo, IsForm, IsServe, check_words, line_words, replay_words, usage_line}
+use Rattle.command_line.specs.Words.{IsDemo, IsForm, IsServe, check_words, line_words, replay_words, usage_line}
 use Rattle.gateway_commands.proofs.FormLemmas.{check_or_demo, check_or_replay, check_or_serve, line_or_check, line_or_demo, line_or_replay, line_or_serve, one_check, one_line, one_replay, replay_or_demo, replay_or_serve, serve_or_demo}
 use Rattle.gateway_commands.proofs.KnownLemmas.{has, never, not_early, of_check, of_demo, of_replay, of_serve, only_memory}
 use Rattle.gateway_commands.proofs.ServeLemmas.{link_cause, serve_steady}
-use Rattle.command_words.proofs.WordLemmas.{one_demo, one_serve}
+use Rattle.command_line.proofs.WordLemmas.{one_demo, one_serve}
 use Rattle.gateway_commands.proofs.top_call.run.Goals as goal
 
 -- a line was offered, of which some may be left where its write failed

@@ -5,9 +5,9 @@ use Rattle.capture_stream.proofs.EndLemmas.{ends_as}
 use Rattle.line_commands.specs.declared.line_command.Lines.{Lines}
 use Rattle.line_commands.specs.LineCommand.{IsAnswer, AreTextsOf}
 use Rattle.line_commands.proofs.LineCommandLemmas.{are_texts_of}
-use Rattle.statuses.specs.declared.Status.{Status}
-use Rattle.statuses.specs.Statuses.{EndsBy, SteadyBy, number}
-use Rattle.statuses.proofs.StatusLemmas.{ends_by, steady_by}
+use Rattle.command_line.specs.declared.statuses.Status.{Status}
+use Rattle.command_line.specs.Statuses.{EndsBy, SteadyBy, number}
+use Rattle.command_line.proofs.StatusLemmas.{ends_by, steady_by}
 use Rattle.line_commands.proofs.line_command.answer_lines.Goals as goal
 
 pub returns-clause-ends : goal.returns-clause-ends

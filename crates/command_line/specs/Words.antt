@@ -1,9 +1,9 @@
 -- The words that are a command.
 use Rattle.std.specs.Prelude.{◌≡◌, ◌≤◌, ℕ, List, [], ◌∷◌, codes, decimal}
-use Rattle.command_words.specs.declared.words.Command.{Command}
-use Rattle.command_words.specs.declared.words.Command.TheVariants.{Lines, Check, Replay, Serve, Demo}
-use Rattle.command_words.specs.declared.words.LineCommand.{LineCommand}
-use Rattle.command_words.specs.declared.words.LineCommand.TheVariants.{Convert, Show}
+use Rattle.command_line.specs.declared.words.Command.{Command}
+use Rattle.command_line.specs.declared.words.Command.TheVariants.{Lines, Check, Replay, Serve, Demo}
+use Rattle.command_line.specs.declared.words.LineCommand.{LineCommand}
+use Rattle.command_line.specs.declared.words.LineCommand.TheVariants.{Convert, Show}
 
 abbrev pub name_of : LineCommand → List ℕ
 name_of Convert = codes "convert"

@@ -4,7 +4,7 @@ use Rattle.std.specs.Prelude.{Option}
 use Rattle.capture_stream.specs.declared.ending.Ending.{Ending}
 use Rattle.capture_stream.specs.declared.ending.Ending.TheVariants.{Done, SinkFailed, SourceFailed, TooLong}
 use Rattle.capture_stream.specs.Progress.{Ends, Steady}
-use Rattle.statuses.specs.Statuses.{EndsBy, SteadyBy, number, status_of}
+use Rattle.command_line.specs.Statuses.{EndsBy, SteadyBy, number, status_of}
 
 pub ends_by : (IsText : List (List ℕ) → List ℕ → Type 0) (left left' told told' : Option (List ℕ)) (ending : Ending) → Ends IsText left left' told told' ending
     → EndsBy IsText left left' told told' (number (status_of ending))

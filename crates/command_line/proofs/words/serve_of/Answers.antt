@@ -1,5 +1,5 @@
 use Rattle.std.proofs.Common.{rules}
-use Rattle.command_words.proofs.words.serve_of.Goals as goal
+use Rattle.command_line.proofs.words.serve_of.Goals as goal
 
 pub returns-in-Some : goal.returns-in-Some
 returns-in-Some c = search rules

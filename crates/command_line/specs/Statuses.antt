@@ -6,8 +6,8 @@ use Rattle.capture_stream.specs.declared.ending.Ending.{Ending}
 use Rattle.capture_stream.specs.declared.ending.Ending.TheVariants as endings
 use Rattle.capture_stream.specs.Progress.{input_limit, Finishes, StopsReading, StopsWriting, PassesLimit}
 use Rattle.capture_stream.specs.Writer.{Sends}
-use Rattle.statuses.specs.declared.Status.{Status}
-use Rattle.statuses.specs.declared.Status.TheVariants.{Done, NoCommand, Refused, SinkFailed, SourceFailed, Unread, NoMemory, TooLong, Unattached}
+use Rattle.command_line.specs.declared.statuses.Status.{Status}
+use Rattle.command_line.specs.declared.statuses.Status.TheVariants.{Done, NoCommand, Refused, SinkFailed, SourceFailed, Unread, NoMemory, TooLong, Unattached}
 
 -- what the program ends with
 abbrev pub number : Status → ℕ

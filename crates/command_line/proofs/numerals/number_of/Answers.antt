@@ -1,6 +1,6 @@
 use Rattle.std.proofs.Common.{◌≡◌, Some, decimal, sym, ap, ◌∙◌}
-use Rattle.command_words.proofs.Numbers.{never_err, parsed, same_ok}
-use Rattle.command_words.proofs.numerals.number_of.Goals as goal
+use Rattle.command_line.proofs.Numbers.{never_err, parsed, same_ok}
+use Rattle.command_line.proofs.numerals.number_of.Goals as goal
 
 pub returns-in-Ok-clause-only : goal.returns-in-Ok-clause-only
 returns-in-Ok-clause-only c = λ n fits written.

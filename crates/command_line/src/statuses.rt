@@ -1,11 +1,7 @@
 //! The statuses of the program: what each says of the bytes that were read and written, and of the counts of faults.
-//!
-//! No call takes memory.
-#![tactic(auto)]
-
 ghost use Rattle.std.specs.Prelude.{◌≡◌, Some, IfSome};
-ghost use Rattle.statuses.specs.declared.Status.{Status};
-ghost use Rattle.statuses.specs.Statuses.{IsStreamStatus, number, status_of};
+ghost use Rattle.command_line.specs.declared.statuses.Status.{Status};
+ghost use Rattle.command_line.specs.Statuses.{IsStreamStatus, number, status_of};
 
 use capture_stream::Ending;
 

@@ -2,7 +2,7 @@
 use Rattle.std.proofs.Common.{◌≡◌, ℕ, List, [], ◌∷◌, sym, ◌∙◌, arith}
 use Rattle.std.specs.Prelude.{codes}
 use Rattle.std.proofs.lemmas.Fmt.{decimal_injective}
-use Rattle.command_words.specs.Words.{AreNumbers, IsDemo, IsServe, IsTurns, demo_words, serve_words}
+use Rattle.command_line.specs.Words.{AreNumbers, IsDemo, IsServe, IsTurns, demo_words, serve_words}
 
 -- ---- the words of a demonstration
 

@@ -1,5 +1,5 @@
 use Rattle.std.proofs.Common.{rules}
-use Rattle.command_words.proofs.words.command_of_two.Goals as goal
+use Rattle.command_line.proofs.words.command_of_two.Goals as goal
 
 pub returns-then-eq-2 : goal.returns-then-eq-2
 returns-then-eq-2 c = search rules

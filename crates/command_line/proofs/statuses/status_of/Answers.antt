@@ -1,5 +1,5 @@
 use Rattle.std.proofs.Common.{refl}
-use Rattle.statuses.proofs.status_of.Goals as goal
+use Rattle.command_line.proofs.statuses.status_of.Goals as goal
 
 pub returns-in-TooLong-clause-status : goal.returns-in-TooLong-clause-status
 returns-in-TooLong-clause-status c = rw c.in-TooLong.is refl

@@ -1,6 +1,6 @@
 //! The words of the command line.
 ghost use Rattle.std.specs.Prelude.{[], ◌∷◌, map, MatchOption, string_bytes};
-ghost use Rattle.command_words.specs.Words.{AreTurnsOf, IsForm, IsNoDemo, IsNoForm, IsNoServe, IsSaid};
+ghost use Rattle.command_line.specs.Words.{AreTurnsOf, IsForm, IsNoDemo, IsNoForm, IsNoServe, IsSaid};
 
 use crate::numerals::number_between;
 

@@ -1,6 +1,6 @@
 //! Numbers among the words of the command line.
 ghost use Rattle.std.specs.Prelude.{◌≡◌, ◌<◌, ◌^◌, ◌↔◌, decimal, ℕ, Some, IfSome, IsTrue};
-ghost use Rattle.command_words.specs.Words.{IsNumber};
+ghost use Rattle.command_line.specs.Words.{IsNumber};
 
 use arrayvec::ArrayVec;
 use unit_fraction::write_decimal;
