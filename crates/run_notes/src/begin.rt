@@ -1,8 +1,9 @@
 //! What is said as a run of `serve` begins.
+use crate::line::say;
 use crate::processor::processor;
 use crate::shared::{Shared, Side};
+use crate::words::VERSION;
 use network_routes::Routes;
-use run_failures::{VERSION, say};
 use std::fmt::{Display, Formatter};
 use std::fs::Files;
 use std::{fmt, str};

@@ -1,4 +1,5 @@
 //! What is said of one link while it is used.
+use crate::line::say;
 use crate::pace::Pace;
 use crate::sends::Sends;
 use crate::shared::{FRONT_BYTES, Front, Shared, Side};
@@ -6,7 +7,6 @@ use crate::trouble::Trouble;
 use crate::why::Why;
 use gate_outside::LARGEST_ARRIVAL;
 use live_outside::Failure;
-use run_failures::say;
 use std::net::SocketAddrV4;
 
 /// What was said of a link, and what is to be said of it next.

@@ -1,6 +1,6 @@
 //! What the wrappers of one run share.
+use crate::line::say;
 use command_line::Status;
-use run_failures::say;
 use std::alloc::AllocError;
 use std::cell::Cell;
 use std::io::ErrorKind;

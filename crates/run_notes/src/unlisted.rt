@@ -1,11 +1,11 @@
 //! Whom of the network the gateway doesn't hear.
+use crate::line::say;
 use crate::pace::Pace;
 use crate::shared::{Front, Shared};
 use arrayvec::ArrayVec;
 use capture_text::{LONGEST_LINE, write_emit};
 use gate_events::{Detail, Emit, Report};
 use report_rules::UNLISTED_SOURCE;
-use run_failures::say;
 use sentence_text::Sfi;
 use std::str;
 

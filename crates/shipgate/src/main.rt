@@ -14,8 +14,7 @@ pub use gateway_commands::{
 };
 use gateway_commands::{run_with, words_to_tell};
 use live_outside::{Activity, DiskFiles, SystemClock, ToldWriter, UdpLink};
-use run_failures::{Kept, explain_run};
-use run_notes::{NotedClock, NotedFiles, NotedLink, NotedWriter, Shared, Side};
+use run_notes::{Kept, NotedClock, NotedFiles, NotedLink, NotedWriter, Shared, Side, explain_run};
 use std::alloc::AllocError;
 use std::cell::Cell;
 use std::env;

@@ -1,6 +1,6 @@
 //! The words for why a run didn't do its work.
 ghost use Rattle.std.specs.Prelude.{◌≡◌, option_map};
-ghost use Rattle.run_failures.specs.Reasons.{file_reason, link_reason, reason_of, said_of, told, write_reason};
+ghost use Rattle.run_notes.specs.Reasons.{file_reason, link_reason, reason_of, said_of, told, write_reason};
 
 use command_line::Status;
 use std::fmt;

@@ -4,7 +4,7 @@ use Rattle.std.specs.declared.io.ErrorKind.{ErrorKind}
 use Rattle.std.specs.declared.io.ErrorKind.TheVariants.{AddrInUse, AddrNotAvailable, BrokenPipe, FileTooLarge, IsADirectory, NotFound}
 use Rattle.command_line.specs.declared.statuses.Status.{Status}
 use Rattle.command_line.specs.declared.statuses.Status.TheVariants.{Done, NoCommand, Refused, SinkFailed, SourceFailed, Unread, NoMemory, TooLong, Unattached}
-use Rattle.run_failures.specs.declared.reasons.Reason.{Reason}
+use Rattle.run_notes.specs.declared.reasons.Reason.{Reason}
 
 -- of a status that says all: no words, no file, no kind of a failure belong to it
 abbrev pub reason_of : Status → Option (List ℕ)

@@ -3,7 +3,7 @@ use crate::line::say;
 use command_line::{MOST_EVENTS, MOST_SEED, MOST_TURNS, number_between};
 
 /// The program's version, and the kit that proved it: as README.md has them.
-pub const VERSION: &str = "shipgate 1.0.0, built with rattle-kit-13f logic dac8208d650f15bf";
+pub(crate) const VERSION: &str = "shipgate 1.0.0, built with rattle-kit-13f logic dac8208d650f15bf";
 
 /// What the commands are, for who gave words that are none.
 const COMMANDS: &str =

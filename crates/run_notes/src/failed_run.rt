@@ -1,17 +1,7 @@
-//! What standard error says of a run that didn't do its work: why, and where words are no command, what the commands are.
-//!
-//! What a process says there no clause of std tells: clauses have the words for why, and the examples compare the lines.
-#![tactic(auto)]
-
-mod line;
-mod links;
-mod reasons;
-mod words;
-
-pub use crate::line::say;
-use crate::links::explain_links;
+//! What is said of a run that didn't do its work: why, and where words are no command, what the commands are.
+use crate::line::say;
 use crate::reasons::{file_reason, reason_of, write_reason};
-pub use crate::words::VERSION;
+use crate::unattached::explain_links;
 use crate::words::explain_words;
 use command_line::Status;
 use live_outside::Unattached;

@@ -1,5 +1,5 @@
 //! Which link couldn't be attached, and why.
-use crate::Kept;
+use crate::failed_run::Kept;
 use crate::line::say;
 use crate::reasons::link_reason;
 use live_outside::Unattached;
