@@ -47,7 +47,7 @@ pub is_order_step : (g : Machine) (source address : ℕ) → IsReached by_keys g
     → left ≡ and_step g.settings.name outbox (commanded g source address)
     → IsOrderStep (record { source = source; address = address }) g (commanded g source address).after outbox left
 is_order_step g source address it from outbox left gives s h e could taken =
-        let x : Step = commanded g source address in
+    let x : Step = commanded g source address in
     let next : Entry = entry.command (now (e ∷ h)) source address in
     let is : IsTaken g.settings s (e ∷ h) next x.after (output_of g.settings.name x) = is_command_step g source address it from s (e ∷ h) could taken.stands in
     let told_is : x.told ≡ out g.settings s (e ∷ h) next = sym (append-nil x.told) ∙ is.emits in
