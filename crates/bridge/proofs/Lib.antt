@@ -12,3 +12,11 @@ pub mod FurtherCases
 pub mod Ordered
 pub mod Places
 pub mod WatchSteps
+pub mod NetLines
+pub mod NetEmits
+pub mod NetRows
+pub mod NetRmc
+pub mod NetShips
+pub mod NetQuantities
+pub mod NetWhole
+pub mod NetSpeaking

@@ -25,3 +25,6 @@ pub mod Running
 pub mod SourceOut
 pub mod WatchKept
 pub mod WatchStands
+pub mod Speaking
+pub mod Sentences
+pub mod NetLaws

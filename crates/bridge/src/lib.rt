@@ -13,6 +13,7 @@ pub mod cases;
 mod further_quantities;
 mod joining;
 pub mod laws;
+pub mod net_laws;
 mod ships;
 mod source_watch;
 

@@ -114,7 +114,7 @@ lines_fit tag sentence is sfi short = both_short (block_text (block_of tag)) sen
 code_fits : (n : ℕ) → n < most_written_code → n + 1 ≤ most_written_code
 code_fits n less = omega (arith, less)
 
-group_fits : (total code number : ℕ) → total ≤ 9 → 1 ≤ code → code ≤ most_written_code → 1 ≤ number → number ≤ total → IfSome (part_of total code number) IsWritableGroup
+pub group_fits : (total code number : ℕ) → total ≤ 9 → 1 ≤ code → code ≤ most_written_code → 1 ≤ number → number ≤ total → IfSome (part_of total code number) IsWritableGroup
 group_fits total code number most first small one within = by (nat_le 2 total) refl
   where
     by : (b : Bool) → nat_le 2 total ≡ b → IfSome (if b then Some (record { number = number; total = total; code = code }) else None) IsWritableGroup

@@ -1,0 +1,48 @@
+-- Whatever is said on the network can be read: a reader of IEC 61162-450 finds in each datagram just the sentences that were said.
+use Rattle.std.specs.Prelude.{◌≡◌, ℕ, List, [], ◌∷◌, length, map}
+use Rattle.sentence_text.specs.Names.{IsSfi}
+use Rattle.readings.specs.Rows.{rows_count}
+use Rattle.quantities.specs.About.{quantities_count}
+use Rattle.datagram450.specs.Datagram.{all_of}
+use Rattle.gate_events.specs.Emit.{net}
+use Rattle.history.specs.Entries.{Entry, History}
+use Rattle.history.specs.EntryLaws.{nets_in}
+use Rattle.std.specs.Option.{ForSome}
+use Rattle.settings.specs.Further.{IsFurther}
+use Rattle.settings.specs.Settings.{IsSettings}
+use Rattle.settings.specs.declared.further.Further.{Further}
+use Rattle.settings.specs.declared.settings.Settings.{Settings}
+use Rattle.plain_out.specs.Laws.{Says}
+use Rattle.plain_out.specs.Plain.{plain_out}
+use Rattle.bridge.specs.BridgeSettings.{BridgeSettings, bridge_settings_of}
+use Rattle.bridge.specs.Gate.{tagged_out}
+use Rattle.bridge.specs.Sentences.{Spoken, all_say}
+use Rattle.bridge.specs.Speaking.{Speaks}
+
+-- each datagram, with its transmission group, is read as its sentences, in order and as nothing else; and there are no other datagrams
+abbrev pub EachSays : List (List ℕ × List ℕ) → Spoken → Type 0
+EachSays [] [] = Unit {0}
+EachSays (d ∷ ds) (t ∷ ts) = Says d.1 t × EachSays ds ts
+EachSays [] (t ∷ ts) = ⊥
+EachSays (d ∷ ds) [] = ⊥
+
+-- at every entry after every history, of all that goes out but plain sentences
+abbrev pub DatagramsAreRead : Type 0
+DatagramsAreRead = (p : BridgeSettings) (s : ℕ) (h : History) (e : Entry) → Speaks p → EachSays (nets_in (tagged_out p s h e)) (all_say p s h e)
+
+-- so plain sentences are those that were said, all of them
+abbrev pub PlainSaysAll : Type 0
+PlainSaysAll =
+    (p : BridgeSettings) (s : ℕ) (h : History) (e : Entry) (group : List ℕ) → Speaks p
+    → plain_out group (tagged_out p s h e) ≡ map (λ sentences. net group (all_of sentences)) (all_say p s h e)
+
+-- ---- what is configured can be understood
+
+-- what the types of a configuration hold: its identifier is one, and each row and quantity has its place
+pub record IsTyped (x : Settings) (f : Further) : Type 0 where
+  pub sfi : IsSfi x.config.sfi
+  pub rows : length x.config.rows ≡ rows_count
+  pub quantities : ForSome f.quantities (λ q. length q.each ≡ quantities_count)
+
+abbrev pub ValidSettingsSpeak : Type 0
+ValidSettingsSpeak = (x : Settings) (f : Further) → IsTyped x f → IsSettings x → IsFurther x f → Speaks (bridge_settings_of x f)

@@ -1,0 +1,18 @@
+//! What is promised of the datagrams of all parts. Each law is a function that does nothing, and whose clause is the law.
+ghost use Rattle.bridge.specs.NetLaws.{DatagramsAreRead, PlainSaysAll, ValidSettingsSpeak};
+
+/// Each datagram that goes out at an entry, but for plain ones, is read as the sentences that were said, in their order: no reader refuses it, and
+/// no line of it breaks a rule.
+pub fn datagrams_are_read()
+    ensures { DatagramsAreRead }
+{}
+
+/// Plain sentences are all that was said.
+pub fn plain_sentences_say_all()
+    ensures { PlainSaysAll }
+{}
+
+/// What these laws ask of settings holds of all that are valid.
+pub fn valid_settings_speak()
+    ensures { ValidSettingsSpeak }
+{}
