@@ -14,7 +14,7 @@ use Rattle.history.specs.Settings.{rule_at}
 use Rattle.config_values.specs.Rows.{IsRow, IsTalker}
 use Rattle.config_values.specs.Settings.{rule_of_row, settings_ignoring}
 use Rattle.config_values.specs.declared.row_config.RowConfig.{RowConfig}
-use Rattle.settings.specs.Further.{IsQuantity}
+use Rattle.settings.specs.Setup.{IsQuantity}
 use Rattle.settings.specs.declared.quantity_config.Quantities.{Quantities}
 use Rattle.settings.specs.declared.quantity_config.QuantityConfig.{QuantityConfig}
 use Rattle.further_bridge.specs.FurtherRule.{further_rule}
@@ -58,11 +58,12 @@ quantities_speak ignored q many each = λ x. quantity_talker q.each (number_of x
 
 pub valid_settings_speak : ValidSettingsSpeak
 unfolding bridge_settings_of settings_ignoring
-valid_settings_speak x f typed valid further =
-    let ignored = f.ignore.items in
+valid_settings_speak x typed valid =
+    let c = x.settings.config in
+    let ignored = x.ignore.items in
     record {
       sfi = typed.sfi;
-      rows = λ row. row_talker ignored x.config.rows (row_number row) valid.config.rows (omega (arith, typed.rows, row_small row));
-      rmc = if_mapped (rmc_rule_of x.config) SpeaksRmc x.rmc (λ r is. record { sfi = typed.sfi; talker = (valid.rmc r is).talker });
-      quantities = if_mapped (further_rule ignored) SpeaksQuantities f.quantities (λ q is. quantities_speak ignored q (typed.quantities q is) (further.quantities q is).each);
+      rows = λ row. row_talker ignored c.rows (row_number row) valid.settings.config.rows (omega (arith, typed.rows, row_small row));
+      rmc = if_mapped (rmc_rule_of c) SpeaksRmc x.settings.rmc (λ r is. record { sfi = typed.sfi; talker = (valid.settings.rmc r is).talker });
+      quantities = if_mapped (further_rule ignored) SpeaksQuantities x.quantities (λ q is. quantities_speak ignored q (typed.quantities q is) (valid.quantities q is).each);
     }

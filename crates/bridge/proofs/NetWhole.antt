@@ -1,7 +1,7 @@
 -- All that goes out but plain sentences is read, and plain sentences are all of it.
 use Rattle.std.proofs.Common.{◌≡◌, ℕ, Bool, true, false, List, [], ◌∷◌, ◌++◌, map, refl, ap, ◌∙◌}
-use Rattle.std.specs.Prelude.{Option, Some, None, if◌then◌else◌}
-use Rattle.std.specs.Option.{ForSome}
+use Rattle.std.specs.Prelude.{nat_eq, Option, Some, None, if◌then◌else◌}
+use Rattle.std.specs.Option.{ForSome, option_eq}
 use Rattle.std.proofs.lemmas.List.Concat.{flat_map-cons}
 use Rattle.sentence_text.specs.Names.{IsSfi}
 use Rattle.n2k_id.specs.Frame.{BusFrame}
@@ -13,12 +13,13 @@ use Rattle.bus_identity.specs.Requests.{is_due}
 use Rattle.datagram450.specs.Datagram.{all_of}
 use Rattle.gate_events.specs.Emit.{Emit, can, net, report}
 use Rattle.gate_events.specs.declared.emit.Report.{Report}
-use Rattle.history.specs.Emits.{of_source}
+use Rattle.gate_events.specs.declared.emit.Detail.TheVariants as detail
+use Rattle.history.specs.Emits.{broken, of_source}
 use Rattle.history.specs.Entries.{Entry, History, frame, datagram, tick, command}
 use Rattle.history.specs.EntryLaws.{nets_in}
 use Rattle.history.specs.Gate.{out}
 use Rattle.history.specs.Settings.{Settings}
-use Rattle.history.proofs.EntrySteps.{if_none}
+use Rattle.history.proofs.EntrySteps.{if_none, none}
 use Rattle.settings.specs.declared.ais.AisConfig.{AisConfig}
 use Rattle.gate_core.specs.Selected.{selected_at}
 use Rattle.joined_rmc.specs.RmcOut.{RmcRule}
@@ -27,7 +28,12 @@ use Rattle.plain_out.specs.Plain.{plain_out, sentences_in}
 use Rattle.plain_out.specs.Plain as plain
 use Rattle.plain_out.proofs.Staying.{what_is_read_stays}
 use Rattle.bridge.specs.Answered.{answer_by, answers, own_after, ready_after, sent_before}
-use Rattle.bridge.specs.Gate.{changes_of, quantities_of, rmc_of, ships_of, tagged_out}
+use Rattle.own_address.specs.AddressOut.{address_gives, own_at, own_told}
+use Rattle.own_address.specs.AddressOut as own
+use Rattle.parts.specs.Compose.{maybe_give}
+use Rattle.bridge.specs.Beside.{wanted}
+use Rattle.bridge.specs.Each.{joining_gives, quantities_give, ships_give, sources_give}
+use Rattle.bridge.specs.Gate.{tagged_out}
 use Rattle.bridge.specs.NetLaws.{DatagramsAreRead, EachSays, PlainSaysAll}
 use Rattle.bridge.specs.Sentences.{Spoken, all_say, if_any, quantities_say, rmc_says, rows_say, ships_say}
 use Rattle.bridge.specs.SourceOut.{changed, told}
@@ -57,33 +63,42 @@ no_change : (o : Option Report) → nets_in (told o) ≡ []
 no_change None = refl
 no_change (Some r) = refl
 
-no_changes : (wanted : Bool) (c : Settings) (s : ℕ) (h : History) (e : Entry) → nets_in (changes_of wanted c s h e) ≡ []
+no_changes : (asked : Bool) (c : Settings) (s : ℕ) (h : History) (e : Entry) → nets_in (maybe_give sources_give (wanted asked) c s h e) ≡ []
 no_changes false c s h e = refl
 no_changes true c s h e = no_change (changed c s h (selected_at c s h e))
+
+no_own : (before now : Option ℕ) → nets_in (own.told before now) ≡ []
+no_own before now = if_none (option_eq nat_eq now before) [] (broken rules.own_address (detail.Own now) ∷ []) refl refl
+
+no_addresses : (asked : Bool) (c : Settings) (s : ℕ) (h : History) (e : Entry) → nets_in (maybe_give address_gives (wanted asked) c s h e) ≡ []
+no_addresses false c s h e = refl
+no_addresses true c s h e = no_own (own_told c s h) (own_at c s (e ∷ h))
 
 -- ---- the parts
 
 module _ (c : Settings) (s : ℕ) (h : History) (e : Entry) where
-  rmc : (o : Option RmcRule) → ForSome o SpeaksRmc → EachSays (nets_in (rmc_of o c s h e)) (if_any (λ r. rmc_says r c s h e) o)
+  rmc : (o : Option RmcRule) → ForSome o SpeaksRmc → EachSays (nets_in (maybe_give joining_gives o c s h e)) (if_any (λ r. rmc_says r c s h e) o)
   rmc None speaks = tt
   rmc (Some r) speaks = rmc_is_read r c s h e (speaks r refl)
 
   module _ (sfi : IsSfi c.sfi) where
-    ships : (o : Option AisConfig) → EachSays (nets_in (ships_of o c s h e)) (if_any (λ a. ships_say a c s h e) o)
+    ships : (o : Option AisConfig) → EachSays (nets_in (maybe_give ships_give o c s h e)) (if_any (λ a. ships_say a c s h e) o)
     ships None = tt
     ships (Some a) = ships_are_read a c s h e sfi
 
-    quantities : (o : Option FurtherRule) → ForSome o SpeaksQuantities → EachSays (nets_in (quantities_of o c s h e)) (if_any (λ x. quantities_say x c s h e) o)
+    quantities : (o : Option FurtherRule) → ForSome o SpeaksQuantities → EachSays (nets_in (maybe_give quantities_give o c s h e)) (if_any (λ x. quantities_say x c s h e) o)
     quantities None speaks = tt
     quantities (Some x) speaks = quantities_are_read x c s h e sfi (speaks x refl)
 
 pub datagrams_are_read : DatagramsAreRead
 datagrams_are_read p s h e speaks =
     let c = p.gateway in
-    let first = rmc_of p.rmc c s h e in
-    let second = ships_of p.ais c s h e in
-    let third = quantities_of p.quantities c s h e in
-    let last = changes_of p.sources c s h e in
+    let first = maybe_give joining_gives p.rmc c s h e in
+    let second = maybe_give ships_give p.ais c s h e in
+    let third = maybe_give quantities_give p.quantities c s h e in
+    let changes = maybe_give sources_give (wanted p.sources) c s h e in
+    let address = maybe_give address_gives (wanted p.address) c s h e in
+    let last = changes ++ address in
     let says_first = if_any (λ r. rmc_says r c s h e) p.rmc in
     let says_second = if_any (λ a. ships_say a c s h e) p.ais in
     let says_third = if_any (λ x. quantities_say x c s h e) p.quantities in
@@ -92,7 +107,7 @@ datagrams_are_read p s h e speaks =
     (behind_quiet (answers c s p.information h e) (first ++ (second ++ (third ++ last))) (says_first ++ (says_second ++ says_third)) (no_answers c s p.information h e)
     (both_say first (second ++ (third ++ last)) says_first (says_second ++ says_third) (rmc c s h e p.rmc speaks.rmc)
     (both_say second (third ++ last) says_second says_third (ships c s h e speaks.sfi p.ais)
-    (before_quiet third last says_third (quantities c s h e speaks.sfi p.quantities speaks.quantities) (no_changes p.sources c s h e)))))
+    (before_quiet third last says_third (quantities c s h e speaks.sfi p.quantities speaks.quantities) (none changes address (no_changes p.sources c s h e) (no_addresses p.address c s h e))))))
 
 -- ---- plain sentences
 

@@ -8,10 +8,8 @@ use Rattle.gate_events.specs.Emit.{net}
 use Rattle.history.specs.Entries.{Entry, History}
 use Rattle.history.specs.EntryLaws.{nets_in}
 use Rattle.std.specs.Option.{ForSome}
-use Rattle.settings.specs.Further.{IsFurther}
-use Rattle.settings.specs.Settings.{IsSettings}
-use Rattle.settings.specs.declared.further.Further.{Further}
-use Rattle.settings.specs.declared.settings.Settings.{Settings}
+use Rattle.settings.specs.Setup.{IsSetup}
+use Rattle.settings.specs.declared.setup.Setup.{Setup}
 use Rattle.plain_out.specs.Laws.{Says}
 use Rattle.plain_out.specs.Plain.{plain_out}
 use Rattle.bridge.specs.BridgeSettings.{BridgeSettings, bridge_settings_of}
@@ -39,10 +37,10 @@ PlainSaysAll =
 -- ---- what is configured can be understood
 
 -- what the types of a configuration hold: its identifier is one, and each row and quantity has its place
-pub record IsTyped (x : Settings) (f : Further) : Type 0 where
-  pub sfi : IsSfi x.config.sfi
-  pub rows : length x.config.rows ≡ rows_count
-  pub quantities : ForSome f.quantities (λ q. length q.each ≡ quantities_count)
+pub record IsTyped (x : Setup) : Type 0 where
+  pub sfi : IsSfi x.settings.config.sfi
+  pub rows : length x.settings.config.rows ≡ rows_count
+  pub quantities : ForSome x.quantities (λ q. length q.each ≡ quantities_count)
 
 abbrev pub ValidSettingsSpeak : Type 0
-ValidSettingsSpeak = (x : Settings) (f : Further) → IsTyped x f → IsSettings x → IsFurther x f → Speaks (bridge_settings_of x f)
+ValidSettingsSpeak = (x : Setup) → IsTyped x → IsSetup x → Speaks (bridge_settings_of x)
