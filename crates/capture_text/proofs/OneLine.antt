@@ -14,9 +14,6 @@ use Rattle.sentence_text.proofs.Bytes.{all_append, all_parts, all_weaker, splits
 use Rattle.unit_fraction.specs.Text.{decimal_text}
 use Rattle.unit_fraction.proofs.Text.{has_form, writes_all}
 use Rattle.n2k_id.specs.Frame.{BusFrame}
-use Rattle.readings.specs.Rows.{about_of}
-use Rattle.readings.specs.declared.rows.Row.{Row}
-use Rattle.readings.specs.declared.rows.Row.TheVariants as row
 use Rattle.gate_events.specs.declared.emit.Report.{Report}
 use Rattle.capture_text.specs.Lines.{is_lf, is_one_line}
 use Rattle.capture_text.specs.Reading.{is_no_space, second_word, up_to_space}
@@ -109,25 +106,6 @@ sfi_in_line sfi is =
     ap is_one_line (sym (take-append-drop 2 sfi))
     ∙ joined (take 2 sfi) (drop 2 sfi) (all_weaker is_capital (λ c. not (is_lf c)) capital (take 2 sfi) is.letters)
     (all_weaker is_digit (λ c. not (is_lf c)) address_digit (drop 2 sfi) is.digits)
-
-pub row_in_line : (r : Row) → is_one_line ((about_of r).name) ≡ true
-row_in_line row.HeadingTrue = refl
-row_in_line row.HeadingMagnetic = refl
-row_in_line row.RateOfTurn = refl
-row_in_line row.RudderFirst = refl
-row_in_line row.RudderSecond = refl
-row_in_line row.WaterSpeed = refl
-row_in_line row.Depth = refl
-row_in_line row.DistanceLog = refl
-row_in_line row.Position = refl
-row_in_line row.CourseSpeed = refl
-row_in_line row.Gnss = refl
-row_in_line row.Time = refl
-row_in_line row.WindApparent = refl
-row_in_line row.WindTrue = refl
-row_in_line row.WindNorth = refl
-row_in_line row.WaterTemperature = refl
-row_in_line row.CrossTrack = refl
 
 pub report_in_line : (r : Report) → is_one_line (decimal r.rule) ≡ true → is_one_line (detail_text r.detail) ≡ true → is_one_line (report_text r) ≡ true
 report_in_line r rule named = joined (codes "rule ") (decimal r.rule ++ detail_text r.detail) refl (joined (decimal r.rule) (detail_text r.detail) rule named)

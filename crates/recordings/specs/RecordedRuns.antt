@@ -4,8 +4,7 @@ use Rattle.std.specs.List.{flat_map, slice_split}
 use Rattle.capture_text.specs.Lines.{front, is_lf}
 use Rattle.capture_stream.specs.Progress.{with_lf}
 use Rattle.gate_outside.specs.Link.{Traffic}
-use Rattle.settings.specs.declared.further.Further.{Further}
-use Rattle.settings.specs.declared.settings.Settings.{Settings}
+use Rattle.settings.specs.declared.setup.Setup.{Setup}
 use Rattle.gate_config.specs.ConfigOf.{IsWholeConfigOf}
 use Rattle.command_line.specs.declared.statuses.Status.TheVariants.{Done}
 use Rattle.command_line.specs.Statuses.{number}
@@ -59,26 +58,26 @@ IsReplayed file input text =
     × ReplaysBy (Some file) files files' (Some input) (Some left) source source' (Some before) (Some (before ++ text)) sink sink' (number Done)
 
 -- the file is accepted, says this and asks for a recording
-pub record Asks (file : List ℕ) (settings : Settings) (further : Further) : Type 0 where
-  pub says : IsWholeConfigOf file (Ok (settings, further))
-  pub records : further.«record» ≡ true
+pub record Asks (file : List ℕ) (setup : Setup) : Type 0 where
+  pub says : IsWholeConfigOf file (Ok setup)
+  pub records : setup.«record» ≡ true
 
 -- ---- the law
 
 -- By what came over the links these items were due in the run, each turn by one reading and one outcome of each link, and all went out. The text
 -- has all that the gateway made among them, as it was due.
-pub record GivesItems (r : ServeRun) (settings : Settings) (further : Further) (text : List ℕ) : Type 0 where
+pub record GivesItems (r : ServeRun) (setup : Setup) (text : List ℕ) : Type 0 where
   pub passed : Passed
-  pub is_run : all_due passed.tried ≡ due_of (bridge_settings_of settings further) r.readings passed.from_bus passed.from_net
+  pub is_run : all_due passed.tried ≡ due_of (bridge_settings_of setup) r.readings passed.from_bus passed.from_net
   pub each_reading : length r.readings ≡ r.turns
   pub each_bus : length passed.from_bus ≡ r.turns
   pub each_net : length passed.from_net ≡ r.turns
-  pub bus : r.bus_after ≡ over_bus passed (record r.bus { attached = Some (bus_attachment settings.config.ends) })
-  pub net : r.net_after ≡ over_net passed (record r.net { attached = Some (net_attachment settings.config.ends) })
+  pub bus : r.bus_after ≡ over_bus passed (record r.bus { attached = Some (bus_attachment setup.settings.config.ends) })
+  pub net : r.net_after ≡ over_net passed (record r.net { attached = Some (net_attachment setup.settings.config.ends) })
   pub written : r.text ≡ flat_map to_text passed.tried
   pub again : text ≡ emitted_text (made_in (all_due passed.tried))
 
 abbrev pub RecordedRunsReplay : Type 0
 RecordedRunsReplay =
-    (r : ServeRun) (settings : Settings) (further : Further) → Asks r.file settings further → IsServed r → AreEarly r.readings
-    → (text : List ℕ) → IsReplayed r.file (recording_in r.text) text → GivesItems r settings further text
+    (r : ServeRun) (setup : Setup) → Asks r.file setup → IsServed r → AreEarly r.readings
+    → (text : List ℕ) → IsReplayed r.file (recording_in r.text) text → GivesItems r setup text

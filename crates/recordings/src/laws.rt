@@ -31,10 +31,12 @@ pub fn recordings_are_told()
     ensures { RecordingsAreTold }
 {}
 
-/// Of a `run` of `serve` that ends with status 0, with a file that asks for a recording: its lines whose second word isn't `rule`, given to a
-/// `run` of `replay` with the same file that ends with status 0, give each frame, datagram and report that the gateway made in the first run,
-/// in order, at its moment and as it was due, also where its send failed. What came and was no event is in neither. Links, clock and sink tell,
-/// and no reading of the clock reaches 10^16 microseconds. What a run says is what `gateway_commands::run` says by `serves` and `replays`.
+/// A `run` of `serve` ends with status 0, and its file asks for a recording. A `run` of `replay` with this file is given the first run's lines
+/// whose second word isn't `rule`, and ends with status 0 too. Then it writes each frame, datagram and report that the gateway made in the
+/// first run, in order, at its moment and as it was due, also where its send failed. What came and was no event is in neither.
+///
+/// Links, clock, source and sink tell, and no reading of the clock reaches 10^16 microseconds. What a run says is what
+/// `gateway_commands::run` says by `serves` and `replays`.
 pub fn recorded_runs_replay()
     ensures { RecordedRunsReplay }
 {}
