@@ -414,6 +414,8 @@ def device_of(detail, items):
         return f"address {words.get('src', words.get('addr'))}"
     if "sfi" in words:
         return words["sfi"]
+    if "own" in words:
+        return "the gateway"
     if "at" in words:
         for item in map(ITEM.fullmatch, items):
             if item is not None and item.group(1).decode() == words["at"]:
