@@ -85,7 +85,7 @@ module _ (information : List ℕ) (c : Settings) (s : ℕ) (h : History) (g : Ma
   frame_answered : (m : ℕ) (f : BusFrame) → IsTaken c s h (entry.frame m f) g left → answering_stands information c s h before
       → after.identity ≡ kept_after before.identity g.addresses.claims.own (is_ready g.addresses.claims g.moment) f
       → emits_of given ≡ answer_by before.identity g.addresses.claims.own (is_ready g.addresses.claims g.moment) f
-      → IsSaid answering_stands answering_gives information c s h (entry.frame m f) after given
+      → IsSaid answering_stands answering_gives emits_of information c s h (entry.frame m f) after given
   frame_answered m f taken stands kept is =
       let e : Entry = entry.frame m f in
       let standing = taken.stands in
@@ -112,12 +112,12 @@ pub record IsFrameAnswered (room : ℕ) (own : Option ℕ) (ready : Bool) (f : B
 pub event_answered : (room : ℕ) (t : Step) (m : ℕ) (f : Frame) (before after : Answering) (empty given : Emitted) → t.event.now ≡ event.Frame m f
     → empty ≡ no_emits → (let g = t.gateway.now in IsFrameAnswered room g.addresses.claims.own (is_ready g.addresses.claims g.moment) (bus_frame f)
     before.identity after.identity empty given)
-    → Says answering_stands answering_gives t before after given
+    → Says answering_stands answering_gives emits_of t before after given
 event_answered room t m f before after empty given is nothing answered information c s h step stands =
     let g = t.gateway.now in
     let es = answer_by before.identity g.addresses.claims.own (is_ready g.addresses.claims g.moment) (bus_frame f) in
     let here : entry_at t ≡ entry.frame m (bus_frame f) = ap entry_of is in
-    subst (λ (e : Entry). IsSaid answering_stands answering_gives information c s h e after given) (sym here)
+    subst (λ (e : Entry). IsSaid answering_stands answering_gives emits_of information c s h e after given) (sym here)
     (frame_answered information c s h g t.outbox.now before after given m (bus_frame f)
     (subst (λ (e : Entry). IsTaken c s h e g t.outbox.now) here step.taken) stands answered.kept
     (ap emits_of (answered.told ∙ ap (λ x. and_told room x es) nothing) ∙ all_told room es answered.few))

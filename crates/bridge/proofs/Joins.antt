@@ -27,7 +27,7 @@ none_sent r c s (Some bytes) said = absurd cc
 module _ (t : Step) (before after : Joining) (said : Bool) (packet : List ℕ)
     (is : IsJoinStep t.gateway.now t.outbox.now before.join after.join said packet) (same : after.group ≡ before.group) where
   pub rmc_said : (out : Emitted) (group : List ℕ) → out ≡ no_emits → group ≡ before.group → said ≡ true
-      → Says joining_stands joining_gives t before after (with_posted out (net group packet ∷ []))
+      → Says joining_stands joining_gives emits_of t before after (with_posted out (net group packet ∷ []))
   rmc_said out group empty to there r c s h step stands =
       let j = is r c s h (entry_at t) step.settings step.taken stands.1 in
       record {
@@ -36,7 +36,7 @@ module _ (t : Step) (before after : Joining) (said : Bool) (packet : List ℕ)
             ∙ sent_as r c s group packet (rmc_datagram r c s h (entry_at t)) (to ∙ stands.0) j.packet_is (sym there ∙ j.said_is);
       }
 
-  pub rmc_silent : (given : Emitted) → given ≡ no_emits → said ≡ false → Says joining_stands joining_gives t before after given
+  pub rmc_silent : (given : Emitted) → given ≡ no_emits → said ≡ false → Says joining_stands joining_gives emits_of t before after given
   rmc_silent given empty none r c s h step stands =
       let j = is r c s h (entry_at t) step.settings step.taken stands.1 in
       record {

@@ -1,11 +1,8 @@
 pub use Rattle.gate_core.proofs.Completed
 pub mod AddressCases
 pub mod Answers
-pub mod Changes
 pub mod Joins
 pub mod Made
-pub mod ShipSteps
-pub mod QuantitySteps
 pub mod Steps
 pub mod PartCases
 pub mod FurtherCases

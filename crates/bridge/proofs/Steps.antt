@@ -26,7 +26,7 @@ use Rattle.plain_out.specs.Plain.{plain_out}
 use Rattle.plain_out.proofs.Emits.{behind_none}
 use Rattle.own_address.specs.AddressOut.{address_gives}
 use Rattle.parts.specs.Compose.{maybe_give}
-use Rattle.bridge.specs.Beside.{BesideKept, are_beside, beside, beside_give, beside_output, beside_plain, rules_of, wanted}
+use Rattle.bridge.specs.Beside.{BesideKept, are_beside, beside_give, beside_keep_commands, beside_output, beside_plain, rules_of, wanted}
 use Rattle.bridge.specs.Each.{joining_gives, quantities_give, ships_give, sources_give}
 use Rattle.bridge.specs.BridgeStands.{AreTold, BridgeStands, IsBesideStep, IsBridged, IsForgotten, IsGatewayStep, IsOrder, IsStart, IsUnposted}
 use Rattle.bridge.specs.Answered.{answers}
@@ -251,7 +251,7 @@ module _ (p : BridgeSettings) (s : ℕ) (h : History) (before forgotten stepped_
             start = ap (λ (b : Bridged). b.start) obeyed.rest ∙ stands_told.start;
             gateway = subst (λ (z : Settings). Stands by_keys z s (next ∷ e ∷ h) after.gateway) stands_told.gateway.settings is.stands;
             parts = subst (are_beside (rules_of p) p.gateway s (next ∷ e ∷ h)) (sym parts)
-                (beside.commands (rules_of p) p.gateway s (e ∷ h) o.source o.address told.parts stands.settings given.stood);
+                (beside_keep_commands (rules_of p) p.gateway s (e ∷ h) o.source o.address told.parts stands.settings given.stood);
             plain = ap (λ (b : Bridged). b.plain) obeyed.rest ∙ stands_told.plain;
             records = ap (λ (b : Bridged). b.records) obeyed.rest ∙ stands_told.records;
           };

@@ -4,7 +4,8 @@ use Rattle.gate_events.specs.Emit.{Emit}
 use Rattle.history.specs.Entries.{Entry, History}
 use Rattle.history.specs.Settings.{Settings}
 use Rattle.own_address.specs.AddressOut.{address_gives, address_keeps_commands, address_stands}
-use Rattle.parts.specs.Forms.{Form, both, lane, maybe}
+use Rattle.parts.specs.Forms.{Form, both, lane, maybe, place}
+use Rattle.parts.specs.PartSteps.{KeepsCommands}
 use Rattle.bridge.specs.BridgeSettings.{BridgeSettings}
 use Rattle.bridge.specs.Commands.{answering_keeps_commands, joining_keeps_commands, quantities_keep_commands, ships_keep_commands, sources_keep_commands}
 use Rattle.bridge.specs.Each.{
@@ -26,12 +27,12 @@ use Rattle.bridge.specs.Each.{
 
 abbrev pub beside : Form
 beside =
-    both (lane most_answered answering_stands answering_gives answering_keeps_commands)
-    (both (maybe (lane 0 joining_stands joining_gives joining_keeps_commands))
-    (both (maybe (lane most_of_ships ships_stand ships_give ships_keep_commands))
-    (both (maybe (lane most_of_quantities quantities_stand quantities_give quantities_keep_commands))
-    (both (maybe (lane 1 sources_stand sources_give sources_keep_commands))
-    (maybe (lane 1 address_stands address_gives address_keeps_commands))))))
+    both (lane (place most_answered) answering_stands answering_gives answering_keeps_commands)
+    (both (maybe (lane (place 0) joining_stands joining_gives joining_keeps_commands))
+    (both (maybe (lane (place most_of_ships) ships_stand ships_give ships_keep_commands))
+    (both (maybe (lane (place most_of_quantities) quantities_stand quantities_give quantities_keep_commands))
+    (both (maybe (lane (place 1) sources_stand sources_give sources_keep_commands))
+    (maybe (lane (place 1) address_stands address_gives address_keeps_commands))))))
 
 -- a part that a flag asks for
 abbrev pub wanted : Bool → Option (Unit {0})
@@ -55,6 +56,9 @@ beside_output = beside.output
 
 abbrev pub beside_plain : BesideKept → List Emit
 beside_plain = beside.plain
+
+pub beside_keep_commands : KeepsCommands are_beside
+beside_keep_commands = beside.commands
 
 -- ---- with nothing heard yet
 

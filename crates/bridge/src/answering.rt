@@ -1,5 +1,4 @@
 //! The gateway's answers to who asks on the bus who it is.
-ghost use Rattle.std.proofs.Common.{arith};
 ghost use Rattle.std.specs.Prelude.{◌≡◌, ◌≤◌, length, map};
 ghost use Rattle.std.specs.List.{AllByRecursion};
 ghost use Rattle.n2k_id.specs.Frame.{IsFrame, bus_frame};
@@ -19,7 +18,7 @@ use gate_outbox::Emits;
 use gate_outbox::reports::of_source;
 use n2k_id::pgn::REQUEST;
 use n2k_id::{Frame, parts};
-use parts::{Part, Step};
+use parts::{Given, Part, Step};
 use report_rules::NOT_READY;
 
 /// The most frames of an answer.
@@ -71,7 +70,7 @@ impl Answering {
     }
 }
 
-impl Part<MOST_ANSWERED> for Answering {
+impl Part<Given<MOST_ANSWERED>> for Answering {
     ghost use Rattle.std.specs.Prelude.{ℕ, List};
 
     ghost Rule = { List ℕ };
@@ -81,19 +80,17 @@ impl Part<MOST_ANSWERED> for Answering {
     ghost gives = { answering_gives };
 
     #[tactic(auto, using(parts::proofs::Empty::none_emitted, std::proofs::lemmas::List::nil_from_length))]
-    fn after(&mut self, step: &Step<'_>, emits: &mut Emits<MOST_ANSWERED>) -> bool {
+    fn after(&mut self, step: &Step<'_>, place: &mut Given<MOST_ANSWERED>) -> bool {
         match step.event {
             Event::Frame { frame, .. } => {
-                self.answer_frame(step.gateway, frame, emits);
-                emits.len() != 0
+                self.answer_frame(step.gateway, frame, &mut place.emits);
+                place.emits.len() != 0
             }
             _ => false,
         }
     }
 
     ghost commands = { answering_keeps_commands };
-
-    ghost room = { omega arith };
 }
 
 fn send_all(frames: &[Frame], out: &mut Answer)

@@ -21,20 +21,23 @@ use crate::source_watch::SourceWatch;
 use ais_bridge::AisBridge;
 use further_bridge::FurtherBridge;
 use own_address::OwnAddress;
-use parts::Lane;
+use parts::{Given, Lane};
 use settings::{Settings, Setup};
 use std::alloc::{AllocError, Global};
 
 /// The parts beside the gateway, in the order in which their emits go out.
 pub(crate) type Beside = (
-    Lane<Answering, MOST_ANSWERED>,
+    Lane<Answering, Given<MOST_ANSWERED>>,
     (
-        Option<Lane<Joining, 0>>,
+        Option<Lane<Joining, Given<0>>>,
         (
-            Option<Lane<Ships, MOST_OF_SHIPS>>,
+            Option<Lane<Ships, Given<MOST_OF_SHIPS>>>,
             (
-                Option<Lane<Quantities, MOST_OF_QUANTITIES>>,
-                (Option<Lane<SourceWatch, 1>>, Option<Lane<OwnAddress, 1>>),
+                Option<Lane<Quantities, Given<MOST_OF_QUANTITIES>>>,
+                (
+                    Option<Lane<SourceWatch, Given<1>>>,
+                    Option<Lane<OwnAddress, Given<1>>>,
+                ),
             ),
         ),
     ),
@@ -109,7 +112,6 @@ fn sources_of(is_wanted: bool) -> Option<SourceWatch>
 }
 
 /// The gateway's own address, if a change of it is told.
-#[tactic(auto, unfolding(config_values::specs::Settings::settings_ignoring))]
 fn address_of(setup: &Setup) -> Option<OwnAddress>
     ensures { IsOpened (maybe_stand address_stands) (wanted setup.now.address) (settings_ignoring setup.now.ignore.items setup.now.settings.config) result }
 {

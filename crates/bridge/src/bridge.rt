@@ -169,10 +169,13 @@ impl Bridge {
             start: self.start,
         };
         self.gave = self.parts.after(&step);
-        if let Some(group) = &self.plain {
-            if self.gave || posts(&output.outbox) {
-                self.gave = true;
-                say_again(*group, output, &mut self.parts);
+        match &self.plain {
+            None => {}
+            Some(group) => {
+                if self.gave || posts(&output.outbox) {
+                    self.gave = true;
+                    say_again(*group, output, &mut self.parts);
+                }
             }
         }
     }

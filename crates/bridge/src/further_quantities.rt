@@ -1,12 +1,10 @@
 //! Further quantities beside the gateway.
-ghost use Rattle.std.proofs.Common.{arith};
 ghost use Rattle.std.specs.Prelude.{◌≡◌};
 ghost use Rattle.bridge.specs.Each.{quantities_give, quantities_stand};
 ghost use Rattle.bridge.specs.Commands.{quantities_keep_commands};
 
 use further_bridge::FurtherBridge;
-use gate_outbox::Emits;
-use parts::{Part, Step};
+use parts::{Given, Part, Step};
 
 /// The most frames and reports of [`further_bridge::FurtherEmits`].
 pub(crate) const MOST_OF_QUANTITIES: usize = 259;
@@ -17,7 +15,7 @@ pub(crate) struct Quantities {
     pub(crate) bridge: FurtherBridge,
 }
 
-impl Part<MOST_OF_QUANTITIES> for Quantities {
+impl Part<Given<MOST_OF_QUANTITIES>> for Quantities {
     ghost use Rattle.further_bridge.specs.FurtherRule.{FurtherRule};
 
     ghost Rule = { FurtherRule };
@@ -27,12 +25,11 @@ impl Part<MOST_OF_QUANTITIES> for Quantities {
     ghost gives = { quantities_give };
 
     #[tactic(auto, using(parts::proofs::Empty::none_emitted, std::proofs::lemmas::List::nil_from_length))]
-    fn after(&mut self, step: &Step<'_>, emits: &mut Emits<MOST_OF_QUANTITIES>) -> bool {
-        self.bridge.after(step.gateway, step.event, emits);
-        emits.len() != 0
+    fn after(&mut self, step: &Step<'_>, place: &mut Given<MOST_OF_QUANTITIES>) -> bool {
+        self.bridge
+            .after(step.gateway, step.event, &mut place.emits);
+        place.emits.len() != 0
     }
 
     ghost commands = { quantities_keep_commands };
-
-    ghost room = { omega arith };
 }

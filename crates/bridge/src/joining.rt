@@ -1,5 +1,4 @@
 //! RMC beside the gateway.
-ghost use Rattle.std.proofs.Common.{arith};
 ghost use Rattle.std.specs.Prelude.{◌≡◌};
 ghost use Rattle.config_values.specs.Rows.{IsTalker};
 ghost use Rattle.history.specs.Settings.{Settings};
@@ -8,9 +7,8 @@ ghost use Rattle.bridge.specs.BridgeSettings.{rmc_rule_of, timeouts_of};
 ghost use Rattle.bridge.specs.Commands.{joining_keeps_commands};
 
 use config_values::{Config, RowConfig};
-use gate_outbox::Emits;
 use joined_rmc::{RmcConfig, RmcJoin};
-use parts::{Part, Step};
+use parts::{Given, Part, Step};
 use readings::ROWS;
 use sentence_text::Group;
 
@@ -34,7 +32,7 @@ impl Joining {
     }
 }
 
-impl Part<0> for Joining {
+impl Part<Given<0>> for Joining {
     ghost use Rattle.joined_rmc.specs.RmcOut.{RmcRule};
 
     ghost Rule = { RmcRule };
@@ -43,20 +41,18 @@ impl Part<0> for Joining {
 
     ghost gives = { joining_gives };
 
-    fn after(&mut self, step: &Step<'_>, emits: &mut Emits<0>) -> bool {
-        let datagram = emits.post(self.group);
+    fn after(&mut self, step: &Step<'_>, place: &mut Given<0>) -> bool {
+        let datagram = place.emits.post(self.group);
         let said = self
             .join
             .after(step.gateway, step.outbox, &mut datagram.packet);
         if !said {
-            emits.clear();
+            place.emits.clear();
         }
         said
     }
 
     ghost commands = { joining_keeps_commands };
-
-    ghost room = { omega arith };
 }
 
 /// How long a source of each row counts, in milliseconds.

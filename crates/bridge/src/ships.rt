@@ -1,12 +1,10 @@
 //! The reports of ships around beside the gateway.
-ghost use Rattle.std.proofs.Common.{arith};
 ghost use Rattle.std.specs.Prelude.{◌≡◌};
 ghost use Rattle.bridge.specs.Each.{ships_give, ships_stand};
 ghost use Rattle.bridge.specs.Commands.{ships_keep_commands};
 
 use ais_bridge::AisBridge;
-use gate_outbox::Emits;
-use parts::{Part, Step};
+use parts::{Given, Part, Step};
 
 /// The most frames and reports of [`ais_bridge::AisEmits`].
 pub(crate) const MOST_OF_SHIPS: usize = 299;
@@ -17,7 +15,7 @@ pub(crate) struct Ships {
     pub(crate) bridge: AisBridge,
 }
 
-impl Part<MOST_OF_SHIPS> for Ships {
+impl Part<Given<MOST_OF_SHIPS>> for Ships {
     ghost use Rattle.settings.specs.declared.ais.AisConfig.{AisConfig};
 
     ghost Rule = { AisConfig };
@@ -27,12 +25,11 @@ impl Part<MOST_OF_SHIPS> for Ships {
     ghost gives = { ships_give };
 
     #[tactic(auto, using(parts::proofs::Empty::none_emitted, std::proofs::lemmas::List::nil_from_length))]
-    fn after(&mut self, step: &Step<'_>, emits: &mut Emits<MOST_OF_SHIPS>) -> bool {
-        self.bridge.after(step.gateway, step.event, emits);
-        emits.len() != 0
+    fn after(&mut self, step: &Step<'_>, place: &mut Given<MOST_OF_SHIPS>) -> bool {
+        self.bridge
+            .after(step.gateway, step.event, &mut place.emits);
+        place.emits.len() != 0
     }
 
     ghost commands = { ships_keep_commands };
-
-    ghost room = { omega arith };
 }

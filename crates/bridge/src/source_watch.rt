@@ -1,5 +1,4 @@
 //! The device that each row was taken from last.
-ghost use Rattle.std.proofs.Common.{arith};
 ghost use Rattle.std.specs.Prelude.{◌≡◌, ◌<◌, Some};
 ghost use Rattle.readings.specs.Rows.{row_of, row_number, rows_count};
 ghost use Rattle.history.specs.Settings.{Settings};
@@ -10,9 +9,8 @@ ghost use Rattle.bridge.specs.Commands.{sources_keep_commands};
 
 use gate_core::{Gateway, Outbox, SelectedMessage};
 use gate_events::{Detail, Report};
-use gate_outbox::Emits;
 use n2k_id::Name;
-use parts::{Part, Step};
+use parts::{Given, Part, Step};
 use readings::{ROWS, row};
 use report_rules::SOURCE_CHANGED;
 use std::marker::Model;
@@ -84,17 +82,17 @@ impl SourceWatch {
     }
 }
 
-impl Part<1> for SourceWatch {
+impl Part<Given<1>> for SourceWatch {
     ghost Rule = { Unit {0} };
 
     ghost stands = { sources_stand };
 
     ghost gives = { sources_give };
 
-    fn after(&mut self, step: &Step<'_>, emits: &mut Emits<1>) -> bool {
+    fn after(&mut self, step: &Step<'_>, place: &mut Given<1>) -> bool {
         match self.change(step.gateway, step.outbox) {
             Some(change) => {
-                emits.tell(change);
+                place.emits.tell(change);
                 true
             }
             None => false,
@@ -102,8 +100,6 @@ impl Part<1> for SourceWatch {
     }
 
     ghost commands = { sources_keep_commands };
-
-    ghost room = { omega arith };
 }
 
 /// Whether the device is this one.

@@ -1,12 +1,10 @@
 //! The gateway's own address as a part beside it.
-ghost use Rattle.std.proofs.Common.{arith};
 ghost use Rattle.std.specs.Prelude.{◌≡◌};
 ghost use Rattle.history.specs.Settings.{Settings};
 ghost use Rattle.own_address.specs.AddressOut.{address_gives, address_keeps_commands, address_stands, opening_stands};
 
 use gate_events::{Detail, Report};
-use gate_outbox::Emits;
-use parts::{Part, Step};
+use parts::{Given, Part, Step};
 use report_rules::OWN_ADDRESS;
 
 /// The gateway's own address at the last event.
@@ -27,21 +25,22 @@ impl OwnAddress {
     }
 }
 
-impl Part<1> for OwnAddress {
+impl Part<Given<1>> for OwnAddress {
     ghost Rule = { Unit {0} };
 
     ghost stands = { address_stands };
 
     ghost gives = { address_gives };
 
-    fn after(&mut self, step: &Step<'_>, emits: &mut Emits<1>) -> bool {
+    #[tactic(auto, using(parts::proofs::Empty::none_emitted))]
+    fn after(&mut self, step: &Step<'_>, place: &mut Given<1>) -> bool {
         let address = step.gateway.own();
         let before = self.address;
         self.address = address;
         if address == before {
             return false;
         }
-        emits.tell(Report {
+        place.emits.tell(Report {
             rule: OWN_ADDRESS,
             detail: Detail::Own { address },
         });
@@ -49,6 +48,4 @@ impl Part<1> for OwnAddress {
     }
 
     ghost commands = { address_keeps_commands };
-
-    ghost room = { omega arith };
 }

@@ -4,7 +4,8 @@ use Rattle.gate_events.specs.Emit.{Emit}
 use Rattle.history.specs.Entries.{Entry, History}
 use Rattle.history.specs.Settings.{Settings}
 use Rattle.parts.specs.Compose.{both_give, both_keep_commands, both_output, both_stand, maybe_give, maybe_keep_commands, maybe_output, maybe_stand}
-use Rattle.parts.specs.Lanes.{LaneKept, lane_keeps_commands, lane_output, lane_plain, lane_stands}
+use Rattle.parts.specs.declared.given.Given.{Given}
+use Rattle.parts.specs.Lanes.{LaneKept, given_output, given_plain, lane_keeps_commands, lane_output, lane_stands}
 use Rattle.parts.specs.PartSteps.{KeepsCommands}
 
 pub record Form : Type 1 where
@@ -18,16 +19,28 @@ pub record Form : Type 1 where
   pub plain : kept → List Emit
   pub commands : KeepsCommands stand
 
--- a part with a place for what it gives
-abbrev pub lane : {R K : Type 0} (room : ℕ) (stands : R → Settings → ℕ → History → K → Type 0) → (R → Settings → ℕ → History → Entry → List Emit)
+-- a place for what a part gives: for frames and reports, and a datagram behind them; and one place behind another
+pub record PlaceForm : Type 1 where
+  pub kept : Type 0
+  pub output : kept → List Emit
+  pub plain : kept → List Emit
+
+abbrev pub place : ℕ → PlaceForm
+place room = record { kept = Given room; output = given_output; plain = given_plain }
+
+abbrev pub and_behind : PlaceForm → PlaceForm → PlaceForm
+and_behind a b = record { kept = a.kept × b.kept; output = both_output a.output b.output; plain = both_output a.plain b.plain }
+
+-- a part with its place
+abbrev pub lane : {R K : Type 0} → PlaceForm → (stands : R → Settings → ℕ → History → K → Type 0) → (R → Settings → ℕ → History → Entry → List Emit)
     → KeepsCommands stands → Form
-lane {R} {K} room stands gives keeps = record {
+lane {R} {K} p stands gives keeps = record {
   rule = R;
-  kept = LaneKept K room;
+  kept = LaneKept K p.kept;
   stand = lane_stands stands;
   give = gives;
-  output = lane_output;
-  plain = lane_plain;
+  output = lane_output p.output;
+  plain = lane_output p.plain;
   commands = lane_keeps_commands stands keeps;
 }
 

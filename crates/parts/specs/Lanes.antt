@@ -1,42 +1,50 @@
 -- A part with what it gave at the last event.
 use Rattle.std.specs.Prelude.{◌≡◌, ℕ, List, [], Option}
 use Rattle.gate_events.specs.Emit.{Emit}
-use Rattle.gate_outbox.specs.Output.{emits_of, no_emits}
+use Rattle.gate_outbox.specs.Output.{emits_of}
 use Rattle.history.specs.Entries.{History}
 use Rattle.history.specs.Settings.{Settings}
 use Rattle.parts.specs.declared.given.Given.{Given}
 use Rattle.parts.specs.Compose.{maybe_output, maybe_stand}
 use Rattle.parts.specs.PartSteps.{KeepsCommands}
 
--- the part, and what it gave
-pub record LaneKept (K : Type 0) (room : ℕ) : Type 0 where
+-- ---- places for it
+
+abbrev pub given_output : {room : ℕ} → Given room → List Emit
+given_output given = emits_of given.emits
+
+abbrev pub given_plain : {room : ℕ} → Given room → List Emit
+given_plain given = emits_of given.plain
+
+pub record IsEmptyPlace {E : Type 0} (output plain : E → List Emit) (place : E) : Type 0 where
+  pub emits : output place ≡ []
+  pub said : plain place ≡ []
+
+-- ---- the part, and its place
+
+pub record LaneKept (K E : Type 0) : Type 0 where
   pub part : K
-  pub given : Given room
+  pub place : E
 
-abbrev pub nothing_given : {room : ℕ} → Given room
-nothing_given = record { emits = no_emits; plain = no_emits }
-
-abbrev pub lane_stands : {R K : Type 0} {room : ℕ} → (R → Settings → ℕ → History → K → Type 0) → R → Settings → ℕ → History → LaneKept K room → Type 0
+abbrev pub lane_stands : {R K E : Type 0} → (R → Settings → ℕ → History → K → Type 0) → R → Settings → ℕ → History → LaneKept K E → Type 0
 lane_stands stands r c s h lane = stands r c s h lane.part
 
-abbrev pub lane_output : {K : Type 0} {room : ℕ} → LaneKept K room → List Emit
-lane_output lane = emits_of lane.given.emits
+abbrev pub lane_output : {K E : Type 0} → (E → List Emit) → LaneKept K E → List Emit
+lane_output output lane = output lane.place
 
-abbrev pub lane_plain : {K : Type 0} {room : ℕ} → LaneKept K room → List Emit
-lane_plain lane = emits_of lane.given.plain
-
-pub lane_keeps_commands : {R K : Type 0} {room : ℕ} (stands : R → Settings → ℕ → History → K → Type 0) → KeepsCommands stands
-    → KeepsCommands (lane_stands {room = room} stands)
+pub lane_keeps_commands : {R K E : Type 0} (stands : R → Settings → ℕ → History → K → Type 0) → KeepsCommands stands
+    → KeepsCommands (lane_stands {E = E} stands)
 lane_keeps_commands stands keeps r c s h source address lane are is = keeps r c s h source address lane.part are is
 
 -- ---- a lane that was made of a part: it stands for what the part stands for, and gave nothing yet
 
-pub record IsLane {R K : Type 0} {room : ℕ} (stands : R → Settings → ℕ → History → K → Type 0) (part : K) (lane : LaneKept K room) : Type 0 where
+pub record IsLane {R K E : Type 0} (stands : R → Settings → ℕ → History → K → Type 0) (output plain : E → List Emit) (part : K) (lane : LaneKept K E) : Type 0 where
   pub stood : (r : R) (c : Settings) (s : ℕ) (h : History) → stands r c s h part → lane_stands stands r c s h lane
-  pub emits : lane_output lane ≡ []
-  pub said : lane_plain lane ≡ []
+  pub emits : lane_output output lane ≡ []
+  pub said : lane_output plain lane ≡ []
 
-pub record IsMaybeLane {R K : Type 0} {room : ℕ} (stands : R → Settings → ℕ → History → K → Type 0) (part : Option K) (lane : Option (LaneKept K room)) : Type 0 where
+pub record IsMaybeLane {R K E : Type 0} (stands : R → Settings → ℕ → History → K → Type 0) (output plain : E → List Emit) (part : Option K)
+    (lane : Option (LaneKept K E)) : Type 0 where
   pub stood : (r : Option R) (c : Settings) (s : ℕ) (h : History) → maybe_stand stands r c s h part → maybe_stand (lane_stands stands) r c s h lane
-  pub emits : maybe_output lane_output lane ≡ []
-  pub said : maybe_output lane_plain lane ≡ []
+  pub emits : maybe_output (lane_output output) lane ≡ []
+  pub said : maybe_output (lane_output plain) lane ≡ []

@@ -4,7 +4,6 @@ use Rattle.gate_events.specs.Emit.{Emit}
 use Rattle.history.specs.AddressLaws.{AreSettings}
 use Rattle.history.specs.Entries.{Entry, History, IsHistory, command, now}
 use Rattle.history.specs.Settings.{Settings}
-use Rattle.gate_outbox.specs.Output.{Emitted, emits_of}
 use Rattle.gate_core.specs.Promises.{IsTaken}
 use Rattle.gate_core.specs.Steps.{entry_of}
 use Rattle.parts.specs.declared.part.Step.{Step}
@@ -46,14 +45,14 @@ KeepsCommands {R} {K} stands =
     (r : R) (c : Settings) (s : ℕ) (h : History) (source address : ℕ) (k : K) → AreSettings c → stands r c s h k
     → stands r c s (command (now h) source address ∷ h) k
 
--- ---- of one part, what it gave
+-- ---- of one part, what it gave in its place
 
-pub record IsSaid {R K : Type 0} (stands : R → Settings → ℕ → History → K → Type 0) (gives : R → Settings → ℕ → History → Entry → List Emit)
-    (r : R) (c : Settings) (s : ℕ) (h : History) (e : Entry) (after : K) (given : Emitted) : Type 0 where
+pub record IsSaid {R K E : Type 0} (stands : R → Settings → ℕ → History → K → Type 0) (gives : R → Settings → ℕ → History → Entry → List Emit)
+    (output : E → List Emit) (r : R) (c : Settings) (s : ℕ) (h : History) (e : Entry) (after : K) (place : E) : Type 0 where
   pub stood : stands r c s (e ∷ h) after
-  pub emits : emits_of given ≡ gives r c s h e
+  pub emits : output place ≡ gives r c s h e
 
-abbrev pub Says : {R K : Type 0} → (R → Settings → ℕ → History → K → Type 0) → (R → Settings → ℕ → History → Entry → List Emit)
-    → Step → K → K → Emitted → Type 0
-Says {R} {K} stands gives t before after given =
-    (r : R) (c : Settings) (s : ℕ) (h : History) → IsStepped c s h t → stands r c s h before → IsSaid stands gives r c s h (entry_at t) after given
+abbrev pub Says : {R K E : Type 0} → (R → Settings → ℕ → History → K → Type 0) → (R → Settings → ℕ → History → Entry → List Emit)
+    → (E → List Emit) → Step → K → K → E → Type 0
+Says {R} {K} {E} stands gives output t before after place =
+    (r : R) (c : Settings) (s : ℕ) (h : History) → IsStepped c s h t → stands r c s h before → IsSaid stands gives output r c s h (entry_at t) after place

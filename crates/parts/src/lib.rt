@@ -9,7 +9,10 @@ mod lane;
 mod maybe;
 mod part;
 mod parts;
+mod place;
 
+pub use given::Given;
 pub use lane::Lane;
 pub use part::{Part, Step};
 pub use parts::Parts;
+pub use place::Place;

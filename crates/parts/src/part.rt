@@ -1,15 +1,14 @@
 //! A part beside the gateway.
-ghost use Rattle.std.specs.Prelude.{◌≡◌, ◌≤◌, ℕ, false, List};
+ghost use Rattle.std.specs.Prelude.{◌≡◌, ℕ, false, List, []};
 ghost use Rattle.gate_events.specs.Emit.{Emit};
-ghost use Rattle.gate_outbox.specs.Output.{no_emits};
 ghost use Rattle.gate_core.specs.Steps.{IsEventValid};
 ghost use Rattle.history.specs.Entries.{Entry, History};
 ghost use Rattle.history.specs.Settings.{Settings};
-ghost use Rattle.parts.specs.PartSteps.{KeepsCommands, Says, most_output};
+ghost use Rattle.parts.specs.PartSteps.{KeepsCommands, Says};
 
+use crate::place::Place;
 use gate_core::{Gateway, Outbox};
 use gate_events::Event;
-use gate_outbox::Emits;
 
 /// An event that the gateway took in its last step.
 #[derive(Drop)]
@@ -23,8 +22,8 @@ pub struct Step<'a> {
     pub start: u64,
 }
 
-/// A part beside the gateway: it is told each event that the gateway took, and gives at most `ROOM` frames and reports, and a datagram behind them.
-pub trait Part<const ROOM: usize>: Drop {
+/// A part beside the gateway: it is told each event that the gateway took, and leaves what it gives in a place.
+pub trait Part<E: Place>: Drop {
     /// By what it is configured.
     ghost Rule: { Type 0 };
 
@@ -35,15 +34,13 @@ pub trait Part<const ROOM: usize>: Drop {
     ghost gives: { Rule → Settings → ℕ → History → Entry → List Emit };
 
     /// Takes an event. False: it gives nothing.
-    fn after(&mut self, step: &Step<'_>, emits: &mut Emits<ROOM>) -> bool
+    fn after(&mut self, step: &Step<'_>, place: &mut E) -> bool
         requires valid { IsEventValid step.now.event.now }
-        requires empty { emits.old ≡ no_emits }
-        ensures takes { Says stands gives step.now self.old self.new emits.new }
-        ensures gave { result ≡ false → emits.new ≡ no_emits };
+        requires empty { E.output place.old ≡ [] }
+        ensures takes { Says stands gives E.output step.now self.old self.new place.new }
+        ensures unsaid { E.plain place.new ≡ E.plain place.old }
+        ensures gave { result ≡ false → E.output place.new ≡ [] };
 
     /// A command to go to an address is no event for it.
     ghost commands: { KeepsCommands stands };
-
-    /// What it gives has a size.
-    ghost room: { ROOM ≤ most_output };
 }

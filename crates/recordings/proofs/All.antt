@@ -37,7 +37,7 @@ use Rattle.gateway_commands.specs.Each.{
   sources_give,
   sources_stand,
 }
-use Rattle.gateway_commands.specs.Forms.{lane}
+use Rattle.gateway_commands.specs.Forms.{lane, place}
 use Rattle.gateway_commands.specs.BridgeSettings.{BridgeSettings}
 use Rattle.recordings.proofs.Known.{known_without}
 use Rattle.recordings.proofs.Gathered.{ap₃, joined, none_left, none_right}
@@ -95,19 +95,19 @@ abbrev heard_since : (kinds : ℕ → Kind) (limit : ℕ) (c : Settings) (s m : 
 heard_since kinds limit c s m h le none [] t = heard_first_later kinds limit c s m h le none t
 heard_since kinds limit c s m h le none (e ∷ newer) t = heard_later kinds limit c s m h e newer t
 
-answering_quiet : IsQuiet (lane most_answered answering_stands answering_gives answering_keeps_commands)
+answering_quiet : IsQuiet (lane (place most_answered) answering_stands answering_gives answering_keeps_commands)
 answering_quiet = record {
   first = λ information c s m. refl;
   later = λ information c s m h le none newer e. answers_without c s m h information newer e;
 }
 
-rmc_quiet : IsQuiet (lane 0 joining_stands joining_gives joining_keeps_commands)
+rmc_quiet : IsQuiet (lane (place 0) joining_stands joining_gives joining_keeps_commands)
 rmc_quiet = record {
   first = λ r c s m. refl;
   later = λ r c s m h le none newer e. rmc_without r c s m h newer e;
 }
 
-ships_quiet : IsQuiet (lane most_of_ships ships_stand ships_give ships_keep_commands)
+ships_quiet : IsQuiet (lane (place most_of_ships) ships_stand ships_give ships_keep_commands)
 ships_quiet = record {
   first = λ a c s m. refl;
   later = λ a c s m h le none newer e.
@@ -115,7 +115,7 @@ ships_quiet = record {
       (heard_since report_kinds a.slots c s m h le (none_left (heard_expired report_kinds a.slots c s h m) (report_gives a c s h (tick m)) none) newer (moment_of e));
 }
 
-quantities_quiet : IsQuiet (lane most_of_quantities quantities_stand quantities_give quantities_keep_commands)
+quantities_quiet : IsQuiet (lane (place most_of_quantities) quantities_stand quantities_give quantities_keep_commands)
 quantities_quiet = record {
   first = λ x c s m. refl;
   later = λ x c s m h le none newer e.
@@ -125,13 +125,13 @@ quantities_quiet = record {
       (message_breaks (further_done x c s h (tick m)) ++ said_gives x c.sfi (lines_said x c s h) (said_at x c s h (tick m))) none) newer (moment_of e));
 }
 
-sources_quiet : IsQuiet (lane 1 sources_stand sources_give sources_keep_commands)
+sources_quiet : IsQuiet (lane (place 1) sources_stand sources_give sources_keep_commands)
 sources_quiet = record {
   first = λ r c s m. refl;
   later = λ r c s m h le none newer e. source_without c s m h newer e;
 }
 
-address_quiet : IsQuiet (lane 1 address_stands address_gives address_keeps_commands)
+address_quiet : IsQuiet (lane (place 1) address_stands address_gives address_keeps_commands)
 address_quiet = record {
   first = λ r c s m. address_first c s m;
   later = λ r c s m h le none newer e. address_without c s m h none newer e;

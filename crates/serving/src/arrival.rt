@@ -8,7 +8,7 @@ ghost use Rattle.gate_outside.specs.Link.{GoesOn, Outcome, received_also};
 ghost use Rattle.serving.specs.Handing.{frame_came, frame_said};
 ghost use Rattle.serving.specs.Turns.{from_bus, refused, line_says, text_of};
 
-use capture_text::read_line;
+use capture_text::{MOST_BYTES, read_line};
 use gate_events::{Detail, Event, Report};
 use gate_outside::{Arrival, Failed, LARGEST_ARRIVAL, Link};
 use n2k_id::Frame;
@@ -48,7 +48,7 @@ fn frame_in(number: u64, text: &[u8]) -> Result<Frame, Report>
     ensures came { (m : ℕ) → frame_said m result ≡ line_says m number (read text.now) }
     ensures valid { IfOk result IsFrame }
 {
-    let mut room = [0; 2048];
+    let mut room = [0; MOST_BYTES];
     match read_line(text, &mut room) {
         Ok(Event::Frame { frame, .. }) => Ok(frame),
         Ok(Event::Datagram { .. } | Event::Tick { .. }) => Err(refused(CAPTURE_FORM, number)),

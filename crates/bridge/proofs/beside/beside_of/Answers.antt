@@ -2,7 +2,7 @@ use Rattle.std.proofs.Common.{[]}
 use Rattle.config_values.specs.Settings.{settings_ignoring}
 use Rattle.bus_identity.specs.Payloads.{information_of}
 use Rattle.parts.specs.Compose.{maybe_output}
-use Rattle.parts.specs.Lanes.{lane_output, lane_plain}
+use Rattle.parts.specs.Lanes.{given_output, given_plain, lane_output}
 use Rattle.bridge.specs.Beside.{wanted}
 use Rattle.bridge.specs.BridgeSettings.{bridge_settings_of, quantities_rule, rmc_rule}
 use Rattle.bridge.proofs.Made.{all_empty, slots_of}
@@ -34,10 +34,10 @@ returns c =
           ),
         ),
       );
-      emits = all_empty (lane_output c.in_ok-answering.answering) (maybe_output lane_output c.in_ok-joining.joining) (maybe_output lane_output c.in_ok-ships.ships)
-          (maybe_output lane_output c.in_ok-quantities.quantities) (maybe_output lane_output c.in_ok-sources.sources) (maybe_output lane_output c.in_ok-address.address)
+      emits = all_empty (lane_output given_output c.in_ok-answering.answering) (maybe_output (lane_output given_output) c.in_ok-joining.joining) (maybe_output (lane_output given_output) c.in_ok-ships.ships)
+          (maybe_output (lane_output given_output) c.in_ok-quantities.quantities) (maybe_output (lane_output given_output) c.in_ok-sources.sources) (maybe_output (lane_output given_output) c.in_ok-address.address)
           c.in_ok-answering.ensures.emits c.in_ok-joining.ensures.emits c.in_ok-ships.ensures.emits c.in_ok-quantities.ensures.emits c.in_ok-sources.ensures.emits c.in_ok-address.ensures.emits;
-      said = all_empty (lane_plain c.in_ok-answering.answering) (maybe_output lane_plain c.in_ok-joining.joining) (maybe_output lane_plain c.in_ok-ships.ships)
-          (maybe_output lane_plain c.in_ok-quantities.quantities) (maybe_output lane_plain c.in_ok-sources.sources) (maybe_output lane_plain c.in_ok-address.address)
+      said = all_empty (lane_output given_plain c.in_ok-answering.answering) (maybe_output (lane_output given_plain) c.in_ok-joining.joining) (maybe_output (lane_output given_plain) c.in_ok-ships.ships)
+          (maybe_output (lane_output given_plain) c.in_ok-quantities.quantities) (maybe_output (lane_output given_plain) c.in_ok-sources.sources) (maybe_output (lane_output given_plain) c.in_ok-address.address)
           c.in_ok-answering.ensures.said c.in_ok-joining.ensures.said c.in_ok-ships.ensures.said c.in_ok-quantities.ensures.said c.in_ok-sources.ensures.said c.in_ok-address.ensures.said;
     }

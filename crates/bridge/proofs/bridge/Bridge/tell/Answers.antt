@@ -25,3 +25,18 @@ returns-else-posts c =
     ∙ nothing_said c.in-Some.group x.outbox (beside_output parts) (c.after-self-inside.ensures.gave c.if-self.false) (c.posts.ensures c.if-posts.false) in
     subst (λ (b : Bridged). IsBesideStep e b (record before { parts = parts })) same
     (is_beside_step e before parts told alone c.after-self-inside.ensures.unsaid silent)
+
+pub returns-in-None : goal.returns-in-None
+returns-in-None c =
+    let i = c.self.inside in
+    let x = c.as_mut-output.result.now in
+    let e = entry_of c.args.event.now in
+    let parts = c.after-self-inside.new.self in
+    let before : Bridged = record { started = i.started; start = i.start; gateway = i.gateway; parts = i.parts; plain = i.plain; records = i.records; output = x } in
+    let same : before ≡ c.args.self.now = ap (λ (o : CallOutput). let b : Bridged = record before { output = o } in b) c.as_mut-output.ensures.value ∙ c.self.view_is in
+    let told : AreTold e before parts = λ r settings s h are start could taken stands. c.after-self-inside.ensures.takes r settings s h
+    (record { settings = are; start = start; could = could; taken = taken }) stands in
+    let alone : IsAlone before.output before.parts = subst (λ (b : Bridged). IsAlone b.output b.parts) (sym same) c.requires.alone in
+    subst (λ (b : Bridged). IsBesideStep e b (record before { parts = parts })) same
+    (is_beside_step e before parts told alone c.after-self-inside.ensures.unsaid
+    (ap (λ (group : Option (List ℕ)). plain_of group (emits_of x.outbox.emits ++ beside_output parts)) c.in-None.is))
