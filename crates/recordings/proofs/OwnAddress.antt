@@ -1,8 +1,12 @@
 -- A tick at which no change of the gateway's own address is told changes nothing that is told of it later.
-use Rattle.std.proofs.Common.{◌≡◌, ℕ, ◌≤◌, true, false, List, [], ◌∷◌, ◌++◌, refl, sym, ap, ◌∙◌}
+use Rattle.std.proofs.Common.{◌≡◌, ℕ, Bool, true, false, List, [], ◌∷◌, ◌++◌, refl, sym, ap, ◌∙◌}
 use Rattle.std.specs.Prelude.{nat_eq, Option, Some, None}
 use Rattle.std.specs.Option.{option_eq}
-use Rattle.std.proofs.lemmas.Bool.{eqb-refl, eqb-true}
+use Rattle.std.proofs.lemmas.Bool.{eq-eqb, eqb-true}
+use Rattle.report_rules.specs.Rules as rules
+use Rattle.gate_events.specs.declared.emit.Detail.TheVariants as detail
+use Rattle.gate_events.specs.Emit.{Emit}
+use Rattle.history.specs.Emits.{broken}
 use Rattle.history.specs.Entries as entry
 use Rattle.history.specs.Entries.{Entry, History, tick}
 use Rattle.history.specs.Known.{Known}
@@ -10,10 +14,13 @@ use Rattle.history.specs.Settings.{Settings, receiver_of}
 use Rattle.gateway_commands.specs.AddressOut.{address_out, own_at, own_told, told}
 use Rattle.recordings.proofs.Known.{known_without}
 
+told_something : (e : Emit) → e ∷ [] ≡ [] → ⊥
+told_something e is = cc
+
 -- what is told of the same address is nothing, and where nothing is told it is the same
 unchanged : (a : Option ℕ) → told a a ≡ []
 unchanged None = refl
-unchanged (Some n) = rw (eqb-refl n) refl
+unchanged (Some n) = rw (eq-eqb n n refl) refl
 
 same : (before now : Option ℕ) → told before now ≡ [] → before ≡ now
 same None None none = refl
@@ -23,7 +30,7 @@ same (Some b) (Some n) none = by (nat_eq n b) refl
   where
     by : (x : Bool) → nat_eq n b ≡ x → Some b ≡ Some n
     by true is = ap Some (sym (eqb-true n b is))
-    by false is = absurd (rw is at none)
+    by false is = absurd (told_something (broken rules.own_address (detail.Own (Some n))) (rw is at none))
 
 module _ (c : Settings) (s m : ℕ) (h : History) (none : address_out c s h (tick m) ≡ []) where
   own_without : (newer : History) → own_at c s (newer ++ h) ≡ own_at c s (newer ++ tick m ∷ h)
