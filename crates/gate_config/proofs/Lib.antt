@@ -1,3 +1,4 @@
+pub mod Alone
 pub mod Beside
 pub mod Decimals
 pub mod Each

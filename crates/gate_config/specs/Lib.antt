@@ -1,3 +1,4 @@
+pub mod Alone
 pub mod Beside
 pub mod ConfigOf
 pub mod Keys

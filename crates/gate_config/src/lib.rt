@@ -10,6 +10,7 @@ mod gateway;
 mod identity;
 mod items;
 mod keys;
+pub mod laws;
 mod links;
 mod parts;
 mod presets;

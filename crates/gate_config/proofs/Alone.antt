@@ -1,0 +1,297 @@
+-- What is read of tables of which no key stands, and what stands for a document without such keys.
+use Rattle.std.proofs.Common.{◌≡◌, ℕ, Bool, true, false, List, [], ◌∷◌, ◌++◌, Option, Some, None, Ok, Err, inl, inr, refl, sym, ap, subst, ◌∙◌}
+use Rattle.std.specs.Prelude.{Result, ◌||◌, codes, is_some, option_map, unwrap_or}
+use Rattle.std.specs.List.{AllByRecursion}
+use Rattle.claim_table.specs.declared.preset.Preset.{Preset}
+use Rattle.toml.specs.Data as toml
+use Rattle.toml.specs.Data.{Data, Members, as_table, get_member, no_members}
+use Rattle.quantities.specs.About.{about_of as about_quantity, quantities as all_quantities}
+use Rattle.quantities.specs.declared.about.Quantity.{Quantity}
+use Rattle.arrayvec.specs.ArrayVec.{ArrayVec}
+use Rattle.config_document.specs.Keys.{held, key_at, number_at, truth_at}
+use Rattle.config_document.specs.Kinds.{kind, number_in, text_in, truth_in}
+use Rattle.config_document.specs.Places.{Place, path_of}
+use Rattle.config_document.specs.Texts.{group_in}
+use Rattle.config_document.specs.declared.fault.ConfigFault.{ConfigFault}
+use Rattle.config_document.specs.declared.fault.Flaw.{Flaw}
+use Rattle.config_values.specs.declared.config.Ends.{Ends}
+use Rattle.config_values.specs.Rows.{usual_timeout}
+use Rattle.config_values.specs.declared.row_config.RowConfig.{RowConfig}
+use Rattle.n2k_id.specs.declared.pattern.Pattern.{Pattern}
+use Rattle.gate_config.specs.Alone.{FileAsksNothingFurther, AsksNothingFurther, FilesSaySettings, IsTable, KeysSaySettings, Lacks, alone_of}
+use Rattle.gate_config.specs.ConfigOf.{IsWholeConfigOf, config_in, document_place, known, settings_alone}
+use Rattle.gate_config.specs.Keys.{any_asks, asks as asked_for, bus, further, gateway, ignored, is_asked, net, plain, preset, quantity, rows_in, report, serve, links_in, own_group, own_group_at, part_groups, quantities_in, quantity_at, quantity_of, settings_in, setup_in}
+use Rattle.gate_config.specs.Reading.{◌>>=◌, Table, default, each_from, items_in, key_prefix, prefix_of, section_at, table_in, unless}
+use Rattle.gate_config.specs.Unknown.{first_unknown, place_under, quantity_names, table_of}
+use Rattle.settings.specs.Setup.{alone}
+use Rattle.settings.specs.declared.quantity_config.Quantities.{Quantities}
+use Rattle.settings.specs.declared.quantity_config.QuantityConfig.{QuantityConfig}
+use Rattle.settings.specs.declared.settings.Settings.{Settings}
+use Rattle.settings.specs.declared.setup.Setup.{Setup}
+
+-- ---- a key that doesn't stand
+
+default_at : {A : Type 0} (other : A) (read : Data → Result A Flaw) (place : Place) (name : List ℕ) → get_member name place.members ≡ None
+    → default other (key_at read) place name ≡ Ok other
+unfolding default
+default_at other read place name none = ap (λ found. held read (path_of place name) found >>= λ x. Ok (unwrap_or x other)) none
+
+-- a group that nothing asks for
+group_at : (rows : List RowConfig) (parts : List (Option (List ℕ))) (asks : Place → Bool) (place : Place) (name : List ℕ) → get_member name place.members ≡ None
+    → asks place ≡ false → own_group_at rows parts asks place name ≡ Ok None
+group_at rows parts asks place name none unasked =
+    ap (λ found. own_group rows parts (asks place) place name (held (text_in group_in) (path_of place name) found)) none
+    ∙ ap (λ asked. own_group rows parts asked place name (Ok None)) unasked
+
+-- ---- tables
+
+abbrev placed : List ℕ → Members → Place
+placed prefix members = record { prefix = prefix; members = members }
+
+section_of : (path prefix : List ℕ) (found : Option Data) → IsTable found
+    → (held (λ value. kind (as_table value)) path found >>= λ x. Ok (placed prefix (unwrap_or x no_members))) ≡ Ok (placed prefix (table_of found))
+section_of path prefix None is = refl
+section_of path prefix (Some (toml.table keys)) is = refl
+section_of path prefix (Some (toml.string text)) is = absurd is
+section_of path prefix (Some (toml.integer n)) is = absurd is
+section_of path prefix (Some (toml.float x)) is = absurd is
+section_of path prefix (Some (toml.boolean b)) is = absurd is
+section_of path prefix (Some (toml.datetime d)) is = absurd is
+section_of path prefix (Some (toml.array items)) is = absurd is
+
+section_there : (document : Place) (name prefix : List ℕ) → IsTable (get_member name document.members) → section_at document name prefix ≡ Ok (place_under document name prefix)
+section_there document name prefix is = section_of (path_of document name) prefix (get_member name document.members) is
+
+table_found : (path prefix : List ℕ) (found : Option Data) (place : Place) → (held (λ value. kind (as_table value)) path found >>= λ x. Ok (placed prefix (unwrap_or x no_members))) ≡ Ok place
+    → IsTable found
+table_found path prefix None place is = tt
+table_found path prefix (Some (toml.table keys)) place is = tt
+table_found path prefix (Some (toml.string text)) place is = absurd cc
+table_found path prefix (Some (toml.integer n)) place is = absurd cc
+table_found path prefix (Some (toml.float x)) place is = absurd cc
+table_found path prefix (Some (toml.boolean b)) place is = absurd cc
+table_found path prefix (Some (toml.datetime d)) place is = absurd cc
+table_found path prefix (Some (toml.array items)) place is = absurd cc
+
+-- a step that says something, and then the next one
+then_says : {A B : Type 0} (read : Result A ConfigFault) (next : A → Result B ConfigFault) (x : A) (given : Result B ConfigFault) → read ≡ Ok x → next x ≡ given
+    → (read >>= next) ≡ given
+then_says read next x given is more = ap (λ r. r >>= next) is ∙ more
+
+-- what a table says, where its keys say it
+said_there : {E A : Type 0} (t : Table E A) (beside : E) (document : Place) (x : A) → IsTable (get_member t.name document.members)
+    → t.read beside (place_under document t.name (prefix_of t.name)) ≡ Ok x → table_in t beside document ≡ Ok x
+said_there t beside document x there said =
+    then_says (section_at document t.name (prefix_of t.name)) (t.read beside) (place_under document t.name (prefix_of t.name)) (Ok x)
+    (section_there document t.name (prefix_of t.name) there) said
+
+one_key : {A B : Type 0} (make : A → B) (read : Result A ConfigFault) (x : A) → read ≡ Ok x → (read >>= λ y. Ok (make y)) ≡ Ok (make x)
+one_key make read x is = ap (λ r. r >>= λ y. Ok (make y)) is
+
+two_keys :
+    {A B C : Type 0} (make : A → B → C) (first : Result A ConfigFault) (second : Result B ConfigFault) (x : A) (y : B) → first ≡ Ok x → second ≡ Ok y
+    → ((first >>= λ a. Ok (make a)) >>= λ made. second >>= λ b. Ok (made b)) ≡ Ok (make x y)
+two_keys make first second x y is_x is_y = ap (λ r. (r >>= λ a. Ok (make a)) >>= λ made. second >>= λ b. Ok (made b)) is_x ∙ one_key (make x) second y is_y
+
+-- ---- each part
+
+abbrev NoneIn : Place → List (List ℕ) → Type 0
+NoneIn place names = AllByRecursion (λ name. get_member name place.members ≡ None) names
+
+ignored_read : (place : Place) → NoneIn place ignored.known → ignored.read tt place ≡ Ok (record { items = [] })
+unfolding ignored unless
+ignored_read place none = rw none.0 refl
+
+reports_read : (place : Place) → NoneIn place report.known → report.read tt place ≡ Ok (false, false)
+unfolding report
+reports_read place none =
+    two_keys (λ sources address. (sources, address)) (default false truth_at place (codes "sources")) (default false truth_at place (codes "address")) false false
+    (default_at false truth_in place (codes "sources") none.0) (default_at false truth_in place (codes "address") none.1.0)
+
+recording_read : (place : Place) → NoneIn place serve.known → serve.read tt place ≡ Ok false
+unfolding serve
+recording_read place none =
+    one_key (λ recording. recording) (default false truth_at place (codes "record")) false (default_at false truth_in place (codes "record") none.0)
+
+plain_read : (rows : List RowConfig) (parts : List (Option (List ℕ))) (place : Place) → NoneIn place plain.known → plain.read (rows, parts) place ≡ Ok None
+unfolding plain
+plain_read rows parts place none =
+    one_key (λ group. group) (own_group_at rows parts (λ place. false) place (codes "group")) None (group_at rows parts (λ place. false) place (codes "group") none.0 refl)
+
+-- ---- further quantities
+
+any_unasked : (place : Place) (all : List Quantity) → NoneIn place (quantity_names all) → any_asks place all ≡ false
+any_unasked place [] none = refl
+any_unasked place (q ∷ all) none = ap (λ found. asked_for found || any_asks place all) none.0 ∙ any_unasked place all none.1
+
+group_unasked : (place : Place) → get_member (codes "slots") place.members ≡ None → NoneIn place (quantity_names all_quantities) → is_asked place ≡ false
+group_unasked place slots none = ap (λ found. is_some found || any_asks place all_quantities) slots ∙ any_unasked place all_quantities none
+
+further_read : (rows : List RowConfig) (parts : List (Option (List ℕ))) (place : Place) → NoneIn place (further.known ++ quantity_names all_quantities)
+    → further.read (rows, parts) place ≡ Ok (None, 16)
+unfolding further
+further_read rows parts place none =
+    two_keys (λ group slots. (group, slots)) (own_group_at rows parts is_asked place (codes "group")) (default 16 (number_at 1 256) place (codes "slots")) None 16
+    (group_at rows parts is_asked place (codes "group") none.0 (group_unasked place none.1.0 none.1.1))
+    (default_at 16 (number_in 1 256) place (codes "slots") none.1.0)
+
+quantities_among : (document : Place) → Lacks further.name (further.known ++ quantity_names all_quantities) document
+    → NoneIn (place_under document further.name (prefix_of further.name)) (quantity_names all_quantities)
+unfolding further
+quantities_among document lacks = lacks.none.1.1
+
+-- a quantity of which no key stands is configured as ever
+abbrev usual : List ℕ → QuantityConfig
+usual talker = record { sources = record { items = [] }; others = true; timeout_ms = usual_timeout; talker = talker }
+
+quantity_read : (place : Place) (q : Quantity) → get_member (about_quantity q).name place.members ≡ None → quantity_of place q ≡ Ok (usual (about_quantity q).talker)
+unfolding quantity_at quantity default unless
+quantity_read place q none =
+    let name = (about_quantity q).name in
+    let prefix = key_prefix (codes "further.") name in
+    ap (λ found. (held (λ value. kind (as_table value)) (path_of place name) found >>= λ x. Ok (placed prefix (unwrap_or x no_members))) >>= quantity.read (about_quantity q).talker) none
+
+each_read : (place : Place) (all : List Quantity) (earlier : List QuantityConfig) → NoneIn place (quantity_names all)
+    → (each : List QuantityConfig) × (each_from (quantity_of place) earlier all ≡ Ok each)
+each_read place [] earlier none = (earlier, refl)
+each_read place (q ∷ all) earlier none =
+    let x = usual (about_quantity q).talker in
+    let more = each_read place all (earlier ++ x ∷ []) none.1 in
+    (more.0, then_says (quantity_of place q) (λ x. each_from (quantity_of place) (earlier ++ x ∷ []) all) x (Ok more.0) (quantity_read place q none.0) more.1)
+
+abbrev with_each : Option (List ℕ) × ℕ → List QuantityConfig → Result (Option Quantities) ConfigFault
+with_each all each = Ok (option_map (λ group. record { group = group; slots = all.1; each = each }) all.0)
+
+quantities_read : (rows : List RowConfig) (parts : List (Option (List ℕ))) (document : Place) → Lacks further.name (further.known ++ quantity_names all_quantities) document
+    → quantities_in rows parts document ≡ Ok None
+unfolding quantities_in
+quantities_read rows parts document lacks =
+    let name = further.name in
+    let place = place_under document name (prefix_of name) in
+    let each = each_read place all_quantities [] (quantities_among document lacks) in
+    then_says (section_at document name (prefix_of name)) (λ at. further.read (rows, parts) at >>= λ all. each_from (quantity_of at) [] all_quantities >>= with_each all) place (Ok None)
+    (section_there document name (prefix_of name) lacks.is_table)
+    (then_says (further.read (rows, parts) place) (λ all. each_from (quantity_of place) [] all_quantities >>= with_each all) (None, 16) (Ok None)
+    (further_read rows parts place lacks.none)
+    (then_says (each_from (quantity_of place) [] all_quantities) (with_each (None, 16)) each.0 (Ok None) each.1 refl))
+
+-- ---- all keys
+
+bound : {A B : Type 0} (read : Result A ConfigFault) (next : A → Result B ConfigFault) (y : B) → (read >>= next) ≡ Ok y → (x : A) × ((read ≡ Ok x) × (next x ≡ Ok y))
+bound (Ok x) next y is = (x, (refl, is))
+bound (Err f) next y is = absurd cc
+
+abbrev set_up : Settings → ArrayVec Pattern → Option Quantities → Bool × Bool → Option (List ℕ) → Bool → Setup
+set_up settings devices quantities reports group recording = record {
+  settings = settings;
+  ignore = devices;
+  quantities = quantities;
+  sources = reports.0;
+  address = reports.1;
+  plain = group;
+  «record» = recording;
+}
+
+module _ (document : Place) (settings : Settings) where
+  abbrev rows : List RowConfig
+  rows = settings.config.rows
+
+  abbrev groups : List (Option (List ℕ))
+  groups = part_groups settings
+
+  abbrev from_recording : ArrayVec Pattern → Option Quantities → Bool × Bool → Option (List ℕ) → Result Setup ConfigFault
+  from_recording devices quantities reports group = table_in serve tt document >>= λ recording. Ok (set_up settings devices quantities reports group recording)
+
+  abbrev from_plain : ArrayVec Pattern → Option Quantities → Bool × Bool → Result Setup ConfigFault
+  from_plain devices quantities reports =
+      table_in plain (rows, option_map (λ q. q.group) quantities ∷ groups) document >>= from_recording devices quantities reports
+
+  abbrev from_reports : ArrayVec Pattern → Option Quantities → Result Setup ConfigFault
+  from_reports devices quantities = table_in report tt document >>= from_plain devices quantities
+
+  abbrev from_quantities : ArrayVec Pattern → Result Setup ConfigFault
+  from_quantities devices = quantities_in rows groups document >>= from_reports devices
+
+  abbrev behind : Result Setup ConfigFault
+  behind = table_in ignored tt document >>= from_quantities
+
+  abbrev nobody : ArrayVec Pattern
+  nobody = record { items = [] }
+
+  nothing_behind : AsksNothingFurther document → IsTable (get_member ignored.name document.members) → behind ≡ Ok (alone settings)
+  nothing_behind asks bus =
+      let all = Ok (alone settings) in
+      then_says (table_in ignored tt document) from_quantities nobody all (said_there ignored tt document nobody bus (ignored_read _ asks.ignored))
+      (then_says (quantities_in rows groups document) (from_reports nobody) None all (quantities_read rows groups document asks.quantities)
+      (then_says (table_in report tt document) (from_plain nobody None) (false, false) all
+      (said_there report tt document (false, false) asks.reports.is_table (reports_read _ asks.reports.none))
+      (then_says (table_in plain (rows, None ∷ groups) document) (from_recording nobody None (false, false)) None all
+      (said_there plain (rows, None ∷ groups) document None asks.plain.is_table (plain_read rows (None ∷ groups) _ asks.plain.none))
+      (then_says (table_in serve tt document) (λ recording. Ok (set_up settings nobody None (false, false) None recording)) false all
+      (said_there serve tt document false asks.recording.is_table (recording_read _ asks.recording.none)) refl))))
+
+-- settings that were read had a table of the bus, or none
+table_among : (document : Place) (name prefix : List ℕ) (place : Place) → section_at document name prefix ≡ Ok place → IsTable (get_member name document.members)
+table_among document name prefix place is = table_found (path_of document name) prefix (get_member name document.members) place is
+
+links_among : (own : List ℕ) (document : Place) (links : ArrayVec (List ℕ) × Ends) → links_in own document ≡ Ok links → IsTable (get_member ignored.name document.members)
+unfolding links_in bus ignored
+links_among own document links said =
+    let from_net = bound (table_in net own document) _ links said in
+    let from_bus = bound (table_in bus tt document) _ links from_net.1.1 in
+    let place = bound (section_at document (codes "bus") (codes "bus.")) (bus.read tt) from_bus.0 from_bus.1.0 in
+    table_among document (codes "bus") (codes "bus.") place.0 place.1.0
+
+bus_among : (document : Place) (settings : Settings) → settings_in document ≡ Ok settings → IsTable (get_member ignored.name document.members)
+unfolding settings_in
+bus_among document settings said =
+    let own = bound (table_in gateway tt document) _ settings said in
+    let first : Preset = record { address = own.0.address; name = own.0.name } in
+    let presets = bound (items_in preset 253 first document) _ settings own.1.1 in
+    let all = bound (rows_in own.0.group document) _ settings presets.1.1 in
+    let links = bound (links_in own.0.sfi document) _ settings all.1.1 in
+    links_among own.0.sfi document links.0 links.1.0
+
+all_behind : (document : Place) → AsksNothingFurther document → (said : Result Settings ConfigFault) → settings_in document ≡ said
+    → (said >>= behind document) ≡ alone_of said
+all_behind document asks (Ok settings) is = nothing_behind document settings asks (bus_among document settings is)
+all_behind document asks (Err f) is = refl
+
+pub keys_say_settings : KeysSaySettings
+unfolding setup_in
+keys_say_settings document asks = all_behind document asks (settings_in document) refl
+
+-- ---- files
+
+same_unknown : (said : Result Settings ConfigFault) (unknown : Option (List ℕ)) → (alone_of said >>= known unknown) ≡ alone_of (settings_alone (alone_of said >>= known unknown))
+same_unknown (Ok settings) None = refl
+same_unknown (Ok settings) (Some path) = refl
+same_unknown (Err f) unknown = refl
+
+document_alone : (document : Place) → AsksNothingFurther document → config_in document ≡ alone_of (settings_alone (config_in document))
+unfolding config_in
+document_alone document asks =
+    let unknown = first_unknown document in
+    subst (λ (said : Result Setup ConfigFault). (said >>= known unknown) ≡ alone_of (settings_alone (said >>= known unknown)))
+    (sym (keys_say_settings document asks)) (same_unknown (settings_in document) unknown)
+
+file_alone : (bytes : List ℕ) (all : Result Setup ConfigFault) → FileAsksNothingFurther bytes → IsWholeConfigOf bytes all → all ≡ alone_of (settings_alone all)
+file_alone bytes all asks (inl x) = subst (λ (said : Result Setup ConfigFault). said ≡ alone_of (settings_alone said)) (sym x.1) refl
+file_alone bytes all asks (inr x) =
+    subst (λ (said : Result Setup ConfigFault). said ≡ alone_of (settings_alone said)) (sym x.2) (document_alone (document_place x.0) (asks x.0 x.1))
+
+one_document : (given : Option Members) (a b : Members) → given ≡ Some a → given ≡ Some b → a ≡ b
+one_document given a b is_a is_b = cc
+
+says_one : (bytes : List ℕ) (a b : Result Setup ConfigFault) → IsWholeConfigOf bytes a → IsWholeConfigOf bytes b → a ≡ b
+says_one bytes a b (inl x) (inl y) = x.1 ∙ sym y.1
+says_one bytes a b (inl x) (inr y) = absurd (x.0 y.0 y.1)
+says_one bytes a b (inr x) (inl y) = absurd (y.0 x.0 x.1)
+says_one bytes a b (inr x) (inr y) =
+    x.2 ∙ ap (λ members. config_in (document_place members)) (one_document _ x.0 y.0 x.1.parsed y.1.parsed) ∙ sym y.2
+
+pub files_say_settings : FilesSaySettings
+files_say_settings bytes all settings asks whole x =
+    file_alone bytes all asks whole
+    ∙ ap (λ said. alone_of (settings_alone said)) (says_one bytes all x.0 whole x.1)
+    ∙ ap alone_of (sym x.2)
