@@ -1,5 +1,6 @@
 pub use Rattle.gate_core.proofs.Completed
 pub mod AddressCases
+pub mod Alone
 pub mod Answers
 pub mod Joins
 pub mod Made

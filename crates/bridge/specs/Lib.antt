@@ -11,6 +11,7 @@ pub use Rattle.own_address.specs.AddressOut
 pub use Rattle.parts.specs.Forms
 pub use Rattle.gate_core.specs.Selected
 pub mod AddressCases
+pub mod Alone
 pub mod Answered
 pub mod Beside
 pub mod Each
