@@ -7,10 +7,13 @@ use Rattle.gate_events.specs.Event.{Seen}
 use Rattle.capture_text.specs.LineRule.{rule_number}
 use Rattle.capture_text.specs.Emitted.{line_of}
 use Rattle.capture_text.specs.Reading.{read}
-use Rattle.gate_events.specs.Emit.{Emitted}
+use Rattle.gate_events.specs.Emit.{Emit, Emitted}
 use Rattle.history.specs.Emits.{at, broken}
 use Rattle.history.specs.Entries.{Entry, History, moment_of}
-use Rattle.bridge.specs.Gate.{gate, opening, stepped}
+use Rattle.history.specs.Gate as of_gateway
+use Rattle.history.specs.Gate.{stepped_by}
+use Rattle.history.specs.Settings.{Settings}
+use Rattle.bridge.specs.Gate.{all_out, gate}
 use Rattle.bridge.specs.BridgeSettings.{BridgeSettings}
 use Rattle.bridge.specs.Running.{Running, entry_of, moment_in}
 
@@ -25,30 +28,44 @@ pub record Replayed : Type 0 where
   pub emits : List Emitted
   pub after : Option Running
 
-module _ (p : BridgeSettings) where
-  abbrev pub stepped_from : ℕ → History → List Emitted → Entry → Replayed
-  stepped_from s h before e = let x = stepped p s h e in
+-- of a gateway of these settings, by what an entry gives: alone, or with parts beside it
+module _ (c : Settings) (gives : ℕ → History → Entry → List Emit) where
+  abbrev pub stepped_from_by : ℕ → History → List Emitted → Entry → Replayed
+  stepped_from_by s h before e = let x = stepped_by c s (gives s) h e in
       record { emits = before ++ x.emits; after = Some (record { start = s; history = x.after }) }
 
   -- the first event starts the gateway at its moment
-  abbrev pub with_event : Option Running → Entry → Replayed
-  with_event None e = stepped_from (moment_of e) [] (opening p (moment_of e)) e
-  with_event (Some g) e = stepped_from g.start g.history [] e
+  abbrev pub with_event_by : Option Running → Entry → Replayed
+  with_event_by None e = stepped_from_by (moment_of e) [] (of_gateway.opening c (moment_of e)) e
+  with_event_by (Some g) e = stepped_from_by g.start g.history [] e
 
   -- a line that is refused is reported by its number, at the moment that was reached
-  abbrev pub with_read : ℕ → Option Running → Result Seen LineRule → Replayed
-  with_read number g (Ok seen) = with_event g (entry_of seen)
-  with_read number g (Err rule) = record { emits = at (moment_in g) (broken (rule_number rule) (detail.Line number) ∷ []); after = g }
+  abbrev pub with_read_by : ℕ → Option Running → Result Seen LineRule → Replayed
+  with_read_by number g (Ok seen) = with_event_by g (entry_of seen)
+  with_read_by number g (Err rule) = record { emits = at (moment_in g) (broken (rule_number rule) (detail.Line number) ∷ []); after = g }
 
   -- an empty line gives nothing
-  abbrev pub with_line : ℕ → Option Running → List ℕ → Replayed
-  with_line number g [] = record { emits = []; after = g }
-  with_line number g (x ∷ xs) = with_read number g (read (x ∷ xs))
+  abbrev pub with_line_by : ℕ → Option Running → List ℕ → Replayed
+  with_line_by number g [] = record { emits = []; after = g }
+  with_line_by number g (x ∷ xs) = with_read_by number g (read (x ∷ xs))
 
   -- all that is emitted from a line of this number on
+  abbrev pub replayed_by : ℕ → Option Running → List (List ℕ) → List Emitted
+  replayed_by number g [] = []
+  replayed_by number g (l ∷ ls) = let x = with_line_by number g l in x.emits ++ replayed_by (number + 1) x.after ls
+
+module _ (p : BridgeSettings) where
+  abbrev pub with_event : Option Running → Entry → Replayed
+  with_event g e = with_event_by p.gateway (all_out p) g e
+
+  abbrev pub with_read : ℕ → Option Running → Result Seen LineRule → Replayed
+  with_read number g said = with_read_by p.gateway (all_out p) number g said
+
+  abbrev pub with_line : ℕ → Option Running → List ℕ → Replayed
+  with_line number g line = with_line_by p.gateway (all_out p) number g line
+
   abbrev pub replayed_from : ℕ → Option Running → List (List ℕ) → List Emitted
-  replayed_from number g [] = []
-  replayed_from number g (l ∷ ls) = let x = with_line number g l in x.emits ++ replayed_from (number + 1) x.after ls
+  replayed_from number g lines = replayed_by p.gateway (all_out p) number g lines
 
   -- the text of the lines of a capture, which are counted from 1
   abbrev pub replay_text : List (List ℕ) → List ℕ

@@ -11,10 +11,14 @@ use Rattle.capture_text.specs.LineRule.{rule_number}
 use Rattle.capture_text.specs.Reading.{read}
 use Rattle.capture_text.specs.Writing.{event_text, start_mark}
 use Rattle.gate_outside.specs.Link.{Outcome}
-use Rattle.gate_events.specs.Emit.{Emitted, report}
+use Rattle.gate_events.specs.Emit.{Emit, Emitted, report}
 use Rattle.history.specs.Emits.{at, report_of}
 use Rattle.bridge.specs.Running.{Running, entry_of, moment_in}
-use Rattle.bridge.specs.Gate.{opening, stepped}
+use Rattle.history.specs.Entries.{Entry, History}
+use Rattle.history.specs.Gate as of_gateway
+use Rattle.history.specs.Gate.{stepped_by}
+use Rattle.history.specs.Settings.{Settings}
+use Rattle.bridge.specs.Gate.{all_out}
 use Rattle.bridge.specs.BridgeSettings.{BridgeSettings}
 
 -- ---- what a receive gives a turn
@@ -116,43 +120,70 @@ recorded_where true line = recorded line ∷ []
 abbrev pub moment_at : Option Running → ℕ → ℕ
 moment_at g reading = max reading (moment_in g)
 
-module _ (p : BridgeSettings) where
+-- of a gateway of these settings, by what an entry gives, and by whether what comes is recorded
+module _ (c : Settings) (gives : ℕ → History → Entry → List Emit) (records : Bool) where
   -- the first turn starts the gateway
-  abbrev pub with_start : ℕ → Option Running → Turned
-  with_start m None = record { due = recorded_where p.records (start_line m) ++ all_made (opening p m); after = record { start = m; history = [] } }
-  with_start m (Some g) = record { due = []; after = g }
+  abbrev pub with_start_by : ℕ → Option Running → Turned
+  with_start_by m None =
+      record { due = recorded_where records (start_line m) ++ all_made (of_gateway.opening c m); after = record { start = m; history = [] } }
+  with_start_by m (Some g) = record { due = []; after = g }
 
-  -- an event gives all that the gateway with the parts beside it emits at it, and then at the command that it completes
-  abbrev pub emitted_at : Seen → Running → Turned
-  emitted_at e g = let x = stepped p g.start g.history (entry_of e) in
+  -- an event gives all that is emitted at it, and then at the command that it completes
+  abbrev pub emitted_at_by : Seen → Running → Turned
+  emitted_at_by e g = let x = stepped_by c g.start (gives g.start) g.history (entry_of e) in
       record { due = all_made x.emits; after = record { start = g.start; history = x.after } }
 
   -- and before that its line, where what comes is recorded
-  abbrev pub with_event : Seen → Running → Turned
-  with_event e g = let x = emitted_at e g in
-      record { due = recorded_where (p.records && is_recorded e x.due) (event_line e) ++ x.due; after = x.after }
+  abbrev pub with_event_by : Seen → Running → Turned
+  with_event_by e g = let x = emitted_at_by e g in
+      record { due = recorded_where (records && is_recorded e x.due) (event_line e) ++ x.due; after = x.after }
 
-  abbrev pub with_came : ℕ → Arrived → Running → Turned
-  with_came m (Ok (Some e)) g = with_event e g
-  with_came m (Ok None) g = record { due = []; after = g }
-  with_came m (Err r) g = record { due = all_told (at m (report r ∷ [])); after = g }
+  abbrev pub with_came_by : ℕ → Arrived → Running → Turned
+  with_came_by m (Ok (Some e)) g = with_event_by e g
+  with_came_by m (Ok None) g = record { due = []; after = g }
+  with_came_by m (Err r) g = record { due = all_told (at m (report r ∷ [])); after = g }
 
-  abbrev pub with_all : ℕ → List Arrived → Running → Turned
-  with_all m [] g = record { due = []; after = g }
-  with_all m (came ∷ rest) g = let x = with_came m came g in let y = with_all m rest x.after in record { due = x.due ++ y.due; after = y.after }
+  abbrev pub with_all_by : ℕ → List Arrived → Running → Turned
+  with_all_by m [] g = record { due = []; after = g }
+  with_all_by m (came ∷ rest) g = let x = with_came_by m came g in let y = with_all_by m rest x.after in record { due = x.due ++ y.due; after = y.after }
 
-  abbrev pub in_turn : ℕ → List Arrived → Option Running → Turned
-  in_turn m cames g = let x = with_start m g in let y = with_all m cames x.after in record { due = x.due ++ y.due; after = y.after }
+  abbrev pub in_turn_by : ℕ → List Arrived → Option Running → Turned
+  in_turn_by m cames g = let x = with_start_by m g in let y = with_all_by m cames x.after in record { due = x.due ++ y.due; after = y.after }
 
   -- the turn of this number
-  abbrev pub turn : ℕ → ℕ → List Outcome → List Outcome → Option Running → Turned
-  turn number reading bus net g = let m = moment_at g reading in in_turn m (came_in m number bus net) g
+  abbrev pub turn_by : ℕ → ℕ → List Outcome → List Outcome → Option Running → Turned
+  turn_by number reading bus net g = let m = moment_at g reading in in_turn_by m (came_in m number bus net) g
 
   -- The turns of these readings from this number on: each takes one outcome of each link.
+  abbrev pub due_by : ℕ → Option Running → List ℕ → List Outcome → List Outcome → List Item
+  due_by number g [] bus net = []
+  due_by number g (reading ∷ readings) bus net =
+      let x = turn_by number reading bus net g in x.due ++ due_by (number + 1) (Some x.after) readings (drop 1 bus) (drop 1 net)
+
+module _ (p : BridgeSettings) where
+  abbrev pub with_start : ℕ → Option Running → Turned
+  with_start m g = with_start_by p.gateway (all_out p) p.records m g
+
+  abbrev pub emitted_at : Seen → Running → Turned
+  emitted_at e g = emitted_at_by p.gateway (all_out p) p.records e g
+
+  abbrev pub with_event : Seen → Running → Turned
+  with_event e g = with_event_by p.gateway (all_out p) p.records e g
+
+  abbrev pub with_came : ℕ → Arrived → Running → Turned
+  with_came m came g = with_came_by p.gateway (all_out p) p.records m came g
+
+  abbrev pub with_all : ℕ → List Arrived → Running → Turned
+  with_all m cames g = with_all_by p.gateway (all_out p) p.records m cames g
+
+  abbrev pub in_turn : ℕ → List Arrived → Option Running → Turned
+  in_turn m cames g = in_turn_by p.gateway (all_out p) p.records m cames g
+
+  abbrev pub turn : ℕ → ℕ → List Outcome → List Outcome → Option Running → Turned
+  turn number reading bus net g = turn_by p.gateway (all_out p) p.records number reading bus net g
+
   abbrev pub due_from : ℕ → Option Running → List ℕ → List Outcome → List Outcome → List Item
-  due_from number g [] bus net = []
-  due_from number g (reading ∷ readings) bus net =
-      let x = turn number reading bus net g in x.due ++ due_from (number + 1) (Some x.after) readings (drop 1 bus) (drop 1 net)
+  due_from number g readings bus net = due_by p.gateway (all_out p) p.records number g readings bus net
 
   -- all that is to go out, from the start on; turns are counted from 1
   abbrev pub due_of : List ℕ → List Outcome → List Outcome → List Item
