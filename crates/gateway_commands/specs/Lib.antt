@@ -21,6 +21,7 @@ pub use Rattle.serving.specs.Served
 pub use Rattle.serving.specs.SourceOut
 pub use Rattle.serving.specs.Turns
 pub use Rattle.replaying.specs.Replayed
+pub mod Alone
 pub mod DemoCommand
 pub mod ReplayCommand
 pub mod ServeCommand

@@ -3,6 +3,7 @@
 #![tactic(auto)]
 
 mod demo_command;
+pub mod laws;
 mod process_run;
 mod replay;
 mod replay_command;

@@ -1,3 +1,4 @@
+pub use Rattle.bridge.proofs.Alone
 pub use Rattle.bridge.proofs.Completed
 pub mod Doing
 pub mod Entries

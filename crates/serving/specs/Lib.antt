@@ -1,5 +1,6 @@
 pub use Rattle.bridge.specs.AddressOut
 pub use Rattle.bridge.specs.AisOut
+pub use Rattle.bridge.specs.Alone
 pub use Rattle.bridge.specs.Answered
 pub use Rattle.bridge.specs.Beside
 pub use Rattle.bridge.specs.BridgeSettings
