@@ -5,6 +5,7 @@ import subprocess
 import threading
 from typing import NamedTuple
 
+from configuration.document import Document, NotToml
 from onboard import candump
 from onboard.candump import MOST_LINE
 from onboard.fast_packets import begins
@@ -188,6 +189,24 @@ class Replay(Dialogue):
         self.reached = moment_of(match)
         if len(part) == 1:
             answers[part[0]] = (self.reached, answers[part[0]][1])
+
+
+def checked(program, path):
+    """The configuration as its keys and values, once the program accepts it."""
+    with open(path, "rb") as file:
+        raw = file.read()
+    try:
+        check = subprocess.run([program, "check", path], stdin=subprocess.DEVNULL, stdout=subprocess.PIPE, check=False)
+    except OSError as error:
+        raise Failure(4, f"{program} can't be run: {error.strerror}") from error
+    if check.returncode == 3:
+        raise Failure(3, f"{path} is refused: {check.stdout.decode('utf-8', 'backslashreplace').strip()}")
+    if check.returncode != 0:
+        raise Failure(4, f"`shipgate check` ended with status {check.returncode}")
+    try:
+        return Document(raw).root
+    except NotToml as error:
+        raise Failure(1, f"{path} is accepted, but can't be read here: line {error.place[0]}: {error}") from error
 
 
 def lines_of(file):
