@@ -132,9 +132,9 @@ class Tab:
 def tab():
     """A page of a browser that ends with it."""
     to_browser, from_browser, folder = os.pipe(), os.pipe(), tempfile.mkdtemp()
-    # it reads what it is told from 3, and answers on 4
+    # it reads what it is told from 3, and answers on 4; bash, since other shells know descriptors of one digit alone
     ends = (to_browser[0], from_browser[1])
-    command = ["sh", "-c", f'exec "$@" 3<&{ends[0]} 4>&{ends[1]}', "sh", browser(), *WORDS, f"--user-data-dir={folder}", "about:blank"]
+    command = ["bash", "-c", f'exec "$@" 3<&{ends[0]} 4>&{ends[1]}', "bash", browser(), *WORDS, f"--user-data-dir={folder}", "about:blank"]
     nothing = {"stdin": subprocess.DEVNULL, "stdout": subprocess.DEVNULL, "stderr": subprocess.DEVNULL}
     running = subprocess.Popen(command, pass_fds=ends, **nothing)
     try:
