@@ -22,4 +22,4 @@ _shipgate_tool() {
 }
 
 complete -F _shipgate shipgate
-complete -o filenames -F _shipgate_tool buslink tolog buslook configlook netlink keep sentencelink
+complete -o filenames -F _shipgate_tool buslink tolog buslook configlook netlink keep livelook sentencelink

@@ -1,0 +1,207 @@
+"""What is known of a run, as /status.json, /metrics and /health say it."""
+
+import json
+import time
+
+from buslook_parts.rules import known_rules
+
+from onboard.bus_load import BITS_A_SECOND
+from onboard.identifiers import NULL_ADDRESS
+
+from .gathered import SECOND_US
+
+# a difference between the run's moments and the machine's date that is worth a word
+DATE_SECONDS = 2
+METRICS = (
+    ("shipgate_up", "gauge", "1 while a run is followed, and the program computes what it does"),
+    ("shipgate_reports", "counter", "reports of each rule"),
+    ("shipgate_row_age_seconds", "gauge", "how long ago a row or a further quantity was said"),
+    ("shipgate_row_value", "gauge", "its value"),
+    ("shipgate_frames", "counter", "frames from each address of the bus"),
+    ("shipgate_datagrams", "counter", "datagrams to each transmission group"),
+    ("shipgate_bus_load_ratio", "gauge", "the share of 250 kbit/s that the bus carried in ten seconds"),
+    ("shipgate_send_failures", "counter", "what could not be sent on each link"),
+)
+NOT_SENT, NOT_RECEIVED = 50, 51
+FAILURES = {NOT_SENT: "not sent", NOT_RECEIVED: "not received"}
+MOST_DEVICES, MOST_REFUSED = 100, 25
+LINKS = ("bus", "net")
+
+
+def encoded(values):
+    return json.dumps(values, ensure_ascii=False, separators=(",", ":")).encode("utf-8", "backslashreplace")
+
+
+def seconds(moment):
+    return None if moment is None else moment / SECOND_US
+
+
+class Status:
+    """Says what `looking` knows. Whoever calls it holds the lock."""
+
+    def __init__(self, looking):
+        self.looking, self.rules = looking, known_rules()
+
+    def since_line(self):
+        """For how long nothing was written, by the steady clock."""
+        return time.monotonic() - self.looking.last_line_at
+
+    def age(self, moment):
+        """How long ago something was, in seconds: by the run's moments up to its last line, and from then on by the steady clock."""
+        return (self.looking.gathered.moment - moment) / SECOND_US + self.since_line()
+
+    def second(self):
+        """The second of the run that it is now."""
+        return int(self.looking.gathered.moment / SECOND_US + self.since_line())
+
+    def all_said(self):
+        gathered = self.looking.gathered
+        return [*gathered.rows.values(), *gathered.further.values()]
+
+    def is_silent(self, said):
+        """Whether a row isn't said in time: one that was said before, or one that has to be there."""
+        if said.moment is None:
+            return said.is_watched and self.age(self.looking.gathered.begin) * SECOND_US > said.timeout_us
+        return self.age(said.moment) * SECOND_US > said.timeout_us
+
+    def is_live(self):
+        """Whether something of a run is known, up to now."""
+        looking = self.looking
+        return looking.gathered is not None and looking.gathered.moment is not None and looking.percent is None
+
+    def load_ratio(self):
+        """The share of the bus that is used."""
+        return self.looking.gathered.bits.a_second(self.second()) / BITS_A_SECOND
+
+    # what is worth a word at the top
+
+    def lacks(self):
+        """Why what is shown isn't what took place."""
+        looking, found = self.looking, []
+        if looking.comparing is not None and looking.comparing.differences:
+            times = looking.comparing.differences
+            found.append(f"{times} of the run's reports differ from what this configuration gives ({looking.comparing.first}): has the run another one?")
+        found += [words for words in (looking.lacks, *looking.gaps) if words]
+        if looking.no_events:
+            found.append(f"{looking.no_events} lines of the file are neither of a recording nor reports")
+        return found
+
+    def date_difference(self):
+        """How far the run's clock and the machine's date lie apart, in seconds."""
+        return time.time() - self.looking.gathered.moment / SECOND_US - self.since_line()
+
+    def warnings(self):
+        looking = self.looking
+        found = [looking.trouble] if looking.trouble else []
+        found += [f"This isn't what took place: {words}." for words in self.lacks()]
+        if looking.percent is not None:
+            found.append(f"Still reading what the run wrote before: {looking.percent} %.")
+        elif self.is_live() and abs(self.date_difference()) > DATE_SECONDS:
+            difference = f"{abs(self.date_difference()):.0f} seconds"
+            found.append(f"The run's clock and this machine's date differ by {difference}, or nothing was written for so long.")
+        found += [f"The configuration has no {line} under {table}: {without}." for line, table, without in looking.missing_keys]
+        return found
+
+    # the pages for machines
+
+    def json(self, most_bytes):
+        """All that the page has; without the lines of ten minutes if that would be more than so many bytes."""
+        values = self.values()
+        text = encoded(values)
+        if len(text) > most_bytes:
+            for row in values["rows"]:
+                row["line"] = []
+            text = encoded(values)
+        return text
+
+    def values(self):
+        looking, gathered = self.looking, self.looking.gathered
+        found = {"warnings": self.warnings(), "since": looking.since, "percent": looking.percent, "silent_for": round(self.since_line(), 3)}
+        found["moment"] = None
+        if gathered is None or gathered.moment is None:
+            return found
+        own, to_bus = gathered.addresses.own, sorted(gathered.to_bus.items())
+        reported = sorted(gathered.reported.values(), key=lambda one: -one.moment)[:MOST_REFUSED]
+        found.update(
+            moment=seconds(gathered.moment), begin=seconds(gathered.begin), own=None if own == NULL_ADDRESS else own,
+            rows=[self.row(said) for said in self.all_said() if self.is_shown(said)], others=[self.row(said) for said in gathered.others.values()],
+            devices=[self.speaker(address) for address in sorted(gathered.speakers)[:MOST_DEVICES]],
+            more_devices=max(0, len(gathered.speakers) - MOST_DEVICES), refused=[self.refused(one) for one in reported],
+            changes=[{"moment": seconds(moment), "what": what, "to": to} for moment, what, to in reversed(gathered.changes)],
+            to_bus=[{"words": words, "source": source, "moment": seconds(moment)} for words, (moment, source) in to_bus],
+            rates=self.rates(), failures=[self.failure(*one) for one in sorted(gathered.failures.items())])
+        return found
+
+    def rates(self):
+        gathered, second = self.looking.gathered, self.second()
+        return {"frames": gathered.frames.a_second(second), "frames_to_bus": gathered.frames_out.a_second(second), "load": round(self.load_ratio(), 4),
+                "datagrams": gathered.datagrams_out.a_second(second), "datagrams_from_network": gathered.datagrams.a_second(second)}
+
+    @staticmethod
+    def failure(key, count):
+        rule, link = key
+        return {"link": link, "what": FAILURES.get(rule, "refused"), "count": count}
+
+    @staticmethod
+    def is_shown(said):
+        return said.moment is not None or said.is_watched
+
+    def row(self, said):
+        gathered = self.looking.gathered
+        source = None if said.source is None else gathered.device(said.source)
+        return {"name": said.name, "words": said.words, "source": source, "values": [[value.words, value.text, value.unit] for value in said.values],
+                "moment": seconds(said.moment), "timeout": said.timeout_us / SECOND_US, "must": said.is_watched, "silent": self.is_live() and self.is_silent(said),
+                "count": said.count, "line": [[cell - said.line[-1][0], number] for cell, number in said.line if number is not None]}
+
+    def speaker(self, address):
+        gathered = self.looking.gathered
+        speaker = gathered.speakers[address]
+        return {**gathered.device(address), "product": speaker.product, "moment": seconds(speaker.moment), "frames": speaker.rate.total,
+                "rate": speaker.rate.a_second(self.second())}
+
+    def refused(self, one):
+        name, cause, cure = self.rules.get(one.rule, ("", "", ""))
+        return {"rule": one.rule, "name": name, "cause": cause, "cure": cure, "sender": one.sender, "count": one.count, "moment": seconds(one.moment)}
+
+    def silent_rows(self):
+        """The watched rows that aren't said, by their words."""
+        return [said.words for said in self.all_said() if said.is_watched and self.is_silent(said)]
+
+    def health(self):
+        """Whether all is well, and words for it."""
+        looking = self.looking
+        if looking.gathered is None or looking.gathered.moment is None:
+            return False, f"no run is followed: {looking.trouble or 'none has begun'}"
+        if not self.is_live():
+            return True, f"still reading: {looking.percent} %"
+        silent = self.silent_rows()
+        return not silent, "silent: " + ", ".join(silent) if silent else "ok"
+
+    def metrics(self):
+        samples = self.samples()
+        lines = []
+        for name, kind, words in METRICS:
+            lines += [f"# TYPE {name} {kind}", f"# HELP {name} {words}"]
+            suffix = "_total" if kind == "counter" else ""
+            for labels, value in samples.get(name, ()):
+                shown = ",".join(f'{label}="{text}"' for label, text in labels)
+                lines.append(f"{name}{suffix}{{{shown}}} {value}" if shown else f"{name}{suffix} {value}")
+        return "\n".join([*lines, "# EOF", ""]).encode()
+
+    def samples(self):
+        """Of each metric its samples: their labels, whose texts are the gateway's own words and numbers alone, and the value."""
+        gathered = self.looking.gathered
+        if gathered is None or gathered.moment is None:
+            return {"shipgate_up": [((), 0)]}
+        said = [one for one in self.all_said() if one.moment is not None]
+        values = [((("row", one.name), ("unit", value.unit)), value.number) for one in said for value in one.values if value.number is not None]
+        return {
+            "shipgate_up": [((), 1)],
+            "shipgate_reports": [((("rule", rule),), count) for rule, count in sorted(gathered.rules.items())],
+            "shipgate_row_age_seconds": [((("row", one.name),), f"{max(0.0, self.age(one.moment)):.3f}") for one in said],
+            "shipgate_row_value": values,
+            "shipgate_frames": [((("source", address),), speaker.rate.total) for address, speaker in sorted(gathered.speakers.items())],
+            "shipgate_datagrams": [((("group", group),), count) for group, count in sorted(gathered.sent_groups.items())],
+            "shipgate_bus_load_ratio": [((), f"{self.load_ratio():.4f}")],
+            "shipgate_send_failures": [((("link", link),), gathered.failures[NOT_SENT, link]) for link in LINKS],
+        }
