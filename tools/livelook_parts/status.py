@@ -150,8 +150,8 @@ class Status:
         gathered = self.looking.gathered
         source = None if said.source is None else gathered.device(said.source)
         return {"name": said.name, "words": said.words, "source": source, "values": [[value.words, value.text, value.unit] for value in said.values],
-                "moment": seconds(said.moment), "timeout": said.timeout_us / SECOND_US, "must": said.is_watched, "silent": self.is_live() and self.is_silent(said),
-                "count": said.count, "line": [[cell - said.line[-1][0], number] for cell, number in said.line if number is not None]}
+                "moment": seconds(said.moment), "timeout": said.timeout_us / SECOND_US, "must": said.is_watched,
+                "silent": self.is_live() and self.is_silent(said), "count": said.count, "line": [[cell - said.line[-1][0], number] for cell, number in said.line if number is not None]}
 
     def speaker(self, address):
         gathered = self.looking.gathered
