@@ -5,3 +5,4 @@ pub mod AisOut
 pub mod AisKinds
 pub mod AisKept
 pub mod Promises
+pub mod AisPart

@@ -15,7 +15,7 @@ use std::alloc::{AllocError, Global};
 use std::marker::Model;
 
 /// The most reports of one event: one for each of 256 messages in the making, and those of a frame, of which there are few.
-const MOST_REPORTS: usize = 299;
+pub(crate) const MOST_REPORTS: usize = 299;
 
 /// What the bridge leaves at an event: at most 300 emits, of which at most one is a datagram.
 pub type AisEmits = Emits<MOST_REPORTS>;

@@ -7,6 +7,7 @@
 mod bridge;
 mod kinds;
 mod laws;
+mod part;
 mod passing;
 mod said;
 mod writing;
@@ -14,4 +15,5 @@ mod writing;
 pub use ais_report::{AisFault, AisReport, armour, convert, read_armour};
 pub use bridge::{AisBridge, AisEmits};
 pub use laws::{commands_leave_the_bridge, open_reports_keep_the_limit, reports_are_sentences};
+pub use part::ShipsPlace;
 pub use settings::AisConfig;

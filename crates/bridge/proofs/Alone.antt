@@ -8,7 +8,7 @@ use Rattle.bridge.proofs.Steps.{nothing_further}
 
 pub steps_alone : StepsAlone
 unfolding bridge_settings_of
-steps_alone x s h e = nothing_further (bridge_settings_of (alone x)) s h e refl refl refl refl
+steps_alone x s h e = nothing_further (bridge_settings_of (alone x)) s h e refl refl
 
 pub runs_alone : RunsAlone
 unfolding bridge_settings_of

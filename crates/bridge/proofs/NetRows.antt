@@ -1,67 +1,22 @@
 -- What the gateway itself says is read.
-use Rattle.std.proofs.Common.{◌≡◌, ℕ, ◌≤◌, Bool, true, false, List, [], ◌∷◌, length, refl, ap, subst, ◌∙◌, arith, All}
-use Rattle.std.specs.Prelude.{Option, Some, None, IfSome, IsTrue, option_and_then, if◌then◌else◌}
-use Rattle.std.specs.List.{list_all}
-use Rattle.std.proofs.lemmas.List.Elements.{All-head, All-tail}
-use Rattle.sentence_text.specs.Byte.{is_capital}
+use Rattle.std.proofs.Common.{◌≡◌, ℕ, ◌≤◌, length, ap, subst, ◌∙◌, arith}
+use Rattle.std.specs.Prelude.{Option, IfSome}
 use Rattle.sentence_text.specs.Names.{IsSfi}
 use Rattle.readings.specs.declared.reading.Reading.{Reading}
 use Rattle.readings.specs.declared.rows.Row.{Row}
 use Rattle.readings.specs.Rows.{IsValid, row_of}
-use Rattle.pgn_profile.specs.declared.profiled.Profiled.{Profiled}
-use Rattle.pgn_profile.specs.declared.profiled.Profiled.TheVariants as says
-use Rattle.pgn_profile.specs.Profiled.{GivesValid, profiled}
-use Rattle.pgn_profile.proofs.Law.{profiled_valid}
 use Rattle.sentence_profile.specs.Writing.{sentences_of}
 use Rattle.sentence_profile.proofs.ShortSentences.{each_is_a_sentence, said_briefly}
-use Rattle.claim_table.specs.declared.answer.Holder.{Holder}
 use Rattle.config_values.specs.Rows.{IsTalker}
-use Rattle.history.specs.Choice.{reading_in, reading_of, row_rules, row_told, selected_reading, told_by}
 use Rattle.history.specs.Entries.{Entry, History}
 use Rattle.history.specs.EntryLaws.{SaysOne, nothing, one, nets_in}
-use Rattle.history.specs.FromBus.{said_at, selected_in}
 use Rattle.history.specs.Gate.{out, spoken_of}
-use Rattle.history.specs.Known.{known}
-use Rattle.history.specs.Messages.{Message, done, messages_of}
-use Rattle.history.specs.Settings.{RowRule, Settings, receiver_of, rule_of}
-use Rattle.history.specs.Subjects.{is_chosen}
+use Rattle.history.specs.Settings.{RowRule, Settings, rule_of}
 use Rattle.history.proofs.EntrySteps.{entries_say_one}
-use Rattle.bridge.specs.NetLaws.{EachSays}
+use Rattle.parts.specs.Voices.{EachSays}
+use Rattle.parts.proofs.Lines.{says_all}
+use Rattle.parts.proofs.Speaking.{capitals, said_valid}
 use Rattle.bridge.specs.Sentences.{rows_say}
-use Rattle.bridge.proofs.NetLines.{says_all}
-
--- ---- what is selected is valid
-
-valid_in : (x : Profiled) → GivesValid x → IfSome (reading_in x) IsValid
-valid_in (says.Reading r) v = v
-valid_in says.Outside v = tt
-valid_in says.Short v = tt
-
-module _ (c : Settings) (holders : List (Option Holder)) (older : List Message) where
-  valid_if : (b : Bool) (r : Reading) → IsValid r → IfSome (if b then Some r else None) IsValid
-  valid_if true r v = v
-  valid_if false r v = tt
-
-  valid_selected : (d : Message) (o : Option Reading) → IfSome o IsValid → IfSome (option_and_then (selected_reading c holders older d) o) IsValid
-  valid_selected d None v = tt
-  valid_selected d (Some r) v = valid_if (is_chosen row_told (row_rules c) holders older d (told_by r)) r v
-
-  valid_of : (o : Option Message) → IfSome (selected_in c holders older o) IsValid
-  valid_of None = tt
-  valid_of (Some d) = valid_selected d (reading_of d) (valid_in (profiled d.pgn d.payload) (profiled_valid d.pgn d.payload))
-
-pub said_valid : (c : Settings) (s : ℕ) (h : History) (e : Entry) → IfSome (said_at c s h e) IsValid
-said_valid c s h e =
-    valid_of c (known (receiver_of c) s h).claims.holders (messages_of (receiver_of c) s h) (done (receiver_of c) s h e)
-
--- ---- a talker's letters
-
-letters : (xs : List ℕ) → All (λ letter. IsTrue (is_capital letter)) xs → IsTrue (list_all is_capital xs)
-letters [] all = refl
-letters (x ∷ xs) all = let first = All-head (λ letter. IsTrue (is_capital letter)) x xs all in rw first (letters xs (All-tail (λ letter. IsTrue (is_capital letter)) x xs all))
-
-pub capitals : (talker : List ℕ) → IsTalker talker → IsTrue (list_all is_capital talker)
-capitals talker is = letters talker is.letters
 
 -- ---- the datagram
 

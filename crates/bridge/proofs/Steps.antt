@@ -1,5 +1,5 @@
 -- What each call of the bridge makes of what stands, put together from the gateway's calls and those of the parts beside it.
-use Rattle.std.proofs.Common.{◌≡◌, ℕ, ◌+◌, ◌-◌, ◌<◌, Bool, true, false, List, [], ◌∷◌, ◌++◌, length, refl, sym, ap, subst, ◌∙◌, append_assoc, length-append, arith}
+use Rattle.std.proofs.Common.{◌≡◌, ℕ, ◌+◌, ◌-◌, true, false, List, [], ◌∷◌, ◌++◌, length, refl, sym, ap, subst, ◌∙◌, append_assoc, length-append, arith}
 use Rattle.std.specs.Prelude.{take, drop, Option, None, Some, option_map}
 use Rattle.std.proofs.Math.Seq.{take-length, take-append_seam, drop-append_seam}
 use Rattle.std.proofs.lemmas.Bool.{leb-true}
@@ -24,14 +24,13 @@ use Rattle.gate_core.specs.Steps.{by_keys, entry_of, only_told, IsEventValid}
 use Rattle.parts.specs.PartSteps.{IsGiven}
 use Rattle.plain_out.specs.Plain.{plain_out}
 use Rattle.plain_out.proofs.Emits.{behind_none}
-use Rattle.own_address.specs.AddressOut.{address_gives}
+use Rattle.ais_bridge.specs.AisOut.{ais_out}
+use Rattle.bus_answers.specs.AnsweringPart.{answering_gives}
+use Rattle.joined_rmc.specs.RmcPart.{joining_gives}
 use Rattle.parts.specs.Compose.{maybe_give}
-use Rattle.bridge.specs.Beside.{BesideKept, are_beside, beside_give, beside_keep_commands, beside_output, beside_plain, rules_of, wanted}
-use Rattle.bridge.specs.Each.{joining_gives, quantities_give, ships_give, sources_give}
-use Rattle.bridge.specs.BridgeStands.{AreTold, BridgeStands, IsBesideStep, IsBridged, IsForgotten, IsGatewayStep, IsOrder, IsStart, IsUnposted}
-use Rattle.bridge.specs.Answered.{answers}
+use Rattle.bridge.specs.Beside.{BesideKept, are_beside, beside_give, beside_keep_commands, beside_output, beside_plain, further}
+use Rattle.bridge.specs.BridgeStands.{AreTold, BridgeStands, IsBesideStep, IsBridged, IsForgotten, IsGatewayStep, IsOrder, IsSaidAgain, IsStart, IsUnposted}
 use Rattle.bridge.specs.Gate.{NothingFurther, all_out, plain_of, stepped, tagged_out, with_command}
-use Rattle.further_bridge.specs.FurtherRule.{FurtherRule}
 use Rattle.bridge.specs.declared.call_output.CallOutput.{CallOutput}
 use Rattle.bridge.specs.Kept.{Bridged, IsAlone, beside_out, given_count, ordered_output, output_at, output_of, own_output, plain_output}
 use Rattle.bridge.specs.BridgeSettings.{BridgeSettings}
@@ -91,7 +90,7 @@ is_start s before between after forgot stands settings left is p new =
         started = ap (λ (b : Bridged). b.started) is;
         start = ap (λ (b : Bridged). b.start) is;
         gateway = subst (λ (z : Settings). Stands by_keys z s [] after.gateway) (settings ∙ here) stands;
-        parts = subst (are_beside (rules_of p) p.gateway s []) (sym parts) (forgot.kept (rules_of p) p.gateway s [] (new.parts.stood s));
+        parts = subst (are_beside p.parts p.gateway s []) (sym parts) (forgot.kept p.parts p.gateway s [] (new.parts.stood s));
         plain = ap (λ (b : Bridged). b.plain) is ∙ forgot.plain ∙ new.plain;
         records = ap (λ (b : Bridged). b.records) is ∙ forgot.records ∙ new.records;
       };
@@ -118,8 +117,8 @@ module _ (p : BridgeSettings) (s : ℕ) (h : History) (before forgotten stepped_
   parts_on : stepped_on.parts ≡ forgotten.parts
   parts_on = ap (λ (b : Bridged). b.parts) went.rest
 
-  stood : are_beside (rules_of p) p.gateway s h stepped_on.parts
-  stood = subst (are_beside (rules_of p) p.gateway s h) (sym parts_on) (forgot.kept (rules_of p) p.gateway s h stands.parts)
+  stood : are_beside p.parts p.gateway s h stepped_on.parts
+  stood = subst (are_beside p.parts p.gateway s h) (sym parts_on) (forgot.kept p.parts p.gateway s h stands.parts)
 
   started_on : stepped_on.started ≡ true
   started_on = ap (λ (b : Bridged). b.started) went.rest ∙ forgot.started ∙ stands.started
@@ -167,8 +166,8 @@ module _ (p : BridgeSettings) (s : ℕ) (h : History) (before forgotten stepped_
     taken : IsTaken p.gateway s h e stepped_on.gateway stepped_on.output.outbox
     taken = subst (λ (z : Settings). IsTaken z s h e stepped_on.gateway stepped_on.output.outbox) settings ((went.step s h could here).0 accepts)
 
-    given : IsGiven are_beside beside_give beside_output (rules_of p) p.gateway s h e told.parts
-    given = beside.parts (rules_of p) p.gateway s h stands.settings start_on could_on taken stood
+    given : IsGiven are_beside beside_give beside_output p.parts p.gateway s h e told.parts
+    given = beside.parts p.parts p.gateway s h stands.settings start_on could_on taken stood
 
     own_is : emits_of told.output.outbox.emits ≡ out p.gateway s h e
     own_is = ap (λ (x : Output). emits_of x.emits) beside.outbox ∙ taken.emits
@@ -184,7 +183,7 @@ module _ (p : BridgeSettings) (s : ℕ) (h : History) (before forgotten stepped_
         → out p.gateway s h e ++ (beside_output told.parts ++ (plain_output told.output told.parts ++ more)) ≡ all_out p s h e ++ more
     all_is more =
         let own = out p.gateway s h e in
-        let gave = beside_give (rules_of p) p.gateway s h e in
+        let gave = beside_give p.parts p.gateway s h e in
         let plain = plain_of p.plain (own ++ gave) in
         ap (λ (es : List Emit). own ++ (es ++ (plain_output told.output told.parts ++ more))) given.emits
         ∙ ap (λ (es : List Emit). own ++ (gave ++ (es ++ more))) plain_is
@@ -250,8 +249,8 @@ module _ (p : BridgeSettings) (s : ℕ) (h : History) (before forgotten stepped_
             started = ap (λ (b : Bridged). b.started) obeyed.rest ∙ stands_told.started;
             start = ap (λ (b : Bridged). b.start) obeyed.rest ∙ stands_told.start;
             gateway = subst (λ (z : Settings). Stands by_keys z s (next ∷ e ∷ h) after.gateway) stands_told.gateway.settings is.stands;
-            parts = subst (are_beside (rules_of p) p.gateway s (next ∷ e ∷ h)) (sym parts)
-                (beside_keep_commands (rules_of p) p.gateway s (e ∷ h) o.source o.address told.parts stands.settings given.stood);
+            parts = subst (are_beside p.parts p.gateway s (next ∷ e ∷ h)) (sym parts)
+                (beside_keep_commands p.parts p.gateway s (e ∷ h) o.source o.address told.parts stands.settings given.stood);
             plain = ap (λ (b : Bridged). b.plain) obeyed.rest ∙ stands_told.plain;
             records = ap (λ (b : Bridged). b.records) obeyed.rest ∙ stands_told.records;
           };
@@ -278,21 +277,19 @@ event_valid (event.Frame moment frame) valid = valid
 event_valid (event.Datagram moment bytes) valid = tt
 event_valid (event.Tick moment) valid = tt
 
--- ---- without a change that is told and without plain sentences
+-- ---- without further parts and without plain sentences
 
 pub nothing_further : NothingFurther
-nothing_further p s h e unsaid untold kept unplain =
-    let own = out p.gateway s h e in
-    let answered = answers p.gateway s p.information h e in
-    let rmc = maybe_give joining_gives p.rmc p.gateway s h e in
-    let ships = maybe_give ships_give p.ais p.gateway s h e in
-    let changes = λ (b : Bool). maybe_give sources_give (wanted b) p.gateway s h e in
-    let address = λ (b : Bool). maybe_give address_gives (wanted b) p.gateway s h e in
+nothing_further p s h e unasked unplain =
+    let c = p.gateway in
+    let own = out c s h e in
+    let answered = maybe_give answering_gives p.parts.0 c s h e in
+    let rmc = maybe_give joining_gives p.parts.1.0 c s h e in
+    let ships = maybe_give ais_out p.parts.1.1.0 c s h e in
     ap (λ (group : Option (List ℕ)). tagged_out p s h e ++ plain_of group (tagged_out p s h e)) unplain
     ∙ append-nil (tagged_out p s h e)
-    ∙ ap (λ (x : Option FurtherRule). own ++ (answered ++ (rmc ++ (ships ++ (maybe_give quantities_give x p.gateway s h e ++ (changes p.sources ++ address p.address)))))) unsaid
-    ∙ ap (λ (b : Bool). own ++ (answered ++ (rmc ++ (ships ++ (changes b ++ address p.address))))) untold
-    ∙ ap (λ (b : Bool). own ++ (answered ++ (rmc ++ (ships ++ address b)))) kept
+    ∙ ap (λ (r : further.rule). own ++ (answered ++ (rmc ++ (ships ++ further.give r c s h e)))) unasked
+    ∙ ap (λ (es : List Emit). own ++ (answered ++ (rmc ++ (ships ++ es)))) (further.silent c s h e)
     ∙ ap (λ (es : List Emit). own ++ (answered ++ (rmc ++ es))) (append-nil ships)
 
 -- ---- the parts have taken an entry, and its datagrams are said once more where that is asked for
@@ -319,3 +316,24 @@ nothing_said group o es none unposted =
     ∙ ap (plain_out group) (append-nil (emits_of o.emits))
     ∙ behind_none group o.emits.told o.emits.posted unposted.told
     ∙ ap (plain_out group) unposted.posted
+
+-- all datagrams are said
+pub is_said_step : (e : Entry) (before : Bridged) (parts after : BesideKept) (output : CallOutput) (group : List ℕ) → before.plain ≡ Some group
+    → AreTold e before parts → IsAlone before.output before.parts → IsSaidAgain group before.output parts output after
+    → IsBesideStep e before (record before { parts = after; output = output })
+is_said_step e before parts after output group is told alone again =
+    let own = emits_of before.output.outbox.emits in
+    record {
+      started = refl;
+      start = refl;
+      gateway = refl;
+      outbox = again.outbox;
+      ordered = again.ordered ∙ alone.ordered;
+      parts = λ r c s h are start could taken stands.
+          let given = told r c s h are start could taken stands in
+          record { stood = again.kept r c s (e ∷ h) given.stood; emits = again.beside ∙ given.emits };
+      group = refl;
+      records = refl;
+      plain = again.plain ∙ ap (λ (es : List Emit). plain_out group (own ++ es)) (sym again.beside)
+          ∙ sym (ap (λ (g : Option (List ℕ)). plain_of g (own ++ beside_output after)) is);
+    }

@@ -1,18 +1,18 @@
 -- The gateway's own address (ISO 11783-5) is told beside it where it changes: behind a move, where none is left, and one event behind a command.
-use Rattle.std.specs.Prelude.{◌≡◌, ℕ, true, List, [], ◌∷◌, ◌++◌, Option, Some, None}
+use Rattle.std.specs.Prelude.{◌≡◌, ℕ, true, false, [], ◌∷◌, ◌++◌, Option, Some, None}
 use Rattle.report_rules.specs.Rules.{own_address}
 use Rattle.gate_events.specs.declared.emit.Detail.TheVariants as detail
-use Rattle.gate_events.specs.Emit.{Emit, Emitted}
+use Rattle.gate_events.specs.Emit.{Emit}
 use Rattle.history.specs.Cases.{can_frame, emitted, full}
 use Rattle.history.specs.Emits.{broken}
-use Rattle.history.specs.Entries.{Entry, tick}
+use Rattle.history.specs.Entries.{tick}
 use Rattle.history.specs.OwnCases.{fixed, fixed_start}
 use Rattle.bridge.specs.BridgeSettings.{BridgeSettings}
 use Rattle.bridge.specs.Gate.{gate}
-use Rattle.bridge.specs.PartCases.{PartsEmit, alone}
+use Rattle.bridge.specs.PartCases.{PartsEmit, alone, asking}
 
 abbrev pub telling : BridgeSettings
-telling = record alone { address = true }
+telling = asking alone None false true
 
 abbrev pub own_is : Option ℕ → Emit
 own_is address = broken own_address (detail.Own address)

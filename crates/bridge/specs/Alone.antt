@@ -11,9 +11,10 @@ use Rattle.config_values.specs.Settings.{settings_of}
 use Rattle.parts.specs.Compose.{maybe_give}
 use Rattle.settings.specs.Setup.{alone}
 use Rattle.settings.specs.declared.settings.Settings.{Settings}
-use Rattle.bridge.specs.Answered.{answers}
-use Rattle.bridge.specs.BridgeSettings.{bridge_settings_of, rmc_rule}
-use Rattle.bridge.specs.Each.{joining_gives, ships_give}
+use Rattle.ais_bridge.specs.AisOut.{ais_out}
+use Rattle.bus_answers.specs.Answered.{answers}
+use Rattle.joined_rmc.specs.RmcPart.{joining_gives, rmc_rule}
+use Rattle.bridge.specs.BridgeSettings.{bridge_settings_of}
 use Rattle.bridge.specs.Gate.{all_out, gate}
 
 module _ (x : Settings) where
@@ -25,7 +26,7 @@ module _ (x : Settings) where
     out_alone h e =
         out gateway_alone s h e
         ++ (answers gateway_alone s (information_of x.product) h e
-        ++ (maybe_give joining_gives (rmc_rule x.config x.rmc) gateway_alone s h e ++ maybe_give ships_give x.ais gateway_alone s h e))
+        ++ (maybe_give joining_gives (rmc_rule x.config x.rmc) gateway_alone s h e ++ maybe_give ais_out x.ais gateway_alone s h e))
 
     abbrev pub gate_alone : List Entry → List Emitted
     gate_alone events = gate_by gateway_alone s out_alone events

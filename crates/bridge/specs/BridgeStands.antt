@@ -10,10 +10,10 @@ use Rattle.gate_outbox.specs.declared.done.Command.{Command}
 use Rattle.gate_core.specs.Promises.{IsOrderStep, IsStep, IsTaken}
 use Rattle.gate_core.specs.Steps.{by_keys}
 use Rattle.gate_outbox.specs.Output.{Output, emits_of, is_datagram}
-use Rattle.parts.specs.PartSteps.{IsGiven, Keeps}
+use Rattle.parts.specs.PartSteps.{AreNew, IsGiven, Keeps}
 use Rattle.plain_out.specs.Plain.{plain_out}
 use Rattle.bridge.specs.declared.call_output.CallOutput.{CallOutput}
-use Rattle.bridge.specs.Beside.{AreNew, BesideKept, are_beside, beside, beside_give, beside_output, beside_plain, rules_of}
+use Rattle.bridge.specs.Beside.{BesideKept, are_beside, beside, beside_give, beside_output, beside_plain}
 use Rattle.bridge.specs.Gate.{plain_of, stepped}
 use Rattle.bridge.specs.Kept.{Bridged, no_output, output_at, output_of, plain_output}
 use Rattle.bridge.specs.BridgeSettings.{BridgeSettings}
@@ -23,7 +23,7 @@ pub record BridgeStands (p : BridgeSettings) (s : ℕ) (h : History) (b : Bridge
   pub started : b.started ≡ true
   pub start : b.start ≡ s
   pub gateway : Stands by_keys p.gateway s h b.gateway
-  pub parts : are_beside (rules_of p) p.gateway s h b.parts
+  pub parts : are_beside p.parts p.gateway s h b.parts
   pub plain : b.plain ≡ p.plain
   pub records : b.records ≡ p.records
 
@@ -34,7 +34,7 @@ pub record IsNew (p : BridgeSettings) (b : Bridged) : Type 0 where
   pub waits : b.started ≡ false
   pub output : b.output ≡ no_output
   pub gateway : b.gateway ≡ opened_machine p.gateway
-  pub parts : AreNew p b.parts
+  pub parts : AreNew are_beside beside_output beside_plain p.parts p.gateway b.parts
   pub plain : b.plain ≡ p.plain
   pub records : b.records ≡ p.records
 

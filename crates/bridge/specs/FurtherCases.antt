@@ -1,6 +1,6 @@
 -- Further quantities beside the gateway: each is said in its sentence, the lines of their transmission group are counted, and of two devices
 -- the first that is fresh is heard.
-use Rattle.std.specs.Prelude.{ℕ, true, List, [], ◌∷◌, ◌++◌, Some, codes}
+use Rattle.std.specs.Prelude.{ℕ, true, false, List, [], ◌∷◌, ◌++◌, Some, codes}
 use Rattle.datagram450.specs.Datagram.{header}
 use Rattle.gate_events.specs.Emit.{Emit, Emitted, net}
 use Rattle.source_choice.specs.SubjectRules.{SubjectRule}
@@ -8,7 +8,7 @@ use Rattle.history.specs.Cases.{emitted, full, lined, navd}
 use Rattle.history.specs.Entries.{Entry}
 use Rattle.further_bridge.specs.FurtherRule.{FurtherRule}
 use Rattle.bridge.specs.BridgeSettings.{BridgeSettings}
-use Rattle.bridge.specs.PartCases.{PartsEmit, alone, ended, plain}
+use Rattle.bridge.specs.PartCases.{PartsEmit, alone, asking, ended, plain}
 
 -- attitude, set and drift, the components of speed, and the air's pressure, humidity and temperature on MACH: each of every device, while what it
 -- said isn't older than 5 seconds
@@ -24,7 +24,7 @@ weather = record {
 }
 
 abbrev pub further_parts : BridgeSettings
-further_parts = record alone { quantities = Some weather }
+further_parts = asking alone (Some weather) false false
 
 abbrev pub FurtherEmit : List Entry → List Emitted → Type 0
 FurtherEmit events after = PartsEmit further_parts 10000000 events after

@@ -1,5 +1,5 @@
 -- What the bridge keeps and leaves, as plain values.
-use Rattle.std.specs.Prelude.{◌≡◌, ◌≢◌, ◌≤◌, ℕ, ◌+◌, ◌-◌, Bool, true, false, List, [], ◌++◌, length, take, drop, Option, Some, None}
+use Rattle.std.specs.Prelude.{◌≡◌, ◌≤◌, ℕ, ◌-◌, Bool, true, false, List, [], ◌++◌, length, take, drop, Option}
 use Rattle.gate_events.specs.Emit.{Emit, Emitted}
 use Rattle.history.specs.Emits.{at}
 use Rattle.gate_model.specs.Machine.{Machine}
@@ -59,10 +59,6 @@ MayGive true x parts = x.ordered ≤ length (emits_of x.outbox.emits)
 -- all behind what the gateway itself gave at the event
 abbrev pub beside_out : Bridged → List Emit
 beside_out b = beside_output b.parts ++ (plain_output b.output b.parts ++ ordered_output b.output)
-
--- how many the parts gave, and plain sentences
-abbrev pub len_beside : Bridged → ℕ
-len_beside b = length (beside_output b.parts) + length (emits_of b.output.plain) + length (beside_plain b.parts)
 
 -- in the order in which it goes out
 abbrev pub output_of : Bridged → List Emit

@@ -1,28 +1,17 @@
 -- Whatever is said on the network can be read: a reader of IEC 61162-450 finds in each datagram just the sentences that were said.
-use Rattle.std.specs.Prelude.{◌≡◌, ℕ, List, [], ◌∷◌, length, map}
-use Rattle.sentence_text.specs.Names.{IsSfi}
-use Rattle.readings.specs.Rows.{rows_count}
-use Rattle.quantities.specs.About.{quantities_count}
+use Rattle.std.specs.Prelude.{◌≡◌, ℕ, List, map}
 use Rattle.datagram450.specs.Datagram.{all_of}
 use Rattle.gate_events.specs.Emit.{net}
 use Rattle.history.specs.Entries.{Entry, History}
 use Rattle.history.specs.EntryLaws.{nets_in}
-use Rattle.std.specs.Option.{ForSome}
-use Rattle.settings.specs.Setup.{IsSetup}
+use Rattle.settings.specs.Setup.{IsSetup, IsTyped}
 use Rattle.settings.specs.declared.setup.Setup.{Setup}
-use Rattle.plain_out.specs.Laws.{Says}
 use Rattle.plain_out.specs.Plain.{plain_out}
+use Rattle.parts.specs.Voices.{EachSays}
 use Rattle.bridge.specs.BridgeSettings.{BridgeSettings, bridge_settings_of}
 use Rattle.bridge.specs.Gate.{tagged_out}
-use Rattle.bridge.specs.Sentences.{Spoken, all_say}
+use Rattle.bridge.specs.Sentences.{all_say}
 use Rattle.bridge.specs.Speaking.{Speaks}
-
--- each datagram, with its transmission group, is read as its sentences, in order and as nothing else; and there are no other datagrams
-abbrev pub EachSays : List (List ℕ × List ℕ) → Spoken → Type 0
-EachSays [] [] = Unit {0}
-EachSays (d ∷ ds) (t ∷ ts) = Says d.1 t × EachSays ds ts
-EachSays [] (t ∷ ts) = ⊥
-EachSays (d ∷ ds) [] = ⊥
 
 -- at every entry after every history, of all that goes out but plain sentences
 abbrev pub DatagramsAreRead : Type 0
@@ -35,12 +24,6 @@ PlainSaysAll =
     → plain_out group (tagged_out p s h e) ≡ map (λ sentences. net group (all_of sentences)) (all_say p s h e)
 
 -- ---- what is configured can be understood
-
--- what the types of a configuration hold: its identifier is one, and each row and quantity has its place
-pub record IsTyped (x : Setup) : Type 0 where
-  pub sfi : IsSfi x.settings.config.sfi
-  pub rows : length x.settings.config.rows ≡ rows_count
-  pub quantities : ForSome x.quantities (λ q. length q.each ≡ quantities_count)
 
 abbrev pub ValidSettingsSpeak : Type 0
 ValidSettingsSpeak = (x : Setup) → IsTyped x → IsSetup x → Speaks (bridge_settings_of x)

@@ -1,5 +1,5 @@
 -- The parts beside the gateway: who is asked for, RMC, a ship around, the device that a row is taken from, and plain sentences.
-use Rattle.std.specs.Prelude.{◌≡◌, ℕ, ◌+◌, ◌-◌, true, false, List, [], ◌∷◌, ◌++◌, map, Some, None, codes}
+use Rattle.std.specs.Prelude.{◌≡◌, ℕ, ◌+◌, ◌-◌, Bool, true, false, List, [], ◌∷◌, ◌++◌, map, Option, Some, None, codes}
 use Rattle.report_rules.specs.Rules.{claim_lost, fast_orphan, not_ready, source_changed}
 use Rattle.readings.specs.declared.rows.Row.{Row}
 use Rattle.readings.specs.declared.rows.Row.TheVariants as row
@@ -11,26 +11,35 @@ use Rattle.history.specs.Cases.{can_frame, emitted, full, lined, navd, started, 
 use Rattle.history.specs.ChoiceCases.{ranked}
 use Rattle.history.specs.Emits.{broken, of_source}
 use Rattle.history.specs.Entries.{Entry, frame}
+use Rattle.parts.specs.Compose.{wanted}
+use Rattle.further_bridge.specs.FurtherRule.{FurtherRule}
+use Rattle.bridge.specs.Beside.{further}
 use Rattle.bridge.specs.Gate.{gate}
 use Rattle.bridge.specs.BridgeSettings.{BridgeSettings}
 
 -- a gateway of two devices that says neither RMC nor reports of ships around
 abbrev pub alone : BridgeSettings
-alone = record { gateway = two_devices; information = []; rmc = None; ais = None; quantities = None; sources = false; address = false; plain = None; records = false }
+alone = record { gateway = two_devices; parts = (Some [], (None, (None, further.none))); plain = None; records = false }
 
 -- one whose product information is ten bytes, which says RMC on RCOM and reports of ships on TGTD
 abbrev pub all_parts : BridgeSettings
 all_parts = record {
   gateway = two_devices;
-  information = 1 ∷ 2 ∷ 3 ∷ 4 ∷ 5 ∷ 6 ∷ 7 ∷ 8 ∷ 9 ∷ 10 ∷ [];
-  rmc = Some (record { group = codes "RCOM"; talker = codes "GP"; sfi = codes "II0001"; timeouts = map (λ row. 5000) every_row });
-  ais = Some (record { group = codes "TGTD"; slots = 16 });
-  quantities = None;
-  sources = false;
-  address = false;
+  parts = (
+    Some (1 ∷ 2 ∷ 3 ∷ 4 ∷ 5 ∷ 6 ∷ 7 ∷ 8 ∷ 9 ∷ 10 ∷ []),
+    (
+      Some (record { group = codes "RCOM"; talker = codes "GP"; sfi = codes "II0001"; timeouts = map (λ row. 5000) every_row }),
+      (Some (record { group = codes "TGTD"; slots = 16 }), further.none),
+    ),
+  );
   plain = None;
   records = false;
 }
+
+-- with further quantities, and with what is told of the devices that rows are taken from, and of the own address
+abbrev pub asking : BridgeSettings → Option FurtherRule → Bool → Bool → BridgeSettings
+asking p quantities sources address =
+    record p { parts = (p.parts.0, (p.parts.1.0, (p.parts.1.1.0, (quantities, (wanted sources, (wanted address, further.none.1.1.1)))))) }
 
 -- they started at this moment, and emit this at the events
 abbrev pub PartsEmit : BridgeSettings → ℕ → List Entry → List Emitted → Type 0
@@ -111,7 +120,7 @@ ShipAcrossAClaim =
 -- ---- the device that a row is taken from
 
 abbrev pub watched : BridgeSettings
-watched = record all_parts { gateway = ranked; sources = true }
+watched = record (asking all_parts None true false) { gateway = ranked }
 
 abbrev pub taken_from : Row → ℕ → Emit
 taken_from row source = broken source_changed (detail.Row row source)
@@ -159,7 +168,7 @@ AddressIsNoChange =
 -- ---- plain sentences
 
 abbrev pub plain_parts : BridgeSettings
-plain_parts = record all_parts { sources = true; plain = Some (codes "PLAN") }
+plain_parts = record (asking all_parts None true false) { plain = Some (codes "PLAN") }
 
 abbrev pub ended : List ℕ → List ℕ
 ended sentence = sentence ++ 13 ∷ 10 ∷ []

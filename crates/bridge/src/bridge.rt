@@ -1,5 +1,5 @@
 //! The gateway with the parts beside it.
-ghost use Rattle.std.specs.Prelude.{◌≡◌, ◌≤◌, ◌+◌, ◌++◌, [], true, false, length, option_map, slice_get, nat_le, IfOk, IfSome};
+ghost use Rattle.std.specs.Prelude.{◌≡◌, [], true, false, length, option_map, slice_get, nat_le, IfOk, IfSome};
 ghost use Rattle.gate_events.specs.Emit.{CanWrite};
 ghost use Rattle.gate_outbox.specs.Output.{emit_of, no_emits};
 ghost use Rattle.gate_core.specs.Steps.{IsEventValid, entry_of};
@@ -8,11 +8,11 @@ ghost use Rattle.settings.specs.Settings.{IsSettings};
 ghost use Rattle.settings.specs.Setup.{IsSetup, alone};
 ghost use Rattle.bridge.specs.Beside.{beside_plain};
 ghost use Rattle.bridge.specs.BridgeStands.{IsBesideStep, IsBridgeStep, IsForgotten, IsGatewayStep, IsNew, IsObeyed, IsOrder, IsSaidAgain, IsStart, IsUnposted};
-ghost use Rattle.bridge.specs.Kept.{IsAlone, beside_out, given_count, len_beside, no_output, ordered_output, output_of, plain_output};
+ghost use Rattle.bridge.specs.Kept.{IsAlone, no_output, output_of};
 ghost use Rattle.bridge.specs.BridgeSettings.{bridge_settings_of};
 
-use crate::beside::{Beside, beside_of};
-use crate::call_output::CallOutput;
+use crate::beside::Beside;
+use crate::call_output::{CallOutput, emit_beside, len_beside};
 use gate_core::{Command, Gateway, Outbox, moment_of};
 use gate_events::{Emit, Event};
 use parts::{Parts, Step};
@@ -76,7 +76,7 @@ impl Bridge {
         ensures { IfOk result (IsNew (bridge_settings_of setup.now)) }
     {
         let output = CallOutput::boxed(alloc)?;
-        let parts = beside_of(alloc, setup)?;
+        let parts = Beside::made(alloc, setup)?;
         // The largest part, last: what is kept while others are made lies on the stack once more.
         let gateway = Gateway::ignoring(alloc, &setup.settings.config, &setup.ignore)?;
         Ok(Bridge {
@@ -230,19 +230,10 @@ impl Bridge {
     {
         let own = self.output.outbox.len();
         if self.gave {
-            own + self.len_beside()
+            own + len_beside(&self.parts, &self.output)
         } else {
             own
         }
-    }
-
-    /// How many emits the parts beside the gateway gave, and plain sentences.
-    #[inline(never)]
-    fn len_beside(&self) -> usize
-        ensures len { result ≡ len_beside self.now }
-        ensures few { len_beside self.now ≤ 65535 }
-    {
-        self.parts.len() + self.output.plain.len() + self.parts.plain_len()
     }
 
     /// The emit at this place of all that the last call left, in its order, from 0; None exactly beyond the list.
@@ -250,56 +241,10 @@ impl Bridge {
         ensures emit { option_map emit_of result ≡ slice_get (output_of self.now) place }
         ensures valid { IfSome result CanWrite }
     {
-        match place.checked_sub(self.own_len()) {
+        match place.checked_sub(self.output.own_len()) {
             None => self.output.outbox.item(place),
-            Some(place) => self.emit_beside(place),
+            Some(place) => emit_beside(&self.parts, &self.output, place),
         }
-    }
-
-    /// How many emits the gateway itself gave at the event.
-    #[inline(always)]
-    fn own_len(&self) -> usize
-        ensures { result ≡ given_count self.now.output }
-    {
-        self.output.outbox.len() - self.output.ordered
-    }
-
-    /// The emit at this place behind those that the gateway itself gave at the event. Nearly all are its own: these are kept apart from them.
-    #[inline(never)]
-    fn emit_beside(&self, place: usize) -> Option<Emit<'_>>
-        requires { given_count self.now.output + place ≤ 18446744073709551615 }
-        ensures emit { option_map emit_of result ≡ slice_get (beside_out self.now) place }
-        ensures valid { IfSome result CanWrite }
-    {
-        match place.checked_sub(self.parts.len()) {
-            None => self.parts.item(place),
-            Some(place) => self.emit_plain(place),
-        }
-    }
-
-    /// The emit at this place behind those of the parts: a plain datagram, or what the command gave.
-    fn emit_plain(&self, place: usize) -> Option<Emit<'_>>
-        requires { given_count self.now.output + place ≤ 18446744073709551615 }
-        ensures emit { option_map emit_of result ≡ slice_get (plain_output self.now.output self.now.parts ++ ordered_output self.now.output) place }
-        ensures valid { IfSome result CanWrite }
-    {
-        let Some(place) = place.checked_sub(self.output.plain.len()) else {
-            return self.output.plain.item(place);
-        };
-        match place.checked_sub(self.parts.plain_len()) {
-            None => self.parts.plain_item(place),
-            Some(place) => self.emit_ordered(place),
-        }
-    }
-
-    /// The emit at this place of what the command gave.
-    #[tactic(auto, using(crate::proofs::Places::get_dropped))]
-    fn emit_ordered(&self, place: usize) -> Option<Emit<'_>>
-        requires { given_count self.now.output + place ≤ 18446744073709551615 }
-        ensures emit { option_map emit_of result ≡ slice_get (ordered_output self.now.output) place }
-        ensures valid { IfSome result CanWrite }
-    {
-        self.output.outbox.item(self.own_len() + place)
     }
 }
 

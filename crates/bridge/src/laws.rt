@@ -1,9 +1,11 @@
 //! What is promised of the bridge besides. Each law is a function that does nothing, and whose clause is the law.
+ghost use Rattle.parts.specs.PartSteps.{KeepsCommands};
 ghost use Rattle.bridge.specs.Alone.{RunsAlone, StepsAlone};
+ghost use Rattle.bridge.specs.Beside.{are_beside};
 ghost use Rattle.bridge.specs.Gate.{NothingFurther};
-ghost use Rattle.bridge.specs.WatchStands.{CommandsKeepWatchedNames};
 
-/// A gateway that neither tells from which device a row is taken nor says plain sentences emits what it emits without these parts.
+/// A gateway of which no further key asks a part, and that says no plain sentences, emits what the gateway, its answers, RMC and the reports of
+/// ships around give.
 pub fn nothing_further_changes_nothing()
     ensures { NothingFurther }
 {}
@@ -15,8 +17,7 @@ pub fn settings_run_alone()
     ensures runs { RunsAlone }
 {}
 
-/// The devices that rows are taken from, which stand for a history, stand for it with a command to go to an address as well: no row is taken
-/// from it.
-pub fn commands_keep_watched_names()
-    ensures { CommandsKeepWatchedNames }
+/// What the parts keep, which stands for a history, stands for it with a command to go to an address as well: a command is no event for a part.
+pub fn commands_keep_parts()
+    ensures { KeepsCommands are_beside }
 {}

@@ -5,3 +5,4 @@ pub mod CommandLemmas
 pub mod StepLemmas
 pub mod EventLemmas
 pub mod RoomLemmas
+pub mod NoDatagrams

@@ -4,3 +4,5 @@ pub mod Numbers
 pub mod Rules
 pub mod StepLemmas
 pub mod Opening
+pub mod Form
+pub mod QuantitiesAreRead

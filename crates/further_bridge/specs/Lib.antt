@@ -3,3 +3,4 @@ pub mod FurtherOut
 pub mod Kept
 pub mod Promises
 pub mod QuantityKinds
+pub mod FurtherPart

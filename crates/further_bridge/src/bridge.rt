@@ -27,7 +27,7 @@ use std::marker::Model;
 
 /// The most reports of one event: one for each of 256 messages in the making, two of a frame, and one of the message that it completes. It is
 /// another number than that of reports of ships: the listener's hearing of a fast packet is then each one's own, and is laid out in place.
-const MOST_REPORTS: usize = 259;
+pub(crate) const MOST_REPORTS: usize = 259;
 
 /// What an event leaves: at most 260 emits, of which at most one is a datagram.
 pub type FurtherEmits = Emits<MOST_REPORTS>;

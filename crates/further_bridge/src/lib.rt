@@ -9,10 +9,12 @@ mod bridge;
 mod config;
 mod kinds;
 mod laws;
+mod part;
 mod said;
 mod saying;
 mod writing;
 
 pub use bridge::{FurtherBridge, FurtherEmits};
 pub use laws::commands_leave_further_quantities;
+pub use part::QuantitiesPlace;
 pub use settings::Quantities;

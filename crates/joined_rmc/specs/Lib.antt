@@ -2,3 +2,4 @@ pub mod Lasting
 pub mod Kept
 pub mod RmcOut
 pub mod JoinStands
+pub mod RmcPart

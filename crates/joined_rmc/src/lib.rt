@@ -4,10 +4,12 @@
 //! No call takes memory.
 #![tactic(auto)]
 
+mod joining;
 mod last_of_row;
 pub mod laws;
 mod minimum;
 mod rmc_join;
 
+pub use joining::{Joining, RmcPlace};
 pub use rmc_join::RmcJoin;
 pub use settings::RmcConfig;

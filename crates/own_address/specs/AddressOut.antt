@@ -10,7 +10,8 @@ use Rattle.history.specs.Entries as entry
 use Rattle.history.specs.Entries.{Entry, History}
 use Rattle.history.specs.Known.{known}
 use Rattle.history.specs.Settings.{Settings, receiver_of}
-use Rattle.parts.specs.PartSteps.{KeepsCommands}
+use Rattle.settings.specs.declared.setup.Setup.{Setup}
+use Rattle.parts.specs.Compose.{wanted}
 use Rattle.own_address.specs.declared.own_address.OwnAddress.{OwnAddress}
 
 abbrev pub told : Option ℕ → Option ℕ → List Emit
@@ -34,6 +35,9 @@ module _ (c : Settings) (s : ℕ) where
 
 -- ---- as a part beside the gateway
 
+abbrev pub address_asked : Setup → Option (Unit {0})
+address_asked x = wanted x.address
+
 abbrev pub address_stands : Unit {0} → Settings → ℕ → History → OwnAddress → Type 0
 address_stands r c s h k = k.address ≡ own_told c s h
 
@@ -43,6 +47,3 @@ address_gives r c s h e = address_out c s h e
 -- whenever the gateway will start
 abbrev pub opening_stands : Settings → OwnAddress → Type 0
 opening_stands c k = (s : ℕ) → address_stands tt c s [] k
-
-pub address_keeps_commands : KeepsCommands address_stands
-address_keeps_commands r c s h source address k are stands = stands

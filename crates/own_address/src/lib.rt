@@ -5,4 +5,4 @@
 
 mod own_address;
 
-pub use own_address::OwnAddress;
+pub use own_address::{AddressPlace, OwnAddress};

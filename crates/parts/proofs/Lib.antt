@@ -1,1 +1,4 @@
 pub mod Empty
+pub mod Lines
+pub mod Made
+pub mod Speaking

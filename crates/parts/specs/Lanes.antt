@@ -1,11 +1,10 @@
 -- A part with what it gave at the last event.
-use Rattle.std.specs.Prelude.{◌≡◌, ℕ, List, [], Option}
+use Rattle.std.specs.Prelude.{◌≡◌, ℕ, List, []}
 use Rattle.gate_events.specs.Emit.{Emit}
 use Rattle.gate_outbox.specs.Output.{emits_of}
 use Rattle.history.specs.Entries.{History}
 use Rattle.history.specs.Settings.{Settings}
 use Rattle.parts.specs.declared.given.Given.{Given}
-use Rattle.parts.specs.Compose.{maybe_output, maybe_stand}
 use Rattle.parts.specs.PartSteps.{KeepsCommands}
 
 -- ---- places for it
@@ -42,9 +41,3 @@ pub record IsLane {R K E : Type 0} (stands : R → Settings → ℕ → History 
   pub stood : (r : R) (c : Settings) (s : ℕ) (h : History) → stands r c s h part → lane_stands stands r c s h lane
   pub emits : lane_output output lane ≡ []
   pub said : lane_output plain lane ≡ []
-
-pub record IsMaybeLane {R K E : Type 0} (stands : R → Settings → ℕ → History → K → Type 0) (output plain : E → List Emit) (part : Option K)
-    (lane : Option (LaneKept K E)) : Type 0 where
-  pub stood : (r : Option R) (c : Settings) (s : ℕ) (h : History) → maybe_stand stands r c s h part → maybe_stand (lane_stands stands) r c s h lane
-  pub emits : maybe_output (lane_output output) lane ≡ []
-  pub said : maybe_output (lane_output plain) lane ≡ []

@@ -2,3 +2,4 @@ pub mod Compose
 pub mod Forms
 pub mod Lanes
 pub mod PartSteps
+pub mod Voices

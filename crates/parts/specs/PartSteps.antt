@@ -1,5 +1,5 @@
--- What a part beside the gateway makes of one more entry, which the gateway has taken.
-use Rattle.std.specs.Prelude.{◌≡◌, ℕ, List, ◌∷◌}
+-- When a part beside the gateway is new, and what it makes of one more entry, which the gateway has taken.
+use Rattle.std.specs.Prelude.{◌≡◌, ℕ, List, [], ◌∷◌}
 use Rattle.gate_events.specs.Emit.{Emit}
 use Rattle.history.specs.AddressLaws.{AreSettings}
 use Rattle.history.specs.Entries.{Entry, History, IsHistory, command, now}
@@ -7,6 +7,20 @@ use Rattle.history.specs.Settings.{Settings}
 use Rattle.gate_core.specs.Promises.{IsTaken}
 use Rattle.gate_core.specs.Steps.{entry_of}
 use Rattle.parts.specs.declared.part.Step.{Step}
+
+-- ---- before anything came
+
+-- it stands for that, whenever the gateway will start
+abbrev pub IsOpened : {R K : Type 0} → (R → Settings → ℕ → History → K → Type 0) → R → Settings → K → Type 0
+IsOpened stands r c k = (s : ℕ) → stands r c s [] k
+
+-- and gave nothing yet
+pub record AreNew {R K : Type 0} (stands : R → Settings → ℕ → History → K → Type 0) (output plain : K → List Emit) (r : R) (c : Settings) (k : K) : Type 0 where
+  pub stood : IsOpened stands r c k
+  pub emits : output k ≡ []
+  pub said : plain k ≡ []
+
+-- ---- one more entry
 
 -- the most emits of all parts at one event
 abbrev pub most_output : ℕ

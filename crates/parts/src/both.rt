@@ -1,14 +1,18 @@
-//! Parts, and others behind them.
+//! Parts, and others behind them; and the end of a list of parts.
 ghost use Rattle.std.specs.Prelude.{◌≡◌, ◌+◌, ◌≤◌, ◌++◌, length};
-ghost use Rattle.parts.specs.Compose.{both_give, both_keep_commands, both_output, both_stand};
+ghost use Rattle.parts.specs.Compose.{both_asked, both_give, both_output, both_stand};
 
 use crate::part::Step;
 use crate::parts::Parts;
 use gate_events::Emit;
 use sentence_text::Group;
+use settings::Setup;
+use std::alloc::{AllocError, Global};
 
 impl<A: Parts, B: Parts> Parts for (A, B) {
     ghost Rule = { A.Rule × B.Rule };
+
+    ghost asked = { both_asked A.asked B.asked };
 
     ghost stands = { both_stand A.stands B.stands };
 
@@ -19,6 +23,12 @@ impl<A: Parts, B: Parts> Parts for (A, B) {
     ghost plain = { both_output A.plain B.plain };
 
     ghost most = { A.most + B.most };
+
+    fn made(alloc: Global, setup: &Setup) -> Result<(A, B), AllocError> {
+        let first = A::made(alloc, setup)?;
+        let second = B::made(alloc, setup)?;
+        Ok((first, second))
+    }
 
     fn clear(&mut self) {
         self.0.clear();
@@ -59,6 +69,4 @@ impl<A: Parts, B: Parts> Parts for (A, B) {
             Some(place) => self.1.plain_item(place),
         }
     }
-
-    ghost commands = { both_keep_commands A.stands B.stands A.commands B.commands };
 }

@@ -1,12 +1,14 @@
 //! A part with a place for what it gives.
 ghost use Rattle.std.specs.Prelude.{◌≡◌, ◌≤◌, [], length, IfOk};
-ghost use Rattle.parts.specs.Lanes.{IsLane, IsMaybeLane, IsEmptyPlace, lane_keeps_commands, lane_output, lane_stands};
+ghost use Rattle.parts.specs.Compose.{maybe_give, maybe_output, maybe_stand};
+ghost use Rattle.parts.specs.Lanes.{IsEmptyPlace, IsLane, lane_output, lane_stands};
 
 use crate::part::{Part, Step};
 use crate::parts::Parts;
 use crate::place::Place;
 use gate_events::Emit;
 use sentence_text::Group;
+use settings::Setup;
 use std::alloc::{AllocError, Global};
 use std::marker::Model;
 
@@ -32,7 +34,7 @@ impl<P, E: Place> Model for Lane<P, E> {
 
 impl<P: Part<E>, E: Place> Lane<P, E> {
     /// This part, which gave nothing yet.
-    pub fn new(alloc: Global, part: P) -> Result<Lane<P, E>, AllocError>
+    fn new(alloc: Global, part: P) -> Result<Lane<P, E>, AllocError>
         ensures { IfOk result (IsLane P.stands E.output E.plain part) }
     {
         let place = boxed(alloc)?;
@@ -41,16 +43,6 @@ impl<P: Part<E>, E: Place> Lane<P, E> {
             gave: false,
             place,
         })
-    }
-
-    /// This part if it is there, which gave nothing yet.
-    pub fn maybe(alloc: Global, part: Option<P>) -> Result<Option<Lane<P, E>>, AllocError>
-        ensures { IfOk result (IsMaybeLane P.stands E.output E.plain part) }
-    {
-        match part {
-            Some(part) => Ok(Some(Lane::new(alloc, part)?)),
-            None => Ok(None),
-        }
     }
 }
 
@@ -62,60 +54,83 @@ fn boxed<E: Place>(alloc: Global) -> Result<Box<E>, AllocError>
     Ok(Box::new(alloc, E::new())?)
 }
 
-impl<P: Part<E>, E: Place> Parts for Lane<P, E> {
-    ghost Rule = { P.Rule };
+/// The part is there exactly if it is asked for.
+impl<P: Part<E>, E: Place> Parts for Option<Lane<P, E>> {
+    ghost use Rattle.std.specs.Prelude.{Option};
 
-    ghost stands = { lane_stands P.stands };
+    ghost Rule = { Option P.Rule };
 
-    ghost gives = { P.gives };
+    ghost asked = { P.asked };
 
-    ghost output = { lane_output E.output };
+    ghost stands = { maybe_stand (lane_stands P.stands) };
 
-    ghost plain = { lane_output E.plain };
+    ghost gives = { maybe_give P.gives };
+
+    ghost output = { maybe_output (lane_output E.output) };
+
+    ghost plain = { maybe_output (lane_output E.plain) };
 
     ghost most = { E.most };
 
+    fn made(alloc: Global, setup: &Setup) -> Result<Option<Lane<P, E>>, AllocError> {
+        match P::opened(alloc, setup)? {
+            Some(part) => Ok(Some(Lane::new(alloc, part)?)),
+            None => Ok(None),
+        }
+    }
+
     fn clear(&mut self) {
-        if self.gave {
-            self.place.as_mut().clear();
-            self.gave = false;
+        if let Some(lane) = self {
+            if lane.gave {
+                lane.place.as_mut().clear();
+                lane.gave = false;
+            }
         }
     }
 
     fn after(&mut self, step: &Step<'_>) -> bool {
-        self.gave = self.part.after(step, self.place.as_mut());
-        self.gave
+        match self {
+            Some(lane) => {
+                lane.gave = lane.part.after(step, lane.place.as_mut());
+                lane.gave
+            }
+            None => false,
+        }
     }
 
     fn say_plain(&mut self, group: Group) {
-        if self.gave {
-            self.place.as_mut().say_plain(group);
+        if let Some(lane) = self {
+            if lane.gave {
+                lane.place.as_mut().say_plain(group);
+            }
         }
     }
 
     fn len(&self) -> usize {
-        if self.gave { self.place.len() } else { 0 }
+        match self {
+            Some(lane) if lane.gave => lane.place.len(),
+            _ => 0,
+        }
     }
 
     fn item(&self, place: usize) -> Option<Emit<'_>> {
-        if self.gave {
-            self.place.item(place)
-        } else {
-            None
+        match self {
+            Some(lane) if lane.gave => lane.place.item(place),
+            _ => None,
         }
     }
 
     fn plain_len(&self) -> usize {
-        if self.gave { self.place.plain_len() } else { 0 }
-    }
-
-    fn plain_item(&self, place: usize) -> Option<Emit<'_>> {
-        if self.gave {
-            self.place.plain_item(place)
-        } else {
-            None
+        match self {
+            Some(lane) if lane.gave => lane.place.plain_len(),
+            _ => 0,
         }
     }
 
-    ghost commands = { lane_keeps_commands P.stands P.commands };
+    fn plain_item(&self, place: usize) -> Option<Emit<'_>> {
+        match self {
+            Some(lane) if lane.gave => lane.place.plain_item(place),
+            _ => None,
+        }
+    }
 }

@@ -1,12 +1,12 @@
 //! Parts beside the gateway, in one form: what each keeps, what it gives at an event that the gateway took, and how several are put together.
 //!
-//! No call but [`Lane::new`] takes memory.
+//! No call but [`Parts::made`] and [`Part::opened`] takes memory.
 #![tactic(auto)]
 
 mod both;
 mod given;
 mod lane;
-mod maybe;
+mod nothing;
 mod part;
 mod parts;
 mod place;

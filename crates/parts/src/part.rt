@@ -1,14 +1,19 @@
 //! A part beside the gateway.
-ghost use Rattle.std.specs.Prelude.{◌≡◌, ℕ, false, List, []};
+ghost use Rattle.std.specs.Prelude.{◌≡◌, ℕ, false, List, [], Option, IfOk};
 ghost use Rattle.gate_events.specs.Emit.{Emit};
 ghost use Rattle.gate_core.specs.Steps.{IsEventValid};
 ghost use Rattle.history.specs.Entries.{Entry, History};
 ghost use Rattle.history.specs.Settings.{Settings};
-ghost use Rattle.parts.specs.PartSteps.{KeepsCommands, Says};
+ghost use Rattle.settings.specs.Setup.{IsSetup, gateway_of};
+ghost use Rattle.settings.specs.declared.setup.Setup.{Setup};
+ghost use Rattle.parts.specs.Compose.{maybe_stand};
+ghost use Rattle.parts.specs.PartSteps.{IsOpened, Says};
 
 use crate::place::Place;
 use gate_core::{Gateway, Outbox};
 use gate_events::Event;
+use settings::Setup;
+use std::alloc::{AllocError, Global};
 
 /// An event that the gateway took in its last step.
 #[derive(Drop)]
@@ -27,11 +32,19 @@ pub trait Part<E: Place>: Drop {
     /// By what it is configured.
     ghost Rule: { Type 0 };
 
+    /// By what, if a file asks for it.
+    ghost asked: { Setup → Option Rule };
+
     /// What it keeps stands for a history of a gateway of these settings since this start.
     ghost stands: { Rule → Settings → ℕ → History → Self → Type 0 };
 
     /// What it gives at an entry, over everything that ever came.
     ghost gives: { Rule → Settings → ℕ → History → Entry → List Emit };
+
+    /// The part that a file asks for, with nothing heard yet; none if it doesn't.
+    fn opened(alloc: Global, setup: &Setup) -> Result<Option<Self>, AllocError>
+        requires { IsSetup setup.now }
+        ensures { IfOk result (IsOpened (maybe_stand stands) (asked setup.now) (gateway_of setup.now)) };
 
     /// Takes an event. False: it gives nothing.
     fn after(&mut self, step: &Step<'_>, place: &mut E) -> bool
@@ -40,7 +53,4 @@ pub trait Part<E: Place>: Drop {
         ensures takes { Says stands gives E.output step.now self.old self.new place.new }
         ensures unsaid { E.plain place.new ≡ E.plain place.old }
         ensures gave { result ≡ false → E.output place.new ≡ [] };
-
-    /// A command to go to an address is no event for it.
-    ghost commands: { KeepsCommands stands };
 }

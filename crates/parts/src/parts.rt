@@ -1,21 +1,28 @@
 //! Parts beside the gateway, put together.
-ghost use Rattle.std.specs.Prelude.{◌≡◌, ◌≤◌, ℕ, false, List, [], length, option_map, slice_get, IfSome};
+ghost use Rattle.std.specs.Prelude.{◌≡◌, ◌≤◌, ℕ, false, List, [], length, option_map, slice_get, IfOk, IfSome};
 ghost use Rattle.gate_events.specs.Emit.{CanWrite, Emit};
 ghost use Rattle.gate_outbox.specs.Output.{emit_of};
 ghost use Rattle.gate_core.specs.Steps.{IsEventValid};
 ghost use Rattle.history.specs.Entries.{Entry, History};
 ghost use Rattle.history.specs.Settings.{Settings};
 ghost use Rattle.plain_out.specs.Plain.{plain_out};
-ghost use Rattle.parts.specs.PartSteps.{Keeps, KeepsCommands, Takes, most_output};
+ghost use Rattle.settings.specs.Setup.{IsSetup, gateway_of};
+ghost use Rattle.settings.specs.declared.setup.Setup.{Setup};
+ghost use Rattle.parts.specs.PartSteps.{AreNew, Keeps, Takes, most_output};
 
 use crate::part::Step;
 use gate_events::Emit;
 use sentence_text::Group;
+use settings::Setup;
+use std::alloc::{AllocError, Global};
 
 /// Parts that keep what they gave at the last event, those of each behind those of the one before.
 pub trait Parts: Drop {
     /// By what they are configured.
     ghost Rule: { Type 0 };
+
+    /// By what a file asks for them.
+    ghost asked: { Setup → Rule };
 
     /// What they keep stands for a history of a gateway of these settings since this start.
     ghost stands: { Rule → Settings → ℕ → History → Self → Type 0 };
@@ -31,6 +38,11 @@ pub trait Parts: Drop {
 
     /// The most emits of an event.
     ghost most: { ℕ };
+
+    /// Those that a file asks for, with nothing heard yet.
+    fn made(alloc: Global, setup: &Setup) -> Result<Self, AllocError>
+        requires { IsSetup setup.now }
+        ensures { IfOk result (AreNew stands output plain (asked setup.now) (gateway_of setup.now)) };
 
     /// Forgets what they gave.
     fn clear(&mut self)
@@ -77,7 +89,4 @@ pub trait Parts: Drop {
         requires { most ≤ most_output }
         ensures emit { option_map emit_of result ≡ slice_get (plain self.now) place }
         ensures valid { IfSome result CanWrite };
-
-    /// A command to go to an address is no event for them.
-    ghost commands: { KeepsCommands stands };
 }

@@ -1,6 +1,6 @@
 -- All that is emitted at an entry is the same with a tick before it and without it, where nothing is emitted at that tick.
-use Rattle.std.proofs.Common.{◌≡◌, ℕ, ◌+◌, ◌*◌, ◌%◌, ◌≤◌, Bool, true, false, ◌&&◌, ◌==◌, List, [], ◌∷◌, ◌++◌, refl, ap, ◌∙◌}
-use Rattle.std.specs.Prelude.{Option, Some, None, if◌then◌else◌}
+use Rattle.std.proofs.Common.{◌≡◌, ℕ, ◌+◌, ◌*◌, ◌%◌, ◌≤◌, Bool, ◌&&◌, ◌==◌, List, [], ◌∷◌, ◌++◌, refl, ap, ◌∙◌}
+use Rattle.std.specs.Prelude.{Option, if◌then◌else◌}
 use Rattle.n2k_id.specs.Pgns.{asked_of}
 use Rattle.bus_identity.specs.Answers.{Kept}
 use Rattle.bus_identity.specs.PgnLists.{product_information, pgn_lists}
@@ -14,35 +14,23 @@ use Rattle.history.specs.Gate.{expired, out}
 use Rattle.history.specs.Known.{Known}
 use Rattle.history.specs.Settings.{Settings, receiver_of}
 use Rattle.pgn_profile.specs.declared.kinds.Kind.{Kind}
-use Rattle.gateway_commands.specs.Heard.{heard_expired}
-use Rattle.gateway_commands.specs.AisOut.{report_gives, report_kinds}
-use Rattle.gateway_commands.specs.FurtherOut.{further_done, message_breaks, said_at, lines_said, said_gives}
-use Rattle.gateway_commands.specs.Answered.{answer_by, answered_before, answers, is_answered, own_after, ready_after, sent_before}
+use Rattle.bus_listener.specs.Heard.{heard_expired}
+use Rattle.ais_bridge.specs.AisOut.{report_gives, report_kinds}
+use Rattle.further_bridge.specs.FurtherOut.{further_done, message_breaks, said_at, lines_said, said_gives}
+use Rattle.bus_answers.specs.Answered.{answer_by, answered_before, answers, is_answered, own_after, ready_after, sent_before}
 use Rattle.gateway_commands.specs.Gate.{all_out, given, plain_of, tagged_out}
-use Rattle.gateway_commands.specs.AddressOut.{address_gives, address_keeps_commands, address_stands}
-use Rattle.gateway_commands.specs.Beside.{beside, rules_of}
-use Rattle.gateway_commands.specs.Commands.{answering_keeps_commands, joining_keeps_commands, quantities_keep_commands, ships_keep_commands, sources_keep_commands}
-use Rattle.gateway_commands.specs.Each.{
-  answering_gives,
-  answering_stands,
-  joining_gives,
-  joining_stands,
-  most_answered,
-  most_of_quantities,
-  most_of_ships,
-  quantities_give,
-  quantities_stand,
-  ships_give,
-  ships_stand,
-  sources_give,
-  sources_stand,
-}
-use Rattle.gateway_commands.specs.Forms.{lane, place}
+use Rattle.ais_bridge.proofs.Form.{ships}
+use Rattle.bus_answers.proofs.Form.{answering}
+use Rattle.further_bridge.proofs.Form.{quantities}
+use Rattle.joined_rmc.proofs.Form.{joined_rmc}
+use Rattle.own_address.proofs.Form.{own_address}
+use Rattle.source_changes.proofs.Form.{sources}
+use Rattle.gateway_commands.specs.Beside.{beside}
 use Rattle.gateway_commands.specs.BridgeSettings.{BridgeSettings}
 use Rattle.recordings.proofs.Known.{known_without}
 use Rattle.recordings.proofs.Gathered.{ap₃, joined, none_left, none_right}
 use Rattle.recordings.proofs.OwnAddress.{address_first, address_without}
-use Rattle.recordings.proofs.Quiet.{IsQuiet, both_quiet, maybe_quiet}
+use Rattle.recordings.proofs.Quiet.{AreQuiet, IsQuiet, before, nothing_quiet}
 use Rattle.recordings.proofs.Overdue.{expired_later, expired_first_later}
 use Rattle.recordings.proofs.Out.{out_without}
 use Rattle.recordings.proofs.Listened.{heard_later, heard_first_later}
@@ -95,29 +83,29 @@ abbrev heard_since : (kinds : ℕ → Kind) (limit : ℕ) (c : Settings) (s m : 
 heard_since kinds limit c s m h le none [] t = heard_first_later kinds limit c s m h le none t
 heard_since kinds limit c s m h le none (e ∷ newer) t = heard_later kinds limit c s m h e newer t
 
-answering_quiet : IsQuiet (lane (place most_answered) answering_stands answering_gives answering_keeps_commands)
+answering_quiet : IsQuiet answering
 answering_quiet = record {
-  first = λ information c s m. refl;
+  first = λ information c s. refl;
   later = λ information c s m h le none newer e. answers_without c s m h information newer e;
 }
 
-rmc_quiet : IsQuiet (lane (place 0) joining_stands joining_gives joining_keeps_commands)
+rmc_quiet : IsQuiet joined_rmc
 rmc_quiet = record {
-  first = λ r c s m. refl;
+  first = λ r c s. refl;
   later = λ r c s m h le none newer e. rmc_without r c s m h newer e;
 }
 
-ships_quiet : IsQuiet (lane (place most_of_ships) ships_stand ships_give ships_keep_commands)
+ships_quiet : IsQuiet ships
 ships_quiet = record {
-  first = λ a c s m. refl;
+  first = λ a c s. refl;
   later = λ a c s m h le none newer e.
       ais_without a c s m h newer e
       (heard_since report_kinds a.slots c s m h le (none_left (heard_expired report_kinds a.slots c s h m) (report_gives a c s h (tick m)) none) newer (moment_of e));
 }
 
-quantities_quiet : IsQuiet (lane (place most_of_quantities) quantities_stand quantities_give quantities_keep_commands)
+quantities_quiet : IsQuiet quantities
 quantities_quiet = record {
-  first = λ x c s m. refl;
+  first = λ x c s. refl;
   later = λ x c s m h le none newer e.
       further_without x c s m h newer e
       (heard_since kind_of x.slots c s m h le
@@ -125,25 +113,28 @@ quantities_quiet = record {
       (message_breaks (further_done x c s h (tick m)) ++ said_gives x c.sfi (lines_said x c s h) (said_at x c s h (tick m))) none) newer (moment_of e));
 }
 
-sources_quiet : IsQuiet (lane (place 1) sources_stand sources_give sources_keep_commands)
+sources_quiet : IsQuiet sources
 sources_quiet = record {
-  first = λ r c s m. refl;
+  first = λ r c s. refl;
   later = λ r c s m h le none newer e. source_without c s m h newer e;
 }
 
-address_quiet : IsQuiet (lane (place 1) address_stands address_gives address_keeps_commands)
+address_quiet : IsQuiet own_address
 address_quiet = record {
-  first = λ r c s m. address_first c s m;
+  first = λ r c s. address_first c s;
   later = λ r c s m h le none newer e. address_without c s m h none newer e;
 }
 
 -- all of them, in the order in which their emits go out
-pub beside_quiet : IsQuiet beside
+pub beside_quiet : AreQuiet beside
 beside_quiet =
-    both_quiet _ _ answering_quiet
-    (both_quiet _ _ (maybe_quiet _ rmc_quiet)
-    (both_quiet _ _ (maybe_quiet _ ships_quiet)
-    (both_quiet _ _ (maybe_quiet _ quantities_quiet) (both_quiet _ _ (maybe_quiet _ sources_quiet) (maybe_quiet _ address_quiet)))))
+    before answering _ answering_quiet
+    (before joined_rmc _ rmc_quiet
+    (before ships _ ships_quiet
+    (before quantities _ quantities_quiet
+    (before sources _ sources_quiet
+    (before own_address _ address_quiet
+    nothing_quiet)))))
 
 -- ---- all that is emitted, where nothing is at a tick
 
@@ -161,7 +152,7 @@ module _ (p : BridgeSettings) (s m : ℕ) (h : History) (le : now h ≤ m) (none
   tagged_alike : (newer : History) (e : Entry) → tagged_out p s (newer ++ h) e ≡ tagged_out p s (newer ++ tick m ∷ h) e
   tagged_alike newer e =
       joined (out_without p.gateway s m h newer e (over newer (moment_of e)))
-      (beside_quiet.later (rules_of p) p.gateway s m h le (none_right (out p.gateway s h (tick m)) (given p s h (tick m)) tagged_none) newer e)
+      (beside_quiet.gives.later p.parts p.gateway s m h le (none_right (out p.gateway s h (tick m)) (given p s h (tick m)) tagged_none) newer e)
 
   pub all_alike : (newer : History) (e : Entry) → all_out p s (newer ++ h) e ≡ all_out p s (newer ++ tick m ∷ h) e
   all_alike newer e = ap (λ (x : List Emit). x ++ plain_of p.plain x) (tagged_alike newer e)

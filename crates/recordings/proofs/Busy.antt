@@ -1,4 +1,4 @@
--- All ticks at which nothing is emitted can be left out at once; before anything came, each tick is one of them.
+-- All ticks at which nothing is emitted can be left out at once; before anything came, a tick at the moment of the start is one of them.
 use Rattle.std.proofs.Common.{◌≡◌, ℕ, ◌≤◌, Bool, true, false, not, List, [], ◌∷◌, ◌++◌, refl, sym, ap, subst, ◌∙◌, arith}
 use Rattle.std.specs.Prelude.{Option, Some, None, option_map, if◌then◌else◌}
 use Rattle.std.proofs.lemmas.Bool.{and_parts, le-leb}
@@ -12,7 +12,6 @@ use Rattle.gateway_commands.specs.Gate.{all_out, from_events, plain_of, stepped,
 use Rattle.gateway_commands.specs.BridgeSettings.{BridgeSettings}
 use Rattle.recordings.specs.Idle.{AreFrom, BeginFrom, busy, is_idle}
 use Rattle.recordings.specs.IdleLaws.{StartIsIdle, BusyEvents, BusyGate}
-use Rattle.gateway_commands.specs.Beside.{rules_of}
 use Rattle.recordings.proofs.Events.{idle_ticks}
 use Rattle.recordings.proofs.All.{beside_quiet}
 
@@ -23,11 +22,7 @@ plain_idle None = refl
 plain_idle (Some group) = refl
 
 pub start_is_idle : StartIsIdle
-start_is_idle p s m =
-    let c = p.gateway in
-    ap (λ (x : List Emit). x ++ plain_of p.plain x)
-    (beside_quiet.first (rules_of p) c s m)
-    ∙ plain_idle p.plain
+start_is_idle p s = ap (λ (x : List Emit). x ++ plain_of p.plain x) (beside_quiet.gives.first p.parts p.gateway s) ∙ plain_idle p.plain
 
 -- ---- all of them
 

@@ -11,9 +11,9 @@ use Rattle.history.specs.FromBus.{said_at}
 use Rattle.history.specs.Known.{Known, held_since, known}
 use Rattle.history.specs.Messages.{Message, done}
 use Rattle.history.specs.Settings.{Settings, receiver_of, same_row}
-use Rattle.gateway_commands.specs.Selected.{Selected, last_of, newer as newest, saying, selected_at, selected_with}
+use Rattle.gate_core.specs.Selected.{Selected, last_of, newer as newest, saying, selected_at, selected_with}
 use Rattle.gateway_commands.proofs.Completed.{done_by}
-use Rattle.gateway_commands.specs.Lasting.{held_by, lasting, said_within, still_held}
+use Rattle.joined_rmc.specs.Lasting.{held_by, lasting, said_within, still_held}
 use Rattle.recordings.proofs.Places.{apart_from, closed, closed_before, closed_order}
 use Rattle.recordings.proofs.Renumbered.{holder_as, since_as}
 use Rattle.recordings.proofs.Known.{known_without}

@@ -18,8 +18,8 @@ use Rattle.history.specs.Messages.{Message, done}
 use Rattle.history.specs.Opens.{notes_of}
 use Rattle.history.specs.Settings.{Settings}
 use Rattle.history.specs.Traces.{NotedFrame}
-use Rattle.gateway_commands.specs.Heard.{claim_loses, heard_done, heard_expired, heard_out, heard_refused, hears, is_heard, listener, step_loses}
-use Rattle.gateway_commands.specs.Kinds.{is_told}
+use Rattle.bus_listener.specs.Heard.{claim_loses, heard_done, heard_expired, heard_out, heard_refused, hears, is_heard, listener, step_loses}
+use Rattle.bus_listener.specs.Kinds.{is_told}
 use Rattle.recordings.proofs.Places.{closed, place_of}
 use Rattle.recordings.proofs.Renumbered.{known_as, step_as}
 use Rattle.recordings.proofs.Known.{known_without}

@@ -11,7 +11,7 @@ use Rattle.history.specs.Entries as entry
 use Rattle.history.specs.Entries.{Entry, History, tick}
 use Rattle.history.specs.Known.{Known}
 use Rattle.history.specs.Settings.{Settings, receiver_of}
-use Rattle.gateway_commands.specs.AddressOut.{address_out, own_at, own_told, told}
+use Rattle.own_address.specs.AddressOut.{address_out, own_at, own_told, told}
 use Rattle.recordings.proofs.Known.{known_without}
 
 told_something : (e : Emit) → e ∷ [] ≡ [] → ⊥
@@ -49,5 +49,5 @@ module _ (c : Settings) (s m : ℕ) (h : History) (none : address_out c s h (tic
       ∙ ap (told (own_told c s (newer ++ tick m ∷ h))) (own_without (e ∷ newer))
 
 -- at a tick before anything came it is that of the start
-pub address_first : (c : Settings) (s m : ℕ) → address_out c s [] (tick m) ≡ []
-address_first c s m = unchanged (own_at c s [])
+pub address_first : (c : Settings) (s : ℕ) → address_out c s [] (tick s) ≡ []
+address_first c s = unchanged (own_at c s [])

@@ -1,39 +1,47 @@
 -- A tick at which a part beside the gateway gives nothing changes nothing that it gives later; and parts that are put together keep that.
 use Rattle.std.proofs.Common.{◌≡◌, ℕ, ◌≤◌, [], ◌∷◌, ◌++◌, refl}
-use Rattle.std.specs.Prelude.{Option, Some, None}
+use Rattle.std.specs.Prelude.{List, Option, Some, None}
+use Rattle.gate_events.specs.Emit.{Emit}
 use Rattle.history.specs.Entries.{Entry, History, now, tick}
 use Rattle.history.specs.Settings.{Settings}
-use Rattle.gateway_commands.specs.Forms.{Form, both, maybe}
+use Rattle.parts.specs.Forms.{Form, PartForm, both, lane, nothing}
 use Rattle.recordings.proofs.Gathered.{joined, none_left, none_right}
 
-pub record IsQuiet (a : Form) : Type 0 where
-  -- before anything came a tick gives nothing
-  pub first : (r : a.rule) (c : Settings) (s m : ℕ) → a.give r c s [] (tick m) ≡ []
-  pub later : (r : a.rule) (c : Settings) (s m : ℕ) (h : History) → now h ≤ m → a.give r c s h (tick m) ≡ []
-      → (newer : History) (e : Entry) → a.give r c s (newer ++ h) e ≡ a.give r c s (newer ++ tick m ∷ h) e
+pub record GivesQuietly {R : Type 0} (gives : R → Settings → ℕ → History → Entry → List Emit) : Type 0 where
+  -- a tick at the moment of the start gives nothing
+  pub first : (r : R) (c : Settings) (s : ℕ) → gives r c s [] (tick s) ≡ []
+  pub later : (r : R) (c : Settings) (s m : ℕ) (h : History) → now h ≤ m → gives r c s h (tick m) ≡ []
+      → (newer : History) (e : Entry) → gives r c s (newer ++ h) e ≡ gives r c s (newer ++ tick m ∷ h) e
 
--- ---- it is there exactly if it is configured
+-- a part, and parts that are put together
+abbrev pub IsQuiet : PartForm → Type 0
+IsQuiet a = GivesQuietly a.give
 
-module _ (a : Form) (q : IsQuiet a) where
-  first_maybe : (r : Option a.rule) (c : Settings) (s m : ℕ) → (maybe a).give r c s [] (tick m) ≡ []
-  first_maybe None c s m = refl
-  first_maybe (Some r) c s m = q.first r c s m
+pub record AreQuiet (a : Form) : Type 0 where
+  pub gives : GivesQuietly a.give
 
-  later_maybe : (r : Option a.rule) (c : Settings) (s m : ℕ) (h : History) → now h ≤ m → (maybe a).give r c s h (tick m) ≡ []
-      → (newer : History) (e : Entry) → (maybe a).give r c s (newer ++ h) e ≡ (maybe a).give r c s (newer ++ tick m ∷ h) e
-  later_maybe None c s m h le none newer e = refl
-  later_maybe (Some r) c s m h le none newer e = q.later r c s m h le none newer e
+-- ---- a part that is there exactly if it is asked for, and others behind it
 
-  pub maybe_quiet : IsQuiet (maybe a)
-  maybe_quiet = record { first = first_maybe; later = later_maybe }
+module _ (a : PartForm) (q : IsQuiet a) where
+  first_lane : (r : Option a.rule) (c : Settings) (s : ℕ) → (lane a).give r c s [] (tick s) ≡ []
+  first_lane None c s = refl
+  first_lane (Some r) c s = q.first r c s
 
--- ---- a part, and another behind it
+  later_lane : (r : Option a.rule) (c : Settings) (s m : ℕ) (h : History) → now h ≤ m → (lane a).give r c s h (tick m) ≡ []
+      → (newer : History) (e : Entry) → (lane a).give r c s (newer ++ h) e ≡ (lane a).give r c s (newer ++ tick m ∷ h) e
+  later_lane None c s m h le none newer e = refl
+  later_lane (Some r) c s m h le none newer e = q.later r c s m h le none newer e
 
-pub both_quiet : (a b : Form) → IsQuiet a → IsQuiet b → IsQuiet (both a b)
-both_quiet a b q r = record {
-  first = λ x c s m. joined (q.first x.0 c s m) (r.first x.1 c s m);
-  later = λ x c s m h le none newer e.
-      joined
-      (q.later x.0 c s m h le (none_left (a.give x.0 c s h (tick m)) (b.give x.1 c s h (tick m)) none) newer e)
-      (r.later x.1 c s m h le (none_right (a.give x.0 c s h (tick m)) (b.give x.1 c s h (tick m)) none) newer e);
+pub before : (a : PartForm) (b : Form) → IsQuiet a → AreQuiet b → AreQuiet (both (lane a) b)
+before a b q r = record {
+  gives = record {
+    first = λ x c s. joined (first_lane a q x.0 c s) (r.gives.first x.1 c s);
+    later = λ x c s m h le none newer e.
+        joined
+        (later_lane a q x.0 c s m h le (none_left ((lane a).give x.0 c s h (tick m)) (b.give x.1 c s h (tick m)) none) newer e)
+        (r.gives.later x.1 c s m h le (none_right ((lane a).give x.0 c s h (tick m)) (b.give x.1 c s h (tick m)) none) newer e);
+  };
 }
+
+pub nothing_quiet : AreQuiet nothing
+nothing_quiet = record { gives = record { first = λ r c s. refl; later = λ r c s m h le none newer e. refl } }

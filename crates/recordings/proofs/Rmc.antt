@@ -6,10 +6,10 @@ use Rattle.readings.specs.declared.reading.Reading.{Reading}
 use Rattle.readings.specs.declared.rows.Row.TheVariants as row
 use Rattle.history.specs.Entries.{Entry, History, moment_of, tick}
 use Rattle.history.specs.Settings.{Settings}
-use Rattle.gateway_commands.specs.Selected.{Selected, last_of, selected_at}
-use Rattle.gateway_commands.specs.Lasting.{is_due}
-use Rattle.gateway_commands.specs.RmcOut.{RmcRule, datagram_by, joined_in, lines_before, minimum, minimum_of, rmc_datagram, rmc_out, sent_to, timeout_of}
-use Rattle.gateway_commands.specs.SourceOut.{change_from, changed, source_out, told}
+use Rattle.gate_core.specs.Selected.{Selected, last_of, selected_at}
+use Rattle.joined_rmc.specs.Lasting.{is_due}
+use Rattle.joined_rmc.specs.RmcOut.{RmcRule, datagram_by, joined_in, lines_before, minimum, minimum_of, rmc_datagram, rmc_out, sent_to, timeout_of}
+use Rattle.source_changes.specs.SourceOut.{change_from, changed, source_out, told}
 use Rattle.recordings.proofs.Places.{closed}
 use Rattle.recordings.proofs.Lasting.{last_without, lasting_without, selected_as, selected_without}
 use Rattle.recordings.proofs.Gathered.{ap₃}

@@ -70,7 +70,7 @@ module _ (p : BridgeSettings) (records : p.records ≡ true) where
   -- the tick of the start changes nothing
   first_tick : (m : ℕ) (lines : List (List ℕ)) (emits : List Emitted) → IsAgain p m m [] lines emits → emits ≡ from_events p m [] (tick m ∷ events_in lines)
   first_tick m lines emits x =
-      let none = start_is_idle p m m in
+      let none = start_is_idle p m in
       let es = events_in lines in
       x.same
       ∙ sym (idle_ticks p m [] m es (omega arith) none x.from)

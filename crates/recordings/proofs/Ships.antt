@@ -11,12 +11,12 @@ use Rattle.history.specs.Entries.{Entry, History, moment_of, tick}
 use Rattle.history.specs.Known.{Known, known}
 use Rattle.history.specs.Messages.{Message, messages_of}
 use Rattle.history.specs.Settings.{Settings}
-use Rattle.gateway_commands.specs.Heard.{heard_expired}
-use Rattle.gateway_commands.specs.AisOut.{ais_done, ais_out, ais_said, lines_said, report_kinds}
-use Rattle.gateway_commands.specs.Reports.{line_count, said_by, said_gives}
-use Rattle.gateway_commands.specs.FurtherOut as further
-use Rattle.gateway_commands.specs.FurtherOut.{further_done, further_out, further_receiver, message_breaks, quantity_told, selected, selected_value, said_at, told_by, value_of}
-use Rattle.gateway_commands.specs.FurtherRule.{FurtherRule, rule_at}
+use Rattle.bus_listener.specs.Heard.{heard_expired}
+use Rattle.ais_bridge.specs.AisOut.{ais_done, ais_out, ais_said, lines_said, report_kinds}
+use Rattle.ais_bridge.specs.Reports.{line_count, said_by, said_gives}
+use Rattle.further_bridge.specs.FurtherOut as further
+use Rattle.further_bridge.specs.FurtherOut.{further_done, further_out, further_receiver, message_breaks, quantity_told, selected, selected_value, said_at, told_by, value_of}
+use Rattle.further_bridge.specs.FurtherRule.{FurtherRule, rule_at}
 use Rattle.recordings.proofs.Places.{closed}
 use Rattle.recordings.proofs.Renumbered.{holder_as}
 use Rattle.recordings.proofs.Known.{known_without}

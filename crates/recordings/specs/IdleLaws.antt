@@ -5,9 +5,9 @@ use Rattle.gateway_commands.specs.Gate.{all_out, from_events, gate}
 use Rattle.gateway_commands.specs.BridgeSettings.{BridgeSettings}
 use Rattle.recordings.specs.Idle.{AreFrom, BeginFrom, busy}
 
--- before anything came, nothing is emitted at a tick, whenever it is
+-- nothing is emitted at a tick at the moment of the start
 abbrev pub StartIsIdle : Type 0
-StartIsIdle = (p : BridgeSettings) (s m : ℕ) → all_out p s [] (tick m) ≡ []
+StartIsIdle = (p : BridgeSettings) (s : ℕ) → all_out p s [] (tick s) ≡ []
 
 -- after any history, whatever the events are that come next, as long as the first of them isn't earlier than the tick
 abbrev pub IdleTicks : Type 0

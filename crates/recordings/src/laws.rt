@@ -4,8 +4,8 @@ ghost use Rattle.recordings.specs.Laws.{RecordingsAreTold, RecordingsReplay};
 ghost use Rattle.recordings.specs.RecordedRuns.{RecordedRunsReplay};
 
 /// A tick at which the gateway and the parts beside it emit nothing can stand anywhere among the events, or be left out: where the next event
-/// isn't earlier than the tick, all that is emitted from then on is the same. Before anything came, each tick is one at which nothing is
-/// emitted.
+/// isn't earlier than the tick, all that is emitted from then on is the same. A tick at the moment of the start, before anything came, is one
+/// at which nothing is emitted.
 pub fn idle_ticks_change_nothing()
     ensures start { StartIsIdle }
     ensures one { IdleTicks }

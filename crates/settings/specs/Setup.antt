@@ -1,8 +1,13 @@
 -- All that one file configures, and when it is valid: the settings, and what further keys ask for beside them.
-use Rattle.std.specs.Prelude.{◌≢◌, ℕ, false, true, List, [], All, Option, None, codes}
+use Rattle.std.specs.Prelude.{◌≡◌, ◌≢◌, ℕ, false, true, List, [], All, length, Option, None, codes}
 use Rattle.std.specs.Int.{IsInRange}
 use Rattle.std.specs.Option.{ForSome}
+use Rattle.sentence_text.specs.Names.{IsSfi}
+use Rattle.readings.specs.Rows.{rows_count}
+use Rattle.quantities.specs.About.{quantities_count}
+use Rattle.history.specs.Settings as history
 use Rattle.config_values.specs.Rows.{AreSources, IsTalker, usual_timeout}
+use Rattle.config_values.specs.Settings.{settings_ignoring}
 use Rattle.settings.specs.Settings.{IsOwnGroup, IsSettings}
 use Rattle.settings.specs.declared.quantity_config.Quantities.{Quantities}
 use Rattle.settings.specs.declared.quantity_config.QuantityConfig.{QuantityConfig}
@@ -12,6 +17,10 @@ use Rattle.settings.specs.declared.setup.Setup.{Setup}
 -- without any further key
 abbrev pub alone : Settings → Setup
 alone s = record { settings = s; ignore = record { items = [] }; quantities = None; sources = false; address = false; plain = None; «record» = false }
+
+-- the gateway itself, without the parts beside it
+abbrev pub gateway_of : Setup → history.Settings
+gateway_of x = settings_ignoring x.ignore.items x.settings.config
 
 -- a group of its own: no row, no RMC and no reports of ships are sent to it
 pub record IsFurtherGroup (s : Settings) (group : List ℕ) : Type 0 where
@@ -43,3 +52,9 @@ pub record IsSetup (x : Setup) : Type 0 where
   pub ignore : AreSources x.ignore.items
   pub quantities : ForSome x.quantities (AreQuantities x.settings)
   pub plain : ForSome x.plain (IsPlainGroup x.settings x.quantities)
+
+-- what the types of a configuration hold: its identifier is one, and each row and quantity has its place
+pub record IsTyped (x : Setup) : Type 0 where
+  pub sfi : IsSfi x.settings.config.sfi
+  pub rows : length x.settings.config.rows ≡ rows_count
+  pub quantities : ForSome x.quantities (λ q. length q.each ≡ quantities_count)

@@ -1,0 +1,4 @@
+pub mod SourceOut
+pub mod SourcesPart
+pub mod WatchKept
+pub mod WatchStands
