@@ -279,14 +279,18 @@ class Recording:
 
     def emitted(self, number, line, items, parts, emits):
         """The rows that were said of what was written at a line."""
-        rows_said = set()
+        rows_said, says_further = set(), False
         for match in emits:
             if match.group(3) is not None:
                 self.reported(number, line, items, int(match.group(3)), (match.group(4) or b"").decode())
             elif match.group(5) is not None:
                 self.sent_to_bus(parts_of(int(match.group(5), 16)), bytes.fromhex(match.group(6).decode()), items)
             else:
-                self.sent_to_network(match.group(7).decode(), bytes.fromhex(match.group(8).decode()), parts, rows_said)
+                group = match.group(7).decode()
+                says_further |= group == self.further_group
+                self.sent_to_network(group, bytes.fromhex(match.group(8).decode()), parts, rows_said)
+        # each of several further quantities of a message has a datagram
+        self.counts["messages said to the network"] += says_further
         return rows_said
 
     def reported(self, number, line, items, rule, detail):
@@ -330,7 +334,7 @@ class Recording:
         self.count("datagrams to the network")
         sentences = [sentence.decode() for sentence in SENT_LINE.findall(datagram)]
         is_further = group == self.further_group
-        self.counts["messages said to the network"] += is_further or any(sentence[3:6] in self.rows.formatters for sentence in sentences)
+        self.counts["messages said to the network"] += not is_further and any(sentence[3:6] in self.rows.formatters for sentence in sentences)
         for sentence in sentences:
             self.counts["sentences to the network"] += 1
             self.sentences.add(sentence.split(",")[0])

@@ -31,6 +31,7 @@ class Devices:
     def warnings(self):
         yield from self.timeouts_below_the_pace()
         yield from self.gateways_that_are_heard()
+        yield from self.engines_that_are_two()
 
     def timeouts_below_the_pace(self):
         for path, address, name, pace in self.heard.paces.too_slow():
@@ -45,6 +46,13 @@ class Devices:
         for name, address in others.items():
             why = f"{named(address, name)} is another gateway. Two that hear each other are a loop: add \"{name_text(name)}\", unless it hears no network"
             yield Warned("bus.ignore", self.accepted.place("bus", "ignore"), why)
+
+    def engines_that_are_two(self):
+        """Two engines, where the configuration doesn't say how many there are."""
+        heard = {path[1] for path, _, _ in self.heard.said if path[0] == "further"}
+        if "twin_engines" not in self.accepted.root.get("further", {}) and any({f"{kind}_first", f"{kind}_second"} <= heard for kind in ("engine", "engine_state")):
+            why = "engines of the instances 0 and 1 are said, the first as a single one, number 0. With true it is the one to port, number 2"
+            yield Warned("further.twin_engines", self.accepted.place("further", "group"), why)
 
     # ---- what is told
 

@@ -34,10 +34,11 @@ TRANSDUCERS = {"PITCH": ("attitude", "pitch"), "ROLL": ("attitude", "roll"), "BA
                "AIR": ("air_temperature", "")}
 ORDINALS = (("0", "first"), ("1", "second"))
 for digit, ordinal in ORDINALS:
-    for transducer, quantity in (("ENGINE", "engine_state"), ("BATTERY", "battery"), ("FUEL", "fuel")):
-        TRANSDUCERS[transducer + digit] = (f"{quantity}_{ordinal}", "")
-TRANSDUCERS["WATER0"] = ("water_first", "")
-ENGINES = {"1": "engine_first", "2": "engine_second"}
+    for transducer, quantity in (("ENGINE", "engine_state"), ("ENGOIL", "engine_state"), ("BATTERY", "battery"), ("FUEL", "fuel")):
+        TRANSDUCERS[f"{transducer}#{digit}"] = (f"{quantity}_{ordinal}", "")
+TRANSDUCERS["FRESHWATER#0"] = ("water_first", "")
+# an engine's number counts from the centre line: the first one is single, or the one to port
+ENGINES = {"0": "engine_first", "1": "engine_second", "2": "engine_first"}
 # the further quantity of a sentence that is of one alone
 FURTHER = {"VDR": "set_drift", "VBW": "speed_components", "MTW": "sea_temperature"}
 

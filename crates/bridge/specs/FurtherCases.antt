@@ -10,8 +10,8 @@ use Rattle.further_bridge.specs.FurtherRule.{FurtherRule}
 use Rattle.bridge.specs.BridgeSettings.{BridgeSettings}
 use Rattle.bridge.specs.PartCases.{PartsEmit, alone, asking, ended, plain}
 
--- attitude, set and drift, the components of speed, and the air's pressure, humidity and temperature on MACH: each of every device, while what it
--- said isn't older than 5 seconds
+-- attitude, set and drift, the components of speed, the air's pressure, humidity and temperature, the sea's temperature and the revolutions of two
+-- engines on MACH: each of every device, while what it said isn't older than 5 seconds
 abbrev pub from_all : SubjectRule
 from_all = record { sources = []; others = true; ignored = []; timeout = 5000 }
 
@@ -19,8 +19,9 @@ abbrev pub weather : FurtherRule
 weather = record {
   group = codes "MACH";
   slots = 16;
-  rules = from_all ∷ from_all ∷ from_all ∷ from_all ∷ from_all ∷ from_all ∷ [];
-  talkers = codes "II" ∷ codes "II" ∷ codes "VD" ∷ codes "WI" ∷ codes "WI" ∷ codes "WI" ∷ [];
+  twin = false;
+  rules = from_all ∷ from_all ∷ from_all ∷ from_all ∷ from_all ∷ from_all ∷ from_all ∷ from_all ∷ from_all ∷ [];
+  talkers = codes "II" ∷ codes "II" ∷ codes "VD" ∷ codes "WI" ∷ codes "WI" ∷ codes "WI" ∷ codes "YX" ∷ codes "ER" ∷ codes "ER" ∷ [];
 }
 
 abbrev pub further_parts : BridgeSettings
@@ -74,3 +75,40 @@ abbrev pub SaidOnceMore : Type 0
 SaidOnceMore =
     PartsEmit (record further_parts { plain = Some (codes "PLAN") }) 10000000 (pressure 10000000 0x15FD0A17 ∷ [])
     (emitted 10000000 (mach (codes "s:II0001,n:1*01") said_pressure) ∷ emitted 10000000 (plain (ended said_pressure)) ∷ [])
+
+-- ---- a message of an older weather station says each quantity that it has a value of, in a datagram of its own
+
+abbrev pub SeveralAreSaid : Type 0
+SeveralAreSaid =
+    FurtherEmit
+    (full 10000000 0x15FD0617 0xFF9B6E8372F503FF ∷ full 10100000 0x15FD0717 0xFF4183723336F503 ∷ full 10200000 0x15FD0617 0xFFCC6AFFFFFFFFFF ∷ [])
+    (emitted 10000000 (mach (codes "s:II0001,n:1*01") (codes "$WIXDR,P,1.0130,B,BAROMETER*0A"))
+    ∷ emitted 10000000 (mach (codes "s:II0001,n:2*02") (codes "$WIXDR,C,20.0,C,AIR*16"))
+    ∷ emitted 10000000 (mach (codes "s:II0001,n:3*03") (codes "$YXMTW,10.0,C*13"))
+    ∷ emitted 10100000 (mach (codes "s:II0001,n:4*04") (codes "$WIXDR,P,1.0130,B,BAROMETER*0A"))
+    ∷ emitted 10100000 (mach (codes "s:II0001,n:5*05") (codes "$WIXDR,H,55.5,P,HUMIDITY*4A"))
+    ∷ emitted 10100000 (mach (codes "s:II0001,n:6*06") (codes "$WIXDR,C,20.0,C,AIR*16"))
+    ∷ emitted 10200000 (mach (codes "s:II0001,n:7*07") (codes "$YXMTW,0.3,C*21"))
+    ∷ [])
+
+-- ---- the sea's temperature isn't said while the row is, which counts 5 seconds
+
+abbrev pub sea : ℕ → Entry
+sea moment = full moment 0x15FD0718 0x00006E6EFF7FFFFF
+
+abbrev pub SeaGivesWay : Type 0
+SeaGivesWay =
+    FurtherEmit
+    (full 10000000 0x15FD0C17 0x000000CC2A04FFFF ∷ sea 10500000 ∷ sea 15000000 ∷ sea 15000001 ∷ [])
+    (emitted 10000000 (navd (codes "s:II0001,n:1*01") (codes "$YXMTW,-0.1,C*0E")) ∷ emitted 15000001 (mach (codes "s:II0001,n:1*01") (codes "$YXMTW,9.6,C*2D")) ∷ [])
+
+-- ---- engines by their numbers from the centre line: a single one, or that to port, and that to starboard
+
+abbrev pub engine : ℕ → ℕ → Entry
+engine moment bytes = full moment 0x09F20017 bytes
+
+abbrev pub EnginesAreNumbered : Type 0
+EnginesAreNumbered =
+    PartsEmit (asking alone (Some (record weather { twin = true })) false false) 10000000
+    (engine 10000000 0x00231CFFFF7FFFFF ∷ engine 10100000 0x01FFFFFFFF7FFFFF ∷ [])
+    (emitted 10000000 (mach (codes "s:II0001,n:1*01") (codes "$ERRPM,E,2,1800.8,,A*5D")) ∷ emitted 10100000 (mach (codes "s:II0001,n:2*02") (codes "$ERRPM,E,1,,,V*56")) ∷ [])

@@ -32,11 +32,15 @@ pub fn reports_of_ships_end_with_a_claim()
     ensures { part_cases.ShipAcrossAClaim }
 {}
 
-/// Further quantities: their lines counted on their transmission group, of two devices the first, and as plain sentences.
+/// Further quantities: their lines counted on their transmission group, of two devices the first, as plain sentences, several of one message, the
+/// sea's temperature beside the row, and engines by their numbers.
 pub fn further_quantities_are_said()
     ensures lines_are_counted { further_cases.LinesAreCounted }
     ensures first_of_two { further_cases.FirstOfTwoIsSaid }
     ensures said_once_more { further_cases.SaidOnceMore }
+    ensures several { further_cases.SeveralAreSaid }
+    ensures one_voice { further_cases.SeaGivesWay }
+    ensures numbered { further_cases.EnginesAreNumbered }
 {}
 
 /// The gateway's own address: a move, the loss of the last one, and a command.

@@ -246,6 +246,7 @@ fn has_usual_quantities(alloc: Global) -> bool {
         Some(quantities) => {
             Some(quantities.group) == Group::of(b"MACH")
                 && quantities.slots == 16
+                && !quantities.twin_engines
                 && are_usual(quantities)
         }
         None => false,
@@ -264,6 +265,7 @@ gateway.sfi = "II0001"
 [further]
 group = "MACH"
 slots = 3
+twin_engines = true
 [further.water_first]
 sources = ["class=75"]
 others = false
@@ -288,7 +290,10 @@ fn has_water(alloc: Global) -> bool {
     match &quantities_of(alloc, WATER) {
         Some(quantities) => {
             let each = quantities.each.as_slice();
-            quantities.slots == 3 && is_water(&each[15]) && is_usual(&each[14], b"II")
+            quantities.slots == 3
+                && quantities.twin_engines
+                && is_water(&each[15])
+                && is_usual(&each[14], b"II")
         }
         None => false,
     }

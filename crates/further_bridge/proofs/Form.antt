@@ -12,7 +12,7 @@ use Rattle.settings.specs.Setup.{IsQuantity, gateway_of}
 use Rattle.settings.specs.declared.quantity_config.Quantities.{Quantities}
 use Rattle.settings.specs.declared.quantity_config.QuantityConfig.{QuantityConfig}
 use Rattle.parts.specs.Compose.{maybe_speaks}
-use Rattle.parts.specs.Forms.{PartForm, place}
+use Rattle.parts.specs.Forms.{PartForm, and_behind, place}
 use Rattle.parts.specs.Voices.{IsUnderstood}
 use Rattle.parts.proofs.Speaking.{if_mapped}
 use Rattle.further_bridge.specs.FurtherOut.{further_out}
@@ -51,7 +51,7 @@ quantities = record {
   rule = FurtherRule;
   asked = quantities_asked;
   kept = FurtherKept;
-  places = place most_told;
+  places = and_behind (place most_told) (and_behind (place 0) (place 0));
   stand = StandsFurther;
   give = further_out;
   say = quantities_say;

@@ -1,4 +1,6 @@
 pub mod Sessionless
+pub mod Notes
+pub mod EachNoted
 pub mod MessageLemmas
 pub mod Numbers
 pub mod Rules
@@ -6,3 +8,5 @@ pub mod StepLemmas
 pub mod Opening
 pub mod Form
 pub mod QuantitiesAreRead
+pub mod Places
+pub mod FurtherSteps

@@ -1,9 +1,8 @@
 -- Further quantities are read.
-use Rattle.std.proofs.Common.{◌≡◌, ℕ, Bool, true, false, List, [], ◌∷◌, ◌++◌, length, refl}
-use Rattle.std.specs.Prelude.{Option, Some, None, IfSome, IsTrue, option_and_then, if◌then◌else◌}
-use Rattle.std.specs.List.{list_all}
-use Rattle.claim_table.specs.declared.answer.Holder.{Holder}
-use Rattle.quantities.specs.Told.{GivesFrom, IsFrom, entries, kind_of, told}
+use Rattle.std.proofs.Common.{◌≡◌, ℕ, ◌+◌, Bool, true, false, List, [], ◌∷◌, ◌++◌, length, map, refl}
+use Rattle.std.specs.Prelude.{Option, Some, None, IsTrue, filter, if◌then◌else◌}
+use Rattle.std.specs.List.{AllByRecursion, list_all}
+use Rattle.quantities.specs.Told.{GivesFrom, IsAnyFrom, IsFrom, entries, kind_of, told}
 use Rattle.quantities.specs.declared.value.Told.{Told}
 use Rattle.quantities.specs.declared.value.Told.TheVariants as tells
 use Rattle.quantities.specs.declared.value.Value.{Value}
@@ -14,19 +13,18 @@ use Rattle.quantities.proofs.Sayings.{form}
 use Rattle.sentence_text.specs.Byte.{is_capital}
 use Rattle.sentence_text.specs.Names.{IsSfi}
 use Rattle.sentence_profile.specs.Laws.{IsOneSentence}
-use Rattle.history.specs.Entries.{Entry, History}
+use Rattle.history.specs.Entries.{Entry, History, moment_of}
 use Rattle.history.specs.EntryLaws.{nets_in}
 use Rattle.history.specs.Known.{known}
 use Rattle.history.specs.Messages.{Message, messages_of}
 use Rattle.history.specs.Settings.{Settings}
-use Rattle.history.specs.Subjects.{is_chosen}
 use Rattle.history.specs.Emits.{of_source}
 use Rattle.history.proofs.EntrySteps.{if_none}
 use Rattle.report_rules.specs.Rules.{short_message}
 use Rattle.bus_listener.specs.Heard.{heard_out}
 use Rattle.bus_listener.specs.Kinds.{is_told}
-use Rattle.further_bridge.specs.FurtherOut.{further_done, further_out, further_receiver, lines_said, message_breaks, number_in, quantity_told, said_at, said_gives, selected_in, selected_value, short_gives, told_by, value_datagram, value_in, value_of}
-use Rattle.further_bridge.specs.FurtherRule.{FurtherRule, rule_at, talker_at}
+use Rattle.further_bridge.specs.FurtherOut.{all_in, further_done, further_out, further_receiver, has_voice, is_row_said, is_selected, lines_said, message_breaks, number_in, said_at, said_gives, selected_in, short_gives, that_are_there, value_datagram, values_of}
+use Rattle.further_bridge.specs.FurtherRule.{FurtherRule, talker_at}
 use Rattle.parts.specs.Voices.{EachSays, behind_quiet}
 use Rattle.parts.proofs.Lines.{says_one}
 use Rattle.parts.proofs.Speaking.{capitals}
@@ -36,48 +34,54 @@ use Rattle.quantities.specs.About.{number_of}
 use Rattle.quantities.specs.declared.about.Quantity.{Quantity}
 use Rattle.further_bridge.specs.FurtherPart.{SpeaksQuantities, quantities_say, value_says}
 
--- ---- what is said is a value of the table
+-- ---- what is said are values of the table
 
-abbrev IsKnown : Option Value → Type 0
-IsKnown o = IfSome o (IsFrom entries)
+abbrev AreKnown : List Value → Type 0
+AreKnown values = AllByRecursion (IsFrom entries) values
 
-known_in : (x : Told) → GivesFrom entries x → IsKnown (value_in x)
-known_in (tells.Value v) is = is
-known_in tells.Outside is = tt
-known_in tells.Short is = tt
+known_there : (values : List (Option Value)) → AllByRecursion (IsAnyFrom entries) values → AreKnown (that_are_there values)
+known_there [] are = tt
+known_there (None ∷ values) are = known_there values are.1
+known_there (Some v ∷ values) are = (are.0, known_there values are.1)
 
-module _ (x : FurtherRule) (holders : List (Option Holder)) (older : List Message) where
-  known_selected : (d : Message) (o : Option Value) → IsKnown o → IsKnown (option_and_then (selected_value x holders older d) o)
-  known_selected d None is = tt
-  known_selected d (Some v) is = by (is_chosen quantity_told (rule_at x) holders older d (told_by v))
-    where
-      by : (b : Bool) → IsKnown (if b then Some v else None)
-      by true = is
-      by false = tt
+known_in : (x : Told) → GivesFrom entries x → AreKnown (that_are_there (all_in x))
+known_in (tells.Values values) are = known_there values are
+known_in tells.Outside are = tt
+known_in tells.Short are = tt
 
-selected_known : (x : FurtherRule) (c : Settings) (s : ℕ) (h : History) (o : Option Message) → IsKnown (selected_in x c s h o)
+known_among : (p : Value → Bool) (values : List Value) → AreKnown values → AreKnown (filter p values)
+known_among p [] are = tt
+known_among p (v ∷ values) are = by (p v) (known_among p values are.1)
+  where
+    by : (b : Bool) → AreKnown (filter p values) → AreKnown (if b then v ∷ filter p values else filter p values)
+    by true rest = (are.0, rest)
+    by false rest = rest
+
+selected_known : (x : FurtherRule) (c : Settings) (s : ℕ) (h : History) (o : Option Message) → AreKnown (selected_in x c s h o)
 selected_known x c s h None = tt
 selected_known x c s h (Some d) = let r = further_receiver x c in
-    known_selected x (known r s h).claims.holders (messages_of r s h) d (value_of d) (known_in (told d.pgn d.payload) (in_range entries d.pgn d.payload))
+    known_among (is_selected x (known r s h).claims.holders (messages_of r s h) d) (values_of d) (known_in (told d.pgn d.payload) (in_range entries d.pgn d.payload))
 
 -- ---- a value in one sentence
 
-value_sentence : (talker : List ℕ) (v : Value) → IsFrom entries v → length talker ≡ 2 → IsTrue (list_all is_capital talker) → IsOneSentence (sentence_of talker v)
-value_sentence talker v is two capital =
-    let said = form v talker two capital is in
-    record { parts = parts_in (layout_of v.quantity) talker v.values; is_read = said.is_sentence; short = said.short }
+value_sentence : (twin : Bool) (talker : List ℕ) (v : Value) → IsFrom entries v → length talker ≡ 2 → IsTrue (list_all is_capital talker)
+    → IsOneSentence (sentence_of twin talker v)
+value_sentence twin talker v is two capital =
+    let said = form twin v talker two capital is in
+    record { parts = parts_in (layout_of twin v.quantity) talker v.values; is_read = said.is_sentence; short = said.short }
 
-module _ (x : FurtherRule) (sfi : List ℕ) (before : ℕ) (form_is : IsSfi sfi) (speaks : (q : Quantity) → IsTalker (talker_at x (number_of q))) where
-  value_is_read : (o : Option Value) → IsKnown o → EachSays (nets_in (said_gives x sfi before o)) (value_says x o)
+module _ (x : FurtherRule) (sfi : List ℕ) (form_is : IsSfi sfi) (speaks : (q : Quantity) → IsTalker (talker_at x (number_of q))) where
+  values_are_read : (before : ℕ) (values : List Value) → AreKnown values → EachSays (nets_in (said_gives x sfi before values)) (map (value_says x) values)
   unfolding value_datagram
-  value_is_read None is = tt
-  value_is_read (Some v) is =
+  values_are_read before [] are = tt
+  values_are_read before (v ∷ values) are =
       let talker = talker_at x (number_in v) in
       let is_talker = speaks v.quantity in
-      (says_one sfi before (sentence_of talker v) form_is (value_sentence talker v is is_talker.len (capitals talker is_talker)), tt)
+      let one = value_sentence x.twin talker v are.0 is_talker.len (capitals talker is_talker) in
+      (says_one sfi before (sentence_of x.twin talker v) form_is one, values_are_read (before + 1) values are.1)
 
 no_short : (source pgn : ℕ) (x : Told) → nets_in (short_gives source pgn x) ≡ []
-no_short source pgn (tells.Value v) = refl
+no_short source pgn (tells.Values values) = refl
 no_short source pgn tells.Outside = refl
 no_short source pgn tells.Short = if_none (is_told pgn) (of_source short_message source pgn ∷ []) [] refl refl
 
@@ -90,6 +94,7 @@ pub quantities_are_read : (x : FurtherRule) (c : Settings) (s : ℕ) (h : Histor
 quantities_are_read x c s h e speaks =
     let breaks = message_breaks (further_done x c s h e) in
     let gives = said_gives x c.sfi (lines_said x c s h) (said_at x c s h e) in
-    let says = value_is_read x c.sfi (lines_said x c s h) speaks.sfi speaks.talkers (said_at x c s h e) (selected_known x c s h (further_done x c s h e)) in
+    let known = known_among (has_voice (is_row_said c s (e ∷ h) (moment_of e))) (selected_in x c s h (further_done x c s h e)) (selected_known x c s h (further_done x c s h e)) in
+    let says = values_are_read x c.sfi speaks.sfi speaks.talkers (lines_said x c s h) (said_at x c s h e) known in
     behind_quiet (heard_out kind_of x.slots c s h e) (breaks ++ gives) (quantities_say x c s h e) (no_heard kind_of x.slots c s h e)
     (behind_quiet breaks gives (quantities_say x c s h e) (no_breaks (further_done x c s h e)) says)

@@ -1,36 +1,60 @@
 -- An event that the gateway has taken: what is kept of further quantities stands for the history with it, and all that the definition over that
 -- history says is given.
-use Rattle.std.proofs.Common.{◌≡◌, ℕ, ◌+◌, ◌%◌, Bool, true, false, not, ◌&&◌, List, ◌∷◌, ◌++◌, length, Option, Some, None, option_map, if◌then◌else◌, refl, sym, ap, subst, ◌∙◌, append_assoc, arith}
-use Rattle.std.specs.Prelude.{◌<◌, IfSome}
+use Rattle.std.proofs.Common.{◌≡◌, ℕ, ◌+◌, ◌<◌, ◌%◌, Bool, true, false, not, ◌&&◌, List, [], ◌∷◌, ◌++◌, length, Option, Some, None, option_map, if◌then◌else◌, refl, sym, ap, subst, ◌∙◌, append_assoc, append-nil, arith}
+use Rattle.std.specs.Prelude.{IfSome, filter}
+use Rattle.std.specs.List.{AllByRecursion}
 use Rattle.std.proofs.lemmas.Bool.{lt-ltb}
 use Rattle.n2k_id.specs.Frame.{BusFrame, bus_frame}
 use Rattle.n2k_id.specs.Identifier.{is_own, parts_of}
+use Rattle.n2k_id.specs.declared.name.Name.{Name}
+use Rattle.readings.specs.declared.rows.Row.TheVariants as row
+use Rattle.gate_events.specs.Emit.{Emit}
 use Rattle.gate_events.specs.declared.event.Event.{Event}
 use Rattle.gate_events.specs.declared.event.Event.TheVariants as event
 use Rattle.claim_table.specs.Claims.{claim, places}
+use Rattle.claim_table.specs.declared.answer.Holder.{Holder}
 use Rattle.pgn_profile.specs.declared.kinds.Kind.{Kind}
 use Rattle.pgn_profile.specs.declared.kinds.Kind.TheVariants.{Single, Fast, Outside}
 use Rattle.tag_block.specs.Tag.{most_count}
 use Rattle.quantities.specs.About.{quantities_count}
-use Rattle.quantities.specs.Told.{kind_of}
+use Rattle.quantities.specs.Told.{AreInOrder, kind_of, told}
+use Rattle.quantities.specs.declared.value.Value.{Value}
+use Rattle.quantities.proofs.Order.{is_in_order}
+use Rattle.source_choice.specs.declared.told.Told.{Told as Chosen}
 use Rattle.source_choice.specs.Choices.{Choices, forgotten}
+use Rattle.source_choice.specs.SubjectRules.{SubjectRule, rank_of}
 use Rattle.history.specs.AddressLaws.{AreSettings, IsReceiver}
+use Rattle.history.specs.Choice as rows
 use Rattle.history.specs.Entries as entry
-use Rattle.history.specs.Entries.{Entry, History, IsHistory, now}
+use Rattle.history.specs.Entries.{Entry, History, IsHistory, moment_of, now}
 use Rattle.history.specs.Known.{address_left, address_won, claim_by, is_claim, known}
 use Rattle.history.specs.Messages.{Message, done, messages_of}
-use Rattle.history.specs.Settings.{Receiver, Settings, is_some_that}
-use Rattle.history.specs.Subjects.{is_selected}
+use Rattle.history.specs.Settings.{Receiver, Settings, is_some_that, receiver_of, rule_of}
+use Rattle.history.specs.Subjects as subjects
 use Rattle.history.proofs.Addresses.{addresses_are_sound}
+use Rattle.history.proofs.Receivers.{gateways_receive}
 use Rattle.gate_model.specs.Addresses.{Changed, changed_by, no_change}
+use Rattle.gate_model.specs.AddressStands.{name_held}
 use Rattle.gate_model.specs.ChoiceStands.{ChoicesStandFor}
-use Rattle.gate_model.specs.Choosing.{claimed, is_message_chosen, message_noted, without_address}
+use Rattle.gate_model.specs.ChoiceStandsLaws.{MessageStandsChosen}
+use Rattle.gate_model.specs.Choosing.{claimed, is_message_chosen, is_ranked_chosen, is_told_chosen, message_noted, told_after, without_address}
 use Rattle.gate_model.specs.Machine.{Machine}
 use Rattle.gate_model.specs.Said.{complete_of}
+use Rattle.gate_model.proofs.AddressTells.{standing_tells_alike}
 use Rattle.gate_model.proofs.ChoiceClaims.{claims_stand_chosen, other_entries_stand_chosen}
 use Rattle.gate_model.proofs.ChoiceMessages.{messages_fit_chosen, messages_stand_chosen}
 use Rattle.gate_model.proofs.SaidAddresses.{claims_fit}
-use Rattle.gate_outbox.specs.Output.{Emitted, emits_of}
+use Rattle.gate_outbox.specs.Output.{Emitted, Output, emits_of}
+use Rattle.gate_core.specs.declared.selected_message.SelectedMessage.{SelectedMessage}
+use Rattle.gate_core.specs.Picked.{IsPicked, message_of}
+use Rattle.gate_core.specs.Promises.{IsTaken as IsTakenByGateway}
+use Rattle.gate_core.specs.Selected.{last_of, selected_at}
+use Rattle.gate_core.proofs.Completed.{done_by}
+use Rattle.joined_rmc.specs.JoinStands.{LastStands}
+use Rattle.joined_rmc.specs.declared.last_of_row.LastOfRow.{LastOfRow}
+use Rattle.joined_rmc.proofs.Commands.{last_stays}
+use Rattle.joined_rmc.proofs.Rows.{last_steps}
+use Rattle.joined_rmc.proofs.Steps.{last_says}
 use Rattle.bus_listener.specs.Steps.{entry_of}
 use Rattle.bus_listener.specs.Heard.{heard_out, hears}
 use Rattle.bus_listener.specs.Kept.{Hearing}
@@ -38,18 +62,31 @@ use Rattle.bus_listener.specs.Kinds.{is_message}
 use Rattle.bus_listener.specs.Promises.{IsHeard, IsListening, StandsListening}
 use Rattle.bus_listener.proofs.CommandLemmas.{commands_leave_listening}
 use Rattle.bus_listener.proofs.KnownLemmas.{gateway_stands, is_receiver}
-use Rattle.further_bridge.specs.FurtherOut.{further_done, further_receiver, lines_said, message_breaks, quantity_told, said_at, said_gives, selected_in}
+use Rattle.further_bridge.specs.FurtherOut.{all_in, further_done, further_receiver, has_voice, is_row_said, is_selected, lines_said, message_breaks, number_in, quantity_told, said_at, said_gives, selected_in, values_of}
 use Rattle.further_bridge.specs.FurtherRule.{FurtherRule, rule_at}
-use Rattle.further_bridge.specs.Kept.{FurtherKept, FurtherStep, behind, forgotten_at, given_up, said_of, hearing_by, message_step, step_by, with_hearing}
-use Rattle.further_bridge.specs.Promises.{CommandsLeaveFurther, IsFurtherStep, IsFurtherTaken, StandsFurther}
+use Rattle.further_bridge.specs.Kept.{FurtherKept, FurtherStep, behind, forgotten_at, given_by, given_up, hearing_by, is_water_said, message_step, said_of, step_by, water_heard, with_hearing}
+use Rattle.further_bridge.specs.Promises.{CommandsLeaveFurther, EachStands, IsFurtherStep, IsFurtherTaken, StandsFurther, in_places, only}
 use Rattle.further_bridge.specs.QuantityKinds.{quantities_are_heard}
-use Rattle.further_bridge.proofs.MessageLemmas.{lines_after, lines_are, message_taken, picked, same_count, selected_is}
-use Rattle.further_bridge.proofs.Numbers.{tell_within}
+use Rattle.further_bridge.proofs.MessageLemmas.{AreMessageChosen, choices_after, message_taken, said_of_message}
+use Rattle.further_bridge.proofs.EachNoted.{claims_noted, claims_say_nothing, commands_noted, datagrams_noted, in_order, nothing_noted, ticks_noted, values_chosen, values_noted}
+use Rattle.further_bridge.proofs.Notes.{AreChosen, noted_all}
 use Rattle.further_bridge.proofs.Sessionless.{outside_says_nothing, own_says_nothing}
 
 forgotten_is : (o : Option ℕ) (choices : Choices) → IfSome o (λ a. a < places) → forgotten_at o choices ≡ without_address o choices
 forgotten_is None choices within = refl
 forgotten_is (Some a) choices within = ap (λ b. if b then forgotten choices a else choices) (lt-ltb a places within)
+
+-- what passes one test and then another passes both
+filter_twice : (p q : Value → Bool) (values : List Value) → filter p (filter q values) ≡ filter (λ v. q v && p v) values
+filter_twice p q [] = refl
+filter_twice p q (v ∷ values) = by (filter_twice p q values) (q v) refl
+  where
+    by : filter p (filter q values) ≡ filter (λ v. q v && p v) values → (b : Bool) → q v ≡ b
+        → filter p (if b then v ∷ filter q values else filter q values) ≡ filter (λ v. q v && p v) (v ∷ values)
+    by rest true is =
+        ap (λ (vs : List Value). if p v then v ∷ vs else vs) rest ∙ sym (ap (λ t. if t && p v then v ∷ filter (λ v. q v && p v) values else filter (λ v. q v && p v) values) is)
+    by rest false is =
+        rest ∙ sym (ap (λ t. if t && p v then v ∷ filter (λ v. q v && p v) values else filter (λ v. q v && p v) values) is)
 
 module _ (x : FurtherRule) (c : Settings) (s : ℕ) (h : History) (settings : AreSettings c) where
   abbrev r : Receiver
@@ -83,152 +120,196 @@ module _ (x : FurtherRule) (c : Settings) (s : ℕ) (h : History) (settings : Ar
   heard_is_done (entry.tick m) = refl
   heard_is_done (entry.command m source address) = refl
 
-  -- ---- what is kept when the listener has heard an entry, and what was noted of addresses that changed hands is forgotten
+  -- ---- what is kept when the listener has heard an entry, what was noted of addresses that changed hands is forgotten, and the message that
+  -- the gateway selected is kept
 
-  module _ (e : Entry) (k : FurtherKept) where
+  module _ (e : Entry) (k : FurtherKept) (heard : Hearing) (hears_it : IsHeard kind_of x.slots c s h e heard) where
     -- with all that was told of messages in h
     pub record Stood : Type 0 where
       pub rule : k.rule ≡ x
       pub sfi : k.sfi ≡ c.sfi
+      pub slots : k.slots ≡ heard.slots
+      pub water : LastStands (rule_of c row.WaterTemperature).timeout c s row.WaterTemperature (e ∷ h) k.water
       pub lines : k.lines ≡ lines_said x c s h % most_count
 
-    abbrev chosen : Option Message → Bool
-    chosen d = is_message_chosen quantity_told (rule_at x) k.choices d
+    abbrev chosen : Message → Value → Bool
+    chosen d v = is_selected x (known r s h).claims.holders (messages_of r s h) d v
 
-    -- it is said by what is kept as by the history
-    module _ (it : Stood) (d : Option Message) (within : IfSome d (λ d. d.source < places)) (is : further_done x c s h e ≡ d)
-        (same : chosen d ≡ is_some_that (is_selected quantity_told (rule_at x) (known r s h).claims.holders (messages_of r s h)) d) where
-      said_is : picked d (is_message_chosen quantity_told (rule_at k.rule) k.choices d) ≡ said_at x c s h e
-      said_is =
-          ap (λ (rule : FurtherRule). picked d (is_message_chosen quantity_told (rule_at rule) k.choices d)) it.rule
-          ∙ ap (picked d) same
-          ∙ sym (selected_is x (known r s h).claims.holders (messages_of r s h) d)
-          ∙ ap (selected_in x c s h) (sym is)
+    abbrev y : Option Message → FurtherStep
+    y d = message_step k (option_map said_of (option_map complete_of d))
 
-      abbrev y : FurtherStep
-      y = message_step k (option_map said_of (option_map complete_of d))
+    -- the gateway says the row as the history does
+    row_is_said : Stood → (m : ℕ) → is_water_said k.water m ≡ is_row_said c s (e ∷ h) m
+    row_is_said it m =
+        ap rows.is_usable (last_says (rule_of c row.WaterTemperature).timeout c s row.WaterTemperature (e ∷ h) k.water m it.water)
 
-      lines_then : y.after.lines ≡ lines_said x c s (e ∷ h) % most_count
-      lines_then =
-          ap (λ (after : FurtherKept). after.lines) (message_taken k d within).after
-          ∙ ap (lines_after k.lines) said_is
-          ∙ ap (λ n. lines_after n (said_at x c s h e)) it.lines
-          ∙ lines_are (lines_said x c s h) (said_at x c s h e)
+    -- what is said by what is kept is what the history says
+    said_is : Stood → (d : Option Message) → ((z : Message) → d ≡ Some z → z.moment ≡ moment_of e) → further_done x c s h e ≡ d
+        → said_of_message k chosen d ≡ said_at x c s h e
+    said_is it None at is = sym (ap (λ o. filter (has_voice (is_row_said c s (e ∷ h) (moment_of e))) (selected_in x c s h o)) is)
+    said_is it (Some z) at is =
+        let voiced = is_row_said c s (e ∷ h) (moment_of e) in
+        ap (λ (said : Bool). filter (λ v. chosen z v && has_voice said v) (values_of z)) (row_is_said it z.moment ∙ ap (is_row_said c s (e ∷ h)) (at z refl))
+        ∙ sym (filter_twice (has_voice voiced) (chosen z) (values_of z))
+        ∙ sym (ap (λ o. filter (has_voice voiced) (selected_in x c s h o)) is)
 
-      gives_then : emits_of y.emits ≡ message_breaks (further_done x c s h e) ++ said_gives x c.sfi (lines_said x c s h) (said_at x c s h e)
-      gives_then =
-          (message_taken k d within).emits
-          ∙ ap (λ v. message_breaks d ++ said_gives k.rule k.sfi k.lines v) said_is
-          ∙ ap (λ rule. message_breaks d ++ said_gives rule k.sfi k.lines (said_at x c s h e)) it.rule
-          ∙ ap (λ sfi. message_breaks d ++ said_gives x sfi k.lines (said_at x c s h e)) it.sfi
-          ∙ ap (λ n. message_breaks d ++ said_gives x c.sfi n (said_at x c s h e)) it.lines
-          ∙ ap (λ more. message_breaks d ++ more) (same_count x c.sfi (lines_said x c s h) (said_at x c s h e))
-          ∙ ap (λ o. message_breaks o ++ said_gives x c.sfi (lines_said x c s h) (said_at x c s h e)) (sym is)
+    order : (d : Option Message) → IfSome d (λ d. AreInOrder (all_in (told d.pgn d.payload)))
+    order None = tt
+    order (Some d) = in_order d
 
-      choices_then : y.after.choices ≡ message_noted quantity_told (rule_at x) k.choices d
-      choices_then =
-          ap (λ (after : FurtherKept). after.choices) (message_taken k d within).after
-          ∙ ap (λ rule. message_noted quantity_told (rule_at rule) k.choices d) it.rule
-
-  -- ---- an entry, by what the listener heard
-
-  module _ (e : Entry) (before : FurtherKept) (it : StandsFurther x c s h before) (changed : Changed) (heard : Hearing)
-      (hears_it : IsHeard kind_of x.slots c s h e heard) where
-    abbrev k : FurtherKept
-    k = given_up changed (record before { slots = heard.slots })
-
-    stood : Stood e k
-    stood = record { rule = it.rule; sfi = it.sfi; lines = it.lines }
-
-    abbrev IsTakenBy : FurtherStep → Type 0
-    IsTakenBy y = IsFurtherTaken x c s h e y.after (emits_of y.emits)
-
-    -- with this message, whose notes stand for the history with it
-    with_message : (d : Option Message) → IfSome d (λ d. d.source < places) → further_done x c s h e ≡ d
-        → is_message_chosen quantity_told (rule_at x) k.choices d
-        ≡ is_some_that (is_selected quantity_told (rule_at x) (known r s h).claims.holders (messages_of r s h)) d
-        → ChoicesStandFor quantity_told (rule_at x) quantities_count r s (e ∷ h) (message_noted quantity_told (rule_at x) k.choices d)
-        → IsTakenBy (with_hearing changed before heard)
-    with_message d within is same stands =
+    -- with this message, of which the notes stand for the history with it
+    with_message : Stood → (d : Option Message) → IfSome d (λ d. d.source < places) → ((z : Message) → d ≡ Some z → z.moment ≡ moment_of e)
+        → further_done x c s h e ≡ d → AreMessageChosen k chosen d → EachStands x r s (e ∷ h) (choices_after k chosen d)
+        → IsFurtherTaken x c s h e (behind heard.told (message_step k (option_map said_of heard.message))).after
+        (given_by (behind heard.told (message_step k (option_map said_of heard.message))))
+    with_message it d within at is are_chosen stands =
         let message : heard.message ≡ option_map complete_of d = hears_it.message ∙ ap (option_map complete_of) is in
-        subst (λ o. IsTakenBy (behind heard.told (message_step k (option_map said_of o)))) (sym message)
+        let lines = lines_said x c s h in
+        let taken = message_taken k chosen lines it.lines d within (order d) are_chosen in
+        let said = said_is it d at is in
+        subst (λ o. IsFurtherTaken x c s h e (message_step k (option_map said_of o)).after (given_by (behind heard.told (message_step k (option_map said_of o))))) (sym message)
         (record {
-          stands = record {
-            rule = ap (λ (after : FurtherKept). after.rule) (message_taken k d within).after ∙ it.rule;
-            sfi = ap (λ (after : FurtherKept). after.sfi) (message_taken k d within).after ∙ it.sfi;
-            slots = subst (λ slots. StandsListening kind_of x.slots c s (e ∷ h) slots) (sym (ap (λ (after : FurtherKept). after.slots) (message_taken k d within).after)) hears_it.stands;
-            choices = subst (λ (choices : Choices). ChoicesStandFor quantity_told (rule_at x) quantities_count r s (e ∷ h) choices)
-                (sym (choices_then e k stood d within is same)) stands;
-            lines = lines_then e k stood d within is same;
-          };
-          emits = append_assoc heard.told _ _
-              ∙ (ap (λ told. told ++ emits_of (y e k stood d within is same).emits) hears_it.told
-              ∙ ap (λ more. heard_out kind_of x.slots c s h e ++ more) (gives_then e k stood d within is same));
+          stands = subst (λ after. StandsFurther x c s (e ∷ h) after) (sym taken.after) (record {
+            rule = it.rule;
+            sfi = it.sfi;
+            slots = subst (λ slots. StandsListening kind_of x.slots c s (e ∷ h) slots) (sym it.slots) hears_it.stands;
+            choices = stands;
+            water = it.water;
+            lines = ap (λ (vs : List Value). (lines + length vs) % most_count) said;
+          });
+          emits =
+              ap (λ told. told ++ ((y d).second ++ (y d).third)) (append_assoc heard.told (y d).emits.told (y d).emits.posted)
+              ∙ append_assoc heard.told (emits_of (y d).emits) ((y d).second ++ (y d).third)
+              ∙ ap (λ told. told ++ given_by (y d)) hears_it.told
+              ∙ ap (λ more. heard_out kind_of x.slots c s h e ++ more) (taken.emits
+              ∙ ap (λ vs. message_breaks d ++ said_gives k.rule k.sfi lines vs) said
+              ∙ ap (λ rule. message_breaks d ++ said_gives rule k.sfi lines (said_at x c s h e)) it.rule
+              ∙ ap (λ sfi. message_breaks d ++ said_gives x sfi lines (said_at x c s h e)) it.sfi
+              ∙ ap (λ o. message_breaks o ++ said_gives x c.sfi lines (said_at x c s h e)) (sym is));
         })
+
+  -- ---- an entry, by what the listener heard, and by what the gateway keeps and selected
+
+  module _ (e : Entry) (before : FurtherKept) (it : StandsFurther x c s h before) (heard : Hearing) (hears_it : IsHeard kind_of x.slots c s h e heard)
+      (holder : ℕ → Option Name) (names : (a : ℕ) → holder a ≡ name_held (known (receiver_of c) s (e ∷ h)).claims.holders a)
+      (new : Option SelectedMessage) (picks : new ≡ option_map message_of (selected_at c s h e)) where
+    abbrev kept : Changed → FurtherKept
+    kept changed = water_heard holder new (given_up changed (record before { slots = heard.slots }))
+
+    stood : (changed : Changed) → Stood e (kept changed) heard hears_it
+    stood changed = record {
+      rule = it.rule;
+      sfi = it.sfi;
+      slots = refl;
+      water = last_steps c s h e (gateways_receive c settings) holder names row.WaterTemperature (rule_of c row.WaterTemperature).timeout before.water new picks it.water;
+      lines = it.lines;
+    }
+
+    abbrev IsTaken : Changed → Type 0
+    IsTaken changed =
+        IsFurtherTaken x c s h e (behind heard.told (message_step (kept changed) (option_map said_of heard.message))).after
+        (given_by (behind heard.told (message_step (kept changed) (option_map said_of heard.message))))
+
+    -- an entry that completes no message
+    without_message : (changed : Changed) → done r s h e ≡ None → EachStands x r s (e ∷ h) (kept changed).choices → IsTaken changed
+    without_message changed none stands =
+        with_message e (kept changed) heard hears_it (stood changed) None tt (λ z is. cc) (heard_is_done e ∙ none) tt stands
 
   -- ---- each kind of entry
 
-  abbrev IsTaken : Entry → FurtherStep → Type 0
-  IsTaken e y = IsFurtherTaken x c s h e y.after (emits_of y.emits)
+  module _ (m : ℕ) (f : BusFrame) (before : FurtherKept) (it : StandsFurther x c s h before) (heard : Hearing)
+      (hears_it : IsHeard kind_of x.slots c s h (entry.frame m f) heard)
+      (holder : ℕ → Option Name) (names : (a : ℕ) → holder a ≡ name_held (known (receiver_of c) s (entry.frame m f ∷ h)).claims.holders a)
+      (new : Option SelectedMessage) (picks : new ≡ option_map message_of (selected_at c s h (entry.frame m f))) where
+    abbrev e : Entry
+    e = entry.frame m f
 
-  pub frame_taken : (m : ℕ) (f : BusFrame) (before : FurtherKept) → StandsFurther x c s h before → (changed : Changed) (heard : Hearing)
-      → IsHeard kind_of x.slots c s h (entry.frame m f) heard
-      → changed ≡ (if is_claim f then changed_by (claim (known r s h).claims (claim_by (length h) m f)).step else no_change)
-      → IsTaken (entry.frame m f) (with_hearing changed before heard)
-  frame_taken m f before it changed heard hears_it changes = by (is_claim f) refl
-    where
-      by : (b : Bool) → is_claim f ≡ b → IsTaken (entry.frame m f) (with_hearing changed before heard)
-      by true claims =
-          let step = (claim (known r s h).claims (claim_by (length h) m f)).step in
-          let is : changed ≡ changed_by step = changes ∙ rw claims refl in
-          let forgets = claims_stand_chosen quantity_told (rule_at x) quantities_count r s h m f before.choices are claims it.choices in
-          let fits = claims_fit (known r s h).claims (claim_by (length h) m f) (addresses_are_sound r s h are).sound.room in
-          let same : forgotten_at (address_won step) (forgotten_at (address_left step) before.choices) ≡ claimed step before.choices =
-          ap (forgotten_at (address_won step)) (forgotten_is (address_left step) before.choices fits.left)
-          ∙ forgotten_is (address_won step) (without_address (address_left step) before.choices) fits.won in
-          subst (λ changed. IsTaken (entry.frame m f) (with_hearing changed before heard)) (sym is)
-          (with_message (entry.frame m f) before it (changed_by step) heard hears_it None tt (heard_is_done (entry.frame m f) ∙ forgets.silent) refl
-          (subst (λ (choices : Choices). ChoicesStandFor quantity_told (rule_at x) quantities_count r s (entry.frame m f ∷ h) choices) (sym same) forgets.stands))
-      by false other =
-          let is : changed ≡ no_change = changes ∙ rw other refl in
-          let notes = messages_stand_chosen quantity_told (rule_at x) quantities_count r s h m f before.choices are other tell_within it.choices in
-          subst (λ changed. IsTaken (entry.frame m f) (with_hearing changed before heard)) (sym is)
-          (with_message (entry.frame m f) before it no_change heard hears_it (done r s h (entry.frame m f)) (messages_fit_chosen r s h m f are) (heard_is_done (entry.frame m f)) notes.chosen
-          notes.stands)
+    abbrev IsFrameTaken : Changed → Type 0
+    IsFrameTaken changed = IsTaken e before it heard hears_it holder names new picks changed
 
-  pub datagram_taken : (m : ℕ) (bytes : List ℕ) (before : FurtherKept) → StandsFurther x c s h before → (changed : Changed) (heard : Hearing)
-      → IsHeard kind_of x.slots c s h (entry.datagram m bytes) heard → changed ≡ no_change
-      → IsTaken (entry.datagram m bytes) (with_hearing changed before heard)
-  datagram_taken m bytes before it changed heard hears_it is =
-      subst (λ changed. IsTaken (entry.datagram m bytes) (with_hearing changed before heard)) (sym is)
-      (with_message (entry.datagram m bytes) before it no_change heard hears_it None tt refl refl
-      ((other_entries_stand_chosen quantity_told (rule_at x) quantities_count r s h before.choices it.choices).datagrams m bytes))
+    claim_taken : (changed : Changed) → is_claim f ≡ true → changed ≡ changed_by (claim (known r s h).claims (claim_by (length h) m f)).step → IsFrameTaken changed
+    claim_taken changed claims is =
+        let step = (claim (known r s h).claims (claim_by (length h) m f)).step in
+        let fits = claims_fit (known r s h).claims (claim_by (length h) m f) (addresses_are_sound r s h are).sound.room in
+        let same : forgotten_at (address_won step) (forgotten_at (address_left step) before.choices) ≡ claimed step before.choices =
+        ap (forgotten_at (address_won step)) (forgotten_is (address_left step) before.choices fits.left)
+        ∙ forgotten_is (address_won step) (without_address (address_left step) before.choices) fits.won in
+        subst (λ changed. IsFrameTaken changed) (sym is)
+        (without_message e before it heard hears_it holder names new picks (changed_by step) (claims_say_nothing x c s h settings before.choices it.choices m f claims)
+        (subst (λ choices. EachStands x r s (e ∷ h) choices) (sym same) (claims_noted x c s h settings before.choices it.choices m f claims)))
 
-  pub tick_taken : (m : ℕ) (before : FurtherKept) → StandsFurther x c s h before → (changed : Changed) (heard : Hearing)
-      → IsHeard kind_of x.slots c s h (entry.tick m) heard → changed ≡ no_change → IsTaken (entry.tick m) (with_hearing changed before heard)
-  tick_taken m before it changed heard hears_it is =
-      subst (λ changed. IsTaken (entry.tick m) (with_hearing changed before heard)) (sym is)
-      (with_message (entry.tick m) before it no_change heard hears_it None tt refl refl
-      ((other_entries_stand_chosen quantity_told (rule_at x) quantities_count r s h before.choices it.choices).ticks m))
+    message_of_frame : is_claim f ≡ false → (o : Option Message) → done r s h e ≡ o → IsFrameTaken no_change
+    message_of_frame other None none =
+        without_message e before it heard hears_it holder names new picks no_change none (nothing_noted x c s h settings before.choices it.choices m f other none)
+    message_of_frame other (Some z) completes =
+        let k = kept e before it heard hears_it holder names new picks no_change in
+        with_message e k heard hears_it (stood e before it heard hears_it holder names new picks no_change) (Some z)
+        (subst (λ o. IfSome o (λ d. d.source < places)) completes (messages_fit_chosen r s h m f are))
+        (λ z' is. (done_by r s h e z' (completes ∙ is)).moment)
+        (heard_is_done e ∙ completes)
+        (subst (λ rule. AreChosen z.source z.moment rule z.name (is_selected x (known r s h).claims.holders (messages_of r s h) z) before.choices (all_in (told z.pgn z.payload))) (sym it.rule)
+        (values_chosen x c s h settings before.choices it.choices m f other z completes))
+        (subst (λ rule. EachStands x r s (e ∷ h) (noted_all z.source z.moment rule z.name before.choices (all_in (told z.pgn z.payload)))) (sym it.rule)
+        (values_noted x c s h settings before.choices it.choices m f other z completes))
 
-is_step : (g : Machine) (e : Event) (before : FurtherKept) → IsListening kind_of g (entry_of e) before.slots (hearing_by g before (entry_of e))
-    → IsFurtherStep g (entry_of e) before (step_by g before (entry_of e)).after (emits_of (step_by g before (entry_of e)).emits)
-is_step g (event.Frame moment frame) before listening = λ x s h settings could gs it.
-    frame_taken x g.settings s h settings moment (bus_frame frame) before it g.addresses.changed _ (listening x.slots s h settings could gs it.slots)
-    (gateway_stands kind_of x.slots g.settings s _ g.addresses gs.addresses).changed
-is_step g (event.Datagram moment bytes) before listening = λ x s h settings could gs it.
-    datagram_taken x g.settings s h settings moment bytes.now before it g.addresses.changed _ (listening x.slots s h settings could gs it.slots)
-    gs.addresses.changed
-is_step g (event.Tick moment) before listening = λ x s h settings could gs it.
-    tick_taken x g.settings s h settings moment before it g.addresses.changed _ (listening x.slots s h settings could gs it.slots) gs.addresses.changed
+    pub frame_taken : (changed : Changed) → changed ≡ (if is_claim f then changed_by (claim (known r s h).claims (claim_by (length h) m f)).step else no_change)
+        → IsFurtherTaken x c s h (entry.frame m f)
+        (behind heard.told (message_step (water_heard holder new (given_up changed (record before { slots = heard.slots }))) (option_map said_of heard.message))).after
+        (given_by (behind heard.told (message_step (water_heard holder new (given_up changed (record before { slots = heard.slots }))) (option_map said_of heard.message))))
+    frame_taken changed changes = by (is_claim f) refl
+      where
+        by : (b : Bool) → is_claim f ≡ b → IsFrameTaken changed
+        by true claims = claim_taken changed claims (changes ∙ rw claims refl)
+        by false other =
+            let is : changed ≡ no_change = changes ∙ rw other refl in
+            subst (λ changed. IsFrameTaken changed) (sym is) (message_of_frame other (done r s h e) refl)
 
-pub taken_step : (g : Machine) (e : Event) (before after : FurtherKept) (left : Emitted)
-    → IsListening kind_of g (entry_of e) before.slots (hearing_by g before (entry_of e)) → after ≡ (step_by g before (entry_of e)).after
-    → left ≡ (step_by g before (entry_of e)).emits → IsFurtherStep g (entry_of e) before after (emits_of left)
-taken_step g e before after left listening is gives = λ x s h settings could gs it.
-    let taken = is_step g e before listening x s h settings could gs it in record {
+is_step : (g : Machine) (outbox : Output) (new : Option SelectedMessage) → IsPicked g outbox new → (e : Event) (before : FurtherKept)
+    → IsListening kind_of g (entry_of e) before.slots (hearing_by g before (entry_of e))
+    → IsFurtherStep g outbox (entry_of e) before (step_by g new before (entry_of e)).after (given_by (step_by g new before (entry_of e)))
+is_step g outbox new picked (event.Frame moment frame) before listening = λ x s h settings could taken it.
+    let e = entry.frame moment (bus_frame frame) in
+    frame_taken x g.settings s h settings moment (bus_frame frame) before it (hearing_by g before e) (listening x.slots s h settings could taken.stands it.slots)
+    (name_held g.addresses.claims.holders) ((standing_tells_alike (receiver_of g.settings) s (e ∷ h) g.addresses taken.stands.addresses).names)
+    new (picked g.settings s h e taken) g.addresses.changed
+    (gateway_stands kind_of x.slots g.settings s _ g.addresses taken.stands.addresses).changed
+is_step g outbox new picked (event.Datagram moment bytes) before listening = λ x s h settings could taken it.
+    let e = entry.datagram moment bytes.now in
+    let heard = listening x.slots s h settings could taken.stands it.slots in
+    let names = (standing_tells_alike (receiver_of g.settings) s (e ∷ h) g.addresses taken.stands.addresses).names in
+    let picks = picked g.settings s h e taken in
+    subst (λ changed. IsTaken x g.settings s h settings e before it (hearing_by g before e) heard (name_held g.addresses.claims.holders) names new picks changed)
+    (sym taken.stands.addresses.changed)
+    (without_message x g.settings s h settings e before it (hearing_by g before e) heard (name_held g.addresses.claims.holders) names new picks no_change refl
+    (datagrams_noted x g.settings s h settings before.choices it.choices moment bytes.now))
+is_step g outbox new picked (event.Tick moment) before listening = λ x s h settings could taken it.
+    let e = entry.tick moment in
+    let heard = listening x.slots s h settings could taken.stands it.slots in
+    let names = (standing_tells_alike (receiver_of g.settings) s (e ∷ h) g.addresses taken.stands.addresses).names in
+    let picks = picked g.settings s h e taken in
+    subst (λ changed. IsTaken x g.settings s h settings e before it (hearing_by g before e) heard (name_held g.addresses.claims.holders) names new picks changed)
+    (sym taken.stands.addresses.changed)
+    (without_message x g.settings s h settings e before it (hearing_by g before e) heard (name_held g.addresses.claims.holders) names new picks no_change refl
+    (ticks_noted x g.settings s h settings before.choices it.choices moment))
+
+-- what is left in three places is what is given
+left_in_places : (y : FurtherStep) (first second third : Emitted) → first ≡ y.emits → second ≡ record { told = []; posted = y.second }
+    → third ≡ record { told = []; posted = y.third } → in_places first second third ≡ given_by y
+left_in_places y first second third a b c =
+    ap (λ one. in_places one second third) a
+    ∙ ap (λ two. in_places y.emits two third) b
+    ∙ ap (λ three. in_places y.emits (record { told = []; posted = y.second }) three) c
+
+pub taken_step : (g : Machine) (outbox : Output) (new : Option SelectedMessage) → IsPicked g outbox new → (e : Event) (before after : FurtherKept) (first second third : Emitted)
+    → IsListening kind_of g (entry_of e) before.slots (hearing_by g before (entry_of e)) → after ≡ (step_by g new before (entry_of e)).after
+    → first ≡ (step_by g new before (entry_of e)).emits
+    → second ≡ record { told = []; posted = (step_by g new before (entry_of e)).second }
+    → third ≡ record { told = []; posted = (step_by g new before (entry_of e)).third }
+    → IsFurtherStep g outbox (entry_of e) before after (in_places first second third)
+taken_step g outbox new picked e before after first second third listening is a b c = λ x s h settings could gs it.
+    let taken = is_step g outbox new picked e before listening x s h settings could gs it in record {
       stands = subst (λ k. StandsFurther x g.settings s (entry_of e ∷ h) k) (sym is) taken.stands;
-      emits = ap emits_of gives ∙ taken.emits;
+      emits = left_in_places (step_by g new before (entry_of e)) first second third a b c ∙ taken.emits;
     }
 
 -- ---- a command
@@ -241,6 +322,7 @@ commands_leave_further x c s h source address k settings it = record {
   rule = it.rule;
   sfi = it.sfi;
   slots = commands_leave_listening kind_of x.slots c s h source address k.slots quantities_are_heard settings it.slots;
-  choices = (other_entries_stand_chosen quantity_told (rule_at x) quantities_count (further_receiver x c) s h k.choices it.choices).commands (now h) source address;
+  choices = commands_noted x c s h settings k.choices it.choices (now h) source address;
+  water = last_stays (rule_of c row.WaterTemperature).timeout c s row.WaterTemperature h (now h) source address k.water it.water;
   lines = it.lines ∙ no_more (lines_said x c s h);
 }

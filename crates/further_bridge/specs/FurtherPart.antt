@@ -1,5 +1,5 @@
 -- Further quantities as a part beside the gateway: by what they are configured, and what they say on the network.
-use Rattle.std.specs.Prelude.{ℕ, List, [], Option, Some, None, option_map}
+use Rattle.std.specs.Prelude.{ℕ, List, [], ◌∷◌, map, Option, option_map}
 use Rattle.n2k_id.specs.declared.pattern.Pattern.{Pattern}
 use Rattle.sentence_text.specs.Names.{IsSfi}
 use Rattle.quantities.specs.About.{number_of}
@@ -11,7 +11,7 @@ use Rattle.history.specs.Entries.{Entry, History}
 use Rattle.history.specs.Settings.{Settings}
 use Rattle.settings.specs.declared.quantity_config.Quantities.{Quantities}
 use Rattle.settings.specs.declared.setup.Setup.{Setup}
-use Rattle.parts.specs.Voices.{Spoken, in_one}
+use Rattle.parts.specs.Voices.{Spoken}
 use Rattle.further_bridge.specs.FurtherOut.{number_in, said_at}
 use Rattle.further_bridge.specs.FurtherRule.{FurtherRule, further_rule, talker_at}
 
@@ -21,14 +21,13 @@ quantities_rule ignored quantities = option_map (further_rule ignored) quantitie
 abbrev pub quantities_asked : Setup → Option FurtherRule
 quantities_asked x = quantities_rule x.ignore.items x.quantities
 
--- ---- a further quantity of a selected message
+-- ---- further quantities of a message, each in one sentence
 
-abbrev pub value_says : FurtherRule → Option Value → Spoken
-value_says x None = []
-value_says x (Some v) = in_one (sentence_of (talker_at x (number_in v)) v)
+abbrev pub value_says : FurtherRule → Value → List (List ℕ)
+value_says x v = sentence_of x.twin (talker_at x (number_in v)) v ∷ []
 
 abbrev pub quantities_say : FurtherRule → Settings → ℕ → History → Entry → Spoken
-quantities_say x c s h e = value_says x (said_at x c s h e)
+quantities_say x c s h e = map (value_says x) (said_at x c s h e)
 
 pub record SpeaksQuantities (x : FurtherRule) (c : Settings) : Type 0 where
   pub sfi : IsSfi c.sfi

@@ -1,5 +1,5 @@
 -- How further quantities are said, and from whom they are taken, as plain values.
-use Rattle.std.specs.Prelude.{ℕ, false, List, [], map, slice_index_or}
+use Rattle.std.specs.Prelude.{ℕ, Bool, false, List, [], map, slice_index_or}
 use Rattle.n2k_id.specs.declared.pattern.Pattern.{Pattern}
 use Rattle.source_choice.specs.SubjectRules.{SubjectRule}
 use Rattle.settings.specs.declared.quantity_config.Quantities.{Quantities}
@@ -10,6 +10,8 @@ pub record FurtherRule : Type 0 where
   pub group : List ℕ
   -- how many of their fast packets may be open at once
   pub slots : ℕ
+  -- whether the boat has two engines
+  pub twin : Bool
   -- of each quantity, by its number, from whom it is taken, and who says it
   pub rules : List SubjectRule
   pub talkers : List (List ℕ)
@@ -22,6 +24,7 @@ unfoldable pub further_rule : List Pattern → Quantities → FurtherRule
 further_rule ignored q = record {
   group = q.group;
   slots = q.slots;
+  twin = q.twin_engines;
   rules = map (rule_of_quantity ignored) q.each;
   talkers = map (λ x. x.talker) q.each;
 }

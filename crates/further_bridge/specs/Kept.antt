@@ -1,27 +1,36 @@
 -- What is kept of further quantities, as plain values, and what an event makes of it and gives. Nothing here speaks of what came before.
-use Rattle.std.specs.Prelude.{ℕ, ◌+◌, ◌%◌, Bool, nat_lt, List, [], ◌++◌, map, Option, Some, None, option_map, if◌then◌else◌}
+use Rattle.std.specs.Prelude.{ℕ, ◌+◌, ◌%◌, Bool, ◌&&◌, nat_lt, List, [], ◌∷◌, ◌++◌, map, slice_get, unwrap_or, Option, Some, None, option_map, if◌then◌else◌}
 use Rattle.slot_views.specs.Slots.{SlotMap}
 use Rattle.fast_packet.specs.declared.key.FastKey.{FastKey}
+use Rattle.n2k_id.specs.declared.name.Name.{Name}
+use Rattle.readings.specs.declared.rows.Row.TheVariants as row
 use Rattle.gate_events.specs.Emit.{Emit}
 use Rattle.tag_block.specs.Tag.{most_count}
 use Rattle.claim_table.specs.Claims.{places}
+use Rattle.quantities.specs.Saying.{is_usable}
 use Rattle.quantities.specs.Told.{kind_of, told}
 use Rattle.quantities.specs.declared.value.Told.{Told}
 use Rattle.quantities.specs.declared.value.Told.TheVariants as says
 use Rattle.quantities.specs.declared.value.Value.{Value}
 use Rattle.source_choice.specs.declared.rank.Rank.{Rank}
+use Rattle.source_choice.specs.declared.told.Told.{Told as Chosen}
 use Rattle.source_choice.specs.Choices.{Choices, forgotten, opened}
 use Rattle.source_choice.specs.SubjectRules.{rank_of}
+use Rattle.history.specs.Choice as rows
 use Rattle.history.specs.Entries.{Entry}
 use Rattle.gate_model.specs.Addresses.{Changed}
+use Rattle.gate_model.specs.AddressStands.{name_held}
 use Rattle.gate_model.specs.Choosing.{is_ranked_chosen, ranked_after}
 use Rattle.gate_model.specs.Machine.{Machine}
 use Rattle.gate_model.specs.Said.{Complete}
-use Rattle.gate_outbox.specs.Output.{Emitted, no_emits}
+use Rattle.gate_outbox.specs.Output.{Emitted, emits_of, no_emits}
+use Rattle.gate_core.specs.declared.selected_message.SelectedMessage.{SelectedMessage}
+use Rattle.joined_rmc.specs.declared.last_of_row.LastOfRow.{LastOfRow}
+use Rattle.joined_rmc.specs.Kept.{in_last, last_after, none_yet}
 use Rattle.bus_listener.specs.Kept.{Hearing}
 use Rattle.bus_listener.specs.Promises as listening
 use Rattle.further_bridge.specs.declared.said.Said.{Said}
-use Rattle.further_bridge.specs.FurtherOut.{number_in, said_gives, short_gives, told_by}
+use Rattle.further_bridge.specs.FurtherOut.{has_voice, number_in, said_gives, short_gives}
 use Rattle.further_bridge.specs.FurtherRule.{FurtherRule, rule_at}
 
 pub record FurtherKept : Type 0 where
@@ -32,33 +41,24 @@ pub record FurtherKept : Type 0 where
   pub slots : SlotMap FastKey
   -- of each quantity what each source said last, where a source is an address of the bus
   pub choices : Choices
+  -- what the gateway said last of the water's temperature
+  pub water : LastOfRow
   -- how many lines were said, modulo the greatest count
   pub lines : ℕ
 
-abbrev pub further_opened : FurtherRule → List ℕ → FurtherKept
-further_opened x sfi = record {
+abbrev pub further_opened : FurtherRule → List ℕ → ℕ → FurtherKept
+further_opened x sfi timeout = record {
   rule = x;
   sfi = sfi;
   slots = record { limit = x.slots; entries = [] };
   choices = opened places (map (λ rule. rule.timeout) x.rules);
+  water = none_yet timeout;
   lines = 0;
 }
-
--- what an event leaves and gives
-pub record FurtherStep : Type 0 where
-  pub after : FurtherKept
-  pub emits : Emitted
 
 -- the most that an event tells: of each of 256 messages in the making once, of a frame twice, and of the message that is complete once
 abbrev pub most_told : ℕ
 most_told = 259
-
-abbrev pub as_it_was : FurtherKept → FurtherStep
-as_it_was k = record { after = k; emits = no_emits }
-
--- behind what was told before
-abbrev pub behind : List Emit → FurtherStep → FurtherStep
-behind told x = record { after = x.after; emits = record { told = told ++ x.emits.told; posted = x.emits.posted } }
 
 -- ---- a message that is complete, with what it says
 
@@ -69,19 +69,64 @@ said_of d = record { moment = d.moment; source = d.source; name = record { 0 = d
 abbrev pub counted : FurtherKept → FurtherKept
 counted k = record k { lines = (k.lines + 1) % most_count }
 
-module _ (k : FurtherKept) (d : Said) where
-  -- a value is noted where its sender has a rank in the quantity, and said where it is selected
-  abbrev pub ranked_step : Value → Option Rank → FurtherStep
-  ranked_step v rank =
-      let noted : FurtherKept = record k { choices = ranked_after k.choices d.source d.moment rank (told_by v) } in
-      if is_ranked_chosen k.choices d.source d.moment rank (told_by v)
-      then record { after = counted noted; emits = record { told = []; posted = said_gives k.rule k.sfi k.lines (Some v) } }
-      else as_it_was noted
+-- a value tells of its quantity, by number
+abbrev pub numbered : Value → Chosen
+numbered v = record { subject = number_in v; usable = is_usable v }
 
-  abbrev pub told_step : Told → FurtherStep
-  told_step (says.Value v) = ranked_step v (rank_of (rule_at k.rule (number_in v)) d.name.0)
-  told_step says.Outside = as_it_was k
-  told_step says.Short = record { after = k; emits = record { told = short_gives d.source d.pgn says.Short; posted = [] } }
+-- whether the gateway says the water's temperature itself at a moment
+abbrev pub is_water_said : LastOfRow → ℕ → Bool
+is_water_said water m = rows.is_usable (in_last m water)
+
+-- what a value leaves, and its datagram
+pub record ValueStep : Type 0 where
+  pub after : FurtherKept
+  pub posted : List Emit
+
+module _ (k : FurtherKept) (d : Said) where
+  -- a value is noted where its sender has a rank in the quantity, and said where it is selected and has a voice
+  abbrev pub ranked_step : Value → Option Rank → ValueStep
+  ranked_step v rank =
+      let noted : FurtherKept = record k { choices = ranked_after k.choices d.source d.moment rank (numbered v) } in
+      if is_ranked_chosen k.choices d.source d.moment rank (numbered v) && has_voice (is_water_said k.water d.moment) v
+      then record { after = counted noted; posted = said_gives k.rule k.sfi k.lines (v ∷ []) }
+      else record { after = noted; posted = [] }
+
+  abbrev pub value_step : Option Value → ValueStep
+  value_step None = record { after = k; posted = [] }
+  value_step (Some v) = ranked_step v (rank_of (rule_at k.rule (number_in v)) d.name.0)
+
+-- what an event leaves and gives: what is told, with the datagram of a message's first value, and those of its second and third
+pub record FurtherStep : Type 0 where
+  pub after : FurtherKept
+  pub emits : Emitted
+  pub second : List Emit
+  pub third : List Emit
+
+abbrev pub given_by : FurtherStep → List Emit
+given_by x = emits_of x.emits ++ (x.second ++ x.third)
+
+abbrev pub as_it_was : FurtherKept → FurtherStep
+as_it_was k = record { after = k; emits = no_emits; second = []; third = [] }
+
+-- behind what was told before
+abbrev pub behind : List Emit → FurtherStep → FurtherStep
+behind told x = record x { emits = record { told = told ++ x.emits.told; posted = x.emits.posted } }
+
+abbrev pub value_in : List (Option Value) → ℕ → Option Value
+value_in values place = unwrap_or (slice_get values place) None
+
+-- the values of a message, one after another
+abbrev pub values_step : FurtherKept → Said → List (Option Value) → FurtherStep
+values_step k d values =
+    let a = value_step k d (value_in values 0) in
+    let b = value_step a.after d (value_in values 1) in
+    let c = value_step b.after d (value_in values 2) in
+    record { after = c.after; emits = record { told = []; posted = a.posted }; second = b.posted; third = c.posted }
+
+abbrev pub told_step : FurtherKept → Said → Told → FurtherStep
+told_step k d (says.Values values) = values_step k d values
+told_step k d says.Outside = as_it_was k
+told_step k d says.Short = record (as_it_was k) { emits = record { told = short_gives d.source d.pgn says.Short; posted = [] } }
 
 -- an address that a device can have: nothing is noted of others
 abbrev pub has_place : ℕ → Bool
@@ -100,13 +145,20 @@ forgotten_at (Some a) choices = if has_place a then forgotten choices a else cho
 abbrev pub given_up : Changed → FurtherKept → FurtherKept
 given_up changed k = record k { choices = forgotten_at changed.won (forgotten_at changed.left k.choices) }
 
+-- ---- the message that the gateway itself selected, while these hold the addresses
+
+abbrev pub water_heard : (ℕ → Option Name) → Option SelectedMessage → FurtherKept → FurtherKept
+water_heard holder new k = record k { water = last_after holder row.WaterTemperature new k.water }
+
 -- ---- an event that the gateway has taken
 
 abbrev pub hearing_by : Machine → FurtherKept → Entry → Hearing
 hearing_by gateway k e = listening.step_by kind_of gateway k.slots e
 
-abbrev pub with_hearing : Changed → FurtherKept → Hearing → FurtherStep
-with_hearing changed k x = behind x.told (message_step (given_up changed (record k { slots = x.slots })) (option_map said_of x.message))
+abbrev pub with_hearing : Machine → Option SelectedMessage → FurtherKept → Hearing → FurtherStep
+with_hearing gateway new k x =
+    let heard = water_heard (name_held gateway.addresses.claims.holders) new (given_up gateway.addresses.changed (record k { slots = x.slots })) in
+    behind x.told (message_step heard (option_map said_of x.message))
 
-abbrev pub step_by : Machine → FurtherKept → Entry → FurtherStep
-step_by gateway k e = with_hearing gateway.addresses.changed k (hearing_by gateway k e)
+abbrev pub step_by : Machine → Option SelectedMessage → FurtherKept → Entry → FurtherStep
+step_by gateway new k e = with_hearing gateway new k (hearing_by gateway k e)

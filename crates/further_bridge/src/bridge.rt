@@ -3,20 +3,23 @@ ghost use Rattle.std.specs.Prelude.{◌≡◌, ◌≤◌, All, IfOk, length};
 ghost use Rattle.std.specs.Int.{IsInRange};
 ghost use Rattle.settings.specs.Setup.{IsQuantity};
 ghost use Rattle.quantities.specs.Told.{kind_of};
-ghost use Rattle.gate_outbox.specs.Output.{and_left, emits_of, no_emits};
+ghost use Rattle.gate_outbox.specs.Output.{and_left, and_posted, no_emits};
+ghost use Rattle.gate_core.specs.Picked.{IsMessageValid};
 ghost use Rattle.bus_listener.specs.Steps.{IsEventValid, entry_of};
 ghost use Rattle.further_bridge.specs.FurtherRule.{further_rule};
 ghost use Rattle.bus_listener.specs.Promises.{IsListening};
 ghost use Rattle.further_bridge.specs.Kept.{further_opened, hearing_by, most_told, step_by};
-ghost use Rattle.further_bridge.specs.Promises.{IsFurtherOpening, IsFurtherStep};
+ghost use Rattle.further_bridge.specs.Promises.{IsFurtherOpening, IsFurtherStep, IsStepBy, in_places};
 
 use crate::config::{FurtherConfig, timeouts_of};
 use crate::kinds::OfQuantities;
 use crate::said::said_by;
 use arrayvec::ArrayVec;
 use bus_listener::{BusListener, Gateway};
+use gate_core::{Outbox, SelectedMessage};
 use gate_events::Event;
 use gate_outbox::Emits;
+use joined_rmc::LastOfRow;
 use n2k_id::Pattern;
 use n2k_id::address::ADDRESSES;
 use sentence_text::Sfi;
@@ -29,8 +32,11 @@ use std::marker::Model;
 /// another number than that of reports of ships: the listener's hearing of a fast packet is then each one's own, and is laid out in place.
 pub(crate) const MOST_REPORTS: usize = 259;
 
-/// What an event leaves: at most 260 emits, of which at most one is a datagram.
+/// What an event leaves: at most 259 reports, and behind them the datagram of a message's first value.
 pub type FurtherEmits = Emits<MOST_REPORTS>;
+
+/// The datagram of another value of a message, which has at most [`quantities::MOST_TOLD`].
+pub type ValueEmits = Emits<0>;
 
 /// What is kept of further quantities.
 #[derive(Drop)]
@@ -42,6 +48,8 @@ pub struct FurtherBridge {
     pub(crate) listener: BusListener,
     /// What each source said last of each of them.
     pub(crate) choice: Choice,
+    /// What the gateway said last of the water's temperature.
+    pub(crate) water: LastOfRow,
     /// How many lines were said, modulo [`tag_block::MOST_COUNT`].
     pub(crate) lines: u16,
 }
@@ -52,6 +60,7 @@ impl Model for FurtherBridge {
     ghost use Rattle.quantities.specs.About.{quantities_count};
     ghost use Rattle.tag_block.specs.Tag.{most_count};
     ghost use Rattle.settings.specs.Setup.{IsQuantity};
+    ghost use Rattle.gate_core.specs.Picked.{IsMessageValid};
     ghost use Rattle.further_bridge.specs.FurtherRule.{further_rule};
     ghost use Rattle.further_bridge.specs.Kept.{FurtherKept};
 
@@ -62,26 +71,28 @@ impl Model for FurtherBridge {
       sfi = b.sfi;
       slots = b.listener;
       choices = b.choice;
+      water = b.water;
       lines = b.lines;
     } };
 
     ghost invariant = { λ b. All IsQuantity b.config.quantities.each × (b.listener.limit ≤ 256) × (b.choice.sources ≡ places)
-        × (length b.choice.subjects ≡ quantities_count) × (b.lines < most_count) };
+        × (length b.choice.subjects ≡ quantities_count) × IsMessageValid b.water.message × (b.lines < most_count) };
 }
 
 impl FurtherBridge {
     /// Of these quantities, which are taken from none of the devices that the patterns match, and said by the system function identifier of a
-    /// gateway. Who holds an address is asked of the gateway.
+    /// gateway. What that says of the water's temperature counts so many milliseconds. Who holds an address is asked of the gateway.
     pub fn new(
         alloc: Global,
         quantities: &Quantities,
         ignored: &ArrayVec<Pattern, 16>,
         sfi: Sfi,
+        water_timeout: u32,
     ) -> Result<FurtherBridge, AllocError>
         requires slots { IsInRange 1 256 quantities.now.slots }
         requires each { All IsQuantity quantities.now.each }
-        ensures value { IfOk result (λ b. b ≡ further_opened (further_rule ignored.now.items quantities.now) sfi) }
-        ensures history { IfOk result (IsFurtherOpening (further_rule ignored.now.items quantities.now) sfi) }
+        ensures value { IfOk result (λ b. b ≡ further_opened (further_rule ignored.now.items quantities.now) sfi water_timeout) }
+        ensures history { IfOk result (IsFurtherOpening (further_rule ignored.now.items quantities.now) sfi water_timeout) }
     {
         let listener = BusListener::new(alloc, quantities.slots)?;
         let choice = Choice::new(
@@ -95,32 +106,56 @@ impl FurtherBridge {
             sfi,
             listener,
             choice,
+            water: LastOfRow::new(water_timeout),
             lines: 0,
         })
     }
 
-    /// Takes an event that the gateway has taken in its last step.
-    pub fn after(&mut self, gateway: &Gateway, event: &Event<'_>, emits: &mut FurtherEmits)
+    /// Takes an event that the gateway has taken in its last step, which left what is in the outbox. What is told is in `emits`, and behind it
+    /// the datagram of the first value of a message; that of the second and of the third have places of their own.
+    pub fn after(
+        &mut self,
+        gateway: &Gateway,
+        outbox: &Outbox,
+        event: &Event<'_>,
+        emits: &mut FurtherEmits,
+        second: &mut ValueEmits,
+        third: &mut ValueEmits,
+    )
         requires valid { IsEventValid event.now }
         requires empty { emits.old ≡ no_emits }
-        ensures after { self.new ≡ (step_by gateway.now self.old (entry_of event.now)).after }
-        ensures emits { emits.new ≡ (step_by gateway.now self.old (entry_of event.now)).emits }
-        ensures history { IsFurtherStep gateway.now (entry_of event.now) self.old self.new (emits_of emits.new) }
+        requires second_empty { second.old ≡ no_emits }
+        requires third_empty { third.old ≡ no_emits }
+        ensures step { IsStepBy gateway.now outbox.now (entry_of event.now) self.old self.new emits.new second.new third.new }
+        ensures history { IsFurtherStep gateway.now outbox.now (entry_of event.now) self.old self.new (in_places emits.new second.new third.new) }
     {
-        self.step(gateway, event, emits);
+        let new = SelectedMessage::of(gateway, outbox);
+        self.step(gateway, &new, event, emits, second, third);
     }
 
-    /// Takes an event: what is heard of it, and then the message that it completes.
+    /// Takes an event, with the message that the gateway selected: what is heard of it, and then the message that it completes.
     #[tactic(auto, using(gate_outbox::proofs::Telling::left_behind, bus_listener::proofs::RoomLemmas::step_limit))]
-    fn step(&mut self, gateway: &Gateway, event: &Event<'_>, emits: &mut FurtherEmits)
+    fn step(
+        &mut self,
+        gateway: &Gateway,
+        new: &Option<SelectedMessage>,
+        event: &Event<'_>,
+        emits: &mut FurtherEmits,
+        second: &mut ValueEmits,
+        third: &mut ValueEmits,
+    )
         requires valid { IsEventValid event.now }
-        ensures after { self.new ≡ (step_by gateway.now self.old (entry_of event.now)).after }
-        ensures emits { emits.new ≡ and_left most_told emits.old (step_by gateway.now self.old (entry_of event.now)).emits }
+        requires message { IsMessageValid new.now }
+        ensures after { self.new ≡ (step_by gateway.now new.now self.old (entry_of event.now)).after }
+        ensures first { emits.new ≡ and_left most_told emits.old (step_by gateway.now new.now self.old (entry_of event.now)).emits }
+        ensures second { second.new ≡ and_posted second.old (step_by gateway.now new.now self.old (entry_of event.now)).second }
+        ensures third { third.new ≡ and_posted third.old (step_by gateway.now new.now self.old (entry_of event.now)).third }
         ensures room { length (hearing_by gateway.now self.old (entry_of event.now)).told ≤ 258 }
         ensures history { IsListening kind_of gateway.now (entry_of event.now) self.old.slots (hearing_by gateway.now self.old (entry_of event.now)) }
     {
         let said = said_by(self.listener.after(gateway, event, &OfQuantities, emits));
         self.give_up(gateway);
-        self.take(&said, emits);
+        self.hear_water(gateway, new);
+        self.take(&said, emits, second, third);
     }
 }

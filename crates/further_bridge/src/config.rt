@@ -65,6 +65,14 @@ impl FurtherConfig {
         self.quantity(quantity).talker
     }
 
+    /// Whether the boat has two engines.
+    #[tactic(auto, unfolding(crate::specs::FurtherRule::further_rule))]
+    pub(crate) fn twin_engines(&self) -> bool
+        ensures { result ≡ (further_rule self.now.ignored.items self.now.quantities).twin }
+    {
+        self.quantities.twin_engines
+    }
+
     /// The transmission group.
     #[tactic(auto, unfolding(crate::specs::FurtherRule::further_rule))]
     pub(crate) fn group(&self) -> Group

@@ -12,9 +12,10 @@ mod laws;
 mod part;
 mod said;
 mod saying;
+mod water;
 mod writing;
 
-pub use bridge::{FurtherBridge, FurtherEmits};
+pub use bridge::{FurtherBridge, FurtherEmits, ValueEmits};
 pub use laws::commands_leave_further_quantities;
 pub use part::QuantitiesPlace;
 pub use settings::Quantities;

@@ -1,16 +1,20 @@
 //! Further quantities as a part beside the gateway.
-ghost use Rattle.std.specs.Prelude.{◌≡◌, IfOk};
+ghost use Rattle.std.specs.Prelude.{◌≡◌, false, [], IfOk};
+ghost use Rattle.gate_outbox.specs.Output.{emits_of};
 ghost use Rattle.further_bridge.specs.FurtherOut.{further_out};
 ghost use Rattle.further_bridge.specs.FurtherPart.{quantities_asked};
 ghost use Rattle.further_bridge.specs.Promises.{StandsFurther};
 
 use crate::bridge::{FurtherBridge, MOST_REPORTS};
+use gate_outbox::Emits;
 use parts::{Given, Part, Step};
+use readings::Row;
 use settings::Setup;
 use std::alloc::{AllocError, Global};
 
-/// The place for further quantities: as much as [`crate::FurtherEmits`] has room for.
-pub type QuantitiesPlace = Given<MOST_REPORTS>;
+/// The place for further quantities: for what is told and the datagram of a message's first value, and behind it for those of the other values that
+/// a message may have.
+pub type QuantitiesPlace = (Given<MOST_REPORTS>, (Given<0>, Given<0>));
 
 impl Part<QuantitiesPlace> for FurtherBridge {
     ghost use Rattle.further_bridge.specs.FurtherRule.{FurtherRule};
@@ -24,21 +28,38 @@ impl Part<QuantitiesPlace> for FurtherBridge {
     ghost gives = { further_out };
 
     fn opened(alloc: Global, setup: &Setup) -> Result<Option<FurtherBridge>, AllocError> {
-        let sfi = setup.settings.config.sfi;
+        let config = &setup.settings.config;
+        let water = config.rows[Row::WaterTemperature as usize].timeout_ms;
         match &setup.quantities {
             Some(quantities) => Ok(Some(FurtherBridge::new(
                 alloc,
                 quantities,
                 &setup.ignore,
-                sfi,
+                config.sfi,
+                water,
             )?)),
             None => Ok(None),
         }
     }
 
-    #[tactic(auto, using(parts::proofs::Empty::none_emitted, std::proofs::lemmas::List::nil_from_length))]
+    #[tactic(auto, using(parts::proofs::Empty::first_empty, parts::proofs::Empty::second_empty, parts::proofs::Empty::none_emitted))]
     fn after(&mut self, step: &Step<'_>, place: &mut QuantitiesPlace) -> bool {
-        self.after(step.gateway, step.event, &mut place.emits);
-        place.emits.len() != 0
+        self.after(
+            step.gateway,
+            step.outbox,
+            step.event,
+            &mut place.0.emits,
+            &mut place.1.0.emits,
+            &mut place.1.1.emits,
+        );
+        gives(&place.0.emits) || gives(&place.1.0.emits) || gives(&place.1.1.emits)
     }
+}
+
+/// Whether there is anything to emit.
+#[tactic(auto, using(std::proofs::lemmas::List::nil_from_length))]
+fn gives<const ROOM: usize>(emits: &Emits<ROOM>) -> bool
+    ensures { result ≡ false → emits_of emits.now ≡ [] }
+{
+    emits.len() != 0
 }

@@ -1,6 +1,6 @@
-//! A message that is complete, with what it says of a quantity.
+//! A message that is complete, with what it says of the quantities.
 ghost use Rattle.std.specs.Prelude.{◌≡◌, option_map, IfSome};
-ghost use Rattle.quantities.specs.Told.{GivesFrom, entries};
+ghost use Rattle.quantities.specs.Told.{GivesFrom, IsInOrder, entries};
 ghost use Rattle.bus_listener.specs.Lent.{heard_message};
 ghost use Rattle.further_bridge.specs.Kept.{said_of};
 

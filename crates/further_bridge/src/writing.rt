@@ -11,11 +11,12 @@ use sentence_fields::SentenceText;
 use sentence_text::Sfi;
 use tag_block::Packet;
 
-/// Writes the datagram of a value. So many lines were said before.
+/// Writes the datagram of a value, on a boat with two engines or not. So many lines were said before.
 #[tactic(auto, unfolding(crate::specs::FurtherOut::value_datagram))]
 pub(crate) fn write_value(
     source: Sfi,
     talker: [u8; 2],
+    twin_engines: bool,
     before: u16,
     value: &Value,
     packet: &mut Packet,
@@ -23,9 +24,9 @@ pub(crate) fn write_value(
     requires range { IsFrom entries value.now }
     requires talker { IsTrue (list_all is_capital talker) }
     requires empty { packet.old.items ≡ [] }
-    ensures { packet.new.items ≡ value_datagram source talker before value.now }
+    ensures { packet.new.items ≡ value_datagram twin_engines source talker before value.now }
 {
     let mut line = SentenceText::default();
-    sentence(value, talker, &mut line);
+    sentence(value, talker, twin_engines, &mut line);
     write_sentence(source, before, &line.bytes, packet);
 }

@@ -93,6 +93,13 @@ two_keys :
     → ((first >>= λ a. Ok (make a)) >>= λ made. second >>= λ b. Ok (made b)) ≡ Ok (make x y)
 two_keys make first second x y is_x is_y = ap (λ r. (r >>= λ a. Ok (make a)) >>= λ made. second >>= λ b. Ok (made b)) is_x ∙ one_key (make x) second y is_y
 
+three_keys :
+    {A B C D : Type 0} (make : A → B → C → D) (first : Result A ConfigFault) (second : Result B ConfigFault) (third : Result C ConfigFault) (x : A) (y : B) (z : C)
+    → first ≡ Ok x → second ≡ Ok y → third ≡ Ok z
+    → (((first >>= λ a. Ok (make a)) >>= λ made. second >>= λ b. Ok (made b)) >>= λ made. third >>= λ c. Ok (made c)) ≡ Ok (make x y z)
+three_keys make first second third x y z is_x is_y is_z =
+    ap (λ r. r >>= λ made. third >>= λ c. Ok (made c)) (two_keys make first second x y is_x is_y) ∙ one_key (make x y) third z is_z
+
 -- ---- each part
 
 abbrev NoneIn : Place → List (List ℕ) → Type 0
@@ -124,21 +131,27 @@ any_unasked : (place : Place) (all : List Quantity) → NoneIn place (quantity_n
 any_unasked place [] none = refl
 any_unasked place (q ∷ all) none = ap (λ found. asked_for found || any_asks place all) none.0 ∙ any_unasked place all none.1
 
-group_unasked : (place : Place) → get_member (codes "slots") place.members ≡ None → NoneIn place (quantity_names all_quantities) → is_asked place ≡ false
-group_unasked place slots none = ap (λ found. is_some found || any_asks place all_quantities) slots ∙ any_unasked place all_quantities none
+group_unasked : (place : Place) → get_member (codes "slots") place.members ≡ None → get_member (codes "twin_engines") place.members ≡ None
+    → NoneIn place (quantity_names all_quantities) → is_asked place ≡ false
+group_unasked place slots twin none =
+    ap (λ found. is_some found || is_some (get_member (codes "twin_engines") place.members) || any_asks place all_quantities) slots
+    ∙ ap (λ found. is_some found || any_asks place all_quantities) twin
+    ∙ any_unasked place all_quantities none
 
 further_read : (rows : List RowConfig) (parts : List (Option (List ℕ))) (place : Place) → NoneIn place (further.known ++ quantity_names all_quantities)
-    → further.read (rows, parts) place ≡ Ok (None, 16)
+    → further.read (rows, parts) place ≡ Ok (None, 16, false)
 unfolding further
 further_read rows parts place none =
-    two_keys (λ group slots. (group, slots)) (own_group_at rows parts is_asked place (codes "group")) (default 16 (number_at 1 256) place (codes "slots")) None 16
-    (group_at rows parts is_asked place (codes "group") none.0 (group_unasked place none.1.0 none.1.1))
+    three_keys (λ group slots twin. (group, slots, twin)) (own_group_at rows parts is_asked place (codes "group")) (default 16 (number_at 1 256) place (codes "slots"))
+    (default false truth_at place (codes "twin_engines")) None 16 false
+    (group_at rows parts is_asked place (codes "group") none.0 (group_unasked place none.1.0 none.1.1.0 none.1.1.1))
     (default_at 16 (number_in 1 256) place (codes "slots") none.1.0)
+    (default_at false truth_in place (codes "twin_engines") none.1.1.0)
 
 quantities_among : (document : Place) → Lacks further.name (further.known ++ quantity_names all_quantities) document
     → NoneIn (place_under document further.name (prefix_of further.name)) (quantity_names all_quantities)
 unfolding further
-quantities_among document lacks = lacks.none.1.1
+quantities_among document lacks = lacks.none.1.1.1
 
 -- a quantity of which no key stands is configured as ever
 abbrev usual : List ℕ → QuantityConfig
@@ -159,8 +172,8 @@ each_read place (q ∷ all) earlier none =
     let more = each_read place all (earlier ++ x ∷ []) none.1 in
     (more.0, then_says (quantity_of place q) (λ x. each_from (quantity_of place) (earlier ++ x ∷ []) all) x (Ok more.0) (quantity_read place q none.0) more.1)
 
-abbrev with_each : Option (List ℕ) × ℕ → List QuantityConfig → Result (Option Quantities) ConfigFault
-with_each all each = Ok (option_map (λ group. record { group = group; slots = all.1; each = each }) all.0)
+abbrev with_each : Option (List ℕ) × ℕ × Bool → List QuantityConfig → Result (Option Quantities) ConfigFault
+with_each all each = Ok (option_map (λ group. record { group = group; slots = all.1; twin_engines = all.2; each = each }) all.0)
 
 quantities_read : (rows : List RowConfig) (parts : List (Option (List ℕ))) (document : Place) → Lacks further.name (further.known ++ quantity_names all_quantities) document
     → quantities_in rows parts document ≡ Ok None
@@ -171,9 +184,9 @@ quantities_read rows parts document lacks =
     let each = each_read place all_quantities [] (quantities_among document lacks) in
     then_says (section_at document name (prefix_of name)) (λ at. further.read (rows, parts) at >>= λ all. each_from (quantity_of at) [] all_quantities >>= with_each all) place (Ok None)
     (section_there document name (prefix_of name) lacks.is_table)
-    (then_says (further.read (rows, parts) place) (λ all. each_from (quantity_of place) [] all_quantities >>= with_each all) (None, 16) (Ok None)
+    (then_says (further.read (rows, parts) place) (λ all. each_from (quantity_of place) [] all_quantities >>= with_each all) (None, 16, false) (Ok None)
     (further_read rows parts place lacks.none)
-    (then_says (each_from (quantity_of place) [] all_quantities) (with_each (None, 16)) each.0 (Ok None) each.1 refl))
+    (then_says (each_from (quantity_of place) [] all_quantities) (with_each (None, 16, false)) each.0 (Ok None) each.1 refl))
 
 -- ---- all keys
 

@@ -233,14 +233,15 @@ abbrev pub any_asks : Place → List Quantity → Bool
 any_asks place all = list_any (λ q. asks (get_member (about_quantity q).name place.members)) all
 
 abbrev pub is_asked : Place → Bool
-is_asked place = stands_at (codes "slots") place || any_asks place all_quantities
+is_asked place = stands_at (codes "slots") place || stands_at (codes "twin_engines") place || any_asks place all_quantities
 
 -- further, beside the rows and the groups of the other parts
-unfoldable pub further : Table (List RowConfig × List (Option (List ℕ))) (Option (List ℕ) × ℕ)
+unfoldable pub further : Table (List RowConfig × List (Option (List ℕ))) (Option (List ℕ) × ℕ × Bool)
 further =
-    table (codes "further") (λ group slots. (group, slots))
+    table (codes "further") (λ group slots twin. (group, slots, twin))
     & key_beside (codes "group") (λ beside. own_group_at beside.0 beside.1 is_asked)
     & key (codes "slots") (default 16 (number_at 1 256))
+    & key (codes "twin_engines") (default false truth_at)
 
 unfoldable pub quantity_at : List ℕ → Place → List ℕ → List ℕ → Result QuantityConfig ConfigFault
 quantity_at talker place name prefix = section_at place name prefix >>= quantity.read talker
@@ -255,7 +256,7 @@ quantities_in rows parts document = do
   place ← section_at document further.name (prefix_of further.name)
   all ← further.read (rows, parts) place
   each ← each_from (quantity_of place) [] all_quantities
-  Ok (option_map (λ group. record { group = group; slots = all.1; each = each }) all.0)
+  Ok (option_map (λ group. record { group = group; slots = all.1; twin_engines = all.2; each = each }) all.0)
 
 -- report: whether it is told that a row is taken from another device, and that the gateway has another address
 unfoldable pub report : Table ⊤ (Bool × Bool)

@@ -14,10 +14,10 @@ ghost use Rattle.quantities.specs.About.{quantities};
 ghost use Rattle.settings.specs.Setup.{IsQuantity};
 
 use crate::items::key_prefix;
-use crate::keys::{number_or, section, stands_at};
+use crate::keys::{number_or, section, stands_at, truth_or};
 use crate::parts::own_group;
 use crate::quantity::{self, quantity_keys};
-use crate::words::{FURTHER, FURTHER_PREFIX, GROUP, SLOTS};
+use crate::words::{FURTHER, FURTHER_PREFIX, GROUP, SLOTS, TWIN_ENGINES};
 use config_document::{ConfigFault, Section};
 use config_values::RowConfig;
 use quantities::{Quantity, all_quantities};
@@ -25,7 +25,7 @@ use sentence_text::Group;
 use settings::{Quantities, QuantityConfig, QuantityConfigs};
 use toml::Table;
 
-pub(crate) const KEYS: [&str; 2] = [GROUP, SLOTS];
+pub(crate) const KEYS: [&str; 3] = [GROUP, SLOTS, TWIN_ENGINES];
 
 /// How quantities besides the rows are said, if they are: their group, which no row and no other part has, and each quantity, put into `each`.
 #[tactic(auto, using(crate::proofs::Tables::further_name), unfolding(crate::specs::Keys::quantities_in))]
@@ -39,35 +39,41 @@ pub(crate) fn further_quantities(
     ensures valid { IfOk result (λ all. ForSome all (AreQuantitiesBeside rows.now parts.now)) }
 {
     let table = section(document, FURTHER, FURTHER_PREFIX)?;
-    let (group, slots) = further_keys(&table, rows, parts)?;
+    let (group, slots, twin_engines) = further_keys(&table, rows, parts)?;
     let each = each_quantity(&table, each)?;
     match group {
         None => Ok(None),
-        Some(group) => Ok(Some(Quantities { group, slots, each })),
+        Some(group) => Ok(Some(Quantities {
+            group,
+            slots,
+            twin_engines,
+            each,
+        })),
     }
 }
 
-/// The group of quantities, and how many of their fast packets may be open.
+/// The group of quantities, how many of their fast packets may be open, and whether there are two engines.
 #[tactic(auto, unfolding(crate::specs::Keys::further))]
 fn further_keys(
     table: &Section,
     rows: &[RowConfig],
     parts: &[Option<Group>],
-) -> Result<(Option<Group>, u16), ConfigFault>
+) -> Result<(Option<Group>, u16, bool), ConfigFault>
     ensures said { result ≡ further.read (rows.now, parts.now) (place_of table.now) }
     ensures group { IfOk result (λ all. ForSome all.0 (IsGroupBeside rows.now parts.now)) }
     ensures slots { IfOk result (λ all. IsInRange 1 256 all.1) }
 {
     let group = own_group(table, GROUP, rows, parts, is_asked(table))?;
     let slots = number_or(table, SLOTS, 1, 256, 16)? as u16;
-    Ok((group, slots))
+    let twin_engines = truth_or(table, TWIN_ENGINES, false)?;
+    Ok((group, slots, twin_engines))
 }
 
-/// Whether the group is asked for: by the other key of the table, or by a quantity.
+/// Whether the group is asked for: by another key of the table, or by a quantity.
 fn is_asked(table: &Section) -> bool
     ensures { result ≡ is_asked (place_of table.now) }
 {
-    stands_at(table, SLOTS) || any_asks(table, all_quantities())
+    stands_at(table, SLOTS) || stands_at(table, TWIN_ENGINES) || any_asks(table, all_quantities())
 }
 
 fn any_asks(table: &Section, all: &[Quantity]) -> bool

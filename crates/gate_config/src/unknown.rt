@@ -199,11 +199,17 @@ fn quantity_names(all: &[Quantity; QUANTITIES]) -> ArrayVec<&'static str, QUANTI
     names
 }
 
-/// How many keys the table of quantities has: its own, and one for each quantity.
-const KNOWN: usize = 2 + QUANTITIES;
+/// How many keys the table of quantities has of its own.
+const OWN: usize = further_quantities::KEYS.len();
+
+/// How many it has in all: its own, and one for each quantity.
+const KNOWN: usize = OWN + QUANTITIES;
 
 /// The keys of a table, and the names of the tables within it.
-fn keys_and_names(keys: &[&'static str; 2], names: &[&'static str]) -> ArrayVec<&'static str, KNOWN>
+fn keys_and_names(
+    keys: &[&'static str; OWN],
+    names: &[&'static str],
+) -> ArrayVec<&'static str, KNOWN>
     requires { length names.now ≤ QUANTITIES }
     ensures { result.items ≡ keys.now ++ names.now }
 {

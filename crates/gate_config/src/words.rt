@@ -97,4 +97,6 @@ pub(crate) const THS: &str = "ths";
 
 pub(crate) const TIMEOUT_MS: &str = "timeout_ms";
 
+pub(crate) const TWIN_ENGINES: &str = "twin_engines";
+
 pub(crate) const VERSION: &str = "version";

@@ -15,7 +15,7 @@ use Rattle.joined_rmc.specs.JoinStands.{CommandsKeepJoins, LastStands}
 use Rattle.joined_rmc.specs.RmcOut.{timeout_of}
 use Rattle.joined_rmc.specs.declared.last_of_row.LastOfRow.{LastOfRow}
 
-last_stays : (timeout : ℕ) (c : Settings) (s : ℕ) (row : Row) (h : History) (m source address : ℕ) (last : LastOfRow)
+pub last_stays : (timeout : ℕ) (c : Settings) (s : ℕ) (row : Row) (h : History) (m source address : ℕ) (last : LastOfRow)
     → LastStands timeout c s row h last → LastStands timeout c s row (command m source address ∷ h) last
 last_stays timeout c s row h m source address last stands = record {
   timeout_is = stands.timeout_is;

@@ -33,7 +33,7 @@ within_same : (timeout m : ℕ) (x : Option Selected) → message_within timeout
 within_same timeout m None = refl
 within_same timeout m (Some x) = refl
 
-last_says : (timeout : ℕ) (c : Settings) (s : ℕ) (row : Row) (h : History) (last : LastOfRow) (m : ℕ) → LastStands timeout c s row h last
+pub last_says : (timeout : ℕ) (c : Settings) (s : ℕ) (row : Row) (h : History) (last : LastOfRow) (m : ℕ) → LastStands timeout c s row h last
     → in_last m last ≡ said_within timeout m (still_held (known (receiver_of c) s h).claims.holders (last_of c s row h))
 last_says timeout c s row h last m stands =
     ap (λ t. message_within t m last.message) stands.timeout_is ∙ ap (message_within timeout m) stands.kept

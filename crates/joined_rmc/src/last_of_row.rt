@@ -13,15 +13,15 @@ use readings::{Reading, Row, row};
 
 /// The last message of a row that was selected, while its sender holds its address.
 #[derive(Clone, Copy)]
-pub(crate) struct LastOfRow {
+pub struct LastOfRow {
     /// How long it counts, in milliseconds.
-    pub(crate) timeout: u32,
-    pub(crate) message: Option<SelectedMessage>,
+    pub timeout: u32,
+    pub message: Option<SelectedMessage>,
 }
 
 impl LastOfRow {
     /// With nothing kept.
-    pub(crate) fn new(timeout: u32) -> LastOfRow
+    pub fn new(timeout: u32) -> LastOfRow
         ensures { result ≡ none_yet timeout }
     {
         LastOfRow {
@@ -31,7 +31,7 @@ impl LastOfRow {
     }
 
     /// Forgets a message whose sender lost its address.
-    pub(crate) fn forget_lost(&mut self, gateway: &Gateway)
+    pub fn forget_lost(&mut self, gateway: &Gateway)
         requires { IsMessageValid self.old.message }
         ensures after { self.new ≡ last_held (name_held gateway.now.addresses.claims.holders) self.old }
         ensures valid { IsMessageValid self.new.message }
@@ -42,7 +42,7 @@ impl LastOfRow {
     }
 
     /// Keeps a newer message, where it is of the row.
-    pub(crate) fn keep_newer(&mut self, row: Row, new: &SelectedMessage)
+    pub fn keep_newer(&mut self, row: Row, new: &SelectedMessage)
         requires message { IsMessageValid self.old.message }
         requires new { IsValid new.now.reading }
         ensures after { self.new ≡ last_with row (Some new.now) self.old }
@@ -54,7 +54,7 @@ impl LastOfRow {
     }
 
     /// What it says at a moment.
-    pub(crate) fn says(&self, moment: u64) -> Option<&Reading>
+    pub fn says(&self, moment: u64) -> Option<&Reading>
         requires { IsMessageValid self.now.message }
         ensures says { lent result ≡ in_last moment self.now }
         ensures valid { IfSome result (λ r. IsValid r.now) }

@@ -11,5 +11,6 @@ mod minimum;
 mod rmc_join;
 
 pub use joining::{Joining, RmcPlace};
+pub use last_of_row::LastOfRow;
 pub use rmc_join::RmcJoin;
 pub use settings::RmcConfig;

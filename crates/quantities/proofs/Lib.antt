@@ -3,3 +3,4 @@ pub mod InRange
 pub mod Columns
 pub mod Sayings
 pub mod OneEntry
+pub mod Order

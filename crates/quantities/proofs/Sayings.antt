@@ -1,14 +1,14 @@
 -- Each value of a sound table is said in one sentence.
-use Rattle.std.proofs.Common.{◌≡◌, ℕ, ◌≤◌, ℤ, IsTrue, List, [], ◌∷◌, length, length-append, map, refl, ap, ◌∙◌, sym, subst, arith, inl, inr}
-use Rattle.std.specs.Prelude.{Option}
+use Rattle.std.proofs.Common.{◌≡◌, ℕ, ◌≤◌, ℤ, Bool, true, false, IsTrue, List, [], ◌∷◌, length, length-append, map, refl, ap, ◌∙◌, sym, subst, arith, inl, inr}
+use Rattle.std.specs.Prelude.{Option, ◌&&◌, nat_lt}
 use Rattle.std.specs.List.{AllByRecursion, list_all}
 use Rattle.std.proofs.lemmas.Bool.{and_parts}
 use Rattle.std.proofs.lemmas.Bool.Decides.{nat_tests}
 use Rattle.std.proofs.lemmas.List.{length-map}
 use Rattle.sentence_text.specs.Byte.{is_address_byte, is_capital}
-use Rattle.sentence_text.specs.Sentence.{body_of, sentence}
+use Rattle.sentence_text.specs.Sentence.{sentence}
 use Rattle.sentence_text.proofs.Spelling.{read_back}
-use Rattle.sentence_fields.specs.Field.{IsPrintable, body_text, body_width, sentence_by}
+use Rattle.sentence_fields.specs.Field.{IsPrintable, body_width, sentence_by}
 use Rattle.sentence_fields.proofs.Bodies.{capitals_are_address}
 use Rattle.quantities.specs.declared.about.Quantity.{Quantity}
 use Rattle.quantities.specs.declared.layout.Layout.{Layout as CodeLayout}
@@ -19,7 +19,7 @@ use Rattle.quantities.specs.Layout.{Layout, field_by, layout_of, seen, seen_layo
 use Rattle.quantities.specs.Laws.{EachIsSaid, TheTablesAreSound}
 use Rattle.quantities.specs.Saying.{AreSaid, parts_in, sentence_of}
 use Rattle.quantities.specs.Sound.{are_apart, columns_width, is_entry_readable, is_entry_sound, is_layout_sound, is_sayable, is_writable}
-use Rattle.quantities.specs.Told.{IsFrom, entries, parts_of}
+use Rattle.quantities.specs.Told.{IsFrom, entries, most_told, parts_of}
 use Rattle.quantities.proofs.Columns.{are_fields, body_fits, fields_printable, fields_width, same_body}
 
 -- what a sound sentence says of its numbers
@@ -48,7 +48,7 @@ of_table : (layouts : Quantity → Layout) (table : List Entry) (v : Value) → 
 of_table layouts [] v h from = absurd from
 of_table layouts (e ∷ table) v h (inl is) =
     let both = and_parts (is_entry_sound layouts e) (list_all (is_entry_sound layouts) table) h in
-    let said = and_parts (is_entry_readable e) (is_sayable (layouts e.quantity) e) both.0 in
+    let said = and_parts (is_entry_readable e && nat_lt e.place most_told) (is_sayable (layouts e.quantity) e) both.0 in
     subst (λ (q : Quantity). Sayable (layouts q) v.values) is.0 (of_entry (layouts e.quantity) e v.values said.1 is.1)
 of_table layouts (e ∷ table) v h (inr is) =
     of_table layouts table v ((and_parts (is_entry_sound layouts e) (list_all (is_entry_sound layouts) table) h).1) is
@@ -81,42 +81,43 @@ each_is_said layouts table h v from talker two capital =
 
 pub tables_are_sound : TheTablesAreSound
 unfolding entries
-tables_are_sound = refl
+tables_are_sound false = refl
+tables_are_sound true = refl
 
-pub sayable : (v : Value) → IsFrom entries v → Sayable (layout_of v.quantity) v.values
-sayable v from =
-    of_table layout_of entries v ((and_parts (list_all (is_entry_sound layout_of) entries) (are_apart entries) tables_are_sound).0) from
+pub sayable : (twin : Bool) (v : Value) → IsFrom entries v → Sayable (layout_of twin v.quantity) v.values
+sayable twin v from =
+    of_table (layout_of twin) entries v ((and_parts (list_all (is_entry_sound (layout_of twin)) entries) (are_apart entries) (tables_are_sound twin)).0) from
 
 -- the columns of a sentence as the code has it
-columns_are : (v : Value) (l : CodeLayout) → seen_layout l ≡ layout_of v.quantity → map seen l.columns.now ≡ (layout_of v.quantity).columns
-columns_are v l e = ap (λ (seen : Layout). seen.columns) e
+module _ (twin : Bool) (v : Value) (l : CodeLayout) (is : seen_layout l ≡ layout_of twin v.quantity) where
+  columns_are : map seen l.columns.now ≡ (layout_of twin v.quantity).columns
+  columns_are = ap (λ (seen : Layout). seen.columns) is
 
-pub few_columns : (v : Value) (l : CodeLayout) → IsFrom entries v → seen_layout l ≡ layout_of v.quantity → length l.columns.now ≤ 10
-few_columns v l from e =
-    let s = (sayable v from).sound.few in
-    let len : length l.columns.now ≡ length (layout_of v.quantity).columns = sym (length-map l.columns.now seen) ∙ ap length (columns_are v l e) in
-    omega (arith, s, len)
+  pub few_columns : IsFrom entries v → length l.columns.now ≤ 10
+  few_columns from =
+      let s = (sayable twin v from).sound.few in
+      let len : length l.columns.now ≡ length (layout_of twin v.quantity).columns = sym (length-map l.columns.now seen) ∙ ap length columns_are in
+      omega (arith, s, len)
 
-pub printable : (v : Value) (l : CodeLayout) → IsFrom entries v → seen_layout l ≡ layout_of v.quantity
-    → AllByRecursion IsPrintable (map (field_by v.values) l.columns.now)
-printable v l from e =
-    let s = sayable v from in
-    fields_printable (parts_of s.entry) v.values l.columns.now (rw (columns_are v l e) s.writable) s.inside
+  pub printable : IsFrom entries v → AllByRecursion IsPrintable (map (field_by v.values) l.columns.now)
+  printable from =
+      let s = sayable twin v from in
+      fields_printable (parts_of s.entry) v.values l.columns.now (rw columns_are s.writable) s.inside
 
-pub short : (v : Value) (l : CodeLayout) → IsFrom entries v → seen_layout l ≡ layout_of v.quantity → body_width (map (field_by v.values) l.columns.now) ≤ 71
-short v l from e =
-    let s = (sayable v from).sound.short in
-    let w = fields_width v.values l.columns.now ∙ ap columns_width (columns_are v l e) in
-    omega (arith, s, w)
+  pub short : IsFrom entries v → body_width (map (field_by v.values) l.columns.now) ≤ 71
+  short from =
+      let s = (sayable twin v from).sound.short in
+      let w = fields_width v.values l.columns.now ∙ ap columns_width columns_are in
+      omega (arith, s, w)
 
-pub address : (v : Value) (l : CodeLayout) → IsFrom entries v → seen_layout l ≡ layout_of v.quantity → IsTrue (list_all is_address_byte l.formatter)
-address v l from e = subst (λ (s : Layout). IsTrue (list_all is_address_byte s.formatter)) (sym e) (sayable v from).sound.address
+  pub address : IsFrom entries v → IsTrue (list_all is_address_byte l.formatter)
+  address from = subst (λ (s : Layout). IsTrue (list_all is_address_byte s.formatter)) (sym is) (sayable twin v from).sound.address
 
-pub same_sentence : (v : Value) (talker : List ℕ) (l : CodeLayout) → seen_layout l ≡ layout_of v.quantity
-    → sentence_by talker l.formatter (map (field_by v.values) l.columns.now) ≡ sentence_of talker v
-same_sentence v talker l e =
-    ap (λ (b : List ℕ). sentence (record { start = 36; talker = talker; formatter = l.formatter; body = b })) (same_body v.values l.columns.now)
-    ∙ ap (λ (s : Layout). sentence (parts_in s talker v.values)) e
+  pub same_sentence : (talker : List ℕ) → sentence_by talker l.formatter (map (field_by v.values) l.columns.now) ≡ sentence_of twin talker v
+  same_sentence talker =
+      ap (λ (b : List ℕ). sentence (record { start = 36; talker = talker; formatter = l.formatter; body = b })) (same_body v.values l.columns.now)
+      ∙ ap (λ (s : Layout). sentence (parts_in s talker v.values)) is
 
-pub form : (v : Value) (talker : List ℕ) → length talker ≡ 2 → IsTrue (list_all is_capital talker) → IsFrom entries v → AreSaid (layout_of v.quantity) talker v.values
-form v talker two capital from = each_is_said layout_of entries tables_are_sound v from talker two capital
+pub form : (twin : Bool) (v : Value) (talker : List ℕ) → length talker ≡ 2 → IsTrue (list_all is_capital talker) → IsFrom entries v
+    → AreSaid (layout_of twin v.quantity) talker v.values
+form twin v talker two capital from = each_is_said (layout_of twin) entries (tables_are_sound twin) v from talker two capital

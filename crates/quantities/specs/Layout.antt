@@ -1,5 +1,5 @@
 -- The sentence in which each quantity is said.
-use Rattle.std.specs.Prelude.{ℕ, ℤ, pos, ◌-ℤ◌, List, [], ◌∷◌, codes, map, Option, Some, None, is_some, slice_get, unwrap_or}
+use Rattle.std.specs.Prelude.{ℕ, ℤ, pos, ◌-ℤ◌, Bool, true, false, List, [], ◌∷◌, codes, map, Option, Some, None, is_some, slice_get, unwrap_or}
 use Rattle.readings.specs.Ranges.{greatest_u16}
 use Rattle.sentence_fields.specs.declared.field.Field.{Field}
 use Rattle.sentence_fields.specs.declared.field.Field.TheVariants as field
@@ -84,43 +84,64 @@ text_in values (status at) = letter_where (is_some (value_at values at)) 65 86 �
 
 -- ---- the sentences
 
--- A sentence: its formatter, of how many values, the first ones, one has to be there for a message to be usable, and its fields.
+-- A sentence: its formatter and its fields.
 pub record Layout : Type 0 where
   pub formatter : List ℕ
-  pub telling : ℕ
   pub columns : List Column
 
-abbrev layout : List ℕ → ℕ → List Column → Layout
-layout formatter telling columns = record { formatter = formatter; telling = telling; columns = columns }
+abbrev layout : List ℕ → List Column → Layout
+layout formatter columns = record { formatter = formatter; columns = columns }
 
 -- one transducer of XDR: its kind, what is measured, the unit and the name
 abbrev transducer : ℕ → Column → ℕ → List ℕ → List Column → List Column
 transducer kind measured unit name more = letter kind ∷ measured ∷ letter unit ∷ word name ∷ more
 
-abbrev pub layout_of : Quantity → Layout
-layout_of quantity.Attitude = layout (codes "XDR") 2 (transducer 65 (decimal 0 degrees) 68 (codes "PITCH") (transducer 65 (decimal 1 degrees) 68 (codes "ROLL") []))
-layout_of quantity.SetDrift = layout (codes "VDR") 2 (course 0 ∷ letter 84 ∷ course 1 ∷ letter 77 ∷ decimal 2 knots ∷ letter 78 ∷ [])
-layout_of quantity.SpeedComponents =
-    layout (codes "VBW") 6
+-- an engine by its number, which counts from the centre line (IEC 61162-1): 0 single or on it, odd to starboard, even to port
+abbrev revolutions_of : ℕ → Layout
+revolutions_of number = layout (codes "RPM") (letter 69 ∷ letter number ∷ decimal 0 revolutions ∷ nothing ∷ status 0 ∷ [])
+
+-- the first engine (PGN 127488, instance 0) is the single one, or the port one of two
+abbrev first_number : Bool → ℕ
+first_number false = 48
+first_number true = 50
+
+abbrev engine_of : List ℕ → List ℕ → Layout
+engine_of engine oil = layout (codes "XDR") (transducer 67 (temperature 0) 67 engine (transducer 80 (decimal 1 oil_bars) 66 oil []))
+
+abbrev battery_of : List ℕ → Layout
+battery_of name = layout (codes "XDR") (transducer 85 (decimal 0 volts) 86 name (transducer 73 (decimal 1 amperes) 65 name []))
+
+abbrev level_of : List ℕ → Layout
+level_of name = layout (codes "XDR") (transducer 86 (decimal 0 percent) 80 name [])
+
+-- of a boat with two engines or not
+abbrev pub layout_of : Bool → Quantity → Layout
+layout_of twin quantity.Attitude = layout (codes "XDR") (transducer 65 (decimal 0 degrees) 68 (codes "PITCH") (transducer 65 (decimal 1 degrees) 68 (codes "ROLL") []))
+layout_of twin quantity.SetDrift = layout (codes "VDR") (course 0 ∷ letter 84 ∷ course 1 ∷ letter 77 ∷ decimal 2 knots ∷ letter 78 ∷ [])
+layout_of twin quantity.SpeedComponents =
+    layout (codes "VBW")
     (decimal 0 component_knots ∷ decimal 1 component_knots ∷ status 0 ∷ decimal 2 component_knots ∷ decimal 3 component_knots ∷ status 2 ∷ decimal 4 component_knots ∷ status 4
     ∷ decimal 5 component_knots ∷ status 5 ∷ [])
-layout_of quantity.AirPressure = layout (codes "XDR") 1 (transducer 80 (decimal 0 air_bars) 66 (codes "BAROMETER") [])
-layout_of quantity.AirHumidity = layout (codes "XDR") 1 (transducer 72 (decimal 0 percent) 80 (codes "HUMIDITY") [])
-layout_of quantity.AirTemperature = layout (codes "XDR") 1 (transducer 67 (temperature 0) 67 (codes "AIR") [])
-layout_of quantity.SeaTemperature = layout (codes "MTW") 1 (temperature 0 ∷ letter 67 ∷ [])
-layout_of quantity.EngineFirst = layout (codes "RPM") 1 (letter 69 ∷ letter 49 ∷ decimal 0 revolutions ∷ nothing ∷ status 0 ∷ [])
-layout_of quantity.EngineSecond = layout (codes "RPM") 1 (letter 69 ∷ letter 50 ∷ decimal 0 revolutions ∷ nothing ∷ status 0 ∷ [])
-layout_of quantity.EngineStateFirst =
-    layout (codes "XDR") 1 (transducer 67 (temperature 0) 67 (codes "ENGINE0") (transducer 80 (decimal 1 oil_bars) 66 (codes "ENGINE0") []))
-layout_of quantity.EngineStateSecond =
-    layout (codes "XDR") 1 (transducer 67 (temperature 0) 67 (codes "ENGINE1") (transducer 80 (decimal 1 oil_bars) 66 (codes "ENGINE1") []))
-layout_of quantity.BatteryFirst =
-    layout (codes "XDR") 1 (transducer 85 (decimal 0 volts) 86 (codes "BATTERY0") (transducer 73 (decimal 1 amperes) 65 (codes "BATTERY0") []))
-layout_of quantity.BatterySecond =
-    layout (codes "XDR") 1 (transducer 85 (decimal 0 volts) 86 (codes "BATTERY1") (transducer 73 (decimal 1 amperes) 65 (codes "BATTERY1") []))
-layout_of quantity.FuelFirst = layout (codes "XDR") 1 (transducer 86 (decimal 0 percent) 80 (codes "FUEL0") [])
-layout_of quantity.FuelSecond = layout (codes "XDR") 1 (transducer 86 (decimal 0 percent) 80 (codes "FUEL1") [])
-layout_of quantity.WaterFirst = layout (codes "XDR") 1 (transducer 86 (decimal 0 percent) 80 (codes "WATER0") [])
+layout_of twin quantity.AirPressure = layout (codes "XDR") (transducer 80 (decimal 0 air_bars) 66 (codes "BAROMETER") [])
+layout_of twin quantity.AirHumidity = layout (codes "XDR") (transducer 72 (decimal 0 percent) 80 (codes "HUMIDITY") [])
+layout_of twin quantity.AirTemperature = layout (codes "XDR") (transducer 67 (temperature 0) 67 (codes "AIR") [])
+layout_of twin quantity.SeaTemperature = layout (codes "MTW") (temperature 0 ∷ letter 67 ∷ [])
+layout_of twin quantity.EngineFirst = revolutions_of (first_number twin)
+layout_of twin quantity.EngineSecond = revolutions_of 49
+layout_of twin quantity.EngineStateFirst = engine_of (codes "ENGINE#0") (codes "ENGOIL#0")
+layout_of twin quantity.EngineStateSecond = engine_of (codes "ENGINE#1") (codes "ENGOIL#1")
+layout_of twin quantity.BatteryFirst = battery_of (codes "BATTERY#0")
+layout_of twin quantity.BatterySecond = battery_of (codes "BATTERY#1")
+layout_of twin quantity.FuelFirst = level_of (codes "FUEL#0")
+layout_of twin quantity.FuelSecond = level_of (codes "FUEL#1")
+layout_of twin quantity.WaterFirst = level_of (codes "FRESHWATER#0")
+
+-- of so many values, the first ones, one has to be there for a message to be usable
+abbrev pub telling_of : Quantity → ℕ
+telling_of quantity.Attitude = 2
+telling_of quantity.SetDrift = 2
+telling_of quantity.SpeedComponents = 6
+telling_of _ = 1
 
 -- ---- the same in the code's terms
 
@@ -134,7 +155,7 @@ seen (code.Celsius at) = temperature at
 seen (code.Status at) = status at
 
 abbrev pub seen_layout : CodeLayout → Layout
-seen_layout l = record { formatter = l.formatter; telling = l.telling; columns = map seen l.columns.now }
+seen_layout l = record { formatter = l.formatter; columns = map seen l.columns.now }
 
 -- the field whose text stands in the column
 abbrev pub field_by : List (Option ℤ) → CodeColumn → Field

@@ -1,5 +1,5 @@
 -- What is asked of the two tables, of payloads and of sentences: one test that computes.
-use Rattle.std.specs.Prelude.{ℕ, ◌+◌, pos, ◌-ℤ◌, unsigned_abs, Bool, true, false, ◌&&◌, ◌||◌, not, ◌==◌, nat_le, List, [], ◌∷◌, length, slice_get, unwrap_or}
+use Rattle.std.specs.Prelude.{ℕ, ◌+◌, pos, ◌-ℤ◌, unsigned_abs, Bool, true, false, ◌&&◌, ◌||◌, not, ◌==◌, nat_le, nat_lt, List, [], ◌∷◌, length, slice_get, unwrap_or, if◌then◌else◌}
 use Rattle.std.specs.List.{list_all}
 use Rattle.readings.specs.declared.range.Range.{Range}
 use Rattle.readings.specs.Ranges.{from_to}
@@ -15,7 +15,8 @@ use Rattle.quantities.specs.declared.part.Selector.{Selector}
 use Rattle.quantities.specs.declared.part.Selector.TheVariants.{Always, Bits}
 use Rattle.quantities.specs.declared.payloads.Entry.{Entry}
 use Rattle.quantities.specs.Part.{bounds_of, is_readable, is_selectable}
-use Rattle.quantities.specs.Told.{parts_of}
+use Rattle.quantities.specs.About.{number_of}
+use Rattle.quantities.specs.Told.{most_told, parts_of}
 use Rattle.quantities.specs.Layout.{Column, nothing, letter, word, decimal, course, temperature, status, Layout, celsius}
 
 -- ---- an entry can be read
@@ -87,9 +88,13 @@ excludes (Bits place low count value) Always = false
 excludes (Bits place low count value) (Bits place' low' count' value') =
     (place == place') && (low == low') && (count == count') && not (value == value')
 
--- two entries are of other groups, or of one that comes in one way, with one least length, and no payload is of both
+-- two entries give values at two places in the order of their quantities, or at one place, and then no payload is of both
+abbrev pub is_placed : Entry → Entry → Bool
+is_placed e f = if e.place == f.place then excludes e.selector f.selector else (nat_lt e.place f.place && nat_lt (number_of e.quantity) (number_of f.quantity))
+
+-- they are of other groups, or of one that comes in one way, with one least length
 abbrev pub is_beside : Entry → Entry → Bool
-is_beside e f = not (e.pgn == f.pgn) || (same_kind e.kind f.kind && (e.least == f.least) && excludes e.selector f.selector)
+is_beside e f = not (e.pgn == f.pgn) || (same_kind e.kind f.kind && (e.least == f.least) && is_placed e f)
 
 abbrev pub are_apart : List Entry → Bool
 are_apart [] = true
@@ -98,7 +103,7 @@ are_apart (e ∷ table) = list_all (is_beside e) table && are_apart table
 -- ---- the tables
 
 abbrev pub is_entry_sound : (Quantity → Layout) → Entry → Bool
-is_entry_sound layouts e = is_entry_readable e && is_sayable (layouts e.quantity) e
+is_entry_sound layouts e = is_entry_readable e && nat_lt e.place most_told && is_sayable (layouts e.quantity) e
 
 abbrev pub is_table_sound : (Quantity → Layout) → List Entry → Bool
 is_table_sound layouts table = list_all (is_entry_sound layouts) table && are_apart table

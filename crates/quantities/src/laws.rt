@@ -1,5 +1,5 @@
 //! What is promised of the tables. Each law is a function that does nothing, and whose clause is the law.
-ghost use Rattle.quantities.specs.Laws.{EachIsInRange, EachIsRead, EachIsSaid, TheTablesAreSound};
+ghost use Rattle.quantities.specs.Laws.{EachIsInOrder, EachIsInRange, EachIsRead, EachIsSaid, TheTablesAreSound};
 
 /// The table of payloads and that of sentences pass the test that the other laws rest on.
 pub fn the_tables_are_sound()
@@ -16,7 +16,12 @@ pub fn each_value_is_said_in_a_sentence()
     ensures { EachIsSaid }
 {}
 
-/// No two entries of a sound table take one payload, or differ in how a parameter group comes.
+/// No two entries of a sound table give the value at one place of a payload, or differ in how a parameter group comes.
 pub fn each_payload_is_of_one_entry()
     ensures { EachIsRead }
+{}
+
+/// The values of a payload by a sound table are of different quantities, in the order of the quantities.
+pub fn values_are_in_order()
+    ensures { EachIsInOrder }
 {}

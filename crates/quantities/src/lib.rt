@@ -16,4 +16,4 @@ pub use about::{QUANTITIES, Quantity, all_quantities};
 pub use payloads::kind;
 pub use reading::read;
 pub use saying::{sentence, usable};
-pub use value::{Told, VALUES, Value};
+pub use value::{MOST_TOLD, Told, VALUES, Value};

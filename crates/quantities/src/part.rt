@@ -53,7 +53,7 @@ pub(crate) enum Part {
         place: usize,
         width: usize,
         high: u32,
-        factor: u8,
+        factor: u16,
     },
     /// A number as two's complement.
     Signed {
@@ -64,7 +64,7 @@ pub(crate) enum Part {
 }
 
 /// The value times the factor.
-fn times(value: Option<i64>, factor: u8) -> Option<i64>
+fn times(value: Option<i64>, factor: u16) -> Option<i64>
     requires { IsWord value }
     ensures { result ≡ times factor value }
 {

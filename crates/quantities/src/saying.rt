@@ -19,11 +19,10 @@ const MOST_FIELDS: usize = 10;
 pub fn usable(value: &Value) -> bool
     ensures { result ≡ is_usable value.now }
 {
-    let telling = value.quantity.layout().telling;
     value
         .values
         .iter()
-        .take(telling)
+        .take(value.quantity.telling())
         .any(|value| value.is_some())
 }
 
@@ -40,16 +39,16 @@ fn fields_of(columns: &[Column], values: &[Option<i64>; VALUES]) -> ArrayVec<Fie
     fields
 }
 
-/// Says the value in one sentence of the talker, which `out`, empty before, then holds.
-pub fn sentence(value: &Value, talker: [u8; 2], out: &mut SentenceText)
+/// Says the value in one sentence of the talker, on a boat with two engines or not. `out`, empty before, then holds it.
+pub fn sentence(value: &Value, talker: [u8; 2], twin_engines: bool, out: &mut SentenceText)
     requires empty { out.old.bytes.items ≡ [] }
     requires range { IsFrom entries value.now }
     requires talker { IsTrue (list_all is_capital talker) }
-    ensures said { out.new.bytes.items ≡ sentence_of talker value.now }
+    ensures said { out.new.bytes.items ≡ sentence_of twin_engines talker value.now }
     // It is a sentence of IEC 61162-1.
-    ensures form { AreSaid (layout_of value.now.quantity) talker value.now.values }
+    ensures form { AreSaid (layout_of twin_engines value.now.quantity) talker value.now.values }
 {
-    let layout = value.quantity.layout();
+    let layout = value.quantity.layout(twin_engines);
     let fields = fields_of(layout.columns, &value.values);
     write_sentence(talker, layout.formatter, &fields, out);
 }

@@ -43,6 +43,8 @@ pub struct Quantities {
     pub group: Group,
     /// How many of their fast packets may be open, 1 to 256.
     pub slots: u16,
+    /// Whether the boat has two engines: the first is then the one to port.
+    pub twin_engines: bool,
     /// Each of them, in the order of the quantities.
     pub each: QuantityConfigs,
 }

@@ -1,26 +1,36 @@
-use Rattle.std.proofs.Common.{◌≤◌, ◌++◌, length, length-append, ap, ◌∙◌, arith}
+use Rattle.std.proofs.Common.{◌≡◌, ◌≤◌, ◌++◌, [], length, length-append, ap, ◌∙◌, arith}
 use Rattle.std.specs.Prelude.{option_map}
-use Rattle.gate_outbox.specs.Output.{and_left}
+use Rattle.gate_model.specs.AddressStands.{name_held}
+use Rattle.gate_outbox.specs.Output.{Emitted, and_left, and_posted}
 use Rattle.gate_outbox.proofs.Telling.{left_first}
 use Rattle.bus_listener.specs.Steps.{entry_of}
-use Rattle.further_bridge.specs.Kept.{given_up, hearing_by, message_step, most_told, said_of, step_by}
+use Rattle.further_bridge.specs.Kept.{FurtherStep, given_up, hearing_by, message_step, most_told, said_of, step_by, water_heard}
 use Rattle.further_bridge.proofs.MessageLemmas.{message_room}
+use Rattle.further_bridge.proofs.Places.{placed}
 use Rattle.further_bridge.proofs.StepLemmas.{taken_step}
 use Rattle.further_bridge.proofs.bridge.FurtherBridge.after.Goals as goal
 
-pub returns-clause-emits : goal.returns-clause-emits
-returns-clause-emits c =
+pub returns : goal.returns
+returns c =
     let g = c.args.gateway.now in
     let k = c.args.self.now in
     let e = entry_of c.args.event.now in
+    let new = c.of-new.result in
     let x = hearing_by g k e in
-    let says = message_step (given_up g.addresses.changed (record k { slots = x.slots })) (option_map said_of x.message) in
-    let heard : length x.told ≤ 258 = c.step.ensures.room in
-    let said = message_room (given_up g.addresses.changed (record k { slots = x.slots })) (option_map said_of x.message) in
+    let y : FurtherStep = step_by g new k e in
+    let heard = water_heard (name_held g.addresses.claims.holders) new (given_up g.addresses.changed (record k { slots = x.slots })) in
+    let says = message_step heard (option_map said_of x.message) in
+    let room : length x.told ≤ 258 = c.step.ensures.room in
+    let said = message_room heard (option_map said_of x.message) in
     let sum = length-append x.told says.emits.told in
-    let fits : length (x.told ++ says.emits.told) ≤ most_told = omega (arith, heard, said, sum) in
-    c.step.ensures.emits ∙ (ap (λ o. and_left most_told o (step_by g k e).emits) c.requires.empty ∙ left_first most_told (step_by g k e).emits fits)
-
-pub returns-clause-history : goal.returns-clause-history
-returns-clause-history c =
-    taken_step c.args.gateway.now c.args.event.now c.args.self.now _ _ c.step.ensures.history c.step.ensures.after (returns-clause-emits c)
+    let fits : length y.emits.told ≤ most_told = omega (arith, room, said, sum) in
+    let first : c.step.new.emits ≡ y.emits = c.step.ensures.first ∙ ap (λ o. and_left most_told o y.emits) c.requires.empty ∙ left_first most_told y.emits fits in
+    let second : c.step.new.second ≡ record { told = []; posted = y.second } =
+    c.step.ensures.second ∙ ap (λ o. and_posted o y.second) c.requires.second_empty ∙ placed y.second in
+    let third : c.step.new.third ≡ record { told = []; posted = y.third } =
+    c.step.ensures.third ∙ ap (λ o. and_posted o y.third) c.requires.third_empty ∙ placed y.third in
+    let picked = c.of-new.ensures.selected in
+    record {
+      step = record { new = new; picked = picked; after_is = c.step.ensures.after; first_is = first; second_is = second; third_is = third };
+      history = taken_step g c.args.outbox.now new picked c.args.event.now k _ _ _ _ c.step.ensures.history c.step.ensures.after first second third;
+    }

@@ -18,6 +18,7 @@ invariant_of-self c =
       before.2,
       before.3,
       before.4,
+      before.5,
     )
 
 pub returns-clause-history : goal.returns-clause-history
