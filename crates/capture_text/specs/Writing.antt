@@ -1,5 +1,5 @@
 -- The line that is written of an emit, and that of an event.
-use Rattle.std.specs.Prelude.{◌≡◌, ℕ, ◌≤◌, false, true, List, [], ◌∷◌, ◌++◌, length, codes, Option, Some, None}
+use Rattle.std.specs.Prelude.{◌≡◌, ℕ, ◌≤◌, Bool, false, true, List, [], ◌∷◌, ◌++◌, length, codes, Option, Some, None}
 use Rattle.std.specs.Fmt.{decimal}
 use Rattle.std.specs.Int.{w32, to_be_bytes}
 use Rattle.hex.specs.Hex.{encode_upper}
@@ -24,6 +24,10 @@ time_text moment = 40 ∷ (decimal_text false moment 6 ++ codes ") ")
 abbrev pub part : List ℕ → ℕ → List ℕ
 part key number = 32 ∷ (key ++ 61 ∷ decimal number)
 
+abbrev pub said_text : Bool → List ℕ
+said_text true = codes " said=yes"
+said_text false = codes " said=no"
+
 abbrev pub detail_text : Detail → List ℕ
 detail_text detail.Nothing = []
 detail_text (detail.Source address pgn) = part (codes "src") address ++ part (codes "pgn") pgn
@@ -31,6 +35,7 @@ detail_text (detail.Address address) = part (codes "addr") address
 detail_text (detail.Own None) = codes " own=none"
 detail_text (detail.Own (Some address)) = part (codes "own") address
 detail_text (detail.Row row address) = codes " row=" ++ (about_of row).name ++ part (codes "src") address
+detail_text (detail.Watched row said) = codes " row=" ++ (about_of row).name ++ said_text said
 detail_text (detail.At at) = part (codes "at") at
 detail_text (detail.AtField at field) = part (codes "at") at ++ part (codes "field") field
 detail_text (detail.GroupKey sfi code) = codes " sfi=" ++ sfi ++ part (codes "group") code

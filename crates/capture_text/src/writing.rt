@@ -8,7 +8,7 @@ ghost use Rattle.unit_fraction.specs.Text.{decimal_text};
 ghost use Rattle.capture_text.specs.Capture.{IsLine, longest_line};
 ghost use Rattle.capture_text.specs.Lines.{is_one_line};
 ghost use Rattle.capture_text.specs.Reading.{read};
-ghost use Rattle.capture_text.specs.Writing.{CanRecord, IsToldIn, time_text, detail_text, report_text, frame_text, datagram_text, event_text, line_text, line_meaning, most_recorded};
+ghost use Rattle.capture_text.specs.Writing.{CanRecord, IsToldIn, time_text, detail_text, report_text, said_text, frame_text, datagram_text, event_text, line_text, line_meaning, most_recorded};
 ghost use Rattle.gate_events.specs.Emit.{CanWrite};
 ghost use Rattle.gate_events.specs.Event.{moment_in, view};
 
@@ -161,6 +161,27 @@ fn append_named(key: &[u8], name: &[u8], next: &[u8], number: u64, out: &mut Lin
     append_part(next, number, out);
 }
 
+/// A row's name, and whether the row is said.
+#[tactic(auto, using(crate::proofs::OneLine::joined))]
+fn append_row(name: &[u8], said: bool, out: &mut Line)
+    requires name { length name.now ≤ 100 }
+    requires room { array_vec_len out.old ≤ 2000 }
+    ensures text { out.new.items ≡ out.old.items ++ (codes " row=" ++ (name.now ++ said_text said)) }
+    ensures one { is_one_line name.now ≡ true → is_one_line (codes " row=" ++ (name.now ++ said_text said)) ≡ true }
+{
+    append(b" row=", out);
+    append(name, out);
+    append(said_text(said), out);
+}
+
+fn said_text(said: bool) -> &'static [u8]
+    ensures text { result.now ≡ said_text said }
+    ensures one { is_one_line (said_text said) ≡ true }
+    ensures short { length result.now ≤ 9 }
+{
+    if said { b" said=yes" } else { b" said=no" }
+}
+
 fn append_detail(detail: &Detail, out: &mut Line)
     requires { array_vec_len out.old ≤ 2000 }
     ensures text { out.new.items ≡ out.old.items ++ detail_text detail.now }
@@ -187,6 +208,7 @@ fn append_detail(detail: &Detail, out: &mut Line)
             u64::from(*address),
             out,
         ),
+        Detail::Watched { row, said } => append_row(row.name().as_bytes(), *said, out),
         Detail::At(at) => append_part(b" at=", u64::from(*at), out),
         Detail::AtField { at, field } => append_parts(
             b" at=",

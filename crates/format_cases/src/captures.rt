@@ -108,7 +108,7 @@ fn a_datagram_is_written_as_a_line(rt: HostRuntime) {
 }
 
 /// The rule and the detail of a report, its moment, and its line.
-const REPORTS: [(u8, Detail, u64, &[u8]); 15] = [
+const REPORTS: [(u8, Detail, u64, &[u8]); 17] = [
     (3, Detail::Nothing, 5_000_000, b"(5.000000) rule 3"),
     (
         10,
@@ -140,6 +140,24 @@ const REPORTS: [(u8, Detail, u64, &[u8]); 15] = [
         },
         100_000_000,
         b"(100.000000) rule 28 row=heading_true src=23",
+    ),
+    (
+        29,
+        Detail::Watched {
+            row: Row::HeadingTrue,
+            said: false,
+        },
+        3_000_001,
+        b"(3.000001) rule 29 row=heading_true said=no",
+    ),
+    (
+        29,
+        Detail::Watched {
+            row: Row::CrossTrack,
+            said: true,
+        },
+        2_600_000,
+        b"(2.600000) rule 29 row=cross_track said=yes",
     ),
     (30, Detail::At(5), 0, b"(0.000000) rule 30 at=5"),
     (

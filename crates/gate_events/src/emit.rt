@@ -15,6 +15,8 @@ pub enum Detail {
     Own { address: Option<u8> },
     /// A row, and the address that it is taken from.
     Row { row: Row, address: u8 },
+    /// A row that has to be said, and whether it is said.
+    Watched { row: Row, said: bool },
     /// A place in a datagram.
     At(u16),
     /// A place in a datagram, and the number of a field of the sentence there.

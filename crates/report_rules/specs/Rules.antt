@@ -102,6 +102,10 @@ ais_report_outside = 27
 abbrev pub source_changed : ℕ
 source_changed = 28
 
+-- a row that has to be said isn't said, or is said again
+abbrev pub row_watched : ℕ
+row_watched = 29
+
 -- a datagram doesn't begin with its header
 abbrev pub datagram_header : ℕ
 datagram_header = 30
@@ -190,7 +194,7 @@ capture_rules = capture_form ∷ line_long ∷ moment_back ∷ not_extended ∷ 
 abbrev pub bus_rules : List ℕ
 bus_rules = own_address ∷ unclaimed ∷ fast_order ∷ fast_orphan ∷ fast_length ∷ restarted ∷ slots_full ∷ expired ∷ claim_lost ∷ iso_size ∷
     iso_order ∷ iso_orphan ∷ iso_aborted ∷ short_message ∷ duplicate_name ∷ own_address_used ∷ claim_or_request_malformed ∷
-    command_not_obeyed ∷ ais_report_outside ∷ source_changed ∷ []
+    command_not_obeyed ∷ ais_report_outside ∷ source_changed ∷ row_watched ∷ []
 
 -- of datagrams from the network
 abbrev pub network_rules : List ℕ

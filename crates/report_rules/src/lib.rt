@@ -1,7 +1,7 @@
 //! The rules that a report can name, by their numbers.
 //!
 //! A report says which rule a piece of the input broke. The numbers are shipgate's own, and they stand in its output: what
-//! causes each and what to do about it is in `docs/reports.md`. Rules 1 to 5 speak of captures and events, 9 to 28 of the
+//! causes each and what to do about it is in `docs/reports.md`. Rules 1 to 5 speak of captures and events, 9 to 29 of the
 //! bus, 30 to 47 of datagrams, 50 and 51 of the two links.
 #![tactic(auto)]
 
@@ -83,6 +83,9 @@ pub const AIS_REPORT_OUTSIDE: u8 = 27;
 
 /// A row is taken from another device than before.
 pub const SOURCE_CHANGED: u8 = 28;
+
+/// A row that has to be said isn't said, or is said again.
+pub const ROW_WATCHED: u8 = 29;
 
 /// A datagram doesn't begin with its header.
 pub const DATAGRAM_HEADER: u8 = 30;
