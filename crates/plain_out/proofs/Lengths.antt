@@ -1,5 +1,6 @@
 -- The sentences of a datagram have no more bytes than the datagram.
-use Rattle.std.proofs.Common.{ℕ, zero, suc, ◌+◌, ◌≤◌, List, [], ◌∷◌, length, drop, length-append, length-drop, Result, Ok, Err, sym, ap, subst, arith}
+use Rattle.std.proofs.Common.{ℕ, zero, suc, ◌+◌, ◌≤◌, List, [], ◌∷◌, length, drop, length-append, length-drop, Result, Ok, Err, refl, sym, ap, subst, arith}
+use Rattle.std.specs.Prelude.{IfOk}
 use Rattle.std.specs.List.{flat_map}
 use Rattle.std.proofs.lemmas.List.Concat.{flat_map-cons}
 use Rattle.tag_block.specs.declared.fault.TagFault.{TagFault}
@@ -8,8 +9,10 @@ use Rattle.tag_block.specs.Reading as tags
 use Rattle.sentence_text.specs.declared.fault.SentenceFault.{SentenceFault}
 use Rattle.sentence_text.specs.Sentence.{SentenceParts}
 use Rattle.sentence_text.specs.Reading as sentences
-use Rattle.datagram450.specs.Datagram.{Item, DatagramOf, all_of, header, item, items_at, most_lines, with_sentence, with_tag}
-use Rattle.plain_out.specs.Plain.{sentence_of}
+use Rattle.datagram450.specs.Datagram.{Item, DatagramOf, all_of, header, item, items_at, most_lines, read, with_sentence, with_tag}
+use Rattle.datagram450.specs.declared.fault.DatagramFault.{DatagramFault}
+use Rattle.datagram450.proofs.Datagrams.{is_found}
+use Rattle.plain_out.specs.Plain.{sentence_of, sentences_in, sentences_of}
 
 one_short : (at : ℕ) (l : List ℕ) → length (sentence_of (item at l)) ≤ length l
 unfolding item
@@ -51,3 +54,10 @@ sentences_short items bytes h =
       ap length h.begins,
       length-append header h.body,
     ))
+
+pub said_short : (bytes : List ℕ) → length (sentences_in bytes) ≤ length bytes
+said_short bytes = by (read bytes) (is_found bytes (read bytes) refl)
+  where
+    by : (result : Result (List Item) DatagramFault) → IfOk result (λ items. DatagramOf items bytes) → length (sentences_of result) ≤ length bytes
+    by (Ok items) found = sentences_short items bytes found
+    by (Err fault) found = omega arith

@@ -7,4 +7,4 @@
 pub mod laws;
 mod sentences;
 
-pub use sentences::{PlainEmits, say_plain};
+pub use sentences::{PlainEmits, push_sentences, say_plain};

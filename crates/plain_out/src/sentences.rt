@@ -26,11 +26,13 @@ pub fn say_plain<const ROOM: usize>(group: Group, emits: &Emits<ROOM>, out: &mut
     }
 }
 
-/// Appends the sentences of a datagram.
-fn push_sentences(datagram: &[u8], out: &mut Packet)
+/// Leaves the sentences of a datagram.
+#[tactic(auto, using(crate::proofs::Lengths::said_short))]
+pub fn push_sentences(datagram: &[u8], out: &mut Packet)
     requires few { length datagram.now ≤ longest_packet }
     requires empty { out.old.items ≡ [] }
-    ensures { out.new.items ≡ sentences_in datagram.now }
+    ensures sentences { out.new.items ≡ sentences_in datagram.now }
+    ensures short { length (sentences_in datagram.now) ≤ length datagram.now }
 {
     if let Ok(items) = lines(datagram) {
         push_all(items, out);

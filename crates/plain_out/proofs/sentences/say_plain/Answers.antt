@@ -12,7 +12,7 @@ returns-in-Some g c =
     let emits = c.args.emits.now in
     ap (λ x. x.told ++ net c.post-plain.result.now.group c.push_sentences.new.out.items ∷ []) c.requires
     ∙ ap (λ d. net d.group c.push_sentences.new.out.items ∷ []) c.post-plain.ensures.empty
-    ∙ ap (λ (bytes : List ℕ). net group bytes ∷ []) c.push_sentences.ensures
+    ∙ ap (λ (bytes : List ℕ). net group bytes ∷ []) c.push_sentences.ensures.sentences
     ∙ ap (λ (bytes : List ℕ). net group (sentences_in bytes) ∷ []) c.as_slice.ensures.value
     ∙ ap (plain_out group) c.in-Some.ensures.posted
     ∙ sym (behind_none group emits.told emits.posted c.datagram.ensures.told)
