@@ -1,7 +1,10 @@
 //! The settings of accepted files, which `check` doesn't show: each worked out by hand from the table of keys.
 use crate::values::ANY;
 use config_values::{Config, Ends, RowConfig};
-use gate_config::{Quantities, QuantityConfig, Settings, Setup, read, read_all, read_whole};
+use gate_config::{
+    AlertConfig, Quantities, QuantityConfig, Settings, Setup, WatchConfig, read, read_all,
+    read_whole,
+};
 use n2k_id::{Name, Pattern};
 use readings::all_rows;
 use sentence_text::Group;
@@ -64,6 +67,11 @@ fn is_usual_product(settings: &Settings) -> bool {
         && settings.ais.is_none()
 }
 
+/// Whether no row has to be said, and no alert is said.
+fn is_unwatched(watch: &WatchConfig) -> bool {
+    watch.limits.iter().all(|limit| limit.is_none()) && watch.alerts.is_none()
+}
+
 /// Whether no further key asks for anything.
 fn is_alone(setup: &Setup) -> bool {
     setup.ignore.is_empty()
@@ -72,6 +80,7 @@ fn is_alone(setup: &Setup) -> bool {
         && !setup.address
         && setup.plain.is_none()
         && !setup.record
+        && is_unwatched(&setup.watch)
 }
 
 fn has_defaults(alloc: Global) -> bool {
@@ -204,6 +213,43 @@ fn has_further_keys(alloc: Global) -> bool {
 #[test]
 fn further_keys(rt: HostRuntime) {
     assert!(rt; has_further_keys(rt.alloc()));
+}
+
+const WATCH: &str = r#"gateway.name = "C0328200FFC00001"
+gateway.address = 251
+gateway.sfi = "II0001"
+row.heading_true.watch_ms = 2000
+row.cross_track.watch_ms = 600000
+watch.group = "ALRT"
+"#;
+
+/// Whether the first and the last row have to be said, and alerts have the talker that stands where no other was put.
+fn are_watched(watch: &WatchConfig) -> bool {
+    let others = watch.limits[1..16].iter().all(|limit| limit.is_none());
+    watch.limits[0] == Some(2_000)
+        && watch.limits[16] == Some(600_000)
+        && others
+        && is_usual_alert(watch.alerts)
+}
+
+fn is_usual_alert(alerts: Option<AlertConfig>) -> bool {
+    match alerts {
+        Some(alerts) => Some(alerts.group) == Group::of(b"ALRT") && alerts.talker == *b"II",
+        None => false,
+    }
+}
+
+fn has_watch(alloc: Global) -> bool {
+    match read_whole(alloc, WATCH.as_bytes()) {
+        Ok(setup) => are_watched(&setup.watch),
+        Err(_) => false,
+    }
+}
+
+/// Two rows under watch, and who is told.
+#[test]
+fn rows_under_watch(rt: HostRuntime) {
+    assert!(rt; has_watch(rt.alloc()));
 }
 
 /// The talker of each quantity, in their order.

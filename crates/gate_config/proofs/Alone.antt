@@ -1,33 +1,39 @@
 -- What is read of tables of which no key stands, and what stands for a document without such keys.
-use Rattle.std.proofs.Common.{◌≡◌, ℕ, Bool, true, false, List, [], ◌∷◌, ◌++◌, Option, Some, None, Ok, Err, inl, inr, refl, sym, ap, subst, ◌∙◌}
+use Rattle.std.proofs.Common.{◌≡◌, ℕ, Bool, true, false, List, [], ◌∷◌, ◌++◌, append_assoc, map, Option, Some, None, Ok, Err, inl, inr, refl, sym, ap, subst, ◌∙◌}
 use Rattle.std.specs.Prelude.{Result, ◌||◌, codes, is_some, option_map, unwrap_or}
 use Rattle.std.specs.List.{AllByRecursion}
+use Rattle.std.proofs.lemmas.List.{append-nil}
 use Rattle.claim_table.specs.declared.preset.Preset.{Preset}
 use Rattle.toml.specs.Data as toml
 use Rattle.toml.specs.Data.{Data, Members, as_table, get_member, no_members}
+use Rattle.readings.specs.declared.rows.Row.{Row}
+use Rattle.readings.specs.Rows.{about_of, rows as all_rows}
 use Rattle.quantities.specs.About.{about_of as about_quantity, quantities as all_quantities}
 use Rattle.quantities.specs.declared.about.Quantity.{Quantity}
 use Rattle.arrayvec.specs.ArrayVec.{ArrayVec}
-use Rattle.config_document.specs.Keys.{held, key_at, number_at, truth_at}
+use Rattle.config_document.specs.Keys.{held, key_at, number_at, text_at, truth_at}
 use Rattle.config_document.specs.Kinds.{kind, number_in, text_in, truth_in}
 use Rattle.config_document.specs.Places.{Place, path_of}
-use Rattle.config_document.specs.Texts.{group_in}
+use Rattle.config_document.specs.Texts.{group_in, talker_in}
+use Rattle.config_document.specs.declared.texts.Talker.{Talker}
 use Rattle.config_document.specs.declared.fault.ConfigFault.{ConfigFault}
 use Rattle.config_document.specs.declared.fault.Flaw.{Flaw}
 use Rattle.config_values.specs.declared.config.Ends.{Ends}
 use Rattle.config_values.specs.Rows.{usual_timeout}
 use Rattle.config_values.specs.declared.row_config.RowConfig.{RowConfig}
 use Rattle.n2k_id.specs.declared.pattern.Pattern.{Pattern}
-use Rattle.gate_config.specs.Alone.{FileAsksNothingFurther, AsksNothingFurther, FilesSaySettings, IsTable, KeysSaySettings, Lacks, alone_of}
+use Rattle.gate_config.specs.Alone.{FileAsksNothingFurther, AsksNothingFurther, FilesSaySettings, HasNone, IsTable, KeysSaySettings, Lacks, NoneHas, alone_of}
 use Rattle.gate_config.specs.ConfigOf.{IsWholeConfigOf, config_in, document_place, known, settings_alone}
-use Rattle.gate_config.specs.Keys.{any_asks, asks as asked_for, bus, further, gateway, ignored, is_asked, net, plain, preset, quantity, rows_in, report, serve, links_in, own_group, own_group_at, part_groups, quantities_in, quantity_at, quantity_of, settings_in, setup_in}
+use Rattle.gate_config.specs.Keys.{alerts, any_asks, asks as asked_for, bus, further, gateway, ignored, is_asked, limit_at, limit_of, limits_in, net, plain, preset, quantity, row, row_at, row_of, rows_in, report, serve, stands_at, watch_in, watched, links_in, own_group, own_group_at, part_groups, quantities_in, quantity_at, quantity_of, settings_in, setup_in}
 use Rattle.gate_config.specs.Reading.{◌>>=◌, Table, default, each_from, items_in, key_prefix, prefix_of, section_at, table_in, unless}
-use Rattle.gate_config.specs.Unknown.{first_unknown, place_under, quantity_names, table_of}
+use Rattle.gate_config.specs.Unknown.{first_unknown, place_under, quantity_names, row_names, table_of}
 use Rattle.settings.specs.Setup.{alone}
 use Rattle.settings.specs.declared.quantity_config.Quantities.{Quantities}
 use Rattle.settings.specs.declared.quantity_config.QuantityConfig.{QuantityConfig}
 use Rattle.settings.specs.declared.settings.Settings.{Settings}
 use Rattle.settings.specs.declared.setup.Setup.{Setup}
+use Rattle.settings.specs.declared.watch.WatchConfig.{WatchConfig}
+use Rattle.settings.specs.Watch.{no_limits, no_watch}
 
 -- ---- a key that doesn't stand
 
@@ -188,14 +194,68 @@ quantities_read rows parts document lacks =
     (further_read rows parts place lacks.none)
     (then_says (each_from (quantity_of place) [] all_quantities) (with_each (None, 16, false)) each.0 (Ok None) each.1 refl))
 
+-- ---- rows under watch
+
+-- the table of rows, and each row's
+record AreRowTables (document : Place) : Type 0 where
+  rows_table : IsTable (get_member watched.name document.members)
+  each_table : AllByRecursion (λ name. IsTable (get_member name (table_of (get_member watched.name document.members)))) (row_names all_rows)
+
+limit_read : (place : Place) (r : Row) → IsTable (get_member (about_of r).name place.members) → HasNone watched.known (get_member (about_of r).name place.members)
+    → limit_of place r ≡ Ok None
+unfolding limit_at watched
+limit_read place r is none =
+    let name = (about_of r).name in
+    let prefix = key_prefix (codes "row.") name in
+    then_says (section_at place name prefix) (watched.read tt) (place_under place name prefix) (Ok None) (section_there place name prefix is)
+    (one_key (λ limit. limit) (number_at 1000 600000 (place_under place name prefix) (codes "watch_ms")) None
+    (ap (λ found. held (number_in 1000 600000) (path_of (place_under place name prefix) (codes "watch_ms")) found) none.0))
+
+limits_read : (place : Place) (all : List Row) (earlier : List (Option ℕ)) → AllByRecursion (λ name. IsTable (get_member name place.members)) (row_names all)
+    → NoneHas watched.known (row_names all) place.members → each_from (limit_of place) earlier all ≡ Ok (earlier ++ map (λ r. None) all)
+limits_read place [] earlier tables none = ap Ok (sym (append-nil earlier))
+limits_read place (r ∷ all) earlier tables none =
+    then_says (limit_of place r) (λ x. each_from (limit_of place) (earlier ++ x ∷ []) all) None (Ok (earlier ++ None ∷ map (λ r. None) all))
+    (limit_read place r tables.0 none.0)
+    (limits_read place all (earlier ++ None ∷ []) tables.1 none.1 ∙ ap Ok (append_assoc earlier (None ∷ []) (map (λ r. None) all)))
+
+all_limits_read : (document : Place) → AreRowTables document → NoneHas watched.known (row_names all_rows) (table_of (get_member watched.name document.members))
+    → limits_in document ≡ Ok no_limits
+unfolding limits_in all_rows
+all_limits_read document tables none =
+    let name = watched.name in
+    let place = place_under document name (prefix_of name) in
+    then_says (section_at document name (prefix_of name)) (λ at. each_from (limit_of at) [] all_rows) place (Ok no_limits)
+    (section_there document name (prefix_of name) tables.rows_table)
+    (limits_read place all_rows [] tables.each_table none)
+
+alerts_read : (rows : List RowConfig) (parts : List (Option (List ℕ))) (place : Place) → NoneIn place alerts.known → alerts.read (rows, parts) place ≡ Ok None
+unfolding alerts
+alerts_read rows parts place none =
+    let other : Talker = record { 0 = codes "II" } in
+    two_keys (λ group talker. option_map (λ g. record { group = g; talker = talker.0 }) group)
+    (own_group_at rows parts (stands_at (codes "talker")) place (codes "group")) (default other (text_at talker_in) place (codes "talker")) None other
+    (group_at rows parts (stands_at (codes "talker")) place (codes "group") none.0 (ap is_some none.1.0))
+    (default_at other (text_in talker_in) place (codes "talker") none.1.0)
+
+watch_read : (rows : List RowConfig) (parts : List (Option (List ℕ))) (document : Place) → AreRowTables document
+    → NoneHas watched.known (row_names all_rows) (table_of (get_member watched.name document.members)) → Lacks alerts.name alerts.known document
+    → watch_in rows parts document ≡ Ok no_watch
+unfolding watch_in
+watch_read rows parts document tables none lacks =
+    then_says (limits_in document) (λ limits. table_in alerts (rows, parts) document >>= λ said. Ok (record { limits = limits; alerts = said })) no_limits (Ok no_watch)
+    (all_limits_read document tables none)
+    (then_says (table_in alerts (rows, parts) document) (λ said. Ok (record { limits = no_limits; alerts = said })) None (Ok no_watch)
+    (said_there alerts (rows, parts) document None lacks.is_table (alerts_read rows parts _ lacks.none)) refl)
+
 -- ---- all keys
 
 bound : {A B : Type 0} (read : Result A ConfigFault) (next : A → Result B ConfigFault) (y : B) → (read >>= next) ≡ Ok y → (x : A) × ((read ≡ Ok x) × (next x ≡ Ok y))
 bound (Ok x) next y is = (x, (refl, is))
 bound (Err f) next y is = absurd cc
 
-abbrev set_up : Settings → ArrayVec Pattern → Option Quantities → Bool × Bool → Option (List ℕ) → Bool → Setup
-set_up settings devices quantities reports group recording = record {
+abbrev set_up : Settings → ArrayVec Pattern → Option Quantities → Bool × Bool → Option (List ℕ) → Bool → WatchConfig → Setup
+set_up settings devices quantities reports group recording watch = record {
   settings = settings;
   ignore = devices;
   quantities = quantities;
@@ -203,6 +263,7 @@ set_up settings devices quantities reports group recording = record {
   address = reports.1;
   plain = group;
   «record» = recording;
+  watch = watch;
 }
 
 module _ (document : Place) (settings : Settings) where
@@ -212,8 +273,12 @@ module _ (document : Place) (settings : Settings) where
   abbrev groups : List (Option (List ℕ))
   groups = part_groups settings
 
+  abbrev from_watch : ArrayVec Pattern → Option Quantities → Bool × Bool → Option (List ℕ) → Bool → Result Setup ConfigFault
+  from_watch devices quantities reports group recording =
+      watch_in rows (group ∷ option_map (λ q. q.group) quantities ∷ groups) document >>= λ watch. Ok (set_up settings devices quantities reports group recording watch)
+
   abbrev from_recording : ArrayVec Pattern → Option Quantities → Bool × Bool → Option (List ℕ) → Result Setup ConfigFault
-  from_recording devices quantities reports group = table_in serve tt document >>= λ recording. Ok (set_up settings devices quantities reports group recording)
+  from_recording devices quantities reports group = table_in serve tt document >>= from_watch devices quantities reports group
 
   abbrev from_plain : ArrayVec Pattern → Option Quantities → Bool × Bool → Result Setup ConfigFault
   from_plain devices quantities reports =
@@ -231,8 +296,8 @@ module _ (document : Place) (settings : Settings) where
   abbrev nobody : ArrayVec Pattern
   nobody = record { items = [] }
 
-  nothing_behind : AsksNothingFurther document → IsTable (get_member ignored.name document.members) → behind ≡ Ok (alone settings)
-  nothing_behind asks bus =
+  nothing_behind : AsksNothingFurther document → IsTable (get_member ignored.name document.members) → AreRowTables document → behind ≡ Ok (alone settings)
+  nothing_behind asks bus tables =
       let all = Ok (alone settings) in
       then_says (table_in ignored tt document) from_quantities nobody all (said_there ignored tt document nobody bus (ignored_read _ asks.ignored))
       (then_says (quantities_in rows groups document) (from_reports nobody) None all (quantities_read rows groups document asks.quantities)
@@ -240,8 +305,10 @@ module _ (document : Place) (settings : Settings) where
       (said_there report tt document (false, false) asks.reports.is_table (reports_read _ asks.reports.none))
       (then_says (table_in plain (rows, None ∷ groups) document) (from_recording nobody None (false, false)) None all
       (said_there plain (rows, None ∷ groups) document None asks.plain.is_table (plain_read rows (None ∷ groups) _ asks.plain.none))
-      (then_says (table_in serve tt document) (λ recording. Ok (set_up settings nobody None (false, false) None recording)) false all
-      (said_there serve tt document false asks.recording.is_table (recording_read _ asks.recording.none)) refl))))
+      (then_says (table_in serve tt document) (from_watch nobody None (false, false) None) false all
+      (said_there serve tt document false asks.recording.is_table (recording_read _ asks.recording.none))
+      (then_says (watch_in rows (None ∷ None ∷ groups) document) (λ watch. Ok (set_up settings nobody None (false, false) None false watch)) no_watch all
+      (watch_read rows (None ∷ None ∷ groups) document tables asks.limits asks.alerts) refl)))))
 
 -- settings that were read had a table of the bus, or none
 table_among : (document : Place) (name prefix : List ℕ) (place : Place) → section_at document name prefix ≡ Ok place → IsTable (get_member name document.members)
@@ -255,6 +322,37 @@ links_among own document links said =
     let place = bound (section_at document (codes "bus") (codes "bus.")) (bus.read tt) from_bus.0 from_bus.1.0 in
     table_among document (codes "bus") (codes "bus.") place.0 place.1.0
 
+-- nor was another than a table at the name of a row
+rows_among : (group : List ℕ) (place : Place) (all : List Row) (earlier found : List RowConfig) → each_from (row_of group place) earlier all ≡ Ok found
+    → AllByRecursion (λ name. IsTable (get_member name place.members)) (row_names all)
+unfolding row_at
+rows_among group place [] earlier found said = tt
+rows_among group place (r ∷ all) earlier found said =
+    let name = (about_of r).name in
+    let first = bound (row_of group place r) _ found said in
+    let table = bound (section_at place name (key_prefix (codes "row.") name)) _ first.0 first.1.0 in
+    (table_among place name (key_prefix (codes "row.") name) table.0 table.1.0, rows_among group place all (earlier ++ first.0 ∷ []) found first.1.1)
+
+row_tables_in : (group : List ℕ) (document : Place) (found : List RowConfig) → rows_in group document ≡ Ok found → AreRowTables document
+unfolding rows_in row watched
+row_tables_in group document found said =
+    let name = codes "row" in
+    let prefix = codes "row." in
+    let place = bound (section_at document name prefix) (λ at. each_from (row_of group at) [] all_rows) found said in
+    let is = table_among document name prefix place.0 place.1.0 in
+    let under : (section_at document name prefix >>= λ at. each_from (row_of group at) [] all_rows) ≡ each_from (row_of group (place_under document name prefix)) [] all_rows =
+    ap (λ at. at >>= λ at. each_from (row_of group at) [] all_rows) (section_there document name prefix is) in
+    record { rows_table = is; each_table = rows_among group (place_under document name prefix) all_rows [] found (sym under ∙ said) }
+
+row_tables_among : (document : Place) (settings : Settings) → settings_in document ≡ Ok settings → AreRowTables document
+unfolding settings_in
+row_tables_among document settings said =
+    let own = bound (table_in gateway tt document) _ settings said in
+    let first : Preset = record { address = own.0.address; name = own.0.name } in
+    let presets = bound (items_in preset 253 first document) _ settings own.1.1 in
+    let all = bound (rows_in own.0.group document) _ settings presets.1.1 in
+    row_tables_in own.0.group document all.0 all.1.0
+
 bus_among : (document : Place) (settings : Settings) → settings_in document ≡ Ok settings → IsTable (get_member ignored.name document.members)
 unfolding settings_in
 bus_among document settings said =
@@ -267,7 +365,7 @@ bus_among document settings said =
 
 all_behind : (document : Place) → AsksNothingFurther document → (said : Result Settings ConfigFault) → settings_in document ≡ said
     → (said >>= behind document) ≡ alone_of said
-all_behind document asks (Ok settings) is = nothing_behind document settings asks (bus_among document settings is)
+all_behind document asks (Ok settings) is = nothing_behind document settings asks (bus_among document settings is) (row_tables_among document settings is)
 all_behind document asks (Err f) is = refl
 
 pub keys_say_settings : KeysSaySettings

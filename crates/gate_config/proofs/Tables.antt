@@ -12,7 +12,7 @@ use Rattle.toml.specs.declared.value.Value.{Value}
 use Rattle.config_document.specs.Kinds.{members_in}
 use Rattle.config_document.specs.declared.fault.ConfigFault.{ConfigFault}
 use Rattle.config_document.specs.Places.{members_of, members_seen}
-use Rattle.gate_config.specs.Keys.{further, preset, route, row}
+use Rattle.gate_config.specs.Keys.{further, preset, route, row, watched}
 use Rattle.gate_config.specs.Reading.{◌>>=◌, Table, item_prefix, items_from, prefix_of}
 
 -- the keys of a value that is seen as a table
@@ -30,6 +30,10 @@ route_name = refl
 pub row_name : row.name ≡ codes "row"
 unfolding row
 row_name = refl
+
+pub watched_name : watched.name ≡ codes "row"
+unfolding watched
+watched_name = refl
 
 pub further_name : further.name ≡ codes "further"
 unfolding further

@@ -5,12 +5,13 @@ use Rattle.std.specs.List.{AllByRecursion}
 use Rattle.toml.specs.Data as toml
 use Rattle.toml.specs.Data.{Data, Members, get_member}
 use Rattle.quantities.specs.About.{quantities as all_quantities}
+use Rattle.readings.specs.Rows.{rows as all_rows}
 use Rattle.config_document.specs.Places.{Place}
 use Rattle.config_document.specs.declared.fault.ConfigFault.{ConfigFault}
 use Rattle.gate_config.specs.ConfigOf.{IsConfigOf, IsDocument, IsWholeConfigOf, document_place}
 use Rattle.gate_config.specs.Keys
 use Rattle.gate_config.specs.Keys.{settings_in, setup_in}
-use Rattle.gate_config.specs.Unknown.{quantity_names, table_of}
+use Rattle.gate_config.specs.Unknown.{quantity_names, row_names, table_of}
 use Rattle.settings.specs.Setup.{alone}
 use Rattle.settings.specs.declared.settings.Settings.{Settings}
 use Rattle.settings.specs.declared.setup.Setup.{Setup}
@@ -27,18 +28,24 @@ IsTable (Some value) = ⊥
 abbrev pub HasNone : List (List ℕ) → Option Data → Type 0
 HasNone names found = AllByRecursion (λ name. get_member name (table_of found) ≡ None) names
 
+-- nor has any of the tables at these names
+abbrev pub NoneHas : List (List ℕ) → List (List ℕ) → Members → Type 0
+NoneHas names tables members = AllByRecursion (λ table. HasNone names (get_member table members)) tables
+
 -- the document has no table of this name, or one with none of these keys
 pub record Lacks (name : List ℕ) (names : List (List ℕ)) (document : Place) : Type 0 where
   pub is_table : IsTable (get_member name document.members)
   pub none : HasNone names (get_member name document.members)
 
--- For each part its table. That of the bus stands for the settings too, which refuse what is no table there.
+-- For each part its table. Those of the bus and of the rows stand for the settings too, which refuse what is no table there.
 pub record AsksNothingFurther (document : Place) : Type 0 where
   pub ignored : HasNone Keys.ignored.known (get_member Keys.ignored.name document.members)
   pub quantities : Lacks Keys.further.name (Keys.further.known ++ quantity_names all_quantities) document
   pub reports : Lacks Keys.report.name Keys.report.known document
   pub plain : Lacks Keys.plain.name Keys.plain.known document
   pub recording : Lacks Keys.serve.name Keys.serve.known document
+  pub limits : NoneHas Keys.watched.known (row_names all_rows) (table_of (get_member Keys.watched.name document.members))
+  pub alerts : Lacks Keys.alerts.name Keys.alerts.known document
 
 -- the document in these bytes, if there is one
 abbrev pub FileAsksNothingFurther : List ℕ → Type 0

@@ -30,6 +30,8 @@ use Rattle.settings.specs.declared.quantity_config.QuantityConfig.{QuantityConfi
 use Rattle.settings.specs.declared.rmc.RmcConfig.{RmcConfig}
 use Rattle.settings.specs.declared.settings.Settings.{Settings}
 use Rattle.settings.specs.declared.setup.Setup.{Setup}
+use Rattle.settings.specs.declared.watch.AlertConfig.{AlertConfig}
+use Rattle.settings.specs.declared.watch.WatchConfig.{WatchConfig}
 use Rattle.config_document.specs.declared.texts.ProductText.{ProductText}
 use Rattle.config_document.specs.Texts.{group_in, name_in, product_text_in, sfi_in, talker_in}
 use Rattle.gate_config.specs.declared.gateway.Own.{Own}
@@ -273,6 +275,36 @@ plain = table (codes "plain") (λ group. group) & key_beside (codes "group") (λ
 unfoldable pub serve : Table ⊤ Bool
 serve = table (codes "serve") (λ recording. recording) & key (codes "record") (default false truth_at)
 
+-- row.R again: how long a row may stay unsaid, in milliseconds
+unfoldable pub watched : Table ⊤ (Option ℕ)
+watched = table (codes "row") (λ limit. limit) & key (codes "watch_ms") (number_at 1000 600000)
+
+unfoldable pub limit_at : Place → List ℕ → List ℕ → Result (Option ℕ) ConfigFault
+limit_at rows name prefix = section_at rows name prefix >>= watched.read tt
+
+abbrev pub limit_of : Place → Row → Result (Option ℕ) ConfigFault
+limit_of rows r = limit_at rows (about_of r).name (key_prefix (codes "row.") (about_of r).name)
+
+-- row again, in the order of the rows
+unfoldable pub limits_in : Place → Result (List (Option ℕ)) ConfigFault
+limits_in document = do
+  place ← section_at document watched.name (prefix_of watched.name)
+  each_from (limit_of place) [] all_rows
+
+-- watch, beside the rows and the groups of the other parts
+unfoldable pub alerts : Table (List RowConfig × List (Option (List ℕ))) (Option AlertConfig)
+alerts =
+    table (codes "watch") (λ group talker. option_map (λ g. record { group = g; talker = talker.0 }) group)
+    & key_beside (codes "group") (λ beside. own_group_at beside.0 beside.1 (stands_at (codes "talker")))
+    & key (codes "talker") (default (record { 0 = codes "II" }) (text_at talker_in))
+
+-- rows that have to be said, and how alerts are said
+unfoldable pub watch_in : List RowConfig → List (Option (List ℕ)) → Place → Result WatchConfig ConfigFault
+watch_in rows parts document = do
+  limits ← limits_in document
+  said ← table_in alerts (rows, parts) document
+  Ok (record { limits = limits; alerts = said })
+
 -- net, bus and route: whom the network is heard from, and where the links listen and send
 unfoldable pub links_in : List ℕ → Place → Result (ArrayVec (List ℕ) × Ends) ConfigFault
 links_in own document = do
@@ -329,4 +361,14 @@ setup_in document = do
   reports ← table_in report tt document
   group ← table_in plain (settings.config.rows, option_map (λ q. q.group) quantities ∷ part_groups settings) document
   recording ← table_in serve tt document
-  Ok (record { settings = settings; ignore = devices; quantities = quantities; sources = reports.0; address = reports.1; plain = group; «record» = recording })
+  watch ← watch_in settings.config.rows (group ∷ option_map (λ q. q.group) quantities ∷ part_groups settings) document
+  Ok (record {
+    settings = settings;
+    ignore = devices;
+    quantities = quantities;
+    sources = reports.0;
+    address = reports.1;
+    plain = group;
+    «record» = recording;
+    watch = watch;
+  })

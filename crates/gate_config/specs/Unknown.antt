@@ -44,9 +44,9 @@ abbrev pub each_noted : List (List ℕ) → List ℕ → Place → List (List �
 each_noted known word place [] best = best
 each_noted known word place (name ∷ more) best = each_noted known word place more (noted known (place_under place name (key_prefix word name)) best)
 
--- the table of rows, and each row's table
+-- the table of rows, and each row's table, some of whose keys are read behind those of other tables
 unfoldable pub rows_noted : Place → Option (List ℕ) → Option (List ℕ)
-rows_noted place best = each_noted Keys.row.known (codes "row.") place (row_names all_rows) (noted (row_names all_rows) place best)
+rows_noted place best = each_noted (Keys.row.known ++ Keys.watched.known) (codes "row.") place (row_names all_rows) (noted (row_names all_rows) place best)
 
 -- the table of further quantities, and each quantity's table
 unfoldable pub quantities_noted : Place → Option (List ℕ) → Option (List ℕ)
@@ -64,7 +64,7 @@ items t document best = noted_items t.known (prefix_of t.name) 1 (items_of (get_
 unfoldable pub tables : List (List ℕ)
 tables =
     Keys.gateway.name ∷ Keys.preset.name ∷ Keys.row.name ∷ Keys.net.name ∷ Keys.bus.name ∷ Keys.route.name ∷ Keys.identity.name ∷ Keys.rmc.name ∷ Keys.ais.name
-    ∷ Keys.further.name ∷ Keys.report.name ∷ Keys.plain.name ∷ Keys.serve.name ∷ []
+    ∷ Keys.further.name ∷ Keys.report.name ∷ Keys.plain.name ∷ Keys.serve.name ∷ Keys.alerts.name ∷ []
 
 -- the gateway itself, the devices that it knows, and its rows
 unfoldable pub gateway_noted : Place → Option (List ℕ) → Option (List ℕ)
@@ -91,4 +91,5 @@ further_noted document best =
 
 -- every table
 unfoldable pub first_unknown : Place → Option (List ℕ)
-first_unknown document = further_noted document (parts_noted document (links_noted document (gateway_noted document (noted tables document None))))
+first_unknown document =
+    once Keys.alerts document (further_noted document (parts_noted document (links_noted document (gateway_noted document (noted tables document None)))))

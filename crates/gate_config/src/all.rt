@@ -1,8 +1,8 @@
 //! All keys, table by table.
-ghost use Rattle.std.specs.Prelude.{◌≡◌, IfOk};
+ghost use Rattle.std.specs.Prelude.{◌≡◌, ◌∷◌, IfOk, option_map};
 ghost use Rattle.config_document.specs.Places.{place_of};
 ghost use Rattle.gate_config.specs.Beside.{AreLinks, AreParts};
-ghost use Rattle.gate_config.specs.Keys.{links_in, parts_in, settings_in, setup_in};
+ghost use Rattle.gate_config.specs.Keys.{links_in, part_groups, parts_in, settings_in, setup_in};
 ghost use Rattle.settings.specs.Settings.{IsSettings};
 ghost use Rattle.settings.specs.Setup.{IsSetup};
 
@@ -15,14 +15,15 @@ use crate::parts::{ais_group, ais_keys, rmc_group, rmc_keys};
 use crate::presets::preset_keys;
 use crate::routes::route_keys;
 use crate::rows::row_keys;
+use crate::watch::watch_keys;
 use arrayvec::ArrayVec;
 use bus_identity::Product;
 use claim_table::Preset;
 use config_document::{ConfigFault, Section};
 use config_values::{Config, Ends, RowConfig};
 use network_routes::Routes;
-use sentence_text::Sfi;
-use settings::{AisConfig, QuantityConfigs, RmcConfig, Settings, Setup};
+use sentence_text::{Group, Sfi};
+use settings::{AisConfig, Quantities, QuantityConfigs, RmcConfig, Settings, Setup};
 
 /// What the gateway says of itself, and the parts beside it.
 type Parts = (Product, Option<RmcConfig>, Option<AisConfig>);
@@ -42,6 +43,8 @@ pub(crate) fn all_keys(document: &Section, each: QuantityConfigs) -> Result<Setu
     let parts = [quantities_group(&quantities), rmc, ais];
     let plain = plain_keys(document, &settings.config.rows, &parts)?;
     let recording = serve_keys(document)?;
+    let groups = groups_beside(&plain, &quantities, &settings);
+    let watch = watch_keys(document, &settings.config.rows, &groups)?;
     Ok(Setup {
         settings,
         ignore,
@@ -50,7 +53,24 @@ pub(crate) fn all_keys(document: &Section, each: QuantityConfigs) -> Result<Setu
         address,
         plain,
         record: recording,
+        watch,
     })
+}
+
+/// The groups of plain sentences, of further quantities, and of the parts of the settings.
+fn groups_beside(
+    plain: &Option<Group>,
+    quantities: &Option<Quantities>,
+    settings: &Settings,
+) -> [Option<Group>; 4]
+    ensures { result ≡ plain.now ∷ option_map (λ q. q.group) quantities.now ∷ part_groups settings.now }
+{
+    [
+        *plain,
+        quantities_group(quantities),
+        rmc_group(&settings.rmc),
+        ais_group(&settings.ais),
+    ]
 }
 
 /// The settings that the document says.

@@ -19,6 +19,7 @@ mod reading;
 mod routes;
 mod rows;
 mod unknown;
+mod watch;
 mod words;
 
 pub use bus_identity::Product;
@@ -26,5 +27,6 @@ pub use config_document::{ConfigFault, FaultLine, Key};
 pub use config_values::{Config, Ends, RowConfig};
 pub use reading::{read, read_all, read_whole};
 pub use settings::{
-    AisConfig, Quantities, QuantityConfig, QuantityConfigs, RmcConfig, Settings, Setup,
+    AisConfig, AlertConfig, Quantities, QuantityConfig, QuantityConfigs, RmcConfig, Settings,
+    Setup, WatchConfig,
 };

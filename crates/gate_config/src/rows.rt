@@ -9,7 +9,7 @@ ghost use Rattle.gate_config.specs.Reading.{each_from};
 use crate::items::key_prefix;
 use crate::keys::{section, text_or};
 use crate::quantity::quantity_keys;
-use crate::words::{GROUP, OTHERS, ROW, ROW_PREFIX, SOURCES, TALKER, TIMEOUT_MS};
+use crate::words::{GROUP, OTHERS, ROW, ROW_PREFIX, SOURCES, TALKER, TIMEOUT_MS, WATCH_MS};
 use arrayvec::ArrayVec;
 use config_document::{ConfigFault, Section};
 use config_values::RowConfig;
@@ -17,7 +17,7 @@ use readings::{ROWS, Row, all_rows};
 use sentence_text::Group;
 use settings::QuantityConfig;
 
-pub(crate) const KEYS: [&str; 5] = [SOURCES, OTHERS, TIMEOUT_MS, TALKER, GROUP];
+pub(crate) const KEYS: [&str; 6] = [SOURCES, OTHERS, TIMEOUT_MS, TALKER, GROUP, WATCH_MS];
 
 /// What each row is taken from and how it is said, in the order of the rows.
 #[tactic(auto, using(crate::proofs::Tables::row_name), unfolding(crate::specs::Keys::rows_in))]

@@ -11,9 +11,11 @@ use crate::words::{
     AIS, AIS_PREFIX, BUS, BUS_PREFIX, FURTHER, FURTHER_PREFIX, GATEWAY, GATEWAY_PREFIX, IDENTITY,
     IDENTITY_PREFIX, NET, NET_PREFIX, PLAIN, PLAIN_PREFIX, PRESET, PRESET_PREFIX, REPORT,
     REPORT_PREFIX, RMC, RMC_PREFIX, ROUTE, ROUTE_PREFIX, ROW, ROW_PREFIX, SERVE, SERVE_PREFIX,
+    WATCH, WATCH_PREFIX,
 };
 use crate::{
     further, further_quantities, gateway, identity, links, parts, presets, quantity, routes, rows,
+    watch,
 };
 use arrayvec::ArrayVec;
 use config_document::{Section, least_unknown};
@@ -23,8 +25,8 @@ use std::alloc::{AllocError, Global};
 use toml::Value;
 
 /// The tables of a configuration.
-const TABLES: [&str; 13] = [
-    GATEWAY, PRESET, ROW, NET, BUS, ROUTE, IDENTITY, RMC, AIS, FURTHER, REPORT, PLAIN, SERVE,
+const TABLES: [&str; 14] = [
+    GATEWAY, PRESET, ROW, NET, BUS, ROUTE, IDENTITY, RMC, AIS, FURTHER, REPORT, PLAIN, SERVE, WATCH,
 ];
 
 /// The path of the key that isn't known, and that comes first of all such in the order of bytes.
@@ -38,7 +40,8 @@ pub(crate) fn first_unknown(
     let least = in_gateway(alloc, document, least)?;
     let least = in_links(alloc, document, least)?;
     let least = in_parts(alloc, document, least)?;
-    in_further(alloc, document, least)
+    let least = in_further(alloc, document, least)?;
+    under(alloc, document, WATCH, WATCH_PREFIX, &watch::KEYS, least)
 }
 
 /// The lesser of this path and those of the gateway itself, of the devices that it knows, and of its rows.

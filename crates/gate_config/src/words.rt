@@ -53,6 +53,10 @@ pub(crate) const SERVE: &str = "serve";
 
 pub(crate) const SERVE_PREFIX: &[u8] = b"serve.";
 
+pub(crate) const WATCH: &str = "watch";
+
+pub(crate) const WATCH_PREFIX: &[u8] = b"watch.";
+
 pub(crate) const ADDRESS: &str = "address";
 
 pub(crate) const CODE: &str = "code";
@@ -100,3 +104,5 @@ pub(crate) const TIMEOUT_MS: &str = "timeout_ms";
 pub(crate) const TWIN_ENGINES: &str = "twin_engines";
 
 pub(crate) const VERSION: &str = "version";
+
+pub(crate) const WATCH_MS: &str = "watch_ms";

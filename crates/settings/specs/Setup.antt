@@ -13,10 +13,11 @@ use Rattle.settings.specs.declared.quantity_config.Quantities.{Quantities}
 use Rattle.settings.specs.declared.quantity_config.QuantityConfig.{QuantityConfig}
 use Rattle.settings.specs.declared.settings.Settings.{Settings}
 use Rattle.settings.specs.declared.setup.Setup.{Setup}
+use Rattle.settings.specs.Watch.{IsWatch, no_watch}
 
 -- without any further key
 abbrev pub alone : Settings → Setup
-alone s = record { settings = s; ignore = record { items = [] }; quantities = None; sources = false; address = false; plain = None; «record» = false }
+alone s = record { settings = s; ignore = record { items = [] }; quantities = None; sources = false; address = false; plain = None; «record» = false; watch = no_watch }
 
 -- the gateway itself, without the parts beside it
 abbrev pub gateway_of : Setup → history.Settings
@@ -47,11 +48,17 @@ pub record IsPlainGroup (s : Settings) (quantities : Option Quantities) (group :
   pub beside : IsFurtherGroup s group
   pub from_quantities : ForSome quantities (λ q. q.group ≢ group)
 
+-- besides, no plain sentences are sent to it
+pub record IsAlertGroup (s : Settings) (quantities : Option Quantities) (plain : Option (List ℕ)) (group : List ℕ) : Type 0 where
+  pub beside : IsPlainGroup s quantities group
+  pub from_plain : ForSome plain (λ other. other ≢ group)
+
 pub record IsSetup (x : Setup) : Type 0 where
   pub settings : IsSettings x.settings
   pub ignore : AreSources x.ignore.items
   pub quantities : ForSome x.quantities (AreQuantities x.settings)
   pub plain : ForSome x.plain (IsPlainGroup x.settings x.quantities)
+  pub watch : IsWatch (IsAlertGroup x.settings x.quantities x.plain) x.watch
 
 -- what the types of a configuration hold: its identifier is one, and each row and quantity has its place
 pub record IsTyped (x : Setup) : Type 0 where

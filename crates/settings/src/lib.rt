@@ -9,6 +9,7 @@ mod quantity_configs;
 mod rmc;
 mod settings;
 mod setup;
+mod watch;
 
 pub use ais::AisConfig;
 pub use quantity_config::{Quantities, QuantityConfig};
@@ -16,3 +17,4 @@ pub use quantity_configs::QuantityConfigs;
 pub use rmc::RmcConfig;
 pub use settings::Settings;
 pub use setup::Setup;
+pub use watch::{AlertConfig, WatchConfig};

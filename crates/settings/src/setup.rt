@@ -3,8 +3,10 @@ ghost use Rattle.std.specs.Prelude.{◌≡◌, IfOk};
 
 use crate::quantity_config::Quantities;
 use crate::settings::Settings;
+use crate::watch::WatchConfig;
 use arrayvec::ArrayVec;
 use n2k_id::Pattern;
+use readings::ROWS;
 use sentence_text::Group;
 use std::alloc::AllocError;
 
@@ -25,6 +27,8 @@ pub struct Setup {
     pub plain: Option<Group>,
     /// Whether a run writes down what comes.
     pub record: bool,
+    /// Which rows have to be said.
+    pub watch: WatchConfig,
 }
 
 impl Setup {
@@ -33,7 +37,6 @@ impl Setup {
     ghost use Rattle.settings.specs.Setup.{IsSetup, alone};
 
     /// A copy of these settings, with nothing that further keys ask for.
-    #[tactic(auto, using(crate::proofs::Alone::is_setup))]
     pub fn alone(settings: &Settings) -> Result<Setup, AllocError>
         requires { IsSettings settings.now }
         ensures value { IfOk result (λ setup. setup ≡ alone settings.now) }
@@ -47,6 +50,10 @@ impl Setup {
             address: false,
             plain: None,
             record: false,
+            watch: WatchConfig {
+                limits: [None; ROWS],
+                alerts: None,
+            },
         })
     }
 }
