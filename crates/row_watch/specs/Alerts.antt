@@ -1,0 +1,24 @@
+-- A place for reports and short datagrams in turn, and for the datagrams once more as plain sentences.
+use Rattle.std.specs.Prelude.{ℕ, List, map}
+use Rattle.gate_events.specs.Emit.{Emit, net, report}
+use Rattle.row_watch.specs.declared.alerts.Alerts.{Alerts}
+use Rattle.row_watch.specs.declared.alerts.ShortDatagram.{ShortDatagram}
+use Rattle.row_watch.specs.declared.alerts.Told.{Told}
+use Rattle.row_watch.specs.declared.alerts.Told.TheVariants as told
+
+-- the most bytes of a datagram there
+abbrev pub longest_alert : ℕ
+longest_alert = 128
+
+abbrev pub short_emit : ShortDatagram → Emit
+short_emit d = net d.group d.bytes.items
+
+abbrev pub told_emit : Told → Emit
+told_emit (told.Report what) = report what
+told_emit (told.Alert d) = short_emit d
+
+abbrev pub alerts_output : Alerts → List Emit
+alerts_output a = map told_emit a.told.items
+
+abbrev pub alerts_plain : Alerts → List Emit
+alerts_plain a = map short_emit a.plain.items
