@@ -9,3 +9,4 @@ pub mod Places
 pub mod NetRows
 pub mod NetWhole
 pub mod NetSpeaking
+pub mod WatchedCases

@@ -11,6 +11,7 @@ use Rattle.ais_bridge.proofs.Form.{ships}
 use Rattle.further_bridge.proofs.Form.{quantities}
 use Rattle.source_changes.proofs.Form.{sources}
 use Rattle.own_address.proofs.Form.{own_address}
+use Rattle.row_watch.proofs.Form.{row_watch}
 
 -- those that further keys ask for
 abbrev pub further : Form
@@ -18,7 +19,8 @@ further =
     both (lane quantities)
     (both (lane sources)
     (both (lane own_address)
-    nothing))
+    (both (lane row_watch)
+    nothing)))
 
 -- all
 abbrev pub beside : Form

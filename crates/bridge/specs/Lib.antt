@@ -10,5 +10,6 @@ pub mod FurtherCases
 pub mod BridgeSettings
 pub mod Running
 pub mod Speaking
+pub mod WatchedCases
 pub mod Sentences
 pub mod NetLaws

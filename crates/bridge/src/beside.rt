@@ -6,6 +6,7 @@ use further_bridge::{FurtherBridge, QuantitiesPlace};
 use joined_rmc::{Joining, RmcPlace};
 use own_address::{AddressPlace, OwnAddress};
 use parts::Lane;
+use row_watch::{Alerts, RowWatch};
 use source_changes::{SourceWatch, SourcesPlace};
 
 /// The parts beside the gateway, in the order in which their emits go out.
@@ -22,6 +23,9 @@ type Further = (
     Option<Lane<FurtherBridge, QuantitiesPlace>>,
     (
         Option<Lane<SourceWatch, SourcesPlace>>,
-        (Option<Lane<OwnAddress, AddressPlace>>, ()),
+        (
+            Option<Lane<OwnAddress, AddressPlace>>,
+            (Option<Lane<RowWatch, Alerts>>, ()),
+        ),
     ),
 );

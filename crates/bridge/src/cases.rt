@@ -2,6 +2,7 @@
 ghost use Rattle.bridge.specs.AddressCases as address_cases;
 ghost use Rattle.bridge.specs.FurtherCases as further_cases;
 ghost use Rattle.bridge.specs.PartCases as part_cases;
+ghost use Rattle.bridge.specs.WatchedCases as watched_cases;
 
 /// Who asks what the gateway is: twice, before it is ready, and from no address.
 pub fn who_asks_is_answered()
@@ -48,4 +49,9 @@ pub fn changes_of_the_own_address_are_told()
     ensures move_is_told { address_cases.MoveIsTold }
     ensures loss_is_told { address_cases.LossIsTold }
     ensures command_is_told_next { address_cases.CommandIsToldNext }
+{}
+
+/// A row under watch, which was never said and then is.
+pub fn silence_of_a_watched_row_is_told()
+    ensures { watched_cases.SilenceIsTold }
 {}

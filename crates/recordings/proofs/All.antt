@@ -24,6 +24,7 @@ use Rattle.bus_answers.proofs.Form.{answering}
 use Rattle.further_bridge.proofs.Form.{quantities}
 use Rattle.joined_rmc.proofs.Form.{joined_rmc}
 use Rattle.own_address.proofs.Form.{own_address}
+use Rattle.row_watch.proofs.Form.{row_watch}
 use Rattle.source_changes.proofs.Form.{sources}
 use Rattle.gateway_commands.specs.Beside.{beside}
 use Rattle.gateway_commands.specs.BridgeSettings.{BridgeSettings}
@@ -34,6 +35,7 @@ use Rattle.recordings.proofs.Quiet.{AreQuiet, IsQuiet, before, nothing_quiet}
 use Rattle.recordings.proofs.Overdue.{expired_later, expired_first_later}
 use Rattle.recordings.proofs.Out.{out_without}
 use Rattle.recordings.proofs.Listened.{heard_later, heard_first_later}
+use Rattle.recordings.proofs.Watched.{watch_first, watch_without}
 use Rattle.recordings.proofs.Rmc.{rmc_without, source_without}
 use Rattle.recordings.proofs.Ships.{ais_without, further_without}
 
@@ -125,6 +127,12 @@ address_quiet = record {
   later = λ r c s m h le none newer e. address_without c s m h none newer e;
 }
 
+watch_quiet : IsQuiet row_watch
+watch_quiet = record {
+  first = λ r c s. watch_first r c s;
+  later = λ r c s m h le none newer e. watch_without c s m h r none newer e;
+}
+
 -- all of them, in the order in which their emits go out
 pub beside_quiet : AreQuiet beside
 beside_quiet =
@@ -134,7 +142,8 @@ beside_quiet =
     (before quantities _ quantities_quiet
     (before sources _ sources_quiet
     (before own_address _ address_quiet
-    nothing_quiet)))))
+    (before row_watch _ watch_quiet
+    nothing_quiet))))))
 
 -- ---- all that is emitted, where nothing is at a tick
 

@@ -16,6 +16,7 @@ pub mod Listened
 pub mod Rmc
 pub mod Ships
 pub mod OwnAddress
+pub mod Watched
 pub mod Quiet
 pub mod All
 pub mod Events
