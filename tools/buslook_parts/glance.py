@@ -6,7 +6,7 @@ from .speakers import claimed_addresses
 from .unsaid import by_reasons, few
 
 # of each kind of thing so many stand there
-MOST_SILENCES, MOST_REASONS, MOST_MOTIONS = 3, 8, 4
+MOST_SILENCES, MOST_MISSING, MOST_REASONS, MOST_MOTIONS = 3, 8, 8, 4
 
 
 def glance(recording, scale):
@@ -17,7 +17,7 @@ def glance(recording, scale):
         lines.append(("Who spoke", f"{counted(recording.counts['error frames'], 'error frame')}: {kinds}"))
     if scale is not None:
         lines += at_the_bus(recording, scale)
-        lines += [("Who was heard", line) for line in at_rows(recording) + at_values(recording, scale)]
+        lines += [("Who was heard", line) for line in at_watched_rows(recording, scale) + at_rows(recording) + at_values(recording, scale)]
     if recording.rules:
         rules = few([rule for rule, _ in recording.rules.most_common()], "")
         lines.append(("What was refused", f"{counted(sum(recording.rules.values()), 'report')}, of rule {rules}"))
@@ -36,6 +36,14 @@ def at_the_bus(recording, scale):
         names = text(b", ".join(sorted(bus.interfaces)))
         lines.append(("What was on the bus", f"frames of the interfaces {names} are taken for those of one bus: look at each alone"))
     return lines
+
+
+def at_watched_rows(recording, scale):
+    """Rows under watch that weren't said, the one that was missing longest first."""
+    found = [(max(spans.list, key=lambda span: span.end - span.begin), row) for row, spans in recording.missing.items() if spans.list]
+    found = sorted(found, key=lambda one: (one[0].begin - one[0].end, one[1]))
+    lines = [f"{text(recording.rows.words[row])} is under watch, and was missing for {lasting(span.end - span.begin)} from {scale.at(span.begin)}" for span, row in found]
+    return lines[:MOST_MISSING] + ([f"and {counted(len(lines) - MOST_MISSING, 'more row')} under watch that {'was' if len(lines) - MOST_MISSING == 1 else 'were'} missing"] if len(lines) > MOST_MISSING else [])
 
 
 def at_rows(recording):

@@ -105,9 +105,25 @@ def rows_of_strip(words, strip, scale):
     ]
 
 
+def missing_drawn(words, spans, scale, y):
+    bars = (bar(scale, span.begin, span.end, y, ALARM_COLOUR, f"{words}: {span.value} from {scale.at(span.begin)} to {scale.at(span.end)}", span.value) for span in spans.list)
+    return label(y + 12, words) + "".join(bars)
+
+
+def rows_missing(recording, scale):
+    """When rows under watch weren't said, as the gateway told it."""
+    found = [(recording.rows.words[row], spans) for row, spans in sorted(recording.missing.items()) if spans.list]
+    if not found:
+        return ""
+    drawn = "".join(missing_drawn(words, spans, scale, 16 + 26 * place) for place, (words, spans) in enumerate(found))
+    rows = [(text(words), scale.at(span.begin), scale.at(span.end)) for words, spans in found for span in spans.list]
+    return "<h3>Rows under watch that weren't said</h3>" + drawing("when rows under watch weren't said", 16 + 26 * len(found), scale, drawn) + folded(
+        "As a table", table(("Row", "Missing from", "To"), rows))
+
+
 def who_was_heard(recording, scale):
     palette, strips = Palette(), sorted(recording.strips.items())
-    beside = rows_unsaid(recording) + worth_a_look(recording, scale) + beside_each_other(recording, scale)
+    beside = rows_missing(recording, scale) + rows_unsaid(recording) + worth_a_look(recording, scale) + beside_each_other(recording, scale)
     if not strips:
         return section("Who was heard", "Nothing was said of any row.", beside)
     drawn = "".join(strip_drawn(words, strip, scale, 16 + 26 * place, palette) for place, (words, strip) in enumerate(strips))

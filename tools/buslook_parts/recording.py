@@ -44,6 +44,7 @@ TIMEOUT_MS = 5000
 # a message of several frames begins with a frame 0 (fast packet), or with an RTS or BAM of the transport protocol (ISO 11783-3)
 CONNECTION_MANAGEMENT, BEGINNINGS = 60416, (16, 32)
 MOST_BEGINNINGS = 1024
+MISSING = "not said"
 # a line of a datagram that the gateway sends: its TAG block and its sentence
 SENT_LINE = re.compile(rb"\\[^\\]*\\([$!][^\r\n]*)\r\n")
 
@@ -182,6 +183,8 @@ class Recording:
         # the rule that tells that the end of a message never came
         self.expired = rule_named("expired")
         self.curves, self.is_apart, self.tracks, self.strips = {}, set(), {}, {}
+        # of each row under watch when it wasn't said, as the gateway told it
+        self.missing, self.row_watched = {}, rule_named("row watched")
 
     def take(self, number, line, moment, frame, items, emits):
         """A line by its number, the moment that is reached with it, its frame or what `show` says of it, and what `replay` gives."""
@@ -296,6 +299,9 @@ class Recording:
     def reported(self, number, line, items, rule, detail):
         self.rules[rule] += 1
         self.count("reports")
+        words = words_in(detail)
+        if rule == self.row_watched:
+            self.missing.setdefault(words["row"], Spans()).change(self.end, MISSING if words["said"] == "no" else None)
         device = device_of(detail, items)
         self.rule_devices[rule].add(device)
         self.devices.add(device)
@@ -308,7 +314,7 @@ class Recording:
 
     def told_at(self, number, line, rule, detail):
         """The line that a report leads to: the one at which it came, or the one at which a message began whose end never came."""
-        words = dict(word.split("=", 1) for word in detail.split(" ") if "=" in word)
+        words = words_in(detail)
         began = self.beginnings.get((int(words["src"]), int(words["pgn"]))) if rule == self.expired and "src" in words else None
         return began or (number, excerpt_of(line))
 
@@ -396,6 +402,8 @@ class Recording:
         """The end of the recording."""
         if self.bus is not None:
             self.bus.end(self.end)
+            for spans in self.missing.values():
+                spans.end(self.end)
 
 
 def frame_of(line, items):
@@ -411,15 +419,22 @@ def excerpt_of(line):
     return line[:160] + (b" ..." if len(line) > 160 else b"")
 
 
+def words_in(detail):
+    """What a report names, by its keys."""
+    return dict(word.split("=", 1) for word in detail.split(" ") if "=" in word)
+
+
 def device_of(detail, items):
     """Whom a report is about; of a line of a datagram its source, where `show` tells it."""
-    words = dict(word.split("=", 1) for word in detail.split(" ") if "=" in word)
+    words = words_in(detail)
     if "src" in words or "addr" in words:
         return f"address {words.get('src', words.get('addr'))}"
     if "sfi" in words:
         return words["sfi"]
     if "own" in words:
         return "the gateway"
+    if "row" in words:
+        return f"row {words['row']}"
     if "at" in words:
         for item in map(ITEM.fullmatch, items):
             if item is not None and item.group(1).decode() == words["at"]:
