@@ -30,15 +30,33 @@ class Devices:
 
     def warnings(self):
         yield from self.timeouts_below_the_pace()
+        yield from self.watches_below_the_pace()
+        yield from self.watched_rows_of_nobody()
         yield from self.gateways_that_are_heard()
         yield from self.engines_that_are_two()
 
     def timeouts_below_the_pace(self):
-        for path, address, name, pace in self.heard.paces.too_slow():
+        for path, who, pace, seconds in self.too_slow(self.heard.paces):
+            why = f"{named(*who)} says it each {pace.usual_seconds():.3g} s, and counts as silent {seconds:g} s after each message"
+            yield Warned(".".join((*path, "timeout_ms")), self.accepted.place(*path, "timeout_ms"), why)
+
+    def watches_below_the_pace(self):
+        for path, who, pace, seconds in self.too_slow(self.heard.watched):
+            why = f"{named(*who)} says it each {pace.usual_seconds():.3g} s, and {seconds:g} s after each message it is told that the row isn't said"
+            yield Warned(".".join((*path, "watch_ms")), self.accepted.place(*path, "watch_ms"), why)
+
+    def too_slow(self, paces):
+        """What is taken from a device that says it too seldom: its path, the device, its pace, and the seconds that it has."""
+        for path, address, name, pace in paces.too_slow():
             if (address, name) in self.heard.pairs() and (name is None or self.is_taken(name, self.heard.tables[path])):
-                timeout = self.heard.paces.timeouts_us[path] / MICROSECONDS
-                why = f"{named(address, name)} says it each {pace.usual_seconds():.3g} s, and counts as silent {timeout:g} s after each message"
-                yield Warned(".".join((*path, "timeout_ms")), self.accepted.place(*path, "timeout_ms"), why)
+                yield path, (address, name), pace, paces.timeouts_us[path] / MICROSECONDS
+
+    def watched_rows_of_nobody(self):
+        for row in self.accepted.page.rows:
+            path, sayers = ("row", row.name), self.heard.sayers(row)
+            if path in self.heard.watched.timeouts_us and not any(self.is_taken(name, self.heard.tables[path]) for _, name in sayers):
+                why = "nobody in the recording says this row" if not sayers else "those that say this row in the recording aren't taken"
+                yield Warned(f"row.{row.name}.watch_ms", self.accepted.place(*path, "watch_ms"), f"{why}: it would be told as missing all the time")
 
     def gateways_that_are_heard(self):
         """Other gateways that rows are taken from: what one of them puts on the bus may be what this one said on the network."""

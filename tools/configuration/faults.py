@@ -18,7 +18,7 @@ MOST_NAME_PARTS, LEAST_PART = 8, 2
 # how alike two such parts have to be, of 1
 ALIKE = 0.8
 # parts with a transmission group of their own
-PARTS = ("rmc", "ais", "further", "plain")
+PARTS = ("rmc", "ais", "further", "plain", "watch")
 
 
 class Fault(NamedTuple):
@@ -59,7 +59,9 @@ class Looking:
         """The faults of all tables, in the order of the page; those of keys that aren't known come last."""
         several = {"preset.N": self.presets, "row.R": self.rows, "route.N": self.routes, "further.Q": self.quantities}
         for name, keys in self.page.runs:
-            if name in several:
+            if name == "row.R" and keys[0] != self.page.tables[name][0]:
+                self.rows_again(keys)
+            elif name in several:
                 several[name]()
             else:
                 self.once(name, keys)
@@ -150,8 +152,19 @@ class Looking:
             self.group_of[row.name] = own_group
             table = None if rows is None else self.table(rows, row.name, f"row.{row.name}.")
             if table is not None:
-                values = self.values(table, "row.R", self.page.tables["row.R"], f"row.{row.name}.")
+                values = self.values(table, "row.R", self.keys_of_rows(), f"row.{row.name}.")
                 self.group_of[row.name] = values.get("group") if "group" in table else own_group
+
+    def keys_of_rows(self):
+        """The keys of rows that are checked with the group of each; others come behind those of other tables."""
+        return next(keys for name, keys in self.page.runs if name == "row.R")
+
+    def rows_again(self, keys):
+        """These other keys of each row. That its table is of another type is told at its first keys."""
+        for row in self.page.rows:
+            table = self.named("row").get(row.name)
+            if isinstance(table, Table):
+                self.values(table, "row.R", keys, f"row.{row.name}.")
 
     def quantities(self):
         """Each further quantity. That their table is of another type is told at its own keys."""

@@ -24,6 +24,7 @@ class Heard:
         self.tables = dict(accepted.chosen())
         default = accepted.page.default("row.R", "timeout_ms")
         self.paces = Paces({path: 1000 * int(table.get("timeout_ms", default)) for path, table in self.tables.items()})
+        self.watched = Paces({path: 1000 * int(table["watch_ms"]) for path, table in self.tables.items() if "watch_ms" in table})
         self.sources = self.sources_by_pgn()
         self.frames = self.error_frames = self.other_lines = 0
 
@@ -72,6 +73,8 @@ class Heard:
             if source.is_said_by(message.parts.pgn, message.data):
                 self.said.add((path, *who))
                 self.paces.take(path, *who, moment_us)
+                if path in self.watched.timeouts_us:
+                    self.watched.take(path, *who, moment_us)
 
     def pairs(self):
         """Who said something, or claimed."""

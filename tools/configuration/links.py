@@ -71,6 +71,7 @@ class Links:
         yield from self.sends_from_the_loopback()
         yield from self.sends_to_no_machine()
         yield from self.plain_among_datagrams()
+        yield from self.alerts_without_a_route()
 
     def sent(self):
         """All that is sent, by where it goes."""
@@ -120,6 +121,13 @@ class Links:
             if target.is_of_all():
                 why = "0.0.0.0 is the address of no other machine: what is sent there comes to this one. Name a machine, or a broadcast or multicast address"
                 yield Warned(path, self.place(*keys), why)
+
+    def alerts_without_a_route(self):
+        """Alerts go where all goes that has no route, and who shows alarms may listen elsewhere."""
+        group = self.accepted.root.get("watch", {}).get("group")
+        if group is not None and group not in self.routes:
+            why = f"{group} has no route, so alerts go to {self.sends['net']} like all else without one. Give it a route to who shows alarms"
+            yield Warned("watch.group", self.place("watch", "group"), why)
 
     def plain_among_datagrams(self):
         """Plain sentences at an address where datagrams go: who reads the one can't read the other."""
