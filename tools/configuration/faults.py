@@ -18,7 +18,9 @@ MOST_NAME_PARTS, LEAST_PART = 8, 2
 # how alike two such parts have to be, of 1
 ALIKE = 0.8
 # parts with a transmission group of their own
-PARTS = ("rmc", "ais", "further", "plain", "watch")
+PARTS = ("rmc", "ais", "further", "plain", "watch", "heartbeat")
+# keys of these that ask for no group
+OF_NO_GROUP = frozenset(("bus_every_s",))
 
 
 class Fault(NamedTuple):
@@ -119,7 +121,7 @@ class Looking:
             return False
         quantities = [table[quantity] for quantity in self.page.quantities if quantity in table] if name == "further" else []
         asks = any(not isinstance(quantity, Table) or any(key.name in quantity for key in self.page.tables["further.Q"]) for quantity in quantities)
-        return asks or any(other.name in table for other in self.page.tables[name])
+        return asks or any(other.name in table and other.name not in OF_NO_GROUP for other in self.page.tables[name])
 
     def presets(self):
         taken = {"address": {self.own.get("address")}, "name": {number(self.own.get("name"))}}

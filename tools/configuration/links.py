@@ -72,6 +72,7 @@ class Links:
         yield from self.sends_to_no_machine()
         yield from self.plain_among_datagrams()
         yield from self.alerts_without_a_route()
+        yield from self.heartbeats_by_themselves()
 
     def sent(self):
         """All that is sent, by where it goes."""
@@ -145,3 +146,11 @@ class Links:
             return
         cure = f"Give {self.plain} a route to where your programs listen" if number is None else "Take an address that no datagrams go to"
         yield Warned(path, place, f"{why}: programs that read the one can't read the other. {cure}")
+
+    def heartbeats_by_themselves(self):
+        """Heartbeats that alone have no route: who hears all else doesn't hear them."""
+        group = self.accepted.root.get("heartbeat", {}).get("group")
+        others = self.accepted.groups() - {group}
+        if group is not None and group not in self.routes and others.issubset(self.routes):
+            why = f"heartbeats alone go to {self.sends['net']}, since each other group has a route. Give {group} one, to where your displays listen"
+            yield Warned("heartbeat.group", self.place("heartbeat", "group"), why)

@@ -1,6 +1,7 @@
 pub use Rattle.gate_core.proofs.Completed
 pub mod AddressCases
 pub mod Alone
+pub mod BeatCases
 pub mod Steps
 pub mod PartCases
 pub mod FurtherCases

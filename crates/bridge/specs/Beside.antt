@@ -11,7 +11,7 @@ use Rattle.ais_bridge.proofs.Form.{ships}
 use Rattle.further_bridge.proofs.Form.{quantities}
 use Rattle.source_changes.proofs.Form.{sources}
 use Rattle.own_address.proofs.Form.{own_address}
-use Rattle.row_watch.proofs.Form.{row_watch}
+use Rattle.supervision.proofs.Form.{supervision}
 
 -- those that further keys ask for
 abbrev pub further : Form
@@ -19,7 +19,7 @@ further =
     both (lane quantities)
     (both (lane sources)
     (both (lane own_address)
-    (both (lane row_watch)
+    (both (lane supervision)
     nothing)))
 
 -- all

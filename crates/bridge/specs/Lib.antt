@@ -1,6 +1,7 @@
 pub use Rattle.gate_core.specs.Steps
 pub mod AddressCases
 pub mod Alone
+pub mod BeatCases
 pub mod Beside
 pub mod BridgeStands
 pub mod Gate

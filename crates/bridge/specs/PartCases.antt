@@ -13,6 +13,7 @@ use Rattle.history.specs.Emits.{broken, of_source}
 use Rattle.history.specs.Entries.{Entry, frame}
 use Rattle.parts.specs.Compose.{wanted}
 use Rattle.further_bridge.specs.FurtherRule.{FurtherRule}
+use Rattle.supervision.specs.Supervised.{SupervisionRule}
 use Rattle.bridge.specs.Beside.{further}
 use Rattle.bridge.specs.Gate.{gate}
 use Rattle.bridge.specs.BridgeSettings.{BridgeSettings}
@@ -40,6 +41,12 @@ all_parts = record {
 abbrev pub asking : BridgeSettings → Option FurtherRule → Bool → Bool → BridgeSettings
 asking p quantities sources address =
     record p { parts = (p.parts.0, (p.parts.1.0, (p.parts.1.1.0, (quantities, (wanted sources, (wanted address, further.none.1.1.1)))))) }
+
+-- with rows under watch, or heartbeats, or both
+abbrev pub supervised : BridgeSettings → SupervisionRule → BridgeSettings
+supervised p rule =
+    let asked = p.parts.1.1.1 in
+    record p { parts = (p.parts.0, (p.parts.1.0, (p.parts.1.1.0, (asked.0, (asked.1.0, (asked.1.1.0, (Some rule, further.none.1.1.1.1))))))) }
 
 -- they started at this moment, and emit this at the events
 abbrev pub PartsEmit : BridgeSettings → ℕ → List Entry → List Emitted → Type 0

@@ -10,7 +10,7 @@ use Rattle.history.specs.Emits.{broken}
 use Rattle.history.specs.Entries.{tick}
 use Rattle.row_watch.specs.WatchRule.{WatchRule}
 use Rattle.bridge.specs.BridgeSettings.{BridgeSettings}
-use Rattle.bridge.specs.PartCases.{PartsEmit, alone}
+use Rattle.bridge.specs.PartCases.{PartsEmit, alone, supervised}
 
 -- the true heading, which has two seconds
 abbrev pub heading_watched : WatchRule
@@ -21,7 +21,7 @@ heading_watched = record {
 }
 
 abbrev pub watching : BridgeSettings
-watching = record alone { parts = (alone.parts.0, (None, (None, (None, (None, (None, (Some heading_watched, tt))))))) }
+watching = supervised alone (record { watch = Some heading_watched; beats = None })
 
 abbrev pub said_is : Bool → Emit
 said_is said = broken row_watched (detail.Watched row.HeadingTrue said)

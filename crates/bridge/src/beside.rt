@@ -6,8 +6,8 @@ use further_bridge::{FurtherBridge, QuantitiesPlace};
 use joined_rmc::{Joining, RmcPlace};
 use own_address::{AddressPlace, OwnAddress};
 use parts::Lane;
-use row_watch::{Alerts, RowWatch};
 use source_changes::{SourceWatch, SourcesPlace};
+use supervision::{Supervision, SupervisionPlace};
 
 /// The parts beside the gateway, in the order in which their emits go out.
 pub(crate) type Beside = (
@@ -25,7 +25,7 @@ type Further = (
         Option<Lane<SourceWatch, SourcesPlace>>,
         (
             Option<Lane<OwnAddress, AddressPlace>>,
-            (Option<Lane<RowWatch, Alerts>>, ()),
+            (Option<Lane<Supervision, SupervisionPlace>>, ()),
         ),
     ),
 );

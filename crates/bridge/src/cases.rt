@@ -1,5 +1,6 @@
 //! Cases of the definition, computed: what the parts beside the gateway give.
 ghost use Rattle.bridge.specs.AddressCases as address_cases;
+ghost use Rattle.bridge.specs.BeatCases as beat_cases;
 ghost use Rattle.bridge.specs.FurtherCases as further_cases;
 ghost use Rattle.bridge.specs.PartCases as part_cases;
 ghost use Rattle.bridge.specs.WatchedCases as watched_cases;
@@ -54,4 +55,12 @@ pub fn changes_of_the_own_address_are_told()
 /// A row under watch, which was never said and then is.
 pub fn silence_of_a_watched_row_is_told()
     ensures { watched_cases.SilenceIsTold }
+{}
+
+/// Heartbeats: at their due moments, where the gateway wasn't ready at one, without an address, and while a watched row is silent.
+pub fn heartbeats_are_due()
+    ensures each_on_its_grid { beat_cases.EachOnItsGrid }
+    ensures not_ready_not_counted { beat_cases.NotReadyNotCounted }
+    ensures no_address_is_told { beat_cases.NoAddressIsTold }
+    ensures silent_row_is_told { beat_cases.SilentRowIsTold }
 {}

@@ -81,6 +81,8 @@ fn is_alone(setup: &Setup) -> bool {
         && setup.plain.is_none()
         && !setup.record
         && is_unwatched(&setup.watch)
+        && setup.heartbeat.net.is_none()
+        && setup.heartbeat.bus_every_s.is_none()
 }
 
 fn has_defaults(alloc: Global) -> bool {
@@ -250,6 +252,54 @@ fn has_watch(alloc: Global) -> bool {
 #[test]
 fn rows_under_watch(rt: HostRuntime) {
     assert!(rt; has_watch(rt.alloc()));
+}
+
+/// The group of heartbeats alone, behind the own keys.
+const USUAL_BEATS: &str = r#"gateway.name = "C0328200FFC00001"
+gateway.address = 251
+gateway.sfi = "II0001"
+heartbeat.group = "MISC"
+"#;
+
+/// Each of their keys.
+const BEATS: &str = r#"gateway.name = "C0328200FFC00001"
+gateway.address = 251
+gateway.sfi = "II0001"
+[heartbeat]
+group = "BEAT"
+every_s = 999
+talker = "EI"
+bus_every_s = 1
+"#;
+
+/// Whether a file says heartbeats so: to this group, with these seconds between two and this talker, and with these on the bus.
+fn has_beats(
+    alloc: Global,
+    file: &str,
+    group: &[u8],
+    every_s: u32,
+    talker: [u8; 2],
+    bus_every_s: Option<u32>,
+) -> bool {
+    match read_whole(alloc, file.as_bytes()) {
+        Ok(setup) => match &setup.heartbeat.net {
+            Some(net) => {
+                Some(net.group) == Group::of(group)
+                    && net.every_s == every_s
+                    && net.talker == talker
+                    && setup.heartbeat.bus_every_s == bus_every_s
+            }
+            None => false,
+        },
+        Err(_) => false,
+    }
+}
+
+/// With their group alone, heartbeats have their defaults.
+#[test]
+fn heartbeat_keys(rt: HostRuntime) {
+    assert!(rt; has_beats(rt.alloc(), USUAL_BEATS, b"MISC", 60, *b"II", None));
+    assert!(rt; has_beats(rt.alloc(), BEATS, b"BEAT", 999, *b"EI", Some(1)));
 }
 
 /// The talker of each quantity, in their order.

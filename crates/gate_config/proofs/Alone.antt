@@ -18,22 +18,26 @@ use Rattle.config_document.specs.Texts.{group_in, talker_in}
 use Rattle.config_document.specs.declared.texts.Talker.{Talker}
 use Rattle.config_document.specs.declared.fault.ConfigFault.{ConfigFault}
 use Rattle.config_document.specs.declared.fault.Flaw.{Flaw}
+use Rattle.config_document.specs.declared.texts.Talker.{Talker}
 use Rattle.config_values.specs.declared.config.Ends.{Ends}
 use Rattle.config_values.specs.Rows.{usual_timeout}
 use Rattle.config_values.specs.declared.row_config.RowConfig.{RowConfig}
 use Rattle.n2k_id.specs.declared.pattern.Pattern.{Pattern}
 use Rattle.gate_config.specs.Alone.{FileAsksNothingFurther, AsksNothingFurther, FilesSaySettings, HasNone, IsTable, KeysSaySettings, Lacks, NoneHas, alone_of}
 use Rattle.gate_config.specs.ConfigOf.{IsWholeConfigOf, config_in, document_place, known, settings_alone}
-use Rattle.gate_config.specs.Keys.{alerts, any_asks, asks as asked_for, bus, further, gateway, ignored, is_asked, limit_at, limit_of, limits_in, net, plain, preset, quantity, row, row_at, row_of, rows_in, report, serve, stands_at, watch_in, watched, links_in, own_group, own_group_at, part_groups, quantities_in, quantity_at, quantity_of, settings_in, setup_in}
+use Rattle.gate_config.specs.Keys.{alerts, any_asks, asks as asked_for, asks_hbt, bus, further, gateway, hbt, heartbeat, ignored, is_asked, limit_at, limit_of, limits_in, net, plain, preset, quantity, row, row_at, row_of, rows_in, report, serve, stands_at, watch_in, watched, links_in, own_group, own_group_at, part_groups, quantities_in, quantity_at, quantity_of, settings_in, setup_in}
 use Rattle.gate_config.specs.Reading.{◌>>=◌, Table, default, each_from, items_in, key_prefix, prefix_of, section_at, table_in, unless}
 use Rattle.gate_config.specs.Unknown.{first_unknown, place_under, quantity_names, row_names, table_of}
+use Rattle.settings.specs.Heartbeat.{no_heartbeat}
 use Rattle.settings.specs.Setup.{alone}
+use Rattle.settings.specs.declared.heartbeat.HeartbeatConfig.{HeartbeatConfig}
+use Rattle.settings.specs.declared.heartbeat.NetHeartbeat.{NetHeartbeat}
 use Rattle.settings.specs.declared.quantity_config.Quantities.{Quantities}
 use Rattle.settings.specs.declared.quantity_config.QuantityConfig.{QuantityConfig}
 use Rattle.settings.specs.declared.settings.Settings.{Settings}
 use Rattle.settings.specs.declared.setup.Setup.{Setup}
 use Rattle.settings.specs.declared.watch.WatchConfig.{WatchConfig}
-use Rattle.settings.specs.Watch.{no_limits, no_watch}
+use Rattle.settings.specs.Watch.{alert_group, no_limits, no_watch}
 
 -- ---- a key that doesn't stand
 
@@ -130,6 +134,35 @@ plain_read : (rows : List RowConfig) (parts : List (Option (List ℕ))) (place :
 unfolding plain
 plain_read rows parts place none =
     one_key (λ group. group) (own_group_at rows parts (λ place. false) place (codes "group")) None (group_at rows parts (λ place. false) place (codes "group") none.0 refl)
+
+-- a key without a default that doesn't stand
+nothing_at : {A : Type 0} (read : Data → Result A Flaw) (place : Place) (name : List ℕ) → get_member name place.members ≡ None → key_at read place name ≡ Ok None
+nothing_at read place name none = ap (λ found. held read (path_of place name) found) none
+
+hbt_unasked : (place : Place) → get_member (codes "every_s") place.members ≡ None → get_member (codes "talker") place.members ≡ None → asks_hbt place ≡ false
+hbt_unasked place every talker = ap (λ found. is_some found || is_some (get_member (codes "talker") place.members)) every ∙ ap is_some talker
+
+abbrev usual_talker : Talker
+usual_talker = record { 0 = codes "II" }
+
+abbrev hbt_by : Option (List ℕ) → ℕ → Talker → Option NetHeartbeat
+hbt_by group every talker = option_map (λ g. record { group = g; every_s = every; talker = talker.0 }) group
+
+hbt_read : (rows : List RowConfig) (parts : List (Option (List ℕ))) (place : Place) → NoneIn place hbt.known → hbt.read (rows, parts) place ≡ Ok None
+unfolding hbt
+hbt_read rows parts place none =
+    three_keys hbt_by (own_group_at rows parts asks_hbt place (codes "group")) (default 60 (number_at 1 999) place (codes "every_s"))
+    (default usual_talker (text_at talker_in) place (codes "talker")) None 60 usual_talker
+    (group_at rows parts asks_hbt place (codes "group") none.0 (hbt_unasked place none.1.0 none.1.1.0))
+    (default_at 60 (number_in 1 999) place (codes "every_s") none.1.0)
+    (default_at usual_talker (text_in talker_in) place (codes "talker") none.1.1.0)
+
+heartbeat_read : (rows : List RowConfig) (parts : List (Option (List ℕ))) (place : Place) → NoneIn place heartbeat.known
+    → heartbeat.read (rows, parts) place ≡ Ok no_heartbeat
+unfolding heartbeat hbt
+heartbeat_read rows parts place none =
+    two_keys (λ net bus_every. record { net = net; bus_every_s = bus_every }) (hbt.read (rows, parts) place) (number_at 1 60 place (codes "bus_every_s")) None None
+    (hbt_read rows parts place (none.0, (none.1.0, (none.1.1.0, tt)))) (nothing_at (number_in 1 60) place (codes "bus_every_s") none.1.1.1.0)
 
 -- ---- further quantities
 
@@ -254,8 +287,8 @@ bound : {A B : Type 0} (read : Result A ConfigFault) (next : A → Result B Conf
 bound (Ok x) next y is = (x, (refl, is))
 bound (Err f) next y is = absurd cc
 
-abbrev set_up : Settings → ArrayVec Pattern → Option Quantities → Bool × Bool → Option (List ℕ) → Bool → WatchConfig → Setup
-set_up settings devices quantities reports group recording watch = record {
+abbrev set_up : Settings → ArrayVec Pattern → Option Quantities → Bool × Bool → Option (List ℕ) → Bool → WatchConfig → HeartbeatConfig → Setup
+set_up settings devices quantities reports group recording watch beats = record {
   settings = settings;
   ignore = devices;
   quantities = quantities;
@@ -264,6 +297,7 @@ set_up settings devices quantities reports group recording watch = record {
   plain = group;
   «record» = recording;
   watch = watch;
+  heartbeat = beats;
 }
 
 module _ (document : Place) (settings : Settings) where
@@ -273,9 +307,14 @@ module _ (document : Place) (settings : Settings) where
   abbrev groups : List (Option (List ℕ))
   groups = part_groups settings
 
+  abbrev from_heartbeat : ArrayVec Pattern → Option Quantities → Bool × Bool → Option (List ℕ) → Bool → WatchConfig → Result Setup ConfigFault
+  from_heartbeat devices quantities reports group recording watch =
+      table_in heartbeat (rows, alert_group watch ∷ group ∷ option_map (λ q. q.group) quantities ∷ groups) document
+      >>= λ beats. Ok (set_up settings devices quantities reports group recording watch beats)
+
   abbrev from_watch : ArrayVec Pattern → Option Quantities → Bool × Bool → Option (List ℕ) → Bool → Result Setup ConfigFault
   from_watch devices quantities reports group recording =
-      watch_in rows (group ∷ option_map (λ q. q.group) quantities ∷ groups) document >>= λ watch. Ok (set_up settings devices quantities reports group recording watch)
+      watch_in rows (group ∷ option_map (λ q. q.group) quantities ∷ groups) document >>= from_heartbeat devices quantities reports group recording
 
   abbrev from_recording : ArrayVec Pattern → Option Quantities → Bool × Bool → Option (List ℕ) → Result Setup ConfigFault
   from_recording devices quantities reports group = table_in serve tt document >>= from_watch devices quantities reports group
@@ -307,8 +346,11 @@ module _ (document : Place) (settings : Settings) where
       (said_there plain (rows, None ∷ groups) document None asks.plain.is_table (plain_read rows (None ∷ groups) _ asks.plain.none))
       (then_says (table_in serve tt document) (from_watch nobody None (false, false) None) false all
       (said_there serve tt document false asks.recording.is_table (recording_read _ asks.recording.none))
-      (then_says (watch_in rows (None ∷ None ∷ groups) document) (λ watch. Ok (set_up settings nobody None (false, false) None false watch)) no_watch all
-      (watch_read rows (None ∷ None ∷ groups) document tables asks.limits asks.alerts) refl)))))
+      (then_says (watch_in rows (None ∷ None ∷ groups) document) (from_heartbeat nobody None (false, false) None false) no_watch all
+      (watch_read rows (None ∷ None ∷ groups) document tables asks.limits asks.alerts)
+      (then_says (table_in heartbeat (rows, None ∷ None ∷ None ∷ groups) document) (λ beats. Ok (set_up settings nobody None (false, false) None false no_watch beats)) no_heartbeat all
+      (said_there heartbeat (rows, None ∷ None ∷ None ∷ groups) document no_heartbeat asks.heartbeat.is_table (heartbeat_read rows (None ∷ None ∷ None ∷ groups) _ asks.heartbeat.none))
+      refl))))))
 
 -- settings that were read had a table of the bus, or none
 table_among : (document : Place) (name prefix : List ℕ) (place : Place) → section_at document name prefix ≡ Ok place → IsTable (get_member name document.members)

@@ -1,5 +1,5 @@
 -- What tests against what stands already tell, and what lists become by one more item that can stand there.
-use Rattle.std.proofs.Common.{◌≡◌, ◌≢◌, ℕ, ◌<◌, ◌==◌, false, List, [], ◌∷◌, ◌++◌, get_or, Option, Some, None, sym, ap, ◌∙◌, subst, arith}
+use Rattle.std.proofs.Common.{◌≡◌, ◌≢◌, ℕ, suc, ◌<◌, ◌==◌, false, List, [], ◌∷◌, ◌++◌, get_or, Option, Some, None, sym, ap, ◌∙◌, subst, arith}
 use Rattle.std.specs.Prelude.{option_map}
 use Rattle.std.specs.Option.{ForSome}
 use Rattle.std.specs.List.{list_any}
@@ -17,7 +17,8 @@ use Rattle.config_values.specs.Presets.{AreApart, ArePresets}
 use Rattle.config_values.specs.declared.row_config.RowConfig.{RowConfig}
 use Rattle.network_routes.specs.declared.Route.{Route}
 use Rattle.config_values.specs.Rows.{AreSources}
-use Rattle.settings.specs.Setup.{AreQuantities, IsAlertGroup, IsFurtherGroup, IsPlainGroup, IsSetup}
+use Rattle.settings.specs.Heartbeat.{IsHeartbeat}
+use Rattle.settings.specs.Setup.{AreQuantities, IsAlertGroup, IsFurtherGroup, IsHeartbeatGroup, IsPlainGroup, IsSetup}
 use Rattle.settings.specs.Settings.{IsAis, IsSettings}
 use Rattle.settings.specs.declared.ais.AisConfig.{AisConfig}
 use Rattle.settings.specs.declared.quantity_config.Quantities.{Quantities}
@@ -25,7 +26,7 @@ use Rattle.settings.specs.declared.rmc.RmcConfig.{RmcConfig}
 use Rattle.settings.specs.declared.settings.Settings.{Settings}
 use Rattle.settings.specs.declared.setup.Setup.{Setup}
 use Rattle.settings.specs.declared.watch.WatchConfig.{WatchConfig}
-use Rattle.settings.specs.Watch.{IsWatch}
+use Rattle.settings.specs.Watch.{IsWatch, alert_group}
 use Rattle.gate_config.specs.Beside.{AreQuantitiesBeside, IsAisBeside, IsGroupBeside, IsPresetBeside, IsRouteBeside}
 use Rattle.gate_config.specs.Keys.{address_stands, group_stands, is_group_of, name_stands, part_groups}
 use Rattle.gate_config.specs.Texts.{same_text}
@@ -130,15 +131,11 @@ alerts_beside :
     (s : Settings) (quantities : Option Quantities) (plain : Option (List ℕ)) (group : List ℕ)
     → IsGroupBeside s.config.rows (plain ∷ option_map (λ q. q.group) quantities ∷ part_groups s) group → IsAlertGroup s quantities plain group
 alerts_beside s quantities plain group beside = record {
-  beside = record {
-    beside = record {
-      from_rows = beside.from_rows;
-      from_rmc = λ r is. beside.from_parts 2 None (omega arith) r.group (ap (option_map (λ (r : RmcConfig). r.group)) is);
-      from_ais = λ a is. beside.from_parts 3 None (omega arith) a.group (ap (option_map (λ (a : AisConfig). a.group)) is);
-    };
-    from_quantities = λ q is. beside.from_parts 1 None (omega arith) q.group (ap (option_map (λ (q : Quantities). q.group)) is);
-  };
-  from_plain = λ other is. beside.from_parts 0 None (omega arith) other is;
+  beside = plain_beside s quantities group (record {
+    from_rows = beside.from_rows;
+    from_parts = λ k d within. beside.from_parts (suc k) d (omega (arith, within));
+  });
+  from_plain = beside.from_parts 0 None (omega arith);
 }
 
 watch_beside : (w : WatchConfig) (beside own : List ℕ → Type 0) → ((group : List ℕ) → beside group → own group) → IsWatch beside w → IsWatch own w
@@ -147,11 +144,26 @@ watch_beside w beside own is_own is = record {
   alerts = λ a there. let alerts = is.alerts a there in record { group = is_own a.group alerts.group; talker = alerts.talker };
 }
 
+-- and beside that of alerts
+heartbeat_beside :
+    (s : Settings) (quantities : Option Quantities) (plain alerts : Option (List ℕ)) (group : List ℕ)
+    → IsGroupBeside s.config.rows (alerts ∷ plain ∷ option_map (λ q. q.group) quantities ∷ part_groups s) group → IsHeartbeatGroup s quantities plain alerts group
+heartbeat_beside s quantities plain alerts group beside = record {
+  beside = alerts_beside s quantities plain group (record {
+    from_rows = beside.from_rows;
+    from_parts = λ k d within. beside.from_parts (suc k) d (omega (arith, within));
+  });
+  from_alerts = beside.from_parts 0 None (omega arith);
+}
+
 pub setup_beside :
     (x : Setup) → IsSettings x.settings → AreSources x.ignore.items → ForSome x.quantities (AreQuantitiesBeside x.settings.config.rows (part_groups x.settings))
     → ForSome x.plain (IsGroupBeside x.settings.config.rows (option_map (λ q. q.group) x.quantities ∷ part_groups x.settings))
-    → IsWatch (IsGroupBeside x.settings.config.rows (x.plain ∷ option_map (λ q. q.group) x.quantities ∷ part_groups x.settings)) x.watch → IsSetup x
-setup_beside x settings ignore quantities plain watch = record {
+    → IsWatch (IsGroupBeside x.settings.config.rows (x.plain ∷ option_map (λ q. q.group) x.quantities ∷ part_groups x.settings)) x.watch
+    → IsHeartbeat x.heartbeat
+    → ForSome x.heartbeat.net (λ n. IsGroupBeside x.settings.config.rows (alert_group x.watch ∷ x.plain ∷ option_map (λ q. q.group) x.quantities ∷ part_groups x.settings) n.group)
+    → IsSetup x
+setup_beside x settings ignore quantities plain watch beats free = record {
   settings = settings;
   ignore = ignore;
   quantities = λ all is. quantities_beside x.settings all (quantities all is);
@@ -159,4 +171,6 @@ setup_beside x settings ignore quantities plain watch = record {
   watch =
       watch_beside x.watch (IsGroupBeside x.settings.config.rows (x.plain ∷ option_map (λ q. q.group) x.quantities ∷ part_groups x.settings))
       (IsAlertGroup x.settings x.quantities x.plain) (alerts_beside x.settings x.quantities x.plain) watch;
+  heartbeat = beats;
+  heartbeat_group = λ n is. heartbeat_beside x.settings x.quantities x.plain (alert_group x.watch) n.group (free n is);
 }

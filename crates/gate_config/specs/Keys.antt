@@ -24,7 +24,10 @@ use Rattle.config_values.specs.declared.row_config.RowConfig.{RowConfig}
 use Rattle.config_values.specs.Rows.{usual_timeout}
 use Rattle.network_routes.specs.Routes.{most_routes}
 use Rattle.network_routes.specs.declared.Route.{Route}
+use Rattle.settings.specs.Watch.{alert_group}
 use Rattle.settings.specs.declared.ais.AisConfig.{AisConfig}
+use Rattle.settings.specs.declared.heartbeat.HeartbeatConfig.{HeartbeatConfig}
+use Rattle.settings.specs.declared.heartbeat.NetHeartbeat.{NetHeartbeat}
 use Rattle.settings.specs.declared.quantity_config.Quantities.{Quantities}
 use Rattle.settings.specs.declared.quantity_config.QuantityConfig.{QuantityConfig}
 use Rattle.settings.specs.declared.rmc.RmcConfig.{RmcConfig}
@@ -305,6 +308,24 @@ watch_in rows parts document = do
   said ← table_in alerts (rows, parts) document
   Ok (record { limits = limits; alerts = said })
 
+-- heartbeat: HBT, beside the rows and the groups of the other parts; its interval and its talker ask for its group
+abbrev pub asks_hbt : Place → Bool
+asks_hbt place = stands_at (codes "every_s") place || stands_at (codes "talker") place
+
+unfoldable pub hbt : Table (List RowConfig × List (Option (List ℕ))) (Option NetHeartbeat)
+hbt =
+    table (codes "heartbeat") (λ group every talker. option_map (λ g. record { group = g; every_s = every; talker = talker.0 }) group)
+    & key_beside (codes "group") (λ beside. own_group_at beside.0 beside.1 asks_hbt)
+    & key (codes "every_s") (default 60 (number_at 1 999))
+    & key (codes "talker") (default (record { 0 = codes "II" }) (text_at talker_in))
+
+-- and frames of PGN 126993, which ask for no group
+unfoldable pub heartbeat : Table (List RowConfig × List (Option (List ℕ))) HeartbeatConfig
+heartbeat =
+    table (codes "heartbeat") (λ net bus_every. record { net = net; bus_every_s = bus_every })
+    & keys hbt
+    & key (codes "bus_every_s") (number_at 1 60)
+
 -- net, bus and route: whom the network is heard from, and where the links listen and send
 unfoldable pub links_in : List ℕ → Place → Result (ArrayVec (List ℕ) × Ends) ConfigFault
 links_in own document = do
@@ -362,6 +383,7 @@ setup_in document = do
   group ← table_in plain (settings.config.rows, option_map (λ q. q.group) quantities ∷ part_groups settings) document
   recording ← table_in serve tt document
   watch ← watch_in settings.config.rows (group ∷ option_map (λ q. q.group) quantities ∷ part_groups settings) document
+  beats ← table_in heartbeat (settings.config.rows, alert_group watch ∷ group ∷ option_map (λ q. q.group) quantities ∷ part_groups settings) document
   Ok (record {
     settings = settings;
     ignore = devices;
@@ -371,4 +393,5 @@ setup_in document = do
     plain = group;
     «record» = recording;
     watch = watch;
+    heartbeat = beats;
   })

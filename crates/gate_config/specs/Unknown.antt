@@ -64,7 +64,7 @@ items t document best = noted_items t.known (prefix_of t.name) 1 (items_of (get_
 unfoldable pub tables : List (List ℕ)
 tables =
     Keys.gateway.name ∷ Keys.preset.name ∷ Keys.row.name ∷ Keys.net.name ∷ Keys.bus.name ∷ Keys.route.name ∷ Keys.identity.name ∷ Keys.rmc.name ∷ Keys.ais.name
-    ∷ Keys.further.name ∷ Keys.report.name ∷ Keys.plain.name ∷ Keys.serve.name ∷ Keys.alerts.name ∷ []
+    ∷ Keys.further.name ∷ Keys.report.name ∷ Keys.plain.name ∷ Keys.serve.name ∷ Keys.alerts.name ∷ Keys.heartbeat.name ∷ []
 
 -- the gateway itself, the devices that it knows, and its rows
 unfoldable pub gateway_noted : Place → Option (List ℕ) → Option (List ℕ)
@@ -86,8 +86,8 @@ parts_noted document best = once Keys.ais document (once Keys.rmc document (once
 -- further keys
 unfoldable pub further_noted : Place → Option (List ℕ) → Option (List ℕ)
 further_noted document best =
-    once Keys.serve document (once Keys.plain document (once Keys.report document
-    (quantities_noted (place_under document Keys.further.name (prefix_of Keys.further.name)) best)))
+    once Keys.heartbeat document (once Keys.serve document (once Keys.plain document (once Keys.report document
+    (quantities_noted (place_under document Keys.further.name (prefix_of Keys.further.name)) best))))
 
 -- every table
 unfoldable pub first_unknown : Place → Option (List ℕ)

@@ -5,17 +5,19 @@ ghost use Rattle.gate_config.specs.Beside.{AreLinks, AreParts};
 ghost use Rattle.gate_config.specs.Keys.{links_in, part_groups, parts_in, settings_in, setup_in};
 ghost use Rattle.settings.specs.Settings.{IsSettings};
 ghost use Rattle.settings.specs.Setup.{IsSetup};
+ghost use Rattle.settings.specs.Watch.{alert_group};
 
 use crate::further::{ignored_keys, plain_keys, quantities_group, report_keys, serve_keys};
 use crate::further_quantities::further_quantities;
 use crate::gateway::gateway_keys;
+use crate::heartbeat::heartbeat_keys;
 use crate::identity::identity_keys;
 use crate::links::{bus_keys, net_keys};
 use crate::parts::{ais_group, ais_keys, rmc_group, rmc_keys};
 use crate::presets::preset_keys;
 use crate::routes::route_keys;
 use crate::rows::row_keys;
-use crate::watch::watch_keys;
+use crate::watch::{alert_group, watch_keys};
 use arrayvec::ArrayVec;
 use bus_identity::Product;
 use claim_table::Preset;
@@ -23,7 +25,7 @@ use config_document::{ConfigFault, Section};
 use config_values::{Config, Ends, RowConfig};
 use network_routes::Routes;
 use sentence_text::{Group, Sfi};
-use settings::{AisConfig, Quantities, QuantityConfigs, RmcConfig, Settings, Setup};
+use settings::{AisConfig, Quantities, QuantityConfigs, RmcConfig, Settings, Setup, WatchConfig};
 
 /// What the gateway says of itself, and the parts beside it.
 type Parts = (Product, Option<RmcConfig>, Option<AisConfig>);
@@ -45,6 +47,8 @@ pub(crate) fn all_keys(document: &Section, each: QuantityConfigs) -> Result<Setu
     let recording = serve_keys(document)?;
     let groups = groups_beside(&plain, &quantities, &settings);
     let watch = watch_keys(document, &settings.config.rows, &groups)?;
+    let groups = groups_behind(&watch, &plain, &quantities, &settings);
+    let heartbeat = heartbeat_keys(document, &settings.config.rows, &groups)?;
     Ok(Setup {
         settings,
         ignore,
@@ -54,6 +58,7 @@ pub(crate) fn all_keys(document: &Section, each: QuantityConfigs) -> Result<Setu
         plain,
         record: recording,
         watch,
+        heartbeat,
     })
 }
 
@@ -66,6 +71,24 @@ fn groups_beside(
     ensures { result ≡ plain.now ∷ option_map (λ q. q.group) quantities.now ∷ part_groups settings.now }
 {
     [
+        *plain,
+        quantities_group(quantities),
+        rmc_group(&settings.rmc),
+        ais_group(&settings.ais),
+    ]
+}
+
+/// Those, and before them the group of alerts.
+fn groups_behind(
+    watch: &WatchConfig,
+    plain: &Option<Group>,
+    quantities: &Option<Quantities>,
+    settings: &Settings,
+) -> [Option<Group>; 5]
+    ensures { result ≡ alert_group watch.now ∷ plain.now ∷ option_map (λ q. q.group) quantities.now ∷ part_groups settings.now }
+{
+    [
+        alert_group(watch),
         *plain,
         quantities_group(quantities),
         rmc_group(&settings.rmc),

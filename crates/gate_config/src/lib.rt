@@ -7,6 +7,7 @@ mod endpoint;
 mod further;
 mod further_quantities;
 mod gateway;
+mod heartbeat;
 mod identity;
 mod items;
 mod keys;
@@ -27,6 +28,6 @@ pub use config_document::{ConfigFault, FaultLine, Key};
 pub use config_values::{Config, Ends, RowConfig};
 pub use reading::{read, read_all, read_whole};
 pub use settings::{
-    AisConfig, AlertConfig, Quantities, QuantityConfig, QuantityConfigs, RmcConfig, Settings,
-    Setup, WatchConfig,
+    AisConfig, AlertConfig, HeartbeatConfig, NetHeartbeat, Quantities, QuantityConfig,
+    QuantityConfigs, RmcConfig, Settings, Setup, WatchConfig,
 };

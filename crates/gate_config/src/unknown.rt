@@ -8,14 +8,14 @@ ghost use Rattle.gate_config.specs.Unknown.{each_noted, first_unknown, further_n
 
 use crate::items::{item_prefix, key_prefix};
 use crate::words::{
-    AIS, AIS_PREFIX, BUS, BUS_PREFIX, FURTHER, FURTHER_PREFIX, GATEWAY, GATEWAY_PREFIX, IDENTITY,
-    IDENTITY_PREFIX, NET, NET_PREFIX, PLAIN, PLAIN_PREFIX, PRESET, PRESET_PREFIX, REPORT,
-    REPORT_PREFIX, RMC, RMC_PREFIX, ROUTE, ROUTE_PREFIX, ROW, ROW_PREFIX, SERVE, SERVE_PREFIX,
-    WATCH, WATCH_PREFIX,
+    AIS, AIS_PREFIX, BUS, BUS_PREFIX, FURTHER, FURTHER_PREFIX, GATEWAY, GATEWAY_PREFIX, HEARTBEAT,
+    HEARTBEAT_PREFIX, IDENTITY, IDENTITY_PREFIX, NET, NET_PREFIX, PLAIN, PLAIN_PREFIX, PRESET,
+    PRESET_PREFIX, REPORT, REPORT_PREFIX, RMC, RMC_PREFIX, ROUTE, ROUTE_PREFIX, ROW, ROW_PREFIX,
+    SERVE, SERVE_PREFIX, WATCH, WATCH_PREFIX,
 };
 use crate::{
-    further, further_quantities, gateway, identity, links, parts, presets, quantity, routes, rows,
-    watch,
+    further, further_quantities, gateway, heartbeat, identity, links, parts, presets, quantity,
+    routes, rows, watch,
 };
 use arrayvec::ArrayVec;
 use config_document::{Section, least_unknown};
@@ -26,7 +26,8 @@ use toml::Value;
 
 /// The tables of a configuration.
 const TABLES: [&str; 14] = [
-    GATEWAY, PRESET, ROW, NET, BUS, ROUTE, IDENTITY, RMC, AIS, FURTHER, REPORT, PLAIN, SERVE, WATCH,
+    GATEWAY, PRESET, ROW, NET, BUS, ROUTE, IDENTITY, RMC, AIS, FURTHER, REPORT, PLAIN, SERVE,
+    WATCH, HEARTBEAT,
 ];
 
 /// The path of the key that isn't known, and that comes first of all such in the order of bytes.
@@ -125,12 +126,20 @@ fn in_further(
         &further::PLAIN_KEYS,
         least,
     )?;
-    under(
+    let least = under(
         alloc,
         document,
         SERVE,
         SERVE_PREFIX,
         &further::SERVE_KEYS,
+        least,
+    )?;
+    under(
+        alloc,
+        document,
+        HEARTBEAT,
+        HEARTBEAT_PREFIX,
+        &heartbeat::KEYS,
         least,
     )
 }

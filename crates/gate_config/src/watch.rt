@@ -6,7 +6,7 @@ ghost use Rattle.config_document.specs.Places.{place_of};
 ghost use Rattle.gate_config.specs.Beside.{IsGroupBeside};
 ghost use Rattle.gate_config.specs.Keys.{alerts, limit_at, limit_of, limits_in, watch_in};
 ghost use Rattle.gate_config.specs.Reading.{each_from, table_in};
-ghost use Rattle.settings.specs.Watch.{AreAlerts, AreLimits, IsWatch};
+ghost use Rattle.settings.specs.Watch.{AreAlerts, AreLimits, IsWatch, alert_group};
 
 use crate::items::key_prefix;
 use crate::keys::{section, stands_at, text_or};
@@ -34,6 +34,16 @@ pub(crate) fn watch_keys(
     let limits = limit_keys(document)?;
     let alerts = alert_keys(document, rows, parts)?;
     Ok(WatchConfig { limits, alerts })
+}
+
+/// The group of alerts.
+pub(crate) fn alert_group(watch: &WatchConfig) -> Option<Group>
+    ensures { result ≡ alert_group watch.now }
+{
+    match &watch.alerts {
+        Some(alerts) => Some(alerts.group),
+        None => None,
+    }
 }
 
 /// How long each row may stay unsaid, in the order of the rows.

@@ -57,9 +57,17 @@ pub(crate) const WATCH: &str = "watch";
 
 pub(crate) const WATCH_PREFIX: &[u8] = b"watch.";
 
+pub(crate) const HEARTBEAT: &str = "heartbeat";
+
+pub(crate) const HEARTBEAT_PREFIX: &[u8] = b"heartbeat.";
+
 pub(crate) const ADDRESS: &str = "address";
 
+pub(crate) const BUS_EVERY_S: &str = "bus_every_s";
+
 pub(crate) const CODE: &str = "code";
+
+pub(crate) const EVERY_S: &str = "every_s";
 
 pub(crate) const FAST_SLOTS: &str = "fast_slots";
 

@@ -162,5 +162,8 @@ module _ (g : Machine) (s : ℕ) (h : History) (stands : Stands by_keys g.settin
   pub holder_is_known : (address : ℕ) → name_held g.addresses.claims.holders address ≡ name_held (known (receiver_of g.settings) s h).claims.holders address
   holder_is_known address = tells.names address
 
+  pub ready_at_is_known : (m : ℕ) → is_ready g.addresses.claims m ≡ is_ready (known (receiver_of g.settings) s h).claims m
+  ready_at_is_known m = tells.ready m
+
   pub ready_is_known : is_ready g.addresses.claims g.moment ≡ is_ready (known (receiver_of g.settings) s h).claims (now h)
-  ready_is_known = ap (is_ready g.addresses.claims) stands.moment ∙ tells.ready (now h)
+  ready_is_known = ap (is_ready g.addresses.claims) stands.moment ∙ ready_at_is_known (now h)

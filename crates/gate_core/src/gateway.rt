@@ -199,6 +199,16 @@ impl Gateway {
         self.state.is_ready(self.state.moment())
     }
 
+    /// Whether the gateway may send at a moment, in microseconds, by all that is known after the last entry.
+    #[tactic(auto, using(crate::proofs::Promises::ready_at_is_known))]
+    pub fn ready_at(&self, moment: u64) -> bool
+        ensures ready { result ≡ is_ready self.now.addresses.claims moment }
+        ensures history { (s : ℕ) (h : History) → Stands by_keys self.now.settings s h self.now
+            → result ≡ is_ready (known (receiver_of self.now.settings) s h).claims moment }
+    {
+        self.state.is_ready(moment)
+    }
+
     /// The NAME that holds an address.
     #[tactic(auto, using(crate::proofs::Promises::holder_is_known))]
     pub fn holder(&self, address: u8) -> Option<Name>

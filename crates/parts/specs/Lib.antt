@@ -1,3 +1,4 @@
+pub use Rattle.gate_core.specs.Steps
 pub mod Compose
 pub mod Forms
 pub mod Lanes

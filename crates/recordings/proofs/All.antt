@@ -24,19 +24,19 @@ use Rattle.bus_answers.proofs.Form.{answering}
 use Rattle.further_bridge.proofs.Form.{quantities}
 use Rattle.joined_rmc.proofs.Form.{joined_rmc}
 use Rattle.own_address.proofs.Form.{own_address}
-use Rattle.row_watch.proofs.Form.{row_watch}
 use Rattle.source_changes.proofs.Form.{sources}
+use Rattle.supervision.proofs.Form.{supervision}
 use Rattle.gateway_commands.specs.Beside.{beside}
 use Rattle.gateway_commands.specs.BridgeSettings.{BridgeSettings}
 use Rattle.recordings.proofs.Known.{known_without}
 use Rattle.recordings.proofs.Gathered.{ap₃, joined, none_left, none_right}
 use Rattle.recordings.proofs.OwnAddress.{address_first, address_without}
-use Rattle.recordings.proofs.Quiet.{AreQuiet, IsQuiet, before, nothing_quiet}
+use Rattle.recordings.proofs.Quiet.{AreQuiet, Follows, IsQuiet, before, nothing_quiet}
 use Rattle.recordings.proofs.Overdue.{expired_later, expired_first_later}
 use Rattle.recordings.proofs.Out.{out_without}
 use Rattle.recordings.proofs.Listened.{heard_later, heard_first_later}
-use Rattle.recordings.proofs.Watched.{watch_first, watch_without}
 use Rattle.recordings.proofs.Rmc.{rmc_without, source_without}
+use Rattle.recordings.proofs.Supervised.{supervision_first, supervision_without}
 use Rattle.recordings.proofs.Ships.{ais_without, further_without}
 
 -- ---- answers to who asks who the gateway is
@@ -88,19 +88,19 @@ heard_since kinds limit c s m h le none (e ∷ newer) t = heard_later kinds limi
 answering_quiet : IsQuiet answering
 answering_quiet = record {
   first = λ information c s. refl;
-  later = λ information c s m h le none newer e. answers_without c s m h information newer e;
+  later = λ information c s m h le none newer e follow. answers_without c s m h information newer e;
 }
 
 rmc_quiet : IsQuiet joined_rmc
 rmc_quiet = record {
   first = λ r c s. refl;
-  later = λ r c s m h le none newer e. rmc_without r c s m h newer e;
+  later = λ r c s m h le none newer e follow. rmc_without r c s m h newer e;
 }
 
 ships_quiet : IsQuiet ships
 ships_quiet = record {
   first = λ a c s. refl;
-  later = λ a c s m h le none newer e.
+  later = λ a c s m h le none newer e follow.
       ais_without a c s m h newer e
       (heard_since report_kinds a.slots c s m h le (none_left (heard_expired report_kinds a.slots c s h m) (report_gives a c s h (tick m)) none) newer (moment_of e));
 }
@@ -108,7 +108,7 @@ ships_quiet = record {
 quantities_quiet : IsQuiet quantities
 quantities_quiet = record {
   first = λ x c s. refl;
-  later = λ x c s m h le none newer e.
+  later = λ x c s m h le none newer e follow.
       further_without x c s m h newer e
       (heard_since kind_of x.slots c s m h le
       (none_left (heard_expired kind_of x.slots c s h m)
@@ -118,19 +118,19 @@ quantities_quiet = record {
 sources_quiet : IsQuiet sources
 sources_quiet = record {
   first = λ r c s. refl;
-  later = λ r c s m h le none newer e. source_without c s m h newer e;
+  later = λ r c s m h le none newer e follow. source_without c s m h newer e;
 }
 
 address_quiet : IsQuiet own_address
 address_quiet = record {
   first = λ r c s. address_first c s;
-  later = λ r c s m h le none newer e. address_without c s m h none newer e;
+  later = λ r c s m h le none newer e follow. address_without c s m h none newer e;
 }
 
-watch_quiet : IsQuiet row_watch
-watch_quiet = record {
-  first = λ r c s. watch_first r c s;
-  later = λ r c s m h le none newer e. watch_without c s m h r none newer e;
+supervision_quiet : IsQuiet supervision
+supervision_quiet = record {
+  first = λ r c s. supervision_first r c s;
+  later = λ r c s m h le none newer e follow. supervision_without r c s m h le none newer e follow;
 }
 
 -- all of them, in the order in which their emits go out
@@ -142,7 +142,7 @@ beside_quiet =
     (before quantities _ quantities_quiet
     (before sources _ sources_quiet
     (before own_address _ address_quiet
-    (before row_watch _ watch_quiet
+    (before supervision _ supervision_quiet
     nothing_quiet))))))
 
 -- ---- all that is emitted, where nothing is at a tick
@@ -158,10 +158,10 @@ module _ (p : BridgeSettings) (s m : ℕ) (h : History) (le : now h ≤ m) (none
       (none_left (expired p.gateway s h m) [] (none_left (out p.gateway s h (tick m)) (given p s h (tick m)) tagged_none)) t
   over (e ∷ newer) t = expired_later p.gateway s m h e newer t
 
-  tagged_alike : (newer : History) (e : Entry) → tagged_out p s (newer ++ h) e ≡ tagged_out p s (newer ++ tick m ∷ h) e
-  tagged_alike newer e =
+  tagged_alike : (newer : History) (e : Entry) → Follows m newer e → tagged_out p s (newer ++ h) e ≡ tagged_out p s (newer ++ tick m ∷ h) e
+  tagged_alike newer e follow =
       joined (out_without p.gateway s m h newer e (over newer (moment_of e)))
-      (beside_quiet.gives.later p.parts p.gateway s m h le (none_right (out p.gateway s h (tick m)) (given p s h (tick m)) tagged_none) newer e)
+      (beside_quiet.gives.later p.parts p.gateway s m h le (none_right (out p.gateway s h (tick m)) (given p s h (tick m)) tagged_none) newer e follow)
 
-  pub all_alike : (newer : History) (e : Entry) → all_out p s (newer ++ h) e ≡ all_out p s (newer ++ tick m ∷ h) e
-  all_alike newer e = ap (λ (x : List Emit). x ++ plain_of p.plain x) (tagged_alike newer e)
+  pub all_alike : (newer : History) (e : Entry) → Follows m newer e → all_out p s (newer ++ h) e ≡ all_out p s (newer ++ tick m ∷ h) e
+  all_alike newer e follow = ap (λ (x : List Emit). x ++ plain_of p.plain x) (tagged_alike newer e follow)

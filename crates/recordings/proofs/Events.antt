@@ -20,6 +20,7 @@ use Rattle.recordings.proofs.Gathered.{joined}
 use Rattle.recordings.proofs.Overdue.{expired_later}
 use Rattle.recordings.proofs.Out.{out_without}
 use Rattle.recordings.proofs.All.{all_alike}
+use Rattle.recordings.proofs.Quiet.{Follows}
 
 module _ (p : BridgeSettings) (s : ℕ) where
   -- an event that is accepted or not, with the command that it completes, and the events after it
@@ -45,35 +46,35 @@ module _ (p : BridgeSettings) (s : ℕ) where
         ∙ ordered_as (closed (length h)) (done (receiver_of p.gateway) s (newer ++ tick m ∷ h) e) (moment_of e)
 
     -- an event that is accepted, by what the events after it give
-    accepted : (newer : History) (e : Entry) (ordered : Option Entry) (es : List Entry)
-        → ((e' : Entry) (newer' : History) → from_events p s (e' ∷ newer' ++ h) es ≡ from_events p s (e' ∷ newer' ++ tick m ∷ h) es)
+    accepted : (newer : History) (e : Entry) (ordered : Option Entry) (es : List Entry) → Follows m newer e
+        → ((e' : Entry) (newer' : History) → Follows m newer' e' → from_events p s (e' ∷ newer' ++ h) es ≡ from_events p s (e' ∷ newer' ++ tick m ∷ h) es)
         → run true ordered (newer ++ h) e es ≡ run true ordered (newer ++ tick m ∷ h) e es
-    accepted newer e None es rest =
-        joined (ap (at (moment_of e)) (all_alike p s m h le none newer e)) (rest e newer)
-    accepted newer e (Some ordered) es rest =
+    accepted newer e None es follow rest =
+        joined (ap (at (moment_of e)) (all_alike p s m h le none newer e follow)) (rest e newer follow)
+    accepted newer e (Some ordered) es follow rest =
         joined (ap (at (moment_of e))
-        (joined (all_alike p s m h le none newer e) (out_without p.gateway s m h (e ∷ newer) ordered (expired_later p.gateway s m h e newer (moment_of ordered)))))
-        (rest ordered (e ∷ newer))
+        (joined (all_alike p s m h le none newer e follow) (out_without p.gateway s m h (e ∷ newer) ordered (expired_later p.gateway s m h e newer (moment_of ordered)))))
+        (rest ordered (e ∷ newer) follow)
 
     -- one that comes after another
-    next : (b : Bool) (last : Entry) (newer : History) (e : Entry) (es : List Entry)
-        → ((e' : Entry) (newer' : History) → from_events p s (e' ∷ newer' ++ h) es ≡ from_events p s (e' ∷ newer' ++ tick m ∷ h) es)
+    next : (b : Bool) (last : Entry) (newer : History) (e : Entry) (es : List Entry) → Follows m newer last
+        → ((e' : Entry) (newer' : History) → Follows m newer' e' → from_events p s (e' ∷ newer' ++ h) es ≡ from_events p s (e' ∷ newer' ++ tick m ∷ h) es)
         → run b (ordered_at (last ∷ newer ++ h) e) (last ∷ newer ++ h) e es ≡ run b (ordered_at (last ∷ newer ++ tick m ∷ h) e) (last ∷ newer ++ tick m ∷ h) e es
-    next true last newer e es rest =
+    next true last newer e es follow rest =
         ap (λ (ordered : Option Entry). run true ordered (last ∷ newer ++ h) e es) (ordered_without (last ∷ newer) e)
-        ∙ accepted (last ∷ newer) e (ordered_at (last ∷ newer ++ tick m ∷ h) e) es rest
-    next false last newer e es rest =
-        ap (λ (given : List Emitted). at (moment_of last) (broken rules.moment_back detail.Nothing ∷ []) ++ given) (rest last newer)
+        ∙ accepted (last ∷ newer) e (ordered_at (last ∷ newer ++ tick m ∷ h) e) es follow rest
+    next false last newer e es follow rest =
+        ap (λ (given : List Emitted). at (moment_of last) (broken rules.moment_back detail.Nothing ∷ []) ++ given) (rest last newer follow)
 
-    later : (es : List Entry) (last : Entry) (newer : History) → from_events p s (last ∷ newer ++ h) es ≡ from_events p s (last ∷ newer ++ tick m ∷ h) es
-    later [] last newer = refl
-    later (e ∷ es) last newer = next (nat_le (moment_of last) (moment_of e)) last newer e es (later es)
+    later : (es : List Entry) (last : Entry) (newer : History) → Follows m newer last → from_events p s (last ∷ newer ++ h) es ≡ from_events p s (last ∷ newer ++ tick m ∷ h) es
+    later [] last newer follow = refl
+    later (e ∷ es) last newer follow = next (nat_le (moment_of last) (moment_of e)) last newer e es follow (later es)
 
     -- the first one after the tick
     first : (e : Entry) (es : List Entry) → m ≤ moment_of e → from_events p s (tick m ∷ h) (e ∷ es) ≡ from_events p s h (e ∷ es)
     first e es from =
         ap (λ (b : Bool). run b (ordered_at (tick m ∷ h) e) (tick m ∷ h) e es) (le-leb m (moment_of e) from)
-        ∙ sym (accepted [] e (ordered_at (tick m ∷ h) e) es (later es))
+        ∙ sym (accepted [] e (ordered_at (tick m ∷ h) e) es from (later es))
         ∙ ap (λ (ordered : Option Entry). run true ordered h e es) (sym (ordered_without [] e))
         ∙ ap (λ (b : Bool). run b (ordered_at h e) h e es) (sym (le-leb (now h) (moment_of e) (omega arith)))
 

@@ -18,6 +18,8 @@ pub mod Ships
 pub mod OwnAddress
 pub mod Watched
 pub mod Quiet
+pub mod Beats
+pub mod Supervised
 pub mod All
 pub mod Events
 pub mod Busy

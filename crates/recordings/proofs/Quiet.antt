@@ -2,16 +2,22 @@
 use Rattle.std.proofs.Common.{◌≡◌, ℕ, ◌≤◌, [], ◌∷◌, ◌++◌, refl}
 use Rattle.std.specs.Prelude.{List, Option, Some, None}
 use Rattle.gate_events.specs.Emit.{Emit}
-use Rattle.history.specs.Entries.{Entry, History, now, tick}
+use Rattle.history.specs.Entries.{Entry, History, moment_of, now, tick}
 use Rattle.history.specs.Settings.{Settings}
 use Rattle.parts.specs.Forms.{Form, PartForm, both, lane, nothing}
 use Rattle.recordings.proofs.Gathered.{joined, none_left, none_right}
 
+-- of an entry and those before it up to a tick, the first one after the tick isn't earlier than it
+abbrev pub Follows : ℕ → History → Entry → Type 0
+Follows m [] e = m ≤ moment_of e
+Follows m (x ∷ newer) e = Follows m newer x
+
 pub record GivesQuietly {R : Type 0} (gives : R → Settings → ℕ → History → Entry → List Emit) : Type 0 where
   -- a tick at the moment of the start gives nothing
   pub first : (r : R) (c : Settings) (s : ℕ) → gives r c s [] (tick s) ≡ []
+  -- and one that gives nothing changes nothing later, where what came right after it isn't earlier than it
   pub later : (r : R) (c : Settings) (s m : ℕ) (h : History) → now h ≤ m → gives r c s h (tick m) ≡ []
-      → (newer : History) (e : Entry) → gives r c s (newer ++ h) e ≡ gives r c s (newer ++ tick m ∷ h) e
+      → (newer : History) (e : Entry) → Follows m newer e → gives r c s (newer ++ h) e ≡ gives r c s (newer ++ tick m ∷ h) e
 
 -- a part, and parts that are put together
 abbrev pub IsQuiet : PartForm → Type 0
@@ -28,20 +34,20 @@ module _ (a : PartForm) (q : IsQuiet a) where
   first_lane (Some r) c s = q.first r c s
 
   later_lane : (r : Option a.rule) (c : Settings) (s m : ℕ) (h : History) → now h ≤ m → (lane a).give r c s h (tick m) ≡ []
-      → (newer : History) (e : Entry) → (lane a).give r c s (newer ++ h) e ≡ (lane a).give r c s (newer ++ tick m ∷ h) e
-  later_lane None c s m h le none newer e = refl
-  later_lane (Some r) c s m h le none newer e = q.later r c s m h le none newer e
+      → (newer : History) (e : Entry) → Follows m newer e → (lane a).give r c s (newer ++ h) e ≡ (lane a).give r c s (newer ++ tick m ∷ h) e
+  later_lane None c s m h le none newer e follow = refl
+  later_lane (Some r) c s m h le none newer e follow = q.later r c s m h le none newer e follow
 
 pub before : (a : PartForm) (b : Form) → IsQuiet a → AreQuiet b → AreQuiet (both (lane a) b)
 before a b q r = record {
   gives = record {
     first = λ x c s. joined (first_lane a q x.0 c s) (r.gives.first x.1 c s);
-    later = λ x c s m h le none newer e.
+    later = λ x c s m h le none newer e follow.
         joined
-        (later_lane a q x.0 c s m h le (none_left ((lane a).give x.0 c s h (tick m)) (b.give x.1 c s h (tick m)) none) newer e)
-        (r.gives.later x.1 c s m h le (none_right ((lane a).give x.0 c s h (tick m)) (b.give x.1 c s h (tick m)) none) newer e);
+        (later_lane a q x.0 c s m h le (none_left ((lane a).give x.0 c s h (tick m)) (b.give x.1 c s h (tick m)) none) newer e follow)
+        (r.gives.later x.1 c s m h le (none_right ((lane a).give x.0 c s h (tick m)) (b.give x.1 c s h (tick m)) none) newer e follow);
   };
 }
 
 pub nothing_quiet : AreQuiet nothing
-nothing_quiet = record { gives = record { first = λ r c s. refl; later = λ r c s m h le none newer e. refl } }
+nothing_quiet = record { gives = record { first = λ r c s. refl; later = λ r c s m h le none newer e follow. refl } }

@@ -42,7 +42,7 @@ said_as f row None before = refl
 said_as f row (Some x) before = refl
 
 module _ (c : Settings) (s m : ℕ) (h : History) where
-  last_without : (row : Row) (newer : History) → last_said c s row (newer ++ h) ≡ last_said c s row (newer ++ tick m ∷ h)
+  pub last_without : (row : Row) (newer : History) → last_said c s row (newer ++ h) ≡ last_said c s row (newer ++ tick m ∷ h)
   last_without row [] = refl
   last_without row (e ∷ newer) =
       ap (λ (x : Option Selected). said_with row x (last_said c s row (newer ++ h))) (selected_without c s m h newer e)

@@ -1,3 +1,4 @@
+pub mod Heartbeat
 pub mod Settings
 pub mod Setup
 pub mod Watch

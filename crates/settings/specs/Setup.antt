@@ -8,16 +8,28 @@ use Rattle.quantities.specs.About.{quantities_count}
 use Rattle.history.specs.Settings as history
 use Rattle.config_values.specs.Rows.{AreSources, IsTalker, usual_timeout}
 use Rattle.config_values.specs.Settings.{settings_ignoring}
+use Rattle.settings.specs.Heartbeat.{IsHeartbeat, no_heartbeat}
 use Rattle.settings.specs.Settings.{IsOwnGroup, IsSettings}
+use Rattle.settings.specs.declared.heartbeat.NetHeartbeat.{NetHeartbeat}
 use Rattle.settings.specs.declared.quantity_config.Quantities.{Quantities}
 use Rattle.settings.specs.declared.quantity_config.QuantityConfig.{QuantityConfig}
 use Rattle.settings.specs.declared.settings.Settings.{Settings}
 use Rattle.settings.specs.declared.setup.Setup.{Setup}
-use Rattle.settings.specs.Watch.{IsWatch, no_watch}
+use Rattle.settings.specs.Watch.{IsWatch, alert_group, no_watch}
 
 -- without any further key
 abbrev pub alone : Settings → Setup
-alone s = record { settings = s; ignore = record { items = [] }; quantities = None; sources = false; address = false; plain = None; «record» = false; watch = no_watch }
+alone s = record {
+  settings = s;
+  ignore = record { items = [] };
+  quantities = None;
+  sources = false;
+  address = false;
+  plain = None;
+  «record» = false;
+  watch = no_watch;
+  heartbeat = no_heartbeat;
+}
 
 -- the gateway itself, without the parts beside it
 abbrev pub gateway_of : Setup → history.Settings
@@ -53,12 +65,19 @@ pub record IsAlertGroup (s : Settings) (quantities : Option Quantities) (plain :
   pub beside : IsPlainGroup s quantities group
   pub from_plain : ForSome plain (λ other. other ≢ group)
 
+-- nor alerts
+pub record IsHeartbeatGroup (s : Settings) (quantities : Option Quantities) (plain alerts : Option (List ℕ)) (group : List ℕ) : Type 0 where
+  pub beside : IsAlertGroup s quantities plain group
+  pub from_alerts : ForSome alerts (λ other. other ≢ group)
+
 pub record IsSetup (x : Setup) : Type 0 where
   pub settings : IsSettings x.settings
   pub ignore : AreSources x.ignore.items
   pub quantities : ForSome x.quantities (AreQuantities x.settings)
   pub plain : ForSome x.plain (IsPlainGroup x.settings x.quantities)
   pub watch : IsWatch (IsAlertGroup x.settings x.quantities x.plain) x.watch
+  pub heartbeat : IsHeartbeat x.heartbeat
+  pub heartbeat_group : ForSome x.heartbeat.net (λ n. IsHeartbeatGroup x.settings x.quantities x.plain (alert_group x.watch) n.group)
 
 -- what the types of a configuration hold: its identifier is one, and each row and quantity has its place
 pub record IsTyped (x : Setup) : Type 0 where

@@ -1,5 +1,5 @@
 -- Rows that have to be said, and when what is configured of them is valid.
-use Rattle.std.specs.Prelude.{◌≢◌, ℕ, List, replicate, All, Option, None}
+use Rattle.std.specs.Prelude.{◌≢◌, ℕ, List, replicate, All, Option, None, option_map}
 use Rattle.std.specs.Int.{IsInRange}
 use Rattle.std.specs.Option.{ForSome}
 use Rattle.readings.specs.Rows.{rows_count}
@@ -13,6 +13,10 @@ no_limits = replicate rows_count None
 
 abbrev pub no_watch : WatchConfig
 no_watch = record { limits = no_limits; alerts = None }
+
+-- the transmission group of alerts, where they are said
+abbrev pub alert_group : WatchConfig → Option (List ℕ)
+alert_group w = option_map (λ a. a.group) w.alerts
 
 -- how long rows may stay unsaid, of those that are watched
 abbrev pub AreLimits : List (Option ℕ) → Type 0

@@ -4,6 +4,7 @@
 #![tactic(auto)]
 
 mod ais;
+mod heartbeat;
 mod quantity_config;
 mod quantity_configs;
 mod rmc;
@@ -12,6 +13,7 @@ mod setup;
 mod watch;
 
 pub use ais::AisConfig;
+pub use heartbeat::{HeartbeatConfig, NetHeartbeat};
 pub use quantity_config::{Quantities, QuantityConfig};
 pub use quantity_configs::QuantityConfigs;
 pub use rmc::RmcConfig;

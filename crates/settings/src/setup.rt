@@ -1,6 +1,7 @@
 //! All that one file configures.
 ghost use Rattle.std.specs.Prelude.{◌≡◌, IfOk};
 
+use crate::heartbeat::HeartbeatConfig;
 use crate::quantity_config::Quantities;
 use crate::settings::Settings;
 use crate::watch::WatchConfig;
@@ -29,6 +30,8 @@ pub struct Setup {
     pub record: bool,
     /// Which rows have to be said.
     pub watch: WatchConfig,
+    /// How heartbeats are said.
+    pub heartbeat: HeartbeatConfig,
 }
 
 impl Setup {
@@ -54,6 +57,7 @@ impl Setup {
                 limits: [None; ROWS],
                 alerts: None,
             },
+            heartbeat: HeartbeatConfig::default(),
         })
     }
 }

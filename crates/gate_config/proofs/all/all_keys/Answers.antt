@@ -12,8 +12,10 @@ returns-clause-valid c =
       plain = c.in_ok-plain.plain;
       «record» = c.in_ok-recording.recording;
       watch = c.in_ok-watch.watch;
+      heartbeat = c.in_ok-heartbeat.heartbeat;
     })
     c.in_ok-settings.ensures.valid c.in_ok-ignore.ensures.valid
     (rw (c.rmc_group.ensures, c.ais_group.ensures) at c.in_ok-quantities.ensures.valid)
     (rw (c.quantities_group.ensures, c.rmc_group.ensures, c.ais_group.ensures) at c.in_ok-plain.ensures.valid)
-    (rw c.groups_beside-groups.ensures at c.in_ok-watch.ensures.valid)
+    (rw c.groups_beside-groups.ensures at c.in_ok-watch.ensures.valid) c.in_ok-heartbeat.ensures.valid
+    (rw c.groups_behind-groups.ensures at c.in_ok-heartbeat.ensures.free)

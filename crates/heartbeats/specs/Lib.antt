@@ -1,0 +1,5 @@
+pub mod BeatOut
+pub mod Beats
+pub mod Due
+pub mod Kept
+pub mod Laws
