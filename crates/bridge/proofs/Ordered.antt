@@ -53,4 +53,4 @@ unposted c s h e g left taken o some =
     let given : Some (entry_by (moment_of e) o) ≡ command_in c s (done r s h e) (moment_of e) =
     sym (ap (option_map (entry_by (moment_of e))) some) ∙ taken.ordered in
     none_there left.emits.posted
-    (taken.selected ∙ unsaid c s (known r s h).claims.holders (messages_of r s h) (done r s h e) (moment_of e) (entry_by (moment_of e) o) given)
+    (taken.posted ∙ unsaid c s (known r s h).claims.holders (messages_of r s h) (done r s h e) (moment_of e) (entry_by (moment_of e) o) given)

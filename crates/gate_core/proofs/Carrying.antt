@@ -20,7 +20,7 @@ use Rattle.bus_messages.specs.Heard.{heard_reports}
 use Rattle.bus_messages.specs.SessionTold as told
 use Rattle.gate_outbox.specs.Output.{Emitted, Output, and_posted, and_told, most_told}
 use Rattle.gate_outbox.proofs.Telling.{reported_more, told_more}
-use Rattle.gate_core.specs.Steps.{and_step, by_keys, command_of, done_of, first_there}
+use Rattle.gate_core.specs.Steps.{and_step, by_keys, command_of, done_of, first_there, selected_by}
 use Rattle.gate_core.specs.Completing.{and_message, session_by}
 use Rattle.gate_core.proofs.Completing.{posted_last}
 
@@ -30,6 +30,7 @@ module _ (g : Machine) (o : Output) (source : ℕ) (what : Option Carried) (d : 
   left told = record {
     emits = and_posted (and_told most_told o.emits told) (message_emits g.settings g.said d);
     done = first_there (option_map done_of d) o.done;
+    selected = selected_by d (message_emits g.settings g.said d) o.selected;
     command = first_there (option_map command_of (ordered_by g.settings.name d)) o.command;
   }
 

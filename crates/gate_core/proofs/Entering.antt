@@ -1,5 +1,5 @@
 -- An entry when what was overdue has ended, and one that is taken by an outbox in which there is nothing.
-use Rattle.std.proofs.Common.{◌≡◌, ℕ, ◌≤◌, length, Option, Some, None, option_map, refl, ap}
+use Rattle.std.proofs.Common.{◌≡◌, ℕ, ◌≤◌, Bool, length, Option, Some, None, option_map, refl, ap}
 use Rattle.gate_events.specs.Event.{moment_in, view}
 use Rattle.gate_events.specs.declared.event.Event.{Event}
 use Rattle.gate_events.specs.declared.event.Event.TheVariants as event
@@ -12,7 +12,7 @@ use Rattle.gate_outbox.specs.declared.done.Done.{Done}
 use Rattle.gate_outbox.specs.declared.done.Command.{Command}
 use Rattle.gate_outbox.specs.Output.{Emitted, Output, and_told, most_told, nothing}
 use Rattle.gate_outbox.proofs.Telling.{left_behind, left_first}
-use Rattle.gate_core.specs.Steps.{by_keys, entry_of, and_step, output_of, first_there, done_of, command_of}
+use Rattle.gate_core.specs.Steps.{by_keys, entry_of, and_step, output_of, first_there, done_of, command_of, selected_by}
 
 -- the moment of an event is that of its entry
 pub same_moment : (x : Event) → moment_in (view x) ≡ moment_of (entry_of x)
@@ -25,16 +25,17 @@ module _ (g g₁ : Machine) (e : Entry) (m : ℕ) (now : m ≡ moment_of e) (pas
       → g₃ ≡ (entered by_keys g e).after
   entered_after g₂ g₃ changed handles changes counts = rw (counts, handles, changes, passed, now) refl
 
-  pub entered_output : (told told' : Emitted) (done : Option Done) (command : Option Command) (o o' : Output)
-      → (let before : Output = record { emits = told; done = done; command = command } in before ≡ o) → told' ≡ and_told most_told told (overdue m g)
-      → o' ≡ and_step g₁.settings.name (record { emits = told'; done = done; command = command }) (handled by_keys g₁ e)
+  pub entered_output : (told told' : Emitted) (done : Option Done) (selected : Bool) (command : Option Command) (o o' : Output)
+      → (let before : Output = record { emits = told; done = done; selected = selected; command = command } in before ≡ o) → told' ≡ and_told most_told told (overdue m g)
+      → o' ≡ and_step g₁.settings.name (record { emits = told'; done = done; selected = selected; command = command }) (handled by_keys g₁ e)
       → o' ≡ and_step g.settings.name o (entered by_keys g e)
-  entered_output told told' done command o o' view tells gives =
+  entered_output told told' done selected command o o' view tells gives =
       let h : Step = handled by_keys (later (moment_of e) g) e in
       rw (gives, tells, passed, now, ← view)
       (ap (λ x. let all : Output = record {
         emits = x;
         done = first_there (option_map done_of h.complete) done;
+        selected = selected_by h.complete h.posted selected;
         command = first_there (option_map command_of (ordered_by g.settings.name h.complete)) command;
       } in all) (left_behind most_told told (record { told = h.told; posted = h.posted }) (overdue (moment_of e) g)))
 

@@ -1,6 +1,5 @@
 -- The command that an entry gives is taken behind what is told of that entry, and finds room; and an entry that gives one says nothing.
-use Rattle.std.proofs.Common.{◌≡◌, ℕ, ◌<◌, ◌≤◌, Bool, true, false, List, [], ◌∷◌, ◌++◌, length, Option, Some, None, refl, sym, ap, subst, ◌∙◌, length-append, arith}
-use Rattle.std.specs.Prelude.{◌==◌, ◌&&◌, is_some, option_map}
+use Rattle.std.proofs.Common.{◌≡◌, ℕ, ◌<◌, ◌≤◌, List, ◌∷◌, ◌++◌, length, sym, ap, subst, ◌∙◌, length-append, arith}
 use Rattle.std.proofs.lemmas.List.{append-nil}
 use Rattle.gate_events.specs.Emit.{Emit}
 use Rattle.history.specs.AddressLaws.{AreSettings}
@@ -13,11 +12,10 @@ use Rattle.history.proofs.Fits.{all_entries_fit}
 use Rattle.history.proofs.FitRoom.{datagrams_fit}
 use Rattle.gate_model.specs.Machine.{Machine, Step}
 use Rattle.gate_model.specs.MachineSteps.{commanded}
-use Rattle.gate_model.specs.Stands.{IsReached, Stands}
-use Rattle.gate_outbox.specs.declared.done.Command.{Command}
-use Rattle.gate_outbox.specs.Output.{Emitted, Output, and_told, emits_of, most_told, told_with}
+use Rattle.gate_model.specs.Stands.{IsReached}
+use Rattle.gate_outbox.specs.Output.{Output, emits_of, most_told}
 use Rattle.gate_outbox.proofs.Telling.{told_fits}
-use Rattle.gate_core.specs.Promises.{IsOrderStep, IsTaken, entry_by}
+use Rattle.gate_core.specs.Promises.{IsOrderStep, IsTaken}
 use Rattle.gate_core.specs.Steps.{and_step, by_keys, output_of}
 use Rattle.gate_core.proofs.Promises.{is_command_step}
 

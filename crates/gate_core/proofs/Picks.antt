@@ -5,7 +5,6 @@ use Rattle.readings.specs.declared.reading.Reading.{Reading}
 use Rattle.readings.specs.Rows.{row_of}
 use Rattle.claim_table.specs.declared.answer.Holder.{Holder}
 use Rattle.history.specs.Choice.{is_first, rank_of, reading_of, selected_reading}
-use Rattle.history.specs.Emits.{is_there}
 use Rattle.history.specs.Entries.{Entry, History, moment_of}
 use Rattle.history.specs.FromBus.{selected_in}
 use Rattle.history.specs.Known.{known}
@@ -58,13 +57,13 @@ module _ (c : Settings) (s : ℕ) (h : History) where
           ∙ told m d r (at d refl) (is_read c (known (receiver_of c) s h).claims.holders (messages_of (receiver_of c) s h) d (reading_of d) r is)
           ∙ ap (λ q. option_map message_of (saying d q)) (sym is)
 
-  -- the datagram of the step is there exactly where the message is selected
-  picked_is_chosen : (e : Entry) (left : Output) → is_there left.emits.posted ≡ is_some (choice (done (receiver_of c) s h e))
+  -- what the step left says of its message whether it is selected
+  picked_is_chosen : (e : Entry) (left : Output) → left.selected ≡ is_some (choice (done (receiver_of c) s h e))
       → left.done ≡ option_map done_told (done (receiver_of c) s h e)
       → picked_at (moment_of e) left ≡ option_map message_of (selected_at c s h e)
   picked_is_chosen e left selects done_is =
-      ap (λ d. if is_there left.emits.posted then done_at (moment_of e) d else None) done_is
-      ∙ by_done (moment_of e) (is_there left.emits.posted) (done (receiver_of c) s h e) selects
+      ap (λ d. if left.selected then done_at (moment_of e) d else None) done_is
+      ∙ by_done (moment_of e) left.selected (done (receiver_of c) s h e) selects
       (λ y is. (done_by (receiver_of c) s h e y is).moment)
 
 pub is_picked : (g : Machine) (left : Output) (m : ℕ) (picked : Option SelectedMessage) → m ≡ g.moment → picked ≡ picked_at m left → IsPicked g left picked

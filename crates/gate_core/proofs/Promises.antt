@@ -1,6 +1,6 @@
 -- A step of the gateway gives what the definition over the whole history says, and finds room.
 use Rattle.std.proofs.Common.{◌≡◌, ℕ, ◌<◌, ◌≤◌, true, false, List, [], ◌∷◌, Option, Some, None, option_map, length, refl, sym, ap, subst, ◌∙◌, arith}
-use Rattle.std.specs.Prelude.{if◌then◌else◌}
+use Rattle.std.specs.Prelude.{if◌then◌else◌, is_some}
 use Rattle.std.proofs.lemmas.Bool.{leb-true}
 use Rattle.std.proofs.lemmas.List.{length-take}
 use Rattle.n2k_id.specs.declared.frame.Frame.{Frame}
@@ -14,10 +14,13 @@ use Rattle.history.specs.Entries as entry
 use Rattle.history.specs.Entries.{Entry, History, IsHistory, IsOffered, is_accepted, moment_of, now}
 use Rattle.history.specs.EntryLaws.{IsEvent}
 use Rattle.claim_table.specs.Claims.{is_ready}
+use Rattle.claim_table.specs.declared.answer.Holder.{Holder}
 use Rattle.history.specs.Known.{known}
-use Rattle.history.specs.Settings.{receiver_of}
-use Rattle.history.specs.Messages.{Message, done}
-use Rattle.history.specs.Emits.{broken}
+use Rattle.history.specs.Settings.{Settings, receiver_of}
+use Rattle.history.specs.Messages.{Message, done, messages_of}
+use Rattle.history.specs.Emits.{broken, is_there}
+use Rattle.history.specs.FromBus.{selected_in}
+use Rattle.gate_events.specs.Emit.{Emit}
 use Rattle.gate_model.specs.AddressStands.{TellsAlike, name_held}
 use Rattle.gate_model.specs.Said.{Complete, Ordered, complete_of, ordered_by}
 use Rattle.gate_model.specs.Machine.{Machine, Step, opened_machine, started_at}
@@ -36,7 +39,7 @@ use Rattle.config_values.specs.Configs.{IsConfig}
 use Rattle.config_values.specs.Settings.{settings_ignoring}
 use Rattle.config_values.proofs.SettingsLemmas.{are_settings}
 use Rattle.gate_outbox.specs.Output.{Output, nothing}
-use Rattle.gate_core.specs.Steps.{by_keys, entry_of, IsEventValid, Stays, done_of, command_of, and_step, output_of}
+use Rattle.gate_core.specs.Steps.{by_keys, entry_of, IsEventValid, Stays, done_of, command_of, and_step, output_of, selected_by}
 use Rattle.gate_core.proofs.Entering.{output_fits}
 use Rattle.gate_core.specs.Promises.{done_told, entry_by, IsTaken, IsTooEarly, IsStep, IsCommandStep}
 
@@ -98,6 +101,13 @@ told_same : (d : Option Message) → option_map done_of (option_map complete_of 
 told_same None = refl
 told_same (Some d) = refl
 
+-- no message is none that is selected
+selected_same : (c : Settings) (holders : List (Option Holder)) (older : List Message) (posted : List Emit) (d : Option Message)
+    → is_there posted ≡ is_some (selected_in c holders older d)
+    → selected_by (option_map complete_of d) posted false ≡ is_some (selected_in c holders older d)
+selected_same c holders older posted None said = refl
+selected_same c holders older posted (Some d) said = said
+
 entries_same : (m : ℕ) (d : Option Ordered) → option_map (entry_by m) (option_map command_of d) ≡ option_map (λ o. entry.command m o.source o.address) d
 entries_same m None = refl
 entries_same m (Some d) = refl
@@ -107,8 +117,12 @@ module _ (g : Machine) (s : ℕ) (h : History) where
   taken_by e x is = record {
     stands = is.stands;
     emits = is.emits;
-    selected = is.selected;
+    posted = is.selected;
     told = ap (option_map done_of) is.complete ∙ told_same (done (receiver_of g.settings) s h e);
+    selected =
+        ap (λ (d : Option Complete). selected_by d x.posted false) is.complete
+        ∙ selected_same g.settings (known (receiver_of g.settings) s h).claims.holders (messages_of (receiver_of g.settings) s h) x.posted
+        (done (receiver_of g.settings) s h e) is.selected;
     ordered =
         ap (λ (d : Option Complete). option_map (entry_by (moment_of e)) (option_map command_of (ordered_by g.settings.name d))) is.complete
         ∙ entries_same (moment_of e) (ordered_by g.settings.name (option_map complete_of (done (receiver_of g.settings) s h e)))

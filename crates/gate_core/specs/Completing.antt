@@ -12,7 +12,7 @@ use Rattle.gate_model.specs.Sessions.{SessionStep}
 use Rattle.gate_outbox.specs.declared.done.Done.{Done}
 use Rattle.gate_outbox.specs.Output.{Output, and_posted, and_told, most_told}
 use Rattle.row_traffic.specs.declared.said.Sender.{Sender}
-use Rattle.gate_core.specs.Steps.{by_keys, command_of, done_of, first_there}
+use Rattle.gate_core.specs.Steps.{by_keys, command_of, done_of, first_there, selected_by}
 
 -- the message of a sender that carries this
 abbrev pub whole : Sender → Carried → Complete
@@ -23,11 +23,12 @@ abbrev pub done_with : Sender → ℕ → Option Reading → Done
 done_with sender pgn reading = record { source = sender.source; name = sender.name; pgn = pgn; reading = reading }
 
 module _ (c : Settings) (k : SaidKept) where
-  -- an outbox with the datagram in which a message is said, the message, and the command that it gives
+  -- an outbox with the datagram in which a message is said, the message, whether it is selected, and the command that it gives
   abbrev pub and_complete : Output → Option Complete → Output
   and_complete o d = record {
     emits = and_posted o.emits (message_emits c k d);
     done = first_there (option_map done_of d) o.done;
+    selected = selected_by d (message_emits c k d) o.selected;
     command = first_there (option_map command_of (ordered_by c.name d)) o.command;
   }
 

@@ -2,7 +2,6 @@
 use Rattle.std.specs.Prelude.{◌≡◌, ℕ, Option, Some, None, IfSome, option_map, if◌then◌else◌}
 use Rattle.readings.specs.declared.reading.Reading.{Reading}
 use Rattle.readings.specs.Rows.{IsValid}
-use Rattle.history.specs.Emits.{is_there}
 use Rattle.history.specs.Entries.{Entry, History}
 use Rattle.history.specs.Settings.{Settings}
 use Rattle.gate_model.specs.Machine.{Machine}
@@ -24,9 +23,9 @@ abbrev pub done_at : ℕ → Option Done → Option SelectedMessage
 done_at m None = None
 done_at m (Some d) = read_at m d d.reading
 
--- what was complete at the moment, where it was selected: then its datagram is posted
+-- what was complete at the moment, where it was selected
 abbrev pub picked_at : ℕ → Output → Option SelectedMessage
-picked_at m left = if is_there left.emits.posted then done_at m left.done else None
+picked_at m left = if left.selected then done_at m left.done else None
 
 -- for every configuration, start moment, history and entry that the gateway took
 abbrev pub IsPicked : Machine → Output → Option SelectedMessage → Type 0

@@ -26,12 +26,13 @@ abbrev pub entry_by : ℕ → Command → Entry
 entry_by m o = entry.command m o.source o.address
 
 -- one more entry was taken: the gateway stands for the history with it, all that the history says was emitted, in its order, with a datagram
--- behind where the message is selected that it completes; and this message is told, with the command that it gives
+-- behind where the message is selected that it completes; and this message is told, whether it is selected, and the command that it gives
 pub record IsTaken (c : Settings) (s : ℕ) (h : History) (e : Entry) (after : Machine) (left : Output) : Type 0 where
   pub stands : Stands by_keys c s (e ∷ h) after
   pub emits : emits_of left.emits ≡ out c s h e
-  pub selected : is_there left.emits.posted ≡ is_some (said_at c s h e)
+  pub posted : is_there left.emits.posted ≡ is_some (said_at c s h e)
   pub told : left.done ≡ option_map done_told (done (receiver_of c) s h e)
+  pub selected : left.selected ≡ is_some (said_at c s h e)
   pub ordered : option_map (entry_by (moment_of e)) left.command ≡ command_in c s (done (receiver_of c) s h e) (moment_of e)
 
 -- an event that is earlier than the last entry changes nothing, and is reported (rule 3)

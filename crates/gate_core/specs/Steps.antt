@@ -1,5 +1,5 @@
 -- What a step of the gateway takes, and what it leaves (the bus: ISO 11783-3; the network: IEC 61162-450).
-use Rattle.std.specs.Prelude.{◌≡◌, ℕ, List, [], length, Option, Some, None, option_map}
+use Rattle.std.specs.Prelude.{◌≡◌, ℕ, Bool, false, List, [], length, Option, Some, None, option_map}
 use Rattle.n2k_id.specs.Frame.{IsFrame, bus_frame}
 use Rattle.gate_events.specs.declared.event.Event.{Event}
 use Rattle.gate_events.specs.declared.event.Event.TheVariants as event
@@ -8,6 +8,7 @@ use Rattle.iso_transport.specs.contracts.key.IsoKeyOrd as iso_key
 use Rattle.tag_block.specs.contracts.group_key.GroupKeyOrd as group_key
 use Rattle.claim_table.specs.Claims.{places}
 use Rattle.history.specs.Entries as entry
+use Rattle.history.specs.Emits.{is_there}
 use Rattle.history.specs.Entries.{Entry}
 use Rattle.gate_model.specs.Said.{Complete, Ordered, reading_by, ordered_by}
 use Rattle.gate_model.specs.Machine.{Compared, Machine, Step}
@@ -50,11 +51,17 @@ abbrev pub first_there : {T : Type 0} → Option T → Option T → Option T
 first_there None before = before
 first_there (Some there) before = Some there
 
+-- whether the message is selected that a step completes: then its datagram is posted. Without a message it is as before
+abbrev pub selected_by : Option Complete → List Emit → Bool → Bool
+selected_by None posted before = before
+selected_by (Some d) posted before = is_there posted
+
 -- an outbox with all that a step leaves behind what was in it, as far as there is room
 abbrev pub and_step : ℕ → Output → Step → Output
 and_step name o x = record {
   emits = and_left most_told o.emits (record { told = x.told; posted = x.posted });
   done = first_there (option_map done_of x.complete) o.done;
+  selected = selected_by x.complete x.posted o.selected;
   command = first_there (option_map command_of (ordered_by name x.complete)) o.command;
 }
 
@@ -63,9 +70,10 @@ abbrev pub output_of : ℕ → Step → Output
 output_of name x = record {
   emits = record { told = x.told; posted = x.posted };
   done = option_map done_of x.complete;
+  selected = selected_by x.complete x.posted false;
   command = option_map command_of (ordered_by name x.complete);
 }
 
 -- one that completes no message
 abbrev pub only_told : List Emit → Output
-only_told told = record { emits = record { told = told; posted = [] }; done = None; command = None }
+only_told told = record { emits = record { told = told; posted = [] }; done = None; selected = false; command = None }

@@ -33,7 +33,7 @@ fn picked(moment: u64, outbox: &Outbox) -> Option<SelectedMessage>
     ensures selected { result ≡ picked_at moment outbox.now }
     ensures valid { IsMessageValid result }
 {
-    if outbox.selected().is_none() {
+    if !outbox.selected() {
         return None;
     }
     let done = outbox.done()?;

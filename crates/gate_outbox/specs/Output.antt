@@ -1,16 +1,13 @@
--- What a step of the gateway leaves: what is to be sent and reported, in its order, the message that it completed, and the command
--- that this message gives (ISO 11783-5, commanded address).
-use Rattle.std.specs.Prelude.{ℕ, ◌+◌, ◌≤◌, nat_lt, Bool, true, false, if◌then◌else◌, List, [], ◌∷◌, ◌++◌, length, filter, Option, Some, None, IfSome}
+-- What a step of the gateway leaves: what is to be sent and reported, in its order, the message that it completed, whether that is selected,
+-- and the command that it gives (ISO 11783-5, commanded address).
+use Rattle.std.specs.Prelude.{ℕ, ◌+◌, ◌≤◌, nat_lt, Bool, true, false, if◌then◌else◌, List, [], ◌∷◌, ◌++◌, length, filter, Option, None, IfSome}
 use Rattle.n2k_id.specs.Frame.{bus_frame}
-use Rattle.readings.specs.declared.reading.Reading.{Reading}
-use Rattle.readings.specs.declared.rows.Row.{Row}
-use Rattle.readings.specs.Rows.{IsValid, row_of}
+use Rattle.readings.specs.Rows.{IsValid}
 use Rattle.gate_events.specs.declared.emit.Emit.{Emit as Lent}
 use Rattle.gate_events.specs.declared.emit.Emit.TheVariants as lent
 use Rattle.gate_events.specs.Emit.{Emit, can, net, report}
 use Rattle.gate_outbox.specs.declared.done.Done.{Done}
 use Rattle.gate_outbox.specs.declared.done.Command.{Command}
-use Rattle.history.specs.Emits.{is_there}
 
 -- what is told, in its order, and the datagram behind it, where it is there
 pub record Emitted : Type 0 where
@@ -53,48 +50,43 @@ is_datagram (can frame) = false
 is_datagram (net group bytes) = true
 is_datagram (report what) = false
 
+-- the most datagrams that are posted at an event: a frame completes at most one message, whose reading is said in one datagram with all
+-- its sentences, and no other event says anything on the network (IEC 61162-450)
+abbrev pub most_datagrams : ℕ
+most_datagrams = 1
+
 -- what holds of all emits where there is room for so many that are told
 pub record IsEmitted (room : ℕ) (x : Emitted) : Type 0 where
-  pub most : length (emits_of x) ≤ room + 1
-  pub datagrams : length (filter is_datagram (emits_of x)) ≤ 1
+  pub most : length (emits_of x) ≤ room + most_datagrams
+  pub datagrams : length (filter is_datagram (emits_of x)) ≤ most_datagrams
 
 -- ---- a step
 
 pub record Output : Type 0 where
   pub emits : Emitted
   pub done : Option Done
+  -- whether this message is selected
+  pub selected : Bool
   pub command : Option Command
 
 abbrev pub nothing : Output
-nothing = record { emits = no_emits; done = None; command = None }
+nothing = record { emits = no_emits; done = None; selected = false; command = None }
 
 -- the most that a step tells, and the most emits in all
 abbrev pub most_told : ℕ
 most_told = 4095
 
 abbrev pub most_emits : ℕ
-most_emits = 4096
+most_emits = most_told + most_datagrams
 
 -- what holds of every outbox
 pub record IsOutput (o : Output) : Type 0 where
   pub most : length (emits_of o.emits) ≤ most_emits
-  pub datagrams : length (filter is_datagram (emits_of o.emits)) ≤ 1
+  pub datagrams : length (filter is_datagram (emits_of o.emits)) ≤ most_datagrams
 
 -- what a message says of a row has its range
 abbrev pub IsDoneValid : Option Done → Type 0
 IsDoneValid done = IfSome done (λ d. IfSome d.reading IsValid)
-
-abbrev row_said : Option Reading → Option Row
-row_said None = None
-row_said (Some r) = Some (row_of r)
-
-abbrev pub row_done : Option Done → Option Row
-row_done None = None
-row_done (Some d) = row_said d.reading
-
--- the row of the message that was selected: it is said in the datagram
-abbrev pub selected_row : Output → Option Row
-selected_row o = if is_there o.emits.posted then row_done o.done else None
 
 -- the plain value of an emit that is lent
 abbrev pub emit_of : Lent → Emit

@@ -16,7 +16,11 @@ use sentence_text::Group;
 use std::marker::Model;
 use tag_block::Packet;
 
-/// Frames and reports in their order, as many as there is `ROOM` for, and behind them at most one datagram.
+/// The most datagrams of an event, for which [`Emits`] has room. A frame completes at most one message, whose reading the gateway says in one
+/// datagram with all its sentences; no other event says anything on the network.
+pub const MOST_DATAGRAMS: usize = 1;
+
+/// Frames and reports in their order, as many as there is `ROOM` for, and behind them at most [`MOST_DATAGRAMS`] datagram.
 #[derive(Drop)]
 pub struct Emits<const ROOM: usize> {
     kept: KeptList<ROOM>,
@@ -85,13 +89,6 @@ impl<const ROOM: usize> Emits<ROOM> {
         ensures { result ≡ (is_there self.now.posted && (place == length self.now.told)) }
     {
         self.posted && place == self.kept.len()
-    }
-
-    /// Whether a datagram is there.
-    pub fn is_posted(&self) -> bool
-        ensures { result ≡ is_there self.now.posted }
-    {
-        self.posted
     }
 
     /// The datagram, where it is there: all else is none.

@@ -12,5 +12,5 @@ pub mod reports;
 
 pub use datagram::Datagram;
 pub use done::{Command, Done};
-pub use emits::Emits;
+pub use emits::{Emits, MOST_DATAGRAMS};
 pub use outbox::{MOST_TOLD, Outbox, StepEmits};

@@ -2,25 +2,30 @@
 ghost use Rattle.std.specs.Prelude.{◌≡◌, ◌<◌, ◌↔◌, length, option_map, slice_get, IfSome, IsSome, Some};
 ghost use Rattle.gate_events.specs.Emit.{CanWrite};
 ghost use Rattle.readings.specs.Rows.{IsValid};
-ghost use Rattle.gate_outbox.specs.Output.{IsDoneValid, IsOutput, nothing, emit_of, emits_of, selected_row};
+ghost use Rattle.gate_outbox.specs.Output.{IsDoneValid, IsOutput, nothing, emit_of, emits_of};
 
 use crate::done::{Command, Done};
-use crate::emits::Emits;
+use crate::emits::{Emits, MOST_DATAGRAMS};
 use gate_events::Emit;
-use readings::{Row, row};
 use std::marker::Model;
 
-/// The most frames and reports of a step.
-pub const MOST_TOLD: usize = 4095;
+/// The most emits of a step.
+const MOST_EMITS: usize = 4096;
 
-/// The emits of a step: at most 4,096, of which at most one is a datagram.
+/// The most frames and reports of a step: its datagram finds room behind them.
+pub const MOST_TOLD: usize = MOST_EMITS - MOST_DATAGRAMS;
+
+/// The emits of a step: at most [`MOST_EMITS`], of which at most [`MOST_DATAGRAMS`] is a datagram.
 pub type StepEmits = Emits<MOST_TOLD>;
 
-/// What a step of the gateway leaves: its emits, the message that the step completed, and the command that this message gives.
+/// What a step of the gateway leaves: its emits, the message that the step completed, whether the step selected it, and the command that
+/// it gives.
 #[derive(Drop)]
 pub struct Outbox {
     pub emits: StepEmits,
     done: Option<Done>,
+    /// Whether the step selected this message.
+    selected: bool,
     command: Option<Command>,
 }
 
@@ -29,7 +34,7 @@ impl Model for Outbox {
 
     ghost Value = { Output };
 
-    ghost view = { λ o. record { emits = o.emits; done = o.done; command = o.command } };
+    ghost view = { λ o. record { emits = o.emits; done = o.done; selected = o.selected; command = o.command } };
 
     ghost invariant = { λ o. IsDoneValid o.done };
 }
@@ -42,6 +47,7 @@ impl Outbox {
         Outbox {
             emits: Emits::new(),
             done: None,
+            selected: false,
             command: None,
         }
     }
@@ -55,6 +61,7 @@ impl Outbox {
         if self.done.is_some() {
             self.done = None;
         }
+        self.selected = false;
         self.command = None;
     }
 
@@ -83,19 +90,11 @@ impl Outbox {
         self.done
     }
 
-    /// The row of this message, where it was selected: its datagram is there.
-    pub fn selected(&self) -> Option<Row>
-        ensures { result ≡ selected_row self.now }
+    /// Whether the step selected this message.
+    pub fn selected(&self) -> bool
+        ensures { result ≡ self.now.selected }
     {
-        match self.done {
-            Some(
-                Done {
-                    reading: Some(reading),
-                    ..
-                },
-            ) if self.emits.is_posted() => Some(row(&reading)),
-            _ => None,
-        }
+        self.selected
     }
 
     /// The command that this message gives.
@@ -105,12 +104,13 @@ impl Outbox {
         self.command
     }
 
-    /// Notes the message that the step completed.
-    pub fn complete(&mut self, done: Done)
+    /// Notes the message that the step completed, and whether the step selected it.
+    pub fn complete(&mut self, done: Done, selected: bool)
         requires { IfSome done.reading IsValid }
-        ensures { self.new ≡ record self.old { done = Some done } }
+        ensures { self.new ≡ record self.old { done = Some done; selected = selected } }
     {
         self.done = Some(done);
+        self.selected = selected;
     }
 
     /// Notes the command that this message gives.

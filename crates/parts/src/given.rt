@@ -1,5 +1,6 @@
 //! A place for frames and reports, and a datagram behind them.
 ghost use Rattle.std.specs.Prelude.{◌≡◌, ◌≤◌, ◌+◌, [], length};
+ghost use Rattle.gate_outbox.specs.Output.{most_datagrams};
 ghost use Rattle.parts.specs.Lanes.{given_output, given_plain};
 
 use crate::place::Place;
@@ -20,7 +21,7 @@ impl<const ROOM: usize> Place for Given<ROOM> {
 
     ghost plain = { given_plain };
 
-    ghost most = { ROOM + 1 };
+    ghost most = { ROOM + most_datagrams };
 
     fn new() -> Self {
         Given {

@@ -8,6 +8,7 @@ ghost use Rattle.source_choice.specs.Choices.{opened, forgotten};
 ghost use Rattle.sentence_fields.specs.Field.{most_sentences};
 ghost use Rattle.tag_block.specs.Tag.{most_count};
 ghost use Rattle.history.specs.Choice.{rank_of, reading_in};
+ghost use Rattle.history.specs.Emits.{is_there};
 ghost use Rattle.gate_events.specs.Emit.{net};
 ghost use Rattle.history.specs.Settings.{rule_of, same_text};
 ghost use Rattle.gate_model.specs.Net.{row_numbers};
@@ -83,30 +84,32 @@ impl Said {
         })
     }
 
-    /// Takes what a message says: a reading is noted where its sender has a rank in the row, and said where it is selected.
+    /// Takes what a message says: a reading is noted where its sender has a rank in the row, and said where it is selected. It answers
+    /// whether it is.
     pub fn take(
         &mut self,
         config: &SelectiveConfig,
         sender: Sender,
         profiled: &Profiled,
         out: &mut StepEmits,
-    )
+    ) -> bool
         requires config { IsConfig config.now.base }
         requires source { sender.source < 254 }
         requires valid { IfSome (reading_in profiled.now) IsValid }
         ensures after { self.new ≡ profiled_after (settings_by config.now) self.old (message_from sender) (reading_in profiled.now) }
         ensures emits { out.new ≡ and_posted out.old (profiled_emits (settings_by config.now) self.old (message_from sender) (reading_in profiled.now)) }
+        ensures selected { result ≡ is_there (profiled_emits (settings_by config.now) self.old (message_from sender) (reading_in profiled.now)) }
     {
         match profiled {
             Profiled::Reading(reading) => match rank_in(config, row(reading), sender.name) {
                 Some(rank) => self.take_ranked(config, sender, rank, reading, out),
-                None => {}
+                None => false,
             },
-            Profiled::Outside | Profiled::Short => {}
+            Profiled::Outside | Profiled::Short => false,
         }
     }
 
-    /// Notes a reading, and says it where it is selected.
+    /// Notes a reading, and says it where it is selected: it answers whether it is.
     fn take_ranked(
         &mut self,
         config: &SelectiveConfig,
@@ -114,17 +117,20 @@ impl Said {
         rank: Rank,
         reading: &Reading,
         out: &mut StepEmits,
-    )
+    ) -> bool
         requires config { IsConfig config.now.base }
         requires source { sender.source < 254 }
         requires valid { IsValid reading.now }
         ensures after { self.new ≡ ranked_after (settings_by config.now) self.old (message_from sender) reading.now (Some rank) }
         ensures emits { out.new ≡ and_posted out.old
             (ranked_emits (settings_by config.now) self.old (message_from sender) reading.now (Some rank)) }
+        ensures selected { result ≡ is_chosen self.old (message_from sender) rank reading.now }
     {
-        if self.choose(sender, rank, reading) {
+        let selected = self.choose(sender, rank, reading);
+        if selected {
             self.say(config, reading, out);
         }
+        selected
     }
 
     /// Notes what the sender said of the row, and says whether the reading is selected.

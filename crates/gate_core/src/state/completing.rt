@@ -74,7 +74,8 @@ pub(crate) fn take_message(
     }
 }
 
-/// Says what a message of a sender says, where it is selected, and tells of the message and of the command that it gives.
+/// Says what a message of a sender says, where it is selected, and tells of the message, whether it is selected, and of the command that it
+/// gives.
 #[tactic(auto, using(crate::proofs::Completing::same_after, crate::proofs::Completing::same_emits, crate::proofs::Completing::valid_reading))]
 fn say(
     said: &mut Said,
@@ -91,8 +92,8 @@ fn say(
     ensures after { said.new ≡ message_after (settings_by config.now) said.old (Some (whole sender (carried_in message.entry))) }
     ensures output { out.new ≡ and_complete (settings_by config.now) said.old out.old (Some (whole sender (carried_in message.entry))) }
 {
-    said.take(config, sender, says, &mut out.emits);
-    tell(sender, message.pgn, says, out);
+    let selected = said.take(config, sender, says, &mut out.emits);
+    tell(sender, message.pgn, says, selected, out);
     order(config, sender, message, out);
 }
 
@@ -111,14 +112,16 @@ fn order(config: &SelectiveConfig, sender: Sender, message: Message<'_>, out: &m
     }
 }
 
-/// Tells of a message of the PGN.
-fn tell(sender: Sender, pgn: u32, says: &Profiled, out: &mut Outbox)
+/// Tells of a message of the PGN, and whether it is selected.
+fn tell(sender: Sender, pgn: u32, says: &Profiled, selected: bool, out: &mut Outbox)
     requires { GivesValid says.now }
-    ensures { out.new ≡ record out.old { done = Some (done_with sender pgn (reading_in says.now)) } }
+    ensures { out.new ≡ record out.old { done = Some (done_with sender pgn (reading_in says.now)); selected = selected } }
 {
     match says {
-        Profiled::Reading(reading) => out.complete(done_with(sender, pgn, Some(*reading))),
-        Profiled::Outside | Profiled::Short => out.complete(done_with(sender, pgn, None)),
+        Profiled::Reading(reading) => {
+            out.complete(done_with(sender, pgn, Some(*reading)), selected);
+        }
+        Profiled::Outside | Profiled::Short => out.complete(done_with(sender, pgn, None), selected),
     }
 }
 

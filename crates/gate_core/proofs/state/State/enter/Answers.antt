@@ -12,5 +12,5 @@ returns-clause-after c =
 pub returns-clause-output : goal.returns-clause-output
 returns-clause-output c =
     entered_output c.args.self.now c.pass_time.new.self (entry_of c.args.event.now) c.args.moment c.requires.moment c.pass_time.ensures.after
-    c.out.inside.emits c.pass_time.new.out c.out.inside.done c.out.inside.command c.args.out.now c.handle-changed.new.out c.out.view_is
+    c.out.inside.emits c.pass_time.new.out c.out.inside.done c.out.inside.selected c.out.inside.command c.args.out.now c.handle-changed.new.out c.out.view_is
     c.pass_time.ensures.emits c.handle-changed.ensures.output

@@ -11,7 +11,7 @@ use Rattle.gate_core.proofs.state.State.feed_session.Goals as goal
 pub returns-clause-output : goal.returns-clause-output
 returns-clause-output c =
     let g = the_view c.self.inside in
-    let next : Output = record { emits = c.out-2.inside.emits; done = c.out-2.inside.done; command = c.out-2.inside.command } in
+    let next : Output = record { emits = c.out-2.inside.emits; done = c.out-2.inside.done; selected = c.out-2.inside.selected; command = c.out-2.inside.command } in
     let own : c.own-own.result ≡ g.addresses.claims.own = c.own-own.ensures ∙ ap (λ z. z.addresses.claims.own) (sym c.self.view_is) in
     let gives = rw c.claims.ensures at (c.out-2.view_is ∙ c.complete.ensures.output) in
     let tells = c.hear-fed.ensures.emits
