@@ -1,6 +1,6 @@
 -- The notes of a subject, the least source first.
-use Rattle.std.proofs.Common.{◌≡◌, ◌≢◌, ℕ, ◌+◌, ◌<◌, ◌≤◌, ◌==◌, not, ◌↔◌, IsTrue, nat_lt, nat_le, Bool, true, false, cond, None, Some, List, [], ◌∷◌, length, get_or, set, refl, sym, ◌∙◌, ap, arith, if◌then◌else◌}
-use Rattle.std.specs.List.{position, position_or_len, insert, list_any}
+use Rattle.std.proofs.Common.{◌≡◌, ◌≢◌, ℕ, zero, suc, ◌+◌, ◌<◌, ◌≤◌, ◌==◌, not, ◌↔◌, IsTrue, nat_lt, nat_le, Bool, true, false, cond, None, Some, List, [], ◌∷◌, length, get_or, set, refl, sym, ◌∙◌, ap, arith, if◌then◌else◌}
+use Rattle.std.specs.List.{position_or_len, insert, list_any}
 use Rattle.std.proofs.lemmas.List.Edits.{length-insert}
 use Rattle.std.proofs.lemmas.List.Sums.{prefix_len-le-length}
 use Rattle.std.proofs.lemmas.Bool.Decides.{nat_tests}
@@ -79,8 +79,65 @@ room top x d ns below from other =
     let same = ap (λ (xs : List Note). length xs) (insert_is x d ns other) in
     omega (arith, more, long, same)
 
-pub past_all : (p : Note → Bool) (ns : List Note) → position p ns ≡ None → length ns ≡ position_or_len p ns
-past_all p ns e = grind (arith, prefix_len-le-length, nat_tests)
+-- no source is less than the first may be
+least : (low top k : ℕ) (d : Note) (ns : List Note) → AreFrom low top ns → k < length ns → low ≤ (get_or ns k d).source
+least low top k d [] from within = absurd (omega (arith, within))
+least low top zero d (n ∷ ns) from within = from.0
+least low top (suc k) d (n ∷ ns) from within =
+    let rest = least (n.source + 1) top k d ns from.2 (omega (arith, within)) in omega (arith, from.0, rest)
+
+behind : (t : Bool) (k j : ℕ) → t ≡ false → k < 1 + j → k < cond (not t) (1 + j) 0
+behind true k j is within = absurd cc
+behind false k j is within = within
+
+-- the place of a source is behind each smaller one
+pub past : (low top source k : ℕ) (d : Note) (ns : List Note) → AreFrom low top ns → k < length ns → (get_or ns k d).source < source → k < place source ns
+past low top source k d [] from within smaller = absurd (omega (arith, within))
+past low top source zero d (n ∷ ns) from within smaller =
+    let here : not_before source n ≡ false = grind arith in behind (not_before source n) 0 (place source ns) here (omega arith)
+past low top source (suc k) d (n ∷ ns) from within smaller =
+    let more = least (n.source + 1) top k d ns from.2 (omega (arith, within)) in
+    let here : not_before source n ≡ false = grind (arith, more, smaller) in
+    let rest = past (n.source + 1) top source k d ns from.2 (omega (arith, within)) smaller in
+    behind (not_before source n) (suc k) (place source ns) here (omega (arith, rest))
+
+upto_step : (t : Bool) (k j : ℕ) → (t ≡ false → 1 + j ≤ k) → cond (not t) (1 + j) 0 ≤ k
+upto_step true k j rest = omega arith
+upto_step false k j rest = rest refl
+
+-- and not behind one that isn't smaller
+pub upto : (source k : ℕ) (d : Note) (ns : List Note) → k < length ns → source ≤ (get_or ns k d).source → place source ns ≤ k
+upto source k d [] within le = absurd (omega (arith, within))
+upto source zero d (n ∷ ns) within le =
+    let here : not_before source n ≡ true = le-leb source n.source le in
+    upto_step (not_before source n) 0 (place source ns) (λ other. let never : true ≡ false = sym here ∙ other in absurd cc)
+upto source (suc k) d (n ∷ ns) within le =
+    upto_step (not_before source n) (suc k) (place source ns) (λ _. omega (arith, upto source k d ns (omega (arith, within)) le))
+
+at_step : (t : Bool) (k j : ℕ) → t ≡ false → j ≡ k → suc k ≡ cond (not t) (1 + j) 0
+at_step true k j is same = absurd cc
+at_step false k j is same = omega (arith, same)
+
+-- a source that is noted has its note at its place
+found_at : (low top source k : ℕ) (d : Note) (ns : List Note) → AreFrom low top ns → k < length ns → (get_or ns k d).source ≡ source → k ≡ place source ns
+found_at low top source k d [] from within same = absurd (omega (arith, within))
+found_at low top source zero d (n ∷ ns) from within same =
+    let here : not_before source n ≡ true = le-leb source n.source (omega (arith, same)) in rw here refl
+found_at low top source (suc k) d (n ∷ ns) from within same =
+    let more = least (n.source + 1) top k d ns from.2 (omega (arith, within)) in
+    let here : not_before source n ≡ false = grind (arith, more, same) in
+    at_step (not_before source n) k (place source ns) here (sym (found_at (n.source + 1) top source k d ns from.2 (omega (arith, within)) same))
+
+pub noted_at : (top source k : ℕ) (ns : List Note) → AreFrom 0 top ns → ((d : Note) → (k < length ns) × ((get_or ns k d).source ≡ source)) → (k ≡ place source ns) × (k ≤ length ns)
+noted_at top source k ns from here =
+    let d : Note = record { source = source; rank = record { place = 0; name = 0 }; moment = 0; usable = false } in
+    (found_at 0 top source k d ns from (here d).0 (here d).1, omega (arith, (here d).0))
+
+-- what the note at a place passes is passed by one of all
+pub any_at : (p : Note → Bool) (k : ℕ) (x : Note) (ns : List Note) → k < length ns → x ≡ get_or ns k x → p x ≡ true → list_any p ns ≡ true
+any_at p k x [] within is passes = absurd (omega (arith, within))
+any_at p zero x (n ∷ ns) within is passes = rw (← is, passes) refl
+any_at p (suc k) x (n ∷ ns) within is passes = let rest = any_at p k x ns (omega (arith, within)) is passes in grind (arith, rest)
 
 -- the same, of copies of the list and of its place
 pub set_at : (x : Note) (k : ℕ) (ns ms os : List Note) → ms ≡ ns → os ≡ ns → k ≡ place x.source ms → ((d : Note) → (k < length os) × ((get_or os k d).source ≡ x.source)) → set ns k x ≡ with_note x ns

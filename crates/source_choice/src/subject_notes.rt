@@ -1,5 +1,5 @@
 //! What the sources of one subject said last, in the order of the sources.
-ghost use Rattle.std.specs.Prelude.{◌≡◌, ◌<◌, ◌≢◌, ◌≤◌, [], false, nat_le, position, slice_index_or, length, ◌↔◌, IsTrue, vec_len, vec_capacity, IfOk};
+ghost use Rattle.std.specs.Prelude.{◌≡◌, ◌<◌, ◌≢◌, ◌≤◌, [], true, false, nat_le, slice_index_or, length, ◌↔◌, IsTrue, vec_len, vec_capacity, IfOk};
 ghost use Rattle.std.specs.List.{list_any, position_or_len, insert};
 ghost use Rattle.source_choice.specs.Choices.{IsFirst};
 ghost use Rattle.source_choice.specs.Notes.{SubjectNotes as Kept, AreFrom, is_selected, outranks, with_note, without};
@@ -17,6 +17,8 @@ pub(crate) struct SubjectNotes {
     /// In milliseconds.
     timeout: u32,
     notes: Vec<Note>,
+    /// Where the source stood that was selected last. It is looked at first, because it mostly keeps the others back, or speaks again itself.
+    leader: usize,
 }
 
 impl Model for SubjectNotes {
@@ -39,6 +41,7 @@ impl SubjectNotes {
             sources,
             timeout,
             notes,
+            leader: 0,
         })
     }
 
@@ -48,7 +51,7 @@ impl SubjectNotes {
         ensures value { result ≡ is_selected self.now source rank moment }
         ensures first { IsTrue result ↔ IsFirst self.now source rank moment }
     {
-        !any_outranks(&self.notes, self.timeout, source, rank, moment)
+        !any_outranks(&self.notes, self.leader, self.timeout, source, rank, moment)
     }
 
     /// Notes what a source said, in the place of what was noted of it.
@@ -56,7 +59,19 @@ impl SubjectNotes {
         requires { note.source < self.old.sources }
         ensures { self.new ≡ record self.old { notes = with_note note self.old.notes } }
     {
-        renew(&mut self.notes, self.sources, note);
+        let leads = note.usable
+            && !outranks_at(
+                &self.notes,
+                self.leader,
+                self.timeout,
+                note.source,
+                note.rank,
+                note.moment,
+            );
+        let place = renew(&mut self.notes, self.sources, self.leader, note);
+        if leads {
+            self.leader = place;
+        }
     }
 
     /// Nothing is noted of the source any more.
@@ -68,25 +83,70 @@ impl SubjectNotes {
     }
 }
 
-/// Whether one of these keeps back another source of this rank.
-fn any_outranks(notes: &[Note], timeout: u32, source: u8, rank: Rank, moment: u64) -> bool
+/// Whether one of these keeps back another source of this rank. The likely one is asked first.
+fn any_outranks(
+    notes: &[Note],
+    likely: usize,
+    timeout: u32,
+    source: u8,
+    rank: Rank,
+    moment: u64,
+) -> bool
     ensures { result ≡ list_any (outranks timeout source rank moment) notes.now }
 {
-    notes
-        .iter()
-        .any(|note| note.outranks(timeout, source, rank, moment))
+    outranks_at(notes, likely, timeout, source, rank, moment)
+        || notes
+            .iter()
+            .any(|note| note.outranks(timeout, source, rank, moment))
 }
 
-/// The first place that no smaller source has.
-#[tactic(auto, using(crate::proofs::NoteLemmas::past_all))]
-fn place_of(notes: &[Note], source: u8) -> usize
+/// Whether the note at this place keeps back another source of this rank.
+fn outranks_at(
+    notes: &[Note],
+    place: usize,
+    timeout: u32,
+    source: u8,
+    rank: Rank,
+    moment: u64,
+) -> bool
+    ensures { IsTrue result → list_any (outranks timeout source rank moment) notes.now ≡ true }
+{
+    match notes.get(place) {
+        Some(note) => note.outranks(timeout, source, rank, moment),
+        None => false,
+    }
+}
+
+/// The first place that no smaller source has. The likely one is looked at first.
+fn place_of(notes: &[Note], sources: u16, likely: usize, source: u8) -> usize
+    requires kept { AreFrom 0 sources notes.now }
     ensures place { result ≡ position_or_len (λ n. nat_le source n.source) notes.now }
     ensures within { result ≤ length notes.now }
 {
-    match position_of(notes, source) {
-        Some(place) => place,
-        None => notes.len(),
+    if is_at(notes, likely, source) {
+        likely
+    } else {
+        search(notes, sources, source)
     }
+}
+
+/// The first place that no smaller source has: the part where it lies is halved until nothing is left of it.
+fn search(notes: &[Note], sources: u16, source: u8) -> usize
+    requires kept { AreFrom 0 sources notes.now }
+    ensures place { result ≡ position_or_len (λ n. nat_le source n.source) notes.now }
+    ensures within { result ≤ length notes.now }
+{
+    let mut low = 0;
+    let mut high = notes.len();
+    while low < high {
+        let middle = low + (high - low) / 2;
+        if notes[middle].source < source {
+            low = middle + 1;
+        } else {
+            high = middle;
+        }
+    }
+    low
 }
 
 /// Whether the note at this place is of the source.
@@ -100,12 +160,6 @@ fn is_at(notes: &[Note], place: usize, source: u8) -> bool
     }
 }
 
-fn position_of(notes: &[Note], source: u8) -> Option<usize>
-    ensures { result ≡ position (λ n. nat_le source n.source) notes.now }
-{
-    notes.iter().position(|note| source <= note.source)
-}
-
 fn drop_source(notes: &mut Vec<Note>, source: u8)
     ensures items { notes.new.items ≡ without source notes.old.items }
     ensures capacity { vec_capacity notes.new ≡ vec_capacity notes.old }
@@ -113,8 +167,8 @@ fn drop_source(notes: &mut Vec<Note>, source: u8)
     notes.retain(|note| note.source != source);
 }
 
-/// Puts a note in the place of what was noted of its source.
-fn renew(notes: &mut Vec<Note>, sources: u16, note: Note)
+/// Puts a note in the place of what was noted of its source, and answers where that is. The likely place is looked at first.
+fn renew(notes: &mut Vec<Note>, sources: u16, likely: usize, note: Note) -> usize
     requires below { note.source < sources }
     requires kept { AreFrom 0 sources notes.old.items }
     requires room { sources ≤ vec_capacity notes.old }
@@ -122,12 +176,13 @@ fn renew(notes: &mut Vec<Note>, sources: u16, note: Note)
     ensures kept { AreFrom 0 sources notes.new.items }
     ensures room { sources ≤ vec_capacity notes.new }
 {
-    let place = place_of(notes, note.source);
+    let place = place_of(notes, sources, likely, note.source);
     if is_at(notes, place, note.source) {
         notes[place] = note;
     } else {
         put(notes, place, note);
     }
+    place
 }
 
 /// Puts a note in its place, where there is room.
