@@ -14,16 +14,30 @@ pub(crate) fn is_digit(byte: u8) -> bool
     byte.is_ascii_digit()
 }
 
+/// The class of each byte, by its code: `a` of those that an address has, `f` of those that only fields have, `-` of all others. One look
+/// here takes half as long as to compare with the ranges.
+static CLASSES: [u8; 256] = *b"\
+    --------------------------------\
+    f-ff-fffff-fffffaaaaaaaaaaffffff\
+    faaaaaaaaaaaaaaaaaaaaaaaaaaf-fff\
+    fffffffffffffffffffffffffffffff-\
+    --------------------------------\
+    --------------------------------\
+    --------------------------------\
+    --------------------------------";
+
+#[tactic(auto, using(crate::proofs::Classes::address_is))]
 pub(crate) fn is_address_byte(byte: u8) -> bool
     ensures { result ≡ class.is_address_byte byte }
 {
-    is_capital(byte) || is_digit(byte)
+    CLASSES[usize::from(byte)] == b'a'
 }
 
+#[tactic(auto, using(crate::proofs::Classes::body_is))]
 pub(crate) fn is_body_byte(byte: u8) -> bool
     ensures { result ≡ class.is_body_byte byte }
 {
-    matches!(byte, b' '..=b'~') && !matches!(byte, b'$' | b'!' | b'\\' | b'*')
+    CLASSES[usize::from(byte)] >= b'a'
 }
 
 pub(crate) fn all_capital(bytes: &[u8]) -> bool
