@@ -18,7 +18,7 @@ use Rattle.gate_model.specs.Machine.{Machine}
 use Rattle.gate_model.proofs.AddressTells.{standing_tells_alike}
 use Rattle.gate_outbox.specs.Output.{Emitted, Output, and_told, emits_of, no_emits, told_with}
 use Rattle.gate_outbox.proofs.Telling.{told_fits}
-use Rattle.gate_core.specs.Steps.{entry_of}
+use Rattle.parts.specs.Steps.{entry_of}
 use Rattle.n2k_id.specs.declared.identifier_parts.Parts.{Parts}
 use Rattle.n2k_id.specs.Identifier.{parts_of}
 use Rattle.n2k_id.specs.Pgns as pgns
@@ -31,7 +31,7 @@ use Rattle.bus_identity.specs.Requests.{is_due}
 use Rattle.bus_answers.specs.Answered.{answer_by, answered_before, own_after, ready_after, sent_before}
 use Rattle.bus_answers.specs.AnsweringPart.{answering_gives, answering_stands}
 use Rattle.bus_answers.specs.declared.answering.Answering.{Answering}
-use Rattle.gate_core.specs.Promises.{IsTaken}
+use Rattle.parts.specs.Promises.{IsTaken}
 use Rattle.parts.specs.PartSteps.{IsSaid, Says, entry_at}
 use Rattle.parts.specs.declared.part.Step.{Step}
 

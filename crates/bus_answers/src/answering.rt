@@ -11,13 +11,12 @@ ghost use Rattle.bus_answers.specs.Answered.{answer_by};
 ghost use Rattle.bus_answers.specs.AnsweringPart.{answering_asked, answering_gives, answering_stands, most_answered, unanswered};
 
 use bus_identity::{Answered, Frames, Identity, Product};
-use gate_core::Gateway;
 use gate_events::Event;
 use gate_outbox::Emits;
 use gate_outbox::reports::of_source;
 use n2k_id::pgn::REQUEST;
 use n2k_id::{Frame, parts};
-use parts::{Given, Part, Step};
+use parts::{Gateway, Given, Part, Step};
 use report_rules::NOT_READY;
 use settings::Setup;
 use std::alloc::{AllocError, Global};

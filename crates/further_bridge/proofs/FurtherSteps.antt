@@ -4,7 +4,7 @@ use Rattle.gate_events.specs.Emit.{Emit}
 use Rattle.history.specs.AddressLaws.{AreSettings}
 use Rattle.history.specs.Entries.{History}
 use Rattle.history.specs.Settings.{Settings}
-use Rattle.gate_core.specs.Promises.{IsTaken}
+use Rattle.parts.specs.Promises.{IsTaken}
 use Rattle.further_bridge.specs.FurtherRule.{FurtherRule}
 use Rattle.further_bridge.specs.Kept.{FurtherKept}
 use Rattle.further_bridge.specs.Promises.{IsFurtherStep, IsFurtherTaken, StandsFurther}

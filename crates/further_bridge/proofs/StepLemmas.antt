@@ -45,11 +45,11 @@ use Rattle.gate_model.proofs.ChoiceClaims.{claims_stand_chosen, other_entries_st
 use Rattle.gate_model.proofs.ChoiceMessages.{messages_fit_chosen, messages_stand_chosen}
 use Rattle.gate_model.proofs.SaidAddresses.{claims_fit}
 use Rattle.gate_outbox.specs.Output.{Emitted, Output, emits_of}
-use Rattle.gate_core.specs.declared.selected_message.SelectedMessage.{SelectedMessage}
-use Rattle.gate_core.specs.Picked.{IsPicked, message_of}
-use Rattle.gate_core.specs.Promises.{IsTaken as IsTakenByGateway}
-use Rattle.gate_core.specs.Selected.{last_of, selected_at}
-use Rattle.gate_core.proofs.Completed.{done_by}
+use Rattle.parts.specs.SelectedMessage.{SelectedMessage}
+use Rattle.parts.specs.Picked.{IsPicked, message_of}
+use Rattle.parts.specs.Promises.{IsTaken as IsTakenByGateway}
+use Rattle.parts.specs.Selected.{last_of, selected_at}
+use Rattle.parts.proofs.Completed.{done_by}
 use Rattle.joined_rmc.specs.JoinStands.{LastStands}
 use Rattle.joined_rmc.specs.declared.last_of_row.LastOfRow.{LastOfRow}
 use Rattle.joined_rmc.proofs.Commands.{last_stays}

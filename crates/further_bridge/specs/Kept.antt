@@ -24,7 +24,7 @@ use Rattle.gate_model.specs.Choosing.{is_ranked_chosen, ranked_after}
 use Rattle.gate_model.specs.Machine.{Machine}
 use Rattle.gate_model.specs.Said.{Complete}
 use Rattle.gate_outbox.specs.Output.{Emitted, emits_of, no_emits}
-use Rattle.gate_core.specs.declared.selected_message.SelectedMessage.{SelectedMessage}
+use Rattle.parts.specs.SelectedMessage.{SelectedMessage}
 use Rattle.joined_rmc.specs.declared.last_of_row.LastOfRow.{LastOfRow}
 use Rattle.joined_rmc.specs.Kept.{in_last, last_after, none_yet}
 use Rattle.bus_listener.specs.Kept.{Hearing}

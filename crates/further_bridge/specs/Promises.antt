@@ -13,9 +13,9 @@ use Rattle.history.specs.Settings.{Receiver, Settings, rule_of}
 use Rattle.gate_model.specs.ChoiceStands.{ChoicesStandFor}
 use Rattle.gate_model.specs.Machine.{Machine}
 use Rattle.gate_outbox.specs.Output.{Emitted, Output, emits_of}
-use Rattle.gate_core.specs.declared.selected_message.SelectedMessage.{SelectedMessage}
-use Rattle.gate_core.specs.Picked.{IsPicked}
-use Rattle.gate_core.specs.Promises.{IsTaken}
+use Rattle.parts.specs.SelectedMessage.{SelectedMessage}
+use Rattle.parts.specs.Picked.{IsPicked}
+use Rattle.parts.specs.Promises.{IsTaken}
 use Rattle.joined_rmc.specs.JoinStands.{LastStands}
 use Rattle.bus_listener.specs.Promises.{StandsListening}
 use Rattle.further_bridge.specs.FurtherOut.{further_out, further_receiver, lines_said, quantity_told}

@@ -4,7 +4,7 @@ ghost use Rattle.std.specs.Int.{IsInRange};
 ghost use Rattle.settings.specs.Setup.{IsQuantity};
 ghost use Rattle.quantities.specs.Told.{kind_of};
 ghost use Rattle.gate_outbox.specs.Output.{and_left, and_posted, no_emits};
-ghost use Rattle.gate_core.specs.Picked.{IsMessageValid};
+ghost use Rattle.parts.specs.Picked.{IsMessageValid};
 ghost use Rattle.bus_listener.specs.Steps.{IsEventValid, entry_of};
 ghost use Rattle.further_bridge.specs.FurtherRule.{further_rule};
 ghost use Rattle.bus_listener.specs.Promises.{IsListening};
@@ -16,7 +16,7 @@ use crate::kinds::OfQuantities;
 use crate::said::said_by;
 use arrayvec::ArrayVec;
 use bus_listener::{BusListener, Gateway};
-use gate_core::{Outbox, SelectedMessage};
+use parts::{Outbox, SelectedMessage};
 use gate_events::Event;
 use gate_outbox::Emits;
 use joined_rmc::LastOfRow;
@@ -60,7 +60,7 @@ impl Model for FurtherBridge {
     ghost use Rattle.quantities.specs.About.{quantities_count};
     ghost use Rattle.tag_block.specs.Tag.{most_count};
     ghost use Rattle.settings.specs.Setup.{IsQuantity};
-    ghost use Rattle.gate_core.specs.Picked.{IsMessageValid};
+    ghost use Rattle.parts.specs.Picked.{IsMessageValid};
     ghost use Rattle.further_bridge.specs.FurtherRule.{further_rule};
     ghost use Rattle.further_bridge.specs.Kept.{FurtherKept};
 

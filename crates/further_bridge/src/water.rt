@@ -1,13 +1,13 @@
 //! What the gateway itself says of the water's temperature.
 ghost use Rattle.std.specs.Prelude.{◌≡◌};
-ghost use Rattle.gate_core.specs.Picked.{IsMessageValid};
+ghost use Rattle.parts.specs.Picked.{IsMessageValid};
 ghost use Rattle.gate_model.specs.AddressStands.{name_held};
 ghost use Rattle.history.specs.Choice.{is_usable};
 ghost use Rattle.joined_rmc.specs.Kept.{lent};
 ghost use Rattle.further_bridge.specs.Kept.{is_water_said, water_heard};
 
 use crate::bridge::FurtherBridge;
-use gate_core::{Gateway, SelectedMessage};
+use parts::{Gateway, SelectedMessage};
 use readings::{Reading, Row, usable};
 
 impl FurtherBridge {

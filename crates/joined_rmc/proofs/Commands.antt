@@ -8,8 +8,8 @@ use Rattle.history.specs.Entries.{History, command}
 use Rattle.history.specs.Known.{known}
 use Rattle.history.specs.Settings.{receiver_of, Settings}
 use Rattle.history.proofs.TraceMoves.{commanded_holders}
-use Rattle.gate_core.specs.Picked.{message_of}
-use Rattle.gate_core.specs.Selected.{last_of}
+use Rattle.parts.specs.Picked.{message_of}
+use Rattle.parts.specs.Selected.{last_of}
 use Rattle.joined_rmc.specs.Lasting.{still_held}
 use Rattle.joined_rmc.specs.JoinStands.{CommandsKeepJoins, LastStands}
 use Rattle.joined_rmc.specs.RmcOut.{timeout_of}

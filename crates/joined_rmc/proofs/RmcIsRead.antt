@@ -17,7 +17,7 @@ use Rattle.history.specs.FromBus.{said_at}
 use Rattle.history.specs.Known.{held_since, known}
 use Rattle.history.specs.Messages.{Message, done}
 use Rattle.history.specs.Settings.{Settings, receiver_of, same_row}
-use Rattle.gate_core.specs.Selected.{Selected, last_of, newer, saying, selected_at, selected_with}
+use Rattle.parts.specs.Selected.{Selected, last_of, newer, saying, selected_at, selected_with}
 use Rattle.joined_rmc.specs.Lasting.{held_by, is_due, said_within, still_held, unless_old}
 use Rattle.joined_rmc.specs.RmcOut.{RmcRule, date_in, joined_in, latitude_in, lines_before, longitude_in, minimum, rmc_out, sent_to, speed_in, timeout_of, variation_in, datagram_by}
 use Rattle.parts.specs.Voices.{EachSays, in_one}

@@ -12,9 +12,9 @@ use Rattle.history.specs.Entries.{Entry, History}
 use Rattle.history.specs.Known.{known}
 use Rattle.history.specs.Settings.{receiver_of, Settings, same_row}
 use Rattle.gate_model.specs.AddressStands.{name_held}
-use Rattle.gate_core.specs.declared.selected_message.SelectedMessage.{SelectedMessage}
-use Rattle.gate_core.specs.Picked.{message_of}
-use Rattle.gate_core.specs.Selected.{Selected, selected_at, last_of, newer}
+use Rattle.parts.specs.SelectedMessage.{SelectedMessage}
+use Rattle.parts.specs.Picked.{message_of}
+use Rattle.parts.specs.Selected.{Selected, selected_at, last_of, newer}
 use Rattle.joined_rmc.specs.Lasting.{held_by, still_held}
 use Rattle.joined_rmc.specs.JoinStands.{LastStands}
 use Rattle.joined_rmc.specs.Kept.{held_in, is_named, newer_message, last_after}

@@ -17,9 +17,9 @@ use Rattle.gate_model.specs.AddressStands.{name_held}
 use Rattle.gate_model.specs.Machine.{Machine}
 use Rattle.gate_model.proofs.AddressTells.{standing_tells_alike}
 use Rattle.gate_outbox.specs.Output.{Output}
-use Rattle.gate_core.specs.declared.selected_message.SelectedMessage.{SelectedMessage}
-use Rattle.gate_core.specs.Picked.{IsPicked, message_of}
-use Rattle.gate_core.specs.Selected.{Selected, selected_at, last_of}
+use Rattle.parts.specs.SelectedMessage.{SelectedMessage}
+use Rattle.parts.specs.Picked.{IsPicked, message_of}
+use Rattle.parts.specs.Selected.{Selected, selected_at, last_of}
 use Rattle.joined_rmc.specs.Lasting.{is_due, said_within, still_held}
 use Rattle.joined_rmc.specs.JoinStands.{IsJoinStep, IsJoined, JoinStands, LastStands}
 use Rattle.joined_rmc.specs.Kept.{Join, bytes_in, counted, in_last, is_due_message, join_after, join_says, message_within, minimum_in, rows_after}

@@ -9,9 +9,9 @@ use Rattle.history.specs.Known.{known}
 use Rattle.history.specs.Settings.{receiver_of, Settings}
 use Rattle.gate_model.specs.Machine.{Machine}
 use Rattle.gate_outbox.specs.Output.{Output}
-use Rattle.gate_core.specs.Promises.{IsTaken}
-use Rattle.gate_core.specs.Picked.{message_of}
-use Rattle.gate_core.specs.Selected.{last_of}
+use Rattle.parts.specs.Promises.{IsTaken}
+use Rattle.parts.specs.Picked.{message_of}
+use Rattle.parts.specs.Selected.{last_of}
 use Rattle.joined_rmc.specs.declared.last_of_row.LastOfRow.{LastOfRow}
 use Rattle.joined_rmc.specs.Lasting.{still_held}
 use Rattle.joined_rmc.specs.Kept.{Join, bytes_in}

@@ -10,7 +10,7 @@ use Rattle.readings.specs.Rows.{row_of}
 use Rattle.sentence_profile.specs.declared.minimum.Minimum.{Minimum}
 use Rattle.tag_block.specs.Tag.{most_count}
 use Rattle.history.specs.Settings.{same_row}
-use Rattle.gate_core.specs.declared.selected_message.SelectedMessage.{SelectedMessage}
+use Rattle.parts.specs.SelectedMessage.{SelectedMessage}
 use Rattle.joined_rmc.specs.declared.last_of_row.LastOfRow.{LastOfRow}
 use Rattle.joined_rmc.specs.Lasting.{says_position, unless_old}
 use Rattle.joined_rmc.specs.RmcOut.{datagram_by, minimum_of, timeout_of}

@@ -10,7 +10,7 @@ use Rattle.history.specs.Choice.{is_usable}
 use Rattle.history.specs.Entries.{History}
 use Rattle.history.specs.Known.{known, held_since}
 use Rattle.history.specs.Settings.{receiver_of, Settings, same_row}
-use Rattle.gate_core.specs.Selected.{Selected, last_of}
+use Rattle.parts.specs.Selected.{Selected, last_of}
 
 -- its sender holds its address since an entry that isn't later
 abbrev pub held_by : Option ℕ → Selected → Option Selected

@@ -14,7 +14,7 @@ use Rattle.gate_events.specs.Emit.{Emit, net}
 use Rattle.history.specs.Entries.{Entry, History, moment_of}
 use Rattle.history.specs.Settings.{Settings}
 use Rattle.settings.specs.declared.rmc.RmcConfig.{RmcConfig}
-use Rattle.gate_core.specs.Selected.{selected_at}
+use Rattle.parts.specs.Selected.{selected_at}
 use Rattle.joined_rmc.specs.Lasting.{is_due, lasting}
 
 -- how RMC is said

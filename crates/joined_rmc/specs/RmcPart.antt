@@ -10,7 +10,7 @@ use Rattle.config_values.specs.declared.config.Config.{Config}
 use Rattle.config_values.specs.declared.row_config.RowConfig.{RowConfig}
 use Rattle.settings.specs.declared.rmc.RmcConfig.{RmcConfig}
 use Rattle.settings.specs.declared.setup.Setup.{Setup}
-use Rattle.gate_core.specs.Selected.{selected_at}
+use Rattle.parts.specs.Selected.{selected_at}
 use Rattle.parts.specs.Voices.{Spoken, in_one}
 use Rattle.joined_rmc.specs.JoinStands.{JoinStands}
 use Rattle.joined_rmc.specs.Lasting.{is_due}

@@ -3,11 +3,11 @@ ghost use Rattle.std.specs.Prelude.{◌≡◌, None, Some, IfSome, if◌then◌e
 ghost use Rattle.readings.specs.Rows.{IsValid, row_of};
 ghost use Rattle.history.specs.Settings.{same_row};
 ghost use Rattle.gate_model.specs.AddressStands.{name_held};
-ghost use Rattle.gate_core.specs.Picked.{IsMessageValid};
+ghost use Rattle.parts.specs.Picked.{IsMessageValid};
 ghost use Rattle.joined_rmc.specs.Lasting.{unless_old};
 ghost use Rattle.joined_rmc.specs.Kept.{none_yet, held_in, in_last, is_named, message_within, lent, last_held, last_with};
 
-use gate_core::{Gateway, SelectedMessage};
+use parts::{Gateway, SelectedMessage};
 use n2k_id::Name;
 use readings::{Reading, Row, row};
 

@@ -8,7 +8,7 @@ ghost use Rattle.sentence_profile.specs.Rmc.{IsMinimum};
 ghost use Rattle.history.specs.Settings.{Settings};
 ghost use Rattle.gate_model.specs.AddressStands.{name_held};
 ghost use Rattle.joined_rmc.specs.JoinStands.{IsJoinStep, JoinStands};
-ghost use Rattle.gate_core.specs.Picked.{IsMessageValid};
+ghost use Rattle.parts.specs.Picked.{IsMessageValid};
 ghost use Rattle.joined_rmc.specs.Lasting.{says_position};
 ghost use Rattle.joined_rmc.specs.Kept.{Join, bytes_in, counted, datagram_in, is_due_message, join_with, minimum_in, empty_join, rows_held, rows_with, with_says};
 ghost use Rattle.joined_rmc.specs.RmcOut.{datagram_by, rule_by};
@@ -16,7 +16,7 @@ ghost use Rattle.joined_rmc.specs.RmcOut.{datagram_by, rule_by};
 use crate::last_of_row::{LastOfRow, is_of};
 use crate::minimum::minimum;
 use datagram450::write_sentence;
-use gate_core::{Gateway, Outbox, SelectedMessage};
+use parts::{Gateway, Outbox, SelectedMessage};
 use readings::{ROWS, Row, usable};
 use sentence_fields::SentenceText;
 use sentence_rows::{Minimum, write_rmc};
@@ -46,7 +46,7 @@ impl Model for RmcJoin {
     ghost use Rattle.std.specs.List.{list_all};
     ghost use Rattle.sentence_text.specs.Byte.{is_capital};
     ghost use Rattle.tag_block.specs.Tag.{most_count};
-    ghost use Rattle.gate_core.specs.Picked.{IsMessageValid};
+    ghost use Rattle.parts.specs.Picked.{IsMessageValid};
     ghost use Rattle.joined_rmc.specs.Kept.{Join};
 
     ghost Value = { Join };

@@ -1,3 +1,7 @@
+pub use Rattle.gate_core.specs.Picked
+pub use Rattle.gate_core.specs.Promises
+pub use Rattle.gate_core.specs.Selected
+pub use Rattle.gate_core.specs.declared.selected_message.SelectedMessage
 pub use Rattle.gate_core.specs.Steps
 pub mod Compose
 pub mod Forms

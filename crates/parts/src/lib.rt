@@ -11,7 +11,7 @@ mod part;
 mod parts;
 mod place;
 
-pub use gate_core::{Gateway, moment_of};
+pub use gate_core::{Gateway, Outbox, SelectedMessage, moment_of};
 pub use given::Given;
 pub use lane::Lane;
 pub use part::{Part, Step};

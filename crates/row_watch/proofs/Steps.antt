@@ -11,11 +11,11 @@ use Rattle.datagram450.proofs.Counts.{counted_modulo}
 use Rattle.gate_events.specs.Emit.{Emit, net}
 use Rattle.history.specs.Entries.{Entry, History, moment_of}
 use Rattle.history.specs.Settings.{Settings}
-use Rattle.gate_core.specs.declared.selected_message.SelectedMessage.{SelectedMessage}
-use Rattle.gate_core.specs.Picked.{IsPicked, message_of}
+use Rattle.parts.specs.SelectedMessage.{SelectedMessage}
+use Rattle.parts.specs.Picked.{IsPicked, message_of}
 use Rattle.parts.specs.PartSteps.{Says, entry_at}
 use Rattle.parts.specs.declared.part.Step.{Step}
-use Rattle.gate_core.specs.Selected.{Selected, selected_at}
+use Rattle.parts.specs.Selected.{Selected, selected_at}
 use Rattle.settings.specs.declared.watch.AlertConfig.{AlertConfig}
 use Rattle.settings.specs.declared.watch.WatchConfig.{WatchConfig}
 use Rattle.row_watch.specs.Alert.{alert_text}

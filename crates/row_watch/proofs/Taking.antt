@@ -5,7 +5,7 @@ use Rattle.std.proofs.lemmas.List.{append-nil, at_drop_more, drop_all, get_or_at
 use Rattle.readings.specs.declared.rows.Row.{Row}
 use Rattle.readings.specs.declared.rows.Row.TheVariants as row
 use Rattle.gate_events.specs.Emit.{Emit, net}
-use Rattle.gate_core.specs.declared.selected_message.SelectedMessage.{SelectedMessage}
+use Rattle.parts.specs.SelectedMessage.{SelectedMessage}
 use Rattle.settings.specs.declared.watch.AlertConfig.{AlertConfig}
 use Rattle.row_watch.specs.WatchKept.{Watch, changed_at, counted, next_count, opened_row, row_after, row_in, row_taken, row_tells, rows_after, rows_change, told_from, watch_after, watch_tells}
 use Rattle.row_watch.specs.WatchOut.{Change, alert_of, change, report_of}

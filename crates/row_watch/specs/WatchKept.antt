@@ -9,7 +9,7 @@ use Rattle.tag_block.specs.Tag.{most_count}
 use Rattle.gate_events.specs.Emit.{Emit}
 use Rattle.history.specs.Choice.{is_usable}
 use Rattle.history.specs.Settings.{same_row}
-use Rattle.gate_core.specs.declared.selected_message.SelectedMessage.{SelectedMessage}
+use Rattle.parts.specs.SelectedMessage.{SelectedMessage}
 use Rattle.settings.specs.declared.watch.AlertConfig.{AlertConfig}
 use Rattle.row_watch.specs.declared.watched_row.WatchedRow.{WatchedRow}
 use Rattle.row_watch.specs.WatchOut.{Change, alert_of, change, is_overdue, report_of}

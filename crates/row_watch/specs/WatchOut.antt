@@ -13,7 +13,7 @@ use Rattle.history.specs.Choice.{is_usable}
 use Rattle.history.specs.Emits.{broken}
 use Rattle.history.specs.Entries.{Entry, History, now}
 use Rattle.history.specs.Settings.{Settings, same_row}
-use Rattle.gate_core.specs.Selected.{Selected, selected_at}
+use Rattle.parts.specs.Selected.{Selected, selected_at}
 use Rattle.settings.specs.declared.watch.AlertConfig.{AlertConfig}
 use Rattle.row_watch.specs.Alert.{alert_text}
 use Rattle.row_watch.specs.WatchRule.{WatchRule, Watched}

@@ -5,7 +5,7 @@ ghost use Rattle.history.specs.Settings.{same_row};
 ghost use Rattle.row_watch.specs.WatchKept.{change_in, is_said_by, opened_row, row_after, said_at, silent_at};
 ghost use Rattle.row_watch.specs.WatchOut.{change};
 
-use gate_core::SelectedMessage;
+use parts::SelectedMessage;
 use readings::{Row, row, usable};
 
 /// A row that has to be said, and whether it is.

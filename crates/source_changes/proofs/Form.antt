@@ -4,7 +4,7 @@ use Rattle.std.specs.Prelude.{Option, Some, None}
 use Rattle.n2k_id.specs.declared.name.Name.{Name}
 use Rattle.gate_events.specs.declared.emit.Report.{Report}
 use Rattle.history.specs.EntryLaws.{nets_in}
-use Rattle.gate_core.specs.Selected.{selected_at}
+use Rattle.parts.specs.Selected.{selected_at}
 use Rattle.parts.specs.Forms.{PartForm, place}
 use Rattle.parts.specs.PartSteps.{KeepsCommands}
 use Rattle.parts.specs.Voices.{silent}

@@ -14,9 +14,9 @@ use Rattle.history.specs.Entries.{History}
 use Rattle.history.specs.Settings.{Settings, same_row}
 use Rattle.gate_model.specs.Machine.{Machine}
 use Rattle.gate_outbox.specs.Output.{Output}
-use Rattle.gate_core.specs.declared.selected_message.SelectedMessage.{SelectedMessage}
-use Rattle.gate_core.specs.Picked.{IsPicked, message_of}
-use Rattle.gate_core.specs.Selected.{Selected, last_of, newer, selected_at}
+use Rattle.parts.specs.SelectedMessage.{SelectedMessage}
+use Rattle.parts.specs.Picked.{IsPicked, message_of}
+use Rattle.parts.specs.Selected.{Selected, last_of, newer, selected_at}
 use Rattle.source_changes.specs.WatchKept.{change_by, is_by, name_at, names_after, no_names}
 use Rattle.source_changes.specs.SourceOut.{changed, is_same}
 use Rattle.source_changes.specs.WatchStands.{CommandsKeepWatchedNames, IsWatchStep, WatchStands, name_of}

@@ -9,7 +9,7 @@ use Rattle.gate_events.specs.Emit.{Emit, report}
 use Rattle.history.specs.Emits.{report_of}
 use Rattle.history.specs.Entries.{Entry, History}
 use Rattle.history.specs.Settings.{Settings}
-use Rattle.gate_core.specs.Selected.{Selected, last_of, selected_at}
+use Rattle.parts.specs.Selected.{Selected, last_of, selected_at}
 
 -- of the same NAME
 abbrev pub is_same : Option Selected → Selected → Bool

@@ -8,7 +8,7 @@ use Rattle.readings.specs.Rows.{row_of, row_number, rows_count}
 use Rattle.gate_events.specs.declared.emit.Detail.TheVariants as detail
 use Rattle.gate_events.specs.declared.emit.Report.{Report}
 use Rattle.history.specs.Emits.{report_of}
-use Rattle.gate_core.specs.declared.selected_message.SelectedMessage.{SelectedMessage}
+use Rattle.parts.specs.SelectedMessage.{SelectedMessage}
 
 abbrev pub no_names : List (Option Name)
 no_names = replicate rows_count None

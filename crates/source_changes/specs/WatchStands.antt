@@ -8,8 +8,8 @@ use Rattle.history.specs.Entries.{Entry, History, command}
 use Rattle.history.specs.Settings.{Settings}
 use Rattle.gate_model.specs.Machine.{Machine}
 use Rattle.gate_outbox.specs.Output.{Output}
-use Rattle.gate_core.specs.Promises.{IsTaken}
-use Rattle.gate_core.specs.Selected.{Selected, last_of, selected_at}
+use Rattle.parts.specs.Promises.{IsTaken}
+use Rattle.parts.specs.Selected.{Selected, last_of, selected_at}
 use Rattle.source_changes.specs.WatchKept.{name_at}
 use Rattle.source_changes.specs.SourceOut.{changed}
 

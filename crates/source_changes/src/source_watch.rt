@@ -7,10 +7,9 @@ ghost use Rattle.source_changes.specs.SourcesPart.{sources_asked, sources_give, 
 ghost use Rattle.source_changes.specs.WatchKept.{change_by, is_by, names_after, no_names};
 ghost use Rattle.source_changes.specs.WatchStands.{IsWatchStep};
 
-use gate_core::{Gateway, Outbox, SelectedMessage};
 use gate_events::{Detail, Report};
 use n2k_id::Name;
-use parts::{Given, Part, Step};
+use parts::{Gateway, Given, Outbox, Part, SelectedMessage, Step};
 use readings::{ROWS, row};
 use report_rules::SOURCE_CHANGED;
 use settings::Setup;

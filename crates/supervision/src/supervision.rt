@@ -2,7 +2,7 @@
 ghost use Rattle.std.specs.Prelude.{◌≡◌, [], false, Option, IfOk};
 ghost use Rattle.history.specs.Entries.{History};
 ghost use Rattle.history.specs.Settings.{Settings};
-ghost use Rattle.gate_core.specs.Steps.{IsEventValid};
+ghost use Rattle.parts.specs.Steps.{IsEventValid};
 ghost use Rattle.parts.specs.Compose.{both_output, maybe_give, maybe_stand};
 ghost use Rattle.parts.specs.Lanes.{given_plain};
 ghost use Rattle.parts.specs.PartSteps.{Says};

@@ -6,7 +6,7 @@ use Rattle.fast_packet.specs.declared.key.FastKey.{FastKey}
 use Rattle.claim_table.specs.Claims.{places}
 use Rattle.settings.specs.Setup.{IsQuantity}
 use Rattle.source_choice.specs.Choices.{Choices, nothing, opened}
-use Rattle.gate_core.specs.Picked.{IsMessageValid}
+use Rattle.parts.specs.Picked.{IsMessageValid}
 use Rattle.joined_rmc.specs.declared.last_of_row.LastOfRow.{LastOfRow}
 use Rattle.bus_listener.specs.Promises.{IsOpening}
 use Rattle.further_bridge.specs.declared.config.FurtherConfig.{FurtherConfig}
