@@ -1,15 +1,20 @@
-"""A made-up boat that speaks to the links of a gateway, and the gateway itself."""
+"""A made-up boat that speaks to the links of a gateway, the gateway itself, and livelook."""
 
 import contextlib
 import functools
+import json
 import operator
 import os
+import re
 import signal
 import socket
 import subprocess
 import sys
+import tempfile
 import threading
 import time
+import urllib.error
+import urllib.request
 
 TOP = os.path.dirname(os.path.dirname(os.path.dirname(os.path.realpath(__file__))))
 sys.path.insert(0, os.path.join(TOP, "tools"))
@@ -19,6 +24,9 @@ from onboard.fast_packets import Message, Splitter
 from onboard.identifiers import ALL, Parts, identifier_of
 
 PROGRAM = os.path.abspath(os.environ.get("PROGRAM") or os.path.join(TOP, "crates/shipgate/out/shipgate"))
+LIVELOOK = os.path.join(TOP, "tools", "livelook")
+SAMPLE = re.compile(r'(\w+)(?:\{(\w+="[^"]*"(?:,\w+="[^"]*")*)\})? (-?[0-9.e+-]+)')
+MOST_SERIES = 500
 LIMIT_SECONDS = 60
 MANY_TURNS = "999999999"
 COMPASS, SECOND_COMPASS, WIND, DEPTH, GPS, ENGINE, STRANGER = 23, 24, 12, 35, 40, 50, 77
@@ -177,3 +185,88 @@ def until(what, holds, limit=LIMIT_SECONDS):
             print(f"tests/tools/livelook: never came: {what}", file=sys.stderr)
             sys.exit(1)
         time.sleep(0.05)
+
+
+def wanted(what, is_so):
+    if not is_so:
+        print(f"tests/tools/livelook: {what}", file=sys.stderr)
+        sys.exit(1)
+
+
+class Look:
+    """livelook, and what it answers."""
+
+    def __init__(self, config, run, *words):
+        self.port, self.told = free_ports(1, socket.SOCK_STREAM)[0], tempfile.TemporaryFile()
+        command = [LIVELOOK, "--config", config, "--run", run, "--program", PROGRAM, "--listen", f"127.0.0.1:{self.port}", *words]
+        self.run = subprocess.Popen(command, stdin=subprocess.DEVNULL, stdout=subprocess.DEVNULL, stderr=self.told)
+
+    def __enter__(self):
+        until("the page", lambda: socket.socket().connect_ex(("127.0.0.1", self.port)) == 0)
+        return self
+
+    def __exit__(self, kind, _value, _trace):
+        self.run.terminate()
+        status = self.run.wait(LIMIT_SECONDS)
+        wanted(f"livelook ended with {status}: {self.said()}", kind is not None or status == 0)
+
+    def get(self, path, method="GET", **headers):
+        """The status, the head and the content of an answer."""
+        asked = urllib.request.Request(f"http://127.0.0.1:{self.port}{path}", method=method, headers=headers)
+        try:
+            with urllib.request.urlopen(asked, timeout=LIMIT_SECONDS) as answer:
+                return answer.status, answer.headers, answer.read().decode()
+        except urllib.error.HTTPError as error:
+            return error.code, error.headers, error.read().decode()
+
+    def status(self):
+        return json.loads(self.get("/status.json")[2])
+
+    def rows(self):
+        return {row["name"]: row for row in self.status().get("rows", [])}
+
+    def metrics(self):
+        """Each sample by its name and labels."""
+        text = self.get("/metrics")[2]
+        wanted("/metrics doesn't end with # EOF", text.endswith("\n# EOF\n"))
+        found = {}
+        for line in text.splitlines():
+            if not line.startswith("#"):
+                match = SAMPLE.fullmatch(line)
+                wanted(f"no sample: {line}", match is not None and (match.group(1), match.group(2)) not in found)
+                found[match.group(1), match.group(2)] = float(match.group(3))
+        wanted(f"{len(found)} series", len(found) <= MOST_SERIES)
+        return found
+
+    def total(self, metric):
+        """The sum of a metric's samples."""
+        return sum(count for (name, _), count in self.metrics().items() if name == metric)
+
+    def said(self):
+        """What it said on standard error."""
+        return os.pread(self.told.fileno(), 65536, 0).decode()
+
+    def faults(self):
+        """The warnings, but for the one of clocks: a busy machine takes a file up late."""
+        return [words for words in self.status()["warnings"] if "this machine's date" not in words]
+
+    def warns(self, words):
+        return any(words in warning for warning in self.status()["warnings"])
+
+
+@contextlib.contextmanager
+def on_board(*words):
+    """A boat, its gateway with a file of the run, and livelook."""
+    with tempfile.TemporaryDirectory() as folder:
+        boat, run = Boat(folder), os.path.join(folder, "run.log")
+        with open(run, "wb") as out, boat.serving(out), Look(boat.config, run, *words) as look:
+            until("the start of the run", lambda: look.status()["moment"])
+            yield boat, look
+
+
+def speak(boat, turns, silent=(), pause=0.1):
+    for turn in range(turns):
+        boat.speak(silent)
+        if turn % 5 == 0:
+            boat.speak_on_network()
+        time.sleep(pause)

@@ -2,16 +2,19 @@
 
 import contextlib
 import os
+import re
 from typing import NamedTuple
 
 from keep_parts.files import files_of
-from keep_parts.run_lines import GOES_ON, KNOWN, LOST, START, counted, moment_of
+from keep_parts.run_lines import GOES_ON, KNOWN, LOST, MOMENT, START, counted, moment_of
 from onboard.lines import LineCutter
 from onboard.words import LeftOut
 
-# how far back it looks for the start of a run
-MOST_BACK_BYTES = 200_000_000
-PIECE_BYTES, SEARCHED_BYTES, MOST_START_BYTES = 1 << 18, 1 << 20, 64
+# how far back it looks for the start of a run, and where it begins in a file if there is none
+MOST_BACK_BYTES, MIDDLE_BYTES = 200_000_000, 20_000_000
+PIECE_BYTES, SEARCHED_BYTES, MOST_START_BYTES = 1 << 15, 1 << 20, 64
+# the start of a run, also where the run before it ended in half a line
+ANY_START = re.compile(rb"\(" + MOMENT + rb"\) tick start$", re.MULTILINE)
 
 
 class Begin(NamedTuple):
@@ -39,11 +42,17 @@ def last_start(opened, size):
     low, end = max(0, size - MOST_BACK_BYTES), size
     while end > low:
         begin = max(low, end - SEARCHED_BYTES)
-        found = list(START.finditer(os.pread(opened, end - begin + MOST_START_BYTES, begin)))
+        found = list(ANY_START.finditer(os.pread(opened, end - begin + MOST_START_BYTES, begin)))
         if found:
             return begin + found[-1].start()
         end = begin
     return None
+
+
+def without_half(line):
+    """A start of a run without what stands before it: the half line in which another run ended."""
+    match = ANY_START.search(line)
+    return match.group(0) if match else line
 
 
 class Follower:
@@ -91,13 +100,15 @@ class Follower:
         if os.path.isdir(self.path):
             self._open_of_folder()
         else:
-            self._take_file(self.path)
-            size = os.fstat(self.opened).st_size
-            start = last_start(self.opened, size)
-            self.offset = start if start is not None else max(0, size - MOST_BACK_BYTES)
-            # where it begins in the middle, the first line may be a half one
-            self.skips_line = start is None and self.offset > 0
-        self.trouble = ""
+            self._open_of_file()
+
+    def _open_of_file(self):
+        self._take_file(self.path)
+        size = os.fstat(self.opened).st_size
+        start = last_start(self.opened, size)
+        self.offset = start if start is not None else max(0, size - MIDDLE_BYTES)
+        # where it begins in the middle, the first line may be a half one
+        self.cutter.is_skipping = start is None and self.offset > 0
 
     def _open_of_folder(self):
         files = files_of(self.path)
@@ -118,7 +129,7 @@ class Follower:
 
     def _take_file(self, path):
         self.opened, self.opened_path, self.offset = os.open(path, os.O_RDONLY | os.O_CLOEXEC), path, 0
-        self.known, self.cutter, self.skips_line = os.fstat(self.opened), LineCutter(self.left_out), False
+        self.known, self.cutter, self.trouble = os.fstat(self.opened), LineCutter(self.left_out), ""
         self.begin = Begin(False, "since the middle of a run", "the start of the run isn't in what is read: devices that claimed before it aren't known")
 
     def _read(self):
@@ -127,21 +138,20 @@ class Follower:
             self._look_for_another()
             return []
         self.offset += len(piece)
-        lines = self.cutter.lines_of(piece)
-        if self.skips_line and lines:
-            self.skips_line = False
-            del lines[0]
-        return self._sorted(lines)
+        return self._sorted(self.cutter.lines_of(piece))
 
     def _look_for_another(self):
         """At the end of a file: whether it was replaced or cut, and whether keep has begun the next one."""
         if self.number is not None:
             newer = next((file for file in files_of(self.path) if file.number > self.number), None)
+            about = os.fstat(self.opened)
             # what was written meanwhile is read first
-            if newer is not None and os.fstat(self.opened).st_size <= self.offset:
+            if newer is not None and about.st_size <= self.offset:
                 self.close()
                 self._take_file(newer.path)
                 self.number = newer.number
+            elif about.st_nlink == 0 or about.st_size < self.offset:
+                self.anew()
             return
         about = os.stat(self.path)
         if (about.st_dev, about.st_ino) != (self.known.st_dev, self.known.st_ino) or about.st_size < self.offset:
@@ -152,6 +162,7 @@ class Follower:
         items, kept = [], []
         for line in lines:
             if b") tick " in line:
+                line = without_half(line)
                 begins = self._begins(line)
                 lost = LOST.fullmatch(line)
                 if begins or lost:

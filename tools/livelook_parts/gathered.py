@@ -4,18 +4,21 @@ import collections
 
 from bus_names import function_of, maker_of
 from buslook_parts.bus import PRODUCT_TEXTS, TEXT_BYTES, Message, text_of
-from buslook_parts.recording import SENT_LINE, TIMEOUT_MS, Addresses, Ranks
+from buslook_parts.program import Frame
+from buslook_parts.recording import SENT_LINE, TIMEOUT_MS
 from buslook_parts.rows import Rows
 from configuration.keys import Page
 from onboard.fast_packets import Joiner
-from onboard.identifiers import ADDRESS_CLAIM, ALL, PRODUCT_INFORMATION, name_of, name_text, parts_of
+from onboard.identifiers import ADDRESS_CLAIM, ALL, NULL_ADDRESS, PRODUCT_INFORMATION, name_of, name_text, parts_of
 
+from .holders import SOURCE, Change, Changes, Holders
+from .sent import Sent
 from .values import further_of, values_of
 
 SECOND_US = 1_000_000
 # rates are of so many seconds; the line of a value of so many cells, each of so many seconds
 RATE_SECONDS, LINE_CELLS, CELL_SECONDS = 10, 60, 10
-MOST_MESSAGES, MOST_REPORTS, MOST_CHANGES, MOST_OTHERS = 3000, 200, 12, 64
+MOST_MESSAGES, MOST_REPORTS, MOST_GROUPS = 3000, 200, 32
 OWN_ADDRESS, SOURCE_CHANGED = 9, 28
 # rule 3: the event was earlier than the last one, and had no other effect
 MOMENT_BACK = b"3"
@@ -71,6 +74,18 @@ class Speaker:
         self.rate, self.moment, self.product = Rate(), None, ""
 
 
+class Carried:
+    """A row that the gateway sent to the bus: the values of the last message, when it was, and the sources of the datagram that it came of."""
+
+    __slots__ = ("words", "moment", "values", "source", "count")
+
+    def __init__(self, words):
+        self.words, self.count = words, 0
+
+    def carry(self, moment, values, source):
+        self.moment, self.values, self.source, self.count = moment, values, source, self.count + 1
+
+
 class Reported:
     """A rule and whom it is about: how often, and when last."""
 
@@ -85,7 +100,8 @@ class Gathered:
 
     def __init__(self, config):
         page = Page()
-        self.rows_of_page, self.addresses, self.ranks = Rows(page), Addresses(config), Ranks(config)
+        self.changes = Changes()
+        self.rows_of_page, self.addresses, self.sent = Rows(page), Holders(config, self.changes), Sent(page.rows)
         tables = config.get("row", {}), config.get("further", {})
         self.rows = {row.name: self._said(row.name, row.words, tables[0]) for row in page.rows}
         self.further_group = tables[1].get("group")
@@ -93,12 +109,12 @@ class Gathered:
         # what is said of several rows, and of ships, whose source is none of a row
         self.others = {}
         self.begin = self.moment = None
-        self.speakers, self.messages, self.joiner = {}, {}, Joiner()
+        # of frames from the bus, and of those to it
+        self.speakers, self.messages, self.joiner, self.joiner_out = {}, {}, Joiner(), Joiner()
         self.bits, self.frames, self.frames_out = Rate(), Rate(), Rate()
         self.datagrams, self.datagrams_out, self.sent_groups = Rate(), Rate(), collections.Counter()
         self.to_bus, self.reported, self.rules = {}, {}, collections.Counter()
         self.failures = collections.Counter()
-        self.changes = collections.deque(maxlen=MOST_CHANGES)
 
     @staticmethod
     def _said(name, words, table):
@@ -128,7 +144,7 @@ class Gathered:
             if match.group(3) is not None:
                 self._report(int(match.group(3)), (match.group(4) or b"").decode(), datagram)
             elif match.group(5) is not None:
-                self._sent_frame(second, parts_of(int(match.group(5), 16)), datagram)
+                self._sent_frame(second, Frame(b"can0", int(match.group(5), 16), match.group(6)), datagram)
             else:
                 self._sent(second, match.group(7).decode(), bytes.fromhex(match.group(8).decode()), source)
 
@@ -139,18 +155,21 @@ class Gathered:
         speaker.rate.add(second)
         speaker.moment = self.moment
         self.frames.add(second)
-        key = frame.identifier & 0x3FFFFFF
-        message = self.messages.get(key)
-        if message is None:
-            message = Message(parts.pgn, self.moment)
-            if len(self.messages) < MOST_MESSAGES:
-                self.messages[key] = message
-        message.frames += 1
-        self.bits.add(second, message.bits(frame.identifier, frame.data))
+        self._count_bits(second, frame, parts.pgn)
         if parts.pgn == ADDRESS_CLAIM and len(frame.data) == 16 and parts.source != ALL and not is_passed_over:
             self.addresses.claim(self.moment, parts.source, name_of(bytes.fromhex(frame.data.decode())))
         elif parts.pgn == PRODUCT_INFORMATION:
             self._product(speaker, self.joiner.message_of(frame.read()))
+
+    def _count_bits(self, second, frame, pgn):
+        key = frame.identifier & 0x3FFFFFF
+        message = self.messages.get(key)
+        if message is None:
+            message = Message(pgn, self.moment)
+            if len(self.messages) < MOST_MESSAGES:
+                self.messages[key] = message
+        message.frames += 1
+        self.bits.add(second, message.bits(frame.identifier, frame.data))
 
     @staticmethod
     def _product(speaker, message):
@@ -162,8 +181,7 @@ class Gathered:
 
     def _sent(self, second, group, datagram, source):
         self.datagrams_out.add(second)
-        if group in self.sent_groups or len(self.sent_groups) < MOST_OTHERS:
-            self.sent_groups[group] += 1
+        self.count_group(group)
         for sentence in SENT_LINE.findall(datagram):
             fields = sentence.decode().split("*")[0].split(",")
             if group == self.further_group:
@@ -171,6 +189,10 @@ class Gathered:
                     self.further[quantity].say(self.moment, values, source)
             else:
                 self._said_row(fields, source)
+
+    def count_group(self, group):
+        if group in self.sent_groups or len(self.sent_groups) < MOST_GROUPS:
+            self.sent_groups[group] += 1
 
     def _said_row(self, fields, source):
         formatter, row = fields[0][3:], self.rows_of_page.said_by(fields)
@@ -188,25 +210,38 @@ class Gathered:
             self.others[words] = Said(words, words, 1000 * TIMEOUT_MS, False)
         return self.others[words]
 
-    def _sent_frame(self, second, parts, datagram):
+    def _sent_frame(self, second, frame, datagram):
+        parts = parts_of(frame.identifier)
         self.frames_out.add(second)
+        self._count_bits(second, frame, parts.pgn)
         if parts.pgn == ADDRESS_CLAIM:
-            if parts.source != self.addresses.own:
-                self.addresses.move(self.moment, parts.source)
-        elif parts.pgn in self.rows_of_page.to_bus and datagram is not None:
-            words, _ = self.rows_of_page.to_bus[parts.pgn]
-            senders = senders_in(datagram)
-            self.to_bus[words] = (self.moment, senders[0] if len(senders) == 1 else "several")
+            self._own_address(parts.source)
+        elif datagram is not None and parts.pgn in self.rows_of_page.to_bus:
+            message = self.joiner_out.message_of(frame.read())
+            if message is not None:
+                self._carry(message, datagram)
+
+    def _own_address(self, address):
+        if address != self.addresses.own:
+            self.addresses.move(self.moment, address)
+
+    def _carry(self, message, datagram):
+        """A reading of the network that the gateway sent to the bus."""
+        row, values = self.sent.of(message)
+        senders = senders_in(datagram)
+        carried = self.to_bus.setdefault(row, Carried(self.rows[row].words))
+        carried.carry(self.moment, values, senders[0] if len(senders) == 1 else "several")
 
     def _report(self, rule, detail, datagram):
         self.rules[rule] += 1
         words = dict(word.split("=", 1) for word in detail.split(" ") if "=" in word)
         if rule == OWN_ADDRESS:
-            self.changes.append((self.moment, "own", words["own"]))
+            self._own_address(NULL_ADDRESS if words["own"] == "none" else int(words["own"]))
         elif rule == SOURCE_CHANGED:
-            self.changes.append((self.moment, words["row"], words["src"]))
+            address = int(words["src"])
+            self.changes.add(self.moment, Change(SOURCE, words["row"], address, self.addresses.holder_of(address)))
         else:
-            self._refuse(rule, sender_of(words, datagram))
+            self.refuse(rule, sender_of(words, datagram))
 
     def link_report(self, rule, detail):
         """A report that `replay` has none of: of a send or receive that failed, or of a text that was no frame."""
@@ -214,9 +249,9 @@ class Gathered:
         link = words.get("link", "")
         self.rules[rule] += 1
         self.failures[rule, link] += 1
-        self._refuse(rule, f"link {link}")
+        self.refuse(rule, f"link {link}")
 
-    def _refuse(self, rule, sender):
+    def refuse(self, rule, sender):
         key = (rule, sender)
         if key not in self.reported:
             if len(self.reported) >= MOST_REPORTS:
@@ -227,10 +262,14 @@ class Gathered:
 
     def device(self, address):
         """Who has an address, as it is shown."""
-        name = self.addresses.holder_of(address)
-        if name is None:
-            return {"address": address, "name": "", "maker": "", "function": "", "claimed": False}
-        return {"address": address, "name": name_text(name), "maker": maker_of(name), "function": function_of(name), "claimed": True}
+        return {"address": address, **named(self.addresses.holder_of(address))}
+
+
+def named(name):
+    """A device by its NAME, if it has one."""
+    if name is None:
+        return {"name": "", "maker": "", "function": "", "claimed": False}
+    return {"name": name_text(name), "maker": maker_of(name), "function": function_of(name), "claimed": True}
 
 
 def sender_of(words, datagram):

@@ -1,6 +1,6 @@
 'use strict';
 // Shows what the server says. Every text goes to the page by textContent: names and texts of devices are text, whatever they hold.
-const SECONDS_WITHOUT_ANSWER = 6, POLL_MS = 1000, CELLS = 60, MANY_SECONDS = 3;
+const SECONDS_WITHOUT_ANSWER = 6, POLL_MS = 1000, CELLS = 60, MANY_SECONDS = 3, MOST_ALARMS = 3, HALF_TURN = 180;
 const place = id => document.getElementById(id);
 let said = null, received = 0, poll = null;
 
@@ -26,16 +26,17 @@ function lasting(seconds) {
   return s < 7200 ? Math.floor(s / 60) + ' min' : Math.floor(s / 3600) + ' h';
 }
 
-const device = one => one.claimed ? one.maker + ', ' + one.function : 'never claimed an address';
+const maker = one => [one.maker, one.function].filter(text => text).join(', ');
+const device = one => one.claimed ? maker(one) : 'never claimed an address';
 
 function sourceOf(row) {
   if (row.source === null) return row.name === 'RMC' ? 'joined of several sources' : '';
   return device(row.source) + ', address ' + row.source.address + (row.source.claimed ? ', ' + row.source.name : '');
 }
 
-const isSilent = row => said.percent === null && (row.moment === null ? row.silent : age(row.moment) > row.timeout);
+const isSilent = row => row.moment === null ? row.silent : age(row.moment) > row.timeout;
 
-// the values of ten minutes, as far as they were numbers
+// the values of ten minutes, as far as they were numbers; apart where none came for a while, and where an angle passed north
 function lineOf(row) {
   const points = row.line, svg = document.createElementNS('http://www.w3.org/2000/svg', 'svg');
   svg.setAttribute('viewBox', '0 0 ' + CELLS + ' 26');
@@ -45,9 +46,11 @@ function lineOf(row) {
   if (points.length > 1) {
     const numbers = points.map(point => point[1]), least = Math.min(...numbers), most = Math.max(...numbers), end = points[points.length - 1][0];
     const x = cell => CELLS - 1 - (end - cell), y = number => most > least ? 24 - 22 * (number - least) / (most - least) : 13;
-    const line = document.createElementNS('http://www.w3.org/2000/svg', 'polyline');
-    line.setAttribute('points', points.map(point => x(point[0]) + ',' + y(point[1]).toFixed(1)).join(' '));
-    svg.append(line);
+    const turns = row.values.length > 0 && row.values[0][2].startsWith('degrees');
+    const isApart = (one, before) => one[0] - before[0] > 1 || turns && Math.abs(one[1] - before[1]) > HALF_TURN;
+    const path = document.createElementNS('http://www.w3.org/2000/svg', 'path');
+    path.setAttribute('d', points.map((point, at) => (at === 0 || isApart(point, points[at - 1]) ? 'M' : 'L') + x(point[0]) + ',' + y(point[1]).toFixed(1)).join(''));
+    svg.append(path);
   }
   return svg;
 }
@@ -59,62 +62,106 @@ function ageWords(row) {
 
 // what is no row: it is counted
 const NAMED = {'RMC': true, 'ships around': true};
+const unitOf = ([words, text, unit]) => text.includes('°') ? '' : unit + (words && !unit.includes(words) ? ', ' + words : '');
+const valueText = value => value[1] + (unitOf(value) ? ' ' + unitOf(value) : '');
+
+// a value that is too old to be taken for one of now is small
+function valuesOf(row) {
+  const values = made('div', 'values', null);
+  if (row.values.length > 0 && !isSilent(row)) {
+    for (const value of row.values) values.append(made('span', '', null, made('span', value[1].includes('°') ? 'value degrees' : 'value', value[1]), made('span', 'unit', ' ' + unitOf(value))));
+  } else if (row.moment !== null && row.name in NAMED) {
+    values.append(made('span', 'value', String(row.count)), made('span', 'unit', 'times'));
+  } else {
+    const last = row.values.map(valueText).join('; ');
+    values.append(made('span', 'value', '–'), made('span', 'unit', last ? 'last ' + last : 'no value'));
+  }
+  return values;
+}
 
 function card(row) {
-  const values = made('div', 'values', null);
-  for (const [words, text, unit] of row.values) {
-    const shown = text.includes('°') ? '' : ' ' + unit + (words && !unit.includes(words) ? ', ' + words : '');
-    values.append(made('span', '', null, made('span', 'value', text), made('span', 'unit', shown)));
-  }
-  if (row.moment !== null && row.values.length === 0 && row.name in NAMED) values.append(made('span', 'value', String(row.count)), made('span', 'unit', ' said'));
-  else if (row.values.length === 0) values.append(made('span', 'value', '–'), made('span', 'unit', ' no value'));
   const bar = made('div', 'bar', null), part = row.moment === null ? 1 : Math.min(1, age(row.moment) / row.timeout);
   bar.style.width = (100 * part).toFixed(0) + '%';
-  return made('article', isSilent(row) ? 'card silent' : 'card', null, made('h3', '', row.words), values, made('div', 'track', null, bar),
+  return made('article', isSilent(row) ? 'card silent' : 'card', null, made('h3', '', row.words), valuesOf(row), made('div', 'track', null, bar),
     made('div', 'age', ageWords(row)), made('div', 'source', sourceOf(row)), lineOf(row));
 }
 
 function fill(id, rows) {
   place(id).hidden = rows.length === 0;
-  place(id).querySelector('tbody').replaceChildren(...rows.map(cells => made('tr', '', null, ...cells)));
+  place(id).querySelector('tbody').replaceChildren(...rows.map(cells => made('tr', cells.kind || '', null, ...cells)));
 }
 
 const cell = (text, kind = '') => made('td', kind, text);
 
+// many of one kind are told as one
+function told(rows, words) {
+  if (rows.length <= MOST_ALARMS) return rows.map(row => row.words + ': ' + ageWords(row));
+  return [rows.length + ' quantities ' + words + ': ' + rows.map(row => row.words).join('; ')];
+}
+
 function alarms() {
   const found = [];
+  if (said === null) return [poll === 'failed' ? 'No answer from livelook.' : 'Waiting for livelook.'];
   if (passed() > SECONDS_WITHOUT_ANSWER || poll === 'failed') found.push('No answer from livelook for ' + lasting(passed()) + ': what stands here is old.');
-  if (said === null) return found.length ? found : ['Waiting for livelook.'];
   found.push(...said.warnings);
-  if (said.moment === null) return found;
+  if (said.moment === null || said.percent !== null) return found;
   const silent = said.silent_for + passed();
-  if (said.percent === null && silent > MANY_SECONDS) {
+  if (silent > MANY_SECONDS) {
     found.push('Nothing came for ' + lasting(silent) + ': the boat is silent, or the gateway has ended. Without a sign of life in the recording this page can\'t tell which.');
   }
-  for (const row of said.rows) if (isSilent(row)) found.push(row.words + ': ' + ageWords(row));
+  const rows = said.rows.filter(isSilent);
+  found.push(...told(rows.filter(row => row.moment !== null), 'fell silent'));
+  found.push(...told(rows.filter(row => row.moment === null), 'were never heard, and their sources are in the configuration'));
   return found;
 }
 
-function show() {
+function changeWords(one) {
+  if (one.what === 'own') return one.address === null ? 'the gateway has no address' : 'the gateway has address ' + one.address;
+  const who = one.claimed ? maker(one) + ', ' + one.name : 'a device that never claimed';
+  if (one.what === 'source') return one.row + ' is taken from address ' + one.address + ', ' + who;
+  return (one.address === null ? 'no address' : 'address ' + one.address) + ': ' + one.what + ' by ' + who;
+}
+
+// a rule and its sender, and below them what it means
+function refusedRows(one) {
+  const first = [cell(one.rule + ', ' + one.name), cell(one.sender), cell(one.count), cell(lasting(age(one.moment)) + ' ago')], cure = cell(null);
+  cure.colSpan = first.length;
+  cure.append(one.cause + '. ', made('b', '', 'What to do: '), one.cure + '.');
+  return [Object.assign(first, {kind: 'above'}), Object.assign([cure], {kind: 'more'})];
+}
+
+const often = count => count > 1 ? ', ' + count + ' times' : '';
+
+function showTables() {
+  fill('network', said.to_bus.map(one => [cell(one.words), cell(one.values.map(valueText).join('; ') || 'no value'), cell(one.source), cell(lasting(age(one.moment)) + ' ago')]));
+  fill('devices', said.devices.map(one => [cell(one.address), cell(device(one) + (one.product ? ', ' + one.product : ''), one.claimed ? 'long' : 'alarm'), cell(one.name, 'wide'),
+    cell(lasting(age(one.moment)) + ' ago'), cell(one.rate.toFixed(1), 'wide')])
+    .concat(said.more_devices ? [[cell(''), cell(said.more_devices + ' more addresses')]] : []));
+  fill('refused', said.refused.flatMap(refusedRows));
+  fill('failures', said.failures.map(one => [cell(one.link), cell(one.what), cell(one.count, 'alarm')]));
+  fill('changes', said.changes.map(one => [cell(lasting(age(one.moment)) + ' ago'), cell(changeWords(one) + often(one.count), 'long')]));
+}
+
+function showAlarms() {
   const words = alarms(), list = place('alarms');
   if (words.join('\n') !== Array.from(list.children, one => one.textContent).join('\n')) list.replaceChildren(...words.map(text => made('li', '', text)));
-  if (said === null || said.moment === null) return;
+}
+
+function show() {
+  showAlarms();
+  const isThere = said !== null && said.moment !== null && said.percent === null;
+  place('main').hidden = place('rates').hidden = place('clock').hidden = place('since').hidden = !isThere;
+  if (!isThere) return;
   place('clock').textContent = new Date(1000 * (said.moment + said.silent_for + passed())).toISOString().slice(11, 19) + ' UTC';
   const rates = said.rates, own = said.own === null ? 'no address' : 'address ' + said.own;
   place('rates').textContent = 'bus ' + rates.frames.toFixed(0) + ' frames/s, load ' + (100 * rates.load).toFixed(1) + ' %; network ' + rates.datagrams.toFixed(1) +
     ' datagrams/s out, ' + rates.datagrams_from_network.toFixed(1) + '/s in; ' + rates.frames_to_bus.toFixed(1) + ' frames/s to the bus; the gateway has ' + own;
   const rows = [...said.rows, ...said.others];
   place('rows').replaceChildren(...rows.filter(isSilent).map(card), ...rows.filter(row => !isSilent(row)).map(card));
-  fill('network', said.to_bus.map(one => [cell(one.words), cell(one.source), cell(lasting(age(one.moment)))]));
-  fill('devices', said.devices.map(one => [cell(one.address), cell(device(one) + (one.product ? ', ' + one.product : ''), one.claimed ? '' : 'alarm'), cell(one.name, 'wide'),
-    cell(lasting(age(one.moment)) + ' ago'), cell(one.rate.toFixed(1), 'wide')])
-    .concat(said.more_devices ? [[cell(''), cell(said.more_devices + ' more addresses')]] : []));
-  fill('refused', said.refused.map(one => [cell(one.rule + ', ' + one.name), cell(one.sender), cell(one.count), cell(lasting(age(one.moment)) + ' ago'),
-    made('td', 'wide', one.cause + '. ', made('b', '', 'What to do: '), one.cure)]));
-  fill('failures', said.failures.map(one => [cell(one.link), cell(one.what), cell(one.count, 'alarm')]));
-  fill('changes', said.changes.map(one => [cell(lasting(age(one.moment)) + ' ago'),
-    cell(one.what === 'own' ? 'the gateway\'s own address: ' + one.to : one.what + ' is taken from address ' + one.to)]));
-  place('foot').textContent = 'Looked at ' + said.since + ', ' + lasting(said.moment - said.begin + said.silent_for + passed()) + '. All of it is what the program gives for the recorded events.';
+  place('nothing').hidden = rows.length > 0;
+  showTables();
+  place('since').textContent = ['Looked at ' + said.since + ', ' + lasting(said.moment - said.begin + said.silent_for + passed()) + '.',
+    'All of it is what the program gives for the recorded events.', ...said.notes].join(' ');
 }
 
 function take(text) {
@@ -124,7 +171,7 @@ function take(text) {
 }
 
 function ask() {
-  fetch('status.json', {cache: 'no-store'}).then(answer => answer.text()).then(text => { poll = 'works'; take(text); }, () => { poll = 'failed'; show(); });
+  fetch('status.json', {cache: 'no-store'}).then(answer => answer.text()).then(text => { poll = 'works'; take(text); }).catch(() => { poll = 'failed'; show(); });
 }
 
 const events = new EventSource('events');

@@ -16,25 +16,38 @@ from .gathered import SOURCE_CHANGED, Gathered
 # an event that isn't surely a frame, and a report
 OTHER_EVENT = re.compile(rb"\((\d{1,10})\.(\d{6})\) (?:tick(?: [^\r\n]*)?|udp0 [A-Z0-9]{4}#((?:[0-9A-F]{2})*))")
 REPORT = re.compile(rb"\((\d{1,10})\.(\d{6})\) rule (\d+)(?: (.*))?")
-PAUSE_SECONDS, AGAIN_SECONDS = 0.1, 5.0
+PAUSE_SECONDS, AGAIN_SECONDS, LET_SECONDS = 0.1, 5.0, 0.001
+# it is behind if more than this is left to read
+BEHIND_BYTES = 1 << 18
 OF_LINKS = b"link="
 # the longest timeout of a row
 SETTLING_US = 60 * MICROSECONDS
 
 
 class Looking:
-    """What is known of the run that is looked at; others may read it while they hold the lock."""
+    """What is known of the run that is looked at; others read it by `asked`."""
 
     def __init__(self, follower, program, config_path, teller):
         self.follower, self.program, self.config_path, self.teller = follower, program, config_path, teller
-        self.lock = threading.Lock()
+        # how many wait for the lock who have a page open: they come before what is read
+        self.lock, self.asking = threading.Lock(), 0
         self.gathered, self.replay, self.comparing = None, None, None
-        self.since, self.begun, self.lacks, self.gaps, self.trouble, self.no_events = "", None, "", [], "", 0
+        self.since, self.lacks, self.gaps, self.trouble, self.no_events = "", "", [], "", 0
         self.last_line_at, self.changes, self.told = time.monotonic(), 0, ""
         # from a later part on it isn't known who was the source before, nor what had begun: only this long after it, reports are compared
         self.is_part, self.compared_from = False, None
         # how much is left to read, in percent of what there was when it began; None once it has caught up
         self.percent, self.all_bytes, self.missing_keys = None, 0, []
+
+    @contextlib.contextmanager
+    def asked(self):
+        """What is known doesn't change meanwhile."""
+        self.asking += 1
+        try:
+            with self.lock:
+                yield
+        finally:
+            self.asking -= 1
 
     def run(self):
         """Follows for ever."""
@@ -54,7 +67,7 @@ class Looking:
         with self.lock:
             self.trouble, self.changes = why, self.changes + 1
             self._end_replay()
-            self.gathered = None
+            self.gathered, self.percent, self.all_bytes = None, None, 0
 
     def end(self):
         """Ends the program that runs along."""
@@ -72,20 +85,21 @@ class Looking:
 
     def _turn(self):
         items = self.follower.turn()
+        while self.asking:
+            time.sleep(LET_SECONDS)
         with self.lock:
             self.trouble = self.follower.trouble
             for item in items:
                 self._take(item)
-            self._measure(bool(items))
-        if not items:
+            self._measure()
+        if self.percent is None:
+            # what comes meanwhile is taken at once, which costs less than line by line
             time.sleep(PAUSE_SECONDS)
 
-    def _measure(self, has_come):
-        left = self.follower.left_bytes() if has_come else 0
-        self.all_bytes = max(self.all_bytes, left)
-        self.percent = None if left == 0 else 100 - 100 * left // self.all_bytes
-        if left == 0:
-            self.all_bytes = 0
+    def _measure(self):
+        left = self.follower.left_bytes()
+        self.all_bytes = 0 if left < BEHIND_BYTES else max(self.all_bytes, left)
+        self.percent = None if self.all_bytes == 0 else 100 - 100 * left // self.all_bytes
 
     def _take(self, item):
         self.changes += 1
@@ -103,7 +117,7 @@ class Looking:
         config = checked(self.program, self.config_path)
         self.gathered, self.comparing = Gathered(config), Comparing()
         self.replay = Replay(self.program, self.config_path)
-        self.since, self.lacks, self.gaps, self.no_events = item.words, item.lacks, [], 0
+        self.since, self.lacks, self.gaps, self.no_events, self.told = item.words, item.lacks, [], 0, ""
         self.is_part, self.compared_from = not item.is_start, None
         self.missing_keys = missing_keys(config)
 
@@ -155,6 +169,8 @@ class Looking:
 
     def _is_compared(self, match, rule):
         """Whether a report has to be the same in the file and in what `replay` gives."""
+        if self.lacks:
+            return False
         if not self.is_part:
             return True
         moment = int(match.group(1)) * MICROSECONDS + int(match.group(2))
@@ -169,6 +185,4 @@ def missing_keys(config):
         found.append(("record = true", "[serve]", "the run writes nothing that could be followed"))
     if not config.get("report", {}).get("sources", False):
         found.append(("sources = true", "[report]", "changes of sources aren't listed"))
-    if not config.get("report", {}).get("address", False):
-        found.append(("address = true", "[report]", "changes of the gateway's own address aren't listed"))
     return found

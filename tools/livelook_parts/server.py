@@ -74,13 +74,14 @@ class Server:
             self.turn()
 
     def turn(self):
+        # what came by now is answered before a client counts as idle, however long others took
+        now = time.monotonic()
         for key, _ in self.selector.select(TURN_SECONDS):
             if key.fileobj is self.listener:
                 self._accept()
             elif key.data.opened.fileno() >= 0:
                 self._tend(key.data)
         self._send_events()
-        now = time.monotonic()
         for client in [client for client in self.clients.values() if now > client.until]:
             self._close(client)
 
@@ -88,6 +89,8 @@ class Server:
         with contextlib.suppress(OSError):
             opened, _ = self.listener.accept()
             opened.setblocking(False)
+            # what the system keeps for it counts too
+            opened.setsockopt(socket.SOL_SOCKET, socket.SO_SNDBUF, MOST_WAITING_BYTES)
             if len(self.clients) >= MOST_CLIENTS:
                 opened.send(answer_of(503, TEXT, b"too many clients\n"))
                 opened.close()
@@ -170,7 +173,7 @@ class Server:
         if path == "/events":
             client.is_stream = not is_head
             return head_of(200, "text/event-stream; charset=utf-8") + (b"" if is_head else self._event())
-        with self.looking.lock:
+        with self.looking.asked():
             if path == "/status.json":
                 return answer_of(200, "application/json; charset=utf-8", self.status.json(MOST_WAITING_BYTES), is_head)
             if path == "/metrics":
@@ -181,7 +184,7 @@ class Server:
         return answer_of(404, TEXT, b"there is no such page\n", is_head)
 
     def _event(self):
-        with self.looking.lock:
+        with self.looking.asked():
             return b"data: " + self.status.json(MOST_WAITING_BYTES) + b"\n\n"
 
     def _send_events(self):

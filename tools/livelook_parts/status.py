@@ -8,7 +8,7 @@ from buslook_parts.rules import known_rules
 from onboard.bus_load import BITS_A_SECOND
 from onboard.identifiers import NULL_ADDRESS
 
-from .gathered import SECOND_US
+from .gathered import SECOND_US, named
 
 # a difference between the run's moments and the machine's date that is worth a word
 DATE_SECONDS = 2
@@ -66,8 +66,12 @@ class Status:
 
     def is_live(self):
         """Whether something of a run is known, up to now."""
+        return self.is_followed() and self.looking.percent is None
+
+    def is_followed(self):
+        """Whether a run is there, and the program computes what it does."""
         looking = self.looking
-        return looking.gathered is not None and looking.gathered.moment is not None and looking.percent is None
+        return looking.gathered is not None and looking.gathered.moment is not None and not looking.trouble
 
     def load_ratio(self):
         """The share of the bus that is used."""
@@ -99,8 +103,11 @@ class Status:
         elif self.is_live() and abs(self.date_difference()) > DATE_SECONDS:
             difference = f"{abs(self.date_difference()):.0f} seconds"
             found.append(f"The run's clock and this machine's date differ by {difference}, or nothing was written for so long.")
-        found += [f"The configuration has no {line} under {table}: {without}." for line, table, without in looking.missing_keys]
-        return found
+        return found if self.is_followed() else found + self.missing_keys()
+
+    def missing_keys(self):
+        """Which keys of the configuration are missing, and what isn't shown without them."""
+        return [f"The configuration has no {line} under {table}: {without}." for line, table, without in self.looking.missing_keys]
 
     # the pages for machines
 
@@ -116,19 +123,18 @@ class Status:
 
     def values(self):
         looking, gathered = self.looking, self.looking.gathered
-        found = {"warnings": self.warnings(), "since": looking.since, "percent": looking.percent, "silent_for": round(self.since_line(), 3)}
+        found = {"warnings": self.warnings(), "notes": self.missing_keys(), "since": looking.since, "percent": looking.percent, "silent_for": round(self.since_line(), 3)}
         found["moment"] = None
         if gathered is None or gathered.moment is None:
             return found
-        own, to_bus = gathered.addresses.own, sorted(gathered.to_bus.items())
+        own = gathered.addresses.own
         reported = sorted(gathered.reported.values(), key=lambda one: -one.moment)[:MOST_REFUSED]
         found.update(
             moment=seconds(gathered.moment), begin=seconds(gathered.begin), own=None if own == NULL_ADDRESS else own,
             rows=[self.row(said) for said in self.all_said() if self.is_shown(said)], others=[self.row(said) for said in gathered.others.values()],
             devices=[self.speaker(address) for address in sorted(gathered.speakers)[:MOST_DEVICES]],
             more_devices=max(0, len(gathered.speakers) - MOST_DEVICES), refused=[self.refused(one) for one in reported],
-            changes=[{"moment": seconds(moment), "what": what, "to": to} for moment, what, to in reversed(gathered.changes)],
-            to_bus=[{"words": words, "source": source, "moment": seconds(moment)} for words, (moment, source) in to_bus],
+            changes=[self.change(*one) for one in gathered.changes.newest()], to_bus=[self.carried(*one) for one in gathered.to_bus.items()],
             rates=self.rates(), failures=[self.failure(*one) for one in sorted(gathered.failures.items())])
         return found
 
@@ -153,6 +159,16 @@ class Status:
                 "moment": seconds(said.moment), "timeout": said.timeout_us / SECOND_US, "must": said.is_watched,
                 "silent": self.is_live() and self.is_silent(said), "count": said.count, "line": [[cell - said.line[-1][0], number] for cell, number in said.line if number is not None]}
 
+    @staticmethod
+    def carried(name, one):
+        values = [[value.words, value.text, value.unit] for value in one.values]
+        return {"name": name, "words": one.words, "values": values, "source": one.source, "moment": seconds(one.moment), "count": one.count}
+
+    def change(self, change, moment, times):
+        row = self.looking.gathered.rows.get(change.row)
+        address = None if change.address == NULL_ADDRESS else change.address
+        return {"what": change.what, "row": row.words if row else "", "address": address, **named(change.name), "moment": seconds(moment), "count": times}
+
     def speaker(self, address):
         gathered = self.looking.gathered
         speaker = gathered.speakers[address]
@@ -170,7 +186,7 @@ class Status:
     def health(self):
         """Whether all is well, and words for it."""
         looking = self.looking
-        if looking.gathered is None or looking.gathered.moment is None:
+        if not self.is_followed():
             return False, f"no run is followed: {looking.trouble or 'none has begun'}"
         if not self.is_live():
             return True, f"still reading: {looking.percent} %"
@@ -191,7 +207,7 @@ class Status:
     def samples(self):
         """Of each metric its samples: their labels, whose texts are the gateway's own words and numbers alone, and the value."""
         gathered = self.looking.gathered
-        if gathered is None or gathered.moment is None:
+        if not self.is_followed():
             return {"shipgate_up": [((), 0)]}
         said = [one for one in self.all_said() if one.moment is not None]
         values = [((("row", one.name), ("unit", value.unit)), value.number) for one in said for value in one.values if value.number is not None]
