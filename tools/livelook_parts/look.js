@@ -1,8 +1,8 @@
 'use strict';
 // Shows what the server says. Every text goes to the page by textContent: names and texts of devices are text, whatever they hold.
-const SECONDS_WITHOUT_ANSWER = 6, POLL_MS = 1000, CELLS = 60, MANY_SECONDS = 3, MOST_ALARMS = 3, HALF_TURN = 180;
+const SECONDS_WITHOUT_ANSWER = 6, SECONDS_WITHOUT_EVENT = 3, ANSWER_MS = 5000, POLL_MS = 1000, CELLS = 60, MANY_SECONDS = 3, MOST_ALARMS = 3, HALF_TURN = 180;
 const place = id => document.getElementById(id);
-let said = null, received = 0, poll = null;
+let said = null, received = 0, receivedDate = Date.now(), poll = null, isAsking = false;
 
 if (new URLSearchParams(location.search).has('night')) document.documentElement.classList.add('night');
 
@@ -15,8 +15,8 @@ function made(name, kind, text, ...parts) {
   return element;
 }
 
-// seconds since the server's words came, by the steady clock of the browser
-const passed = () => (performance.now() - received) / 1000;
+// seconds since the server's words came, by the steady clock of the browser, which stands while a telephone sleeps
+const passed = () => Math.max(performance.now() - received, Date.now() - receivedDate) / 1000;
 const age = moment => said.moment - moment + said.silent_for + passed();
 
 function lasting(seconds) {
@@ -167,17 +167,22 @@ function show() {
 function take(text) {
   said = JSON.parse(text);
   received = performance.now();
+  receivedDate = Date.now();
   show();
 }
 
 function ask() {
-  fetch('status.json', {cache: 'no-store'}).then(answer => answer.text()).then(text => { poll = 'works'; take(text); }).catch(() => { poll = 'failed'; show(); });
+  if (isAsking) return show();
+  isAsking = true;
+  return fetch('status.json', {cache: 'no-store', signal: AbortSignal.timeout(ANSWER_MS)}).then(answer => answer.text()).then(text => { poll = 'works'; take(text); })
+    .catch(() => { poll = 'failed'; show(); }).finally(() => { isAsking = false; });
 }
 
 const events = new EventSource('events');
 events.onmessage = message => { poll = null; take(message.data); };
-// where events fail, it is asked each second, which also tells the server's end
+// where events fail, or none comes, it is asked each second, which also tells the server's end
+const hasEvents = () => poll === null || events.readyState === EventSource.OPEN;
 events.onerror = () => ask();
-setInterval(() => { if (poll !== null && events.readyState !== EventSource.OPEN) ask(); else show(); }, POLL_MS);
+setInterval(() => { if (hasEvents() && passed() < SECONDS_WITHOUT_EVENT) show(); else ask(); }, POLL_MS);
 // a page that was asleep catches up at once
 addEventListener('visibilitychange', () => { if (!document.hidden) ask(); });
