@@ -56,7 +56,7 @@ function lineOf(row) {
 }
 
 function ageWords(row) {
-  if (row.moment === null) return isSilent(row) ? 'never heard, and its sources are in the configuration' : 'not heard yet';
+  if (row.moment === null) return isSilent(row) ? 'never heard, and the configuration wants it' : 'not heard yet';
   return isSilent(row) ? 'fell silent ' + lasting(age(row.moment)) + ' ago' : lasting(age(row.moment)) + ' ago';
 }
 
@@ -111,7 +111,7 @@ function alarms() {
   }
   const rows = said.rows.filter(isSilent);
   found.push(...told(rows.filter(row => row.moment !== null), 'fell silent'));
-  found.push(...told(rows.filter(row => row.moment === null), 'were never heard, and their sources are in the configuration'));
+  found.push(...told(rows.filter(row => row.moment === null), 'were never heard, and the configuration wants them'));
   return found;
 }
 

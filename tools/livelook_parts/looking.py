@@ -19,7 +19,8 @@ REPORT = re.compile(rb"\((\d{1,10})\.(\d{6})\) rule (\d+)(?: (.*))?")
 PAUSE_SECONDS, AGAIN_SECONDS, LET_SECONDS = 0.1, 5.0, 0.001
 # it is behind if more than this is left to read
 BEHIND_BYTES = 1 << 18
-OF_LINKS = b"link="
+# of the two links, whose reports `replay` has none of
+OF_LINKS = re.compile(rb" rule \d{1,2} (?:.* )?link=(?:bus|net)(?: |$)")
 # the longest timeout of a row
 SETTLING_US = 60 * MICROSECONDS
 
@@ -158,7 +159,7 @@ class Looking:
             self.no_events += line not in (b"", b"\r")
             return
         rule, detail = int(match.group(3)), (match.group(4) or b"").decode("ascii", "backslashreplace")
-        if OF_LINKS in line:
+        if OF_LINKS.search(line):
             links.append((rule, detail))
         elif self._is_compared(match, rule):
             self.comparing.tell(line)
