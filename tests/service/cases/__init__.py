@@ -1,7 +1,7 @@
 """What tests/service/boot tries in the machine. A module has its cases in CASES; each is a function that answers what it saw, or raises Failed."""
 
 # In this order: the first looks at the boot, the last removes what was installed.
-MODULES = ("clock", "priority", "restarts", "recording", "ways", "package")
+MODULES = ("clock", "priority", "restarts", "recording", "page", "ways", "package")
 
 
 class Failed(Exception):
