@@ -125,11 +125,11 @@ def connections(look):
 
 def try_listening():
     """Where it can't listen it says so, and ends."""
-    for words, status, said in ((("--listen", "[::1]:8450"), 2, "it listens over IPv4 alone"), (("--listen", "::1:8450"), 2, "IPv4"), (("--listen", "8450"), 2, "isn't HOST:PORT"),
-                                (("--listen", "192.0.2.1:8450"), 1, "192.0.2.1:8450: ")):
-        command = [sys.executable, LIVELOOK, "--config", "boat.toml", "--run", "run.log", *words]
+    of_version_six = "it listens over IPv4 alone"
+    for place, status, said in (("[::1]:8450", 2, of_version_six), ("::1:8450", 2, of_version_six), ("8450", 2, "isn't HOST:PORT"), ("192.0.2.1:8450", 1, "192.0.2.1:8450: ")):
+        command = [sys.executable, LIVELOOK, "--config", "boat.toml", "--run", "run.log", "--listen", place]
         ended = subprocess.run(command, stdin=subprocess.DEVNULL, stderr=subprocess.PIPE, text=True, timeout=LIMIT_SECONDS, check=False)
-        wanted(f"{words}: {ended.returncode} {ended.stderr}", ended.returncode == status and said in ended.stderr)
+        wanted(f"{place}: {ended.returncode} {ended.stderr}", ended.returncode == status and said in ended.stderr)
 
 
 def palettes():
