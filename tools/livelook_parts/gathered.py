@@ -11,7 +11,7 @@ from configuration.keys import Page
 from onboard.fast_packets import Joiner
 from onboard.identifiers import ADDRESS_CLAIM, ALL, NULL_ADDRESS, PRODUCT_INFORMATION, name_of, name_text, parts_of
 
-from .holders import SOURCE, Change, Changes, Holders
+from .holders import BACK, MISSED, SOURCE, Change, Changes, Holders
 from .sent import Sent
 from .values import further_of, values_of
 
@@ -19,12 +19,16 @@ SECOND_US = 1_000_000
 # rates are of so many seconds; the line of a value of so many cells, each of so many seconds
 RATE_SECONDS, LINE_CELLS, CELL_SECONDS = 10, 60, 10
 MOST_MESSAGES, MOST_REPORTS, MOST_GROUPS = 3000, 200, 32
-OWN_ADDRESS, SOURCE_CHANGED = 9, 28
+OWN_ADDRESS, SOURCE_CHANGED, ROW_WATCHED = 9, 28, 29
 # rule 3: the event was earlier than the last one, and had no other effect
 MOMENT_BACK = b"3"
 OTHERS = "others"
 # the words of the optional part that joins several rows, and of the one of ships around
 JOINED, SHIPS = "RMC", "ships around"
+# the tables of parts that join several messages, each with the words for what its group has
+JOINING = (("heading", "joined headings"), ("nav", "navigation"))
+# without its key
+BEAT_SECONDS = 60
 
 
 class Rate:
@@ -52,6 +56,8 @@ class Said:
 
     def __init__(self, name, words, timeout_us, is_watched):
         self.name, self.words, self.timeout_us, self.is_watched = name, words, timeout_us, is_watched
+        # whether the gateway said last that it misses the row
+        self.is_missed = False
         self.moment, self.values, self.source, self.count = None, [], None, 0
         self.line = collections.deque(maxlen=LINE_CELLS)
 
@@ -105,10 +111,17 @@ class Gathered:
         tables = config.get("row", {}), config.get("further", {})
         self.rows = {row.name: self._said(row.name, row.words, tables[0]) for row in page.rows}
         self.further_group = tables[1].get("group")
+        self.joined_groups = {config[part]["group"]: words for part, words in JOINING if "group" in config.get(part, {})}
+        self.beat_seconds = beat_seconds_of(config.get("heartbeat", {}))
         self.further = {name: self._said(name, name.replace("_", " "), tables[1]) for name in page.quantities}
+        # if rows are under watch, these alone have to be there
+        if any("watch_ms" in keys for keys in tables[0].values()):
+            for said in self.rows.values():
+                said.is_watched = "watch_ms" in tables[0].get(said.name, {})
         # what is said of several rows, and of ships, whose source is none of a row
         self.others = {}
-        self.begin = self.moment = None
+        # when it began, the last event, and the last frame or datagram
+        self.begin = self.moment = self.heard = None
         # of frames from the bus, and of those to it
         self.speakers, self.messages, self.joiner, self.joiner_out = {}, {}, Joiner(), Joiner()
         self.bits, self.frames, self.frames_out = Rate(), Rate(), Rate()
@@ -133,6 +146,8 @@ class Gathered:
         self.reach(max(moment, self.moment or 0))
         second = self.moment // SECOND_US
         source = None
+        if frame is not None or datagram is not None:
+            self.heard = self.moment
         if frame is not None:
             parts = parts_of(frame.identifier)
             source = parts.source
@@ -187,6 +202,8 @@ class Gathered:
             if group == self.further_group:
                 for quantity, values in further_of(fields).items():
                     self.further[quantity].say(self.moment, values, source)
+            elif group in self.joined_groups:
+                self._other(self.joined_groups[group]).say(self.moment, [], None)
             else:
                 self._said_row(fields, source)
 
@@ -237,6 +254,9 @@ class Gathered:
         words = dict(word.split("=", 1) for word in detail.split(" ") if "=" in word)
         if rule == OWN_ADDRESS:
             self._own_address(NULL_ADDRESS if words["own"] == "none" else int(words["own"]))
+        elif rule == ROW_WATCHED:
+            self.rows[words["row"]].is_missed = words["said"] == "no"
+            self.changes.add(self.moment, Change(MISSED if words["said"] == "no" else BACK, words["row"], None, None))
         elif rule == SOURCE_CHANGED:
             address = int(words["src"])
             self.changes.add(self.moment, Change(SOURCE, words["row"], address, self.addresses.holder_of(address)))
@@ -270,6 +290,12 @@ def named(name):
     if name is None:
         return {"name": "", "maker": "", "function": "", "claimed": False}
     return {"name": name_text(name), "maker": maker_of(name), "function": function_of(name), "claimed": True}
+
+
+def beat_seconds_of(keys):
+    """How often at least a run writes something, if it has heartbeats."""
+    found = [keys.get("every_s", BEAT_SECONDS)] if "group" in keys else []
+    return min([*found, *([keys["bus_every_s"]] if "bus_every_s" in keys else [])], default=None)
 
 
 def sender_of(words, datagram):

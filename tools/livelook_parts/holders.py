@@ -8,7 +8,7 @@ from buslook_parts.recording import Addresses
 MOST_CHANGES = 20
 # what is no news: a device answers a request, or a preset of the configuration
 NO_NEWS = ("claimed again", "known before its claim")
-OWN, SOURCE = "own", "source"
+OWN, SOURCE, MISSED, BACK = "own", "source", "missed", "back"
 
 
 class Change(NamedTuple):

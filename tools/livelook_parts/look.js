@@ -30,11 +30,11 @@ const maker = one => [one.maker, one.function].filter(text => text).join(', ');
 const device = one => one.claimed ? maker(one) : 'never claimed an address';
 
 function sourceOf(row) {
-  if (row.source === null) return row.name === 'RMC' ? 'joined of several sources' : '';
+  if (row.source === null) return isNoRow(row) ? 'joined of several sources' : '';
   return device(row.source) + ', address ' + row.source.address + (row.source.claimed ? ', ' + row.source.name : '');
 }
 
-const isSilent = row => row.moment === null ? row.silent : age(row.moment) > row.timeout;
+const isSilent = row => row.missed || (row.moment === null ? row.silent : age(row.moment) > row.timeout);
 
 // the values of ten minutes, as far as they were numbers; apart where none came for a while, and where an angle passed north
 function lineOf(row) {
@@ -60,8 +60,8 @@ function ageWords(row) {
   return isSilent(row) ? 'fell silent ' + lasting(age(row.moment)) + ' ago' : lasting(age(row.moment)) + ' ago';
 }
 
-// what is no row: it is counted
-const NAMED = {'RMC': true, 'ships around': true};
+// what is no row is counted
+const isNoRow = row => said.others.includes(row);
 const unitOf = ([words, text, unit]) => text.includes('°') ? '' : unit + (words && !unit.includes(words) ? ', ' + words : '');
 const valueText = value => value[1] + (unitOf(value) ? ' ' + unitOf(value) : '');
 
@@ -70,7 +70,7 @@ function valuesOf(row) {
   const values = made('div', 'values', null);
   if (row.values.length > 0 && !isSilent(row)) {
     for (const value of row.values) values.append(made('span', '', null, made('span', value[1].includes('°') ? 'value degrees' : 'value', value[1]), made('span', 'unit', ' ' + unitOf(value))));
-  } else if (row.moment !== null && row.name in NAMED) {
+  } else if (isNoRow(row)) {
     values.append(made('span', 'value', String(row.count)), made('span', 'unit', 'times'));
   } else {
     const last = row.values.map(valueText).join('; ');
@@ -99,16 +99,22 @@ function told(rows, words) {
   return [rows.length + ' quantities ' + words + ': ' + rows.map(row => row.words).join('; ')];
 }
 
+// a silent boat and a dead gateway: by its sign of life they look different
+function silences(written, heard) {
+  if (said.beat === null && heard > MANY_SECONDS) {
+    return ['Nothing came for ' + lasting(heard) + ': the boat is silent, or the gateway has ended. This page can\'t tell which without bus_every_s or group under [heartbeat].'];
+  }
+  if (said.beat !== null && written > 2 * said.beat) return ['The gateway has ended: it wrote nothing for ' + lasting(written) + ', and a sign of life is due each ' + said.beat + ' s.'];
+  return heard > MANY_SECONDS ? ['The boat is silent: nothing came for ' + lasting(heard) + '. The gateway runs.'] : [];
+}
+
 function alarms() {
   const found = [];
   if (said === null) return [poll === 'failed' ? 'No answer from livelook.' : 'Waiting for livelook.'];
   if (passed() > SECONDS_WITHOUT_ANSWER || poll === 'failed') found.push('No answer from livelook for ' + lasting(passed()) + ': what stands here is old.');
   found.push(...said.warnings);
   if (said.moment === null || said.percent !== null) return found;
-  const silent = said.silent_for + passed();
-  if (silent > MANY_SECONDS) {
-    found.push('Nothing came for ' + lasting(silent) + ': the boat is silent, or the gateway has ended. Without a sign of life in the recording this page can\'t tell which.');
-  }
+  found.push(...silences(said.silent_for + passed(), age(said.heard === null ? said.begin : said.heard)));
   const rows = said.rows.filter(isSilent);
   found.push(...told(rows.filter(row => row.moment !== null), 'fell silent'));
   found.push(...told(rows.filter(row => row.moment === null), 'were never heard, and the configuration wants them'));
@@ -118,6 +124,8 @@ function alarms() {
 function changeWords(one) {
   if (one.what === 'own') return one.address === null ? 'the gateway has no address' : 'the gateway has address ' + one.address;
   const who = one.claimed ? maker(one) + ', ' + one.name : 'a device that never claimed';
+  if (one.what === 'missed') return one.row + ' is missed by the gateway';
+  if (one.what === 'back') return one.row + ' is back';
   if (one.what === 'source') return one.row + ' is taken from address ' + one.address + ', ' + who;
   return (one.address === null ? 'no address' : 'address ' + one.address) + ': ' + one.what + ' by ' + who;
 }

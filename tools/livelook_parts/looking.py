@@ -11,7 +11,7 @@ from onboard.candump import MOST_LINE
 
 from .comparing import Comparing
 from .following import Begin, Gap
-from .gathered import SOURCE_CHANGED, Gathered
+from .gathered import ROW_WATCHED, SOURCE_CHANGED, Gathered
 
 # an event that isn't surely a frame, and a report
 OTHER_EVENT = re.compile(rb"\((\d{1,10})\.(\d{6})\) (?:tick(?: [^\r\n]*)?|udp0 [A-Z0-9]{4}#((?:[0-9A-F]{2})*))")
@@ -176,7 +176,7 @@ class Looking:
             return True
         moment = int(match.group(1)) * MICROSECONDS + int(match.group(2))
         self.compared_from = self.compared_from or moment + SETTLING_US
-        return moment >= self.compared_from and rule != SOURCE_CHANGED
+        return moment >= self.compared_from and rule not in (SOURCE_CHANGED, ROW_WATCHED)
 
 
 def missing_keys(config):

@@ -60,9 +60,16 @@ class Status:
 
     def is_silent(self, said):
         """Whether a row isn't said in time: one that was said before, or one that has to be there."""
+        if said.is_missed:
+            return True
         if said.moment is None:
             return said.is_watched and self.age(self.looking.gathered.begin) * SECOND_US > said.timeout_us
         return self.age(said.moment) * SECOND_US > said.timeout_us
+
+    def has_ended(self):
+        """Whether the gateway's sign of life is missing: nothing was written for twice the time between two."""
+        beat = self.looking.gathered.beat_seconds
+        return beat is not None and self.since_line() > 2 * beat
 
     def is_live(self):
         """Whether something of a run is known, up to now."""
@@ -130,7 +137,7 @@ class Status:
         own = gathered.addresses.own
         reported = sorted(gathered.reported.values(), key=lambda one: -one.moment)[:MOST_REFUSED]
         found.update(
-            moment=seconds(gathered.moment), begin=seconds(gathered.begin), own=None if own == NULL_ADDRESS else own,
+            moment=seconds(gathered.moment), heard=seconds(gathered.heard), beat=gathered.beat_seconds, begin=seconds(gathered.begin), own=None if own == NULL_ADDRESS else own,
             rows=[self.row(said) for said in self.all_said() if self.is_shown(said)], others=[self.row(said) for said in gathered.others.values()],
             devices=[self.speaker(address) for address in sorted(gathered.speakers)[:MOST_DEVICES]],
             more_devices=max(0, len(gathered.speakers) - MOST_DEVICES), refused=[self.refused(one) for one in reported],
@@ -156,7 +163,7 @@ class Status:
         gathered = self.looking.gathered
         source = None if said.source is None else gathered.device(said.source)
         return {"name": said.name, "words": said.words, "source": source, "values": [[value.words, value.text, value.unit] for value in said.values],
-                "moment": seconds(said.moment), "timeout": said.timeout_us / SECOND_US, "must": said.is_watched,
+                "moment": seconds(said.moment), "timeout": said.timeout_us / SECOND_US, "must": said.is_watched, "missed": said.is_missed,
                 "silent": self.is_live() and self.is_silent(said), "count": said.count, "line": [[cell - said.line[-1][0], number] for cell, number in said.line if number is not None]}
 
     @staticmethod
@@ -190,6 +197,8 @@ class Status:
             return False, f"no run is followed: {looking.trouble or 'none has begun'}"
         if not self.is_live():
             return True, f"still reading: {looking.percent} %"
+        if self.has_ended():
+            return False, f"the gateway has ended: nothing was written for {self.since_line():.0f} seconds"
         silent = self.silent_rows()
         return not silent, "silent: " + ", ".join(silent) if silent else "ok"
 
