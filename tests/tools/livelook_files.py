@@ -51,13 +51,13 @@ def try_files():
             append(run, run_lines())
             until("a new run", lambda: look.faults() == [] and look.rows()["heading_true"]["count"] == 1)
             append(run, lines("tick", "rule 10 src=99 pgn=127250"))
-            until("a report that the program doesn't give", lambda: look.warns("only the run has the report"))
+            until("a report that the program doesn't give", lambda: look.warns("the run alone has"))
             with open(run, "wb") as file:
                 file.write(run_lines())
             until("a file that was cut", lambda: look.faults() == [] and look.rows())
             os.unlink(run)
             append(run, lines("tick start", CLAIM, HEADING, "tick"))
-            until("a report that the run doesn't have", lambda: look.warns("the run has no report"))
+            until("a report that the run doesn't have", lambda: look.warns("the run lacks"))
             append(run, lines("tick lost 7"))
             until("a gap", lambda: look.warns("keep dropped 7 lines"))
             children = [child for task in os.listdir(f"/proc/{look.run.pid}/task") for child in children_of(look.run.pid, task)]
@@ -246,7 +246,7 @@ def try_configuration():
             append(run, run_lines())
             until("a mended configuration", lambda: look.rows() and not look.warns("refused"))
             wanted("a key that is missing", "sources = true under [report]" in look.status()["notes"][0])
-            wanted("what the configuration doesn't give", look.warns("only the run has the report"))
+            wanted("what the configuration doesn't give", look.warns("the run alone has"))
             until("what it says", lambda: "is refused" in look.said())
         with Look(boat.config, run, "--program", os.path.join(folder, "shipgate")) as look:
             until("a program that isn't there", lambda: look.warns("can't be run"))

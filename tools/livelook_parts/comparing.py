@@ -30,13 +30,13 @@ class Comparing:
         while self.told:
             told = self.told.popleft()
             while self.computed and self.computed[0][0] != told and any(told == report for report, _ in self.computed):
-                self._differ("the run has no report", self.computed.popleft()[0])
+                self._differ("the run lacks", self.computed.popleft()[0])
             if self.computed and self.computed[0][0] == told:
                 self.computed.popleft()
             else:
-                self._differ("only the run has the report", told)
+                self._differ("the run alone has", told)
         while self.computed and self.computed[0][1] < self.events:
-            self._differ("the run has no report", self.computed.popleft()[0])
+            self._differ("the run lacks", self.computed.popleft()[0])
 
     def _differ(self, words, report):
         self.differences += 1

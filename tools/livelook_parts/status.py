@@ -90,8 +90,8 @@ class Status:
         """Why what is shown isn't what took place."""
         looking, found = self.looking, []
         if looking.comparing is not None and looking.comparing.differences:
-            times = looking.comparing.differences
-            found.append(f"{times} of the run's reports differ from what this configuration gives ({looking.comparing.first}): has the run another one?")
+            differences = f"reports that the run and this configuration don't share: {looking.comparing.differences}"
+            found.append(f"{differences}, at first {looking.comparing.first}; the run may have another configuration")
         found += [words for words in (looking.lacks, *looking.gaps) if words]
         if looking.no_events:
             found.append(f"{looking.no_events} lines of the file are neither of a recording nor reports")
