@@ -93,6 +93,8 @@ def transducers_of(fields):
     """The further quantities of a sentence of transducers, each with its values."""
     found = {}
     for text, unit, name in zip(fields[2::4], fields[3::4], fields[4::4]):
+        if name not in TRANSDUCERS or unit not in TRANSDUCER_UNITS:
+            continue
         quantity, words = TRANSDUCERS[name]
         shown = f"{TRANSDUCER_UNITS[unit]} of {words}" if words else TRANSDUCER_UNITS[unit]
         found.setdefault(quantity, []).extend([value_of(words, text, shown)] if text else [])
@@ -100,9 +102,9 @@ def transducers_of(fields):
 
 
 def further_of(fields):
-    """The further quantities that a sentence says, each with its values."""
+    """The further quantities that a sentence says, each with its values; none of a sentence that another program says."""
     formatter = fields[0][3:]
     if formatter == "XDR":
         return transducers_of(fields)
-    quantity = ENGINES[fields[2]] if formatter == "RPM" else FURTHER[formatter]
-    return {quantity: values_of(quantity, fields)}
+    quantity = ENGINES.get(fields[2]) if formatter == "RPM" else FURTHER.get(formatter)
+    return {} if quantity is None else {quantity: values_of(quantity, fields)}
