@@ -62,7 +62,7 @@ fn scaled_decimal(f: Fraction, d: &Decimal) -> i128
     ensures { result ≡ round (signed d.now.negative (d.now.digits * f.num)) (10 ^ d.now.places * f.den) }
 {
     let size = d.digits as u128 * f.num as u128;
-    let by = 10u128.pow(d.places as u32) * f.den as u128;
+    let by = 10u64.pow(d.places as u32) as u128 * f.den as u128;
     nearest_signed(d.negative, size, by)
 }
 
