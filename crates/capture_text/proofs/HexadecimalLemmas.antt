@@ -128,9 +128,9 @@ decoded_from i (a ∷ b ∷ rest) even h =
 decoded : (digits : List ℕ) → length digits % 2 ≡ 0 → list_all is_ascii_hexdigit digits ≡ true → decode_of digits ≡ Ok (paired (map digit_value digits))
 decoded digits even h = decode_of-even digits even ∙ decoded_from 0 digits even h
 
-pub sixteen_decoded : (digits bytes values : List ℕ) → length digits ≡ 16 → list_all is_ascii_hexdigit digits ≡ true → values ≡ map digit_value digits → bytes ≡ paired values → decode_of digits ≡ Ok bytes
-sixteen_decoded digits bytes values len h v e =
-    let even : length digits % 2 ≡ 0 = omega arith in
+-- as many digits as are taken at once
+pub even_decoded : (digits bytes values : List ℕ) → length digits % 2 ≡ 0 → list_all is_ascii_hexdigit digits ≡ true → values ≡ map digit_value digits → bytes ≡ paired values → decode_of digits ≡ Ok bytes
+even_decoded digits bytes values even h v e =
     decoded digits even h ∙ ap (λ (x : List ℕ). Ok (paired x)) (sym v) ∙ ap (λ (x : List ℕ). Ok x) (sym e)
 
 -- the bytes of digits behind one another
@@ -184,19 +184,19 @@ pub none_decoded : (digits room : List ℕ) → decode_of (take (2 * 0) digits) 
 unfolding decode_pairs
 none_decoded digits room = refl
 
--- eight bytes more, in a room of which they are written
-pub eight_more : (digits room bytes : List ℕ) (done k : ℕ) → done ≤ length room → length bytes ≡ 8 → 2 * done + 16 - 2 * done ≡ k
+-- some bytes more, in a room of which they are written
+pub some_more : (digits room bytes : List ℕ) (done n k : ℕ) → done ≤ length room → length bytes ≡ n → 2 * done + 2 * n - 2 * done ≡ k
     → decode_of (take (2 * done) digits) ≡ Ok (take done room) → decode_of (take k (drop (2 * done) digits)) ≡ Ok bytes
-    → decode_of (take (2 * (done + 8)) digits) ≡ Ok (take (done + 8) (put_mid done (done + 8 - done) room bytes))
-eight_more digits room bytes done k within len eq front more =
-    let sixteen : k ≡ 16 = omega (arith, eq) in
-    let both : 2 * (done + 8) ≡ 2 * done + 16 = omega arith in
-    let next : decode_of (take 16 (drop (2 * done) digits)) ≡ Ok bytes = ap (λ (n : ℕ). decode_of (take n (drop (2 * done) digits))) (sym sixteen) ∙ more in
-    let place : done + 8 ≡ done + length bytes = omega (arith, len) in
-    ap (λ (n : ℕ). decode_of (take n digits)) both
-    ∙ ap decode_of (take-add (2 * done) 16 digits)
-    ∙ both_decoded (take (2 * done) digits) (take 16 (drop (2 * done) digits)) (take done room) bytes front next
-    ∙ ap given (sym (take-put_mid done (done + 8 - done) room bytes (done + 8) place within))
+    → decode_of (take (2 * (done + n)) digits) ≡ Ok (take (done + n) (put_mid done (done + n - done) room bytes))
+some_more digits room bytes done n k within len eq front more =
+    let twice : k ≡ 2 * n = omega (arith, eq) in
+    let both : 2 * (done + n) ≡ 2 * done + 2 * n = omega arith in
+    let next : decode_of (take (2 * n) (drop (2 * done) digits)) ≡ Ok bytes = ap (λ (m : ℕ). decode_of (take m (drop (2 * done) digits))) (sym twice) ∙ more in
+    let place : done + n ≡ done + length bytes = omega (arith, len) in
+    ap (λ (m : ℕ). decode_of (take m digits)) both
+    ∙ ap decode_of (take-add (2 * done) (2 * n) digits)
+    ∙ both_decoded (take (2 * done) digits) (take (2 * n) (drop (2 * done) digits)) (take done room) bytes front next
+    ∙ ap given (sym (take-put_mid done (done + n - done) room bytes (done + n) place within))
 
 -- the rest is decoded into a room of its size
 

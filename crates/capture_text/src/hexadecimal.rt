@@ -72,14 +72,48 @@ pub(crate) fn put_eight(digits: &[u8], room: &mut [u8]) -> bool
     true
 }
 
-/// Puts bytes into the room, eight at a time, for as long as sixteen digits are there and the room has place for them. Says how many bytes
-/// it put.
-fn put_eights(digits: &[u8], room: &mut [u8]) -> usize
+/// Puts the bytes of thirty-two digits into the room, and says whether they are digits. It takes hardly longer than sixteen.
+///
+/// It is kept apart, as `put_eight` is.
+#[inline(never)]
+fn put_sixteen(digits: &[u8], room: &mut [u8]) -> bool
+    requires digits { length digits.now ≡ 32 }
+    requires room { length room.old ≡ 16 }
+    ensures { result ≡ true → decode_of digits.now ≡ Ok room.new }
+{
+    if !all_hexadecimal(digits) {
+        return false;
+    }
+    let mut values = [0; 32];
+    put_values(digits, &mut values);
+    put_pairs(&values, room);
+    true
+}
+
+/// Puts bytes into the room, sixteen at a time, for as long as the room has place for them and they are digits. Says how many bytes it put.
+fn put_sixteens(digits: &[u8], room: &mut [u8]) -> usize
     requires { 2 * length room.old ≤ length digits.now }
     ensures within { result ≤ length room.old }
     ensures bytes { decode_of (take (2 * result) digits.now) ≡ Ok (take result room.new) }
 {
     let mut done = 0;
+    while room.len() - done >= 16 {
+        if !put_sixteen(&digits[2 * done..2 * done + 32], &mut room[done..done + 16]) {
+            return done;
+        }
+        done += 16;
+    }
+    done
+}
+
+/// Puts bytes into the room, many at a time and then eight, for as long as the room has place for them and they are digits. Says how many
+/// bytes it put.
+fn put_eights(digits: &[u8], room: &mut [u8]) -> usize
+    requires { 2 * length room.old ≤ length digits.now }
+    ensures within { result ≤ length room.old }
+    ensures bytes { decode_of (take (2 * result) digits.now) ≡ Ok (take result room.new) }
+{
+    let mut done = put_sixteens(digits, room);
     while room.len() - done >= 8 {
         if !put_eight(&digits[2 * done..2 * done + 16], &mut room[done..done + 8]) {
             return done;

@@ -1,5 +1,5 @@
-use Rattle.std.proofs.Common.{sym, ◌∙◌}
-use Rattle.capture_text.proofs.HexadecimalLemmas.{sixteen_decoded, small_values}
+use Rattle.std.proofs.Common.{sym, ◌∙◌, arith}
+use Rattle.capture_text.proofs.HexadecimalLemmas.{even_decoded, small_values}
 use Rattle.capture_text.proofs.hexadecimal.put_eight.Goals as goal
 
 pub put_pairs-requires-clause-small : goal.put_pairs-requires-clause-small
@@ -7,4 +7,4 @@ put_pairs-requires-clause-small c = small_values c.args.digits.now c.put_values.
 
 pub returns : goal.returns
 returns c = λ e.
-    sixteen_decoded c.args.digits.now c.put_pairs.new.room c.put_values.new.room c.requires.digits (sym c.all_hexadecimal.ensures ∙ c.if-not-all_hexadecimal.false) c.put_values.ensures c.put_pairs.ensures
+    even_decoded c.args.digits.now c.put_pairs.new.room c.put_values.new.room (omega (arith, c.requires.digits)) (sym c.all_hexadecimal.ensures ∙ c.if-not-all_hexadecimal.false) c.put_values.ensures c.put_pairs.ensures

@@ -1,0 +1,10 @@
+use Rattle.std.proofs.Common.{sym, ◌∙◌, arith}
+use Rattle.capture_text.proofs.HexadecimalLemmas.{even_decoded, small_values}
+use Rattle.capture_text.proofs.hexadecimal.put_sixteen.Goals as goal
+
+pub put_pairs-requires-clause-small : goal.put_pairs-requires-clause-small
+put_pairs-requires-clause-small c = small_values c.args.digits.now c.put_values.new.room (sym c.all_hexadecimal.ensures ∙ c.if-not-all_hexadecimal.false) c.put_values.ensures
+
+pub returns : goal.returns
+returns c = λ e.
+    even_decoded c.args.digits.now c.put_pairs.new.room c.put_values.new.room (omega (arith, c.requires.digits)) (sym c.all_hexadecimal.ensures ∙ c.if-not-all_hexadecimal.false) c.put_values.ensures c.put_pairs.ensures
