@@ -12,7 +12,7 @@ ghost use Rattle.bridge.specs.Kept.{IsAlone, no_output, output_of};
 ghost use Rattle.bridge.specs.BridgeSettings.{bridge_settings_of};
 
 use crate::beside::Beside;
-use crate::call_output::{CallOutput, emit_beside, len_beside};
+use crate::call_output::{CallOutput, emit_in, len_in};
 use gate_core::{Command, Gateway, Outbox, moment_of};
 use gate_events::{Emit, Event};
 use parts::{Parts, Step};
@@ -228,11 +228,10 @@ impl Bridge {
     pub fn len(&self) -> usize
         ensures { result ≡ length (output_of self.now) }
     {
-        let own = self.output.outbox.len();
         if self.gave {
-            own + len_beside(&self.parts, &self.output)
+            len_in(&self.parts, &self.output)
         } else {
-            own
+            self.output.outbox.len()
         }
     }
 
@@ -241,10 +240,7 @@ impl Bridge {
         ensures emit { option_map emit_of result ≡ slice_get (output_of self.now) place }
         ensures valid { IfSome result CanWrite }
     {
-        match place.checked_sub(self.output.own_len()) {
-            None => self.output.outbox.item(place),
-            Some(place) => emit_beside(&self.parts, &self.output, place),
-        }
+        emit_in(&self.parts, &self.output, place)
     }
 }
 

@@ -3,7 +3,7 @@ ghost use Rattle.std.specs.Prelude.{◌≡◌, ◌≤◌, ◌+◌, ◌++◌, len
 ghost use Rattle.gate_events.specs.Emit.{CanWrite};
 ghost use Rattle.gate_outbox.specs.Output.{emit_of, emits_of};
 ghost use Rattle.parts.specs.PartSteps.{most_output};
-ghost use Rattle.bridge.specs.Kept.{given_count, no_output, ordered_output};
+ghost use Rattle.bridge.specs.Kept.{given_count, no_output, ordered_output, own_output};
 
 use gate_core::Outbox;
 use gate_events::Emit;
@@ -52,6 +52,34 @@ impl CallOutput {
         ensures valid { IfSome result CanWrite }
     {
         self.outbox.item(self.own_len() + place)
+    }
+}
+
+/// How many emits a call left, of the gateway itself and of these parts.
+#[inline(always)]
+pub(crate) fn len_in<P: Parts>(parts: &P, output: &CallOutput) -> usize
+    requires { P.most ≤ most_output }
+    ensures { result ≡ length (own_output output.now
+        ++ (P.output parts.now ++ ((emits_of output.now.plain ++ P.plain parts.now) ++ ordered_output output.now))) }
+{
+    output.outbox.len() + len_beside(parts, output)
+}
+
+/// The emit at this place of all that a call left, of the gateway itself and of these parts.
+#[inline(always)]
+pub(crate) fn emit_in<'a, P: Parts>(
+    parts: &'a P,
+    output: &'a CallOutput,
+    place: usize,
+) -> Option<Emit<'a>>
+    requires { P.most ≤ most_output }
+    ensures emit { option_map emit_of result ≡ slice_get (own_output output.now
+        ++ (P.output parts.now ++ ((emits_of output.now.plain ++ P.plain parts.now) ++ ordered_output output.now))) place }
+    ensures valid { IfSome result CanWrite }
+{
+    match place.checked_sub(output.own_len()) {
+        None => output.outbox.item(place),
+        Some(place) => emit_beside(parts, output, place),
     }
 }
 

@@ -49,7 +49,7 @@ use Rattle.parts.specs.SelectedMessage.{SelectedMessage}
 use Rattle.parts.specs.Picked.{IsPicked, message_of}
 use Rattle.parts.specs.Promises.{IsTaken as IsTakenByGateway}
 use Rattle.parts.specs.Selected.{last_of, selected_at}
-use Rattle.parts.proofs.Completed.{done_by}
+use Rattle.gate_core.proofs.Completed.{done_by}
 use Rattle.joined_rmc.specs.JoinStands.{LastStands}
 use Rattle.joined_rmc.specs.declared.last_of_row.LastOfRow.{LastOfRow}
 use Rattle.joined_rmc.proofs.Commands.{last_stays}

@@ -25,7 +25,7 @@ use std::alloc::{AllocError, Global};
 use toml::Value;
 
 /// The tables of a configuration.
-const TABLES: [&str; 14] = [
+const TABLES: [&str; 15] = [
     GATEWAY, PRESET, ROW, NET, BUS, ROUTE, IDENTITY, RMC, AIS, FURTHER, REPORT, PLAIN, SERVE,
     WATCH, HEARTBEAT,
 ];

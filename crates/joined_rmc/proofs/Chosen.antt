@@ -20,7 +20,7 @@ use Rattle.history.proofs.ChoiceSteps.{messages_are_of_holders}
 use Rattle.history.proofs.FreshSteps.{below, claim_says_none}
 use Rattle.history.proofs.KeySteps.{known_same}
 use Rattle.parts.specs.Selected.{Selected, selected_at, selected_with, last_of, newer}
-use Rattle.parts.proofs.Completed.{done_by}
+use Rattle.gate_core.proofs.Completed.{done_by}
 use Rattle.joined_rmc.specs.Lasting.{held_by, still_held}
 
 -- ---- the last one of a row is one of all messages

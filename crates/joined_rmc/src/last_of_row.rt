@@ -7,8 +7,8 @@ ghost use Rattle.parts.specs.Picked.{IsMessageValid};
 ghost use Rattle.joined_rmc.specs.Lasting.{unless_old};
 ghost use Rattle.joined_rmc.specs.Kept.{none_yet, held_in, in_last, is_named, message_within, lent, last_held, last_with};
 
-use parts::{Gateway, SelectedMessage};
 use n2k_id::Name;
+use parts::{Gateway, SelectedMessage};
 use readings::{Reading, Row, row};
 
 /// The last message of a row that was selected, while its sender holds its address.

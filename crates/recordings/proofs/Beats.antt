@@ -2,7 +2,7 @@
 -- was due: if the gateway wasn't ready then, no later event makes it so.
 use Rattle.std.proofs.Common.{◌≡◌, ℕ, zero, suc, ◌+◌, ◌-◌, ◌*◌, ◌/◌, ◌<◌, ◌≤◌, Bool, true, false, ◌&&◌, List, [], ◌∷◌, ◌++◌, length, refl, sym, ap, ◌∙◌, arith}
 use Rattle.std.specs.Prelude.{nat_lt, nat_le, not, Option, Some, None, is_some, if◌then◌else◌, ◌==◌}
-use Rattle.std.proofs.lemmas.Bool.{le-ltb, leb-true, lt-ltb, ltb-false, ltb-true}
+use Rattle.std.proofs.lemmas.Bool.{false≢true, le-ltb, leb-true, lt-ltb, ltb-false, ltb-true}
 use Rattle.n2k_id.specs.Frame.{BusFrame}
 use Rattle.claim_table.specs.Claims.{Claim, Claims, at_address, at_held, at_other, at_own, by_name, claim, claim_wait, holder_at, is_at, is_ready, moved, next_own, settled, with_taken, without_left}
 use Rattle.claim_table.specs.declared.answer.Holder.{Holder}
@@ -74,8 +74,8 @@ and_false true b is = is
 and_false false b is = refl
 
 and_either : (a b : Bool) → (a && b) ≡ false → a ≡ true → b ≡ false
-and_either true b is yes = is
-and_either false b is yes = absurd cc
+and_either true b is held = is
+and_either false b is held = absurd (false≢true held)
 
 no_emit : (b : Bool) (x : Emit) → (if b then x ∷ [] else []) ≡ [] → b ≡ false
 no_emit true x is = absurd cc

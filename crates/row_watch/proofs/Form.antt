@@ -1,11 +1,9 @@
 -- Rows under watch as a part beside the gateway, as one value.
-use Rattle.std.proofs.Common.{◌≡◌, ℕ, ◌+◌, List, [], ◌∷◌, ◌++◌, refl, subst}
+use Rattle.std.proofs.Common.{◌≡◌, ℕ, ◌+◌, List, [], ◌∷◌, refl, subst}
 use Rattle.std.specs.Prelude.{Option, Some, None}
 use Rattle.std.specs.Option.{ForSome}
 use Rattle.sentence_text.specs.Names.{IsSfi}
-use Rattle.history.specs.Entries.{Entry, History}
 use Rattle.history.specs.EntryLaws.{nets_in}
-use Rattle.history.specs.Settings.{Settings}
 use Rattle.config_values.specs.Rows.{IsTalker}
 use Rattle.settings.specs.Setup.{gateway_of}
 use Rattle.settings.specs.declared.watch.AlertConfig.{AlertConfig}

@@ -1,7 +1,7 @@
 -- What is kept of rows under watch stands for the history with one more entry, and tells what the definition over the whole history says.
-use Rattle.std.proofs.Common.{◌≡◌, ℕ, ◌+◌, ◌-◌, ◌*◌, ◌%◌, Bool, true, false, List, [], ◌∷◌, ◌++◌, length, length-append, nat_lt, refl, sym, ap, subst, ◌∙◌, arith}
-use Rattle.std.proofs.Math.Nat.{mod-add-mod, add_assoc, add_comm}
-use Rattle.std.specs.Prelude.{◌||◌, Option, Some, None, map, option_map, unwrap_or, if◌then◌else◌}
+use Rattle.std.proofs.Common.{◌≡◌, ℕ, ◌+◌, ◌-◌, ◌*◌, ◌%◌, Bool, true, false, List, [], ◌∷◌, ◌++◌, length, refl, sym, ap, subst, ◌∙◌, arith}
+use Rattle.std.proofs.Math.Nat.{mod-add-mod}
+use Rattle.std.specs.Prelude.{◌||◌, Option, Some, None, option_map, unwrap_or, if◌then◌else◌}
 use Rattle.std.specs.List.{list_any}
 use Rattle.std.proofs.lemmas.Bool.{le-ltb}
 use Rattle.readings.specs.declared.rows.Row.{Row}
@@ -21,8 +21,8 @@ use Rattle.settings.specs.declared.watch.WatchConfig.{WatchConfig}
 use Rattle.row_watch.specs.Alert.{alert_text}
 use Rattle.row_watch.specs.Alerts.{alerts_output}
 use Rattle.row_watch.specs.declared.alerts.Alerts.{Alerts}
-use Rattle.row_watch.specs.WatchKept.{Watch, any_kept_silent, counted, is_said_by, next_count, opened_rows, opened_watch, row_after, row_heard, rows_after, rows_change, said_at, told_from, watch_after, watch_tells}
-use Rattle.row_watch.specs.WatchOut.{Change, alert_of, any_silent, change, changes, changes_before, is_overdue, is_silent, last_said, report_of, said_with, says, told, watch_out}
+use Rattle.row_watch.specs.WatchKept.{Watch, any_kept_silent, counted, next_count, opened_rows, opened_watch, row_after, rows_after, rows_change, said_at, told_from, watch_after, watch_tells}
+use Rattle.row_watch.specs.WatchOut.{Change, alert_of, change, changes, changes_before, is_overdue, is_silent, last_said, report_of, said_with, says, told, watch_out}
 use Rattle.row_watch.specs.WatchRule.{WatchRule, Watched, watch_rule, watched_of}
 use Rattle.row_watch.specs.WatchStands.{IsOpenedWatch, RowStands, RowsStand, TellsSilence, WatchStands, watch_gives, watch_stands}
 use Rattle.row_watch.specs.declared.watched_row.WatchedRow.{WatchedRow}

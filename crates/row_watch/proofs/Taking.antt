@@ -1,10 +1,10 @@
 -- One row after the other takes an event: what is told behind each is what is told of all behind the last.
-use Rattle.std.proofs.Common.{◌≡◌, ℕ, ◌+◌, ◌*◌, ◌<◌, ◌≤◌, Bool, true, false, List, [], ◌∷◌, ◌++◌, length, length-append, take, drop, get_or, set, map, append_assoc, refl, sym, ap, subst, ◌∙◌, arith}
+use Rattle.std.proofs.Common.{◌≡◌, ℕ, ◌+◌, ◌*◌, ◌<◌, ◌≤◌, Bool, true, false, List, [], ◌∷◌, ◌++◌, length, length-append, take, drop, get_or, set, map, append_assoc, refl, sym, ap, ◌∙◌, arith}
 use Rattle.std.specs.Prelude.{Option, Some, None}
 use Rattle.std.proofs.lemmas.List.{append-nil, at_drop_more, drop_all, get_or_at, length-map, length-take-le, map-append, set_at, take_all, take_more}
 use Rattle.readings.specs.declared.rows.Row.{Row}
 use Rattle.readings.specs.declared.rows.Row.TheVariants as row
-use Rattle.gate_events.specs.Emit.{Emit, net}
+use Rattle.gate_events.specs.Emit.{Emit}
 use Rattle.parts.specs.SelectedMessage.{SelectedMessage}
 use Rattle.settings.specs.declared.watch.AlertConfig.{AlertConfig}
 use Rattle.row_watch.specs.WatchKept.{Watch, changed_at, counted, next_count, opened_row, row_after, row_in, row_taken, row_tells, rows_after, rows_change, told_from, watch_after, watch_tells}

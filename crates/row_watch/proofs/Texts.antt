@@ -10,13 +10,12 @@ use Rattle.readings.specs.declared.rows.Row.{Row}
 use Rattle.readings.specs.declared.rows.Row.TheVariants as row
 use Rattle.readings.specs.Rows.{about_of, row_number}
 use Rattle.unit_fraction.specs.Text.{decimals}
-use Rattle.sentence_text.specs.Byte.{is_capital, is_field_byte}
+use Rattle.sentence_text.specs.Byte.{is_field_byte}
 use Rattle.sentence_text.specs.Sentence.{body_of, sentence}
 use Rattle.sentence_text.proofs.Spelling.{read_back}
 use Rattle.sentence_fields.specs.Field.{body_text, sentence_by}
 use Rattle.sentence_fields.specs.declared.field.Field.TheVariants.{Digits, Empty, Letter, Word}
 use Rattle.sentence_fields.proofs.Bodies.{capitals_are_address}
-use Rattle.sentence_profile.specs.Laws.{IsOneSentence}
 use Rattle.row_watch.specs.Alert.{alert_body, alert_parts, alert_text, condition}
 use Rattle.row_watch.specs.WatchLaws.{AlertsAreSentences}
 

@@ -9,9 +9,8 @@ use Rattle.gate_events.specs.Emit.{Emit}
 use Rattle.history.specs.Entries.{Entry, History}
 use Rattle.history.specs.Settings.{Settings, same_row}
 use Rattle.settings.specs.declared.watch.AlertConfig.{AlertConfig}
-use Rattle.settings.specs.declared.watch.WatchConfig.{WatchConfig}
 use Rattle.row_watch.proofs.Steps.{never_overdue}
-use Rattle.row_watch.specs.WatchOut.{Change, alert_of, change, changes, changes_before, is_silent, report_of, told, watch_out}
+use Rattle.row_watch.specs.WatchOut.{Change, alert_of, change, changes, changes_before, is_silent, report_of, told}
 use Rattle.row_watch.specs.WatchRule.{WatchRule, Watched, limit_of, watch_rule, watched_if, watched_of}
 use Rattle.row_watch.specs.WatchLaws.{AreApart, IsTold, RowsAreApart, ToldIsTheState, last_in, later, said_in, told_last}
 

@@ -1,5 +1,5 @@
 -- What was told last of a row under watch is its state; and an alert is a sentence of IEC 61162-1.
-use Rattle.std.specs.Prelude.{◌≡◌, ℕ, length, IsTrue, Bool, true, false, not, List, [], ◌∷◌, ◌++◌, Option, Some, None, if◌then◌else◌}
+use Rattle.std.specs.Prelude.{◌≡◌, ℕ, length, IsTrue, Bool, false, not, List, [], ◌∷◌, Option, Some, None, if◌then◌else◌}
 use Rattle.std.specs.List.{AllByRecursion, list_all}
 use Rattle.readings.specs.declared.rows.Row.{Row}
 use Rattle.sentence_text.specs.Byte.{is_capital}

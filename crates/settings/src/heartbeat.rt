@@ -21,18 +21,3 @@ pub struct HeartbeatConfig {
     /// How many seconds one frame of PGN 126993 is due after the other, 1 to 60; none: none is sent.
     pub bus_every_s: Option<u32>,
 }
-
-impl Default for HeartbeatConfig {
-    ghost use Rattle.std.specs.Prelude.{◌≡◌};
-    ghost use Rattle.settings.specs.Heartbeat.{no_heartbeat};
-
-    ghost is_default = { λ b. b ≡ no_heartbeat };
-
-    /// No heartbeats.
-    fn default() -> HeartbeatConfig {
-        HeartbeatConfig {
-            net: None,
-            bus_every_s: None,
-        }
-    }
-}

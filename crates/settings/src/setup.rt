@@ -57,7 +57,10 @@ impl Setup {
                 limits: [None; ROWS],
                 alerts: None,
             },
-            heartbeat: HeartbeatConfig::default(),
+            heartbeat: HeartbeatConfig {
+                net: None,
+                bus_every_s: None,
+            },
         })
     }
 }

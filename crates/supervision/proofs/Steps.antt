@@ -12,7 +12,7 @@ use Rattle.row_watch.specs.WatchKept.{Watch}
 use Rattle.row_watch.specs.WatchRule.{WatchRule}
 use Rattle.row_watch.specs.WatchStands.{watch_gives, watch_stands}
 use Rattle.row_watch.specs.declared.alerts.Alerts.{Alerts}
-use Rattle.heartbeats.specs.Beats.{BeatPlace, beat_output, beats_stand}
+use Rattle.heartbeats.specs.Beats.{BeatPlace, BeatsTake, beat_output, beats_stand}
 use Rattle.heartbeats.specs.declared.heartbeats.Heartbeats.{Heartbeats}
 use Rattle.supervision.specs.Supervised.{AskedBeatsTake, TellsIfSilent, joined_by, rule_of, silence_by, supervision_gives, supervision_stands}
 use Rattle.supervision.specs.declared.supervision.Supervision.{Supervision}
@@ -31,6 +31,14 @@ supervises t before watch beats silent alerts beat told tells given r c s h step
       stood = (rows.stood, hbt.stood);
       emits = ap (λ (es : List Emit). es ++ beat_output beat) rows.emits ∙ ap (λ (es : List Emit). maybe_give watch_gives r.watch c s h e ++ es) hbt.emits;
     }
+
+-- heartbeats that take an event take it where they are asked for
+pub asked_beats_take : (t : Step) (is_silent : Bool) (before after : Heartbeats) (place : BeatPlace) → BeatsTake t is_silent before after place
+    → AskedBeatsTake t is_silent (Some before) (Some after) place
+asked_beats_take t is_silent before after place take silent None c s h step stands same = absurd stands
+asked_beats_take t is_silent before after place take silent (Some b) c s h step stands same =
+    let said = take silent b c s h step stands same in
+    record { stood = said.stood; emits = said.emits }
 
 pub both_opened : (w : Option WatchRule) (b : Option HeartbeatConfig) (c : Settings) (watch : Option Watch) (beats : Option Heartbeats)
     → IsOpened (maybe_stand watch_stands) w c watch → IsOpened (maybe_stand beats_stand) b c beats

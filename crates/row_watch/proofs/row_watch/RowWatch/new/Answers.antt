@@ -1,5 +1,5 @@
 use Rattle.std.proofs.Common.{List, sym, ap, subst, ◌∙◌}
-use Rattle.row_watch.specs.WatchKept.{Watch, opened_rows}
+use Rattle.row_watch.specs.WatchKept.{opened_rows}
 use Rattle.row_watch.specs.WatchRule.{watch_rule, watched_of}
 use Rattle.row_watch.specs.WatchStands.{IsOpenedWatch}
 use Rattle.row_watch.specs.declared.watched_row.WatchedRow.{WatchedRow}

@@ -1,7 +1,7 @@
-use Rattle.std.proofs.Common.{◌+◌, ◌++◌, ◌<◌, List, length, sym, ap, subst, ◌∙◌, arith}
+use Rattle.std.proofs.Common.{◌+◌, ◌<◌, List, length, sym, ap, subst, ◌∙◌, arith}
 use Rattle.gate_events.specs.Emit.{Emit}
 use Rattle.row_watch.specs.Alerts.{alerts_output}
-use Rattle.row_watch.specs.WatchKept.{Watch, row_taken, row_tells}
+use Rattle.row_watch.specs.WatchKept.{Watch, row_taken}
 use Rattle.row_watch.proofs.Taking.{IsTakenTo, one_more}
 use Rattle.row_watch.proofs.row_watch.RowWatch.take.Goals as goal
 
