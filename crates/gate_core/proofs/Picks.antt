@@ -14,7 +14,7 @@ use Rattle.gate_core.specs.Promises.{done_told}
 use Rattle.gate_model.specs.Machine.{Machine}
 use Rattle.gate_outbox.specs.Output.{Output}
 use Rattle.gate_core.specs.declared.selected_message.SelectedMessage.{SelectedMessage}
-use Rattle.gate_core.specs.Picked.{IsPicked, done_at, message_of, picked_at, read_at}
+use Rattle.gate_core.specs.Picked.{IsPicked, done_at, last_picked, message_of, picked_at, read_at}
 use Rattle.gate_core.specs.Selected.{saying, selected_at, selected_with}
 use Rattle.gate_core.proofs.Completed.{done_by}
 
@@ -69,3 +69,11 @@ module _ (c : Settings) (s : ℕ) (h : History) where
 pub is_picked : (g : Machine) (left : Output) (m : ℕ) (picked : Option SelectedMessage) → m ≡ g.moment → picked ≡ picked_at m left → IsPicked g left picked
 is_picked g left m picked at is c s h e taken =
     is ∙ ap (λ n. picked_at n left) (at ∙ taken.stands.moment) ∙ picked_is_chosen c s h e left taken.selected taken.told
+
+-- what the step left is picked
+pub last_is_picked : (g : Machine) (left : Output) → IsPicked g left (last_picked g left)
+last_is_picked g left = is_picked g left g.moment (last_picked g left) refl refl
+
+-- none, where the step selected none
+pub none_is_picked : (g : Machine) (left : Output) → left.selected ≡ false → IsPicked g left None
+none_is_picked g left none = is_picked g left g.moment None refl (sym (ap (λ b. if b then done_at g.moment left.done else None) none))

@@ -27,6 +27,10 @@ done_at m (Some d) = read_at m d d.reading
 abbrev pub picked_at : ℕ → Output → Option SelectedMessage
 picked_at m left = if left.selected then done_at m left.done else None
 
+-- at the moment of the gateway's last entry
+abbrev pub last_picked : Machine → Output → Option SelectedMessage
+last_picked gateway left = picked_at gateway.moment left
+
 -- for every configuration, start moment, history and entry that the gateway took
 abbrev pub IsPicked : Machine → Output → Option SelectedMessage → Type 0
 IsPicked gateway left picked =

@@ -1,6 +1,6 @@
 //! The message that a step of the gateway selected.
 ghost use Rattle.std.specs.Prelude.{◌≡◌};
-ghost use Rattle.gate_core.specs.Picked.{IsMessageValid, IsPicked, picked_at};
+ghost use Rattle.gate_core.specs.Picked.{IsMessageValid, IsPicked, last_picked, picked_at};
 
 use crate::gateway::Gateway;
 use gate_outbox::Outbox;
@@ -19,8 +19,10 @@ pub struct SelectedMessage {
 }
 
 impl SelectedMessage {
-    /// The message that the last step of the gateway selected, by what it left.
+    /// The message that the last step of the gateway selected, by what it left. Most steps select none: whoever asks [`Outbox::selected`] first is
+    /// spared a None, which is written in all its bytes.
     pub fn of(gateway: &Gateway, outbox: &Outbox) -> Option<SelectedMessage>
+        ensures exact { result ≡ last_picked gateway.now outbox.now }
         ensures selected { IsPicked gateway.now outbox.now result }
         ensures valid { IsMessageValid result }
     {
