@@ -155,10 +155,12 @@ water_heard holder new k = record k { water = last_after holder row.WaterTempera
 abbrev pub hearing_by : Machine → FurtherKept → Entry → Hearing
 hearing_by gateway k e = listening.step_by kind_of gateway k.slots e
 
+-- it follows the gateway, which selected this message
+abbrev pub followed : Machine → Option SelectedMessage → FurtherKept → FurtherKept
+followed gateway new k = water_heard (name_held gateway.addresses.claims.holders) new (given_up gateway.addresses.changed k)
+
 abbrev pub with_hearing : Machine → Option SelectedMessage → FurtherKept → Hearing → FurtherStep
-with_hearing gateway new k x =
-    let heard = water_heard (name_held gateway.addresses.claims.holders) new (given_up gateway.addresses.changed (record k { slots = x.slots })) in
-    behind x.told (message_step heard (option_map said_of x.message))
+with_hearing gateway new k x = behind x.told (message_step (followed gateway new (record k { slots = x.slots })) (option_map said_of x.message))
 
 abbrev pub step_by : Machine → Option SelectedMessage → FurtherKept → Entry → FurtherStep
 step_by gateway new k e = with_hearing gateway new k (hearing_by gateway k e)

@@ -4,11 +4,11 @@ ghost use Rattle.std.specs.Int.{IsInRange};
 ghost use Rattle.settings.specs.Setup.{IsQuantity};
 ghost use Rattle.quantities.specs.Told.{kind_of};
 ghost use Rattle.gate_outbox.specs.Output.{and_left, and_posted, no_emits};
-ghost use Rattle.parts.specs.Picked.{IsMessageValid};
+ghost use Rattle.parts.specs.Picked.{last_picked};
 ghost use Rattle.bus_listener.specs.Steps.{IsEventValid, entry_of};
 ghost use Rattle.further_bridge.specs.FurtherRule.{further_rule};
 ghost use Rattle.bus_listener.specs.Promises.{IsListening};
-ghost use Rattle.further_bridge.specs.Kept.{further_opened, hearing_by, most_told, step_by};
+ghost use Rattle.further_bridge.specs.Kept.{followed, further_opened, hearing_by, most_told, step_by};
 ghost use Rattle.further_bridge.specs.Promises.{IsFurtherOpening, IsFurtherStep, IsStepBy, in_places};
 
 use crate::config::{FurtherConfig, timeouts_of};
@@ -21,7 +21,7 @@ use gate_outbox::Emits;
 use joined_rmc::LastOfRow;
 use n2k_id::Pattern;
 use n2k_id::address::ADDRESSES;
-use parts::{Outbox, SelectedMessage};
+use parts::Outbox;
 use sentence_text::Sfi;
 use settings::Quantities;
 use source_choice::Choice;
@@ -129,33 +129,43 @@ impl FurtherBridge {
         ensures step { IsStepBy gateway.now outbox.now (entry_of event.now) self.old self.new emits.new second.new third.new }
         ensures history { IsFurtherStep gateway.now outbox.now (entry_of event.now) self.old self.new (in_places emits.new second.new third.new) }
     {
-        let new = SelectedMessage::of(gateway, outbox);
-        self.step(gateway, &new, event, emits, second, third);
+        self.step(gateway, outbox, event, emits, second, third);
     }
 
-    /// Takes an event, with the message that the gateway selected: what is heard of it, and then the message that it completes.
+    /// Takes an event: what is heard of it, and then the message that it completes. Most complete none.
     #[tactic(auto, using(gate_outbox::proofs::Telling::left_behind, bus_listener::proofs::RoomLemmas::step_limit))]
     fn step(
         &mut self,
         gateway: &Gateway,
-        new: &Option<SelectedMessage>,
+        outbox: &Outbox,
         event: &Event<'_>,
         emits: &mut FurtherEmits,
         second: &mut ValueEmits,
         third: &mut ValueEmits,
     )
         requires valid { IsEventValid event.now }
-        requires message { IsMessageValid new.now }
-        ensures after { self.new ≡ (step_by gateway.now new.now self.old (entry_of event.now)).after }
-        ensures first { emits.new ≡ and_left most_told emits.old (step_by gateway.now new.now self.old (entry_of event.now)).emits }
-        ensures second { second.new ≡ and_posted second.old (step_by gateway.now new.now self.old (entry_of event.now)).second }
-        ensures third { third.new ≡ and_posted third.old (step_by gateway.now new.now self.old (entry_of event.now)).third }
+        ensures after { self.new ≡ (step_by gateway.now (last_picked gateway.now outbox.now) self.old (entry_of event.now)).after }
+        ensures first { emits.new ≡ and_left most_told emits.old (step_by gateway.now (last_picked gateway.now outbox.now) self.old (entry_of event.now)).emits }
+        ensures second { second.new ≡ and_posted second.old (step_by gateway.now (last_picked gateway.now outbox.now) self.old (entry_of event.now)).second }
+        ensures third { third.new ≡ and_posted third.old (step_by gateway.now (last_picked gateway.now outbox.now) self.old (entry_of event.now)).third }
         ensures room { length (hearing_by gateway.now self.old (entry_of event.now)).told ≤ 258 }
         ensures history { IsListening kind_of gateway.now (entry_of event.now) self.old.slots (hearing_by gateway.now self.old (entry_of event.now)) }
     {
-        let said = said_by(self.listener.after(gateway, event, &OfQuantities, emits));
+        match self.listener.after(gateway, event, &OfQuantities, emits) {
+            None => self.follow(gateway, outbox),
+            Some(message) => {
+                let said = said_by(&message);
+                self.follow(gateway, outbox);
+                self.take(&said, emits, second, third);
+            }
+        }
+    }
+
+    /// Follows the gateway: forgets whose address changed hands, and hears what it said of the water's temperature.
+    fn follow(&mut self, gateway: &Gateway, outbox: &Outbox)
+        ensures { self.new ≡ followed gateway.now (last_picked gateway.now outbox.now) self.old }
+    {
         self.give_up(gateway);
-        self.hear_water(gateway, new);
-        self.take(&said, emits, second, third);
+        self.hear_water(gateway, outbox);
     }
 }

@@ -1,7 +1,7 @@
 //! A message that is complete, with what it says of the quantities.
-ghost use Rattle.std.specs.Prelude.{◌≡◌, option_map, IfSome};
-ghost use Rattle.quantities.specs.Told.{GivesFrom, IsInOrder, entries};
-ghost use Rattle.bus_listener.specs.Lent.{heard_message};
+ghost use Rattle.std.specs.Prelude.{◌≡◌};
+ghost use Rattle.quantities.specs.Told.{GivesFrom, entries};
+ghost use Rattle.bus_listener.specs.Lent.{complete_in};
 ghost use Rattle.further_bridge.specs.Kept.{said_of};
 
 use bus_listener::HeardMessage;
@@ -20,19 +20,16 @@ pub(crate) struct Said {
     pub(crate) told: Told,
 }
 
-/// What a message says, where there is one.
-pub(crate) fn said_by(message: Option<HeardMessage<'_>>) -> Option<Said>
-    ensures said { result ≡ option_map said_of (heard_message message.entry) }
-    ensures range { IfSome result (λ d. GivesFrom entries d.told) }
+/// What a message says.
+pub(crate) fn said_by(message: &HeardMessage<'_>) -> Said
+    ensures said { result ≡ said_of (complete_in message.now) }
+    ensures range { GivesFrom entries result.told }
 {
-    match message {
-        Some(message) => Some(Said {
-            moment: message.moment,
-            source: message.source,
-            name: message.name,
-            pgn: message.pgn,
-            told: quantities::read(message.pgn, message.payload),
-        }),
-        None => None,
+    Said {
+        moment: message.moment,
+        source: message.source,
+        name: message.name,
+        pgn: message.pgn,
+        told: quantities::read(message.pgn, message.payload),
     }
 }

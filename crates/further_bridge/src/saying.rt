@@ -1,5 +1,5 @@
 //! What is noted and said of a message that is complete.
-ghost use Rattle.std.specs.Prelude.{◌≡◌, ◌<◌, IfSome, [], ◌∷◌};
+ghost use Rattle.std.specs.Prelude.{◌≡◌, ◌<◌, Some, [], ◌∷◌};
 ghost use Rattle.std.specs.List.{AllByRecursion};
 ghost use Rattle.claim_table.specs.Claims.{places};
 ghost use Rattle.gate_model.specs.Choosing.{is_ranked_chosen, ranked_after};
@@ -30,24 +30,23 @@ impl FurtherBridge {
         forget(&mut self.choice, gateway.won());
     }
 
-    /// Takes a message, or none: each value is noted where its sender has a rank in the quantity, and said where it is selected and has a
-    /// voice. From an address that no device can have nothing is taken.
+    /// Takes a message: each value is noted where its sender has a rank in the quantity, and said where it is selected and has a voice. From an
+    /// address that no device can have nothing is taken.
     pub(crate) fn take(
         &mut self,
-        said: &Option<Said>,
+        said: &Said,
         emits: &mut FurtherEmits,
         second: &mut ValueEmits,
         third: &mut ValueEmits,
     )
-        requires range { IfSome said.now (λ d. GivesFrom entries d.told) }
-        ensures after { self.new ≡ (message_step self.old said.now).after }
-        ensures first { emits.new ≡ and_left most_told emits.old (message_step self.old said.now).emits }
-        ensures second { second.new ≡ and_posted second.old (message_step self.old said.now).second }
-        ensures third { third.new ≡ and_posted third.old (message_step self.old said.now).third }
+        requires range { GivesFrom entries said.now.told }
+        ensures after { self.new ≡ (message_step self.old (Some said.now)).after }
+        ensures first { emits.new ≡ and_left most_told emits.old (message_step self.old (Some said.now)).emits }
+        ensures second { second.new ≡ and_posted second.old (message_step self.old (Some said.now)).second }
+        ensures third { third.new ≡ and_posted third.old (message_step self.old (Some said.now)).third }
     {
-        match said {
-            Some(said) if has_place(said.source) => self.take_told(said, emits, second, third),
-            _ => {}
+        if has_place(said.source) {
+            self.take_told(said, emits, second, third);
         }
     }
 

@@ -1,10 +1,11 @@
 use Rattle.std.proofs.Common.{◌≡◌, ◌≤◌, ◌++◌, [], length, length-append, ap, ◌∙◌, arith}
 use Rattle.std.specs.Prelude.{option_map}
-use Rattle.gate_model.specs.AddressStands.{name_held}
 use Rattle.gate_outbox.specs.Output.{Emitted, and_left, and_posted}
 use Rattle.gate_outbox.proofs.Telling.{left_first}
+use Rattle.gate_core.proofs.Picks.{last_is_picked}
+use Rattle.parts.specs.Picked.{last_picked}
 use Rattle.bus_listener.specs.Steps.{entry_of}
-use Rattle.further_bridge.specs.Kept.{FurtherStep, given_up, hearing_by, message_step, most_told, said_of, step_by, water_heard}
+use Rattle.further_bridge.specs.Kept.{FurtherStep, followed, hearing_by, message_step, most_told, said_of, step_by}
 use Rattle.further_bridge.proofs.MessageLemmas.{message_room}
 use Rattle.further_bridge.proofs.Places.{placed}
 use Rattle.further_bridge.proofs.StepLemmas.{taken_step}
@@ -15,10 +16,10 @@ returns c =
     let g = c.args.gateway.now in
     let k = c.args.self.now in
     let e = entry_of c.args.event.now in
-    let new = c.of-new.result in
+    let new = last_picked g c.args.outbox.now in
     let x = hearing_by g k e in
     let y : FurtherStep = step_by g new k e in
-    let heard = water_heard (name_held g.addresses.claims.holders) new (given_up g.addresses.changed (record k { slots = x.slots })) in
+    let heard = followed g new (record k { slots = x.slots }) in
     let says = message_step heard (option_map said_of x.message) in
     let room : length x.told ≤ 258 = c.step.ensures.room in
     let said = message_room heard (option_map said_of x.message) in
@@ -29,7 +30,7 @@ returns c =
     c.step.ensures.second ∙ ap (λ o. and_posted o y.second) c.requires.second_empty ∙ placed y.second in
     let third : c.step.new.third ≡ record { told = []; posted = y.third } =
     c.step.ensures.third ∙ ap (λ o. and_posted o y.third) c.requires.third_empty ∙ placed y.third in
-    let picked = c.of-new.ensures.selected in
+    let picked = last_is_picked g c.args.outbox.now in
     record {
       step = record { new = new; picked = picked; after_is = c.step.ensures.after; first_is = first; second_is = second; third_is = third };
       history = taken_step g c.args.outbox.now new picked c.args.event.now k _ _ _ _ c.step.ensures.history c.step.ensures.after first second third;

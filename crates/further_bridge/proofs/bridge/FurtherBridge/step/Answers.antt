@@ -21,7 +21,25 @@ invariant_of-self c =
       before.5,
     )
 
-pub returns-clause-history : goal.returns-clause-history
-returns-clause-history c =
+pub invariant_of-self-in-Some : goal.invariant_of-self-in-Some
+invariant_of-self-in-Some c =
+    let i = c.self.inside in
+    let before = c.self.invariant in
+    let stays = step_limit kind_of c.args.gateway.now.addresses i.listener (entry_of c.args.event.now) in (
+      before.0,
+      subst (λ (slots : SlotMap FastKey). slots.limit ≤ 256) (sym c.after.follows.holds-at-none) (subst (λ (n : ℕ). n ≤ 256) (sym stays) before.1),
+      before.2,
+      before.3,
+      before.4,
+      before.5,
+    )
+
+pub returns-in-None-clause-history : goal.returns-in-None-clause-history
+returns-in-None-clause-history c =
+    let e = entry_of c.args.event.now in
+    subst (λ (k : FurtherKept). IsListening kind_of c.args.gateway.now e k.slots (hearing_by c.args.gateway.now k e)) c.self.view_is c.after.ensures.history
+
+pub returns-in-Some-clause-history : goal.returns-in-Some-clause-history
+returns-in-Some-clause-history c =
     let e = entry_of c.args.event.now in
     subst (λ (k : FurtherKept). IsListening kind_of c.args.gateway.now e k.slots (hearing_by c.args.gateway.now k e)) c.self.view_is c.after.ensures.history
