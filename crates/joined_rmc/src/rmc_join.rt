@@ -8,7 +8,7 @@ ghost use Rattle.sentence_profile.specs.Rmc.{IsMinimum};
 ghost use Rattle.history.specs.Settings.{Settings};
 ghost use Rattle.gate_model.specs.AddressStands.{name_held};
 ghost use Rattle.joined_rmc.specs.JoinStands.{IsJoinStep, JoinStands};
-ghost use Rattle.parts.specs.Picked.{IsMessageValid};
+ghost use Rattle.parts.specs.Picked.{last_picked};
 ghost use Rattle.joined_rmc.specs.Lasting.{says_position};
 ghost use Rattle.joined_rmc.specs.Kept.{Join, bytes_in, counted, datagram_in, is_due_message, join_with, minimum_in, empty_join, rows_held, rows_with, with_says};
 ghost use Rattle.joined_rmc.specs.RmcOut.{datagram_by, rule_by};
@@ -91,22 +91,41 @@ impl RmcJoin {
     {
         let moment = gateway.moment();
         self.forget_lost(gateway);
-        let new = SelectedMessage::of(gateway, emits);
-        self.take(moment, &new, packet)
+        self.take(moment, gateway, emits, packet)
     }
 
     /// Takes the message that the step at this moment selected, or none, as most steps do.
     #[inline(always)]
-    fn take(&mut self, moment: u64, new: &Option<SelectedMessage>, packet: &mut Packet) -> bool
+    fn take(&mut self, moment: u64, gateway: &Gateway, emits: &Outbox, packet: &mut Packet) -> bool
         requires empty { packet.old.items ≡ [] }
-        requires valid { IsMessageValid new.now }
-        ensures after { self.new ≡ join_with new.now self.old }
-        ensures says { result ≡ is_due_message new.now }
-        ensures packet { packet.new.items ≡ bytes_in (with_says moment new.now self.old) }
+        ensures after { self.new ≡ join_with (last_picked gateway.now emits.now) self.old }
+        ensures says { result ≡ is_due_message (last_picked gateway.now emits.now) }
+        ensures packet { packet.new.items ≡ bytes_in (with_says moment (last_picked gateway.now emits.now) self.old) }
     {
-        match new {
+        if emits.selected() {
+            self.take_selected(moment, gateway, emits, packet)
+        } else {
+            false
+        }
+    }
+
+    /// The same, where it selected one.
+    #[inline(never)]
+    fn take_selected(
+        &mut self,
+        moment: u64,
+        gateway: &Gateway,
+        emits: &Outbox,
+        packet: &mut Packet,
+    ) -> bool
+        requires empty { packet.old.items ≡ [] }
+        ensures after { self.new ≡ join_with (last_picked gateway.now emits.now) self.old }
+        ensures says { result ≡ is_due_message (last_picked gateway.now emits.now) }
+        ensures packet { packet.new.items ≡ bytes_in (with_says moment (last_picked gateway.now emits.now) self.old) }
+    {
+        match SelectedMessage::of(gateway, emits) {
             None => false,
-            Some(new) => self.hear(moment, new, packet),
+            Some(new) => self.hear(moment, &new, packet),
         }
     }
 

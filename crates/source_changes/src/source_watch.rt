@@ -3,6 +3,7 @@ ghost use Rattle.std.specs.Prelude.{◌≡◌, ◌<◌, IfOk, Some};
 ghost use Rattle.readings.specs.Rows.{row_of, row_number, rows_count};
 ghost use Rattle.history.specs.Settings.{Settings};
 ghost use Rattle.parts.specs.PartSteps.{IsOpened};
+ghost use Rattle.parts.specs.Picked.{last_picked};
 ghost use Rattle.source_changes.specs.SourcesPart.{sources_asked, sources_give, sources_stand};
 ghost use Rattle.source_changes.specs.WatchKept.{change_by, is_by, names_after, no_names};
 ghost use Rattle.source_changes.specs.WatchStands.{IsWatchStep};
@@ -49,17 +50,30 @@ impl SourceWatch {
     fn change(&mut self, gateway: &Gateway, outbox: &Outbox) -> Option<Report>
         ensures history { IsWatchStep gateway.now outbox.now self.old self.new result }
     {
-        let selected = SelectedMessage::of(gateway, outbox);
-        self.handle_selected(&selected)
+        self.take(gateway, outbox)
     }
 
-    /// Handles the message that a step selected, or none.
-    fn handle_selected(&mut self, selected: &Option<SelectedMessage>) -> Option<Report>
-        ensures kept { self.new ≡ names_after selected.now self.old }
-        ensures told { result ≡ change_by selected.now self.old }
+    /// Takes the message that a step selected, or none, as most steps do.
+    #[inline(always)]
+    fn take(&mut self, gateway: &Gateway, outbox: &Outbox) -> Option<Report>
+        ensures kept { self.new ≡ names_after (last_picked gateway.now outbox.now) self.old }
+        ensures told { result ≡ change_by (last_picked gateway.now outbox.now) self.old }
     {
-        match selected {
-            Some(message) => self.handle_message(message),
+        if outbox.selected() {
+            self.take_selected(gateway, outbox)
+        } else {
+            None
+        }
+    }
+
+    /// The same, where it selected one.
+    #[inline(never)]
+    fn take_selected(&mut self, gateway: &Gateway, outbox: &Outbox) -> Option<Report>
+        ensures kept { self.new ≡ names_after (last_picked gateway.now outbox.now) self.old }
+        ensures told { result ≡ change_by (last_picked gateway.now outbox.now) self.old }
+    {
+        match SelectedMessage::of(gateway, outbox) {
+            Some(message) => self.handle_message(&message),
             None => None,
         }
     }

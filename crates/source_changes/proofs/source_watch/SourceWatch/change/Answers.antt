@@ -1,9 +1,11 @@
+use Rattle.gate_core.proofs.Picks.{last_is_picked}
+use Rattle.parts.specs.Picked.{last_picked}
 use Rattle.source_changes.proofs.WatchSteps.{watches}
 use Rattle.source_changes.proofs.source_watch.SourceWatch.change.Goals as goal
 
 pub returns : goal.returns
-returns c = record {
-  history =
-      watches c.args.gateway.now c.args.outbox.now c.of-selected.result c.args.self.now c.handle_selected.new.self c.handle_selected.result c.of-selected.ensures.selected
-      c.handle_selected.ensures.kept c.handle_selected.ensures.told;
-}
+returns c =
+    let g = c.args.gateway.now in
+    let outbox = c.args.outbox.now in record {
+      history = watches g outbox (last_picked g outbox) c.args.self.now c.take.new.self c.take.result (last_is_picked g outbox) c.take.ensures.kept c.take.ensures.told;
+    }
