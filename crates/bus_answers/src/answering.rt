@@ -1,5 +1,5 @@
 //! The gateway's answers to who asks on the bus who it is.
-ghost use Rattle.std.specs.Prelude.{◌≡◌, ◌≤◌, length, map, IfOk};
+ghost use Rattle.std.specs.Prelude.{◌≡◌, ◌≤◌, false, length, map, IfOk};
 ghost use Rattle.std.specs.List.{AllByRecursion};
 ghost use Rattle.n2k_id.specs.Frame.{IsFrame, bus_frame};
 ghost use Rattle.gate_events.specs.Emit.{can};
@@ -49,8 +49,8 @@ impl Answering {
         }
     }
 
-    /// Answers a frame that the gateway has taken.
-    fn answer_frame(&mut self, gateway: &Gateway, frame: &Frame, out: &mut Answer)
+    /// Answers a frame that the gateway has taken. Says whether there may be an answer.
+    fn answer_frame(&mut self, gateway: &Gateway, frame: &Frame, out: &mut Answer) -> bool
         requires { IsFrame frame.now }
         ensures kept { self.new.identity ≡ kept_after self.old.identity gateway.now.addresses.claims.own
             (is_ready gateway.now.addresses.claims gateway.now.moment) (bus_frame frame.now) }
@@ -58,16 +58,21 @@ impl Answering {
             (is_ready gateway.now.addresses.claims gateway.now.moment) (bus_frame frame.now)) }
         ensures few { length (answer_by self.old.identity gateway.now.addresses.claims.own
             (is_ready gateway.now.addresses.claims gateway.now.moment) (bus_frame frame.now)) ≤ most_answered }
+        ensures gave { result ≡ false → out.new ≡ out.old }
     {
         self.frames.clear();
         let answered = self
             .identity
             .answer(gateway.own(), gateway.ready(), frame, &mut self.frames);
         match answered {
-            Answered::Nothing => {}
-            Answered::Sent => send_all(&self.frames, out),
+            Answered::Nothing => false,
+            Answered::Sent => {
+                send_all(&self.frames, out);
+                true
+            }
             Answered::NotReady => {
                 out.tell(of_source(NOT_READY, parts(frame.id).unwrap().source, REQUEST));
+                true
             }
         }
     }
@@ -92,8 +97,7 @@ impl Part<AnswersPlace> for Answering {
     fn after(&mut self, step: &Step<'_>, place: &mut AnswersPlace) -> bool {
         match step.event {
             Event::Frame { frame, .. } => {
-                self.answer_frame(step.gateway, frame, &mut place.emits);
-                place.emits.len() != 0
+                self.answer_frame(step.gateway, frame, &mut place.emits)
             }
             _ => false,
         }

@@ -14,7 +14,7 @@ returns-in-Nothing c =
     frame_told most_answered c.own.result _ c.ready.result _ (bus_frame c.args.frame.now) c.args.self.now.identity c.answer-answered.new.self
     c.args.out.now c.args.out.now (map bus_frame c.answer-answered.new.out.items) _ c.own.ensures.own c.ready.ensures.ready
     (sym c.in-Nothing.is ∙ a.answer) a.frames a.after refl (omega arith) in
-    record { kept = t.kept; told = t.told; few = t.few }
+    record { kept = t.kept; told = t.told; few = t.few; gave = λ none. refl }
 
 pub returns-in-Sent : goal.returns-in-Sent
 returns-in-Sent c =
@@ -25,7 +25,7 @@ returns-in-Sent c =
     c.args.out.now c.send_all.new.out (map bus_frame frames) _ c.own.ensures.own c.ready.ensures.ready (sym c.in-Sent.is ∙ a.answer) a.frames a.after
     (c.send_all.ensures ∙ ap (λ (fs : List Frame). and_told most_answered c.args.out.now (map can (map bus_frame fs))) c.deref.ensures.0)
     (frames_fit most_answered c.deref.result.now frames c.deref.ensures.0 c.deref.ensures.1) in
-    record { kept = t.kept; told = t.told; few = t.few }
+    record { kept = t.kept; told = t.told; few = t.few; gave = λ none. cc }
 
 pub returns-in-NotReady : goal.returns-in-NotReady
 returns-in-NotReady c =
@@ -38,4 +38,4 @@ returns-in-NotReady c =
     c.args.out.now c.tell.new.self (map bus_frame c.answer-answered.new.out.items) _ c.own.ensures.own c.ready.ensures.ready
     (sym c.in-NotReady.is ∙ a.answer) a.frames a.after
     (c.tell.ensures ∙ ap (λ (es : List Emit). and_told most_answered c.args.out.now es) refusal) (omega arith) in
-    record { kept = t.kept; told = t.told; few = t.few }
+    record { kept = t.kept; told = t.told; few = t.few; gave = λ none. cc }
