@@ -5,7 +5,7 @@ use bus_answers::{Answering, AnswersPlace};
 use further_bridge::{FurtherBridge, QuantitiesPlace};
 use joined_rmc::{Joining, RmcPlace};
 use own_address::{AddressPlace, OwnAddress};
-use parts::Lane;
+use parts::{Lane, Seldom};
 use source_changes::{SourceWatch, SourcesPlace};
 use supervision::{Supervision, SupervisionPlace};
 
@@ -14,7 +14,7 @@ pub(crate) type Beside = (
     Option<Lane<Answering, AnswersPlace>>,
     (
         Option<Lane<Joining, RmcPlace>>,
-        (Option<Lane<AisBridge, ShipsPlace>>, Further),
+        (Option<Lane<AisBridge, ShipsPlace>>, Seldom<Further>),
     ),
 );
 

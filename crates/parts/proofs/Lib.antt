@@ -1,4 +1,4 @@
-pub use Rattle.gate_core.proofs.Completed
+pub mod Absent
 pub mod Empty
 pub mod Lines
 pub mod Made

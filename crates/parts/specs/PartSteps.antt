@@ -59,6 +59,16 @@ KeepsCommands {R} {K} stands =
     (r : R) (c : Settings) (s : ℕ) (h : History) (source address : ℕ) (k : K) → AreSettings c → stands r c s h k
     → stands r c s (command (now h) source address ∷ h) k
 
+-- ---- none is there
+
+-- it gave nothing, and whatever comes, it stands for that as well and gives nothing
+pub record IsAbsent {R K : Type 0} (stands : R → Settings → ℕ → History → K → Type 0) (gives : R → Settings → ℕ → History → Entry → List Emit)
+    (output plain : K → List Emit) (k : K) : Type 0 where
+  pub stood : (r : R) (c : Settings) (s : ℕ) (h : History) (e : Entry) → stands r c s h k → stands r c s (e ∷ h) k
+  pub never : (r : R) (c : Settings) (s : ℕ) (h : History) (e : Entry) → stands r c s h k → gives r c s h e ≡ []
+  pub emits : output k ≡ []
+  pub said : plain k ≡ []
+
 -- ---- of one part, what it gave in its place
 
 pub record IsSaid {R K E : Type 0} (stands : R → Settings → ℕ → History → K → Type 0) (gives : R → Settings → ℕ → History → Entry → List Emit)

@@ -1,4 +1,4 @@
-//! Parts, and others behind them; and the end of a list of parts.
+//! Parts, and others behind them.
 ghost use Rattle.std.specs.Prelude.{◌≡◌, ◌+◌, ◌≤◌, ◌++◌, length};
 ghost use Rattle.parts.specs.Compose.{both_asked, both_give, both_output, both_stand};
 
@@ -28,6 +28,11 @@ impl<A: Parts, B: Parts> Parts for (A, B) {
         let first = A::made(alloc, setup)?;
         let second = B::made(alloc, setup)?;
         Ok((first, second))
+    }
+
+    #[tactic(auto, using(crate::proofs::Absent::both_absent))]
+    fn is_absent(&self) -> bool {
+        self.0.is_absent() && self.1.is_absent()
     }
 
     fn clear(&mut self) {

@@ -79,6 +79,10 @@ impl<P: Part<E>, E: Place> Parts for Option<Lane<P, E>> {
         }
     }
 
+    fn is_absent(&self) -> bool {
+        self.is_none()
+    }
+
     fn clear(&mut self) {
         if let Some(lane) = self {
             if lane.gave {

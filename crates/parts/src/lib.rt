@@ -10,6 +10,7 @@ mod nothing;
 mod part;
 mod parts;
 mod place;
+mod seldom;
 
 pub use gate_core::{Gateway, Outbox, SelectedMessage, moment_of};
 pub use given::Given;
@@ -17,3 +18,4 @@ pub use lane::Lane;
 pub use part::{Part, Step};
 pub use parts::Parts;
 pub use place::Place;
+pub use seldom::Seldom;

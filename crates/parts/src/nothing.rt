@@ -27,6 +27,10 @@ impl Parts for () {
         Ok(())
     }
 
+    fn is_absent(&self) -> bool {
+        true
+    }
+
     fn clear(&mut self) {}
 
     fn after(&mut self, _step: &Step<'_>) -> bool {

@@ -1,5 +1,5 @@
 //! Parts beside the gateway, put together.
-ghost use Rattle.std.specs.Prelude.{◌≡◌, ◌≤◌, ℕ, false, List, [], length, option_map, slice_get, IfOk, IfSome};
+ghost use Rattle.std.specs.Prelude.{◌≡◌, ◌≤◌, ℕ, false, true, List, [], length, option_map, slice_get, IfOk, IfSome};
 ghost use Rattle.gate_events.specs.Emit.{CanWrite, Emit};
 ghost use Rattle.gate_outbox.specs.Output.{emit_of};
 ghost use Rattle.gate_core.specs.Steps.{IsEventValid};
@@ -8,7 +8,7 @@ ghost use Rattle.history.specs.Settings.{Settings};
 ghost use Rattle.plain_out.specs.Plain.{plain_out};
 ghost use Rattle.settings.specs.Setup.{IsSetup, gateway_of};
 ghost use Rattle.settings.specs.declared.setup.Setup.{Setup};
-ghost use Rattle.parts.specs.PartSteps.{AreNew, Keeps, Takes, most_output};
+ghost use Rattle.parts.specs.PartSteps.{AreNew, IsAbsent, Keeps, Takes, most_output};
 
 use crate::part::Step;
 use gate_events::Emit;
@@ -43,6 +43,10 @@ pub trait Parts: Drop {
     fn made(alloc: Global, setup: &Setup) -> Result<Self, AllocError>
         requires { IsSetup setup.now }
         ensures { IfOk result (AreNew stands output plain (asked setup.now) (gateway_of setup.now)) };
+
+    /// True: none is there, and none gave anything.
+    fn is_absent(&self) -> bool
+        ensures { result ≡ true → IsAbsent stands gives output plain self.now };
 
     /// Forgets what they gave.
     fn clear(&mut self)
