@@ -10,7 +10,7 @@ use Rattle.datagram450.specs.Datagram.{header, line_text, sentence_datagram}
 use Rattle.gate_events.specs.Emit.{Emit}
 use Rattle.gate_model.proofs.SaidFits.{lines_fit}
 use Rattle.plain_out.specs.Plain.{plain_of, plain_out}
-use Rattle.row_watch.specs.Alerts.{told_emit}
+use Rattle.row_watch.specs.Alerts.{longest_alert, told_emit}
 use Rattle.row_watch.specs.declared.alerts.Told.{Told}
 
 -- one more is said
@@ -24,7 +24,7 @@ one_more group all i d said more within is =
     ∙ flat_map-cons (plain_of group) (told_emit (get_or all i d)) (map told_emit (drop (i + 1) all))))
 
 -- the datagram of a sentence that is written has at most 120 bytes
-pub datagram_short : (source : List ℕ) (before : ℕ) (sentence : List ℕ) → IsSfi source → length sentence ≤ 82 → length (sentence_datagram source before sentence) ≤ 128
+pub datagram_short : (source : List ℕ) (before : ℕ) (sentence : List ℕ) → IsSfi source → length sentence ≤ 82 → length (sentence_datagram source before sentence) ≤ longest_alert
 unfolding sentence_datagram
 datagram_short source before sentence sfi short =
     let tag : TagParts = record { group = None; source = source; count = before % most_count + 1 } in

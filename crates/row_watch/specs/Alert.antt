@@ -5,11 +5,11 @@ use Rattle.std.specs.Prelude.{ℕ, ◌+◌, Bool, true, false, List, ◌∷◌, 
 use Rattle.unit_fraction.specs.Text.{decimals}
 use Rattle.readings.specs.declared.rows.Row.{Row}
 use Rattle.readings.specs.Rows.{about_of, row_number}
+use Rattle.sentence_fields.specs.Field.{letter_where}
 use Rattle.sentence_text.specs.Sentence.{SentenceParts, sentence}
 
 abbrev pub condition : Bool → ℕ
-condition true = 86
-condition false = 65
+condition said = letter_where said 86 65
 
 -- the fields, each behind its comma
 abbrev pub alert_body : Row → Bool → List ℕ

@@ -6,6 +6,10 @@ use Rattle.row_watch.specs.declared.alerts.ShortDatagram.{ShortDatagram}
 use Rattle.row_watch.specs.declared.alerts.Told.{Told}
 use Rattle.row_watch.specs.declared.alerts.Told.TheVariants as told
 
+-- the most that is told at one event: a report and an alert of each row
+abbrev pub most_alerts : ℕ
+most_alerts = 34
+
 -- the most bytes of a datagram there
 abbrev pub longest_alert : ℕ
 longest_alert = 128

@@ -6,11 +6,11 @@
 ghost use Rattle.std.specs.Prelude.{◌≡◌, [], IsTrue};
 ghost use Rattle.std.specs.List.{list_all};
 ghost use Rattle.sentence_text.specs.Byte.{is_capital};
-ghost use Rattle.row_watch.specs.Alert.{alert_text, condition};
+ghost use Rattle.row_watch.specs.Alert.{alert_text};
 
 use readings::Row;
 use sentence_fields::Field::{Digits, Empty, Letter, Word};
-use sentence_fields::{SentenceText, write_sentence};
+use sentence_fields::{SentenceText, letter_where, write_sentence};
 
 /// The number of the first row's alarm.
 const FIRST_NUMBER: u64 = 101;
@@ -24,15 +24,9 @@ pub(crate) fn write_alert(talker: [u8; 2], row: Row, said: bool, out: &mut Sente
     let fields = [
         Empty,
         Digits(Some(FIRST_NUMBER + row.number() as u64), 3),
-        Letter(condition(said)),
+        Letter(letter_where(said, b'V', b'A')),
         Letter(b'V'),
         Word(row.name().as_bytes()),
     ];
     write_sentence(talker, *b"ALR", &fields, out);
-}
-
-fn condition(said: bool) -> u8
-    ensures { result ≡ condition said }
-{
-    if said { b'V' } else { b'A' }
 }

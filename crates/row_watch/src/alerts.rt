@@ -3,7 +3,7 @@ ghost use Rattle.std.specs.Prelude.{◌≡◌, ◌≤◌, ◌<◌, ◌+◌, ◌+
 ghost use Rattle.gate_events.specs.Emit.{CanWrite, net, report};
 ghost use Rattle.gate_outbox.specs.Output.{emit_of};
 ghost use Rattle.plain_out.specs.Plain.{plain_of, plain_out, sentences_in};
-ghost use Rattle.row_watch.specs.Alerts.{alerts_output, alerts_plain, longest_alert, short_emit, told_emit};
+ghost use Rattle.row_watch.specs.Alerts.{alerts_output, alerts_plain, longest_alert, most_alerts, short_emit, told_emit};
 
 use arrayvec::ArrayVec;
 use gate_events::{Detail, Emit, Report};
@@ -66,7 +66,7 @@ pub struct Alerts {
 impl Alerts {
     /// Appends a report.
     pub(crate) fn tell(&mut self, told: Report)
-        requires { length (alerts_output self.old) < 34 }
+        requires { length (alerts_output self.old) < most_alerts }
         ensures output { alerts_output self.new ≡ alerts_output self.old ++ report told ∷ [] }
         ensures plain { alerts_plain self.new ≡ alerts_plain self.old }
     {
@@ -75,7 +75,7 @@ impl Alerts {
 
     /// Appends a datagram.
     pub(crate) fn post(&mut self, group: Group, bytes: &[u8])
-        requires room { length (alerts_output self.old) < 34 }
+        requires room { length (alerts_output self.old) < most_alerts }
         requires short { length bytes.now ≤ longest_alert }
         ensures output { alerts_output self.new ≡ alerts_output self.old ++ net group bytes.now ∷ [] }
         ensures plain { alerts_plain self.new ≡ alerts_plain self.old }
@@ -101,7 +101,7 @@ impl Place for Alerts {
 
     ghost plain = { alerts_plain };
 
-    ghost most = { 34 };
+    ghost most = { most_alerts };
 
     fn new() -> Self {
         Alerts {
@@ -161,7 +161,7 @@ fn lent_datagram(datagram: &ShortDatagram) -> Emit<'_>
 
 /// Appends the sentences of each datagram, for this transmission group.
 fn say_all(told: &[Told], group: Group, plain: &mut ArrayVec<ShortDatagram, MOST>)
-    requires few { length told.now ≤ 34 }
+    requires few { length told.now ≤ most_alerts }
     requires empty { map short_emit plain.old.items ≡ [] }
     ensures { map short_emit plain.new.items ≡ plain_out group (map told_emit told.now) }
 {
@@ -172,7 +172,7 @@ fn say_all(told: &[Told], group: Group, plain: &mut ArrayVec<ShortDatagram, MOST
 
 /// Appends the sentences of what is told, if it is a datagram.
 fn say_one(told: &Told, group: Group, plain: &mut ArrayVec<ShortDatagram, MOST>)
-    requires { length plain.old.items < 34 }
+    requires { length plain.old.items < most_alerts }
     ensures said { map short_emit plain.new.items ≡ map short_emit plain.old.items ++ plain_of group (told_emit told.now) }
     ensures few { length plain.new.items ≤ length plain.old.items + 1 }
 {

@@ -5,7 +5,7 @@ ghost use Rattle.datagram450.specs.Datagram.{sentence_datagram};
 ghost use Rattle.config_values.specs.Rows.{IsTalker};
 ghost use Rattle.sentence_text.specs.Byte.{is_capital};
 ghost use Rattle.row_watch.specs.Alert.{alert_text};
-ghost use Rattle.row_watch.specs.Alerts.{alerts_output, alerts_plain};
+ghost use Rattle.row_watch.specs.Alerts.{alerts_output, alerts_plain, longest_alert, most_alerts};
 ghost use Rattle.row_watch.specs.WatchKept.{any_kept_silent, next_count, opened_rows, opened_watch, row_taken, row_tells, told_from, watch_after, watch_tells};
 ghost use Rattle.row_watch.specs.WatchRule.{watch_rule, watched_of};
 ghost use Rattle.row_watch.specs.WatchStands.{IsOpenedWatch, TellsSilence, watch_gives, watch_stands};
@@ -37,7 +37,7 @@ pub struct RowWatch {
     alerts: Option<AlertConfig>,
     /// The system function identifier by which the gateway speaks.
     sfi: Sfi,
-    /// How many alerts were said, modulo [`MOST_COUNT`].
+    /// How many changes were told, modulo [`MOST_COUNT`]: a line of the alerts' group for each, where alerts are said.
     count: u16,
 }
 
@@ -100,7 +100,7 @@ impl RowWatch {
         place: &mut Alerts,
     )
         requires within { at < length self.old.rows }
-        requires room { length (alerts_output place.old) + 2 ≤ 34 }
+        requires room { length (alerts_output place.old) + 2 ≤ most_alerts }
         ensures after { self.new ≡ row_taken start moment new.now at self.old }
         ensures tells { alerts_output place.new ≡ alerts_output place.old ++ row_tells start moment new.now at self.old }
         ensures plain { alerts_plain place.new ≡ alerts_plain place.old }
@@ -113,7 +113,7 @@ impl RowWatch {
 
     /// Tells that a row isn't said, or is said again.
     fn tell(&mut self, row: Row, said: bool, place: &mut Alerts)
-        requires { length (alerts_output place.old) + 2 ≤ 34 }
+        requires { length (alerts_output place.old) + 2 ≤ most_alerts }
         ensures count { self.new ≡ record self.old { count = next_count self.old.count } }
         ensures tells { alerts_output place.new ≡ alerts_output place.old ++ told_from self.old self.old.count (record { row = row; said = said } ∷ []) }
         ensures plain { alerts_plain place.new ≡ alerts_plain place.old }
@@ -163,8 +163,9 @@ fn write_datagram(
     requires empty { packet.old.items ≡ [] }
     requires talker { IsTrue (list_all is_capital talker) }
     ensures datagram { packet.new.items ≡ sentence_datagram source before (alert_text talker row said) }
-    ensures short { length packet.new.items ≤ 128 }
+    ensures short { length packet.new.items ≤ longest_alert }
 {
+    // so that its six characters are known, and with them the datagram's length
     let _form = source.as_bytes();
     let mut sentence = SentenceText::default();
     write_alert(talker, row, said, &mut sentence);
