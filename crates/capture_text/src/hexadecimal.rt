@@ -72,7 +72,7 @@ pub(crate) fn put_eight(digits: &[u8], room: &mut [u8]) -> bool
     true
 }
 
-/// Puts the bytes of thirty-two digits into the room, and says whether they are digits. It takes hardly longer than sixteen.
+/// Puts the bytes of thirty-two digits into the room, and says whether they are digits.
 ///
 /// It is kept apart, as `put_eight` is.
 #[inline(never)]
@@ -106,7 +106,7 @@ fn put_sixteens(digits: &[u8], room: &mut [u8]) -> usize
     done
 }
 
-/// Puts bytes into the room, many at a time and then eight, for as long as the room has place for them and they are digits. Says how many
+/// Puts bytes into the room, sixteen at a time and then eight, for as long as the room has place for them and they are digits. Says how many
 /// bytes it put.
 fn put_eights(digits: &[u8], room: &mut [u8]) -> usize
     requires { 2 * length room.old ≤ length digits.now }
