@@ -2,10 +2,11 @@
 
 import contextlib
 import os
-import re
 import selectors
 import socket
 import time
+
+from .asked import Names, request_of
 
 HERE = os.path.dirname(os.path.realpath(__file__))
 MOST_CLIENTS, MOST_WAITING_BYTES, MOST_REQUEST_BYTES, PIECE_BYTES = 100, 64000, 8192, 16384
@@ -20,9 +21,6 @@ POLICY = ("default-src 'none'; script-src 'self'; style-src 'self'; connect-src 
           "require-trusted-types-for 'script'")
 REASONS = {200: "OK", 400: "Bad Request", 404: "Not Found", 405: "Method Not Allowed", 421: "Misdirected Request", 431: "Request Header Fields Too Large",
            503: "Service Unavailable"}
-REQUEST = re.compile(rb"([A-Z]{1,16}) (\S{1,4096}) HTTP/1\.[01]")
-HOST = re.compile(rb"host:[ \t]*(\S*)[ \t]*", re.IGNORECASE)
-PORT = re.compile(r":\d{1,5}$")
 OPENMETRICS = "application/openmetrics-text; version=1.0.0; charset=utf-8"
 TEXT = "text/plain; charset=utf-8"
 
@@ -51,8 +49,7 @@ class Server:
     """Answers what `status` says."""
 
     def __init__(self, address, names, looking, status):
-        self.looking, self.status = looking, status
-        self.hosts = {"localhost", *(name.lower() for name in names)}
+        self.looking, self.status, self.names = looking, status, Names(address, names)
         self.selector, self.clients = selectors.DefaultSelector(), {}
         self.files = {path: (self._content(name), kind) for path, (name, kind) in FILES.items()}
         self.sent_changes, self.sent_at = -1, 0.0
@@ -147,24 +144,16 @@ class Server:
     def _answer(self, client):
         head, end, _ = client.request.partition(b"\r\n\r\n")
         client.request = b""
-        first, *lines = head.split(b"\r\n")
-        match = REQUEST.fullmatch(first)
         if not end:
             return answer_of(431, TEXT, b"the request is too long\n")
-        if match is None:
+        request = request_of(head)
+        if request is None:
             return answer_of(400, TEXT, b"no request of HTTP\n")
-        hosts = [found.group(1).decode("latin-1") for found in map(HOST.fullmatch, lines) if found]
-        if len(hosts) != 1 or not self._is_ours(client, hosts[0]):
+        if not self.names.allow(request, client.opened.getsockname()[0]):
             return answer_of(421, TEXT, b"this name isn't served here: see --name\n")
-        method, is_head = match.group(1), match.group(1) == b"HEAD"
-        if method not in (b"GET", b"HEAD"):
+        if request.method not in ("GET", "HEAD"):
             return answer_of(405, TEXT, b"GET and HEAD alone\n", more=("Allow: GET, HEAD",))
-        return self._page(client, match.group(2).split(b"?")[0].decode("latin-1"), is_head)
-
-    def _is_ours(self, client, host):
-        """Whether a client may call this server so: by a known name, or by the address of this machine that it has reached."""
-        name = PORT.sub("", host).lower()
-        return name in self.hosts or name == client.opened.getsockname()[0]
+        return self._page(client, request.path, request.method == "HEAD")
 
     def _page(self, client, path, is_head):
         if path in self.files:
