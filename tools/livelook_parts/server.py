@@ -88,6 +88,8 @@ class Server:
             opened.setblocking(False)
             # what the system keeps for it counts too
             opened.setsockopt(socket.SOL_SOCKET, socket.SO_SNDBUF, MOST_WAITING_BYTES)
+            # a peer that vanishes closes nothing: if it acknowledges nothing for so long, the system ends the connection
+            opened.setsockopt(socket.IPPROTO_TCP, socket.TCP_USER_TIMEOUT, round(1000 * IDLE_SECONDS))
             if len(self.clients) >= MOST_CLIENTS:
                 opened.send(answer_of(503, TEXT, b"too many clients\n"))
                 opened.close()
