@@ -1,8 +1,11 @@
 'use strict';
 // Shows what the server says. Every text goes to the page by textContent: names and texts of devices are text, whatever they hold.
-const SECONDS_WITHOUT_ANSWER = 6, SECONDS_WITHOUT_EVENT = 3, ANSWER_MS = 5000, POLL_MS = 1000, CELLS = 60, MANY_SECONDS = 3, MOST_ALARMS = 3, HALF_TURN = 180;
+const SECONDS_WITHOUT_ANSWER = 6, SECONDS_WITHOUT_EVENT = 3, SECONDS_OF_A_STREAM = 10, ANSWER_MS = 5000, POLL_MS = 1000, CELLS = 60, MANY_SECONDS = 3, MOST_ALARMS = 3, HALF_TURN = 180;
 const place = id => document.getElementById(id);
-let said = null, received = 0, receivedDate = Date.now(), poll = null, isAsking = false;
+// the steady clock of the browser, which stands while a telephone sleeps, and the date
+const now = () => [performance.now(), Date.now()];
+const secondsSince = ([steady, date]) => Math.max(performance.now() - steady, Date.now() - date) / 1000;
+let said = null, received = now(), poll = null, isAsking = false, events = null, listened = now(), heard = now();
 
 if (new URLSearchParams(location.search).has('night')) document.documentElement.classList.add('night');
 
@@ -15,8 +18,8 @@ function made(name, kind, text, ...parts) {
   return element;
 }
 
-// seconds since the server's words came, by the steady clock of the browser, which stands while a telephone sleeps
-const passed = () => Math.max(performance.now() - received, Date.now() - receivedDate) / 1000;
+// since the server's words came
+const passed = () => secondsSince(received);
 const age = moment => said.moment - moment + said.silent_for + passed();
 
 function lasting(seconds) {
@@ -174,8 +177,7 @@ function show() {
 
 function take(text) {
   said = JSON.parse(text);
-  received = performance.now();
-  receivedDate = Date.now();
+  received = now();
   show();
 }
 
@@ -186,11 +188,22 @@ function ask() {
     .catch(() => { poll = 'failed'; show(); }).finally(() => { isAsking = false; });
 }
 
-const events = new EventSource('events');
-events.onmessage = message => { poll = null; take(message.data); };
-// where events fail, or none comes, it is asked each second, which also tells the server's end
-const hasEvents = () => poll === null || events.readyState === EventSource.OPEN;
-events.onerror = () => ask();
-setInterval(() => { if (hasEvents() && passed() < SECONDS_WITHOUT_EVENT) show(); else ask(); }, POLL_MS);
+function listen() {
+  if (events) events.close();
+  listened = now();
+  events = new EventSource('events');
+  events.onmessage = message => { heard = now(); poll = null; take(message.data); };
+  events.onerror = () => ask();
+}
+
+// where events fail, or none comes, it is asked each second, which also tells the server's end; whoever slept through a stream's end isn't told of it
+function turn() {
+  if (secondsSince(heard) < SECONDS_WITHOUT_EVENT) return show();
+  if (secondsSince(listened) > SECONDS_OF_A_STREAM) listen();
+  return ask();
+}
+
+listen();
+setInterval(turn, POLL_MS);
 // a page that was asleep catches up at once
 addEventListener('visibilitychange', () => { if (!document.hidden) ask(); });
