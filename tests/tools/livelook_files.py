@@ -1,5 +1,6 @@
 """What livelook makes of files: that come late, are cut, replaced or hold what they shouldn't, and of folders of keep."""
 
+import contextlib
 import os
 import socket
 import subprocess
@@ -75,6 +76,21 @@ def try_files():
             append(os.path.join(folder, "keep-000008-20231114T221320Z-4.log"), part + lines(HEADING, since=begun + 1.1))
             until("the next part", lambda: look.rows()["heading_true"]["count"] == 2)
             wanted("claims at the head of the next part", look.metrics()["shipgate_frames_total", 'source="23"'] == 3)
+
+
+def try_pipe():
+    """A pipe isn't read, so the gateway waits for nobody; a file in its place is."""
+    with tempfile.TemporaryDirectory() as folder:
+        boat, run = Boat(folder), os.path.join(folder, "run.log")
+        os.mkfifo(run)
+        with Look(boat.config, run) as look:
+            until("a pipe", lambda: look.warns("neither a file nor the folder of keep"))
+            with contextlib.suppress(OSError):
+                os.close(os.open(run, os.O_WRONLY | os.O_NONBLOCK))
+                wanted("somebody reads the pipe", False)
+            os.unlink(run)
+            append(run, run_lines())
+            until("a file in its place", lambda: look.faults() == [] and look.rows())
 
 
 def children_of(process, task):
@@ -252,4 +268,4 @@ def try_configuration():
             until("a program that isn't there", lambda: look.warns("can't be run"))
 
 
-FILES = (try_files, try_one_moment, try_keep, try_middle, try_behind, try_half_lines, try_clocks, try_no_claims, try_folder, try_configuration)
+FILES = (try_files, try_pipe, try_one_moment, try_keep, try_middle, try_behind, try_half_lines, try_clocks, try_no_claims, try_folder, try_configuration)

@@ -1,8 +1,10 @@
 """Follows what a run writes: a file that grows, or the folder of `keep`."""
 
 import contextlib
+import errno
 import os
 import re
+import stat
 from typing import NamedTuple
 
 from keep_parts.files import files_of
@@ -128,6 +130,9 @@ class Follower:
         self.number = chosen.number
 
     def _take_file(self, path):
+        # a pipe isn't even opened: its writer would wait for what is read here
+        if not stat.S_ISREG(os.stat(path).st_mode):
+            raise OSError(errno.ESPIPE, "it is neither a file nor the folder of keep", path)
         self.opened, self.opened_path, self.offset = os.open(path, os.O_RDONLY | os.O_CLOEXEC), path, 0
         self.known, self.cutter, self.trouble = os.fstat(self.opened), LineCutter(self.left_out), ""
         self.begin = Begin(False, "since the middle of a run", "the start of the run isn't in what is read: devices that claimed before it aren't known")
