@@ -229,6 +229,16 @@ def try_no_claims():
             wanted(f"rows: {look.rows()}", all(row["moment"] is None for row in status["rows"]) and look.faults() == [])
 
 
+def try_receives():
+    """A receive that failed, of which `replay` knows nothing, is no difference."""
+    with tempfile.TemporaryDirectory() as folder:
+        boat, run = Boat(folder), os.path.join(folder, "run.log")
+        append(run, run_lines() + lines("tick", "rule 51 link=bus"))
+        with Look(boat.config, run) as look:
+            until("a receive that failed", lambda: look.status().get("failures") == [{"link": "bus", "what": "not received", "count": 1}])
+            wanted(f"warnings: {look.faults()}", look.faults() == [])
+
+
 def try_folder():
     """A folder of keep that is empty, and one whose files are removed."""
     with tempfile.TemporaryDirectory() as folder:
@@ -268,4 +278,5 @@ def try_configuration():
             until("a program that isn't there", lambda: look.warns("can't be run"))
 
 
-FILES = (try_files, try_pipe, try_one_moment, try_keep, try_middle, try_behind, try_half_lines, try_clocks, try_no_claims, try_folder, try_configuration)
+FILES = (try_files, try_pipe, try_one_moment, try_keep, try_middle, try_behind, try_half_lines, try_clocks, try_no_claims, try_receives, try_folder,
+         try_configuration)
