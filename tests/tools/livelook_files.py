@@ -94,8 +94,10 @@ def try_pipe():
 
 
 def children_of(process, task):
-    with open(f"/proc/{process}/task/{task}/children", encoding="ascii") as file:
+    # a thread may have ended meanwhile
+    with contextlib.suppress(FileNotFoundError), open(f"/proc/{process}/task/{task}/children", encoding="ascii") as file:
         return file.read().split()
+    return []
 
 
 def try_one_moment():

@@ -119,7 +119,11 @@ def connections(look):
     with open("/proc/net/tcp", encoding="ascii") as file:
         lines = [line.split() for line in file][1:]
     listening = "0A"
-    own = {os.readlink(os.path.join(folder, name)) for name in os.listdir(folder)}
+    own = set()
+    for name in os.listdir(folder):
+        # it may be closed meanwhile
+        with contextlib.suppress(FileNotFoundError):
+            own.add(os.readlink(os.path.join(folder, name)))
     return sum(f"socket:[{fields[9]}]" in own and fields[3] != listening for fields in lines)
 
 
