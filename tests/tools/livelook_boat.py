@@ -146,6 +146,12 @@ class Boat:
         self.opened.sendto(write_line(0, "can0", frame), self.bus)
         self.sent[frame.identifier & 0xFF] = self.sent.get(frame.identifier & 0xFF, 0) + 1
 
+    def lost(self):
+        """How many frames the system dropped, because the gateway had no processor for so long."""
+        with open("/proc/net/udp", encoding="ascii") as file:
+            rows = [line.split() for line in file][1:]
+        return sum(int(row[-1]) for row in rows if row[1].endswith(f":{self.bus[1]:04X}"))
+
     def claim(self):
         for address, name in NAMES.items():
             self.send_frame(Frame(identifier_of(Parts(6, 60928, address, ALL)), name.to_bytes(8, "little")))

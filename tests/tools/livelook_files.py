@@ -126,7 +126,7 @@ def try_keep():
             boat.claim()
             until("three parts", lambda: (speak(boat, 5, pause=0.02), len(os.listdir(kept)) > 3)[1])
             sent = sum(boat.sent.values())
-            until("all frames", lambda: look.total("shipgate_frames_total") == sent)
+            until("all frames", lambda: look.total("shipgate_frames_total") == sent - boat.lost())
             wanted(f"warnings: {look.faults()}", look.faults() == [])
 
 
