@@ -25,8 +25,6 @@ MOMENT_BACK = b"3"
 OTHERS = "others"
 # the words of the optional part that joins several rows, and of the one of ships around
 JOINED, SHIPS = "RMC", "ships around"
-# the tables of parts that join several messages, each with the words for what its group has
-JOINING = (("heading", "joined headings"), ("nav", "navigation"))
 # without its key
 BEAT_SECONDS = 60
 
@@ -111,7 +109,6 @@ class Gathered:
         tables = config.get("row", {}), config.get("further", {})
         self.rows = {row.name: self._said(row.name, row.words, tables[0]) for row in page.rows}
         self.further_group = tables[1].get("group")
-        self.joined_groups = {config[part]["group"]: words for part, words in JOINING if "group" in config.get(part, {})}
         self.beat_seconds = beat_seconds_of(config.get("heartbeat", {}))
         self.further = {name: self._said(name, name.replace("_", " "), tables[1]) for name in page.quantities}
         # if rows are under watch, these alone have to be there
@@ -202,8 +199,6 @@ class Gathered:
             if group == self.further_group:
                 for quantity, values in further_of(fields).items():
                     self.further[quantity].say(self.moment, values, source)
-            elif group in self.joined_groups:
-                self._other(self.joined_groups[group]).say(self.moment, [], None)
             else:
                 self._said_row(fields, source)
 
