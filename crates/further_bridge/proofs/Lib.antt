@@ -10,3 +10,4 @@ pub mod Form
 pub mod QuantitiesAreRead
 pub mod Places
 pub mod FurtherSteps
+pub mod Passing

@@ -1,7 +1,8 @@
 -- What is kept of further quantities, as plain values, and what an event makes of it and gives. Nothing here speaks of what came before.
-use Rattle.std.specs.Prelude.{ℕ, ◌+◌, ◌%◌, Bool, ◌&&◌, nat_lt, List, [], ◌∷◌, ◌++◌, map, slice_get, unwrap_or, Option, Some, None, option_map, if◌then◌else◌}
+use Rattle.std.specs.Prelude.{ℕ, ◌+◌, ◌%◌, Bool, false, ◌&&◌, nat_lt, List, [], ◌∷◌, ◌++◌, map, slice_get, unwrap_or, Option, Some, None, option_map, if◌then◌else◌}
 use Rattle.slot_views.specs.Slots.{SlotMap}
 use Rattle.fast_packet.specs.declared.key.FastKey.{FastKey}
+use Rattle.n2k_id.specs.Identifier.{parts_of}
 use Rattle.n2k_id.specs.declared.name.Name.{Name}
 use Rattle.readings.specs.declared.rows.Row.TheVariants as row
 use Rattle.gate_events.specs.Emit.{Emit}
@@ -17,6 +18,7 @@ use Rattle.source_choice.specs.declared.told.Told.{Told as Chosen}
 use Rattle.source_choice.specs.Choices.{Choices, forgotten, opened}
 use Rattle.source_choice.specs.SubjectRules.{rank_of}
 use Rattle.history.specs.Choice as rows
+use Rattle.history.specs.Entries as entry
 use Rattle.history.specs.Entries.{Entry}
 use Rattle.gate_model.specs.Addresses.{Changed}
 use Rattle.gate_model.specs.AddressStands.{name_held}
@@ -28,6 +30,7 @@ use Rattle.parts.specs.SelectedMessage.{SelectedMessage}
 use Rattle.joined_rmc.specs.declared.last_of_row.LastOfRow.{LastOfRow}
 use Rattle.joined_rmc.specs.Kept.{in_last, last_after, none_yet}
 use Rattle.bus_listener.specs.Kept.{Hearing}
+use Rattle.bus_listener.specs.Kinds.{is_message}
 use Rattle.bus_listener.specs.Promises as listening
 use Rattle.further_bridge.specs.declared.said.Said.{Said}
 use Rattle.further_bridge.specs.FurtherOut.{has_voice, number_in, said_gives, short_gives}
@@ -151,6 +154,13 @@ abbrev pub water_heard : (ℕ → Option Name) → Option SelectedMessage → Fu
 water_heard holder new k = record k { water = last_after holder row.WaterTemperature new k.water }
 
 -- ---- an event that the gateway has taken
+
+-- it may complete a message: it is a frame of one
+abbrev pub may_complete : Entry → Bool
+may_complete (entry.frame m f) = is_message (kind_of (parts_of f.id).pgn)
+may_complete (entry.datagram m bytes) = false
+may_complete (entry.tick m) = false
+may_complete (entry.command m source address) = false
 
 abbrev pub hearing_by : Machine → FurtherKept → Entry → Hearing
 hearing_by gateway k e = listening.step_by kind_of gateway k.slots e

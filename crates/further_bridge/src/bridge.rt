@@ -1,5 +1,5 @@
 //! Further quantities beside the gateway.
-ghost use Rattle.std.specs.Prelude.{◌≡◌, ◌≤◌, All, IfOk, length};
+ghost use Rattle.std.specs.Prelude.{◌≡◌, ◌≤◌, false, [], All, IfOk, length};
 ghost use Rattle.std.specs.Int.{IsInRange};
 ghost use Rattle.settings.specs.Setup.{IsQuantity};
 ghost use Rattle.quantities.specs.Told.{kind_of};
@@ -8,11 +8,11 @@ ghost use Rattle.parts.specs.Picked.{last_picked};
 ghost use Rattle.bus_listener.specs.Steps.{IsEventValid, entry_of};
 ghost use Rattle.further_bridge.specs.FurtherRule.{further_rule};
 ghost use Rattle.bus_listener.specs.Promises.{IsListening};
-ghost use Rattle.further_bridge.specs.Kept.{followed, further_opened, hearing_by, most_told, step_by};
+ghost use Rattle.further_bridge.specs.Kept.{followed, further_opened, hearing_by, may_complete, most_told, step_by};
 ghost use Rattle.further_bridge.specs.Promises.{IsFurtherOpening, IsFurtherStep, IsStepBy, in_places};
 
 use crate::config::{FurtherConfig, timeouts_of};
-use crate::kinds::OfQuantities;
+use crate::kinds::{OfQuantities, may_complete};
 use crate::said::said_by;
 use arrayvec::ArrayVec;
 use bus_listener::{BusListener, Gateway};
@@ -132,9 +132,60 @@ impl FurtherBridge {
         self.step(gateway, outbox, event, emits, second, third);
     }
 
-    /// Takes an event: what is heard of it, and then the message that it completes. Most complete none.
-    #[tactic(auto, using(gate_outbox::proofs::Telling::left_behind, bus_listener::proofs::RoomLemmas::step_limit))]
+    /// Takes an event: what is heard of it, and then the message that it completes. Most can't complete any.
+    #[inline(always)]
     fn step(
+        &mut self,
+        gateway: &Gateway,
+        outbox: &Outbox,
+        event: &Event<'_>,
+        emits: &mut FurtherEmits,
+        second: &mut ValueEmits,
+        third: &mut ValueEmits,
+    )
+        requires valid { IsEventValid event.now }
+        ensures after { self.new ≡ (step_by gateway.now (last_picked gateway.now outbox.now) self.old (entry_of event.now)).after }
+        ensures first { emits.new ≡ and_left most_told emits.old (step_by gateway.now (last_picked gateway.now outbox.now) self.old (entry_of event.now)).emits }
+        ensures second { second.new ≡ and_posted second.old (step_by gateway.now (last_picked gateway.now outbox.now) self.old (entry_of event.now)).second }
+        ensures third { third.new ≡ and_posted third.old (step_by gateway.now (last_picked gateway.now outbox.now) self.old (entry_of event.now)).third }
+        ensures room { length (hearing_by gateway.now self.old (entry_of event.now)).told ≤ 258 }
+        ensures history { IsListening kind_of gateway.now (entry_of event.now) self.old.slots (hearing_by gateway.now self.old (entry_of event.now)) }
+    {
+        if may_complete(event) {
+            self.hear(gateway, outbox, event, emits, second, third);
+        } else {
+            self.pass(gateway, outbox, event, emits);
+        }
+    }
+
+    /// Takes an event that can't complete a message.
+    #[inline(always)]
+    #[tactic(auto, using(crate::proofs::Passing::keeps, crate::proofs::Passing::tells, crate::proofs::Passing::says_no_second, crate::proofs::Passing::says_no_third, bus_listener::proofs::RoomLemmas::step_limit))]
+    fn pass(
+        &mut self,
+        gateway: &Gateway,
+        outbox: &Outbox,
+        event: &Event<'_>,
+        emits: &mut FurtherEmits,
+    )
+        requires valid { IsEventValid event.now }
+        requires none { may_complete (entry_of event.now) ≡ false }
+        ensures after { self.new ≡ (step_by gateway.now (last_picked gateway.now outbox.now) self.old (entry_of event.now)).after }
+        ensures first { emits.new ≡ and_left most_told emits.old (step_by gateway.now (last_picked gateway.now outbox.now) self.old (entry_of event.now)).emits }
+        ensures second { (step_by gateway.now (last_picked gateway.now outbox.now) self.old (entry_of event.now)).second ≡ [] }
+        ensures third { (step_by gateway.now (last_picked gateway.now outbox.now) self.old (entry_of event.now)).third ≡ [] }
+        ensures room { length (hearing_by gateway.now self.old (entry_of event.now)).told ≤ 258 }
+        ensures history { IsListening kind_of gateway.now (entry_of event.now) self.old.slots (hearing_by gateway.now self.old (entry_of event.now)) }
+    {
+        let _nothing = self.listener.after(gateway, event, &OfQuantities, emits);
+        self.follow(gateway, outbox);
+    }
+
+    /// Takes an event that may complete a message: what is heard of it, and then the message. What that says has 350 bytes, which are set to
+    /// zero where this begins, so it is never part of its callers.
+    #[inline(never)]
+    #[tactic(auto, using(gate_outbox::proofs::Telling::left_behind, bus_listener::proofs::RoomLemmas::step_limit))]
+    fn hear(
         &mut self,
         gateway: &Gateway,
         outbox: &Outbox,
@@ -162,6 +213,7 @@ impl FurtherBridge {
     }
 
     /// Follows the gateway: forgets whose address changed hands, and hears what it said of the water's temperature.
+    #[inline(always)]
     fn follow(&mut self, gateway: &Gateway, outbox: &Outbox)
         ensures { self.new ≡ followed gateway.now (last_picked gateway.now outbox.now) self.old }
     {

@@ -6,7 +6,7 @@ use Rattle.bus_listener.specs.Steps.{entry_of}
 use Rattle.bus_listener.specs.Promises.{IsListening}
 use Rattle.bus_listener.proofs.RoomLemmas.{step_limit}
 use Rattle.further_bridge.specs.Kept.{FurtherKept, hearing_by}
-use Rattle.further_bridge.proofs.bridge.FurtherBridge.step.Goals as goal
+use Rattle.further_bridge.proofs.bridge.FurtherBridge.hear.Goals as goal
 
 pub invariant_of-self : goal.invariant_of-self
 invariant_of-self c =

@@ -1,0 +1,36 @@
+-- An event that can't complete a message completes none: what was overdue or lost is told, and nothing is said.
+use Rattle.std.proofs.Common.{◌≡◌, ℕ, false, List, [], ◌++◌, Option, None, option_map, refl, ap, ◌∙◌, append-nil}
+use Rattle.history.specs.Entries as entry
+use Rattle.history.specs.Entries.{Entry}
+use Rattle.gate_model.specs.Machine.{Machine}
+use Rattle.gate_model.specs.Said.{Complete}
+use Rattle.gate_outbox.specs.Output.{Emitted, and_left, and_told}
+use Rattle.parts.specs.SelectedMessage.{SelectedMessage}
+use Rattle.bus_listener.specs.Kept.{entered}
+use Rattle.further_bridge.specs.Kept.{FurtherKept, behind, followed, hearing_by, may_complete, message_step, said_of, step_by}
+
+module _ (g : Machine) (k : FurtherKept) where
+  completes_none : (e : Entry) → may_complete e ≡ false → (hearing_by g k e).message ≡ None
+  unfolding entered
+  completes_none (entry.frame m f) never = rw never refl
+  completes_none (entry.datagram m bytes) never = refl
+  completes_none (entry.tick m) never = refl
+  completes_none (entry.command m source address) never = refl
+
+  module _ (new : Option SelectedMessage) (e : Entry) (never : may_complete e ≡ false) where
+    abbrev heard : FurtherKept
+    heard = followed g new (record k { slots = (hearing_by g k e).slots })
+
+    pub keeps : (step_by g new k e).after ≡ heard
+    keeps = ap (λ (d : Option Complete). (message_step heard (option_map said_of d)).after) (completes_none e never)
+
+    pub tells : (room : ℕ) (x : Emitted) → and_left room x (step_by g new k e).emits ≡ and_told room x (hearing_by g k e).told
+    tells room x =
+        ap (λ (d : Option Complete). and_left room x (behind (hearing_by g k e).told (message_step heard (option_map said_of d))).emits) (completes_none e never)
+        ∙ ap (λ es. and_told room x es) (append-nil (hearing_by g k e).told)
+
+    pub says_no_second : (step_by g new k e).second ≡ []
+    says_no_second = ap (λ (d : Option Complete). (message_step heard (option_map said_of d)).second) (completes_none e never)
+
+    pub says_no_third : (step_by g new k e).third ≡ []
+    says_no_third = ap (λ (d : Option Complete). (message_step heard (option_map said_of d)).third) (completes_none e never)

@@ -1,0 +1,27 @@
+use Rattle.std.proofs.Common.{◌≤◌, ℕ, subst, sym}
+use Rattle.slot_views.specs.Slots.{SlotMap}
+use Rattle.fast_packet.specs.declared.key.FastKey.{FastKey}
+use Rattle.quantities.specs.Told.{kind_of}
+use Rattle.bus_listener.specs.Steps.{entry_of}
+use Rattle.bus_listener.specs.Promises.{IsListening}
+use Rattle.bus_listener.proofs.RoomLemmas.{step_limit}
+use Rattle.further_bridge.specs.Kept.{FurtherKept, hearing_by}
+use Rattle.further_bridge.proofs.bridge.FurtherBridge.pass.Goals as goal
+
+pub invariant_of-self : goal.invariant_of-self
+invariant_of-self c =
+    let i = c.self.inside in
+    let before = c.self.invariant in
+    let stays = step_limit kind_of c.args.gateway.now.addresses i.listener (entry_of c.args.event.now) in (
+      before.0,
+      subst (λ (slots : SlotMap FastKey). slots.limit ≤ 256) (sym c.after-nothing.follows.holds-at-none) (subst (λ (n : ℕ). n ≤ 256) (sym stays) before.1),
+      before.2,
+      before.3,
+      before.4,
+      before.5,
+    )
+
+pub returns-clause-history : goal.returns-clause-history
+returns-clause-history c =
+    let e = entry_of c.args.event.now in
+    subst (λ (k : FurtherKept). IsListening kind_of c.args.gateway.now e k.slots (hearing_by c.args.gateway.now k e)) c.self.view_is c.after-nothing.ensures.history
