@@ -9,10 +9,10 @@ use settings::Setup;
 use std::alloc::{AllocError, Global};
 use std::marker::Model;
 
-/// Parts that files seldom ask for: where none is there, one look at an event tells so.
+/// Parts that files seldom ask for: where none is there, one look at an event tells so. They don't lie on the stack while others are made.
 #[derive(Drop)]
 pub struct Seldom<P: Parts> {
-    parts: P,
+    parts: Box<P>,
     /// Whether one may be there.
     any: bool,
 }
@@ -23,9 +23,9 @@ impl<P: Parts> Model for Seldom<P> {
 
     ghost Value = { P };
 
-    ghost view = { λ x. x.parts };
+    ghost view = { λ x. x.parts.value };
 
-    ghost invariant = { λ x. x.any ≡ false → IsAbsent P.stands P.gives P.output P.plain x.parts };
+    ghost invariant = { λ x. x.any ≡ false → IsAbsent P.stands P.gives P.output P.plain x.parts.value };
 }
 
 impl<P: Parts> Parts for Seldom<P> {
@@ -43,9 +43,11 @@ impl<P: Parts> Parts for Seldom<P> {
 
     ghost most = { P.most };
 
+    #[inline(never)]
     fn made(alloc: Global, setup: &Setup) -> Result<Seldom<P>, AllocError> {
         let parts = P::made(alloc, setup)?;
         let any = !parts.is_absent();
+        let parts = Box::new(alloc, parts)?;
         Ok(Seldom { parts, any })
     }
 
@@ -55,13 +57,13 @@ impl<P: Parts> Parts for Seldom<P> {
 
     fn clear(&mut self) {
         if self.any {
-            self.parts.clear();
+            self.parts.as_mut().clear();
         }
     }
 
     fn after(&mut self, step: &Step<'_>) -> bool {
         if self.any {
-            self.parts.after(step)
+            self.parts.as_mut().after(step)
         } else {
             false
         }
@@ -69,7 +71,7 @@ impl<P: Parts> Parts for Seldom<P> {
 
     fn say_plain(&mut self, group: Group) {
         if self.any {
-            self.parts.say_plain(group);
+            self.parts.as_mut().say_plain(group);
         }
     }
 
