@@ -1,5 +1,6 @@
 -- What comes of the file that a command's configuration stands in.
 use Rattle.std.specs.Prelude.{◌≡◌, ◌<◌, ◌≤◌, ◌⊎◌, ℕ, List, ◌∷◌, [], ◌++◌, length, Option, Some, Result, Ok, Err}
+use Rattle.std.specs.Global.{Box}
 use Rattle.gate_outside.specs.Faults.{Rose}
 use Rattle.gate_outside.specs.Files.{largest_file}
 use Rattle.config_document.specs.declared.fault.ConfigFault.{ConfigFault}
@@ -44,15 +45,15 @@ abbrev pub IsUnread : Option (List ℕ) → ℕ → ℕ → Type 0
 IsUnread told before after = Rose before after ⊎ ((bytes : List ℕ) → told ≡ Some bytes → largest_file < length bytes)
 
 -- All that a file configures, which is valid, or why there is nothing. Want of memory is free.
-abbrev pub LoadsWhole : Option (List ℕ) → ℕ → ℕ → Result Setup Unconfigured → Type 0
-LoadsWhole told before after (Ok setup) = IsSetup setup × FileSays told (Ok setup)
+abbrev pub LoadsWhole : Option (List ℕ) → ℕ → ℕ → Result (Box Setup) Unconfigured → Type 0
+LoadsWhole told before after (Ok b) = IsSetup b.value × FileSays told (Ok b.value)
 LoadsWhole told before after (Err Unread) = IsUnread told before after
 LoadsWhole told before after (Err (Refused line)) = (fault : ConfigFault) × (line_of fault ≡ Some line.items) × FileSays told (Err fault)
 LoadsWhole told before after (Err Memory) = Unit {0}
 
 -- the same of bytes that were loaded
-abbrev pub SaysWhole : List ℕ → Result Setup Unconfigured → Type 0
-SaysWhole bytes (Ok setup) = IsSetup setup × IsWholeConfigOf bytes (Ok setup)
+abbrev pub SaysWhole : List ℕ → Result (Box Setup) Unconfigured → Type 0
+SaysWhole bytes (Ok b) = IsSetup b.value × IsWholeConfigOf bytes (Ok b.value)
 SaysWhole bytes (Err Unread) = ⊥
 SaysWhole bytes (Err (Refused line)) = (fault : ConfigFault) × (line_of fault ≡ Some line.items) × IsWholeConfigOf bytes (Err fault)
 SaysWhole bytes (Err Memory) = Unit {0}

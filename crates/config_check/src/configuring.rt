@@ -1,5 +1,5 @@
 //! A command's configuration, loaded from its file.
-ghost use Rattle.std.specs.Prelude.{◌≡◌, ◌≤◌, length};
+ghost use Rattle.std.specs.Prelude.{◌≡◌, ◌≤◌, length, IfOk};
 ghost use Rattle.config_check.specs.Configuring.{GivesUp, LoadsWhole, SaysWhole, with_end};
 ghost use Rattle.command_line.specs.Statuses.{IsEarly, number};
 
@@ -9,7 +9,7 @@ use command_line::Status;
 use gate_config::{FaultLine, read_whole};
 use gate_outside::{Files, LoadFault, Sink};
 use settings::Setup;
-use std::alloc::Global;
+use std::alloc::{AllocError, Global};
 
 /// Why there is no configuration.
 #[derive(Drop)]
@@ -22,9 +22,13 @@ pub enum Unconfigured {
     Memory,
 }
 
-/// All that the file of this name configures.
+/// All that the file of this name configures, in a place of its own: whoever runs with it doesn't have its fourteen kilobytes on the stack.
 #[inline(never)]
-pub fn load_whole<F: Files>(alloc: Global, name: &str, files: &mut F) -> Result<Setup, Unconfigured>
+pub fn load_whole<F: Files>(
+    alloc: Global,
+    name: &str,
+    files: &mut F,
+) -> Result<Box<Setup>, Unconfigured>
     ensures { LoadsWhole (F.content files.old name.now) (F.fault_count files.old) (F.fault_count files.new) result }
 {
     match files.load(alloc, name) {
@@ -36,16 +40,27 @@ pub fn load_whole<F: Files>(alloc: Global, name: &str, files: &mut F) -> Result<
 }
 
 // All that these bytes configure.
-fn whole_of(alloc: Global, bytes: &[u8]) -> Result<Setup, Unconfigured>
+fn whole_of(alloc: Global, bytes: &[u8]) -> Result<Box<Setup>, Unconfigured>
     ensures { SaysWhole bytes.now result }
 {
     match read_whole(alloc, bytes) {
-        Ok(setup) => Ok(setup),
+        Ok(setup) => match boxed(alloc, setup) {
+            Ok(setup) => Ok(setup),
+            Err(AllocError) => Err(Unconfigured::Memory),
+        },
         Err(fault) => match fault.line() {
             Some(line) => Err(Unconfigured::Refused(line)),
             None => Err(Unconfigured::Memory),
         },
     }
+}
+
+// A setup in a place of its own. What that takes on the stack isn't there while a file is read.
+#[inline(never)]
+fn boxed(alloc: Global, setup: Setup) -> Result<Box<Setup>, AllocError>
+    ensures { IfOk result (λ b. b.value ≡ setup) }
+{
+    Ok(Box::new(alloc, setup)?)
 }
 
 /// The status of a command that has no settings. The line of a fault is offered, and the status stands whatever becomes of it.

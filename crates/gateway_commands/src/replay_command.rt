@@ -25,7 +25,7 @@ pub(crate) fn replay<F: Files, S: Source, K: Sink>(
     ensures quiet { IsEarly (number result) → (input.new ≡ input.old) × (out.new ≡ out.old) }
 {
     match load_whole(alloc, name, files) {
-        Ok(setup) => replay_setup(alloc, &setup, input, out),
+        Ok(setup) => replay_setup(alloc, &*setup, input, out),
         Err(why) => give_up(&why, out),
     }
 }

@@ -35,10 +35,9 @@ pub(crate) fn serve<F: Files, K: Sink, B: Link, E: Link, C: Clock>(
     ensures refused { number result ≡ 3 → (bus.new ≡ bus.old) × (net.new ≡ net.old) × (clock.new ≡ clock.old) }
     ensures unattached { number result ≡ 9 → (out.new ≡ out.old) × (clock.new ≡ clock.old) }
 {
-    let loaded = load_whole(alloc, name, files);
-    match &loaded {
-        Ok(setup) => serve_with(alloc, setup, turns, out, bus, net, clock),
-        Err(why) => give_up(why, out),
+    match load_whole(alloc, name, files) {
+        Ok(setup) => serve_with(alloc, &*setup, turns, out, bus, net, clock),
+        Err(why) => give_up(&why, out),
     }
 }
 
