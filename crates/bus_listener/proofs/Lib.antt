@@ -6,3 +6,4 @@ pub mod StepLemmas
 pub mod EventLemmas
 pub mod RoomLemmas
 pub mod NoDatagrams
+pub mod Unheard

@@ -1,6 +1,6 @@
 -- What an event makes of the fast packets (canboat) that a listener keeps, what is told then, and the message that is complete, as plain
 -- values. Nothing here speaks of what came before.
-use Rattle.std.specs.Prelude.{ℕ, List, [], ◌∷◌, ◌++◌, Option, Some, None, option_map, if◌then◌else◌}
+use Rattle.std.specs.Prelude.{ℕ, Bool, false, List, [], ◌∷◌, ◌++◌, Option, Some, None, option_map, if◌then◌else◌}
 use Rattle.std.specs.declared.cmp.Ordering.{Ordering}
 use Rattle.n2k_id.specs.declared.name.Name.{Name}
 use Rattle.n2k_id.specs.declared.identifier_parts.Parts.{Parts}
@@ -24,7 +24,7 @@ use Rattle.gate_model.specs.FastPackets.{FastAnswer, fast_answer, fast_kept, key
 use Rattle.gate_model.specs.Said.{Complete}
 use Rattle.bus_messages.specs.Heard.{heard_reports}
 use Rattle.bus_listener.specs.Heard.{is_heard}
-use Rattle.bus_listener.specs.Kinds.{is_told}
+use Rattle.bus_listener.specs.Kinds.{is_message, is_told}
 
 -- what an event leaves, what is told of it, and the message that it completes
 pub record Hearing : Type 0 where
@@ -94,3 +94,18 @@ module _ (cmp : FastKey → FastKey → Ordering) (kinds : ℕ → Kind) (g : Ad
   -- when time has passed
   abbrev pub heard_step : SlotMap FastKey → Entry → Hearing
   heard_step slots e = behind (fast_overdue slots (moment_of e)) (entered (unexpired (moment_of e) slots) e)
+
+-- ---- an event that completes no message: only a frame of one may
+
+abbrev pub may_complete : (ℕ → Kind) → Entry → Bool
+may_complete kinds (entry.frame m f) = is_message (kinds (parts_of f.id).pgn)
+may_complete kinds (entry.datagram m bytes) = false
+may_complete kinds (entry.tick m) = false
+may_complete kinds (entry.command m source address) = false
+
+-- then a frame changes only what is open of addresses that change hands
+abbrev pub unheard : AddressesKept → SlotMap FastKey → Entry → Hearing
+unheard g slots (entry.frame m f) = record { slots = given_up g.changed slots; told = lost g.changed slots; message = None }
+unheard g slots (entry.datagram m bytes) = no_message slots
+unheard g slots (entry.tick m) = no_message slots
+unheard g slots (entry.command m source address) = no_message slots

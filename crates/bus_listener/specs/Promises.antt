@@ -1,5 +1,5 @@
 -- What a listener hears and tells, in the words of the history: of all that ever came.
-use Rattle.std.specs.Prelude.{◌≡◌, ℕ, ◌≤◌, [], ◌∷◌, length, option_map}
+use Rattle.std.specs.Prelude.{◌≡◌, ℕ, ◌+◌, ◌≤◌, [], ◌∷◌, length, None, option_map}
 use Rattle.slot_views.specs.Slots.{SlotMap}
 use Rattle.fast_packet.specs.declared.key.FastKey.{FastKey}
 use Rattle.pgn_profile.specs.declared.kinds.Kind.{Kind}
@@ -13,6 +13,7 @@ use Rattle.gate_model.specs.FastLaws.{StandsFastFor}
 use Rattle.gate_model.specs.Machine.{Machine}
 use Rattle.gate_model.specs.Said.{complete_of}
 use Rattle.gate_model.specs.Stands.{Stands}
+use Rattle.gate_outbox.specs.Output.{Emitted, and_told}
 use Rattle.gate_core.specs.Steps.{by_keys}
 use Rattle.bus_listener.specs.Heard.{heard_done, heard_out, listener}
 use Rattle.bus_listener.specs.Kept.{Hearing, heard_step}
@@ -45,6 +46,15 @@ abbrev pub IsListening : (ℕ → Kind) → Machine → Entry → SlotMap FastKe
 IsListening kinds gateway e before x =
     (limit s : ℕ) (h : History) → AreSettings gateway.settings → IsHistory (e ∷ h) → Stands by_keys gateway.settings s (e ∷ h) gateway
     → StandsListening kinds limit gateway.settings s h before → IsHeard kinds limit gateway.settings s h e x
+
+-- ---- an event that completes no message
+
+pub record IsPassed (kinds : ℕ → Kind) (room : ℕ) (gateway : Machine) (e : Entry) (before after : SlotMap FastKey) (emits left : Emitted) : Type 0 where
+  pub after_is : after ≡ (step_by kinds gateway before e).slots
+  pub left_is : left ≡ and_told room emits (step_by kinds gateway before e).told
+  pub completes : (step_by kinds gateway before e).message ≡ None
+  pub fits : length (step_by kinds gateway before e).told ≤ before.limit + 2
+  pub history : IsListening kinds gateway e before (step_by kinds gateway before e)
 
 -- ---- a command, for which the listener isn't called: it stands for the history with it as well
 

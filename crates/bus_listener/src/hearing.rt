@@ -26,6 +26,7 @@ use report_rules::UNCLAIMED;
 
 impl BusListener {
     /// Takes an event: what is overdue at its moment ends before anything else.
+    #[inline(always)]
     #[tactic(auto, using(gate_outbox::proofs::Telling::told_more))]
     pub(crate) fn step<'a, K: Kinds, const ROOM: usize>(
         &'a mut self,
@@ -44,6 +45,7 @@ impl BusListener {
     }
 
     /// Takes an event when nothing is overdue: by a frame addresses may have changed hands, and it may be one that is heard.
+    #[inline(always)]
     #[tactic(auto, using(gate_outbox::proofs::Telling::told_more), unfolding(crate::specs::Kept::entered))]
     fn enter<'a, K: Kinds, const ROOM: usize>(
         &'a mut self,
@@ -76,8 +78,9 @@ impl BusListener {
     }
 
     /// Ends what is open of the address that was left, and of the one that was won.
+    #[inline(always)]
     #[tactic(auto, using(gate_outbox::proofs::Telling::told_more))]
-    fn give_up<const ROOM: usize>(&mut self, gateway: &Gateway, emits: &mut Emits<ROOM>)
+    pub(crate) fn give_up<const ROOM: usize>(&mut self, gateway: &Gateway, emits: &mut Emits<ROOM>)
         ensures after { self.new ≡ given_up gateway.now.addresses.changed self.old }
         ensures emits { emits.new ≡ and_told ROOM emits.old (lost gateway.now.addresses.changed self.old) }
     {

@@ -10,9 +10,10 @@ mod kinds;
 mod laws;
 mod listener;
 mod message;
+mod passing;
 
 pub use gate_core::Gateway;
-pub use kinds::{Kinds, is_told};
+pub use kinds::{Kinds, is_told, may_complete};
 pub use laws::{commands_leave_the_listener, open_messages_keep_the_limit};
 pub use listener::BusListener;
 pub use message::HeardMessage;

@@ -52,6 +52,7 @@ impl BusListener {
 
     /// Takes an event that the gateway has taken in its last step, and lends the message that it completes: what is overdue at its moment
     /// ends before anything else.
+    #[inline(always)]
     pub fn after<'a, K: Kinds, const ROOM: usize>(
         &'a mut self,
         gateway: &Gateway,
