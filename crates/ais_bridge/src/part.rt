@@ -13,6 +13,7 @@ use std::alloc::{AllocError, Global};
 pub type ShipsPlace = Given<MOST_REPORTS>;
 
 impl Part<ShipsPlace> for AisBridge {
+    ghost use Rattle.parts.specs.Utterances.{streamless};
     ghost use Rattle.settings.specs.declared.ais.AisConfig.{AisConfig};
 
     ghost Rule = { AisConfig };
@@ -22,6 +23,8 @@ impl Part<ShipsPlace> for AisBridge {
     ghost stands = { StandsAis };
 
     ghost gives = { ais_out };
+
+    ghost utters = { streamless ais_out };
 
     fn opened(alloc: Global, setup: &Setup) -> Result<Option<AisBridge>, AllocError> {
         match &setup.settings.ais {

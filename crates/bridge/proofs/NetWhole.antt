@@ -1,18 +1,25 @@
--- All that goes out but plain sentences is read, and plain sentences are all of it.
-use Rattle.std.proofs.Common.{◌≡◌, ℕ, List, [], ◌∷◌, map, refl, ap, ◌∙◌}
-use Rattle.std.proofs.lemmas.List.Concat.{flat_map-cons}
+-- All that goes out but plain sentences is read, and plain sentences are all of it, or some.
+use Rattle.std.proofs.Common.{◌≡◌, ℕ, List, [], ◌∷◌, map, Option, Some, option_map, refl, sym, ap, subst, ◌∙◌}
 use Rattle.datagram450.specs.Datagram.{all_of}
-use Rattle.gate_events.specs.Emit.{Emit, can, net, report}
+use Rattle.gate_events.specs.Emit.{Emit, net}
+use Rattle.history.specs.Entries as entry
+use Rattle.history.specs.Entries.{Entry, History, moment_of}
+use Rattle.history.specs.FromBus.{said_at}
 use Rattle.history.specs.EntryLaws.{nets_in}
 use Rattle.history.specs.Gate.{out}
-use Rattle.plain_out.specs.Plain.{plain_out}
-use Rattle.plain_out.specs.Plain as plain
+use Rattle.plain_out.specs.Pace.{AreAmong, Utterance, Voice, no_lasts, opened_voice, said_all}
+use Rattle.plain_out.specs.Plain.{sentences_in}
+use Rattle.plain_out.specs.Streams.{reading_stream}
+use Rattle.plain_out.proofs.Sayings.{all_group, all_plain, free_after, free_plain, said_in_order}
 use Rattle.plain_out.proofs.Staying.{what_is_read_stays}
+use Rattle.parts.specs.Utterances.{bytes_in, bytes_of, datagrams_append, uttered_datagrams}
 use Rattle.parts.specs.Voices.{EachSays, Spoken, both_say}
-use Rattle.bridge.specs.Beside.{beside}
-use Rattle.bridge.specs.Gate.{given, tagged_out}
-use Rattle.bridge.specs.NetLaws.{DatagramsAreRead, PlainSaysAll}
+use Rattle.bridge.specs.Beside.{beside, beside_utter}
+use Rattle.bridge.specs.BridgeSettings.{BridgeSettings, PlainRule}
+use Rattle.bridge.specs.Gate.{all_utter, given, own_utters, plain_at, plain_of, tagged_out, voice_after, voice_by, voice_in}
+use Rattle.bridge.specs.NetLaws.{DatagramsAreRead, PlainSaysAll, PlainSaysNothingElse}
 use Rattle.bridge.specs.Sentences.{all_say, rows_say}
+use Rattle.bridge.specs.Speaking.{Speaks}
 use Rattle.bridge.proofs.NetRows.{rows_are_read}
 
 pub datagrams_are_read : DatagramsAreRead
@@ -22,17 +29,69 @@ datagrams_are_read p s h e speaks =
 
 -- ---- plain sentences
 
-all_plain : (group : List ℕ) (emits : List Emit) (said : Spoken) → EachSays (nets_in emits) said
-    → plain_out group emits ≡ map (λ sentences. net group (all_of sentences)) said
-all_plain group [] [] says = refl
-all_plain group [] (t ∷ ts) says = absurd says
-all_plain group (can f ∷ emits) said says = flat_map-cons (plain.plain_of group) (can f) emits ∙ all_plain group emits said says
-all_plain group (report r ∷ emits) said says = flat_map-cons (plain.plain_of group) (report r) emits ∙ all_plain group emits said says
-all_plain group (net other bytes ∷ emits) [] says = absurd says
-all_plain group (net other bytes ∷ emits) (t ∷ ts) says =
-    flat_map-cons (plain.plain_of group) (net other bytes) emits
-    ∙ ap (λ (x : List ℕ). net group x ∷ plain_out group emits) (what_is_read_stays bytes t says.0)
-    ∙ ap (λ (es : List Emit). net group (all_of t) ∷ es) (all_plain group emits ts says.1)
+-- what is kept of them
+record Kept (rule : PlainRule) (o : Option Voice) : Type 0 where
+  voice : Voice
+  is : o ≡ Some voice
+  group : voice.group ≡ rule.group
+  free : rule.every ≡ 0 → voice.lasts ≡ []
+
+kept_on : (rule : PlainRule) (o : Option Voice) (m : ℕ) (us : List Utterance) → Kept rule o → Kept rule (voice_after o m us)
+kept_on rule o m us k = record {
+  voice = (said_all k.voice m us).after;
+  is = ap (λ (x : Option Voice). voice_after x m us) k.is;
+  group = all_group k.voice m us ∙ k.group;
+  free = λ none. ap (λ (v : Voice). v.lasts) (free_after k.voice m us (k.free none)) ∙ k.free none;
+}
+
+module _ (p : BridgeSettings) (s : ℕ) (rule : PlainRule) (asked : p.plain ≡ Some rule) where
+  kept : (h : History) → Kept rule (voice_in p s h)
+  kept [] = record { voice = opened_voice rule.group rule.every; is = ap voice_by asked; group = refl; free = λ none. ap no_lasts none }
+  kept (entry.frame m f ∷ h) = kept_on rule (voice_in p s h) m (all_utter p s h (entry.frame m f)) (kept h)
+  kept (entry.datagram m bytes ∷ h) = kept_on rule (voice_in p s h) m (all_utter p s h (entry.datagram m bytes)) (kept h)
+  kept (entry.tick m ∷ h) = kept_on rule (voice_in p s h) m (all_utter p s h (entry.tick m)) (kept h)
+  kept (entry.command m source address ∷ h) = kept h
+
+-- what is said with its stream are all datagrams but plain ones
+pub utter_all : (p : BridgeSettings) (s : ℕ) (h : History) (e : Entry) → bytes_of (all_utter p s h e) ≡ bytes_in (tagged_out p s h e)
+utter_all p s h e =
+    datagrams_append (own_utters p s h e) (beside_utter p.parts p.gateway s h e) (out p.gateway s h e) (given p s h e)
+    (uttered_datagrams (option_map reading_stream (said_at p.gateway s h e)) (out p.gateway s h e)) (beside.datagrams p.parts p.gateway s h e)
+
+by_bytes : (group : List ℕ) (us : List Utterance) → all_plain group us ≡ map (λ (bytes : List ℕ). net group (sentences_in bytes)) (bytes_of us)
+by_bytes group [] = refl
+by_bytes group (u ∷ us) = ap (λ (es : List Emit). net group (sentences_in u.datagram) ∷ es) (by_bytes group us)
+
+as_said : (group : List ℕ) (ds : List (List ℕ × List ℕ)) (said : Spoken) → EachSays ds said
+    → map (λ (bytes : List ℕ). net group (sentences_in bytes)) (map (λ d. d.1) ds) ≡ map (λ sentences. net group (all_of sentences)) said
+as_said group [] [] says = refl
+as_said group [] (t ∷ ts) says = absurd says
+as_said group (d ∷ ds) [] says = absurd says
+as_said group (d ∷ ds) (t ∷ ts) says =
+    ap (λ (bytes : List ℕ). net group bytes ∷ map (λ (bytes : List ℕ). net group (sentences_in bytes)) (map (λ d. d.1) ds)) (what_is_read_stays d.1 t says.0)
+    ∙ ap (λ (es : List Emit). net group (all_of t) ∷ es) (as_said group ds ts says.1)
+
+-- all of them, as plain sentences
+all_are : (p : BridgeSettings) (s : ℕ) (h : History) (e : Entry) (group : List ℕ) → Speaks p
+    → all_plain group (all_utter p s h e) ≡ map (λ sentences. net group (all_of sentences)) (all_say p s h e)
+all_are p s h e group speaks =
+    by_bytes group (all_utter p s h e)
+    ∙ ap (map (λ (bytes : List ℕ). net group (sentences_in bytes))) (utter_all p s h e)
+    ∙ as_said group (nets_in (tagged_out p s h e)) (all_say p s h e) (datagrams_are_read p s h e speaks)
 
 pub plain_says_all : PlainSaysAll
-plain_says_all p s h e group speaks = all_plain group (tagged_out p s h e) (all_say p s h e) (datagrams_are_read p s h e speaks)
+plain_says_all p s h e rule speaks asked none =
+    let k = kept p s rule asked h in
+    let us = all_utter p s h e in
+    ap (λ (o : Option Voice). plain_of o (moment_of e) us) k.is
+    ∙ free_plain k.voice (moment_of e) us (k.free none)
+    ∙ ap (λ (group : List ℕ). all_plain group us) k.group
+    ∙ all_are p s h e rule.group speaks
+
+pub plain_says_nothing_else : PlainSaysNothingElse
+plain_says_nothing_else p s h e rule speaks asked =
+    let k = kept p s rule asked h in
+    let us = all_utter p s h e in
+    let m = moment_of e in
+    subst (λ (all : List Emit). AreAmong (plain_at p s h e) all) (ap (λ (group : List ℕ). all_plain group us) k.group ∙ all_are p s h e rule.group speaks)
+    (subst (λ (o : Option Voice). AreAmong (plain_of o m us) (all_plain k.voice.group us)) (sym k.is) (said_in_order k.voice m us))

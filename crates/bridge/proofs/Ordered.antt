@@ -1,6 +1,6 @@
 -- An entry that gives a command to go to an address (ISO 11783-5) says nothing on the network: no row is read of its message.
 use Rattle.std.proofs.Common.{◌≡◌, ℕ, Bool, true, false, List, [], ◌∷◌, Option, Some, None, refl, sym, ap, subst, ◌∙◌}
-use Rattle.std.specs.Prelude.{◌==◌, ◌&&◌, is_some, option_map, if◌then◌else◌}
+use Rattle.std.specs.Prelude.{◌==◌, is_some, option_map}
 use Rattle.std.proofs.lemmas.Bool.{eqb-true}
 use Rattle.n2k_id.specs.Pgns as pgns
 use Rattle.claim_table.specs.declared.answer.Holder.{Holder}
@@ -8,7 +8,7 @@ use Rattle.gate_events.specs.Emit.{Emit}
 use Rattle.history.specs.Choice.{reading_of}
 use Rattle.history.specs.Emits.{is_there}
 use Rattle.history.specs.Entries.{Entry, History, moment_of}
-use Rattle.history.specs.FromBus.{said_at, selected_in}
+use Rattle.history.specs.FromBus.{selected_in}
 use Rattle.history.specs.Gate.{command_in}
 use Rattle.history.specs.Known.{known}
 use Rattle.history.specs.Messages.{Message, done, messages_of, ordered_in}

@@ -13,7 +13,7 @@ use Rattle.gate_events.specs.Emit.{Emit}
 use Rattle.history.specs.Emits.{at, broken}
 use Rattle.history.specs.Entries.{Entry, History, IsHistory, IsOffered, IsTimely, is_accepted, moment_of, now}
 use Rattle.history.specs.Gate.{Stepped, command_in, out, opening_emits}
-use Rattle.history.specs.Messages.{done}
+use Rattle.history.specs.Messages.{Message, done, messages_of}
 use Rattle.history.specs.Settings.{Settings, receiver_of}
 use Rattle.gate_model.specs.Machine.{Machine}
 use Rattle.gate_model.specs.Stands.{Stands}
@@ -22,15 +22,26 @@ use Rattle.gate_outbox.specs.Output.{Emitted, Output, emits_of, no_emits}
 use Rattle.gate_core.specs.Promises.{IsTaken, entry_by}
 use Rattle.gate_core.specs.Steps.{by_keys, entry_of, only_told, IsEventValid}
 use Rattle.parts.specs.PartSteps.{IsGiven}
-use Rattle.plain_out.specs.Plain.{plain_out}
-use Rattle.plain_out.proofs.Emits.{behind_none}
+use Rattle.readings.specs.declared.reading.Reading.{Reading}
+use Rattle.claim_table.specs.declared.answer.Holder.{Holder}
+use Rattle.history.specs.EntryLaws.{IsEvent}
+use Rattle.history.specs.Entries as entry
+use Rattle.history.specs.FromBus.{said_at, selected_in}
+use Rattle.history.specs.Known.{known}
+use Rattle.parts.specs.Picked.{IsPicked, message_of}
+use Rattle.parts.specs.Selected.{saying, selected_with}
+use Rattle.parts.specs.SelectedMessage.{SelectedMessage}
+use Rattle.plain_out.specs.Pace.{Utterance, Voice, said_all, uttered}
+use Rattle.plain_out.specs.Streams.{reading_stream}
+use Rattle.plain_out.specs.declared.stream.Stream.{Stream}
+use Rattle.plain_out.proofs.Sayings.{append_after, append_plain, uttered_behind}
 use Rattle.ais_bridge.specs.AisOut.{ais_out}
 use Rattle.bus_answers.specs.AnsweringPart.{answering_gives}
 use Rattle.joined_rmc.specs.RmcPart.{joining_gives}
 use Rattle.parts.specs.Compose.{maybe_give}
-use Rattle.bridge.specs.Beside.{BesideKept, are_beside, beside_give, beside_keep_commands, beside_output, beside_plain, further}
-use Rattle.bridge.specs.BridgeStands.{AreTold, BridgeStands, IsBesideStep, IsBridged, IsForgotten, IsGatewayStep, IsOrder, IsSaidAgain, IsStart, IsUnposted}
-use Rattle.bridge.specs.Gate.{NothingFurther, all_out, plain_of, stepped, tagged_out, with_command}
+use Rattle.bridge.specs.Beside.{BesideKept, are_beside, beside_give, beside_keep_commands, beside_output, beside_plain, beside_utter, beside_utterances, beside, further}
+use Rattle.bridge.specs.BridgeStands.{AreTold, BridgeStands, IsBesideStep, IsBridged, IsForgotten, IsGatewayStep, IsOrder, IsOwnStream, IsSaidAgain, IsStart, IsUnposted, own_said}
+use Rattle.bridge.specs.Gate.{NothingFurther, all_out, all_utter, own_utters, plain_at, plain_of, stepped, tagged_out, voice_after, voice_by, voice_in, voice_with, with_command}
 use Rattle.bridge.specs.declared.call_output.CallOutput.{CallOutput}
 use Rattle.bridge.specs.Kept.{Bridged, IsAlone, beside_out, given_count, ordered_output, output_at, output_of, own_output, plain_output}
 use Rattle.bridge.specs.BridgeSettings.{BridgeSettings}
@@ -100,6 +111,38 @@ is_start s before between after forgot stands settings left is p new =
           ∙ ap (λ (x : Output). emits_of x.emits) left ∙ ap opening_emits here;
     }
 
+-- ---- plain sentences go on at each event
+
+at_event : (p : BridgeSettings) (s : ℕ) (voice : Option Voice) (h : History) (e : Entry) → IsEvent e
+    → voice_with p s voice h e ≡ voice_after voice (moment_of e) (all_utter p s h e)
+at_event p s voice h (entry.frame m f) is = refl
+at_event p s voice h (entry.datagram m bytes) is = refl
+at_event p s voice h (entry.tick m) is = refl
+at_event p s voice h (entry.command m source address) is = absurd is
+
+pub events_are : (e : Event) → IsEvent (entry_of e)
+events_are (event.Frame moment frame) = tt
+events_are (event.Datagram moment bytes) = tt
+events_are (event.Tick moment) = tt
+
+-- the stream of the message that the gateway selected is that of the reading that it says
+stream_by : (d : Option Message) (c : Settings) (holders : List (Option Holder)) (older : List Message)
+    → option_map (λ (k : SelectedMessage). reading_stream k.reading) (option_map message_of (selected_with d (selected_in c holders older d)))
+    ≡ option_map reading_stream (selected_in c holders older d)
+stream_by None c holders older = refl
+stream_by (Some d) c holders older = by (selected_in c holders older (Some d))
+  where
+    by : (r : Option Reading) → option_map (λ (k : SelectedMessage). reading_stream k.reading) (option_map message_of (saying d r)) ≡ option_map reading_stream r
+    by None = refl
+    by (Some r) = refl
+
+pub own_stream_is : (gateway : Machine) (outbox : Output) (new : Option SelectedMessage) → IsPicked gateway outbox new
+    → IsOwnStream gateway outbox (option_map (λ (k : SelectedMessage). reading_stream k.reading) new)
+own_stream_is gateway outbox new picked c s h e taken =
+    let r = receiver_of c in
+    ap (option_map (λ (k : SelectedMessage). reading_stream k.reading)) (picked c s h e taken)
+    ∙ stream_by (done r s h e) c (known r s h).claims.holders (messages_of r s h)
+
 -- ---- one more event
 
 module _ (p : BridgeSettings) (s : ℕ) (h : History) (before forgotten stepped_on : Bridged) (e : Entry) (could : IsHistory h)
@@ -126,7 +169,7 @@ module _ (p : BridgeSettings) (s : ℕ) (h : History) (before forgotten stepped_
   start_on : stepped_on.start ≡ s
   start_on = ap (λ (b : Bridged). b.start) went.rest ∙ forgot.start ∙ stands.start
 
-  plain_on : stepped_on.plain ≡ p.plain
+  plain_on : stepped_on.plain ≡ voice_in p s h
   plain_on = ap (λ (b : Bridged). b.plain) went.rest ∙ forgot.plain ∙ stands.plain
 
   records_on : stepped_on.records ≡ p.records
@@ -162,21 +205,42 @@ module _ (p : BridgeSettings) (s : ℕ) (h : History) (before forgotten stepped_
       })
 
   -- it is taken: then the parts take it, and the gateway the command that it gives
-  module _ (accepts : is_accepted h e ≡ true) (could_on : IsHistory (e ∷ h)) (told : Bridged) (beside : IsBesideStep e stepped_on told) where
+  module _ (accepts : is_accepted h e ≡ true) (is_event : IsEvent e) (could_on : IsHistory (e ∷ h)) (told : Bridged) (beside : IsBesideStep e stepped_on told) where
     taken : IsTaken p.gateway s h e stepped_on.gateway stepped_on.output.outbox
     taken = subst (λ (z : Settings). IsTaken z s h e stepped_on.gateway stepped_on.output.outbox) settings ((went.step s h could here).0 accepts)
 
-    given : IsGiven are_beside beside_give beside_output p.parts p.gateway s h e told.parts
+    given : IsGiven are_beside beside_give beside_utter beside_output beside_utterances p.parts p.gateway s h e told.parts
     given = beside.parts p.parts p.gateway s h stands.settings start_on could_on taken stood
 
     own_is : emits_of told.output.outbox.emits ≡ out p.gateway s h e
     own_is = ap (λ (x : Output). emits_of x.emits) beside.outbox ∙ taken.emits
 
-    plain_is : plain_output told.output told.parts ≡ plain_of p.plain (tagged_out p s h e)
+    -- what is said of both, at the event's moment
+    abbrev said : List Utterance
+    said = own_said p.gateway s h e stepped_on.output.outbox ++ beside_utterances told.parts
+
+    said_is : said ≡ all_utter p s h e
+    said_is =
+        ap (λ (es : List Emit). uttered (option_map reading_stream (said_at p.gateway s h e)) es ++ beside_utterances told.parts) taken.emits
+        ∙ ap (λ (us : List Utterance). own_utters p s h e ++ us) given.said
+
+    moment_on : stepped_on.gateway.moment ≡ moment_of e
+    moment_on = taken.stands.moment
+
+    plain_is : plain_output told.output told.parts ≡ plain_at p s h e
     plain_is =
-        beside.plain ∙ ap (λ (group : Option (List ℕ)). plain_of group (emits_of stepped_on.output.outbox.emits ++ beside_output told.parts)) plain_on
-        ∙ ap (λ (es : List Emit). plain_of p.plain (es ++ beside_output told.parts)) taken.emits
-        ∙ ap (λ (es : List Emit). plain_of p.plain (out p.gateway s h e ++ es)) given.emits
+        beside.plain p.gateway s h taken
+        ∙ ap (λ (v : Option Voice). plain_of v stepped_on.gateway.moment said) plain_on
+        ∙ ap (λ (m : ℕ). plain_of (voice_in p s h) m said) moment_on
+        ∙ ap (plain_of (voice_in p s h) (moment_of e)) said_is
+
+    voice_is : told.plain ≡ voice_in p s (e ∷ h)
+    voice_is =
+        beside.voice p.gateway s h taken
+        ∙ ap (λ (v : Option Voice). voice_after v stepped_on.gateway.moment said) plain_on
+        ∙ ap (λ (m : ℕ). voice_after (voice_in p s h) m said) moment_on
+        ∙ ap (voice_after (voice_in p s h) (moment_of e)) said_is
+        ∙ sym (at_event p s (voice_in p s h) h e is_event)
 
     -- all that the event gave, as it stands in front of what the command gives
     all_is : (more : List Emit)
@@ -184,7 +248,7 @@ module _ (p : BridgeSettings) (s : ℕ) (h : History) (before forgotten stepped_
     all_is more =
         let own = out p.gateway s h e in
         let gave = beside_give p.parts p.gateway s h e in
-        let plain = plain_of p.plain (own ++ gave) in
+        let plain = plain_at p s h e in
         ap (λ (es : List Emit). own ++ (es ++ (plain_output told.output told.parts ++ more))) given.emits
         ∙ ap (λ (es : List Emit). own ++ (gave ++ (es ++ more))) plain_is
         ∙ sym (append_assoc own gave (plain ++ more)) ∙ sym (append_assoc (own ++ gave) plain more)
@@ -196,7 +260,7 @@ module _ (p : BridgeSettings) (s : ℕ) (h : History) (before forgotten stepped_
       start = beside.start ∙ start_on;
       gateway = subst (λ (g : Machine). Stands by_keys p.gateway s (e ∷ h) g) (sym beside.gateway) taken.stands;
       parts = given.stood;
-      plain = beside.group ∙ plain_on;
+      plain = voice_is;
       records = beside.records ∙ records_on;
     }
 
@@ -279,6 +343,13 @@ event_valid (event.Tick moment) valid = tt
 
 -- ---- without further parts and without plain sentences
 
+unvoiced : (p : BridgeSettings) (s : ℕ) → p.plain ≡ None → (h : History) → voice_in p s h ≡ None
+unvoiced p s unplain [] = ap voice_by unplain
+unvoiced p s unplain (entry.frame m f ∷ h) = ap (λ (v : Option Voice). voice_after v m (all_utter p s h (entry.frame m f))) (unvoiced p s unplain h)
+unvoiced p s unplain (entry.datagram m bytes ∷ h) = ap (λ (v : Option Voice). voice_after v m (all_utter p s h (entry.datagram m bytes))) (unvoiced p s unplain h)
+unvoiced p s unplain (entry.tick m ∷ h) = ap (λ (v : Option Voice). voice_after v m (all_utter p s h (entry.tick m))) (unvoiced p s unplain h)
+unvoiced p s unplain (entry.command m source address ∷ h) = unvoiced p s unplain h
+
 pub nothing_further : NothingFurther
 nothing_further p s h e unasked unplain =
     let c = p.gateway in
@@ -286,7 +357,7 @@ nothing_further p s h e unasked unplain =
     let answered = maybe_give answering_gives p.parts.0 c s h e in
     let rmc = maybe_give joining_gives p.parts.1.0 c s h e in
     let ships = maybe_give ais_out p.parts.1.1.0 c s h e in
-    ap (λ (group : Option (List ℕ)). tagged_out p s h e ++ plain_of group (tagged_out p s h e)) unplain
+    ap (λ (v : Option Voice). tagged_out p s h e ++ plain_of v (moment_of e) (all_utter p s h e)) (unvoiced p s unplain h)
     ∙ append-nil (tagged_out p s h e)
     ∙ ap (λ (r : further.rule). own ++ (answered ++ (rmc ++ (ships ++ further.give r c s h e)))) unasked
     ∙ ap (λ (es : List Emit). own ++ (answered ++ (rmc ++ (ships ++ es)))) (further.silent c s h e)
@@ -296,33 +367,59 @@ nothing_further p s h e unasked unplain =
 
 -- nothing is said
 pub is_beside_step : (e : Entry) (before : Bridged) (parts : BesideKept) → AreTold e before parts → IsAlone before.output before.parts → beside_plain parts ≡ []
-    → plain_of before.plain (emits_of before.output.outbox.emits ++ beside_output parts) ≡ [] → IsBesideStep e before (record before { parts = parts })
-is_beside_step e before parts told alone unsaid none = record {
+    → ((c : Settings) (s : ℕ) (h : History) → plain_of before.plain before.gateway.moment (own_said c s h e before.output.outbox ++ beside_utterances parts) ≡ [])
+    → ((c : Settings) (s : ℕ) (h : History) → voice_after before.plain before.gateway.moment (own_said c s h e before.output.outbox ++ beside_utterances parts) ≡ before.plain)
+    → IsBesideStep e before (record before { parts = parts })
+is_beside_step e before parts told alone unsaid none same = record {
   started = refl;
   start = refl;
   gateway = refl;
   outbox = refl;
   ordered = alone.ordered;
   parts = told;
-  group = refl;
   records = refl;
-  plain = ap (λ (x : Emitted). emits_of x ++ beside_plain parts) alone.plain ∙ unsaid ∙ sym none;
+  plain = λ c s h taken. ap (λ (x : Emitted). emits_of x ++ beside_plain parts) alone.plain ∙ unsaid ∙ sym (none c s h);
+  voice = λ c s h taken. sym (same c s h);
 }
 
+-- by nobody
+pub no_plain : (voice : Option Voice) (m : ℕ) (us : List Utterance) → voice ≡ None → plain_of voice m us ≡ []
+no_plain voice m us none = ap (λ (v : Option Voice). plain_of v m us) none
+
+pub no_voice : (voice : Option Voice) (m : ℕ) (us : List Utterance) → voice ≡ None → voice_after voice m us ≡ voice
+no_voice voice m us none = ap (λ (v : Option Voice). voice_after v m us) none ∙ sym none
+
 -- nothing was said before, and there is no datagram
-pub nothing_said : (group : List ℕ) (o : Output) (es : List Emit) → es ≡ [] → IsUnposted o → plain_out group (emits_of o.emits ++ es) ≡ []
-nothing_said group o es none unposted =
-    ap (λ (x : List Emit). plain_out group (emits_of o.emits ++ x)) none
-    ∙ ap (plain_out group) (append-nil (emits_of o.emits))
-    ∙ behind_none group o.emits.told o.emits.posted unposted.told
-    ∙ ap (plain_out group) unposted.posted
+none_plain : (voice : Option Voice) (m : ℕ) → plain_of voice m [] ≡ []
+none_plain None m = refl
+none_plain (Some v) m = refl
+
+none_voice : (voice : Option Voice) (m : ℕ) → voice_after voice m [] ≡ voice
+none_voice None m = refl
+none_voice (Some v) m = refl
+
+-- what says nothing of itself, and has parts that gave nothing
+pub silent_step : (c : Settings) (s : ℕ) (h : History) (e : Entry) (o : Output) (parts : BesideKept) → beside_output parts ≡ [] → IsUnposted o
+    → own_said c s h e o ++ beside_utterances parts ≡ []
+silent_step c s h e o parts none unposted =
+    ap (λ (us : List Utterance). us ++ beside_utterances parts)
+    (uttered_behind (option_map reading_stream (said_at c s h e)) o.emits.told o.emits.posted unposted.told
+    ∙ ap (uttered (option_map reading_stream (said_at c s h e))) unposted.posted)
+    ∙ beside.unsaid parts none
+
+pub nothing_plain : (voice : Option Voice) (m : ℕ) (us : List Utterance) → us ≡ [] → plain_of voice m us ≡ []
+nothing_plain voice m us none = ap (plain_of voice m) none ∙ none_plain voice m
+
+pub nothing_kept : (voice : Option Voice) (m : ℕ) (us : List Utterance) → us ≡ [] → voice_after voice m us ≡ voice
+nothing_kept voice m us none = ap (voice_after voice m) none ∙ none_voice voice m
 
 -- all datagrams are said
-pub is_said_step : (e : Entry) (before : Bridged) (parts after : BesideKept) (output : CallOutput) (group : List ℕ) → before.plain ≡ Some group
-    → AreTold e before parts → IsAlone before.output before.parts → IsSaidAgain group before.output parts output after
-    → IsBesideStep e before (record before { parts = after; output = output })
-is_said_step e before parts after output group is told alone again =
-    let own = emits_of before.output.outbox.emits in
+pub is_said_step : (e : Entry) (before : Bridged) (parts after : BesideKept) (output : CallOutput) (v v' : Voice) → before.plain ≡ Some v
+    → AreTold e before parts → IsAlone before.output before.parts → IsSaidAgain before.gateway v before.output parts v' output after
+    → IsBesideStep e before (record before { parts = after; plain = Some v'; output = output })
+is_said_step e before parts after output v v' is told alone again =
+    let us = λ (c : Settings) (s : ℕ) (h : History) (k : BesideKept). own_said c s h e before.output.outbox ++ beside_utterances k in
+    let m = before.gateway.moment in
     record {
       started = refl;
       start = refl;
@@ -331,9 +428,44 @@ is_said_step e before parts after output group is told alone again =
       ordered = again.ordered ∙ alone.ordered;
       parts = λ r c s h are start could taken stands.
           let given = told r c s h are start could taken stands in
-          record { stood = again.kept r c s (e ∷ h) given.stood; emits = again.beside ∙ given.emits };
-      group = refl;
+          record { stood = again.kept r c s (e ∷ h) given.stood; emits = again.beside ∙ given.emits; said = again.said ∙ given.said };
       records = refl;
-      plain = again.plain ∙ ap (λ (es : List Emit). plain_out group (own ++ es)) (sym again.beside)
-          ∙ sym (ap (λ (g : Option (List ℕ)). plain_of g (own ++ beside_output after)) is);
+      plain = λ c s h taken.
+          again.plain c s h e taken
+          ∙ ap (λ (more : List Utterance). (said_all v m (own_said c s h e before.output.outbox ++ more)).plain) (sym again.said)
+          ∙ sym (ap (λ (x : Option Voice). plain_of x m (us c s h after)) is);
+      voice = λ c s h taken.
+          ap Some (again.voice c s h e taken
+          ∙ ap (λ (more : List Utterance). (said_all v m (own_said c s h e before.output.outbox ++ more)).after) (sym again.said))
+          ∙ sym (ap (λ (x : Option Voice). voice_after x m (us c s h after)) is);
     }
+
+-- ---- the datagrams of the gateway itself and of the parts, one after the other
+
+abbrev pub AreSaidOf : Machine → Output → Voice → Voice → List Emit → List Emit → List Utterance → Type 0
+AreSaidOf gateway outbox v v' own beside_said parts =
+    (c : Settings) (s : ℕ) (h : History) (e : Entry) → IsTaken c s h e gateway outbox
+    → (own ++ beside_said ≡ (said_all v gateway.moment (own_said c s h e outbox ++ parts)).plain)
+    × (v' ≡ (said_all v gateway.moment (own_said c s h e outbox ++ parts)).after)
+
+pub said_again : (gateway : Machine) (outbox : Output) (stream : Option Stream) (v middle v' : Voice) (own beside_said : List Emit) (parts : List Utterance)
+    → IsOwnStream gateway outbox stream
+    → middle ≡ (said_all v gateway.moment (uttered stream (emits_of outbox.emits))).after
+    → own ≡ (said_all v gateway.moment (uttered stream (emits_of outbox.emits))).plain
+    → v' ≡ (said_all middle gateway.moment parts).after
+    → beside_said ≡ (said_all middle gateway.moment parts).plain
+    → AreSaidOf gateway outbox v v' own beside_said parts
+said_again gateway outbox stream v middle v' own beside_said parts streams first_after first_plain then_after then_plain c s h e taken =
+    let m = gateway.moment in
+    let es = emits_of outbox.emits in
+    let us : uttered stream es ≡ own_said c s h e outbox = ap (λ (x : Option Stream). uttered x es) (streams c s h e taken) in (
+      ap (λ (x : List Emit). x ++ beside_said) first_plain
+          ∙ ap (λ (x : List Emit). (said_all v m (uttered stream es)).plain ++ x) then_plain
+          ∙ ap (λ (x : Voice). (said_all v m (uttered stream es)).plain ++ (said_all x m parts).plain) first_after
+          ∙ sym (append_plain v m (uttered stream es) parts)
+          ∙ ap (λ (x : List Utterance). (said_all v m (x ++ parts)).plain) us,
+      then_after
+          ∙ ap (λ (x : Voice). (said_all x m parts).after) first_after
+          ∙ sym (append_after v m (uttered stream es) parts)
+          ∙ ap (λ (x : List Utterance). (said_all v m (x ++ parts)).after) us,
+    )

@@ -3,6 +3,7 @@ use Rattle.std.specs.Prelude.{ℕ, List}
 use Rattle.gate_events.specs.Emit.{Emit}
 use Rattle.history.specs.Entries.{Entry, History}
 use Rattle.history.specs.Settings.{Settings}
+use Rattle.plain_out.specs.Pace.{Utterance}
 use Rattle.parts.specs.Forms.{Form, both, lane, nothing}
 use Rattle.parts.specs.PartSteps.{KeepsCommands}
 use Rattle.bus_answers.proofs.Form.{answering}
@@ -44,6 +45,13 @@ beside_output = beside.output
 
 abbrev pub beside_plain : BesideKept → List Emit
 beside_plain = beside.plain
+
+-- their datagrams, each with its stream
+abbrev pub beside_utter : beside.rule → Settings → ℕ → History → Entry → List Utterance
+beside_utter = beside.utter
+
+abbrev pub beside_utterances : BesideKept → List Utterance
+beside_utterances = beside.utterances
 
 -- a command to go to an address is no event for them
 pub beside_keep_commands : KeepsCommands are_beside

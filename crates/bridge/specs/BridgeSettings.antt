@@ -1,18 +1,27 @@
 -- A gateway between the bus (ISO 11783) and the network (IEC 61162-450), and the parts that act beside it, by what is configured.
-use Rattle.std.specs.Prelude.{ℕ, Bool, List, Option}
+use Rattle.std.specs.Prelude.{ℕ, ◌*◌, Bool, List, Option, option_map}
 use Rattle.history.specs.Settings.{Settings}
 use Rattle.settings.specs.Setup.{gateway_of}
 use Rattle.settings.specs.declared.setup.Setup.{Setup}
 use Rattle.bridge.specs.Beside.{beside}
 
+-- the transmission group that all sentences are sent to once more, without headers and TAG blocks, and how long they pause, in microseconds
+pub record PlainRule : Type 0 where
+  pub group : List ℕ
+  pub every : ℕ
+
 pub record BridgeSettings : Type 0 where
   pub gateway : Settings
   -- by what each part beside it is configured
   pub parts : beside.rule
-  -- the transmission group that all sentences are sent to once more, without headers and TAG blocks, where they are
-  pub plain : Option (List ℕ)
+  -- how plain sentences are said, if they are
+  pub plain : Option PlainRule
   -- whether what comes is written down
   pub records : Bool
 
+-- a file says milliseconds
+abbrev pub plain_rule : ℕ → List ℕ → PlainRule
+plain_rule every_ms group = record { group = group; every = every_ms * 1000 }
+
 unfoldable pub bridge_settings_of : Setup → BridgeSettings
-bridge_settings_of x = record { gateway = gateway_of x; parts = beside.asked x; plain = x.plain; records = x.«record» }
+bridge_settings_of x = record { gateway = gateway_of x; parts = beside.asked x; plain = option_map (plain_rule x.plain_every_ms) x.plain; records = x.«record» }

@@ -73,7 +73,7 @@ FirstOfTwoIsSaid =
 
 abbrev pub SaidOnceMore : Type 0
 SaidOnceMore =
-    PartsEmit (record further_parts { plain = Some (codes "PLAN") }) 10000000 (pressure 10000000 0x15FD0A17 ∷ [])
+    PartsEmit (record further_parts { plain = Some (record { group = codes "PLAN"; every = 0 }) }) 10000000 (pressure 10000000 0x15FD0A17 ∷ [])
     (emitted 10000000 (mach (codes "s:II0001,n:1*01") said_pressure) ∷ emitted 10000000 (plain (ended said_pressure)) ∷ [])
 
 -- ---- a message of an older weather station says each quantity that it has a value of, in a datagram of its own

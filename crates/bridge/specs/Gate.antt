@@ -1,23 +1,37 @@
 -- What the gateway with the parts beside it emits, over everything that ever came: at each event what the gateway itself emits, then what each
 -- part gives, in their order; all datagrams of these once more as plain sentences; and then what it emits at the command that the event completes
 -- (ISO 11783-5).
-use Rattle.std.specs.Prelude.{◌≡◌, ℕ, List, [], ◌++◌, Option, Some, None}
+use Rattle.std.specs.Prelude.{◌≡◌, ℕ, List, [], ◌∷◌, ◌++◌, Option, Some, None, option_map}
 use Rattle.gate_events.specs.Emit.{Emit, Emitted}
-use Rattle.history.specs.Entries.{Entry, History}
+use Rattle.history.specs.Entries as entry
+use Rattle.history.specs.Entries.{Entry, History, moment_of}
+use Rattle.history.specs.FromBus.{said_at}
 use Rattle.history.specs.Gate as of_gateway
 use Rattle.history.specs.Gate.{Stepped, out, with_command_by, stepped_by, events_by, gate_by}
-use Rattle.plain_out.specs.Plain.{plain_out}
+use Rattle.plain_out.specs.Pace.{Utterance, Voice, opened_voice, said_all, uttered}
+use Rattle.plain_out.specs.Streams.{reading_stream}
 use Rattle.parts.specs.Compose.{maybe_give}
 use Rattle.ais_bridge.specs.AisOut.{ais_out}
 use Rattle.bus_answers.specs.AnsweringPart.{answering_gives}
 use Rattle.joined_rmc.specs.RmcPart.{joining_gives}
-use Rattle.bridge.specs.Beside.{beside_give, further}
-use Rattle.bridge.specs.BridgeSettings.{BridgeSettings}
+use Rattle.bridge.specs.Beside.{beside_give, beside_utter, further}
+use Rattle.bridge.specs.BridgeSettings.{BridgeSettings, PlainRule}
 
--- plain sentences, where they are said
-abbrev pub plain_of : Option (List ℕ) → List Emit → List Emit
-plain_of None emits = []
-plain_of (Some group) emits = plain_out group emits
+-- ---- plain sentences, where they are said
+
+abbrev pub voice_by : Option PlainRule → Option Voice
+voice_by None = None
+voice_by (Some rule) = Some (opened_voice rule.group rule.every)
+
+-- of these datagrams at this moment
+abbrev pub plain_of : Option Voice → ℕ → List Utterance → List Emit
+plain_of None m us = []
+plain_of (Some v) m us = (said_all v m us).plain
+
+-- and what is kept then
+abbrev pub voice_after : Option Voice → ℕ → List Utterance → Option Voice
+voice_after None m us = None
+voice_after (Some v) m us = Some (said_all v m us).after
 
 module _ (p : BridgeSettings) (s : ℕ) where
   -- what the parts beside the gateway give
@@ -28,8 +42,29 @@ module _ (p : BridgeSettings) (s : ℕ) where
   abbrev pub tagged_out : History → Entry → List Emit
   tagged_out h e = out p.gateway s h e ++ given h e
 
+  -- the datagrams of it, each with its stream: the gateway itself says a reading
+  abbrev pub own_utters : History → Entry → List Utterance
+  own_utters h e = uttered (option_map reading_stream (said_at p.gateway s h e)) (out p.gateway s h e)
+
+  abbrev pub all_utter : History → Entry → List Utterance
+  all_utter h e = own_utters h e ++ beside_utter p.parts p.gateway s h e
+
+  -- what is kept of plain sentences: a command is no event for them
+  abbrev pub voice_with : Option Voice → History → Entry → Option Voice
+  voice_with voice h (entry.frame m f) = voice_after voice m (all_utter h (entry.frame m f))
+  voice_with voice h (entry.datagram m bytes) = voice_after voice m (all_utter h (entry.datagram m bytes))
+  voice_with voice h (entry.tick m) = voice_after voice m (all_utter h (entry.tick m))
+  voice_with voice h (entry.command m source address) = voice
+
+  abbrev pub voice_in : History → Option Voice
+  voice_in [] = voice_by p.plain
+  voice_in (e ∷ h) = voice_with (voice_in h) h e
+
+  abbrev pub plain_at : History → Entry → List Emit
+  plain_at h e = plain_of (voice_in h) (moment_of e) (all_utter h e)
+
   abbrev pub all_out : History → Entry → List Emit
-  all_out h e = tagged_out h e ++ plain_of p.plain (tagged_out h e)
+  all_out h e = tagged_out h e ++ plain_at h e
 
   abbrev pub opening : List Emitted
   opening = of_gateway.opening p.gateway s

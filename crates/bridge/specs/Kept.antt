@@ -4,6 +4,7 @@ use Rattle.gate_events.specs.Emit.{Emit, Emitted}
 use Rattle.history.specs.Emits.{at}
 use Rattle.gate_model.specs.Machine.{Machine}
 use Rattle.gate_outbox.specs.Output.{Output, emits_of, no_emits, nothing}
+use Rattle.plain_out.specs.Pace.{Voice}
 use Rattle.bridge.specs.Beside.{BesideKept, beside_output, beside_plain}
 use Rattle.bridge.specs.declared.call_output.CallOutput.{CallOutput}
 
@@ -14,8 +15,8 @@ pub record Bridged : Type 0 where
   pub gateway : Machine
   -- the parts beside the gateway, with what each gave
   pub parts : BesideKept
-  -- the transmission group of plain sentences
-  pub plain : Option (List ℕ)
+  -- who says plain sentences
+  pub plain : Option Voice
   -- whether what comes is written down
   pub records : Bool
   -- what the gateway itself gave at the last call

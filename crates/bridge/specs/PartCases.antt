@@ -175,7 +175,7 @@ AddressIsNoChange =
 -- ---- plain sentences
 
 abbrev pub plain_parts : BridgeSettings
-plain_parts = record (asking all_parts None true false) { plain = Some (codes "PLAN") }
+plain_parts = record (asking all_parts None true false) { plain = Some (record { group = codes "PLAN"; every = 0 }) }
 
 abbrev pub ended : List ℕ → List ℕ
 ended sentence = sentence ++ 13 ∷ 10 ∷ []

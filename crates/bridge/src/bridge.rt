@@ -7,7 +7,8 @@ ghost use Rattle.history.specs.Entries.{moment_of};
 ghost use Rattle.settings.specs.Settings.{IsSettings};
 ghost use Rattle.settings.specs.Setup.{IsSetup, alone};
 ghost use Rattle.bridge.specs.Beside.{beside_plain};
-ghost use Rattle.bridge.specs.BridgeStands.{IsBesideStep, IsBridgeStep, IsForgotten, IsGatewayStep, IsNew, IsObeyed, IsOrder, IsSaidAgain, IsStart, IsUnposted};
+ghost use Rattle.bridge.specs.BridgeStands.{IsBesideStep, IsBridgeStep, IsForgotten, IsGatewayStep, IsNew, IsObeyed, IsOrder, IsOwnStream, IsSaidAgain, IsStart, IsUnposted};
+ghost use Rattle.bridge.specs.Gate.{voice_by};
 ghost use Rattle.bridge.specs.Kept.{IsAlone, no_output, output_of};
 ghost use Rattle.bridge.specs.BridgeSettings.{bridge_settings_of};
 
@@ -15,9 +16,8 @@ use crate::beside::Beside;
 use crate::call_output::{CallOutput, emit_in, len_in};
 use gate_core::{Command, Gateway, Outbox, moment_of};
 use gate_events::{Emit, Event};
-use parts::{Parts, Step};
-use plain_out::say_plain;
-use sentence_text::Group;
+use parts::{Parts, SelectedMessage, Step};
+use plain_out::{Stream, Voice, say_plain};
 use settings::{Settings, Setup};
 use std::alloc::{AllocError, Global};
 use std::marker::Model;
@@ -30,8 +30,8 @@ pub struct Bridge {
     /// The moment at which it started.
     start: u64,
     parts: Beside,
-    /// The transmission group of plain sentences.
-    plain: Option<Group>,
+    /// Who says plain sentences.
+    plain: Option<Voice>,
     /// Whether what comes is written down.
     records: bool,
     /// Whether the last call may have given more than the gateway itself emits. Most give no more, and then no part is asked for its output.
@@ -77,6 +77,7 @@ impl Bridge {
     {
         let output = CallOutput::boxed(alloc)?;
         let parts = Beside::made(alloc, setup)?;
+        let plain = voice_of(alloc, setup)?;
         // The largest part, last: what is kept while others are made lies on the stack once more.
         let gateway = Gateway::ignoring(alloc, &setup.settings.config, &setup.ignore)?;
         Ok(Bridge {
@@ -84,7 +85,7 @@ impl Bridge {
             started: false,
             start: 0,
             parts,
-            plain: setup.plain,
+            plain,
             records: setup.record,
             gave: false,
             output,
@@ -169,13 +170,10 @@ impl Bridge {
             start: self.start,
         };
         self.gave = self.parts.after(&step);
-        match &self.plain {
-            None => {}
-            Some(group) => {
-                if self.gave || posts(&output.outbox) {
-                    self.gave = true;
-                    say_again(*group, output, &mut self.parts);
-                }
+        if let Some(voice) = &mut self.plain {
+            if self.gave || posts(&output.outbox) {
+                self.gave = true;
+                say_again(&self.gateway, voice, output, &mut self.parts);
             }
         }
     }
@@ -254,15 +252,44 @@ fn posts(outbox: &Outbox) -> bool
     }
 }
 
-/// Says the datagrams of an event once more, as plain sentences for this transmission group.
+/// Who says plain sentences, if a file asks for them.
+#[tactic(auto, unfolding(crate::specs::BridgeSettings::bridge_settings_of))]
+fn voice_of(alloc: Global, setup: &Setup) -> Result<Option<Voice>, AllocError>
+    ensures { IfOk result (λ voice. voice ≡ voice_by (bridge_settings_of setup.now).plain) }
+{
+    match setup.plain {
+        None => Ok(None),
+        Some(group) => Ok(Some(Voice::new(alloc, group, u64::from(setup.plain_every_ms) * 1000)?)),
+    }
+}
+
+/// The stream of the gateway's own datagram.
+fn own_stream(gateway: &Gateway, outbox: &Outbox) -> Option<Stream>
+    ensures { IsOwnStream gateway.now outbox.now result }
+{
+    match SelectedMessage::of(gateway, outbox) {
+        Some(message) => Some(Stream::of_reading(&message.reading)),
+        None => None,
+    }
+}
+
+/// Says the datagrams of an event once more, as plain sentences.
 #[inline(never)]
-fn say_again(group: Group, output: &mut CallOutput, parts: &mut Beside)
+fn say_again(gateway: &Gateway, voice: &mut Voice, output: &mut CallOutput, parts: &mut Beside)
     requires plain { output.old.plain ≡ no_emits }
     requires parts { beside_plain parts.old ≡ [] }
-    ensures { IsSaidAgain group output.old parts.old output.new parts.new }
+    ensures { IsSaidAgain gateway.now voice.old output.old parts.old voice.new output.new parts.new }
 {
-    say_plain(group, &output.outbox.emits, &mut output.plain);
-    parts.say_plain(group);
+    let moment = gateway.moment();
+    let stream = own_stream(gateway, &output.outbox);
+    say_plain(
+        voice,
+        moment,
+        stream,
+        &output.outbox.emits,
+        &mut output.plain,
+    );
+    parts.say_plain(voice, moment);
 }
 
 /// Whether an event isn't earlier than the last entry.

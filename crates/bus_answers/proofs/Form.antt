@@ -1,6 +1,6 @@
 -- The gateway's answers as a part beside it, as one value: they are frames and reports, and say nothing on the network.
 use Rattle.std.proofs.Common.{◌≡◌, ℕ, Bool, List, [], ◌∷◌, map, refl}
-use Rattle.std.specs.Prelude.{Option, if◌then◌else◌}
+use Rattle.std.specs.Prelude.{Option, if◌then◌else◌, None}
 use Rattle.n2k_id.specs.Frame.{BusFrame}
 use Rattle.n2k_id.specs.Identifier.{parts_of}
 use Rattle.n2k_id.specs.Pgns as pgns
@@ -13,6 +13,7 @@ use Rattle.history.specs.Entries.{Entry, History, frame, datagram, tick, command
 use Rattle.history.specs.EntryLaws.{nets_in}
 use Rattle.history.specs.Settings.{Settings}
 use Rattle.history.proofs.EntrySteps.{if_none}
+use Rattle.parts.specs.Utterances.{streamless, utters_datagrams}
 use Rattle.parts.specs.Forms.{PartForm, place}
 use Rattle.parts.specs.Voices.{silent}
 use Rattle.bus_answers.specs.Answered.{answer_by, answers, own_after, ready_after, sent_before}
@@ -44,9 +45,11 @@ answering = record {
   places = place most_answered;
   stand = answering_stands;
   give = answering_gives;
+  utter = streamless answering_gives;
   say = λ information c s h e. [];
   speaks = λ information c. Unit {0};
   commands = λ information c s h source address k are stands. stands;
   read = λ information c s h e speaks. silent (answers c s information h e) (no_answers c s information h e);
   understood = λ x typed valid. λ information is. tt;
+  datagrams = utters_datagrams None answering_gives;
 }

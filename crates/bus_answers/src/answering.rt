@@ -79,6 +79,7 @@ impl Answering {
 }
 
 impl Part<AnswersPlace> for Answering {
+    ghost use Rattle.parts.specs.Utterances.{streamless};
     ghost use Rattle.std.specs.Prelude.{ℕ, List};
 
     ghost Rule = { List ℕ };
@@ -88,6 +89,8 @@ impl Part<AnswersPlace> for Answering {
     ghost stands = { answering_stands };
 
     ghost gives = { answering_gives };
+
+    ghost utters = { streamless answering_gives };
 
     fn opened(_alloc: Global, setup: &Setup) -> Result<Option<Answering>, AllocError> {
         Ok(Some(Answering::new(&setup.settings.product)))

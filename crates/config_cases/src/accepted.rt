@@ -79,6 +79,7 @@ fn is_alone(setup: &Setup) -> bool {
         && !setup.sources
         && !setup.address
         && setup.plain.is_none()
+        && setup.plain_every_ms == 0
         && !setup.record
         && is_unwatched(&setup.watch)
         && setup.heartbeat.net.is_none()
@@ -185,6 +186,7 @@ bus.ignore = ["class=25", "C0328200FFC00001"]
 report.sources = true
 report.address = true
 plain.group = "PLAN"
+plain.every_ms = 60000
 serve.record = true
 "#;
 
@@ -202,6 +204,7 @@ fn is_asked_for(setup: &Setup) -> bool {
         && setup.record
         && setup.quantities.is_none()
         && setup.plain == Group::of(b"PLAN")
+        && setup.plain_every_ms == 60_000
 }
 
 fn has_further_keys(alloc: Global) -> bool {

@@ -12,15 +12,15 @@ use Rattle.settings.specs.Setup.{IsQuantity, gateway_of}
 use Rattle.settings.specs.declared.quantity_config.Quantities.{Quantities}
 use Rattle.settings.specs.declared.quantity_config.QuantityConfig.{QuantityConfig}
 use Rattle.parts.specs.Compose.{maybe_speaks}
-use Rattle.parts.specs.Forms.{PartForm, and_behind, place}
+use Rattle.parts.specs.Forms.{PartForm, and_behind, streamed_place}
 use Rattle.parts.specs.Voices.{IsUnderstood}
 use Rattle.parts.proofs.Speaking.{if_mapped}
-use Rattle.further_bridge.specs.FurtherOut.{further_out}
+use Rattle.further_bridge.specs.FurtherOut.{further_out, further_utters}
 use Rattle.further_bridge.specs.FurtherPart.{SpeaksQuantities, quantities_asked, quantities_say}
 use Rattle.further_bridge.specs.FurtherRule.{FurtherRule, further_rule, talker_at}
 use Rattle.further_bridge.specs.Kept.{FurtherKept, most_told}
 use Rattle.further_bridge.specs.Promises.{StandsFurther}
-use Rattle.further_bridge.proofs.QuantitiesAreRead.{quantities_are_read}
+use Rattle.further_bridge.proofs.QuantitiesAreRead.{quantities_are_read, quantities_say_datagrams}
 use Rattle.further_bridge.proofs.StepLemmas.{commands_leave_further}
 
 -- ---- each quantity has its place
@@ -51,12 +51,14 @@ quantities = record {
   rule = FurtherRule;
   asked = quantities_asked;
   kept = FurtherKept;
-  places = and_behind (place most_told) (and_behind (place 0) (place 0));
+  places = and_behind (streamed_place most_told) (and_behind (streamed_place 0) (streamed_place 0));
   stand = StandsFurther;
   give = further_out;
+  utter = further_utters;
   say = quantities_say;
   speaks = SpeaksQuantities;
   commands = λ x c s h source address k are stands. commands_leave_further x c s h source address k are stands;
   read = quantities_are_read;
   understood = understood;
+  datagrams = quantities_say_datagrams;
 }

@@ -6,6 +6,7 @@ use Rattle.std.proofs.lemmas.Bool.{lt-ltb}
 use Rattle.report_rules.specs.Rules as rules
 use Rattle.gate_events.specs.Emit.{Emit, net}
 use Rattle.tag_block.specs.Tag.{most_count}
+use Rattle.plain_out.specs.Pace.{Utterance, uttered}
 use Rattle.datagram450.proofs.Counts.{counted_modulo}
 use Rattle.claim_table.specs.Claims.{places}
 use Rattle.quantities.specs.Saying.{sentence_of}
@@ -21,9 +22,9 @@ use Rattle.gate_model.specs.Choosing.{is_ranked_chosen}
 use Rattle.gate_model.specs.Said.{complete_of}
 use Rattle.bus_listener.specs.Kinds.{is_told}
 use Rattle.further_bridge.specs.declared.said.Said.{Said}
-use Rattle.further_bridge.specs.FurtherOut.{all_in, has_voice, message_breaks, number_in, said_gives, short_gives, that_are_there, value_datagram, values_of}
+use Rattle.further_bridge.specs.FurtherOut.{all_in, has_voice, magnetic_in, message_breaks, number_in, said_gives, said_utters, short_gives, that_are_there, value_datagram, values_of}
 use Rattle.further_bridge.specs.FurtherRule.{FurtherRule, talker_at}
-use Rattle.further_bridge.specs.Kept.{FurtherKept, FurtherStep, ValueStep, as_it_was, counted, given_by, has_place, is_water_said, message_step, numbered, ranked_step, said_of, told_step, value_in, value_step, values_step}
+use Rattle.further_bridge.specs.Kept.{FurtherKept, FurtherStep, ValueStep, as_it_was, counted, given_by, has_place, is_water_said, message_step, numbered, ranked_step, said_of, streams_of, told_step, told_streams, uttered_by, value_in, value_step, value_stream, values_step}
 use Rattle.further_bridge.proofs.Notes.{AreChosen, chosen_after, is_chosen_in, noted_all, noted_value, rank_in}
 
 -- ---- the datagram of a value is the same by the count as by the number of lines
@@ -54,6 +55,11 @@ has_three pgn payload =
     by_entry (λ o. told_by o group payload) tt
     (λ first. three_or_short (nat_lt (length payload) first.least) (value_at group payload 0) (value_at group payload 1) (value_at group payload 2)) (first_of group)
 
+-- a report isn't said
+short_unsaid : (source pgn : ℕ) (told : Bool) → uttered None ((if told then of_source rules.short_message source pgn ∷ [] else []) ++ []) ++ [] ≡ []
+short_unsaid source pgn true = refl
+short_unsaid source pgn false = refl
+
 -- ---- values of a message that is complete, by what is kept
 
 module _ (k : FurtherKept) (d : Said) (chosen : Value → Bool) where
@@ -78,19 +84,33 @@ module _ (k : FurtherKept) (d : Said) (chosen : Value → Bool) where
   abbrev all_said : List (Option Value) → List Value
   all_said values = filter is_said (that_are_there values)
 
-  -- one after another
-  abbrev all_steps : FurtherKept → List (Option Value) → ValueStep
-  all_steps at [] = record { after = at; posted = [] }
+  -- one after another, and what is said with its stream
+  record AllSteps : Type 0 where
+    after : FurtherKept
+    posted : List Emit
+    said : List Utterance
+
+  abbrev all_steps : FurtherKept → List (Option Value) → AllSteps
+  all_steps at [] = record { after = at; posted = []; said = [] }
   all_steps at (o ∷ values) =
       let y = value_step at d o in
-      record { after = (all_steps y.after values).after; posted = y.posted ++ (all_steps y.after values).posted }
+      record {
+        after = (all_steps y.after values).after;
+        posted = y.posted ++ (all_steps y.after values).posted;
+        said = uttered (value_stream d.magnetic o) y.posted ++ (all_steps y.after values).said;
+      }
 
-  record AreTaken (values : List (Option Value)) (choices : Choices) (lines : ℕ) (y : ValueStep) : Type 0 where
+  record AreTaken (values : List (Option Value)) (choices : Choices) (lines : ℕ) (y : AllSteps) : Type 0 where
     after : y.after ≡ with_ (all_noted choices values) ((lines + length (all_said values)) % most_count)
     posted : y.posted ≡ said_gives k.rule k.sfi lines (all_said values)
+    said : y.said ≡ said_utters k.rule d.magnetic k.sfi lines (all_said values)
 
-  abbrev then_all : ValueStep → List (Option Value) → ValueStep
-  then_all y values = record { after = (all_steps y.after values).after; posted = y.posted ++ (all_steps y.after values).posted }
+  abbrev then_all : Option Value → ValueStep → List (Option Value) → AllSteps
+  then_all o y values = record {
+    after = (all_steps y.after values).after;
+    posted = y.posted ++ (all_steps y.after values).posted;
+    said = uttered (value_stream d.magnetic o) y.posted ++ (all_steps y.after values).said;
+  }
 
   by_test : (choices : Choices) (n : ℕ) (v : Value) (b : Bool) → (is_first choices v && speaks v) ≡ b
       → value_step (with_ choices n) d (Some v)
@@ -104,8 +124,8 @@ module _ (k : FurtherKept) (d : Said) (chosen : Value → Bool) where
       → AreChosen d.source d.moment k.rule d.name.0 chosen choices values → AreTaken values choices lines (all_steps (with_ choices n) values)
   taken [] choices lines n is order are =
       let none : lines + 0 ≡ lines = omega arith in
-      record { after = ap (with_ choices) (is ∙ ap (λ m. m % most_count) (sym none)); posted = refl }
-  taken (None ∷ values) choices lines n is order are = let rest = taken values choices lines n is order.1 are.1 in record { after = rest.after; posted = rest.posted }
+      record { after = ap (with_ choices) (is ∙ ap (λ m. m % most_count) (sym none)); posted = refl; said = refl }
+  taken (None ∷ values) choices lines n is order are = let rest = taken values choices lines n is order.1 are.1 in record { after = rest.after; posted = rest.posted; said = rest.said }
   taken (Some v ∷ values) choices lines n is order are =
       by (is_said v) refl (taken values (with_noted choices v) (lines + 1)) (taken values (with_noted choices v) lines n is order.1 later)
     where
@@ -127,26 +147,37 @@ module _ (k : FurtherKept) (d : Said) (chosen : Value → Bool) where
           let step = by_test choices n v true (test true said) in
           record {
             after =
-                ap (λ (y : ValueStep). (then_all y values).after) step
+                ap (λ (y : ValueStep). (then_all (Some v) y values).after) step
                 ∙ next.after
                 ∙ ap (λ m. with_ (all_noted choices (Some v ∷ values)) (m % most_count)) (sum ∙ ap (λ (vs : List Value). lines + length vs) (sym all));
             posted =
-                ap (λ (y : ValueStep). (then_all y values).posted) step
+                ap (λ (y : ValueStep). (then_all (Some v) y values).posted) step
                 ∙ ap (λ rest. said_gives k.rule k.sfi n (v ∷ []) ++ rest) next.posted
                 ∙ ap (λ m. said_gives k.rule k.sfi m (v ∷ []) ++ said_gives k.rule k.sfi (lines + 1) (all_said values)) is
                 ∙ ap (λ first. first ++ said_gives k.rule k.sfi (lines + 1) (all_said values)) (one_count k.rule k.sfi lines v)
                 ∙ ap (λ vs. said_gives k.rule k.sfi lines vs) (sym all);
+            said =
+                let stream = value_stream d.magnetic (Some v) in
+                let rest = said_utters k.rule d.magnetic k.sfi (lines + 1) (all_said values) in
+                ap (λ (y : ValueStep). (then_all (Some v) y values).said) step
+                ∙ ap (λ more. uttered stream (said_gives k.rule k.sfi n (v ∷ [])) ++ more) next.said
+                ∙ ap (λ m. uttered stream (said_gives k.rule k.sfi m (v ∷ [])) ++ rest) is
+                ∙ ap (λ first. uttered stream first ++ rest) (one_count k.rule k.sfi lines v)
+                ∙ ap (λ vs. said_utters k.rule d.magnetic k.sfi lines vs) (sym all);
           }
       by false said more same =
           let all : all_said (Some v ∷ values) ≡ all_said values = ap (λ b. if b then v ∷ all_said values else all_said values) said in
           let step = by_test choices n v false (test false said) in
           record {
             after =
-                ap (λ (y : ValueStep). (then_all y values).after) step
+                ap (λ (y : ValueStep). (then_all (Some v) y values).after) step
                 ∙ same.after
                 ∙ ap (λ (vs : List Value). with_ (all_noted choices (Some v ∷ values)) ((lines + length vs) % most_count)) (sym all);
             posted =
-                ap (λ (y : ValueStep). (then_all y values).posted) step ∙ same.posted ∙ ap (λ vs. said_gives k.rule k.sfi lines vs) (sym all);
+                ap (λ (y : ValueStep). (then_all (Some v) y values).posted) step ∙ same.posted ∙ ap (λ vs. said_gives k.rule k.sfi lines vs) (sym all);
+            said =
+                ap (λ (y : ValueStep). (then_all (Some v) y values).said) step ∙ same.said
+                ∙ ap (λ vs. said_utters k.rule d.magnetic k.sfi lines vs) (sym all);
           }
 
   -- ---- all that a message says
@@ -154,6 +185,7 @@ module _ (k : FurtherKept) (d : Said) (chosen : Value → Bool) where
   record IsToldTaken (lines : ℕ) (t : Told) (y : FurtherStep) : Type 0 where
     after : y.after ≡ with_ (all_noted k.choices (all_in t)) ((lines + length (all_said (all_in t))) % most_count)
     emits : given_by y ≡ short_gives d.source d.pgn t ++ said_gives k.rule k.sfi lines (all_said (all_in t))
+    said : uttered_by (told_streams d.magnetic t) y ≡ said_utters k.rule d.magnetic k.sfi lines (all_said (all_in t))
 
   no_lines : (lines : ℕ) → k.lines ≡ lines % most_count → k ≡ with_ k.choices ((lines + 0) % most_count)
   no_lines lines is =
@@ -171,9 +203,15 @@ module _ (k : FurtherKept) (d : Said) (chosen : Value → Bool) where
             ap (λ (last : List Emit). (values_step k d values).emits.posted ++ ((values_step k d values).second ++ last)) (sym (append-nil third))
             ∙ ap (λ (vs : List (Option Value)). (all_steps k vs).posted) (sym three)
             ∙ all.posted;
+        said =
+            let stream = λ (place : ℕ). value_stream d.magnetic (value_in values place) in
+            let last = uttered (stream 2) third in
+            ap (λ more. uttered (stream 0) (values_step k d values).emits.posted ++ (uttered (stream 1) (values_step k d values).second ++ more)) (sym (append-nil last))
+            ∙ ap (λ (vs : List (Option Value)). (all_steps k vs).said) (sym three)
+            ∙ all.said;
       }
-  by_told lines is says.Outside three order are = record { after = no_lines lines is; emits = refl }
-  by_told lines is says.Short three order are = record { after = no_lines lines is; emits = append-nil (short_gives d.source d.pgn says.Short ++ []) }
+  by_told lines is says.Outside three order are = record { after = no_lines lines is; emits = refl; said = refl }
+  by_told lines is says.Short three order are = record { after = no_lines lines is; emits = append-nil (short_gives d.source d.pgn says.Short ++ []); said = short_unsaid d.source d.pgn (is_told d.pgn) }
 
 -- ---- a message, or none
 
@@ -193,18 +231,19 @@ module _ (k : FurtherKept) (chosen : Message → Value → Bool) where
   pub record IsMessageTaken (lines : ℕ) (d : Option Message) (y : FurtherStep) : Type 0 where
     pub after : y.after ≡ record k { choices = choices_after d; lines = (lines + length (said_of_message d)) % most_count }
     pub emits : given_by y ≡ message_breaks d ++ said_gives k.rule k.sfi lines (said_of_message d)
+    pub said : uttered_by (streams_of (option_map said_of (option_map complete_of d))) y ≡ said_utters k.rule (magnetic_in d) k.sfi lines (said_of_message d)
 
   pub message_taken : (lines : ℕ) → k.lines ≡ lines % most_count → (d : Option Message) → IfSome d (λ d. d.source < places)
       → IfSome d (λ d. AreInOrder (all_in (told d.pgn d.payload))) → AreMessageChosen d
       → IsMessageTaken lines d (message_step k (option_map said_of (option_map complete_of d)))
   message_taken lines is None within order are =
       let none : lines + 0 ≡ lines = omega arith in
-      record { after = ap (λ n. record k { lines = n }) (is ∙ ap (λ m. m % most_count) (sym none)); emits = refl }
+      record { after = ap (λ n. record k { lines = n }) (is ∙ ap (λ m. m % most_count) (sym none)); emits = refl; said = refl }
   message_taken lines is (Some d) within order are =
       let h = said_of (complete_of d) in
       let taken = by_told k h (chosen d) lines is (told d.pgn d.payload) (has_three d.pgn d.payload) order are in
       subst (λ b. IsMessageTaken lines (Some d) (if b then told_step k h (told d.pgn d.payload) else as_it_was k))
-      (sym (lt-ltb d.source places within)) (record { after = taken.after; emits = taken.emits })
+      (sym (lt-ltb d.source places within)) (record { after = taken.after; emits = taken.emits; said = taken.said })
 
 -- ---- what is told of it finds room
 

@@ -1,23 +1,22 @@
 -- An event that can't complete a message completes none: what was overdue or lost is told, and nothing is said.
-use Rattle.std.proofs.Common.{◌≡◌, ℕ, false, List, [], ◌++◌, Option, None, option_map, refl, ap, ◌∙◌, append-nil}
-use Rattle.history.specs.Entries as entry
-use Rattle.history.specs.Entries.{Entry}
+use Rattle.std.proofs.Common.{◌≡◌, ℕ, false, List, [], ◌++◌, Option, None, option_map, ap, ◌∙◌, append-nil}
+use Rattle.slot_views.specs.Traces.{unexpired}
+use Rattle.quantities.specs.Told.{kind_of}
+use Rattle.history.specs.Entries.{Entry, moment_of}
 use Rattle.gate_model.specs.Machine.{Machine}
 use Rattle.gate_model.specs.Said.{Complete}
 use Rattle.gate_outbox.specs.Output.{Emitted, and_left, and_told}
 use Rattle.parts.specs.SelectedMessage.{SelectedMessage}
-use Rattle.bus_listener.specs.Kept.{entered}
-use Rattle.further_bridge.specs.Kept.{FurtherKept, behind, followed, hearing_by, may_complete, message_step, said_of, step_by}
+use Rattle.bus_listener.specs.Kept.{may_complete}
+use Rattle.bus_listener.specs.Steps.{by_keys}
+use Rattle.bus_listener.proofs.Unheard.{completes_nothing}
+use Rattle.further_bridge.specs.Kept.{FurtherKept, behind, followed, hearing_by, message_step, no_streams, said_of, step_by, streams_of}
 
 module _ (g : Machine) (k : FurtherKept) where
-  completes_none : (e : Entry) → may_complete e ≡ false → (hearing_by g k e).message ≡ None
-  unfolding entered
-  completes_none (entry.frame m f) never = rw never refl
-  completes_none (entry.datagram m bytes) never = refl
-  completes_none (entry.tick m) never = refl
-  completes_none (entry.command m source address) never = refl
+  completes_none : (e : Entry) → may_complete kind_of e ≡ false → (hearing_by g k e).message ≡ None
+  completes_none e never = completes_nothing by_keys.fast kind_of g.addresses (unexpired (moment_of e) k.slots) e never
 
-  module _ (new : Option SelectedMessage) (e : Entry) (never : may_complete e ≡ false) where
+  module _ (new : Option SelectedMessage) (e : Entry) (never : may_complete kind_of e ≡ false) where
     abbrev heard : FurtherKept
     heard = followed g new (record k { slots = (hearing_by g k e).slots })
 
@@ -34,3 +33,6 @@ module _ (g : Machine) (k : FurtherKept) where
 
     pub says_no_third : (step_by g new k e).third ≡ []
     says_no_third = ap (λ (d : Option Complete). (message_step heard (option_map said_of d)).third) (completes_none e never)
+
+  pub has_no_streams : (e : Entry) → may_complete kind_of e ≡ false → streams_of (option_map said_of (hearing_by g k e).message) ≡ no_streams
+  has_no_streams e never = ap (λ (d : Option Complete). streams_of (option_map said_of d)) (completes_none e never)

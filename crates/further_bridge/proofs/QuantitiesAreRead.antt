@@ -1,5 +1,5 @@
 -- Further quantities are read.
-use Rattle.std.proofs.Common.{◌≡◌, ℕ, ◌+◌, Bool, true, false, List, [], ◌∷◌, ◌++◌, length, map, refl}
+use Rattle.std.proofs.Common.{◌≡◌, ℕ, ◌+◌, Bool, true, false, List, [], ◌∷◌, ◌++◌, length, map, refl, sym, ap, ◌∙◌}
 use Rattle.std.specs.Prelude.{Option, Some, None, IsTrue, filter, if◌then◌else◌}
 use Rattle.std.specs.List.{AllByRecursion, list_all}
 use Rattle.quantities.specs.Told.{GivesFrom, IsAnyFrom, IsFrom, entries, kind_of, told}
@@ -19,12 +19,14 @@ use Rattle.history.specs.Known.{known}
 use Rattle.history.specs.Messages.{Message, messages_of}
 use Rattle.history.specs.Settings.{Settings}
 use Rattle.history.specs.Emits.{of_source}
-use Rattle.history.proofs.EntrySteps.{if_none}
+use Rattle.history.proofs.EntrySteps.{if_none, nets_append}
 use Rattle.report_rules.specs.Rules.{short_message}
 use Rattle.bus_listener.specs.Heard.{heard_out}
 use Rattle.bus_listener.specs.Kinds.{is_told}
-use Rattle.further_bridge.specs.FurtherOut.{all_in, further_done, further_out, further_receiver, has_voice, is_row_said, is_selected, lines_said, message_breaks, number_in, said_at, said_gives, selected_in, short_gives, that_are_there, value_datagram, values_of}
+use Rattle.further_bridge.specs.FurtherOut.{all_in, further_done, further_out, further_receiver, further_utters, has_voice, is_row_said, is_selected, lines_said, magnetic_in, message_breaks, number_in, said_at, said_gives, said_utters, selected_in, short_gives, that_are_there, value_datagram, values_of}
 use Rattle.further_bridge.specs.FurtherRule.{FurtherRule, talker_at}
+use Rattle.gate_events.specs.Emit.{Emit}
+use Rattle.parts.specs.Utterances.{SaysDatagrams, bytes_in, bytes_of}
 use Rattle.parts.specs.Voices.{EachSays, behind_quiet}
 use Rattle.parts.proofs.Lines.{says_one}
 use Rattle.parts.proofs.Speaking.{capitals}
@@ -98,3 +100,22 @@ quantities_are_read x c s h e speaks =
     let says = values_are_read x c.sfi speaks.sfi speaks.talkers (lines_said x c s h) (said_at x c s h e) known in
     behind_quiet (heard_out kind_of x.slots c s h e) (breaks ++ gives) (quantities_say x c s h e) (no_heard kind_of x.slots c s h e)
     (behind_quiet breaks gives (quantities_say x c s h e) (no_breaks (further_done x c s h e)) says)
+
+-- ---- what is said with its stream are the datagrams of all that is given
+
+same_datagrams : (x : FurtherRule) (magnetic : Bool) (sfi : List ℕ) (before : ℕ) (values : List Value)
+    → bytes_of (said_utters x magnetic sfi before values) ≡ bytes_in (said_gives x sfi before values)
+same_datagrams x magnetic sfi before [] = refl
+same_datagrams x magnetic sfi before (v ∷ values) =
+    ap (λ more. value_datagram x.twin sfi (talker_at x (number_in v)) before v ∷ more) (same_datagrams x magnetic sfi (before + 1) values)
+
+behind_none : (a b : List Emit) → nets_in a ≡ [] → bytes_in (a ++ b) ≡ bytes_in b
+behind_none a b none = ap (λ ds. map (λ d. d.1) ds) (nets_append a b) ∙ ap (λ ds. map (λ d. d.1) (ds ++ nets_in b)) none
+
+pub quantities_say_datagrams : SaysDatagrams further_out further_utters
+quantities_say_datagrams x c s h e =
+    let breaks = message_breaks (further_done x c s h e) in
+    let gives = said_gives x c.sfi (lines_said x c s h) (said_at x c s h e) in
+    same_datagrams x (magnetic_in (further_done x c s h e)) c.sfi (lines_said x c s h) (said_at x c s h e)
+    ∙ sym (behind_none (heard_out kind_of x.slots c s h e) (breaks ++ gives) (no_heard kind_of x.slots c s h e)
+    ∙ behind_none breaks gives (no_breaks (further_done x c s h e)))

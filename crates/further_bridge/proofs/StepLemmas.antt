@@ -45,6 +45,10 @@ use Rattle.gate_model.proofs.ChoiceClaims.{claims_stand_chosen, other_entries_st
 use Rattle.gate_model.proofs.ChoiceMessages.{messages_fit_chosen, messages_stand_chosen}
 use Rattle.gate_model.proofs.SaidAddresses.{claims_fit}
 use Rattle.gate_outbox.specs.Output.{Emitted, Output, emits_of}
+use Rattle.plain_out.specs.Pace.{uttered}
+use Rattle.plain_out.specs.declared.stream.Stream.{Stream}
+use Rattle.plain_out.proofs.Sayings.{uttered_append}
+use Rattle.parts.proofs.Speaking.{quiet_unsaid}
 use Rattle.parts.specs.SelectedMessage.{SelectedMessage}
 use Rattle.parts.specs.Picked.{IsPicked, message_of}
 use Rattle.parts.specs.Promises.{IsTaken as IsTakenByGateway}
@@ -62,10 +66,12 @@ use Rattle.bus_listener.specs.Kinds.{is_message}
 use Rattle.bus_listener.specs.Promises.{IsHeard, IsListening, StandsListening}
 use Rattle.bus_listener.proofs.CommandLemmas.{commands_leave_listening}
 use Rattle.bus_listener.proofs.KnownLemmas.{gateway_stands, is_receiver}
-use Rattle.further_bridge.specs.FurtherOut.{all_in, further_done, further_receiver, has_voice, is_row_said, is_selected, lines_said, message_breaks, number_in, quantity_told, said_at, said_gives, selected_in, values_of}
+use Rattle.bus_listener.proofs.NoDatagrams.{no_heard}
+use Rattle.further_bridge.specs.declared.said.Streams.{Streams}
+use Rattle.further_bridge.specs.FurtherOut.{all_in, further_done, further_receiver, has_voice, is_row_said, is_selected, lines_said, magnetic_in, message_breaks, number_in, quantity_told, said_at, said_gives, said_utters, selected_in, values_of}
 use Rattle.further_bridge.specs.FurtherRule.{FurtherRule, rule_at}
-use Rattle.further_bridge.specs.Kept.{FurtherKept, FurtherStep, behind, forgotten_at, given_by, given_up, hearing_by, is_water_said, message_step, said_of, step_by, water_heard, with_hearing}
-use Rattle.further_bridge.specs.Promises.{CommandsLeaveFurther, EachStands, IsFurtherStep, IsFurtherTaken, StandsFurther, in_places, only}
+use Rattle.further_bridge.specs.Kept.{FurtherKept, FurtherStep, behind, forgotten_at, given_by, given_up, hearing_by, is_water_said, message_step, said_of, step_by, streams_of, uttered_by, water_heard, with_hearing}
+use Rattle.further_bridge.specs.Promises.{CommandsLeaveFurther, EachStands, IsFurtherStep, IsFurtherTaken, StandsFurther, in_places, only, said_in_places}
 use Rattle.further_bridge.specs.QuantityKinds.{quantities_are_heard}
 use Rattle.further_bridge.proofs.MessageLemmas.{AreMessageChosen, choices_after, message_taken, said_of_message}
 use Rattle.further_bridge.proofs.EachNoted.{claims_noted, claims_say_nothing, commands_noted, datagrams_noted, in_order, nothing_noted, ticks_noted, values_chosen, values_noted}
@@ -157,17 +163,29 @@ module _ (x : FurtherRule) (c : Settings) (s : ℕ) (h : History) (settings : Ar
     order None = tt
     order (Some d) = in_order d
 
+    abbrev streams : Option Message → Streams
+    streams d = streams_of (option_map said_of (option_map complete_of d))
+
+    -- what was told before it isn't said
+    told_unsaid : (stream : Option Stream) (z : Emitted) → uttered stream ((heard.told ++ z.told) ++ z.posted) ≡ uttered stream (emits_of z)
+    told_unsaid stream z =
+        ap (uttered stream) (append_assoc heard.told z.told z.posted)
+        ∙ uttered_append stream heard.told (emits_of z)
+        ∙ ap (λ us. us ++ uttered stream (emits_of z)) (ap (uttered stream) hears_it.told ∙ quiet_unsaid stream (heard_out kind_of x.slots c s h e) (no_heard kind_of x.slots c s h e))
+
     -- with this message, of which the notes stand for the history with it
     with_message : Stood → (d : Option Message) → IfSome d (λ d. d.source < places) → ((z : Message) → d ≡ Some z → z.moment ≡ moment_of e)
         → further_done x c s h e ≡ d → AreMessageChosen k chosen d → EachStands x r s (e ∷ h) (choices_after k chosen d)
         → IsFurtherTaken x c s h e (behind heard.told (message_step k (option_map said_of heard.message))).after
         (given_by (behind heard.told (message_step k (option_map said_of heard.message))))
+        (uttered_by (streams_of (option_map said_of heard.message)) (behind heard.told (message_step k (option_map said_of heard.message))))
     with_message it d within at is are_chosen stands =
         let message : heard.message ≡ option_map complete_of d = hears_it.message ∙ ap (option_map complete_of) is in
         let lines = lines_said x c s h in
         let taken = message_taken k chosen lines it.lines d within (order d) are_chosen in
         let said = said_is it d at is in
-        subst (λ o. IsFurtherTaken x c s h e (message_step k (option_map said_of o)).after (given_by (behind heard.told (message_step k (option_map said_of o))))) (sym message)
+        subst (λ o. IsFurtherTaken x c s h e (message_step k (option_map said_of o)).after (given_by (behind heard.told (message_step k (option_map said_of o))))
+        (uttered_by (streams_of (option_map said_of o)) (behind heard.told (message_step k (option_map said_of o))))) (sym message)
         (record {
           stands = subst (λ after. StandsFurther x c s (e ∷ h) after) (sym taken.after) (record {
             rule = it.rule;
@@ -186,6 +204,13 @@ module _ (x : FurtherRule) (c : Settings) (s : ℕ) (h : History) (settings : Ar
               ∙ ap (λ rule. message_breaks d ++ said_gives rule k.sfi lines (said_at x c s h e)) it.rule
               ∙ ap (λ sfi. message_breaks d ++ said_gives x sfi lines (said_at x c s h e)) it.sfi
               ∙ ap (λ o. message_breaks o ++ said_gives x c.sfi lines (said_at x c s h e)) (sym is));
+          utters =
+              ap (λ first. first ++ (uttered (streams d).second (y d).second ++ uttered (streams d).third (y d).third)) (told_unsaid (streams d).first (y d).emits)
+              ∙ taken.said
+              ∙ ap (λ vs. said_utters k.rule (magnetic_in d) k.sfi lines vs) said
+              ∙ ap (λ rule. said_utters rule (magnetic_in d) k.sfi lines (said_at x c s h e)) it.rule
+              ∙ ap (λ sfi. said_utters x (magnetic_in d) sfi lines (said_at x c s h e)) it.sfi
+              ∙ ap (λ o. said_utters x (magnetic_in o) c.sfi lines (said_at x c s h e)) (sym is);
         })
 
   -- ---- an entry, by what the listener heard, and by what the gateway keeps and selected
@@ -209,6 +234,7 @@ module _ (x : FurtherRule) (c : Settings) (s : ℕ) (h : History) (settings : Ar
     IsTaken changed =
         IsFurtherTaken x c s h e (behind heard.told (message_step (kept changed) (option_map said_of heard.message))).after
         (given_by (behind heard.told (message_step (kept changed) (option_map said_of heard.message))))
+        (uttered_by (streams_of (option_map said_of heard.message)) (behind heard.told (message_step (kept changed) (option_map said_of heard.message))))
 
     -- an entry that completes no message
     without_message : (changed : Changed) → done r s h e ≡ None → EachStands x r s (e ∷ h) (kept changed).choices → IsTaken changed
@@ -256,6 +282,8 @@ module _ (x : FurtherRule) (c : Settings) (s : ℕ) (h : History) (settings : Ar
         → IsFurtherTaken x c s h (entry.frame m f)
         (behind heard.told (message_step (water_heard holder new (given_up changed (record before { slots = heard.slots }))) (option_map said_of heard.message))).after
         (given_by (behind heard.told (message_step (water_heard holder new (given_up changed (record before { slots = heard.slots }))) (option_map said_of heard.message))))
+        (uttered_by (streams_of (option_map said_of heard.message))
+        (behind heard.told (message_step (water_heard holder new (given_up changed (record before { slots = heard.slots }))) (option_map said_of heard.message))))
     frame_taken changed changes = by (is_claim f) refl
       where
         by : (b : Bool) → is_claim f ≡ b → IsFrameTaken changed
@@ -267,6 +295,7 @@ module _ (x : FurtherRule) (c : Settings) (s : ℕ) (h : History) (settings : Ar
 is_step : (g : Machine) (outbox : Output) (new : Option SelectedMessage) → IsPicked g outbox new → (e : Event) (before : FurtherKept)
     → IsListening kind_of g (entry_of e) before.slots (hearing_by g before (entry_of e))
     → IsFurtherStep g outbox (entry_of e) before (step_by g new before (entry_of e)).after (given_by (step_by g new before (entry_of e)))
+    (uttered_by (streams_of (option_map said_of (hearing_by g before (entry_of e)).message)) (step_by g new before (entry_of e)))
 is_step g outbox new picked (event.Frame moment frame) before listening = λ x s h settings could taken it.
     let e = entry.frame moment (bus_frame frame) in
     frame_taken x g.settings s h settings moment (bus_frame frame) before it (hearing_by g before e) (listening x.slots s h settings could taken.stands it.slots)
@@ -300,16 +329,28 @@ left_in_places y first second third a b c =
     ∙ ap (λ two. in_places y.emits two third) b
     ∙ ap (λ three. in_places y.emits (record { told = []; posted = y.second }) three) c
 
-pub taken_step : (g : Machine) (outbox : Output) (new : Option SelectedMessage) → IsPicked g outbox new → (e : Event) (before after : FurtherKept) (first second third : Emitted)
+said_by_places : (streams : Streams) (y : FurtherStep) (first second third : Emitted) → first ≡ y.emits → second ≡ record { told = []; posted = y.second }
+    → third ≡ record { told = []; posted = y.third } → said_in_places streams first second third ≡ uttered_by streams y
+said_by_places streams y first second third a b c =
+    ap (λ one. said_in_places streams one second third) a
+    ∙ ap (λ two. said_in_places streams y.emits two third) b
+    ∙ ap (λ three. said_in_places streams y.emits (record { told = []; posted = y.second }) three) c
+
+pub taken_step : (g : Machine) (outbox : Output) (new : Option SelectedMessage) → IsPicked g outbox new → (e : Event) (before after : FurtherKept) (first second third : Emitted) (streams : Streams)
     → IsListening kind_of g (entry_of e) before.slots (hearing_by g before (entry_of e)) → after ≡ (step_by g new before (entry_of e)).after
     → first ≡ (step_by g new before (entry_of e)).emits
     → second ≡ record { told = []; posted = (step_by g new before (entry_of e)).second }
     → third ≡ record { told = []; posted = (step_by g new before (entry_of e)).third }
-    → IsFurtherStep g outbox (entry_of e) before after (in_places first second third)
-taken_step g outbox new picked e before after first second third listening is a b c = λ x s h settings could gs it.
+    → streams ≡ streams_of (option_map said_of (hearing_by g before (entry_of e)).message)
+    → IsFurtherStep g outbox (entry_of e) before after (in_places first second third) (said_in_places streams first second third)
+taken_step g outbox new picked e before after first second third streams listening is a b c same = λ x s h settings could gs it.
     let taken = is_step g outbox new picked e before listening x s h settings could gs it in record {
       stands = subst (λ k. StandsFurther x g.settings s (entry_of e ∷ h) k) (sym is) taken.stands;
       emits = left_in_places (step_by g new before (entry_of e)) first second third a b c ∙ taken.emits;
+      utters =
+          said_by_places streams (step_by g new before (entry_of e)) first second third a b c
+          ∙ ap (λ (by : Streams). uttered_by by (step_by g new before (entry_of e))) same
+          ∙ taken.utters;
     }
 
 -- ---- a command

@@ -1,8 +1,9 @@
 -- What is emitted of further quantities, as a definition over all that came: messages of the parameter groups of their table are heard (single
 -- frames and fast packets, canboat) of devices that hold their address (ISO 11783-5). A message gives a value of each quantity that it meets, and
 -- a value of the best source of its quantity that is fresh is said in one sentence (IEC 61162-1) in one datagram (IEC 61162-450).
-use Rattle.std.specs.Prelude.{ℕ, ◌+◌, Bool, not, ◌&&◌, ◌==◌, List, [], ◌∷◌, ◌++◌, filter, length, Option, Some, None, if◌then◌else◌}
+use Rattle.std.specs.Prelude.{ℕ, ◌+◌, Bool, false, not, ◌&&◌, ◌==◌, List, [], ◌∷◌, ◌++◌, filter, length, slice_get, Option, Some, None, if◌then◌else◌}
 use Rattle.report_rules.specs.Rules as rules
+use Rattle.readings.specs.Numbers.{bits_of}
 use Rattle.readings.specs.declared.rows.Row.TheVariants as row
 use Rattle.gate_events.specs.Emit.{Emit, net}
 use Rattle.datagram450.specs.Datagram.{sentence_datagram}
@@ -22,6 +23,8 @@ use Rattle.history.specs.Known.{known}
 use Rattle.history.specs.Messages.{Message, messages_of}
 use Rattle.history.specs.Settings.{Receiver, Settings, rule_of}
 use Rattle.history.specs.Subjects.{is_chosen}
+use Rattle.plain_out.specs.Pace.{Utterance}
+use Rattle.plain_out.specs.Streams.{quantity_stream}
 use Rattle.joined_rmc.specs.Lasting.{lasting}
 use Rattle.bus_listener.specs.Heard.{heard_done, heard_out, listener}
 use Rattle.bus_listener.specs.Kinds.{is_told}
@@ -88,6 +91,26 @@ abbrev pub said_gives : FurtherRule → List ℕ → ℕ → List Value → List
 said_gives x sfi before [] = []
 said_gives x sfi before (v ∷ values) = net x.group (value_datagram x.twin sfi (talker_at x (number_in v)) before v) ∷ said_gives x sfi (before + 1) values
 
+-- ---- the stream of a value that is said, by which plain sentences pause: a message speaks of directions from magnetic north where its bits say so
+
+abbrev pub magnetic_byte : Option ℕ → Bool
+magnetic_byte None = false
+magnetic_byte (Some byte) = bits_of byte 0 2 == 1
+
+abbrev pub is_magnetic : List ℕ → Bool
+is_magnetic payload = magnetic_byte (slice_get payload 1)
+
+abbrev pub magnetic_in : Option Message → Bool
+magnetic_in None = false
+magnetic_in (Some d) = is_magnetic d.payload
+
+-- each value with its stream
+abbrev pub said_utters : FurtherRule → Bool → List ℕ → ℕ → List Value → List Utterance
+said_utters x magnetic sfi before [] = []
+said_utters x magnetic sfi before (v ∷ values) =
+    record { stream = Some (quantity_stream v.quantity magnetic); datagram = value_datagram x.twin sfi (talker_at x (number_in v)) before v }
+    ∷ said_utters x magnetic sfi (before + 1) values
+
 -- ---- rule 22, for a message that is too short; the gateway tells that of its own messages
 
 abbrev pub short_gives : ℕ → ℕ → Told → List Emit
@@ -128,3 +151,7 @@ module _ (x : FurtherRule) (c : Settings) (s : ℕ) where
   further_out h e =
       heard_out kind_of x.slots c s h e
       ++ (message_breaks (further_done h e) ++ said_gives x c.sfi (lines_said h) (said_at h e))
+
+  -- its datagrams, each with its stream
+  abbrev pub further_utters : History → Entry → List Utterance
+  further_utters h e = said_utters x (magnetic_in (further_done h e)) c.sfi (lines_said h) (said_at h e)

@@ -1,8 +1,7 @@
 -- What is kept of further quantities, as plain values, and what an event makes of it and gives. Nothing here speaks of what came before.
-use Rattle.std.specs.Prelude.{ℕ, ◌+◌, ◌%◌, Bool, false, ◌&&◌, nat_lt, List, [], ◌∷◌, ◌++◌, map, slice_get, unwrap_or, Option, Some, None, option_map, if◌then◌else◌}
+use Rattle.std.specs.Prelude.{ℕ, ◌+◌, ◌%◌, Bool, ◌&&◌, nat_lt, List, [], ◌∷◌, ◌++◌, map, slice_get, unwrap_or, Option, Some, None, option_map, if◌then◌else◌}
 use Rattle.slot_views.specs.Slots.{SlotMap}
 use Rattle.fast_packet.specs.declared.key.FastKey.{FastKey}
-use Rattle.n2k_id.specs.Identifier.{parts_of}
 use Rattle.n2k_id.specs.declared.name.Name.{Name}
 use Rattle.readings.specs.declared.rows.Row.TheVariants as row
 use Rattle.gate_events.specs.Emit.{Emit}
@@ -18,7 +17,6 @@ use Rattle.source_choice.specs.declared.told.Told.{Told as Chosen}
 use Rattle.source_choice.specs.Choices.{Choices, forgotten, opened}
 use Rattle.source_choice.specs.SubjectRules.{rank_of}
 use Rattle.history.specs.Choice as rows
-use Rattle.history.specs.Entries as entry
 use Rattle.history.specs.Entries.{Entry}
 use Rattle.gate_model.specs.Addresses.{Changed}
 use Rattle.gate_model.specs.AddressStands.{name_held}
@@ -26,14 +24,17 @@ use Rattle.gate_model.specs.Choosing.{is_ranked_chosen, ranked_after}
 use Rattle.gate_model.specs.Machine.{Machine}
 use Rattle.gate_model.specs.Said.{Complete}
 use Rattle.gate_outbox.specs.Output.{Emitted, emits_of, no_emits}
+use Rattle.plain_out.specs.Pace.{Utterance, uttered}
+use Rattle.plain_out.specs.Streams.{quantity_stream}
+use Rattle.plain_out.specs.declared.stream.Stream.{Stream}
 use Rattle.parts.specs.SelectedMessage.{SelectedMessage}
 use Rattle.joined_rmc.specs.declared.last_of_row.LastOfRow.{LastOfRow}
 use Rattle.joined_rmc.specs.Kept.{in_last, last_after, none_yet}
 use Rattle.bus_listener.specs.Kept.{Hearing}
-use Rattle.bus_listener.specs.Kinds.{is_message}
 use Rattle.bus_listener.specs.Promises as listening
 use Rattle.further_bridge.specs.declared.said.Said.{Said}
-use Rattle.further_bridge.specs.FurtherOut.{has_voice, number_in, said_gives, short_gives}
+use Rattle.further_bridge.specs.declared.said.Streams.{Streams}
+use Rattle.further_bridge.specs.FurtherOut.{has_voice, is_magnetic, number_in, said_gives, short_gives}
 use Rattle.further_bridge.specs.FurtherRule.{FurtherRule, rule_at}
 
 pub record FurtherKept : Type 0 where
@@ -66,7 +67,7 @@ most_told = 259
 -- ---- a message that is complete, with what it says
 
 abbrev pub said_of : Complete → Said
-said_of d = record { moment = d.moment; source = d.source; name = record { 0 = d.name }; pgn = d.pgn; told = told d.pgn d.payload }
+said_of d = record { moment = d.moment; source = d.source; name = record { 0 = d.name }; pgn = d.pgn; told = told d.pgn d.payload; magnetic = is_magnetic d.payload }
 
 -- a line more was said
 abbrev pub counted : FurtherKept → FurtherKept
@@ -131,6 +132,39 @@ told_step k d (says.Values values) = values_step k d values
 told_step k d says.Outside = as_it_was k
 told_step k d says.Short = record (as_it_was k) { emits = record { told = short_gives d.source d.pgn says.Short; posted = [] } }
 
+-- ---- the streams of a message's values, at their places
+
+abbrev pub no_streams : Streams
+no_streams = record { first = None; second = None; third = None }
+
+abbrev pub value_stream : Bool → Option Value → Option Stream
+value_stream magnetic None = None
+value_stream magnetic (Some v) = Some (quantity_stream v.quantity magnetic)
+
+abbrev pub told_streams : Bool → Told → Streams
+told_streams magnetic (says.Values values) = record {
+  first = value_stream magnetic (value_in values 0);
+  second = value_stream magnetic (value_in values 1);
+  third = value_stream magnetic (value_in values 2);
+}
+told_streams magnetic says.Outside = no_streams
+told_streams magnetic says.Short = no_streams
+
+abbrev pub streams_of : Option Said → Streams
+streams_of None = no_streams
+streams_of (Some d) = told_streams d.magnetic d.told
+
+-- where they are told: an event that can't complete a message has none
+abbrev pub streams_in : Option Streams → Streams
+streams_in None = no_streams
+streams_in (Some streams) = streams
+
+-- the datagrams that are given, each with its stream
+abbrev pub uttered_by : Streams → FurtherStep → List Utterance
+uttered_by streams x = uttered streams.first (emits_of x.emits) ++ (uttered streams.second x.second ++ uttered streams.third x.third)
+
+-- ---- a message, or none
+
 -- an address that a device can have: nothing is noted of others
 abbrev pub has_place : ℕ → Bool
 has_place a = nat_lt a places
@@ -154,13 +188,6 @@ abbrev pub water_heard : (ℕ → Option Name) → Option SelectedMessage → Fu
 water_heard holder new k = record k { water = last_after holder row.WaterTemperature new k.water }
 
 -- ---- an event that the gateway has taken
-
--- it may complete a message: it is a frame of one
-abbrev pub may_complete : Entry → Bool
-may_complete (entry.frame m f) = is_message (kind_of (parts_of f.id).pgn)
-may_complete (entry.datagram m bytes) = false
-may_complete (entry.tick m) = false
-may_complete (entry.command m source address) = false
 
 abbrev pub hearing_by : Machine → FurtherKept → Entry → Hearing
 hearing_by gateway k e = listening.step_by kind_of gateway k.slots e

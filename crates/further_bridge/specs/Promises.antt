@@ -13,13 +13,15 @@ use Rattle.history.specs.Settings.{Receiver, Settings, rule_of}
 use Rattle.gate_model.specs.ChoiceStands.{ChoicesStandFor}
 use Rattle.gate_model.specs.Machine.{Machine}
 use Rattle.gate_outbox.specs.Output.{Emitted, Output, emits_of}
+use Rattle.plain_out.specs.Pace.{Utterance, uttered}
 use Rattle.parts.specs.SelectedMessage.{SelectedMessage}
 use Rattle.parts.specs.Picked.{IsPicked}
 use Rattle.parts.specs.Promises.{IsTaken}
 use Rattle.joined_rmc.specs.JoinStands.{LastStands}
 use Rattle.bus_listener.specs.Promises.{StandsListening}
-use Rattle.further_bridge.specs.FurtherOut.{further_out, further_receiver, lines_said, quantity_told}
+use Rattle.further_bridge.specs.FurtherOut.{further_out, further_receiver, further_utters, lines_said, quantity_told}
 use Rattle.further_bridge.specs.FurtherRule.{FurtherRule, rule_at}
+use Rattle.further_bridge.specs.declared.said.Streams.{Streams}
 use Rattle.further_bridge.specs.Kept.{FurtherKept, step_by}
 
 -- the notes of one quantity alone
@@ -49,19 +51,26 @@ IsFurtherOpening x sfi timeout k = (c : Settings) (s : ℕ) → c.sfi ≡ sfi �
 
 -- ---- an event that the gateway has taken: it leaves what stands for the history with it, and all that the history says is emitted
 
-pub record IsFurtherTaken (x : FurtherRule) (c : Settings) (s : ℕ) (h : History) (e : Entry) (after : FurtherKept) (left : List Emit) : Type 0 where
+pub record IsFurtherTaken (x : FurtherRule) (c : Settings) (s : ℕ) (h : History) (e : Entry) (after : FurtherKept) (left : List Emit)
+    (said : List Utterance) : Type 0 where
   pub stands : StandsFurther x c s (e ∷ h) after
   pub emits : left ≡ further_out x c s h e
+  pub utters : said ≡ further_utters x c s h e
 
 -- for every history for which it stands before the event, where the gateway has taken the event
-abbrev pub IsFurtherStep : Machine → Output → Entry → FurtherKept → FurtherKept → List Emit → Type 0
-IsFurtherStep gateway outbox e before after left =
+abbrev pub IsFurtherStep : Machine → Output → Entry → FurtherKept → FurtherKept → List Emit → List Utterance → Type 0
+IsFurtherStep gateway outbox e before after left said =
     (x : FurtherRule) (s : ℕ) (h : History) → AreSettings gateway.settings → IsHistory (e ∷ h) → IsTaken gateway.settings s h e gateway outbox
-    → StandsFurther x gateway.settings s h before → IsFurtherTaken x gateway.settings s h e after left
+    → StandsFurther x gateway.settings s h before → IsFurtherTaken x gateway.settings s h e after left said
 
 -- what is emitted in three places
 abbrev pub in_places : Emitted → Emitted → Emitted → List Emit
 in_places first second third = emits_of first ++ (emits_of second ++ emits_of third)
+
+-- its datagrams, each with its stream
+abbrev pub said_in_places : Streams → Emitted → Emitted → Emitted → List Utterance
+said_in_places streams first second third =
+    uttered streams.first (emits_of first) ++ (uttered streams.second (emits_of second) ++ uttered streams.third (emits_of third))
 
 -- the same by what is kept: with the message that the gateway selected
 pub record IsStepBy (gateway : Machine) (outbox : Output) (e : Entry) (before after : FurtherKept) (first second third : Emitted) : Type 0 where

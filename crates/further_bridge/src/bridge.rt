@@ -1,5 +1,5 @@
 //! Further quantities beside the gateway.
-ghost use Rattle.std.specs.Prelude.{◌≡◌, ◌≤◌, false, [], All, IfOk, length};
+ghost use Rattle.std.specs.Prelude.{◌≡◌, ◌≤◌, false, [], All, IfOk, None, length, option_map};
 ghost use Rattle.std.specs.Int.{IsInRange};
 ghost use Rattle.settings.specs.Setup.{IsQuantity};
 ghost use Rattle.quantities.specs.Told.{kind_of};
@@ -7,15 +7,16 @@ ghost use Rattle.gate_outbox.specs.Output.{and_left, and_posted, no_emits};
 ghost use Rattle.parts.specs.Picked.{last_picked};
 ghost use Rattle.bus_listener.specs.Steps.{IsEventValid, entry_of};
 ghost use Rattle.further_bridge.specs.FurtherRule.{further_rule};
+ghost use Rattle.bus_listener.specs.Kept.{may_complete};
 ghost use Rattle.bus_listener.specs.Promises.{IsListening};
-ghost use Rattle.further_bridge.specs.Kept.{followed, further_opened, hearing_by, may_complete, most_told, step_by};
-ghost use Rattle.further_bridge.specs.Promises.{IsFurtherOpening, IsFurtherStep, IsStepBy, in_places};
+ghost use Rattle.further_bridge.specs.Kept.{followed, further_opened, hearing_by, most_told, no_streams, said_of, step_by, streams_in, streams_of};
+ghost use Rattle.further_bridge.specs.Promises.{IsFurtherOpening, IsFurtherStep, IsStepBy, in_places, said_in_places};
 
 use crate::config::{FurtherConfig, timeouts_of};
-use crate::kinds::{OfQuantities, may_complete};
-use crate::said::said_by;
+use crate::kinds::OfQuantities;
+use crate::said::{Streams, no_streams, said_by, streams_of};
 use arrayvec::ArrayVec;
-use bus_listener::{BusListener, Gateway};
+use bus_listener::{BusListener, Gateway, may_complete};
 use gate_events::Event;
 use gate_outbox::Emits;
 use joined_rmc::LastOfRow;
@@ -112,7 +113,8 @@ impl FurtherBridge {
     }
 
     /// Takes an event that the gateway has taken in its last step, which left what is in the outbox. What is told is in `emits`, and behind it
-    /// the datagram of the first value of a message; that of the second and of the third have places of their own.
+    /// the datagram of the first value of a message; that of the second and of the third have places of their own. Answers the streams of the values;
+    /// none where the event can't complete a message, so that no value is said.
     pub fn after(
         &mut self,
         gateway: &Gateway,
@@ -121,15 +123,17 @@ impl FurtherBridge {
         emits: &mut FurtherEmits,
         second: &mut ValueEmits,
         third: &mut ValueEmits,
-    )
+    ) -> Option<Streams>
         requires valid { IsEventValid event.now }
         requires empty { emits.old ≡ no_emits }
         requires second_empty { second.old ≡ no_emits }
         requires third_empty { third.old ≡ no_emits }
         ensures step { IsStepBy gateway.now outbox.now (entry_of event.now) self.old self.new emits.new second.new third.new }
-        ensures history { IsFurtherStep gateway.now outbox.now (entry_of event.now) self.old self.new (in_places emits.new second.new third.new) }
+        ensures history { IsFurtherStep gateway.now outbox.now (entry_of event.now) self.old self.new (in_places emits.new second.new third.new)
+            (said_in_places (streams_in result) emits.new second.new third.new) }
+        ensures silent { result ≡ None → (second.new ≡ no_emits) × (third.new ≡ no_emits) }
     {
-        self.step(gateway, outbox, event, emits, second, third);
+        self.step(gateway, outbox, event, emits, second, third)
     }
 
     /// Takes an event: what is heard of it, and then the message that it completes. Most can't complete any.
@@ -142,25 +146,27 @@ impl FurtherBridge {
         emits: &mut FurtherEmits,
         second: &mut ValueEmits,
         third: &mut ValueEmits,
-    )
+    ) -> Option<Streams>
         requires valid { IsEventValid event.now }
         ensures after { self.new ≡ (step_by gateway.now (last_picked gateway.now outbox.now) self.old (entry_of event.now)).after }
         ensures first { emits.new ≡ and_left most_told emits.old (step_by gateway.now (last_picked gateway.now outbox.now) self.old (entry_of event.now)).emits }
         ensures second { second.new ≡ and_posted second.old (step_by gateway.now (last_picked gateway.now outbox.now) self.old (entry_of event.now)).second }
         ensures third { third.new ≡ and_posted third.old (step_by gateway.now (last_picked gateway.now outbox.now) self.old (entry_of event.now)).third }
+        ensures streams { streams_in result ≡ streams_of (option_map said_of (hearing_by gateway.now self.old (entry_of event.now)).message) }
+        ensures passed { result ≡ None → may_complete kind_of (entry_of event.now) ≡ false }
         ensures room { length (hearing_by gateway.now self.old (entry_of event.now)).told ≤ 258 }
         ensures history { IsListening kind_of gateway.now (entry_of event.now) self.old.slots (hearing_by gateway.now self.old (entry_of event.now)) }
     {
-        if may_complete(event) {
-            self.hear(gateway, outbox, event, emits, second, third);
+        if may_complete(event, &OfQuantities) {
+            Some(self.hear(gateway, outbox, event, emits, second, third))
         } else {
             self.pass(gateway, outbox, event, emits);
+            None
         }
     }
 
     /// Takes an event that can't complete a message.
     #[inline(always)]
-    #[tactic(auto, using(crate::proofs::Passing::keeps, crate::proofs::Passing::tells, crate::proofs::Passing::says_no_second, crate::proofs::Passing::says_no_third, bus_listener::proofs::RoomLemmas::step_limit))]
     fn pass(
         &mut self,
         gateway: &Gateway,
@@ -169,15 +175,16 @@ impl FurtherBridge {
         emits: &mut FurtherEmits,
     )
         requires valid { IsEventValid event.now }
-        requires none { may_complete (entry_of event.now) ≡ false }
+        requires none { may_complete kind_of (entry_of event.now) ≡ false }
         ensures after { self.new ≡ (step_by gateway.now (last_picked gateway.now outbox.now) self.old (entry_of event.now)).after }
         ensures first { emits.new ≡ and_left most_told emits.old (step_by gateway.now (last_picked gateway.now outbox.now) self.old (entry_of event.now)).emits }
         ensures second { (step_by gateway.now (last_picked gateway.now outbox.now) self.old (entry_of event.now)).second ≡ [] }
         ensures third { (step_by gateway.now (last_picked gateway.now outbox.now) self.old (entry_of event.now)).third ≡ [] }
+        ensures streams { streams_of (option_map said_of (hearing_by gateway.now self.old (entry_of event.now)).message) ≡ no_streams }
         ensures room { length (hearing_by gateway.now self.old (entry_of event.now)).told ≤ 258 }
         ensures history { IsListening kind_of gateway.now (entry_of event.now) self.old.slots (hearing_by gateway.now self.old (entry_of event.now)) }
     {
-        let _nothing = self.listener.after(gateway, event, &OfQuantities, emits);
+        self.listener.pass(gateway, event, emits);
         self.follow(gateway, outbox);
     }
 
@@ -193,21 +200,26 @@ impl FurtherBridge {
         emits: &mut FurtherEmits,
         second: &mut ValueEmits,
         third: &mut ValueEmits,
-    )
+    ) -> Streams
         requires valid { IsEventValid event.now }
         ensures after { self.new ≡ (step_by gateway.now (last_picked gateway.now outbox.now) self.old (entry_of event.now)).after }
         ensures first { emits.new ≡ and_left most_told emits.old (step_by gateway.now (last_picked gateway.now outbox.now) self.old (entry_of event.now)).emits }
         ensures second { second.new ≡ and_posted second.old (step_by gateway.now (last_picked gateway.now outbox.now) self.old (entry_of event.now)).second }
         ensures third { third.new ≡ and_posted third.old (step_by gateway.now (last_picked gateway.now outbox.now) self.old (entry_of event.now)).third }
+        ensures streams { result ≡ streams_of (option_map said_of (hearing_by gateway.now self.old (entry_of event.now)).message) }
         ensures room { length (hearing_by gateway.now self.old (entry_of event.now)).told ≤ 258 }
         ensures history { IsListening kind_of gateway.now (entry_of event.now) self.old.slots (hearing_by gateway.now self.old (entry_of event.now)) }
     {
         match self.listener.after(gateway, event, &OfQuantities, emits) {
-            None => self.follow(gateway, outbox),
+            None => {
+                self.follow(gateway, outbox);
+                no_streams()
+            }
             Some(message) => {
                 let said = said_by(&message);
                 self.follow(gateway, outbox);
                 self.take(&said, emits, second, third);
+                streams_of(&said)
             }
         }
     }

@@ -23,6 +23,7 @@ use tag_block::MOST_COUNT;
 
 impl FurtherBridge {
     /// Forgets what was noted of the address that was left, and of the one that was won.
+    #[inline(always)]
     pub(crate) fn give_up(&mut self, gateway: &Gateway)
         ensures { self.new ≡ given_up gateway.now.addresses.changed self.old }
     {

@@ -25,7 +25,7 @@ use Rattle.config_values.specs.declared.row_config.RowConfig.{RowConfig}
 use Rattle.n2k_id.specs.declared.pattern.Pattern.{Pattern}
 use Rattle.gate_config.specs.Alone.{FileAsksNothingFurther, AsksNothingFurther, FilesSaySettings, HasNone, IsTable, KeysSaySettings, Lacks, NoneHas, alone_of}
 use Rattle.gate_config.specs.ConfigOf.{IsWholeConfigOf, config_in, document_place, known, settings_alone}
-use Rattle.gate_config.specs.Keys.{alerts, any_asks, asks as asked_for, asks_hbt, bus, further, gateway, hbt, heartbeat, ignored, is_asked, limit_at, limit_of, limits_in, net, plain, preset, quantity, row, row_at, row_of, rows_in, report, serve, stands_at, watch_in, watched, links_in, own_group, own_group_at, part_groups, quantities_in, quantity_at, quantity_of, settings_in, setup_in}
+use Rattle.gate_config.specs.Keys.{alerts, any_asks, asks as asked_for, asks_hbt, bus, further, gateway, hbt, heartbeat, ignored, is_asked, limit_at, limit_of, limits_in, net, pace, plain, preset, quantity, row, row_at, row_of, rows_in, report, serve, stands_at, watch_in, watched, links_in, own_group, own_group_at, part_groups, quantities_in, quantity_at, quantity_of, settings_in, setup_in}
 use Rattle.gate_config.specs.Reading.{◌>>=◌, Table, default, each_from, items_in, key_prefix, prefix_of, section_at, table_in, unless}
 use Rattle.gate_config.specs.Unknown.{first_unknown, place_under, quantity_names, row_names, table_of}
 use Rattle.settings.specs.Heartbeat.{no_heartbeat}
@@ -130,10 +130,26 @@ unfolding serve
 recording_read place none =
     one_key (λ recording. recording) (default false truth_at place (codes "record")) false (default_at false truth_in place (codes "record") none.0)
 
-plain_read : (rows : List RowConfig) (parts : List (Option (List ℕ))) (place : Place) → NoneIn place plain.known → plain.read (rows, parts) place ≡ Ok None
-unfolding plain
+plain_read : (rows : List RowConfig) (parts : List (Option (List ℕ))) (place : Place) → NoneIn place (plain.known ++ pace.known) → plain.read (rows, parts) place ≡ Ok None
+unfolding plain pace
 plain_read rows parts place none =
-    one_key (λ group. group) (own_group_at rows parts (λ place. false) place (codes "group")) None (group_at rows parts (λ place. false) place (codes "group") none.0 refl)
+    let asks = stands_at (codes "every_ms") in
+    one_key (λ group. group) (own_group_at rows parts asks place (codes "group")) None (group_at rows parts asks place (codes "group") none.0 (ap is_some none.1.0))
+
+pace_read : (place : Place) → NoneIn place (plain.known ++ pace.known) → pace.read tt place ≡ Ok 0
+unfolding plain pace
+pace_read place none =
+    one_key (λ every. every) (default 0 (number_at 0 60000) place (codes "every_ms")) 0 (default_at 0 (number_in 0 60000) place (codes "every_ms") none.1.0)
+
+-- the table of both is one
+plain_among : (document : Place) → Lacks plain.name (plain.known ++ pace.known) document → IsTable (get_member pace.name document.members)
+unfolding plain pace
+plain_among document lacks = lacks.is_table
+
+plain_lacks : (document : Place) → Lacks plain.name (plain.known ++ pace.known) document
+    → NoneIn (place_under document pace.name (prefix_of pace.name)) (plain.known ++ pace.known)
+unfolding plain pace
+plain_lacks document lacks = lacks.none
 
 -- a key without a default that doesn't stand
 nothing_at : {A : Type 0} (read : Data → Result A Flaw) (place : Place) (name : List ℕ) → get_member name place.members ≡ None → key_at read place name ≡ Ok None
@@ -287,14 +303,15 @@ bound : {A B : Type 0} (read : Result A ConfigFault) (next : A → Result B Conf
 bound (Ok x) next y is = (x, (refl, is))
 bound (Err f) next y is = absurd cc
 
-abbrev set_up : Settings → ArrayVec Pattern → Option Quantities → Bool × Bool → Option (List ℕ) → Bool → WatchConfig → HeartbeatConfig → Setup
-set_up settings devices quantities reports group recording watch beats = record {
+abbrev set_up : Settings → ArrayVec Pattern → Option Quantities → Bool × Bool → Option (List ℕ) → Bool → ℕ → WatchConfig → HeartbeatConfig → Setup
+set_up settings devices quantities reports group recording every watch beats = record {
   settings = settings;
   ignore = devices;
   quantities = quantities;
   sources = reports.0;
   address = reports.1;
   plain = group;
+  plain_every_ms = every;
   «record» = recording;
   watch = watch;
   heartbeat = beats;
@@ -307,17 +324,20 @@ module _ (document : Place) (settings : Settings) where
   abbrev groups : List (Option (List ℕ))
   groups = part_groups settings
 
-  abbrev from_heartbeat : ArrayVec Pattern → Option Quantities → Bool × Bool → Option (List ℕ) → Bool → WatchConfig → Result Setup ConfigFault
-  from_heartbeat devices quantities reports group recording watch =
+  abbrev from_heartbeat : ArrayVec Pattern → Option Quantities → Bool × Bool → Option (List ℕ) → Bool → ℕ → WatchConfig → Result Setup ConfigFault
+  from_heartbeat devices quantities reports group recording every watch =
       table_in heartbeat (rows, alert_group watch ∷ group ∷ option_map (λ q. q.group) quantities ∷ groups) document
-      >>= λ beats. Ok (set_up settings devices quantities reports group recording watch beats)
+      >>= λ beats. Ok (set_up settings devices quantities reports group recording every watch beats)
 
-  abbrev from_watch : ArrayVec Pattern → Option Quantities → Bool × Bool → Option (List ℕ) → Bool → Result Setup ConfigFault
-  from_watch devices quantities reports group recording =
-      watch_in rows (group ∷ option_map (λ q. q.group) quantities ∷ groups) document >>= from_heartbeat devices quantities reports group recording
+  abbrev from_watch : ArrayVec Pattern → Option Quantities → Bool × Bool → Option (List ℕ) → Bool → ℕ → Result Setup ConfigFault
+  from_watch devices quantities reports group recording every =
+      watch_in rows (group ∷ option_map (λ q. q.group) quantities ∷ groups) document >>= from_heartbeat devices quantities reports group recording every
+
+  abbrev from_pace : ArrayVec Pattern → Option Quantities → Bool × Bool → Option (List ℕ) → Bool → Result Setup ConfigFault
+  from_pace devices quantities reports group recording = table_in pace tt document >>= from_watch devices quantities reports group recording
 
   abbrev from_recording : ArrayVec Pattern → Option Quantities → Bool × Bool → Option (List ℕ) → Result Setup ConfigFault
-  from_recording devices quantities reports group = table_in serve tt document >>= from_watch devices quantities reports group
+  from_recording devices quantities reports group = table_in serve tt document >>= from_pace devices quantities reports group
 
   abbrev from_plain : ArrayVec Pattern → Option Quantities → Bool × Bool → Result Setup ConfigFault
   from_plain devices quantities reports =
@@ -344,13 +364,15 @@ module _ (document : Place) (settings : Settings) where
       (said_there report tt document (false, false) asks.reports.is_table (reports_read _ asks.reports.none))
       (then_says (table_in plain (rows, None ∷ groups) document) (from_recording nobody None (false, false)) None all
       (said_there plain (rows, None ∷ groups) document None asks.plain.is_table (plain_read rows (None ∷ groups) _ asks.plain.none))
-      (then_says (table_in serve tt document) (from_watch nobody None (false, false) None) false all
+      (then_says (table_in serve tt document) (from_pace nobody None (false, false) None) false all
       (said_there serve tt document false asks.recording.is_table (recording_read _ asks.recording.none))
-      (then_says (watch_in rows (None ∷ None ∷ groups) document) (from_heartbeat nobody None (false, false) None false) no_watch all
+      (then_says (table_in pace tt document) (from_watch nobody None (false, false) None false) 0 all
+      (said_there pace tt document 0 (plain_among document asks.plain) (pace_read _ (plain_lacks document asks.plain)))
+      (then_says (watch_in rows (None ∷ None ∷ groups) document) (from_heartbeat nobody None (false, false) None false 0) no_watch all
       (watch_read rows (None ∷ None ∷ groups) document tables asks.limits asks.alerts)
-      (then_says (table_in heartbeat (rows, None ∷ None ∷ None ∷ groups) document) (λ beats. Ok (set_up settings nobody None (false, false) None false no_watch beats)) no_heartbeat all
+      (then_says (table_in heartbeat (rows, None ∷ None ∷ None ∷ groups) document) (λ beats. Ok (set_up settings nobody None (false, false) None false 0 no_watch beats)) no_heartbeat all
       (said_there heartbeat (rows, None ∷ None ∷ None ∷ groups) document no_heartbeat asks.heartbeat.is_table (heartbeat_read rows (None ∷ None ∷ None ∷ groups) _ asks.heartbeat.none))
-      refl))))))
+      refl)))))))
 
 -- settings that were read had a table of the bus, or none
 table_among : (document : Place) (name prefix : List ℕ) (place : Place) → section_at document name prefix ≡ Ok place → IsTable (get_member name document.members)

@@ -1,6 +1,7 @@
 -- What tests against what stands already tell, and what lists become by one more item that can stand there.
 use Rattle.std.proofs.Common.{◌≡◌, ◌≢◌, ℕ, suc, ◌<◌, ◌==◌, false, List, [], ◌∷◌, ◌++◌, get_or, Option, Some, None, sym, ap, ◌∙◌, subst, arith}
 use Rattle.std.specs.Prelude.{option_map}
+use Rattle.std.specs.Int.{IsInRange}
 use Rattle.std.specs.Option.{ForSome}
 use Rattle.std.specs.List.{list_any}
 use Rattle.std.proofs.lemmas.Bool.{eqb-false, false≢true, or_parts}
@@ -159,15 +160,17 @@ heartbeat_beside s quantities plain alerts group beside = record {
 pub setup_beside :
     (x : Setup) → IsSettings x.settings → AreSources x.ignore.items → ForSome x.quantities (AreQuantitiesBeside x.settings.config.rows (part_groups x.settings))
     → ForSome x.plain (IsGroupBeside x.settings.config.rows (option_map (λ q. q.group) x.quantities ∷ part_groups x.settings))
+    → IsInRange 0 60000 x.plain_every_ms
     → IsWatch (IsGroupBeside x.settings.config.rows (x.plain ∷ option_map (λ q. q.group) x.quantities ∷ part_groups x.settings)) x.watch
     → IsHeartbeat x.heartbeat
     → ForSome x.heartbeat.net (λ n. IsGroupBeside x.settings.config.rows (alert_group x.watch ∷ x.plain ∷ option_map (λ q. q.group) x.quantities ∷ part_groups x.settings) n.group)
     → IsSetup x
-setup_beside x settings ignore quantities plain watch beats free = record {
+setup_beside x settings ignore quantities plain pace watch beats free = record {
   settings = settings;
   ignore = ignore;
   quantities = λ all is. quantities_beside x.settings all (quantities all is);
   plain = λ group is. plain_beside x.settings x.quantities group (plain group is);
+  pace = pace;
   watch =
       watch_beside x.watch (IsGroupBeside x.settings.config.rows (x.plain ∷ option_map (λ q. q.group) x.quantities ∷ part_groups x.settings))
       (IsAlertGroup x.settings x.quantities x.plain) (alerts_beside x.settings x.quantities x.plain) watch;

@@ -42,7 +42,7 @@ pub record AsksNothingFurther (document : Place) : Type 0 where
   pub ignored : HasNone Keys.ignored.known (get_member Keys.ignored.name document.members)
   pub quantities : Lacks Keys.further.name (Keys.further.known ++ quantity_names all_quantities) document
   pub reports : Lacks Keys.report.name Keys.report.known document
-  pub plain : Lacks Keys.plain.name Keys.plain.known document
+  pub plain : Lacks Keys.plain.name (Keys.plain.known ++ Keys.pace.known) document
   pub recording : Lacks Keys.serve.name Keys.serve.known document
   pub limits : NoneHas Keys.watched.known (row_names all_rows) (table_of (get_member Keys.watched.name document.members))
   pub alerts : Lacks Keys.alerts.name Keys.alerts.known document

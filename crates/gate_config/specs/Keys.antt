@@ -270,9 +270,13 @@ report =
     & key (codes "sources") (default false truth_at)
     & key (codes "address") (default false truth_at)
 
--- plain, beside the rows and the groups of the other parts; nothing asks for its group
+-- plain, beside the rows and the groups of the other parts; its pace asks for its group
 unfoldable pub plain : Table (List RowConfig × List (Option (List ℕ))) (Option (List ℕ))
-plain = table (codes "plain") (λ group. group) & key_beside (codes "group") (λ beside. own_group_at beside.0 beside.1 (λ place. false))
+plain = table (codes "plain") (λ group. group) & key_beside (codes "group") (λ beside. own_group_at beside.0 beside.1 (stands_at (codes "every_ms")))
+
+-- plain again: how long plain sentences that say the same pause, in milliseconds
+unfoldable pub pace : Table ⊤ ℕ
+pace = table (codes "plain") (λ every. every) & key (codes "every_ms") (default 0 (number_at 0 60000))
 
 -- serve
 unfoldable pub serve : Table ⊤ Bool
@@ -382,6 +386,7 @@ setup_in document = do
   reports ← table_in report tt document
   group ← table_in plain (settings.config.rows, option_map (λ q. q.group) quantities ∷ part_groups settings) document
   recording ← table_in serve tt document
+  every ← table_in pace tt document
   watch ← watch_in settings.config.rows (group ∷ option_map (λ q. q.group) quantities ∷ part_groups settings) document
   beats ← table_in heartbeat (settings.config.rows, alert_group watch ∷ group ∷ option_map (λ q. q.group) quantities ∷ part_groups settings) document
   Ok (record {
@@ -391,6 +396,7 @@ setup_in document = do
     sources = reports.0;
     address = reports.1;
     plain = group;
+    plain_every_ms = every;
     «record» = recording;
     watch = watch;
     heartbeat = beats;

@@ -83,10 +83,14 @@ links_noted document best = items Keys.route document (bus_noted document (once 
 unfoldable pub parts_noted : Place → Option (List ℕ) → Option (List ℕ)
 parts_noted document best = once Keys.ais document (once Keys.rmc document (once Keys.identity document best))
 
+-- the table plain, one of whose keys is read behind that of another table
+unfoldable pub plain_noted : Place → Option (List ℕ) → Option (List ℕ)
+plain_noted document best = noted (Keys.plain.known ++ Keys.pace.known) (place_under document Keys.plain.name (prefix_of Keys.plain.name)) best
+
 -- further keys
 unfoldable pub further_noted : Place → Option (List ℕ) → Option (List ℕ)
 further_noted document best =
-    once Keys.heartbeat document (once Keys.serve document (once Keys.plain document (once Keys.report document
+    once Keys.heartbeat document (once Keys.serve document (plain_noted document (once Keys.report document
     (quantities_noted (place_under document Keys.further.name (prefix_of Keys.further.name)) best))))
 
 -- every table

@@ -7,7 +7,9 @@ ghost use Rattle.settings.specs.Settings.{IsSettings};
 ghost use Rattle.settings.specs.Setup.{IsSetup};
 ghost use Rattle.settings.specs.Watch.{alert_group};
 
-use crate::further::{ignored_keys, plain_keys, quantities_group, report_keys, serve_keys};
+use crate::further::{
+    ignored_keys, pace_keys, plain_keys, quantities_group, report_keys, serve_keys,
+};
 use crate::further_quantities::further_quantities;
 use crate::gateway::gateway_keys;
 use crate::heartbeat::heartbeat_keys;
@@ -45,6 +47,7 @@ pub(crate) fn all_keys(document: &Section, each: QuantityConfigs) -> Result<Setu
     let parts = [quantities_group(&quantities), rmc, ais];
     let plain = plain_keys(document, &settings.config.rows, &parts)?;
     let recording = serve_keys(document)?;
+    let plain_every_ms = pace_keys(document)?;
     let groups = groups_beside(&plain, &quantities, &settings);
     let watch = watch_keys(document, &settings.config.rows, &groups)?;
     let groups = groups_behind(&watch, &plain, &quantities, &settings);
@@ -56,6 +59,7 @@ pub(crate) fn all_keys(document: &Section, each: QuantityConfigs) -> Result<Setu
         sources,
         address,
         plain,
+        plain_every_ms,
         record: recording,
         watch,
         heartbeat,

@@ -1,19 +1,20 @@
 //! Keys that are read behind those of the settings: devices that no row is taken from, whether changes of a source and of the gateway's own
-//! address are told, the transmission group of plain sentences, and whether a run is recorded.
+//! address are told, the transmission group of plain sentences and their pace, and whether a run is recorded.
 ghost use Rattle.std.specs.Prelude.{◌≡◌, IfOk, option_map};
+ghost use Rattle.std.specs.Int.{IsInRange};
 ghost use Rattle.std.specs.Option.{ForSome};
 ghost use Rattle.config_document.specs.Places.{place_of};
 ghost use Rattle.config_values.specs.Rows.{AreSources};
 ghost use Rattle.gate_config.specs.Beside.{IsGroupBeside};
-ghost use Rattle.gate_config.specs.Keys.{ignored, plain, report, serve};
+ghost use Rattle.gate_config.specs.Keys.{ignored, pace, plain, report, serve};
 ghost use Rattle.gate_config.specs.Reading.{table_in};
 
 use crate::devices::devices;
-use crate::keys::{section, truth_or};
+use crate::keys::{number_or, section, stands_at, truth_or};
 use crate::parts::own_group;
 use crate::words::{
-    ADDRESS, BUS, BUS_PREFIX, GROUP, IGNORE, PLAIN, PLAIN_PREFIX, RECORD, REPORT, REPORT_PREFIX,
-    SERVE, SERVE_PREFIX, SOURCES,
+    ADDRESS, BUS, BUS_PREFIX, EVERY_MS, GROUP, IGNORE, PLAIN, PLAIN_PREFIX, RECORD, REPORT,
+    REPORT_PREFIX, SERVE, SERVE_PREFIX, SOURCES,
 };
 use arrayvec::ArrayVec;
 use config_document::{ConfigFault, Section};
@@ -24,7 +25,7 @@ use settings::Quantities;
 
 pub(crate) const REPORT_KEYS: [&str; 2] = [SOURCES, ADDRESS];
 
-pub(crate) const PLAIN_KEYS: [&str; 1] = [GROUP];
+pub(crate) const PLAIN_KEYS: [&str; 2] = [GROUP, EVERY_MS];
 
 pub(crate) const SERVE_KEYS: [&str; 1] = [RECORD];
 
@@ -60,7 +61,17 @@ pub(crate) fn plain_keys(
     ensures valid { IfOk result (λ group. ForSome group (IsGroupBeside rows.now parts.now)) }
 {
     let table = section(document, PLAIN, PLAIN_PREFIX)?;
-    own_group(&table, GROUP, rows, parts, false)
+    own_group(&table, GROUP, rows, parts, stands_at(&table, EVERY_MS))
+}
+
+/// How long plain sentences that say the same pause, in milliseconds: a key of `plain` that is read behind those of `serve`.
+#[tactic(auto, unfolding(crate::specs::Keys::pace))]
+pub(crate) fn pace_keys(document: &Section) -> Result<u32, ConfigFault>
+    ensures said { result ≡ table_in pace tt (place_of document.now) }
+    ensures valid { IfOk result (IsInRange 0 60000) }
+{
+    let table = section(document, PLAIN, PLAIN_PREFIX)?;
+    number_or(&table, EVERY_MS, 0, 60_000, 0)
 }
 
 /// Whether a run is recorded.

@@ -1,5 +1,5 @@
 -- RMC as a part beside the gateway.
-use Rattle.std.specs.Prelude.{◌≡◌, ℕ, List, [], ◌∷◌, map, Option, option_map, if◌then◌else◌}
+use Rattle.std.specs.Prelude.{◌≡◌, ℕ, List, [], ◌∷◌, map, Option, Some, option_map, if◌then◌else◌}
 use Rattle.gate_events.specs.Emit.{Emit}
 use Rattle.sentence_text.specs.Names.{IsSfi}
 use Rattle.sentence_profile.specs.Rmc.{rmc_text}
@@ -11,7 +11,10 @@ use Rattle.config_values.specs.declared.row_config.RowConfig.{RowConfig}
 use Rattle.settings.specs.declared.rmc.RmcConfig.{RmcConfig}
 use Rattle.settings.specs.declared.setup.Setup.{Setup}
 use Rattle.parts.specs.Selected.{selected_at}
+use Rattle.parts.specs.Utterances.{utters_of}
 use Rattle.parts.specs.Voices.{Spoken, in_one}
+use Rattle.plain_out.specs.Pace.{Utterance}
+use Rattle.plain_out.specs.declared.stream.Stream.TheVariants as stream
 use Rattle.joined_rmc.specs.JoinStands.{JoinStands}
 use Rattle.joined_rmc.specs.Lasting.{is_due}
 use Rattle.joined_rmc.specs.RmcOut.{RmcRule, minimum, rmc_out, rule_by}
@@ -39,6 +42,10 @@ joining_stands r c s h k = (k.group ≡ r.group) × JoinStands r c s h k.join
 
 abbrev pub joining_gives : RmcRule → Settings → ℕ → History → Entry → List Emit
 joining_gives r c s h e = rmc_out r c s h e
+
+-- RMC is a stream
+abbrev pub rmc_utters : RmcRule → Settings → ℕ → History → Entry → List Utterance
+rmc_utters = utters_of (Some stream.Rmc) joining_gives
 
 -- ---- what is said on the network: RMC, at each selected position
 

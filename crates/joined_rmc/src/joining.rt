@@ -3,18 +3,18 @@ ghost use Rattle.std.specs.Prelude.{◌≡◌, IfOk};
 ghost use Rattle.config_values.specs.Rows.{IsTalker};
 ghost use Rattle.history.specs.Settings.{Settings};
 ghost use Rattle.parts.specs.PartSteps.{IsOpened};
-ghost use Rattle.joined_rmc.specs.RmcPart.{joining_gives, joining_stands, rmc_asked, rmc_rule_of, timeouts_of};
+ghost use Rattle.joined_rmc.specs.RmcPart.{joining_gives, joining_stands, rmc_asked, rmc_rule_of, rmc_utters, timeouts_of};
 
 use crate::rmc_join::RmcJoin;
 use config_values::{Config, RowConfig};
-use parts::{Given, Part, Step};
+use parts::{Part, Step, Stream, Streamed};
 use readings::ROWS;
 use sentence_text::Group;
 use settings::{RmcConfig, Setup};
 use std::alloc::{AllocError, Global};
 
-/// The place for RMC: a datagram.
-pub type RmcPlace = Given<0>;
+/// The place for RMC: a datagram of its own stream.
+pub type RmcPlace = Streamed<0>;
 
 /// RMC, and the transmission group that it goes to.
 #[derive(Drop)]
@@ -47,6 +47,8 @@ impl Part<RmcPlace> for Joining {
 
     ghost gives = { joining_gives };
 
+    ghost utters = { rmc_utters };
+
     fn opened(_alloc: Global, setup: &Setup) -> Result<Option<Joining>, AllocError> {
         let settings = &setup.settings;
         match &settings.rmc {
@@ -56,6 +58,7 @@ impl Part<RmcPlace> for Joining {
     }
 
     fn after(&mut self, step: &Step<'_>, place: &mut RmcPlace) -> bool {
+        place.stream = Some(Stream::Rmc);
         let datagram = place.emits.post(self.group);
         let said = self
             .join

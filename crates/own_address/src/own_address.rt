@@ -31,6 +31,8 @@ impl OwnAddress {
 }
 
 impl Part<AddressPlace> for OwnAddress {
+    ghost use Rattle.parts.specs.Utterances.{streamless};
+
     ghost Rule = { Unit {0} };
 
     ghost asked = { address_asked };
@@ -38,6 +40,8 @@ impl Part<AddressPlace> for OwnAddress {
     ghost stands = { address_stands };
 
     ghost gives = { address_gives };
+
+    ghost utters = { streamless address_gives };
 
     fn opened(_alloc: Global, setup: &Setup) -> Result<Option<OwnAddress>, AllocError> {
         if setup.address {

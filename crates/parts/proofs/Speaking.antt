@@ -7,6 +7,9 @@ use Rattle.std.proofs.lemmas.List.Elements.{All-head, All-tail}
 use Rattle.sentence_text.specs.Byte.{is_capital}
 use Rattle.readings.specs.declared.reading.Reading.{Reading}
 use Rattle.readings.specs.Rows.{IsValid}
+use Rattle.gate_events.specs.Emit.{Emit, can, net, report}
+use Rattle.plain_out.specs.Pace.{uttered}
+use Rattle.plain_out.specs.declared.stream.Stream.{Stream}
 use Rattle.pgn_profile.specs.declared.profiled.Profiled.{Profiled}
 use Rattle.pgn_profile.specs.declared.profiled.Profiled.TheVariants as says
 use Rattle.pgn_profile.specs.Profiled.{GivesValid, profiled}
@@ -15,6 +18,7 @@ use Rattle.claim_table.specs.declared.answer.Holder.{Holder}
 use Rattle.config_values.specs.Rows.{IsTalker}
 use Rattle.history.specs.Choice.{reading_in, reading_of, row_rules, row_told, selected_reading, told_by}
 use Rattle.history.specs.Entries.{Entry, History}
+use Rattle.history.specs.EntryLaws.{nets_in}
 use Rattle.history.specs.FromBus.{said_at, selected_in}
 use Rattle.history.specs.Known.{known}
 use Rattle.history.specs.Messages.{Message, done, messages_of}
@@ -44,6 +48,13 @@ module _ (c : Settings) (holders : List (Option Holder)) (older : List Message) 
 pub said_valid : (c : Settings) (s : ℕ) (h : History) (e : Entry) → IfSome (said_at c s h e) IsValid
 said_valid c s h e =
     valid_of c (known (receiver_of c) s h).claims.holders (messages_of (receiver_of c) s h) (done (receiver_of c) s h e)
+
+-- what has no datagram says none
+pub quiet_unsaid : (stream : Option Stream) (es : List Emit) → nets_in es ≡ [] → uttered stream es ≡ []
+quiet_unsaid stream [] none = refl
+quiet_unsaid stream (can f ∷ es) none = quiet_unsaid stream es none
+quiet_unsaid stream (report r ∷ es) none = quiet_unsaid stream es none
+quiet_unsaid stream (net group bytes ∷ es) none = absurd cc
 
 -- ---- a talker's letters
 

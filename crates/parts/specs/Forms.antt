@@ -7,6 +7,7 @@ use Rattle.history.specs.Entries.{Entry, History}
 use Rattle.history.specs.Settings.{Settings}
 use Rattle.parts.specs.Compose.{
   both_asked,
+  both_datagrams,
   both_give,
   both_keep_commands,
   both_output,
@@ -14,6 +15,8 @@ use Rattle.parts.specs.Compose.{
   both_speak,
   both_stand,
   both_tell,
+  both_unsaid,
+  maybe_datagrams,
   maybe_give,
   maybe_keep_commands,
   maybe_output,
@@ -21,10 +24,27 @@ use Rattle.parts.specs.Compose.{
   maybe_say,
   maybe_speaks,
   maybe_stand,
+  maybe_unsaid,
 }
 use Rattle.parts.specs.declared.given.Given.{Given}
-use Rattle.parts.specs.Lanes.{LaneKept, given_output, given_plain, lane_keeps_commands, lane_output, lane_stands}
+use Rattle.parts.specs.declared.streamed.Streamed.{Streamed}
+use Rattle.parts.specs.Lanes.{
+  LaneKept,
+  given_output,
+  given_plain,
+  given_unsaid,
+  given_utterances,
+  lane_keeps_commands,
+  lane_output,
+  lane_stands,
+  streamed_output,
+  streamed_plain,
+  streamed_unsaid,
+  streamed_utterances,
+}
 use Rattle.parts.specs.PartSteps.{KeepsCommands}
+use Rattle.plain_out.specs.Pace.{Utterance}
+use Rattle.parts.specs.Utterances.{SaysDatagrams}
 use Rattle.parts.specs.Voices.{IsRead, IsUnderstood, Spoken, both_say}
 use Rattle.settings.specs.declared.setup.Setup.{Setup}
 
@@ -34,12 +54,25 @@ pub record PlaceForm : Type 1 where
   pub kept : Type 0
   pub output : kept → List Emit
   pub plain : kept → List Emit
+  -- its datagrams, each with its stream
+  pub utterances : kept → List Utterance
+  pub unsaid : (k : kept) → output k ≡ [] → utterances k ≡ []
 
 abbrev pub place : ℕ → PlaceForm
-place room = record { kept = Given room; output = given_output; plain = given_plain }
+place room = record { kept = Given room; output = given_output; plain = given_plain; utterances = given_utterances; unsaid = given_unsaid }
+
+-- one whose datagram has a stream
+abbrev pub streamed_place : ℕ → PlaceForm
+streamed_place room = record { kept = Streamed room; output = streamed_output; plain = streamed_plain; utterances = streamed_utterances; unsaid = streamed_unsaid }
 
 abbrev pub and_behind : PlaceForm → PlaceForm → PlaceForm
-and_behind a b = record { kept = a.kept × b.kept; output = both_output a.output b.output; plain = both_output a.plain b.plain }
+and_behind a b = record {
+  kept = a.kept × b.kept;
+  output = both_output a.output b.output;
+  plain = both_output a.plain b.plain;
+  utterances = both_output a.utterances b.utterances;
+  unsaid = both_unsaid a.output b.output a.utterances b.utterances a.unsaid b.unsaid;
+}
 
 -- ---- a part
 
@@ -52,6 +85,8 @@ pub record PartForm : Type 1 where
   pub stand : rule → Settings → ℕ → History → kept → Type 0
   -- what it gives at an entry, over everything that ever came
   pub give : rule → Settings → ℕ → History → Entry → List Emit
+  -- its datagrams, each with its stream
+  pub utter : rule → Settings → ℕ → History → Entry → List Utterance
   -- what of it is said on the network, and by which rules it can be understood
   pub say : rule → Settings → ℕ → History → Entry → Spoken
   pub speaks : rule → Settings → Type 0
@@ -59,6 +94,7 @@ pub record PartForm : Type 1 where
   pub commands : KeepsCommands stand
   pub read : IsRead give speaks say
   pub understood : IsUnderstood asked (maybe_speaks speaks)
+  pub datagrams : SaysDatagrams give utter
 
 -- ---- parts that are put together
 
@@ -73,12 +109,17 @@ pub record Form : Type 1 where
   -- what they gave at the last event, and the datagrams of it once more, as plain sentences
   pub output : kept → List Emit
   pub plain : kept → List Emit
+  -- its datagrams, each with its stream
+  pub utter : rule → Settings → ℕ → History → Entry → List Utterance
+  pub utterances : kept → List Utterance
+  pub unsaid : (k : kept) → output k ≡ [] → utterances k ≡ []
   pub say : rule → Settings → ℕ → History → Entry → Spoken
   pub speaks : rule → Settings → Type 0
   pub commands : KeepsCommands stand
   pub read : IsRead give speaks say
   pub understood : IsUnderstood asked speaks
   pub silent : (c : Settings) (s : ℕ) (h : History) (e : Entry) → give none c s h e ≡ []
+  pub datagrams : SaysDatagrams give utter
 
 -- none
 abbrev pub nothing : Form
@@ -91,12 +132,16 @@ nothing = record {
   give = λ r c s h e. [];
   output = λ k. [];
   plain = λ k. [];
+  utter = λ r c s h e. [];
+  utterances = λ k. [];
+  unsaid = λ k none. refl;
   say = λ r c s h e. [];
   speaks = λ r c. Unit {0};
   commands = λ r c s h source address k are is. tt;
   read = λ r c s h e can. tt;
   understood = λ x typed valid. tt;
   silent = λ c s h e. refl;
+  datagrams = λ r c s h e. refl;
 }
 
 -- a part with its place, which is there exactly if it is asked for
@@ -110,12 +155,16 @@ lane a = record {
   give = maybe_give a.give;
   output = maybe_output (lane_output a.places.output);
   plain = maybe_output (lane_output a.places.plain);
+  utter = maybe_give a.utter;
+  utterances = maybe_output (lane_output a.places.utterances);
+  unsaid = maybe_unsaid (lane_output a.places.output) (lane_output a.places.utterances) (λ k none. a.places.unsaid k.place none);
   say = maybe_say a.say;
   speaks = maybe_speaks a.speaks;
   commands = maybe_keep_commands (lane_stands a.stand) (lane_keeps_commands a.stand a.commands);
   read = maybe_read a.give a.speaks a.say a.read;
   understood = a.understood;
   silent = λ c s h e. refl;
+  datagrams = maybe_datagrams a.give a.utter a.datagrams;
 }
 
 -- some, and others behind them
@@ -129,10 +178,14 @@ both a b = record {
   give = both_give a.give b.give;
   output = both_output a.output b.output;
   plain = both_output a.plain b.plain;
+  utter = both_give a.utter b.utter;
+  utterances = both_output a.utterances b.utterances;
+  unsaid = both_unsaid a.output b.output a.utterances b.utterances a.unsaid b.unsaid;
   say = both_tell a.say b.say;
   speaks = both_speak a.speaks b.speaks;
   commands = both_keep_commands a.stand b.stand a.commands b.commands;
   read = λ r c s h e can. both_say (a.give r.0 c s h e) (b.give r.1 c s h e) (a.say r.0 c s h e) (b.say r.1 c s h e) (a.read r.0 c s h e can.0) (b.read r.1 c s h e can.1);
   understood = λ x typed valid. (a.understood x typed valid, b.understood x typed valid);
   silent = both_silent a.give b.give a.none b.none a.silent b.silent;
+  datagrams = both_datagrams a.give a.utter b.give b.utter a.datagrams b.datagrams;
 }

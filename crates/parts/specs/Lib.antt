@@ -7,4 +7,5 @@ pub mod Compose
 pub mod Forms
 pub mod Lanes
 pub mod PartSteps
+pub mod Utterances
 pub mod Voices

@@ -5,6 +5,7 @@ use Rattle.history.specs.AddressLaws.{AreSettings}
 use Rattle.history.specs.Entries.{Entry, History, IsHistory, command, now}
 use Rattle.history.specs.Settings.{Settings}
 use Rattle.gate_core.specs.Promises.{IsTaken}
+use Rattle.plain_out.specs.Pace.{Utterance}
 use Rattle.gate_core.specs.Steps.{entry_of}
 use Rattle.parts.specs.declared.part.Step.{Step}
 
@@ -39,15 +40,18 @@ pub record IsStepped (c : Settings) (s : ℕ) (h : History) (t : Step) : Type 0 
 
 -- the part stands for one entry more, and what it gave is what the history says that it gives
 pub record IsGiven {R K : Type 0} (stands : R → Settings → ℕ → History → K → Type 0) (gives : R → Settings → ℕ → History → Entry → List Emit)
-    (output : K → List Emit) (r : R) (c : Settings) (s : ℕ) (h : History) (e : Entry) (after : K) : Type 0 where
+    (utters : R → Settings → ℕ → History → Entry → List Utterance) (output : K → List Emit) (utterances : K → List Utterance)
+    (r : R) (c : Settings) (s : ℕ) (h : History) (e : Entry) (after : K) : Type 0 where
   pub stood : stands r c s (e ∷ h) after
   pub emits : output after ≡ gives r c s h e
+  pub said : utterances after ≡ utters r c s h e
 
 -- for every history for which it stands before
 abbrev pub Takes : {R K : Type 0} → (R → Settings → ℕ → History → K → Type 0) → (R → Settings → ℕ → History → Entry → List Emit)
-    → (K → List Emit) → Step → K → K → Type 0
-Takes {R} {K} stands gives output t before after =
-    (r : R) (c : Settings) (s : ℕ) (h : History) → IsStepped c s h t → stands r c s h before → IsGiven stands gives output r c s h (entry_at t) after
+    → (R → Settings → ℕ → History → Entry → List Utterance) → (K → List Emit) → (K → List Utterance) → Step → K → K → Type 0
+Takes {R} {K} stands gives utters output utterances t before after =
+    (r : R) (c : Settings) (s : ℕ) (h : History) → IsStepped c s h t → stands r c s h before
+    → IsGiven stands gives utters output utterances r c s h (entry_at t) after
 
 -- it stands for the same histories as before
 abbrev pub Keeps : {R K : Type 0} → (R → Settings → ℕ → History → K → Type 0) → K → K → Type 0
@@ -63,9 +67,10 @@ KeepsCommands {R} {K} stands =
 
 -- it gave nothing, and whatever comes, it stands for that as well and gives nothing
 pub record IsAbsent {R K : Type 0} (stands : R → Settings → ℕ → History → K → Type 0) (gives : R → Settings → ℕ → History → Entry → List Emit)
-    (output plain : K → List Emit) (k : K) : Type 0 where
+    (utters : R → Settings → ℕ → History → Entry → List Utterance) (output plain : K → List Emit) (k : K) : Type 0 where
   pub stood : (r : R) (c : Settings) (s : ℕ) (h : History) (e : Entry) → stands r c s h k → stands r c s (e ∷ h) k
   pub never : (r : R) (c : Settings) (s : ℕ) (h : History) (e : Entry) → stands r c s h k → gives r c s h e ≡ []
+  pub silent : (r : R) (c : Settings) (s : ℕ) (h : History) (e : Entry) → stands r c s h k → utters r c s h e ≡ []
   pub emits : output k ≡ []
   pub said : plain k ≡ []
 
@@ -80,3 +85,10 @@ abbrev pub Says : {R K E : Type 0} → (R → Settings → ℕ → History → K
     → (E → List Emit) → Step → K → K → E → Type 0
 Says {R} {K} {E} stands gives output t before after place =
     (r : R) (c : Settings) (s : ℕ) (h : History) → IsStepped c s h t → stands r c s h before → IsSaid stands gives output r c s h (entry_at t) after place
+
+-- and each datagram of it has its stream
+abbrev pub Utters : {R K E : Type 0} → (R → Settings → ℕ → History → K → Type 0) → (R → Settings → ℕ → History → Entry → List Emit)
+    → (R → Settings → ℕ → History → Entry → List Utterance) → (E → List Emit) → (E → List Utterance) → Step → K → E → Type 0
+Utters {R} {K} {E} stands gives utters output utterances t before place =
+    (r : R) (c : Settings) (s : ℕ) (h : History) → IsStepped c s h t → stands r c s h before → output place ≡ gives r c s h (entry_at t)
+    → utterances place ≡ utters r c s h (entry_at t)

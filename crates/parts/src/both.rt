@@ -1,11 +1,11 @@
 //! Parts, and others behind them.
 ghost use Rattle.std.specs.Prelude.{◌≡◌, ◌+◌, ◌≤◌, ◌++◌, length};
-ghost use Rattle.parts.specs.Compose.{both_asked, both_give, both_output, both_stand};
+ghost use Rattle.parts.specs.Compose.{both_asked, both_give, both_output, both_stand, both_unsaid};
 
 use crate::part::Step;
 use crate::parts::Parts;
 use gate_events::Emit;
-use sentence_text::Group;
+use plain_out::Voice;
 use settings::Setup;
 use std::alloc::{AllocError, Global};
 
@@ -21,6 +21,12 @@ impl<A: Parts, B: Parts> Parts for (A, B) {
     ghost output = { both_output A.output B.output };
 
     ghost plain = { both_output A.plain B.plain };
+
+    ghost utters = { both_give A.utters B.utters };
+
+    ghost utterances = { both_output A.utterances B.utterances };
+
+    ghost unsaid = { both_unsaid A.output B.output A.utterances B.utterances A.unsaid B.unsaid };
 
     ghost most = { A.most + B.most };
 
@@ -47,10 +53,10 @@ impl<A: Parts, B: Parts> Parts for (A, B) {
         first_gave || second_gave
     }
 
-    #[tactic(auto, using(plain_out::proofs::Emits::plain_append, crate::proofs::Empty::first_empty, crate::proofs::Empty::second_empty))]
-    fn say_plain(&mut self, group: Group) {
-        self.0.say_plain(group);
-        self.1.say_plain(group);
+    #[tactic(auto, using(plain_out::proofs::Sayings::append_plain, plain_out::proofs::Sayings::append_after, crate::proofs::Empty::first_empty, crate::proofs::Empty::second_empty))]
+    fn say_plain(&mut self, voice: &mut Voice, moment: u64) {
+        self.0.say_plain(voice, moment);
+        self.1.say_plain(voice, moment);
     }
 
     fn len(&self) -> usize {

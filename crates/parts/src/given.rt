@@ -1,13 +1,12 @@
-//! A place for frames and reports, and a datagram behind them.
+//! A place for frames and reports, and a datagram behind them, which has no stream.
 ghost use Rattle.std.specs.Prelude.{◌≡◌, ◌≤◌, ◌+◌, [], length};
 ghost use Rattle.gate_outbox.specs.Output.{most_datagrams};
-ghost use Rattle.parts.specs.Lanes.{given_output, given_plain};
+ghost use Rattle.parts.specs.Lanes.{given_output, given_plain, given_unsaid, given_utterances};
 
 use crate::place::Place;
 use gate_events::Emit;
 use gate_outbox::Emits;
-use plain_out::{PlainEmits, say_plain};
-use sentence_text::Group;
+use plain_out::{PlainEmits, Voice, say_plain};
 
 /// At most `ROOM` frames and reports, a datagram behind them, and that once more as plain sentences.
 #[derive(Drop)]
@@ -20,6 +19,10 @@ impl<const ROOM: usize> Place for Given<ROOM> {
     ghost output = { given_output };
 
     ghost plain = { given_plain };
+
+    ghost utterances = { given_utterances };
+
+    ghost unsaid = { given_unsaid };
 
     ghost most = { ROOM + most_datagrams };
 
@@ -36,8 +39,8 @@ impl<const ROOM: usize> Place for Given<ROOM> {
     }
 
     #[tactic(auto, using(crate::proofs::Empty::none_emitted))]
-    fn say_plain(&mut self, group: Group) {
-        say_plain(group, &self.emits, &mut self.plain);
+    fn say_plain(&mut self, voice: &mut Voice, moment: u64) {
+        say_plain(voice, moment, None, &self.emits, &mut self.plain);
     }
 
     fn len(&self) -> usize {

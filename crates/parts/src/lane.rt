@@ -1,13 +1,13 @@
 //! A part with a place for what it gives.
 ghost use Rattle.std.specs.Prelude.{◌≡◌, ◌≤◌, [], length, IfOk};
-ghost use Rattle.parts.specs.Compose.{maybe_give, maybe_output, maybe_stand};
+ghost use Rattle.parts.specs.Compose.{maybe_give, maybe_output, maybe_stand, maybe_unsaid};
 ghost use Rattle.parts.specs.Lanes.{IsEmptyPlace, IsLane, lane_output, lane_stands};
 
 use crate::part::{Part, Step};
 use crate::parts::Parts;
 use crate::place::Place;
 use gate_events::Emit;
-use sentence_text::Group;
+use plain_out::Voice;
 use settings::Setup;
 use std::alloc::{AllocError, Global};
 use std::marker::Model;
@@ -70,6 +70,12 @@ impl<P: Part<E>, E: Place> Parts for Option<Lane<P, E>> {
 
     ghost plain = { maybe_output (lane_output E.plain) };
 
+    ghost utters = { maybe_give P.utters };
+
+    ghost utterances = { maybe_output (lane_output E.utterances) };
+
+    ghost unsaid = { maybe_unsaid (lane_output E.output) (lane_output E.utterances) (λ k none. E.unsaid k.place none) };
+
     ghost most = { E.most };
 
     fn made(alloc: Global, setup: &Setup) -> Result<Option<Lane<P, E>>, AllocError> {
@@ -102,10 +108,10 @@ impl<P: Part<E>, E: Place> Parts for Option<Lane<P, E>> {
         }
     }
 
-    fn say_plain(&mut self, group: Group) {
+    fn say_plain(&mut self, voice: &mut Voice, moment: u64) {
         if let Some(lane) = self {
             if lane.gave {
-                lane.place.as_mut().say_plain(group);
+                lane.place.as_mut().say_plain(voice, moment);
             }
         }
     }

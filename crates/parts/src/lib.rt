@@ -11,6 +11,7 @@ mod part;
 mod parts;
 mod place;
 mod seldom;
+mod streamed;
 
 pub use gate_core::{Gateway, Outbox, SelectedMessage, moment_of};
 pub use given::Given;
@@ -18,4 +19,6 @@ pub use lane::Lane;
 pub use part::{Part, Step};
 pub use parts::Parts;
 pub use place::Place;
+pub use plain_out::{Stream, Voice};
 pub use seldom::Seldom;
+pub use streamed::Streamed;

@@ -1,10 +1,10 @@
 //! The end of a list of parts.
-ghost use Rattle.std.specs.Prelude.{◌≡◌, ◌≤◌, [], length};
+ghost use Rattle.std.specs.Prelude.{◌≡◌, ◌≤◌, [], length, refl};
 
 use crate::part::Step;
 use crate::parts::Parts;
 use gate_events::Emit;
-use sentence_text::Group;
+use plain_out::Voice;
 use settings::Setup;
 use std::alloc::{AllocError, Global};
 
@@ -20,6 +20,12 @@ impl Parts for () {
     ghost output = { λ k. [] };
 
     ghost plain = { λ k. [] };
+
+    ghost utters = { λ r c s h e. [] };
+
+    ghost utterances = { λ k. [] };
+
+    ghost unsaid = { λ k none. refl };
 
     ghost most = { 0 };
 
@@ -37,7 +43,7 @@ impl Parts for () {
         false
     }
 
-    fn say_plain(&mut self, _group: Group) {}
+    fn say_plain(&mut self, _voice: &mut Voice, _moment: u64) {}
 
     fn len(&self) -> usize {
         0

@@ -4,10 +4,11 @@ ghost use Rattle.gate_events.specs.Emit.{Emit};
 ghost use Rattle.gate_core.specs.Steps.{IsEventValid};
 ghost use Rattle.history.specs.Entries.{Entry, History};
 ghost use Rattle.history.specs.Settings.{Settings};
+ghost use Rattle.plain_out.specs.Pace.{Utterance};
 ghost use Rattle.settings.specs.Setup.{IsSetup, gateway_of};
 ghost use Rattle.settings.specs.declared.setup.Setup.{Setup};
 ghost use Rattle.parts.specs.Compose.{maybe_stand};
-ghost use Rattle.parts.specs.PartSteps.{IsOpened, Says};
+ghost use Rattle.parts.specs.PartSteps.{IsOpened, Says, Utters};
 
 use crate::place::Place;
 use gate_core::{Gateway, Outbox};
@@ -41,6 +42,9 @@ pub trait Part<E: Place>: Drop {
     /// What it gives at an entry, over everything that ever came.
     ghost gives: { Rule → Settings → ℕ → History → Entry → List Emit };
 
+    /// The datagrams of it, each with its stream.
+    ghost utters: { Rule → Settings → ℕ → History → Entry → List Utterance };
+
     /// The part that a file asks for, with nothing heard yet; none if it doesn't.
     fn opened(alloc: Global, setup: &Setup) -> Result<Option<Self>, AllocError>
         requires { IsSetup setup.now }
@@ -51,6 +55,7 @@ pub trait Part<E: Place>: Drop {
         requires valid { IsEventValid step.now.event.now }
         requires empty { E.output place.old ≡ [] }
         ensures takes { Says stands gives E.output step.now self.old self.new place.new }
+        ensures said { Utters stands gives utters E.output E.utterances step.now self.old place.new }
         ensures unsaid { E.plain place.new ≡ E.plain place.old }
         ensures gave { result ≡ false → E.output place.new ≡ [] };
 }

@@ -5,14 +5,14 @@ ghost use Rattle.gate_outbox.specs.Output.{emit_of};
 ghost use Rattle.gate_core.specs.Steps.{IsEventValid};
 ghost use Rattle.history.specs.Entries.{Entry, History};
 ghost use Rattle.history.specs.Settings.{Settings};
-ghost use Rattle.plain_out.specs.Plain.{plain_out};
+ghost use Rattle.plain_out.specs.Pace.{Utterance, said_all};
 ghost use Rattle.settings.specs.Setup.{IsSetup, gateway_of};
 ghost use Rattle.settings.specs.declared.setup.Setup.{Setup};
 ghost use Rattle.parts.specs.PartSteps.{AreNew, IsAbsent, Keeps, Takes, most_output};
 
 use crate::part::Step;
 use gate_events::Emit;
-use sentence_text::Group;
+use plain_out::Voice;
 use settings::Setup;
 use std::alloc::{AllocError, Global};
 
@@ -36,6 +36,15 @@ pub trait Parts: Drop {
     /// The datagrams of it once more, as plain sentences.
     ghost plain: { Self → List Emit };
 
+    /// What they say on the network at an entry, each datagram with its stream.
+    ghost utters: { Rule → Settings → ℕ → History → Entry → List Utterance };
+
+    /// The datagrams of the last event, each with its stream.
+    ghost utterances: { Self → List Utterance };
+
+    /// Where they gave nothing none is.
+    ghost unsaid: { (x : Self) → output x ≡ [] → utterances x ≡ [] };
+
     /// The most emits of an event.
     ghost most: { ℕ };
 
@@ -46,7 +55,7 @@ pub trait Parts: Drop {
 
     /// True: none is there, and none gave anything.
     fn is_absent(&self) -> bool
-        ensures { result ≡ true → IsAbsent stands gives output plain self.now };
+        ensures { result ≡ true → IsAbsent stands gives utters output plain self.now };
 
     /// Forgets what they gave.
     fn clear(&mut self)
@@ -59,16 +68,18 @@ pub trait Parts: Drop {
         requires valid { IsEventValid step.now.event.now }
         requires empty { output self.old ≡ [] }
         requires unsaid { plain self.old ≡ [] }
-        ensures takes { Takes stands gives output step.now self.old self.new }
+        ensures takes { Takes stands gives utters output utterances step.now self.old self.new }
         ensures unsaid { plain self.new ≡ [] }
         ensures gave { result ≡ false → output self.new ≡ [] };
 
-    /// Says the datagrams of the last event once more, as plain sentences for this transmission group.
-    fn say_plain(&mut self, group: Group)
+    /// Says the datagrams of the last event, which was at this moment, once more, as plain sentences, as far as the voice passes them on.
+    fn say_plain(&mut self, voice: &mut Voice, moment: u64)
         requires { plain self.old ≡ [] }
         ensures kept { Keeps stands self.old self.new }
         ensures output { output self.new ≡ output self.old }
-        ensures plain { plain self.new ≡ plain_out group (output self.old) };
+        ensures said { utterances self.new ≡ utterances self.old }
+        ensures plain { plain self.new ≡ (said_all voice.old moment (utterances self.old)).plain }
+        ensures voice { voice.new ≡ (said_all voice.old moment (utterances self.old)).after };
 
     /// How many emits they gave at the last event.
     fn len(&self) -> usize

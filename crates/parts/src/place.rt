@@ -2,11 +2,11 @@
 ghost use Rattle.std.specs.Prelude.{◌≡◌, ◌≤◌, ℕ, List, [], length, option_map, slice_get, IfSome};
 ghost use Rattle.gate_events.specs.Emit.{CanWrite, Emit};
 ghost use Rattle.gate_outbox.specs.Output.{emit_of};
-ghost use Rattle.plain_out.specs.Plain.{plain_out};
+ghost use Rattle.plain_out.specs.Pace.{Utterance, said_all};
 ghost use Rattle.parts.specs.PartSteps.{most_output};
 
 use gate_events::Emit;
-use sentence_text::Group;
+use plain_out::Voice;
 
 /// A place for what a part gives at an event, and its datagrams once more as plain sentences.
 pub trait Place: Drop {
@@ -15,6 +15,12 @@ pub trait Place: Drop {
 
     /// The datagrams of it once more, as plain sentences.
     ghost plain: { Self → List Emit };
+
+    /// The datagrams of it, each with its stream.
+    ghost utterances: { Self → List Utterance };
+
+    /// Where nothing was given none is.
+    ghost unsaid: { (x : Self) → output x ≡ [] → utterances x ≡ [] };
 
     /// The most emits of an event.
     ghost most: { ℕ };
@@ -29,11 +35,13 @@ pub trait Place: Drop {
         ensures output { output self.new ≡ [] }
         ensures plain { plain self.new ≡ [] };
 
-    /// Says the datagrams once more, as plain sentences for this transmission group.
-    fn say_plain(&mut self, group: Group)
+    /// Says the datagrams of this moment once more, as plain sentences, as far as the voice passes them on.
+    fn say_plain(&mut self, voice: &mut Voice, moment: u64)
         requires { plain self.old ≡ [] }
         ensures output { output self.new ≡ output self.old }
-        ensures plain { plain self.new ≡ plain_out group (output self.old) };
+        ensures said { utterances self.new ≡ utterances self.old }
+        ensures plain { plain self.new ≡ (said_all voice.old moment (utterances self.old)).plain }
+        ensures voice { voice.new ≡ (said_all voice.old moment (utterances self.old)).after };
 
     /// How many emits there are.
     fn len(&self) -> usize
@@ -62,11 +70,15 @@ pub trait Place: Drop {
 
 impl<A: Place, B: Place> Place for (A, B) {
     ghost use Rattle.std.specs.Prelude.{◌+◌};
-    ghost use Rattle.parts.specs.Compose.{both_output};
+    ghost use Rattle.parts.specs.Compose.{both_output, both_unsaid};
 
     ghost output = { both_output A.output B.output };
 
     ghost plain = { both_output A.plain B.plain };
+
+    ghost utterances = { both_output A.utterances B.utterances };
+
+    ghost unsaid = { both_unsaid A.output B.output A.utterances B.utterances A.unsaid B.unsaid };
 
     ghost most = { A.most + B.most };
 
@@ -79,10 +91,10 @@ impl<A: Place, B: Place> Place for (A, B) {
         self.1.clear();
     }
 
-    #[tactic(auto, using(plain_out::proofs::Emits::plain_append, crate::proofs::Empty::first_empty, crate::proofs::Empty::second_empty))]
-    fn say_plain(&mut self, group: Group) {
-        self.0.say_plain(group);
-        self.1.say_plain(group);
+    #[tactic(auto, using(plain_out::proofs::Sayings::append_plain, plain_out::proofs::Sayings::append_after, crate::proofs::Empty::first_empty, crate::proofs::Empty::second_empty))]
+    fn say_plain(&mut self, voice: &mut Voice, moment: u64) {
+        self.0.say_plain(voice, moment);
+        self.1.say_plain(voice, moment);
     }
 
     fn len(&self) -> usize {

@@ -4,7 +4,7 @@ ghost use Rattle.std.specs.Prelude.{◌≡◌, ◌≤◌, [], length};
 use crate::part::Step;
 use crate::parts::Parts;
 use gate_events::Emit;
-use sentence_text::Group;
+use plain_out::Voice;
 use settings::Setup;
 use std::alloc::{AllocError, Global};
 use std::marker::Model;
@@ -25,7 +25,7 @@ impl<P: Parts> Model for Seldom<P> {
 
     ghost view = { λ x. x.parts.value };
 
-    ghost invariant = { λ x. x.any ≡ false → IsAbsent P.stands P.gives P.output P.plain x.parts.value };
+    ghost invariant = { λ x. x.any ≡ false → IsAbsent P.stands P.gives P.utters P.output P.plain x.parts.value };
 }
 
 impl<P: Parts> Parts for Seldom<P> {
@@ -40,6 +40,12 @@ impl<P: Parts> Parts for Seldom<P> {
     ghost output = { P.output };
 
     ghost plain = { P.plain };
+
+    ghost utters = { P.utters };
+
+    ghost utterances = { P.utterances };
+
+    ghost unsaid = { P.unsaid };
 
     ghost most = { P.most };
 
@@ -69,9 +75,9 @@ impl<P: Parts> Parts for Seldom<P> {
         }
     }
 
-    fn say_plain(&mut self, group: Group) {
+    fn say_plain(&mut self, voice: &mut Voice, moment: u64) {
         if self.any {
-            self.parts.as_mut().say_plain(group);
+            self.parts.as_mut().say_plain(voice, moment);
         }
     }
 

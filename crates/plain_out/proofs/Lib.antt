@@ -1,3 +1,4 @@
 pub mod Lengths
-pub mod Emits
 pub mod Staying
+pub mod Sayings
+pub mod PaceLaws

@@ -5,8 +5,11 @@ ghost use Rattle.arrayvec.specs.ArrayVec.{array_vec_len};
 ghost use Rattle.tag_block.specs.Writing.{longest_packet};
 ghost use Rattle.datagram450.specs.Datagram.{item_view};
 ghost use Rattle.gate_outbox.specs.Output.{emits_of, no_emits};
-ghost use Rattle.plain_out.specs.Plain.{plain_out, sentence_of, sentences_in};
+ghost use Rattle.plain_out.specs.Pace.{said_all, uttered};
+ghost use Rattle.plain_out.specs.Plain.{sentence_of, sentences_in};
 
+use crate::stream::Stream;
+use crate::voice::Voice;
 use datagram450::{LineItem, LineIter, lines};
 use gate_outbox::Emits;
 use sentence_text::Group;
@@ -15,14 +18,24 @@ use tag_block::Packet;
 /// The plain datagram, alone.
 pub type PlainEmits = Emits<0>;
 
-/// Leaves the sentences of the datagram that was emitted, where one was, for a transmission group.
-pub fn say_plain<const ROOM: usize>(group: Group, emits: &Emits<ROOM>, out: &mut PlainEmits)
+/// Leaves the sentences of the datagram that was emitted at this moment, where one was and the voice passes it on.
+pub fn say_plain<const ROOM: usize>(
+    voice: &mut Voice,
+    moment: u64,
+    stream: Option<Stream>,
+    emits: &Emits<ROOM>,
+    out: &mut PlainEmits,
+)
     requires { out.old ≡ no_emits }
-    ensures { emits_of out.new ≡ plain_out group (emits_of emits.now) }
+    ensures voice { voice.new ≡ (said_all voice.old moment (uttered stream (emits_of emits.now))).after }
+    ensures plain { emits_of out.new ≡ (said_all voice.old moment (uttered stream (emits_of emits.now))).plain }
 {
     if let Some(datagram) = emits.datagram() {
-        let plain = out.post(group);
-        push_sentences(datagram.packet.as_slice(), &mut plain.packet);
+        let datagram = datagram.packet.as_slice();
+        if voice.passes(moment, stream, datagram) {
+            let plain = out.post(voice.group());
+            push_sentences(datagram, &mut plain.packet);
+        }
     }
 }
 

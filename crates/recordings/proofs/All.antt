@@ -1,15 +1,16 @@
 -- All that is emitted at an entry is the same with a tick before it and without it, where nothing is emitted at that tick.
-use Rattle.std.proofs.Common.{◌≡◌, ℕ, ◌+◌, ◌*◌, ◌%◌, ◌≤◌, Bool, ◌&&◌, ◌==◌, List, [], ◌∷◌, ◌++◌, refl, ap, ◌∙◌}
-use Rattle.std.specs.Prelude.{Option, if◌then◌else◌}
+use Rattle.std.proofs.Common.{◌≡◌, ℕ, ◌+◌, ◌*◌, ◌%◌, ◌≤◌, Bool, ◌&&◌, ◌==◌, List, [], ◌∷◌, ◌++◌, refl, sym, ap, ◌∙◌}
+use Rattle.std.specs.Prelude.{Option, Some, None, option_map, if◌then◌else◌}
 use Rattle.n2k_id.specs.Pgns.{asked_of}
 use Rattle.bus_identity.specs.Answers.{Kept}
 use Rattle.bus_identity.specs.PgnLists.{product_information, pgn_lists}
 use Rattle.bus_identity.specs.Requests.{is_due}
 use Rattle.claim_table.specs.Claims.{is_ready}
 use Rattle.quantities.specs.Told.{kind_of}
-use Rattle.gate_events.specs.Emit.{Emit}
 use Rattle.history.specs.Entries.{Entry, History, frame, datagram, tick, moment_of, now}
 use Rattle.history.specs.Entries as entry
+use Rattle.readings.specs.declared.reading.Reading.{Reading}
+use Rattle.history.specs.FromBus as of_gateway
 use Rattle.history.specs.Gate.{expired, out}
 use Rattle.history.specs.Known.{Known}
 use Rattle.history.specs.Settings.{Settings, receiver_of}
@@ -18,7 +19,11 @@ use Rattle.bus_listener.specs.Heard.{heard_expired}
 use Rattle.ais_bridge.specs.AisOut.{report_gives, report_kinds}
 use Rattle.further_bridge.specs.FurtherOut.{further_done, message_breaks, said_at, lines_said, said_gives}
 use Rattle.bus_answers.specs.Answered.{answer_by, answered_before, answers, is_answered, own_after, ready_after, sent_before}
-use Rattle.gateway_commands.specs.Gate.{all_out, given, plain_of, tagged_out}
+use Rattle.plain_out.specs.Pace.{Utterance, Voice, uttered}
+use Rattle.plain_out.specs.Streams.{reading_stream}
+use Rattle.plain_out.specs.declared.stream.Stream.TheVariants as stream
+use Rattle.parts.specs.Utterances.{bytes_in, bytes_of}
+use Rattle.gateway_commands.specs.Gate.{all_out, all_utter, given, own_utters, plain_at, plain_of, tagged_out, voice_after, voice_in}
 use Rattle.ais_bridge.proofs.Form.{ships}
 use Rattle.bus_answers.proofs.Form.{answering}
 use Rattle.further_bridge.proofs.Form.{quantities}
@@ -31,13 +36,14 @@ use Rattle.gateway_commands.specs.BridgeSettings.{BridgeSettings}
 use Rattle.recordings.proofs.Known.{known_without}
 use Rattle.recordings.proofs.Gathered.{ap₃, joined, none_left, none_right}
 use Rattle.recordings.proofs.OwnAddress.{address_first, address_without}
-use Rattle.recordings.proofs.Quiet.{AreQuiet, Follows, IsQuiet, before, nothing_quiet}
+use Rattle.recordings.proofs.Quiet.{AreQuiet, Follows, GivesQuietly, IsQuiet, before, in_stream, nothing_quiet}
 use Rattle.recordings.proofs.Overdue.{expired_later, expired_first_later}
 use Rattle.recordings.proofs.Out.{out_without}
 use Rattle.recordings.proofs.Listened.{heard_later, heard_first_later}
 use Rattle.recordings.proofs.Rmc.{rmc_without, source_without}
 use Rattle.recordings.proofs.Supervised.{supervision_first, supervision_without}
-use Rattle.recordings.proofs.Ships.{ais_without, further_without}
+use Rattle.recordings.proofs.Said.{said_without}
+use Rattle.recordings.proofs.Ships.{ais_without, further_without, utters_without}
 
 -- ---- answers to who asks who the gateway is
 
@@ -85,28 +91,28 @@ abbrev heard_since : (kinds : ℕ → Kind) (limit : ℕ) (c : Settings) (s m : 
 heard_since kinds limit c s m h le none [] t = heard_first_later kinds limit c s m h le none t
 heard_since kinds limit c s m h le none (e ∷ newer) t = heard_later kinds limit c s m h e newer t
 
-answering_quiet : IsQuiet answering
-answering_quiet = record {
+answering_gives : GivesQuietly answering.give
+answering_gives = record {
   first = λ information c s. refl;
   later = λ information c s m h le none newer e follow. answers_without c s m h information newer e;
 }
 
-rmc_quiet : IsQuiet joined_rmc
-rmc_quiet = record {
+rmc_gives : GivesQuietly joined_rmc.give
+rmc_gives = record {
   first = λ r c s. refl;
   later = λ r c s m h le none newer e follow. rmc_without r c s m h newer e;
 }
 
-ships_quiet : IsQuiet ships
-ships_quiet = record {
+ships_gives : GivesQuietly ships.give
+ships_gives = record {
   first = λ a c s. refl;
   later = λ a c s m h le none newer e follow.
       ais_without a c s m h newer e
       (heard_since report_kinds a.slots c s m h le (none_left (heard_expired report_kinds a.slots c s h m) (report_gives a c s h (tick m)) none) newer (moment_of e));
 }
 
-quantities_quiet : IsQuiet quantities
-quantities_quiet = record {
+quantities_gives : GivesQuietly quantities.give
+quantities_gives = record {
   first = λ x c s. refl;
   later = λ x c s m h le none newer e follow.
       further_without x c s m h newer e
@@ -115,22 +121,46 @@ quantities_quiet = record {
       (message_breaks (further_done x c s h (tick m)) ++ said_gives x c.sfi (lines_said x c s h) (said_at x c s h (tick m))) none) newer (moment_of e));
 }
 
-sources_quiet : IsQuiet sources
-sources_quiet = record {
+sources_gives : GivesQuietly sources.give
+sources_gives = record {
   first = λ r c s. refl;
   later = λ r c s m h le none newer e follow. source_without c s m h newer e;
 }
 
-address_quiet : IsQuiet own_address
-address_quiet = record {
+address_gives : GivesQuietly own_address.give
+address_gives = record {
   first = λ r c s. address_first c s;
   later = λ r c s m h le none newer e follow. address_without c s m h none newer e;
 }
 
-supervision_quiet : IsQuiet supervision
-supervision_quiet = record {
+supervision_gives : GivesQuietly supervision.give
+supervision_gives = record {
   first = λ r c s. supervision_first r c s;
   later = λ r c s m h le none newer e follow. supervision_without r c s m h le none newer e follow;
+}
+
+answering_quiet : IsQuiet answering
+answering_quiet = record { gives = answering_gives; says = in_stream None answering.give answering_gives }
+
+rmc_quiet : IsQuiet joined_rmc
+rmc_quiet = record { gives = rmc_gives; says = in_stream (Some stream.Rmc) joined_rmc.give rmc_gives }
+
+ships_quiet : IsQuiet ships
+ships_quiet = record { gives = ships_gives; says = in_stream None ships.give ships_gives }
+
+sources_quiet : IsQuiet sources
+sources_quiet = record { gives = sources_gives; says = in_stream None sources.give sources_gives }
+
+address_quiet : IsQuiet own_address
+address_quiet = record { gives = address_gives; says = in_stream None own_address.give address_gives }
+
+supervision_quiet : IsQuiet supervision
+supervision_quiet = record { gives = supervision_gives; says = in_stream None supervision.give supervision_gives }
+
+quantities_quiet : IsQuiet quantities
+quantities_quiet = record {
+  gives = quantities_gives;
+  says = record { later = λ x c s m h le none newer e follow. utters_without x c s m h newer e };
 }
 
 -- all of them, in the order in which their emits go out
@@ -145,11 +175,24 @@ beside_quiet =
     (before supervision _ supervision_quiet
     nothing_quiet))))))
 
+-- ---- where nothing is given nothing is said, and nothing else is kept of plain sentences
+
+none_of_bytes : (us : List Utterance) → bytes_of us ≡ [] → us ≡ []
+none_of_bytes [] none = refl
+none_of_bytes (u ∷ us) none = absurd (cc)
+
+pub nothing_given : (p : BridgeSettings) (s : ℕ) (h : History) (e : Entry) → given p s h e ≡ [] → beside.utter p.parts p.gateway s h e ≡ []
+nothing_given p s h e none = none_of_bytes (beside.utter p.parts p.gateway s h e) (beside.datagrams p.parts p.gateway s h e ∙ ap bytes_in none)
+
+voice_stays : (voice : Option Voice) (m : ℕ) → voice_after voice m [] ≡ voice
+voice_stays None m = refl
+voice_stays (Some v) m = refl
+
 -- ---- all that is emitted, where nothing is at a tick
 
 module _ (p : BridgeSettings) (s m : ℕ) (h : History) (le : now h ≤ m) (none : all_out p s h (tick m) ≡ []) where
   tagged_none : tagged_out p s h (tick m) ≡ []
-  tagged_none = none_left (tagged_out p s h (tick m)) (plain_of p.plain (tagged_out p s h (tick m))) none
+  tagged_none = none_left (tagged_out p s h (tick m)) (plain_at p s h (tick m)) none
 
   -- what is overdue of the gateway itself is the same
   pub over : (newer : History) (t : ℕ) → expired p.gateway s (newer ++ h) t ≡ expired p.gateway s (newer ++ tick m ∷ h) t
@@ -163,5 +206,37 @@ module _ (p : BridgeSettings) (s m : ℕ) (h : History) (le : now h ≤ m) (none
       joined (out_without p.gateway s m h newer e (over newer (moment_of e)))
       (beside_quiet.gives.later p.parts p.gateway s m h le (none_right (out p.gateway s h (tick m)) (given p s h (tick m)) tagged_none) newer e follow)
 
+  -- what is said, and what is kept of plain sentences
+  own_alike : (newer : History) (e : Entry) → own_utters p s (newer ++ h) e ≡ own_utters p s (newer ++ tick m ∷ h) e
+  own_alike newer e =
+      ap (λ (r : Option Reading). uttered (option_map reading_stream r) (out p.gateway s (newer ++ h) e)) (said_without p.gateway s m h newer e)
+      ∙ ap (uttered (option_map reading_stream (of_gateway.said_at p.gateway s (newer ++ tick m ∷ h) e))) (out_without p.gateway s m h newer e (over newer (moment_of e)))
+
+  utter_alike : (newer : History) (e : Entry) → Follows m newer e → all_utter p s (newer ++ h) e ≡ all_utter p s (newer ++ tick m ∷ h) e
+  utter_alike newer e follow =
+      joined (own_alike newer e)
+      (beside_quiet.says.later p.parts p.gateway s m h le (none_right (out p.gateway s h (tick m)) (given p s h (tick m)) tagged_none) newer e follow)
+
+  tick_unsaid : all_utter p s h (tick m) ≡ []
+  tick_unsaid =
+      joined (ap (uttered (option_map reading_stream (of_gateway.said_at p.gateway s h (tick m)))) (none_left (out p.gateway s h (tick m)) (given p s h (tick m)) tagged_none))
+      (nothing_given p s h (tick m) (none_right (out p.gateway s h (tick m)) (given p s h (tick m)) tagged_none))
+
+  voice_alike : (newer : History) (e : Entry) → Follows m newer e → voice_in p s (newer ++ h) ≡ voice_in p s (newer ++ tick m ∷ h)
+  voice_alike [] e follow = sym (ap (voice_after (voice_in p s h) m) tick_unsaid ∙ voice_stays (voice_in p s h) m)
+  voice_alike (frame t f ∷ newer) e follow =
+      ap (λ (v : Option Voice). voice_after v t (all_utter p s (newer ++ h) (frame t f))) (voice_alike newer (frame t f) follow)
+      ∙ ap (voice_after (voice_in p s (newer ++ tick m ∷ h)) t) (utter_alike newer (frame t f) follow)
+  voice_alike (datagram t bytes ∷ newer) e follow =
+      ap (λ (v : Option Voice). voice_after v t (all_utter p s (newer ++ h) (datagram t bytes))) (voice_alike newer (datagram t bytes) follow)
+      ∙ ap (voice_after (voice_in p s (newer ++ tick m ∷ h)) t) (utter_alike newer (datagram t bytes) follow)
+  voice_alike (tick t ∷ newer) e follow =
+      ap (λ (v : Option Voice). voice_after v t (all_utter p s (newer ++ h) (tick t))) (voice_alike newer (tick t) follow)
+      ∙ ap (voice_after (voice_in p s (newer ++ tick m ∷ h)) t) (utter_alike newer (tick t) follow)
+  voice_alike (entry.command t source address ∷ newer) e follow = voice_alike newer (entry.command t source address) follow
+
   pub all_alike : (newer : History) (e : Entry) → Follows m newer e → all_out p s (newer ++ h) e ≡ all_out p s (newer ++ tick m ∷ h) e
-  all_alike newer e follow = ap (λ (x : List Emit). x ++ plain_of p.plain x) (tagged_alike newer e follow)
+  all_alike newer e follow =
+      joined (tagged_alike newer e follow)
+      (ap (λ (v : Option Voice). plain_of v (moment_of e) (all_utter p s (newer ++ h) e)) (voice_alike newer e follow)
+      ∙ ap (plain_of (voice_in p s (newer ++ tick m ∷ h)) (moment_of e)) (utter_alike newer e follow))

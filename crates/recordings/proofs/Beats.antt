@@ -1,8 +1,8 @@
 -- Heartbeats are the same with a tick and without it, where they give nothing at that tick. A frame of PGN 126993 goes by the moment at which it
 -- was due: if the gateway wasn't ready then, no later event makes it so.
-use Rattle.std.proofs.Common.{◌≡◌, ℕ, zero, suc, ◌+◌, ◌-◌, ◌*◌, ◌/◌, ◌<◌, ◌≤◌, Bool, true, false, ◌&&◌, List, [], ◌∷◌, ◌++◌, length, refl, sym, ap, ◌∙◌, arith}
+use Rattle.std.proofs.Common.{◌≡◌, ℕ, ◌+◌, ◌-◌, ◌*◌, ◌/◌, ◌≤◌, Bool, true, false, ◌&&◌, [], ◌∷◌, ◌++◌, length, refl, sym, ap, ◌∙◌, arith}
 use Rattle.std.specs.Prelude.{nat_lt, nat_le, not, Option, Some, None, is_some, if◌then◌else◌, ◌==◌}
-use Rattle.std.proofs.lemmas.Bool.{false≢true, le-ltb, leb-true, lt-ltb, ltb-false, ltb-true}
+use Rattle.std.proofs.lemmas.Bool.{false≢true, le-ltb, leb-true, lt-ltb, ltb-true}
 use Rattle.n2k_id.specs.Frame.{BusFrame}
 use Rattle.claim_table.specs.Claims.{Claim, Claims, at_address, at_held, at_other, at_own, by_name, claim, claim_wait, holder_at, is_at, is_ready, moved, next_own, settled, with_taken, without_left}
 use Rattle.claim_table.specs.declared.answer.Holder.{Holder}
@@ -17,7 +17,7 @@ use Rattle.parts.specs.Compose.{maybe_give}
 use Rattle.heartbeats.specs.BeatOut.{beat_from, beat_out, beats_before, claims_after, hbt_before, hbt_emit, hbt_out, is_beat, is_well}
 use Rattle.heartbeats.specs.Beats.{Silence, beats_give_by}
 use Rattle.heartbeats.specs.Due.{due_by, is_due, last_due}
-use Rattle.heartbeats.proofs.DueLemmas.{due_up, same_due}
+use Rattle.heartbeats.proofs.DueLemmas.{same_due}
 use Rattle.heartbeats.proofs.Grid.{last_by}
 use Rattle.recordings.proofs.Gathered.{ap₃, joined, none_left, none_right}
 use Rattle.recordings.proofs.Known.{known_without}

@@ -7,22 +7,27 @@ use Rattle.history.specs.Emits.{at, is_there}
 use Rattle.history.specs.Entries.{Entry, History, frame, datagram, tick, command, is_accepted, moment_of, now}
 use Rattle.history.specs.Gate.{command_in, opening}
 use Rattle.history.specs.Messages.{Message, done, ordered_in}
-use Rattle.history.specs.Settings.{Settings, receiver_of}
-use Rattle.gateway_commands.specs.Gate.{all_out, from_events, plain_of, stepped, with_command}
+use Rattle.history.specs.Settings.{receiver_of}
+use Rattle.plain_out.specs.Pace.{Voice}
+use Rattle.gateway_commands.specs.Gate.{all_out, from_events, plain_at, plain_of, stepped, voice_by, with_command}
 use Rattle.gateway_commands.specs.BridgeSettings.{BridgeSettings}
 use Rattle.recordings.specs.Idle.{AreFrom, BeginFrom, busy, is_idle}
 use Rattle.recordings.specs.IdleLaws.{StartIsIdle, BusyEvents, BusyGate}
 use Rattle.recordings.proofs.Events.{idle_ticks}
-use Rattle.recordings.proofs.All.{beside_quiet}
+use Rattle.recordings.proofs.All.{beside_quiet, nothing_given}
 
 -- ---- before anything came
 
-plain_idle : (plain : Option (List ℕ)) → plain_of plain [] ≡ []
-plain_idle None = refl
-plain_idle (Some group) = refl
+plain_idle : (voice : Option Voice) (m : ℕ) → plain_of voice m [] ≡ []
+plain_idle None m = refl
+plain_idle (Some v) m = refl
 
 pub start_is_idle : StartIsIdle
-start_is_idle p s = ap (λ (x : List Emit). x ++ plain_of p.plain x) (beside_quiet.gives.first p.parts p.gateway s) ∙ plain_idle p.plain
+start_is_idle p s =
+    let none = beside_quiet.gives.first p.parts p.gateway s in
+    ap (λ (x : List Emit). x ++ plain_at p s [] (tick s)) none
+    ∙ ap (plain_of (voice_by p.plain) s) (nothing_given p s [] (tick s) none)
+    ∙ plain_idle (voice_by p.plain) s
 
 -- ---- all of them
 

@@ -17,7 +17,7 @@ use Rattle.bus_listener.specs.Heard.{heard_expired}
 use Rattle.ais_bridge.specs.AisOut.{ais_done, ais_out, ais_said, lines_said, report_kinds}
 use Rattle.ais_bridge.specs.Reports.{line_count, said_by, said_gives}
 use Rattle.further_bridge.specs.FurtherOut as further
-use Rattle.further_bridge.specs.FurtherOut.{further_done, further_out, further_receiver, has_voice, is_row_said, is_selected, message_breaks, number_in, quantity_told, said_at, selected, selected_in, told_by, values_of}
+use Rattle.further_bridge.specs.FurtherOut.{further_done, further_out, further_receiver, further_utters, has_voice, is_row_said, is_selected, magnetic_in, message_breaks, number_in, quantity_told, said_at, said_utters, selected, selected_in, told_by, values_of}
 use Rattle.further_bridge.specs.FurtherRule.{FurtherRule, rule_at}
 use Rattle.recordings.proofs.Places.{closed}
 use Rattle.recordings.proofs.Renumbered.{holder_as}
@@ -80,6 +80,10 @@ breaks_as : (f : ℕ → ℕ) (d : Option Message) → message_breaks (option_ma
 breaks_as f None = refl
 breaks_as f (Some d) = refl
 
+magnetic_as : (f : ℕ → ℕ) (d : Option Message) → magnetic_in (option_map (message_as f) d) ≡ magnetic_in d
+magnetic_as f None = refl
+magnetic_as f (Some d) = refl
+
 selected_is : (x : FurtherRule) (c : Settings) (s : ℕ) (h : History) (d : Option Message)
     → selected_in x c s h d ≡ selected_of x (known (further_receiver x c) s h).claims.holders (messages_of (further_receiver x c) s h) d
 selected_is x c s h None = refl
@@ -123,3 +127,14 @@ module _ (x : FurtherRule) (c : Settings) (s m : ℕ) (h : History) where
       (joined (ap message_breaks (heard_done_without kind_of x.slots c s m h newer e) ∙ breaks_as (closed (length h)) (further_done x c s with_it e))
       (ap (λ (before : ℕ). further.said_gives x c.sfi before (said_at x c s (newer ++ h) e)) (further_lines_without newer)
       ∙ ap (λ (vs : List Value). further.said_gives x c.sfi (further.lines_said x c s with_it) vs) (values_without newer e)))
+
+  -- each with its stream
+  pub utters_without : (newer : History) (e : Entry) → further_utters x c s (newer ++ h) e ≡ further_utters x c s (newer ++ tick m ∷ h) e
+  utters_without newer e =
+      let with_it = newer ++ tick m ∷ h in
+      ap (λ (d : Option Message). said_utters x (magnetic_in d) c.sfi (further.lines_said x c s (newer ++ h)) (said_at x c s (newer ++ h) e))
+      (heard_done_without kind_of x.slots c s m h newer e)
+      ∙ ap (λ (b : Bool). said_utters x b c.sfi (further.lines_said x c s (newer ++ h)) (said_at x c s (newer ++ h) e))
+      (magnetic_as (closed (length h)) (further_done x c s with_it e))
+      ∙ ap (λ (before : ℕ). said_utters x (magnetic_in (further_done x c s with_it e)) c.sfi before (said_at x c s (newer ++ h) e)) (further_lines_without newer)
+      ∙ ap (λ (vs : List Value). said_utters x (magnetic_in (further_done x c s with_it e)) c.sfi (further.lines_said x c s with_it) vs) (values_without newer e)

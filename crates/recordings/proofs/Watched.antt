@@ -5,11 +5,10 @@ use Rattle.std.specs.List.{AllByRecursion}
 use Rattle.std.proofs.lemmas.Bool.{le-ltb}
 use Rattle.std.proofs.Math.Nat.{add-zero}
 use Rattle.readings.specs.declared.rows.Row.{Row}
-use Rattle.gate_events.specs.Emit.{Emit}
 use Rattle.history.specs.Entries.{Entry, History, moment_of, tick}
 use Rattle.history.specs.Settings.{Settings}
 use Rattle.gate_core.specs.Selected.{Selected, selected_at}
-use Rattle.row_watch.specs.WatchOut.{Change, alert_of, change, changes, changes_before, is_overdue, is_silent, last_said, report_of, said_with, told, watch_out}
+use Rattle.row_watch.specs.WatchOut.{Change, change, changes, changes_before, is_overdue, is_silent, last_said, said_with, told, watch_out}
 use Rattle.row_watch.specs.WatchRule.{WatchRule, Watched}
 use Rattle.recordings.proofs.Places.{closed}
 use Rattle.recordings.proofs.Lasting.{selected_as, selected_without}

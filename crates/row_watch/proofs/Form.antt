@@ -8,6 +8,7 @@ use Rattle.config_values.specs.Rows.{IsTalker}
 use Rattle.settings.specs.Setup.{gateway_of}
 use Rattle.settings.specs.declared.watch.AlertConfig.{AlertConfig}
 use Rattle.parts.specs.Compose.{maybe_speaks}
+use Rattle.parts.specs.Utterances.{streamless, utters_datagrams}
 use Rattle.parts.specs.Forms.{PartForm}
 use Rattle.parts.specs.Voices.{EachSays, IsRead, IsUnderstood}
 use Rattle.parts.proofs.Lines.{says_one}
@@ -55,9 +56,11 @@ row_watch = record {
   places = alerts_place;
   stand = watch_stands;
   give = watch_gives;
+  utter = streamless watch_gives;
   say = watch_says;
   speaks = SpeaksWatch;
   commands = watch_keeps_commands;
   read = watch_is_read;
   understood = understood;
+  datagrams = utters_datagrams None watch_gives;
 }

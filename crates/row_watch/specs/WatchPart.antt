@@ -10,13 +10,13 @@ use Rattle.settings.specs.declared.watch.AlertConfig.{AlertConfig}
 use Rattle.parts.specs.Forms.{PlaceForm}
 use Rattle.parts.specs.Voices.{Spoken}
 use Rattle.row_watch.specs.Alert.{alert_text}
-use Rattle.row_watch.specs.Alerts.{alerts_output, alerts_plain}
+use Rattle.row_watch.specs.Alerts.{alerts_output, alerts_plain, alerts_unsaid, alerts_utterances}
 use Rattle.row_watch.specs.declared.alerts.Alerts.{Alerts}
 use Rattle.row_watch.specs.WatchOut.{Change, changes}
 use Rattle.row_watch.specs.WatchRule.{WatchRule, asked}
 
 abbrev pub alerts_place : PlaceForm
-alerts_place = record { kept = Alerts; output = alerts_output; plain = alerts_plain }
+alerts_place = record { kept = Alerts; output = alerts_output; plain = alerts_plain; utterances = alerts_utterances; unsaid = alerts_unsaid }
 
 abbrev pub watch_asked : Setup → Option WatchRule
 watch_asked x = asked x.watch x.settings.config.sfi

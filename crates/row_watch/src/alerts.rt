@@ -3,12 +3,12 @@ ghost use Rattle.std.specs.Prelude.{◌≡◌, ◌≤◌, ◌<◌, ◌+◌, ◌+
 ghost use Rattle.gate_events.specs.Emit.{CanWrite, net, report};
 ghost use Rattle.gate_outbox.specs.Output.{emit_of};
 ghost use Rattle.plain_out.specs.Plain.{plain_of, plain_out, sentences_in};
-ghost use Rattle.row_watch.specs.Alerts.{alerts_output, alerts_plain, longest_alert, most_alerts, short_emit, told_emit};
+ghost use Rattle.row_watch.specs.Alerts.{alerts_output, alerts_plain, alerts_unsaid, alerts_utterances, longest_alert, most_alerts, short_emit, told_emit};
 
 use arrayvec::ArrayVec;
 use gate_events::{Detail, Emit, Report};
 use parts::Place;
-use plain_out::push_sentences;
+use plain_out::{Voice, push_sentences};
 use readings::ROWS;
 use report_rules::ROW_WATCHED;
 use sentence_text::Group;
@@ -101,6 +101,10 @@ impl Place for Alerts {
 
     ghost plain = { alerts_plain };
 
+    ghost utterances = { alerts_utterances };
+
+    ghost unsaid = { alerts_unsaid };
+
     ghost most = { most_alerts };
 
     fn new() -> Self {
@@ -115,8 +119,9 @@ impl Place for Alerts {
         self.plain.clear();
     }
 
-    fn say_plain(&mut self, group: Group) {
-        say_all(self.told.as_slice(), group, &mut self.plain);
+    #[tactic(auto, using(plain_out::proofs::Sayings::streamless_after, plain_out::proofs::Sayings::streamless_plain))]
+    fn say_plain(&mut self, voice: &mut Voice, _moment: u64) {
+        say_all(self.told.as_slice(), voice.group(), &mut self.plain);
     }
 
     fn len(&self) -> usize {

@@ -173,6 +173,7 @@ fn write_datagram(
 }
 
 impl Part<Alerts> for RowWatch {
+    ghost use Rattle.parts.specs.Utterances.{streamless};
     ghost use Rattle.row_watch.specs.WatchRule.{WatchRule};
 
     ghost Rule = { WatchRule };
@@ -182,6 +183,8 @@ impl Part<Alerts> for RowWatch {
     ghost stands = { watch_stands };
 
     ghost gives = { watch_gives };
+
+    ghost utters = { streamless watch_gives };
 
     fn opened(_alloc: Global, setup: &Setup) -> Result<Option<RowWatch>, AllocError> {
         let watch = RowWatch::new(&setup.watch, setup.settings.config.sfi);

@@ -25,6 +25,7 @@ alone_is_setup s are = record {
   ignore = record { each = All-nil IsPattern; apart = λ i j d before within. absurd (omega (arith, within)) };
   quantities = λ q there. absurd (none-some q there);
   plain = λ group there. absurd (none-some group there);
+  pace = (omega arith, omega arith);
   watch = none_watched (IsAlertGroup s None None);
   heartbeat = record { net = λ n there. absurd (none-some n there); bus = λ every there. absurd (none-some every there) };
   heartbeat_group = λ n there. absurd (none-some n there);

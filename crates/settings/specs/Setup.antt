@@ -26,6 +26,7 @@ alone s = record {
   sources = false;
   address = false;
   plain = None;
+  plain_every_ms = 0;
   «record» = false;
   watch = no_watch;
   heartbeat = no_heartbeat;
@@ -75,6 +76,7 @@ pub record IsSetup (x : Setup) : Type 0 where
   pub ignore : AreSources x.ignore.items
   pub quantities : ForSome x.quantities (AreQuantities x.settings)
   pub plain : ForSome x.plain (IsPlainGroup x.settings x.quantities)
+  pub pace : IsInRange 0 60000 x.plain_every_ms
   pub watch : IsWatch (IsAlertGroup x.settings x.quantities x.plain) x.watch
   pub heartbeat : IsHeartbeat x.heartbeat
   pub heartbeat_group : ForSome x.heartbeat.net (λ n. IsHeartbeatGroup x.settings x.quantities x.plain (alert_group x.watch) n.group)

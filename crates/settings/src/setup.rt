@@ -26,6 +26,8 @@ pub struct Setup {
     pub address: bool,
     /// The transmission group that all sentences are sent to once more, without headers and TAG blocks; none: they aren't.
     pub plain: Option<Group>,
+    /// How long plain sentences that say the same pause, in milliseconds, 0 to 60,000; 0: not at all.
+    pub plain_every_ms: u32,
     /// Whether a run writes down what comes.
     pub record: bool,
     /// Which rows have to be said.
@@ -52,6 +54,7 @@ impl Setup {
             sources: false,
             address: false,
             plain: None,
+            plain_every_ms: 0,
             record: false,
             watch: WatchConfig {
                 limits: [None; ROWS],

@@ -5,6 +5,7 @@ use Rattle.n2k_id.specs.declared.name.Name.{Name}
 use Rattle.gate_events.specs.declared.emit.Report.{Report}
 use Rattle.history.specs.EntryLaws.{nets_in}
 use Rattle.parts.specs.Selected.{selected_at}
+use Rattle.parts.specs.Utterances.{streamless, utters_datagrams}
 use Rattle.parts.specs.Forms.{PartForm, place}
 use Rattle.parts.specs.PartSteps.{KeepsCommands}
 use Rattle.parts.specs.Voices.{silent}
@@ -26,9 +27,11 @@ sources = record {
   places = place 1;
   stand = sources_stand;
   give = sources_give;
+  utter = streamless sources_give;
   say = λ r c s h e. [];
   speaks = λ r c. Unit {0};
   commands = keeps_commands;
   read = λ r c s h e speaks. silent (source_out c s h e) (no_change (changed c s h (selected_at c s h e)));
   understood = λ x typed valid. λ r is. tt;
+  datagrams = utters_datagrams None sources_give;
 }

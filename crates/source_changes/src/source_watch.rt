@@ -101,6 +101,8 @@ impl SourceWatch {
 }
 
 impl Part<SourcesPlace> for SourceWatch {
+    ghost use Rattle.parts.specs.Utterances.{streamless};
+
     ghost Rule = { Unit {0} };
 
     ghost asked = { sources_asked };
@@ -108,6 +110,8 @@ impl Part<SourcesPlace> for SourceWatch {
     ghost stands = { sources_stand };
 
     ghost gives = { sources_give };
+
+    ghost utters = { streamless sources_give };
 
     fn opened(_alloc: Global, setup: &Setup) -> Result<Option<SourceWatch>, AllocError> {
         if setup.sources {

@@ -4,6 +4,7 @@ use Rattle.std.specs.Prelude.{Option, Some, None}
 use Rattle.settings.specs.Setup.{gateway_of}
 use Rattle.settings.specs.declared.heartbeat.HeartbeatConfig.{HeartbeatConfig}
 use Rattle.parts.specs.Compose.{maybe_give, maybe_keep_commands, maybe_read, maybe_say, maybe_speaks}
+use Rattle.parts.specs.Utterances.{streamless, utters_datagrams}
 use Rattle.parts.specs.Forms.{PartForm, and_behind, place}
 use Rattle.parts.specs.PartSteps.{KeepsCommands}
 use Rattle.parts.specs.Voices.{IsRead, IsUnderstood, both_say}
@@ -55,9 +56,11 @@ supervision = record {
   places = and_behind alerts_place (and_behind (place 0) (place 1));
   stand = supervision_stands;
   give = supervision_gives;
+  utter = streamless supervision_gives;
   say = supervision_says;
   speaks = SpeaksSupervision;
   commands = keeps_commands;
   read = is_read;
   understood = understood;
+  datagrams = utters_datagrams None supervision_gives;
 }

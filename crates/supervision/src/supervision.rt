@@ -28,6 +28,7 @@ pub struct Supervision {
 }
 
 impl Part<SupervisionPlace> for Supervision {
+    ghost use Rattle.parts.specs.Utterances.{streamless};
     ghost use Rattle.supervision.specs.Supervised.{SupervisionRule};
 
     ghost Rule = { SupervisionRule };
@@ -37,6 +38,8 @@ impl Part<SupervisionPlace> for Supervision {
     ghost stands = { supervision_stands };
 
     ghost gives = { supervision_gives };
+
+    ghost utters = { streamless supervision_gives };
 
     fn opened(alloc: Global, setup: &Setup) -> Result<Option<Supervision>, AllocError> {
         let watch = RowWatch::opened(alloc, setup)?;

@@ -10,6 +10,7 @@ returns-clause-valid c =
       sources = c.in_ok-sources.sources;
       address = c.in_ok-sources.address;
       plain = c.in_ok-plain.plain;
+      plain_every_ms = c.in_ok-plain_every_ms.plain_every_ms;
       «record» = c.in_ok-recording.recording;
       watch = c.in_ok-watch.watch;
       heartbeat = c.in_ok-heartbeat.heartbeat;
@@ -17,5 +18,6 @@ returns-clause-valid c =
     c.in_ok-settings.ensures.valid c.in_ok-ignore.ensures.valid
     (rw (c.rmc_group.ensures, c.ais_group.ensures) at c.in_ok-quantities.ensures.valid)
     (rw (c.quantities_group.ensures, c.rmc_group.ensures, c.ais_group.ensures) at c.in_ok-plain.ensures.valid)
+    c.in_ok-plain_every_ms.ensures.valid
     (rw c.groups_beside-groups.ensures at c.in_ok-watch.ensures.valid) c.in_ok-heartbeat.ensures.valid
     (rw c.groups_behind-groups.ensures at c.in_ok-heartbeat.ensures.free)

@@ -1,13 +1,14 @@
-use Rattle.std.proofs.Common.{◌≡◌, ℕ, List, ◌++◌, sym, ap, subst, ◌∙◌}
-use Rattle.std.specs.Prelude.{Option}
+use Rattle.std.proofs.Common.{◌≡◌, ℕ, ◌++◌, sym, ap, subst, ◌∙◌}
+use Rattle.std.specs.Prelude.{Option, Some}
+use Rattle.plain_out.specs.Pace.{Voice}
 use Rattle.gate_core.specs.Steps.{entry_of}
-use Rattle.gate_outbox.specs.Output.{emits_of}
-use Rattle.bridge.specs.Beside.{beside_output}
-use Rattle.bridge.specs.BridgeStands.{AreTold, IsBesideStep}
-use Rattle.bridge.specs.Gate.{plain_of}
+use Rattle.history.specs.Entries.{History}
+use Rattle.history.specs.Settings.{Settings}
+use Rattle.bridge.specs.Beside.{beside_utterances}
+use Rattle.bridge.specs.BridgeStands.{AreTold, IsBesideStep, own_said}
 use Rattle.bridge.specs.Kept.{Bridged, IsAlone}
 use Rattle.bridge.specs.declared.call_output.CallOutput.{CallOutput}
-use Rattle.bridge.proofs.Steps.{is_beside_step, is_said_step, nothing_said}
+use Rattle.bridge.proofs.Steps.{is_beside_step, is_said_step, no_plain, no_voice, nothing_kept, nothing_plain, silent_step}
 use Rattle.bridge.proofs.bridge.Bridge.tell.Goals as goal
 
 pub returns-else-posts : goal.returns-else-posts
@@ -21,13 +22,17 @@ returns-else-posts c =
     let told : AreTold e before parts = λ r settings s h are start could taken stands. c.after-self-inside.ensures.takes r settings s h
     (record { settings = are; start = start; could = could; taken = taken }) stands in
     let alone : IsAlone before.output before.parts = subst (λ (b : Bridged). IsAlone b.output b.parts) (sym same) c.requires.alone in
-    let silent = ap (λ (group : Option (List ℕ)). plain_of group (emits_of x.outbox.emits ++ beside_output parts)) c.in-Some.is
-    ∙ nothing_said c.in-Some.group x.outbox (beside_output parts) (c.after-self-inside.ensures.gave c.if-self.false) (c.posts.ensures c.if-posts.false) in
-    subst (λ (b : Bridged). IsBesideStep e b (record before { parts = parts })) same
-    (is_beside_step e before parts told alone c.after-self-inside.ensures.unsaid silent)
+    let us = λ (settings : Settings) (s : ℕ) (h : History). own_said settings s h e x.outbox ++ beside_utterances parts in
+    let silent = λ (settings : Settings) (s : ℕ) (h : History).
+    silent_step settings s h e x.outbox parts (c.after-self-inside.ensures.gave c.if-self.false) (c.posts.ensures c.if-posts.false) in
+    subst (λ (b : Bridged). IsBesideStep e b (record before { parts = parts; plain = Some c.in-Some.voice })) same
+    (subst (λ (v : Option Voice). IsBesideStep e before (record before { parts = parts; plain = v })) c.in-Some.is
+    (is_beside_step e before parts told alone c.after-self-inside.ensures.unsaid
+    (λ settings s h. nothing_plain i.plain i.gateway.moment (us settings s h) (silent settings s h))
+    (λ settings s h. nothing_kept i.plain i.gateway.moment (us settings s h) (silent settings s h))))
 
-pub returns-in-None : goal.returns-in-None
-returns-in-None c =
+pub returns-in_default : goal.returns-in_default
+returns-in_default c =
     let i = c.self.inside in
     let x = c.as_mut-output.result.now in
     let e = entry_of c.args.event.now in
@@ -37,9 +42,11 @@ returns-in-None c =
     let told : AreTold e before parts = λ r settings s h are start could taken stands. c.after-self-inside.ensures.takes r settings s h
     (record { settings = are; start = start; could = could; taken = taken }) stands in
     let alone : IsAlone before.output before.parts = subst (λ (b : Bridged). IsAlone b.output b.parts) (sym same) c.requires.alone in
+    let us = λ (settings : Settings) (s : ℕ) (h : History). own_said settings s h e x.outbox ++ beside_utterances parts in
     subst (λ (b : Bridged). IsBesideStep e b (record before { parts = parts })) same
     (is_beside_step e before parts told alone c.after-self-inside.ensures.unsaid
-    (ap (λ (group : Option (List ℕ)). plain_of group (emits_of x.outbox.emits ++ beside_output parts)) c.in-None.is))
+    (λ settings s h. no_plain i.plain i.gateway.moment (us settings s h) c.in_default.is)
+    (λ settings s h. no_voice i.plain i.gateway.moment (us settings s h) c.in_default.is))
 
 pub returns-then-self : goal.returns-then-self
 returns-then-self c =
@@ -53,5 +60,5 @@ returns-then-self c =
     let told : AreTold e before parts = λ r settings s h are start could taken stands. c.after-self-inside.ensures.takes r settings s h
     (record { settings = are; start = start; could = could; taken = taken }) stands in
     let alone : IsAlone before.output before.parts = subst (λ (b : Bridged). IsAlone b.output b.parts) (sym same) c.requires.alone in
-    subst (λ (b : Bridged). IsBesideStep e b (record before { parts = after.parts; output = after.output })) same
-    (is_said_step e before parts after.parts after.output c.in-Some.group c.in-Some.is told alone c.say_again.ensures)
+    subst (λ (b : Bridged). IsBesideStep e b (record before { parts = after.parts; plain = Some after.voice; output = after.output })) same
+    (is_said_step e before parts after.parts after.output c.in-Some.voice after.voice c.in-Some.is told alone c.say_again.ensures)

@@ -11,6 +11,6 @@ returns c = record {
   output = c.in_ok-output.ensures;
   gateway = c.in_ok-gateway.ensures;
   parts = c.in_ok-parts.ensures;
-  plain = refl;
+  plain = c.in_ok-plain.ensures;
   records = refl;
 }

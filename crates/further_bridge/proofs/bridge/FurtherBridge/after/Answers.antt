@@ -1,12 +1,14 @@
-use Rattle.std.proofs.Common.{◌≡◌, ◌≤◌, ◌++◌, [], length, length-append, ap, ◌∙◌, arith}
+use Rattle.std.proofs.Common.{◌≡◌, ◌≤◌, List, ◌++◌, [], length, length-append, ap, ◌∙◌, arith}
 use Rattle.std.specs.Prelude.{option_map}
+use Rattle.gate_events.specs.Emit.{Emit}
 use Rattle.gate_outbox.specs.Output.{Emitted, and_left, and_posted}
 use Rattle.gate_outbox.proofs.Telling.{left_first}
 use Rattle.gate_core.proofs.Picks.{last_is_picked}
 use Rattle.parts.specs.Picked.{last_picked}
 use Rattle.bus_listener.specs.Steps.{entry_of}
-use Rattle.further_bridge.specs.Kept.{FurtherStep, followed, hearing_by, message_step, most_told, said_of, step_by}
+use Rattle.further_bridge.specs.Kept.{FurtherStep, followed, hearing_by, message_step, most_told, said_of, step_by, streams_in}
 use Rattle.further_bridge.proofs.MessageLemmas.{message_room}
+use Rattle.further_bridge.proofs.Passing.{says_no_second, says_no_third}
 use Rattle.further_bridge.proofs.Places.{placed}
 use Rattle.further_bridge.proofs.StepLemmas.{taken_step}
 use Rattle.further_bridge.proofs.bridge.FurtherBridge.after.Goals as goal
@@ -30,8 +32,12 @@ returns c =
     c.step.ensures.second ∙ ap (λ o. and_posted o y.second) c.requires.second_empty ∙ placed y.second in
     let third : c.step.new.third ≡ record { told = []; posted = y.third } =
     c.step.ensures.third ∙ ap (λ o. and_posted o y.third) c.requires.third_empty ∙ placed y.third in
+    let unposted = λ (es : List Emit). let o : Emitted = record { told = []; posted = es } in o in
     let picked = last_is_picked g c.args.outbox.now in
     record {
       step = record { new = new; picked = picked; after_is = c.step.ensures.after; first_is = first; second_is = second; third_is = third };
-      history = taken_step g c.args.outbox.now new picked c.args.event.now k _ _ _ _ c.step.ensures.history c.step.ensures.after first second third;
+      history = taken_step g c.args.outbox.now new picked c.args.event.now k _ _ _ _ (streams_in c.step.result) c.step.ensures.history c.step.ensures.after first second third c.step.ensures.streams;
+      silent = λ none.
+          let never = c.step.ensures.passed none in
+          (second ∙ ap unposted (says_no_second g k new e never), third ∙ ap unposted (says_no_third g k new e never));
     }
