@@ -36,7 +36,7 @@ class Network:
         return [Target(path, tuple(groups[end]), end) for end, path in paths.items()]
 
     def is_plain(self, target):
-        """Whether all sentences come there once more, as plain ones."""
+        """Whether plain sentences come there."""
         return self.plain in target.groups
 
     def is_port(self, target):
