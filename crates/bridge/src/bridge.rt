@@ -79,7 +79,12 @@ impl Bridge {
         let parts = Beside::made(alloc, setup)?;
         let plain = voice_of(alloc, setup)?;
         // The largest part, last: what is kept while others are made lies on the stack once more.
-        let gateway = Gateway::ignoring(alloc, &setup.settings.config, &setup.ignore)?;
+        let gateway = Gateway::with(
+            alloc,
+            &setup.settings.config,
+            &setup.ignore,
+            setup.optional_sentences,
+        )?;
         Ok(Bridge {
             gateway,
             started: false,

@@ -75,6 +75,8 @@ fn is_unwatched(watch: &WatchConfig) -> bool {
 /// Whether no further key asks for anything.
 fn is_alone(setup: &Setup) -> bool {
     setup.ignore.is_empty()
+        && !setup.optional_sentences.rmc
+        && setup.optional_sentences.dbt
         && setup.quantities.is_none()
         && !setup.sources
         && !setup.address
@@ -188,6 +190,8 @@ report.address = true
 plain.group = "PLAN"
 plain.every_ms = 60000
 serve.record = true
+net.rmc = true
+net.dbt = false
 "#;
 
 const CONVERTERS: Pattern = Pattern {
@@ -205,6 +209,8 @@ fn is_asked_for(setup: &Setup) -> bool {
         && setup.quantities.is_none()
         && setup.plain == Group::of(b"PLAN")
         && setup.plain_every_ms == 60_000
+        && setup.optional_sentences.rmc
+        && !setup.optional_sentences.dbt
 }
 
 fn has_further_keys(alloc: Global) -> bool {

@@ -18,7 +18,7 @@ rows_are_said c valid = record {
 
 pub are_settings : ConfigsAreSettings
 unfolding settings_ignoring
-are_settings ignored c valid = let opens = opens_table c valid in record {
+are_settings ignored optional c valid = let opens = opens_table c valid in record {
   settings = record { address = opens.address; apart = opens.apart; others = opens.others };
   limits = record { fast = valid.fast_slots.1; iso = valid.iso_slots.1; groups = valid.group_slots.1 };
 }
@@ -31,4 +31,4 @@ rule_of_place ignored (row ∷ rows) (suc n) d within = rule_of_place ignored ro
 
 pub rules_are_by_number : RulesAreByNumber
 unfolding settings_ignoring
-rules_are_by_number ignored c n d within = rule_of_place ignored c.rows n d within
+rules_are_by_number ignored optional c n d within = rule_of_place ignored c.rows n d within

@@ -5,7 +5,7 @@ use Rattle.n2k_id.specs.declared.pattern.Pattern.{Pattern}
 use Rattle.claim_table.specs.Claims.{move_places, places, repeats, takes}
 use Rattle.history.specs.AddressLaws.{AreSettings}
 use Rattle.history.specs.FitLaws.{IsWithinLimits}
-use Rattle.history.specs.Settings.{rule_at}
+use Rattle.history.specs.Settings.{SentenceChoice, rule_at}
 use Rattle.config_values.specs.declared.config.Config.{Config}
 use Rattle.config_values.specs.declared.row_config.RowConfig.{RowConfig}
 use Rattle.config_values.specs.Configs.{IsConfig}
@@ -40,15 +40,15 @@ abbrev pub RowsAreSaid : Type 0
 RowsAreSaid = (c : Config) → IsConfig c → AreSaid c
 
 -- a gateway can be made of the settings, and every entry fits its room
-pub record AreGatewaySettings (ignored : List Pattern) (c : Config) : Type 0 where
-  pub settings : AreSettings (settings_ignoring ignored c)
-  pub limits : IsWithinLimits (settings_ignoring ignored c)
+pub record AreGatewaySettings (ignored : List Pattern) (optional : SentenceChoice) (c : Config) : Type 0 where
+  pub settings : AreSettings (settings_ignoring ignored optional c)
+  pub limits : IsWithinLimits (settings_ignoring ignored optional c)
 
 abbrev pub ConfigsAreSettings : Type 0
-ConfigsAreSettings = (ignored : List Pattern) (c : Config) → IsConfig c → AreGatewaySettings ignored c
+ConfigsAreSettings = (ignored : List Pattern) (optional : SentenceChoice) (c : Config) → IsConfig c → AreGatewaySettings ignored optional c
 
 -- the rule of each row is that of its place, and all ignore the same devices
 abbrev pub RulesAreByNumber : Type 0
 RulesAreByNumber =
-    (ignored : List Pattern) (c : Config) (n : ℕ) (d : RowConfig) → n < length c.rows
-    → rule_at (settings_ignoring ignored c).rows n ≡ rule_of_row ignored (slice_index_or c.rows n d)
+    (ignored : List Pattern) (optional : SentenceChoice) (c : Config) (n : ℕ) (d : RowConfig) → n < length c.rows
+    → rule_at (settings_ignoring ignored optional c).rows n ≡ rule_of_row ignored (slice_index_or c.rows n d)

@@ -2,7 +2,7 @@
 -- listen and send.
 use Rattle.std.specs.Prelude.{List, [], map}
 use Rattle.n2k_id.specs.declared.pattern.Pattern.{Pattern}
-use Rattle.history.specs.Settings.{RowRule, Settings}
+use Rattle.history.specs.Settings.{RowRule, SentenceChoice, Settings, usual_sentences}
 use Rattle.config_values.specs.declared.config.Config.{Config}
 use Rattle.config_values.specs.declared.row_config.RowConfig.{RowConfig}
 use Rattle.config_values.specs.declared.selective_config.SelectiveConfig.{SelectiveConfig}
@@ -18,9 +18,9 @@ rule_of_row ignored row = record {
   group = row.group;
 }
 
--- all rows are taken from the others alone
-unfoldable pub settings_ignoring : List Pattern → Config → Settings
-settings_ignoring ignored c = record {
+-- all rows are taken from the others alone, and these sentences are read
+unfoldable pub settings_ignoring : List Pattern → SentenceChoice → Config → Settings
+settings_ignoring ignored optional c = record {
   name = c.name.0;
   address = c.address;
   sfi = c.sfi;
@@ -31,11 +31,12 @@ settings_ignoring ignored c = record {
   presets = c.presets.items;
   rows = map (rule_of_row ignored) c.rows;
   net_sources = c.net_sources.items;
+  optional_sentences = optional;
 }
 
--- where nobody is ignored
+-- where nobody is ignored, and the usual sentences are read
 abbrev pub settings_of : Config → Settings
-settings_of c = settings_ignoring [] c
+settings_of c = settings_ignoring [] usual_sentences c
 
 abbrev pub settings_by : SelectiveConfig → Settings
-settings_by x = settings_ignoring x.ignored.items x.base
+settings_by x = settings_ignoring x.ignored.items x.optional x.base

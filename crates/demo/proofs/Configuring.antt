@@ -9,7 +9,7 @@ use Rattle.claim_table.specs.declared.preset.Preset.{Preset}
 use Rattle.n2k_id.specs.declared.name.Name.{Name}
 use Rattle.readings.specs.declared.rows.Row.{Row}
 use Rattle.readings.specs.Rows.{rows as all_rows}
-use Rattle.history.specs.Settings.{RowRule, Settings}
+use Rattle.history.specs.Settings.{RowRule, Settings, usual_sentences}
 use Rattle.config_values.specs.declared.config.Config.{Config}
 use Rattle.config_values.specs.Configs.{AreEnds, IsConfig}
 use Rattle.config_values.specs.Presets.{AreApart, ArePresets}
@@ -70,6 +70,7 @@ settings_with sfi presets rows sources = record {
   presets = presets;
   rows = rows;
   net_sources = sources;
+  optional_sentences = usual_sentences;
 }
 
 -- the lists are those of the settings

@@ -2,7 +2,7 @@
 use Rattle.std.specs.Prelude.{true, false, [], ◌∷◌, map, codes}
 use Rattle.readings.specs.declared.rows.Row.{Row}
 use Rattle.readings.specs.Rows.{about_of, rows}
-use Rattle.history.specs.Settings.{RowRule, Settings}
+use Rattle.history.specs.Settings.{RowRule, Settings, usual_sentences}
 use Rattle.config_values.specs.Rows.{usual_timeout}
 
 -- a row that is taken from all alike, and said by its own talker
@@ -28,4 +28,5 @@ demo_settings = record {
   presets = [];
   rows = map row_said rows;
   net_sources = codes "II0002" ∷ [];
+  optional_sentences = usual_sentences;
 }

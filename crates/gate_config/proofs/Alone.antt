@@ -23,9 +23,11 @@ use Rattle.config_values.specs.declared.config.Ends.{Ends}
 use Rattle.config_values.specs.Rows.{usual_timeout}
 use Rattle.config_values.specs.declared.row_config.RowConfig.{RowConfig}
 use Rattle.n2k_id.specs.declared.pattern.Pattern.{Pattern}
+use Rattle.sentence_profile.specs.declared.optional.OptionalSentences.{OptionalSentences}
+use Rattle.sentence_profile.specs.Reading.{usual as usual_sentences}
 use Rattle.gate_config.specs.Alone.{FileAsksNothingFurther, AsksNothingFurther, FilesSaySettings, HasNone, IsTable, KeysSaySettings, Lacks, NoneHas, alone_of}
 use Rattle.gate_config.specs.ConfigOf.{IsWholeConfigOf, config_in, document_place, known, settings_alone}
-use Rattle.gate_config.specs.Keys.{alerts, any_asks, asks as asked_for, asks_hbt, bus, further, gateway, hbt, heartbeat, ignored, is_asked, limit_at, limit_of, limits_in, net, pace, plain, preset, quantity, row, row_at, row_of, rows_in, report, serve, stands_at, watch_in, watched, links_in, own_group, own_group_at, part_groups, quantities_in, quantity_at, quantity_of, settings_in, setup_in}
+use Rattle.gate_config.specs.Keys.{alerts, any_asks, asks as asked_for, asks_hbt, bus, further, gateway, hbt, heartbeat, ignored, is_asked, limit_at, limit_of, limits_in, net, optional, pace, plain, preset, quantity, row, row_at, row_of, rows_in, report, serve, stands_at, watch_in, watched, links_in, own_group, own_group_at, part_groups, quantities_in, quantity_at, quantity_of, settings_in, setup_in}
 use Rattle.gate_config.specs.Reading.{◌>>=◌, Table, default, each_from, items_in, key_prefix, prefix_of, section_at, table_in, unless}
 use Rattle.gate_config.specs.Unknown.{first_unknown, place_under, quantity_names, row_names, table_of}
 use Rattle.settings.specs.Heartbeat.{no_heartbeat}
@@ -124,6 +126,13 @@ unfolding report
 reports_read place none =
     two_keys (λ sources address. (sources, address)) (default false truth_at place (codes "sources")) (default false truth_at place (codes "address")) false false
     (default_at false truth_in place (codes "sources") none.0) (default_at false truth_in place (codes "address") none.1.0)
+
+optional_read : (place : Place) → NoneIn place optional.known → optional.read tt place ≡ Ok usual_sentences
+unfolding optional
+optional_read place none =
+    two_keys (λ rmc dbt. let x : OptionalSentences = record { rmc = rmc; dbt = dbt } in x) (default false truth_at place (codes "rmc"))
+    (default true truth_at place (codes "dbt")) false true
+    (default_at false truth_in place (codes "rmc") none.0) (default_at true truth_in place (codes "dbt") none.1.0)
 
 recording_read : (place : Place) → NoneIn place serve.known → serve.read tt place ≡ Ok false
 unfolding serve
@@ -303,10 +312,11 @@ bound : {A B : Type 0} (read : Result A ConfigFault) (next : A → Result B Conf
 bound (Ok x) next y is = (x, (refl, is))
 bound (Err f) next y is = absurd cc
 
-abbrev set_up : Settings → ArrayVec Pattern → Option Quantities → Bool × Bool → Option (List ℕ) → Bool → ℕ → WatchConfig → HeartbeatConfig → Setup
-set_up settings devices quantities reports group recording every watch beats = record {
+abbrev set_up : Settings → ArrayVec Pattern → Option Quantities → Bool × Bool → Option (List ℕ) → Bool → ℕ → OptionalSentences → WatchConfig → HeartbeatConfig → Setup
+set_up settings devices quantities reports group recording every sentences watch beats = record {
   settings = settings;
   ignore = devices;
+  optional_sentences = sentences;
   quantities = quantities;
   sources = reports.0;
   address = reports.1;
@@ -324,17 +334,20 @@ module _ (document : Place) (settings : Settings) where
   abbrev groups : List (Option (List ℕ))
   groups = part_groups settings
 
-  abbrev from_heartbeat : ArrayVec Pattern → Option Quantities → Bool × Bool → Option (List ℕ) → Bool → ℕ → WatchConfig → Result Setup ConfigFault
-  from_heartbeat devices quantities reports group recording every watch =
+  abbrev from_heartbeat : ArrayVec Pattern → Option Quantities → Bool × Bool → Option (List ℕ) → Bool → ℕ → OptionalSentences → WatchConfig → Result Setup ConfigFault
+  from_heartbeat devices quantities reports group recording every sentences watch =
       table_in heartbeat (rows, alert_group watch ∷ group ∷ option_map (λ q. q.group) quantities ∷ groups) document
-      >>= λ beats. Ok (set_up settings devices quantities reports group recording every watch beats)
+      >>= λ beats. Ok (set_up settings devices quantities reports group recording every sentences watch beats)
 
-  abbrev from_watch : ArrayVec Pattern → Option Quantities → Bool × Bool → Option (List ℕ) → Bool → ℕ → Result Setup ConfigFault
-  from_watch devices quantities reports group recording every =
-      watch_in rows (group ∷ option_map (λ q. q.group) quantities ∷ groups) document >>= from_heartbeat devices quantities reports group recording every
+  abbrev from_watch : ArrayVec Pattern → Option Quantities → Bool × Bool → Option (List ℕ) → Bool → ℕ → OptionalSentences → Result Setup ConfigFault
+  from_watch devices quantities reports group recording every sentences =
+      watch_in rows (group ∷ option_map (λ q. q.group) quantities ∷ groups) document >>= from_heartbeat devices quantities reports group recording every sentences
+
+  abbrev from_optional : ArrayVec Pattern → Option Quantities → Bool × Bool → Option (List ℕ) → Bool → ℕ → Result Setup ConfigFault
+  from_optional devices quantities reports group recording every = table_in optional tt document >>= from_watch devices quantities reports group recording every
 
   abbrev from_pace : ArrayVec Pattern → Option Quantities → Bool × Bool → Option (List ℕ) → Bool → Result Setup ConfigFault
-  from_pace devices quantities reports group recording = table_in pace tt document >>= from_watch devices quantities reports group recording
+  from_pace devices quantities reports group recording = table_in pace tt document >>= from_optional devices quantities reports group recording
 
   abbrev from_recording : ArrayVec Pattern → Option Quantities → Bool × Bool → Option (List ℕ) → Result Setup ConfigFault
   from_recording devices quantities reports group = table_in serve tt document >>= from_pace devices quantities reports group
@@ -355,8 +368,9 @@ module _ (document : Place) (settings : Settings) where
   abbrev nobody : ArrayVec Pattern
   nobody = record { items = [] }
 
-  nothing_behind : AsksNothingFurther document → IsTable (get_member ignored.name document.members) → AreRowTables document → behind ≡ Ok (alone settings)
-  nothing_behind asks bus tables =
+  nothing_behind : AsksNothingFurther document → IsTable (get_member ignored.name document.members) → IsTable (get_member optional.name document.members) → AreRowTables document
+      → behind ≡ Ok (alone settings)
+  nothing_behind asks bus network tables =
       let all = Ok (alone settings) in
       then_says (table_in ignored tt document) from_quantities nobody all (said_there ignored tt document nobody bus (ignored_read _ asks.ignored))
       (then_says (quantities_in rows groups document) (from_reports nobody) None all (quantities_read rows groups document asks.quantities)
@@ -366,15 +380,17 @@ module _ (document : Place) (settings : Settings) where
       (said_there plain (rows, None ∷ groups) document None asks.plain.is_table (plain_read rows (None ∷ groups) _ asks.plain.none))
       (then_says (table_in serve tt document) (from_pace nobody None (false, false) None) false all
       (said_there serve tt document false asks.recording.is_table (recording_read _ asks.recording.none))
-      (then_says (table_in pace tt document) (from_watch nobody None (false, false) None false) 0 all
+      (then_says (table_in pace tt document) (from_optional nobody None (false, false) None false) 0 all
       (said_there pace tt document 0 (plain_among document asks.plain) (pace_read _ (plain_lacks document asks.plain)))
-      (then_says (watch_in rows (None ∷ None ∷ groups) document) (from_heartbeat nobody None (false, false) None false 0) no_watch all
+      (then_says (table_in optional tt document) (from_watch nobody None (false, false) None false 0) usual_sentences all
+      (said_there optional tt document usual_sentences network (optional_read _ asks.optional))
+      (then_says (watch_in rows (None ∷ None ∷ groups) document) (from_heartbeat nobody None (false, false) None false 0 usual_sentences) no_watch all
       (watch_read rows (None ∷ None ∷ groups) document tables asks.limits asks.alerts)
-      (then_says (table_in heartbeat (rows, None ∷ None ∷ None ∷ groups) document) (λ beats. Ok (set_up settings nobody None (false, false) None false 0 no_watch beats)) no_heartbeat all
+      (then_says (table_in heartbeat (rows, None ∷ None ∷ None ∷ groups) document) (λ beats. Ok (set_up settings nobody None (false, false) None false 0 usual_sentences no_watch beats)) no_heartbeat all
       (said_there heartbeat (rows, None ∷ None ∷ None ∷ groups) document no_heartbeat asks.heartbeat.is_table (heartbeat_read rows (None ∷ None ∷ None ∷ groups) _ asks.heartbeat.none))
-      refl)))))))
+      refl))))))))
 
--- settings that were read had a table of the bus, or none
+-- settings that were read had a table of the bus, or none, and one of the network, or none
 table_among : (document : Place) (name prefix : List ℕ) (place : Place) → section_at document name prefix ≡ Ok place → IsTable (get_member name document.members)
 table_among document name prefix place is = table_found (path_of document name) prefix (get_member name document.members) place is
 
@@ -385,6 +401,13 @@ links_among own document links said =
     let from_bus = bound (table_in bus tt document) _ links from_net.1.1 in
     let place = bound (section_at document (codes "bus") (codes "bus.")) (bus.read tt) from_bus.0 from_bus.1.0 in
     table_among document (codes "bus") (codes "bus.") place.0 place.1.0
+
+net_among : (own : List ℕ) (document : Place) (links : ArrayVec (List ℕ) × Ends) → links_in own document ≡ Ok links → IsTable (get_member optional.name document.members)
+unfolding links_in net optional
+net_among own document links said =
+    let from_net = bound (table_in net own document) _ links said in
+    let place = bound (section_at document (codes "net") (codes "net.")) (net.read own) from_net.0 from_net.1.0 in
+    table_among document (codes "net") (codes "net.") place.0 place.1.0
 
 -- nor was another than a table at the name of a row
 rows_among : (group : List ℕ) (place : Place) (all : List Row) (earlier found : List RowConfig) → each_from (row_of group place) earlier all ≡ Ok found
@@ -427,9 +450,19 @@ bus_among document settings said =
     let links = bound (links_in own.0.sfi document) _ settings all.1.1 in
     links_among own.0.sfi document links.0 links.1.0
 
+network_among : (document : Place) (settings : Settings) → settings_in document ≡ Ok settings → IsTable (get_member optional.name document.members)
+unfolding settings_in
+network_among document settings said =
+    let own = bound (table_in gateway tt document) _ settings said in
+    let first : Preset = record { address = own.0.address; name = own.0.name } in
+    let presets = bound (items_in preset 253 first document) _ settings own.1.1 in
+    let all = bound (rows_in own.0.group document) _ settings presets.1.1 in
+    let links = bound (links_in own.0.sfi document) _ settings all.1.1 in
+    net_among own.0.sfi document links.0 links.1.0
+
 all_behind : (document : Place) → AsksNothingFurther document → (said : Result Settings ConfigFault) → settings_in document ≡ said
     → (said >>= behind document) ≡ alone_of said
-all_behind document asks (Ok settings) is = nothing_behind document settings asks (bus_among document settings is) (row_tables_among document settings is)
+all_behind document asks (Ok settings) is = nothing_behind document settings asks (bus_among document settings is) (network_among document settings is) (row_tables_among document settings is)
 all_behind document asks (Err f) is = refl
 
 pub keys_say_settings : KeysSaySettings

@@ -37,9 +37,10 @@ pub record Lacks (name : List ℕ) (names : List (List ℕ)) (document : Place) 
   pub is_table : IsTable (get_member name document.members)
   pub none : HasNone names (get_member name document.members)
 
--- For each part its table. Those of the bus and of the rows stand for the settings too, which refuse what is no table there.
+-- For each part its table. Those of the bus, of the network and of the rows stand for the settings too, which refuse what is no table there.
 pub record AsksNothingFurther (document : Place) : Type 0 where
   pub ignored : HasNone Keys.ignored.known (get_member Keys.ignored.name document.members)
+  pub optional : HasNone Keys.optional.known (get_member Keys.optional.name document.members)
   pub quantities : Lacks Keys.further.name (Keys.further.known ++ quantity_names all_quantities) document
   pub reports : Lacks Keys.report.name Keys.report.known document
   pub plain : Lacks Keys.plain.name (Keys.plain.known ++ Keys.pace.known) document

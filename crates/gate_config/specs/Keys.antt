@@ -19,6 +19,7 @@ use Rattle.config_document.specs.Places.{Place, path_of}
 use Rattle.config_document.specs.Twice.{repeats}
 use Rattle.config_document.specs.declared.fault.Flaw.TheVariants as flaw
 use Rattle.bus_identity.specs.declared.product.Product.{Product}
+use Rattle.sentence_profile.specs.declared.optional.OptionalSentences.{OptionalSentences}
 use Rattle.config_values.specs.declared.config.Ends.{Ends}
 use Rattle.config_values.specs.declared.row_config.RowConfig.{RowConfig}
 use Rattle.config_values.specs.Rows.{usual_timeout}
@@ -278,6 +279,13 @@ plain = table (codes "plain") (λ group. group) & key_beside (codes "group") (λ
 unfoldable pub pace : Table ⊤ ℕ
 pace = table (codes "plain") (λ every. every) & key (codes "every_ms") (default 0 (number_at 0 60000))
 
+-- net again: which of the sentences are read that a configuration decides on
+unfoldable pub optional : Table ⊤ OptionalSentences
+optional =
+    table (codes "net") (λ rmc dbt. record { rmc = rmc; dbt = dbt })
+    & key (codes "rmc") (default false truth_at)
+    & key (codes "dbt") (default true truth_at)
+
 -- serve
 unfoldable pub serve : Table ⊤ Bool
 serve = table (codes "serve") (λ recording. recording) & key (codes "record") (default false truth_at)
@@ -387,11 +395,13 @@ setup_in document = do
   group ← table_in plain (settings.config.rows, option_map (λ q. q.group) quantities ∷ part_groups settings) document
   recording ← table_in serve tt document
   every ← table_in pace tt document
+  sentences ← table_in optional tt document
   watch ← watch_in settings.config.rows (group ∷ option_map (λ q. q.group) quantities ∷ part_groups settings) document
   beats ← table_in heartbeat (settings.config.rows, alert_group watch ∷ group ∷ option_map (λ q. q.group) quantities ∷ part_groups settings) document
   Ok (record {
     settings = settings;
     ignore = devices;
+    optional_sentences = sentences;
     quantities = quantities;
     sources = reports.0;
     address = reports.1;

@@ -75,9 +75,13 @@ gateway_noted document best =
 unfoldable pub bus_noted : Place → Option (List ℕ) → Option (List ℕ)
 bus_noted document best = noted (Keys.bus.known ++ Keys.ignored.known) (place_under document Keys.bus.name (prefix_of Keys.bus.name)) best
 
+-- the table net, some of whose keys are read behind those of other tables
+unfoldable pub net_noted : Place → Option (List ℕ) → Option (List ℕ)
+net_noted document best = noted (Keys.net.known ++ Keys.optional.known) (place_under document Keys.net.name (prefix_of Keys.net.name)) best
+
 -- the links, and the routes between them
 unfoldable pub links_noted : Place → Option (List ℕ) → Option (List ℕ)
-links_noted document best = items Keys.route document (bus_noted document (once Keys.net document best))
+links_noted document best = items Keys.route document (bus_noted document (net_noted document best))
 
 -- what the gateway says of itself, and the parts beside it
 unfoldable pub parts_noted : Place → Option (List ℕ) → Option (List ℕ)

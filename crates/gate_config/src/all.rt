@@ -8,7 +8,7 @@ ghost use Rattle.settings.specs.Setup.{IsSetup};
 ghost use Rattle.settings.specs.Watch.{alert_group};
 
 use crate::further::{
-    ignored_keys, pace_keys, plain_keys, quantities_group, report_keys, serve_keys,
+    ignored_keys, optional_keys, pace_keys, plain_keys, quantities_group, report_keys, serve_keys,
 };
 use crate::further_quantities::further_quantities;
 use crate::gateway::gateway_keys;
@@ -48,6 +48,7 @@ pub(crate) fn all_keys(document: &Section, each: QuantityConfigs) -> Result<Setu
     let plain = plain_keys(document, &settings.config.rows, &parts)?;
     let recording = serve_keys(document)?;
     let plain_every_ms = pace_keys(document)?;
+    let optional_sentences = optional_keys(document)?;
     let groups = groups_beside(&plain, &quantities, &settings);
     let watch = watch_keys(document, &settings.config.rows, &groups)?;
     let groups = groups_behind(&watch, &plain, &quantities, &settings);
@@ -55,6 +56,7 @@ pub(crate) fn all_keys(document: &Section, each: QuantityConfigs) -> Result<Setu
     Ok(Setup {
         settings,
         ignore,
+        optional_sentences,
         quantities,
         sources,
         address,

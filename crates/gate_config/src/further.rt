@@ -1,25 +1,27 @@
 //! Keys that are read behind those of the settings: devices that no row is taken from, whether changes of a source and of the gateway's own
-//! address are told, the transmission group of plain sentences and their pace, and whether a run is recorded.
+//! address are told, the transmission group of plain sentences and their pace, whether a run is recorded, and which of the sentences from
+//! the network are read.
 ghost use Rattle.std.specs.Prelude.{◌≡◌, IfOk, option_map};
 ghost use Rattle.std.specs.Int.{IsInRange};
 ghost use Rattle.std.specs.Option.{ForSome};
 ghost use Rattle.config_document.specs.Places.{place_of};
 ghost use Rattle.config_values.specs.Rows.{AreSources};
 ghost use Rattle.gate_config.specs.Beside.{IsGroupBeside};
-ghost use Rattle.gate_config.specs.Keys.{ignored, pace, plain, report, serve};
+ghost use Rattle.gate_config.specs.Keys.{ignored, optional, pace, plain, report, serve};
 ghost use Rattle.gate_config.specs.Reading.{table_in};
 
 use crate::devices::devices;
 use crate::keys::{number_or, section, stands_at, truth_or};
 use crate::parts::own_group;
 use crate::words::{
-    ADDRESS, BUS, BUS_PREFIX, EVERY_MS, GROUP, IGNORE, PLAIN, PLAIN_PREFIX, RECORD, REPORT,
-    REPORT_PREFIX, SERVE, SERVE_PREFIX, SOURCES,
+    ADDRESS, BUS, BUS_PREFIX, DBT, EVERY_MS, GROUP, IGNORE, NET, NET_PREFIX, PLAIN, PLAIN_PREFIX,
+    RECORD, REPORT, REPORT_PREFIX, RMC, SERVE, SERVE_PREFIX, SOURCES,
 };
 use arrayvec::ArrayVec;
 use config_document::{ConfigFault, Section};
 use config_values::RowConfig;
 use n2k_id::Pattern;
+use sentence_profile::OptionalSentences;
 use sentence_text::Group;
 use settings::Quantities;
 
@@ -72,6 +74,18 @@ pub(crate) fn pace_keys(document: &Section) -> Result<u32, ConfigFault>
 {
     let table = section(document, PLAIN, PLAIN_PREFIX)?;
     number_or(&table, EVERY_MS, 0, 60_000, 0)
+}
+
+/// Which of the sentences from the network are read that a configuration decides on: keys of `net` that are read behind the pace of plain
+/// sentences.
+#[tactic(auto, unfolding(crate::specs::Keys::optional))]
+pub(crate) fn optional_keys(document: &Section) -> Result<OptionalSentences, ConfigFault>
+    ensures { result ≡ table_in optional tt (place_of document.now) }
+{
+    let table = section(document, NET, NET_PREFIX)?;
+    let rmc = truth_or(&table, RMC, false)?;
+    let dbt = truth_or(&table, DBT, true)?;
+    Ok(OptionalSentences { rmc, dbt })
 }
 
 /// Whether a run is recorded.

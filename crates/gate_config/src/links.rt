@@ -12,13 +12,13 @@ ghost use Rattle.gate_config.specs.Texts.{same_text};
 
 use crate::endpoint::{Endpoint, loopback};
 use crate::keys::{section, text_or};
-use crate::words::{BUS, BUS_PREFIX, IGNORE, LISTEN, NET, NET_PREFIX, SEND, SOURCES};
+use crate::words::{BUS, BUS_PREFIX, DBT, IGNORE, LISTEN, NET, NET_PREFIX, RMC, SEND, SOURCES};
 use arrayvec::ArrayVec;
 use config_document::{ConfigFault, Flaw, Section, repeats};
 use network_routes::Address;
 use sentence_text::Sfi;
 
-pub(crate) const NET_KEYS: [&str; 3] = [SOURCES, LISTEN, SEND];
+pub(crate) const NET_KEYS: [&str; 5] = [SOURCES, LISTEN, SEND, RMC, DBT];
 
 pub(crate) const BUS_KEYS: [&str; 3] = [LISTEN, SEND, IGNORE];
 

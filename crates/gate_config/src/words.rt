@@ -67,6 +67,8 @@ pub(crate) const BUS_EVERY_S: &str = "bus_every_s";
 
 pub(crate) const CODE: &str = "code";
 
+pub(crate) const DBT: &str = "dbt";
+
 pub(crate) const EVERY_MS: &str = "every_ms";
 
 pub(crate) const EVERY_S: &str = "every_s";

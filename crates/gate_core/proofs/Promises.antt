@@ -16,7 +16,6 @@ use Rattle.history.specs.EntryLaws.{IsEvent}
 use Rattle.claim_table.specs.Claims.{is_ready}
 use Rattle.claim_table.specs.declared.answer.Holder.{Holder}
 use Rattle.history.specs.Known.{known}
-use Rattle.history.specs.Settings.{Settings, receiver_of}
 use Rattle.history.specs.Messages.{Message, done, messages_of}
 use Rattle.history.specs.Emits.{broken, is_there}
 use Rattle.history.specs.FromBus.{selected_in}
@@ -36,6 +35,7 @@ use Rattle.gate_model.proofs.StandsRoom.{timely, opening_is_reached, steps_fit, 
 use Rattle.gate_model.proofs.StandsReached.{all_reached_fits}
 use Rattle.config_values.specs.declared.config.Config.{Config}
 use Rattle.config_values.specs.Configs.{IsConfig}
+use Rattle.history.specs.Settings.{SentenceChoice, Settings, receiver_of}
 use Rattle.config_values.specs.Settings.{settings_ignoring}
 use Rattle.config_values.proofs.SettingsLemmas.{are_settings}
 use Rattle.gate_outbox.specs.Output.{Output, nothing}
@@ -83,9 +83,10 @@ pub command_left : (g : Machine) (source address : ℕ) → IsReached by_keys g 
 command_left g source address it from o left empty gives =
     output_fits g.settings.name o left (commanded g source address) empty (command_fits g source address it from).room gives
 
-pub opened_reached : (ignored : List Pattern) (config : Config) → IsConfig config → IsReached by_keys (opened_machine (settings_ignoring ignored config))
-opened_reached ignored config valid =
-    let are = are_settings ignored config valid in (opening_is_reached by_keys (settings_ignoring ignored config) are.settings are.limits).opened
+pub opened_reached : (ignored : List Pattern) (optional : SentenceChoice) (config : Config) → IsConfig config
+    → IsReached by_keys (opened_machine (settings_ignoring ignored optional config))
+opened_reached ignored optional config valid =
+    let are = are_settings ignored optional config valid in (opening_is_reached by_keys (settings_ignoring ignored optional config) are.settings are.limits).opened
 
 pub started_reached : (g : Machine) (moment : ℕ) → IsReached by_keys g → g ≡ opened_machine g.settings → IsReached by_keys (started_at moment g)
 started_reached g moment it is =

@@ -22,6 +22,7 @@ use arrayvec::ArrayVec;
 use config_values::Config;
 use gate_events::Event;
 use gate_outbox::{Command, Outbox};
+use history::OptionalSentences;
 use n2k_id::{Name, Pattern};
 use std::alloc::{AllocError, Global};
 use std::marker::Model;
@@ -61,20 +62,22 @@ impl Gateway {
         requires { IsConfig config.now }
         ensures { IfOk result (λ g. g ≡ opened_machine (settings_of config.now)) }
     {
-        Gateway::ignoring(alloc, config, &ArrayVec::new())
+        Gateway::with(alloc, config, &ArrayVec::new(), OptionalSentences::USUAL)
     }
 
-    /// A gateway of this configuration by which no row is taken from the devices that a pattern matches, before it starts. All else of
-    /// them is as of others: their claims, their requests and the answers to these, their commands.
-    pub fn ignoring(
+    /// A gateway of this configuration, before it starts. It takes no row from the devices that a pattern in `ignored` matches; all else
+    /// of them is as of others: their claims, their requests and the answers to these, their commands. From the network it reads the
+    /// sentences that `optional` says.
+    pub fn with(
         alloc: Global,
         config: &Config,
-        patterns: &ArrayVec<Pattern, 16>,
+        ignored: &ArrayVec<Pattern, 16>,
+        optional: OptionalSentences,
     ) -> Result<Gateway, AllocError>
         requires { IsConfig config.now }
-        ensures { IfOk result (λ g. g ≡ opened_machine (settings_ignoring patterns.now.items config.now)) }
+        ensures { IfOk result (λ g. g ≡ opened_machine (settings_ignoring ignored.now.items optional config.now)) }
     {
-        let state = State::new(alloc, config, patterns)?;
+        let state = State::new(alloc, config, ignored, optional)?;
         Ok(Gateway { state })
     }
 

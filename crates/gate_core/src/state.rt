@@ -26,6 +26,7 @@ use fast_packet::FastAssembler;
 use gate_events::{Detail, Event, Report};
 use gate_outbox::frames::{own_claim, request_for_claims};
 use gate_outbox::{Command, Outbox, StepEmits};
+use history::OptionalSentences;
 use iso_transport::IsoAssembler;
 use n2k_id::{Name, Pattern};
 use report_rules::MOMENT_BACK;
@@ -74,16 +75,18 @@ impl Model for State {
 }
 
 impl State {
-    /// What a gateway of this configuration, by which no row is taken from these devices, keeps before it starts.
+    /// What a gateway of this configuration, by which no row is taken from these devices and these sentences are read, keeps before it
+    /// starts.
     pub(crate) fn new(
         alloc: Global,
         config: &Config,
         ignored: &ArrayVec<Pattern, 16>,
+        optional: OptionalSentences,
     ) -> Result<State, AllocError>
         requires { IsConfig config.now }
-        ensures { IfOk result (λ s. s ≡ opened_machine (settings_ignoring ignored.now.items config.now)) }
+        ensures { IfOk result (λ s. s ≡ opened_machine (settings_ignoring ignored.now.items optional config.now)) }
     {
-        let config = copy_of(config, ignored)?;
+        let config = copy_of(config, ignored, optional)?;
         let addresses = addresses_of(alloc, &config)?;
         let (fast, sessions) = assemblers_of(alloc, &config)?;
         let (said, network) = traffic_of(alloc, &config)?;

@@ -88,7 +88,7 @@ module _ (cmp : GroupKey → GroupKey → Ordering) (c : Settings) (o : OrdersGr
         let t = heard_lines.taken_as c lines (came this) place said sentence in
         sym (append-nil (reported (line_breaks c place said)))
         ∙ ap (λ (b : Bool). reported (if b then part_breaks lines t (several said.group) else line_breaks c place said)
-        ++ (if b then said_gives c own t (readings_of lines) (line_says t (handed_over t lines)) else [])) (sym not_taken)
+        ++ (if b then said_gives c own t (readings_of c.optional_sentences lines) (line_says c.optional_sentences t (handed_over t lines)) else [])) (sym not_taken)
 
   -- ---- a line that is taken
 
@@ -106,40 +106,40 @@ module _ (cmp : GroupKey → GroupKey → Ordering) (c : Settings) (o : OrdersGr
     all : AllByRecursion IsHeard (t ∷ lines)
     all = subst (AllByRecursion IsHeard) more_lines (all_heard c (came it ∷ older) (is, st.items))
 
-    line_gives : item_gives c own older (came it) ≡ reported (part_breaks lines t (several said.group)) ++ said_gives c own t (readings_of lines) (line_says t (handed_over t lines))
+    line_gives : item_gives c own older (came it) ≡ reported (part_breaks lines t (several said.group)) ++ said_gives c own t (readings_of c.optional_sentences lines) (line_says c.optional_sentences t (handed_over t lines))
     line_gives =
         ap (λ (b : Bool). reported (if b then part_breaks lines t (several said.group) else line_breaks c place said)
-        ++ (if b then said_gives c own t (readings_of lines) (line_says t (handed_over t lines)) else [])) taken
+        ++ (if b then said_gives c own t (readings_of c.optional_sentences lines) (line_says c.optional_sentences t (handed_over t lines)) else [])) taken
 
     record Takes (group : Option GroupPart) : Type 0 where
       groups : StandsGroups cmp c.group_slots (t ∷ lines) m (taken_after cmp c m ready k (line_at cmp c m ready place source) said.source sentence group).groups
-      readings : StandsReadings c (readings_of (t ∷ lines)) (taken_after cmp c m ready k (line_at cmp c m ready place source) said.source sentence group).readings
+      readings : StandsReadings c (readings_of c.optional_sentences (t ∷ lines)) (taken_after cmp c m ready k (line_at cmp c m ready place source) said.source sentence group).readings
       gives : taken_emits cmp c m ready own k (line_at cmp c m ready place source) said.source sentence group
-          ≡ reported (part_breaks lines t group) ++ said_gives c own t (readings_of lines) (line_says t (handed_over t lines))
+          ≡ reported (part_breaks lines t group) ++ said_gives c own t (readings_of c.optional_sentences lines) (line_says c.optional_sentences t (handed_over t lines))
 
     takes : (group : Option GroupPart) → several said.group ≡ group → Takes group
     takes None e =
         let handed = (lines_alone t lines e).handed in
-        let says = line_is c own t source at (sentence ∷ []) (readings_of lines) k.readings st.readings in
+        let says = line_is c own t source at (sentence ∷ []) (readings_of c.optional_sentences lines) k.readings st.readings in
         record {
           groups = alone_stands cmp c.group_slots lines t k.groups st.groups e;
-          readings = subst (λ (texts : List (List ℕ)). StandsReadings c (with_readings (readings_of lines) (line_says t texts)) (sentences_after k.readings (line_at cmp c m ready place source) (sentence ∷ []))) (sym handed)
+          readings = subst (λ (texts : List (List ℕ)). StandsReadings c (with_readings (readings_of c.optional_sentences lines) (line_says c.optional_sentences t texts)) (sentences_after k.readings (line_at cmp c m ready place source) (sentence ∷ []))) (sym handed)
               says.stands;
-          gives = says.gives ∙ ap (λ (x : List (List ℕ)). said_gives c own t (readings_of lines) (line_says t x)) (sym handed);
+          gives = says.gives ∙ ap (λ (x : List (List ℕ)). said_gives c own t (readings_of c.optional_sentences lines) (line_says c.optional_sentences t x)) (sym handed);
         }
     takes (Some part) e =
         let admits = ap (λ (g : Option GroupPart). is_line_admitted c lines said.source g m) (several_is said.group part e).0 in
         let handed = sentences_handed cmp o c.group_slots lines t part k.groups all e admits st.groups in
         let texts = sentences_within (group_answer cmp k.groups (record { sfi = said.source; code = part.code }) part sentence m).whole in
-        let says = line_is c own t source at texts (readings_of lines) k.readings st.readings in
+        let says = line_is c own t source at texts (readings_of c.optional_sentences lines) k.readings st.readings in
         record {
           groups = line_stands cmp o c.group_slots lines t part k.groups all e admits st.groups;
-          readings = subst (λ (x : List (List ℕ)). StandsReadings c (with_readings (readings_of lines) (line_says t x)) (sentences_after k.readings (line_at cmp c m ready place source) texts)) handed
+          readings = subst (λ (x : List (List ℕ)). StandsReadings c (with_readings (readings_of c.optional_sentences lines) (line_says c.optional_sentences t x)) (sentences_after k.readings (line_at cmp c m ready place source) texts)) handed
               says.stands;
           gives =
               ap (λ (r : List Report). reported r ++ sentences_emit own k.readings (line_at cmp c m ready place source) texts) (reports_same cmp o c.group_slots lines t part k.groups all e admits st.groups)
               ∙ ap (λ (x : List Emit). reported (part_breaks lines t (Some part)) ++ x)
-              (says.gives ∙ ap (λ (x : List (List ℕ)). said_gives c own t (readings_of lines) (line_says t x)) handed);
+              (says.gives ∙ ap (λ (x : List (List ℕ)). said_gives c own t (readings_of c.optional_sentences lines) (line_says c.optional_sentences t x)) handed);
         }
 
     stands_taken : ItemStandsNet cmp c older own (came it) k
@@ -155,7 +155,7 @@ module _ (cmp : GroupKey → GroupKey → Ordering) (c : Settings) (o : OrdersGr
           stands = subst (StandsNet cmp c (came it ∷ older) m) (sym after) (record {
             items = (is, st.items);
             groups = subst (λ (x : List Taken). StandsGroups cmp c.group_slots x m (taken_after cmp c m ready k (line_at cmp c m ready place source) said.source sentence (several said.group)).groups) (sym more_lines) all_of_it.groups;
-            readings = subst (λ (x : List Taken). StandsReadings c (readings_of x) (taken_after cmp c m ready k (line_at cmp c m ready place source) said.source sentence (several said.group)).readings) (sym more_lines) all_of_it.readings;
+            readings = subst (λ (x : List Taken). StandsReadings c (readings_of c.optional_sentences x) (taken_after cmp c m ready k (line_at cmp c m ready place source) said.source sentence (several said.group)).readings) (sym more_lines) all_of_it.readings;
           });
           gives = emits ∙ all_of_it.gives ∙ sym line_gives;
         }
@@ -169,7 +169,7 @@ module _ (cmp : GroupKey → GroupKey → Ordering) (c : Settings) (o : OrdersGr
       record {
         items = (is, st.items);
         groups = subst (λ (x : List Taken). StandsGroups cmp c.group_slots x m k.groups) (sym same) st.groups;
-        readings = subst (λ (x : List Taken). StandsReadings c (readings_of x) k.readings) (sym same) st.readings;
+        readings = subst (λ (x : List Taken). StandsReadings c (readings_of c.optional_sentences x) k.readings) (sym same) st.readings;
       }
 
   line_stands_by : (place : ℕ) (said : Said) (sentence : List ℕ) (parts : SentenceParts) → IsItem (line place said sentence parts) → (p : Option ℕ) → place_of c said.source ≡ p

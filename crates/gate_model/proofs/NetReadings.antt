@@ -64,7 +64,7 @@ chosen_same a b false sent_one sent_two told_one told_two e f g = ap (λ (x : Bo
 
 module _ (c : Settings) (older : List NetReading) (k : ReadingsKept) (st : StandsReadings c older k) (t : Taken) (place : ℕ) (r : Reading) (at : place_of c t.source ≡ Some place) where
   abbrev l : LineHeard
-  l = record { moment = t.moment; ready = t.ready; place = t.place; source = place }
+  l = record { moment = t.moment; ready = t.ready; place = t.place; source = place; optional = c.optional_sentences }
 
   abbrev n : NetReading
   n = record { line = t; reading = r }
@@ -240,7 +240,7 @@ both a b d e f g = ap (λ x. x ++ d) f ∙ ap (λ x. b ++ x) g
 
 module _ (c : Settings) (own : Option ℕ) (t : Taken) (place : ℕ) (at : place_of c t.source ≡ Some place) where
   abbrev from : LineHeard
-  from = record { moment = t.moment; ready = t.ready; place = t.place; source = place }
+  from = record { moment = t.moment; ready = t.ready; place = t.place; source = place; optional = c.optional_sentences }
 
   -- what is said, what is kept then and what was emitted: the one stands for the other
   pub record Says (older : List NetReading) (said : List (Result NetReading FieldFault)) (after : ReadingsKept) (emits : List Emit) : Type 0 where
@@ -267,12 +267,12 @@ module _ (c : Settings) (own : Option ℕ) (t : Taken) (place : ℕ) (at : place
   sentence_is (Ok rs) older k st = readings_say rs older k st
   sentence_is (Err fault) older k st = record { stands = st; gives = fault_same fault ∙ sym (append-nil (reported (sentence_breaks t fault))) }
 
-  pub line_is : (texts : List (List ℕ)) (older : List NetReading) (k : ReadingsKept) → StandsReadings c older k → Says older (line_says t texts) (sentences_after k from texts) (sentences_emit own k from texts)
+  pub line_is : (texts : List (List ℕ)) (older : List NetReading) (k : ReadingsKept) → StandsReadings c older k → Says older (line_says c.optional_sentences t texts) (sentences_after k from texts) (sentences_emit own k from texts)
   line_is [] older k st = record { stands = st; gives = refl }
   line_is (text ∷ texts) older k st =
-      let said = read_sentence text in
+      let said = read_sentence c.optional_sentences text in
       let says = sentence_says t said in
-      let others = line_says t texts in
+      let others = line_says c.optional_sentences t texts in
       let one = sentence_is said older k st in
       let more = line_is texts (with_readings older says) (said_after k from said) one.stands in
       let order = datagrams_give_in_order c own in

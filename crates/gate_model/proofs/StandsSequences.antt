@@ -29,7 +29,7 @@ module _ (l : LineHeard) where
   of_sentences : (texts : List (List ℕ)) (k : ReadingsKept) → AreSequences k → AreSequences (sentences_after k l texts)
   of_sentences [] k are = are
   of_sentences (text ∷ texts) k are =
-      of_sentences texts (said_after k l (read_sentence text)) (of_sentence (read_sentence text) k are)
+      of_sentences texts (said_after k l (read_sentence l.optional text)) (of_sentence (read_sentence l.optional text) k are)
 
 module _ (cmp : GroupKey → GroupKey → Ordering) (c : Settings) (m : ℕ) (ready : Bool) where
   of_taken : (k : NetKept) (l : LineHeard) (source sentence : List ℕ) (part : Option GroupPart) → AreSequences k.readings

@@ -9,6 +9,7 @@ use Rattle.pgn_profile.specs.Profiled.{payload_of, pgn_of, priority_of}
 use Rattle.fast_packet.specs.FastRuns.{frames_of}
 use Rattle.sentence_profile.specs.declared.fault.FieldFault.{FieldFault}
 use Rattle.sentence_profile.specs.declared.fault.FieldFault.TheVariants.{Outside, Form, Range}
+use Rattle.sentence_profile.specs.declared.optional.OptionalSentences.{OptionalSentences}
 use Rattle.source_choice.specs.declared.rank.Rank.{Rank}
 use Rattle.source_choice.specs.declared.note.Note.{Note}
 use Rattle.source_choice.specs.Notes.{SubjectNotes, is_selected}
@@ -41,14 +42,15 @@ timeouts c = map (λ number. (rule_at c.rows number).timeout) row_numbers
 abbrev pub no_readings : Settings → ReadingsKept
 no_readings c = record { choices = opened (length c.net_sources) (timeouts c); sequences = map (λ number. 0) row_numbers }
 
--- ---- a line whose sentences are read: when it came, and whether the gateway was ready then; its place in its datagram; and its source's
--- place among those that are listed
+-- ---- a line whose sentences are read: when it came, and whether the gateway was ready then; its place in its datagram; its source's
+-- place among those that are listed; and which of the sentences are read that a configuration decides on
 
 pub record LineHeard : Type 0 where
   pub moment : ℕ
   pub ready : Bool
   pub place : ℕ
   pub source : ℕ
+  pub optional : OptionalSentences
 
 abbrev pub rank_by : LineHeard → Rank
 rank_by l = record { place = l.source; name = 0 }
@@ -118,9 +120,9 @@ said_emits own k l (Err fault) = fault_emits l.place fault
 
 abbrev pub sentences_after : ReadingsKept → LineHeard → List (List ℕ) → ReadingsKept
 sentences_after k l [] = k
-sentences_after k l (text ∷ texts) = sentences_after (said_after k l (read_sentence text)) l texts
+sentences_after k l (text ∷ texts) = sentences_after (said_after k l (read_sentence l.optional text)) l texts
 
 abbrev pub sentences_emit : Option ℕ → ReadingsKept → LineHeard → List (List ℕ) → List Emit
 sentences_emit own k l [] = []
-sentences_emit own k l (text ∷ texts) = let said = read_sentence text in
+sentences_emit own k l (text ∷ texts) = let said = read_sentence l.optional text in
     said_emits own k l said ++ sentences_emit own (said_after k l said) l texts

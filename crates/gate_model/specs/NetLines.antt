@@ -120,7 +120,7 @@ module _ (cmp : GroupKey → GroupKey → Ordering) (c : Settings) (m : ℕ) (re
       reported (group_reports key a) ++ sentences_emit own k.readings l (sentences_within a.whole)
 
   abbrev pub line_at : ℕ → ℕ → LineHeard
-  line_at place source = record { moment = m; ready = ready; place = place; source = source }
+  line_at place source = record { moment = m; ready = ready; place = place; source = source; optional = c.optional_sentences }
 
   -- a line, by its source's place among those that are listed
   abbrev pub line_after : NetKept → ℕ → Said → List ℕ → Option ℕ → NetKept

@@ -35,4 +35,4 @@ pub record StandsGroups (cmp : GroupKey → GroupKey → Ordering) (limit : ℕ)
 pub record StandsNet (cmp : GroupKey → GroupKey → Ordering) (c : Settings) (older : List HeardItem) (m : ℕ) (k : NetKept) : Type 0 where
   pub items : AllByRecursion (λ x. IsItem x.item) older
   pub groups : StandsGroups cmp c.group_slots (taken_lines c older) m k.groups
-  pub readings : StandsReadings c (readings_of (taken_lines c older)) k.readings
+  pub readings : StandsReadings c (readings_of c.optional_sentences (taken_lines c older)) k.readings

@@ -21,5 +21,5 @@ use Rattle.sentence_profile.specs.Reading as rows
 use Rattle.sentence_profile.specs.Calendar.{date_in_year, date_after, civil_date}
 
 unfoldable pub cases : ⊤
-unfolding digits has_destination parts_at parts_of group_of identifier_of bits_at is_arbitrary name_bytes name_at fields_of matches_fields matches stating left_by free_from next_free next_own claim is_obeyed command claims_at_start messages hex_on_literals nearest decimals.read frames_to front_fault sum_fault end_fault parameter_at parameters_at block_end_at block_at blocks_at group_in settle tags.read items_from items.item formatter_of date_in_year date_after civil_date columns.text columns.is_blank columns.unkept columns.is_magnetic columns.unit_letter columns.status columns.reference columns.side columns.heading_mode columns.decimal columns.raw_of columns.number columns.measure columns.either_unit columns.sided columns.speed_unit columns.wind_speed columns.fixed_in columns.degrees columns.coordinate columns.time columns.digits columns.day_number columns.are_blank columns.date columns.quality columns.satellites rows.hdt rows.ths rows.hdg rows.rot rows.rsa rows.vhw rows.depth_range rows.dpt rows.dbt rows.vlw rows.gll rows.is_invalid_mode rows.vtg rows.gga rows.zda rows.mwv rows.mwd rows.mtw rows.xte rows.read_sentence
+unfolding digits has_destination parts_at parts_of group_of identifier_of bits_at is_arbitrary name_bytes name_at fields_of matches_fields matches stating left_by free_from next_free next_own claim is_obeyed command claims_at_start messages hex_on_literals nearest decimals.read frames_to front_fault sum_fault end_fault parameter_at parameters_at block_end_at block_at blocks_at group_in settle tags.read items_from items.item formatter_of date_in_year date_after civil_date columns.text columns.is_blank columns.unkept columns.is_magnetic columns.unit_letter columns.status columns.reference columns.side columns.heading_mode columns.decimal columns.raw_of columns.number columns.measure columns.either_unit columns.sided columns.speed_unit columns.wind_speed columns.fixed_in columns.degrees columns.coordinate columns.time columns.digits columns.day_number columns.are_blank columns.date columns.quality columns.satellites rows.hdt rows.ths rows.hdg rows.rot rows.rsa rows.vhw rows.depth_range rows.dpt rows.dbt rows.vlw rows.gll rows.is_invalid_mode rows.vtg rows.gga rows.zda rows.mwv rows.mwd rows.mtw rows.xte rows.rmc rows.read_sentence
 cases = tt

@@ -41,11 +41,11 @@ items_few zero at (l ∷ ls) rest = omega arith
 items_few (suc left) at (l ∷ ls) rest = let others = items_few left (at + length l) ls rest in omega (arith, others)
 
 module _ (c : Settings) (own : Option ℕ) where
-  sentences_few : (t : Taken) (older : List NetReading) (texts : List (List ℕ)) → length (said_gives c own t older (line_says t texts)) ≤ 7 * length texts
+  sentences_few : (t : Taken) (older : List NetReading) (texts : List (List ℕ)) → length (said_gives c own t older (line_says c.optional_sentences t texts)) ≤ 7 * length texts
   sentences_few t older [] = omega arith
   sentences_few t older (text ∷ texts) =
-      let says = sentence_says t (read_sentence text) in
-      let others = line_says t texts in
+      let says = sentence_says t (read_sentence c.optional_sentences text) in
+      let others = line_says c.optional_sentences t texts in
       let in_order = (datagrams_give_in_order c own).said t older says others in
       let both = two_lengths (said_gives c own t older says) (said_gives c own t (with_readings older says) others) 7 (7 * length texts) (sentence_gives_few c own t older text) (sentences_few t (with_readings older says) texts) in
       rw in_order (omega (arith, both))
@@ -62,14 +62,14 @@ module _ (c : Settings) (own : Option ℕ) where
       t : Taken
       t = taken_as c lines x place said sentence
 
-      by : (b : Bool) → is_taken c said ≡ b → length (reported (if b then part_breaks lines t (several said.group) else line_breaks c place said) ++ (if b then said_gives c own t (readings_of lines) (line_says t (handed_over t lines)) else []))
+      by : (b : Bool) → is_taken c said ≡ b → length (reported (if b then part_breaks lines t (several said.group) else line_breaks c place said) ++ (if b then said_gives c own t (readings_of c.optional_sentences lines) (line_says c.optional_sentences t (handed_over t lines)) else []))
           + 7 * lines_held (if b then t ∷ lines else lines) x.moment ≤ 7 * lines_held lines x.moment + 10
       by true is =
           let told = part_reports lines t (several said.group) in
           let same = reported_length (part_breaks lines t (several said.group)) in
-          let given = sentences_few t (readings_of lines) (handed_over t lines) in
+          let given = sentences_few t (readings_of c.optional_sentences lines) (handed_over t lines) in
           let step = handed_by_lines t lines in
-          let both = two_lengths (reported (part_breaks lines t (several said.group))) (said_gives c own t (readings_of lines) (line_says t (handed_over t lines))) 3 (7 * length (handed_over t lines)) (omega (arith, told, same)) given in
+          let both = two_lengths (reported (part_breaks lines t (several said.group))) (said_gives c own t (readings_of c.optional_sentences lines) (line_says c.optional_sentences t (handed_over t lines))) 3 (7 * length (handed_over t lines)) (omega (arith, told, same)) given in
           omega (arith, both, step)
       by false isnt = grind (arith, line_reports, reported_length, two_lengths)
 

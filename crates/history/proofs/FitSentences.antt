@@ -21,8 +21,9 @@ use Rattle.sentence_profile.specs.declared.fault.FieldFault.{FieldFault}
 use Rattle.sentence_profile.specs.declared.fault.FieldFault.TheVariants.{Outside}
 use Rattle.sentence_profile.specs.declared.formatter.Formatter.{Formatter}
 use Rattle.sentence_profile.specs.Columns.{reads}
-use Rattle.sentence_profile.specs.Reading.{formatter_of, Found, alone, rudders, listed, read_as, read_behind}
+use Rattle.sentence_profile.specs.Reading.{formatter_of, Found, alone, is_wanted, rudders, listed, minimum, read_as, read_behind}
 use Rattle.sentence_profile.specs.Reading as rows
+use Rattle.sentence_profile.specs.Writing.{only_if, beside}
 use Rattle.history.specs.Settings.{Settings}
 use Rattle.history.specs.Emits.{reported}
 use Rattle.history.specs.Heard.{Taken}
@@ -73,15 +74,10 @@ module _ (c : Settings) (own : Option ℕ) where
   reading_few : (t : Taken) (older : List NetReading) (r : Reading) → length (reading_gives c own older (record { line = t; reading = r })) ≤ 7
   reading_few t older r = reading_most older (record { line = t; reading = r }) 7 (omega arith) (λ sequence. frames_few sequence (payload_of r) (payload_length r))
 
-  first_two : (t : Taken) (older : List NetReading) (p : Option ℤ) → length (reading_gives c own older (record { line = t; reading = reading.RudderFirst p })) ≤ 2
-  first_two t older p =
-      reading_most older (record { line = t; reading = reading.RudderFirst p }) 2 (omega arith)
-      (λ sequence. frames_two sequence (payload_of (reading.RudderFirst p)) (omega arith))
-
-  second_two : (t : Taken) (older : List NetReading) (p : Option ℤ) → length (reading_gives c own older (record { line = t; reading = reading.RudderSecond p })) ≤ 2
-  second_two t older p =
-      reading_most older (record { line = t; reading = reading.RudderSecond p }) 2 (omega arith)
-      (λ sequence. frames_two sequence (payload_of (reading.RudderSecond p)) (omega arith))
+  -- in at most two frames, where the payload is short
+  in_two : (t : Taken) (older : List NetReading) (r : Reading) → length (payload_of r) ≤ 13
+      → length (reading_gives c own older (record { line = t; reading = r })) ≤ 2
+  in_two t older r short = reading_most older (record { line = t; reading = r }) 2 (omega arith) (λ sequence. frames_two sequence (payload_of r) short)
 
   -- ---- the readings of a sentence, or its fault
 
@@ -90,14 +86,19 @@ module _ (c : Settings) (own : Option ℕ) where
       let few = reading_few t older r in
       rw (length-append (reading_gives c own older (record { line = t; reading = r })) []) (omega (arith, few))
 
-  both_few : (t : Taken) (older : List NetReading) (p q : Option ℤ) → length (said_gives c own t older (sentence_says t (Ok (reading.RudderFirst p ∷ reading.RudderSecond q ∷ [])))) ≤ 7
-  both_few t older p q =
-      let n : NetReading = record { line = t; reading = reading.RudderFirst p } in
-      let m : NetReading = record { line = t; reading = reading.RudderSecond q } in
-      let one = first_two t older p in
-      let two = second_two t (n ∷ older) q in
+  both_few : (t : Taken) (older : List NetReading) (r s : Reading) → length (payload_of r) ≤ 13 → length (payload_of s) ≤ 13
+      → length (said_gives c own t older (sentence_says t (Ok (r ∷ s ∷ [])))) ≤ 7
+  both_few t older r s short also =
+      let n : NetReading = record { line = t; reading = r } in
+      let m : NetReading = record { line = t; reading = s } in
+      let one = in_two t older r short in
+      let two = in_two t (n ∷ older) s also in
       rw (length-append (reading_gives c own older n) (reading_gives c own (n ∷ older) m ++ []), length-append (reading_gives c own (n ∷ older) m) [])
       (omega (arith, one, two))
+
+  rudders_few : (t : Taken) (older : List NetReading) (p q : Option ℤ)
+      → length (said_gives c own t older (sentence_says t (Ok (reading.RudderFirst p ∷ reading.RudderSecond q ∷ [])))) ≤ 7
+  rudders_few t older p q = both_few t older (reading.RudderFirst p) (reading.RudderSecond q) (omega arith) (omega arith)
 
   fault_few : (t : Taken) (older : List NetReading) (f : FieldFault) → length (said_gives c own t older (sentence_says t (Err f))) ≤ 7
   fault_few t older f = grind arith
@@ -115,29 +116,43 @@ module _ (c : Settings) (own : Option ℕ) where
   reads_is (Some f ∷ faults) found few = λ t older. fault_few t older f
 
   rudders_is : (no_first no_second : Bool) (p q : Option ℤ) → IsFew (Ok (rudders no_first no_second (reading.RudderFirst p) (reading.RudderSecond q)))
-  rudders_is no_first no_second p q = grind (arith, alone_few, both_few)
+  rudders_is no_first no_second p q = grind (arith, alone_few, rudders_few)
+
+  minimum_is : (kept : Bool) (la lo co sp : Option ℤ) → IsFew (Ok (minimum kept la lo co sp))
+  minimum_is kept la lo co sp = λ t older.
+      both_few t older (reading.Position (only_if kept (beside la lo)) (only_if kept (beside lo la))) (reading.CourseSpeed false (only_if kept co) (only_if kept sp))
+      (omega arith) (omega arith)
 
   rsa_is : (f : List (List ℕ)) → IsFew (rows.rsa f)
   unfolding rows.rsa
   rsa_is f = grind (arith, reads_is, rudders_is)
 
+  rmc_is : (f : List (List ℕ)) → IsFew (rows.rmc f)
+  unfolding rows.rmc
+  rmc_is f = grind (arith, reads_is, minimum_is)
+
   read_is : (k : Formatter) (f : List (List ℕ)) → IsFew (read_as k f)
-  read_is k f = grind (arith, alone_is, rsa_is)
+  read_is k f = grind (arith, alone_is, rsa_is, rmc_is)
 
-  behind_is : (o : Option Formatter) (f : List (List ℕ)) → IsFew (read_behind o f)
-  behind_is o f = grind (arith, fault_few, read_is)
+  wanted_is : (b : Bool) (k : Formatter) (f : List (List ℕ)) → IsFew (if b then read_as k f else Err Outside)
+  wanted_is true k f = read_is k f
+  wanted_is false k f = λ t older. fault_few t older Outside
 
-  begun_is : (b : Bool) (o : Option Formatter) (f : List (List ℕ)) → IsFew (if b then read_behind o f else Err Outside)
+  behind_is : (o : Option Formatter) (f : List (List ℕ)) → IsFew (read_behind c.optional_sentences o f)
+  behind_is None f = λ t older. fault_few t older Outside
+  behind_is (Some k) f = wanted_is (is_wanted c.optional_sentences k) k f
+
+  begun_is : (b : Bool) (o : Option Formatter) (f : List (List ℕ)) → IsFew (if b then read_behind c.optional_sentences o f else Err Outside)
   begun_is b o f = grind (arith, behind_is, fault_few)
 
-  row_is : (parts : SentenceParts) → IsFew (rows.read_sentence parts)
+  row_is : (parts : SentenceParts) → IsFew (rows.read_sentence c.optional_sentences parts)
   unfolding rows.read_sentence
   row_is parts = begun_is (parts.start == 36) (formatter_of parts.formatter) (fields_of parts.body)
 
-  parts_few : (t : Taken) (older : List NetReading) (read : Result SentenceParts SentenceFault) → length (said_gives c own t older (sentence_says t (read_parts read))) ≤ 7
+  parts_few : (t : Taken) (older : List NetReading) (read : Result SentenceParts SentenceFault) → length (said_gives c own t older (sentence_says t (read_parts c.optional_sentences read))) ≤ 7
   parts_few t older read = grind (arith, row_is, fault_few)
 
 -- a sentence gives no more than the frames of the longest message
 pub sentence_gives_few : (c : Settings) (own : Option ℕ) (t : Taken) (older : List NetReading) (text : List ℕ)
-    → length (said_gives c own t older (sentence_says t (read_sentence text))) ≤ 7
+    → length (said_gives c own t older (sentence_says t (read_sentence c.optional_sentences text))) ≤ 7
 sentence_gives_few c own t older text = parts_few c own t older (sentences.read text)

@@ -1,6 +1,6 @@
 -- Computed: what datagrams from the network give.
 use Rattle.std.proofs.Common.{refl}
-use Rattle.history.specs.NetCases.{SecondOfThree, NoHeader, Moved, HalfAGroup, NotHeard, EarlyAfterMove, NoRoom}
+use Rattle.history.specs.NetCases.{SecondOfThree, NoHeader, Moved, HalfAGroup, NotHeard, EarlyAfterMove, NoRoom, RmcWithoutDbt, DbtWithoutRmc}
 use Rattle.history.proofs.Computed.{cases}
 
 pub second_of_three : SecondOfThree
@@ -30,3 +30,11 @@ early_after_move = refl
 pub no_room : NoRoom
 unfolding cases
 no_room = refl
+
+pub rmc_without_dbt : RmcWithoutDbt
+unfolding cases
+rmc_without_dbt = refl
+
+pub dbt_without_rmc : DbtWithoutRmc
+unfolding cases
+dbt_without_rmc = refl

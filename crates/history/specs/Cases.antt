@@ -6,6 +6,7 @@ use Rattle.claim_table.specs.Claims.{claim_wait}
 use Rattle.readings.specs.declared.rows.Row.{Row}
 use Rattle.readings.specs.Rows.{about_of, every_row}
 use Rattle.datagram450.specs.Datagram.{header}
+use Rattle.sentence_profile.specs.Reading.{usual}
 use Rattle.history.specs.Entries.{Entry, frame}
 use Rattle.history.specs.Settings.{Settings, RowRule}
 use Rattle.gate_events.specs.Emit.{Emit, Emitted, can, net}
@@ -49,6 +50,7 @@ with_presets presets = record {
   presets = presets;
   rows = map plain_rule every_row;
   net_sources = codes "II0002" ∷ [];
+  optional_sentences = usual;
 }
 
 abbrev pub preset : ℕ → ℕ → Preset

@@ -50,7 +50,8 @@ module _ (c : Settings) (own : Option ℕ) where
   handed_gives lines x (bad rule place) = []
   handed_gives lines x (line place said sentence parts) =
       if is_taken c said
-      then (let t = taken_as c lines x place said sentence in said_gives t (readings_of lines) (line_says t (handed_over t lines)))
+      then (let t = taken_as c lines x place said sentence in
+      said_gives t (readings_of c.optional_sentences lines) (line_says c.optional_sentences t (handed_over t lines)))
       else []
 
   abbrev pub item_gives : List HeardItem → HeardItem → List Emit

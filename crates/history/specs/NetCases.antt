@@ -1,5 +1,5 @@
 -- What datagrams from the network give.
-use Rattle.std.specs.Prelude.{ℕ, ◌+◌, ◌-◌, List, [], ◌∷◌, ◌++◌, codes}
+use Rattle.std.specs.Prelude.{ℕ, ◌+◌, ◌-◌, true, false, List, [], ◌∷◌, ◌++◌, codes}
 use Rattle.gate_events.specs.declared.emit.Detail.TheVariants as detail
 use Rattle.datagram450.specs.Datagram.{header}
 use Rattle.claim_table.specs.Claims.{claim_wait}
@@ -83,3 +83,23 @@ NoRoom =
     ∷ datagram (when_ready + 10000) (header ++ lined (codes "g:2-2-8,s:II0002,n:3*49") (codes "$HEHDT,90.0,T*16"))
     ∷ [])
     (emitted when_ready (broken 41 (detail.GroupKey (codes "II0002") 8)) ∷ emitted (when_ready + 10000) (broken 40 (detail.GroupKey (codes "II0002") 8)) ∷ [])
+
+-- an RMC gives a position, and a course and a speed, and a DBT nothing, where the one is read and the other isn't
+abbrev pub by_choice : Settings
+by_choice = record two_devices { optional_sentences = record { rmc = true; dbt = false } }
+
+abbrev pub fix_and_depth : List ℕ
+fix_and_depth =
+    header ++ lined (codes "s:II0002,n:1*02") (codes "$GPRMC,,A,1300.0000,N,18000.0000,W,9.99,90.0,,,,A*69")
+    ++ lined (codes "s:II0002,n:2*01") (codes "$SDDBT,40.5,f,12.34,M,6.7,F*32")
+
+abbrev pub RmcWithoutDbt : Type 0
+RmcWithoutDbt =
+    Emits by_choice 10000000 (tick 10000000 ∷ datagram when_ready fix_and_depth ∷ [])
+    (emitted when_ready (can_frame 0x09F801FB 0x80A4BF07002EB694) ∷ emitted when_ready (can_frame 0x09F802FB 0xFFFC5C3D0202FFFF) ∷ [])
+
+-- and the other way round without these keys
+abbrev pub DbtWithoutRmc : Type 0
+DbtWithoutRmc =
+    Emits two_devices 10000000 (tick 10000000 ∷ datagram when_ready fix_and_depth ∷ [])
+    (emitted when_ready (can_frame 0x0DF50BFB 0xFFD2040000FF7FFF) ∷ [])

@@ -11,6 +11,7 @@ use Rattle.sentence_text.specs.Sentence.{SentenceParts}
 use Rattle.sentence_text.specs.Reading as sentences
 use Rattle.sentence_profile.specs.declared.fault.FieldFault.{FieldFault}
 use Rattle.sentence_profile.specs.declared.fault.FieldFault.TheVariants.{Outside}
+use Rattle.sentence_profile.specs.declared.optional.OptionalSentences.{OptionalSentences}
 use Rattle.sentence_profile.specs.Reading.{read_row}
 use Rattle.source_choice.specs.declared.rank.Rank.{Rank}
 use Rattle.history.specs.Settings.{Settings, RowRule, rule_of, same_text, is_some_that}
@@ -26,12 +27,12 @@ pub record NetReading : Type 0 where
 
 -- ---- what a sentence says: its readings, or its first fault; one that can't be read is outside the profile
 
-abbrev pub read_parts : Result SentenceParts SentenceFault → Result (List Reading) FieldFault
-read_parts (Ok parts) = read_row parts
-read_parts (Err f) = Err Outside
+abbrev pub read_parts : OptionalSentences → Result SentenceParts SentenceFault → Result (List Reading) FieldFault
+read_parts optional (Ok parts) = read_row optional parts
+read_parts optional (Err f) = Err Outside
 
-abbrev pub read_sentence : List ℕ → Result (List Reading) FieldFault
-read_sentence text = read_parts (sentences.read text)
+abbrev pub read_sentence : OptionalSentences → List ℕ → Result (List Reading) FieldFault
+read_sentence optional text = read_parts optional (sentences.read text)
 
 -- ---- what a line says, in order: of each sentence that it hands over the readings, or the fault
 
@@ -39,17 +40,17 @@ abbrev pub sentence_says : Taken → Result (List Reading) FieldFault → List (
 sentence_says t (Ok readings) = map (λ r. Ok (record { line = t; reading = r })) readings
 sentence_says t (Err fault) = Err fault ∷ []
 
-abbrev pub line_says : Taken → List (List ℕ) → List (Result NetReading FieldFault)
-line_says t texts = flat_map (λ text. sentence_says t (read_sentence text)) texts
+abbrev pub line_says : OptionalSentences → Taken → List (List ℕ) → List (Result NetReading FieldFault)
+line_says optional t texts = flat_map (λ text. sentence_says t (read_sentence optional text)) texts
 
 -- with the readings among it
 abbrev pub with_readings : List NetReading → List (Result NetReading FieldFault) → List NetReading
 with_readings older said = with_each older (filter_map result_ok said)
 
 -- the readings of all lines that were taken
-abbrev pub readings_of : List Taken → List NetReading
-readings_of [] = []
-readings_of (t ∷ older) = with_readings (readings_of older) (line_says t (handed_over t older))
+abbrev pub readings_of : OptionalSentences → List Taken → List NetReading
+readings_of optional [] = []
+readings_of optional (t ∷ older) = with_readings (readings_of optional older) (line_says optional t (handed_over t older))
 
 -- ---- which readings are selected: as on the bus, without claims; the rank of a source is its place among those that are listed
 

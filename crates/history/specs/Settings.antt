@@ -6,12 +6,21 @@ use Rattle.claim_table.specs.declared.preset.Preset.{Preset}
 use Rattle.readings.specs.declared.rows.Row.{Row}
 use Rattle.readings.specs.Rows.{row_number}
 use Rattle.pgn_profile.specs.Profiled.{kind_of}
+use Rattle.sentence_profile.specs.declared.optional.OptionalSentences.{OptionalSentences}
+use Rattle.sentence_profile.specs.Reading.{usual}
 use Rattle.pgn_profile.specs.declared.kinds.Kind.{Kind}
 
 -- there is something that passes a test
 abbrev pub is_some_that : {A : Type 0} → (A → Bool) → Option A → Bool
 is_some_that passes None = false
 is_some_that passes (Some x) = passes x
+
+-- which of the sentences are read that a configuration decides on, and what it decides where it says nothing
+abbrev pub SentenceChoice : Type 0
+SentenceChoice = OptionalSentences
+
+abbrev pub usual_sentences : SentenceChoice
+usual_sentences = usual
 
 -- whom a row is taken from, and to whom it is said
 pub record RowRule : Type 0 where
@@ -43,6 +52,7 @@ pub record Settings : Type 0 where
   pub rows : List RowRule
   -- whom the network is heard from, in order of preference
   pub net_sources : List (List ℕ)
+  pub optional_sentences : SentenceChoice
 
 -- two system function identifiers, or two transmission groups
 abbrev pub same_text : List ℕ → List ℕ → Bool

@@ -74,6 +74,8 @@ pub fn datagrams_are_heard()
     ensures not_heard { net_cases.NotHeard }
     ensures early_after_move { net_cases.EarlyAfterMove }
     ensures no_room { net_cases.NoRoom }
+    ensures rmc_without_dbt { net_cases.RmcWithoutDbt }
+    ensures dbt_without_rmc { net_cases.DbtWithoutRmc }
 {}
 
 /// A device's messages, with and without another device between them.

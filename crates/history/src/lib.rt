@@ -20,3 +20,4 @@ pub use laws::{
     tables_say_the_refusals, transport_frames_step_their_session, transport_refusals_break,
     what_is_too_long_is_told,
 };
+pub use sentence_profile::OptionalSentences;

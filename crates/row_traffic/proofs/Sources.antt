@@ -27,7 +27,7 @@ said_sources k l (Err fault) = refl
 
 sentences_sources : (k : ReadingsKept) (l : LineHeard) (texts : List (List ℕ)) → (sentences_after k l texts).choices.sources ≡ k.choices.sources
 sentences_sources k l [] = refl
-sentences_sources k l (text ∷ texts) = sentences_sources (said_after k l (read_sentence text)) l texts ∙ said_sources k l (read_sentence text)
+sentences_sources k l (text ∷ texts) = sentences_sources (said_after k l (read_sentence l.optional text)) l texts ∙ said_sources k l (read_sentence l.optional text)
 
 module _ (cmp : GroupKey → GroupKey → Ordering) (c : Settings) (m : ℕ) (ready : Bool) (k : NetKept) where
   taken_sources : (l : LineHeard) (source text : List ℕ) (part : Option GroupPart)

@@ -4,6 +4,7 @@ use Rattle.std.specs.declared.cmp.Ordering.{Ordering}
 use Rattle.report_rules.specs.Rules as rules
 use Rattle.sentence_text.specs.Sentence.{SentenceParts, IsSentence}
 use Rattle.sentence_text.proofs.Only.{only}
+use Rattle.sentence_profile.specs.declared.optional.OptionalSentences.{OptionalSentences}
 use Rattle.sentence_profile.specs.Reading.{read_row}
 use Rattle.tag_block.specs.declared.group_key.GroupKey.{GroupKey}
 use Rattle.tag_block.specs.Tag.{Said}
@@ -16,8 +17,9 @@ use Rattle.row_traffic.specs.declared.network.hearing.Hearing.{Hearing}
 use Rattle.row_traffic.specs.NetCalls.{heard_by, after_line, line_gives}
 
 -- what a sentence says is what its parts say
-pub says_its_row : (parts : SentenceParts) (text : List ℕ) → IsSentence parts text → read_sentence text ≡ read_row parts
-says_its_row parts text is = ap read_parts (only text parts is)
+pub says_its_row : (optional : OptionalSentences) (parts : SentenceParts) (text : List ℕ) → IsSentence parts text
+    → read_sentence optional text ≡ read_row optional parts
+says_its_row optional parts text is = ap (read_parts optional) (only text parts is)
 
 module _ (cmp : GroupKey → GroupKey → Ordering) (h : Hearing) (k : NetKept) (place : ℕ) (said : Said) (text : List ℕ) where
   -- it leaves all as it was, and its rule is reported

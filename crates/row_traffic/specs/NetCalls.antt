@@ -16,7 +16,7 @@ use Rattle.row_traffic.specs.declared.network.heard.Heard.{Heard}
 use Rattle.row_traffic.specs.declared.network.hearing.Hearing.{Hearing}
 
 abbrev pub line_of : Heard → LineHeard
-line_of h = record { moment = h.came.moment; ready = h.came.ready; place = h.place; source = h.source }
+line_of h = record { moment = h.came.moment; ready = h.came.ready; place = h.place; source = h.source; optional = h.optional }
 
 -- settings in which all that isn't read of the network is nothing
 abbrev pub heard_by : Hearing → Settings
@@ -31,12 +31,14 @@ heard_by h = record {
   presets = [];
   rows = [];
   net_sources = h.sources.now;
+  optional_sentences = h.optional;
 }
 
 -- settings that say of whom is heard what the call is told
 pub record IsHeardBy (c : Settings) (h : Hearing) : Type 0 where
   pub sfi : c.sfi ≡ h.sfi
   pub sources : c.net_sources ≡ h.sources.now
+  pub optional : c.optional_sentences ≡ h.optional
 
 -- none of the fast packets of any row was sent
 abbrev pub none_sent : List ℕ

@@ -158,6 +158,7 @@ impl Network {
                         came: hearing.came,
                         place,
                         source: source as u8,
+                        optional: hearing.optional,
                     };
                     self.take_line(heard, tag, text, sentence, out);
                 }

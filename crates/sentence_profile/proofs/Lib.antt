@@ -8,3 +8,4 @@ pub mod Dates
 pub mod CivilDates
 pub mod Unique
 pub mod ShortSentences
+pub mod GllAndVtg

@@ -1,5 +1,5 @@
 -- Each sentence that is written is read as one reading, which is said in it again.
-use Rattle.std.proofs.Common.{rules, ◌≡◌, ℕ, ◌+◌, ◌≤◌, ℤ, pos, Bool, true, false, Option, Some, None, Result, Ok, List, [], ◌∷◌, ◌++◌, All, length, map, refl, sym, ap, ◌∙◌, arith}
+use Rattle.std.proofs.Common.{rules, ◌≡◌, ℕ, ◌+◌, ◌≤◌, ℤ, pos, Bool, true, false, Option, Some, None, Result, Ok, Err, List, [], ◌∷◌, ◌++◌, All, length, map, refl, sym, ap, ◌∙◌, arith}
 use Rattle.std.specs.Prelude.{◌&&◌, ◌||◌, not, codes, is_none, is_some, Contains, if◌then◌else◌}
 use Rattle.std.specs.List.{AllByRecursion}
 use Rattle.std.proofs.lemmas.Int.{ints}
@@ -16,6 +16,7 @@ use Rattle.sentence_text.specs.Sentence.{sentence}
 use Rattle.sentence_fields.specs.declared.written_unit.WrittenUnit.{WrittenUnit}
 use Rattle.sentence_profile.specs.declared.read_unit.ReadUnit.{ReadUnit}
 use Rattle.sentence_profile.specs.declared.fault.FieldFault.{FieldFault}
+use Rattle.sentence_profile.specs.declared.fault.FieldFault.TheVariants.{Outside}
 use Rattle.sentence_profile.specs.declared.formatter.Formatter.{Formatter}
 use Rattle.sentence_profile.specs.declared.formatter.Formatter.TheVariants as formatter
 use Rattle.sentence_fields.specs.declared.field.Field.{Field}
@@ -56,11 +57,16 @@ same_sentence talker name a b e =
 abbrev found : Reading → Result rows.Found FieldFault
 found r = Ok (r, None)
 
-read_by : (talker : List ℕ) (k : Formatter) (fields : List Field) (r : Reading) → fields_of (body_text fields) ≡ texts fields → rows.read_as k (texts fields) ≡ found r
-    → rows.read_row (parts_by talker (name_of k) fields) ≡ Ok (r ∷ [])
+-- the sentences of the formatter are read if a configuration says nothing else
+abbrev IsUsual : Formatter → Type 0
+IsUsual k = rows.is_wanted rows.usual k ≡ true
+
+read_by : (talker : List ℕ) (k : Formatter) (fields : List Field) (r : Reading) → IsUsual k → fields_of (body_text fields) ≡ texts fields
+    → rows.read_as k (texts fields) ≡ found r → rows.read_row rows.usual (parts_by talker (name_of k) fields) ≡ Ok (r ∷ [])
 unfolding rows.read_sentence
-read_by talker k fields r has is =
-    ap (λ (o : Option Formatter). rows.listed (rows.read_behind o (fields_of (body_text fields)))) (named k)
+read_by talker k fields r wanted has is =
+    ap (λ (o : Option Formatter). rows.listed (rows.read_behind rows.usual o (fields_of (body_text fields)))) (named k)
+    ∙ ap (λ (b : Bool). rows.listed (if b then rows.read_as k (fields_of (body_text fields)) else Err Outside)) wanted
     ∙ ap (λ (f : List (List ℕ)). rows.listed (rows.read_as k f)) has
     ∙ ap rows.listed is
 
@@ -72,24 +78,24 @@ abbrev Kept : Bool → List ℕ × List Field → Type 0
 Kept ths s = (talker : List ℕ) → IsReadBack talker s.0 s.1 → IsStable talker ths (sentence_by talker s.0 s.1)
 
 -- of the sentences of a reading this is one of the same texts
-kept_at : (ths : Bool) (k : Formatter) (fields : List Field) (r : Reading) (sentences : List (List ℕ × List Field)) → rows.read_as k (texts fields) ≡ found r
-    → ((talker : List ℕ) → IsText r talker ths (lines_by talker sentences)) → ((talker : List ℕ) → Contains (lines_by talker sentences) (sentence_by talker (name_of k) fields))
+kept_at : (ths : Bool) (k : Formatter) → IsUsual k → (fields : List Field) (r : Reading) (sentences : List (List ℕ × List Field))
+    → rows.read_as k (texts fields) ≡ found r → ((talker : List ℕ) → IsText r talker ths (lines_by talker sentences)) → ((talker : List ℕ) → Contains (lines_by talker sentences) (sentence_by talker (name_of k) fields))
     → Kept ths (name_of k, fields)
-kept_at ths k fields r sentences is said_so there talker b = record {
+kept_at ths k wanted fields r sentences is said_so there talker b = record {
   parts = parts_by talker (name_of k) fields;
   is_sentence = b.is_sentence;
   reading = r;
-  is_read = read_by talker k fields r b.has_fields is;
+  is_read = read_by talker k fields r wanted b.has_fields is;
   lines = lines_by talker sentences;
   are_said = said_so talker;
   among = there talker;
 }
 
 -- the first of them
-kept : (ths : Bool) (k : Formatter) (fields same : List Field) (rest : List (List ℕ × List Field)) (r : Reading) → rows.read_as k (texts fields) ≡ found r
-    → ((talker : List ℕ) → IsText r talker ths (lines_by talker ((name_of k, same) ∷ rest))) → texts same ≡ texts fields → Kept ths (name_of k, fields)
-kept ths k fields same rest r is said_so e =
-    kept_at ths k fields r ((name_of k, same) ∷ rest) is said_so (λ talker. (0, omega arith, same_sentence talker (name_of k) same fields e))
+kept : (ths : Bool) (k : Formatter) → IsUsual k → (fields same : List Field) (rest : List (List ℕ × List Field)) (r : Reading)
+    → rows.read_as k (texts fields) ≡ found r → ((talker : List ℕ) → IsText r talker ths (lines_by talker ((name_of k, same) ∷ rest))) → texts same ≡ texts fields → Kept ths (name_of k, fields)
+kept ths k wanted fields same rest r is said_so e =
+    kept_at ths k wanted fields r ((name_of k, same) ∷ rest) is said_so (λ talker. (0, omega arith, same_sentence talker (name_of k) same fields e))
 
 -- ---- values that are there
 
@@ -106,7 +112,7 @@ unfolding rows.hdt
 hdt ths h =
     let f = texts (text.hdt h) in
     let a = angle_measured f 1 84 h refl refl in
-    kept ths formatter.Hdt (text.hdt h) (text.hdt a.value) (if ths then (codes "THS", text.ths a.value) ∷ [] else []) (reading.HeadingTrue a.value) (rw a.is refl) (λ talker. refl) (cc)
+    kept ths formatter.Hdt refl (text.hdt h) (text.hdt a.value) (if ths then (codes "THS", text.ths a.value) ∷ [] else []) (reading.HeadingTrue a.value) (rw a.is refl) (λ talker. refl) (cc)
 
 -- THS comes behind HDT
 ths_behind : (h : Option ℤ) → Kept true (codes "THS", text.ths h)
@@ -117,7 +123,7 @@ ths_behind h =
     let m = mode_said f 2 (is_some h) refl in
     let read : rows.read_as formatter.Ths f ≡ found (reading.HeadingTrue (only_if (is_some h) a.value)) = rw (a.is, m) refl in
     let same : texts (text.ths a.value) ≡ f = let t = same_letter a.value h 65 86 a.there in cc in
-    kept_at true formatter.Ths (text.ths h) (reading.HeadingTrue a.value) ((codes "HDT", text.hdt a.value) ∷ (codes "THS", text.ths a.value) ∷ [])
+    kept_at true formatter.Ths refl (text.ths h) (reading.HeadingTrue a.value) ((codes "HDT", text.hdt a.value) ∷ (codes "THS", text.ths a.value) ∷ [])
     (read ∙ ap (λ (x : Option ℤ). found (reading.HeadingTrue x)) (only_there a.value (is_some h) a.there)) (λ talker. refl)
     (λ talker. (1, omega arith, same_sentence talker (codes "THS") (text.ths a.value) (text.ths h) same))
 
@@ -128,7 +134,7 @@ hdg ths h d v in_d in_v =
     let a = angle_back f 1 h refl in
     let x = sided_back f 2 spec.deviation unit.degrees d 69 87 refl in_d refl refl refl in
     let y = sided_back f 4 spec.deviation unit.degrees v 69 87 refl in_v refl refl refl in
-    kept ths formatter.Hdg (text.hdg h d v) (text.hdg a.value x.value y.value) [] (reading.HeadingMagnetic a.value x.value y.value) (rw (a.is, x.is, y.is) refl) (λ talker. refl) (cc)
+    kept ths formatter.Hdg refl (text.hdg h d v) (text.hdg a.value x.value y.value) [] (reading.HeadingMagnetic a.value x.value y.value) (rw (a.is, x.is, y.is) refl) (λ talker. refl) (cc)
 
 rot : (ths : Bool) (r : Option ℤ) → Admits ranges.rate_of_turn r → Kept ths (codes "ROT", text.rot r)
 unfolding rows.rot
@@ -138,7 +144,7 @@ rot ths r in_r =
     let m = status_of f 2 (is_none a.value) (is_some r) refl in
     let read : rows.read_as formatter.Rot f ≡ found (reading.RateOfTurn (only_if (is_some r) a.value)) = rw (a.is, m) refl in
     let same : texts (text.rot a.value) ≡ f = let t = same_letter a.value r 65 86 a.there in cc in
-    kept ths formatter.Rot (text.rot r) (text.rot a.value) [] (reading.RateOfTurn a.value)
+    kept ths formatter.Rot refl (text.rot r) (text.rot a.value) [] (reading.RateOfTurn a.value)
     (read ∙ ap (λ (x : Option ℤ). found (reading.RateOfTurn x)) (only_there a.value (is_some r) a.there)) (λ talker. refl) same
 
 -- ---- rudders
@@ -163,13 +169,13 @@ rsa_first ths p in_p =
     let n = status_of f 4 true false refl in
     let read : rows.read_as formatter.Rsa f ≡ found (reading.RudderFirst (only_if (is_some p) a.value)) = rw (a.is, m, e, n) refl in
     let same : texts (text.rsa_first a.value) ≡ f = let t = same_letter a.value p 65 86 a.there in cc in
-    kept ths formatter.Rsa (text.rsa_first p) (text.rsa_first a.value) [] (reading.RudderFirst a.value)
+    kept ths formatter.Rsa refl (text.rsa_first p) (text.rsa_first a.value) [] (reading.RudderFirst a.value)
     (read ∙ ap (λ (x : Option ℤ). found (reading.RudderFirst x)) (only_there a.value (is_some p) a.there)) (λ talker. refl) same
 
 -- a second rudder that isn't available is said as a first one that isn't
 rsa_second : (ths : Bool) (p : Option ℤ) → Admits ranges.rudder p → Kept ths (codes "RSA", text.rsa_second p)
 unfolding rows.rsa
-rsa_second ths None in_p = kept ths formatter.Rsa (text.rsa_second None) (text.rsa_first None) [] (reading.RudderFirst None) no_rudder (λ talker. refl) refl
+rsa_second ths None in_p = kept ths formatter.Rsa refl (text.rsa_second None) (text.rsa_first None) [] (reading.RudderFirst None) no_rudder (λ talker. refl) refl
 rsa_second ths (Some raw) in_p =
     let f = texts (text.rsa_second (Some raw)) in
     let p = back spec.rudder unit.degrees (Some raw) in
@@ -178,7 +184,7 @@ rsa_second ths (Some raw) in_p =
     let e2 = status_of f 2 true false refl in
     let e3 = number_of f 3 spec.rudder (text_of (Decimal (Some raw) unit.degrees)) p refl (reads_decimal spec.rudder unit.degrees (Some raw) pair in_p) in
     let e4 = status_of f 4 false true refl in
-    kept ths formatter.Rsa (text.rsa_second (Some raw)) (text.rsa_second p) [] (reading.RudderSecond p) (rw (e1, e2, e3, e4) refl) (λ talker. refl)
+    kept ths formatter.Rsa refl (text.rsa_second (Some raw)) (text.rsa_second p) [] (reading.RudderSecond p) (rw (e1, e2, e3, e4) refl) (λ talker. refl)
     (ap (λ (t : List ℕ). [] ∷ (86 ∷ []) ∷ t ∷ (65 ∷ []) ∷ []) (same_decimal unit.degrees spec.rudder (Some raw) pair))
 
 -- ---- depths and distances
@@ -190,7 +196,7 @@ dpt ths d o r in_d in_o in_r =
     let a = number_back f 1 spec.metres unit.metres d refl in_d refl in
     let b = number_back f 2 spec.offset_metres unit.offset_metres o refl in_o refl in
     let c = number_back f 3 spec.range_metres unit.range_metres r refl in_r refl in
-    kept ths formatter.Dpt (text.dpt d o r) (text.dpt a.value b.value c.value) ((codes "DBT", text.dbt a.value) ∷ []) (reading.Depth a.value b.value c.value) (rw (a.is, b.is, c.is) refl) (λ talker. refl) (cc)
+    kept ths formatter.Dpt refl (text.dpt d o r) (text.dpt a.value b.value c.value) ((codes "DBT", text.dbt a.value) ∷ []) (reading.Depth a.value b.value c.value) (rw (a.is, b.is, c.is) refl) (λ talker. refl) (cc)
 
 -- DBT comes behind DPT, and says all of the depth
 dbt : (ths : Bool) (d : Option ℤ) → Admits ranges.depth d → Kept ths (codes "DBT", text.dbt d)
@@ -199,7 +205,7 @@ dbt ths d in_d =
     let f = texts (text.dbt d) in
     let n = number_of f 3 spec.metres (text_of (Decimal d unit.metres)) d refl (reads_exactly spec.metres unit.metres d refl (omega arith) refl in_d) in
     let m = measure_of f 3 spec.metres 77 d n refl in
-    kept_at ths formatter.Dbt (text.dbt d) (reading.Depth d None None) ((codes "DPT", text.dpt d None None) ∷ (codes "DBT", text.dbt d) ∷ []) (rw m refl) (λ talker. refl)
+    kept_at ths formatter.Dbt refl (text.dbt d) (reading.Depth d None None) ((codes "DPT", text.dpt d None None) ∷ (codes "DBT", text.dbt d) ∷ []) (rw m refl) (λ talker. refl)
     (λ talker. (1, omega arith, refl))
 
 vlw : (ths : Bool) (l t : Option ℤ) → Admits ranges.water_distance l → Admits ranges.water_distance t → Kept ths (codes "VLW", text.vlw l t)
@@ -210,7 +216,7 @@ vlw ths l t in_l in_t =
     let u = unit.nautical_miles in
     let a = measured f 1 q u 78 l refl in_l refl refl in
     let b = measured f 3 q u 78 t refl in_t refl refl in
-    kept ths formatter.Vlw (text.vlw l t) (text.vlw a.value b.value) [] (reading.DistanceLog a.value b.value) (rw (a.is, b.is) refl) (λ talker. refl) (cc)
+    kept ths formatter.Vlw refl (text.vlw l t) (text.vlw a.value b.value) [] (reading.DistanceLog a.value b.value) (rw (a.is, b.is) refl) (λ talker. refl) (cc)
 
 -- ---- temperature
 
@@ -229,7 +235,7 @@ mtw ths k in_k =
     let a = measured f 1 q unit.celsius 67 c refl (celsius_within k in_k) refl refl in
     let kelvin = rows.from_freezing a.value in
     let same : texts (text.mtw kelvin) ≡ f = let s : texts (Decimal a.value unit.celsius ∷ Letter 67 ∷ []) ≡ f = let t = a.same in cc in ap (λ (x : Option ℤ). texts (Decimal x unit.celsius ∷ Letter 67 ∷ [])) (above_again a.value) ∙ s in
-    kept ths formatter.Mtw (text.mtw k) (text.mtw kelvin) [] (reading.WaterTemperature kelvin) (rw a.is refl) (λ talker. refl) same
+    kept ths formatter.Mtw refl (text.mtw k) (text.mtw kelvin) [] (reading.WaterTemperature kelvin) (rw a.is refl) (λ talker. refl) same
 
 -- ---- cross track error
 
@@ -248,7 +254,7 @@ xte ths x in_x =
     let u = unit_of f 5 78 (is_none a.value) refl in
     let read : rows.read_as formatter.Xte f ≡ found (reading.CrossTrack (only_if (there && there) a.value)) = rw (m, n, a.is, u) refl in
     let same : texts (text.xte a.value) ≡ f = let t = same_letter a.value x 65 86 a.there in let w = same_letter a.value x 65 78 a.there in cc in
-    kept ths formatter.Xte (text.xte x) (text.xte a.value) [] (reading.CrossTrack a.value)
+    kept ths formatter.Xte refl (text.xte x) (text.xte a.value) [] (reading.CrossTrack a.value)
     (read ∙ ap (λ (y : Option ℤ). found (reading.CrossTrack y)) (only_there a.value (there && there) (a.there ∙ sym (twice there)))) (λ talker. refl) same
 
 -- ---- speeds in two units
@@ -273,7 +279,7 @@ unfolding rows.vhw spec.unkept
 vhw ths s in_s =
     let f = texts (text.vhw s) in
     let e = speed_said f 5 spec.kilometres_per_hour unit.kilometres_per_hour 75 s in_s refl refl refl refl (omega arith) in
-    kept ths formatter.Vhw (text.vhw s) (text.vhw s) [] (reading.WaterSpeed s) (rw e refl) (λ talker. refl) refl
+    kept ths formatter.Vhw refl (text.vhw s) (text.vhw s) [] (reading.WaterSpeed s) (rw e refl) (λ talker. refl) refl
 
 -- ---- directions, true or else magnetic
 
@@ -345,7 +351,7 @@ vtg ths m c s in_s =
     let s1 = same_true m c in
     let s2 = same_magnetic m c in
     let s3 : letter_where (is_some a || is_some s) 65 78 ≡ letter_where there 65 78 = ap (λ (t : Bool). letter_where t 65 78) (either_there c s) in cc in
-    kept ths formatter.Vtg (text.vtg m c s) (text.vtg from a s) [] (reading.CourseSpeed from a s) is (λ talker. refl) same
+    kept ths formatter.Vtg refl (text.vtg m c s) (text.vtg from a s) [] (reading.CourseSpeed from a s) is (λ talker. refl) same
 
 mwd : (ths : Bool) (m : Bool) (s c : Option ℤ) → Admits ranges.speed s → Kept ths (codes "MWD", text.mwd m s c)
 unfolding rows.mwd
@@ -356,7 +362,7 @@ mwd ths m s c in_s =
     let d = directed f m c refl refl refl refl (omega arith) in
     let e = speed_said f 5 spec.metres_per_second unit.metres_per_second 77 s in_s refl refl refl refl (omega arith) in
     let same : texts (text.mwd from s a) ≡ f = let s1 = same_true m c in let s2 = same_magnetic m c in cc in
-    kept ths formatter.Mwd (text.mwd m s c) (text.mwd from s a) [] (reading.WindNorth from s a) (rw (d.course, e, d.from) refl) (λ talker. refl) same
+    kept ths formatter.Mwd refl (text.mwd m s c) (text.mwd from s a) [] (reading.WindNorth from s a) (rw (d.course, e, d.from) refl) (λ talker. refl) same
 
 -- ---- wind
 
@@ -383,11 +389,11 @@ same_wind letter s a =
 
 mwv_apparent : (ths : Bool) (s a : Option ℤ) → Admits ranges.speed s → Kept ths (codes "MWV", text.mwv 82 s a)
 mwv_apparent ths s a in_s =
-    kept ths formatter.Mwv (text.mwv 82 s a) (text.mwv 82 s (back_angle a)) [] (reading.WindApparent s (back_angle a)) (mwv_read false s a in_s) (λ talker. refl) (same_wind 82 s a)
+    kept ths formatter.Mwv refl (text.mwv 82 s a) (text.mwv 82 s (back_angle a)) [] (reading.WindApparent s (back_angle a)) (mwv_read false s a in_s) (λ talker. refl) (same_wind 82 s a)
 
 mwv_true : (ths : Bool) (s a : Option ℤ) → Admits ranges.speed s → Kept ths (codes "MWV", text.mwv 84 s a)
 mwv_true ths s a in_s =
-    kept ths formatter.Mwv (text.mwv 84 s a) (text.mwv 84 s (back_angle a)) [] (reading.WindTrue s (back_angle a)) (mwv_read true s a in_s) (λ talker. refl) (same_wind 84 s a)
+    kept ths formatter.Mwv refl (text.mwv 84 s a) (text.mwv 84 s (back_angle a)) [] (reading.WindTrue s (back_angle a)) (mwv_read true s a in_s) (λ talker. refl) (same_wind 84 s a)
 
 -- ---- positions
 
@@ -420,7 +426,7 @@ gll ths la lo in_la in_lo both =
     let read : rows.read_as formatter.Gll f ≡ found (reading.Position (only_if there (beside a.value b.value)) (only_if there (beside b.value a.value))) = rw (a.is, b.is, m) refl in
     let same : texts (text.gll a.value b.value) ≡ f =
     let w = same_letter a.value la 65 86 a.there in let z = same_letter a.value la 65 78 a.there in cc in
-    kept ths formatter.Gll (text.gll la lo) (text.gll (beside a.value b.value) (beside b.value a.value)) [] (reading.Position a.value b.value)
+    kept ths formatter.Gll refl (text.gll la lo) (text.gll (beside a.value b.value) (beside b.value a.value)) [] (reading.Position a.value b.value)
     (read ∙ two (λ x y. found (reading.Position x y)) _ _ _ _ x1 x2) (λ talker. refl) (two (λ x y. texts (text.gll x y)) _ _ _ _ y1 y2 ∙ same)
 
 -- the method of a fix that there is
@@ -462,7 +468,7 @@ gga ths t la lo al m n h s in_t in_la in_lo in_al in_m in_n in_h in_s both =
     rw (time.is, a.is, b.is, quality, seen.is, hdop.is, above.is, apart.is) refl in
     let same : texts (text.gga time.value a.value b.value above.value method seen.value hdop.value apart.value) ≡ f =
     let s7 : letter_where (is_some a.value) (48 + method) 48 ≡ letter_where (is_some la) (48 + m) 48 = same_letter a.value la (48 + method) 48 a.there ∙ g.same in cc in
-    kept ths formatter.Gga (text.gga t la lo al m n h s) (text.gga time.value (beside a.value b.value) (beside b.value a.value) above.value method seen.value hdop.value apart.value) []
+    kept ths formatter.Gga refl (text.gga t la lo al m n h s) (text.gga time.value (beside a.value b.value) (beside b.value a.value) above.value method seen.value hdop.value apart.value) []
     (reading.Gnss None time.value a.value b.value above.value method seen.value hdop.value apart.value)
     (read ∙ two (λ x y. found (reading.Gnss None time.value x y above.value method seen.value hdop.value apart.value)) _ _ _ _ y1 y2) (λ talker. refl)
     (two (λ x y. texts (text.gga time.value x y above.value method seen.value hdop.value apart.value)) _ _ _ _ y1 y2 ∙ same)
@@ -481,14 +487,14 @@ zda ths None t None in_day in_t on =
     let f = texts (text.zda t None) in
     let a = time_back f 1 t in_t refl in
     let e = no_date_said f 2 refl refl refl in
-    kept ths formatter.Zda (text.zda t None) (text.zda a.value None) [] (reading.Time None a.value) (rw (a.is, e) refl) (λ talker. refl) (cc)
+    kept ths formatter.Zda refl (text.zda t None) (text.zda a.value None) [] (reading.Time None a.value) (rw (a.is, e) refl) (λ talker. refl) (cc)
 zda ths None t (Some d) in_day in_t on = cc
 zda ths (Some day) t None in_day in_t on = absurd on
 zda ths (Some day) t (Some d) in_day in_t on =
     let f = texts (text.zda t (Some d)) in
     let a = time_back f 1 t in_t refl in
     let e = date_said f 2 d day on in_day refl refl refl in
-    kept ths formatter.Zda (text.zda t (Some d)) (text.zda a.value (Some d)) [] (reading.Time (Some day) a.value) (rw (a.is, e) refl) (λ talker. (d, on, refl)) (cc)
+    kept ths formatter.Zda refl (text.zda t (Some d)) (text.zda a.value (Some d)) [] (reading.Time (Some day) a.value) (rw (a.is, e) refl) (λ talker. (d, on, refl)) (cc)
 
 -- ---- each sentence of a valid reading
 

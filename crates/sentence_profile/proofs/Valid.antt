@@ -157,7 +157,7 @@ kelvin_within : (v : Option ℤ) → Admits (ranges.either_side 100000) v → Ad
 kelvin_within v h = grind (arith, ints)
 
 valid_as : (formatter : Formatter) (f : List (List ℕ)) → IfOk (rows.read_as formatter f) rows.AreValid
-unfolding rows.hdt rows.ths rows.hdg rows.rot rows.rsa rows.vhw rows.dpt rows.depth_range rows.dbt rows.vlw rows.gll rows.vtg rows.gga rows.zda rows.mwv rows.mwd rows.mtw rows.xte
+unfolding rows.hdt rows.ths rows.hdg rows.rot rows.rsa rows.vhw rows.dpt rows.depth_range rows.dbt rows.vlw rows.gll rows.vtg rows.gga rows.zda rows.mwv rows.mwd rows.mtw rows.xte rows.rmc
 valid_as formatter.Hdt f = grind (arith, measure_within)
 valid_as formatter.Ths f = grind (arith, only_within, number_within)
 valid_as formatter.Hdg f = grind (arith, number_within, sided_within)
@@ -176,6 +176,7 @@ valid_as formatter.Mwv f = grind (arith, only_within, wind_within, number_within
 valid_as formatter.Mwd f = grind (arith, either_within)
 valid_as formatter.Mtw f = grind (arith, kelvin_within, measure_within)
 valid_as formatter.Xte f = grind (arith, only_within, sided_within)
+valid_as formatter.Rmc f = grind (arith, only_within, beside_within, coordinate_within, number_within)
 
 pub valid_result : (formatter : Formatter) (f : List (List ℕ)) (result : Result rows.Found FieldFault) → result ≡ rows.read_as formatter f → IfOk result rows.AreValid
 valid_result formatter f result e = rw e (valid_as formatter f)

@@ -1,15 +1,21 @@
 -- What is promised of dates and of the sentences that are written.
-use Rattle.std.specs.Prelude.{◌≡◌, ◌↔◌, ℕ, ◌≤◌, ℤ, Bool, List, length, IsTrue, Ok}
+use Rattle.std.specs.Prelude.{◌≡◌, ◌↔◌, ℕ, ◌≤◌, ℤ, Bool, true, false, not, ◌&&◌, List, [], ◌∷◌, codes, length, IsTrue, None, Result, Ok, Err}
 use Rattle.std.specs.List.{AllByRecursion, list_all}
 use Rattle.readings.specs.declared.reading.Reading.{Reading}
 use Rattle.readings.specs.Ranges.{Holds, date as date_range}
 use Rattle.readings.specs.Rows.{IsValid}
 use Rattle.sentence_text.specs.Sentence.{SentenceParts, longest_written}
-use Rattle.sentence_fields.specs.Field.{most_sentences}
+use Rattle.sentence_text.specs.Fields.{fields_of}
+use Rattle.sentence_fields.specs.Field.{letter_where, most_sentences}
 use Rattle.sentence_text.specs.Byte.{is_capital}
 use Rattle.sentence_text.specs.Reading.{read}
 use Rattle.sentence_profile.specs.declared.minimum.Minimum.{Minimum}
+use Rattle.sentence_profile.specs.declared.fault.FieldFault.{FieldFault}
+use Rattle.sentence_profile.specs.declared.formatter.Formatter.TheVariants as formatter
+use Rattle.sentence_profile.specs.declared.optional.OptionalSentences.{OptionalSentences}
 use Rattle.sentence_profile.specs.Calendar.{IsDateOf, civil_date}
+use Rattle.sentence_profile.specs.Columns.{is_letter, text}
+use Rattle.sentence_profile.specs.Reading.{is_invalid_mode, read_as, read_row}
 use Rattle.sentence_profile.specs.Rmc.{IsMinimum, rmc_text}
 use Rattle.sentence_profile.specs.Writing.{IsText, sentences_of}
 
@@ -49,3 +55,30 @@ EachIsASentence =
 abbrev pub RmcIsASentence : Type 0
 RmcIsASentence =
     (talker : List ℕ) (x : Minimum) → length talker ≡ 2 → IsTrue (list_all is_capital talker) → IsMinimum x → IsOneSentence (rmc_text talker x)
+
+-- ---- RMC says what GLL and VTG say
+
+-- the status of an RMC is A, and its mode isn't N
+abbrev pub is_minimum_valid : List (List ℕ) → Bool
+is_minimum_valid f = is_letter 65 false (text f 2) && not (is_invalid_mode f 12)
+
+-- the fields of a GLL with the position of an RMC, whose status V or mode N is its status V
+abbrev pub gll_of : List (List ℕ) → List (List ℕ)
+gll_of f = text f 3 ∷ text f 4 ∷ text f 5 ∷ text f 6 ∷ [] ∷ (letter_where (is_minimum_valid f) 65 86 ∷ []) ∷ []
+
+-- the fields of a VTG with the course and speed of an RMC, whose status V or mode N is its mode N
+abbrev pub vtg_of : List (List ℕ) → List (List ℕ)
+vtg_of f =
+    text f 8 ∷ codes "T" ∷ [] ∷ codes "M" ∷ text f 7 ∷ codes "N" ∷ [] ∷ codes "K" ∷ (letter_where (is_minimum_valid f) 65 78 ∷ []) ∷ []
+
+-- what an RMC of these fields gives: the reading of that GLL and then the reading of that VTG; where it has a fault, no reading
+abbrev pub IsGllAndVtg : List (List ℕ) → Result (List Reading) FieldFault → Type 0
+IsGllAndVtg f (Ok readings) =
+    (position : Reading) × (course : Reading) × (read_as formatter.Gll (gll_of f) ≡ Ok (position, None)) × (read_as formatter.Vtg (vtg_of f) ≡ Ok (course, None))
+    × (readings ≡ position ∷ course ∷ [])
+IsGllAndVtg f (Err fault) = Unit {0}
+
+abbrev pub RmcIsGllAndVtg : Type 0
+RmcIsGllAndVtg =
+    (optional : OptionalSentences) (parts : SentenceParts) → optional.rmc ≡ true → parts.start ≡ 36 → parts.formatter ≡ codes "RMC"
+    → IsGllAndVtg (fields_of parts.body) (read_row optional parts)

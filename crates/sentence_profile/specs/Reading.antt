@@ -1,8 +1,9 @@
 -- The readings of each sentence: for each formatter its fields in order, and the values that they give.
-use Rattle.std.specs.Prelude.{ℕ, List, [], ◌∷◌, codes, Option, find, ◌≡◌, ℤ, pos, ◌+ℤ◌, Bool, false, not, ◌&&◌, ◌==◌, nat_lt, length, Some, None, is_none, IfSome, Result, Ok, Err, if◌then◌else◌}
+use Rattle.std.specs.Prelude.{ℕ, List, [], ◌∷◌, codes, Option, find, ◌≡◌, ℤ, pos, ◌+ℤ◌, Bool, true, false, not, ◌&&◌, ◌==◌, nat_lt, length, Some, None, is_none, IfSome, Result, Ok, Err, if◌then◌else◌}
 use Rattle.std.specs.Str.{bytes_eq}
 use Rattle.sentence_profile.specs.declared.formatter.Formatter.{Formatter}
 use Rattle.sentence_profile.specs.declared.formatter.Formatter.TheVariants as formatter
+use Rattle.sentence_profile.specs.declared.optional.OptionalSentences.{OptionalSentences}
 use Rattle.std.specs.Option.{option_to_list}
 use Rattle.std.specs.Result.{result_unwrap_or}
 use Rattle.sentence_text.specs.Sentence.{SentenceParts}
@@ -19,7 +20,8 @@ use Rattle.sentence_profile.specs.Columns as quantity
 abbrev pub all : List Formatter
 all =
     formatter.Hdt ∷ formatter.Hdg ∷ formatter.Rot ∷ formatter.Rsa ∷ formatter.Vhw ∷ formatter.Dpt ∷ formatter.Dbt ∷ formatter.Vlw
-    ∷ formatter.Gll ∷ formatter.Vtg ∷ formatter.Gga ∷ formatter.Zda ∷ formatter.Mwv ∷ formatter.Mwd ∷ formatter.Mtw ∷ formatter.Xte ∷ formatter.Ths ∷ []
+    ∷ formatter.Gll ∷ formatter.Vtg ∷ formatter.Gga ∷ formatter.Zda ∷ formatter.Mwv ∷ formatter.Mwd ∷ formatter.Mtw ∷ formatter.Xte ∷ formatter.Ths
+    ∷ formatter.Rmc ∷ []
 
 abbrev pub name_of : Formatter → List ℕ
 name_of formatter.Hdt = codes "HDT"
@@ -39,6 +41,7 @@ name_of formatter.Mwd = codes "MWD"
 name_of formatter.Mtw = codes "MTW"
 name_of formatter.Xte = codes "XTE"
 name_of formatter.Ths = codes "THS"
+name_of formatter.Rmc = codes "RMC"
 
 unfoldable pub formatter_of : List ℕ → Option Formatter
 formatter_of text = find (λ f. bytes_eq (name_of f) text) all
@@ -130,16 +133,16 @@ gll f =
     reads (fault latitude ∷ fault longitude ∷ unkept f 5 ∷ fault valid ∷ [])
     (reading.Position (only_if (holds valid) (beside (value latitude) (value longitude))) (only_if (holds valid) (beside (value longitude) (value latitude))))
 
--- the mode at the end is N
-unfoldable pub is_invalid_mode : List (List ℕ) → Bool
-is_invalid_mode f = is_letter 78 false (text f 9)
+-- the mode, which may be missing, is N
+unfoldable pub is_invalid_mode : List (List ℕ) → ℕ → Bool
+is_invalid_mode f at = is_letter 78 false (text f at)
 
 -- course in degrees true or else magnetic, speed in knots or else in km/h, mode
 unfoldable pub vtg : List (List ℕ) → Result Reading FieldFault
 vtg f =
     let course = either_unit f 1 quantity.angle 84 quantity.angle 77 in
     let speed = either_unit f 5 quantity.knots 78 quantity.kilometres_per_hour 75 in
-    let valid = not (is_invalid_mode f) in
+    let valid = not (is_invalid_mode f 9) in
     reads (fault course ∷ fault speed ∷ []) (reading.CourseSpeed (is_magnetic f) (only_if valid (value course)) (only_if valid (value speed)))
 
 -- time, latitude, N or S, longitude, E or W, quality, satellites, dilution, altitude, M, separation, M
@@ -204,6 +207,29 @@ xte f =
     reads (fault first ∷ fault second ∷ fault distance ∷ unit_letter f 5 78 (is_none (value distance)) ∷ [])
     (reading.CrossTrack (only_if (holds first && holds second) (value distance)))
 
+-- the status of an RMC may be empty where position, speed and course are
+abbrev pub minimum_status : List (List ℕ) → Result Bool FieldFault
+minimum_status f = status f 2 (is_blank f 3 && is_blank f 5 && is_blank f 7 && is_blank f 8)
+
+-- a position, and a course and a speed over ground, all of which are kept or none
+abbrev pub minimum : Bool → Option ℤ → Option ℤ → Option ℤ → Option ℤ → Found
+minimum kept latitude longitude course speed = (
+  reading.Position (only_if kept (beside latitude longitude)) (only_if kept (beside longitude latitude)),
+  Some (reading.CourseSpeed false (only_if kept course) (only_if kept speed)),
+)
+
+-- a time that isn't kept, status, latitude, N or S, longitude, E or W, speed in knots, course in degrees true, a date and a variation that
+-- aren't kept, mode
+unfoldable pub rmc : List (List ℕ) → Result Found FieldFault
+rmc f =
+    let valid = minimum_status f in
+    let latitude = coordinate f 3 quantity.latitude 4 78 83 in
+    let longitude = coordinate f 5 quantity.longitude 5 69 87 in
+    let speed = number f 7 quantity.knots in
+    let course = number f 8 quantity.angle in
+    reads (unkept f 1 ∷ fault valid ∷ fault latitude ∷ fault longitude ∷ fault speed ∷ fault course ∷ unkept f 9 ∷ [])
+    (minimum (holds valid && not (is_invalid_mode f 12)) (value latitude) (value longitude) (value course) (value speed))
+
 -- ---- a whole sentence
 
 abbrev pub alone : Result Reading FieldFault → Result Found FieldFault
@@ -228,28 +254,39 @@ read_as formatter.Mwd f = alone (mwd f)
 read_as formatter.Mtw f = alone (mtw f)
 read_as formatter.Xte f = alone (xte f)
 read_as formatter.Ths f = alone (ths f)
+read_as formatter.Rmc f = rmc f
 
--- a formatter that there isn't is outside
-abbrev pub read_behind : Option Formatter → List (List ℕ) → Result Found FieldFault
-read_behind None f = Err Outside
-read_behind (Some formatter) f = read_as formatter f
+-- those that are read if a configuration says nothing else
+abbrev pub usual : OptionalSentences
+usual = record { rmc = false; dbt = true }
+
+-- whether the sentences of a formatter are read
+abbrev pub is_wanted : OptionalSentences → Formatter → Bool
+is_wanted optional formatter.Rmc = optional.rmc
+is_wanted optional formatter.Dbt = optional.dbt
+is_wanted optional _ = true
+
+-- a formatter that there isn't, or whose sentences aren't read, is outside
+abbrev pub read_behind : OptionalSentences → Option Formatter → List (List ℕ) → Result Found FieldFault
+read_behind optional None f = Err Outside
+read_behind optional (Some formatter) f = if is_wanted optional formatter then read_as formatter f else Err Outside
 
 -- a sentence begins with `$` and has one of these formatters
-unfoldable pub read_sentence : SentenceParts → Result Found FieldFault
-read_sentence parts = if parts.start == 36 then read_behind (formatter_of parts.formatter) (fields_of parts.body) else Err Outside
+unfoldable pub read_sentence : OptionalSentences → SentenceParts → Result Found FieldFault
+read_sentence optional parts = if parts.start == 36 then read_behind optional (formatter_of parts.formatter) (fields_of parts.body) else Err Outside
 
 abbrev pub listed : Result Found FieldFault → Result (List Reading) FieldFault
 listed (Ok found) = Ok (found.0 ∷ option_to_list found.1)
 listed (Err f) = Err f
 
 -- the readings of a sentence, or its first fault
-abbrev pub read_row : SentenceParts → Result (List Reading) FieldFault
-read_row parts = listed (read_sentence parts)
+abbrev pub read_row : OptionalSentences → SentenceParts → Result (List Reading) FieldFault
+read_row optional parts = listed (read_sentence optional parts)
 
 -- the list holds the readings that are read; or the answer is the fault, and the list is empty
-abbrev pub IsReadRow : Result (Unit {0}) FieldFault → List Reading → SentenceParts → Type 0
-IsReadRow (Ok done) readings parts = read_row parts ≡ Ok readings
-IsReadRow (Err f) readings parts = (read_row parts ≡ Err f) × (readings ≡ [])
+abbrev pub IsReadRow : Result (Unit {0}) FieldFault → List Reading → OptionalSentences → SentenceParts → Type 0
+IsReadRow (Ok done) readings optional parts = read_row optional parts ≡ Ok readings
+IsReadRow (Err f) readings optional parts = (read_row optional parts ≡ Err f) × (readings ≡ [])
 
 -- each of the readings is valid
 abbrev pub AreValid : Found → Type 0

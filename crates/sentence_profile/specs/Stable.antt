@@ -6,7 +6,7 @@ use Rattle.sentence_text.specs.Reading.{read}
 use Rattle.sentence_text.specs.Sentence.{SentenceParts}
 use Rattle.sentence_fields.specs.Field.{sentence_by}
 use Rattle.sentence_fields.specs.ReadBack.{IsReadBack}
-use Rattle.sentence_profile.specs.Reading.{read_row}
+use Rattle.sentence_profile.specs.Reading.{read_row, usual}
 use Rattle.sentence_profile.specs.Writing.{Dated, IsText, day_said, said}
 
 -- the line is read as a sentence with one reading, and it is among the sentences in which the talker says that reading
@@ -14,7 +14,7 @@ pub record IsStable (talker : List ℕ) (with_ths : Bool) (line : List ℕ) : Ty
   pub parts : SentenceParts
   pub is_sentence : read line ≡ Ok parts
   pub reading : Reading
-  pub is_read : read_row parts ≡ Ok (reading ∷ [])
+  pub is_read : read_row usual parts ≡ Ok (reading ∷ [])
   pub lines : List (List ℕ)
   pub are_said : IsText reading talker with_ths lines
   pub among : Contains lines line

@@ -1,7 +1,9 @@
 ghost use Rattle.std.specs.Prelude.{◌≡◌};
-ghost use Rattle.sentence_profile.specs.Reading.{formatter_of, name_of};
+ghost use Rattle.sentence_profile.specs.Reading.{formatter_of, is_wanted, name_of};
 
-/// The sentences that are read, by the last three characters of their address.
+use crate::optional::OptionalSentences;
+
+/// The sentences that may be read, by the last three characters of their address.
 #[derive(Clone, Copy)]
 pub enum Formatter {
     Hdt,
@@ -21,9 +23,10 @@ pub enum Formatter {
     Mtw,
     Xte,
     Ths,
+    Rmc,
 }
 
-const ALL: [Formatter; 17] = [
+const ALL: [Formatter; 18] = [
     Formatter::Hdt,
     Formatter::Hdg,
     Formatter::Rot,
@@ -41,6 +44,7 @@ const ALL: [Formatter; 17] = [
     Formatter::Mtw,
     Formatter::Xte,
     Formatter::Ths,
+    Formatter::Rmc,
 ];
 
 impl Formatter {
@@ -65,6 +69,7 @@ impl Formatter {
             Formatter::Mtw => *b"MTW",
             Formatter::Xte => *b"XTE",
             Formatter::Ths => *b"THS",
+            Formatter::Rmc => *b"RMC",
         }
     }
 
@@ -74,5 +79,16 @@ impl Formatter {
         ensures { result ≡ formatter_of text.now }
     {
         ALL.iter().copied().find(|f| f.name().as_slice() == text)
+    }
+
+    /// Whether its sentences are read.
+    pub fn is_wanted(self, optional: OptionalSentences) -> bool
+        ensures { result ≡ is_wanted optional self }
+    {
+        match self {
+            Formatter::Rmc => optional.rmc,
+            Formatter::Dbt => optional.dbt,
+            _ => true,
+        }
     }
 }

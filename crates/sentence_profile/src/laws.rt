@@ -1,6 +1,6 @@
-//! What is promised of dates and of the sentences that are written. Each law is a function that does nothing, and whose clause is
+//! What is promised of dates and of sentences. Each law is a function that does nothing, and whose clause is
 //! the law.
-ghost use Rattle.sentence_profile.specs.Laws.{DatesAreTheCalendars, EachIsASentence, EachSaidBriefly, RmcIsASentence, SaidInOneWay};
+ghost use Rattle.sentence_profile.specs.Laws.{DatesAreTheCalendars, EachIsASentence, EachSaidBriefly, RmcIsASentence, RmcIsGllAndVtg, SaidInOneWay};
 
 /// The date that the definitions compute for a day is the one that the calendar has for it.
 pub fn dates_are_the_calendars()
@@ -23,4 +23,11 @@ pub fn readings_are_said_briefly()
 pub fn what_is_said_is_a_sentence()
     ensures readings { EachIsASentence }
     ensures rmc { RmcIsASentence }
+{}
+
+/// An RMC without a fault gives what a GLL of its position and a VTG of its course and speed give. Status `V` or mode `N` of the RMC is
+/// `V` in the GLL and `N` in the VTG. An RMC with a fault gives its first fault, and neither reading.
+#[tactic(auto, using(crate::proofs::GllAndVtg::rmc_is_gll_and_vtg))]
+pub fn rmc_is_gll_and_vtg()
+    ensures { RmcIsGllAndVtg }
 {}

@@ -9,10 +9,12 @@ mod fixed;
 mod formatter;
 pub mod laws;
 mod minimum;
+mod optional;
 pub mod read_unit;
 
 pub use fault::FieldFault;
 pub use fixed::Fixed;
 pub use formatter::Formatter;
 pub use minimum::Minimum;
+pub use optional::OptionalSentences;
 pub use read_unit::ReadUnit;

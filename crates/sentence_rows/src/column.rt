@@ -3,6 +3,7 @@
 ghost use Rattle.std.specs.Prelude.{◌≡◌, option_map};
 ghost use Rattle.sentence_profile.specs.Columns.{fault};
 ghost use Rattle.sentence_profile.specs.Columns as spec;
+ghost use Rattle.sentence_profile.specs.Reading.{is_invalid_mode};
 
 use sentence_profile::FieldFault;
 use sentence_text::Sentence;
@@ -146,5 +147,16 @@ pub(crate) fn heading_mode(sentence: &Sentence<'_>, at: u8) -> Result<bool, Fiel
     match field(sentence, at) {
         Some([letter @ b'A'..=b'Z']) => Ok(*letter != b'V'),
         _ => Err(FieldFault::Form(at)),
+    }
+}
+
+/// Whether a mode, which may be missing, is `N`.
+#[tactic(auto, unfolding(sentence_profile::specs::Reading::is_invalid_mode, sentence_profile::specs::Columns::text))]
+pub(crate) fn is_invalid_mode(sentence: &Sentence<'_>, at: u8) -> bool
+    ensures { result ≡ is_invalid_mode (spec.fields_in sentence.now) at }
+{
+    match field(sentence, at) {
+        Some(mode) => is_letter(mode, b'N', false),
+        None => false,
     }
 }

@@ -32,7 +32,7 @@ mod writing;
 mod xte;
 mod zda;
 
-pub use reading::{Readings, read_rows};
+pub use reading::{Readings, read_rows, read_rows_with};
 pub use rmc::write_rmc;
-pub use sentence_profile::{FieldFault, Minimum, laws};
+pub use sentence_profile::{FieldFault, Minimum, OptionalSentences, laws};
 pub use writing::sentences;

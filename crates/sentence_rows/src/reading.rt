@@ -4,10 +4,12 @@ ghost use Rattle.sentence_text.specs.Reading.{parts};
 ghost use Rattle.sentence_profile.specs.Columns.{fields_in};
 ghost use Rattle.sentence_profile.specs.Reading as spec;
 
-use crate::{dbt, dpt, gga, gll, hdg, hdt, mtw, mwd, mwv, rot, rsa, ths, vhw, vlw, vtg, xte, zda};
+use crate::{
+    dbt, dpt, gga, gll, hdg, hdt, mtw, mwd, mwv, rmc, rot, rsa, ths, vhw, vlw, vtg, xte, zda,
+};
 use arrayvec::ArrayVec;
 use readings::Reading;
-use sentence_profile::{FieldFault, Formatter};
+use sentence_profile::{FieldFault, Formatter, OptionalSentences};
 use sentence_text::Sentence;
 
 /// The readings of one sentence.
@@ -45,34 +47,61 @@ fn read_by(
         Formatter::Mtw => alone_in(mtw::read(sentence)),
         Formatter::Xte => alone_in(xte::read(sentence)),
         Formatter::Ths => alone_in(ths::read(sentence)),
+        Formatter::Rmc => rmc::read(sentence),
     }
 }
 
 /// The readings of a sentence that begins with `$`.
 #[tactic(auto, unfolding(sentence_profile::specs::Reading::read_sentence))]
-fn read_sentence(sentence: &Sentence<'_>) -> Result<(Reading, Option<Reading>), FieldFault>
-    ensures exact { result ≡ spec.read_sentence (parts sentence.now) }
+fn read_sentence(
+    sentence: &Sentence<'_>,
+    optional: OptionalSentences,
+) -> Result<(Reading, Option<Reading>), FieldFault>
+    ensures exact { result ≡ spec.read_sentence optional (parts sentence.now) }
     ensures valid { IfOk result spec.AreValid }
 {
     if sentence.start != b'$' {
         return Err(FieldFault::Outside);
     }
     match Formatter::of(sentence.formatter) {
-        Some(formatter) => read_by(formatter, sentence),
+        Some(formatter) => {
+            if formatter.is_wanted(optional) {
+                read_by(formatter, sentence)
+            } else {
+                Err(FieldFault::Outside)
+            }
+        }
         None => Err(FieldFault::Outside),
     }
 }
 
 /// Reads the sentence: its one or two readings, which `out`, empty before, then holds, or the first fault in the
 /// order of its fields, and then `out` is empty. Fields behind those of the sentence are ignored.
+///
+/// RMC is outside here: `read_rows_with` reads it.
 pub fn read_rows(sentence: &Sentence<'_>, out: &mut Readings) -> Result<(), FieldFault>
     requires { out.old.items ≡ [] }
     // The readings are those of the sentence, and the fault is its first.
-    ensures exact { spec.IsReadRow result out.new.items (parts sentence.now) }
+    ensures exact { spec.IsReadRow result out.new.items spec.usual (parts sentence.now) }
     // Each value is in its range.
     ensures valid { All IsValid out.new.items }
 {
-    let (first, second) = match read_sentence(sentence) {
+    read_rows_with(sentence, OptionalSentences::USUAL, out)
+}
+
+/// Reads the sentence as `read_rows` does, if it is read at all.
+pub fn read_rows_with(
+    sentence: &Sentence<'_>,
+    optional: OptionalSentences,
+    out: &mut Readings,
+) -> Result<(), FieldFault>
+    requires { out.old.items ≡ [] }
+    // The readings are those of the sentence, and the fault is its first.
+    ensures exact { spec.IsReadRow result out.new.items optional (parts sentence.now) }
+    // Each value is in its range.
+    ensures valid { All IsValid out.new.items }
+{
+    let (first, second) = match read_sentence(sentence, optional) {
         Ok(readings) => readings,
         Err(fault) => return Err(fault),
     };

@@ -11,7 +11,7 @@ ghost use Rattle.sentence_profile.specs.Columns.{fields_in};
 ghost use Rattle.sentence_profile.specs.Reading as spec;
 ghost use Rattle.sentence_rows.specs.Ready.{IsReady};
 
-use crate::column::{field, is_letter, is_magnetic};
+use crate::column::{is_invalid_mode, is_magnetic};
 use crate::letter::only_if;
 use crate::number::either_unit;
 use readings::Reading;
@@ -69,21 +69,10 @@ pub(crate) fn read(sentence: &Sentence<'_>) -> Result<Reading, FieldFault>
         read_unit::KILOMETRES_PER_HOUR,
         b'K',
     )?;
-    let valid = !is_invalid_mode(sentence);
+    let valid = !is_invalid_mode(sentence, 9);
     Ok(Reading::CourseSpeed {
         magnetic: is_magnetic(sentence),
         course: only_if(valid, course),
         speed: only_if(valid, speed),
     })
-}
-
-/// Whether the mode, which may be missing, is `N`.
-#[tactic(auto, unfolding(sentence_profile::specs::Reading::is_invalid_mode, sentence_profile::specs::Columns::text))]
-fn is_invalid_mode(sentence: &Sentence<'_>) -> bool
-    ensures { result ≡ spec.is_invalid_mode (fields_in sentence.now) }
-{
-    match field(sentence, 9) {
-        Some(mode) => is_letter(mode, b'N', false),
-        None => false,
-    }
 }

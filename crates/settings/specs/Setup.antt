@@ -5,6 +5,7 @@ use Rattle.std.specs.Option.{ForSome}
 use Rattle.sentence_text.specs.Names.{IsSfi}
 use Rattle.readings.specs.Rows.{rows_count}
 use Rattle.quantities.specs.About.{quantities_count}
+use Rattle.history.specs.Settings.{usual_sentences}
 use Rattle.history.specs.Settings as history
 use Rattle.config_values.specs.Rows.{AreSources, IsTalker, usual_timeout}
 use Rattle.config_values.specs.Settings.{settings_ignoring}
@@ -22,6 +23,7 @@ abbrev pub alone : Settings → Setup
 alone s = record {
   settings = s;
   ignore = record { items = [] };
+  optional_sentences = usual_sentences;
   quantities = None;
   sources = false;
   address = false;
@@ -34,7 +36,7 @@ alone s = record {
 
 -- the gateway itself, without the parts beside it
 abbrev pub gateway_of : Setup → history.Settings
-gateway_of x = settings_ignoring x.ignore.items x.settings.config
+gateway_of x = settings_ignoring x.ignore.items x.optional_sentences x.settings.config
 
 -- a group of its own: no row, no RMC and no reports of ships are sent to it
 pub record IsFurtherGroup (s : Settings) (group : List ℕ) : Type 0 where

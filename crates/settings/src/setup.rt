@@ -6,6 +6,7 @@ use crate::quantity_config::Quantities;
 use crate::settings::Settings;
 use crate::watch::WatchConfig;
 use arrayvec::ArrayVec;
+use history::OptionalSentences;
 use n2k_id::Pattern;
 use readings::ROWS;
 use sentence_text::Group;
@@ -18,6 +19,8 @@ pub struct Setup {
     pub settings: Settings,
     /// The devices that no row is taken from.
     pub ignore: ArrayVec<Pattern, 16>,
+    /// Which of the sentences from the network are read that a configuration decides on.
+    pub optional_sentences: OptionalSentences,
     /// How further quantities are said; none: they aren't.
     pub quantities: Option<Quantities>,
     /// Whether a change of the device that a row is taken from is told.
@@ -50,6 +53,7 @@ impl Setup {
         Ok(Setup {
             settings: copy_of(settings)?,
             ignore: ArrayVec::new(),
+            optional_sentences: OptionalSentences::USUAL,
             quantities: None,
             sources: false,
             address: false,

@@ -61,6 +61,7 @@ fn hearing_of(config: &SelectiveConfig, came: Came) -> Hearing<'_>
     Hearing {
         sfi: config.base.sfi,
         sources: config.base.net_sources.as_slice(),
+        optional: config.optional,
         came,
     }
 }

@@ -11,6 +11,7 @@ use arrayvec::ArrayVec;
 use claim_table::ClaimFault;
 use config_values::{Config, SelectiveConfig};
 use fast_packet::FastAssembler;
+use history::OptionalSentences;
 use iso_transport::IsoAssembler;
 use n2k_id::Pattern;
 use readings::ROWS;
@@ -19,17 +20,19 @@ use row_traffic::rows::row_at;
 use row_traffic::said::Said;
 use std::alloc::{AllocError, Global};
 
-/// A copy of the configuration, beside the devices that no row is taken from.
+/// A copy of the configuration, beside the devices that no row is taken from and the sentences that are read by choice.
 #[tactic(auto, using(std::proofs::lemmas::List::Elements::same_from_all_zip))]
 pub(crate) fn copy_of(
     config: &Config,
     ignored: &ArrayVec<Pattern, 16>,
+    optional: OptionalSentences,
 ) -> Result<SelectiveConfig, AllocError>
-    ensures { IfOk result (λ copy. copy ≡ record { base = config.now; ignored = ignored.now }) }
+    ensures { IfOk result (λ copy. copy ≡ record { base = config.now; ignored = ignored.now; optional = optional }) }
 {
     Ok(SelectiveConfig {
         base: config.clone()?,
         ignored: ignored.clone()?,
+        optional,
     })
 }
 

@@ -1,5 +1,7 @@
 //! A line of a datagram whose sentences are read.
 
+use sentence_profile::OptionalSentences;
+
 /// When a datagram came, and how the gateway stood then.
 #[derive(Clone, Copy)]
 pub struct Came {
@@ -19,4 +21,6 @@ pub(crate) struct Heard {
     pub(crate) place: u16,
     /// The place of its source among those that are listed.
     pub(crate) source: u8,
+    /// Which of its sentences are read that a configuration decides on.
+    pub(crate) optional: OptionalSentences,
 }

@@ -5,6 +5,7 @@ ghost use Rattle.history.specs.Heard.{is_own_line, is_elsewhere, place_of};
 ghost use Rattle.row_traffic.specs.NetCalls.{heard_by};
 
 use crate::network::heard::Came;
+use sentence_profile::OptionalSentences;
 use sentence_text::Sfi;
 use tag_block::Tag;
 
@@ -15,6 +16,8 @@ pub struct Hearing<'a> {
     pub sfi: Sfi,
     /// Those that it hears, in order of preference.
     pub sources: &'a [Sfi],
+    /// Which of the sentences are read that a configuration decides on.
+    pub optional: OptionalSentences,
     /// When the datagram came.
     pub came: Came,
 }

@@ -14,7 +14,7 @@ use datagram450::text_run;
 use gate_events::{Detail, Report};
 use gate_outbox::StepEmits;
 use report_rules::{FIELD_FORM, FIELD_RANGE};
-use sentence_rows::{FieldFault, read_rows};
+use sentence_rows::{FieldFault, read_rows_with};
 use sentence_text::Sentence;
 
 /// Takes the sentences that a group of lines holds, one after the other.
@@ -46,8 +46,8 @@ fn first_line<'a>(bytes: &'a [u8]) -> Option<(&'a [u8], &'a [u8])>
 /// Takes the text of a sentence.
 fn take_text(readings: &mut Readings, line: Heard, text: &[u8], out: &mut StepEmits)
     requires source { line.source < readings.old.choices.sources }
-    ensures after { readings.new ≡ said_after readings.old (line_of line) (read_sentence text.now) }
-    ensures emits { out.new ≡ and_told most_told out.old (said_emits line.came.own readings.old (line_of line) (read_sentence text.now)) }
+    ensures after { readings.new ≡ said_after readings.old (line_of line) (read_sentence line.optional text.now) }
+    ensures emits { out.new ≡ and_told most_told out.old (said_emits line.came.own readings.old (line_of line) (read_sentence line.optional text.now)) }
 {
     match sentence_text::read(text) {
         Ok(sentence) => take_sentence(readings, line, &sentence, out),
@@ -64,11 +64,11 @@ pub(crate) fn take_sentence(
     out: &mut StepEmits,
 )
     requires source { line.source < readings.old.choices.sources }
-    ensures after { readings.new ≡ said_after readings.old (line_of line) (read_row (parts sentence.now)) }
-    ensures emits { out.new ≡ and_told most_told out.old (said_emits line.came.own readings.old (line_of line) (read_row (parts sentence.now))) }
+    ensures after { readings.new ≡ said_after readings.old (line_of line) (read_row line.optional (parts sentence.now)) }
+    ensures emits { out.new ≡ and_told most_told out.old (said_emits line.came.own readings.old (line_of line) (read_row line.optional (parts sentence.now))) }
 {
     let mut given = sentence_rows::Readings::new();
-    match read_rows(sentence, &mut given) {
+    match read_rows_with(sentence, line.optional, &mut given) {
         Ok(()) => readings.take_all(line, &given, out),
         Err(fault) => tell_fault(line.place, fault, out),
     }

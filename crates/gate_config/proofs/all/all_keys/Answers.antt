@@ -6,6 +6,7 @@ returns-clause-valid c =
     setup_beside (record {
       settings = c.in_ok-settings.settings;
       ignore = c.in_ok-ignore.ignore;
+      optional_sentences = c.in_ok-optional_sentences.optional_sentences;
       quantities = c.in_ok-quantities.quantities;
       sources = c.in_ok-sources.sources;
       address = c.in_ok-sources.address;

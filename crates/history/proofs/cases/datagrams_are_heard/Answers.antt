@@ -1,4 +1,4 @@
-use Rattle.history.proofs.NetCases.{second_of_three, no_header, moved, half_a_group, not_heard, early_after_move, no_room}
+use Rattle.history.proofs.NetCases.{second_of_three, no_header, moved, half_a_group, not_heard, early_after_move, no_room, rmc_without_dbt, dbt_without_rmc}
 use Rattle.history.proofs.cases.datagrams_are_heard.Goals as goal
 
 pub returns-clause-second_of_three : goal.returns-clause-second_of_three
@@ -21,3 +21,9 @@ returns-clause-early_after_move c = early_after_move
 
 pub returns-clause-no_room : goal.returns-clause-no_room
 returns-clause-no_room c = no_room
+
+pub returns-clause-rmc_without_dbt : goal.returns-clause-rmc_without_dbt
+returns-clause-rmc_without_dbt c = rmc_without_dbt
+
+pub returns-clause-dbt_without_rmc : goal.returns-clause-dbt_without_rmc
+returns-clause-dbt_without_rmc c = dbt_without_rmc

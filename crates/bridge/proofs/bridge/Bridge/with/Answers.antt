@@ -6,7 +6,7 @@ use Rattle.bridge.proofs.bridge.Bridge.with.Goals as goal
 pub returns : goal.returns
 unfolding bridge_settings_of
 returns c = record {
-  settings = (are_settings c.args.setup.now.ignore.items c.args.setup.now.settings.config c.requires.settings.config).settings;
+  settings = (are_settings c.args.setup.now.ignore.items c.args.setup.now.optional_sentences c.args.setup.now.settings.config c.requires.settings.config).settings;
   waits = refl;
   output = c.in_ok-output.ensures;
   gateway = c.in_ok-gateway.ensures;

@@ -16,7 +16,7 @@ returns-in-Some c =
 pub returns-in-None : goal.returns-in-None
 returns-in-None c =
     let is : several c.args.tag.now.group ≡ None = sym c.several.ensures ∙ c.in-None.is in
-    let says = says_its_row (parts c.args.sentence.now) c.args.text.now c.requires.is.sentence in
+    let says = says_its_row c.args.heard.optional (parts c.args.sentence.now) c.args.text.now c.requires.is.sentence in
     record {
       after = λ s. rw (is, ← c.self.view_is, says, c.take_sentence.ensures.after);
       emits = λ s. rw (is, ← c.self.view_is, says, append-nil) c.take_sentence.ensures.emits;
