@@ -14,7 +14,7 @@ use Rattle.bus_listener.specs.Heard.{listener}
 use Rattle.bus_listener.specs.Kinds.{AreHeard}
 
 module _ (kinds : ℕ → Kind) (slots : ℕ) (c : Settings) (s : ℕ) where
-  same_known : (h : History) → known (receiver_of c) s h ≡ known (listener kinds slots c) s h
+  pub same_known : (h : History) → known (receiver_of c) s h ≡ known (listener kinds slots c) s h
   same_known [] = refl
   same_known (e ∷ h) = ap (λ k. known_after (length h) k e) (same_known h)
 

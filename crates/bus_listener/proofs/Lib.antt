@@ -7,3 +7,5 @@ pub mod EventLemmas
 pub mod RoomLemmas
 pub mod NoDatagrams
 pub mod Unheard
+pub mod Sessionless
+pub mod Completes

@@ -1,4 +1,3 @@
-pub mod Sessionless
 pub mod Notes
 pub mod EachNoted
 pub mod MessageLemmas

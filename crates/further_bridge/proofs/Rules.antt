@@ -2,9 +2,6 @@
 use Rattle.std.proofs.Common.{◌≡◌, ℕ, zero, suc, ◌<◌, List, [], ◌∷◌, length, map, refl, sym, ap, arith}
 use Rattle.std.specs.Prelude.{slice_index_or}
 use Rattle.n2k_id.specs.declared.pattern.Pattern.{Pattern}
-use Rattle.history.specs.Settings.{rule_at as row_rule_at}
-use Rattle.config_values.specs.Settings.{rule_of_row}
-use Rattle.config_values.specs.declared.row_config.RowConfig.{RowConfig}
 use Rattle.settings.specs.declared.quantity_config.Quantities.{Quantities}
 use Rattle.settings.specs.declared.quantity_config.QuantityConfig.{QuantityConfig}
 use Rattle.source_choice.specs.SubjectRules.{rank_of}
@@ -36,11 +33,3 @@ pub timeouts_are : (ignored : List Pattern) (each : List QuantityConfig)
     → map (λ rule. rule.timeout) (map (rule_of_quantity ignored) each) ≡ map (λ q. q.timeout_ms) each
 timeouts_are ignored [] = refl
 timeouts_are ignored (q ∷ each) = ap (λ (ts : List ℕ). q.timeout_ms ∷ ts) (timeouts_are ignored each)
-
--- ---- how long a row of the gateway counts
-
-pub row_timeout : (ignored : List Pattern) (rows : List RowConfig) (n : ℕ) (d : RowConfig) → n < length rows
-    → (row_rule_at (map (rule_of_row ignored) rows) n).timeout ≡ (slice_index_or rows n d).timeout_ms
-row_timeout ignored [] n d within = absurd (omega (arith, within))
-row_timeout ignored (row ∷ rows) zero d within = refl
-row_timeout ignored (row ∷ rows) (suc n) d within = row_timeout ignored rows n d (omega (arith, within))

@@ -1,48 +1,34 @@
 -- An event that the gateway has taken: what is kept of further quantities stands for the history with it, and all that the definition over that
 -- history says is given.
-use Rattle.std.proofs.Common.{◌≡◌, ℕ, ◌+◌, ◌<◌, ◌%◌, Bool, true, false, not, ◌&&◌, List, [], ◌∷◌, ◌++◌, length, Option, Some, None, option_map, if◌then◌else◌, refl, sym, ap, subst, ◌∙◌, append_assoc, append-nil, arith}
+use Rattle.std.proofs.Common.{◌≡◌, ℕ, ◌+◌, ◌<◌, ◌%◌, Bool, true, false, ◌&&◌, List, [], ◌∷◌, ◌++◌, length, Option, Some, None, option_map, if◌then◌else◌, refl, sym, ap, subst, ◌∙◌, append_assoc, arith}
 use Rattle.std.specs.Prelude.{IfSome, filter}
-use Rattle.std.specs.List.{AllByRecursion}
 use Rattle.std.proofs.lemmas.Bool.{lt-ltb}
 use Rattle.n2k_id.specs.Frame.{BusFrame, bus_frame}
-use Rattle.n2k_id.specs.Identifier.{is_own, parts_of}
 use Rattle.n2k_id.specs.declared.name.Name.{Name}
 use Rattle.readings.specs.declared.rows.Row.TheVariants as row
-use Rattle.gate_events.specs.Emit.{Emit}
 use Rattle.gate_events.specs.declared.event.Event.{Event}
 use Rattle.gate_events.specs.declared.event.Event.TheVariants as event
 use Rattle.claim_table.specs.Claims.{claim, places}
-use Rattle.claim_table.specs.declared.answer.Holder.{Holder}
-use Rattle.pgn_profile.specs.declared.kinds.Kind.{Kind}
-use Rattle.pgn_profile.specs.declared.kinds.Kind.TheVariants.{Single, Fast, Outside}
 use Rattle.tag_block.specs.Tag.{most_count}
-use Rattle.quantities.specs.About.{quantities_count}
 use Rattle.quantities.specs.Told.{AreInOrder, kind_of, told}
 use Rattle.quantities.specs.declared.value.Value.{Value}
-use Rattle.quantities.proofs.Order.{is_in_order}
-use Rattle.source_choice.specs.declared.told.Told.{Told as Chosen}
 use Rattle.source_choice.specs.Choices.{Choices, forgotten}
-use Rattle.source_choice.specs.SubjectRules.{SubjectRule, rank_of}
 use Rattle.history.specs.AddressLaws.{AreSettings, IsReceiver}
 use Rattle.history.specs.Choice as rows
 use Rattle.history.specs.Entries as entry
-use Rattle.history.specs.Entries.{Entry, History, IsHistory, moment_of, now}
+use Rattle.history.specs.Entries.{Entry, History, moment_of, now}
 use Rattle.history.specs.Known.{address_left, address_won, claim_by, is_claim, known}
 use Rattle.history.specs.Messages.{Message, done, messages_of}
-use Rattle.history.specs.Settings.{Receiver, Settings, is_some_that, receiver_of, rule_of}
-use Rattle.history.specs.Subjects as subjects
+use Rattle.history.specs.Settings.{Receiver, Settings, receiver_of, rule_of}
 use Rattle.history.proofs.Addresses.{addresses_are_sound}
 use Rattle.history.proofs.Receivers.{gateways_receive}
 use Rattle.gate_model.specs.Addresses.{Changed, changed_by, no_change}
 use Rattle.gate_model.specs.AddressStands.{name_held}
-use Rattle.gate_model.specs.ChoiceStands.{ChoicesStandFor}
-use Rattle.gate_model.specs.ChoiceStandsLaws.{MessageStandsChosen}
-use Rattle.gate_model.specs.Choosing.{claimed, is_message_chosen, is_ranked_chosen, is_told_chosen, message_noted, told_after, without_address}
+use Rattle.gate_model.specs.Choosing.{claimed, without_address}
 use Rattle.gate_model.specs.Machine.{Machine}
 use Rattle.gate_model.specs.Said.{complete_of}
 use Rattle.gate_model.proofs.AddressTells.{standing_tells_alike}
-use Rattle.gate_model.proofs.ChoiceClaims.{claims_stand_chosen, other_entries_stand_chosen}
-use Rattle.gate_model.proofs.ChoiceMessages.{messages_fit_chosen, messages_stand_chosen}
+use Rattle.gate_model.proofs.ChoiceMessages.{messages_fit_chosen}
 use Rattle.gate_model.proofs.SaidAddresses.{claims_fit}
 use Rattle.gate_outbox.specs.Output.{Emitted, Output, emits_of}
 use Rattle.plain_out.specs.Pace.{uttered}
@@ -51,32 +37,29 @@ use Rattle.plain_out.proofs.Sayings.{uttered_append}
 use Rattle.parts.proofs.Speaking.{quiet_unsaid}
 use Rattle.parts.specs.SelectedMessage.{SelectedMessage}
 use Rattle.parts.specs.Picked.{IsPicked, message_of}
-use Rattle.parts.specs.Promises.{IsTaken as IsTakenByGateway}
-use Rattle.parts.specs.Selected.{last_of, selected_at}
+use Rattle.parts.specs.Selected.{selected_at}
 use Rattle.gate_core.proofs.Completed.{done_by}
 use Rattle.joined_rmc.specs.JoinStands.{LastStands}
-use Rattle.joined_rmc.specs.declared.last_of_row.LastOfRow.{LastOfRow}
 use Rattle.joined_rmc.proofs.Commands.{last_stays}
 use Rattle.joined_rmc.proofs.Rows.{last_steps}
 use Rattle.joined_rmc.proofs.Steps.{last_says}
 use Rattle.bus_listener.specs.Steps.{entry_of}
-use Rattle.bus_listener.specs.Heard.{heard_out, hears}
+use Rattle.bus_listener.specs.Heard.{heard_out}
 use Rattle.bus_listener.specs.Kept.{Hearing}
-use Rattle.bus_listener.specs.Kinds.{is_message}
 use Rattle.bus_listener.specs.Promises.{IsHeard, IsListening, StandsListening}
 use Rattle.bus_listener.proofs.CommandLemmas.{commands_leave_listening}
+use Rattle.bus_listener.proofs.Completes.{heard_is_done}
 use Rattle.bus_listener.proofs.KnownLemmas.{gateway_stands, is_receiver}
 use Rattle.bus_listener.proofs.NoDatagrams.{no_heard}
 use Rattle.further_bridge.specs.declared.said.Streams.{Streams}
-use Rattle.further_bridge.specs.FurtherOut.{all_in, further_done, further_receiver, has_voice, is_row_said, is_selected, lines_said, magnetic_in, message_breaks, number_in, quantity_told, said_at, said_gives, said_utters, selected_in, values_of}
-use Rattle.further_bridge.specs.FurtherRule.{FurtherRule, rule_at}
-use Rattle.further_bridge.specs.Kept.{FurtherKept, FurtherStep, behind, forgotten_at, given_by, given_up, hearing_by, is_water_said, message_step, said_of, step_by, streams_of, uttered_by, water_heard, with_hearing}
-use Rattle.further_bridge.specs.Promises.{CommandsLeaveFurther, EachStands, IsFurtherStep, IsFurtherTaken, StandsFurther, in_places, only, said_in_places}
+use Rattle.further_bridge.specs.FurtherOut.{all_in, further_done, further_receiver, has_voice, is_row_said, is_selected, lines_said, magnetic_in, message_breaks, said_at, said_gives, said_utters, selected_in, values_of}
+use Rattle.further_bridge.specs.FurtherRule.{FurtherRule}
+use Rattle.further_bridge.specs.Kept.{FurtherKept, FurtherStep, behind, forgotten_at, given_by, given_up, hearing_by, is_water_said, message_step, said_of, step_by, streams_of, uttered_by, water_heard}
+use Rattle.further_bridge.specs.Promises.{CommandsLeaveFurther, EachStands, IsFurtherStep, IsFurtherTaken, StandsFurther, in_places, said_in_places}
 use Rattle.further_bridge.specs.QuantityKinds.{quantities_are_heard}
 use Rattle.further_bridge.proofs.MessageLemmas.{AreMessageChosen, choices_after, message_taken, said_of_message}
 use Rattle.further_bridge.proofs.EachNoted.{claims_noted, claims_say_nothing, commands_noted, datagrams_noted, in_order, nothing_noted, ticks_noted, values_chosen, values_noted}
 use Rattle.further_bridge.proofs.Notes.{AreChosen, noted_all}
-use Rattle.further_bridge.proofs.Sessionless.{outside_says_nothing, own_says_nothing}
 
 forgotten_is : (o : Option ℕ) (choices : Choices) → IfSome o (λ a. a < places) → forgotten_at o choices ≡ without_address o choices
 forgotten_is None choices within = refl
@@ -100,31 +83,6 @@ module _ (x : FurtherRule) (c : Settings) (s : ℕ) (h : History) (settings : Ar
 
   are : IsReceiver r
   are = is_receiver kind_of x.slots c quantities_are_heard settings
-
-  -- ---- the message that is heard is the one that is complete
-
-  unheard : (m : ℕ) (f : BusFrame) → hears kind_of x.slots c s h f ≡ false → done r s h (entry.frame m f) ≡ None
-  unheard m f is = by (kind_of (parts_of f.id).pgn) refl is
-    where
-      own : (b : Bool) → is_own (known r s h).claims.own (parts_of f.id).source ≡ b → not b ≡ false → done r s h (entry.frame m f) ≡ None
-      own true is other = own_says_nothing r refl s h m f are is
-      own false is other = cc
-
-      by : (kind : Kind) → kind_of (parts_of f.id).pgn ≡ kind → (is_message kind && not (is_own (known r s h).claims.own (parts_of f.id).source)) ≡ false
-          → done r s h (entry.frame m f) ≡ None
-      by Single comes other = own (is_own (known r s h).claims.own (parts_of f.id).source) refl other
-      by Fast comes other = own (is_own (known r s h).claims.own (parts_of f.id).source) refl other
-      by Outside comes other = outside_says_nothing r refl s h m f comes
-
-  pub heard_is_done : (e : Entry) → further_done x c s h e ≡ done r s h e
-  heard_is_done (entry.frame m f) = by (hears kind_of x.slots c s h f) refl
-    where
-      by : (b : Bool) → hears kind_of x.slots c s h f ≡ b → (if b then done r s h (entry.frame m f) else None) ≡ done r s h (entry.frame m f)
-      by true is = refl
-      by false is = sym (unheard m f is)
-  heard_is_done (entry.datagram m bytes) = refl
-  heard_is_done (entry.tick m) = refl
-  heard_is_done (entry.command m source address) = refl
 
   -- ---- what is kept when the listener has heard an entry, what was noted of addresses that changed hands is forgotten, and the message that
   -- the gateway selected is kept
@@ -239,7 +197,7 @@ module _ (x : FurtherRule) (c : Settings) (s : ℕ) (h : History) (settings : Ar
     -- an entry that completes no message
     without_message : (changed : Changed) → done r s h e ≡ None → EachStands x r s (e ∷ h) (kept changed).choices → IsTaken changed
     without_message changed none stands =
-        with_message e (kept changed) heard hears_it (stood changed) None tt (λ z is. cc) (heard_is_done e ∙ none) tt stands
+        with_message e (kept changed) heard hears_it (stood changed) None tt (λ z is. cc) (heard_is_done kind_of x.slots c s h quantities_are_heard settings e ∙ none) tt stands
 
   -- ---- each kind of entry
 
@@ -272,7 +230,7 @@ module _ (x : FurtherRule) (c : Settings) (s : ℕ) (h : History) (settings : Ar
         with_message e k heard hears_it (stood e before it heard hears_it holder names new picks no_change) (Some z)
         (subst (λ o. IfSome o (λ d. d.source < places)) completes (messages_fit_chosen r s h m f are))
         (λ z' is. (done_by r s h e z' (completes ∙ is)).moment)
-        (heard_is_done e ∙ completes)
+        (heard_is_done kind_of x.slots c s h quantities_are_heard settings e ∙ completes)
         (subst (λ rule. AreChosen z.source z.moment rule z.name (is_selected x (known r s h).claims.holders (messages_of r s h) z) before.choices (all_in (told z.pgn z.payload))) (sym it.rule)
         (values_chosen x c s h settings before.choices it.choices m f other z completes))
         (subst (λ rule. EachStands x r s (e ∷ h) (noted_all z.source z.moment rule z.name before.choices (all_in (told z.pgn z.payload)))) (sym it.rule)

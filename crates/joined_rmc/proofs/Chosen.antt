@@ -26,13 +26,13 @@ use Rattle.joined_rmc.specs.Lasting.{held_by, still_held}
 -- ---- the last one of a row is one of all messages
 
 module _ (row : Row) (P : ℕ → ℕ → ℕ → Type 0) where
-  abbrev Of : List Message → Type 0
+  abbrev pub Of : List Message → Type 0
   Of older = AllByRecursion (λ d. P d.index d.source d.name) older
 
-  abbrev Is : Option Selected → Type 0
+  abbrev pub Is : Option Selected → Type 0
   Is before = (x : Selected) → before ≡ Some x → P x.index x.source x.name
 
-  one_more : (d : Option Message) (says : Option Reading) (older : List Message) (before : Option Selected)
+  pub one_more : (d : Option Message) (says : Option Reading) (older : List Message) (before : Option Selected)
       → (Of older → Is before) → Of (with_message d older) → Is (newer row (selected_with d says) before)
   one_more None says older before all of = all of
   one_more (Some d) None older before all of = all of.1
@@ -103,11 +103,11 @@ held_now holders x y held since =
     by_since : Option ℕ → Option Selected
     by_since n = held_by n x
 
-pub chosen_holds : (c : Settings) (s : ℕ) (h : History) (e : Entry) (x : Selected) → IsReceiver (receiver_of c) → selected_at c s h e ≡ Some x
-    → still_held (known (receiver_of c) s (e ∷ h)).claims.holders (Some x) ≡ Some x
-chosen_holds c s h e x are is =
-    let r = receiver_of c in
-    let from = chosen_from (done r s h e) (selected_in c (known r s h).claims.holders (messages_of r s h) (done r s h e)) x is in
+-- of a message that a receiver completes
+pub message_holds : (r : Receiver) (s : ℕ) (h : History) (e : Entry) (says : Option Reading) (x : Selected) → IsReceiver r
+    → selected_with (done r s h e) says ≡ Some x → still_held (known r s (e ∷ h)).claims.holders (Some x) ≡ Some x
+message_holds r s h e says x are is =
+    let from = chosen_from (done r s h e) says x is in
     let by = done_by r s h e from.0 from.1 in
     let same = same_holders r s h e from.0 are from.1 in
     let held : holder_at (known r s (e ∷ h)).claims.holders x.source ≡ Some by.holder =
@@ -117,3 +117,9 @@ chosen_holds c s h e x are is =
     let index = from.2 in
     let first = by.index in
     held_now (known r s (e ∷ h)).claims.holders x by.holder held (omega (arith, since, index, first))
+
+pub chosen_holds : (c : Settings) (s : ℕ) (h : History) (e : Entry) (x : Selected) → IsReceiver (receiver_of c) → selected_at c s h e ≡ Some x
+    → still_held (known (receiver_of c) s (e ∷ h)).claims.holders (Some x) ≡ Some x
+chosen_holds c s h e x are is =
+    let r = receiver_of c in
+    message_holds r s h e (selected_in c (known r s h).claims.holders (messages_of r s h) (done r s h e)) x are is

@@ -27,21 +27,21 @@ use Rattle.parts.proofs.Speaking.{capitals, said_valid}
 
 -- ---- what a message says that is kept is valid
 
-abbrev SaysValid : Option Selected → Type 0
+abbrev pub SaysValid : Option Selected → Type 0
 SaysValid o = IfSome o (λ x. IsValid x.reading)
 
 saying_valid : (d : Message) (o : Option Reading) → IfSome o IsValid → SaysValid (saying d o)
 saying_valid d None v = tt
 saying_valid d (Some r) v = v
 
-with_valid : (d : Option Message) (o : Option Reading) → IfSome o IsValid → SaysValid (selected_with d o)
+pub with_valid : (d : Option Message) (o : Option Reading) → IfSome o IsValid → SaysValid (selected_with d o)
 with_valid None o v = tt
 with_valid (Some d) o v = saying_valid d o v
 
-at_valid : (c : Settings) (s : ℕ) (h : History) (e : Entry) → SaysValid (selected_at c s h e)
+pub at_valid : (c : Settings) (s : ℕ) (h : History) (e : Entry) → SaysValid (selected_at c s h e)
 at_valid c s h e = with_valid (done (receiver_of c) s h e) (said_at c s h e) (said_valid c s h e)
 
-newer_valid : (row : Row) (o before : Option Selected) → SaysValid o → SaysValid before → SaysValid (newer row o before)
+pub newer_valid : (row : Row) (o before : Option Selected) → SaysValid o → SaysValid before → SaysValid (newer row o before)
 newer_valid row None before v w = w
 newer_valid row (Some x) before v w = by (same_row (row_of x.reading) row)
   where
@@ -61,7 +61,7 @@ held_valid (Some since) x v = by (nat_le since x.index)
     by true = v
     by false = tt
 
-still_valid : (holders : List (Option Holder)) (o : Option Selected) → SaysValid o → SaysValid (still_held holders o)
+pub still_valid : (holders : List (Option Holder)) (o : Option Selected) → SaysValid o → SaysValid (still_held holders o)
 still_valid holders None v = tt
 still_valid holders (Some x) v = held_valid (held_since holders x.source) x v
 
@@ -72,7 +72,7 @@ old_valid timeout m said_at r v = by (nat_le m (said_at + 1000 * timeout))
     by true = v
     by false = tt
 
-within_valid : (timeout m : ℕ) (o : Option Selected) → SaysValid o → IfSome (said_within timeout m o) IsValid
+pub within_valid : (timeout m : ℕ) (o : Option Selected) → SaysValid o → IfSome (said_within timeout m o) IsValid
 within_valid timeout m None v = tt
 within_valid timeout m (Some x) v = old_valid timeout m x.moment x.reading v
 
@@ -103,7 +103,7 @@ speed_valid None v = tt
 speed_valid (Some (reading.CourseSpeed m c s)) v = v.1.0
 speed_valid (Some _) v = tt
 
-variation_valid : (o : Option Reading) → IfSome o IsValid → Admits ranges.deviation (variation_in o)
+pub variation_valid : (o : Option Reading) → IfSome o IsValid → Admits ranges.deviation (variation_in o)
 variation_valid None v = tt
 variation_valid (Some (reading.HeadingMagnetic h d v)) is = is.1.1.0
 variation_valid (Some _) v = tt

@@ -10,7 +10,7 @@ use Rattle.claim_table.specs.Claims.{holder_at}
 use Rattle.history.specs.AddressLaws.{IsReceiver}
 use Rattle.history.specs.Entries.{Entry, History}
 use Rattle.history.specs.Known.{known}
-use Rattle.history.specs.Settings.{receiver_of, Settings, same_row}
+use Rattle.history.specs.Settings.{Receiver, receiver_of, Settings, same_row}
 use Rattle.gate_model.specs.AddressStands.{name_held}
 use Rattle.parts.specs.SelectedMessage.{SelectedMessage}
 use Rattle.parts.specs.Picked.{message_of}
@@ -97,24 +97,40 @@ combined row holders (Some y) before kept holds is = by (same_row (row_of y.read
     by true = sym (ap (option_map message_of) (holds y refl))
     by false = is
 
+-- a message that came before, of the NAME that held its source
+pub record CameBefore (holders : List (Option Holder)) (count : ℕ) (x : Selected) : Type 0 where
+  pub index : x.index < count
+  pub name : (y : Holder) → holder_at holders x.source ≡ Some y → y.since ≤ x.index → x.name ≡ y.name.0
+
+module _ (r : Receiver) (s : ℕ) (h : History) (e : Entry) (are : IsReceiver r) (holder : ℕ → Option Name)
+    (tells : (a : ℕ) → holder a ≡ name_held (known r s (e ∷ h)).claims.holders a) where
+  older : (last : Option Selected) → ((x : Selected) → last ≡ Some x → CameBefore (known r s h).claims.holders (length h) x)
+      → held_in holder (option_map message_of (still_held (known r s h).claims.holders last))
+      ≡ option_map message_of (still_held (known r s (e ∷ h)).claims.holders last)
+  older None came = refl
+  older (Some x) came =
+      one_step holder x (length h) (holder_at (known r s h).claims.holders x.source)
+      (holder_at (known r s (e ∷ h)).claims.holders x.source) (tells x.source) (came x refl).index
+      (came x refl).name (handed r s h e are x.source)
+
+  -- the last message, and a newer one that its sender holds, or none
+  pub newer_steps : (row : Row) (last x : Option Selected) (kept : Option SelectedMessage)
+      → ((y : Selected) → last ≡ Some y → CameBefore (known r s h).claims.holders (length h) y)
+      → ((y : Selected) → x ≡ Some y → still_held (known r s (e ∷ h)).claims.holders (Some y) ≡ Some y)
+      → kept ≡ option_map message_of (still_held (known r s h).claims.holders last)
+      → newer_message row (option_map message_of x) (held_in holder kept) ≡ option_map message_of (still_held (known r s (e ∷ h)).claims.holders (newer row x last))
+  newer_steps row last x kept came holds is =
+      combined row (known r s (e ∷ h)).claims.holders x last (held_in holder kept) holds (ap (held_in holder) is ∙ older last came)
+
 module _ (c : Settings) (s : ℕ) (h : History) (e : Entry) (are : IsReceiver (receiver_of c)) (holder : ℕ → Option Name)
     (tells : (a : ℕ) → holder a ≡ name_held (known (receiver_of c) s (e ∷ h)).claims.holders a) where
-  older : (row : Row) (last : Option Selected) → last_of c s row h ≡ last
-      → held_in holder (option_map message_of (still_held (known (receiver_of c) s h).claims.holders last))
-      ≡ option_map message_of (still_held (known (receiver_of c) s (e ∷ h)).claims.holders last)
-  older row None is = refl
-  older row (Some x) is =
-      one_step holder x (length h) (holder_at (known (receiver_of c) s h).claims.holders x.source)
-      (holder_at (known (receiver_of c) s (e ∷ h)).claims.holders x.source) (tells x.source) (index_before row c s h x is)
-      (name_of_holder row c s h x are is) (handed (receiver_of c) s h e are x.source)
-
   pub last_steps : (row : Row) (timeout : ℕ) (last : LastOfRow) (chosen : Option SelectedMessage) → chosen ≡ option_map message_of (selected_at c s h e)
       → LastStands timeout c s row h last → LastStands timeout c s row (e ∷ h) (last_after holder row chosen last)
   last_steps row timeout last chosen is stands = record {
     timeout_is = stands.timeout_is;
     kept =
         ap (λ k. newer_message row k (held_in holder last.message)) is
-        ∙ combined row (known (receiver_of c) s (e ∷ h)).claims.holders (selected_at c s h e) (last_of c s row h) (held_in holder last.message)
-        (λ y there. chosen_holds c s h e y are there)
-        (ap (held_in holder) stands.kept ∙ older row (last_of c s row h) refl);
+        ∙ newer_steps (receiver_of c) s h e are holder tells row (last_of c s row h) (selected_at c s h e) last.message
+        (λ y there. record { index = index_before row c s h y there; name = name_of_holder row c s h y are there })
+        (λ y there. chosen_holds c s h e y are there) stands.kept;
   }

@@ -29,7 +29,7 @@ use Rattle.joined_rmc.proofs.Rows.{last_steps}
 
 -- ---- what is kept of a row says what the history joins
 
-within_same : (timeout m : ℕ) (x : Option Selected) → message_within timeout m (option_map message_of x) ≡ said_within timeout m x
+pub within_same : (timeout m : ℕ) (x : Option Selected) → message_within timeout m (option_map message_of x) ≡ said_within timeout m x
 within_same timeout m None = refl
 within_same timeout m (Some x) = refl
 

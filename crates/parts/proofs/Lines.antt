@@ -104,3 +104,38 @@ says_all source before group xs sfi few is =
     (lines_are_read lines xs (are_lines source total code sfi few (omega arith) (code_fits before) count 1 xs is (omega arith) (omega arith))
     (omega (arith, few, as_many source total code count 1 xs))
     (subst (λ (bytes : List ℕ). length (header ++ bytes) ≤ 1472) (sym same) room))
+
+-- ---- several, each in a line of no group
+
+module _ (source : List ℕ) where
+  abbrev pub lines_alone : ℕ → List (List ℕ) → List (List ℕ)
+  lines_alone before [] = []
+  lines_alone before (x ∷ xs) = line_text (alone source before) x ∷ lines_alone (before + 1) xs
+
+  as_many_alone : (before : ℕ) (xs : List (List ℕ)) → length (lines_alone before xs) ≡ length xs
+  as_many_alone before [] = refl
+  as_many_alone before (x ∷ xs) = ap suc (as_many_alone (before + 1) xs)
+
+  module _ (sfi : IsSfi source) where
+    are_alone : (before : ℕ) (xs : List (List ℕ)) → AllByRecursion IsOneSentence xs → AreLinesOf (lines_alone before xs) xs
+    are_alone before [] is = tt
+    are_alone before (x ∷ xs) is =
+        let tag = alone source before in
+        ((said_by tag, is.0.parts, tagged tag x is.0 (alone_writable source before) sfi), are_alone (before + 1) xs is.1)
+
+    alone_short : (before : ℕ) (xs : List (List ℕ)) → AllByRecursion IsOneSentence xs → length (all_of (lines_alone before xs)) ≤ 114 * length xs
+    alone_short before [] is = omega arith
+    alone_short before (x ∷ xs) is =
+        let tag = alone source before in
+        let line = lines_fit tag x (alone_writable source before) sfi is.0.short in
+        let rest = alone_short (before + 1) xs is.1 in
+        subst (λ (bytes : List ℕ). length bytes ≤ 114 * suc (length xs)) (sym (flat_map-cons (λ (l : List ℕ). l) (line_text tag x) (lines_alone (before + 1) xs)))
+        (omega (arith, line, rest, length-append (line_text tag x) (all_of (lines_alone (before + 1) xs))))
+
+pub says_each : (source : List ℕ) (before : ℕ) (xs : List (List ℕ)) → IsSfi source → length xs ≤ 9 → AllByRecursion IsOneSentence xs
+    → Says (header ++ all_of (lines_alone source before xs)) xs
+says_each source before xs sfi few is =
+    let lines = lines_alone source before xs in
+    let short = alone_short source sfi before xs is in
+    lines_are_read lines xs (are_alone source sfi before xs is) (omega (arith, few, as_many_alone source before xs))
+    (omega (arith, short, few, length-append header (all_of lines)))

@@ -7,7 +7,7 @@ use Rattle.parts.specs.Compose.{maybe_stand}
 use Rattle.parts.specs.PartSteps.{IsOpened}
 use Rattle.further_bridge.specs.FurtherPart.{quantities_rule}
 use Rattle.further_bridge.specs.Promises.{StandsFurther}
-use Rattle.further_bridge.proofs.Rules.{row_timeout}
+use Rattle.settings.proofs.RowTimeouts.{row_timeout}
 use Rattle.further_bridge.proofs.part.FurtherBridgePartQuantitiesPlace.opened.Goals as goal
 
 pub new-requires : goal.new-requires
