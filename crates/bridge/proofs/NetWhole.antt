@@ -1,5 +1,5 @@
 -- All that goes out but plain sentences is read, and plain sentences are all of it, or some.
-use Rattle.std.proofs.Common.{◌≡◌, ℕ, List, [], ◌∷◌, map, Option, Some, option_map, refl, sym, ap, subst, ◌∙◌}
+use Rattle.std.proofs.Common.{◌≡◌, ℕ, ◌++◌, Bool, true, false, if◌then◌else◌, List, [], ◌∷◌, map, Option, Some, option_map, refl, sym, ap, subst, ◌∙◌}
 use Rattle.datagram450.specs.Datagram.{all_of}
 use Rattle.gate_events.specs.Emit.{Emit, net}
 use Rattle.history.specs.Entries as entry
@@ -7,7 +7,8 @@ use Rattle.history.specs.Entries.{Entry, History, moment_of}
 use Rattle.history.specs.FromBus.{said_at}
 use Rattle.history.specs.EntryLaws.{nets_in}
 use Rattle.history.specs.Gate.{out}
-use Rattle.plain_out.specs.Pace.{AreAmong, Utterance, Voice, no_lasts, opened_voice, said_all}
+use Rattle.plain_out.specs.Pace.{AreAmong, Utterance, Voice, no_lasts, opened_voice, said_all, uttered}
+use Rattle.plain_out.specs.declared.stream.Stream.{Stream}
 use Rattle.plain_out.specs.Plain.{sentences_in}
 use Rattle.plain_out.specs.Streams.{reading_stream}
 use Rattle.plain_out.proofs.Sayings.{all_group, all_plain, free_after, free_plain, said_in_order}
@@ -16,9 +17,9 @@ use Rattle.parts.specs.Utterances.{bytes_in, bytes_of, datagrams_append, uttered
 use Rattle.parts.specs.Voices.{EachSays, Spoken, both_say}
 use Rattle.bridge.specs.Beside.{beside, beside_utter}
 use Rattle.bridge.specs.BridgeSettings.{BridgeSettings, PlainRule}
-use Rattle.bridge.specs.Gate.{all_utter, given, own_utters, plain_at, plain_of, tagged_out, voice_after, voice_by, voice_in}
+use Rattle.bridge.specs.Gate.{all_utter, given, is_replaced, own_utters, plain_at, plain_of, voice_after, voice_by, voice_in}
 use Rattle.bridge.specs.NetLaws.{DatagramsAreRead, PlainSaysAll, PlainSaysNothingElse}
-use Rattle.bridge.specs.Sentences.{all_say, rows_say}
+use Rattle.bridge.specs.Sentences.{rows_said_again, rows_say, said_again}
 use Rattle.bridge.specs.Speaking.{Speaks}
 use Rattle.bridge.proofs.NetRows.{rows_are_read}
 
@@ -52,11 +53,32 @@ module _ (p : BridgeSettings) (s : ℕ) (rule : PlainRule) (asked : p.plain ≡ 
   kept (entry.tick m ∷ h) = kept_on rule (voice_in p s h) m (all_utter p s h (entry.tick m)) (kept h)
   kept (entry.command m source address ∷ h) = kept h
 
--- what is said with its stream are all datagrams but plain ones
-pub utter_all : (p : BridgeSettings) (s : ℕ) (h : History) (e : Entry) → bytes_of (all_utter p s h e) ≡ bytes_in (tagged_out p s h e)
+-- what is said with its stream are all datagrams but plain ones, and but those that joined headings are said in place of
+abbrev own_again : BridgeSettings → ℕ → History → Entry → List Emit
+own_again p s h e = if is_replaced p.joined (option_map reading_stream (said_at p.gateway s h e)) then [] else out p.gateway s h e
+
+own_bytes : (replaced : Bool) (stream : Option Stream) (es : List Emit) → bytes_of (if replaced then [] else uttered stream es) ≡ bytes_in (if replaced then [] else es)
+own_bytes true stream es = refl
+own_bytes false stream es = uttered_datagrams stream es
+
+pub utter_all : (p : BridgeSettings) (s : ℕ) (h : History) (e : Entry) → bytes_of (all_utter p s h e) ≡ bytes_in (own_again p s h e ++ given p s h e)
 utter_all p s h e =
-    datagrams_append (own_utters p s h e) (beside_utter p.parts p.gateway s h e) (out p.gateway s h e) (given p s h e)
-    (uttered_datagrams (option_map reading_stream (said_at p.gateway s h e)) (out p.gateway s h e)) (beside.datagrams p.parts p.gateway s h e)
+    let stream = option_map reading_stream (said_at p.gateway s h e) in
+    datagrams_append (own_utters p s h e) (beside_utter p.parts p.gateway s h e) (own_again p s h e) (given p s h e)
+    (own_bytes (is_replaced p.joined stream) stream (out p.gateway s h e)) (beside.datagrams p.parts p.gateway s h e)
+
+-- and a reader finds in them what is said again
+rows_again : (replaced : Bool) (es : List Emit) (said : Spoken) → EachSays (nets_in es) said
+    → EachSays (nets_in (if replaced then [] else es)) (if replaced then [] else said)
+rows_again true es said says = tt
+rows_again false es said says = says
+
+read_again : (p : BridgeSettings) (s : ℕ) (h : History) (e : Entry) → Speaks p → EachSays (nets_in (own_again p s h e ++ given p s h e)) (said_again p s h e)
+read_again p s h e speaks =
+    let replaced = is_replaced p.joined (option_map reading_stream (said_at p.gateway s h e)) in
+    both_say (own_again p s h e) (given p s h e) (rows_said_again p s h e) (beside.say p.parts p.gateway s h e)
+    (rows_again replaced (out p.gateway s h e) (rows_say p.gateway s h e) (rows_are_read p.gateway s h e speaks.sfi speaks.rows))
+    (beside.read p.parts p.gateway s h e speaks.parts)
 
 by_bytes : (group : List ℕ) (us : List Utterance) → all_plain group us ≡ map (λ (bytes : List ℕ). net group (sentences_in bytes)) (bytes_of us)
 by_bytes group [] = refl
@@ -73,11 +95,11 @@ as_said group (d ∷ ds) (t ∷ ts) says =
 
 -- all of them, as plain sentences
 all_are : (p : BridgeSettings) (s : ℕ) (h : History) (e : Entry) (group : List ℕ) → Speaks p
-    → all_plain group (all_utter p s h e) ≡ map (λ sentences. net group (all_of sentences)) (all_say p s h e)
+    → all_plain group (all_utter p s h e) ≡ map (λ sentences. net group (all_of sentences)) (said_again p s h e)
 all_are p s h e group speaks =
     by_bytes group (all_utter p s h e)
     ∙ ap (map (λ (bytes : List ℕ). net group (sentences_in bytes))) (utter_all p s h e)
-    ∙ as_said group (nets_in (tagged_out p s h e)) (all_say p s h e) (datagrams_are_read p s h e speaks)
+    ∙ as_said group (nets_in (own_again p s h e ++ given p s h e)) (said_again p s h e) (read_again p s h e speaks)
 
 pub plain_says_all : PlainSaysAll
 plain_says_all p s h e rule speaks asked none =

@@ -12,6 +12,7 @@ use Rattle.ais_bridge.proofs.Form.{ships}
 use Rattle.further_bridge.proofs.Form.{quantities}
 use Rattle.source_changes.proofs.Form.{sources}
 use Rattle.own_address.proofs.Form.{own_address}
+use Rattle.joined_heading.proofs.Form.{joined_headings}
 use Rattle.supervision.proofs.Form.{supervision}
 
 -- those that further keys ask for
@@ -20,8 +21,9 @@ further =
     both (lane quantities)
     (both (lane sources)
     (both (lane own_address)
+    (both (lane joined_headings)
     (both (lane supervision)
-    nothing)))
+    nothing))))
 
 -- all
 abbrev pub beside : Form

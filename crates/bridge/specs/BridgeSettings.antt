@@ -1,5 +1,5 @@
 -- A gateway between the bus (ISO 11783) and the network (IEC 61162-450), and the parts that act beside it, by what is configured.
-use Rattle.std.specs.Prelude.{ℕ, ◌*◌, Bool, List, Option, option_map}
+use Rattle.std.specs.Prelude.{ℕ, ◌*◌, Bool, List, Option, is_some, option_map}
 use Rattle.history.specs.Settings.{Settings}
 use Rattle.settings.specs.Setup.{gateway_of}
 use Rattle.settings.specs.declared.setup.Setup.{Setup}
@@ -16,6 +16,8 @@ pub record BridgeSettings : Type 0 where
   pub parts : beside.rule
   -- how plain sentences are said, if they are
   pub plain : Option PlainRule
+  -- whether plain sentences have joined headings in place of the row of the magnetic heading
+  pub joined : Bool
   -- whether what comes is written down
   pub records : Bool
 
@@ -24,4 +26,10 @@ abbrev pub plain_rule : ℕ → List ℕ → PlainRule
 plain_rule every_ms group = record { group = group; every = every_ms * 1000 }
 
 unfoldable pub bridge_settings_of : Setup → BridgeSettings
-bridge_settings_of x = record { gateway = gateway_of x; parts = beside.asked x; plain = option_map (plain_rule x.plain_every_ms) x.plain; records = x.«record» }
+bridge_settings_of x = record {
+  gateway = gateway_of x;
+  parts = beside.asked x;
+  plain = option_map (plain_rule x.plain_every_ms) x.plain;
+  joined = is_some x.heading;
+  records = x.«record»;
+}

@@ -1,7 +1,7 @@
 -- What the gateway with the parts beside it emits, over everything that ever came: at each event what the gateway itself emits, then what each
--- part gives, in their order; all datagrams of these once more as plain sentences; and then what it emits at the command that the event completes
+-- part gives, in their order; the datagrams of these once more as plain sentences; and then what it emits at the command that the event completes
 -- (ISO 11783-5).
-use Rattle.std.specs.Prelude.{◌≡◌, ℕ, List, [], ◌∷◌, ◌++◌, Option, Some, None, option_map}
+use Rattle.std.specs.Prelude.{◌≡◌, ℕ, Bool, false, List, [], ◌∷◌, ◌++◌, Option, Some, None, option_map, if◌then◌else◌}
 use Rattle.gate_events.specs.Emit.{Emit, Emitted}
 use Rattle.history.specs.Entries as entry
 use Rattle.history.specs.Entries.{Entry, History, moment_of}
@@ -10,6 +10,9 @@ use Rattle.history.specs.Gate as of_gateway
 use Rattle.history.specs.Gate.{Stepped, out, with_command_by, stepped_by, events_by, gate_by}
 use Rattle.plain_out.specs.Pace.{Utterance, Voice, opened_voice, said_all, uttered}
 use Rattle.plain_out.specs.Streams.{reading_stream}
+use Rattle.plain_out.specs.declared.stream.Stream.{Stream}
+use Rattle.plain_out.specs.declared.stream.Stream.TheVariants as stream
+use Rattle.readings.specs.declared.rows.Row.TheVariants as row
 use Rattle.parts.specs.Compose.{maybe_give}
 use Rattle.ais_bridge.specs.AisOut.{ais_out}
 use Rattle.bus_answers.specs.AnsweringPart.{answering_gives}
@@ -33,6 +36,15 @@ abbrev pub voice_after : Option Voice → ℕ → List Utterance → Option Voic
 voice_after None m us = None
 voice_after (Some v) m us = Some (said_all v m us).after
 
+-- ---- joined headings are said plain in place of the row of the magnetic heading
+
+abbrev pub is_replaced : Bool → Option Stream → Bool
+is_replaced joined (Some (stream.Row row.HeadingMagnetic)) = joined
+is_replaced joined _ = false
+
+abbrev pub own_uttered : Bool → Option Stream → List Emit → List Utterance
+own_uttered joined stream emits = if is_replaced joined stream then [] else uttered stream emits
+
 module _ (p : BridgeSettings) (s : ℕ) where
   -- what the parts beside the gateway give
   abbrev pub given : History → Entry → List Emit
@@ -42,9 +54,9 @@ module _ (p : BridgeSettings) (s : ℕ) where
   abbrev pub tagged_out : History → Entry → List Emit
   tagged_out h e = out p.gateway s h e ++ given h e
 
-  -- the datagrams of it, each with its stream: the gateway itself says a reading
+  -- the datagrams of it that are said plain, each with its stream: the gateway itself says a reading
   abbrev pub own_utters : History → Entry → List Utterance
-  own_utters h e = uttered (option_map reading_stream (said_at p.gateway s h e)) (out p.gateway s h e)
+  own_utters h e = own_uttered p.joined (option_map reading_stream (said_at p.gateway s h e)) (out p.gateway s h e)
 
   abbrev pub all_utter : History → Entry → List Utterance
   all_utter h e = own_utters h e ++ beside_utter p.parts p.gateway s h e

@@ -17,6 +17,8 @@ pub record Bridged : Type 0 where
   pub parts : BesideKept
   -- who says plain sentences
   pub plain : Option Voice
+  -- whether plain sentences have joined headings in place of the row of the magnetic heading
+  pub joined : Bool
   -- whether what comes is written down
   pub records : Bool
   -- what the gateway itself gave at the last call

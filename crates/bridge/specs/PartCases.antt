@@ -20,7 +20,7 @@ use Rattle.bridge.specs.BridgeSettings.{BridgeSettings}
 
 -- a gateway of two devices that says neither RMC nor reports of ships around
 abbrev pub alone : BridgeSettings
-alone = record { gateway = two_devices; parts = (Some [], (None, (None, further.none))); plain = None; records = false }
+alone = record { gateway = two_devices; parts = (Some [], (None, (None, further.none))); plain = None; joined = false; records = false }
 
 -- one whose product information is ten bytes, which says RMC on RCOM and reports of ships on TGTD
 abbrev pub all_parts : BridgeSettings
@@ -34,6 +34,7 @@ all_parts = record {
     ),
   );
   plain = None;
+  joined = false;
   records = false;
 }
 
@@ -46,7 +47,7 @@ asking p quantities sources address =
 abbrev pub supervised : BridgeSettings → SupervisionRule → BridgeSettings
 supervised p rule =
     let asked = p.parts.1.1.1 in
-    record p { parts = (p.parts.0, (p.parts.1.0, (p.parts.1.1.0, (asked.0, (asked.1.0, (asked.1.1.0, (Some rule, further.none.1.1.1.1))))))) }
+    record p { parts = (p.parts.0, (p.parts.1.0, (p.parts.1.1.0, (asked.0, (asked.1.0, (asked.1.1.0, (None, (Some rule, further.none.1.1.1.1.1)))))))) }
 
 -- they started at this moment, and emit this at the events
 abbrev pub PartsEmit : BridgeSettings → ℕ → List Entry → List Emitted → Type 0

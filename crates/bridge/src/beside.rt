@@ -3,6 +3,7 @@
 use ais_bridge::{AisBridge, ShipsPlace};
 use bus_answers::{Answering, AnswersPlace};
 use further_bridge::{FurtherBridge, QuantitiesPlace};
+use joined_heading::{HeadingPlace, JoinedHeading};
 use joined_rmc::{Joining, RmcPlace};
 use own_address::{AddressPlace, OwnAddress};
 use parts::{Lane, Seldom};
@@ -25,7 +26,10 @@ type Further = (
         Option<Lane<SourceWatch, SourcesPlace>>,
         (
             Option<Lane<OwnAddress, AddressPlace>>,
-            (Option<Lane<Supervision, SupervisionPlace>>, ()),
+            (
+                Option<Lane<JoinedHeading, HeadingPlace>>,
+                (Option<Lane<Supervision, SupervisionPlace>>, ()),
+            ),
         ),
     ),
 );

@@ -1,14 +1,15 @@
 //! The gateway with the parts beside it.
 ghost use Rattle.std.specs.Prelude.{◌≡◌, [], true, false, length, option_map, slice_get, nat_le, IfOk, IfSome};
 ghost use Rattle.gate_events.specs.Emit.{CanWrite};
-ghost use Rattle.gate_outbox.specs.Output.{emit_of, no_emits};
+ghost use Rattle.gate_outbox.specs.Output.{emit_of, emits_of, no_emits};
+ghost use Rattle.plain_out.specs.Pace.{said_all};
 ghost use Rattle.gate_core.specs.Steps.{IsEventValid, entry_of};
 ghost use Rattle.history.specs.Entries.{moment_of};
 ghost use Rattle.settings.specs.Settings.{IsSettings};
 ghost use Rattle.settings.specs.Setup.{IsSetup, alone};
 ghost use Rattle.bridge.specs.Beside.{beside_plain};
 ghost use Rattle.bridge.specs.BridgeStands.{IsBesideStep, IsBridgeStep, IsForgotten, IsGatewayStep, IsNew, IsObeyed, IsOrder, IsOwnStream, IsSaidAgain, IsStart, IsUnposted};
-ghost use Rattle.bridge.specs.Gate.{voice_by};
+ghost use Rattle.bridge.specs.Gate.{is_replaced, own_uttered, voice_by};
 ghost use Rattle.bridge.specs.Kept.{IsAlone, no_output, output_of};
 ghost use Rattle.bridge.specs.BridgeSettings.{bridge_settings_of};
 
@@ -18,6 +19,7 @@ use gate_core::{Command, Gateway, Outbox, moment_of};
 use gate_events::{Emit, Event};
 use parts::{Parts, SelectedMessage, Step};
 use plain_out::{Stream, Voice, say_plain};
+use readings::Row;
 use settings::{Settings, Setup};
 use std::alloc::{AllocError, Global};
 use std::marker::Model;
@@ -32,6 +34,8 @@ pub struct Bridge {
     parts: Beside,
     /// Who says plain sentences.
     plain: Option<Voice>,
+    /// Whether plain sentences have joined headings in place of the row of the magnetic heading.
+    joined: bool,
     /// Whether what comes is written down.
     records: bool,
     /// Whether the last call may have given more than the gateway itself emits. Most give no more, and then no part is asked for its output.
@@ -53,6 +57,7 @@ impl Model for Bridge {
       gateway = b.gateway;
       parts = b.parts;
       plain = b.plain;
+      joined = b.joined;
       records = b.records;
       output = b.output.value;
     } };
@@ -91,6 +96,7 @@ impl Bridge {
             start: 0,
             parts,
             plain,
+            joined: setup.heading.is_some(),
             records: setup.record,
             gave: false,
             output,
@@ -178,7 +184,7 @@ impl Bridge {
         if let Some(voice) = &mut self.plain {
             if self.gave || posts(&output.outbox) {
                 self.gave = true;
-                say_again(&self.gateway, voice, output, &mut self.parts);
+                say_again(&self.gateway, self.joined, voice, output, &mut self.parts);
             }
         }
     }
@@ -278,22 +284,56 @@ fn own_stream(gateway: &Gateway, outbox: &Outbox) -> Option<Stream>
     }
 }
 
+/// Whether joined headings are said plain in place of this stream.
+fn is_replaced(joined: bool, stream: Option<Stream>) -> bool
+    ensures { result ≡ is_replaced joined stream }
+{
+    match stream {
+        Some(Stream::Row(Row::HeadingMagnetic)) => joined,
+        _ => false,
+    }
+}
+
+/// Says the gateway's own datagram once more, where no joined heading is said in its place.
+fn say_own(
+    joined: bool,
+    voice: &mut Voice,
+    moment: u64,
+    stream: Option<Stream>,
+    output: &mut CallOutput,
+)
+    requires { output.old.plain ≡ no_emits }
+    ensures kept { output.new ≡ record output.old { plain = output.new.plain } }
+    ensures voice { voice.new ≡ (said_all voice.old moment (own_uttered joined stream (emits_of output.old.outbox.emits))).after }
+    ensures plain { emits_of output.new.plain ≡ (said_all voice.old moment (own_uttered joined stream (emits_of output.old.outbox.emits))).plain }
+{
+    if !is_replaced(joined, stream) {
+        say_plain(
+            voice,
+            moment,
+            stream,
+            &output.outbox.emits,
+            &mut output.plain,
+        );
+    }
+}
+
 /// Says the datagrams of an event once more, as plain sentences.
 #[inline(never)]
-fn say_again(gateway: &Gateway, voice: &mut Voice, output: &mut CallOutput, parts: &mut Beside)
+fn say_again(
+    gateway: &Gateway,
+    joined: bool,
+    voice: &mut Voice,
+    output: &mut CallOutput,
+    parts: &mut Beside,
+)
     requires plain { output.old.plain ≡ no_emits }
     requires parts { beside_plain parts.old ≡ [] }
-    ensures { IsSaidAgain gateway.now voice.old output.old parts.old voice.new output.new parts.new }
+    ensures { IsSaidAgain gateway.now joined voice.old output.old parts.old voice.new output.new parts.new }
 {
     let moment = gateway.moment();
     let stream = own_stream(gateway, &output.outbox);
-    say_plain(
-        voice,
-        moment,
-        stream,
-        &output.outbox.emits,
-        &mut output.plain,
-    );
+    say_own(joined, voice, moment, stream, output);
     parts.say_plain(voice, moment);
 }
 

@@ -7,7 +7,8 @@ pub fn datagrams_are_read()
     ensures { DatagramsAreRead }
 {}
 
-/// Plain sentences that don't pause are all that was said; those that pause are some of it, in order.
+/// Plain sentences that don't pause are all that was said, but for the row of the magnetic heading where joined headings are said in its place; those
+/// that pause are some of it, in order.
 pub fn plain_sentences_say_all()
     ensures all { PlainSaysAll }
     ensures some { PlainSaysNothingElse }

@@ -18,7 +18,6 @@ use Rattle.config_document.specs.Texts.{group_in, talker_in}
 use Rattle.config_document.specs.declared.texts.Talker.{Talker}
 use Rattle.config_document.specs.declared.fault.ConfigFault.{ConfigFault}
 use Rattle.config_document.specs.declared.fault.Flaw.{Flaw}
-use Rattle.config_document.specs.declared.texts.Talker.{Talker}
 use Rattle.config_values.specs.declared.config.Ends.{Ends}
 use Rattle.config_values.specs.Rows.{usual_timeout}
 use Rattle.config_values.specs.declared.row_config.RowConfig.{RowConfig}
@@ -27,11 +26,12 @@ use Rattle.sentence_profile.specs.declared.optional.OptionalSentences.{OptionalS
 use Rattle.sentence_profile.specs.Reading.{usual as usual_sentences}
 use Rattle.gate_config.specs.Alone.{FileAsksNothingFurther, AsksNothingFurther, FilesSaySettings, HasNone, IsTable, KeysSaySettings, Lacks, NoneHas, alone_of}
 use Rattle.gate_config.specs.ConfigOf.{IsWholeConfigOf, config_in, document_place, known, settings_alone}
-use Rattle.gate_config.specs.Keys.{alerts, any_asks, asks as asked_for, asks_hbt, bus, further, gateway, hbt, heartbeat, ignored, is_asked, limit_at, limit_of, limits_in, net, optional, pace, plain, preset, quantity, row, row_at, row_of, rows_in, report, serve, stands_at, watch_in, watched, links_in, own_group, own_group_at, part_groups, quantities_in, quantity_at, quantity_of, settings_in, setup_in}
+use Rattle.gate_config.specs.Keys.{alerts, any_asks, asks as asked_for, asks_hbt, asks_heading, bus, devices, further, gateway, hbt, heading, heartbeat, ignored, is_asked, limit_at, limit_of, limits_in, links_in, net, optional, own_group, own_group_at, pace, part_groups, plain, preset, quantities_in, quantity, quantity_at, quantity_of, report, row, row_at, row_of, rows_in, serve, settings_in, setup_in, stands_at, watch_in, watched}
 use Rattle.gate_config.specs.Reading.{◌>>=◌, Table, default, each_from, items_in, key_prefix, prefix_of, section_at, table_in, unless}
 use Rattle.gate_config.specs.Unknown.{first_unknown, place_under, quantity_names, row_names, table_of}
 use Rattle.settings.specs.Heartbeat.{no_heartbeat}
-use Rattle.settings.specs.Setup.{alone}
+use Rattle.settings.specs.Setup.{alone, heading_group}
+use Rattle.settings.specs.declared.heading.HeadingConfig.{HeadingConfig}
 use Rattle.settings.specs.declared.heartbeat.HeartbeatConfig.{HeartbeatConfig}
 use Rattle.settings.specs.declared.heartbeat.NetHeartbeat.{NetHeartbeat}
 use Rattle.settings.specs.declared.quantity_config.Quantities.{Quantities}
@@ -189,6 +189,50 @@ heartbeat_read rows parts place none =
     two_keys (λ net bus_every. record { net = net; bus_every_s = bus_every }) (hbt.read (rows, parts) place) (number_at 1 60 place (codes "bus_every_s")) None None
     (hbt_read rows parts place (none.0, (none.1.0, (none.1.1.0, tt)))) (nothing_at (number_in 1 60) place (codes "bus_every_s") none.1.1.1.0)
 
+-- ---- joined headings
+
+four_keys :
+    {A B C D E : Type 0} (make : A → B → C → D → E) (first : Result A ConfigFault) (second : Result B ConfigFault) (third : Result C ConfigFault)
+    (fourth : Result D ConfigFault) (x : A) (y : B) (z : C) (w : D) → first ≡ Ok x → second ≡ Ok y → third ≡ Ok z → fourth ≡ Ok w
+    → ((((first >>= λ a. Ok (make a)) >>= λ made. second >>= λ b. Ok (made b)) >>= λ made. third >>= λ c. Ok (made c)) >>= λ made. fourth >>= λ d. Ok (made d))
+    ≡ Ok (make x y z w)
+four_keys make first second third fourth x y z w is_x is_y is_z is_w =
+    ap (λ r. r >>= λ made. fourth >>= λ d. Ok (made d)) (three_keys make first second third x y z is_x is_y is_z) ∙ one_key (make x y z) fourth w is_w
+
+devices_at : (place : Place) (name : List ℕ) → get_member name place.members ≡ None → devices place name ≡ Ok (record { items = [] })
+unfolding unless
+devices_at place name none = rw none refl
+
+-- a quantity of which no key stands is configured as ever
+abbrev usual : List ℕ → QuantityConfig
+usual talker = record { sources = record { items = [] }; others = true; timeout_ms = usual_timeout; talker = talker }
+
+taken_read : (talker : List ℕ) (place : Place) → NoneIn place quantity.known → quantity.read talker place ≡ Ok (usual talker)
+unfolding quantity
+taken_read talker place none =
+    let other : Talker = record { 0 = talker } in
+    four_keys (λ sources others timeout talker. record { sources = sources; others = others; timeout_ms = timeout; talker = talker.0 })
+    (devices place (codes "sources")) (default true truth_at place (codes "others")) (default usual_timeout (number_at 100 60000) place (codes "timeout_ms"))
+    (default other (text_at talker_in) place (codes "talker")) (record { items = [] }) true usual_timeout other
+    (devices_at place (codes "sources") none.0)
+    (default_at true truth_in place (codes "others") none.1.0)
+    (default_at usual_timeout (number_in 100 60000) place (codes "timeout_ms") none.1.1.0)
+    (default_at other (text_in talker_in) place (codes "talker") none.1.1.1.0)
+
+heading_unasked : (place : Place) → NoneIn place heading.known → asks_heading place ≡ false
+unfolding heading quantity
+heading_unasked place none = rw (none.1.0, none.1.1.0, none.1.1.1.0, none.1.1.1.1.0, none.1.1.1.1.1.0) refl
+
+heading_read : (rows : List RowConfig) (parts : List (Option (List ℕ))) (place : Place) → NoneIn place heading.known → heading.read (rows, parts) place ≡ Ok None
+unfolding heading quantity
+heading_read rows parts place none =
+    three_keys (λ group taken hdm. option_map (λ g. record { group = g; variation = taken; hdm = hdm }) group)
+    (own_group_at rows parts asks_heading place (codes "group")) (quantity.read (codes "HC") place) (default false truth_at place (codes "hdm"))
+    None (usual (codes "HC")) false
+    (group_at rows parts asks_heading place (codes "group") none.0 (heading_unasked place none))
+    (taken_read (codes "HC") place (none.1.0, (none.1.1.0, (none.1.1.1.0, (none.1.1.1.1.0, tt)))))
+    (default_at false truth_in place (codes "hdm") none.1.1.1.1.1.0)
+
 -- ---- further quantities
 
 any_unasked : (place : Place) (all : List Quantity) → NoneIn place (quantity_names all) → any_asks place all ≡ false
@@ -216,10 +260,6 @@ quantities_among : (document : Place) → Lacks further.name (further.known ++ q
     → NoneIn (place_under document further.name (prefix_of further.name)) (quantity_names all_quantities)
 unfolding further
 quantities_among document lacks = lacks.none.1.1.1
-
--- a quantity of which no key stands is configured as ever
-abbrev usual : List ℕ → QuantityConfig
-usual talker = record { sources = record { items = [] }; others = true; timeout_ms = usual_timeout; talker = talker }
 
 quantity_read : (place : Place) (q : Quantity) → get_member (about_quantity q).name place.members ≡ None → quantity_of place q ≡ Ok (usual (about_quantity q).talker)
 unfolding quantity_at quantity default unless
@@ -312,8 +352,9 @@ bound : {A B : Type 0} (read : Result A ConfigFault) (next : A → Result B Conf
 bound (Ok x) next y is = (x, (refl, is))
 bound (Err f) next y is = absurd cc
 
-abbrev set_up : Settings → ArrayVec Pattern → Option Quantities → Bool × Bool → Option (List ℕ) → Bool → ℕ → OptionalSentences → WatchConfig → HeartbeatConfig → Setup
-set_up settings devices quantities reports group recording every sentences watch beats = record {
+abbrev set_up : Settings → ArrayVec Pattern → Option Quantities → Bool × Bool → Option (List ℕ) → Bool → ℕ → OptionalSentences → Option HeadingConfig
+    → WatchConfig → HeartbeatConfig → Setup
+set_up settings devices quantities reports group recording every sentences joined watch beats = record {
   settings = settings;
   ignore = devices;
   optional_sentences = sentences;
@@ -323,6 +364,7 @@ set_up settings devices quantities reports group recording every sentences watch
   plain = group;
   plain_every_ms = every;
   «record» = recording;
+  heading = joined;
   watch = watch;
   heartbeat = beats;
 }
@@ -334,17 +376,24 @@ module _ (document : Place) (settings : Settings) where
   abbrev groups : List (Option (List ℕ))
   groups = part_groups settings
 
-  abbrev from_heartbeat : ArrayVec Pattern → Option Quantities → Bool × Bool → Option (List ℕ) → Bool → ℕ → OptionalSentences → WatchConfig → Result Setup ConfigFault
-  from_heartbeat devices quantities reports group recording every sentences watch =
-      table_in heartbeat (rows, alert_group watch ∷ group ∷ option_map (λ q. q.group) quantities ∷ groups) document
-      >>= λ beats. Ok (set_up settings devices quantities reports group recording every sentences watch beats)
+  abbrev from_heartbeat : ArrayVec Pattern → Option Quantities → Bool × Bool → Option (List ℕ) → Bool → ℕ → OptionalSentences → Option HeadingConfig → WatchConfig
+      → Result Setup ConfigFault
+  from_heartbeat devices quantities reports group recording every sentences joined watch =
+      table_in heartbeat (rows, alert_group watch ∷ heading_group joined ∷ group ∷ option_map (λ q. q.group) quantities ∷ groups) document
+      >>= λ beats. Ok (set_up settings devices quantities reports group recording every sentences joined watch beats)
 
-  abbrev from_watch : ArrayVec Pattern → Option Quantities → Bool × Bool → Option (List ℕ) → Bool → ℕ → OptionalSentences → Result Setup ConfigFault
-  from_watch devices quantities reports group recording every sentences =
-      watch_in rows (group ∷ option_map (λ q. q.group) quantities ∷ groups) document >>= from_heartbeat devices quantities reports group recording every sentences
+  abbrev from_watch : ArrayVec Pattern → Option Quantities → Bool × Bool → Option (List ℕ) → Bool → ℕ → OptionalSentences → Option HeadingConfig
+      → Result Setup ConfigFault
+  from_watch devices quantities reports group recording every sentences joined =
+      watch_in rows (heading_group joined ∷ group ∷ option_map (λ q. q.group) quantities ∷ groups) document
+      >>= from_heartbeat devices quantities reports group recording every sentences joined
+
+  abbrev from_heading : ArrayVec Pattern → Option Quantities → Bool × Bool → Option (List ℕ) → Bool → ℕ → OptionalSentences → Result Setup ConfigFault
+  from_heading devices quantities reports group recording every sentences =
+      table_in heading (rows, group ∷ option_map (λ q. q.group) quantities ∷ groups) document >>= from_watch devices quantities reports group recording every sentences
 
   abbrev from_optional : ArrayVec Pattern → Option Quantities → Bool × Bool → Option (List ℕ) → Bool → ℕ → Result Setup ConfigFault
-  from_optional devices quantities reports group recording every = table_in optional tt document >>= from_watch devices quantities reports group recording every
+  from_optional devices quantities reports group recording every = table_in optional tt document >>= from_heading devices quantities reports group recording every
 
   abbrev from_pace : ArrayVec Pattern → Option Quantities → Bool × Bool → Option (List ℕ) → Bool → Result Setup ConfigFault
   from_pace devices quantities reports group recording = table_in pace tt document >>= from_optional devices quantities reports group recording
@@ -382,13 +431,16 @@ module _ (document : Place) (settings : Settings) where
       (said_there serve tt document false asks.recording.is_table (recording_read _ asks.recording.none))
       (then_says (table_in pace tt document) (from_optional nobody None (false, false) None false) 0 all
       (said_there pace tt document 0 (plain_among document asks.plain) (pace_read _ (plain_lacks document asks.plain)))
-      (then_says (table_in optional tt document) (from_watch nobody None (false, false) None false 0) usual_sentences all
+      (then_says (table_in optional tt document) (from_heading nobody None (false, false) None false 0) usual_sentences all
       (said_there optional tt document usual_sentences network (optional_read _ asks.optional))
-      (then_says (watch_in rows (None ∷ None ∷ groups) document) (from_heartbeat nobody None (false, false) None false 0 usual_sentences) no_watch all
-      (watch_read rows (None ∷ None ∷ groups) document tables asks.limits asks.alerts)
-      (then_says (table_in heartbeat (rows, None ∷ None ∷ None ∷ groups) document) (λ beats. Ok (set_up settings nobody None (false, false) None false 0 usual_sentences no_watch beats)) no_heartbeat all
-      (said_there heartbeat (rows, None ∷ None ∷ None ∷ groups) document no_heartbeat asks.heartbeat.is_table (heartbeat_read rows (None ∷ None ∷ None ∷ groups) _ asks.heartbeat.none))
-      refl))))))))
+      (then_says (table_in heading (rows, None ∷ None ∷ groups) document) (from_watch nobody None (false, false) None false 0 usual_sentences) None all
+      (said_there heading (rows, None ∷ None ∷ groups) document None asks.heading.is_table (heading_read rows (None ∷ None ∷ groups) _ asks.heading.none))
+      (then_says (watch_in rows (None ∷ None ∷ None ∷ groups) document) (from_heartbeat nobody None (false, false) None false 0 usual_sentences None) no_watch all
+      (watch_read rows (None ∷ None ∷ None ∷ groups) document tables asks.limits asks.alerts)
+      (then_says (table_in heartbeat (rows, None ∷ None ∷ None ∷ None ∷ groups) document) (λ beats. Ok (set_up settings nobody None (false, false) None false 0 usual_sentences None no_watch beats)) no_heartbeat all
+      (said_there heartbeat (rows, None ∷ None ∷ None ∷ None ∷ groups) document no_heartbeat asks.heartbeat.is_table
+      (heartbeat_read rows (None ∷ None ∷ None ∷ None ∷ groups) _ asks.heartbeat.none))
+      refl)))))))))
 
 -- settings that were read had a table of the bus, or none, and one of the network, or none
 table_among : (document : Place) (name prefix : List ℕ) (place : Place) → section_at document name prefix ≡ Ok place → IsTable (get_member name document.members)

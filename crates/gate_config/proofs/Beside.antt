@@ -19,7 +19,7 @@ use Rattle.config_values.specs.declared.row_config.RowConfig.{RowConfig}
 use Rattle.network_routes.specs.declared.Route.{Route}
 use Rattle.config_values.specs.Rows.{AreSources}
 use Rattle.settings.specs.Heartbeat.{IsHeartbeat}
-use Rattle.settings.specs.Setup.{AreQuantities, IsAlertGroup, IsFurtherGroup, IsHeartbeatGroup, IsPlainGroup, IsSetup}
+use Rattle.settings.specs.Setup.{AreQuantities, IsAlertGroup, IsFurtherGroup, IsHeading, IsHeadingGroup, IsHeartbeatGroup, IsPlainGroup, IsSetup, heading_group}
 use Rattle.settings.specs.Settings.{IsAis, IsSettings}
 use Rattle.settings.specs.declared.ais.AisConfig.{AisConfig}
 use Rattle.settings.specs.declared.quantity_config.Quantities.{Quantities}
@@ -128,15 +128,27 @@ plain_beside s quantities group beside = record {
 }
 
 -- besides, beside the group of plain sentences
-alerts_beside :
+heading_beside :
     (s : Settings) (quantities : Option Quantities) (plain : Option (List ℕ)) (group : List ℕ)
-    → IsGroupBeside s.config.rows (plain ∷ option_map (λ q. q.group) quantities ∷ part_groups s) group → IsAlertGroup s quantities plain group
-alerts_beside s quantities plain group beside = record {
+    → IsGroupBeside s.config.rows (plain ∷ option_map (λ q. q.group) quantities ∷ part_groups s) group → IsHeadingGroup s quantities plain group
+heading_beside s quantities plain group beside = record {
   beside = plain_beside s quantities group (record {
     from_rows = beside.from_rows;
     from_parts = λ k d within. beside.from_parts (suc k) d (omega (arith, within));
   });
   from_plain = beside.from_parts 0 None (omega arith);
+}
+
+-- and beside that of joined headings
+alerts_beside :
+    (s : Settings) (quantities : Option Quantities) (plain heading : Option (List ℕ)) (group : List ℕ)
+    → IsGroupBeside s.config.rows (heading ∷ plain ∷ option_map (λ q. q.group) quantities ∷ part_groups s) group → IsAlertGroup s quantities plain heading group
+alerts_beside s quantities plain heading group beside = record {
+  beside = heading_beside s quantities plain group (record {
+    from_rows = beside.from_rows;
+    from_parts = λ k d within. beside.from_parts (suc k) d (omega (arith, within));
+  });
+  from_heading = beside.from_parts 0 None (omega arith);
 }
 
 watch_beside : (w : WatchConfig) (beside own : List ℕ → Type 0) → ((group : List ℕ) → beside group → own group) → IsWatch beside w → IsWatch own w
@@ -147,10 +159,11 @@ watch_beside w beside own is_own is = record {
 
 -- and beside that of alerts
 heartbeat_beside :
-    (s : Settings) (quantities : Option Quantities) (plain alerts : Option (List ℕ)) (group : List ℕ)
-    → IsGroupBeside s.config.rows (alerts ∷ plain ∷ option_map (λ q. q.group) quantities ∷ part_groups s) group → IsHeartbeatGroup s quantities plain alerts group
-heartbeat_beside s quantities plain alerts group beside = record {
-  beside = alerts_beside s quantities plain group (record {
+    (s : Settings) (quantities : Option Quantities) (plain heading alerts : Option (List ℕ)) (group : List ℕ)
+    → IsGroupBeside s.config.rows (alerts ∷ heading ∷ plain ∷ option_map (λ q. q.group) quantities ∷ part_groups s) group
+    → IsHeartbeatGroup s quantities plain heading alerts group
+heartbeat_beside s quantities plain heading alerts group beside = record {
+  beside = alerts_beside s quantities plain heading group (record {
     from_rows = beside.from_rows;
     from_parts = λ k d within. beside.from_parts (suc k) d (omega (arith, within));
   });
@@ -161,19 +174,23 @@ pub setup_beside :
     (x : Setup) → IsSettings x.settings → AreSources x.ignore.items → ForSome x.quantities (AreQuantitiesBeside x.settings.config.rows (part_groups x.settings))
     → ForSome x.plain (IsGroupBeside x.settings.config.rows (option_map (λ q. q.group) x.quantities ∷ part_groups x.settings))
     → IsInRange 0 60000 x.plain_every_ms
-    → IsWatch (IsGroupBeside x.settings.config.rows (x.plain ∷ option_map (λ q. q.group) x.quantities ∷ part_groups x.settings)) x.watch
+    → ForSome x.heading (IsHeading (IsGroupBeside x.settings.config.rows (x.plain ∷ option_map (λ q. q.group) x.quantities ∷ part_groups x.settings)))
+    → IsWatch (IsGroupBeside x.settings.config.rows (heading_group x.heading ∷ x.plain ∷ option_map (λ q. q.group) x.quantities ∷ part_groups x.settings)) x.watch
     → IsHeartbeat x.heartbeat
-    → ForSome x.heartbeat.net (λ n. IsGroupBeside x.settings.config.rows (alert_group x.watch ∷ x.plain ∷ option_map (λ q. q.group) x.quantities ∷ part_groups x.settings) n.group)
+    → ForSome x.heartbeat.net (λ n. IsGroupBeside x.settings.config.rows
+    (alert_group x.watch ∷ heading_group x.heading ∷ x.plain ∷ option_map (λ q. q.group) x.quantities ∷ part_groups x.settings) n.group)
     → IsSetup x
-setup_beside x settings ignore quantities plain pace watch beats free = record {
+setup_beside x settings ignore quantities plain pace heading watch beats free = record {
   settings = settings;
   ignore = ignore;
   quantities = λ all is. quantities_beside x.settings all (quantities all is);
   plain = λ group is. plain_beside x.settings x.quantities group (plain group is);
   pace = pace;
+  heading = λ j is. let asked = heading j is in
+      record { group = heading_beside x.settings x.quantities x.plain j.group asked.group; variation = asked.variation };
   watch =
-      watch_beside x.watch (IsGroupBeside x.settings.config.rows (x.plain ∷ option_map (λ q. q.group) x.quantities ∷ part_groups x.settings))
-      (IsAlertGroup x.settings x.quantities x.plain) (alerts_beside x.settings x.quantities x.plain) watch;
+      watch_beside x.watch (IsGroupBeside x.settings.config.rows (heading_group x.heading ∷ x.plain ∷ option_map (λ q. q.group) x.quantities ∷ part_groups x.settings))
+      (IsAlertGroup x.settings x.quantities x.plain (heading_group x.heading)) (alerts_beside x.settings x.quantities x.plain (heading_group x.heading)) watch;
   heartbeat = beats;
-  heartbeat_group = λ n is. heartbeat_beside x.settings x.quantities x.plain (alert_group x.watch) n.group (free n is);
+  heartbeat_group = λ n is. heartbeat_beside x.settings x.quantities x.plain (heading_group x.heading) (alert_group x.watch) n.group (free n is);
 }

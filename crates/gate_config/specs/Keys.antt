@@ -27,6 +27,8 @@ use Rattle.network_routes.specs.Routes.{most_routes}
 use Rattle.network_routes.specs.declared.Route.{Route}
 use Rattle.settings.specs.Watch.{alert_group}
 use Rattle.settings.specs.declared.ais.AisConfig.{AisConfig}
+use Rattle.settings.specs.Setup.{heading_group}
+use Rattle.settings.specs.declared.heading.HeadingConfig.{HeadingConfig}
 use Rattle.settings.specs.declared.heartbeat.HeartbeatConfig.{HeartbeatConfig}
 use Rattle.settings.specs.declared.heartbeat.NetHeartbeat.{NetHeartbeat}
 use Rattle.settings.specs.declared.quantity_config.Quantities.{Quantities}
@@ -290,6 +292,17 @@ optional =
 unfoldable pub serve : Table ⊤ Bool
 serve = table (codes "serve") (λ recording. recording) & key (codes "record") (default false truth_at)
 
+-- heading, beside the rows and the groups of the other parts: each of its other keys asks for its group
+abbrev pub asks_heading : Place → Bool
+asks_heading place = stands_at (codes "hdm") place || list_any (λ name. stands_at name place) quantity.known
+
+unfoldable pub heading : Table (List RowConfig × List (Option (List ℕ))) (Option HeadingConfig)
+heading =
+    table (codes "heading") (λ group taken hdm. option_map (λ g. record { group = g; variation = taken; hdm = hdm }) group)
+    & key_beside (codes "group") (λ beside. own_group_at beside.0 beside.1 asks_heading)
+    & keys_beside (λ beside. codes "HC") quantity
+    & key (codes "hdm") (default false truth_at)
+
 -- row.R again: how long a row may stay unsaid, in milliseconds
 unfoldable pub watched : Table ⊤ (Option ℕ)
 watched = table (codes "row") (λ limit. limit) & key (codes "watch_ms") (number_at 1000 600000)
@@ -396,8 +409,10 @@ setup_in document = do
   recording ← table_in serve tt document
   every ← table_in pace tt document
   sentences ← table_in optional tt document
-  watch ← watch_in settings.config.rows (group ∷ option_map (λ q. q.group) quantities ∷ part_groups settings) document
-  beats ← table_in heartbeat (settings.config.rows, alert_group watch ∷ group ∷ option_map (λ q. q.group) quantities ∷ part_groups settings) document
+  joined ← table_in heading (settings.config.rows, group ∷ option_map (λ q. q.group) quantities ∷ part_groups settings) document
+  watch ← watch_in settings.config.rows (heading_group joined ∷ group ∷ option_map (λ q. q.group) quantities ∷ part_groups settings) document
+  beats ←
+      table_in heartbeat (settings.config.rows, alert_group watch ∷ heading_group joined ∷ group ∷ option_map (λ q. q.group) quantities ∷ part_groups settings) document
   Ok (record {
     settings = settings;
     ignore = devices;
@@ -408,6 +423,7 @@ setup_in document = do
     plain = group;
     plain_every_ms = every;
     «record» = recording;
+    heading = joined;
     watch = watch;
     heartbeat = beats;
   })

@@ -4,7 +4,7 @@ ghost use Rattle.config_document.specs.Places.{place_of};
 ghost use Rattle.gate_config.specs.Beside.{AreLinks, AreParts};
 ghost use Rattle.gate_config.specs.Keys.{links_in, part_groups, parts_in, settings_in, setup_in};
 ghost use Rattle.settings.specs.Settings.{IsSettings};
-ghost use Rattle.settings.specs.Setup.{IsSetup};
+ghost use Rattle.settings.specs.Setup.{IsSetup, heading_group};
 ghost use Rattle.settings.specs.Watch.{alert_group};
 
 use crate::further::{
@@ -12,6 +12,7 @@ use crate::further::{
 };
 use crate::further_quantities::further_quantities;
 use crate::gateway::gateway_keys;
+use crate::heading::{heading_group, heading_keys};
 use crate::heartbeat::heartbeat_keys;
 use crate::identity::identity_keys;
 use crate::links::{bus_keys, net_keys};
@@ -27,7 +28,9 @@ use config_document::{ConfigFault, Section};
 use config_values::{Config, Ends, RowConfig};
 use network_routes::Routes;
 use sentence_text::{Group, Sfi};
-use settings::{AisConfig, Quantities, QuantityConfigs, RmcConfig, Settings, Setup, WatchConfig};
+use settings::{
+    AisConfig, HeadingConfig, Quantities, QuantityConfigs, RmcConfig, Settings, Setup, WatchConfig,
+};
 
 /// What the gateway says of itself, and the parts beside it.
 type Parts = (Product, Option<RmcConfig>, Option<AisConfig>);
@@ -50,8 +53,10 @@ pub(crate) fn all_keys(document: &Section, each: QuantityConfigs) -> Result<Setu
     let plain_every_ms = pace_keys(document)?;
     let optional_sentences = optional_keys(document)?;
     let groups = groups_beside(&plain, &quantities, &settings);
+    let heading = heading_keys(document, &settings.config.rows, &groups)?;
+    let groups = groups_behind_heading(&heading, &plain, &quantities, &settings);
     let watch = watch_keys(document, &settings.config.rows, &groups)?;
-    let groups = groups_behind(&watch, &plain, &quantities, &settings);
+    let groups = groups_behind_alerts(&watch, &heading, &plain, &quantities, &settings);
     let heartbeat = heartbeat_keys(document, &settings.config.rows, &groups)?;
     Ok(Setup {
         settings,
@@ -63,6 +68,7 @@ pub(crate) fn all_keys(document: &Section, each: QuantityConfigs) -> Result<Setu
         plain,
         plain_every_ms,
         record: recording,
+        heading,
         watch,
         heartbeat,
     })
@@ -84,17 +90,37 @@ fn groups_beside(
     ]
 }
 
-/// Those, and before them the group of alerts.
-fn groups_behind(
-    watch: &WatchConfig,
+/// Those, and before them the group of joined headings.
+fn groups_behind_heading(
+    heading: &Option<HeadingConfig>,
     plain: &Option<Group>,
     quantities: &Option<Quantities>,
     settings: &Settings,
 ) -> [Option<Group>; 5]
-    ensures { result ≡ alert_group watch.now ∷ plain.now ∷ option_map (λ q. q.group) quantities.now ∷ part_groups settings.now }
+    ensures { result ≡ heading_group heading.now ∷ plain.now ∷ option_map (λ q. q.group) quantities.now ∷ part_groups settings.now }
+{
+    [
+        heading_group(heading),
+        *plain,
+        quantities_group(quantities),
+        rmc_group(&settings.rmc),
+        ais_group(&settings.ais),
+    ]
+}
+
+/// Those, and before them the group of alerts.
+fn groups_behind_alerts(
+    watch: &WatchConfig,
+    heading: &Option<HeadingConfig>,
+    plain: &Option<Group>,
+    quantities: &Option<Quantities>,
+    settings: &Settings,
+) -> [Option<Group>; 6]
+    ensures { result ≡ alert_group watch.now ∷ heading_group heading.now ∷ plain.now ∷ option_map (λ q. q.group) quantities.now ∷ part_groups settings.now }
 {
     [
         alert_group(watch),
+        heading_group(heading),
         *plain,
         quantities_group(quantities),
         rmc_group(&settings.rmc),

@@ -1,6 +1,5 @@
 //! The keys of `further`: the transmission group of quantities besides the rows, and whom each is taken from.
 ghost use Rattle.std.specs.Prelude.{◌≡◌, [], All, IfOk, Some};
-ghost use Rattle.std.specs.List.{list_any};
 ghost use Rattle.std.specs.Option.{ForSome};
 ghost use Rattle.std.specs.Int.{IsInRange};
 ghost use Rattle.toml.specs.Data.{get_member};
@@ -8,13 +7,13 @@ ghost use Rattle.toml.specs.View.{table_view};
 ghost use Rattle.config_document.specs.Places.{place_of};
 ghost use Rattle.config_document.specs.Texts.{IsTalker};
 ghost use Rattle.gate_config.specs.Beside.{AreQuantitiesBeside, IsGroupBeside};
-ghost use Rattle.gate_config.specs.Keys.{any_asks, asks, asks_by, further, is_asked, quantities_in, quantity, quantity_at, quantity_of, stands_at};
+ghost use Rattle.gate_config.specs.Keys.{any_asks, asks, asks_by, further, is_asked, quantities_in, quantity, quantity_at, quantity_of};
 ghost use Rattle.gate_config.specs.Reading.{each_from};
 ghost use Rattle.quantities.specs.About.{quantities};
 ghost use Rattle.settings.specs.Setup.{IsQuantity};
 
 use crate::items::key_prefix;
-use crate::keys::{number_or, section, stands_at, truth_or};
+use crate::keys::{any_stands, number_or, section, stands_at, truth_or};
 use crate::parts::own_group;
 use crate::quantity::{self, quantity_keys};
 use crate::words::{FURTHER, FURTHER_PREFIX, GROUP, SLOTS, TWIN_ENGINES};
@@ -105,12 +104,6 @@ fn has_key(table: &Table) -> bool
         table: Some(table),
     };
     any_stands(&table, &quantity::KEYS)
-}
-
-fn any_stands(table: &Section, names: &[&str]) -> bool
-    ensures { result ≡ list_any (λ name. stands_at name.now (place_of table.now)) names.now }
-{
-    names.iter().any(|name| stands_at(table, name))
 }
 
 /// All quantities, each with its own talker where none is configured, in place of what stands there.

@@ -1,6 +1,7 @@
 //! Keys that have to be there, and keys with a default.
 ghost use Rattle.std.specs.Prelude.{◌≡◌, IfOk};
 ghost use Rattle.std.specs.Int.{IsInRange};
+ghost use Rattle.std.specs.List.{list_any};
 ghost use Rattle.config_document.specs.Keys.{number_at, text_at, truth_at};
 ghost use Rattle.config_document.specs.Places.{place_of};
 ghost use Rattle.gate_config.specs.Keys.{stands_at};
@@ -94,6 +95,13 @@ pub(crate) fn stands_at(section: &Section, name: &str) -> bool
     ensures { result ≡ stands_at name.now (place_of section.now) }
 {
     section.member(name).is_some()
+}
+
+/// Whether anything stands at one of these keys.
+pub(crate) fn any_stands(section: &Section, names: &[&str]) -> bool
+    ensures { result ≡ list_any (λ name. stands_at name.now (place_of section.now)) names.now }
+{
+    names.iter().any(|name| stands_at(section, name))
 }
 
 /// The table at a key; its keys have this prefix.

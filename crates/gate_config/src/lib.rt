@@ -7,6 +7,7 @@ mod endpoint;
 mod further;
 mod further_quantities;
 mod gateway;
+mod heading;
 mod heartbeat;
 mod identity;
 mod items;

@@ -53,6 +53,10 @@ pub(crate) const SERVE: &str = "serve";
 
 pub(crate) const SERVE_PREFIX: &[u8] = b"serve.";
 
+pub(crate) const HEADING: &str = "heading";
+
+pub(crate) const HEADING_PREFIX: &[u8] = b"heading.";
+
 pub(crate) const WATCH: &str = "watch";
 
 pub(crate) const WATCH_PREFIX: &[u8] = b"watch.";
@@ -78,6 +82,8 @@ pub(crate) const FAST_SLOTS: &str = "fast_slots";
 pub(crate) const GROUP: &str = "group";
 
 pub(crate) const GROUP_SLOTS: &str = "group_slots";
+
+pub(crate) const HDM: &str = "hdm";
 
 pub(crate) const IGNORE: &str = "ignore";
 

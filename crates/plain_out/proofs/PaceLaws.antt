@@ -79,6 +79,7 @@ number_small (stream.Quantity q) = omega (arith, quantity_small q)
 number_small stream.MagneticCourse = omega arith
 number_small stream.MagneticWind = omega arith
 number_small stream.MagneticDrift = omega arith
+number_small stream.JoinedHeading = omega arith
 
 -- ---- one more datagram
 

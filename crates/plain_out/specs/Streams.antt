@@ -22,7 +22,7 @@ abbrev pub quantity_stream : Quantity → Bool → Stream
 quantity_stream quantity.SetDrift magnetic = if magnetic then stream.MagneticDrift else stream.Quantity quantity.SetDrift
 quantity_stream q magnetic = stream.Quantity q
 
--- the place of a stream among all, from 0: rows, RMC, quantities, and what is from magnetic north
+-- the place of a stream among all, from 0: rows, RMC, quantities, what is from magnetic north, and joined headings
 abbrev pub stream_number : Stream → ℕ
 stream_number (stream.Row r) = row_number r
 stream_number stream.Rmc = rows_count
@@ -30,7 +30,8 @@ stream_number (stream.Quantity q) = rows_count + 1 + quantity_number q
 stream_number stream.MagneticCourse = rows_count + 1 + quantities_count
 stream_number stream.MagneticWind = rows_count + 2 + quantities_count
 stream_number stream.MagneticDrift = rows_count + 3 + quantities_count
+stream_number stream.JoinedHeading = rows_count + 4 + quantities_count
 
 -- how many there are
 abbrev pub streams_count : ℕ
-streams_count = rows_count + 4 + quantities_count
+streams_count = rows_count + 5 + quantities_count

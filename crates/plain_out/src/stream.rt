@@ -17,10 +17,12 @@ pub enum Stream {
     MagneticWind,
     /// Set and drift of the current, from magnetic north.
     MagneticDrift,
+    /// A heading that is joined of two messages.
+    JoinedHeading,
 }
 
 /// How many streams there are.
-pub(crate) const STREAMS: usize = ROWS + 4 + QUANTITIES;
+pub(crate) const STREAMS: usize = ROWS + 5 + QUANTITIES;
 
 impl Stream {
     /// That of what a row says.
@@ -55,6 +57,7 @@ impl Stream {
             Stream::MagneticCourse => ROWS + 1 + QUANTITIES,
             Stream::MagneticWind => ROWS + 2 + QUANTITIES,
             Stream::MagneticDrift => ROWS + 3 + QUANTITIES,
+            Stream::JoinedHeading => ROWS + 4 + QUANTITIES,
         }
     }
 }

@@ -19,20 +19,25 @@ use Rattle.bus_listener.specs.Heard.{heard_expired}
 use Rattle.ais_bridge.specs.AisOut.{report_gives, report_kinds}
 use Rattle.further_bridge.specs.FurtherOut.{further_done, message_breaks, said_at, lines_said, said_gives}
 use Rattle.bus_answers.specs.Answered.{answer_by, answered_before, answers, is_answered, own_after, ready_after, sent_before}
-use Rattle.plain_out.specs.Pace.{Utterance, Voice, uttered}
+use Rattle.plain_out.specs.Pace.{Utterance, Voice}
 use Rattle.plain_out.specs.Streams.{reading_stream}
 use Rattle.plain_out.specs.declared.stream.Stream.TheVariants as stream
 use Rattle.parts.specs.Utterances.{bytes_in, bytes_of}
-use Rattle.gateway_commands.specs.Gate.{all_out, all_utter, given, own_utters, plain_at, plain_of, tagged_out, voice_after, voice_in}
+use Rattle.gateway_commands.specs.Gate.{all_out, all_utter, given, own_uttered, own_utters, plain_at, plain_of, tagged_out, voice_after, voice_in}
 use Rattle.ais_bridge.proofs.Form.{ships}
 use Rattle.bus_answers.proofs.Form.{answering}
 use Rattle.further_bridge.proofs.Form.{quantities}
+use Rattle.joined_heading.proofs.Form.{joined_headings}
+use Rattle.joined_heading.specs.HeadingOut as heading
+use Rattle.joined_heading.specs.Variations as variations
+use Rattle.joined_heading.specs.Variations.{variation_done}
 use Rattle.joined_rmc.proofs.Form.{joined_rmc}
 use Rattle.own_address.proofs.Form.{own_address}
 use Rattle.source_changes.proofs.Form.{sources}
 use Rattle.supervision.proofs.Form.{supervision}
 use Rattle.gateway_commands.specs.Beside.{beside}
 use Rattle.gateway_commands.specs.BridgeSettings.{BridgeSettings}
+use Rattle.recordings.proofs.Headings.{heading_without}
 use Rattle.recordings.proofs.Known.{known_without}
 use Rattle.recordings.proofs.Gathered.{ap₃, joined, none_left, none_right}
 use Rattle.recordings.proofs.OwnAddress.{address_first, address_without}
@@ -133,6 +138,17 @@ address_gives = record {
   later = λ r c s m h le none newer e follow. address_without c s m h none newer e;
 }
 
+headings_gives : GivesQuietly joined_headings.give
+headings_gives = record {
+  first = λ x c s. refl;
+  later = λ x c s m h le none newer e follow.
+      heading_without x c s m h newer e
+      (heard_since variations.kind_of 0 c s m h le
+      (none_left (heard_expired variations.kind_of 0 c s h m)
+      (heading.message_breaks (variation_done x c s h (tick m)) ++ heading.posted_of x.group c.sfi (heading.lines_said x c s h) (heading.texts_at x c s h (tick m))) none)
+      newer (moment_of e));
+}
+
 supervision_gives : GivesQuietly supervision.give
 supervision_gives = record {
   first = λ r c s. supervision_first r c s;
@@ -154,6 +170,9 @@ sources_quiet = record { gives = sources_gives; says = in_stream None sources.gi
 address_quiet : IsQuiet own_address
 address_quiet = record { gives = address_gives; says = in_stream None own_address.give address_gives }
 
+headings_quiet : IsQuiet joined_headings
+headings_quiet = record { gives = headings_gives; says = in_stream (Some stream.JoinedHeading) joined_headings.give headings_gives }
+
 supervision_quiet : IsQuiet supervision
 supervision_quiet = record { gives = supervision_gives; says = in_stream None supervision.give supervision_gives }
 
@@ -172,8 +191,9 @@ beside_quiet =
     (before quantities _ quantities_quiet
     (before sources _ sources_quiet
     (before own_address _ address_quiet
+    (before joined_headings _ headings_quiet
     (before supervision _ supervision_quiet
-    nothing_quiet))))))
+    nothing_quiet)))))))
 
 -- ---- where nothing is given nothing is said, and nothing else is kept of plain sentences
 
@@ -209,8 +229,8 @@ module _ (p : BridgeSettings) (s m : ℕ) (h : History) (le : now h ≤ m) (none
   -- what is said, and what is kept of plain sentences
   own_alike : (newer : History) (e : Entry) → own_utters p s (newer ++ h) e ≡ own_utters p s (newer ++ tick m ∷ h) e
   own_alike newer e =
-      ap (λ (r : Option Reading). uttered (option_map reading_stream r) (out p.gateway s (newer ++ h) e)) (said_without p.gateway s m h newer e)
-      ∙ ap (uttered (option_map reading_stream (of_gateway.said_at p.gateway s (newer ++ tick m ∷ h) e))) (out_without p.gateway s m h newer e (over newer (moment_of e)))
+      ap (λ (r : Option Reading). own_uttered p.joined (option_map reading_stream r) (out p.gateway s (newer ++ h) e)) (said_without p.gateway s m h newer e)
+      ∙ ap (own_uttered p.joined (option_map reading_stream (of_gateway.said_at p.gateway s (newer ++ tick m ∷ h) e))) (out_without p.gateway s m h newer e (over newer (moment_of e)))
 
   utter_alike : (newer : History) (e : Entry) → Follows m newer e → all_utter p s (newer ++ h) e ≡ all_utter p s (newer ++ tick m ∷ h) e
   utter_alike newer e follow =
@@ -219,7 +239,7 @@ module _ (p : BridgeSettings) (s m : ℕ) (h : History) (le : now h ≤ m) (none
 
   tick_unsaid : all_utter p s h (tick m) ≡ []
   tick_unsaid =
-      joined (ap (uttered (option_map reading_stream (of_gateway.said_at p.gateway s h (tick m)))) (none_left (out p.gateway s h (tick m)) (given p s h (tick m)) tagged_none))
+      joined (ap (own_uttered p.joined (option_map reading_stream (of_gateway.said_at p.gateway s h (tick m)))) (none_left (out p.gateway s h (tick m)) (given p s h (tick m)) tagged_none))
       (nothing_given p s h (tick m) (none_right (out p.gateway s h (tick m)) (given p s h (tick m)) tagged_none))
 
   voice_alike : (newer : History) (e : Entry) → Follows m newer e → voice_in p s (newer ++ h) ≡ voice_in p s (newer ++ tick m ∷ h)

@@ -10,7 +10,7 @@ use Rattle.history.specs.Entries.{Entry, History, tick}
 use Rattle.history.specs.FromBus.{said_at}
 use Rattle.history.specs.Known.{Known, held_since, known}
 use Rattle.history.specs.Messages.{Message, done}
-use Rattle.history.specs.Settings.{Settings, receiver_of, same_row}
+use Rattle.history.specs.Settings.{Receiver, Settings, receiver_of, same_row}
 use Rattle.gate_core.specs.Selected.{Selected, last_of, newer as newest, saying, selected_at, selected_with}
 use Rattle.gateway_commands.proofs.Completed.{done_by}
 use Rattle.joined_rmc.specs.Lasting.{held_by, lasting, said_within, still_held}
@@ -29,12 +29,12 @@ abbrev pub IsWhere : (ℕ → Type 0) → Option Selected → Type 0
 IsWhere P None = Unit {0}
 IsWhere P (Some x) = P x.index
 
-with_as : (f : ℕ → ℕ) (d : Option Message) (says : Option Reading) → selected_with (option_map (message_as f) d) says ≡ option_map (selected_as f) (selected_with d says)
+pub with_as : (f : ℕ → ℕ) (d : Option Message) (says : Option Reading) → selected_with (option_map (message_as f) d) says ≡ option_map (selected_as f) (selected_with d says)
 with_as f None says = refl
 with_as f (Some d) None = refl
 with_as f (Some d) (Some r) = refl
 
-newer_as : (f : ℕ → ℕ) (row : Row) (x before : Option Selected)
+pub newer_as : (f : ℕ → ℕ) (row : Row) (x before : Option Selected)
     → newest row (option_map (selected_as f) x) (option_map (selected_as f) before) ≡ option_map (selected_as f) (newest row x before)
 newer_as f row None before = refl
 newer_as f row (Some x) before = by (same_row (row_of x.reading) row)
@@ -44,7 +44,7 @@ newer_as f row (Some x) before = by (same_row (row_of x.reading) row)
     by false = refl
 
 module _ (P : ℕ → Type 0) where
-  newer_where : (row : Row) (x before : Option Selected) → IsWhere P x → IsWhere P before → IsWhere P (newest row x before)
+  pub newer_where : (row : Row) (x before : Option Selected) → IsWhere P x → IsWhere P before → IsWhere P (newest row x before)
   newer_where row None before one all = all
   newer_where row (Some x) before one all = by (same_row (row_of x.reading) row)
     where
@@ -56,14 +56,17 @@ module _ (P : ℕ → Type 0) where
   saying_where d None here = tt
   saying_where d (Some r) here = here
 
-  selected_where : (c : Settings) (s : ℕ) (h : History) (e : Entry) → P (length h) → IsWhere P (selected_at c s h e)
-  selected_where c s h e here = by (done (receiver_of c) s h e) refl
+  pub done_where : (r : Receiver) (s : ℕ) (h : History) (e : Entry) (says : Option Reading) → P (length h) → IsWhere P (selected_with (done r s h e) says)
+  done_where r s h e says here = by (done r s h e) refl
     where
-      by : (d : Option Message) → done (receiver_of c) s h e ≡ d → IsWhere P (selected_with d (said_at c s h e))
+      by : (d : Option Message) → done r s h e ≡ d → IsWhere P (selected_with d says)
       by None is = tt
-      by (Some d) is = saying_where d (said_at c s h e) (subst P (sym (done_by (receiver_of c) s h e d is).index) here)
+      by (Some d) is = saying_where d says (subst P (sym (done_by r s h e d is).index) here)
 
-weaker : (P Q : ℕ → Type 0) (x : Option Selected) → ((i : ℕ) → P i → Q i) → IsWhere P x → IsWhere Q x
+  selected_where : (c : Settings) (s : ℕ) (h : History) (e : Entry) → P (length h) → IsWhere P (selected_at c s h e)
+  selected_where c s h e here = done_where (receiver_of c) s h e (said_at c s h e) here
+
+pub weaker : (P Q : ℕ → Type 0) (x : Option Selected) → ((i : ℕ) → P i → Q i) → IsWhere P x → IsWhere Q x
 weaker P Q None to here = tt
 weaker P Q (Some x) to here = to x.index here
 
@@ -74,7 +77,7 @@ last_under c s row (e ∷ h) =
     newer_where (λ i. i < suc (length h)) row (selected_at c s h e) (last_of c s row h) (selected_where (λ i. i < suc (length h)) c s h e (omega arith))
     (weaker (λ i. i < length h) (λ i. i < suc (length h)) (last_of c s row h) (λ i lt. omega (arith, lt)) (last_under c s row h))
 
-last_stays : (n : ℕ) (x : Option Selected) → IsWhere (λ i. i < n) x → option_map (selected_as (closed n)) x ≡ x
+pub last_stays : (n : ℕ) (x : Option Selected) → IsWhere (λ i. i < n) x → option_map (selected_as (closed n)) x ≡ x
 last_stays n None under = refl
 last_stays n (Some x) under = ap (λ (i : ℕ). Some (record x { index = i })) (closed_before n x.index (omega (arith, under)))
 
@@ -109,13 +112,13 @@ held_as n (Some since) x apart = rw (closed_order n since x.index apart) (by (na
     by true = refl
     by false = refl
 
-still_as : (n : ℕ) (holders : List (Option Holder)) (x : Option Selected) → IsWhere (λ i. i ≢ n) x
+pub still_as : (n : ℕ) (holders : List (Option Holder)) (x : Option Selected) → IsWhere (λ i. i ≢ n) x
     → still_held (map (holder_as (closed n)) holders) (option_map (selected_as (closed n)) x) ≡ option_map (selected_as (closed n)) (still_held holders x)
 still_as n holders None apart = refl
 still_as n holders (Some x) apart =
     ap (λ (since : Option ℕ). held_by since (selected_as (closed n) x)) (since_as (closed n) holders x.source) ∙ held_as n (held_since holders x.source) x apart
 
-within_as : (f : ℕ → ℕ) (timeout t : ℕ) (x : Option Selected) → said_within timeout t (option_map (selected_as f) x) ≡ said_within timeout t x
+pub within_as : (f : ℕ → ℕ) (timeout t : ℕ) (x : Option Selected) → said_within timeout t (option_map (selected_as f) x) ≡ said_within timeout t x
 within_as f timeout t None = refl
 within_as f timeout t (Some x) = refl
 

@@ -15,6 +15,7 @@ pub mod Out
 pub mod Listened
 pub mod Rmc
 pub mod Ships
+pub mod Headings
 pub mod OwnAddress
 pub mod Watched
 pub mod Quiet

@@ -26,7 +26,8 @@ alone_is_setup s are = record {
   quantities = λ q there. absurd (none-some q there);
   plain = λ group there. absurd (none-some group there);
   pace = (omega arith, omega arith);
-  watch = none_watched (IsAlertGroup s None None);
+  heading = λ j there. absurd (none-some j there);
+  watch = none_watched (IsAlertGroup s None None None);
   heartbeat = record { net = λ n there. absurd (none-some n there); bus = λ every there. absurd (none-some every there) };
   heartbeat_group = λ n there. absurd (none-some n there);
 }

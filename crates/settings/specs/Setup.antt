@@ -1,5 +1,5 @@
 -- All that one file configures, and when it is valid: the settings, and what further keys ask for beside them.
-use Rattle.std.specs.Prelude.{◌≡◌, ◌≢◌, ℕ, false, true, List, [], All, length, Option, None, codes}
+use Rattle.std.specs.Prelude.{◌≡◌, ◌≢◌, ℕ, false, true, List, [], All, length, Option, None, option_map, codes}
 use Rattle.std.specs.Int.{IsInRange}
 use Rattle.std.specs.Option.{ForSome}
 use Rattle.sentence_text.specs.Names.{IsSfi}
@@ -11,6 +11,7 @@ use Rattle.config_values.specs.Rows.{AreSources, IsTalker, usual_timeout}
 use Rattle.config_values.specs.Settings.{settings_ignoring}
 use Rattle.settings.specs.Heartbeat.{IsHeartbeat, no_heartbeat}
 use Rattle.settings.specs.Settings.{IsOwnGroup, IsSettings}
+use Rattle.settings.specs.declared.heading.HeadingConfig.{HeadingConfig}
 use Rattle.settings.specs.declared.heartbeat.NetHeartbeat.{NetHeartbeat}
 use Rattle.settings.specs.declared.quantity_config.Quantities.{Quantities}
 use Rattle.settings.specs.declared.quantity_config.QuantityConfig.{QuantityConfig}
@@ -30,6 +31,7 @@ alone s = record {
   plain = None;
   plain_every_ms = 0;
   «record» = false;
+  heading = None;
   watch = no_watch;
   heartbeat = no_heartbeat;
 }
@@ -64,13 +66,26 @@ pub record IsPlainGroup (s : Settings) (quantities : Option Quantities) (group :
   pub from_quantities : ForSome quantities (λ q. q.group ≢ group)
 
 -- besides, no plain sentences are sent to it
-pub record IsAlertGroup (s : Settings) (quantities : Option Quantities) (plain : Option (List ℕ)) (group : List ℕ) : Type 0 where
+pub record IsHeadingGroup (s : Settings) (quantities : Option Quantities) (plain : Option (List ℕ)) (group : List ℕ) : Type 0 where
   pub beside : IsPlainGroup s quantities group
   pub from_plain : ForSome plain (λ other. other ≢ group)
 
+pub record IsHeading (is_own : List ℕ → Type 0) (j : HeadingConfig) : Type 0 where
+  pub group : is_own j.group
+  pub variation : IsQuantity j.variation
+
+-- the transmission group of joined headings, where they are said
+abbrev pub heading_group : Option HeadingConfig → Option (List ℕ)
+heading_group heading = option_map (λ j. j.group) heading
+
+-- nor joined headings
+pub record IsAlertGroup (s : Settings) (quantities : Option Quantities) (plain heading : Option (List ℕ)) (group : List ℕ) : Type 0 where
+  pub beside : IsHeadingGroup s quantities plain group
+  pub from_heading : ForSome heading (λ other. other ≢ group)
+
 -- nor alerts
-pub record IsHeartbeatGroup (s : Settings) (quantities : Option Quantities) (plain alerts : Option (List ℕ)) (group : List ℕ) : Type 0 where
-  pub beside : IsAlertGroup s quantities plain group
+pub record IsHeartbeatGroup (s : Settings) (quantities : Option Quantities) (plain heading alerts : Option (List ℕ)) (group : List ℕ) : Type 0 where
+  pub beside : IsAlertGroup s quantities plain heading group
   pub from_alerts : ForSome alerts (λ other. other ≢ group)
 
 pub record IsSetup (x : Setup) : Type 0 where
@@ -79,9 +94,10 @@ pub record IsSetup (x : Setup) : Type 0 where
   pub quantities : ForSome x.quantities (AreQuantities x.settings)
   pub plain : ForSome x.plain (IsPlainGroup x.settings x.quantities)
   pub pace : IsInRange 0 60000 x.plain_every_ms
-  pub watch : IsWatch (IsAlertGroup x.settings x.quantities x.plain) x.watch
+  pub heading : ForSome x.heading (IsHeading (IsHeadingGroup x.settings x.quantities x.plain))
+  pub watch : IsWatch (IsAlertGroup x.settings x.quantities x.plain (heading_group x.heading)) x.watch
   pub heartbeat : IsHeartbeat x.heartbeat
-  pub heartbeat_group : ForSome x.heartbeat.net (λ n. IsHeartbeatGroup x.settings x.quantities x.plain (alert_group x.watch) n.group)
+  pub heartbeat_group : ForSome x.heartbeat.net (λ n. IsHeartbeatGroup x.settings x.quantities x.plain (heading_group x.heading) (alert_group x.watch) n.group)
 
 -- what the types of a configuration hold: its identifier is one, and each row and quantity has its place
 pub record IsTyped (x : Setup) : Type 0 where

@@ -4,6 +4,7 @@
 #![tactic(auto)]
 
 mod ais;
+mod heading;
 mod heartbeat;
 mod quantity_config;
 mod quantity_configs;
@@ -13,6 +14,7 @@ mod setup;
 mod watch;
 
 pub use ais::AisConfig;
+pub use heading::HeadingConfig;
 pub use heartbeat::{HeartbeatConfig, NetHeartbeat};
 pub use quantity_config::{Quantities, QuantityConfig};
 pub use quantity_configs::QuantityConfigs;

@@ -1,6 +1,7 @@
 //! All that one file configures.
 ghost use Rattle.std.specs.Prelude.{◌≡◌, IfOk};
 
+use crate::heading::HeadingConfig;
 use crate::heartbeat::HeartbeatConfig;
 use crate::quantity_config::Quantities;
 use crate::settings::Settings;
@@ -33,6 +34,8 @@ pub struct Setup {
     pub plain_every_ms: u32,
     /// Whether a run writes down what comes.
     pub record: bool,
+    /// How headings are joined; none: they aren't.
+    pub heading: Option<HeadingConfig>,
     /// Which rows have to be said.
     pub watch: WatchConfig,
     /// How heartbeats are said.
@@ -60,6 +63,7 @@ impl Setup {
             plain: None,
             plain_every_ms: 0,
             record: false,
+            heading: None,
             watch: WatchConfig {
                 limits: [None; ROWS],
                 alerts: None,

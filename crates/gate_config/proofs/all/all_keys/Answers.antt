@@ -13,6 +13,7 @@ returns-clause-valid c =
       plain = c.in_ok-plain.plain;
       plain_every_ms = c.in_ok-plain_every_ms.plain_every_ms;
       «record» = c.in_ok-recording.recording;
+      heading = c.in_ok-heading.heading;
       watch = c.in_ok-watch.watch;
       heartbeat = c.in_ok-heartbeat.heartbeat;
     })
@@ -20,5 +21,6 @@ returns-clause-valid c =
     (rw (c.rmc_group.ensures, c.ais_group.ensures) at c.in_ok-quantities.ensures.valid)
     (rw (c.quantities_group.ensures, c.rmc_group.ensures, c.ais_group.ensures) at c.in_ok-plain.ensures.valid)
     c.in_ok-plain_every_ms.ensures.valid
-    (rw c.groups_beside-groups.ensures at c.in_ok-watch.ensures.valid) c.in_ok-heartbeat.ensures.valid
-    (rw c.groups_behind-groups.ensures at c.in_ok-heartbeat.ensures.free)
+    (rw c.groups_beside-groups.ensures at c.in_ok-heading.ensures.valid)
+    (rw c.groups_behind_heading-groups.ensures at c.in_ok-watch.ensures.valid) c.in_ok-heartbeat.ensures.valid
+    (rw c.groups_behind_alerts-groups.ensures at c.in_ok-heartbeat.ensures.free)

@@ -1,0 +1,9 @@
+pub mod HeadingRule
+pub mod Variations
+pub mod VariationKind
+pub mod Sentences
+pub mod HeadingOut
+pub mod HeadingPart
+pub mod HeadingLaws
+pub mod Kept
+pub mod Promises
