@@ -21,8 +21,12 @@ READY_AFTER_US = 250_000
 MOST_EVENTS = 200
 LINES_OF_A_RULE = 5
 Curve = collections.namedtuple("Curve", "title unit row formatter field turns downwards")
+# of the heading group, which says no row
+COMPUTED_BY = "HDT"
+COMPUTED = Curve("heading, true, computed", "degrees", None, "", 1, True, False)
 CURVES = [
     Curve("heading, true", "degrees", "heading_true", "HDT", 1, True, False),
+    COMPUTED,
     Curve("heading, magnetic", "degrees", "heading_magnetic", "HDG", 1, True, False),
     Curve("rudder, first", "degrees", "rudder_first", "RSA", 1, False, False),
     Curve("rudder, second", "degrees", "rudder_second", "RSA", 3, False, False),
@@ -174,6 +178,8 @@ class Recording:
         self.joiner = Joiner()
         # the transmission group of further quantities, whose sentences say no row
         self.further_group = config.get("further", {}).get("group")
+        # that of joined headings, whose HDG a row has said already
+        self.heading_group = config.get("heading", {}).get("group")
         self.begin = self.end = None
         self.bus = self.compared = self.rates = None
         self.counts, self.rules = collections.Counter(), collections.Counter()
@@ -339,14 +345,17 @@ class Recording:
         """A datagram for a transmission group, by the frame that it comes of; the rows that it says are added to those that are."""
         self.count("datagrams to the network")
         sentences = [sentence.decode() for sentence in SENT_LINE.findall(datagram)]
-        is_further = group == self.further_group
-        self.counts["messages said to the network"] += not is_further and any(sentence[3:6] in self.rows.formatters for sentence in sentences)
+        is_further, is_joined = group == self.further_group, group == self.heading_group
+        is_of_rows = not is_further and not is_joined
+        self.counts["messages said to the network"] += is_of_rows and any(sentence[3:6] in self.rows.formatters for sentence in sentences)
         for sentence in sentences:
             self.counts["sentences to the network"] += 1
             self.sentences.add(sentence.split(",")[0])
             fields, source = sentence.split("*")[0].split(","), None if parts is None else parts.source
             if is_further:
                 self.said_further(fields, source)
+            elif is_joined:
+                self.said_joined(fields, source)
             else:
                 rows_said.add(self.said(fields, source))
 
@@ -361,6 +370,14 @@ class Recording:
         what = {"XDR": fields[4:5], "RPM": fields[2:3]}.get(formatter, [])
         if source is not None:
             self.strip(" ".join([formatter, *what]), TIMEOUT_MS * 1000).say(self.end, Device(f"address {source}", "", None, ""))
+
+    def said_joined(self, fields, source):
+        """A sentence of the heading group that went out; of HDG and HDM the row has the heading."""
+        if fields[0][3:] == COMPUTED_BY:
+            self.valued(COMPUTED, fields[COMPUTED.field])
+            if source is not None and fields[COMPUTED.field]:
+                device = self.ranks.of_device("heading_magnetic", source, self.addresses.holders.get(source))
+                self.strip(COMPUTED.title, self.ranks.timeout_us("heading_magnetic")).say(self.end, device)
 
     def said(self, fields, source):
         """A sentence that went out, and the row that it says."""

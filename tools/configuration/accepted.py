@@ -5,6 +5,9 @@ from typing import NamedTuple, Optional
 
 from .faults import PARTS
 
+# the path of the table that says whom the variation of joined headings is taken from
+VARIATION = ("heading",)
+
 
 class Warned(NamedTuple):
     """A key that the program accepts and that fails in silence, where it or what it depends on stands, and why."""
@@ -49,10 +52,13 @@ class Accepted:
         return None if spans is None else self.document.place(spans[0][0])
 
     def chosen(self):
-        """What is taken from devices: each row and each further quantity that is asked for, as the path of its table, its words and its table."""
+        """What is taken from devices: each row, each further quantity that is asked for, and the variation of joined headings if these are, as the path of
+        its table and its table."""
         rows = [(("row", row.name), self.row(row.name)) for row in self.page.rows]
         is_asked_for = "group" in self.root.get("further", {})
-        return rows + [(("further", name), self.quantity(name)) for name in self.page.quantities if is_asked_for]
+        quantities = [(("further", name), self.quantity(name)) for name in self.page.quantities if is_asked_for]
+        heading = self.root.get("heading", {})
+        return rows + quantities + ([(VARIATION, heading)] if "group" in heading else [])
 
     def patterns(self):
         """Each pattern of a device."""

@@ -4,7 +4,8 @@ silence among them."""
 from bus_names import function_of, maker_of
 from onboard.identifiers import name_fields, name_text
 
-from .accepted import Warned
+from .accepted import VARIATION, Warned
+from .heard import MAGNETIC
 from .keys import is_matched
 from .paces import MICROSECONDS
 
@@ -34,6 +35,8 @@ class Devices:
         yield from self.watched_rows_of_nobody()
         yield from self.gateways_that_are_heard()
         yield from self.engines_that_are_two()
+        yield from self.headings_of_nobody()
+        yield from self.depths_said_twice()
 
     def timeouts_below_the_pace(self):
         for path, who, pace, seconds in self.too_slow(self.heard.paces):
@@ -72,6 +75,30 @@ class Devices:
             why = "engines of the instances 0 and 1 are said, the first as a single one, number 0. With true it is the one to port, number 2"
             yield Warned("further.twin_engines", self.accepted.place("further", "group"), why)
 
+    def headings_of_nobody(self):
+        """Joined headings where nobody says what they are joined of."""
+        if VARIATION not in self.heard.tables:
+            return
+        compasses, sayers = self.heard.sayers_of(MAGNETIC), [who for who in self.heard.pairs() if who in self.heard.variations]
+        taken = {who for who in compasses if self.is_taken(who[1], self.heard.tables[MAGNETIC])}
+        if not taken:
+            why = "those that say a magnetic heading in the recording aren't taken" if compasses else "nobody in the recording says a magnetic heading (PGN 127250)"
+            why += ": no heading is joined, and none computed"
+        elif taken & self.heard.without_variation and not any(self.is_taken(name, self.heard.tables[VARIATION]) for _, name in sayers):
+            why = "those that say the variation in the recording aren't taken" if sayers else "nobody in the recording says the variation (PGN 127258)"
+            why += ", and the compass says none: HDT would be empty"
+        else:
+            return
+        yield Warned("heading.group", self.accepted.place("heading", "group"), why)
+
+    def depths_said_twice(self):
+        """Sounders that say DPT and DBT of each depth, and both go to the bus."""
+        both = [identifier for identifier, formatters in self.heard.formatters.items() if {"DPT", "DBT"} <= formatters]
+        if both and self.accepted.root.get("net", {}).get("dbt", True):
+            place = self.accepted.place("net", "dbt") or self.accepted.place("net", "sources")
+            why = f"{' and '.join(both)} said DPT and DBT. Both go to the bus as depth, and DBT has no offset of the transducer. With false DPT alone goes there"
+            yield Warned("net.dbt", place, why)
+
     # ---- what is told
 
     def lines(self):
@@ -89,8 +116,10 @@ class Devices:
         yield from self.of_list("bus.ignore", self.ignored, self.heard.pairs())
         for row in self.accepted.page.rows:
             yield from self.of_list(f"row.{row.name}.sources", self.accepted.row(row.name).get("sources", []), self.heard.sayers(row))
+        variation = self.heard.tables.get(VARIATION, {}).get("sources", [])
+        yield from self.of_list("heading.sources", variation, self.heard.sayers_of(VARIATION), "no variation")
 
-    def of_list(self, path, patterns, sayers):
+    def of_list(self, path, patterns, sayers, lacks="nothing of this row"):
         """The devices that each pattern of a list is of; of those that aren't among the sayers it is told besides."""
         if patterns:
             yield ""
@@ -99,7 +128,7 @@ class Devices:
             found = [pair for pair in self.heard.pairs() if pair[1] is not None and is_matched(pattern, pair[1])]
             yield f"  {place}, {pattern}:" + ("" if found else " no device of the recording")
             for pair in found:
-                yield f"    {self.who(*pair)}" + ("" if pair in sayers else ", which said nothing of this row")
+                yield f"    {self.who(*pair)}" + ("" if pair in sayers else f", which said {lacks}")
 
     def of_rows(self):
         silent = []

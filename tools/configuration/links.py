@@ -72,6 +72,7 @@ class Links:
         yield from self.sends_to_no_machine()
         yield from self.plain_among_datagrams()
         yield from self.alerts_without_a_route()
+        yield from self.headings_without_a_route()
         yield from self.heartbeats_by_themselves()
 
     def sent(self):
@@ -129,6 +130,13 @@ class Links:
         if group is not None and group not in self.routes:
             why = f"{group} has no route, so alerts go to {self.sends['net']} like all else without one. Give it a route to who shows alarms"
             yield Warned("watch.group", self.place("watch", "group"), why)
+
+    def headings_without_a_route(self):
+        """Joined headings go where the row's own go, and who hears both has two HDG."""
+        group = self.accepted.root.get("heading", {}).get("group")
+        if group is not None and group not in self.routes:
+            why = f"{group} has no route, so joined headings go to {self.sends['net']} like all else without one. Give it a route to who shows the true heading"
+            yield Warned("heading.group", self.place("heading", "group"), why)
 
     def plain_among_datagrams(self):
         """Plain sentences at an address where datagrams go: who reads the one can't read the other."""

@@ -12,6 +12,8 @@ SELECTOR = re.compile(r"(?:reference|instance|source), byte (\d+)(?: bits (\d)-(
 QUANTITIES = re.compile(r"^\| ([a-z][^|]*) \| (\d{6})[^|]* \| (?:single|fast), \d+ \|([^|]*)\|[^|]*\|[^|]*\|$", re.MULTILINE)
 SELECTS = re.compile(r"byte (\d+)(?: bits (\d)-(\d))?: (.*)")
 VALUE = re.compile(r"\b(?:0x[0-9A-F]{2}|\d+)\b")
+# the message that joined headings take their variation from, and where it has it
+VARIATION = re.compile(r"PGN (\d{6}) \(Magnetic Variation, [^\n]* Its variation is ([ui])(\d+)@(\d+),")
 
 
 class Selector(NamedTuple):
@@ -60,6 +62,15 @@ def rows():
 def fields():
     """The fields of each PGN by their words."""
     return {int(pgn): {word: Field(int(first), int(bits) // 8, sign == "i") for word, sign, bits, first in FIELD.findall(cells)} for pgn, cells, _ in rows()}
+
+
+def variation_of_page():
+    """The message that joined headings take their variation from, and the variation in it."""
+    match = VARIATION.search(text_of(FORMATS))
+    if match is None:
+        raise PageChanged(FORMATS, "the message of the variation isn't where it was")
+    pgn, sign, bits, first = match.groups()
+    return Source(int(pgn), None, ()), Field(int(first), int(bits) // 8, sign == "i")
 
 
 def selector_of(byte, first_bit, last_bit):

@@ -9,6 +9,8 @@ from .patterns import covers, fields_of, turned
 # what nearly all devices of boats have in these fields
 OF_NEARLY_ALL = {"instance_lower": 0, "instance_upper": 0, "reserved": 0, "system_instance": 0, "industry": 4, "arbitrary": 1}
 TOP_BIT = 1 << 63
+# what is taken from devices, by the first word of its table
+TAKEN = {"row": "row", "further": "quantity", "heading": "variation"}
 
 
 class Sources:
@@ -44,7 +46,7 @@ class Sources:
     def taken_from_nobody(self):
         for path, table in self.accepted.chosen():
             if table.get("others") is False and not table.get("sources"):
-                what = "row" if path[0] == "row" else "quantity"
+                what = TAKEN[path[0]]
                 path = (*path, "others")
                 yield Warned(".".join(path), self.accepted.place(*path), f"with false and no sources the {what} is taken from no device")
 

@@ -25,6 +25,8 @@ MOMENT_BACK = b"3"
 OTHERS = "others"
 # the words of the optional part that joins several rows, and of the one of ships around
 JOINED, SHIPS = "RMC", "ships around"
+# the words of the true heading that the gateway computes, and its sentence in the heading group
+COMPUTED, COMPUTED_BY = "heading, true, computed", "HDT"
 # without its key
 BEAT_SECONDS = 60
 
@@ -109,6 +111,7 @@ class Gathered:
         tables = config.get("row", {}), config.get("further", {})
         self.rows = {row.name: self._said(row.name, row.words, tables[0]) for row in page.rows}
         self.further_group = tables[1].get("group")
+        self.heading_group = config.get("heading", {}).get("group")
         self.beat_seconds = beat_seconds_of(config.get("heartbeat", {}))
         self.further = {name: self._said(name, name.replace("_", " "), tables[1]) for name in page.quantities}
         # if rows are under watch, these alone have to be there
@@ -199,12 +202,19 @@ class Gathered:
             if group == self.further_group:
                 for quantity, values in further_of(fields).items():
                     self.further[quantity].say(self.moment, values, source)
+            elif group == self.heading_group:
+                self._said_joined(fields, source)
             else:
                 self._said_row(fields, source)
 
     def count_group(self, group):
         if group in self.sent_groups or len(self.sent_groups) < MOST_GROUPS:
             self.sent_groups[group] += 1
+
+    def _said_joined(self, fields, source):
+        """A sentence of the heading group; of HDG and HDM the row has the heading."""
+        if fields[0][3:] == COMPUTED_BY:
+            self._other(COMPUTED).say(self.moment, values_of("heading_true", fields), source)
 
     def _said_row(self, fields, source):
         formatter, row = fields[0][3:], self.rows_of_page.said_by(fields)

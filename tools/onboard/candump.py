@@ -31,6 +31,7 @@ TICK = "a tick"
 FRAME_LINE = re.compile(rb"\((\d{1,10})\.(\d{6})\) ([!-~]{1,16}) ([0-9A-Fa-f]{8})#((?:[0-9A-Fa-f]{2}){0,8})(?: ([^\r\n]*))?\r?\n?")
 # no interface with frames has these two names
 DATAGRAM_INTERFACE, TICK_INTERFACE = b"udp0", b"tick"
+DATAGRAM_LINE = re.compile(rb"\(\d{1,10}\.\d{6}\) udp0 [A-Z0-9]{4}#((?:[0-9A-Fa-f]{2})*)(?: [^\r\n]*)?\r?\n?")
 OTHER_LINES = (
     (re.compile(rb"\(\d{1,10}\.\d{6}\) udp0 [A-Z0-9]{4}#"), DATAGRAM),
     (re.compile(rb"\(\d{1,10}\.\d{6}\) tick(?: |\r?\n?\Z)"), TICK),
@@ -80,6 +81,12 @@ def read_line(text):
         raise NoFrame(WIDE)
     direction = rest.decode() if rest in (b"R", b"T") else ""
     return Line(int(seconds) * MICROSECONDS + int(fraction), interface.decode(), Frame(identifier, bytes.fromhex(data.decode())), direction)
+
+
+def datagram_of(text):
+    """The bytes of a datagram of the network, of a line that has one; else None."""
+    match = DATAGRAM_LINE.fullmatch(text)
+    return None if match is None or len(text) > MOST_LINE else bytes.fromhex(match.group(1).decode())
 
 
 def reason_against(text):

@@ -1,5 +1,6 @@
 """Sentences of NMEA 0183 (IEC 61162-1), and the datagrams of IEC 61162-450 that carry them. docs/formats.md has the grammar of both."""
 
+import contextlib
 import functools
 import operator
 import re
@@ -16,6 +17,9 @@ MOST_COUNT = 999
 SENTENCE = re.compile(rb"([$!])([A-Z0-9]{3,12}(?:,[^\x00-\x1f\x7f-\xff$!\\*]*)?)(?:\*([0-9A-Fa-f]{2}))?")
 # TAG blocks, a sentence, and what it ends with
 SENTENCE_LINE = rb"([$!][ -~]{1,%d}\r\n)" % (MOST_SENTENCE_BYTES - len(b"$") - len(END))
+TAGGED_LINE = re.compile(rb"((?:\\[^\\\r\n]*\\)+)" + SENTENCE_LINE)
+# the parameter of a TAG block that names the source
+SOURCE = re.compile(rb"[\\,][sS]:([A-Z]{2}[0-9]{4})(?=[,*])")
 LINE, PLAIN_LINE = re.compile(rb"(?:\\[^\\\r\n]*\\)*" + SENTENCE_LINE), re.compile(SENTENCE_LINE)
 
 # why a line has no sentence: each a constant, so that they can be counted
@@ -81,6 +85,18 @@ def sentences_of(datagram):
     form, lines = (PLAIN_LINE, datagram) if is_plain(datagram) else (LINE, datagram[len(HEADER) :])
     found = map(form.fullmatch, lines.splitlines(keepends=True))
     return [match.group(1) for match in found if match is not None]
+
+
+def said_by(datagram):
+    """The sentences of a datagram, each behind the source that its TAG blocks name, the last one where there are several; lines without one, or of another
+    form, are left out."""
+    if is_plain(datagram):
+        return
+    for match in map(TAGGED_LINE.fullmatch, datagram[len(HEADER) :].splitlines(keepends=True)):
+        sources = [] if match is None else SOURCE.findall(match.group(1))
+        if sources:
+            with contextlib.suppress(NoSentence):
+                yield sources[-1].decode(), read_line(match.group(2))
 
 
 class Wrapper:
