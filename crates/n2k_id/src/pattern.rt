@@ -34,8 +34,12 @@ impl Pattern {
         ensures fields { IsTrue result ↔ Matches self.now (fields_of name.0) }
     {
         let f = name.fields();
-        // Most patterns differ here already: the other fields take five times as long.
-        if !allows(self.unique, f.unique) || !allows(self.manufacturer, f.manufacturer) {
+        // Most patterns differ in what they state most often: the other fields take several times as long.
+        if !allows(self.unique, f.unique)
+            || !allows(self.manufacturer, f.manufacturer)
+            || !allows(self.function, f.function)
+            || !allows(self.class, f.class)
+        {
             return false;
         }
         allows(self.unique, f.unique)
