@@ -16,6 +16,7 @@ use crate::profiled::Profiled;
 use readings::range::{ANGLE, DEVIATION, RATE_OF_TURN};
 use readings::{Reading, bits};
 
+#[inline(always)]
 #[tactic(auto, unfolding(crate::specs::Layout::messages))]
 pub fn read_heading(payload: &[u8]) -> Profiled
     ensures { result ≡ profiled 127250 payload.now }
@@ -36,6 +37,7 @@ pub fn read_heading(payload: &[u8]) -> Profiled
     }
 }
 
+#[inline(always)]
 #[tactic(auto, unfolding(crate::specs::Layout::messages))]
 pub fn read_rate_of_turn(payload: &[u8]) -> Profiled
     ensures { result ≡ profiled 127251 payload.now }

@@ -78,7 +78,8 @@ pub fn read(pgn: u32, payload: &[u8]) -> Profiled
     read_in_place(pgn, payload)
 }
 
-/// As `read`, with a copy in its caller, where the reading need not go by way of memory: for one that reads of nearly each frame.
+/// As `read`, with a copy in its caller, where the reading need not go by way of memory: for one that reads of nearly each frame. So each
+/// function that reads a message has its copy here.
 #[inline(always)]
 #[tactic(auto, unfolding(crate::specs::Layout::messages))]
 pub fn read_in_place(pgn: u32, payload: &[u8]) -> Profiled
@@ -97,7 +98,7 @@ pub fn read_in_place(pgn: u32, payload: &[u8]) -> Profiled
         GNSS_POSITION_DATA => position::read_fix(payload),
         SYSTEM_TIME => time::read_system_time(payload),
         TIME_AND_DATE => time::read_time_and_date(payload),
-        WIND_DATA => wind::read(payload),
+        WIND_DATA => wind::read_wind(payload),
         TEMPERATURE => water::read_temperature(payload),
         TEMPERATURE_EXTENDED_RANGE => water::read_extended_temperature(payload),
         CROSS_TRACK_ERROR => position::read_cross_track(payload),

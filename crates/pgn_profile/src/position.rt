@@ -29,6 +29,7 @@ use readings::range::{
 };
 use readings::{Reading, bits};
 
+#[inline(always)]
 #[tactic(auto, unfolding(crate::specs::Layout::messages))]
 pub fn read_position(payload: &[u8]) -> Profiled
     ensures { result ≡ profiled 129025 payload.now }
@@ -42,6 +43,7 @@ pub fn read_position(payload: &[u8]) -> Profiled
     })
 }
 
+#[inline(always)]
 #[tactic(auto, unfolding(crate::specs::Layout::messages))]
 pub fn read_course(payload: &[u8]) -> Profiled
     ensures { result ≡ profiled 129026 payload.now }
@@ -76,6 +78,7 @@ fn method(byte: u8) -> u8
     }
 }
 
+#[inline(always)]
 #[tactic(auto, unfolding(crate::specs::Layout::messages))]
 pub fn read_fix(payload: &[u8]) -> Profiled
     ensures { result ≡ profiled 129029 payload.now }
@@ -96,6 +99,7 @@ pub fn read_fix(payload: &[u8]) -> Profiled
     })
 }
 
+#[inline(always)]
 #[tactic(auto, unfolding(crate::specs::Layout::messages))]
 pub fn read_cross_track(payload: &[u8]) -> Profiled
     ensures { result ≡ profiled 129283 payload.now }

@@ -32,6 +32,7 @@ impl Rudder {
     }
 }
 
+#[inline(always)]
 #[tactic(auto, unfolding(crate::specs::Layout::messages))]
 pub fn read_rudder(payload: &[u8]) -> Profiled
     ensures { result ≡ profiled 127245 payload.now }

@@ -16,6 +16,7 @@ use crate::profiled::Profiled;
 use readings::Reading;
 use readings::range::{DATE, TIME};
 
+#[inline(always)]
 #[tactic(auto, unfolding(crate::specs::Layout::messages))]
 pub fn read_system_time(payload: &[u8]) -> Profiled
     ensures { result ≡ profiled 126992 payload.now }
@@ -29,6 +30,7 @@ pub fn read_system_time(payload: &[u8]) -> Profiled
     })
 }
 
+#[inline(always)]
 #[tactic(auto, unfolding(crate::specs::Layout::messages))]
 pub fn read_time_and_date(payload: &[u8]) -> Profiled
     ensures { result ≡ profiled 129033 payload.now }

@@ -28,6 +28,7 @@ const WATER_TEMPERATURE_HUNDREDTHS: Range = Range {
     high: 37_315,
 };
 
+#[inline(always)]
 #[tactic(auto, unfolding(crate::specs::Layout::messages))]
 pub fn read_water_speed(payload: &[u8]) -> Profiled
     ensures { result ≡ profiled 128259 payload.now }
@@ -40,6 +41,7 @@ pub fn read_water_speed(payload: &[u8]) -> Profiled
     })
 }
 
+#[inline(always)]
 #[tactic(auto, unfolding(crate::specs::Layout::messages))]
 pub fn read_depth(payload: &[u8]) -> Profiled
     ensures { result ≡ profiled 128267 payload.now }
@@ -54,6 +56,7 @@ pub fn read_depth(payload: &[u8]) -> Profiled
     })
 }
 
+#[inline(always)]
 #[tactic(auto, unfolding(crate::specs::Layout::messages))]
 pub fn read_distance_log(payload: &[u8]) -> Profiled
     ensures { result ≡ profiled 128275 payload.now }
@@ -67,6 +70,7 @@ pub fn read_distance_log(payload: &[u8]) -> Profiled
     })
 }
 
+#[inline(always)]
 #[tactic(auto, unfolding(crate::specs::Layout::messages))]
 pub fn read_temperature(payload: &[u8]) -> Profiled
     ensures { result ≡ profiled 130312 payload.now }
@@ -84,6 +88,7 @@ pub fn read_temperature(payload: &[u8]) -> Profiled
     Profiled::Reading(Reading::WaterTemperature { kelvin })
 }
 
+#[inline(always)]
 #[tactic(auto, unfolding(crate::specs::Layout::messages))]
 pub fn read_extended_temperature(payload: &[u8]) -> Profiled
     ensures { result ≡ profiled 130316 payload.now }

@@ -39,8 +39,9 @@ impl Wind {
     }
 }
 
+#[inline(always)]
 #[tactic(auto, unfolding(crate::specs::Layout::messages))]
-pub fn read(payload: &[u8]) -> Profiled
+pub fn read_wind(payload: &[u8]) -> Profiled
     ensures { result ≡ profiled 130306 payload.now }
 {
     if payload.len() < 6 {

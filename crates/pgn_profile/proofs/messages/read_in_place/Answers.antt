@@ -36,7 +36,7 @@ pub returns-in-129033-clause-valid : goal.returns-in-129033-clause-valid
 returns-in-129033-clause-valid c = what_is_profiled_is_valid c.read_time_and_date.result 129033 c.args.payload.now c.read_time_and_date.ensures
 
 pub returns-in-130306-clause-valid : goal.returns-in-130306-clause-valid
-returns-in-130306-clause-valid c = what_is_profiled_is_valid c.read.result 130306 c.args.payload.now c.read.ensures
+returns-in-130306-clause-valid c = what_is_profiled_is_valid c.read_wind.result 130306 c.args.payload.now c.read_wind.ensures
 
 pub returns-in-130312-clause-valid : goal.returns-in-130312-clause-valid
 returns-in-130312-clause-valid c = what_is_profiled_is_valid c.read_temperature.result 130312 c.args.payload.now c.read_temperature.ensures
