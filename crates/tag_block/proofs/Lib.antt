@@ -1,3 +1,4 @@
+mod Classes
 pub mod Run
 pub mod Sum
 pub mod Loops

@@ -2,16 +2,30 @@ ghost use Rattle.std.specs.Prelude.{◌≡◌, ◌≤◌, length, take, bit_xor}
 ghost use Rattle.std.specs.List.{fold, prefix_len};
 ghost use Rattle.tag_block.specs.Tag as bytes;
 
+/// The class of each byte, by its code: `c` of those that a code has, `v` of those that only values have, `-` of all others. One look here
+/// takes less time than to compare with the ranges.
+static CLASSES: [u8; 256] = *b"\
+    --------------------------------\
+    vvvvvvvvvv-v-vvvccccccccccvvvvvv\
+    vccccccccccccccccccccccccccv-vvv\
+    vccccccccccccccccccccccccccvvvv-\
+    --------------------------------\
+    --------------------------------\
+    --------------------------------\
+    --------------------------------";
+
+#[tactic(auto, using(crate::proofs::Classes::code_is))]
 fn is_code_byte(byte: u8) -> bool
     ensures { result ≡ bytes.is_code_byte byte }
 {
-    matches!(byte, b'0'..=b'9' | b'A'..=b'Z' | b'a'..=b'z')
+    CLASSES[usize::from(byte)] == b'c'
 }
 
+#[tactic(auto, using(crate::proofs::Classes::value_is))]
 fn is_value_byte(byte: u8) -> bool
     ensures { result ≡ bytes.is_value_byte byte }
 {
-    matches!(byte, b' '..=b'~') && !matches!(byte, b',' | b'*' | b'\\')
+    CLASSES[usize::from(byte)] >= b'c'
 }
 
 /// How many bytes of a code come first, and the exclusive or of the sum before and these bytes.

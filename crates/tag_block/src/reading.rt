@@ -35,10 +35,9 @@ fn parameter<'a>(total: usize, content: Content<'a>) -> Result<Content<'a>, TagF
         place: total - text.len(),
         text: value,
     };
-    let scan = Scan {
-        values: keep(content.scan.values, code, value),
-        rest,
-    };
+    let mut values = content.scan.values;
+    keep(&mut values, code, value);
+    let scan = Scan { values, rest };
     Ok(Content { scan, sum })
 }
 

@@ -31,27 +31,17 @@ pub(crate) struct Content<'a> {
     pub(crate) sum: u8,
 }
 
-/// The values once a parameter more has come.
-pub(crate) fn keep<'a>(values: Values<'a>, code: &[u8], value: Value<'a>) -> Values<'a>
-    ensures { spec.placed_values result ≡ spec.keep (spec.placed_values values.entry) code.now (spec.placed value.entry) }
+/// Keeps the value of a parameter, where its code says something here. It is always a call, so that one value is set where it lies and no other
+/// moves.
+#[inline(never)]
+pub(crate) fn keep<'a>(values: &mut Values<'a>, code: &[u8], value: Value<'a>)
+    ensures { spec.placed_values values.new ≡ spec.keep (spec.placed_values values.old) code.now (spec.placed value.entry) }
 {
     match code {
-        [b's'] => Values {
-            source: Some(value),
-            ..values
-        },
-        [b'd'] => Values {
-            destination: Some(value),
-            ..values
-        },
-        [b'g'] => Values {
-            group: Some(value),
-            ..values
-        },
-        [b'n'] => Values {
-            count: Some(value),
-            ..values
-        },
-        _ => values,
+        [b's'] => values.source = Some(value),
+        [b'd'] => values.destination = Some(value),
+        [b'g'] => values.group = Some(value),
+        [b'n'] => values.count = Some(value),
+        _ => {}
     }
 }
