@@ -1,6 +1,6 @@
 //! Cuts an input that comes in pieces into its lines, within fixed memory.
-ghost use Rattle.std.specs.Prelude.{◌≡◌, ◌+◌, ◌<◌, ◌≤◌, length, take, drop, slice_index, IfOk, MatchOption};
-ghost use Rattle.capture_text.specs.Lines.{without_cr};
+ghost use Rattle.std.specs.Prelude.{◌≡◌, ◌+◌, ◌<◌, ◌≤◌, true, length, take, drop, slice_index, IfOk, MatchOption};
+ghost use Rattle.capture_text.specs.Lines.{is_one_line, without_cr};
 ghost use Rattle.gate_outside.specs.Faults.{HasCause};
 ghost use Rattle.capture_stream.specs.LineReader.{HasNoLf, ReadsBehind};
 
@@ -11,6 +11,9 @@ use std::marker::Model;
 
 /// How many bytes are held, and so read at once, at most.
 const PIECE: usize = 65536;
+
+/// Where the usual line's LF stands: behind a moment of ten digits and six, an interface of four letters, an identifier and eight bytes.
+const USUAL_END: usize = 50;
 
 /// What `advance` found.
 #[derive(Clone, Copy)]
@@ -30,6 +33,29 @@ fn first_lf(bytes: &[u8]) -> Option<usize>
         (at < length bytes.now) × (slice_index bytes.now at ≡ 10) × HasNoLf (take at bytes.now)) }
 {
     memchr(b'\n', bytes)
+}
+
+// Whether no byte is an LF. All are looked at whatever they are, so that many are at once.
+#[tactic(auto, using(std::proofs::lemmas::List::Folds::list_all_more))]
+fn is_one_line(bytes: &[u8]) -> bool
+    ensures { result ≡ is_one_line bytes.now }
+{
+    let mut one = true;
+    for byte in bytes {
+        one = one & (*byte != b'\n');
+    }
+    one
+}
+
+// Whether the first LF stands where that of the usual line does. It takes less time to look than to search.
+#[tactic(auto, using(crate::proofs::FirstLf::one_line))]
+fn has_usual_end(bytes: &[u8]) -> bool
+    ensures { result ≡ true → (USUAL_END < length bytes.now) × (slice_index bytes.now USUAL_END ≡ 10) × HasNoLf (take USUAL_END bytes.now) }
+{
+    if bytes.len() <= USUAL_END {
+        return false;
+    }
+    bytes[USUAL_END] == b'\n' && is_one_line(&bytes[..USUAL_END])
 }
 
 // The length of a line whose bytes up to its LF are these: a CR at the end is no part of it.
@@ -144,6 +170,20 @@ impl LineReader {
 
     /// Takes the next line that has come whole.
     pub(crate) fn advance(&mut self) -> Next
+        ensures { Advances self.old self.new result }
+    {
+        let unread = self.unread();
+        if has_usual_end(unread) {
+            let len = line_len(&unread[..USUAL_END]);
+            self.take_line(len, USUAL_END + 1)
+        } else {
+            self.search()
+        }
+    }
+
+    // Takes the next line that has come whole, wherever it ends. It is kept apart from the way of the usual line.
+    #[inline(never)]
+    fn search(&mut self) -> Next
         ensures { Advances self.old self.new result }
     {
         let unread = self.unread();
