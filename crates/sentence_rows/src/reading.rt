@@ -1,8 +1,9 @@
-ghost use Rattle.std.specs.Prelude.{◌≡◌, [], All, IfOk};
+ghost use Rattle.std.specs.Prelude.{◌≡◌, [], All};
 ghost use Rattle.readings.specs.Rows.{IsValid};
 ghost use Rattle.sentence_text.specs.Reading.{parts};
 ghost use Rattle.sentence_profile.specs.Columns.{fields_in};
 ghost use Rattle.sentence_profile.specs.Reading as spec;
+ghost use Rattle.sentence_rows.specs.Held.{IsHeld};
 
 use crate::{
     dbt, dpt, gga, gll, hdg, hdt, mtw, mwd, mwv, rmc, rot, rsa, ths, vhw, vlw, vtg, xte, zda,
@@ -15,63 +16,70 @@ use sentence_text::Sentence;
 /// The readings of one sentence.
 pub type Readings = ArrayVec<Reading, 2>;
 
-/// One reading, and no second one.
-fn alone_in(read: Result<Reading, FieldFault>) -> Result<(Reading, Option<Reading>), FieldFault>
-    ensures { result ≡ spec.alone read }
+/// Puts the one reading that is read where it is to lie, and no second one.
+#[inline(always)]
+fn put_one(read: Result<Reading, FieldFault>, out: &mut Readings) -> Result<(), FieldFault>
+    requires { out.old.items ≡ [] }
+    ensures { IsHeld result out.new.items (spec.alone read) }
 {
-    Ok((read?, None))
+    match read {
+        Ok(reading) => {
+            out.push(reading);
+            Ok(())
+        }
+        Err(fault) => Err(fault),
+    }
+}
+
+/// Puts the one or two readings that are read where they are to lie.
+#[inline(always)]
+fn put_both(
+    read: Result<(Reading, Option<Reading>), FieldFault>,
+    out: &mut Readings,
+) -> Result<(), FieldFault>
+    requires { out.old.items ≡ [] }
+    ensures { IsHeld result out.new.items read }
+{
+    match read {
+        Ok((first, second)) => {
+            out.push(first);
+            if let Some(second) = second {
+                out.push(second);
+            }
+            Ok(())
+        }
+        Err(fault) => Err(fault),
+    }
 }
 
 /// The readings of a sentence of this formatter.
 fn read_by(
     formatter: Formatter,
     sentence: &Sentence<'_>,
-) -> Result<(Reading, Option<Reading>), FieldFault>
-    ensures { result ≡ spec.read_as formatter (fields_in sentence.now) }
+    out: &mut Readings,
+) -> Result<(), FieldFault>
+    requires { out.old.items ≡ [] }
+    ensures { IsHeld result out.new.items (spec.read_as formatter (fields_in sentence.now)) }
 {
     match formatter {
-        Formatter::Hdt => alone_in(hdt::read(sentence)),
-        Formatter::Hdg => alone_in(hdg::read(sentence)),
-        Formatter::Rot => alone_in(rot::read(sentence)),
-        Formatter::Rsa => rsa::read(sentence),
-        Formatter::Vhw => alone_in(vhw::read(sentence)),
-        Formatter::Dpt => alone_in(dpt::read(sentence)),
-        Formatter::Dbt => alone_in(dbt::read(sentence)),
-        Formatter::Vlw => alone_in(vlw::read(sentence)),
-        Formatter::Gll => alone_in(gll::read(sentence)),
-        Formatter::Vtg => alone_in(vtg::read(sentence)),
-        Formatter::Gga => alone_in(gga::read(sentence)),
-        Formatter::Zda => alone_in(zda::read(sentence)),
-        Formatter::Mwv => alone_in(mwv::read(sentence)),
-        Formatter::Mwd => alone_in(mwd::read(sentence)),
-        Formatter::Mtw => alone_in(mtw::read(sentence)),
-        Formatter::Xte => alone_in(xte::read(sentence)),
-        Formatter::Ths => alone_in(ths::read(sentence)),
-        Formatter::Rmc => rmc::read(sentence),
-    }
-}
-
-/// The readings of a sentence that begins with `$`.
-#[tactic(auto, unfolding(sentence_profile::specs::Reading::read_sentence))]
-fn read_sentence(
-    sentence: &Sentence<'_>,
-    optional: OptionalSentences,
-) -> Result<(Reading, Option<Reading>), FieldFault>
-    ensures exact { result ≡ spec.read_sentence optional (parts sentence.now) }
-    ensures valid { IfOk result spec.AreValid }
-{
-    if sentence.start != b'$' {
-        return Err(FieldFault::Outside);
-    }
-    match Formatter::of(sentence.formatter) {
-        Some(formatter) => {
-            if formatter.is_wanted(optional) {
-                read_by(formatter, sentence)
-            } else {
-                Err(FieldFault::Outside)
-            }
-        }
-        None => Err(FieldFault::Outside),
+        Formatter::Hdt => put_one(hdt::read(sentence), out),
+        Formatter::Hdg => put_one(hdg::read(sentence), out),
+        Formatter::Rot => put_one(rot::read(sentence), out),
+        Formatter::Rsa => put_both(rsa::read(sentence), out),
+        Formatter::Vhw => put_one(vhw::read(sentence), out),
+        Formatter::Dpt => put_one(dpt::read(sentence), out),
+        Formatter::Dbt => put_one(dbt::read(sentence), out),
+        Formatter::Vlw => put_one(vlw::read(sentence), out),
+        Formatter::Gll => put_one(gll::read(sentence), out),
+        Formatter::Vtg => put_one(vtg::read(sentence), out),
+        Formatter::Gga => put_one(gga::read(sentence), out),
+        Formatter::Zda => put_one(zda::read(sentence), out),
+        Formatter::Mwv => put_one(mwv::read(sentence), out),
+        Formatter::Mwd => put_one(mwd::read(sentence), out),
+        Formatter::Mtw => put_one(mtw::read(sentence), out),
+        Formatter::Xte => put_one(xte::read(sentence), out),
+        Formatter::Ths => put_one(ths::read(sentence), out),
+        Formatter::Rmc => put_both(rmc::read(sentence), out),
     }
 }
 
@@ -90,6 +98,7 @@ pub fn read_rows(sentence: &Sentence<'_>, out: &mut Readings) -> Result<(), Fiel
 }
 
 /// Reads the sentence as `read_rows` does, if it is read at all.
+#[tactic(auto, unfolding(sentence_profile::specs::Reading::read_sentence))]
 pub fn read_rows_with(
     sentence: &Sentence<'_>,
     optional: OptionalSentences,
@@ -101,13 +110,17 @@ pub fn read_rows_with(
     // Each value is in its range.
     ensures valid { All IsValid out.new.items }
 {
-    let (first, second) = match read_sentence(sentence, optional) {
-        Ok(readings) => readings,
-        Err(fault) => return Err(fault),
-    };
-    out.push(first);
-    if let Some(second) = second {
-        out.push(second);
+    if sentence.start != b'$' {
+        return Err(FieldFault::Outside);
     }
-    Ok(())
+    match Formatter::of(sentence.formatter) {
+        Some(formatter) => {
+            if formatter.is_wanted(optional) {
+                read_by(formatter, sentence, out)
+            } else {
+                Err(FieldFault::Outside)
+            }
+        }
+        None => Err(FieldFault::Outside),
+    }
 }
