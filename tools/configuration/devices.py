@@ -13,6 +13,8 @@ from .paces import MICROSECONDS
 MADE_UP_NAME = 0xFFFFFFFFFFFFFF00
 # the class and the function of what joins the bus with a network, as this gateway does
 GATEWAY = 25, 130
+# sentences of the network that say a position or a course, and are read without a key
+POSITIONS_AND_COURSES = {"GGA", "GLL", "VTG"}
 
 
 class Devices:
@@ -37,6 +39,7 @@ class Devices:
         yield from self.engines_that_are_two()
         yield from self.headings_of_nobody()
         yield from self.depths_said_twice()
+        yield from self.courses_in_rmc_alone()
 
     def timeouts_below_the_pace(self):
         for path, who, pace, seconds in self.too_slow(self.heard.paces):
@@ -92,12 +95,22 @@ class Devices:
         yield Warned("heading.group", self.accepted.place("heading", "group"), why)
 
     def depths_said_twice(self):
-        """Sounders that say DPT and DBT of each depth, and both go to the bus."""
-        both = [identifier for identifier, formatters in self.heard.formatters.items() if {"DPT", "DBT"} <= formatters]
-        if both and self.accepted.root.get("net", {}).get("dbt", True):
-            place = self.accepted.place("net", "dbt") or self.accepted.place("net", "sources")
+        """Sounders that say DPT and DBT of each depth, if the configuration doesn't say what becomes of DBT."""
+        both = self.sayers_on_the_network(lambda said: {"DPT", "DBT"} <= said)
+        if both and "dbt" not in self.accepted.root["net"]:
             why = f"{' and '.join(both)} said DPT and DBT. Both go to the bus as depth, and DBT has no offset of the transducer. With false DPT alone goes there"
-            yield Warned("net.dbt", place, why)
+            yield Warned("net.dbt", self.accepted.place("net", "sources"), why)
+
+    def courses_in_rmc_alone(self):
+        """Receivers whose position and course stand in RMC alone, if the configuration doesn't say whether RMC is read."""
+        alone = self.sayers_on_the_network(lambda said: "RMC" in said and said.isdisjoint(POSITIONS_AND_COURSES))
+        if alone and "rmc" not in self.accepted.root["net"]:
+            why = f"{' and '.join(alone)} said RMC, and no GGA, GLL or VTG. RMC isn't read: neither this position nor this course goes to the bus. With true both do"
+            yield Warned("net.rmc", self.accepted.place("net", "sources"), why)
+
+    def sayers_on_the_network(self, is_meant):
+        """The sources that the gateway hears on the network whose formatters are meant."""
+        return [identifier for identifier, said in self.heard.formatters.items() if is_meant(said)]
 
     # ---- what is told
 
