@@ -15,7 +15,7 @@ use Rattle.quantities.proofs.Order.{is_in_order}
 use Rattle.source_choice.specs.Choices.{Choices}
 use Rattle.source_choice.specs.SubjectRules.{SubjectRule}
 use Rattle.history.specs.AddressLaws.{AreSettings, IsReceiver}
-use Rattle.history.specs.Entries.{Entry, History, frame, datagram, tick, command}
+use Rattle.history.specs.Entries.{History, frame, datagram, tick, command}
 use Rattle.history.specs.Known.{address_left, address_won, claim_by, is_claim, known}
 use Rattle.history.specs.Messages.{Message, done, messages_of}
 use Rattle.history.specs.Settings.{Receiver, Settings, is_some_that}

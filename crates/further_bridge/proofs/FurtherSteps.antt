@@ -1,5 +1,5 @@
 -- What further quantities give beside the gateway is what the definition over all that ever came says.
-use Rattle.std.proofs.Common.{◌≡◌, ℕ, List, ◌∷◌, subst}
+use Rattle.std.proofs.Common.{◌≡◌, ℕ, List, subst}
 use Rattle.gate_events.specs.Emit.{Emit}
 use Rattle.history.specs.AddressLaws.{AreSettings}
 use Rattle.history.specs.Entries.{History}

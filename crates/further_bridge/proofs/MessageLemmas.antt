@@ -1,5 +1,5 @@
 -- What is noted and said of a message, by what is kept, is what the definition over all that came says.
-use Rattle.std.proofs.Common.{◌≡◌, ℕ, ◌+◌, ◌%◌, Bool, true, false, ◌&&◌, List, [], ◌∷◌, ◌++◌, length, Option, Some, None, option_map, if◌then◌else◌, refl, sym, ap, subst, ◌∙◌, append_assoc, append-nil, arith}
+use Rattle.std.proofs.Common.{◌≡◌, ℕ, ◌+◌, ◌%◌, Bool, true, false, ◌&&◌, List, [], ◌∷◌, ◌++◌, length, Option, Some, None, option_map, if◌then◌else◌, refl, sym, ap, subst, ◌∙◌, append-nil, arith}
 use Rattle.std.proofs.Math.Nat.{mod-add-mod}
 use Rattle.std.specs.Prelude.{◌<◌, ◌≤◌, IfSome, filter, nat_lt}
 use Rattle.std.proofs.lemmas.Bool.{lt-ltb}
@@ -14,18 +14,16 @@ use Rattle.quantities.specs.Told.{AreInOrder, entries, entries_of, first_of, tol
 use Rattle.quantities.specs.declared.value.Told.{Told}
 use Rattle.quantities.specs.declared.value.Told.TheVariants as says
 use Rattle.quantities.specs.declared.value.Value.{Value}
-use Rattle.source_choice.specs.declared.rank.Rank.{Rank}
 use Rattle.source_choice.specs.Choices.{Choices}
 use Rattle.history.specs.Emits.{of_source}
 use Rattle.history.specs.Messages.{Message}
-use Rattle.gate_model.specs.Choosing.{is_ranked_chosen}
 use Rattle.gate_model.specs.Said.{complete_of}
 use Rattle.bus_listener.specs.Kinds.{is_told}
 use Rattle.further_bridge.specs.declared.said.Said.{Said}
 use Rattle.further_bridge.specs.FurtherOut.{all_in, has_voice, magnetic_in, message_breaks, number_in, said_gives, said_utters, short_gives, that_are_there, value_datagram, values_of}
 use Rattle.further_bridge.specs.FurtherRule.{FurtherRule, talker_at}
-use Rattle.further_bridge.specs.Kept.{FurtherKept, FurtherStep, ValueStep, as_it_was, counted, given_by, has_place, is_water_said, message_step, numbered, ranked_step, said_of, streams_of, told_step, told_streams, uttered_by, value_in, value_step, value_stream, values_step}
-use Rattle.further_bridge.proofs.Notes.{AreChosen, chosen_after, is_chosen_in, noted_all, noted_value, rank_in}
+use Rattle.further_bridge.specs.Kept.{FurtherKept, FurtherStep, ValueStep, as_it_was, counted, given_by, has_place, is_water_said, message_step, said_of, streams_of, told_step, told_streams, uttered_by, value_in, value_step, value_stream, values_step}
+use Rattle.further_bridge.proofs.Notes.{AreChosen, chosen_after, is_chosen_in, noted_all, noted_value}
 
 -- ---- the datagram of a value is the same by the count as by the number of lines
 

@@ -1,5 +1,5 @@
 -- What is noted of the values of a message, which are of different quantities: of each quantity what the message tells of it, and nothing else.
-use Rattle.std.proofs.Common.{◌≡◌, ◌≢◌, ℕ, ◌<◌, Bool, true, false, List, [], ◌∷◌, length, length-set, map, refl, sym, ap, subst, ◌∙◌, arith}
+use Rattle.std.proofs.Common.{◌≡◌, ◌≢◌, ℕ, ◌<◌, Bool, true, false, List, [], ◌∷◌, length, length-set, refl, sym, ap, subst, ◌∙◌, arith}
 use Rattle.std.specs.Prelude.{Option, Some, None, IfSome, ◌==◌, if◌then◌else◌}
 use Rattle.std.specs.List.{AllByRecursion}
 use Rattle.std.proofs.lemmas.Bool.{eq-eqb, eqb-true, eqb-false, ne_eqb}
@@ -8,8 +8,7 @@ use lib.ListN.{get_or-map}
 use Rattle.quantities.specs.Told.{AreInOrder, IsBefore}
 use Rattle.quantities.specs.declared.value.Value.{Value}
 use Rattle.source_choice.specs.declared.rank.Rank.{Rank}
-use Rattle.source_choice.specs.declared.note.Note.{Note}
-use Rattle.source_choice.specs.Choices.{Choices, forgotten, forgotten_in, noted, nothing, subject_at}
+use Rattle.source_choice.specs.Choices.{Choices, forgotten, forgotten_in, nothing}
 use Rattle.source_choice.specs.Notes.{SubjectNotes}
 use Rattle.source_choice.specs.SubjectRules.{rank_of}
 use Rattle.gate_model.specs.Choosing.{is_ranked_chosen, ranked_after, told_after, without_address}

@@ -1,5 +1,5 @@
 -- An event that can't complete a message completes none: what was overdue or lost is told, and nothing is said.
-use Rattle.std.proofs.Common.{◌≡◌, ℕ, false, List, [], ◌++◌, Option, None, option_map, ap, ◌∙◌, append-nil}
+use Rattle.std.proofs.Common.{◌≡◌, ℕ, false, [], Option, None, option_map, ap, ◌∙◌, append-nil}
 use Rattle.slot_views.specs.Traces.{unexpired}
 use Rattle.quantities.specs.Told.{kind_of}
 use Rattle.history.specs.Entries.{Entry, moment_of}

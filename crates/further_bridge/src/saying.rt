@@ -27,8 +27,11 @@ impl FurtherBridge {
     pub(crate) fn give_up(&mut self, gateway: &Gateway)
         ensures { self.new ≡ given_up gateway.now.addresses.changed self.old }
     {
-        forget(&mut self.choice, gateway.left());
-        forget(&mut self.choice, gateway.won());
+        // Nearly no event changes who holds an address.
+        if gateway.left().is_some() || gateway.won().is_some() {
+            forget(&mut self.choice, gateway.left());
+            forget(&mut self.choice, gateway.won());
+        }
     }
 
     /// Takes a message: each value is noted where its sender has a rank in the quantity, and said where it is selected and has a voice. From an

@@ -1,4 +1,4 @@
-use Rattle.std.proofs.Common.{◌≡◌, ◌≤◌, ℕ, ◌+◌, Option, length, sym, ap, subst, ◌∙◌, arith}
+use Rattle.std.proofs.Common.{◌≤◌, ℕ, Option, length, sym, ap, subst, ◌∙◌, arith}
 use Rattle.slot_views.specs.Slots.{SlotMap}
 use Rattle.fast_packet.specs.declared.key.FastKey.{FastKey}
 use Rattle.quantities.specs.Told.{kind_of}
