@@ -1,5 +1,5 @@
 -- Each value of a joined heading is of its message, and a true heading that is measured comes first.
-use Rattle.std.proofs.Common.{◌≡◌, ℕ, ◌+◌, ◌*◌, ℤ, Bool, true, false, inl, inr, List, ◌∷◌, refl, ap, ◌∙◌}
+use Rattle.std.proofs.Common.{◌≡◌, ℕ, ◌+◌, ◌*◌, ℤ, Bool, true, false, inl, inr, List, ◌∷◌, refl, sym, subst, ap, ◌∙◌}
 use Rattle.std.specs.Prelude.{not, nat_le, Option, Some, None, if◌then◌else◌}
 use Rattle.std.proofs.lemmas.Bool.{le-leb, leb-true}
 use Rattle.std.proofs.lemmas.List.{append-nil}
@@ -74,16 +74,26 @@ module _ (x : HeadingRule) (c : Settings) (s : ℕ) (h : History) (e : Entry) wh
       let last = is_last c s (e ∷ h) m x.taken.timeout (last_variation x c s (e ∷ h)) r is in
       record { message = last.message; last = last.is; counts = last.counts; says = ap (λ r. variation_in (Some r)) last.reads ∙ says }
 
+  none_of_other : variation_in (lasting_variation x c s (e ∷ h) m) ≡ None → (v : ℤ) → ¬ (IsOfOther x c s h e v)
+  none_of_other none v other =
+      let lasting : lasting_variation x c s (e ∷ h) m ≡ Some other.message.reading =
+      ap (λ last. lasts c s (e ∷ h) m x.taken.timeout last) other.last ∙ lasts_so c s (e ∷ h) m x.taken.timeout other.message other.counts in
+      let some : variation_in (lasting_variation x c s (e ∷ h) m) ≡ Some v = ap variation_in lasting ∙ other.says in
+      cc
+
   whose : (own other : Option ℤ) → variation_in (lasting_variation x c s (e ∷ h) m) ≡ other → IsVariation x c s h e own (or_other own other)
   whose (Some v) other is = of_itself v refl
-  whose None None is = of_none refl
+  whose None None is = of_none refl (none_of_other is)
   whose None (Some v) is = of_other v refl (of_lasting v (lasting_variation x c s (e ∷ h) m) refl is)
 
   abbrev says_of : Option MagneticHeading → List (List ℕ)
   says_of o = texts_of x (is_measured c s (e ∷ h) m) (variation_in (lasting_variation x c s (e ∷ h) m)) o
 
   joined_of : (y : Selected) → selected_at c s h e ≡ Some y → (o : Option MagneticHeading) → magnetic_of y.reading ≡ o → IsSaid x c s h e
-  joined_of y is None reads = inl (ap (λ o. says_of (magnetic_in o)) is ∙ ap says_of reads)
+  joined_of y is None reads = inl (record {
+    nothing = ap (λ o. says_of (magnetic_in o)) is ∙ ap says_of reads;
+    no_heading = λ message here. let same : y ≡ message = cc in subst (λ y. magnetic_of y.reading ≡ None) same reads;
+  })
   joined_of y is (Some own) reads =
       let other = variation_in (lasting_variation x c s (e ∷ h) m) in
       inr (
@@ -101,7 +111,7 @@ module _ (x : HeadingRule) (c : Settings) (s : ℕ) (h : History) (e : Entry) wh
       )
 
   values_of : (o : Option Selected) → selected_at c s h e ≡ o → IsSaid x c s h e
-  values_of None is = inl (ap (λ o. says_of (magnetic_in o)) is)
+  values_of None is = inl (record { nothing = ap (λ o. says_of (magnetic_in o)) is; no_heading = λ message here. let none : None ≡ Some message = sym is ∙ here in cc })
   values_of (Some y) is = joined_of y is (magnetic_of y.reading) refl
 
   -- ---- a true heading is measured
@@ -121,7 +131,7 @@ module _ (x : HeadingRule) (c : Settings) (s : ℕ) (h : History) (e : Entry) wh
       ∙ ap (λ more. hdg_text x.talker a ∷ more) (append-nil (only_where x.hdm (hdm_text x.talker a)))
 
   first_of : IsMeasured x c s h e → IsSaid x c s h e → IsWithoutTrue x c s h e
-  first_of is (inl none) = inl none
+  first_of is (inl silent) = inl silent.nothing
   first_of is (inr (a, joined)) = inr (a, without_true is a joined.says)
 
 pub values_are_of_messages : ValuesAreOfMessages

@@ -19,7 +19,7 @@ use Rattle.gate_outbox.specs.Output.{Output, emits_of}
 use Rattle.history.specs.AddressLaws.{AreSettings}
 use Rattle.history.specs.Choice as rows
 use Rattle.history.specs.Emits.{of_source}
-use Rattle.history.specs.Entries.{Entry, History, command, moment_of, now}
+use Rattle.history.specs.Entries.{Entry, History, moment_of, now}
 use Rattle.history.specs.Known.{Known, known}
 use Rattle.history.specs.Messages.{Message, messages_of}
 use Rattle.history.specs.Settings.{Settings, receiver_of, rule_of}

@@ -28,11 +28,11 @@ module _ (x : HeadingRule) (c : Settings) (s : ℕ) (h : History) (e : Entry) wh
     pub counts : Counts c s (e ∷ h) (moment_of e) x.taken.timeout message
     pub says : variation_in (Some message.reading) ≡ Some variation
 
-  -- of the magnetic heading itself, where that says one; of the other message; or of none
+  -- of the magnetic heading itself, where that says one; of the other message; or of none, where no variation of the other message counts
   pub data IsVariation (own : Option ℤ) : Option ℤ → Type 0 where
     of_itself : (variation : ℤ) → own ≡ Some variation → IsVariation own (Some variation)
     of_other : (variation : ℤ) → own ≡ None → IsOfOther variation → IsVariation own (Some variation)
-    of_none : own ≡ None → IsVariation own None
+    of_none : own ≡ None → ((variation : ℤ) → ¬ (IsOfOther variation)) → IsVariation own None
 
   -- the values that are joined
   pub record IsJoined (a : MagneticHeading) : Type 0 where
@@ -45,8 +45,13 @@ module _ (x : HeadingRule) (c : Settings) (s : ℕ) (h : History) (e : Entry) wh
     pub variation : IsVariation own.variation a.variation
     pub says : texts_at x c s h e ≡ heading_texts x.talker x.hdm (not (is_measured c s (e ∷ h) (moment_of e))) a
 
+  -- nothing is said, since nothing is selected, or what is selected is no magnetic heading
+  pub record IsSilent : Type 0 where
+    pub nothing : texts_at x c s h e ≡ []
+    pub no_heading : (message : Selected) → selected_at c s h e ≡ Some message → magnetic_of message.reading ≡ None
+
   abbrev pub IsSaid : Type 0
-  IsSaid = (texts_at x c s h e ≡ []) ⊎ ((a : MagneticHeading) × IsJoined a)
+  IsSaid = IsSilent ⊎ ((a : MagneticHeading) × IsJoined a)
 
   -- the last true heading that was selected is usable, and counts
   pub record IsMeasured : Type 0 where

@@ -4,6 +4,7 @@ ghost use Rattle.joined_heading.specs.Promises.{CommandsKeepHeadings};
 
 /// Each value of a joined heading is of one message: the heading and the deviation of the magnetic heading that was selected, the variation of the same
 /// message or of the last one of PGN 127258 that was selected, whose sender holds its address ever since, and that isn't older than the timeout.
+/// There is no variation only where neither says one. Nothing is said only where nothing is selected, or no magnetic heading is.
 pub fn values_are_of_their_messages()
     ensures { ValuesAreOfMessages }
 {}
