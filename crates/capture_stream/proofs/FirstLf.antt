@@ -1,11 +1,10 @@
 -- Where the first LF stands, by a search for its byte.
-use Rattle.std.proofs.Common.{◌≡◌, ℕ, ◌<◌, ◌≤◌, subst, sym, true, false, List, length, get_or, take, ap, ◌∙◌, arith, inl, inr}
-use Rattle.std.specs.Prelude.{Option, Some, None, MatchOption, not}
+use Rattle.std.proofs.Common.{◌≡◌, ℕ, ◌<◌, ◌≤◌, subst, List, length, get_or, take, ap, ◌∙◌, arith, inl, inr}
+use Rattle.std.specs.Prelude.{Option, Some, None, MatchOption}
 use Rattle.std.proofs.lemmas.Bool.{cases_Bool, eqb-true}
-use Rattle.std.proofs.lemmas.List.Folds.{list_all_at}
 use Rattle.std.proofs.lemmas.List.{get_or_default, get_or-take, length-take, take_all}
 use Rattle.memchr.specs.Find.{IsFirstByte, Nowhere, Passes, is_byte}
-use Rattle.capture_text.specs.Lines.{is_lf, is_one_line}
+use Rattle.capture_text.specs.Lines.{is_lf}
 use Rattle.capture_stream.specs.LineReader.{HasNoLf}
 
 none_before : (bytes : List ℕ) (n : ℕ) → n ≤ length bytes → Nowhere (Passes (is_byte 10) bytes) 0 n → HasNoLf (take n bytes)
@@ -21,10 +20,3 @@ pub first_lf : (bytes : List ℕ) (result : Option ℕ) → IsFirstByte (is_byte
     → MatchOption result (HasNoLf bytes) (λ at. (at < length bytes) × (get_or bytes at 0 ≡ 10) × HasNoLf (take at bytes))
 first_lf bytes None h = subst HasNoLf (take_all (length bytes) bytes (omega arith)) (none_before bytes (length bytes) (omega arith) h)
 first_lf bytes (Some at) h = (h.0.high, eqb-true (get_or bytes at 0) 10 h.1, none_before bytes at (omega (arith, h.0.high)) h.0.before)
-
-pub one_line : (bytes : List ℕ) → is_one_line bytes ≡ true → HasNoLf bytes
-one_line bytes all k d lt =
-    elim (cases_Bool (is_lf (get_or bytes k d))) [
-      | inl e ↦ absurd (let wrong : true ≡ false = sym all ∙ list_all_at (λ c. not (is_lf c)) bytes k d lt (ap not e) in cc)
-      | inr e ↦ e
-    ]

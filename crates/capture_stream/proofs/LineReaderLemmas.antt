@@ -1,17 +1,20 @@
 -- What the steps of a reader of lines amount to.
-use Rattle.std.proofs.Common.{◌≡◌, ℕ, ◌+◌, ◌-◌, ◌<◌, ◌≤◌, ◌⊎◌, Bool, true, false, cond, ltb, ◌||◌, List, ◌∷◌, ◌++◌, length, get_or, take, drop, refl, sym, ap, ◌∙◌, subst, inl, inr, arith}
+use Rattle.std.proofs.Common.{◌≡◌, ℕ, ◌+◌, ◌-◌, ◌<◌, ◌≤◌, ◌⊎◌, Bool, true, false, cond, eqb, ltb, ◌||◌, List, [], ◌∷◌, ◌++◌, length, get_or, take, drop, refl, sym, ap, ◌∙◌, subst, inl, inr, arith}
 use Rattle.std.proofs.lemmas.Grind.{common_steps}
-use Rattle.std.proofs.lemmas.Bool.{ltb-true, ltb-false, or_parts}
-use Rattle.std.proofs.lemmas.List.{take-append-drop, drop-drop, drop-take, length-take, take-append-le, length-append}
+use Rattle.std.proofs.lemmas.Bool.{and_parts, leb-true, ltb-true, ltb-false, ne_eqb, or_parts}
+use Rattle.std.proofs.lemmas.List.Sums.{AllPass-from_list_all}
+use Rattle.std.proofs.lemmas.List.{take_all, take-append-drop, drop-drop, drop-take, length-take, take-append-le, length-append}
 use Rattle.std.proofs.Math.Seq.{take-append-add}
 use Rattle.capture_stream.specs.declared.line_reader.Next.{Next}
-use Rattle.capture_stream.specs.declared.line_reader.Next.TheVariants.{Line, Long}
-use Rattle.std.specs.Prelude.{Option, Result, Ok, Err, IfOk}
+use Rattle.capture_stream.specs.declared.line_reader.Next.TheVariants.{Line, Long, Usual}
+use Rattle.std.specs.Prelude.{nat_le, Option, Result, Ok, Err, IfOk}
 use borrow.Rule.Slice.PartMut.{put_mid, post_of}
 use Rattle.gate_outside.specs.declared.Failed.{Failed}
 use Rattle.gate_outside.specs.Source.{Reads, TellsEnd}
 use Rattle.capture_text.specs.Lines.{without_cr}
-use Rattle.capture_stream.specs.LineReader.{Held, HasNoLf, Takes, IsLine, EndsLongLine, Advances, Finishes, Came, ReadsBehind}
+use Rattle.capture_text.specs.Usual.{has_no_controls}
+use Rattle.n2k_id.specs.declared.frame.Frame.{Frame}
+use Rattle.capture_stream.specs.LineReader.{usual_end, BeginsUsual, IsUsual, Held, HasNoLf, Takes, IsLine, EndsLongLine, Advances, Finishes, Came, ReadsBehind}
 use Rattle.capture_text.specs.Capture.{longest_line}
 
 -- what is left of a part of the buffer behind so many bytes of it
@@ -62,6 +65,32 @@ advances old new bytes at len next is lt lf no_lf le line taken rest starts answ
     let short : len ≤ at = omega (arith, length-take at bytes) in
     let front : take len bytes ≡ take len raw = grind (arith, common_steps) in
     answered old new raw len (old.skipping || ltb longest_line len) next takes le line (taken ∙ (ap (λ (xs : List ℕ). take len xs) (sym is) ∙ front)) refl answer
+
+-- the usual line needs no search for its end
+
+no_lf : (line : List ℕ) → has_no_controls line ≡ true → HasNoLf line
+no_lf line no_controls k d below =
+    let high = leb-true 32 (get_or line k d) (AllPass-from_list_all (λ c. nat_le 32 c) line no_controls k d below) in
+    ne_eqb (get_or line k d) 10 (λ e. omega (arith, e, high))
+
+no_cr : (line : List ℕ) → has_no_controls line ≡ true → without_cr line ≡ line
+no_cr [] no_controls = refl
+no_cr (c ∷ []) no_controls =
+    let high = leb-true 32 c (and_parts (nat_le 32 c) true no_controls).0 in
+    let other : eqb c 13 ≡ false = ne_eqb c 13 (λ e. omega (arith, e, high)) in
+    rw other refl
+no_cr (c ∷ d ∷ more) no_controls = ap (λ (xs : List ℕ). c ∷ xs) (no_cr (d ∷ more) (and_parts (nat_le 32 c) (has_no_controls (d ∷ more)) no_controls).1)
+
+pub usual_advances : (old new : Held) (moment : ℕ) (f : Frame) → BeginsUsual old moment f → new.line ≡ take usual_end old.unread → new.unread ≡ drop (usual_end + 1) old.unread → new.skipping ≡ false
+    → Advances old new (Usual moment f)
+usual_advances old new moment f begins line rest starts =
+    let raw = take usual_end old.unread in
+    let long : length raw ≡ usual_end = omega (arith, length-take usual_end old.unread, begins.within) in
+    let whole : take usual_end raw ≡ raw = take_all usual_end raw (omega (arith, long)) in
+    let short : Line ≡ cond (old.skipping || ltb longest_line usual_end) Long Line = sym (ap (λ (s : Bool). cond (s || ltb longest_line usual_end) Long Line) begins.whole) in (
+      advances old new old.unread usual_end usual_end Line refl begins.within begins.lf (no_lf raw begins.no_controls) (omega (arith, long)) (whole ∙ sym (no_cr raw begins.no_controls)) line rest starts short,
+      subst (λ (xs : List ℕ). IsUsual moment f xs) (sym line) begins.is_usual,
+    )
 
 finished : (old new : Held) (len : ℕ) (b : Bool) (next : Next) → len ≤ length old.unread → take len old.unread ≡ without_cr old.unread → new.line ≡ take len old.unread
     → (old.skipping || ltb longest_line len) ≡ b → next ≡ cond b Long Line → Finishes old new next

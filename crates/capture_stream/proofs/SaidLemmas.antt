@@ -3,11 +3,14 @@ use Rattle.std.proofs.Common.{◌≡◌, ℕ, ◌<◌, List, [], ◌∷◌, leng
 use Rattle.capture_text.specs.declared.line_rule.LineRule.{LineRule}
 use Rattle.capture_text.specs.declared.line_rule.LineRule.TheVariants.{Long}
 use Rattle.capture_text.specs.Capture.{longest_line}
-use Rattle.gate_events.specs.Event.{Seen}
+use Rattle.gate_events.specs.Event.{Seen, frame}
+use Rattle.n2k_id.specs.Frame.{bus_frame}
+use Rattle.n2k_id.specs.declared.frame.Frame.{Frame}
 use Rattle.capture_text.specs.Reading.{read}
 use Rattle.capture_text.proofs.Lines.{too_long}
 use Rattle.std.specs.Prelude.{Option}
 use Rattle.capture_stream.specs.Answering.{LineGives, Sent}
+use Rattle.capture_stream.specs.LineReader.{IsUsual}
 
 -- ---- what a line gives
 
@@ -35,3 +38,9 @@ pub sent_as : {A E : Type 0} (Gives More : List ℕ → A → Type 0) (told told
     → ((text : List ℕ) (kept : A) → Gives text kept → More text kept) → Sent Gives told told' waiting waiting' after result → Sent More told told' waiting waiting' after result
 sent_as Gives More told told' waiting waiting' after (Ok done) more s = (s.0, more s.0 after s.1, s.2)
 sent_as Gives More told told' waiting waiting' after (Err e) more s = (s.0, s.1, more s.0 s.1 s.2, s.3, s.4)
+
+-- what a line gives that reads as a frame
+pub usual_gives : {A : Type 0} (Gives : A → ℕ → Result Seen LineRule → List ℕ → A → Type 0) (before after : A) (number moment : ℕ) (f : Frame) (line text : List ℕ)
+    → IsUsual moment f line → Gives before number (Ok (frame moment (bus_frame f))) text after → LineGives Gives before number line text after
+usual_gives Gives before after number moment f line text is given =
+    gives_line Gives before after number line text (λ none. omega (arith, none, is.some)) (subst (λ (said : Result Seen LineRule). Gives before number said text after) (sym is.reads) given)

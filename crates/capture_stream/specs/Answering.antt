@@ -5,7 +5,7 @@ use Rattle.capture_text.specs.declared.line_rule.LineRule.TheVariants as rules
 use Rattle.gate_events.specs.Event.{Seen}
 use Rattle.capture_text.specs.Reading.{read}
 use Rattle.capture_stream.specs.declared.line_reader.Next.{Next}
-use Rattle.capture_stream.specs.declared.line_reader.Next.TheVariants.{Line, Long, Unfinished}
+use Rattle.capture_stream.specs.declared.line_reader.Next.TheVariants.{Line, Long, Unfinished, Usual}
 use Rattle.capture_stream.specs.Writer.{Sends}
 
 -- What the line of this number gives: nothing where it is empty, else what is given by what it says, or by the rule that it breaks.
@@ -15,6 +15,7 @@ LineGives Gives before number (b ∷ bytes) text after = Gives before number (re
 
 -- what the next line of a reader gives; one that is too long isn't held
 abbrev pub NextGives : {A : Type 0} → (A → ℕ → Result Seen LineRule → List ℕ → A → Type 0) → A → Next → ℕ → List ℕ → List ℕ → A → Type 0
+NextGives Gives before (Usual moment f) number line text after = LineGives Gives before number line text after
 NextGives Gives before Line number line text after = LineGives Gives before number line text after
 NextGives Gives before Long number line text after = Gives before number (Err rules.Long) text after
 NextGives Gives before Unfinished number line text after = (text ≡ []) × (after ≡ before)

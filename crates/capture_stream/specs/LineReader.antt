@@ -1,10 +1,15 @@
 -- What a reader of lines holds, and what its calls do to it.
-use Rattle.std.specs.Prelude.{◌≡◌, ◌+◌, ◌<◌, ◌≤◌, ◌⊎◌, ℕ, Bool, true, false, List, [], ◌∷◌, ◌++◌, length, take, All, Option, Some, Result, Ok, Err}
+use Rattle.std.specs.Prelude.{◌≡◌, ◌+◌, ◌<◌, ◌≤◌, ◌⊎◌, ℕ, Bool, true, false, List, [], ◌∷◌, ◌++◌, length, slice_index, take, All, Option, Some, Result, Ok, Err}
 use Rattle.gate_outside.specs.Told.{Leaves}
 use Rattle.capture_stream.specs.declared.line_reader.Next.{Next}
-use Rattle.capture_stream.specs.declared.line_reader.Next.TheVariants.{Line, Long, Unfinished}
+use Rattle.capture_stream.specs.declared.line_reader.Next.TheVariants.{Line, Long, Unfinished, Usual}
 use Rattle.capture_text.specs.Capture.{longest_line}
 use Rattle.capture_text.specs.Lines.{is_lf, without_cr}
+use Rattle.capture_text.specs.Reading.{read}
+use Rattle.capture_text.specs.Usual.{has_no_controls}
+use Rattle.gate_events.specs.Event.{frame}
+use Rattle.n2k_id.specs.Frame.{IsFrame, bus_frame}
+use Rattle.n2k_id.specs.declared.frame.Frame.{Frame}
 
 -- how many bytes a reader holds at most
 abbrev pub buffer_size : ℕ
@@ -47,14 +52,41 @@ pub record Waits (old new : Held) : Type 0 where
   pub room : length new.unread ≤ most_unread
   pub keeps : ((new.unread ≡ old.unread) × (new.skipping ≡ old.skipping)) ⊎ ((new.unread ≡ []) × (new.skipping ≡ true) × (most_unread < length old.unread))
 
+-- a line that reads as a frame at a moment
+pub record IsUsual (moment : ℕ) (f : Frame) (line : List ℕ) : Type 0 where
+  pub reads : read line ≡ Ok (frame moment (bus_frame f))
+  pub valid : IsFrame f
+  pub some : 0 < length line
+
+-- where its LF stands
+abbrev pub usual_end : ℕ
+usual_end = 50
+
+-- the unread bytes begin with such a line of fifty bytes and its LF, and no line has begun before
+pub record BeginsUsual (held : Held) (moment : ℕ) (f : Frame) : Type 0 where
+  pub whole : held.skipping ≡ false
+  pub within : usual_end < length held.unread
+  pub lf : slice_index held.unread usual_end ≡ 10
+  pub no_controls : has_no_controls (take usual_end held.unread) ≡ true
+  pub is_usual : IsUsual moment f (take usual_end held.unread)
+
+-- what is said of a line that was taken is so
+abbrev pub IsNextRead : Next → List ℕ → Type 0
+IsNextRead (Usual moment f) line = IsUsual moment f line
+IsNextRead Line line = Unit {0}
+IsNextRead Long line = Unit {0}
+IsNextRead Unfinished line = Unit {0}
+
 -- what the next line is
 abbrev pub Advances : Held → Held → Next → Type 0
+Advances old new (Usual moment f) = ((raw : List ℕ) × Takes old new raw × IsLine old new raw) × IsUsual moment f new.line
 Advances old new Line = (raw : List ℕ) × Takes old new raw × IsLine old new raw
 Advances old new Long = (raw : List ℕ) × Takes old new raw × EndsLongLine old raw
 Advances old new Unfinished = Waits old new
 
 -- what the last line is
 abbrev pub Finishes : Held → Held → Next → Type 0
+Finishes old new (Usual moment f) = ⊥
 Finishes old new Line = IsLine old new old.unread
 Finishes old new Long = EndsLongLine old old.unread
 Finishes old new Unfinished = ⊥

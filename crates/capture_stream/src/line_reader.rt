@@ -1,29 +1,39 @@
 //! Cuts an input that comes in pieces into its lines, within fixed memory.
 ghost use Rattle.std.specs.Prelude.{◌≡◌, ◌+◌, ◌<◌, ◌≤◌, true, length, take, drop, slice_index, IfOk, MatchOption};
-ghost use Rattle.capture_text.specs.Lines.{is_one_line, without_cr};
+ghost use Rattle.capture_text.specs.Lines.{without_cr};
 ghost use Rattle.gate_outside.specs.Faults.{HasCause};
-ghost use Rattle.capture_stream.specs.LineReader.{HasNoLf, ReadsBehind};
+ghost use Rattle.capture_stream.specs.LineReader.{HasNoLf, ReadsBehind, usual_end};
 
-use capture_text::LONGEST_LINE;
+use capture_text::{LONGEST_LINE, usual_frame};
 use gate_outside::{Failed, Source};
 use memchr::memchr;
+use n2k_id::Frame;
 use std::marker::Model;
 
 /// How many bytes are held, and so read at once, at most.
 const PIECE: usize = 65536;
 
-/// Where the usual line's LF stands: behind a moment of ten digits and six, an interface of four letters, an identifier and eight bytes.
+/// Where the LF of the usual line stands.
 const USUAL_END: usize = 50;
 
 /// What `advance` found.
 #[derive(Clone, Copy)]
 pub(crate) enum Next {
+    /// A line as nearly all are laid out, with its moment and its frame. `line` lends it.
+    Usual { moment: u64, frame: Frame },
     /// A line, which `line` lends.
     Line,
     /// A line longer than any may be. It was passed over.
     Long,
     /// No LF yet: more of the input is needed.
     Unfinished,
+}
+
+// Whether an LF stands where that of the usual line does.
+fn has_usual_end(bytes: &[u8]) -> bool
+    ensures { result ≡ true → (usual_end < length bytes.now) × (slice_index bytes.now usual_end ≡ 10) }
+{
+    bytes.len() > USUAL_END && bytes[USUAL_END] == b'\n'
 }
 
 // Where the first LF stands.
@@ -33,29 +43,6 @@ fn first_lf(bytes: &[u8]) -> Option<usize>
         (at < length bytes.now) × (slice_index bytes.now at ≡ 10) × HasNoLf (take at bytes.now)) }
 {
     memchr(b'\n', bytes)
-}
-
-// Whether no byte is an LF. All are looked at whatever they are, so that many are at once.
-#[tactic(auto, using(std::proofs::lemmas::List::Folds::list_all_more))]
-fn is_one_line(bytes: &[u8]) -> bool
-    ensures { result ≡ is_one_line bytes.now }
-{
-    let mut one = true;
-    for byte in bytes {
-        one = one & (*byte != b'\n');
-    }
-    one
-}
-
-// Whether the first LF stands where that of the usual line does. It takes less time to look than to search.
-#[tactic(auto, using(crate::proofs::FirstLf::one_line))]
-fn has_usual_end(bytes: &[u8]) -> bool
-    ensures { result ≡ true → (USUAL_END < length bytes.now) × (slice_index bytes.now USUAL_END ≡ 10) × HasNoLf (take USUAL_END bytes.now) }
-{
-    if bytes.len() <= USUAL_END {
-        return false;
-    }
-    bytes[USUAL_END] == b'\n' && is_one_line(&bytes[..USUAL_END])
 }
 
 // The length of a line whose bytes up to its LF are these: a CR at the end is no part of it.
@@ -143,10 +130,10 @@ impl Model for LineReader {
 }
 
 impl LineReader {
-    ghost use Rattle.std.specs.Prelude.{◌≡◌, ◌<◌, ◌≤◌, [], true, false, ◌||◌, nat_lt, if◌then◌else◌, length, take, drop, IfOk};
+    ghost use Rattle.std.specs.Prelude.{◌≡◌, ◌<◌, ◌≤◌, [], true, false, ◌||◌, nat_lt, if◌then◌else◌, length, take, drop, IfOk, IfSome};
     ghost use Rattle.gate_outside.specs.Faults.{HasCause};
     ghost use Rattle.capture_text.specs.Capture.{longest_line};
-    ghost use Rattle.capture_stream.specs.LineReader.{buffer_size, most_unread, Advances, Finishes, Fills};
+    ghost use Rattle.capture_stream.specs.LineReader.{buffer_size, most_unread, Advances, BeginsUsual, Finishes, Fills};
 
     pub(crate) fn new() -> Self
         ensures { result ≡ record { line = []; unread = []; skipping = false } }
@@ -168,20 +155,31 @@ impl LineReader {
         &self.buffer[self.line_start..self.line_end]
     }
 
-    /// Takes the next line that has come whole.
+    /// Takes the next line that has come whole. Nearly every line is read as the usual one where it lies, and so needs no search for its end.
     pub(crate) fn advance(&mut self) -> Next
         ensures { Advances self.old self.new result }
     {
-        let unread = self.unread();
-        if has_usual_end(unread) {
-            let len = line_len(&unread[..USUAL_END]);
-            self.take_line(len, USUAL_END + 1)
-        } else {
-            self.search()
+        match self.usual() {
+            Some((moment, frame)) => {
+                let _line = self.take_line(USUAL_END, USUAL_END + 1);
+                Next::Usual { moment, frame }
+            }
+            None => self.search(),
         }
     }
 
-    // Takes the next line that has come whole, wherever it ends. It is kept apart from the way of the usual line.
+    // The moment and the frame of the usual line, where the unread bytes begin with one and its LF.
+    fn usual(&self) -> Option<(u64, Frame)>
+        ensures { IfSome result (λ t. BeginsUsual self.now t.0 t.1) }
+    {
+        let unread = self.unread();
+        if self.skipping || !has_usual_end(unread) {
+            return None;
+        }
+        usual_frame(&unread[..USUAL_END])
+    }
+
+    // Takes the next line that has come whole, wherever it ends.
     #[inline(never)]
     fn search(&mut self) -> Next
         ensures { Advances self.old self.new result }

@@ -3,6 +3,7 @@ ghost use Rattle.std.specs.Prelude.{◌≡◌, ◌+◌, ◌<◌, ◌^◌, length
 ghost use Rattle.gate_outside.specs.Faults.{HasCause, Rose};
 ghost use Rattle.capture_text.specs.Reading.{read as read_as};
 ghost use Rattle.capture_stream.specs.Answering.{Sent, LineGives, NextGives};
+ghost use Rattle.capture_stream.specs.LineReader.{IsNextRead};
 ghost use Rattle.capture_stream.specs.Lines.{IsTextFrom};
 ghost use Rattle.capture_stream.specs.Progress.{TakesLines, TakesLast, Ends, Steady};
 
@@ -10,15 +11,14 @@ use crate::answering::Answers;
 use crate::ending::Ending;
 use crate::line_reader::{LineReader, Next};
 use crate::writer::Writer;
-use capture_text::{LineRule, MOST_BYTES, Room, read_line, usual_frame};
+use capture_text::{LineRule, MOST_BYTES, Room, read_line};
 use gate_events::Event;
 use gate_outside::{Failed, Sink, Source};
 
 /// How many bytes an input may have.
 const LIMIT: u64 = 1 << 40;
 
-// Sends what a line of any layout gives. It is kept apart from the way of nearly all lines, whose event then needn't go by way of memory.
-#[inline(never)]
+// Sends what a line of any layout gives.
 fn send_read<A: Answers, K: Sink>(
     answers: &mut A,
     number: u64,
@@ -36,27 +36,8 @@ fn send_read<A: Answers, K: Sink>(
     }
 }
 
-// Sends what a line gives that isn't empty.
-fn send_said<A: Answers, K: Sink>(
-    answers: &mut A,
-    number: u64,
-    line: &[u8],
-    room: &mut Room,
-    writer: &mut Writer,
-    out: &mut K,
-) -> Result<(), Failed>
-    ensures sent { Sent (A.gives answers.old number (read_as line.now)) (K.taken out.old) (K.taken out.new) writer.old writer.new answers.new result }
-    ensures cause { HasCause (K.fault_count out.old) (K.fault_count out.new) result }
-{
-    match usual_frame(line) {
-        Some((moment, frame)) => {
-            answers.answer_event(number, &Event::Frame { moment, frame }, writer, out)
-        }
-        None => send_read(answers, number, line, room, writer, out),
-    }
-}
-
 // Sends what a line gives. An empty one gives nothing, and isn't read.
+#[inline(never)]
 fn send_unless_empty<A: Answers, K: Sink>(
     answers: &mut A,
     number: u64,
@@ -71,10 +52,13 @@ fn send_unless_empty<A: Answers, K: Sink>(
     if line.is_empty() {
         return Ok(());
     }
-    send_said(answers, number, line, room, writer, out)
+    send_read(answers, number, line, room, writer, out)
 }
 
 // Sends what the line gives that the reader took, if it took one.
+//
+// Lines of other layouts are kept apart from the way of nearly all, whose event then needn't go by way of memory.
+#[inline(always)]
 fn send_next<A: Answers, K: Sink>(
     answers: &mut A,
     next: Next,
@@ -84,10 +68,14 @@ fn send_next<A: Answers, K: Sink>(
     writer: &mut Writer,
     out: &mut K,
 ) -> Result<(), Failed>
+    requires { IsNextRead next reader.now.line }
     ensures sent { Sent (NextGives A.gives answers.old next number reader.now.line) (K.taken out.old) (K.taken out.new) writer.old writer.new answers.new result }
     ensures cause { HasCause (K.fault_count out.old) (K.fault_count out.new) result }
 {
     match next {
+        Next::Usual { moment, frame } => {
+            answers.answer_event(number, &Event::Frame { moment, frame }, writer, out)
+        }
         Next::Line => send_unless_empty(answers, number, reader.line(), room, writer, out),
         Next::Long => answers.answer_refusal(number, LineRule::Long, writer, out),
         Next::Unfinished => Ok(()),

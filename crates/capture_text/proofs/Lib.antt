@@ -13,3 +13,4 @@ pub mod Numbers
 pub mod OneLine
 pub mod Times
 mod UsualLines
+mod UsualFront

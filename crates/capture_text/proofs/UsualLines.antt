@@ -21,13 +21,12 @@ frame_behind line id bytes len space hash number there plain =
     wide_again (drop 24 line) identifier (drop 34 line) id (record { spelled = a ∙ ap (λ (x : List ℕ). 32 ∷ x) b; digits = written_digits identifier is.bytes is.written }) is
     ∙ rw (plain, there) refl
 
-pub usual_read : (line rest behind : List ℕ) (moment id : ℕ) (bytes : List ℕ) (seen : BusFrame) → length line ≡ 50 → rest ≡ take (length line - 20) (drop 20 line)
-    → behind ≡ take (length line - 34) (drop 34 line) → time_at line ≡ Some (record { moment = moment; rest = drop 20 line }) → HasBusOfFour rest → get_or line 33 0 ≡ 35
+pub usual_read : (line behind : List ℕ) (moment id : ℕ) (bytes : List ℕ) (seen : BusFrame) → length line ≡ 50
+    → behind ≡ take (length line - 34) (drop 34 line) → time_at line ≡ Some (record { moment = moment; rest = drop 20 line }) → HasBusOfFour (drop 20 line) → get_or line 33 0 ≡ 35
     → number_of (take 8 (drop 25 line)) ≡ Some id → (data_at behind ≡ Some bytes) × (is_other_kind behind ≡ false) → Ok seen ≡ frame_with id (Some bytes) → read line ≡ Ok (frame moment seen)
 unfolding read seen_behind
-usual_read line rest behind moment id bytes seen len rest_is behind_is time bus hash number held_by is =
+usual_read line behind moment id bytes seen len behind_is time named hash number held_by is =
     let short : ltb longest_line (length line) ≡ false = rw len refl in
-    let named = subst HasBusOfFour (rest_is ∙ take_all (length line - 20) (drop 20 line) (omega (arith, length-drop 20 line))) bus in
     let HasData : List ℕ → Type 0 = λ x. (data_at x ≡ Some bytes) × (is_other_kind x ≡ false) in
     let held = subst HasData (behind_is ∙ take_all (length line - 34) (drop 34 line) (omega (arith, length-drop 34 line))) held_by in
     let place : drop 4 (drop 20 line) ≡ drop 24 line = drop-drop 4 20 line in

@@ -6,3 +6,4 @@ pub mod Reading
 pub mod Writing
 pub mod Emitted
 pub mod EventLaws
+pub mod Usual

@@ -43,17 +43,10 @@ fn is_name_of_four(text: &[u8]) -> bool
 }
 
 /// Whether a bus has this name.
-fn is_bus(name: &[u8]) -> bool
+pub(crate) fn is_bus(name: &[u8]) -> bool
     ensures { result ≡ (not (spec.is_name (codes "tick") name.now) && not (spec.is_name (codes "udp0") name.now)) }
 {
     name != b"tick".as_slice() && name != b"udp0".as_slice()
-}
-
-/// Whether a bus with a name of four bytes and a space come first.
-pub(crate) fn is_bus_of_four(text: &[u8]) -> bool
-    ensures { result ≡ true → spec.HasBusOfFour text.now }
-{
-    is_name_of_four(text) && is_bus(&text[..4])
 }
 
 /// How many bytes of a name come first.

@@ -61,7 +61,8 @@ fn put_pairs(values: &[u8], room: &mut [u8])
 pub(crate) fn put_eight(digits: &[u8], room: &mut [u8]) -> bool
     requires digits { length digits.now ≡ 16 }
     requires room { length room.old ≡ 8 }
-    ensures { result ≡ true → decode_of digits.now ≡ Ok room.new }
+    ensures bytes { result ≡ true → decode_of digits.now ≡ Ok room.new }
+    ensures digits { result ≡ true → list_all is_ascii_hexdigit digits.now ≡ true }
 {
     if !all_hexadecimal(digits) {
         return false;

@@ -108,7 +108,8 @@ pub(crate) fn frame_of(id: u32, held: &[u8]) -> Result<Frame, LineRule>
 /// Puts the data of a frame into the room, if they are eight bytes and nothing is behind them, as in most frames. Says whether they are.
 #[tactic(auto, using(crate::proofs::Data::eight_are_data))]
 pub(crate) fn put_eight_data(behind: &[u8], room: &mut [u8; 8]) -> bool
-    ensures { result ≡ true → (spec.data_at behind.now ≡ Some room.new) × (spec.is_other_kind behind.now ≡ false) }
+    ensures data { result ≡ true → (spec.data_at behind.now ≡ Some room.new) × (spec.is_other_kind behind.now ≡ false) }
+    ensures digits { result ≡ true → list_all is_ascii_hexdigit behind.now ≡ true }
 {
     behind.len() == 16 && put_eight(behind, &mut room[..])
 }

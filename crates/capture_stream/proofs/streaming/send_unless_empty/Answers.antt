@@ -21,5 +21,5 @@ pub returns-clause-sent : goal.returns-clause-sent
 returns-clause-sent g c =
     let some = eqb-false (length c.args.line.now) 0 (sym c.is_empty.ensures ∙ c.if-is_empty.false) in
     sent_as (g.A.Answers.gives c.args.answers.now c.args.number (read c.args.line.now)) (LineGives g.A.Answers.gives c.args.answers.now c.args.number c.args.line.now) (g.K.Sink.taken c.args.out.now)
-    (g.K.Sink.taken c.send_said.new.out) c.args.writer.now c.send_said.new.writer c.send_said.new.answers c.send_said.result
-    (λ text kept. gives_line g.A.Answers.gives c.args.answers.now kept c.args.number c.args.line.now text some) c.send_said.ensures.sent
+    (g.K.Sink.taken c.send_read.new.out) c.args.writer.now c.send_read.new.writer c.send_read.new.answers c.send_read.result
+    (λ text kept. gives_line g.A.Answers.gives c.args.answers.now kept c.args.number c.args.line.now text some) c.send_read.ensures.sent

@@ -17,5 +17,5 @@ loop-room-smaller c = omega arith
 pub loop-room-preserved : goal.loop-room-preserved
 loop-room-preserved c = (
   omega arith,
-  some_more c.args.digits.now c.loop-room.room c.put_eight.new.room c.loop-room.done 8 _ c.loop-room.invariant.0 (omega arith) refl c.loop-room.invariant.1 (c.put_eight.ensures c.if-not-put_eight.false),
+  some_more c.args.digits.now c.loop-room.room c.put_eight.new.room c.loop-room.done 8 _ c.loop-room.invariant.0 (omega arith) refl c.loop-room.invariant.1 (c.put_eight.ensures.bytes c.if-not-put_eight.false),
 )

@@ -1,4 +1,3 @@
-use Rattle.std.proofs.Common.{arith}
 use Rattle.capture_text.proofs.Times.{with_rest}
 use Rattle.capture_text.proofs.time.time.Goals as goal
 
