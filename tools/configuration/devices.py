@@ -13,8 +13,8 @@ from .paces import MICROSECONDS
 MADE_UP_NAME = 0xFFFFFFFFFFFFFF00
 # the class and the function of what joins the bus with a network, as this gateway does
 GATEWAY = 25, 130
-# sentences of the network that say a position or a course, and are read without a key
-POSITIONS_AND_COURSES = {"GGA", "GLL", "VTG"}
+# sentences of the network that say a position, and are read without a key
+POSITIONS = {"GGA", "GLL"}
 
 
 class Devices:
@@ -39,7 +39,7 @@ class Devices:
         yield from self.engines_that_are_two()
         yield from self.headings_of_nobody()
         yield from self.depths_said_twice()
-        yield from self.courses_in_rmc_alone()
+        yield from self.fixes_in_rmc_alone()
 
     def timeouts_below_the_pace(self):
         for path, who, pace, seconds in self.too_slow(self.heard.paces):
@@ -101,11 +101,11 @@ class Devices:
             why = f"{' and '.join(both)} said DPT and DBT. Both go to the bus as depth, and DBT has no offset of the transducer. With false DPT alone goes there"
             yield Warned("net.dbt", self.accepted.place("net", "sources"), why)
 
-    def courses_in_rmc_alone(self):
-        """Receivers whose position and course stand in RMC alone, if the configuration doesn't say whether RMC is read."""
-        alone = self.sayers_on_the_network(lambda said: "RMC" in said and said.isdisjoint(POSITIONS_AND_COURSES))
+    def fixes_in_rmc_alone(self):
+        """Receivers whose position or course stands in RMC alone, if the configuration doesn't say whether RMC is read."""
+        alone = self.sayers_on_the_network(lambda said: "RMC" in said and not ("VTG" in said and POSITIONS & said))
         if alone and "rmc" not in self.accepted.root["net"]:
-            why = f"{' and '.join(alone)} said RMC, and no GGA, GLL or VTG. RMC isn't read: neither this position nor this course goes to the bus. With true both do"
+            why = f"{' and '.join(alone)} said RMC, and not both VTG and GGA or GLL. RMC isn't read: a position or a course that it alone says doesn't go to the bus. With true both do"
             yield Warned("net.rmc", self.accepted.place("net", "sources"), why)
 
     def sayers_on_the_network(self, is_meant):
