@@ -2,6 +2,7 @@ pub mod KnownLemmas
 pub mod KindLemmas
 pub mod FrameLemmas
 pub mod CommandLemmas
+pub mod Noted
 pub mod StepLemmas
 pub mod EventLemmas
 pub mod RoomLemmas

@@ -3,4 +3,5 @@ pub mod Kinds
 pub mod Heard
 pub mod Kept
 pub mod Lent
+pub mod Noting
 pub mod Promises

@@ -10,6 +10,7 @@ mod kinds;
 mod laws;
 mod listener;
 mod message;
+mod noting;
 mod passing;
 
 pub use gate_core::Gateway;
@@ -17,4 +18,5 @@ pub use kinds::{Kinds, is_told, may_complete};
 pub use laws::{commands_leave_the_listener, open_messages_keep_the_limit};
 pub use listener::BusListener;
 pub use message::HeardMessage;
+pub use noting::{forget_changed, has_place};
 pub use pgn_profile::Kind;

@@ -19,10 +19,11 @@ use Rattle.history.specs.Emits.{of_source}
 use Rattle.history.specs.Messages.{Message}
 use Rattle.gate_model.specs.Said.{complete_of}
 use Rattle.bus_listener.specs.Kinds.{is_told}
+use Rattle.bus_listener.specs.Noting.{has_place}
 use Rattle.further_bridge.specs.declared.said.Said.{Said}
 use Rattle.further_bridge.specs.FurtherOut.{all_in, has_voice, magnetic_in, message_breaks, number_in, said_gives, said_utters, short_gives, that_are_there, value_datagram, values_of}
 use Rattle.further_bridge.specs.FurtherRule.{FurtherRule, talker_at}
-use Rattle.further_bridge.specs.Kept.{FurtherKept, FurtherStep, ValueStep, as_it_was, counted, given_by, has_place, is_water_said, message_step, said_of, streams_of, told_step, told_streams, uttered_by, value_in, value_step, value_stream, values_step}
+use Rattle.further_bridge.specs.Kept.{FurtherKept, FurtherStep, ValueStep, as_it_was, counted, given_by, is_water_said, message_step, said_of, streams_of, told_step, told_streams, uttered_by, value_in, value_step, value_stream, values_step}
 use Rattle.further_bridge.proofs.Notes.{AreChosen, chosen_after, is_chosen_in, noted_all, noted_value}
 
 -- ---- the datagram of a value is the same by the count as by the number of lines

@@ -2,7 +2,6 @@
 -- history says is given.
 use Rattle.std.proofs.Common.{◌≡◌, ℕ, ◌+◌, ◌<◌, ◌%◌, Bool, true, false, ◌&&◌, List, [], ◌∷◌, ◌++◌, length, Option, Some, None, option_map, if◌then◌else◌, refl, sym, ap, subst, ◌∙◌, append_assoc, arith}
 use Rattle.std.specs.Prelude.{IfSome, filter}
-use Rattle.std.proofs.lemmas.Bool.{lt-ltb}
 use Rattle.n2k_id.specs.Frame.{BusFrame, bus_frame}
 use Rattle.n2k_id.specs.declared.name.Name.{Name}
 use Rattle.readings.specs.declared.rows.Row.TheVariants as row
@@ -12,24 +11,20 @@ use Rattle.claim_table.specs.Claims.{claim, places}
 use Rattle.tag_block.specs.Tag.{most_count}
 use Rattle.quantities.specs.Told.{AreInOrder, kind_of, told}
 use Rattle.quantities.specs.declared.value.Value.{Value}
-use Rattle.source_choice.specs.Choices.{Choices, forgotten}
 use Rattle.history.specs.AddressLaws.{AreSettings, IsReceiver}
 use Rattle.history.specs.Choice as rows
 use Rattle.history.specs.Entries as entry
 use Rattle.history.specs.Entries.{Entry, History, moment_of, now}
-use Rattle.history.specs.Known.{address_left, address_won, claim_by, is_claim, known}
+use Rattle.history.specs.Known.{claim_by, is_claim, known}
 use Rattle.history.specs.Messages.{Message, done, messages_of}
 use Rattle.history.specs.Settings.{Receiver, Settings, receiver_of, rule_of}
-use Rattle.history.proofs.Addresses.{addresses_are_sound}
 use Rattle.history.proofs.Receivers.{gateways_receive}
 use Rattle.gate_model.specs.Addresses.{Changed, changed_by, no_change}
 use Rattle.gate_model.specs.AddressStands.{name_held}
-use Rattle.gate_model.specs.Choosing.{claimed, without_address}
 use Rattle.gate_model.specs.Machine.{Machine}
 use Rattle.gate_model.specs.Said.{complete_of}
 use Rattle.gate_model.proofs.AddressTells.{standing_tells_alike}
 use Rattle.gate_model.proofs.ChoiceMessages.{messages_fit_chosen}
-use Rattle.gate_model.proofs.SaidAddresses.{claims_fit}
 use Rattle.gate_outbox.specs.Output.{Emitted, Output, emits_of}
 use Rattle.plain_out.specs.Pace.{uttered}
 use Rattle.plain_out.specs.declared.stream.Stream.{Stream}
@@ -51,19 +46,16 @@ use Rattle.bus_listener.proofs.CommandLemmas.{commands_leave_listening}
 use Rattle.bus_listener.proofs.Completes.{heard_is_done}
 use Rattle.bus_listener.proofs.KnownLemmas.{gateway_stands, is_receiver}
 use Rattle.bus_listener.proofs.NoDatagrams.{no_heard}
+use Rattle.bus_listener.proofs.Noted.{claimed_is}
 use Rattle.further_bridge.specs.declared.said.Streams.{Streams}
 use Rattle.further_bridge.specs.FurtherOut.{all_in, further_done, further_receiver, has_voice, is_row_said, is_selected, lines_said, magnetic_in, message_breaks, said_at, said_gives, said_utters, selected_in, values_of}
 use Rattle.further_bridge.specs.FurtherRule.{FurtherRule}
-use Rattle.further_bridge.specs.Kept.{FurtherKept, FurtherStep, behind, forgotten_at, given_by, given_up, hearing_by, is_water_said, message_step, said_of, step_by, streams_of, uttered_by, water_heard}
+use Rattle.further_bridge.specs.Kept.{FurtherKept, FurtherStep, behind, given_by, given_up, hearing_by, is_water_said, message_step, said_of, step_by, streams_of, uttered_by, water_heard}
 use Rattle.further_bridge.specs.Promises.{CommandsLeaveFurther, EachStands, IsFurtherStep, IsFurtherTaken, StandsFurther, in_places, said_in_places}
 use Rattle.further_bridge.specs.QuantityKinds.{quantities_are_heard}
 use Rattle.further_bridge.proofs.MessageLemmas.{AreMessageChosen, choices_after, message_taken, said_of_message}
 use Rattle.further_bridge.proofs.EachNoted.{claims_noted, claims_say_nothing, commands_noted, datagrams_noted, in_order, nothing_noted, ticks_noted, values_chosen, values_noted}
 use Rattle.further_bridge.proofs.Notes.{AreChosen, noted_all}
-
-forgotten_is : (o : Option ℕ) (choices : Choices) → IfSome o (λ a. a < places) → forgotten_at o choices ≡ without_address o choices
-forgotten_is None choices within = refl
-forgotten_is (Some a) choices within = ap (λ b. if b then forgotten choices a else choices) (lt-ltb a places within)
 
 -- what passes one test and then another passes both
 filter_twice : (p q : Value → Bool) (values : List Value) → filter p (filter q values) ≡ filter (λ v. q v && p v) values
@@ -214,13 +206,9 @@ module _ (x : FurtherRule) (c : Settings) (s : ℕ) (h : History) (settings : Ar
     claim_taken : (changed : Changed) → is_claim f ≡ true → changed ≡ changed_by (claim (known r s h).claims (claim_by (length h) m f)).step → IsFrameTaken changed
     claim_taken changed claims is =
         let step = (claim (known r s h).claims (claim_by (length h) m f)).step in
-        let fits = claims_fit (known r s h).claims (claim_by (length h) m f) (addresses_are_sound r s h are).sound.room in
-        let same : forgotten_at (address_won step) (forgotten_at (address_left step) before.choices) ≡ claimed step before.choices =
-        ap (forgotten_at (address_won step)) (forgotten_is (address_left step) before.choices fits.left)
-        ∙ forgotten_is (address_won step) (without_address (address_left step) before.choices) fits.won in
         subst (λ changed. IsFrameTaken changed) (sym is)
         (without_message e before it heard hears_it holder names new picks (changed_by step) (claims_say_nothing x c s h settings before.choices it.choices m f claims)
-        (subst (λ choices. EachStands x r s (e ∷ h) choices) (sym same) (claims_noted x c s h settings before.choices it.choices m f claims)))
+        (subst (λ choices. EachStands x r s (e ∷ h) choices) (sym (claimed_is r are s h m f before.choices)) (claims_noted x c s h settings before.choices it.choices m f claims)))
 
     message_of_frame : is_claim f ≡ false → (o : Option Message) → done r s h e ≡ o → IsFrameTaken no_change
     message_of_frame other None none =

@@ -1,5 +1,5 @@
 -- What is kept of further quantities, as plain values, and what an event makes of it and gives. Nothing here speaks of what came before.
-use Rattle.std.specs.Prelude.{ℕ, ◌+◌, ◌%◌, Bool, ◌&&◌, nat_lt, List, [], ◌∷◌, ◌++◌, map, slice_get, unwrap_or, Option, Some, None, option_map, if◌then◌else◌}
+use Rattle.std.specs.Prelude.{ℕ, ◌+◌, ◌%◌, Bool, ◌&&◌, List, [], ◌∷◌, ◌++◌, map, slice_get, unwrap_or, Option, Some, None, option_map, if◌then◌else◌}
 use Rattle.slot_views.specs.Slots.{SlotMap}
 use Rattle.fast_packet.specs.declared.key.FastKey.{FastKey}
 use Rattle.n2k_id.specs.declared.name.Name.{Name}
@@ -14,7 +14,7 @@ use Rattle.quantities.specs.declared.value.Told.TheVariants as says
 use Rattle.quantities.specs.declared.value.Value.{Value}
 use Rattle.source_choice.specs.declared.rank.Rank.{Rank}
 use Rattle.source_choice.specs.declared.told.Told.{Told as Chosen}
-use Rattle.source_choice.specs.Choices.{Choices, forgotten, opened}
+use Rattle.source_choice.specs.Choices.{Choices, opened}
 use Rattle.source_choice.specs.SubjectRules.{rank_of}
 use Rattle.history.specs.Choice as rows
 use Rattle.history.specs.Entries.{Entry}
@@ -31,6 +31,7 @@ use Rattle.parts.specs.SelectedMessage.{SelectedMessage}
 use Rattle.joined_rmc.specs.declared.last_of_row.LastOfRow.{LastOfRow}
 use Rattle.joined_rmc.specs.Kept.{in_last, last_after, none_yet}
 use Rattle.bus_listener.specs.Kept.{Hearing}
+use Rattle.bus_listener.specs.Noting.{forgotten_of, has_place}
 use Rattle.bus_listener.specs.Promises as listening
 use Rattle.further_bridge.specs.declared.said.Said.{Said}
 use Rattle.further_bridge.specs.declared.said.Streams.{Streams}
@@ -165,22 +166,14 @@ uttered_by streams x = uttered streams.first (emits_of x.emits) ++ (uttered stre
 
 -- ---- a message, or none
 
--- an address that a device can have: nothing is noted of others
-abbrev pub has_place : ℕ → Bool
-has_place a = nat_lt a places
-
 abbrev pub message_step : FurtherKept → Option Said → FurtherStep
 message_step k None = as_it_was k
 message_step k (Some d) = if has_place d.source then told_step k d d.told else as_it_was k
 
 -- ---- addresses that change hands: nothing is noted any more of the one that was left and the one that was won
 
-abbrev pub forgotten_at : Option ℕ → Choices → Choices
-forgotten_at None choices = choices
-forgotten_at (Some a) choices = if has_place a then forgotten choices a else choices
-
 abbrev pub given_up : Changed → FurtherKept → FurtherKept
-given_up changed k = record k { choices = forgotten_at changed.won (forgotten_at changed.left k.choices) }
+given_up changed k = record k { choices = forgotten_of changed k.choices }
 
 -- ---- the message that the gateway itself selected, while these hold the addresses
 

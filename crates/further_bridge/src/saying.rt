@@ -7,18 +7,17 @@ ghost use Rattle.gate_outbox.specs.Output.{and_left, and_posted, and_told};
 ghost use Rattle.quantities.specs.Told.{GivesFrom, IsAnyFrom, IsFrom, entries};
 ghost use Rattle.quantities.specs.declared.value.Told.TheVariants.{Short};
 ghost use Rattle.further_bridge.specs.FurtherOut.{has_voice, said_gives, short_gives};
-ghost use Rattle.further_bridge.specs.Kept.{counted, forgotten_at, given_up, has_place, is_water_said, message_step, most_told, numbered, ranked_step, told_step, value_step, values_step};
+ghost use Rattle.further_bridge.specs.Kept.{counted, given_up, is_water_said, message_step, most_told, numbered, ranked_step, told_step, value_step, values_step};
 
 use crate::bridge::{FurtherBridge, FurtherEmits, ValueEmits};
 use crate::said::Said;
 use crate::writing::write_value;
-use bus_listener::{Gateway, is_told};
+use bus_listener::{Gateway, forget_changed, has_place, is_told};
 use gate_outbox::Emits;
 use gate_outbox::reports::of_source;
-use n2k_id::address::ADDRESSES;
 use quantities::{MOST_TOLD, Quantity, Told, Value, usable};
 use report_rules::SHORT_MESSAGE;
-use source_choice::{Choice, Rank};
+use source_choice::Rank;
 use tag_block::MOST_COUNT;
 
 impl FurtherBridge {
@@ -27,11 +26,7 @@ impl FurtherBridge {
     pub(crate) fn give_up(&mut self, gateway: &Gateway)
         ensures { self.new ≡ given_up gateway.now.addresses.changed self.old }
     {
-        // Nearly no event changes who holds an address.
-        if gateway.left().is_some() || gateway.won().is_some() {
-            forget(&mut self.choice, gateway.left());
-            forget(&mut self.choice, gateway.won());
-        }
+        forget_changed(&mut self.choice, gateway);
     }
 
     /// Takes a message: each value is noted where its sender has a rank in the quantity, and said where it is selected and has a voice. From an
@@ -177,24 +172,6 @@ impl FurtherBridge {
         );
         self.lines = (self.lines + 1) % MOST_COUNT;
     }
-}
-
-/// Nothing is noted of a source any more, where there is one.
-fn forget(choice: &mut Choice, source: Option<u8>)
-    requires { choice.old.sources ≡ places }
-    ensures { choice.new ≡ forgotten_at source choice.old }
-{
-    match source {
-        Some(source) if has_place(source) => choice.forget(source),
-        _ => {}
-    }
-}
-
-/// Whether it is an address that a device can have.
-fn has_place(address: u8) -> bool
-    ensures { result ≡ has_place address }
-{
-    usize::from(address) < ADDRESSES
 }
 
 /// Reports a message that is too short, where the gateway doesn't.

@@ -25,7 +25,7 @@ use Rattle.history.proofs.ChoiceSteps.{both_ways, or_right, some_one, found_any,
 use Rattle.claim_table.specs.declared.answer.Holder.{Holder}
 
 -- one that passes a test, and is found by its source
-found_one : (p : Note → Bool) (low top : ℕ) (ns : List Note) → AreFrom low top ns → list_any p ns ≡ true → (n : Note) × (p n ≡ true) × (note_of n.source ns ≡ Some n) × (low ≤ n.source)
+pub found_one : (p : Note → Bool) (low top : ℕ) (ns : List Note) → AreFrom low top ns → list_any p ns ≡ true → (n : Note) × (p n ≡ true) × (note_of n.source ns ≡ Some n) × (low ≤ n.source)
 found_one p low top [] from e = absurd (false≢true e)
 found_one p low top (x ∷ ns) from e = by (p x) refl e (λ rest. found_one p (x.source + 1) top ns from.2 rest)
   where
@@ -34,7 +34,7 @@ found_one p low top (x ∷ ns) from e = by (p x) refl e (λ rest. found_one p (x
     by b ep e more = grind (arith, eq-eqb, from, ne_eqb)
 
 -- what is found is of the source, and passes a test that it passes
-found_passes : (p : Note → Bool) (a : ℕ) (ns : List Note) (n : Note) → note_of a ns ≡ Some n → p n ≡ true → list_any p ns ≡ true
+pub found_passes : (p : Note → Bool) (a : ℕ) (ns : List Note) (n : Note) → note_of a ns ≡ Some n → p n ≡ true → list_any p ns ≡ true
 found_passes p a [] n e ep = cc
 found_passes p a (x ∷ ns) n e ep = by (x.source == a) refl e (λ rest. found_passes p a ns n rest ep)
   where
