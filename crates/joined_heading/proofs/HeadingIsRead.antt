@@ -3,7 +3,6 @@ use Rattle.std.proofs.Common.{◌≡◌, ℕ, ◌+◌, ◌≤◌, ℤ, Bool, tru
 use Rattle.std.proofs.lemmas.Int.{ints}
 use Rattle.std.specs.Prelude.{codes, not, Option, Some, None, IfSome, if◌then◌else◌}
 use Rattle.std.specs.List.{AllByRecursion, list_all}
-use Rattle.std.proofs.lemmas.List.Concat.{flat_map-cons}
 use Rattle.report_rules.specs.Rules.{short_message}
 use Rattle.readings.specs.Numbers.{signed_at}
 use Rattle.readings.specs.Ranges as ranges
@@ -20,7 +19,6 @@ use Rattle.sentence_fields.proofs.Bodies.{is_read_back, sentence_fits}
 use Rattle.sentence_profile.specs.Laws.{IsOneSentence}
 use Rattle.sentence_profile.proofs.ShortSentences.{each_is_a_sentence}
 use Rattle.pgn_profile.specs.Part.{available, largest_signed, signed_from}
-use Rattle.datagram450.specs.Datagram.{all_of, header}
 use Rattle.history.specs.Entries.{Entry, History, moment_of}
 use Rattle.history.specs.EntryLaws.{nets_in}
 use Rattle.history.specs.Known.{known}
@@ -29,9 +27,7 @@ use Rattle.history.specs.Emits.{of_source}
 use Rattle.history.specs.Subjects.{is_selected}
 use Rattle.history.specs.Settings.{Settings, receiver_of}
 use Rattle.parts.specs.Selected.{Selected, selected_at}
-use Rattle.plain_out.specs.Laws.{Says}
 use Rattle.parts.specs.Voices.{EachSays, behind_quiet}
-use Rattle.parts.proofs.Lines.{lines_alone, says_each}
 use Rattle.parts.proofs.Speaking.{capitals}
 use Rattle.config_values.specs.Rows.{IsTalker}
 use Rattle.sentence_text.specs.Names.{IsSfi}
@@ -40,12 +36,14 @@ use Rattle.joined_rmc.specs.RmcOut.{variation_in}
 use Rattle.joined_rmc.proofs.RmcIsRead.{SaysValid, at_valid, newer_valid, still_valid, variation_valid, with_valid, within_valid}
 use Rattle.bus_listener.specs.Heard.{heard_out}
 use Rattle.bus_listener.proofs.NoDatagrams.{no_heard}
+use Rattle.counted_lines.specs.CountedLines.{only_where, posted_of, spoken_of}
+use Rattle.counted_lines.proofs.LinesAreRead.{only_sentences, posted_says}
 use Rattle.joined_heading.proofs.Tenths.{tenths_small}
 use Rattle.joined_heading.specs.declared.magnetic.MagneticHeading.{MagneticHeading}
-use Rattle.joined_heading.specs.HeadingOut.{heading_out, heading_says, is_measured, lines_said, magnetic_in, magnetic_of, message_breaks, or_other, posted_of, short_told, spoken_of, texts_at, texts_of}
+use Rattle.joined_heading.specs.HeadingOut.{heading_out, heading_says, is_measured, lines_said, magnetic_in, magnetic_of, message_breaks, or_other, short_told, texts_at, texts_of}
 use Rattle.joined_heading.specs.HeadingPart.{SpeaksHeading}
 use Rattle.joined_heading.specs.HeadingRule.{HeadingRule}
-use Rattle.joined_heading.specs.Sentences.{hdg_text, hdm_text, hdt_text, heading_field, heading_texts, line_of, lines_from, magnetic_sum, north, only_where, true_sum}
+use Rattle.joined_heading.specs.Sentences.{hdg_text, hdm_text, hdt_text, heading_field, heading_texts, magnetic_sum, north, true_sum}
 use Rattle.joined_heading.specs.Variations.{chosen_variation, is_short, kind_of, last_variation, lasting_variation, variation_alone, variation_at, variation_done, variation_of, variation_receiver, variation_told}
 
 -- ---- the sentences are sentences
@@ -69,11 +67,6 @@ hdg_is_a_sentence : (talker : List ℕ) (a : MagneticHeading) → IsTalker talke
     → IsOneSentence (hdg_text talker a)
 hdg_is_a_sentence talker a is valid =
     (each_is_a_sentence talker false (reading.HeadingMagnetic a.heading a.deviation a.variation) is.len (capitals talker is) valid).0
-
-only_sentences : (said : Bool) (text : List ℕ) (more : List (List ℕ)) → IsOneSentence text → AllByRecursion IsOneSentence more
-    → AllByRecursion IsOneSentence (only_where said text ++ more)
-only_sentences true text more is all = (is, all)
-only_sentences false text more is all = all
 
 only_last : (said : Bool) (text : List ℕ) → IsOneSentence text → AllByRecursion IsOneSentence (only_where said text)
 only_last true text is = (is, tt)
@@ -130,18 +123,6 @@ with_valid_other other h d None ranged valid = (valid.0, (valid.1.0, (ranged, tt
 with_valid_other other h d (Some v) ranged valid = valid
 
 -- ---- the datagram
-
-as_lines : (source : List ℕ) (before : ℕ) (texts : List (List ℕ)) → all_of (lines_alone source before texts) ≡ lines_from source before texts
-as_lines source before [] = refl
-as_lines source before (t ∷ texts) =
-    flat_map-cons (λ (l : List ℕ). l) (line_of source before t) (lines_alone source (before + 1) texts)
-    ∙ ap (λ rest. line_of source before t ++ rest) (as_lines source (before + 1) texts)
-
-posted_says : (group source : List ℕ) (before : ℕ) (texts : List (List ℕ)) → IsSfi source → length texts ≤ 9 → AllByRecursion IsOneSentence texts
-    → EachSays (nets_in (posted_of group source before texts)) (spoken_of texts)
-posted_says group source before [] sfi few all = tt
-posted_says group source before (t ∷ texts) sfi few all =
-    (subst (λ lines. Says (header ++ lines) (t ∷ texts)) (as_lines source before (t ∷ texts)) (says_each source before (t ∷ texts) sfi few all), tt)
 
 texts_say : (x : HeadingRule) (measured : Bool) (other : Option ℤ) (r : Option Selected) (group source : List ℕ) (before : ℕ) → IsSfi source → IsTalker x.talker
     → Admits ranges.deviation other → SaysValid r

@@ -12,11 +12,12 @@ use Rattle.history.specs.Settings.{Settings, receiver_of, rule_of}
 use Rattle.parts.specs.Selected.{Selected, selected_at}
 use Rattle.joined_rmc.specs.Lasting.{held_by, said_within, still_held}
 use Rattle.joined_rmc.specs.RmcOut.{variation_in}
+use Rattle.counted_lines.specs.CountedLines.{only_where}
 use Rattle.joined_heading.specs.declared.magnetic.MagneticHeading.{MagneticHeading}
 use Rattle.joined_heading.specs.HeadingLaws.{Counts, IsMeasured, IsOfOther, IsSaid, IsVariation, IsWithoutTrue, MeasuredComeFirst, ValuesAreOfMessages, of_itself, of_none, of_other}
 use Rattle.joined_heading.specs.HeadingOut.{is_measured, magnetic_in, magnetic_of, or_other, texts_at, texts_of}
 use Rattle.joined_heading.specs.HeadingRule.{HeadingRule}
-use Rattle.joined_heading.specs.Sentences.{hdg_text, hdm_text, heading_texts, only_where}
+use Rattle.joined_heading.specs.Sentences.{hdg_text, hdm_text, heading_texts}
 use Rattle.joined_heading.specs.Variations.{last_variation, lasting_variation}
 
 -- ---- what lasts is of the last message, which counts

@@ -1,105 +1,40 @@
--- What is noted of the variation stands for one more entry, and selects the message that it completes as the history does.
-use Rattle.std.proofs.Common.{◌≡◌, ℕ, ◌<◌, Bool, true, false, ◌∷◌, length, Option, Some, None, refl, sym, ap, subst, ◌∙◌, arith}
+-- What is noted of the variation stands for one more entry.
+use Rattle.std.proofs.Common.{ℕ, ◌<◌, Bool, true, false, ◌∷◌, Option, Some, None, arith}
 use Rattle.std.specs.Prelude.{IfSome, if◌then◌else◌}
-use Rattle.std.proofs.lemmas.Bool.{lt-ltb}
-use Rattle.n2k_id.specs.Frame.{BusFrame}
-use Rattle.claim_table.specs.Claims.{claim, places}
-use Rattle.source_choice.specs.Choices.{Choices, forgotten}
-use Rattle.source_choice.specs.SubjectRules.{SubjectRule}
-use Rattle.history.specs.AddressLaws.{AreSettings, IsReceiver}
-use Rattle.history.specs.Entries.{Entry, History, command, datagram, frame, tick}
-use Rattle.history.specs.Known.{address_left, address_won, claim_by, is_claim, known}
-use Rattle.history.specs.Messages.{Message, done, messages_of}
-use Rattle.history.specs.Settings.{Receiver, Settings, is_some_that}
-use Rattle.history.specs.Subjects.{is_selected}
-use Rattle.history.proofs.Addresses.{addresses_are_sound}
-use Rattle.gate_model.specs.Addresses.{Changed, changed_by, no_change}
+use Rattle.source_choice.specs.Choices.{Choices}
+use Rattle.history.specs.AddressLaws.{AreSettings}
+use Rattle.history.specs.Entries.{Entry, History, command}
+use Rattle.history.specs.Messages.{Message}
+use Rattle.history.specs.Settings.{Settings}
 use Rattle.gate_model.specs.AddressStands.{changes_in}
 use Rattle.gate_model.specs.ChoiceStands.{ChoicesStandFor}
 use Rattle.gate_model.specs.ChoiceStandsLaws.{TellWithin}
-use Rattle.gate_model.specs.Choosing.{claimed, is_message_chosen, message_noted, without_address}
-use Rattle.gate_model.proofs.ChoiceClaims.{claims_stand_chosen, other_entries_stand_chosen}
-use Rattle.gate_model.proofs.ChoiceMessages.{messages_fit_chosen, messages_stand_chosen}
-use Rattle.gate_model.proofs.SaidAddresses.{claims_fit}
+use Rattle.bus_listener.specs.Noting.{forgotten_of}
 use Rattle.bus_listener.proofs.KnownLemmas.{is_receiver}
+use Rattle.bus_listener.proofs.Noted.{IsNoted, command_noted, entry_noted}
 use Rattle.joined_heading.specs.HeadingRule.{HeadingRule}
-use Rattle.joined_heading.specs.Kept.{forgotten_at}
 use Rattle.joined_heading.specs.Variations.{is_short, kind_of, told_by, variation_of, variation_receiver, variation_told}
 use Rattle.joined_heading.specs.VariationKind.{variation_is_heard}
 
-forgotten_is : (o : Option ℕ) (choices : Choices) → IfSome o (λ a. a < places) → forgotten_at o choices ≡ without_address o choices
-forgotten_is None choices within = refl
-forgotten_is (Some a) choices within = ap (λ b. if b then forgotten choices a else choices) (lt-ltb a places within)
-
-pub tell_within : TellWithin variation_told 1
+tell_within : TellWithin variation_told 1
 tell_within d = by (is_short d.payload)
   where
     by : (b : Bool) → IfSome (if b then None else Some (told_by (variation_of d.payload))) (λ t. t.subject < 1)
     by true = tt
     by false = omega arith
 
-abbrev pub forgotten_of : Changed → Choices → Choices
-forgotten_of changed k = forgotten_at changed.won (forgotten_at changed.left k)
+module _ (x : HeadingRule) (c : Settings) (s : ℕ) (h : History) where
+  abbrev pub Stand : History → Choices → Type 0
+  Stand h k = ChoicesStandFor variation_told (λ subject. x.taken) 1 (variation_receiver c) s h k
 
-module _ (x : HeadingRule) (c : Settings) (s : ℕ) (h : History) (settings : AreSettings c) where
-  abbrev r : Receiver
-  r = variation_receiver c
+  abbrev pub IsVariationNoted : Entry → Choices → Option Message → Type 0
+  IsVariationNoted e k o = IsNoted variation_told (λ subject. x.taken) 1 (variation_receiver c) s h e k o
 
-  are : IsReceiver r
-  are = is_receiver kind_of 0 c variation_is_heard settings
+  pub variation_noted : AreSettings c → (k : Choices) → Stand h k → (e : Entry)
+      → (o : Option Message) × IsVariationNoted e (forgotten_of (changes_in (variation_receiver c) s (e ∷ h)) k) o
+  variation_noted settings k stands e =
+      entry_noted variation_told (λ subject. x.taken) 1 (variation_receiver c) s h tell_within (is_receiver kind_of 0 c variation_is_heard settings) k stands e
 
-  abbrev rules : ℕ → SubjectRule
-  rules subject = x.taken
-
-  -- with the message that an entry completes, or none
-  pub record IsNoted (e : Entry) (k : Choices) (o : Option Message) : Type 0 where
-    pub completes : done r s h e ≡ o
-    pub fits : IfSome o (λ d. d.source < places)
-    pub stands : ChoicesStandFor variation_told rules 1 r s (e ∷ h) (message_noted variation_told rules k o)
-    pub chosen : is_message_chosen variation_told rules k o ≡ is_some_that (is_selected variation_told rules (known r s h).claims.holders (messages_of r s h)) o
-
-  module _ (k : Choices) (stands : ChoicesStandFor variation_told rules 1 r s h k) where
-    claim_noted : (m : ℕ) (f : BusFrame) → is_claim f ≡ true
-        → IsNoted (frame m f) (forgotten_of (changed_by (claim (known r s h).claims (claim_by (length h) m f)).step) k) None
-    claim_noted m f claims =
-        let step = (claim (known r s h).claims (claim_by (length h) m f)).step in
-        let fits = claims_fit (known r s h).claims (claim_by (length h) m f) (addresses_are_sound r s h are).sound.room in
-        let same : forgotten_at (address_won step) (forgotten_at (address_left step) k) ≡ claimed step k =
-        ap (forgotten_at (address_won step)) (forgotten_is (address_left step) k fits.left)
-        ∙ forgotten_is (address_won step) (without_address (address_left step) k) fits.won in
-        let forgets = claims_stand_chosen variation_told rules 1 r s h m f k are claims stands in
-        record {
-          completes = forgets.silent;
-          fits = tt;
-          stands = subst (λ choices. ChoicesStandFor variation_told rules 1 r s (frame m f ∷ h) choices) (sym same) forgets.stands;
-          chosen = refl;
-        }
-
-    message_of_frame : (m : ℕ) (f : BusFrame) → is_claim f ≡ false → IsNoted (frame m f) k (done r s h (frame m f))
-    message_of_frame m f other =
-        let note = messages_stand_chosen variation_told rules 1 r s h m f k are other tell_within stands in
-        record { completes = refl; fits = messages_fit_chosen r s h m f are; stands = note.stands; chosen = note.chosen }
-
-    others : (e : Entry) → done r s h e ≡ None → ChoicesStandFor variation_told rules 1 r s (e ∷ h) k → IsNoted e k None
-    others e none stood = record { completes = none; fits = tt; stands = stood; chosen = refl }
-
-    abbrev changed_at : (b : Bool) → ℕ → BusFrame → Changed
-    changed_at b m f = if b then changed_by (claim (known r s h).claims (claim_by (length h) m f)).step else no_change
-
-    frame_noted : (m : ℕ) (f : BusFrame) → (o : Option Message) × IsNoted (frame m f) (forgotten_of (changed_at (is_claim f) m f) k) o
-    frame_noted m f = by (is_claim f) refl
-      where
-        by : (b : Bool) → is_claim f ≡ b → (o : Option Message) × IsNoted (frame m f) (forgotten_of (changed_at b m f) k) o
-        by true claims = (None, claim_noted m f claims)
-        by false other = (done r s h (frame m f), message_of_frame m f other)
-
-    -- by the addresses that change hands at the entry
-    pub entry_noted : (e : Entry) → (o : Option Message) × IsNoted e (forgotten_of (changes_in r s (e ∷ h)) k) o
-    entry_noted (frame m f) = frame_noted m f
-    entry_noted (datagram m bytes) = (None, others (datagram m bytes) refl ((other_entries_stand_chosen variation_told rules 1 r s h k stands).datagrams m bytes))
-    entry_noted (tick m) = (None, others (tick m) refl ((other_entries_stand_chosen variation_told rules 1 r s h k stands).ticks m))
-    entry_noted (command m source address) =
-        (None, others (command m source address) refl ((other_entries_stand_chosen variation_told rules 1 r s h k stands).commands m source address))
-
-    pub command_noted : (m source address : ℕ) → ChoicesStandFor variation_told rules 1 r s (command m source address ∷ h) k
-    command_noted m source address = (other_entries_stand_chosen variation_told rules 1 r s h k stands).commands m source address
+  pub variation_commanded : (k : Choices) → Stand h k → (m source address : ℕ) → Stand (command m source address ∷ h) k
+  variation_commanded k stands m source address =
+      command_noted variation_told (λ subject. x.taken) 1 (variation_receiver c) s h k stands m source address

@@ -46,18 +46,20 @@ use Rattle.joined_rmc.proofs.Rows.{CameBefore, last_steps, newer_steps}
 use Rattle.joined_rmc.proofs.Steps.{last_says, within_same}
 use Rattle.bus_listener.specs.Heard.{heard_out}
 use Rattle.bus_listener.specs.Kept.{Hearing}
+use Rattle.bus_listener.specs.Noting.{forgotten_of, has_place}
 use Rattle.bus_listener.specs.Promises.{IsHeard, IsListening}
 use Rattle.bus_listener.proofs.CommandLemmas.{commands_leave_listening}
 use Rattle.bus_listener.proofs.Completes.{heard_is_done}
 use Rattle.bus_listener.proofs.KnownLemmas.{gateway_stands, is_receiver, same_known}
-use Rattle.joined_heading.specs.HeadingOut.{heading_out, is_measured, lines_said, magnetic_in, message_breaks, posted_of, texts_at, texts_of}
+use Rattle.counted_lines.specs.CountedLines.{posted_of}
+use Rattle.counted_lines.proofs.Lines.{posted_modulo}
+use Rattle.joined_heading.specs.HeadingOut.{heading_out, is_measured, lines_said, magnetic_in, message_breaks, texts_at, texts_of}
 use Rattle.joined_heading.specs.declared.said.Said.{Said}
 use Rattle.joined_heading.specs.HeadingRule.{HeadingRule}
-use Rattle.joined_heading.specs.Kept.{HeadingKept, HeadingStep, MessageStep, given_up, hearing_by, left_by, magnetic_said, has_place, heard_step, measured_with, message_in, message_step, ranked_step, said_by, said_of, said_step, saying_step, step_by, texts_in}
+use Rattle.joined_heading.specs.Kept.{HeadingKept, HeadingStep, MessageStep, given_up, hearing_by, left_by, magnetic_said, heard_step, measured_with, message_in, message_step, ranked_step, said_by, said_of, said_step, saying_step, step_by, texts_in}
 use Rattle.joined_heading.specs.Promises.{CommandsKeepHeadings, IsHeadingStep, IsHeadingTaken, StandsHeading, VariationStands}
 use Rattle.joined_heading.specs.Variations.{chosen_variation, is_short, kind_of, last_variation, lasting_variation, told_by, variation_alone, variation_at, variation_done, variation_of, variation_receiver, variation_told}
-use Rattle.joined_heading.proofs.Lines.{posted_modulo}
-use Rattle.joined_heading.proofs.Noting.{IsNoted, command_noted, entry_noted, forgotten_of}
+use Rattle.joined_heading.proofs.Noting.{IsVariationNoted, variation_commanded, variation_noted}
 use Rattle.joined_heading.specs.VariationKind.{variation_is_heard}
 
 -- ---- the message of the variation, or none
@@ -91,7 +93,7 @@ module _ (x : HeadingRule) (c : Settings) (s : ℕ) (h : History) (settings : Ar
   ranked d rule true choices = refl
   ranked d rule false choices = refl
 
-  message_taken : (o : Option Message) → IsNoted x c s h settings e k.choices o → step_of o ≡ told_as o
+  message_taken : (o : Option Message) → IsVariationNoted x c s h e k.choices o → step_of o ≡ told_as o
   message_taken None is = refl
   message_taken (Some d) is =
       ap (λ b. if b then said_step k (said_of (complete_of d)) else record { after = k; told = [] }) (lt-ltb d.source places is.fits)
@@ -187,12 +189,12 @@ module _ (x : HeadingRule) (c : Settings) (s : ℕ) (h : History) (settings : Ar
   left = given_up holder changed (record before { slots = heard.slots })
 
   abbrev Noted : Type 0
-  Noted = (o : Option Message) × IsNoted x c s h settings e left.choices o
+  Noted = (o : Option Message) × IsVariationNoted x c s h e left.choices o
 
   note : Noted
   note =
-      subst (λ (to : Changed). (o : Option Message) × IsNoted x c s h settings e (forgotten_of to before.choices) o) (sym changes)
-      (entry_noted x c s h settings before.choices it.choices e)
+      subst (λ (to : Changed). (o : Option Message) × IsVariationNoted x c s h e (forgotten_of to before.choices) o) (sym changes)
+      (variation_noted x c s h settings before.choices it.choices e)
 
   abbrev taken_of : Option Message → HeadingKept
   taken_of o = kept_of x c s h settings e left it.rule o
@@ -203,7 +205,7 @@ module _ (x : HeadingRule) (c : Settings) (s : ℕ) (h : History) (settings : Ar
       (hears_it.message ∙ ap (option_map complete_of) (heard_is_done kind_of 0 c s h variation_is_heard settings e ∙ note.1.completes))
       ∙ message_taken x c s h settings e left it.rule note.0 note.1
 
-  module _ (o : Option Message) (noted : IsNoted x c s h settings e left.choices o) where
+  module _ (o : Option Message) (noted : IsVariationNoted x c s h e left.choices o) where
     abbrev with_new : HeadingKept
     with_new = measured_with new (taken_of o)
 
@@ -302,7 +304,7 @@ commands_keep_headings x c s h source address k settings it = record {
   rule = it.rule;
   sfi = it.sfi;
   slots = commands_leave_listening kind_of 0 c s h source address k.slots variation_is_heard settings it.slots;
-  choices = command_noted x c s h settings k.choices it.choices (now h) source address;
+  choices = variation_commanded x c s h k.choices it.choices (now h) source address;
   variation = record {
     timeout_is = it.variation.timeout_is;
     kept =

@@ -7,10 +7,11 @@ use Rattle.history.specs.Known.{held_since, known}
 use Rattle.history.specs.Settings.{Settings, receiver_of, rule_of}
 use Rattle.parts.specs.Selected.{Selected, last_of, selected_at}
 use Rattle.joined_rmc.specs.RmcOut.{variation_in}
+use Rattle.counted_lines.specs.CountedLines.{only_where}
 use Rattle.joined_heading.specs.declared.magnetic.MagneticHeading.{MagneticHeading}
 use Rattle.joined_heading.specs.HeadingOut.{is_measured, magnetic_of, texts_at}
 use Rattle.joined_heading.specs.HeadingRule.{HeadingRule}
-use Rattle.joined_heading.specs.Sentences.{hdg_text, hdm_text, heading_texts, only_where}
+use Rattle.joined_heading.specs.Sentences.{hdg_text, hdm_text, heading_texts}
 use Rattle.joined_heading.specs.Variations.{last_variation}
 
 -- a message counts at the end of a history and at a moment: its sender holds its address ever since, and it isn't older than so many milliseconds

@@ -5,7 +5,7 @@ use Rattle.report_rules.specs.Rules as rules
 use Rattle.readings.specs.declared.reading.Reading.{Reading}
 use Rattle.readings.specs.declared.reading.Reading.TheVariants as reading
 use Rattle.readings.specs.declared.rows.Row.TheVariants as row
-use Rattle.gate_events.specs.Emit.{Emit, net}
+use Rattle.gate_events.specs.Emit.{Emit}
 use Rattle.history.specs.Choice as rows
 use Rattle.history.specs.Emits.{of_source}
 use Rattle.history.specs.Entries.{Entry, History, moment_of}
@@ -19,9 +19,10 @@ use Rattle.parts.specs.Voices.{Spoken}
 use Rattle.joined_rmc.specs.Lasting.{lasting}
 use Rattle.joined_rmc.specs.RmcOut.{variation_in}
 use Rattle.bus_listener.specs.Heard.{heard_out}
+use Rattle.counted_lines.specs.CountedLines.{posted_of, spoken_of}
 use Rattle.joined_heading.specs.declared.magnetic.MagneticHeading.{MagneticHeading}
 use Rattle.joined_heading.specs.HeadingRule.{HeadingRule}
-use Rattle.joined_heading.specs.Sentences.{heading_datagram, heading_texts}
+use Rattle.joined_heading.specs.Sentences.{heading_texts}
 use Rattle.joined_heading.specs.Variations.{is_short, kind_of, lasting_variation, variation_done}
 
 -- ---- the magnetic heading that is selected, with its own deviation and variation
@@ -47,10 +48,6 @@ with_other other a = record a { variation = or_other a.variation other }
 abbrev pub texts_of : HeadingRule → Bool → Option ℤ → Option MagneticHeading → List (List ℕ)
 texts_of x measured other None = []
 texts_of x measured other (Some a) = heading_texts x.talker x.hdm (not measured) (with_other other a)
-
-abbrev pub posted_of : List ℕ → List ℕ → ℕ → List (List ℕ) → List Emit
-posted_of group source before [] = []
-posted_of group source before (text ∷ texts) = net group (heading_datagram source before (text ∷ texts)) ∷ []
 
 -- ---- rule 22
 
@@ -88,10 +85,6 @@ abbrev pub heading_utters : HeadingRule → Settings → ℕ → History → Ent
 heading_utters = utters_of (Some stream.JoinedHeading) heading_out
 
 -- ---- what is said on the network
-
-abbrev pub spoken_of : List (List ℕ) → Spoken
-spoken_of [] = []
-spoken_of (text ∷ texts) = (text ∷ texts) ∷ []
 
 abbrev pub heading_says : HeadingRule → Settings → ℕ → History → Entry → Spoken
 heading_says x c s h e = spoken_of (texts_at x c s h e)

@@ -1,5 +1,5 @@
 -- What is kept of joined headings, as plain values, and what an event makes of it and gives. Nothing here speaks of what came before.
-use Rattle.std.specs.Prelude.{ℕ, ◌+◌, ◌%◌, Bool, nat_lt, List, [], ◌∷◌, ◌++◌, length, Option, Some, None, option_map, if◌then◌else◌}
+use Rattle.std.specs.Prelude.{ℕ, ◌+◌, ◌%◌, Bool, List, [], ◌∷◌, ◌++◌, length, Option, Some, None, option_map, if◌then◌else◌}
 use Rattle.slot_views.specs.Slots.{SlotMap}
 use Rattle.fast_packet.specs.declared.key.FastKey.{FastKey}
 use Rattle.n2k_id.specs.declared.name.Name.{Name}
@@ -9,7 +9,7 @@ use Rattle.gate_events.specs.Emit.{Emit}
 use Rattle.tag_block.specs.Tag.{most_count}
 use Rattle.claim_table.specs.Claims.{places}
 use Rattle.source_choice.specs.declared.rank.Rank.{Rank}
-use Rattle.source_choice.specs.Choices.{Choices, forgotten, opened}
+use Rattle.source_choice.specs.Choices.{Choices, opened}
 use Rattle.source_choice.specs.SubjectRules.{rank_of}
 use Rattle.history.specs.Choice as rows
 use Rattle.history.specs.Emits.{of_source}
@@ -25,10 +25,12 @@ use Rattle.joined_rmc.specs.declared.last_of_row.LastOfRow.{LastOfRow}
 use Rattle.joined_rmc.specs.Kept.{in_last, last_held, last_with, none_yet}
 use Rattle.joined_rmc.specs.RmcOut.{variation_in}
 use Rattle.bus_listener.specs.Kept.{Hearing}
+use Rattle.bus_listener.specs.Noting.{forgotten_of, has_place}
 use Rattle.bus_listener.specs.Promises as listening
+use Rattle.counted_lines.specs.CountedLines.{posted_of}
 use Rattle.joined_heading.specs.declared.said.Said.{Said}
 use Rattle.joined_heading.specs.declared.magnetic.MagneticHeading.{MagneticHeading}
-use Rattle.joined_heading.specs.HeadingOut.{magnetic_of, posted_of, texts_of}
+use Rattle.joined_heading.specs.HeadingOut.{magnetic_of, texts_of}
 use Rattle.joined_heading.specs.HeadingRule.{HeadingRule}
 use Rattle.joined_heading.specs.Variations.{is_short, kind_of, told_by, variation_alone, variation_of}
 
@@ -87,23 +89,15 @@ said_step k d =
     if d.short then record { after = k; told = of_source rules.short_message d.source d.pgn ∷ [] }
     else record { after = ranked_step k d (rank_of k.rule.taken d.name.0); told = [] }
 
--- an address that a device can have: nothing is noted of others
-abbrev pub has_place : ℕ → Bool
-has_place a = nat_lt a places
-
 abbrev pub message_step : HeadingKept → Option Said → MessageStep
 message_step k None = record { after = k; told = [] }
 message_step k (Some d) = if has_place d.source then said_step k d else record { after = k; told = [] }
 
 -- ---- addresses that change hands: what was said of the one that was left and the one that was won is forgotten
 
-abbrev pub forgotten_at : Option ℕ → Choices → Choices
-forgotten_at None choices = choices
-forgotten_at (Some a) choices = if has_place a then forgotten choices a else choices
-
 abbrev pub given_up : (ℕ → Option Name) → Changed → HeadingKept → HeadingKept
 given_up holder changed k = record k {
-  choices = forgotten_at changed.won (forgotten_at changed.left k.choices);
+  choices = forgotten_of changed k.choices;
   variation = last_held holder k.variation;
   measured = last_held holder k.measured;
 }

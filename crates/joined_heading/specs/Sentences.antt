@@ -1,16 +1,15 @@
--- The sentences of a joined heading (IEC 61162-1), and the datagram that has them (IEC 61162-450): each in a line of no group.
-use Rattle.std.specs.Prelude.{ℕ, ◌+◌, ◌%◌, ℤ, pos, ◌+ℤ◌, ◌-ℤ◌, Bool, List, [], ◌∷◌, ◌++◌, codes, Option, Some, None, option_map, unwrap_or, if◌then◌else◌}
+-- The sentences of a joined heading (IEC 61162-1).
+use Rattle.std.specs.Prelude.{ℕ, ℤ, pos, ◌+ℤ◌, ◌-ℤ◌, Bool, List, [], ◌∷◌, ◌++◌, codes, Option, Some, None, option_map, unwrap_or}
 use Rattle.std.specs.Int.{int_rem_euclid}
 use Rattle.readings.specs.Ranges as ranges
 use Rattle.readings.specs.Ranges.{Admits, from_to}
 use Rattle.readings.specs.declared.range.Range.{Range}
-use Rattle.tag_block.specs.Tag.{most_count}
 use Rattle.sentence_fields.specs.Field.{count, degrees, sentence_by}
 use Rattle.sentence_fields.specs.declared.field.Field.{Field}
 use Rattle.sentence_fields.specs.declared.field.Field.TheVariants.{Decimal, Letter}
 use Rattle.sentence_fields.specs.declared.written_unit.WrittenUnit.{WrittenUnit}
 use Rattle.sentence_profile.specs.Writing.{hdg}
-use Rattle.datagram450.specs.Datagram.{header, line_text}
+use Rattle.counted_lines.specs.CountedLines.{only_where}
 use Rattle.joined_heading.specs.declared.magnetic.MagneticHeading.{MagneticHeading}
 
 -- ---- the sum of a heading and what is added to it, in 1e-4 radian: what isn't there of the deviation counts as none
@@ -58,21 +57,6 @@ hdm_text talker a = sentence_by talker (codes "HDM") (north (magnetic_sum a.head
 abbrev pub hdt_text : List ℕ → MagneticHeading → List ℕ
 hdt_text talker a = sentence_by talker (codes "HDT") (north (true_sum (magnetic_sum a.heading a.deviation) a.variation) 84)
 
-abbrev pub only_where : Bool → List ℕ → List (List ℕ)
-only_where said text = if said then text ∷ [] else []
-
 -- HDM where it is asked for, and a true heading where it is computed
 abbrev pub heading_texts : List ℕ → Bool → Bool → MagneticHeading → List (List ℕ)
 heading_texts talker hdm computed a = hdg_text talker a ∷ (only_where hdm (hdm_text talker a) ++ only_where computed (hdt_text talker a))
-
--- ---- its datagram, before which so many lines were said
-
-abbrev pub line_of : List ℕ → ℕ → List ℕ → List ℕ
-line_of source before text = line_text (record { group = None; source = source; count = before % most_count + 1 }) text
-
-abbrev pub lines_from : List ℕ → ℕ → List (List ℕ) → List ℕ
-lines_from source before [] = []
-lines_from source before (text ∷ texts) = line_of source before text ++ lines_from source (before + 1) texts
-
-abbrev pub heading_datagram : List ℕ → ℕ → List (List ℕ) → List ℕ
-heading_datagram source before texts = header ++ lines_from source before texts

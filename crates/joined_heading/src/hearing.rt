@@ -6,21 +6,20 @@ ghost use Rattle.gate_model.specs.AddressStands.{name_held};
 ghost use Rattle.gate_outbox.specs.Output.{and_told};
 ghost use Rattle.bus_listener.specs.Promises.{IsListening};
 ghost use Rattle.bus_listener.specs.Steps.{IsEventValid, entry_of};
-ghost use Rattle.joined_heading.specs.Kept.{forgotten_at, given_up, has_place, hearing_by, heard_step, message_step, most_told, ranked_step, said_step, told_in};
+ghost use Rattle.joined_heading.specs.Kept.{given_up, hearing_by, heard_step, message_step, most_told, ranked_step, said_step, told_in};
 ghost use Rattle.joined_heading.specs.Variations.{kind_of};
 ghost use Rattle.source_choice.specs.SubjectRules.{rank_of};
 
 use crate::joined_heading::{HeadingEmits, JoinedHeading};
 use crate::kinds::OfVariation;
 use crate::said::{Said, message_in, said_by};
-use bus_listener::Gateway;
+use bus_listener::{Gateway, forget_changed, has_place};
 use gate_events::Event;
 use gate_outbox::reports::of_source;
 use n2k_id::Name;
-use n2k_id::address::ADDRESSES;
 use readings::Row;
 use report_rules::SHORT_MESSAGE;
-use source_choice::{Choice, Rank, Told, rank_of};
+use source_choice::{Rank, Told, rank_of};
 
 impl JoinedHeading {
     /// Hears an event, and follows the gateway.
@@ -46,8 +45,7 @@ impl JoinedHeading {
     fn follow(&mut self, gateway: &Gateway)
         ensures { self.new ≡ given_up (name_held gateway.now.addresses.claims.holders) gateway.now.addresses.changed self.old }
     {
-        forget(&mut self.choice, gateway.left());
-        forget(&mut self.choice, gateway.won());
+        forget_changed(&mut self.choice, gateway);
         self.variation.forget_lost(gateway);
         self.measured.forget_lost(gateway);
     }
@@ -103,22 +101,4 @@ impl JoinedHeading {
             self.variation.keep_newer(Row::HeadingMagnetic, &message);
         }
     }
-}
-
-/// Nothing is noted of a source any more, where there is one.
-fn forget(choice: &mut Choice, source: Option<u8>)
-    requires { choice.old.sources ≡ places }
-    ensures { choice.new ≡ forgotten_at source choice.old }
-{
-    match source {
-        Some(source) if has_place(source) => choice.forget(source),
-        _ => {}
-    }
-}
-
-/// Whether it is an address that a device can have.
-fn has_place(address: u8) -> bool
-    ensures { result ≡ has_place address }
-{
-    usize::from(address) < ADDRESSES
 }

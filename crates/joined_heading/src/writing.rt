@@ -6,16 +6,18 @@ ghost use Rattle.std.specs.List.{AllByRecursion, list_all};
 ghost use Rattle.arrayvec.specs.ArrayVec.{array_vec_len};
 ghost use Rattle.sentence_text.specs.Byte.{is_address_byte, is_capital, is_field_byte};
 ghost use Rattle.sentence_fields.specs.Field.{IsPrintable, body_width, sentence_by};
-ghost use Rattle.joined_heading.specs.Sentences.{IsHeading, heading_datagram, heading_field, heading_texts, line_of, lines_from, north, only_where, tenths};
+ghost use Rattle.counted_lines.specs.CountedLines.{lines_datagram};
+ghost use Rattle.joined_heading.specs.Sentences.{IsHeading, heading_field, heading_texts, north, tenths};
 
 use crate::magnetic::MagneticHeading;
-use datagram450::{begin, push_line};
+use counted_lines::{append_line, append_where};
+use datagram450::begin;
+use sentence_fields::Field;
 use sentence_fields::Field::{Angle, Decimal, Letter, Magnitude, Side};
 use sentence_fields::written_unit::{DEGREES, WrittenUnit};
-use sentence_fields::{Field, SentenceText, write_sentence};
 use sentence_text::Sfi;
 use settings::HeadingConfig;
-use tag_block::{MOST_COUNT, Packet, TagParts};
+use tag_block::Packet;
 use unit_fraction::{Fraction, scale};
 
 /// Tenths of a degree, below 3600.
@@ -40,7 +42,7 @@ pub(crate) fn write_headings(
     requires talker { IsTrue (list_all is_capital config.now.variation.talker) }
     requires count { before < 1000 }
     requires said { IsHeading said.now }
-    ensures written { packet.new.items ≡ heading_datagram source before (heading_texts config.now.variation.talker config.now.hdm computed said.now) }
+    ensures written { packet.new.items ≡ lines_datagram source before (heading_texts config.now.variation.talker config.now.hdm computed said.now) }
     ensures count { result ≡ length (heading_texts config.now.variation.talker config.now.hdm computed said.now) }
 {
     let talker = config.variation.talker;
@@ -66,62 +68,6 @@ pub(crate) fn write_headings(
     let hdt = north(said.true_north(), b'T');
     let behind = before + 1 + magnetic;
     1 + magnetic + append_where(computed, source, behind, talker, *b"HDT", &hdt, packet)
-}
-
-/// Appends a line where it is to be said, and answers how many.
-fn append_where(
-    said: bool,
-    source: Sfi,
-    before: u16,
-    talker: [u8; 2],
-    formatter: [u8; 3],
-    fields: &[Field],
-    packet: &mut Packet,
-) -> u16
-    requires count { before < 1002 }
-    requires talker { IsTrue (list_all is_capital talker) }
-    requires formatter { IsTrue (list_all is_address_byte formatter) }
-    requires printable { AllByRecursion IsPrintable fields.now }
-    requires short { body_width fields.now ≤ 71 }
-    requires room { array_vec_len packet.old ≤ 300 }
-    ensures written { packet.new.items ≡ packet.old.items ++ lines_from source before (only_where said (sentence_by talker formatter fields.now)) }
-    ensures count { result ≡ length (only_where said (sentence_by talker formatter fields.now)) }
-    ensures short { array_vec_len packet.new ≤ array_vec_len packet.old + 114 }
-{
-    if !said {
-        return 0;
-    }
-    append_line(source, before, talker, formatter, fields, packet);
-    1
-}
-
-/// Appends the line of a sentence, before which so many were said.
-#[tactic(auto, using(crate::proofs::Lines::line_short))]
-fn append_line(
-    source: Sfi,
-    before: u16,
-    talker: [u8; 2],
-    formatter: [u8; 3],
-    fields: &[Field],
-    packet: &mut Packet,
-)
-    requires talker { IsTrue (list_all is_capital talker) }
-    requires formatter { IsTrue (list_all is_address_byte formatter) }
-    requires printable { AllByRecursion IsPrintable fields.now }
-    requires short { body_width fields.now ≤ 71 }
-    requires room { array_vec_len packet.old ≤ 300 }
-    ensures written { packet.new.items ≡ packet.old.items ++ line_of source before (sentence_by talker formatter fields.now) }
-    ensures short { array_vec_len packet.new ≤ array_vec_len packet.old + 114 }
-{
-    let _form = source.as_bytes();
-    let mut sentence = SentenceText::default();
-    write_sentence(talker, formatter, fields, &mut sentence);
-    let tag = TagParts {
-        group: None,
-        source,
-        count: before % MOST_COUNT + 1,
-    };
-    let _fits = push_line(&tag, &sentence.bytes, packet);
 }
 
 /// A heading and the letter of its north.

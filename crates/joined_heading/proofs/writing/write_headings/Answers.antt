@@ -1,5 +1,6 @@
 use Rattle.std.proofs.Common.{◌++◌, ap, ◌∙◌}
-use Rattle.joined_heading.specs.Sentences.{hdg_text, hdm_text, hdt_text, line_of, only_where}
+use Rattle.counted_lines.specs.CountedLines.{line_of, only_where}
+use Rattle.joined_heading.specs.Sentences.{hdg_text, hdm_text, hdt_text}
 use Rattle.joined_heading.proofs.Lines.{written_as}
 use Rattle.joined_heading.proofs.writing.write_headings.Goals as goal
 
